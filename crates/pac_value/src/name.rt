@@ -45,7 +45,7 @@ impl Name {
         ensures fits { IsSome result ↔ (length bytes.now ≤ 32) }
         ensures value { IfSome result (λ name. name ≡ bytes.now) }
     {
-        if bytes.len() > 32 {
+        if bytes.len() > Name::MAX {
             return None;
         }
         let mut room = [0; 32];
