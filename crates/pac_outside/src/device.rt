@@ -1,0 +1,111 @@
+// Devices of bytes.
+ghost use Rattle.std.specs.Prelude.{◌≡◌, ◌≤◌, ℕ, IsErr};
+ghost use Rattle.pac_outside.specs.Causes.{HasCause, one_more};
+
+use crate::Failed;
+use crate::faults::Faults;
+use std::marker::Model;
+
+/// One device: bytes with places, which stay over a stop once they are synced. Of a device the contracts tell the
+/// count of faults alone so far: which bytes a read gives and what a stop may leave isn't stated yet.
+///
+/// # Errors
+///
+/// Each call answers [`Failed`] only where the device's count of faults rose.
+pub trait Disk {
+    // How many calls failed.
+    ghost faults: { Self → ℕ };
+
+    /// How many bytes the device has.
+    fn len(&mut self) -> Result<u64, Failed>
+        ensures cause { HasCause (faults self.old) (faults self.new) result };
+
+    /// Reads the bytes from place `at` on into the front of `buf`, and answers how many.
+    fn read(&mut self, at: u64, buf: &mut [u8]) -> Result<usize, Failed>
+        ensures cause { HasCause (faults self.old) (faults self.new) result };
+
+    /// Writes the whole piece from place `at` on.
+    fn write_at(&mut self, at: u64, piece: &[u8]) -> Result<(), Failed>
+        ensures cause { HasCause (faults self.old) (faults self.new) result };
+
+    /// Makes what was written stay.
+    fn sync(&mut self) -> Result<(), Failed>
+        ensures cause { HasCause (faults self.old) (faults self.new) result };
+}
+
+/// The devices of a store: the log, and two slots for checkpoints.
+#[derive(Drop)]
+pub struct Devices<D> {
+    pub log: D,
+    pub slot_a: D,
+    pub slot_b: D,
+}
+
+/// A disk that isn't there: each call fails and is counted.
+#[derive(Drop)]
+pub struct NoDisk {
+    faults: Faults,
+}
+
+impl Model for NoDisk {
+    ghost use Rattle.std.specs.Prelude.{ℕ};
+
+    ghost Value = { ℕ };
+
+    ghost view = { λ disk. disk.faults };
+}
+
+impl NoDisk {
+    pub fn new() -> Self
+        ensures { result ≡ 0 }
+    {
+        NoDisk {
+            faults: Faults::new(),
+        }
+    }
+
+    // Counts a call.
+    fn fail(&mut self) -> Failed
+        ensures counted { self.new ≡ one_more self.old }
+        ensures later { self.old ≤ self.new }
+    {
+        self.faults.add_one();
+        Failed
+    }
+}
+
+impl Disk for NoDisk {
+    ghost faults = { λ disk. disk };
+
+    fn len(&mut self) -> Result<u64, Failed>
+        ensures failed { IsErr result }
+        ensures counted { self.new ≡ one_more self.old }
+        ensures cause { HasCause self.old self.new result }
+    {
+        Err(self.fail())
+    }
+
+    fn read(&mut self, _at: u64, _buf: &mut [u8]) -> Result<usize, Failed>
+        ensures failed { IsErr result }
+        ensures counted { self.new ≡ one_more self.old }
+        ensures cause { HasCause self.old self.new result }
+    {
+        Err(self.fail())
+    }
+
+    fn write_at(&mut self, _at: u64, _piece: &[u8]) -> Result<(), Failed>
+        ensures failed { IsErr result }
+        ensures counted { self.new ≡ one_more self.old }
+        ensures cause { HasCause self.old self.new result }
+    {
+        Err(self.fail())
+    }
+
+    fn sync(&mut self) -> Result<(), Failed>
+        ensures failed { IsErr result }
+        ensures counted { self.new ≡ one_more self.old }
+        ensures cause { HasCause self.old self.new result }
+    {
+        Err(self.fail())
+    }
+}

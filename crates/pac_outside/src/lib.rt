@@ -1,0 +1,34 @@
+//! The outside of the database: every way by which bytes come in and go out, and nothing else of the world.
+//!
+//! Later layers are generic over these traits and know the outside by them alone. Each object counts its faults, and
+//! the count never falls: [`Failed`] is answered only where the count of that very object rose in that very call (a
+//! count that stands at the greatest `u64` counts as risen). Where an object tells what it has left or holds, as the
+//! ones in memory do, the contracts say which bytes moved; an object that doesn't tell never does, and one that tells
+//! goes on telling.
+//!
+//! - [`Source`] gives bytes, [`Sink`] takes bytes. [`read_up_to`] reads a whole input, [`write_all`] writes a whole text.
+//! - [`Disk`] is one device of bytes with places; [`Devices`] are those of a store. [`NoDisk`] isn't there.
+//! - [`Gate`] is passed by a worker before each piece of work. [`OpenGate`] holds nobody.
+//! - [`MemSource`] and [`MemSink`] are in memory, and fail at the calls that they are told.
+//! - [`Reading`] and [`Writing`] stand over a reader and a writer of std, as the standard streams.
+#![tactic(auto)]
+
+mod bytes;
+mod calls;
+mod device;
+mod failed;
+mod faults;
+mod gate;
+mod memory;
+mod streams;
+#[cfg(test)]
+mod tests;
+mod whole;
+
+pub use bytes::{Sink, Source};
+pub use device::{Devices, Disk, NoDisk};
+pub use failed::{Failed, ReadError};
+pub use gate::{Gate, OpenGate};
+pub use memory::{MemSink, MemSource};
+pub use streams::{Reading, Writing};
+pub use whole::{read_up_to, write_all};
