@@ -5,3 +5,5 @@ pub mod Texts
 pub mod SameText
 pub mod Values
 pub mod Keys
+pub mod Expressions
+pub mod ByForms

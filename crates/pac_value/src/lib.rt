@@ -5,13 +5,21 @@
 //! - [`Text`]: at most 64 printable bytes.
 //! - [`Ty`], [`Value`]: an int, a text or a bool. [`Key`]: an int or a text, in an order. [`Row`]: 1 to 8 values, none
 //!   a bool.
+//! - [`Env`]: the values of variables.
+//! - [`Expr`], [`BinOp`]: an expression; [`eval`] gives its value, or the [`Trap`] that stops it.
 #![tactic(auto)]
 
+mod env;
+mod evaluation;
+mod expr;
 mod name;
 mod row;
 mod text;
 mod values;
 
+pub use env::Env;
+pub use evaluation::eval;
+pub use expr::{BinOp, Expr, Trap};
 pub use name::Name;
 pub use row::{Row, RowRule};
 pub use text::Text;

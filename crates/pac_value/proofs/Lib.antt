@@ -1,0 +1,4 @@
+pub mod MapLemmas
+pub mod EntryLemmas
+pub mod ValueLemmas
+pub mod RemainderLemmas
