@@ -1,9 +1,9 @@
 -- What the machine's `%` gives is the remainder, and it is an int.
-use Rattle.std.proofs.Common.{int_div, int_rem, ◌≡◌, ◌<◌, ◌^◌, ℤ, pos, negsuc, ◌+ℤ◌, ◌-ℤ◌, ◌*ℤ◌, Ok, SFits, of_z, w64, Err, false, ℕ, refl, sym, ap, ◌∙◌, arith, rules, nat_lt, if◌then◌else◌}
+use Rattle.std.proofs.Common.{int_div, int_rem, ◌≡◌, ◌<◌, ◌^◌, ℤ, pos, negsuc, ◌+ℤ◌, ◌-ℤ◌, ◌*ℤ◌, Ok, SFits, of_z, w64, Err, false, ℕ, refl, sym, ap, ◌∙◌, arith, rules, if◌then◌else◌}
 use Rattle.std.specs.Ordering.{int_eq}
 use Rattle.std.proofs.lemmas.Bool.Decides.{nat_tests}
 use Rattle.std.specs.Int.Signed.{mag_rem}
-use Rattle.std.proofs.lemmas.Int.{quot-rem, to_z-of_z}
+use Rattle.std.proofs.lemmas.Int.{quot-rem}
 use Rattle.std.proofs.Math.IntN.{*ℤ_comm, +ℤ_comm, +ℤ-neg_ℤ_cancel}
 use Rattle.pac_value.specs.declared.values.Value.TheVariants.{Int}
 use Rattle.pac_value.specs.declared.expr.Trap.TheVariants.{DivZero}

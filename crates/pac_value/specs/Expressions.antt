@@ -1,5 +1,5 @@
 -- The types and the values of expressions.
-use Rattle.std.specs.Prelude.{◌^◌, ℕ, ℤ, pos, negsuc, ◌+ℤ◌, ◌-ℤ◌, ◌*ℤ◌, int_div, Bool, true, false, not, nat_lt, if◌then◌else◌, Option, Some, None, Result, Ok, Err, unwrap_or, codes, List}
+use Rattle.std.specs.Prelude.{◌^◌, ℕ, ℤ, pos, negsuc, ◌+ℤ◌, ◌-ℤ◌, ◌*ℤ◌, int_div, Bool, false, not, nat_lt, if◌then◌else◌, Option, Some, None, Result, Ok, Err, unwrap_or, codes, List}
 use Rattle.std.specs.Option.{option_map, option_and_then}
 use Rattle.std.specs.Ordering.{nat_cmp, int_eq, is_lt, is_le, is_gt, is_ge}
 use Rattle.std.specs.FinMap.{FinMap, get}

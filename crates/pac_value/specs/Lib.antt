@@ -6,4 +6,4 @@ pub mod SameText
 pub mod Values
 pub mod Keys
 pub mod Expressions
-pub mod ByForms
+pub mod State

@@ -10,7 +10,10 @@ use crate::{BinOp, Env, Expr, Trap, Value};
 use std::cmp::Ordering;
 
 /// The value of an expression that is well typed where its variables have the types of their values. Operands are
-/// evaluated from left to right; the right one of `&&` and `||` only where the left one does not decide.
+/// evaluated from left to right; the right one of `&&` and `||` only where the left one does not decide. Takes no
+/// memory, and time that grows with the size of the expression.
+///
+/// `Overflow`: a result leaves the 64 bits of an int. `DivZero`: a divisor is zero.
 pub fn eval(expr: &Expr, env: &Env) -> Result<Value, Trap>
     requires { IsSome (type_in (types_of env.now) expr.now) }
     ensures value { result ≡ value expr.now env.now }

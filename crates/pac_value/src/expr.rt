@@ -6,7 +6,8 @@ use crate::Value;
 use pac_base::{Boxed, Exact, NoMemory, Same};
 use std::alloc::Global;
 
-/// An operator of two operands.
+/// An operator of two operands: arithmetic on ints, tests of equality on two values of one type, order on two ints or
+/// two texts, and `&&` and `||` on bools.
 #[derive(Clone, Copy, Debug, PartialEq, Eq)]
 pub enum BinOp {
     Add,
@@ -24,20 +25,24 @@ pub enum BinOp {
     Or,
 }
 
-/// An expression over variables, which have numbers.
+/// An expression over variables, which have numbers. Whether it is well typed depends on the types of its variables.
 #[derive(Debug, Drop)]
 pub enum Expr {
+    /// A value that is written out.
     Lit(Value),
+    /// A variable, by its number.
     Var(u16),
+    /// An operator and its operands.
     Bin {
         op: BinOp,
         left: Boxed<Expr>,
         right: Boxed<Expr>,
     },
+    /// The negation of a bool.
     Not(Boxed<Expr>),
 }
 
-/// Why an expression has no value.
+/// Why a well typed expression has no value.
 #[derive(Clone, Copy, Debug, PartialEq, Eq)]
 pub enum Trap {
     /// The result of an operation is no int of 64 bits.

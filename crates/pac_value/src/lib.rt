@@ -1,5 +1,5 @@
 //! The data that every layer speaks of: names, texts, values, keys and rows, expressions and their values, and the
-//! order of places in tables. Nothing here reads or writes anything.
+//! order of places in tables. Nothing here reads or writes anything, and only copies and maps take memory.
 //!
 //! - [`Name`]: the name of a table, a column, a procedure or a variable, at most 32 bytes.
 //! - [`Text`]: at most 64 printable bytes.
@@ -7,6 +7,11 @@
 //!   a bool.
 //! - [`Env`]: the values of variables.
 //! - [`Expr`], [`BinOp`]: an expression; [`eval`] gives its value, or the [`Trap`] that stops it.
+//!
+//! What an expression is worth is defined over unbounded whole numbers in `specs/Expressions.antt`: a result that
+//! leaves 64 bits is the trap Overflow, a zero divisor the trap DivZero, `/` rounds toward zero and `a % b` is what `/`
+//! leaves of `a`. `specs/State.antt` says what the tables of a database are: a finite map from places, a table's number
+//! and a key, to rows.
 #![tactic(auto)]
 
 mod env;
@@ -14,6 +19,8 @@ mod evaluation;
 mod expr;
 mod name;
 mod row;
+#[cfg(test)]
+mod tests;
 mod text;
 mod values;
 

@@ -56,6 +56,7 @@ impl Name {
         })
     }
 
+    /// The bytes of the name, in order.
     pub fn bytes(&self) -> &[u8]
         ensures bytes { result.now ≡ self.now }
         ensures short { length self.now ≤ 32 }

@@ -61,6 +61,7 @@ impl Text {
         })
     }
 
+    /// The bytes of the text, in order.
     pub fn bytes(&self) -> &[u8]
         ensures bytes { result.now ≡ self.now }
         ensures is_text { IsText self.now }

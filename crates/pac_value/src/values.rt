@@ -25,6 +25,7 @@ pub enum Value {
 }
 
 impl Value {
+    /// The type of the value.
     pub fn ty(&self) -> Ty
         ensures { result ≡ type_of self.now }
     {

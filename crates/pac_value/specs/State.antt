@@ -1,0 +1,39 @@
+-- The state of a database: the rows of its tables.
+use Rattle.std.specs.Prelude.{ℕ, List, map, filter, ◌==◌}
+use Rattle.std.specs.declared.cmp.Ordering.{Ordering}
+use Rattle.std.specs.Ordering.{nat_cmp, ordering_then}
+use Rattle.std.specs.Coded.{Coded, coded×, coded_ℕ, coded_list}
+use Rattle.std.specs.FinMap.{FinMap, code, keys}
+use Rattle.pac_value.specs.declared.values.Key.{Key}
+use Rattle.pac_value.specs.declared.values.Value.{Value}
+use Rattle.pac_value.specs.contracts.values.Key as key
+use Rattle.pac_value.specs.contracts.values.Value as value
+use Rattle.pac_value.specs.Keys.{key_cmp}
+
+-- where a row stands: in which table, and at which key
+abbrev pub Place : Type 0
+Place = ℕ × Key
+
+-- by table, and then by key
+abbrev pub place_cmp : Place → Place → Ordering
+place_cmp a b = ordering_then (nat_cmp a.0 b.0) (key_cmp a.1 b.1)
+
+-- a row: the values of its columns
+abbrev pub RowValues : Type 0
+RowValues = List Value
+
+-- the rows of all tables, by their places
+abbrev pub Tables : Type 0
+Tables = FinMap place_cmp RowValues
+
+-- how the tables are told apart, for a type whose contracts see it as them
+abbrev pub tables_code : Coded Tables
+tables_code = code (coded× coded_ℕ key.the_row.coded) (coded_list value.the_row.coded)
+
+-- the keys at places of a table
+abbrev pub keys_among : List Place → ℕ → List Key
+keys_among places table = map (λ place. place.1) (filter (λ place. place.0 == table) places)
+
+-- the keys of a table's rows, ascending
+abbrev pub keys_of : Tables → ℕ → List Key
+keys_of tables table = keys_among (keys tables) table
