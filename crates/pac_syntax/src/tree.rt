@@ -1,0 +1,81 @@
+// The tree of a catalogue: one node for each rule of the grammar, with the place of each name and expression.
+use pac_base::{Boxed, Listed};
+use pac_value::{BinOp, Name, Ty, Value};
+
+/// A name and where it stands.
+#[derive(Clone, Copy, Debug)]
+pub struct NameNode {
+    pub at: usize,
+    pub name: Name,
+}
+
+/// A literal and the place of its first token.
+#[derive(Clone, Copy, Debug)]
+pub struct LiteralNode {
+    pub at: usize,
+    pub value: Value,
+}
+
+/// A column or a parameter.
+#[derive(Clone, Copy, Debug)]
+pub struct ColumnNode {
+    pub name: NameNode,
+    pub ty: Ty,
+}
+
+/// An expression. `at` is the place of its first token.
+#[derive(Debug, Drop)]
+pub enum ExprNode {
+    Literal(LiteralNode),
+    Name(NameNode),
+    Binary {
+        at: usize,
+        op: BinOp,
+        left: Boxed<ExprNode>,
+        right: Boxed<ExprNode>,
+    },
+}
+
+/// A statement.
+#[derive(Debug, Drop)]
+pub enum StmtNode {
+    /// `let NAME = VALUE;`
+    Let { name: NameNode, value: ExprNode },
+    /// `read NAME = TABLE[KEY].COLUMN default DEFAULT;`
+    Read {
+        name: NameNode,
+        table: NameNode,
+        key: ExprNode,
+        column: NameNode,
+        default: LiteralNode,
+    },
+    /// `put TABLE[KEY] = (VALUES);`
+    Put {
+        table: NameNode,
+        key: ExprNode,
+        values: Listed<ExprNode>,
+    },
+}
+
+/// A table with its columns, the key apart.
+#[derive(Debug, Drop)]
+pub struct TableNode {
+    pub name: NameNode,
+    pub key: Ty,
+    pub columns: Listed<ColumnNode>,
+}
+
+/// A procedure.
+#[derive(Debug, Drop)]
+pub struct ProcNode {
+    pub name: NameNode,
+    pub params: Listed<ColumnNode>,
+    pub body: Listed<StmtNode>,
+}
+
+/// A catalogue as it is written.
+#[derive(Debug, Drop)]
+pub struct Tree {
+    pub tables: Listed<TableNode>,
+    pub procs: Listed<ProcNode>,
+}
