@@ -90,7 +90,7 @@ impl Disk for NoDisk {
         ensures counted { self.new ≡ one_more self.old }
         ensures cause { HasCause self.old self.new result }
     {
-        Err(self.fail())
+        Err(self.fail()) // no byte comes
     }
 
     fn write_at(&mut self, _at: u64, _piece: &[u8]) -> Result<(), Failed>
