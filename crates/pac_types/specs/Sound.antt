@@ -1,0 +1,124 @@
+-- When statements are sound: each expression has the type that its place wants.
+use Rattle.std.specs.Prelude.{◌≡◌, ℕ, Bool, true, false, ◌&&◌, ◌==◌, nat_le, if◌then◌else◌, List, [], ◌∷◌, map, length, slice_get, Option, Some, None, IsSome, is_some}
+use Rattle.std.specs.Option.{option_map, option_and_then}
+use Rattle.std.specs.FinMap.{get}
+use Rattle.pac_value.specs.declared.values.Ty.{Ty}
+use Rattle.pac_value.specs.declared.values.Ty.TheVariants.{Int as IntTy, Text as TextTy, Bool as BoolTy}
+use Rattle.pac_value.specs.declared.values.Key.{Key}
+use Rattle.pac_value.specs.declared.values.Key.TheVariants.{Int, Text}
+use Rattle.pac_value.specs.declared.values.Value.{Value}
+use Rattle.pac_value.specs.Values.{type_of}
+use Rattle.pac_value.specs.Expressions.{type_in}
+use Rattle.pac_value.specs.State.{Place, RowValues, Tables}
+use Rattle.pac_types.specs.declared.catalogue.Column.{Column}
+use Rattle.pac_types.specs.declared.catalogue.Table.{Table}
+use Rattle.pac_types.specs.declared.catalogue.Proc.{Proc}
+use Rattle.pac_types.specs.declared.catalogue.Stmt.{Stmt}
+use Rattle.pac_types.specs.declared.catalogue.Stmt.TheOpen.{Stmt-F, Let, Read, Has, Put, Set, Delete, AbortIf, If}
+use Rattle.pac_types.specs.declared.catalogue.Stmt.TheFolds.{fold-Stmt}
+
+-- the types of the variables that are visible
+abbrev pub Scope : Type 0
+Scope = ℕ → Option Ty
+
+-- one more variable
+abbrev pub with_var : Scope → ℕ → Ty → Scope
+with_var scope x ty y = if y == x then Some ty else scope y
+
+-- the types of columns or parameters
+abbrev pub types : List Column → List Ty
+types columns = map (λ column. column.ty) columns
+
+-- the type of a table's key
+abbrev pub key_type : List Table → ℕ → Option Ty
+key_type tables t = option_map (λ table. table.key) (slice_get tables t)
+
+-- the types of a table's columns, none where there is no such table
+abbrev pub column_types_of : Option Table → List Ty
+column_types_of None = []
+column_types_of (Some table) = types table.columns
+
+abbrev pub column_types : List Table → ℕ → List Ty
+column_types tables t = column_types_of (slice_get tables t)
+
+-- the type of a table's column
+abbrev pub column_type : List Table → ℕ → ℕ → Option Ty
+column_type tables t c = slice_get (column_types tables t) c
+
+-- a bool
+abbrev pub is_bool : Option Ty → Bool
+is_bool (Some BoolTy) = true
+is_bool _ = false
+
+-- the type that a key or a column wants: it is an int or a text
+abbrev pub is_wanted : Option Ty → Option Ty → Bool
+is_wanted (Some IntTy) (Some IntTy) = true
+is_wanted (Some TextTy) (Some TextTy) = true
+is_wanted _ _ = false
+
+-- as many values as columns, each of its column's type
+abbrev pub are_wanted : List (Option Ty) → List Ty → Bool
+are_wanted [] [] = true
+are_wanted (a ∷ as_) (ty ∷ tys) = is_wanted a (Some ty) && are_wanted as_ tys
+are_wanted _ _ = false
+
+-- a row has 1 to 8 columns
+abbrev pub is_width : ℕ → Bool
+is_width n = nat_le 1 n && nat_le n 8
+
+-- the scope behind a test that has to hold
+abbrev pub if_so : Bool → Scope → Option Scope
+if_so ok scope = if ok then Some scope else None
+
+-- what is visible behind one statement after another
+abbrev pub in_order : List (Scope → Option Scope) → Scope → Option Scope
+in_order [] scope = Some scope
+in_order (f ∷ fs) scope = option_and_then (in_order fs) (f scope)
+
+-- what is visible behind a statement, None where it is not sound; what blocks define is not visible behind them
+abbrev pub sound_step : List Table → Stmt-F (Scope → Option Scope) → Scope → Option Scope
+sound_step tables (Let x e) scope = option_map (with_var scope x) (type_in scope e)
+sound_step tables (Read x t k c default) scope =
+    if_so (is_wanted (type_in scope k) (key_type tables t) && is_wanted (Some (type_of default)) (column_type tables t c)) (with_var scope x (type_of default))
+sound_step tables (Has x t k) scope = if_so (is_wanted (type_in scope k) (key_type tables t)) (with_var scope x BoolTy)
+sound_step tables (Put t k es) scope =
+    if_so (is_wanted (type_in scope k) (key_type tables t) && is_width (length es) && are_wanted (map (type_in scope) es) (column_types tables t)) scope
+sound_step tables (Set t k c e) scope = if_so (is_wanted (type_in scope k) (key_type tables t) && is_wanted (type_in scope e) (column_type tables t c)) scope
+sound_step tables (Delete t k) scope = if_so (is_wanted (type_in scope k) (key_type tables t)) scope
+sound_step tables (AbortIf e) scope = if_so (is_bool (type_in scope e)) scope
+sound_step tables (If x e first second) scope =
+    if_so (is_bool (type_in scope e) && is_some (in_order first (with_var scope x BoolTy)) && is_some (in_order second (with_var scope x BoolTy))) (with_var scope x BoolTy)
+
+-- the scope behind a statement, None where it is not sound
+abbrev pub scope_after : List Table → Stmt → Scope → Option Scope
+scope_after tables = fold-Stmt (Scope → Option Scope) (sound_step tables)
+
+-- the scope behind statements, None where one is not sound
+abbrev pub scope_behind : List Table → List Stmt → Scope → Option Scope
+scope_behind tables stmts = in_order (map (scope_after tables) stmts)
+
+-- the parameters have the first numbers
+abbrev pub scope_of : List Column → Scope
+scope_of params x = slice_get (types params) x
+
+-- the procedure's statements are sound where its parameters are visible
+abbrev pub IsSoundProc : List Table → Proc → Type 0
+IsSoundProc tables proc = IsSome (scope_behind tables proc.body (scope_of proc.params))
+
+-- arguments of the parameters' types, in order
+abbrev pub FitParams : List Column → List Value → Type 0
+FitParams params args = map type_of args ≡ types params
+
+-- the type of a key
+abbrev pub type_of_key : Key → Ty
+type_of_key (Int n) = IntTy
+type_of_key (Text t) = TextTy
+
+-- a row has its table's key and column types
+pub record FitsTable (tables : List Table) (place : Place) (row : RowValues) : Type 0 where
+  pub key : key_type tables place.0 ≡ Some (type_of_key place.1)
+  pub columns : map type_of row ≡ column_types tables place.0
+
+-- each row has its table's key and column types
+abbrev pub FitTables : List Table → Tables → Type 0
+FitTables tables rows = (place : Place) (row : RowValues) → get rows place ≡ Some row → FitsTable tables place row
