@@ -1,5 +1,5 @@
 -- When statements are sound: each expression has the type that its place wants.
-use Rattle.std.specs.Prelude.{◌≡◌, ℕ, Bool, true, false, ◌&&◌, ◌==◌, nat_le, if◌then◌else◌, List, [], ◌∷◌, map, length, slice_get, Option, Some, None, IsSome, is_some}
+use Rattle.std.specs.Prelude.{◌≡◌, ℕ, Bool, true, false, ◌&&◌, ◌||◌, ◌==◌, nat_le, if◌then◌else◌, List, [], ◌∷◌, map, length, slice_get, Option, Some, None, IsSome, is_some}
 use Rattle.std.specs.Option.{option_map, option_and_then}
 use Rattle.std.specs.FinMap.{get}
 use Rattle.pac_value.specs.declared.values.Ty.{Ty}
@@ -7,6 +7,7 @@ use Rattle.pac_value.specs.declared.values.Ty.TheVariants.{Int as IntTy, Text as
 use Rattle.pac_value.specs.declared.values.Key.{Key}
 use Rattle.pac_value.specs.declared.values.Key.TheVariants.{Int, Text}
 use Rattle.pac_value.specs.declared.values.Value.{Value}
+use Rattle.pac_value.specs.declared.expr.Expr.{Expr}
 use Rattle.pac_value.specs.Values.{type_of}
 use Rattle.pac_value.specs.Expressions.{type_in}
 use Rattle.pac_value.specs.State.{Place, RowValues, Tables}
@@ -70,32 +71,63 @@ is_width n = nat_le 1 n && nat_le n 8
 abbrev pub if_so : Bool → Scope → Option Scope
 if_so ok scope = if ok then Some scope else None
 
--- what is visible behind one statement after another
-abbrev pub in_order : List (Scope → Option Scope) → Scope → Option Scope
-in_order [] scope = Some scope
-in_order (f ∷ fs) scope = option_and_then (in_order fs) (f scope)
+-- what a check of a statement knows: the variables that it defines, and the scope behind it, None where it is not sound
+pub record Check : Type 0 where
+  pub defines : ℕ → Bool
+  pub after : Scope → Option Scope
 
--- what is visible behind a statement, None where it is not sound; what blocks define is not visible behind them
-abbrev pub sound_step : List Table → Stmt-F (Scope → Option Scope) → Scope → Option Scope
-sound_step tables (Let x e) scope = option_map (with_var scope x) (type_in scope e)
-sound_step tables (Read x t k c default) scope =
-    if_so (is_wanted (type_in scope k) (key_type tables t) && is_wanted (Some (type_of default)) (column_type tables t c)) (with_var scope x (type_of default))
-sound_step tables (Has x t k) scope = if_so (is_wanted (type_in scope k) (key_type tables t)) (with_var scope x BoolTy)
-sound_step tables (Put t k es) scope =
-    if_so (is_wanted (type_in scope k) (key_type tables t) && is_width (length es) && are_wanted (map (type_in scope) es) (column_types tables t)) scope
-sound_step tables (Set t k c e) scope = if_so (is_wanted (type_in scope k) (key_type tables t) && is_wanted (type_in scope e) (column_type tables t c)) scope
-sound_step tables (Delete t k) scope = if_so (is_wanted (type_in scope k) (key_type tables t)) scope
-sound_step tables (AbortIf e) scope = if_so (is_bool (type_in scope e)) scope
-sound_step tables (If x e first second) scope =
-    if_so (is_bool (type_in scope e) && is_some (in_order first (with_var scope x BoolTy)) && is_some (in_order second (with_var scope x BoolTy))) (with_var scope x BoolTy)
+-- a statement that defines a variable, and one that defines none
+abbrev pub defining : ℕ → (Scope → Option Scope) → Check
+defining x after = record { defines = λ y. y == x; after = after }
+
+abbrev pub plain : (Scope → Option Scope) → Check
+plain after = record { defines = λ y. false; after = after }
+
+-- the variables that one of several statements defines
+abbrev pub any_defines : List Check → ℕ → Bool
+any_defines [] y = false
+any_defines (c ∷ cs) y = c.defines y || any_defines cs y
+
+-- the scope behind one statement after another
+abbrev pub in_order : List Check → Scope → Option Scope
+in_order [] scope = Some scope
+in_order (c ∷ cs) scope = option_and_then (in_order cs) (c.after scope)
+
+-- the scope without some variables
+abbrev pub without : (ℕ → Bool) → Scope → Scope
+without some scope y = if some y then None else scope y
+
+-- a conditional: the hidden variable is visible in the blocks and behind them, what a block defines is not
+abbrev pub conditional : ℕ → Expr → List Check → List Check → Check
+conditional x e first second = record {
+  defines = λ y. y == x || (any_defines first y || any_defines second y);
+  after = λ scope. if_so
+      (is_bool (type_in scope e) && is_some (in_order first (with_var scope x BoolTy)) && is_some (in_order second (with_var scope x BoolTy)))
+      (without (any_defines first) (without (any_defines second) (with_var scope x BoolTy)));
+}
+
+abbrev pub check_step : List Table → Stmt-F Check → Check
+check_step tables (Let x e) = defining x (λ scope. option_map (with_var scope x) (type_in scope e))
+check_step tables (Read x t k c default) = defining x (λ scope.
+    if_so (is_wanted (type_in scope k) (key_type tables t) && is_wanted (Some (type_of default)) (column_type tables t c)) (with_var scope x (type_of default)))
+check_step tables (Has x t k) = defining x (λ scope. if_so (is_wanted (type_in scope k) (key_type tables t)) (with_var scope x BoolTy))
+check_step tables (Put t k es) = plain (λ scope.
+    if_so (is_wanted (type_in scope k) (key_type tables t) && is_width (length es) && are_wanted (map (type_in scope) es) (column_types tables t)) scope)
+check_step tables (Set t k c e) = plain (λ scope. if_so (is_wanted (type_in scope k) (key_type tables t) && is_wanted (type_in scope e) (column_type tables t c)) scope)
+check_step tables (Delete t k) = plain (λ scope. if_so (is_wanted (type_in scope k) (key_type tables t)) scope)
+check_step tables (AbortIf e) = plain (λ scope. if_so (is_bool (type_in scope e)) scope)
+check_step tables (If x e first second) = conditional x e first second
+
+abbrev pub check : List Table → Stmt → Check
+check tables = fold-Stmt Check (check_step tables)
 
 -- the scope behind a statement, None where it is not sound
 abbrev pub scope_after : List Table → Stmt → Scope → Option Scope
-scope_after tables = fold-Stmt (Scope → Option Scope) (sound_step tables)
+scope_after tables stmt = (check tables stmt).after
 
 -- the scope behind statements, None where one is not sound
 abbrev pub scope_behind : List Table → List Stmt → Scope → Option Scope
-scope_behind tables stmts = in_order (map (scope_after tables) stmts)
+scope_behind tables stmts = in_order (map (check tables) stmts)
 
 -- the parameters have the first numbers
 abbrev pub scope_of : List Column → Scope
