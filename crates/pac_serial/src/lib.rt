@@ -1,0 +1,8 @@
+//! Serial execution: the rows of the tables, and calls that are executed one after another.
+//!
+//! - [`Rows`]: the rows of all tables, a finite map from places to rows.
+#![tactic(auto)]
+
+mod rows;
+
+pub use rows::Rows;
