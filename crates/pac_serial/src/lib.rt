@@ -3,6 +3,7 @@
 //! - [`Rows`]: the rows of all tables, a finite map from places to rows.
 #![tactic(auto)]
 
+mod draft;
 mod rows;
 
 pub use rows::Rows;
