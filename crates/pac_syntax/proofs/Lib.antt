@@ -3,3 +3,8 @@ pub mod Running
 pub mod Words
 pub mod Ends
 pub mod Meets
+pub mod NumberLemmas
+pub mod LexLemmas
+pub mod LexedOnce
+pub mod Stepping
+pub mod Top

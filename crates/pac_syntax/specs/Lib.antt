@@ -1,4 +1,7 @@
 pub mod Spelling
+pub mod Tokens
 pub mod Grammar
 pub mod Faults
 pub mod Machine
+pub mod Views
+pub mod Reading

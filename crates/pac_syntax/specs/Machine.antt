@@ -11,6 +11,8 @@ use Rattle.pac_syntax.specs.declared.token.Symbol.TheVariants as symbol
 use Rattle.pac_syntax.specs.declared.token.Token.{Token}
 use Rattle.pac_syntax.specs.declared.token.Token.TheVariants as token
 use Rattle.pac_syntax.specs.declared.token.Spanned.{Spanned}
+use Rattle.pac_syntax.specs.declared.statement.StatementWord.{StatementWord}
+use Rattle.pac_syntax.specs.declared.statement.StatementWord.TheVariants as word
 use Rattle.pac_syntax.specs.declared.fault.FaultKind.{FaultKind}
 use Rattle.pac_syntax.specs.declared.fault.FaultKind.TheVariants.{Expected}
 use Rattle.pac_syntax.specs.declared.fault.Fault.{Fault}
@@ -125,7 +127,7 @@ abbrev pub next : Steps → Role → Next
 next k role = record { steps = k; role = role }
 
 abbrev pub want_keyword : Keyword → Steps → Steps
-want_keyword word k = Want (token.Keyword word) k
+want_keyword w k = Want (token.Keyword w) k
 
 abbrev pub want_symbol : Symbol → Steps → Steps
 want_symbol sign k = Want (token.Symbol sign) k
@@ -153,8 +155,12 @@ values_steps k = want_symbol symbol.OpenParen (want_expr (λ v. MoreValues (v �
 abbrev pub put_steps : (StmtNode → Steps) → Steps
 put_steps k = place_steps (λ t e. want_symbol symbol.Assign (values_steps (λ vs. want_symbol symbol.Semicolon (k (stmt.Put t e vs)))))
 
+-- the type behind a column's name
+abbrev pub typed_steps : NameNode → (ColumnNode → Steps) → Steps
+typed_steps n k = want_keyword keyword.Int (k (record { name = n; ty = ty.Int }))
+
 abbrev pub column_steps : Role → (ColumnNode → Steps) → Steps
-column_steps role k = WantName role (λ n. want_keyword keyword.Int (k (record { name = n; ty = ty.Int })))
+column_steps role k = WantName role (λ n. typed_steps n k)
 
 abbrev pub columns_steps : (List ColumnNode → Steps) → Steps
 columns_steps k = column_steps (ColumnName 1) (λ c. MoreColumns ColumnName 1 (c ∷ []) k)
@@ -208,11 +214,25 @@ name_operand k n = next (k (record { from = n.at; expr = Name n })) Plain
 abbrev pub operand_begins : Token → ℕ → (Begun → Steps) → Option Next
 operand_begins t at k = or_else (with_name (name_in t at) (name_operand k)) (literal_begins t at (literal_operand k))
 
+-- the word that begins a statement
+abbrev pub stmt_word : Token → Option StatementWord
+stmt_word (token.Keyword keyword.Let) = Some word.Let
+stmt_word (token.Keyword keyword.Read) = Some word.Read
+stmt_word (token.Keyword keyword.Put) = Some word.Put
+stmt_word _ = None
+
+-- what comes behind it
+abbrev pub stmt_steps : StatementWord → (StmtNode → Steps) → Steps
+stmt_steps word.Let k = let_steps k
+stmt_steps word.Read k = read_steps k
+stmt_steps word.Put k = put_steps k
+
+abbrev pub with_word : Option StatementWord → (StatementWord → Next) → Option Next
+with_word None f = None
+with_word (Some w) f = Some (f w)
+
 abbrev pub stmt_begins : Token → (StmtNode → Steps) → Option Next
-stmt_begins (token.Keyword keyword.Let) k = Some (next (let_steps k) Plain)
-stmt_begins (token.Keyword keyword.Read) k = Some (next (read_steps k) Plain)
-stmt_begins (token.Keyword keyword.Put) k = Some (next (put_steps k) Plain)
-stmt_begins _ k = None
+stmt_begins t k = with_word (stmt_word t) (λ w. next (stmt_steps w k) Plain)
 
 -- what is to come behind the token, where it can follow
 unfoldable pub feed : Steps → Spanned → Option Next
@@ -290,6 +310,7 @@ abbrev pub Gives : {X Y : Type 0} → (X → Result Y Fault) → Result X Syntax
 Gives after (Ok x) read = read ≡ after x
 Gives after (Err e) read = Fails e read
 
-abbrev pub option_cases : {X Y : Type 0} → Option X → Y → (X → Y) → Y
-option_cases None y f = y
-option_cases (Some x) y f = f x
+-- a function that only want of memory stops
+abbrev pub OkOrMemory : {X : Type 0} → Result X SyntaxError → (X → Type 0) → Type 0
+OkOrMemory (Ok x) P = P x
+OkOrMemory (Err e) P = e ≡ error.NoMemory

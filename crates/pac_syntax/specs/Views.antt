@@ -1,0 +1,93 @@
+-- What the parser's parts say of the tokens that are left.
+use Rattle.std.specs.Prelude.{◌≡◌, ℕ, ℤ, List, [], ◌∷◌, true, false, Option, Some, None}
+use Rattle.pac_syntax.specs.declared.token.Token.{Token}
+use Rattle.pac_syntax.specs.declared.token.Token.TheVariants as token
+use Rattle.pac_syntax.specs.declared.token.Spanned.{Spanned}
+use Rattle.pac_syntax.specs.declared.tree.NameNode.{NameNode}
+use Rattle.pac_syntax.specs.declared.tree.LiteralNode.{LiteralNode}
+use Rattle.pac_syntax.specs.declared.statement.StatementWord.{StatementWord}
+use Rattle.pac_syntax.specs.declared.parser.ColumnKind.{ColumnKind}
+use Rattle.pac_syntax.specs.declared.parser.ColumnKind.TheVariants.{Column, Param}
+use Rattle.pac_syntax.specs.declared.parser.Operand.{Operand}
+use Rattle.pac_syntax.specs.Grammar.{Role, ColumnName, ParamName}
+use Rattle.pac_syntax.specs.Machine.{Begun, is_mark, name_in, literal_at, stmt_word}
+
+-- the tokens begin with this word or sign
+pub record Begins (w : Token) (at : ℕ) (ts rest : List Spanned) : Type 0 where
+  pub text : ts ≡ record { token = w; at = at } ∷ rest
+  pub mark : is_mark w w ≡ true
+
+-- the first token isn't this word or sign
+abbrev pub IsNot : Token → List Spanned → Type 0
+IsNot w [] = Unit {0}
+IsNot w (t ∷ ts) = is_mark w t.token ≡ false
+
+-- the first token is no name
+abbrev pub IsNoName : List Spanned → Type 0
+IsNoName [] = Unit {0}
+IsNoName (t ∷ ts) = name_in t.token t.at ≡ None
+
+-- an int, where the token is one; the int of a literal below zero
+abbrev pub int_in : Token → Option ℤ
+int_in (token.Int z) = Some z
+int_in _ = None
+
+abbrev pub negative_of : Token → Option ℤ
+negative_of (token.Negative z) = Some z
+negative_of _ = None
+
+-- the first token is no int, or none below zero
+abbrev pub IsNoInt : List Spanned → Type 0
+IsNoInt [] = Unit {0}
+IsNoInt (t ∷ ts) = int_in t.token ≡ None
+
+abbrev pub IsNoNegative : List Spanned → Type 0
+IsNoNegative [] = Unit {0}
+IsNoNegative (t ∷ ts) = negative_of t.token ≡ None
+
+-- the tokens begin with the int of this literal
+pub record IsInt (l : LiteralNode) (ts rest : List Spanned) : Type 0 where
+  pub int : ℤ
+  pub text : ts ≡ record { token = token.Int int; at = l.at } ∷ rest
+  pub value : l ≡ literal_at l.at int
+
+-- the tokens begin with the int of this literal, whose `-` stands at this place
+pub record IsNegative (minus : ℕ) (l : LiteralNode) (ts rest : List Spanned) : Type 0 where
+  pub int : ℤ
+  pub at : ℕ
+  pub text : ts ≡ record { token = token.Negative int; at = at } ∷ rest
+  pub value : l ≡ literal_at minus int
+
+-- the bytes of the name that a token is
+abbrev pub name_part : Token → Option (List ℕ)
+name_part (token.Name n) = Some n
+name_part _ = None
+
+-- a name as a token
+abbrev pub name_token : NameNode → Spanned
+name_token n = record { token = token.Name n.name; at = n.at }
+
+-- the role of the names of columns or of parameters
+abbrev pub role_of : ColumnKind → ℕ → Role
+role_of Column = ColumnName
+role_of Param = ParamName
+
+-- how many of them there may be
+abbrev pub limit_of : ColumnKind → ℕ
+limit_of Column = 8
+limit_of Param = 16
+
+-- an operand in the reading
+abbrev pub begun_at : Operand → Begun
+begun_at x = record { from = x.from; expr = x.expr }
+
+-- the tokens begin with a word that begins a statement
+pub record BeginsStmt (w : StatementWord) (ts rest : List Spanned) : Type 0 where
+  pub first : Spanned
+  pub text : ts ≡ first ∷ rest
+  pub word : stmt_word first.token ≡ Some w
+
+-- the first token begins no statement
+abbrev pub IsNoStmt : List Spanned → Type 0
+IsNoStmt [] = Unit {0}
+IsNoStmt (t ∷ ts) = stmt_word t.token ≡ None

@@ -1,0 +1,68 @@
+// Reads texts: their tokens, and the catalogue that they are.
+ghost use Rattle.std.specs.Prelude.{◌≡◌, ◌<◌, List, IfOk, IsErrOf, Some, None};
+ghost use Rattle.pac_syntax.specs.Tokens.{IsLexed};
+ghost use Rattle.pac_syntax.specs.Reading.{Reads, AreTokensOrMemory};
+ghost use Rattle.pac_syntax.specs.Faults.{IsTreeOrMemory};
+ghost use Rattle.pac_syntax.specs.declared.fault.Fault.{Fault as AFault};
+ghost use Rattle.pac_syntax.specs.declared.token.Spanned.{Spanned as ASpanned};
+ghost use Rattle.pac_syntax.specs.declared.tree.Tree.{Tree as ATree};
+
+use crate::catalogue::parse_tokens;
+use crate::fault::{Fault, FaultKind, SyntaxError};
+use crate::lexer::lex;
+use crate::token::Spanned;
+use crate::tree::Tree;
+use std::alloc::Global;
+
+// The greatest length of a catalogue's text.
+const MAX_TEXT: usize = 65536;
+
+/// The tokens of a text, with their places. Linear in the text.
+///
+/// # Errors
+///
+/// `Fault` exactly where the text isn't a list of tokens: the first fault of a token, with its place.
+pub fn tokens(alloc: Global, text: &[u8]) -> Result<Vec<Spanned>, SyntaxError>
+    ensures ok { IfOk result (λ found. IsLexed text.now found.items None) }
+    ensures only { (ts : List ASpanned) → IsLexed text.now ts None → AreTokensOrMemory result ts }
+    ensures fault { (fault : AFault) → IsErrOf result (SyntaxError.Fault fault) → (ts : List ASpanned) × IsLexed text.now ts (Some fault) }
+{
+    let lexed = lex(alloc, text)?;
+    match lexed.fault {
+        None => Ok(lexed.items),
+        Some(fault) => Err(SyntaxError::Fault(fault)),
+    }
+}
+
+/// The tree of a catalogue's text, which has at most 65,536 bytes. Linear in the text.
+///
+/// # Errors
+///
+/// `Fault` exactly where the text is no catalogue in the grammar and within its limits.
+pub fn parse_catalogue(alloc: Global, text: &[u8]) -> Result<Tree, SyntaxError>
+    ensures reads { IfOk result (λ tree. Reads text.now tree) }
+    ensures only { (tree : ATree) → Reads text.now tree → IsTreeOrMemory result tree }
+{
+    if text.len() > MAX_TEXT {
+        let at = MAX_TEXT;
+        let kind = FaultKind::TooLong;
+        return Err(SyntaxError::Fault(Fault { at, kind }));
+    }
+    let lexed = lex(alloc, text)?;
+    match lexed.fault {
+        None => parse_tokens(alloc, &lexed.items, text.len()),
+        Some(fault) => {
+            let parsed = parse_tokens(alloc, &lexed.items, fault.at);
+            Err(earlier(parsed, fault))
+        }
+    }
+}
+
+// The fault of the tokens, where it stands before that of a token.
+fn earlier(parsed: Result<Tree, SyntaxError>, fault: Fault) -> SyntaxError {
+    match parsed {
+        Err(SyntaxError::Fault(first)) if first.at < fault.at => SyntaxError::Fault(first),
+        Err(SyntaxError::NoMemory) => SyntaxError::NoMemory,
+        _ => SyntaxError::Fault(fault),
+    }
+}
