@@ -1,2 +1,4 @@
 pub mod ScopeLemmas
 pub mod SoundLemmas
+pub mod NameLemmas
+pub mod CheckLemmas

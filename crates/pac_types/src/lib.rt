@@ -10,7 +10,13 @@
 #![tactic(auto)]
 
 mod catalogue;
+mod expressions;
+mod names;
 mod reason;
+mod statements;
+mod tables;
+mod type_error;
 
 pub use catalogue::{Column, Columns, Exprs, Proc, Stmt, Stmts, Table};
 pub use reason::Reason;
+pub use type_error::TypeError;

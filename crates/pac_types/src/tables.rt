@@ -1,0 +1,114 @@
+// The tables of a catalogue by their names.
+ghost use Rattle.std.specs.Prelude.{◌≡◌, ◌≤◌, ◌<◌, ◌^◌, All, IfOk, IfSome, IsErrOf, Some, length, map, slice_get};
+ghost use Rattle.pac_types.specs.Sound.{column_types, key_type, types};
+ghost use Rattle.pac_types.specs.Numbering.{AreDistinct, column_number, column_of, table_number, table_of};
+
+use crate::names::Names;
+use crate::{Column, Table, TypeError};
+use pac_base::listed;
+use pac_syntax::{ColumnNode, TableNode};
+use pac_value::{Name, Ty};
+use std::alloc::{AllocError, Global};
+use std::marker::Model;
+
+/// Tables, with maps of their names and of their columns' names.
+#[derive(Drop)]
+pub struct Tables {
+    tables: Vec<Table>,
+    names: Names,
+    columns: Vec<Names>,
+}
+
+impl Model for Tables {
+    ghost use Rattle.std.specs.Prelude.{List};
+    ghost use Rattle.pac_types.specs.declared.catalogue.Table.{Table as ATable};
+
+    ghost Value = { List ATable };
+
+    ghost use Rattle.pac_types.specs.TablesIndex.{IsTablesIndex};
+
+    ghost view = { λ tables. tables.tables.items };
+
+    ghost invariant = { λ tables. IsTablesIndex tables.tables.items tables.names tables.columns.items };
+}
+
+/// The columns or parameters of these nodes.
+pub fn columns_of(alloc: Global, nodes: &[ColumnNode]) -> Result<Vec<Column>, AllocError>
+    ensures { IfOk result (λ columns. columns.items ≡ map column_of nodes.now) }
+{
+    nodes
+        .iter()
+        .map(|node| Column {
+            name: node.name.name,
+            ty: node.ty,
+        })
+        .collect(alloc)
+}
+
+/// The names of these nodes.
+pub fn names_of(alloc: Global, nodes: &[ColumnNode]) -> Result<Vec<Name>, AllocError>
+    ensures { IfOk result (λ names. names.items ≡ map (λ node. node.name.name) nodes.now) }
+{
+    nodes.iter().map(|node| node.name.name).collect(alloc)
+}
+
+impl Tables {
+    /// How many tables there are.
+    pub fn len(&self) -> usize
+        ensures { result ≡ length self.now }
+    {
+        self.tables.len()
+    }
+
+    /// The number of a table. `None`: none has that name.
+    pub fn number(&self, name: &Name) -> Option<u16>
+        ensures value { result ≡ table_number self.now name.now }
+        ensures within { IfSome result (λ table. table < length self.now) }
+    {
+        self.names.number(name)
+    }
+
+    /// The table with a number.
+    pub fn table(&self, number: u16) -> &Table
+        requires { number < length self.now }
+        ensures { slice_get self.now number ≡ Some result.now }
+    {
+        &self.tables[usize::from(number)]
+    }
+
+    /// The type of a table's key.
+    pub fn key_type(&self, table: u16) -> Option<Ty>
+        requires { table < length self.now }
+        ensures { result ≡ key_type self.now table }
+    {
+        Some(self.table(table).key)
+    }
+
+    /// The columns of a table.
+    pub fn columns(&self, table: u16) -> &[Column]
+        requires { table < length self.now }
+        ensures { types result.now ≡ column_types self.now table }
+    {
+        self.table(table).columns.as_slice()
+    }
+
+    /// The number of a column of a table. `None`: none has that name.
+    pub fn column(&self, table: u16, name: &Name) -> Option<u16>
+        requires { table < length self.now }
+        ensures { result ≡ column_number self.now table name.now }
+    {
+        self.columns[usize::from(table)].number(name)
+    }
+
+    /// The tables alone.
+    pub fn into_tables(self) -> Vec<Table>
+        ensures { result.items ≡ self }
+    {
+        let Tables {
+            tables,
+            names: _,
+            columns: _,
+        } = self;
+        tables
+    }
+}
