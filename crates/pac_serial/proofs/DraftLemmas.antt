@@ -1,7 +1,7 @@
 -- What stands at a place once changes are made.
-use Rattle.std.proofs.Common.{◌≡◌, ℕ, ◌+◌, ◌-◌, ◌<◌, ◌≤◌, arith, Bool, true, false, cond, List, [], ◌∷◌, ◌++◌, length, get_or, take, Option, Some, None, refl, sym, ap, ◌∙◌, subst}
+use Rattle.std.proofs.Common.{◌≡◌, ℕ, ◌+◌, ◌-◌, ◌<◌, ◌≤◌, arith, true, false, cond, List, [], ◌∷◌, ◌++◌, length, get_or, take, Option, Some, None, refl, sym, ap, ◌∙◌, subst}
 use Rattle.std.specs.Ordering.{is_eq, eq_by_cmp}
-use Rattle.std.specs.Cmp.{tied_itself}
+use Rattle.std.specs.Cmp.{tied_itself, Equal-is}
 use Rattle.std.proofs.lemmas.List.{take_more}
 use Rattle.std.specs.FinMap.{get, get-insert, get-remove}
 use Rattle.std.specs.declared.cmp.Ordering.{Ordering}
@@ -12,7 +12,7 @@ use Rattle.pac_types.specs.Meaning.{set_row}
 use Rattle.pac_serial.specs.declared.draft.Change.{Change}
 use Rattle.pac_serial.specs.Drafts.{place_of, laid, Drafted}
 
-get-set_row : (t : Tables) (p : Place) (row : Option RowValues) (q : Place) → get (set_row t p row) q ≡ cond (eq_by_cmp place_cmp q p) row (get t q)
+pub get-set_row : (t : Tables) (p : Place) (row : Option RowValues) (q : Place) → get (set_row t p row) q ≡ cond (eq_by_cmp place_cmp q p) row (get t q)
 get-set_row t p None q = get-remove places_total t p q
 get-set_row t p (Some row) q = get-insert places_total t p row q
 
@@ -33,6 +33,10 @@ get-set_row_other t p row q ne = get-set_row t p row q ∙ ap (λ b. cond b row 
 pub laid-append : (t : Tables) (cs : List Change) (c : Change) → laid t (cs ++ c ∷ []) ≡ set_row (laid t cs) (place_of c) c.row
 laid-append t [] c = refl
 laid-append t (x ∷ xs) c = laid-append (set_row t (place_of x) x.row) xs c
+
+-- places that tie are one
+pub tied_same : (q p : Place) → eq_by_cmp place_cmp q p ≡ true → p ≡ q
+tied_same q p h = sym (places_antisymmetric q p ((Equal-is (place_cmp q p)).0 h))
 
 -- one more write
 pub drafted-pushed : (rows : Tables) (cs more : List Change) (c : Change) (now : Drafted) → more ≡ cs ++ c ∷ []

@@ -1,1 +1,3 @@
 pub mod DraftLemmas
+pub mod FitLemmas
+pub mod RowLemmas

@@ -4,6 +4,9 @@
 #![tactic(auto)]
 
 mod draft;
+mod exec;
+mod operation;
 mod rows;
 
+pub use exec::ExecError;
 pub use rows::Rows;

@@ -1,5 +1,5 @@
 -- The change that is looked at is at the place, or it changes nothing there.
-use Rattle.std.proofs.Common.{◌≡◌, ◌-◌, ap, sym, ◌∙◌, arith, rules, true, false}
+use Rattle.std.proofs.Common.{◌≡◌, ap, sym, ◌∙◌, arith, rules, true, false}
 use Rattle.pac_value.specs.State.{Place}
 use Rattle.pac_serial.specs.Drafts.{place_of}
 use Rattle.pac_serial.proofs.DraftLemmas.{at-last, before-last}
