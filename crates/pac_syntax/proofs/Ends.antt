@@ -143,11 +143,12 @@ operands_lead : (l : Begun) (i : ℕ) (k : ExprNode → Steps) (t : Spanned) (n 
 operands_lead l i k t n false is e others = λ z r f. ([], marked t.token t.at n.role ∷ z, refl, others e z r f)
 operands_lead l i k t n true is e others =
     by_next (MoreOperands l i k) t.token t.at (next (WantOperand (λ r. MoreOperands (joined l r) (suc i) k)) (Operator (suc i))) n e
-      (λ z r f. rw (is_mark-true (token.Symbol symbol.Plus) t.token is) (let g = f.3 in (
-        record { plus = t.at; right = f.0 } ∷ g.0,
-        g.1,
-        ap (λ y. symbol_mark symbol.Plus t.at (Operator (suc i)) ∷ y) (f.2 ∙ ap (operand_before f.0) g.2),
-        g.3)))
+    (λ z r f. rw (is_mark-true (token.Symbol symbol.Plus) t.token is) (let g = f.3 in (
+      record { plus = t.at; right = f.0 } ∷ g.0,
+      g.1,
+      ap (λ y. symbol_mark symbol.Plus t.at (Operator (suc i)) ∷ y) (f.2 ∙ ap (operand_before f.0) g.2),
+      g.3,
+    )))
 
 -- an expression, and what is behind it
 record Expression (k : ExprNode → Steps) (z : List Marked) (r : Tree) : Type 0 where
@@ -173,13 +174,14 @@ values_lead : (vs : List ExprNode) (k : List ExprNode → Steps) (t : Spanned) (
 values_lead vs k t n false is e others = λ z r f. (NoValue, marked t.token t.at n.role ∷ z, refl, subst (λ (xs : List ExprNode). Finishes (k xs) (marked t.token t.at n.role ∷ z) r) (sym (append-nil vs)) (others e z r f))
 values_lead vs k t n true is e others =
     by_next (MoreValues vs k) t.token t.at (next (want_expr (λ v. MoreValues (vs ++ (v ∷ [])) k)) Plain) n e
-      (λ z r f. rw (is_mark-true (token.Symbol symbol.Comma) t.token is) (
-        let x = an_expr (λ v. MoreValues (vs ++ (v ∷ [])) k) z r f in
-        let g = x.more in (
-        AValue t.at x.form g.0,
-        g.1,
-        ap (λ y. symbol_mark symbol.Comma t.at Plain ∷ y) (x.text ∙ ap (expr_before x.form) g.2),
-        subst (λ (xs : List ExprNode). Finishes (k xs) g.1 r) (append_assoc vs (expr_node x.form ∷ []) (value_nodes g.0)) g.3)))
+    (λ z r f. rw (is_mark-true (token.Symbol symbol.Comma) t.token is) (
+    let x = an_expr (λ v. MoreValues (vs ++ (v ∷ [])) k) z r f in
+    let g = x.more in (
+      AValue t.at x.form g.0,
+      g.1,
+      ap (λ y. symbol_mark symbol.Comma t.at Plain ∷ y) (x.text ∙ ap (expr_before x.form) g.2),
+      subst (λ (xs : List ExprNode). Finishes (k xs) g.1 r) (append_assoc vs (expr_node x.form ∷ []) (value_nodes g.0)) g.3,
+    )))
 
 columns_lead : (role : ℕ → Role) (i : ℕ) (cs : List ColumnNode) (k : List ColumnNode → Steps) (t : Spanned) (n : Next) (b : Bool) → is_mark (token.Symbol symbol.Comma) t.token ≡ b
     → or_else (where_true b (next (column_steps (role (suc i)) (λ c. MoreColumns role (suc i) (cs ++ (c ∷ [])) k)) Plain)) (feed (k cs) t) ≡ Some n
@@ -187,13 +189,14 @@ columns_lead : (role : ℕ → Role) (i : ℕ) (cs : List ColumnNode) (k : List 
 columns_lead role i cs k t n false is e others = λ z r f. (NoColumn, marked t.token t.at n.role ∷ z, refl, subst (λ (xs : List ColumnNode). Finishes (k xs) (marked t.token t.at n.role ∷ z) r) (sym (append-nil cs)) (others e z r f))
 columns_lead role i cs k t n true is e others =
     by_next (MoreColumns role i cs k) t.token t.at (next (column_steps (role (suc i)) (λ c. MoreColumns role (suc i) (cs ++ (c ∷ [])) k)) Plain) n e
-      (λ z r f. rw (is_mark-true (token.Symbol symbol.Comma) t.token is) (
-        let g = f.3 in
-        let h = g.3 in (
-        AColumn t.at f.0 g.0 h.0,
-        h.1,
-        ap (λ y. symbol_mark symbol.Comma t.at Plain ∷ y) (rw (f.2, g.2, h.2) refl),
-        subst (λ (xs : List ColumnNode). Finishes (k xs) h.1 r) (append_assoc cs (column_node f.0 ∷ []) (column_nodes h.0)) h.3)))
+    (λ z r f. rw (is_mark-true (token.Symbol symbol.Comma) t.token is) (
+    let g = f.3 in
+    let h = g.3 in (
+      AColumn t.at f.0 g.0 h.0,
+      h.1,
+      ap (λ y. symbol_mark symbol.Comma t.at Plain ∷ y) (rw (f.2, g.2, h.2) refl),
+      subst (λ (xs : List ColumnNode). Finishes (k xs) h.1 r) (append_assoc cs (column_node f.0 ∷ []) (column_nodes h.0)) h.3,
+    )))
 
 params_lead : (t : Token) (at : ℕ) (whole : Spanned) (k : List ColumnNode → Steps) (n : Next)
     → or_else (with_name (name_in t at) (λ n. next (want_keyword keyword.Int (MoreColumns ParamName 1 (record { name = n; ty = ty.Int } ∷ []) k)) (ParamName 1))) (feed (k []) whole) ≡ Some n
@@ -201,16 +204,18 @@ params_lead : (t : Token) (at : ℕ) (whole : Spanned) (k : List ColumnNode → 
 params_lead (token.Name x) at whole k n e others =
     let name : NameNode = record { at = at; name = x } in
     by_next (SomeParams k) (token.Name x) at (next (want_keyword keyword.Int (MoreColumns ParamName 1 (column_node name ∷ []) k)) (ParamName 1)) n e
-      (λ z r f. let g = f.3 in (AParam name f.0 g.0, g.1, ap (λ y. name_mark name (ParamName 1) ∷ y) (f.2 ∙ ap (λ y. keyword_mark keyword.Int f.0 Plain ∷ y) g.2), g.3))
+    (λ z r f. let g = f.3 in (AParam name f.0 g.0, g.1, ap (λ y. name_mark name (ParamName 1) ∷ y) (f.2 ∙ ap (λ y. keyword_mark keyword.Int f.0 Plain ∷ y) g.2), g.3))
 params_lead t at whole k n e others = λ z r f. (NoParam, marked t at n.role ∷ z, refl, others e z r f)
 
 let_leads : (ss : List StmtNode) (k : List StmtNode → Steps) (at : ℕ) → Leads (MoreStmts ss k) (token.Keyword keyword.Let) at (next (let_steps (λ s. MoreStmts (ss ++ (s ∷ [])) k)) Plain)
 let_leads ss k at z r f =
     let x = an_expr (λ e. want_symbol symbol.Semicolon (MoreStmts (ss ++ (stmt.Let f.0 e ∷ [])) k)) f.3.1 r f.3.3 in
-    let g = x.more.3 in
-    (ALet at f.0 f.3.0 x.form x.more.0 g.0, g.1,
+    let g = x.more.3 in (
+      ALet at f.0 f.3.0 x.form x.more.0 g.0,
+      g.1,
       ap (λ y. keyword_mark keyword.Let at Plain ∷ y) (then f.2 (then f.3.2 (x.text ∙ ap (expr_before x.form) (then x.more.2 g.2)))),
-      subst (λ (xs : List StmtNode). Finishes (k xs) g.1 r) (append_assoc ss (stmt.Let f.0 (expr_node x.form) ∷ []) (stmt_nodes g.0)) g.3)
+      subst (λ (xs : List StmtNode). Finishes (k xs) g.1 r) (append_assoc ss (stmt.Let f.0 (expr_node x.form) ∷ []) (stmt_nodes g.0)) g.3,
+    )
 
 read_leads : (ss : List StmtNode) (k : List StmtNode → Steps) (at : ℕ) → Leads (MoreStmts ss k) (token.Keyword keyword.Read) at (next (read_steps (λ s. MoreStmts (ss ++ (s ∷ [])) k)) Plain)
 read_leads ss k at z r f =
@@ -225,11 +230,13 @@ read_leads ss k at z r f =
     let default = column.3 in
     let literal = default.3 in
     let semicolon = literal.3 in
-    let g = semicolon.3 in
-    (ARead at f.0 assign.0 table.0 bracket.0 x.form close.0 dot.0 column.0 default.0 literal.0 semicolon.0 g.0, g.1,
+    let g = semicolon.3 in (
+      ARead at f.0 assign.0 table.0 bracket.0 x.form close.0 dot.0 column.0 default.0 literal.0 semicolon.0 g.0,
+      g.1,
       ap (λ y. keyword_mark keyword.Read at Plain ∷ y) (then f.2 (then assign.2 (then table.2 (then bracket.2 (x.text ∙ ap (expr_before x.form)
-      (then close.2 (then dot.2 (then column.2 (then default.2 (literal.2 ∙ ap (literal_before literal.0) (then semicolon.2 g.2))))))))))),
-      subst (λ (xs : List StmtNode). Finishes (k xs) g.1 r) (append_assoc ss (stmt.Read f.0 table.0 (expr_node x.form) column.0 (literal_node literal.0) ∷ []) (stmt_nodes g.0)) g.3)
+          (then close.2 (then dot.2 (then column.2 (then default.2 (literal.2 ∙ ap (literal_before literal.0) (then semicolon.2 g.2))))))))))),
+      subst (λ (xs : List StmtNode). Finishes (k xs) g.1 r) (append_assoc ss (stmt.Read f.0 table.0 (expr_node x.form) column.0 (literal_node literal.0) ∷ []) (stmt_nodes g.0)) g.3,
+    )
 
 put_leads : (ss : List StmtNode) (k : List StmtNode → Steps) (at : ℕ) → Leads (MoreStmts ss k) (token.Keyword keyword.Put) at (next (put_steps (λ s. MoreStmts (ss ++ (s ∷ [])) k)) Plain)
 put_leads ss k at z r f =
@@ -243,11 +250,13 @@ put_leads ss k at z r f =
     let values = v.more in
     let shut = values.3 in
     let semicolon = shut.3 in
-    let g = semicolon.3 in
-    (APut at f.0 bracket.0 x.form close.0 assign.0 paren.0 v.form values.0 shut.0 semicolon.0 g.0, g.1,
+    let g = semicolon.3 in (
+      APut at f.0 bracket.0 x.form close.0 assign.0 paren.0 v.form values.0 shut.0 semicolon.0 g.0,
+      g.1,
       ap (λ y. keyword_mark keyword.Put at Plain ∷ y) (then f.2 (then bracket.2 (x.text ∙ ap (expr_before x.form)
-      (then close.2 (then assign.2 (then paren.2 (v.text ∙ ap (expr_before v.form) (values.2 ∙ ap (values_before values.0) (then shut.2 (then semicolon.2 g.2)))))))))),
-      subst (λ (xs : List StmtNode). Finishes (k xs) g.1 r) (append_assoc ss (stmt.Put f.0 (expr_node x.form) (expr_node v.form ∷ value_nodes values.0) ∷ []) (stmt_nodes g.0)) g.3)
+          (then close.2 (then assign.2 (then paren.2 (v.text ∙ ap (expr_before v.form) (values.2 ∙ ap (values_before values.0) (then shut.2 (then semicolon.2 g.2)))))))))),
+      subst (λ (xs : List StmtNode). Finishes (k xs) g.1 r) (append_assoc ss (stmt.Put f.0 (expr_node x.form) (expr_node v.form ∷ value_nodes values.0) ∷ []) (stmt_nodes g.0)) g.3,
+    )
 
 stmts_lead : (t : Token) (at : ℕ) (whole : Spanned) (ss : List StmtNode) (k : List StmtNode → Steps) (n : Next)
     → or_else (stmt_begins t (λ s. MoreStmts (ss ++ (s ∷ [])) k)) (feed (k ss) whole) ≡ Some n
@@ -263,21 +272,23 @@ tables_lead : (i : ℕ) (ts : List TableNode) (k : List TableNode → Steps) (t 
 tables_lead i ts k t n false is e others = λ z r f. (NoTable, marked t.token t.at n.role ∷ z, refl, subst (λ (xs : List TableNode). Finishes (k xs) (marked t.token t.at n.role ∷ z) r) (sym (append-nil ts)) (others e z r f))
 tables_lead i ts k t n true is e others =
     by_next (MoreTables i ts k) t.token t.at (next (table_steps (λ table. MoreTables (suc i) (ts ++ (table ∷ [])) k)) (TableWord (suc i))) n e
-      (λ z r f. rw (is_mark-true (token.Keyword keyword.Table) t.token is) (
-        let paren = f.3 in
-        let key = paren.3 in
-        let type = key.3 in
-        let comma = type.3 in
-        let column = comma.3 in
-        let ctype = column.3 in
-        let columns = ctype.3 in
-        let close = columns.3 in
-        let semicolon = close.3 in
-        let g = semicolon.3 in
-        let node : TableNode = record { name = f.0; key = ty.Int; columns = column_node column.0 ∷ column_nodes columns.0 } in
-        (ATable t.at f.0 paren.0 key.0 type.0 comma.0 column.0 ctype.0 columns.0 close.0 semicolon.0 g.0, g.1,
-          rw (f.2, paren.2, key.2, type.2, comma.2, column.2, ctype.2, columns.2, close.2, semicolon.2, g.2) refl,
-          subst (λ (xs : List TableNode). Finishes (k xs) g.1 r) (append_assoc ts (node ∷ []) (table_nodes g.0)) g.3)))
+    (λ z r f. rw (is_mark-true (token.Keyword keyword.Table) t.token is) (
+    let paren = f.3 in
+    let key = paren.3 in
+    let type = key.3 in
+    let comma = type.3 in
+    let column = comma.3 in
+    let ctype = column.3 in
+    let columns = ctype.3 in
+    let close = columns.3 in
+    let semicolon = close.3 in
+    let g = semicolon.3 in
+    let node : TableNode = record { name = f.0; key = ty.Int; columns = column_node column.0 ∷ column_nodes columns.0 } in (
+      ATable t.at f.0 paren.0 key.0 type.0 comma.0 column.0 ctype.0 columns.0 close.0 semicolon.0 g.0,
+      g.1,
+      rw (f.2, paren.2, key.2, type.2, comma.2, column.2, ctype.2, columns.2, close.2, semicolon.2, g.2) refl,
+      subst (λ (xs : List TableNode). Finishes (k xs) g.1 r) (append_assoc ts (node ∷ []) (table_nodes g.0)) g.3,
+    )))
 
 procs_lead : (i : ℕ) (ps : List ProcNode) (k : List ProcNode → Steps) (t : Spanned) (n : Next) (b : Bool) → is_mark (token.Keyword keyword.Proc) t.token ≡ b
     → or_else (where_true b (next (proc_steps (λ proc. MoreProcs (suc i) (ps ++ (proc ∷ [])) k)) (ProcWord (suc i)))) (feed (k ps) t) ≡ Some n
@@ -285,18 +296,20 @@ procs_lead : (i : ℕ) (ps : List ProcNode) (k : List ProcNode → Steps) (t : S
 procs_lead i ps k t n false is e others = λ z r f. (NoProc, marked t.token t.at n.role ∷ z, refl, subst (λ (xs : List ProcNode). Finishes (k xs) (marked t.token t.at n.role ∷ z) r) (sym (append-nil ps)) (others e z r f))
 procs_lead i ps k t n true is e others =
     by_next (MoreProcs i ps k) t.token t.at (next (proc_steps (λ proc. MoreProcs (suc i) (ps ++ (proc ∷ [])) k)) (ProcWord (suc i))) n e
-      (λ z r f. rw (is_mark-true (token.Keyword keyword.Proc) t.token is) (
-        let paren = f.3 in
-        let params = paren.3 in
-        let close = params.3 in
-        let brace = close.3 in
-        let stmts = brace.3 in
-        let shut = stmts.3 in
-        let g = shut.3 in
-        let node : ProcNode = record { name = f.0; params = param_nodes params.0; body = stmt_nodes stmts.0 } in
-        (AProc t.at f.0 paren.0 params.0 close.0 brace.0 stmts.0 shut.0 g.0, g.1,
-          rw (f.2, paren.2, params.2, close.2, brace.2, stmts.2, shut.2, g.2) refl,
-          subst (λ (xs : List ProcNode). Finishes (k xs) g.1 r) (append_assoc ps (node ∷ []) (proc_nodes g.0)) g.3)))
+    (λ z r f. rw (is_mark-true (token.Keyword keyword.Proc) t.token is) (
+    let paren = f.3 in
+    let params = paren.3 in
+    let close = params.3 in
+    let brace = close.3 in
+    let stmts = brace.3 in
+    let shut = stmts.3 in
+    let g = shut.3 in
+    let node : ProcNode = record { name = f.0; params = param_nodes params.0; body = stmt_nodes stmts.0 } in (
+      AProc t.at f.0 paren.0 params.0 close.0 brace.0 stmts.0 shut.0 g.0,
+      g.1,
+      rw (f.2, paren.2, params.2, close.2, brace.2, stmts.2, shut.2, g.2) refl,
+      subst (λ (xs : List ProcNode). Finishes (k xs) g.1 r) (append_assoc ps (node ∷ []) (proc_nodes g.0)) g.3,
+    )))
 
 -- what ends behind a token that was taken ended before it
 pub feeds : (k : Steps) (t : Spanned) (n : Next) → feed k t ≡ Some n → Leads k t.token t.at n

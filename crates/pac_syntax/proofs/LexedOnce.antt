@@ -43,8 +43,8 @@ lexed_once (t ∷ ts) (u ∷ us) before at bytes f g h k =
     let len : k.0 ≡ h.0 = ap (λ p. p.1) pair in
     let place : t.at ≡ u.at = h.2 ∙ sym k.2 in
     let rest : Lexed (after before t.token) (at + gap bytes + h.0) (drop h.0 (drop (gap bytes) bytes)) us g =
-      subst (λ (n : ℕ). Lexed (after before t.token) (at + gap bytes + n) (drop n (drop (gap bytes) bytes)) us g) len
-        (subst (λ (x : Token). Lexed (after before x) (at + gap bytes + k.0) (drop k.0 (drop (gap bytes) bytes)) us g) token k.3) in
+    subst (λ (n : ℕ). Lexed (after before t.token) (at + gap bytes + n) (drop n (drop (gap bytes) bytes)) us g) len
+    (subst (λ (x : Token). Lexed (after before x) (at + gap bytes + k.0) (drop k.0 (drop (gap bytes) bytes)) us g) token k.3) in
     let more = lexed_once ts us (after before t.token) (at + gap bytes + h.0) (drop h.0 (drop (gap bytes) bytes)) f g h.3 rest in
     let tokens : ◌≡◌ {A = Token} t.token u.token = sym token in
     let one : ◌≡◌ {A = Spanned} t u = λ i. record { token = tokens i; at = place i } in

@@ -8,3 +8,4 @@ pub mod LexLemmas
 pub mod LexedOnce
 pub mod Stepping
 pub mod Top
+pub mod WithinLimits

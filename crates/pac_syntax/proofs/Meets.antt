@@ -59,11 +59,11 @@ taken_go (Some n) k t ts r is more e = by_bar (over n.role) refl e
     by_bar : (b : Option FaultKind) → over n.role ≡ b → bar b (t ∷ ts) (scan n.steps ts) ≡ Ok r → Taken k (t ∷ ts) r
     by_bar (Some kind) h e = absurd cc
     by_bar None h e = let m = more n e in record {
-        marks = record { token = t; role = n.role } ∷ m.marks;
-        text = ap (λ x. t ∷ x) m.text;
-        within = (h, m.within);
-        ends = feeds k t n is m.marks r m.ends;
-      }
+      marks = record { token = t; role = n.role } ∷ m.marks;
+      text = ap (λ x. t ∷ x) m.text;
+      within = (h, m.within);
+      ends = feeds k t n is m.marks r m.ends;
+    }
 
 taken : (ts : List Spanned) (k : Steps) (r : Tree) → scan k ts ≡ Ok r → Taken k ts r
 unfolding scan
@@ -166,13 +166,13 @@ stops_go (Some n) k t ts s is more e = by_bar (over n.role) refl e
     by_bar (Some kind) h e =
         let r = can_end n.steps in
         subst (λ (s : Stop). StopsAt k (t ∷ ts) s) (stop_is (record { rest = t ∷ ts; kind = kind }) s e)
-          (record { marks = []; parts = refl; goes_on = can_end k; reason = over_reason k t ts n.role kind r.0 r.1 h (feeds k t n is r.0 r.1 r.2) })
+        (record { marks = []; parts = refl; goes_on = can_end k; reason = over_reason k t ts n.role kind r.0 r.1 h (feeds k t n is r.0 r.1 r.2) })
     by_bar None h e = let m = more n e in record {
-        marks = record { token = t; role = n.role } ∷ m.marks;
-        parts = ap (λ x. t ∷ x) m.parts;
-        goes_on = (m.goes_on.0, m.goes_on.1, feeds k t n is _ m.goes_on.1 m.goes_on.2);
-        reason = reason_later k t n m.marks s.rest s.kind is m.reason;
-      }
+      marks = record { token = t; role = n.role } ∷ m.marks;
+      parts = ap (λ x. t ∷ x) m.parts;
+      goes_on = (m.goes_on.0, m.goes_on.1, feeds k t n is _ m.goes_on.1 m.goes_on.2);
+      reason = reason_later k t n m.marks s.rest s.kind is m.reason;
+    }
 
 stops : (ts : List Spanned) (k : Steps) (s : Stop) → scan k ts ≡ Err s → StopsAt k ts s
 unfolding scan
@@ -196,13 +196,13 @@ within_go : (o : Option Next) (k : Steps) (t : Spanned) (a x y : List Spanned) (
 unfolding scan
 within_go None k t a x y s is more e =
     subst (λ (s : Stop). Within k (t ∷ a) x y s) (stop_is (record { rest = t ∷ (a ++ x); kind = Expected }) s e)
-      (record { stop = record { rest = t ∷ (a ++ y); kind = Expected }; is = rw is refl; kind = refl; same = omega (arith, length-append a x, length-append a y) })
+    (record { stop = record { rest = t ∷ (a ++ y); kind = Expected }; is = rw is refl; kind = refl; same = omega (arith, length-append a x, length-append a y) })
 within_go (Some n) k t a x y s is more e = by_bar (over n.role) refl e
   where
     by_bar : (b : Option FaultKind) → over n.role ≡ b → bar b (t ∷ (a ++ x)) (scan n.steps (a ++ x)) ≡ Err s → Within k (t ∷ a) x y s
     by_bar (Some kind) h e =
         subst (λ (s : Stop). Within k (t ∷ a) x y s) (stop_is (record { rest = t ∷ (a ++ x); kind = kind }) s e)
-          (record { stop = record { rest = t ∷ (a ++ y); kind = kind }; is = rw (is, h) refl; kind = refl; same = omega (arith, length-append a x, length-append a y) })
+        (record { stop = record { rest = t ∷ (a ++ y); kind = kind }; is = rw (is, h) refl; kind = refl; same = omega (arith, length-append a x, length-append a y) })
     by_bar None h e = let m = more n e in record { stop = m.stop; is = rw (is, h) m.is; kind = m.kind; same = m.same }
 
 within : (a x y : List Spanned) (k : Steps) (s : Stop) → length x < length s.rest → scan k (a ++ x) ≡ Err s → Within k a x y s
@@ -279,10 +279,10 @@ overs ts p' (t ∷ r) kind s e parts h =
 least_expected : (ts p rest p' rest' : List Spanned) → ts ≡ p ++ rest → IsViable p → ts ≡ p' ++ rest' → FaultAt p' rest' Expected → length p ≤ length p'
 least_expected ts p rest p' [] parts viable parts' f = omega (arith, ap length parts, ap length parts', length-append p rest, length-append p' [])
 least_expected ts p rest p' (t ∷ r) parts viable parts' f = elim (cases_lt (length p') (length p)) [
-    | inl lt ↦ let l = longer p p' rest r t (sym parts ∙ parts') lt in
-        absurd (f.1 (viable_front (p' ++ (t ∷ [])) l.0 (subst (λ (x : List Spanned). IsViable x) l.1 viable)))
-    | inr le ↦ le
-  ]
+  | inl lt ↦ let l = longer p p' rest r t (sym parts ∙ parts') lt in
+      absurd (f.1 (viable_front (p' ++ (t ∷ [])) l.0 (subst (λ (x : List Spanned). IsViable x) l.1 viable)))
+  | inr le ↦ le
+]
 
 place_of : (ts p rest p' : List Spanned) → ts ≡ p ++ rest → length ts ≤ length p' + length rest → length p ≤ length p'
 place_of ts p rest p' parts h = omega (arith, ap length parts, length-append p rest)
@@ -365,10 +365,12 @@ pub first_fault : (ts : List Spanned) (s : Stop) → scan start ts ≡ Err s →
 first_fault ts s e =
     let m = stops ts start s e in
     let p = tokens_of m.marks in
-    let f = fault_at ts s.rest s.kind m.marks e m.parts m.goes_on m.reason in
-    (p, record {
-      parts = m.parts;
-      fault = f;
-      least = least_of ts s p e m.parts (viable_at m.marks m.goes_on);
-      by_kind = kinds ts p s.rest s.kind e m.parts f;
-    })
+    let f = fault_at ts s.rest s.kind m.marks e m.parts m.goes_on m.reason in (
+      p,
+      record {
+        parts = m.parts;
+        fault = f;
+        least = least_of ts s p e m.parts (viable_at m.marks m.goes_on);
+        by_kind = kinds ts p s.rest s.kind e m.parts f;
+      },
+    )

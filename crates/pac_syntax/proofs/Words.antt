@@ -41,7 +41,7 @@ module _ (tree : Tree) where
   read_expr (AnOperand x) k rest h = read_operand x (λ x. MoreOperands x 0 k) rest h
   read_expr (ASum e plus x) k rest h =
       read_expr e k (symbol_mark symbol.Plus plus (Operator (suc (operators e))) ∷ operand_before x rest)
-        (_, refl, refl, read_operand x (λ r. MoreOperands (joined (begun e) r) (suc (operators e)) k) rest h)
+      (_, refl, refl, read_operand x (λ r. MoreOperands (joined (begun e) r) (suc (operators e)) k) rest h)
 
   -- an expression ends before a comma or a parenthesis
   values_end : (c : ValuesForm) (l : Begun) (i : ℕ) (k : ExprNode → List ExprNode) (after : List ExprNode → Steps) (p : ℕ) (rest : List Marked)
@@ -55,9 +55,13 @@ module _ (tree : Tree) where
       → Runs (k (vs ++ value_nodes c)) (symbol_mark symbol.CloseParen p Plain ∷ rest) tree → Runs (MoreValues vs k) (values_before c (symbol_mark symbol.CloseParen p Plain ∷ rest)) tree
   unfolding feed
   read_values NoValue vs k p rest h = subst (λ (xs : List ExprNode). Runs (k xs) (symbol_mark symbol.CloseParen p Plain ∷ rest) tree) (append-nil vs) h
-  read_values (AValue comma e c) vs k p rest h =
-      (_, refl, refl, read_expr e _ _ (values_end c (begun e) (operators e) (λ v. vs ++ (v ∷ [])) k p rest
-        (read_values c (vs ++ (expr_node e ∷ [])) k p rest (subst (λ (xs : List ExprNode). Runs (k xs) (symbol_mark symbol.CloseParen p Plain ∷ rest) tree) (sym (append_assoc vs (expr_node e ∷ []) (value_nodes c))) h))))
+  read_values (AValue comma e c) vs k p rest h = (
+    _,
+    refl,
+    refl,
+    read_expr e _ _ (values_end c (begun e) (operators e) (λ v. vs ++ (v ∷ [])) k p rest
+        (read_values c (vs ++ (expr_node e ∷ [])) k p rest (subst (λ (xs : List ExprNode). Runs (k xs) (symbol_mark symbol.CloseParen p Plain ∷ rest) tree) (sym (append_assoc vs (expr_node e ∷ []) (value_nodes c))) h))),
+  )
 
   -- statements end before a brace
   read_stmts : (s : StmtsForm) (ss : List StmtNode) (k : List StmtNode → Steps) (p : ℕ) (rest : List Marked)
@@ -70,22 +74,87 @@ module _ (tree : Tree) where
       (_, refl, refl, (_, refl, refl, (_, refl, refl, read_expr e _ _ (_, refl, refl, more))))
   read_stmts (ARead p0 x p1 t p2 e p3 p4 c p5 l p6 s) ss k p rest h =
       let node = stmt.Read x t (expr_node e) c (literal_node l) in
-      let more = read_stmts s (ss ++ (node ∷ [])) k p rest (subst (λ (xs : List StmtNode). Runs (k xs) (symbol_mark symbol.CloseBrace p Plain ∷ rest) tree) (sym (append_assoc ss (node ∷ []) (stmt_nodes s))) h) in
-      (_, refl, refl, (_, refl, refl, (_, refl, refl, (_, refl, refl, (_, refl, refl,
-        read_expr e _ _ (_, refl, refl, (_, refl, refl, (_, refl, refl, (_, refl, refl, read_literal l _ _ (_, refl, refl, more))))))))))
+      let more = read_stmts s (ss ++ (node ∷ [])) k p rest (subst (λ (xs : List StmtNode). Runs (k xs) (symbol_mark symbol.CloseBrace p Plain ∷ rest) tree) (sym (append_assoc ss (node ∷ []) (stmt_nodes s))) h) in (
+        _,
+        refl,
+        refl,
+        (
+          _,
+          refl,
+          refl,
+          (
+            _,
+            refl,
+            refl,
+            (
+              _,
+              refl,
+              refl,
+              (
+                _,
+                refl,
+                refl,
+                read_expr e _ _ (_, refl, refl, (_, refl, refl, (_, refl, refl, (_, refl, refl, read_literal l _ _ (_, refl, refl, more))))),
+              ),
+            ),
+          ),
+        ),
+      )
   read_stmts (APut p0 t p1 e p2 p3 p4 v vs p5 p6 s) ss k p rest h =
       let node = stmt.Put t (expr_node e) (expr_node v ∷ value_nodes vs) in
-      let more = read_stmts s (ss ++ (node ∷ [])) k p rest (subst (λ (xs : List StmtNode). Runs (k xs) (symbol_mark symbol.CloseBrace p Plain ∷ rest) tree) (sym (append_assoc ss (node ∷ []) (stmt_nodes s))) h) in
-      (_, refl, refl, (_, refl, refl, (_, refl, refl, read_expr e _ _ (_, refl, refl, (_, refl, refl, (_, refl, refl,
-        read_expr v _ _ (values_end vs (begun v) (operators v) (λ v. v ∷ []) _ p5 _ (read_values vs (expr_node v ∷ []) _ p5 _ (_, refl, refl, (_, refl, refl, more))))))))))
+      let more = read_stmts s (ss ++ (node ∷ [])) k p rest (subst (λ (xs : List StmtNode). Runs (k xs) (symbol_mark symbol.CloseBrace p Plain ∷ rest) tree) (sym (append_assoc ss (node ∷ []) (stmt_nodes s))) h) in (
+        _,
+        refl,
+        refl,
+        (
+          _,
+          refl,
+          refl,
+          (
+            _,
+            refl,
+            refl,
+            read_expr e _ _ (
+              _,
+              refl,
+              refl,
+              (
+                _,
+                refl,
+                refl,
+                (
+                  _,
+                  refl,
+                  refl,
+                  read_expr v _ _ (values_end vs (begun v) (operators v) (λ v. v ∷ []) _ p5 _ (read_values vs (expr_node v ∷ []) _ p5 _ (_, refl, refl, (_, refl, refl, more)))),
+                ),
+              ),
+            ),
+          ),
+        ),
+      )
 
   read_columns : (c : ColumnsForm) (role : ℕ → Role) (i : ℕ) (cs : List ColumnNode) (k : List ColumnNode → Steps) (p : ℕ) (rest : List Marked)
       → Runs (k (cs ++ column_nodes c)) (symbol_mark symbol.CloseParen p Plain ∷ rest) tree → Runs (MoreColumns role i cs k) (columns_before role i c (symbol_mark symbol.CloseParen p Plain ∷ rest)) tree
   unfolding feed
   read_columns NoColumn role i cs k p rest h = subst (λ (xs : List ColumnNode). Runs (k xs) (symbol_mark symbol.CloseParen p Plain ∷ rest) tree) (append-nil cs) h
-  read_columns (AColumn comma n type c) role i cs k p rest h =
-      (_, refl, refl, (_, refl, refl, (_, refl, refl, read_columns c role (suc i) (cs ++ (column_node n ∷ [])) k p rest
-        (subst (λ (xs : List ColumnNode). Runs (k xs) (symbol_mark symbol.CloseParen p Plain ∷ rest) tree) (sym (append_assoc cs (column_node n ∷ []) (column_nodes c))) h))))
+  read_columns (AColumn comma n type c) role i cs k p rest h = (
+    _,
+    refl,
+    refl,
+    (
+      _,
+      refl,
+      refl,
+      (
+        _,
+        refl,
+        refl,
+        read_columns c role (suc i) (cs ++ (column_node n ∷ [])) k p rest
+            (subst (λ (xs : List ColumnNode). Runs (k xs) (symbol_mark symbol.CloseParen p Plain ∷ rest) tree) (sym (append_assoc cs (column_node n ∷ []) (column_nodes c))) h),
+      ),
+    ),
+  )
 
   read_params : (c : ParamsForm) (k : List ColumnNode → Steps) (p : ℕ) (rest : List Marked)
       → Runs (k (param_nodes c)) (symbol_mark symbol.CloseParen p Plain ∷ rest) tree → Runs (SomeParams k) (params_before c (symbol_mark symbol.CloseParen p Plain ∷ rest)) tree
@@ -112,9 +181,47 @@ module _ (tree : Tree) where
   read_tables NoTable procs i ts h = tables_end procs i ts (subst (λ (xs : List TableNode). Runs (tree_procs xs) (procs_before 0 procs []) tree) (append-nil ts) h)
   read_tables (ATable p0 n p1 p2 p3 p4 c p5 cs p6 p7 f) procs i ts h =
       let node : TableNode = record { name = n; key = ty.Int; columns = column_node c ∷ column_nodes cs } in
-      let more = read_tables f procs (suc i) (ts ++ (node ∷ [])) (subst (λ (xs : List TableNode). Runs (tree_procs xs) (procs_before 0 procs []) tree) (sym (append_assoc ts (node ∷ []) (table_nodes f))) h) in
-      (_, refl, refl, (_, refl, refl, (_, refl, refl, (_, refl, refl, (_, refl, refl, (_, refl, refl, (_, refl, refl, (_, refl, refl,
-        read_columns cs ColumnName 1 (column_node c ∷ []) _ p6 _ (_, refl, refl, (_, refl, refl, more))))))))))
+      let more = read_tables f procs (suc i) (ts ++ (node ∷ [])) (subst (λ (xs : List TableNode). Runs (tree_procs xs) (procs_before 0 procs []) tree) (sym (append_assoc ts (node ∷ []) (table_nodes f))) h) in (
+        _,
+        refl,
+        refl,
+        (
+          _,
+          refl,
+          refl,
+          (
+            _,
+            refl,
+            refl,
+            (
+              _,
+              refl,
+              refl,
+              (
+                _,
+                refl,
+                refl,
+                (
+                  _,
+                  refl,
+                  refl,
+                  (
+                    _,
+                    refl,
+                    refl,
+                    (
+                      _,
+                      refl,
+                      refl,
+                      read_columns cs ColumnName 1 (column_node c ∷ []) _ p6 _ (_, refl, refl, (_, refl, refl, more)),
+                    ),
+                  ),
+                ),
+              ),
+            ),
+          ),
+        ),
+      )
 
 -- a catalogue's tokens lead to its tree
 pub whole_runs : (ms : List Marked) (tree : Tree) → Whole ms tree → Runs start ms tree

@@ -138,11 +138,11 @@ tree_of form = record { tables = table_nodes form.tables; procs = proc_nodes for
 -- what a token is in its derivation
 pub data Role : Type 0 where
   Plain : Role
-  TableWord : ℕ → Role    -- the `table` of so many tables, itself counted
-  ProcWord : ℕ → Role     -- the `proc` of so many procedures
-  ColumnName : ℕ → Role   -- the name of so many columns of its table, the key not counted
-  ParamName : ℕ → Role    -- the name of so many parameters of its procedure
-  Operator : ℕ → Role     -- the operator of so many in its expression
+  TableWord : ℕ → Role  -- the `table` of so many tables, itself counted
+  ProcWord : ℕ → Role  -- the `proc` of so many procedures
+  ColumnName : ℕ → Role  -- the name of so many columns of its table, the key not counted
+  ParamName : ℕ → Role  -- the name of so many parameters of its procedure
+  Operator : ℕ → Role  -- the operator of so many in its expression
 
 pub record Marked : Type 0 where
   pub token : Spanned

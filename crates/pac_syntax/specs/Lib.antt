@@ -4,4 +4,5 @@ pub mod Grammar
 pub mod Faults
 pub mod Machine
 pub mod Views
+pub mod Limits
 pub mod Reading

@@ -73,10 +73,7 @@ fn gap_len(bytes: &[u8]) -> usize
 fn word_len(bytes: &[u8]) -> usize
     ensures { result ≡ length (take_while is_name bytes.now) }
 {
-    bytes
-        .iter()
-        .take_while(|byte| is_name_byte(**byte))
-        .count()
+    bytes.iter().take_while(|byte| is_name_byte(**byte)).count()
 }
 
 // How many digits stand in front.
@@ -234,7 +231,8 @@ impl Before {
 
 /// Reads the tokens of a text. Linear in the text.
 pub fn lex(alloc: Global, text: &[u8]) -> Result<Lexed, NoMemory>
-    ensures { IfOk result (λ lexed. IsLexed text.now lexed.items.items lexed.fault) }
+    ensures lexed { IfOk result (λ lexed. IsLexed text.now lexed.items.items lexed.fault) }
+    ensures few { IfOk result (λ lexed. length lexed.items.items ≤ length text.now) }
 {
     let mut items = Vec::new(alloc);
     let mut rest = text;

@@ -1,4 +1,17 @@
-//! Texts.
+//! Texts: their tokens, and the trees of catalogues.
+//!
+//! - [`tokens`]: the tokens of a text, with their places; it serves catalogues and request lines.
+//! - [`parse_catalogue`]: the tree of a catalogue's text, [`Tree`], with one node for each rule of the grammar.
+//! - [`SyntaxError`]: why a text isn't read: its first [`Fault`], at a place (a byte offset) and of a kind.
+//!
+//! What a text is read as stands in `specs/`, without any parser: `Tokens` (the tokens of bytes), `Grammar` (derivations
+//! with the place of each token, and the tree of each), `Faults` (limits are roles of tokens in a derivation; a fault is
+//! a token that can't follow, or one over a limit, and the first one is told), `Reading` (the text as a whole) and
+//! `Limits` (what a tree that is read may hold).
+//!
+//! The proof goes over a reading machine that is fed one token at a time (`specs/Machine.antt`): `proofs/Words.antt` and
+//! `proofs/Ends.antt` show that it takes just the derivations, `proofs/Meets.antt` that it stops at the first fault, and
+//! each function of the recursive descent says in its contract how far it moves the machine (`proofs/Stepping.antt`).
 #![tactic(auto)]
 
 mod catalogue;

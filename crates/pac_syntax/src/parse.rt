@@ -2,6 +2,7 @@
 ghost use Rattle.std.specs.Prelude.{◌≡◌, ◌<◌, List, IfOk, IsErrOf, Some, None};
 ghost use Rattle.pac_syntax.specs.Tokens.{IsLexed};
 ghost use Rattle.pac_syntax.specs.Reading.{Reads, AreTokensOrMemory};
+ghost use Rattle.pac_syntax.specs.Limits.{IsWithinLimits};
 ghost use Rattle.pac_syntax.specs.Faults.{IsTreeOrMemory};
 ghost use Rattle.pac_syntax.specs.declared.fault.Fault.{Fault as AFault};
 ghost use Rattle.pac_syntax.specs.declared.token.Spanned.{Spanned as ASpanned};
@@ -41,6 +42,7 @@ pub fn tokens(alloc: Global, text: &[u8]) -> Result<Vec<Spanned>, SyntaxError>
 /// `Fault` exactly where the text is no catalogue in the grammar and within its limits.
 pub fn parse_catalogue(alloc: Global, text: &[u8]) -> Result<Tree, SyntaxError>
     ensures reads { IfOk result (λ tree. Reads text.now tree) }
+    ensures within { IfOk result IsWithinLimits }
     ensures only { (tree : ATree) → Reads text.now tree → IsTreeOrMemory result tree }
 {
     if text.len() > MAX_TEXT {

@@ -40,7 +40,10 @@ pub enum ExprNode {
 #[derive(Debug, Drop)]
 pub enum StmtNode {
     /// `let NAME = VALUE;`
-    Let { name: NameNode, value: ExprNode },
+    Let {
+        name: NameNode,
+        value: ExprNode,
+    },
     /// `read NAME = TABLE[KEY].COLUMN default DEFAULT;`
     Read {
         name: NameNode,

@@ -5,13 +5,13 @@ use Rattle.pac_syntax.specs.Tokens.{token_at}
 use Rattle.pac_syntax.proofs.LexLemmas.{all_read, faulty}
 use Rattle.pac_syntax.proofs.lexer.lex.Goals as goal
 
-pub returns-then-is_empty : goal.returns-then-is_empty
-returns-then-is_empty c =
+pub returns-then-is_empty-clause-lexed : goal.returns-then-is_empty-clause-lexed
+returns-then-is_empty-clause-lexed c =
     let h : length (drop c.gap_len-gap.result c.loop-rest.rest.now) ≡ 0 = grind (arith, common_steps, c.is_empty.ensures, c.if-is_empty.true) in
     all_read _ _ _ _ _ _ c.loop-rest.invariant.lexed c.gap_len-gap.ensures.gap (nil_from_length _ h)
 
-pub returns-in-Err : goal.returns-in-Err
-returns-in-Err c =
+pub returns-in-Err-clause-lexed : goal.returns-in-Err-clause-lexed
+returns-in-Err-clause-lexed c =
     let h : 1 ≤ length (drop c.gap_len-gap.result c.loop-rest.rest.now) = grind (arith, common_steps, c.is_empty.ensures, c.if-is_empty.false) in
     let e : token_at c.loop-rest.before (drop c.gap_len-gap.result c.loop-rest.rest.now) ≡ Err c.in-Err.kind = grind (arith, common_steps, c.in-Err.ensures.token, c.gap_len-gap.ensures.gap) in
     faulty _ _ _ _ _ _ c.in-Err.kind c.loop-rest.invariant.lexed c.gap_len-gap.ensures.gap e h

@@ -1,14 +1,21 @@
-use Rattle.std.proofs.Common.{◌≡◌, ◌∙◌, sym, subst, List}
+use Rattle.std.proofs.Common.{◌≡◌, ◌∙◌, ◌≤◌, sym, subst, ap, List, length, arith}
+use Rattle.std.proofs.lemmas.Result.{IfOk-weaker}
 use Rattle.pac_syntax.specs.declared.token.Spanned.{Spanned}
 use Rattle.pac_syntax.specs.Faults.{ReadsTokens}
 use Rattle.pac_syntax.proofs.LexedOnce.{same_tokens, same_fault, some_none}
+use Rattle.pac_syntax.proofs.WithinLimits.{reads-within}
 use Rattle.pac_syntax.proofs.parse.parse_catalogue.Goals as goal
 
 pub returns-in-None-clause-only : goal.returns-in-None-clause-only
 returns-in-None-clause-only c = λ tree h.
-    let lexed : h.tokens ≡ c.in_ok-lexed.lexed.items.items = sym (same_tokens c.args.text.now c.in_ok-lexed.lexed.items.items h.tokens _ _ c.in_ok-lexed.ensures h.lexed) in
+    let lexed : h.tokens ≡ c.in_ok-lexed.lexed.items.items = sym (same_tokens c.args.text.now c.in_ok-lexed.lexed.items.items h.tokens _ _ c.in_ok-lexed.ensures.lexed h.lexed) in
     let same : h.tokens ≡ c.deref.result.now = lexed ∙ sym c.deref.ensures.value in
     c.parse_tokens.ensures.only tree (subst (λ (ts : List Spanned). ReadsTokens ts tree) same h.parsed)
 
 pub returns-clause-only : goal.returns-clause-only
-returns-clause-only c = λ tree h. absurd (some_none _ (sym c.in-Some.is ∙ same_fault c.args.text.now c.in_ok-lexed.lexed.items.items h.tokens _ _ c.in_ok-lexed.ensures h.lexed))
+returns-clause-only c = λ tree h. absurd (some_none _ (sym c.in-Some.is ∙ same_fault c.args.text.now c.in_ok-lexed.lexed.items.items h.tokens _ _ c.in_ok-lexed.ensures.lexed h.lexed))
+
+pub returns-in-None-clause-within : goal.returns-in-None-clause-within
+returns-in-None-clause-within c =
+    let short : length c.deref.result.now ≤ 65536 = omega (arith, ap length c.deref.ensures.value, c.in_ok-lexed.ensures.few, c.if-text-gt-MAX_TEXT.false) in
+    IfOk-weaker c.parse_tokens.result _ _ (λ tree reads. reads-within c.deref.result.now tree short reads) c.parse_tokens.ensures.reads

@@ -1,0 +1,141 @@
+-- A tree that is read is within the limits.
+use Rattle.std.proofs.Common.{◌≡◌, ℕ, zero, suc, ◌+◌, ◌*◌, ◌<◌, ◌≤◌, Bool, true, false, cond, ltb, List, [], ◌∷◌, length, Option, Some, None, refl, sym, ap, subst, ◌∙◌, arith}
+use Rattle.std.specs.List.{AllByRecursion}
+use Rattle.std.proofs.lemmas.Bool.{ltb-false}
+use Rattle.pac_syntax.specs.declared.fault.FaultKind.{FaultKind}
+use Rattle.pac_syntax.specs.declared.fault.FaultKind.TheVariants.{TooMany}
+use Rattle.pac_syntax.specs.declared.tree.TableNode.{TableNode}
+use Rattle.pac_syntax.specs.declared.tree.ProcNode.{ProcNode}
+use Rattle.pac_syntax.specs.declared.tree.Tree.{Tree}
+use Rattle.pac_syntax.specs.declared.token.Spanned.{Spanned}
+use Rattle.pac_syntax.specs.Grammar.{LiteralForm, AnInt, ANegative, OperandForm, ALiteral, AName, ExprForm, AnOperand, ASum, ValuesForm, NoValue, AValue, StmtsForm, NoStmt, ALet, ARead, APut, ColumnsForm, NoColumn, AColumn, ParamsForm, NoParam, AParam, TablesForm, NoTable, ATable, ProcsForm, NoProc, AProc, CatalogueForm, stmt_nodes, column_nodes, param_nodes, table_nodes, proc_nodes, tree_of, Role, ColumnName, ParamName, Marked, literal_before, operand_before, expr_before, values_before, stmts_before, columns_before, params_before, tables_before, procs_before, marks_of, tokens_of, Whole}
+use Rattle.pac_syntax.specs.Faults.{over, more_than, IsWithin, ReadsTokens}
+use Rattle.pac_syntax.specs.Limits.{IsTableWithin, IsProcWithin, IsWithinLimits}
+
+abbrev AllWithin : List Marked → Type 0
+AllWithin ms = AllByRecursion IsWithin ms
+
+within_test : (b : Bool) (kind : FaultKind) → ◌≡◌ {A = Option FaultKind} (cond b (Some kind) None) None → b ≡ false
+within_test true kind e = absurd cc
+within_test false kind e = refl
+
+-- a number within its limit
+at_most : (limit n : ℕ) → more_than limit n ≡ None → n ≤ limit
+at_most limit n e = ltb-false limit n (within_test (ltb limit n) TooMany e)
+
+-- ---- what stands in front of the rest keeps it within, and has tokens of its own
+
+record Behind (ms rest : List Marked) : Type 0 where
+  within : AllWithin ms → AllWithin rest
+  longer : length rest ≤ length ms
+
+behind_literal : (l : LiteralForm) (rest : List Marked) → Behind (literal_before l rest) rest
+behind_literal (AnInt at z) rest = record { within = λ h. h.1; longer = omega arith }
+behind_literal (ANegative minus at z) rest = record { within = λ h. h.1.1; longer = omega arith }
+
+behind_operand : (x : OperandForm) (rest : List Marked) → Behind (operand_before x rest) rest
+behind_operand (ALiteral l) rest = behind_literal l rest
+behind_operand (AName n) rest = record { within = λ h. h.1; longer = omega arith }
+
+behind_expr : (e : ExprForm) (rest : List Marked) → Behind (expr_before e rest) rest
+behind_expr (AnOperand x) rest = behind_operand x rest
+behind_expr (ASum e plus x) rest =
+    let o = behind_operand x rest in
+    let b = behind_expr e (_ ∷ operand_before x rest) in
+    record { within = λ h. o.within (b.within h).1; longer = omega (arith, o.longer, b.longer) }
+
+behind_values : (vs : ValuesForm) (rest : List Marked) → Behind (values_before vs rest) rest
+behind_values NoValue rest = record { within = λ h. h; longer = omega arith }
+behind_values (AValue comma e vs) rest =
+    let o = behind_values vs rest in
+    let b = behind_expr e (values_before vs rest) in
+    record { within = λ h. o.within (b.within h.1); longer = omega (arith, o.longer, b.longer) }
+
+-- each statement has two tokens at least
+record Statements (s : StmtsForm) (ms rest : List Marked) : Type 0 where
+  within : AllWithin ms → AllWithin rest
+  few : length rest + 2 * length (stmt_nodes s) ≤ length ms
+
+statements : (s : StmtsForm) (rest : List Marked) → Statements s (stmts_before s rest) rest
+statements NoStmt rest = record { within = λ h. h; few = omega arith }
+statements (ALet p0 x p1 e p2 s) rest =
+    let more = statements s rest in
+    let b = behind_expr e (_ ∷ stmts_before s rest) in
+    record { within = λ h. more.within (b.within h.1.1.1).1; few = omega (arith, more.few, b.longer) }
+statements (ARead p0 x p1 t p2 e p3 p4 c p5 l p6 s) rest =
+    let more = statements s rest in
+    let literal = behind_literal l (_ ∷ stmts_before s rest) in
+    let b = behind_expr e (_ ∷ _ ∷ _ ∷ _ ∷ literal_before l (_ ∷ stmts_before s rest)) in
+    record { within = λ h. more.within (literal.within (b.within h.1.1.1.1.1).1.1.1.1).1; few = omega (arith, more.few, literal.longer, b.longer) }
+statements (APut p0 t p1 e p2 p3 p4 v vs p5 p6 s) rest =
+    let more = statements s rest in
+    let values = behind_values vs (_ ∷ _ ∷ stmts_before s rest) in
+    let first = behind_expr v (values_before vs (_ ∷ _ ∷ stmts_before s rest)) in
+    let b = behind_expr e (_ ∷ _ ∷ _ ∷ expr_before v (values_before vs (_ ∷ _ ∷ stmts_before s rest))) in
+    record { within = λ h. more.within (values.within (first.within (b.within h.1.1.1).1.1.1)).1.1; few = omega (arith, more.few, values.longer, first.longer, b.longer) }
+
+-- ---- columns and parameters
+
+record Few (n limit : ℕ) (ms rest : List Marked) : Type 0 where
+  few : n ≤ limit
+  within : AllWithin rest
+  longer : length rest ≤ length ms
+
+columns : (role : ℕ → Role) (limit : ℕ) → ((n : ℕ) → over (role n) ≡ more_than limit n) → (c : ColumnsForm) (i : ℕ) (rest : List Marked) → i ≤ limit → AllWithin (columns_before role i c rest)
+    → Few (i + length (column_nodes c)) limit (columns_before role i c rest) rest
+columns role limit is NoColumn i rest le h = record { few = omega arith; within = h; longer = omega arith }
+columns role limit is (AColumn comma n type c) i rest le h =
+    let more = columns role limit is c (suc i) rest (at_most limit (suc i) (sym (is (suc i)) ∙ h.1.0)) h.1.1.1 in
+    record { few = omega (arith, more.few); within = more.within; longer = omega (arith, more.longer) }
+
+params : (c : ParamsForm) (rest : List Marked) → AllWithin (params_before c rest) → Few (length (param_nodes c)) 16 (params_before c rest) rest
+params NoParam rest h = record { few = omega arith; within = h; longer = omega arith }
+params (AParam n type c) rest h =
+    let more = columns ParamName 16 (λ n. refl) c 1 rest (omega arith) h.1.1 in
+    record { few = omega (arith, more.few); within = more.within; longer = omega (arith, more.longer) }
+
+-- ---- tables and procedures
+
+record Procs (f : ProcsForm) (i : ℕ) : Type 0 where
+  few : i + length (proc_nodes f) ≤ 64
+  each : AllByRecursion IsProcWithin (proc_nodes f)
+
+procs : (f : ProcsForm) (i : ℕ) → i ≤ 64 → AllWithin (procs_before i f []) → length (procs_before i f []) ≤ 65536 → Procs f i
+procs NoProc i le h short = record { few = omega arith; each = tt }
+procs (AProc p0 n p1 ps p2 p3 s p4 f) i le h short =
+    let p = params ps (_ ∷ _ ∷ stmts_before s (_ ∷ procs_before (suc i) f [])) h.1.1.1 in
+    let b = statements s (_ ∷ procs_before (suc i) f []) in
+    let more = procs f (suc i) (at_most 64 (suc i) h.0) (b.within p.within.1.1).1 (omega (arith, p.longer, b.few)) in
+    record { few = omega (arith, more.few); each = (record { params = p.few; body = omega (arith, p.longer, b.few) }, more.each) }
+
+record Tables (f : TablesForm) (i : ℕ) (ms rest : List Marked) : Type 0 where
+  few : i + length (table_nodes f) ≤ 64
+  each : AllByRecursion IsTableWithin (table_nodes f)
+  within : AllWithin rest
+  longer : length rest ≤ length ms
+
+tables : (f : TablesForm) (i : ℕ) (rest : List Marked) → i ≤ 64 → AllWithin (tables_before i f rest) → Tables f i (tables_before i f rest) rest
+tables NoTable i rest le h = record { few = omega arith; each = tt; within = h; longer = omega arith }
+tables (ATable p0 n p1 p2 p3 p4 c p5 cs p6 p7 f) i rest le h =
+    let columns_within = columns ColumnName 8 (λ n. refl) cs 1 (_ ∷ _ ∷ tables_before (suc i) f rest) (omega arith) h.1.1.1.1.1.1.1.1 in
+    let more = tables f (suc i) rest (at_most 64 (suc i) h.0) columns_within.within.1.1 in
+    record {
+      few = omega (arith, more.few);
+      each = (record { some = omega arith; columns = omega (arith, columns_within.few) }, more.each);
+      within = more.within;
+      longer = omega (arith, more.longer, columns_within.longer);
+    }
+
+length-tokens_of : (ms : List Marked) → length (tokens_of ms) ≡ length ms
+length-tokens_of [] = refl
+length-tokens_of (m ∷ ms) = ap suc (length-tokens_of ms)
+
+pub reads-within : (ts : List Spanned) (tree : Tree) → length ts ≤ 65536 → ReadsTokens ts tree → IsWithinLimits tree
+reads-within ts tree short reads =
+    let whole = reads.1 in
+    let form = whole.form in
+    let len : length (marks_of form) ≡ length ts = ap length whole.spells ∙ sym (length-tokens_of reads.0) ∙ ap length reads.2 in
+    let within : AllWithin (marks_of form) = subst (λ (ms : List Marked). AllWithin ms) (sym whole.spells) reads.3 in
+    let t = tables form.tables 0 (procs_before 0 form.procs []) (omega arith) within in
+    let p = procs form.procs 0 (omega arith) t.within (omega (arith, len, t.longer)) in
+    subst (λ (tree : Tree). IsWithinLimits tree) whole.is_tree (record { few_tables = omega (arith, t.few); few_procs = omega (arith, p.few); tables = t.each; procs = p.each })
