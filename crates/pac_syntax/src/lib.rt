@@ -28,3 +28,6 @@ pub use fault::{Fault, FaultKind, SyntaxError};
 pub use parse::{parse_catalogue, tokens};
 pub use token::{Keyword, Spanned, Symbol, Token};
 pub use tree::{ColumnNode, ExprNode, LiteralNode, NameNode, ProcNode, StmtNode, TableNode, Tree};
+
+#[cfg(test)]
+mod tests;
