@@ -2,3 +2,4 @@ pub mod ScopeLemmas
 pub mod SoundLemmas
 pub mod NameLemmas
 pub mod CheckLemmas
+pub mod TypingLemmas

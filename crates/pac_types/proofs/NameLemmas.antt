@@ -1,5 +1,5 @@
 -- Names one more at a time: their numbers, and that they differ.
-use Rattle.std.proofs.Common.{◌≡◌, ◌<◌, ◌≤◌, ℕ, ◌+◌, zero, suc, Bool, true, false, cond, List, [], ◌∷◌, ◌++◌, length, take, drop, get_or, Option, Some, None, refl, sym, ap, ◌∙◌, subst, arith, take-append-drop, drop-cons, ◌||◌, add-zero, add-one, zero-add, length-take}
+use Rattle.std.proofs.Common.{map, ◌≡◌, ◌<◌, ◌≤◌, ℕ, ◌+◌, zero, suc, Bool, true, false, cond, List, [], ◌∷◌, ◌++◌, length, take, drop, get_or, Option, Some, None, refl, sym, ap, ◌∙◌, subst, arith, take-append-drop, drop-cons, ◌||◌, add-zero, add-one, zero-add, length-take}
 use Rattle.std.specs.Prelude.{bytes_eq, nat_lt, IfSome}
 use Rattle.std.specs.List.{position_from, position_or_len, list_any, IsDistinct, AllByRecursion}
 use Rattle.std.specs.Option.{option_or, is_some}
@@ -155,3 +155,11 @@ number-within names q = go (nat_lt (position_or_len (bytes_eq q) names) (length 
     go : (b : Bool) → nat_lt (position_or_len (bytes_eq q) names) (length names) ≡ b → IfSome (cond b (Some (position_or_len (bytes_eq q) names)) None) (λ n. n < length names)
     go true lt = grind (arith, common_steps)
     go false ge = tt
+
+position-map : {X Y : Type 0} (test : Y → Bool) (f : X → Y) (i : ℕ) (xs : List X) → position_from test i (map f xs) ≡ position_from (λ x. test (f x)) i xs
+position-map test f i [] = refl
+position-map test f i (x ∷ xs) = ap (cond (test (f x)) (Some i)) (position-map test f (i + 1) xs)
+
+-- the number of a name among those of some items
+pub number-map : {X : Type 0} (f : X → List ℕ) (xs : List X) (name : List ℕ) → number_of (map f xs) name ≡ position_from (λ x. bytes_eq name (f x)) 0 xs
+number-map f xs name = number_is (map f xs) name ∙ position-map (bytes_eq name) f 0 xs

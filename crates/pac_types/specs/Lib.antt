@@ -5,3 +5,4 @@ pub mod Numbering
 pub mod NamesIndex
 pub mod Checking
 pub mod TablesIndex
+pub mod Typing

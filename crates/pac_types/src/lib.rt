@@ -10,13 +10,16 @@
 #![tactic(auto)]
 
 mod catalogue;
+mod checker;
 mod expressions;
 mod names;
+mod procedures;
 mod reason;
 mod statements;
 mod tables;
 mod type_error;
 
 pub use catalogue::{Column, Columns, Exprs, Proc, Stmt, Stmts, Table};
+pub use checker::{Catalogue, check};
 pub use reason::Reason;
 pub use type_error::TypeError;

@@ -1,7 +1,8 @@
 // The tables of a catalogue by their names.
-ghost use Rattle.std.specs.Prelude.{◌≡◌, ◌≤◌, ◌<◌, ◌^◌, All, IfOk, IfSome, IsErrOf, Some, length, map, slice_get};
+ghost use Rattle.std.specs.Prelude.{◌≡◌, ◌≤◌, ◌<◌, ◌^◌, All, IfOk, IfSome, IsErrOf, OnOk, Some, length, map, slice_get};
 ghost use Rattle.pac_types.specs.Sound.{column_types, key_type, types};
 ghost use Rattle.pac_types.specs.Numbering.{AreDistinct, column_number, column_of, table_number, table_of};
+ghost use Rattle.pac_types.specs.Typing.{HasDistinctColumns, IsTableWithinLimits};
 
 use crate::names::Names;
 use crate::{Column, Table, TypeError};
@@ -52,7 +53,56 @@ pub fn names_of(alloc: Global, nodes: &[ColumnNode]) -> Result<Vec<Name>, AllocE
     nodes.iter().map(|node| node.name.name).collect(alloc)
 }
 
+// The table of a node.
+fn table_of(alloc: Global, node: &TableNode) -> Result<Table, AllocError>
+    ensures { IfOk result (λ table. table ≡ table_of node.now) }
+{
+    let columns = columns_of(alloc, node.columns.as_slice())?;
+    Ok(Table {
+        name: node.name.name,
+        key: node.key,
+        columns: listed(columns),
+    })
+}
+
+// The names of tables.
+fn names_of_tables(alloc: Global, nodes: &[TableNode]) -> Result<Vec<Name>, AllocError>
+    ensures { IfOk result (λ names. names.items ≡ map (λ node. node.name.name) nodes.now) }
+{
+    nodes.iter().map(|node| node.name.name).collect(alloc)
+}
+
 impl Tables {
+    /// The tables of these nodes.
+    ///
+    /// # Errors
+    ///
+    /// [`TypeError::Refused`] exactly where two tables, or two columns of one table, have one name.
+    /// [`TypeError::NoMemory`].
+    pub fn of(alloc: Global, nodes: &[TableNode]) -> Result<Tables, TypeError>
+        requires few { length nodes.now ≤ 64 }
+        requires limits { All IsTableWithinLimits nodes.now }
+        ensures value { IfOk result (λ tables. tables ≡ map table_of nodes.now) }
+        ensures distinct { OnOk result (AreDistinct (map (λ node. node.name.name) nodes.now)) }
+        ensures columns { OnOk result (All HasDistinctColumns nodes.now) }
+        ensures refused { IsErrOf result TypeError.Refused → AreDistinct (map (λ node. node.name.name) nodes.now) → ¬ All HasDistinctColumns nodes.now }
+    {
+        let names = Names::of(alloc, names_of_tables(alloc, nodes)?)?;
+        let mut tables = Vec::with_capacity(alloc, nodes.len())?;
+        let mut columns = Vec::with_capacity(alloc, nodes.len())?;
+        for i in 0..nodes.len() {
+            let node = &nodes[i];
+            let column_names = names_of(alloc, node.columns.as_slice())?;
+            columns.push(Names::of(alloc, column_names)?)?;
+            tables.push(table_of(alloc, node)?)?;
+        }
+        Ok(Tables {
+            tables,
+            names,
+            columns,
+        })
+    }
+
     /// How many tables there are.
     pub fn len(&self) -> usize
         ensures { result ≡ length self.now }
