@@ -3,6 +3,8 @@ use Rattle.std.specs.Prelude.{◌≡◌, ℕ, Bool, false, Option, Some, None, R
 use Rattle.pac_value.specs.declared.values.Ty.{Ty}
 use Rattle.pac_value.specs.Expressions.{Values, types_of}
 use Rattle.pac_types.specs.declared.reason.Reason.{Reason}
+use Rattle.pac_value.specs.declared.expr.Trap.{Trap}
+use Rattle.pac_types.specs.Reasons.{reason_of}
 use Rattle.pac_types.specs.Sound.{Scope}
 use Rattle.pac_types.specs.Meaning.{Abort as AnAbort}
 use Rattle.pac_serial.specs.declared.operation.Stop.{Stop}
@@ -36,3 +38,13 @@ Sees (Some scope) env = (x : ℕ) (ty : Ty) → scope x ≡ Some ty → types_of
 -- the variables but some have values of the types that they had
 abbrev pub KeepsTypes : (ℕ → Bool) → Values → Values → Type 0
 KeepsTypes some old new = (x : ℕ) → some x ≡ false → types_of new x ≡ types_of old x
+
+-- an operation with this number stopped
+abbrev pub stopped : ℕ → Stop → ExecError
+stopped n (Abort reason) = AbortAt n reason
+stopped n NoMemory = NoMemoryAtAll
+
+-- the operation with this number traps so
+abbrev pub Stops : {A : Type 0} → ℕ → Result A Trap → ExecError → Type 0
+Stops n (Ok x) error = ⊥
+Stops n (Err trap) error = error ≡ AbortAt n (reason_of trap)

@@ -3,10 +3,12 @@
 //! - [`Rows`]: the rows of all tables, a finite map from places to rows.
 #![tactic(auto)]
 
+mod count;
 mod draft;
 mod exec;
 mod operation;
 mod rows;
 
+pub use count::count_operations;
 pub use exec::ExecError;
 pub use rows::Rows;

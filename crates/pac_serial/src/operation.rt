@@ -1,12 +1,13 @@
 // Executes single operations.
-ghost use Rattle.std.specs.Prelude.{◌≡◌, ◌<◌, ℕ, map, length, slice_set, OnOk, IfOk, IfErr, IfSome, IsTrue, Some, Ok, Err};
+ghost use Rattle.std.specs.Prelude.{◌≡◌, ◌<◌, ℕ, map, length, slice_set, OnOk, IfOk, IfErr, IsSome, IsTrue, Some, Ok, Err};
 ghost use Rattle.std.specs.Option.{option_map};
 ghost use Rattle.std.specs.FinMap as fin;
 ghost use Rattle.pac_value.specs.Values.{type_of, is_stored};
 ghost use Rattle.pac_value.specs.Expressions.{type_in, types_of};
-ghost use Rattle.pac_types.specs.Sound.{with_var, key_type, column_type, column_types, is_wanted, are_wanted, is_width, type_of_key, FitTables};
-ghost use Rattle.pac_types.specs.Meaning.{State, values, touched, column_or, do_read, do_has, do_put, do_set, do_delete};
+ghost use Rattle.pac_types.specs.Sound.{with_var, key_type, column_type, column_types, is_bool, is_wanted, are_wanted, is_width, type_of_key, FitTables};
+ghost use Rattle.pac_types.specs.Meaning.{State, values, touched, column_or, do_read, do_has, do_put, do_set, do_delete, do_let, do_abort_if};
 ghost use Rattle.pac_types.specs.Reasons.{or_abort};
+ghost use Rattle.pac_value.specs.State.{Tables as ATables};
 ghost use Rattle.pac_serial.specs.Outcomes.{Does, DoesGive};
 ghost use Rattle.pac_value.specs.declared.values.Ty.TheVariants.{Bool as BoolTy};
 
@@ -245,4 +246,26 @@ pub(crate) fn set(
     let row = with_column(alloc, row, column, value)?;
     draft.put(table, key, row)?;
     Ok(())
+}
+
+/// `let`.
+pub(crate) fn assign(var: u16, value: &Expr, env: &mut Env) -> Result<(), Stop>
+    requires { IsSome (type_in (types_of env.old) value.now) }
+    ensures does { (t : ATables) → Does result (do_let var value.now (record { env = env.old; tables = t })) (record { env = env.new; tables = t }) }
+    ensures types { OnOk result (option_map (with_var (types_of env.old) var) (type_in (types_of env.old) value.now) ≡ Some (types_of env.new)) }
+{
+    let value = eval(value, env)?;
+    define(env, var, value)?;
+    Ok(())
+}
+
+/// `abort if`.
+pub(crate) fn abort_if(test: &Expr, env: &Env) -> Result<(), Stop>
+    requires { IsTrue (is_bool (type_in (types_of env.now) test.now)) }
+    ensures { (t : ATables) → Does result (do_abort_if test.now (record { env = env.now; tables = t })) (record { env = env.now; tables = t }) }
+{
+    match eval(test, env)? {
+        Value::Bool(true) => Err(Stop::Abort(Reason::Asked)),
+        _ => Ok(()),
+    }
 }
