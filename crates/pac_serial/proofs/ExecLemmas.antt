@@ -20,7 +20,7 @@ use Rattle.pac_types.proofs.ScopeLemmas.{Within}
 use Rattle.pac_types.proofs.SoundLemmas.{ScopeWithin, scope_behind-within}
 use Rattle.pac_serial.specs.declared.operation.Stop.{Stop}
 use Rattle.pac_serial.specs.declared.operation.Stop.TheVariants.{Abort, NoMemory}
-use Rattle.pac_serial.specs.declared.exec.ExecError.{ExecError}
+use Rattle.pac_serial.specs.declared.execute.ExecError.{ExecError}
 use Rattle.pac_serial.specs.Outcomes.{Does, Runs, Sees, KeepsTypes, stopped}
 
 -- an operation that stops, with its number
@@ -74,7 +74,7 @@ sees-behind true first second g mid new some e k = λ y ty h.
     let two : (second y ≡ false) × (g y ≡ Some ty) = visible second g y ty one.1 in
     k y one.0 two.0 ∙ ap (λ (f : Scope). f y) e ∙ two.1
 
-some-within : (a b : Option Scope) → ScopeWithin a b → IsSome a → IsSome b
+pub some-within : (a b : Option Scope) → ScopeWithin a b → IsSome a → IsSome b
 some-within None b w h = cc
 some-within (Some f) None w h = absurd w
 some-within (Some f) (Some g) w h = refl

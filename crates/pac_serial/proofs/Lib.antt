@@ -3,3 +3,4 @@ pub mod FitLemmas
 pub mod RowLemmas
 pub mod StmtForms
 pub mod ExecLemmas
+pub mod OpeningLemmas

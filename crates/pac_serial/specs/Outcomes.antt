@@ -4,13 +4,14 @@ use Rattle.pac_value.specs.declared.values.Ty.{Ty}
 use Rattle.pac_value.specs.Expressions.{Values, types_of}
 use Rattle.pac_types.specs.declared.reason.Reason.{Reason}
 use Rattle.pac_value.specs.declared.expr.Trap.{Trap}
+use Rattle.pac_value.specs.State.{Tables}
 use Rattle.pac_types.specs.Reasons.{reason_of}
 use Rattle.pac_types.specs.Sound.{Scope}
 use Rattle.pac_types.specs.Meaning.{Abort as AnAbort}
 use Rattle.pac_serial.specs.declared.operation.Stop.{Stop}
 use Rattle.pac_serial.specs.declared.operation.Stop.TheVariants.{Abort, NoMemory}
-use Rattle.pac_serial.specs.declared.exec.ExecError.{ExecError}
-use Rattle.pac_serial.specs.declared.exec.ExecError.TheVariants.{Abort as AbortAt, NoMemory as NoMemoryAtAll}
+use Rattle.pac_serial.specs.declared.execute.ExecError.{ExecError}
+use Rattle.pac_serial.specs.declared.execute.ExecError.TheVariants.{Abort as AbortAt, NoMemory as NoMemoryAtAll}
 
 -- an operation gives what it means, aborts as it means to, or finds no memory
 abbrev pub Does : {A B : Type 0} → Result A Stop → Result B Reason → B → Type 0
@@ -48,3 +49,9 @@ stopped n NoMemory = NoMemoryAtAll
 abbrev pub Stops : {A : Type 0} → ℕ → Result A Trap → ExecError → Type 0
 Stops n (Ok x) error = ⊥
 Stops n (Err trap) error = error ≡ AbortAt n (reason_of trap)
+
+-- an abort leaves the tables as they were
+abbrev pub KeepsOnAbort : {A : Type 0} → Result A ExecError → Tables → Tables → Type 0
+KeepsOnAbort (Ok x) old new = Unit {0}
+KeepsOnAbort (Err (AbortAt op reason)) old new = new ≡ old
+KeepsOnAbort (Err NoMemoryAtAll) old new = Unit {0}

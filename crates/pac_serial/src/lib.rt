@@ -5,10 +5,10 @@
 
 mod count;
 mod draft;
-mod exec;
+mod execute;
 mod operation;
 mod rows;
 
 pub use count::count_operations;
-pub use exec::ExecError;
+pub use execute::{ExecError, exec};
 pub use rows::Rows;

@@ -1,11 +1,11 @@
 // Executes calls.
-ghost use Rattle.std.specs.Prelude.{◌≡◌, ◌+◌, ◌<◌, ◌^◌, map, IsTrue, IfErr, Ok, Err, OnOk, OnErr, IfOk, IsSome};
+ghost use Rattle.std.specs.Prelude.{◌≡◌, ◌+◌, ◌<◌, ◌≤◌, ◌^◌, length, map, IsTrue, IfErr, Ok, Err, OnOk, OnErr, IfOk, IsSome};
 ghost use Rattle.std.specs.FinMap as fin;
 ghost use Rattle.pac_value.specs.Expressions.{types_of, type_in, value};
 ghost use Rattle.pac_value.specs.declared.values.Value.TheVariants.{Bool as Truth};
 ghost use Rattle.pac_types.specs.Sound.{is_bool, check, any_defines, scope_after, scope_behind, FitTables, FitParams, IsSoundProc};
 ghost use Rattle.pac_types.specs.Meaning.{code, operations, meaning, with_values, called};
-ghost use Rattle.pac_serial.specs.Outcomes.{Runs, Sees, KeepsTypes, Stops, stopped};
+ghost use Rattle.pac_serial.specs.Outcomes.{Runs, KeepsOnAbort, Sees, KeepsTypes, Stops, stopped};
 
 use crate::Rows;
 use crate::count::count_operations;
@@ -15,6 +15,7 @@ use pac_base::NoMemory;
 use pac_types::{Proc, Reason, Stmt, Table};
 use pac_value::{Env, Expr, Value, eval};
 use std::alloc::Global;
+use std::mem;
 
 /// Why a call is not executed.
 #[derive(Clone, Copy, Debug, PartialEq, Eq)]
@@ -27,7 +28,7 @@ pub enum ExecError {
 
 impl From<NoMemory> for ExecError {
     ghost use Rattle.std.specs.Prelude.{◌≡◌};
-    ghost use Rattle.pac_serial.specs.declared.exec.ExecError.TheVariants.{NoMemory};
+    ghost use Rattle.pac_serial.specs.declared.execute.ExecError.TheVariants.{NoMemory};
 
     ghost from_gives = { λ _ error. error ≡ NoMemory };
 
@@ -169,4 +170,56 @@ fn exec_block(
         op = exec_stmt(alloc, tables, stmt, op, env, draft)?;
     }
     Ok(op)
+}
+
+// The environment in which the parameters alone have values.
+fn env_of(alloc: Global, args: &[Value]) -> Result<Env, NoMemory>
+    requires { length args.now ≤ 65536 }
+    ensures { IfOk result (λ env. env ≡ with_values 0 args.now fin.empty) }
+{
+    let mut env = Env::new(alloc);
+    for (i, value) in args.iter().enumerate() {
+        env.set(i as u16, *value)?;
+    }
+    Ok(env)
+}
+
+/// Executes one call of a sound procedure. It costs what its statements touch: no table is copied.
+///
+/// `Abort`: the operation aborts, and the rows are as before. `NoMemory`: an allocation was refused, and nothing is said
+/// of the rows.
+pub fn exec(
+    alloc: Global,
+    tables: &[Table],
+    proc: &Proc,
+    args: &[Value],
+    rows: &mut Rows,
+) -> Result<(), ExecError>
+    requires sound { IsSoundProc tables.now proc.now }
+    requires numbers { operations proc.now.body < 2 ^ 64 }
+    requires args { FitParams proc.now.params args.now }
+    requires few { length args.now ≤ 65536 }
+    requires fits { FitTables tables.now rows.old }
+    ensures runs { Runs result (called proc.now args.now rows.old) rows.new }
+    ensures fits { OnOk result (FitTables tables.now rows.new) }
+    ensures kept { KeepsOnAbort result rows.old rows.new }
+{
+    let mut env = env_of(alloc, args)?;
+    let mut draft = Draft::new(alloc, mem::replace(rows, Rows::new(alloc)));
+    match exec_block(alloc, tables, proc.body.as_slice(), 0, &mut env, &mut draft) {
+        Ok(_) => match draft.lay() {
+            Ok(laid) => {
+                *rows = laid;
+                Ok(())
+            }
+            Err(left) => {
+                *rows = left;
+                Err(ExecError::NoMemory)
+            }
+        },
+        Err(error) => {
+            *rows = draft.discard();
+            Err(error)
+        }
+    }
 }

@@ -4,7 +4,7 @@ use Rattle.pac_value.specs.Expressions.{types_of}
 use Rattle.pac_types.specs.Sound.{check, any_defines, scope_behind, FitTables}
 use Rattle.pac_types.specs.Meaning.{State, operations, meaning}
 use Rattle.pac_serial.specs.Outcomes.{KeepsTypes}
-use Rattle.pac_serial.proofs.exec.+exec.Given as goal
+use Rattle.pac_serial.proofs.execute.+exec.Given as goal
 
 abbrev pub invariant-exec_block-loop-stmt : goal.invariant-exec_block-loop-stmt
 invariant-exec_block-loop-stmt l = record {

@@ -7,11 +7,11 @@ use Rattle.pac_types.specs.declared.catalogue.Stmt.{Stmt}
 use Rattle.pac_types.specs.Sound.{scope_behind, check, any_defines}
 use Rattle.pac_types.specs.Meaning.{State, Abort, numbered, do_let, do_abort_if, Code, code, code_step, operations, meaning}
 use Rattle.pac_types.specs.declared.reason.Reason.{Reason}
-use Rattle.pac_serial.specs.declared.exec.ExecError.{ExecError}
+use Rattle.pac_serial.specs.declared.execute.ExecError.{ExecError}
 use Rattle.pac_serial.specs.Outcomes.{Runs, stopped}
 use Rattle.pac_serial.proofs.StmtForms.{at-Let, at-AbortIf}
 use Rattle.pac_serial.proofs.ExecLemmas.{runs-stopped, runs-one, keeps-Let, sees-Read, keeps-Read, sees-Has, keeps-Has, sees-Put, sees-Set, sees-If, keeps-If, keeps-Else, on-ok, rest-sound, defines-at}
-use Rattle.pac_serial.proofs.exec.+exec.Goals as goal
+use Rattle.pac_serial.proofs.execute.+exec.Goals as goal
 
 pub exec_stmt-returns-in-Ok-clause-runs : goal.exec_stmt-returns-in-Ok-clause-runs
 exec_stmt-returns-in-Ok-clause-runs t c =
