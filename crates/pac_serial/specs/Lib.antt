@@ -1,2 +1,4 @@
 pub mod Drafts
 pub mod Outcomes
+pub mod Arguments
+pub mod Calls

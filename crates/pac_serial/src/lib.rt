@@ -8,7 +8,9 @@ mod draft;
 mod execute;
 mod operation;
 mod rows;
+mod serial;
 
 pub use count::count_operations;
 pub use execute::{ExecError, exec};
 pub use rows::Rows;
+pub use serial::{Args, ArgsRule, Call, SerialError, exec_all};

@@ -1,0 +1,26 @@
+-- Calls, and what the execution of several gives.
+use Rattle.std.specs.Prelude.{◌≡◌, ◌<◌, ◌^◌, List, slice_get, Result, Ok, Err, IsSomeAnd}
+use Rattle.pac_types.specs.declared.catalogue.Proc.{Proc}
+use Rattle.pac_types.specs.Sound.{FitParams}
+use Rattle.pac_types.specs.Meaning.{Call as ACall, TxnAbort, operations}
+use Rattle.pac_serial.specs.declared.serial.Call.{Call}
+use Rattle.pac_serial.specs.declared.serial.SerialError.{SerialError}
+use Rattle.pac_serial.specs.declared.serial.SerialError.TheVariants.{Abort, NoMemory}
+
+-- the number of the procedure, and the arguments
+abbrev pub call_of : Call → ACall
+call_of call = (call.proc, call.args)
+
+-- the call is of one of the procedures, with arguments of its parameters' types
+abbrev pub FitsProcs : List Proc → Call → Type 0
+FitsProcs procs call = IsSomeAnd (slice_get procs call.proc) (λ proc. FitParams proc.params call.args)
+
+-- the numbers of the operations fit 64 bits
+abbrev pub IsCounted : Proc → Type 0
+IsCounted proc = operations proc.body < 2 ^ 64
+
+-- the calls give what they mean, abort as they mean to, or find no memory
+abbrev pub RunsAll : {A B : Type 0} → Result A SerialError → Result B TxnAbort → B → Type 0
+RunsAll (Ok x) meaning now = meaning ≡ Ok now
+RunsAll (Err (Abort txn op reason)) meaning now = meaning ≡ Err (txn, op, reason)
+RunsAll (Err NoMemory) meaning now = Unit {0}
