@@ -2,3 +2,4 @@ pub mod Drafts
 pub mod Outcomes
 pub mod Arguments
 pub mod Calls
+pub mod Dump

@@ -5,12 +5,14 @@
 
 mod count;
 mod draft;
+mod dump;
 mod execute;
 mod operation;
 mod rows;
 mod serial;
 
 pub use count::count_operations;
+pub use dump::dump_tables;
 pub use execute::{ExecError, exec};
 pub use rows::Rows;
 pub use serial::{Args, ArgsRule, Call, SerialError, exec_all};
