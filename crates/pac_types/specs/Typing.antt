@@ -1,12 +1,13 @@
 -- When a tree is typed, and which catalogue it has then.
-use Rattle.std.specs.Prelude.{◌≡◌, ◌≤◌, ◌+◌, Bool, true, false, List, length, map, All, IsTrue, Some}
-use Rattle.std.specs.List.{AllZip}
+use Rattle.std.specs.Prelude.{◌≡◌, ◌≤◌, Bool, true, false, List, length, map, All, IsTrue, Some}
+use Rattle.std.specs.List.{AllZip, list_all}
 use Rattle.pac_value.specs.declared.values.Ty.{Ty}
 use Rattle.pac_value.specs.declared.values.Ty.TheVariants.{Int, Text, Bool as BoolTy}
 use Rattle.pac_syntax.specs.declared.tree.ColumnNode.{ColumnNode}
 use Rattle.pac_syntax.specs.declared.tree.TableNode.{TableNode}
 use Rattle.pac_syntax.specs.declared.tree.ProcNode.{ProcNode}
 use Rattle.pac_syntax.specs.declared.tree.Tree.{Tree}
+use Rattle.pac_syntax.specs.Limits.{IsWithinLimits}
 use Rattle.pac_types.specs.declared.catalogue.Table.{Table}
 use Rattle.pac_types.specs.declared.catalogue.Proc.{Proc}
 use Rattle.pac_types.specs.Numbering.{AreDistinct, table_of, variables, proc_of}
@@ -23,45 +24,30 @@ is_stored_type Int = true
 is_stored_type Text = true
 is_stored_type BoolTy = false
 
-abbrev pub HasStoredType : ColumnNode → Type 0
-HasStoredType node = IsTrue (is_stored_type node.ty)
+-- columns or parameters of such types
+abbrev pub are_stored : List ColumnNode → Bool
+are_stored nodes = list_all (λ node. is_stored_type node.ty) nodes
 
--- the limits of a table and of a procedure that the grammar keeps
-pub record IsTableWithinLimits (node : TableNode) : Type 0 where
-  pub some : 1 ≤ length node.columns
-  pub few : length node.columns ≤ 8
-  pub key : IsTrue (is_stored_type node.key)
-  pub columns : All HasStoredType node.columns
-
-pub record IsProcWithinLimits (node : ProcNode) : Type 0 where
-  pub few : length node.params ≤ 16
-  pub params : All HasStoredType node.params
-  pub short : length node.params + length node.body ≤ 65535
-
--- the limits that the grammar keeps
-pub record IsWithinLimits (tree : Tree) : Type 0 where
-  pub few_tables : length tree.tables ≤ 64
-  pub few_procs : length tree.procs ≤ 64
-  pub tables : All IsTableWithinLimits tree.tables
-  pub procs : All IsProcWithinLimits tree.procs
-
--- the procedure of a node: its parameters and variables all differ by name, each name that it uses is one that is
--- visible there, and each expression has the type that its place wants
+-- the procedure of a node: its parameters are ints or texts, they and the variables all differ by name, each name that
+-- it uses is one that is visible there, and each expression has the type that its place wants
 pub record IsProcOf (tables : List Table) (node : ProcNode) (proc : Proc) : Type 0 where
+  pub stored : IsTrue (are_stored node.params)
   pub distinct : AreDistinct (variables node)
   pub named : proc_of tables node ≡ Some proc
   pub sound : IsSoundProc tables proc
 
--- the columns of a table all differ by name
-abbrev pub HasDistinctColumns : TableNode → Type 0
-HasDistinctColumns node = AreDistinct (map (λ column. column.name.name) node.columns)
+-- the key and the columns of a table are ints or texts, and the columns all differ by name
+pub record IsTypedTable (node : TableNode) : Type 0 where
+  pub key : IsTrue (is_stored_type node.key)
+  pub stored : IsTrue (are_stored node.columns)
+  pub distinct : AreDistinct (map (λ column. column.name.name) node.columns)
 
 -- the tree is typed and has this catalogue: the tables all differ by name, and so do the procedures; the catalogue has
 -- the tables and procedures of the tree in its order
 pub record Types (tree : Tree) (catalogue : CatalogueState) : Type 0 where
   pub table_names : AreDistinct (map (λ node. node.name.name) tree.tables)
   pub proc_names : AreDistinct (map (λ node. node.name.name) tree.procs)
-  pub column_names : All HasDistinctColumns tree.tables
+  pub typed : All IsTypedTable tree.tables
   pub tables : catalogue.tables ≡ map table_of tree.tables
   pub procs : AllZip (IsProcOf catalogue.tables) tree.procs catalogue.procs
 
@@ -78,10 +64,10 @@ pub record IsSoundTable (table : Table) : Type 0 where
   pub some : 1 ≤ length table.columns
   pub few : length table.columns ≤ 8
   pub key : IsTrue (is_stored_type table.key)
-  pub columns : All (λ column. IsTrue (is_stored_type column.ty)) table.columns
+  pub columns : IsTrue (list_all (λ column. is_stored_type column.ty) table.columns)
 
 -- a procedure has at most 16 parameters, which are ints or texts, and sound statements
 pub record IsProc (tables : List Table) (proc : Proc) : Type 0 where
   pub few : length proc.params ≤ 16
-  pub params : All (λ column. IsTrue (is_stored_type column.ty)) proc.params
+  pub params : IsTrue (list_all (λ column. is_stored_type column.ty) proc.params)
   pub sound : IsSoundProc tables proc
