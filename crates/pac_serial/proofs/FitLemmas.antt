@@ -7,7 +7,7 @@ use Rattle.std.proofs.Math.ListN.{length-set}
 use Rattle.std.specs.Option.{option_map}
 use Rattle.std.specs.Ordering.{eq_by_cmp}
 use Rattle.std.specs.Cmp.{nat_cmp_total, unsigned_ties}
-use Rattle.std.specs.FinMap.{get, insert, get-insert}
+use Rattle.std.specs.FinMap.{get, insert, empty, get-empty, get-insert}
 use Rattle.std.proofs.lemmas.Option.{slice_get-map}
 use Rattle.pac_value.specs.declared.values.Ty.{Ty}
 use Rattle.pac_value.specs.declared.values.Ty.TheVariants.{Int, Text, Bool as BoolTy}
@@ -119,3 +119,10 @@ wanted-length [] [] h = refl
 wanted-length [] (ty ∷ tys) h = cc
 wanted-length (a ∷ as_) [] h = cc
 wanted-length (a ∷ as_) (ty ∷ tys) h = ap suc (wanted-length as_ tys (and-right (is_wanted a (Some ty)) (are_wanted as_ tys) h))
+
+-- no row is unfit where there is none
+pub FitTables-empty : (tables : List Table) (rows : Tables) → rows ≡ empty → FitTables tables rows
+FitTables-empty tables rows e place row found =
+    let none : None ≡ Some row = sym (get-empty place_cmp place) ∙ ap (λ m. get m place) (sym e) ∙ found in
+    let no_way : ⊥ = cc in
+    absurd no_way

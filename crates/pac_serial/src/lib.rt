@@ -10,6 +10,8 @@ mod execute;
 mod operation;
 mod rows;
 mod serial;
+#[cfg(test)]
+mod tests;
 
 pub use count::count_operations;
 pub use dump::dump_tables;

@@ -1,8 +1,10 @@
 // The rows of all tables.
-ghost use Rattle.std.specs.Prelude.{◌≡◌, OnOk, OnErr, IfOk, length, count_by, ◌==◌};
+ghost use Rattle.std.specs.Prelude.{◌≡◌, OnOk, OnErr, IfOk, List, length, count_by, ◌==◌};
 ghost use Rattle.std.specs.Option.{option_map};
 ghost use Rattle.std.specs.BTreeMap as tree;
 ghost use Rattle.std.specs.FinMap as map;
+ghost use Rattle.pac_types.specs.declared.catalogue.Table.{Table};
+ghost use Rattle.pac_types.specs.Sound.{FitTables};
 ghost use Rattle.pac_value.specs.State.{keys_among, keys_of};
 
 use pac_base::NoMemory;
@@ -31,7 +33,8 @@ impl Model for Rows {
 impl Rows {
     /// No rows. Takes no memory.
     pub fn new(alloc: Global) -> Self
-        ensures { result ≡ map.empty }
+        ensures value { result ≡ map.empty }
+        ensures fits { (tables : List Table) → FitTables tables result }
     {
         Rows {
             rows: BTreeMap::new(alloc),
