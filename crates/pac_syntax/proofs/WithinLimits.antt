@@ -1,16 +1,19 @@
 -- A tree that is read is within the limits.
 use Rattle.std.proofs.Common.{◌≡◌, ℕ, zero, suc, ◌+◌, ◌*◌, ◌<◌, ◌≤◌, Bool, true, false, cond, ltb, List, [], ◌∷◌, length, Option, Some, None, refl, sym, ap, subst, ◌∙◌, arith}
+use Rattle.std.specs.Prelude.{All}
 use Rattle.std.specs.List.{AllByRecursion}
+use Rattle.std.proofs.lemmas.List.Elements.{All-from_recursion}
 use Rattle.std.proofs.lemmas.Bool.{ltb-false}
 use Rattle.pac_syntax.specs.declared.fault.FaultKind.{FaultKind}
 use Rattle.pac_syntax.specs.declared.fault.FaultKind.TheVariants.{TooMany}
+use Rattle.pac_syntax.specs.declared.tree.ColumnNode.{ColumnNode}
 use Rattle.pac_syntax.specs.declared.tree.TableNode.{TableNode}
 use Rattle.pac_syntax.specs.declared.tree.ProcNode.{ProcNode}
 use Rattle.pac_syntax.specs.declared.tree.Tree.{Tree}
 use Rattle.pac_syntax.specs.declared.token.Spanned.{Spanned}
-use Rattle.pac_syntax.specs.Grammar.{LiteralForm, AnInt, ANegative, OperandForm, ALiteral, AName, ExprForm, AnOperand, ASum, ValuesForm, NoValue, AValue, StmtsForm, NoStmt, ALet, ARead, APut, ColumnsForm, NoColumn, AColumn, ParamsForm, NoParam, AParam, TablesForm, NoTable, ATable, ProcsForm, NoProc, AProc, CatalogueForm, stmt_nodes, column_nodes, param_nodes, table_nodes, proc_nodes, tree_of, Role, ColumnName, ParamName, Marked, literal_before, operand_before, expr_before, values_before, stmts_before, columns_before, params_before, tables_before, procs_before, marks_of, tokens_of, Whole}
+use Rattle.pac_syntax.specs.Grammar.{LiteralForm, AnInt, ANegative, OperandForm, ALiteral, AName, ExprForm, AnOperand, ASum, ValuesForm, NoValue, AValue, StmtsForm, NoStmt, ALet, ARead, APut, ColumnsForm, NoColumn, AColumn, ParamsForm, NoParam, AParam, TablesForm, NoTable, ATable, ProcsForm, NoProc, AProc, CatalogueForm, stmt_nodes, column_node, column_nodes, param_nodes, table_nodes, proc_nodes, tree_of, Role, ColumnName, ParamName, Marked, literal_before, operand_before, expr_before, values_before, stmts_before, columns_before, params_before, tables_before, procs_before, marks_of, tokens_of, Whole}
 use Rattle.pac_syntax.specs.Faults.{over, more_than, IsWithin, ReadsTokens}
-use Rattle.pac_syntax.specs.Limits.{IsTableWithin, IsProcWithin, IsWithinLimits}
+use Rattle.pac_syntax.specs.Limits.{IsTableWithinLimits, IsProcWithinLimits, IsWithinLimits, HasStoredType}
 
 abbrev AllWithin : List Marked → Type 0
 AllWithin ms = AllByRecursion IsWithin ms
@@ -94,11 +97,25 @@ params (AParam n type c) rest h =
     let more = columns ParamName 16 (λ n. refl) c 1 rest (omega arith) h.1.1 in
     record { few = omega (arith, more.few); within = more.within; longer = omega (arith, more.longer) }
 
+-- ---- the types of columns and parameters
+
+stored_columns : (c : ColumnsForm) → AllByRecursion HasStoredType (column_nodes c)
+stored_columns NoColumn = tt
+stored_columns (AColumn comma n type c) = (refl, stored_columns c)
+
+stored_params : (c : ParamsForm) → AllByRecursion HasStoredType (param_nodes c)
+stored_params NoParam = tt
+stored_params (AParam n type c) = (refl, stored_columns c)
+
+-- each of these columns has a type that is stored
+all_stored : (nodes : List ColumnNode) → AllByRecursion HasStoredType nodes → All HasStoredType nodes
+all_stored nodes each = All-from_recursion HasStoredType nodes each
+
 -- ---- tables and procedures
 
 record Procs (f : ProcsForm) (i : ℕ) : Type 0 where
   few : i + length (proc_nodes f) ≤ 64
-  each : AllByRecursion IsProcWithin (proc_nodes f)
+  each : AllByRecursion IsProcWithinLimits (proc_nodes f)
 
 procs : (f : ProcsForm) (i : ℕ) → i ≤ 64 → AllWithin (procs_before i f []) → length (procs_before i f []) ≤ 65536 → Procs f i
 procs NoProc i le h short = record { few = omega arith; each = tt }
@@ -106,11 +123,11 @@ procs (AProc p0 n p1 ps p2 p3 s p4 f) i le h short =
     let p = params ps (_ ∷ _ ∷ stmts_before s (_ ∷ procs_before (suc i) f [])) h.1.1.1 in
     let b = statements s (_ ∷ procs_before (suc i) f []) in
     let more = procs f (suc i) (at_most 64 (suc i) h.0) (b.within p.within.1.1).1 (omega (arith, p.longer, b.few)) in
-    record { few = omega (arith, more.few); each = (record { params = p.few; body = omega (arith, p.longer, b.few) }, more.each) }
+    record { few = omega (arith, more.few); each = (record { few = p.few; params = all_stored (param_nodes ps) (stored_params ps); short = omega (arith, p.longer, p.few, b.few) }, more.each) }
 
 record Tables (f : TablesForm) (i : ℕ) (ms rest : List Marked) : Type 0 where
   few : i + length (table_nodes f) ≤ 64
-  each : AllByRecursion IsTableWithin (table_nodes f)
+  each : AllByRecursion IsTableWithinLimits (table_nodes f)
   within : AllWithin rest
   longer : length rest ≤ length ms
 
@@ -121,7 +138,7 @@ tables (ATable p0 n p1 p2 p3 p4 c p5 cs p6 p7 f) i rest le h =
     let more = tables f (suc i) rest (at_most 64 (suc i) h.0) columns_within.within.1.1 in
     record {
       few = omega (arith, more.few);
-      each = (record { some = omega arith; columns = omega (arith, columns_within.few) }, more.each);
+      each = (record { some = omega arith; few = omega (arith, columns_within.few); key = refl; columns = all_stored (column_node c ∷ column_nodes cs) (refl, stored_columns cs) }, more.each);
       within = more.within;
       longer = omega (arith, more.longer, columns_within.longer);
     }
@@ -138,4 +155,4 @@ reads-within ts tree short reads =
     let within : AllWithin (marks_of form) = subst (λ (ms : List Marked). AllWithin ms) (sym whole.spells) reads.3 in
     let t = tables form.tables 0 (procs_before 0 form.procs []) (omega arith) within in
     let p = procs form.procs 0 (omega arith) t.within (omega (arith, len, t.longer)) in
-    subst (λ (tree : Tree). IsWithinLimits tree) whole.is_tree (record { few_tables = omega (arith, t.few); few_procs = omega (arith, p.few); tables = t.each; procs = p.each })
+    subst (λ (tree : Tree). IsWithinLimits tree) whole.is_tree (record { few_tables = omega (arith, t.few); few_procs = omega (arith, p.few); tables = All-from_recursion IsTableWithinLimits (table_nodes form.tables) t.each; procs = All-from_recursion IsProcWithinLimits (proc_nodes form.procs) p.each })

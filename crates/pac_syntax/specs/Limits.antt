@@ -1,23 +1,37 @@
 -- How much a tree may hold.
-use Rattle.std.specs.Prelude.{◌≤◌, length}
-use Rattle.std.specs.List.{AllByRecursion}
+use Rattle.std.specs.Prelude.{◌≤◌, ◌+◌, Bool, true, false, length, All, IsTrue}
+use Rattle.pac_value.specs.declared.values.Ty.{Ty}
+use Rattle.pac_value.specs.declared.values.Ty.TheVariants.{Int, Text, Bool as BoolTy}
+use Rattle.pac_syntax.specs.declared.tree.ColumnNode.{ColumnNode}
 use Rattle.pac_syntax.specs.declared.tree.TableNode.{TableNode}
 use Rattle.pac_syntax.specs.declared.tree.ProcNode.{ProcNode}
 use Rattle.pac_syntax.specs.declared.tree.Tree.{Tree}
 
--- at most 8 columns, and at least one
-pub record IsTableWithin (table : TableNode) : Type 0 where
-  pub some : 1 ≤ length table.columns
-  pub columns : length table.columns ≤ 8
+-- a type that keys, columns and parameters have
+abbrev pub is_stored_type : Ty → Bool
+is_stored_type Int = true
+is_stored_type Text = true
+is_stored_type BoolTy = false
 
--- at most 16 parameters, and so few statements that their variables have numbers of 16 bits
-pub record IsProcWithin (proc : ProcNode) : Type 0 where
-  pub params : length proc.params ≤ 16
-  pub body : length proc.body ≤ 65519
+abbrev pub HasStoredType : ColumnNode → Type 0
+HasStoredType node = IsTrue (is_stored_type node.ty)
+
+-- 1 to 8 columns, which are ints or texts as the key is
+pub record IsTableWithinLimits (node : TableNode) : Type 0 where
+  pub some : 1 ≤ length node.columns
+  pub few : length node.columns ≤ 8
+  pub key : IsTrue (is_stored_type node.key)
+  pub columns : All HasStoredType node.columns
+
+-- at most 16 parameters, which are ints or texts, and so few statements that all variables have numbers of 16 bits
+pub record IsProcWithinLimits (node : ProcNode) : Type 0 where
+  pub few : length node.params ≤ 16
+  pub params : All HasStoredType node.params
+  pub short : length node.params + length node.body ≤ 65535
 
 -- at most 64 tables and 64 procedures, each within its limits
 pub record IsWithinLimits (tree : Tree) : Type 0 where
   pub few_tables : length tree.tables ≤ 64
   pub few_procs : length tree.procs ≤ 64
-  pub tables : AllByRecursion IsTableWithin tree.tables
-  pub procs : AllByRecursion IsProcWithin tree.procs
+  pub tables : All IsTableWithinLimits tree.tables
+  pub procs : All IsProcWithinLimits tree.procs
