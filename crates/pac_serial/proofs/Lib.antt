@@ -1,6 +1,5 @@
 pub mod DraftLemmas
 pub mod FitLemmas
 pub mod RowLemmas
-pub mod StmtForms
 pub mod ExecLemmas
 pub mod OpeningLemmas

@@ -1,6 +1,8 @@
 -- Tables and procedures one more at a time.
 use Rattle.std.proofs.Common.{◌≡◌, ◌<◌, ◌≤◌, ℕ, ◌+◌, zero, suc, List, [], ◌∷◌, ◌++◌, length, take, map, get_or, true≢false, refl, sym, ap, ◌∙◌, subst, arith, add-one}
-use Rattle.std.specs.Prelude.{All}
+use Rattle.std.specs.Prelude.{All, IfSome}
+use Rattle.pac_types.specs.Meaning.{operations}
+use Rattle.pac_types.proofs.CountLemmas.{body_size}
 use Rattle.std.proofs.Math.Seq.{take-suc}
 use Rattle.std.proofs.lemmas.List.Elements.{All-push, All-map, All-from_recursion, recursion_from_All}
 use Rattle.std.specs.Prelude.{Option, Some, None, IsSome, is_some, IsTrue, Result, Err}
@@ -230,13 +232,21 @@ params-written : (tables : List Table) (node : ProcNode) (proc : Proc) (b : Opti
 params-written tables node proc None h = absurd (some≢none (sym h))
 params-written tables node proc (Some body) h = ap (λ (p : Proc). p.params) (sym (proc_same h))
 
+-- what is said of a body holds of the procedure's
+body_has : (node : ProcNode) (proc : Proc) (P : List Stmt → Type 0) (b : Option (List Stmt)) → option_map (λ body. record { name = node.name.name; params = map column_of node.params; body = body }) b ≡ Some proc → IfSome b P → P proc.body
+body_has node proc P None h has = absurd (some≢none (sym h))
+body_has node proc P (Some body) h has = subst (λ (p : Proc). P p.body) (proc_same h) has
+
 a_proc : (tables : List Table) (node : ProcNode) (proc : Proc) → IsProcWithinLimits node → IsProcOf tables node proc → IsProc tables proc
 a_proc tables node proc limits is =
     let params = params-written tables node proc (body_of tables (variables node) (length node.params) node.body) is.named in
+    let counted : operations proc.body ≡ length node.body =
+        body_has node proc (λ (body : List Stmt). operations body ≡ length node.body) (body_of tables (variables node) (length node.params) node.body) is.named (body_size tables (variables node) (length node.params) node.body) in
     record {
       few = subst (λ n. n ≤ 16) (sym (ap length params ∙ length-map node.params column_of)) limits.few;
       params = subst (All (λ column. IsTrue (is_stored_type column.ty))) (sym params) (stored-columns node.params limits.params);
       sound = is.sound;
+      counted = omega (arith, limits.short, counted);
     }
 
 pub procs_sound : (catalogue : CatalogueState) → IsCatalogue catalogue → All (IsProc catalogue.tables) catalogue.procs

@@ -1,5 +1,5 @@
 -- When a tree is typed, and which catalogue it has then.
-use Rattle.std.specs.Prelude.{◌≡◌, ◌≤◌, List, length, map, All, IsTrue, Some}
+use Rattle.std.specs.Prelude.{◌≡◌, ◌≤◌, ◌<◌, ◌^◌, List, length, map, All, IsTrue, Some}
 use Rattle.std.specs.List.{AllZip}
 use Rattle.pac_syntax.specs.declared.tree.TableNode.{TableNode}
 use Rattle.pac_syntax.specs.declared.tree.ProcNode.{ProcNode}
@@ -9,6 +9,7 @@ use Rattle.pac_types.specs.declared.catalogue.Table.{Table}
 use Rattle.pac_types.specs.declared.catalogue.Proc.{Proc}
 use Rattle.pac_types.specs.Numbering.{AreDistinct, table_of, variables, proc_of}
 use Rattle.pac_types.specs.Sound.{IsSoundProc}
+use Rattle.pac_types.specs.Meaning.{operations}
 
 -- what a catalogue is seen as
 pub record CatalogueState : Type 0 where
@@ -50,8 +51,10 @@ pub record IsSoundTable (table : Table) : Type 0 where
   pub key : IsTrue (is_stored_type table.key)
   pub columns : All (λ column. IsTrue (is_stored_type column.ty)) table.columns
 
--- a procedure has at most 16 parameters, which are ints or texts, and sound statements
+-- a procedure has at most 16 parameters, which are ints or texts, and sound statements, whose operations have numbers
+-- of 64 bits
 pub record IsProc (tables : List Table) (proc : Proc) : Type 0 where
   pub few : length proc.params ≤ 16
   pub params : All (λ column. IsTrue (is_stored_type column.ty)) proc.params
   pub sound : IsSoundProc tables proc
+  pub counted : operations proc.body < 2 ^ 64

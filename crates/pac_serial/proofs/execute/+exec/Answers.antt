@@ -9,7 +9,7 @@ use Rattle.pac_types.specs.Meaning.{State, Abort, numbered, do_let, do_abort_if,
 use Rattle.pac_types.specs.declared.reason.Reason.{Reason}
 use Rattle.pac_serial.specs.declared.execute.ExecError.{ExecError}
 use Rattle.pac_serial.specs.Outcomes.{Runs, stopped}
-use Rattle.pac_serial.proofs.StmtForms.{at-Let, at-AbortIf}
+use Rattle.pac_types.proofs.StmtForms.{at-Let, at-AbortIf}
 use Rattle.pac_serial.proofs.ExecLemmas.{runs-stopped, runs-one, keeps-Let, sees-Read, keeps-Read, sees-Has, keeps-Has, sees-Put, sees-Set, sees-If, keeps-If, keeps-Else, on-ok, rest-sound, defines-at}
 use Rattle.pac_serial.proofs.execute.+exec.Goals as goal
 
