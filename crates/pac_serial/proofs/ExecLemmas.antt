@@ -1,5 +1,5 @@
 -- What statements leave visible, and what they keep.
-use Rattle.std.proofs.Common.{◌≡◌, ℕ, zero, suc, ◌+◌, ◌<◌, ◌==◌, ◌||◌, Bool, true, false, List, [], ◌∷◌, map, length, get_or, drop, Option, Some, None, Result, Ok, Err, IsSome, OnOk, refl, sym, ap, ◌∙◌, subst, arith}
+use Rattle.std.proofs.Common.{◌≡◌, ℕ, zero, suc, ◌<◌, ◌==◌, ◌||◌, Bool, true, false, List, [], ◌∷◌, map, length, get_or, Option, Some, None, Result, Ok, Err, IsSome, OnOk, refl, sym, ap, ◌∙◌, subst, arith}
 use Rattle.std.specs.Prelude.{if◌then◌else◌}
 use Rattle.std.specs.Option.{option_map, option_and_then}
 use Rattle.pac_value.specs.declared.values.Ty.{Ty}
@@ -13,14 +13,12 @@ use Rattle.pac_value.specs.declared.values.Ty.TheVariants.{Bool as BoolTy}
 use Rattle.pac_value.specs.declared.values.Value.{Value}
 use Rattle.pac_value.specs.declared.expr.Expr.{Expr}
 use Rattle.pac_value.specs.Values.{type_of}
-use Rattle.pac_types.proofs.StmtForms.{at-Let, at-Read, at-Has, at-Put, at-Set, at-If}
+use Rattle.pac_serial.proofs.StmtForms.{at-Let, at-Read, at-Has, at-Put, at-Set, at-If}
 use Rattle.pac_types.specs.Sound.{Scope, with_var, without, if_so, Check, check_step, check, any_defines, in_order, scope_after, scope_behind}
 use Rattle.pac_types.specs.Meaning.{State, Abort as AnAbort, Code, code, one, numbered}
-use Rattle.pac_types.proofs.ScopeLemmas.{Within}
 use Rattle.pac_types.proofs.SoundLemmas.{ScopeWithin, scope_behind-within}
 use Rattle.pac_serial.specs.declared.operation.Stop.{Stop}
 use Rattle.pac_serial.specs.declared.operation.Stop.TheVariants.{Abort, NoMemory}
-use Rattle.pac_serial.specs.declared.execute.ExecError.{ExecError}
 use Rattle.pac_serial.specs.Outcomes.{Does, Runs, Sees, KeepsTypes, stopped}
 
 -- an operation that stops, with its number

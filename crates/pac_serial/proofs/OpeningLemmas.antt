@@ -1,20 +1,18 @@
 -- The parameters have the values of the arguments, and so their types.
-use Rattle.std.proofs.Common.{◌≡◌, ℕ, zero, suc, ◌+◌, ◌<◌, ◌==◌, Bool, true, false, cond, List, [], ◌∷◌, map, Option, Some, None, IsSome, refl, sym, ap, ◌∙◌, subst, arith}
+use Rattle.std.proofs.Common.{◌≡◌, ℕ, zero, suc, ◌+◌, ◌<◌, ◌==◌, true, false, cond, List, [], ◌∷◌, Option, Some, None, IsSome, refl, sym, ap, ◌∙◌, subst, arith}
 use Rattle.std.specs.Prelude.{slice_get}
 use Rattle.std.specs.Option.{option_map}
-use Rattle.std.specs.Ordering.{eq_by_cmp, nat_cmp}
 use Rattle.std.specs.Cmp.{nat_cmp_total, unsigned_ties}
 use Rattle.std.specs.FinMap.{get, insert, empty, get-insert}
 use Rattle.std.proofs.lemmas.Option.{slice_get-map}
 use Rattle.std.proofs.lemmas.Bool.Decides.{nat_tests}
-use Rattle.pac_value.specs.declared.values.Ty.{Ty}
 use Rattle.pac_value.specs.declared.values.Value.{Value}
 use Rattle.pac_value.specs.Values.{type_of}
 use Rattle.pac_value.specs.Expressions.{Values, types_of}
 use Rattle.pac_types.specs.declared.catalogue.Column.{Column}
 use Rattle.pac_types.specs.declared.catalogue.Table.{Table}
 use Rattle.pac_types.specs.declared.catalogue.Proc.{Proc}
-use Rattle.pac_types.specs.Sound.{Scope, scope_of, scope_behind, types, FitParams, IsSoundProc}
+use Rattle.pac_types.specs.Sound.{scope_of, scope_behind, FitParams, IsSoundProc}
 use Rattle.pac_types.specs.Meaning.{with_values}
 use Rattle.pac_types.proofs.ScopeLemmas.{Within}
 use Rattle.pac_types.proofs.SoundLemmas.{scope_behind-within}

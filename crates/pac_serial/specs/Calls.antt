@@ -1,8 +1,9 @@
 -- Calls, and what the execution of several gives.
-use Rattle.std.specs.Prelude.{◌≡◌, ◌<◌, ◌^◌, List, slice_get, Result, Ok, Err, IsSomeAnd}
+use Rattle.std.specs.Prelude.{◌≡◌, ◌<◌, ◌^◌, ◌-◌, List, take, slice_get, Result, Ok, Err, IsSomeAnd}
+use Rattle.pac_value.specs.State.{Tables}
 use Rattle.pac_types.specs.declared.catalogue.Proc.{Proc}
 use Rattle.pac_types.specs.Sound.{FitParams}
-use Rattle.pac_types.specs.Meaning.{Call as ACall, TxnAbort, operations}
+use Rattle.pac_types.specs.Meaning.{Call as ACall, TxnAbort, operations, serial}
 use Rattle.pac_serial.specs.declared.serial.Call.{Call}
 use Rattle.pac_serial.specs.declared.serial.SerialError.{SerialError}
 use Rattle.pac_serial.specs.declared.serial.SerialError.TheVariants.{Abort, NoMemory}
@@ -24,3 +25,9 @@ abbrev pub RunsAll : {A B : Type 0} → Result A SerialError → Result B TxnAbo
 RunsAll (Ok x) meaning now = meaning ≡ Ok now
 RunsAll (Err (Abort txn op reason)) meaning now = meaning ≡ Err (txn, op, reason)
 RunsAll (Err NoMemory) meaning now = Unit {0}
+
+-- an abort leaves the tables that the transactions before it give
+abbrev pub KeepsBefore : {A : Type 0} → Result A SerialError → List Proc → List ACall → Tables → Tables → Type 0
+KeepsBefore (Ok x) procs calls old new = Unit {0}
+KeepsBefore (Err (Abort txn op reason)) procs calls old new = serial procs 1 (take (txn - 1) calls) old ≡ Ok new
+KeepsBefore (Err NoMemory) procs calls old new = Unit {0}

@@ -1,6 +1,13 @@
-//! Serial execution: the rows of the tables, and calls that are executed one after another.
+//! Serial execution: the rows of the tables, and calls that are executed one after another, exactly as the serial meaning
+//! of the typed catalogue says.
 //!
 //! - [`Rows`]: the rows of all tables, a finite map from places to rows.
+//! - [`exec`]: executes one call of a sound procedure. Its writes stand apart until it ends, so an abort, an
+//!   [`ExecError`], leaves the rows as they were. A read looks through the writes of its own transaction, the last one
+//!   first.
+//! - [`Call`], [`Args`], [`exec_all`]: calls, and their execution in order up to the first abort, a [`SerialError`].
+//! - [`count_operations`]: how many operations statements are.
+//! - [`dump_tables`]: the text of all tables.
 #![tactic(auto)]
 
 mod count;

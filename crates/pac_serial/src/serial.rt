@@ -4,7 +4,7 @@ ghost use Rattle.std.specs.List.{AllByRecursion};
 ghost use Rattle.pac_types.specs.Sound.{IsSoundProc, FitTables};
 ghost use Rattle.pac_types.specs.Meaning.{called_at, serial};
 ghost use Rattle.pac_serial.specs.Outcomes.{Runs, KeepsOnAbort};
-ghost use Rattle.pac_serial.specs.Calls.{call_of, FitsProcs, IsCounted, RunsAll};
+ghost use Rattle.pac_serial.specs.Calls.{call_of, FitsProcs, IsCounted, KeepsBefore, RunsAll};
 ghost use Rattle.std.specs.Prelude.{slice_get};
 
 use crate::Rows;
@@ -91,6 +91,7 @@ pub fn exec_all(
     requires fits { FitTables tables.now rows.old }
     ensures runs { RunsAll result (serial procs.now 1 (map call_of calls.now) rows.old) rows.new }
     ensures fits { OnOk result (FitTables tables.now rows.new) }
+    ensures kept { KeepsBefore result procs.now (map call_of calls.now) rows.old rows.new }
 {
     for (i, call) in calls.iter().enumerate() {
         match exec_call(alloc, tables, procs, call, rows) {

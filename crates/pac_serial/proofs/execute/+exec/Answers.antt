@@ -1,15 +1,14 @@
 -- Each form of a statement runs as its operation does, and leaves the variables that it says.
-use Rattle.std.proofs.Common.{◌≡◌, ◌∷◌, ◌+◌, Result, Ok, Err, ap, sym, subst, ◌∙◌, refl, rules, arith, map, drop, IsSome, List, ℕ}
+use Rattle.std.proofs.Common.{◌≡◌, ◌∷◌, ◌+◌, Result, Ok, Err, ap, sym, subst, ◌∙◌, arith, map, drop, IsSome, List, ℕ}
 use Rattle.std.proofs.lemmas.List.{drop_more}
-use Rattle.pac_value.specs.Expressions.{Values, types_of, ◌>>=◌}
-use Rattle.pac_value.specs.State.{Tables}
+use Rattle.pac_value.specs.Expressions.{types_of, ◌>>=◌}
 use Rattle.pac_types.specs.declared.catalogue.Stmt.{Stmt}
 use Rattle.pac_types.specs.Sound.{scope_behind, check, any_defines}
 use Rattle.pac_types.specs.Meaning.{State, Abort, numbered, do_let, do_abort_if, Code, code, code_step, operations, meaning}
 use Rattle.pac_types.specs.declared.reason.Reason.{Reason}
 use Rattle.pac_serial.specs.declared.execute.ExecError.{ExecError}
-use Rattle.pac_serial.specs.Outcomes.{Runs, stopped}
-use Rattle.pac_types.proofs.StmtForms.{at-Let, at-AbortIf}
+use Rattle.pac_serial.specs.Outcomes.{Runs}
+use Rattle.pac_serial.proofs.StmtForms.{at-Let, at-AbortIf}
 use Rattle.pac_serial.proofs.ExecLemmas.{runs-stopped, runs-one, keeps-Let, sees-Read, keeps-Read, sees-Has, keeps-Has, sees-Put, sees-Set, sees-If, keeps-If, keeps-Else, on-ok, rest-sound, defines-at}
 use Rattle.pac_serial.proofs.execute.+exec.Goals as goal
 

@@ -2,7 +2,7 @@
 use Rattle.std.proofs.Common.{◌≡◌, ◌+◌, IsSome, map, drop}
 use Rattle.pac_value.specs.Expressions.{types_of}
 use Rattle.pac_types.specs.Sound.{check, any_defines, scope_behind, FitTables}
-use Rattle.pac_types.specs.Meaning.{State, operations, meaning}
+use Rattle.pac_types.specs.Meaning.{operations, meaning}
 use Rattle.pac_serial.specs.Outcomes.{KeepsTypes}
 use Rattle.pac_serial.proofs.execute.+exec.Given as goal
 

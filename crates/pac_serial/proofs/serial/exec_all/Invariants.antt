@@ -1,5 +1,5 @@
--- What is left gives what all gives.
-use Rattle.std.proofs.Common.{◌≡◌, ◌+◌, map, drop}
+-- The first calls gave these rows, and what is left gives what all gives.
+use Rattle.std.proofs.Common.{◌≡◌, ◌+◌, Ok, map, drop, take}
 use Rattle.std.specs.List.{AllByRecursion}
 use Rattle.pac_types.specs.Sound.{FitTables}
 use Rattle.pac_types.specs.Meaning.{serial}
@@ -11,4 +11,5 @@ invariant-loop-i l = record {
   fit : AllByRecursion (FitsProcs l.procs) (drop l.i l.calls);
   fits : FitTables l.tables l.rows;
   so_far : serial l.procs (l.i + 1) (map call_of (drop l.i l.calls)) l.rows ≡ serial l.procs 1 (map call_of l.calls) l.fn.rows;
+  done : serial l.procs 1 (take l.i (map call_of l.calls)) l.fn.rows ≡ Ok l.rows;
 }
