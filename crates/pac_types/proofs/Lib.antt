@@ -1,5 +1,3 @@
-pub mod StmtForms
-pub mod CountLemmas
 pub mod ScopeLemmas
 pub mod SoundLemmas
 pub mod NameLemmas

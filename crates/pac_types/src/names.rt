@@ -48,13 +48,6 @@ impl Names {
         Ok(Names { names, numbers })
     }
 
-    /// How many names there are.
-    pub fn len(&self) -> usize
-        ensures { result ≡ length self.now }
-    {
-        self.names.len()
-    }
-
     /// The number of a name. `None`: it is none of these.
     pub fn number(&self, name: &Name) -> Option<u16>
         ensures value { result ≡ number_of self.now name.now }
