@@ -1,3 +1,5 @@
+pub mod StmtForms
+pub mod CountLemmas
 pub mod ScopeLemmas
 pub mod SoundLemmas
 pub mod NameLemmas

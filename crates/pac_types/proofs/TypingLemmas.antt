@@ -1,10 +1,12 @@
 -- Tables and procedures one more at a time.
 use Rattle.std.proofs.Common.{◌≡◌, ◌<◌, ◌≤◌, ℕ, ◌+◌, zero, suc, List, [], ◌∷◌, ◌++◌, length, take, map, get_or, true≢false, refl, sym, ap, ◌∙◌, subst, arith, add-one}
-use Rattle.std.specs.Prelude.{All}
+use Rattle.std.specs.Prelude.{All, IfSome}
+use Rattle.pac_types.specs.Meaning.{operations}
+use Rattle.pac_types.proofs.CountLemmas.{body_size}
 use Rattle.std.proofs.Math.Seq.{take-suc}
-use Rattle.std.proofs.lemmas.List.Elements.{All-push, All-map, All-from_recursion}
+use Rattle.std.proofs.lemmas.List.Elements.{All-push, All-map, All-from_recursion, recursion_from_All}
 use Rattle.std.specs.Prelude.{Option, Some, None, IsSome, is_some, IsTrue, Result, Err}
-use Rattle.std.specs.List.{flat_map, list_all, AllZip, AllByRecursion}
+use Rattle.std.specs.List.{flat_map, AllZip, AllByRecursion}
 use Rattle.std.specs.Option.{option_map, option_and_then}
 use Rattle.std.proofs.Common.{length-append}
 use Rattle.std.proofs.lemmas.List.{length-map}
@@ -17,9 +19,8 @@ use Rattle.pac_types.specs.Sound.{Scope, IsSoundProc, types, scope_of, check, in
 use Rattle.pac_types.specs.declared.catalogue.Column.{Column}
 use Rattle.pac_types.specs.declared.catalogue.Proc.{Proc}
 use Rattle.pac_types.specs.Checking.{scope_by, scoped, checked_body}
-use Rattle.pac_syntax.specs.Limits.{IsTableWithin, IsProcWithin}
-use Rattle.std.proofs.lemmas.List.Folds.{list_all-map}
-use Rattle.pac_types.specs.Typing.{IsProcOf, Types, CatalogueState, IsCatalogue, IsTypedTable, are_stored, is_stored_type, IsSoundTable, IsProc}
+use Rattle.pac_types.specs.Typing.{IsProcOf, Types, CatalogueState, IsCatalogue, IsSoundTable, IsProc}
+use Rattle.pac_syntax.specs.Limits.{IsTableWithinLimits, IsProcWithinLimits, HasStoredType, is_stored_type}
 use Rattle.pac_value.specs.declared.values.Ty.{Ty}
 use Rattle.pac_syntax.specs.declared.tree.ColumnNode.{ColumnNode}
 use Rattle.pac_syntax.specs.declared.tree.TableNode.{TableNode}
@@ -134,11 +135,10 @@ module _ (tables : List Table) (node : ProcNode) (params : List Column) (tys : L
   body-is = ap (λ (zs : List (List ℕ)). checked_body tables zs (length tys) (scope_by tys) node.body) found ∙ ap (λ n. checked_body tables (variables node) n (scope_by tys) node.body) as_many
       ∙ ap (λ (zs : List Ty). checked_body tables (variables node) (length node.params) (scope_by zs) node.body) same_scope ∙ checked-is tables (variables node) node.body (length node.params) (scope_by (types (map column_of node.params)))
 
-  pub proc_typed : (body : List Stmt) → IsTrue (are_stored node.params) → AreDistinct names → checked_body tables names (length tys) (scope_by tys) node.body ≡ Some body → IsProcOf tables node (record { name = node.name.name; params = params; body = body })
-  proc_typed body stored distinct is =
+  pub proc_typed : (body : List Stmt) → AreDistinct names → checked_body tables names (length tys) (scope_by tys) node.body ≡ Some body → IsProcOf tables node (record { name = node.name.name; params = params; body = body })
+  proc_typed body distinct is =
       let both = kept-some tables (scope_of (map column_of node.params)) (body_of tables (variables node) (length node.params) node.body) body (sym body-is ∙ is) in
       record {
-        stored = stored;
         distinct = subst AreDistinct found distinct;
         named = ap (option_map (λ b. record { name = node.name.name; params = map column_of node.params; body = b })) both.0 ∙ ap (λ (ps : List Column). Some (record { name = node.name.name; params = ps; body = body })) (sym as_written);
         sound = subst (λ (ps : List Column). IsSome (scope_behind tables body (scope_of ps))) (sym as_written) both.1;
@@ -202,19 +202,19 @@ one_catalogue tree c d a b =
 
 -- ---- what a catalogue is
 
-stored-columns : (nodes : List ColumnNode) → IsTrue (are_stored nodes) → IsTrue (list_all (λ column. is_stored_type column.ty) (map column_of nodes))
-stored-columns nodes all = list_all-map (λ (column : Column). is_stored_type column.ty) column_of nodes ∙ all
+stored-columns : (nodes : List ColumnNode) → All HasStoredType nodes → All (λ column. IsTrue (is_stored_type column.ty)) (map column_of nodes)
+stored-columns nodes all = All-map (λ column. IsTrue (is_stored_type column.ty)) column_of nodes all
 
-sound_table : (node : TableNode) → IsTableWithin node → IsTypedTable node → IsSoundTable (table_of node)
-sound_table node limits typed = record {
+sound_table : (node : TableNode) → IsTableWithinLimits node → IsSoundTable (table_of node)
+sound_table node limits = record {
   some = subst (λ n. 1 ≤ n) (sym (length-map node.columns column_of)) limits.some;
-  few = subst (λ n. n ≤ 8) (sym (length-map node.columns column_of)) limits.columns;
-  key = typed.key;
-  columns = stored-columns node.columns typed.stored;
+  few = subst (λ n. n ≤ 8) (sym (length-map node.columns column_of)) limits.few;
+  key = limits.key;
+  columns = stored-columns node.columns limits.columns;
 }
 
 pub tables_sound : (catalogue : CatalogueState) → IsCatalogue catalogue → All IsSoundTable catalogue.tables
-tables_sound catalogue is = subst (All IsSoundTable) (sym is.2.tables) (All-map IsSoundTable table_of is.0.tables (λ k d within. sound_table (get_or is.0.tables k d) (All-from_recursion IsTableWithin is.0.tables is.1.tables k d within) (is.2.typed k d within)))
+tables_sound catalogue is = subst (All IsSoundTable) (sym is.2.tables) (All-map IsSoundTable table_of is.0.tables (λ k d within. sound_table (get_or is.0.tables k d) (is.1.tables k d within)))
 
 zip-long : {A B : Type 0} (R : A → B → Type 0) (xs : List A) (ys : List B) → AllZip R xs ys → length ys ≡ length xs
 zip-long R [] [] all = refl
@@ -232,18 +232,26 @@ params-written : (tables : List Table) (node : ProcNode) (proc : Proc) (b : Opti
 params-written tables node proc None h = absurd (some≢none (sym h))
 params-written tables node proc (Some body) h = ap (λ (p : Proc). p.params) (sym (proc_same h))
 
-a_proc : (tables : List Table) (node : ProcNode) (proc : Proc) → IsProcWithin node → IsProcOf tables node proc → IsProc tables proc
+-- what is said of a body holds of the procedure's
+body_has : (node : ProcNode) (proc : Proc) (P : List Stmt → Type 0) (b : Option (List Stmt)) → option_map (λ body. record { name = node.name.name; params = map column_of node.params; body = body }) b ≡ Some proc → IfSome b P → P proc.body
+body_has node proc P None h has = absurd (some≢none (sym h))
+body_has node proc P (Some body) h has = subst (λ (p : Proc). P p.body) (proc_same h) has
+
+a_proc : (tables : List Table) (node : ProcNode) (proc : Proc) → IsProcWithinLimits node → IsProcOf tables node proc → IsProc tables proc
 a_proc tables node proc limits is =
     let params = params-written tables node proc (body_of tables (variables node) (length node.params) node.body) is.named in
+    let counted : operations proc.body ≡ length node.body =
+        body_has node proc (λ (body : List Stmt). operations body ≡ length node.body) (body_of tables (variables node) (length node.params) node.body) is.named (body_size tables (variables node) (length node.params) node.body) in
     record {
-      few = subst (λ n. n ≤ 16) (sym (ap length params ∙ length-map node.params column_of)) limits.params;
-      params = subst (λ (ps : List Column). IsTrue (list_all (λ column. is_stored_type column.ty) ps)) (sym params) (stored-columns node.params is.stored);
+      few = subst (λ n. n ≤ 16) (sym (ap length params ∙ length-map node.params column_of)) limits.few;
+      params = subst (All (λ column. IsTrue (is_stored_type column.ty))) (sym params) (stored-columns node.params limits.params);
       sound = is.sound;
+      counted = omega (arith, limits.short, counted);
     }
 
 pub procs_sound : (catalogue : CatalogueState) → IsCatalogue catalogue → All (IsProc catalogue.tables) catalogue.procs
 procs_sound catalogue is = All-from_recursion (IsProc catalogue.tables) catalogue.procs
-    (zip-all (IsProcOf catalogue.tables) IsProcWithin (IsProc catalogue.tables) (a_proc catalogue.tables) is.0.procs catalogue.procs is.2.procs is.1.procs)
+    (zip-all (IsProcOf catalogue.tables) IsProcWithinLimits (IsProc catalogue.tables) (a_proc catalogue.tables) is.0.procs catalogue.procs is.2.procs (recursion_from_All IsProcWithinLimits is.0.procs is.1.procs))
 
 pub procs_few : (catalogue : CatalogueState) → IsCatalogue catalogue → length catalogue.procs ≤ 64
 procs_few catalogue is = subst (λ n. n ≤ 64) (sym (zip-long (IsProcOf catalogue.tables) is.0.procs catalogue.procs is.2.procs)) is.1.few_procs

@@ -1,10 +1,10 @@
 // The checker of trees, and the catalogue that it gives.
 ghost use Rattle.std.specs.Prelude.{◌≡◌, ◌≤◌, ◌<◌, All, IfOk, IsErrOf, List, length, map};
-ghost use Rattle.std.specs.List.{AllByRecursion, AllZip};
-ghost use Rattle.pac_syntax.specs.Limits.{IsProcWithin, IsWithinLimits};
+ghost use Rattle.std.specs.List.{AllZip};
 ghost use Rattle.pac_types.specs.declared.catalogue.Proc.{Proc as AProc};
 ghost use Rattle.pac_types.specs.Numbering.{number_of};
 ghost use Rattle.pac_types.specs.Typing.{CatalogueState, IsProc, IsProcOf, IsSoundTable, IsTyped, Types};
+ghost use Rattle.pac_syntax.specs.Limits.{IsProcWithinLimits, IsWithinLimits};
 
 use crate::names::Names;
 use crate::procedures::check_proc;
@@ -50,7 +50,7 @@ fn names_of_procs(alloc: Global, nodes: &[ProcNode]) -> Result<Vec<Name>, AllocE
 
 // The procedures of these nodes over the tables.
 fn check_procs(alloc: Global, tables: &Tables, nodes: &[ProcNode]) -> Result<Vec<Proc>, TypeError>
-    requires { AllByRecursion IsProcWithin nodes.now }
+    requires { All IsProcWithinLimits nodes.now }
     ensures ok { IfOk result (λ procs. AllZip (IsProcOf tables.now) nodes.now procs.items) }
     ensures refused { IsErrOf result TypeError.Refused → (procs : List AProc) → ¬ AllZip (IsProcOf tables.now) nodes.now procs }
 {

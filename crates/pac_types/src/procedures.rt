@@ -5,11 +5,11 @@ ghost use Rattle.pac_types.specs.declared.catalogue.Proc.{Proc as AProc};
 ghost use Rattle.pac_types.specs.Numbering.{defined, variables};
 ghost use Rattle.pac_types.specs.Sound.{types};
 ghost use Rattle.pac_types.specs.Typing.{IsProcOf};
-ghost use Rattle.pac_syntax.specs.Limits.{IsProcWithin};
+ghost use Rattle.pac_syntax.specs.Limits.{IsProcWithinLimits};
 
 use crate::names::Names;
 use crate::statements::check_body;
-use crate::tables::{Tables, all_stored, columns_of, names_of};
+use crate::tables::{Tables, columns_of, names_of};
 use crate::{Column, Proc, TypeError};
 use pac_base::listed;
 use pac_syntax::{ProcNode, StmtNode};
@@ -52,20 +52,16 @@ fn types_of(alloc: Global, params: &[Column]) -> Result<Vec<Ty>, AllocError>
 ///
 /// # Errors
 ///
-/// [`TypeError::Refused`] exactly where the node has no procedure: a parameter is neither an int nor a text, a parameter or variable has the name of another, a
+/// [`TypeError::Refused`] exactly where the node has no procedure: a parameter or variable has the name of another, a
 /// name isn't one that is visible there, or an expression hasn't the type that its place wants.
 /// [`TypeError::NoMemory`].
 pub fn check_proc(alloc: Global, tables: &Tables, node: &ProcNode) -> Result<Proc, TypeError>
-    requires { IsProcWithin node.now }
+    requires { IsProcWithinLimits node.now }
     ensures ok { IfOk result (λ proc. IsProcOf tables.now node.now proc) }
     ensures refused { IsErrOf result TypeError.Refused → (proc : AProc) → ¬ IsProcOf tables.now node.now proc }
 {
-    let written = node.params.as_slice();
-    if !all_stored(written) {
-        return Err(TypeError::Refused);
-    }
     let names = Names::of(alloc, variables_of(alloc, node)?)?;
-    let params = columns_of(alloc, written)?;
+    let params = columns_of(alloc, node.params.as_slice())?;
     let types = types_of(alloc, &params)?;
     let body = check_body(alloc, tables, &names, types, node.body.as_slice())?;
     Ok(Proc {

@@ -2,9 +2,8 @@
 ghost use Rattle.std.specs.Prelude.{◌≡◌, ◌≤◌, ◌<◌, ◌^◌, All, IfOk, IfSome, IsErrOf, OnOk, Some, length, map, slice_get};
 ghost use Rattle.pac_types.specs.Sound.{column_types, key_type, types};
 ghost use Rattle.pac_types.specs.Numbering.{AreDistinct, column_number, column_of, table_number, table_of};
-ghost use Rattle.pac_types.specs.Typing.{IsTypedTable, are_stored, is_stored_type};
-ghost use Rattle.pac_syntax.specs.Limits.{IsTableWithin};
-ghost use Rattle.std.specs.List.{AllByRecursion};
+ghost use Rattle.pac_types.specs.Typing.{HasDistinctColumns};
+ghost use Rattle.pac_syntax.specs.Limits.{IsTableWithinLimits};
 
 use crate::names::Names;
 use crate::{Column, Table, TypeError};
@@ -48,23 +47,6 @@ pub fn columns_of(alloc: Global, nodes: &[ColumnNode]) -> Result<Vec<Column>, Al
         .collect(alloc)
 }
 
-// Whether keys, columns and parameters may have this type.
-fn is_stored(ty: Ty) -> bool
-    ensures { result ≡ is_stored_type ty }
-{
-    match ty {
-        Ty::Int | Ty::Text => true,
-        Ty::Bool => false,
-    }
-}
-
-/// Whether all these columns or parameters are ints or texts.
-pub fn all_stored(nodes: &[ColumnNode]) -> bool
-    ensures { result ≡ are_stored nodes.now }
-{
-    nodes.iter().all(|node| is_stored(node.ty))
-}
-
 /// The names of these nodes.
 pub fn names_of(alloc: Global, nodes: &[ColumnNode]) -> Result<Vec<Name>, AllocError>
     ensures { IfOk result (λ names. names.items ≡ map (λ node. node.name.name) nodes.now) }
@@ -96,27 +78,22 @@ impl Tables {
     ///
     /// # Errors
     ///
-    /// [`TypeError::Refused`] exactly where two tables, or two columns of one table, have one name, or a key or a column
-    /// is neither an int nor a text.
+    /// [`TypeError::Refused`] exactly where two tables, or two columns of one table, have one name.
     /// [`TypeError::NoMemory`].
     pub fn of(alloc: Global, nodes: &[TableNode]) -> Result<Tables, TypeError>
         requires few { length nodes.now ≤ 64 }
-        requires limits { AllByRecursion IsTableWithin nodes.now }
+        requires limits { All IsTableWithinLimits nodes.now }
         ensures value { IfOk result (λ tables. tables ≡ map table_of nodes.now) }
         ensures distinct { OnOk result (AreDistinct (map (λ node. node.name.name) nodes.now)) }
-        ensures typed { OnOk result (All IsTypedTable nodes.now) }
-        ensures refused { IsErrOf result TypeError.Refused → AreDistinct (map (λ node. node.name.name) nodes.now) → ¬ All IsTypedTable nodes.now }
+        ensures columns { OnOk result (All HasDistinctColumns nodes.now) }
+        ensures refused { IsErrOf result TypeError.Refused → AreDistinct (map (λ node. node.name.name) nodes.now) → ¬ All HasDistinctColumns nodes.now }
     {
         let names = Names::of(alloc, names_of_tables(alloc, nodes)?)?;
         let mut tables = Vec::with_capacity(alloc, nodes.len())?;
         let mut columns = Vec::with_capacity(alloc, nodes.len())?;
         for i in 0..nodes.len() {
             let node = &nodes[i];
-            let written = node.columns.as_slice();
-            if !is_stored(node.key) || !all_stored(written) {
-                return Err(TypeError::Refused);
-            }
-            let column_names = names_of(alloc, written)?;
+            let column_names = names_of(alloc, node.columns.as_slice())?;
             columns.push(Names::of(alloc, column_names)?)?;
             tables.push(table_of(alloc, node)?)?;
         }
@@ -125,6 +102,13 @@ impl Tables {
             names,
             columns,
         })
+    }
+
+    /// How many tables there are.
+    pub fn len(&self) -> usize
+        ensures { result ≡ length self.now }
+    {
+        self.tables.len()
     }
 
     /// The number of a table. `None`: none has that name.
