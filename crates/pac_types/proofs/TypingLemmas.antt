@@ -241,7 +241,7 @@ a_proc : (tables : List Table) (node : ProcNode) (proc : Proc) → IsProcWithinL
 a_proc tables node proc limits is =
     let params = params-written tables node proc (body_of tables (variables node) (length node.params) node.body) is.named in
     let counted : operations proc.body ≡ length node.body =
-        body_has node proc (λ (body : List Stmt). operations body ≡ length node.body) (body_of tables (variables node) (length node.params) node.body) is.named (body_size tables (variables node) (length node.params) node.body) in
+    body_has node proc (λ (body : List Stmt). operations body ≡ length node.body) (body_of tables (variables node) (length node.params) node.body) is.named (body_size tables (variables node) (length node.params) node.body) in
     record {
       few = subst (λ n. n ≤ 16) (sym (ap length params ∙ length-map node.params column_of)) limits.few;
       params = subst (All (λ column. IsTrue (is_stored_type column.ty))) (sym params) (stored-columns node.params limits.params);

@@ -104,13 +104,6 @@ impl Tables {
         })
     }
 
-    /// How many tables there are.
-    pub fn len(&self) -> usize
-        ensures { result ≡ length self.now }
-    {
-        self.tables.len()
-    }
-
     /// The number of a table. `None`: none has that name.
     pub fn number(&self, name: &Name) -> Option<u16>
         ensures value { result ≡ table_number self.now name.now }

@@ -2,7 +2,7 @@
 use Rattle.std.proofs.Common.{◌≡◌, ◌<◌, ◌∙◌, ap, sym, subst, take, take_all, map, length, arith, List}
 use Rattle.pac_syntax.specs.declared.tree.TableNode.{TableNode}
 use Rattle.pac_syntax.specs.declared.tree.ColumnNode.{ColumnNode}
-use Rattle.pac_types.specs.Typing.{IsTypedTable, are_stored}
+use Rattle.pac_types.specs.Typing.{HasDistinctColumns}
 use Rattle.pac_types.specs.Numbering.{AreDistinct, table_of, table_names, column_names}
 use Rattle.pac_types.specs.declared.catalogue.Table.{Table}
 use Rattle.pac_types.proofs.TypingLemmas.{tables-named, columns-of, map-more, all-more}
@@ -20,13 +20,9 @@ invariant_of-result c =
 pub loop-i-preserved : goal.loop-i-preserved
 loop-i-preserved c =
     let within : c.loop-i.i < length c.args.nodes.now = omega arith in
-    let names = c.in_ok-column_names.ensures ∙ ap (λ (columns : List ColumnNode). map (λ column. column.name.name) columns) c.as_slice-written.ensures in
+    let names = c.in_ok-column_names.ensures ∙ ap (λ (columns : List ColumnNode). map (λ column. column.name.name) columns) c.as_slice.ensures in
     record {
       tables = map-more table_of c.args.nodes.now c.loop-i.i c.index-nodes-i.result _ _ _ within c.index-nodes-i.is c.loop-i.invariant.tables c.in_ok-push-2.ensures.items c.in_ok-table_of.ensures;
       columns = map-more (λ node. map (λ column. column.name.name) node.columns) c.args.nodes.now c.loop-i.i c.index-nodes-i.result _ _ _ within c.index-nodes-i.is c.loop-i.invariant.columns c.in_ok-push.ensures.items (c.in_ok-of.ensures.ok ∙ names);
-      typed = all-more IsTypedTable c.args.nodes.now c.loop-i.i c.index-nodes-i.result within c.index-nodes-i.is c.loop-i.invariant.typed (record {
-        key = sym c.is_stored.ensures ∙ c.if-not-is_stored.false;
-        stored = ap (λ (columns : List ColumnNode). are_stored columns) (sym c.as_slice-written.ensures) ∙ sym c.all_stored.ensures ∙ c.if-not-all_stored.false;
-        distinct = subst AreDistinct (c.in_ok-of.ensures.ok ∙ names) c.in_ok-of.ensures.distinct;
-      });
+      distinct = all-more HasDistinctColumns c.args.nodes.now c.loop-i.i c.index-nodes-i.result within c.index-nodes-i.is c.loop-i.invariant.distinct (subst AreDistinct (c.in_ok-of.ensures.ok ∙ names) c.in_ok-of.ensures.distinct);
     }
