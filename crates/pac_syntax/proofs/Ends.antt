@@ -1,5 +1,5 @@
 -- Each state of the reading can go on to a whole catalogue, and what it takes on the way is spelled by a derivation.
-use Rattle.std.proofs.Common.{◌≡◌, ℕ, zero, suc, ℤ, pos, Bool, true, false, List, [], ◌∷◌, ◌++◌, Option, Some, None, Result, Ok, refl, sym, ap, subst, ◌∙◌, append_assoc}
+use Rattle.std.proofs.Common.{◌≡◌, ℕ, suc, ℤ, pos, Bool, true, false, List, [], ◌∷◌, ◌++◌, Option, Some, Result, Ok, refl, sym, ap, subst, ◌∙◌, append_assoc}
 use Rattle.std.proofs.lemmas.List.{append-nil}
 use Rattle.pac_value.specs.declared.values.Ty.TheVariants as ty
 use Rattle.pac_syntax.specs.declared.token.Keyword.TheVariants as keyword
@@ -10,14 +10,14 @@ use Rattle.pac_syntax.specs.declared.token.Spanned.{Spanned}
 use Rattle.pac_syntax.specs.declared.tree.NameNode.{NameNode}
 use Rattle.pac_syntax.specs.declared.tree.LiteralNode.{LiteralNode}
 use Rattle.pac_syntax.specs.declared.tree.ColumnNode.{ColumnNode}
-use Rattle.pac_syntax.specs.declared.tree.ExprNode.{ExprNode, Literal, Name}
+use Rattle.pac_syntax.specs.declared.tree.ExprNode.{ExprNode}
 use Rattle.pac_syntax.specs.declared.tree.StmtNode.{StmtNode}
 use Rattle.pac_syntax.specs.declared.tree.StmtNode.TheVariants as stmt
 use Rattle.pac_syntax.specs.declared.tree.TableNode.{TableNode}
 use Rattle.pac_syntax.specs.declared.tree.ProcNode.{ProcNode}
 use Rattle.pac_syntax.specs.declared.tree.Tree.{Tree}
-use Rattle.pac_syntax.specs.Grammar.{LiteralForm, AnInt, ANegative, OperandForm, ALiteral, AName, ExprForm, AnOperand, ASum, ValuesForm, NoValue, AValue, StmtsForm, NoStmt, ALet, ARead, APut, ColumnsForm, NoColumn, AColumn, ParamsForm, NoParam, AParam, TablesForm, NoTable, ATable, ProcsForm, NoProc, AProc, literal_node, operand_place, operand_node, expr_place, expr_node, value_nodes, stmt_nodes, column_node, column_nodes, param_nodes, table_nodes, proc_nodes, Role, Plain, TableWord, ProcWord, ColumnName, ParamName, Operator, Marked, marked, keyword_mark, symbol_mark, name_mark, literal_before, operand_before, operators, expr_before, values_before, stmts_before, columns_before, params_before, tables_before, procs_before, Whole}
-use Rattle.pac_syntax.specs.Machine.{Begun, Steps, Done, Want, WantName, WantLiteral, WantNegative, WantOperand, MoreOperands, MoreValues, MoreStmts, MoreColumns, SomeParams, MoreTables, MoreProcs, Next, Stop, next, want_keyword, want_symbol, want_expr, joined, place_steps, let_steps, read_steps, values_steps, put_steps, column_steps, columns_steps, table_steps, proc_steps, start, literal_at, is_mark, name_in, or_else, where_true, with_name, literal_begins, negative_in, literal_operand, name_operand, operand_begins, stmt_begins, feed, finish}
+use Rattle.pac_syntax.specs.Grammar.{LiteralForm, AnInt, ANegative, OperandForm, ALiteral, AName, ExprForm, AnOperand, ASum, ValuesForm, NoValue, AValue, StmtsForm, NoStmt, ALet, ARead, APut, ColumnsForm, NoColumn, AColumn, ParamsForm, NoParam, AParam, TablesForm, NoTable, ATable, ProcsForm, NoProc, AProc, literal_node, expr_node, value_nodes, stmt_nodes, column_node, column_nodes, param_nodes, table_nodes, proc_nodes, Role, Plain, TableWord, ProcWord, ParamName, Operator, Marked, marked, keyword_mark, symbol_mark, name_mark, literal_before, operand_before, operators, expr_before, values_before, stmts_before, columns_before, params_before, tables_before, procs_before, Whole}
+use Rattle.pac_syntax.specs.Machine.{Begun, Steps, Done, Want, WantName, WantLiteral, WantNegative, WantOperand, MoreOperands, MoreValues, MoreStmts, MoreColumns, SomeParams, MoreTables, MoreProcs, Next, Stop, next, want_keyword, want_symbol, want_expr, joined, let_steps, read_steps, values_steps, put_steps, column_steps, table_steps, proc_steps, start, literal_at, is_mark, name_in, or_else, where_true, with_name, literal_begins, negative_in, literal_operand, name_operand, operand_begins, stmt_begins, feed, finish}
 use Rattle.pac_syntax.proofs.Marks.{is_mark-true}
 use Rattle.pac_syntax.proofs.Running.{Runs}
 use Rattle.pac_syntax.proofs.Words.{begun_operand, begun}

@@ -1,5 +1,5 @@
 -- Two tokens that are one word or one sign are equal.
-use Rattle.std.proofs.Common.{◌≡◌, ℕ, true, List, [], ◌∷◌, get_or, refl, sym, ap, ◌∙◌}
+use Rattle.std.proofs.Common.{◌≡◌, true, get_or, refl, sym, ap, ◌∙◌}
 use Rattle.std.proofs.lemmas.Bool.{eqb-true}
 use Rattle.pac_syntax.specs.declared.token.Keyword.{Keyword}
 use Rattle.pac_syntax.specs.declared.token.Keyword.TheVariants as keyword

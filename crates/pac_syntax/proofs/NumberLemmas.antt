@@ -1,7 +1,6 @@
 -- More digits make no smaller number.
-use Rattle.std.proofs.Common.{◌≡◌, ◌≤◌, ◌<◌, ◌+◌, ◌*◌, ◌-◌, ◌^◌, ℕ, List, [], ◌∷◌, ◌++◌, Some, None, fold, take, drop, true, false, nat_le, if◌then◌else◌, arith, refl, sym, ap, ◌∙◌}
+use Rattle.std.proofs.Common.{◌≡◌, ◌≤◌, ◌<◌, ◌+◌, ◌*◌, ◌-◌, ◌^◌, ℕ, List, [], ◌∷◌, ◌++◌, Some, None, fold, take, drop, nat_le, if◌then◌else◌, arith, refl, sym, ap, ◌∙◌}
 use Rattle.std.proofs.lemmas.List.{take-append-drop}
-use Rattle.std.proofs.lemmas.Grind.{common_steps}
 use Rattle.pac_syntax.specs.Tokens.{digits_value}
 
 fold-grows : (n : ℕ) (digits : List ℕ) → n ≤ fold (λ n digit. n * 10 + (digit - 48)) n digits

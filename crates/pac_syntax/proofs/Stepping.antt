@@ -1,10 +1,9 @@
 -- What one step of the reading does, for the parser's functions.
-use Rattle.std.proofs.Common.{◌≡◌, ℕ, zero, suc, ℤ, ◌+◌, ◌<◌, ◌≤◌, Bool, true, false, cond, List, [], ◌∷◌, ◌++◌, length, Option, Some, None, Result, Ok, Err, refl, sym, ap, subst, ◌∙◌, arith, add-one}
+use Rattle.std.proofs.Common.{◌≡◌, ℕ, suc, ◌+◌, ◌<◌, ◌≤◌, false, List, [], ◌∷◌, ◌++◌, length, Some, None, Result, Ok, Err, refl, sym, ap, ◌∙◌, arith, add-one}
 use Rattle.std.proofs.lemmas.Bool.{lt-ltb, le-ltb}
 use Rattle.std.proofs.lemmas.List.{length-append}
 use Rattle.pac_value.specs.declared.values.Ty.TheVariants as ty
 use Rattle.pac_syntax.specs.declared.token.Keyword.TheVariants as keyword
-use Rattle.pac_syntax.specs.declared.token.Symbol.{Symbol}
 use Rattle.pac_syntax.specs.declared.token.Symbol.TheVariants as symbol
 use Rattle.pac_syntax.specs.declared.token.Token.{Token}
 use Rattle.pac_syntax.specs.declared.token.Token.TheVariants as token
@@ -25,9 +24,9 @@ use Rattle.pac_syntax.specs.declared.tree.Tree.{Tree}
 use Rattle.pac_syntax.specs.declared.statement.StatementWord.{StatementWord}
 use Rattle.pac_syntax.specs.declared.parser.ColumnKind.{ColumnKind}
 use Rattle.pac_syntax.specs.declared.parser.ColumnKind.TheVariants.{Column, Param}
-use Rattle.pac_syntax.specs.Grammar.{Role, Plain, ColumnName, ParamName, TableWord, ProcWord, Operator}
-use Rattle.pac_syntax.specs.Faults.{over, more_than, place}
-use Rattle.pac_syntax.specs.Machine.{Begun, Steps, Done, Want, WantName, WantLiteral, WantNegative, WantOperand, MoreOperands, MoreValues, MoreStmts, MoreColumns, SomeParams, MoreTables, MoreProcs, next, want_keyword, want_expr, joined, stmt_steps, column_steps, table_steps, proc_steps, literal_at, literal_operand, is_mark, name_in, literal_begins, negative_in, feed, finish, scan, run, Fails, Gives}
+use Rattle.pac_syntax.specs.Grammar.{Role, ParamName}
+use Rattle.pac_syntax.specs.Faults.{over, place}
+use Rattle.pac_syntax.specs.Machine.{Begun, Steps, Done, Want, WantName, WantLiteral, WantNegative, WantOperand, MoreOperands, MoreValues, MoreStmts, MoreColumns, SomeParams, MoreTables, MoreProcs, want_keyword, want_expr, joined, stmt_steps, column_steps, table_steps, proc_steps, literal_operand, is_mark, literal_begins, negative_in, feed, finish, scan, run, Fails, Gives}
 use Rattle.pac_syntax.specs.Views.{Begins, IsNot, IsNoName, IsNoInt, IsNoNegative, IsInt, IsNegative, BeginsStmt, IsNoStmt, int_in, negative_of, name_token, role_of, limit_of}
 
 abbrev Read : Type 0

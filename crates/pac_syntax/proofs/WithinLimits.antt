@@ -1,5 +1,5 @@
 -- A tree that is read is within the limits.
-use Rattle.std.proofs.Common.{◌≡◌, ℕ, zero, suc, ◌+◌, ◌*◌, ◌<◌, ◌≤◌, Bool, true, false, cond, ltb, List, [], ◌∷◌, length, Option, Some, None, refl, sym, ap, subst, ◌∙◌, arith}
+use Rattle.std.proofs.Common.{◌≡◌, ℕ, suc, ◌+◌, ◌*◌, ◌≤◌, Bool, true, false, cond, ltb, List, [], ◌∷◌, length, Option, Some, None, refl, sym, ap, subst, ◌∙◌, arith}
 use Rattle.std.specs.Prelude.{All}
 use Rattle.std.specs.List.{AllByRecursion}
 use Rattle.std.proofs.lemmas.List.Elements.{All-from_recursion}
@@ -7,11 +7,9 @@ use Rattle.std.proofs.lemmas.Bool.{ltb-false}
 use Rattle.pac_syntax.specs.declared.fault.FaultKind.{FaultKind}
 use Rattle.pac_syntax.specs.declared.fault.FaultKind.TheVariants.{TooMany}
 use Rattle.pac_syntax.specs.declared.tree.ColumnNode.{ColumnNode}
-use Rattle.pac_syntax.specs.declared.tree.TableNode.{TableNode}
-use Rattle.pac_syntax.specs.declared.tree.ProcNode.{ProcNode}
 use Rattle.pac_syntax.specs.declared.tree.Tree.{Tree}
 use Rattle.pac_syntax.specs.declared.token.Spanned.{Spanned}
-use Rattle.pac_syntax.specs.Grammar.{LiteralForm, AnInt, ANegative, OperandForm, ALiteral, AName, ExprForm, AnOperand, ASum, ValuesForm, NoValue, AValue, StmtsForm, NoStmt, ALet, ARead, APut, ColumnsForm, NoColumn, AColumn, ParamsForm, NoParam, AParam, TablesForm, NoTable, ATable, ProcsForm, NoProc, AProc, CatalogueForm, stmt_nodes, column_node, column_nodes, param_nodes, table_nodes, proc_nodes, tree_of, Role, ColumnName, ParamName, Marked, literal_before, operand_before, expr_before, values_before, stmts_before, columns_before, params_before, tables_before, procs_before, marks_of, tokens_of, Whole}
+use Rattle.pac_syntax.specs.Grammar.{LiteralForm, AnInt, ANegative, OperandForm, ALiteral, AName, ExprForm, AnOperand, ASum, ValuesForm, NoValue, AValue, StmtsForm, NoStmt, ALet, ARead, APut, ColumnsForm, NoColumn, AColumn, ParamsForm, NoParam, AParam, TablesForm, NoTable, ATable, ProcsForm, NoProc, AProc, stmt_nodes, column_node, column_nodes, param_nodes, table_nodes, proc_nodes, Role, ColumnName, ParamName, Marked, literal_before, operand_before, expr_before, values_before, stmts_before, columns_before, params_before, tables_before, procs_before, marks_of, tokens_of}
 use Rattle.pac_syntax.specs.Faults.{over, more_than, IsWithin, ReadsTokens}
 use Rattle.pac_syntax.specs.Limits.{IsTableWithinLimits, IsProcWithinLimits, IsWithinLimits, HasStoredType}
 

@@ -1,20 +1,18 @@
 -- What a derivation spells leads to its tree.
-use Rattle.std.proofs.Common.{◌≡◌, ℕ, suc, List, [], ◌∷◌, ◌++◌, Ok, refl, sym, ap, subst, ◌∙◌, append_assoc}
+use Rattle.std.proofs.Common.{ℕ, suc, List, [], ◌∷◌, ◌++◌, Ok, refl, sym, ap, subst, append_assoc}
 use Rattle.std.proofs.lemmas.List.{append-nil}
 use Rattle.pac_value.specs.declared.values.Ty.TheVariants as ty
-use Rattle.pac_syntax.specs.declared.token.Keyword.TheVariants as keyword
 use Rattle.pac_syntax.specs.declared.token.Symbol.TheVariants as symbol
-use Rattle.pac_syntax.specs.declared.token.Token.TheVariants as token
 use Rattle.pac_syntax.specs.declared.tree.LiteralNode.{LiteralNode}
 use Rattle.pac_syntax.specs.declared.tree.ColumnNode.{ColumnNode}
-use Rattle.pac_syntax.specs.declared.tree.ExprNode.{ExprNode, Literal, Name}
+use Rattle.pac_syntax.specs.declared.tree.ExprNode.{ExprNode}
 use Rattle.pac_syntax.specs.declared.tree.StmtNode.{StmtNode}
 use Rattle.pac_syntax.specs.declared.tree.StmtNode.TheVariants as stmt
 use Rattle.pac_syntax.specs.declared.tree.TableNode.{TableNode}
 use Rattle.pac_syntax.specs.declared.tree.ProcNode.{ProcNode}
 use Rattle.pac_syntax.specs.declared.tree.Tree.{Tree}
-use Rattle.pac_syntax.specs.Grammar.{LiteralForm, AnInt, ANegative, OperandForm, ALiteral, AName, ExprForm, AnOperand, ASum, ValuesForm, NoValue, AValue, StmtsForm, NoStmt, ALet, ARead, APut, ColumnsForm, NoColumn, AColumn, ParamsForm, NoParam, AParam, TablesForm, NoTable, ATable, ProcsForm, NoProc, AProc, CatalogueForm, literal_node, operand_place, operand_node, expr_place, expr_node, value_nodes, stmt_nodes, column_node, column_nodes, param_nodes, table_nodes, proc_nodes, tree_of, Role, Plain, TableWord, ProcWord, ColumnName, ParamName, Operator, Marked, marked, keyword_mark, symbol_mark, name_mark, literal_before, operand_before, operators, expr_before, values_before, stmts_before, columns_before, params_before, tables_before, procs_before, marks_of, Whole}
-use Rattle.pac_syntax.specs.Machine.{Begun, Steps, WantName, WantLiteral, WantNegative, WantOperand, MoreOperands, MoreValues, MoreStmts, MoreColumns, SomeParams, MoreTables, MoreProcs, next, want_keyword, want_symbol, want_expr, joined, place_steps, let_steps, read_steps, values_steps, put_steps, column_steps, columns_steps, table_steps, proc_steps, tree_end, tree_procs, start, literal_at, feed, finish}
+use Rattle.pac_syntax.specs.Grammar.{LiteralForm, AnInt, ANegative, OperandForm, ALiteral, AName, ExprForm, AnOperand, ASum, ValuesForm, NoValue, AValue, StmtsForm, NoStmt, ALet, ARead, APut, ColumnsForm, NoColumn, AColumn, ParamsForm, NoParam, AParam, TablesForm, NoTable, ATable, ProcsForm, NoProc, AProc, literal_node, operand_place, operand_node, expr_place, expr_node, value_nodes, stmt_nodes, column_node, column_nodes, param_nodes, table_nodes, proc_nodes, Role, Plain, ColumnName, ParamName, Operator, Marked, symbol_mark, literal_before, operand_before, operators, expr_before, values_before, stmts_before, columns_before, params_before, tables_before, procs_before, Whole}
+use Rattle.pac_syntax.specs.Machine.{Begun, Steps, WantLiteral, WantOperand, MoreOperands, MoreValues, MoreStmts, MoreColumns, SomeParams, MoreTables, MoreProcs, want_expr, joined, tree_end, tree_procs, start, feed, finish}
 use Rattle.pac_syntax.proofs.Running.{Runs}
 
 -- an expression with the place at which it begins

@@ -1,6 +1,5 @@
 -- Reading tokens one at a time: what is still to come, and what is done with it.
-use Rattle.std.specs.Prelude.{◌≡◌, ℕ, zero, suc, ℤ, List, [], ◌∷◌, ◌++◌, Option, Some, None, Result, Ok, Err, Bool, true, false, nat_eq}
-use Rattle.pac_value.specs.declared.values.Ty.{Ty}
+use Rattle.std.specs.Prelude.{◌≡◌, ℕ, suc, ℤ, List, [], ◌∷◌, ◌++◌, Option, Some, None, Result, Ok, Err, Bool, true, false, nat_eq}
 use Rattle.pac_value.specs.declared.values.Ty.TheVariants as ty
 use Rattle.pac_value.specs.declared.values.Value.TheVariants as value
 use Rattle.pac_value.specs.declared.expr.BinOp.TheVariants as op

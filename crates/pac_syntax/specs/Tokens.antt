@@ -1,5 +1,5 @@
 -- The tokens of a text.
-use Rattle.std.specs.Prelude.{◌≡◌, ℕ, ◌+◌, ◌-◌, ◌*◌, ◌^◌, zero, suc, ℤ, pos, neg_ℤ, Bool, true, false, List, [], ◌∷◌, length, drop, fold, find, Option, Some, None, Result, Ok, Err, nat_lt, nat_le, nat_eq, if◌then◌else◌, ◌&&◌, ◌||◌, not}
+use Rattle.std.specs.Prelude.{◌≡◌, ℕ, ◌+◌, ◌-◌, ◌*◌, ◌^◌, suc, pos, neg_ℤ, Bool, true, false, List, [], ◌∷◌, length, drop, fold, find, Option, Some, None, Result, Ok, Err, nat_lt, nat_le, nat_eq, if◌then◌else◌, ◌&&◌, ◌||◌, not}
 use Rattle.std.specs.List.{take_while}
 use Rattle.std.specs.Cmp.Lexicographic.{pointwise}
 use Rattle.pac_syntax.specs.declared.token.Keyword.{Keyword}

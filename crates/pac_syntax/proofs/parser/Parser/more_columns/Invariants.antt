@@ -1,6 +1,6 @@
 use Rattle.std.proofs.Common.{◌≡◌, ◌≤◌, List, [], ◌∷◌, length}
 use Rattle.pac_syntax.specs.declared.tree.ColumnNode.{ColumnNode}
-use Rattle.pac_syntax.specs.Machine.{Steps, MoreColumns, MoreTables, MoreProcs, run}
+use Rattle.pac_syntax.specs.Machine.{Steps, MoreColumns, run}
 use Rattle.pac_syntax.specs.Views.{role_of}
 use Rattle.pac_syntax.proofs.parser.Parser.more_columns.Given as goal
 

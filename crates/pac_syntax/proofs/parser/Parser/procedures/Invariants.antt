@@ -1,7 +1,6 @@
-use Rattle.std.proofs.Common.{◌≡◌, ◌≤◌, List, [], ◌∷◌, length}
+use Rattle.std.proofs.Common.{◌≡◌, ◌≤◌, List, [], length}
 use Rattle.pac_syntax.specs.declared.tree.ProcNode.{ProcNode}
-use Rattle.pac_syntax.specs.Machine.{Steps, MoreColumns, MoreTables, MoreProcs, run}
-use Rattle.pac_syntax.specs.Views.{role_of}
+use Rattle.pac_syntax.specs.Machine.{Steps, MoreProcs, run}
 use Rattle.pac_syntax.proofs.parser.Parser.procedures.Given as goal
 
 -- to read on behind what was read is to read the whole

@@ -1,7 +1,6 @@
-use Rattle.std.proofs.Common.{◌≡◌, ◌≤◌, List, [], ◌∷◌, length}
+use Rattle.std.proofs.Common.{◌≡◌, ◌≤◌, List, [], length}
 use Rattle.pac_syntax.specs.declared.tree.TableNode.{TableNode}
-use Rattle.pac_syntax.specs.Machine.{Steps, MoreColumns, MoreTables, MoreProcs, run}
-use Rattle.pac_syntax.specs.Views.{role_of}
+use Rattle.pac_syntax.specs.Machine.{Steps, MoreTables, run}
 use Rattle.pac_syntax.proofs.parser.Parser.tables.Given as goal
 
 -- to read on behind what was read is to read the whole
