@@ -16,6 +16,8 @@ mod exact;
 mod lists;
 mod no_memory;
 mod ruled;
+#[cfg(test)]
+mod tests;
 
 pub use exact::{Exact, Same};
 pub use lists::{Listed, are_same, copy_of, listed};
