@@ -1,0 +1,9 @@
+pub mod CallLemmas
+pub mod LineLemmas
+pub mod FitLemmas
+pub mod CallOnce
+pub mod RequestLemmas
+pub mod ScriptLemmas
+pub mod ErrorLemmas
+pub mod InputLemmas
+pub mod StopLemmas

@@ -1,0 +1,26 @@
+use Rattle.std.proofs.Common.{◌≡◌, ◌∙◌, sym, ap, subst, List, ℕ}
+use Rattle.pac_outside.specs.Content.{Took, TookFront}
+use Rattle.pac_types.specs.declared.catalogue.Table.{Table}
+use Rattle.pac_serial.specs.Dump.{tables_text}
+use Rattle.pac_main.specs.Replay.{dump}
+use Rattle.pac_main.proofs.command.replay.Goals as goal
+
+pub returns-in_err-write_all-clause-front : goal.returns-in_err-write_all-clause-front
+returns-in_err-write_all-clause-front g c = λ is.
+    let text : c.deref.result.now ≡ dump c.in_ok-script.script c.in_ok-rows.rows = c.deref.ensures.value ∙ c.in_ok-text.ensures ∙ ap (λ (tables : List Table). tables_text c.in_ok-rows.rows 0 tables) c.tables.ensures.value in (
+      c.in_ok-script.script,
+      c.in_ok-rows.rows,
+      c.in_ok-script.ensures.ok,
+      c.in_ok-rows.ensures,
+      subst (λ (t : List ℕ). TookFront (g.O.Sink.held c.args.output.now) t (g.O.Sink.held c.write_all.new.sink)) text c.write_all.ensures.front,
+    )
+
+pub returns-clause-done : goal.returns-clause-done
+returns-clause-done g c =
+    let text : c.deref.result.now ≡ dump c.in_ok-script.script c.in_ok-rows.rows = c.deref.ensures.value ∙ c.in_ok-text.ensures ∙ ap (λ (tables : List Table). tables_text c.in_ok-rows.rows 0 tables) c.tables.ensures.value in (
+      c.in_ok-script.script,
+      c.in_ok-rows.rows,
+      c.in_ok-script.ensures.ok,
+      c.in_ok-rows.ensures,
+      subst (λ (t : List ℕ). Took (g.O.Sink.held c.args.output.now) t (g.O.Sink.held c.write_all.new.sink)) text c.in_ok-write_all.ensures.ok,
+    )

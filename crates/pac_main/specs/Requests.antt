@@ -1,0 +1,32 @@
+-- What a request line says.
+use Rattle.std.specs.Prelude.{◌≡◌, ◌≤◌, ℕ, List, [], ◌∷◌, length, Option, Some, None, Result, Ok, Err}
+use Rattle.std.specs.List.{AllZip, flat_map}
+use Rattle.pac_syntax.specs.declared.token.Token.{Token}
+use Rattle.pac_syntax.specs.declared.token.Spanned.{Spanned}
+use Rattle.pac_syntax.specs.Tokens.{IsLexed}
+use Rattle.pac_types.specs.declared.catalogue.Proc.{Proc}
+use Rattle.pac_serial.specs.declared.serial.Call.{Call}
+use Rattle.pac_main.specs.Calls.{kinds, IsCall}
+
+-- no tokens, or those of a call
+abbrev pub Says : List Proc → List Token → Option Call → Type 0
+Says procs ts None = ts ≡ []
+Says procs ts (Some call) = IsCall procs ts call
+
+-- the line has at most 4,096 bytes; it is empty but for white space and comment, or it is this call
+pub record IsLine (procs : List Proc) (line : List ℕ) (said : Option Call) : Type 0 where
+  pub short : length line ≤ 4096
+  pub tokens : List Spanned
+  pub lexed : IsLexed line tokens None
+  pub says : Says procs (kinds tokens) said
+
+-- a call, or none
+abbrev pub some_call : Option Call → List Call
+some_call None = []
+some_call (Some call) = call ∷ []
+
+-- each line is empty or a call, and these are the calls
+pub record AreCalls (procs : List Proc) (lines : List (List ℕ)) (calls : List Call) : Type 0 where
+  pub said : List (Option Call)
+  pub each : AllZip (IsLine procs) lines said
+  pub are : flat_map some_call said ≡ calls

@@ -1,0 +1,42 @@
+-- What a script is: a catalogue, and behind a line that is exactly `---` the calls.
+use Rattle.std.specs.Prelude.{◌≡◌, ◌≤◌, ◌+◌, ℕ, List, [], ◌∷◌, take, drop, length, Option, Some, None, MatchOption}
+use Rattle.pac_syntax.specs.declared.tree.Tree.{Tree}
+use Rattle.pac_syntax.specs.Reading.{Reads}
+use Rattle.pac_types.specs.Typing.{CatalogueState, Types}
+use Rattle.pac_main.specs.declared.script.Script.{Script}
+use Rattle.pac_main.specs.Lines.{lines, IsMark, HasNoMark}
+use Rattle.pac_main.specs.Requests.{AreCalls}
+
+-- the text is that of a tree with this catalogue
+pub record HasCatalogue (text : List ℕ) (catalogue : CatalogueState) : Type 0 where
+  pub tree : Tree
+  pub reads : Reads text tree
+  pub typed : Types tree catalogue
+
+-- the lines behind a line feed, where there is one
+abbrev pub lines_behind : List ℕ → List (List ℕ)
+lines_behind [] = []
+lines_behind (feed ∷ text) = lines text
+
+-- the text in front is the catalogue's, and the lines behind are the calls
+pub record HasParts (front behind : List ℕ) (script : Script) : Type 0 where
+  pub catalogue : HasCatalogue front script.catalogue
+  pub calls : AreCalls script.catalogue.procs (lines_behind behind) script.calls
+
+-- the text before the mark, or all where there is none
+abbrev pub text_before : List ℕ → Option ℕ → List ℕ
+text_before text None = text
+text_before text (Some at) = take at text
+
+-- the text behind the mark
+abbrev pub text_behind : List ℕ → Option ℕ → List ℕ
+text_behind text None = []
+text_behind text (Some at) = drop (at + 3) text
+
+-- the text is this script: it has at most 65,536 bytes, what stands before the first line `---` is the catalogue's text,
+-- and the lines behind are the calls
+pub record IsScript (text : List ℕ) (script : Script) : Type 0 where
+  pub short : length text ≤ 65536
+  pub mark : Option ℕ
+  pub is_mark : MatchOption mark (HasNoMark text) (λ at. IsMark text at)
+  pub parts : HasParts (text_before text mark) (text_behind text mark) script

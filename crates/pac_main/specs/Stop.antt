@@ -1,0 +1,45 @@
+-- The exit status of each stop, and what the error sink is told.
+use Rattle.std.specs.Prelude.{ℕ, List, ◌++◌, codes}
+use Rattle.std.specs.Fmt.{decimal}
+use Rattle.pac_outside.specs.declared.failed.ReadError.{ReadError}
+use Rattle.pac_outside.specs.declared.failed.ReadError.TheVariants as read
+use Rattle.pac_types.specs.declared.reason.Reason.{Reason}
+use Rattle.pac_types.specs.Reasons.{reason_name}
+use Rattle.pac_serial.specs.declared.serial.SerialError.{SerialError}
+use Rattle.pac_serial.specs.declared.serial.SerialError.TheVariants as serial
+use Rattle.pac_main.specs.declared.script_error.ScriptError.{ScriptError}
+use Rattle.pac_main.specs.declared.script_error.ScriptError.TheVariants as script
+use Rattle.pac_main.specs.declared.stop.Stop.{Stop}
+use Rattle.pac_main.specs.declared.stop.Stop.TheVariants.{Usage, Refused, Aborted, InputFault, OutputFault, NoMemory}
+
+abbrev pub status_of : Stop → ℕ
+status_of Usage = 1
+status_of Refused = 2
+status_of (Aborted txn op reason) = 4
+status_of InputFault = 6
+status_of OutputFault = 7
+status_of NoMemory = 9
+
+-- the transaction's number, the operation's, and the reason
+abbrev pub abort_line : ℕ → ℕ → Reason → List ℕ
+abort_line txn op reason = codes "abort " ++ decimal txn ++ codes " " ++ decimal op ++ codes " " ++ reason_name reason ++ codes "\n"
+
+abbrev pub line_of : Stop → List ℕ
+line_of Usage = codes "usage: pacman init, run, recover, explain, replay or stress\n"
+line_of Refused = codes "script refused\n"
+line_of (Aborted txn op reason) = abort_line txn op reason
+line_of InputFault = codes "input fault\n"
+line_of OutputFault = codes "output fault\n"
+line_of NoMemory = codes "no memory\n"
+
+abbrev pub stop_of_read : ReadError → Stop
+stop_of_read read.Failed = InputFault
+stop_of_read read.NoMemory = NoMemory
+
+abbrev pub stop_of_script : ScriptError → Stop
+stop_of_script script.Refused = Refused
+stop_of_script script.NoMemory = NoMemory
+
+abbrev pub stop_of_serial : SerialError → Stop
+stop_of_serial (serial.Abort txn op reason) = Aborted txn op reason
+stop_of_serial serial.NoMemory = NoMemory

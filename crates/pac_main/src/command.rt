@@ -1,0 +1,177 @@
+// The commands, by the words of the command line.
+ghost use Rattle.std.specs.Prelude.{◌≡◌, ◌≢◌, ◌↔◌, ◌∷◌, ℕ, List, [], Option, IfOk, OnOk, OnErr, IfSome, IsErrOf, IsTrue, codes, map, ◌==◌, ◌⊎◌, Ok, Err};
+ghost use Rattle.std.specs.List.{list_any, AllByRecursion};
+ghost use Rattle.std.specs.String.{string_bytes};
+ghost use Rattle.pac_outside.specs.Causes.{Rose};
+ghost use Rattle.pac_outside.specs.Content.{Took, TookFront};
+ghost use Rattle.pac_types.specs.declared.reason.Reason.{Reason as AReason};
+ghost use Rattle.pac_serial.specs.Calls.{FitsProcs};
+ghost use Rattle.pac_main.specs.Stop.{status_of, line_of, abort_line};
+ghost use Rattle.pac_main.specs.Replay.{IsReplay, IsScriptOf, IsNoScript, outcome, SaysUnlessFault, IsDumpOf, IsAbortOf, DoesEnd};
+ghost use Rattle.pac_main.specs.declared.script.Script.{Script as AScript};
+ghost use Rattle.pac_main.specs.declared.stop.Stop.{Stop as AStop};
+
+use crate::script::{MAX_SCRIPT, Script, read_script};
+use crate::stop::{Stop, abort_line};
+use pac_outside::{Devices, Disk, Gate, Sink, Source, read_up_to, write_all};
+use pac_serial::{Rows, SerialError, dump_tables, exec_all};
+use pac_types::Reason;
+use std::alloc::Global;
+use std::sync::Wait;
+use std::thread::Threads;
+
+// The script that the source holds.
+fn read_input<I: Source>(alloc: Global, input: &mut I) -> Result<Script, Stop>
+    ensures ok { IfOk result (λ script. IsScriptOf script (I.left input.old)) }
+    ensures fit { IfOk result (λ script. AllByRecursion (FitsProcs script.catalogue.procs) script.calls) }
+    ensures refused { IsErrOf result Stop.Refused → IsNoScript (I.left input.old) }
+    ensures input_fault { IsErrOf result Stop.InputFault → Rose (I.faults input.old) (I.faults input.new) }
+    ensures no_usage { ¬ IsErrOf result Stop.Usage }
+    ensures no_output { ¬ IsErrOf result Stop.OutputFault }
+    ensures no_abort { (txn op : ℕ) (reason : AReason) → ¬ IsErrOf result (Stop.Aborted txn op reason) }
+{
+    let text = read_up_to(alloc, input, MAX_SCRIPT)?;
+    Ok(read_script(alloc, &text)?)
+}
+
+// The rows with which the calls end, from no rows on.
+fn execute(alloc: Global, script: &Script) -> Result<Rows, SerialError>
+    requires { AllByRecursion (FitsProcs script.now.catalogue.procs) script.now.calls }
+    ensures { DoesEnd result (outcome script.now) }
+{
+    let mut rows = Rows::new(alloc);
+    let tables = script.catalogue.tables();
+    let procs = script.catalogue.procs();
+    exec_all(alloc, tables, procs, script.calls.as_slice(), &mut rows)?;
+    Ok(rows)
+}
+
+// Replays the script and writes the dump.
+fn replay<I: Source, O: Sink>(alloc: Global, input: &mut I, output: &mut O) -> Result<(), Stop>
+    ensures done { OnOk result (IsDumpOf (I.left input.old) (λ text. Took (O.held output.old) text (O.held output.new))) }
+    ensures refused { IsErrOf result Stop.Refused → IsNoScript (I.left input.old) }
+    ensures aborted { (txn op : ℕ) (reason : AReason) → IsErrOf result (Stop.Aborted txn op reason) → IsAbortOf (I.left input.old) txn op reason }
+    ensures input_fault { IsErrOf result Stop.InputFault → Rose (I.faults input.old) (I.faults input.new) }
+    ensures output_fault { IsErrOf result Stop.OutputFault → Rose (O.faults output.old) (O.faults output.new) }
+    ensures front { IsErrOf result Stop.OutputFault → IsDumpOf (I.left input.old) (λ text. TookFront (O.held output.old) text (O.held output.new)) }
+    ensures kept { OnErr result (¬ IsErrOf result Stop.OutputFault → O.held output.new ≡ O.held output.old) }
+    ensures no_usage { ¬ IsErrOf result Stop.Usage }
+{
+    let script = read_input(alloc, input)?;
+    let rows = execute(alloc, &script)?;
+    let text = dump_tables(alloc, script.catalogue.tables(), &rows)?;
+    Ok(write_all(output, &text)?)
+}
+
+fn is_replay(words: &[String]) -> bool
+    ensures { IsTrue result ↔ IsReplay words.now }
+{
+    match words {
+        [word] => word.as_str() == "replay",
+        _ => false,
+    }
+}
+
+// Does what the words say.
+fn command<I: Source, O: Sink>(
+    alloc: Global,
+    words: &[String],
+    input: &mut I,
+    output: &mut O,
+) -> Result<(), Stop>
+    ensures usage { IsErrOf result Stop.Usage ↔ ¬ IsReplay words.now }
+    ensures refused { IsErrOf result Stop.Refused → IsNoScript (I.left input.old) }
+    ensures aborted { (txn op : ℕ) (reason : AReason) → IsErrOf result (Stop.Aborted txn op reason) → IsAbortOf (I.left input.old) txn op reason }
+    ensures input_fault { IsErrOf result Stop.InputFault → Rose (I.faults input.old) (I.faults input.new) }
+    ensures output_fault { IsErrOf result Stop.OutputFault → Rose (O.faults output.old) (O.faults output.new) }
+    ensures done { OnOk result (IsDumpOf (I.left input.old) (λ text. Took (O.held output.old) text (O.held output.new))) }
+    ensures front { IsErrOf result Stop.OutputFault → IsDumpOf (I.left input.old) (λ text. TookFront (O.held output.old) text (O.held output.new)) }
+    ensures kept { OnErr result (¬ IsErrOf result Stop.OutputFault → O.held output.new ≡ O.held output.old) }
+{
+    if !is_replay(words) {
+        return Err(Stop::Usage);
+    }
+    replay(alloc, input, output)
+}
+
+// Tells the error sink of an abort, and answers that, or that there was no memory for the line.
+fn told_abort<E: Sink>(alloc: Global, txn: u64, op: u64, reason: Reason, errors: &mut E) -> Stop
+    ensures which { (result ≡ Stop.Aborted txn op reason) ⊎ (result ≡ Stop.NoMemory) }
+    ensures line { SaysUnlessFault (E.held errors.old) (line_of result) (E.held errors.new) (E.faults errors.old) (E.faults errors.new) }
+{
+    match abort_line(alloc, txn, op, reason) {
+        Ok(line) => {
+            let _ = write_all(errors, &line);
+            Stop::Aborted { txn, op, reason }
+        }
+        Err(_) => {
+            let _ = write_all(errors, b"no memory\n");
+            Stop::NoMemory
+        }
+    }
+}
+
+// Tells the error sink why the command stopped, and answers that, or that there was no memory for the line of an abort.
+fn told<E: Sink>(alloc: Global, stop: Stop, errors: &mut E) -> Stop
+    ensures which { (result ≡ stop) ⊎ ((result ≡ Stop.NoMemory) × (status_of stop ≡ 4)) }
+    ensures line { SaysUnlessFault (E.held errors.old) (line_of result) (E.held errors.new) (E.faults errors.old) (E.faults errors.new) }
+{
+    if let Stop::Aborted { txn, op, reason } = stop {
+        return told_abort(alloc, txn, op, reason, errors);
+    }
+    if let Some(line) = stop.line() {
+        let _ = write_all(errors, line);
+    }
+    stop
+}
+
+/// Does what the words say, and answers the program's exit status. The one command that runs is `replay`: it reads a
+/// script from the input, to its end or to 65,536 bytes and 4,096 more, executes its calls one after another from no
+/// rows on, and writes the tables. Time and memory are near linear in the script and in what its calls write, but for
+/// the dump, which looks at each row once for each table.
+///
+/// | status | comes | the error sink takes |
+/// |---|---|---|
+/// | 0 | else: the output took the dump | nothing |
+/// | 1 | exactly where the words are not the one word `replay` | `usage: pacman init, run, recover, explain, replay or stress` |
+/// | 2 | only where the input is no script | `script refused` |
+/// | 4 | only where serial execution of the calls aborts | `abort TXN OP REASON` |
+/// | 6 | only where the input's count of faults rose | `input fault` |
+/// | 7 | only where the output's count of faults rose; the output took a front of the dump | `output fault` |
+/// | 9 | where an allocation was refused | `no memory` |
+///
+/// A failing error sink changes no status.
+pub fn pacman<RT: Threads + Wait + Sync, I: Source, O: Sink, E: Sink, D: Disk, G: Gate + Sync>(
+    _rt: &RT,
+    alloc: Global,
+    words: &[String],
+    input: &mut I,
+    output: &mut O,
+    errors: &mut E,
+    _devices: &mut Devices<D>,
+    _gate: &G,
+) -> u8
+    ensures status { IsTrue (list_any (λ status. status == result) (0 ∷ 1 ∷ 2 ∷ 4 ∷ 6 ∷ 7 ∷ 9 ∷ [])) }
+
+    // Each status comes only where its cause holds.
+    ensures usage { (result ≡ 1) ↔ ¬ IsReplay words.now }
+    ensures refused { result ≡ 2 → IsNoScript (I.left input.old) }
+    ensures aborted { result ≡ 4 → (txn op : ℕ) × (reason : AReason) × IsAbortOf (I.left input.old) txn op reason
+        × SaysUnlessFault (E.held errors.old) (abort_line txn op reason) (E.held errors.new) (E.faults errors.old) (E.faults errors.new) }
+    ensures input_fault { result ≡ 6 → Rose (I.faults input.old) (I.faults input.new) }
+    ensures output_fault { result ≡ 7 → Rose (O.faults output.old) (O.faults output.new) }
+
+    // The output is the dump where the status is 0, a front of it with 7, and else nothing.
+    ensures done { result ≡ 0 → IsDumpOf (I.left input.old) (λ text. Took (O.held output.old) text (O.held output.new)) }
+    ensures front { result ≡ 7 → IsDumpOf (I.left input.old) (λ text. TookFront (O.held output.old) text (O.held output.new)) }
+    ensures kept { result ≢ 0 → result ≢ 7 → O.held output.new ≡ O.held output.old }
+
+    // The error sink takes the status's line.
+    ensures quiet { result ≡ 0 → E.held errors.new ≡ E.held errors.old }
+    ensures told { result ≢ 0 → (stop : AStop) × (result ≡ status_of stop) × SaysUnlessFault (E.held errors.old) (line_of stop) (E.held errors.new) (E.faults errors.old) (E.faults errors.new) }
+{
+    match command(alloc, words, input, output) {
+        Ok(()) => 0,
+        Err(stop) => told(alloc, stop, errors).status(),
+    }
+}

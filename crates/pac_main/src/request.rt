@@ -1,0 +1,68 @@
+// Reads request lines.
+ghost use Rattle.std.specs.Prelude.{◌≡◌, ◌<◌, ◌++◌, List, Option, IfOk, OnOk, OnErr, IsErrOf, length, Some, None};
+ghost use Rattle.pac_serial.specs.declared.serial.Call.{Call as ACall};
+ghost use Rattle.pac_main.specs.Lines.{lines};
+ghost use Rattle.pac_main.specs.Errors.{Only, AreOnly};
+ghost use Rattle.pac_main.specs.Requests.{IsLine, AreCalls, some_call};
+
+use crate::call::read_call;
+use crate::script_error::ScriptError;
+use crate::split::first_line;
+use pac_serial::Call;
+use pac_syntax::tokens;
+use pac_types::Catalogue;
+use std::alloc::Global;
+
+// The greatest length of a request line.
+const MAX_LINE: usize = 4096;
+
+// What a line says: a call, or nothing.
+fn read_line(alloc: Global, catalogue: &Catalogue, line: &[u8]) -> Result<Option<Call>, ScriptError>
+    ensures ok { IfOk result (IsLine catalogue.now.procs line.now) }
+    ensures only { (said : Option ACall) → IsLine catalogue.now.procs line.now said → Only result said }
+{
+    if line.len() > MAX_LINE {
+        return Err(ScriptError::Refused);
+    }
+    let found = tokens(alloc, line)?;
+    if found.is_empty() {
+        return Ok(None);
+    }
+    match read_call(alloc, catalogue, &found)? {
+        Some(call) => Ok(Some(call)),
+        None => Err(ScriptError::Refused),
+    }
+}
+
+// Adds the call that a line says.
+fn push_said(calls: &mut Vec<Call>, said: Option<Call>) -> Result<(), ScriptError>
+    ensures ok { OnOk result (calls.new.items ≡ calls.old.items ++ some_call said) }
+    ensures memory { OnErr result (IsErrOf result ScriptError.NoMemory) }
+{
+    if let Some(call) = said {
+        calls.push(call)?;
+    }
+    Ok(())
+}
+
+/// The calls of the lines of a text. Linear in the text.
+pub fn read_calls(
+    alloc: Global,
+    catalogue: &Catalogue,
+    text: &[u8],
+) -> Result<Vec<Call>, ScriptError>
+    ensures ok { IfOk result (λ calls. AreCalls catalogue.now.procs (lines text.now) calls.items) }
+    ensures only { (calls : List ACall) → AreCalls catalogue.now.procs (lines text.now) calls → AreOnly result calls }
+{
+    let mut calls = Vec::new(alloc);
+    let mut rest = text;
+    loop {
+        let (line, behind) = first_line(rest);
+        let said = read_line(alloc, catalogue, line)?;
+        push_said(&mut calls, said)?;
+        match behind {
+            None => return Ok(calls),
+            Some(next) => rest = next,
+        }
+    }
+}
