@@ -8,4 +8,5 @@ pub mod LexLemmas
 pub mod LexedOnce
 pub mod Stepping
 pub mod Top
+pub mod TextFaults
 pub mod WithinLimits

@@ -1,13 +1,15 @@
 -- What a text is read as.
-use Rattle.std.specs.Prelude.{◌≡◌, ◌≤◌, ℕ, List, length, None, Result, Ok, Err}
+use Rattle.std.specs.Prelude.{◌≡◌, ◌≤◌, ◌<◌, ◌⊎◌, ℕ, List, length, Option, Some, None, Result, Ok, Err, nat_lt, if◌then◌else◌}
 use Rattle.std.specs.Global.{Global}
 use Rattle.std.specs.Prelude.{Vec}
 use Rattle.pac_syntax.specs.declared.token.Spanned.{Spanned}
+use Rattle.pac_syntax.specs.declared.fault.FaultKind.TheVariants.{TooLong}
+use Rattle.pac_syntax.specs.declared.fault.Fault.{Fault}
 use Rattle.pac_syntax.specs.declared.fault.SyntaxError.{SyntaxError}
 use Rattle.pac_syntax.specs.declared.fault.SyntaxError.TheVariants as error
 use Rattle.pac_syntax.specs.declared.tree.Tree.{Tree}
 use Rattle.pac_syntax.specs.Tokens.{IsLexed}
-use Rattle.pac_syntax.specs.Faults.{ReadsTokens}
+use Rattle.pac_syntax.specs.Faults.{ReadsTokens, IsFirstFault}
 
 -- the text is this catalogue's: it is short enough, and its tokens are the catalogue's within the limits
 pub record Reads (text : List ℕ) (tree : Tree) : Type 0 where
@@ -20,3 +22,27 @@ pub record Reads (text : List ℕ) (tree : Tree) : Type 0 where
 abbrev pub AreTokensOrMemory : Result (Vec Spanned Global) SyntaxError → List Spanned → Type 0
 AreTokensOrMemory (Ok found) ts = found.items ≡ ts
 AreTokensOrMemory (Err e) ts = e ≡ error.NoMemory
+
+-- the tokens in front of this place are a catalogue's, or their own first fault is not in front of it
+abbrev pub IsFineBefore : ℕ → List Spanned → Type 0
+IsFineBefore at ts = ((tree : Tree) × ReadsTokens ts tree) ⊎ ((fault : Fault) × IsFirstFault at ts fault × (at ≤ fault.at))
+
+-- the first fault of the tokens of a text with so many bytes, behind which this token is at fault, if any is
+abbrev pub IsFirstOf : ℕ → List Spanned → Option Fault → Fault → Type 0
+IsFirstOf end ts None fault = IsFirstFault end ts fault
+IsFirstOf end ts (Some lexical) fault = (IsFirstFault lexical.at ts fault × (fault.at < lexical.at)) ⊎ ((fault ≡ lexical) × IsFineBefore lexical.at ts)
+
+-- the fault of a text that is too long: at its first byte too many
+abbrev pub IsTooLong : List ℕ → Fault → Type 0
+IsTooLong text fault = (65536 < length text) × (fault ≡ record { at = 65536; kind = TooLong })
+
+-- the first fault of a text: it is too long, or the first one of its tokens
+abbrev pub IsTextFault : List ℕ → Fault → Type 0
+IsTextFault text fault =
+    IsTooLong text fault ⊎ ((length text ≤ 65536) × (ts : List Spanned) × (lexical : Option Fault) × IsLexed text ts lexical × IsFirstOf (length text) ts lexical fault)
+
+-- what is told where the tokens in front of a fault are read so: the fault that stands first
+abbrev pub told_of : Result Tree SyntaxError → Fault → SyntaxError
+told_of (Ok tree) lexical = error.Fault lexical
+told_of (Err error.NoMemory) lexical = error.NoMemory
+told_of (Err (error.Fault first)) lexical = if nat_lt first.at lexical.at then error.Fault first else error.Fault lexical

@@ -1,7 +1,7 @@
 // Reads texts: their tokens, and the catalogue that they are.
 ghost use Rattle.std.specs.Prelude.{◌≡◌, ◌<◌, List, IfOk, IsErrOf, Some, None};
 ghost use Rattle.pac_syntax.specs.Tokens.{IsLexed};
-ghost use Rattle.pac_syntax.specs.Reading.{Reads, AreTokensOrMemory};
+ghost use Rattle.pac_syntax.specs.Reading.{Reads, AreTokensOrMemory, IsTextFault, told_of};
 ghost use Rattle.pac_syntax.specs.Limits.{IsWithinLimits};
 ghost use Rattle.pac_syntax.specs.Faults.{IsTreeOrMemory};
 ghost use Rattle.pac_syntax.specs.declared.fault.Fault.{Fault as AFault};
@@ -39,11 +39,12 @@ pub fn tokens(alloc: Global, text: &[u8]) -> Result<Vec<Spanned>, SyntaxError>
 ///
 /// # Errors
 ///
-/// `Fault` exactly where the text is no catalogue in the grammar and within its limits.
+/// `Fault` exactly where the text is no catalogue in the grammar and within its limits: its first fault.
 pub fn parse_catalogue(alloc: Global, text: &[u8]) -> Result<Tree, SyntaxError>
     ensures reads { IfOk result (λ tree. Reads text.now tree) }
     ensures within { IfOk result IsWithinLimits }
     ensures only { (tree : ATree) → Reads text.now tree → IsTreeOrMemory result tree }
+    ensures fault { (fault : AFault) → IsErrOf result (SyntaxError.Fault fault) → IsTextFault text.now fault }
 {
     if text.len() > MAX_TEXT {
         let at = MAX_TEXT;
@@ -61,7 +62,9 @@ pub fn parse_catalogue(alloc: Global, text: &[u8]) -> Result<Tree, SyntaxError>
 }
 
 // The fault of the tokens, where it stands before that of a token.
-fn earlier(parsed: Result<Tree, SyntaxError>, fault: Fault) -> SyntaxError {
+fn earlier(parsed: Result<Tree, SyntaxError>, fault: Fault) -> SyntaxError
+    ensures { result ≡ told_of parsed fault }
+{
     match parsed {
         Err(SyntaxError::Fault(first)) if first.at < fault.at => SyntaxError::Fault(first),
         Err(SyntaxError::NoMemory) => SyntaxError::NoMemory,
