@@ -36,8 +36,8 @@ pub none_left : (bytes copy : List ℕ) (at n room : ℕ) → copy ≡ bytes →
 none_left bytes copy at n room same count zero some = grind (arith, common_steps)
 
 -- a text that came before, and then a read, when the text was within the limit
-pub GaveAtMost-read : (a b c : Option (List ℕ)) (text buffer : List ℕ) (count limit room : ℕ) → Gave a text b → Gave b (take count buffer) c → length text ≤ limit → count ≤ room → GaveAtMost (limit + room) a c
-GaveAtMost-read a b c text buffer count limit room first next within fits = record {
+pub GaveAtMost-read : (a b c : Option (List ℕ)) (text buffer : List ℕ) (count most : ℕ) → Gave a text b → Gave b (take count buffer) c → length text + count ≤ most → GaveAtMost most a c
+GaveAtMost-read a b c text buffer count most first next fits = record {
   bytes = text ++ take count buffer;
   within = grind (arith, common_steps);
   front = Gave-append a b c text (take count buffer) first next;

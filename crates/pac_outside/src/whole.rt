@@ -23,12 +23,12 @@ pub fn write_all<K: Sink>(sink: &mut K, text: &[u8]) -> Result<(), Failed>
     Ok(())
 }
 
-// How many bytes one call of a source is asked for.
+// How many bytes one call of a source is asked for at most.
 const CHUNK: usize = 4096;
 
-/// Reads to the end of the input, or until more than `limit` bytes came: so an answer of at most `limit` bytes is all
-/// that was left. At most `limit` and 4,096 bytes are taken from the source. Each read takes a byte or is the last, so
-/// reading ends.
+/// Reads to the end of the input, or until one byte more than `limit` came: so an answer of at most `limit` bytes is all
+/// that was left, and no more than `limit` and one byte are taken from the source. Each read takes a byte or is the last,
+/// so reading ends.
 ///
 /// # Errors
 ///
@@ -43,20 +43,22 @@ pub fn read_up_to<S: Source>(
     ensures end { IfOk result (λ text. length text.items ≤ limit → IsAtEnd (S.left source.new)) }
 
     // What was taken is bounded, also where the answer is an error.
-    ensures taken { GaveAtMost (limit + CHUNK) (S.left source.old) (S.left source.new) }
+    ensures taken { GaveAtMost (limit + 1) (S.left source.old) (S.left source.new) }
 
     // The count never falls, and it rose where the source is said to have failed.
     ensures later { S.faults source.old ≤ S.faults source.new }
     ensures cause { IsErrOf result ReadError.Failed → Rose (S.faults source.old) (S.faults source.new) }
 {
     let mut text = Vec::new(alloc);
-    let mut buf = [0u8; CHUNK];
     while text.len() <= limit {
-        let count = source.read(&mut buf)?;
+        let room = (limit - text.len()).saturating_add(1);
+        let mut buf = [0u8; CHUNK];
+        let part = &mut buf[..room.min(CHUNK)];
+        let count = source.read(part)?;
         if count == 0 {
             break;
         }
-        text.extend_from_slice(&buf[..count])?;
+        text.extend_from_slice(&part[..count])?;
     }
     Ok(text)
 }
