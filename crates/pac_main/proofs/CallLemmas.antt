@@ -1,13 +1,12 @@
 -- Arguments read from the front are those that are written.
-use Rattle.std.proofs.Common.{◌≡◌, ℕ, ℤ, List, [], ◌∷◌, ◌++◌, map, Option, Some, None, Bool, true, false, refl, sym, ap, subst, ◌∙◌, append_assoc}
+use Rattle.std.proofs.Common.{◌≡◌, List, [], ◌∷◌, ◌++◌, map, Option, Some, None, refl, sym, ap, ◌∙◌, append_assoc}
 use Rattle.pac_value.specs.declared.values.Value.{Value}
 use Rattle.pac_value.specs.declared.values.Value.TheVariants.{Int}
 use Rattle.pac_syntax.specs.declared.token.Token.{Token}
 use Rattle.pac_syntax.specs.declared.token.Token.TheVariants as token
-use Rattle.pac_syntax.specs.declared.token.Symbol.{Symbol}
 use Rattle.pac_syntax.specs.declared.token.Symbol.TheVariants as symbol
-use Rattle.pac_main.specs.Calls.{Literal, AnInt, ANegative, literal_value, literal_before, more_literals, literals}
-use Rattle.pac_main.specs.CallsRead.{literal_in, next_in, more_in, args_in, after_first, with_value, with_values}
+use Rattle.pac_main.specs.Calls.{Literal, AnInt, ANegative, literal_value, more_literals, literals}
+use Rattle.pac_main.specs.CallsRead.{next_in, more_in, args_in, with_value, with_values}
 
 abbrev read : Value → List Token → Option (Value × List Token)
 read v ts = Some (v, ts)

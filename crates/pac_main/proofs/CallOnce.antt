@@ -1,14 +1,12 @@
 -- The tokens of a call are those of one call.
-use Rattle.std.proofs.Common.{◌≡◌, ◌<◌, ◌≤◌, ℕ, Bool, true, false, cond, ◌&&◌, List, [], ◌∷◌, map, length, get_or, codes, Option, Some, None, refl, sym, ap, subst, ◌∙◌, arith}
-use Rattle.std.specs.Prelude.{slice_get, IsSomeAnd, IfSome, IsTrue, All, bytes_eq}
-use Rattle.std.specs.List.{position, list_all}
+use Rattle.std.proofs.Common.{◌≡◌, ◌<◌, ℕ, Bool, true, false, cond, ◌&&◌, List, [], ◌∷◌, length, get_or, codes, Option, Some, None, refl, sym, ap, subst, ◌∙◌, arith}
+use Rattle.std.specs.Prelude.{slice_get, IsSomeAnd, IfSome, All, bytes_eq}
 use Rattle.std.specs.Option.{option_map}
 use Rattle.std.proofs.lemmas.List.{length-map}
 use Rattle.std.proofs.lemmas.List.Quantifiers.{position-Some}
 use Rattle.std.proofs.lemmas.Option.{slice_get_read}
 use Rattle.std.proofs.lemmas.Slice.Eq.{bytes_eq-Decides}
 use Rattle.pac_value.specs.declared.values.Value.{Value}
-use Rattle.pac_value.specs.Values.{is_stored}
 use Rattle.pac_syntax.specs.declared.token.Token.{Token}
 use Rattle.pac_syntax.specs.declared.token.Token.TheVariants as token
 use Rattle.pac_syntax.specs.declared.token.Symbol.TheVariants as symbol
@@ -20,7 +18,7 @@ use Rattle.pac_types.specs.Typing.{IsProc}
 use Rattle.pac_serial.specs.declared.serial.Call.{Call}
 use Rattle.pac_serial.specs.Arguments.{IsArgs}
 use Rattle.pac_serial.specs.Calls.{FitsProcs}
-use Rattle.pac_main.specs.Calls.{literals, literal_value, IsCall, IsCallOf, IsFitting, proc_names}
+use Rattle.pac_main.specs.Calls.{literals, IsCall, IsFitting, proc_names}
 use Rattle.pac_main.specs.CallsRead.{args_in, head_in, named, name_in, is_call_word, is_open}
 use Rattle.pac_main.proofs.CallLemmas.{args_in-spelled, args-spelled}
 use Rattle.pac_main.proofs.FitLemmas.{fit-long, args-stored}

@@ -1,16 +1,14 @@
 -- A text is one script at most.
-use Rattle.std.proofs.Common.{◌≡◌, ◌<◌, ℕ, Bool, true, false, true≢false, List, Option, Some, None, refl, sym, ap, subst, ◌∙◌, arith}
+use Rattle.std.proofs.Common.{◌≡◌, ◌<◌, ℕ, true, false, List, Option, Some, None, refl, sym, ap, subst, ◌∙◌}
 use Rattle.std.specs.Prelude.{MatchOption}
 use Rattle.std.proofs.Common.{◌⊎◌, inl, inr}
 use Rattle.std.proofs.lemmas.Bool.{cases_order}
-use Rattle.pac_syntax.specs.declared.tree.Tree.{Tree}
-use Rattle.pac_syntax.specs.Reading.{Reads}
-use Rattle.pac_types.specs.Typing.{CatalogueState, Types}
+use Rattle.pac_types.specs.Typing.{CatalogueState}
 use Rattle.pac_serial.specs.declared.serial.Call.{Call}
 use Rattle.pac_main.specs.declared.script.Script.{Script}
-use Rattle.pac_main.specs.Lines.{is_mark_at, IsMark, HasNoMark}
+use Rattle.pac_main.specs.Lines.{IsMark, HasNoMark}
 use Rattle.pac_main.specs.Requests.{AreCalls}
-use Rattle.pac_main.specs.Script.{HasCatalogue, HasParts, IsScript, lines_behind, text_before, text_behind}
+use Rattle.pac_main.specs.Script.{HasParts, IsScript, lines_behind, text_before, text_behind}
 
 -- the mark, where there is one
 abbrev pub MarkOf : List ℕ → Option ℕ → Type 0

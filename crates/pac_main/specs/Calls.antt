@@ -1,5 +1,5 @@
 -- How a call is written: `call NAME ( [ lit { "," lit } ] )`.
-use Rattle.std.specs.Prelude.{◌≡◌, ℕ, ℤ, List, [], ◌∷◌, map, codes, Option, None, Some}
+use Rattle.std.specs.Prelude.{◌≡◌, ℕ, ℤ, List, [], ◌∷◌, map, codes, Some}
 use Rattle.pac_value.specs.declared.values.Value.{Value}
 use Rattle.pac_value.specs.declared.values.Value.TheVariants.{Int}
 use Rattle.pac_syntax.specs.declared.token.Token.{Token}

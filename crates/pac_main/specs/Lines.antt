@@ -1,5 +1,5 @@
 -- The lines of a text, and where a script's catalogue ends.
-use Rattle.std.specs.Prelude.{◌≡◌, ◌+◌, ◌-◌, ◌<◌, ℕ, zero, suc, Bool, true, false, ◌&&◌, ◌||◌, nat_eq, List, [], ◌∷◌, take, drop, length, codes, Option, Some, None, if◌then◌else◌, slice_get}
+use Rattle.std.specs.Prelude.{◌≡◌, ◌<◌, ℕ, zero, suc, Bool, true, false, ◌&&◌, nat_eq, List, [], ◌∷◌, take, drop, codes, Option, Some, None, if◌then◌else◌, slice_get}
 use Rattle.std.specs.Cmp.Lexicographic.{pointwise}
 
 -- a byte more at the front of the first line

@@ -1,5 +1,5 @@
 -- What a script is: a catalogue, and behind a line that is exactly `---` the calls.
-use Rattle.std.specs.Prelude.{◌≡◌, ◌≤◌, ◌+◌, ℕ, List, [], ◌∷◌, take, drop, length, Option, Some, None, MatchOption}
+use Rattle.std.specs.Prelude.{◌≤◌, ◌+◌, ℕ, List, [], ◌∷◌, take, drop, length, Option, Some, None, MatchOption}
 use Rattle.pac_syntax.specs.declared.tree.Tree.{Tree}
 use Rattle.pac_syntax.specs.Reading.{Reads}
 use Rattle.pac_types.specs.Typing.{CatalogueState, Types}

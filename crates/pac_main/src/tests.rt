@@ -1,6 +1,8 @@
 // The top call over sources and sinks in memory.
+ghost use Rattle.std.specs.Prelude.{Some};
+
 use crate::pacman;
-use pac_outside::{Devices, MemSink, MemSource, NoDisk, OpenGate};
+use pac_outside::{Devices, Failed, MemSink, MemSource, NoDisk, OpenGate, Sink};
 use std::test::Fail;
 
 const USAGE: &str = "usage: pacman init, run, recover, explain, replay or stress\n";
@@ -237,6 +239,67 @@ fn answers_scripts(rt: HostRuntime) -> Result<(), Fail> {
         assert_eq!(rt; answer, status, "status of {lines}");
         assert_eq!(rt; output.bytes(), text.as_bytes(), "output of {lines}");
         assert_eq!(rt; errors.bytes(), line.as_bytes(), "errors of {lines}");
+    }
+    Ok(())
+}
+
+/// A sink that takes one byte a call.
+#[derive(Drop)]
+struct OneByte {
+    inner: MemSink,
+}
+
+impl Sink for OneByte {
+    ghost held = { λ sink. Some sink.inner.held };
+
+    ghost faults = { λ sink. sink.inner.calls.faults };
+
+    fn write(&mut self, piece: &[u8]) -> Result<usize, Failed> {
+        self.inner.write(&piece[..piece.len().min(1)])
+    }
+}
+
+#[test]
+fn writes_all_to_sinks_of_one_byte_a_call(rt: HostRuntime) -> Result<(), Fail> {
+    let alloc = rt.alloc();
+    for (lines, status, text, line) in [
+        ("call Add(1, 5)", 0, "table T 1\n1 (5)\n", ""),
+        (
+            "call Add(1, 5)\ncall Add(1, 9223372036854775807)",
+            4,
+            "",
+            "abort 2 1 Overflow\n",
+        ),
+    ] {
+        let mut words = Vec::new(alloc);
+        words.push(String::from_str(alloc, "replay")?)?;
+        let mut script = ADD.as_bytes().to_vec(alloc)?;
+        script.extend_from_slice(lines.as_bytes())?;
+        let mut input = MemSource::new(script, Vec::new(alloc));
+        let mut output = OneByte {
+            inner: MemSink::new(Vec::new(alloc), Vec::new(alloc)),
+        };
+        let mut errors = OneByte {
+            inner: MemSink::new(Vec::new(alloc), Vec::new(alloc)),
+        };
+        let mut devices = Devices {
+            log: NoDisk::new(),
+            slot_a: NoDisk::new(),
+            slot_b: NoDisk::new(),
+        };
+        let answer = pacman(
+            &rt,
+            alloc,
+            &words,
+            &mut input,
+            &mut output,
+            &mut errors,
+            &mut devices,
+            &OpenGate,
+        );
+        assert_eq!(rt; answer, status, "status of {lines}");
+        assert_eq!(rt; output.inner.bytes(), text.as_bytes(), "output of {lines}");
+        assert_eq!(rt; errors.inner.bytes(), line.as_bytes(), "errors of {lines}");
     }
     Ok(())
 }

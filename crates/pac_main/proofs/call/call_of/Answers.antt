@@ -1,5 +1,4 @@
-use Rattle.std.proofs.Common.{◌≡◌, ◌<◌, ℕ, Bool, true, false, List, length, map, get_or, Some, sym, ap, ◌∙◌, subst, arith, refl}
-use Rattle.std.specs.Prelude.{slice_get}
+use Rattle.std.proofs.Common.{◌≡◌, ◌<◌, true, false, List, length, get_or, Some, sym, ap, ◌∙◌, arith, refl}
 use Rattle.pac_value.specs.declared.values.Value.{Value}
 use Rattle.pac_types.specs.declared.catalogue.Column.{Column}
 use Rattle.pac_types.specs.declared.catalogue.Proc.{Proc}

@@ -1,4 +1,4 @@
-use Rattle.std.proofs.Common.{◌≡◌, ◌<◌, length, map, take, ℕ}
+use Rattle.std.proofs.Common.{◌≡◌, map, take}
 use Rattle.pac_value.specs.Values.{type_of}
 use Rattle.pac_types.specs.Sound.{types}
 use Rattle.pac_main.proofs.call.fit.Given as goal

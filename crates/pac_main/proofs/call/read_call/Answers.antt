@@ -1,7 +1,4 @@
-use Rattle.std.proofs.Common.{◌≡◌, ℕ, List, Some, Option, IfSome, sym, ap, ◌∙◌}
-use Rattle.pac_serial.specs.declared.serial.Call.{Call}
-use Rattle.pac_main.specs.Calls.{IsFitting, IsCall}
-use Rattle.pac_main.proofs.CallOnce.{front_of, is_call, seen_none, seen_some, some_is_call, fitting_of}
+use Rattle.pac_main.proofs.CallOnce.{front_of, seen_none, seen_some, some_is_call, fitting_of}
 use Rattle.pac_main.proofs.call.read_call.Goals as goal
 
 pub returns-in-Some-2-clause-call : goal.returns-in-Some-2-clause-call

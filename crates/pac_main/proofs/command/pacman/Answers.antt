@@ -1,4 +1,4 @@
-use Rattle.std.proofs.Common.{◌≡◌, Err, ap, sym, ◌∙◌}
+use Rattle.std.proofs.Common.{Err, ap, sym, ◌∙◌}
 use Rattle.pac_main.proofs.StopLemmas.{aborted_of}
 use Rattle.pac_main.proofs.command.pacman.Goals as goal
 

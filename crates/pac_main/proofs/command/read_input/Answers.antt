@@ -1,6 +1,5 @@
-use Rattle.std.proofs.Common.{◌≡◌, ◌∙◌, sym, ap, Err, refl, subst, List, ℕ}
+use Rattle.std.proofs.Common.{◌∙◌, sym, subst, List, ℕ}
 use Rattle.std.proofs.lemmas.Result.{err_from_is_err_and}
-use Rattle.pac_main.specs.declared.script.Script.{Script}
 use Rattle.pac_main.specs.Script.{IsScript}
 use Rattle.pac_main.proofs.InputLemmas.{input-none, input-script, refused_of, calls-fit}
 use Rattle.pac_main.proofs.ErrorLemmas.{err_is}

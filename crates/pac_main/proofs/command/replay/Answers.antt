@@ -1,4 +1,4 @@
-use Rattle.std.proofs.Common.{◌≡◌, ◌∙◌, sym, ap, subst, List, ℕ}
+use Rattle.std.proofs.Common.{◌≡◌, ◌∙◌, ap, subst, List, ℕ}
 use Rattle.pac_outside.specs.Content.{Took, TookFront}
 use Rattle.pac_types.specs.declared.catalogue.Table.{Table}
 use Rattle.pac_serial.specs.Dump.{tables_text}

@@ -1,4 +1,4 @@
-use Rattle.std.proofs.Common.{◌≡◌, Bool, true, ◌&&◌, sym, ◌∙◌, ap, refl}
+use Rattle.std.proofs.Common.{◌≡◌, Bool, true, ◌&&◌, sym}
 use Rattle.std.proofs.lemmas.List.{take_rest}
 use Rattle.pac_main.proofs.lines.find_mark.Goals as goal
 

@@ -1,7 +1,7 @@
-use Rattle.std.proofs.Common.{◌≡◌, ◌∙◌, sym, ap, ℕ, List, [], ◌∷◌}
+use Rattle.std.proofs.Common.{◌≡◌, [], ◌∷◌}
 use Rattle.std.proofs.lemmas.Result.{err_from_is_err_and}
 use Rattle.pac_main.specs.Lines.{lines}
-use Rattle.pac_main.proofs.RequestLemmas.{reading-all, reading-next, reading-done, reading-only, reading-line, reading-by, first_of}
+use Rattle.pac_main.proofs.RequestLemmas.{reading-next, reading-done, reading-only, reading-line, reading-by, first_of}
 use Rattle.pac_main.proofs.request.read_calls.Goals as goal
 
 pub returns-in_err-said-clause-only : goal.returns-in_err-said-clause-only

@@ -1,6 +1,5 @@
-use Rattle.std.proofs.Common.{◌≡◌, ◌∙◌, sym, ap, Err}
+use Rattle.std.proofs.Common.{◌≡◌, sym, ap, Err}
 use Rattle.std.proofs.lemmas.Result.{err_from_is_err_and}
-use Rattle.pac_syntax.specs.declared.tree.Tree.{Tree}
 use Rattle.pac_main.proofs.ErrorLemmas.{of_syntax, of_type, same_tree}
 use Rattle.pac_main.proofs.script.read_catalogue.Goals as goal
 

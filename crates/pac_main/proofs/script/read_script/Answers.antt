@@ -1,4 +1,4 @@
-use Rattle.std.proofs.Common.{◌≡◌, ◌∙◌, sym, ap, Some, None, refl}
+use Rattle.std.proofs.Common.{Some}
 use Rattle.std.proofs.lemmas.List.{take_rest}
 use Rattle.pac_main.proofs.ScriptLemmas.{parts-at}
 use Rattle.pac_main.proofs.script.read_script.Goals as goal
