@@ -6,6 +6,7 @@ pub mod Meets
 pub mod NumberLemmas
 pub mod LexLemmas
 pub mod LexedOnce
+pub mod NodeForms
 pub mod Stepping
 pub mod Top
 pub mod TextFaults

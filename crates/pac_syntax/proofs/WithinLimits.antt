@@ -7,11 +7,14 @@ use Rattle.std.proofs.lemmas.Bool.{ltb-false}
 use Rattle.pac_syntax.specs.declared.fault.FaultKind.{FaultKind}
 use Rattle.pac_syntax.specs.declared.fault.FaultKind.TheVariants.{TooMany}
 use Rattle.pac_syntax.specs.declared.tree.ColumnNode.{ColumnNode}
+use Rattle.pac_syntax.specs.declared.tree.StmtNode.{StmtNode}
+use Rattle.pac_syntax.specs.declared.tree.StmtNode.TheVariants as stmt
 use Rattle.pac_syntax.specs.declared.tree.Tree.{Tree}
 use Rattle.pac_syntax.specs.declared.token.Spanned.{Spanned}
-use Rattle.pac_syntax.specs.Grammar.{LiteralForm, AnInt, ANegative, OperandForm, ALiteral, AName, ExprForm, AnOperand, ASum, ValuesForm, NoValue, AValue, StmtsForm, NoStmt, ALet, ARead, APut, ColumnsForm, NoColumn, AColumn, ParamsForm, NoParam, AParam, TablesForm, NoTable, ATable, ProcsForm, NoProc, AProc, stmt_nodes, column_node, column_nodes, param_nodes, table_nodes, proc_nodes, Role, ColumnName, ParamName, Marked, literal_before, operand_before, expr_before, values_before, stmts_before, columns_before, params_before, tables_before, procs_before, marks_of, tokens_of}
+use Rattle.pac_syntax.specs.Grammar.{LiteralForm, AnInt, ANegative, OperandForm, ALiteral, AName, expr_node, literal_node, value_nodes, ExprForm, AnOperand, ASum, ValuesForm, NoValue, AValue, StmtsForm, NoStmt, ALet, ARead, APut, ColumnsForm, NoColumn, AColumn, ParamsForm, NoParam, AParam, TablesForm, NoTable, ATable, ProcsForm, NoProc, AProc, stmt_nodes, column_node, column_nodes, param_nodes, table_nodes, proc_nodes, Role, ColumnName, ParamName, Marked, literal_before, operand_before, expr_before, values_before, stmts_before, columns_before, params_before, tables_before, procs_before, marks_of, tokens_of}
 use Rattle.pac_syntax.specs.Faults.{over, more_than, IsWithin, ReadsTokens}
-use Rattle.pac_syntax.specs.Limits.{IsTableWithinLimits, IsProcWithinLimits, IsWithinLimits, HasStoredType}
+use Rattle.pac_syntax.proofs.NodeForms.{fold-Let, fold-Read, fold-Put}
+use Rattle.pac_syntax.specs.Limits.{size, size_step, sizes, IsTableWithinLimits, IsProcWithinLimits, IsWithinLimits, HasStoredType}
 
 abbrev AllWithin : List Marked → Type 0
 AllWithin ms = AllByRecursion IsWithin ms
@@ -52,28 +55,37 @@ behind_values (AValue comma e vs) rest =
     let b = behind_expr e (values_before vs rest) in
     record { within = λ h. o.within (b.within h.1); longer = omega (arith, o.longer, b.longer) }
 
+-- one statement more
+one_more : (node : StmtNode) (nodes : List StmtNode) → size node ≡ 1 → sizes (node ∷ nodes) ≡ suc (sizes nodes)
+one_more node nodes e =
+    let h : sizes (node ∷ nodes) ≡ size node + sizes nodes = refl in
+    omega (arith, e, h)
+
 -- each statement has two tokens at least
 record Statements (s : StmtsForm) (ms rest : List Marked) : Type 0 where
   within : AllWithin ms → AllWithin rest
-  few : length rest + 2 * length (stmt_nodes s) ≤ length ms
+  few : length rest + 2 * sizes (stmt_nodes s) ≤ length ms
 
 statements : (s : StmtsForm) (rest : List Marked) → Statements s (stmts_before s rest) rest
 statements NoStmt rest = record { within = λ h. h; few = omega arith }
 statements (ALet p0 x p1 e p2 s) rest =
+    let n : sizes (stmt_nodes (ALet p0 x p1 e p2 s)) ≡ suc (sizes (stmt_nodes s)) = one_more (stmt.Let x (expr_node e)) (stmt_nodes s) (fold-Let ℕ size_step x (expr_node e)) in
     let more = statements s rest in
     let b = behind_expr e (_ ∷ stmts_before s rest) in
-    record { within = λ h. more.within (b.within h.1.1.1).1; few = omega (arith, more.few, b.longer) }
+    record { within = λ h. more.within (b.within h.1.1.1).1; few = omega (arith, more.few, b.longer, n) }
 statements (ARead p0 x p1 t p2 e p3 p4 c p5 l p6 s) rest =
+    let n : sizes (stmt_nodes (ARead p0 x p1 t p2 e p3 p4 c p5 l p6 s)) ≡ suc (sizes (stmt_nodes s)) = one_more (stmt.Read x t (expr_node e) c (literal_node l)) (stmt_nodes s) (fold-Read ℕ size_step x t (expr_node e) c (literal_node l)) in
     let more = statements s rest in
     let literal = behind_literal l (_ ∷ stmts_before s rest) in
     let b = behind_expr e (_ ∷ _ ∷ _ ∷ _ ∷ literal_before l (_ ∷ stmts_before s rest)) in
-    record { within = λ h. more.within (literal.within (b.within h.1.1.1.1.1).1.1.1.1).1; few = omega (arith, more.few, literal.longer, b.longer) }
+    record { within = λ h. more.within (literal.within (b.within h.1.1.1.1.1).1.1.1.1).1; few = omega (arith, more.few, literal.longer, b.longer, n) }
 statements (APut p0 t p1 e p2 p3 p4 v vs p5 p6 s) rest =
+    let n : sizes (stmt_nodes (APut p0 t p1 e p2 p3 p4 v vs p5 p6 s)) ≡ suc (sizes (stmt_nodes s)) = one_more (stmt.Put t (expr_node e) (expr_node v ∷ value_nodes vs)) (stmt_nodes s) (fold-Put ℕ size_step t (expr_node e) (expr_node v ∷ value_nodes vs)) in
     let more = statements s rest in
     let values = behind_values vs (_ ∷ _ ∷ stmts_before s rest) in
     let first = behind_expr v (values_before vs (_ ∷ _ ∷ stmts_before s rest)) in
     let b = behind_expr e (_ ∷ _ ∷ _ ∷ expr_before v (values_before vs (_ ∷ _ ∷ stmts_before s rest))) in
-    record { within = λ h. more.within (values.within (first.within (b.within h.1.1.1).1.1.1)).1.1; few = omega (arith, more.few, values.longer, first.longer, b.longer) }
+    record { within = λ h. more.within (values.within (first.within (b.within h.1.1.1).1.1.1)).1.1; few = omega (arith, more.few, values.longer, first.longer, b.longer, n) }
 
 -- ---- columns and parameters
 

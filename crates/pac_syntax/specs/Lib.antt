@@ -6,3 +6,4 @@ pub mod Machine
 pub mod Views
 pub mod Limits
 pub mod Reading
+pub mod Order

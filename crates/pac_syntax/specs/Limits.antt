@@ -1,8 +1,11 @@
 -- How much a tree may hold.
-use Rattle.std.specs.Prelude.{◌≤◌, ◌+◌, Bool, true, false, length, All, IsTrue}
+use Rattle.std.specs.Prelude.{◌≤◌, ℕ, ◌+◌, suc, Bool, true, false, List, [], ◌∷◌, length, map, All, IsTrue}
 use Rattle.pac_value.specs.declared.values.Ty.{Ty}
 use Rattle.pac_value.specs.declared.values.Ty.TheVariants.{Int, Text, Bool as BoolTy}
 use Rattle.pac_syntax.specs.declared.tree.ColumnNode.{ColumnNode}
+use Rattle.pac_syntax.specs.declared.tree.StmtNode.{StmtNode}
+use Rattle.pac_syntax.specs.declared.tree.StmtNode.TheOpen.{StmtNode-F, If}
+use Rattle.pac_syntax.specs.declared.tree.StmtNode.TheFolds.{fold-StmtNode}
 use Rattle.pac_syntax.specs.declared.tree.TableNode.{TableNode}
 use Rattle.pac_syntax.specs.declared.tree.ProcNode.{ProcNode}
 use Rattle.pac_syntax.specs.declared.tree.Tree.{Tree}
@@ -23,11 +26,27 @@ pub record IsTableWithinLimits (node : TableNode) : Type 0 where
   pub key : IsTrue (is_stored_type node.key)
   pub columns : All HasStoredType node.columns
 
--- at most 16 parameters, which are ints or texts, and so few statements that all variables have numbers of 16 bits
+abbrev pub total : List ℕ → ℕ
+total [] = 0
+total (n ∷ ns) = n + total ns
+
+-- how many statements a statement is: itself, and those in its blocks
+abbrev pub size_step : StmtNode-F ℕ → ℕ
+size_step (If test first second) = suc (total first + total second)
+size_step _ = 1
+
+abbrev pub size : StmtNode → ℕ
+size = fold-StmtNode ℕ size_step
+
+abbrev pub sizes : List StmtNode → ℕ
+sizes nodes = total (map size nodes)
+
+-- at most 16 parameters, which are ints or texts, and so few statements, those in blocks included, that all variables
+-- have numbers of 16 bits
 pub record IsProcWithinLimits (node : ProcNode) : Type 0 where
   pub few : length node.params ≤ 16
   pub params : All HasStoredType node.params
-  pub short : length node.params + length node.body ≤ 65535
+  pub short : length node.params + sizes node.body ≤ 65535
 
 -- at most 64 tables and 64 procedures, each within its limits
 pub record IsWithinLimits (tree : Tree) : Type 0 where

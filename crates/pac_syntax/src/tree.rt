@@ -34,6 +34,11 @@ pub enum ExprNode {
         left: Boxed<ExprNode>,
         right: Boxed<ExprNode>,
     },
+    /// `!OPERAND`
+    Not {
+        at: usize,
+        operand: Boxed<ExprNode>,
+    },
 }
 
 /// A statement.
@@ -52,11 +57,39 @@ pub enum StmtNode {
         column: NameNode,
         default: LiteralNode,
     },
+    /// `has NAME = TABLE[KEY];`
+    Has {
+        name: NameNode,
+        table: NameNode,
+        key: ExprNode,
+    },
     /// `put TABLE[KEY] = (VALUES);`
     Put {
         table: NameNode,
         key: ExprNode,
         values: Listed<ExprNode>,
+    },
+    /// `set TABLE[KEY].COLUMN = VALUE;`
+    Set {
+        table: NameNode,
+        key: ExprNode,
+        column: NameNode,
+        value: ExprNode,
+    },
+    /// `delete TABLE[KEY];`
+    Delete {
+        table: NameNode,
+        key: ExprNode,
+    },
+    /// `abort if TEST;`
+    AbortIf {
+        test: ExprNode,
+    },
+    /// `if TEST { FIRST } else { SECOND }`; without an `else`, SECOND is empty.
+    If {
+        test: ExprNode,
+        first: Listed<StmtNode>,
+        second: Listed<StmtNode>,
     },
 }
 
