@@ -44,6 +44,18 @@ symbol_decoded symbol.Dot = refl
 symbol_decoded symbol.Assign = refl
 symbol_decoded symbol.Plus = refl
 symbol_decoded symbol.Minus = refl
+symbol_decoded symbol.Star = refl
+symbol_decoded symbol.Slash = refl
+symbol_decoded symbol.Percent = refl
+symbol_decoded symbol.Not = refl
+symbol_decoded symbol.Less = refl
+symbol_decoded symbol.Greater = refl
+symbol_decoded symbol.Equal = refl
+symbol_decoded symbol.NotEqual = refl
+symbol_decoded symbol.LessEqual = refl
+symbol_decoded symbol.GreaterEqual = refl
+symbol_decoded symbol.And = refl
+symbol_decoded symbol.Or = refl
 
 pub keyword_code-injective : (a b : Keyword) → keyword_code a ≡ keyword_code b → a ≡ b
 keyword_code-injective a b e = sym (keyword_decoded a) ∙ ap (λ n. get_or KEYWORDS n keyword.Table) e ∙ keyword_decoded b

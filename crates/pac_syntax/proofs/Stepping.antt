@@ -1,8 +1,9 @@
 -- What one step of the reading does, for the parser's functions.
-use Rattle.std.proofs.Common.{◌≡◌, ℕ, suc, ◌+◌, ◌<◌, ◌≤◌, false, List, [], ◌∷◌, ◌++◌, length, Some, None, Result, Ok, Err, refl, sym, ap, ◌∙◌, arith, add-one}
+use Rattle.std.proofs.Common.{◌≡◌, ◌≢◌, ℕ, zero, suc, ◌+◌, ◌-◌, ◌<◌, ◌≤◌, true, false, List, [], ◌∷◌, ◌++◌, length, Option, Some, None, Result, Ok, Err, refl, sym, ap, ◌∙◌, arith, add-one}
 use Rattle.std.proofs.lemmas.Bool.{lt-ltb, le-ltb}
 use Rattle.std.proofs.lemmas.List.{length-append}
-use Rattle.pac_value.specs.declared.values.Ty.TheVariants as ty
+use Rattle.pac_value.specs.declared.values.Ty.{Ty}
+use Rattle.pac_value.specs.declared.expr.BinOp.{BinOp}
 use Rattle.pac_syntax.specs.declared.token.Keyword.TheVariants as keyword
 use Rattle.pac_syntax.specs.declared.token.Symbol.TheVariants as symbol
 use Rattle.pac_syntax.specs.declared.token.Token.{Token}
@@ -10,24 +11,25 @@ use Rattle.pac_syntax.specs.declared.token.Token.TheVariants as token
 use Rattle.pac_syntax.specs.declared.token.Spanned.{Spanned}
 use Rattle.pac_syntax.specs.declared.fault.Fault.{Fault}
 use Rattle.pac_syntax.specs.declared.fault.FaultKind.{FaultKind}
-use Rattle.pac_syntax.specs.declared.fault.FaultKind.TheVariants.{Expected, TooMany}
+use Rattle.pac_syntax.specs.declared.fault.FaultKind.TheVariants.{Expected, TooDeep, TooMany}
 use Rattle.pac_syntax.specs.declared.fault.SyntaxError.{SyntaxError}
 use Rattle.pac_syntax.specs.declared.fault.SyntaxError.TheVariants as error
 use Rattle.pac_syntax.specs.declared.tree.NameNode.{NameNode}
 use Rattle.pac_syntax.specs.declared.tree.LiteralNode.{LiteralNode}
 use Rattle.pac_syntax.specs.declared.tree.ColumnNode.{ColumnNode}
-use Rattle.pac_syntax.specs.declared.tree.ExprNode.{ExprNode, Name}
+use Rattle.pac_syntax.specs.declared.tree.ExprNode.{ExprNode}
 use Rattle.pac_syntax.specs.declared.tree.StmtNode.{StmtNode}
 use Rattle.pac_syntax.specs.declared.tree.TableNode.{TableNode}
 use Rattle.pac_syntax.specs.declared.tree.ProcNode.{ProcNode}
 use Rattle.pac_syntax.specs.declared.tree.Tree.{Tree}
 use Rattle.pac_syntax.specs.declared.statement.StatementWord.{StatementWord}
+use Rattle.pac_syntax.specs.declared.statement.StatementWord.TheVariants as word
 use Rattle.pac_syntax.specs.declared.parser.ColumnKind.{ColumnKind}
 use Rattle.pac_syntax.specs.declared.parser.ColumnKind.TheVariants.{Column, Param}
 use Rattle.pac_syntax.specs.Grammar.{Role, ParamName}
-use Rattle.pac_syntax.specs.Faults.{over, place}
-use Rattle.pac_syntax.specs.Machine.{Begun, Steps, Done, Want, WantName, WantLiteral, WantNegative, WantOperand, MoreOperands, MoreValues, MoreStmts, MoreColumns, SomeParams, MoreTables, MoreProcs, want_keyword, want_expr, joined, stmt_steps, column_steps, table_steps, proc_steps, literal_operand, is_mark, literal_begins, negative_in, feed, finish, scan, run, Fails, Gives}
-use Rattle.pac_syntax.specs.Views.{Begins, IsNot, IsNoName, IsNoInt, IsNoNegative, IsInt, IsNegative, BeginsStmt, IsNoStmt, int_in, negative_of, name_token, role_of, limit_of}
+use Rattle.pac_syntax.specs.Faults.{fault_of, over_role, place}
+use Rattle.pac_syntax.specs.Machine.{Begun, Steps, Done, Want, WantName, WantType, WantLiteral, WantNegative, Level, Rest, MoreValues, MoreStmts, MaybeElse, MoreColumns, SomeParams, MoreTables, MoreProcs, want_keyword, want_expr, begun_name, begun_literal, joined, top, lay, negation_steps, paren_steps, stmt_steps, stmt_role, stmt_word, block_steps, column_steps, typed_steps, table_steps, proc_steps, is_mark, literal_in, literal_begins, negative_in, name_in, operand_begins, operator_at, feed, finish, scan, run, Fails, Gives, OkOrMemory}
+use Rattle.pac_syntax.specs.Views.{is_too_deep, Begins, IsNot, IsNoName, IsType, IsNoType, IsLiteral, IsNoLiteral, IsNoNegative, IsNegative, negative_of, name_token, role_of, limit_of}
 
 abbrev Read : Type 0
 Read = Result Tree Fault
@@ -39,6 +41,18 @@ fails_along (error.Fault f) a b p h = p ∙ h
 pub gives_along : {X Y : Type 0} (after : X → Result Y Fault) (r : Result X SyntaxError) (a b : Result Y Fault) → a ≡ b → Gives after r b → Gives after r a
 gives_along after (Ok x) a b p h = p ∙ h
 gives_along after (Err e) a b p h = fails_along e a b p h
+
+same_end : (end end' : ℕ) (k : Steps) (s : List Spanned) {r : Read} → end' ≡ end → r ≡ run end k s → r ≡ run end' k s
+same_end end end' k s e h = h ∙ ap (λ x. run x k s) (sym e)
+
+-- what a function made is what is handed on
+pub gives_made : {X Y : Type 0} (view : X → Begun) (after : Begun → Result Y Fault) (r : Result X SyntaxError) (made : Begun) (a : Result Y Fault) → OkOrMemory r (λ x. view x ≡ made) → a ≡ after made → Gives (λ x. after (view x)) r a
+gives_made view after (Ok x) made a is h = h ∙ ap after (sym is)
+gives_made view after (Err error.NoMemory) made a is h = tt
+gives_made view after (Err (error.Fault f)) made a is h = absurd cc
+
+one_more : (n : ℕ) → n + 1 ≡ suc n
+one_more n = omega arith
 
 abbrev refused : ℕ → FaultKind → Read
 refused at kind = Err (record { at = at; kind = kind })
@@ -54,38 +68,44 @@ unfolding run scan feed finish
 not_wanted end w k [] h = refl
 not_wanted end w k (t ∷ ts) h = rw h refl
 
-pub named : (end end' : ℕ) (role : Role) (k : NameNode → Steps) (s ts : List Spanned) (n : NameNode) → end' ≡ end → over role ≡ None → s ≡ name_token n ∷ ts → run end (WantName role k) s ≡ run end' (k n) ts
+pub named : (end end' : ℕ) (role : Role) (k : NameNode → Steps) (s ts : List Spanned) (n : NameNode) → end' ≡ end → over_role role n.at ≡ None → s ≡ name_token n ∷ ts → run end (WantName role k) s ≡ run end' (k n) ts
 unfolding run scan feed
 named end end' role k s ts n e within is = rw (is, e, within) refl
 
-pub name_past : (end : ℕ) (role : Role) (kind : FaultKind) (k : NameNode → Steps) (s ts : List Spanned) (n : NameNode) → over role ≡ Some kind → s ≡ name_token n ∷ ts → run end (WantName role k) s ≡ refused n.at kind
+pub name_past : (end : ℕ) (role : Role) (fault : Fault) (k : NameNode → Steps) (s ts : List Spanned) (n : NameNode) → over_role role n.at ≡ Some fault → s ≡ name_token n ∷ ts → run end (WantName role k) s ≡ Err fault
 unfolding run scan feed
-name_past end role kind k s ts n past is = rw (is, past) refl
+name_past end role fault k s ts n past is = rw (is, past) refl
 
 pub not_named : (end : ℕ) (role : Role) (k : NameNode → Steps) (s : List Spanned) → IsNoName s → run end (WantName role k) s ≡ refused (place end s) Expected
 unfolding run scan feed finish
 not_named end role k [] h = refl
 not_named end role k (t ∷ ts) h = rw h refl
 
--- ---- literals and operands
+-- ---- types
 
-pub literal_int : (end end' : ℕ) (k : LiteralNode → Steps) (s ts : List Spanned) (l : LiteralNode) → end' ≡ end → IsInt l s ts → run end (WantLiteral k) s ≡ run end' (k l) ts
+pub typed : (end end' : ℕ) (k : Ty → Steps) (s ts : List Spanned) (y : Ty) → end' ≡ end → IsType y s ts → run end (WantType k) s ≡ run end' (k y) ts
 unfolding run scan feed
-literal_int end end' k s ts l e is = rw (is.text, e) (ap (λ l. run end (k l) ts) (sym is.value))
+typed end end' k s ts y e is = rw (is.text, e, is.is) refl
+
+pub not_typed : (end : ℕ) (k : Ty → Steps) (s : List Spanned) → IsNoType s → run end (WantType k) s ≡ refused (place end s) Expected
+unfolding run scan feed finish
+not_typed end k [] h = refl
+not_typed end k (t ∷ ts) h = rw h refl
+
+-- ---- literals
+
+pub literal_one : (end end' : ℕ) (k : LiteralNode → Steps) (s ts : List Spanned) (l : LiteralNode) → end' ≡ end → IsLiteral l s ts → run end (WantLiteral k) s ≡ run end' (k l) ts
+unfolding run scan feed
+literal_one end end' k s ts l e is = rw (is.text, e, is.is) refl
 
 pub literal_minus : (end end' : ℕ) (k : LiteralNode → Steps) (s ts : List Spanned) (at : ℕ) → end' ≡ end → Begins (token.Symbol symbol.Minus) at s ts → run end (WantLiteral k) s ≡ run end' (WantNegative at k) ts
 unfolding run scan feed
 literal_minus end end' k s ts at e b = rw (b.text, e) refl
 
-no_literal_begins : (t : Token) (at : ℕ) (k : LiteralNode → Steps) → is_mark (token.Symbol symbol.Minus) t ≡ false → int_in t ≡ None → literal_begins t at k ≡ None
-no_literal_begins (token.Int z) at k m i = absurd cc
-no_literal_begins (token.Symbol symbol.Minus) at k m i = absurd cc
-no_literal_begins _ at k m i = refl
-
-pub no_literal : (end : ℕ) (k : LiteralNode → Steps) (s : List Spanned) → IsNot (token.Symbol symbol.Minus) s → IsNoInt s → run end (WantLiteral k) s ≡ refused (place end s) Expected
+pub no_literal : (end : ℕ) (k : LiteralNode → Steps) (s : List Spanned) → IsNot (token.Symbol symbol.Minus) s → IsNoLiteral s → run end (WantLiteral k) s ≡ refused (place end s) Expected
 unfolding run scan feed finish
 no_literal end k [] m i = refl
-no_literal end k (t ∷ ts) m i = rw (no_literal_begins t.token t.at k m i) refl
+no_literal end k (t ∷ ts) m i = rw (i, m) refl
 
 pub negative_int : (end end' minus : ℕ) (k : LiteralNode → Steps) (s ts : List Spanned) (l : LiteralNode) → end' ≡ end → IsNegative minus l s ts → run end (WantNegative minus k) s ≡ run end' (k l) ts
 unfolding run scan feed
@@ -100,77 +120,159 @@ unfolding run scan feed finish
 no_negative end minus k [] i = refl
 no_negative end minus k (t ∷ ts) i = rw (no_negative_in t.token minus k i) refl
 
-pub operand_name : (end end' : ℕ) (k : Begun → Steps) (s ts : List Spanned) (n : NameNode) → end' ≡ end → s ≡ name_token n ∷ ts → run end (WantOperand k) s ≡ run end' (k (record { from = n.at; expr = Name n })) ts
-unfolding run scan feed
-operand_name end end' k s ts n e is = rw (is, e) refl
+-- ---- operands
 
-pub operand_literal : (end end' : ℕ) (k : Begun → Steps) (s s' : List Spanned) → end' ≡ end → s' ≡ s → IsNoName s → run end (WantOperand k) s ≡ run end' (WantLiteral (literal_operand k)) s'
+pub operand_name : (end end' d o o' : ℕ) (k : Begun → ℕ → Steps) (s ts : List Spanned) (n : NameNode) → end' ≡ end → o' ≡ o → s ≡ name_token n ∷ ts → run end (Level d 0 o k) s ≡ run end' (k (begun_name n) o') ts
+unfolding run scan feed
+operand_name end end' d o o' k s ts n e same is = rw (is, e, same) refl
+
+begins_literal : (t : Token) (at d o : ℕ) (k : Begun → ℕ → Steps) → is_mark (token.Symbol symbol.Not) t ≡ false → is_mark (token.Symbol symbol.OpenParen) t ≡ false → name_in t at ≡ None → operand_begins t at d o k ≡ literal_begins t at (λ l. k (begun_literal l) o)
+begins_literal (token.Name n) at d o k a b c = absurd cc
+begins_literal (token.Symbol symbol.Not) at d o k a b c = absurd cc
+begins_literal (token.Symbol symbol.OpenParen) at d o k a b c = absurd cc
+begins_literal _ at d o k a b c = refl
+
+pub operand_literal : (end end' d o : ℕ) (k : Begun → ℕ → Steps) (s s' : List Spanned) → end' ≡ end → s' ≡ s → IsNot (token.Symbol symbol.Not) s → IsNot (token.Symbol symbol.OpenParen) s → IsNoName s
+    → run end (Level d 0 o k) s ≡ run end' (WantLiteral (λ l. k (begun_literal l) o)) s'
 unfolding run scan feed finish
-operand_literal end end' k [] s' e same h = rw (e, same) refl
-operand_literal end end' k (t ∷ ts) s' e same h = rw (e, same, h) refl
+operand_literal end end' d o k [] s' e same a b c = rw (e, same) refl
+operand_literal end end' d o k (t ∷ ts) s' e same a b c = rw (e, same, begins_literal t.token t.at d o k a b c) refl
 
--- ---- operators
-
-pub no_operator : (end end' : ℕ) (l : Begun) (i : ℕ) (k : ExprNode → Steps) (s : List Spanned) → end' ≡ end → IsNot (token.Symbol symbol.Plus) s → run end (MoreOperands l i k) s ≡ run end' (k l.expr) s
-unfolding run scan feed finish
-no_operator end end' l i k [] e h = rw e refl
-no_operator end end' l i k (t ∷ ts) e h = rw (e, h) refl
-
-pub operator_past : (end : ℕ) (l : Begun) (i : ℕ) (k : ExprNode → Steps) (s ts : List Spanned) (at : ℕ) → 64 ≤ i → Begins (token.Symbol symbol.Plus) at s ts → run end (MoreOperands l i k) s ≡ refused at TooMany
+pub negation_next : (end end' d o o' o'' at : ℕ) (k : Begun → ℕ → Steps) (s ts ts' : List Spanned) → end' ≡ end → o' ≡ o → o'' ≡ o' + 1 → o' < 64 → ts' ≡ ts → Begins (token.Symbol symbol.Not) at s ts
+    → run end (Level d 0 o k) s ≡ run end' (negation_steps at d o'' k) ts'
 unfolding run scan feed
-operator_past end l i k s ts at past b = rw (b.text, lt-ltb 64 (suc i) (omega arith)) refl
+negation_next end end' d o o' o'' at k s ts ts' e same more within left b = rw (b.text, e, more, left, same, le-ltb 64 (suc o) (omega (arith, same, within)), one_more o) refl
 
-pub operator_next : (end end' : ℕ) (l : Begun) (i j : ℕ) (k : ExprNode → Steps) (s ts : List Spanned) (at : ℕ) → end' ≡ end → j ≡ i + 1 → i < 64 → Begins (token.Symbol symbol.Plus) at s ts
-    → run end (MoreOperands l i k) s ≡ run end' (WantOperand (λ r. MoreOperands (joined l r) j k)) ts
+pub negation_past : (end d o o' at : ℕ) (k : Begun → ℕ → Steps) (s ts : List Spanned) → o' ≡ o → 64 ≤ o' → Begins (token.Symbol symbol.Not) at s ts → run end (Level d 0 o k) s ≡ refused at TooMany
 unfolding run scan feed
-operator_next end end' l i j k s ts at e j_is within b = rw (b.text, e, j_is, le-ltb 64 (suc i) (omega arith), add-one) refl
+negation_past end d o o' at k s ts same past b = rw (b.text, lt-ltb 64 (suc o) (omega (arith, same, past))) refl
+
+pub paren_next : (end end' d o o' at : ℕ) (k : Begun → ℕ → Steps) (s ts : List Spanned) → end' ≡ end → o' ≡ o → d < 16 → Begins (token.Symbol symbol.OpenParen) at s ts → run end (Level d 0 o k) s ≡ run end' (paren_steps at (d + 1) o' k) ts
+unfolding run scan feed
+paren_next end end' d o o' at k s ts e same within b = rw (b.text, e, same, le-ltb 16 (suc d) (omega arith), one_more d) refl
+
+pub paren_past : (end d o at : ℕ) (k : Begun → ℕ → Steps) (s ts : List Spanned) → 16 ≤ d → Begins (token.Symbol symbol.OpenParen) at s ts → run end (Level d 0 o k) s ≡ refused at TooDeep
+unfolding run scan feed
+paren_past end d o at k s ts past b = rw (b.text, lt-ltb 16 (suc d) (omega arith)) refl
+
+-- ---- levels and operators
+
+
+pub level_opens : (end d n m o : ℕ) (k : Begun → ℕ → Steps) (s : List Spanned) → m ≡ suc n → run end (Level d m o k) s ≡ run end (Level d n o (λ x o. Rest d n x o k)) s
+unfolding run scan finish feed
+level_opens end d n m o k [] e = refl
+level_opens end d n m o k (t ∷ ts) e = rw e refl
+
+-- behind an operator of a chain more of them may follow
+pub top_rest : (d n m : ℕ) (k : Begun → ℕ → Steps) → n ≢ 2 → m ≡ n + 1 → top d m k ≡ (λ x o. Rest d n x o k)
+top_rest d zero m k other e = rw e refl
+top_rest d (suc zero) m k other e = rw e refl
+top_rest d (suc (suc zero)) m k other e = absurd (other refl)
+top_rest d (suc (suc (suc n))) m k other e = let more : m ≡ suc (suc (suc (suc n))) = omega (arith, e) in rw more refl
+
+pub no_operator : (end d n o : ℕ) (x : Begun) (k : Begun → ℕ → Steps) (s : List Spanned) → s ≡ [] → run end (Rest d n x o k) s ≡ run end (k x o) s
+unfolding run scan finish
+no_operator end d n o x k s e = rw e refl
+
+pub other_token : (end d n o : ℕ) (x : Begun) (k : Begun → ℕ → Steps) (s ts : List Spanned) (t : Spanned) → s ≡ t ∷ ts → operator_at n t.token ≡ None → run end (Rest d n x o k) s ≡ run end (k x o) s
+unfolding run scan feed
+other_token end d n o x k s ts t e h = rw (e, h) refl
+
+pub operator_past : (end d n o : ℕ) (x : Begun) (k : Begun → ℕ → Steps) (s ts : List Spanned) (t : Spanned) (op : BinOp) → s ≡ t ∷ ts → operator_at n t.token ≡ Some op → 64 ≤ o → run end (Rest d n x o k) s ≡ refused t.at TooMany
+unfolding run scan feed
+operator_past end d n o x k s ts t op e h past = rw (e, h, lt-ltb 64 (suc o) (omega arith)) refl
+
+pub operator_next : (end end' d n o o' : ℕ) (x : Begun) (k : Begun → ℕ → Steps) (s ts : List Spanned) (t : Spanned) (op : BinOp) → end' ≡ end → o' ≡ o + 1 → s ≡ t ∷ ts → operator_at n t.token ≡ Some op → o < 64
+    → run end (Rest d n x o k) s ≡ run end' (Level d n o' (λ y o. top d (n + 1) k (joined op x y) o)) ts
+unfolding run scan feed
+operator_next end end' d n o o' x k s ts t op e more is h within = rw (is, h, e, more, le-ltb 64 (suc o) (omega arith), one_more o, one_more n) refl
 
 -- ---- repetitions
 
-pub no_value : (end end' : ℕ) (vs : List ExprNode) (k : List ExprNode → Steps) (s : List Spanned) → end' ≡ end → IsNot (token.Symbol symbol.Comma) s → run end (MoreValues vs k) s ≡ run end' (k vs) s
+no_value_here : (end : ℕ) (vs : List ExprNode) (k : List ExprNode → Steps) (s : List Spanned) → IsNot (token.Symbol symbol.Comma) s → run end (MoreValues vs k) s ≡ run end (k vs) s
 unfolding run scan feed finish
-no_value end end' vs k [] e h = rw e refl
-no_value end end' vs k (t ∷ ts) e h = rw (e, h) refl
+no_value_here end vs k [] h = refl
+no_value_here end vs k (t ∷ ts) h = rw h refl
+
+pub no_value : (end end' : ℕ) (vs : List ExprNode) (k : List ExprNode → Steps) (s : List Spanned) → end' ≡ end → IsNot (token.Symbol symbol.Comma) s → run end (MoreValues vs k) s ≡ run end' (k vs) s
+no_value end end' vs k s e h = same_end end end' (k vs) s e (no_value_here end vs k s h)
 
 pub value_next : (end end' : ℕ) (vs : List ExprNode) (k : List ExprNode → Steps) (s ts : List Spanned) (at : ℕ) → end' ≡ end → Begins (token.Symbol symbol.Comma) at s ts
     → run end (MoreValues vs k) s ≡ run end' (want_expr (λ v. MoreValues (vs ++ (v ∷ [])) k)) ts
 unfolding run scan feed
 value_next end end' vs k s ts at e b = rw (b.text, e) refl
 
-pub no_stmt : (end end' : ℕ) (ss : List StmtNode) (k : List StmtNode → Steps) (s : List Spanned) → end' ≡ end → IsNoStmt s → run end (MoreStmts ss k) s ≡ run end' (k ss) s
-unfolding run scan feed finish
-no_stmt end end' ss k [] e h = rw e refl
-no_stmt end end' ss k (t ∷ ts) e h = rw (e, h) refl
+pub no_stmt_left : (end d : ℕ) (ss : List StmtNode) (k : List StmtNode → Steps) (s : List Spanned) → s ≡ [] → run end (MoreStmts d ss k) s ≡ run end (k ss) s
+unfolding run scan finish
+no_stmt_left end d ss k s e = rw e refl
 
-pub stmt_next : (end end' : ℕ) (ss : List StmtNode) (k : List StmtNode → Steps) (s ts : List Spanned) (w : StatementWord) → end' ≡ end → BeginsStmt w s ts
-    → run end (MoreStmts ss k) s ≡ run end' (stmt_steps w (λ s. MoreStmts (ss ++ (s ∷ [])) k)) ts
+pub no_stmt : (end d : ℕ) (ss : List StmtNode) (k : List StmtNode → Steps) (s ts : List Spanned) (t : Spanned) → s ≡ t ∷ ts → stmt_word t.token ≡ None → run end (MoreStmts d ss k) s ≡ run end (k ss) s
 unfolding run scan feed
-stmt_next end end' ss k s ts w e b = rw (b.text, e, b.word) refl
+no_stmt end d ss k s ts t e h = rw (e, h) refl
+
+pub stmt_next : (end d : ℕ) (ss : List StmtNode) (k : List StmtNode → Steps) (s ts : List Spanned) (t : Spanned) (w : StatementWord) → s ≡ t ∷ ts → stmt_word t.token ≡ Some w → over_role (stmt_role d w) t.at ≡ None
+    → run end (MoreStmts d ss k) s ≡ run end (stmt_steps d w (λ s. MoreStmts d (ss ++ (s ∷ [])) k)) ts
+unfolding run scan feed
+stmt_next end d ss k s ts t w e is within = rw (e, is, within) refl
+
+-- a statement that isn't in too many conditionals, and one that is
+pub role_of_word : (d at : ℕ) (w : StatementWord) → is_too_deep d w ≡ false → over_role (stmt_role d w) at ≡ None
+role_of_word d at word.If h = rw (le-ltb 16 (suc d) (grind arith)) refl
+role_of_word d at _ h = refl
+
+pub deep_role : (d at : ℕ) (w : StatementWord) → is_too_deep d w ≡ true → over_role (stmt_role d w) at ≡ Some (fault_of TooDeep at)
+deep_role d at word.If h = rw (lt-ltb 16 (suc d) (grind arith)) refl
+deep_role d at _ h = absurd cc
+
+pub stmt_past : (end d : ℕ) (ss : List StmtNode) (k : List StmtNode → Steps) (s ts : List Spanned) (t : Spanned) (w : StatementWord) → s ≡ t ∷ ts → stmt_word t.token ≡ Some w → is_too_deep d w ≡ true → run end (MoreStmts d ss k) s ≡ refused (place end s) TooDeep
+unfolding run scan feed
+stmt_past end d ss k s ts t w e is deep = rw (e, is, deep_role d t.at w deep) refl
+
+no_else_here : (end d : ℕ) (k : List StmtNode → Steps) (s : List Spanned) → IsNot (token.Keyword keyword.Else) s → run end (MaybeElse d k) s ≡ run end (k []) s
+unfolding run scan feed finish
+no_else_here end d k [] h = refl
+no_else_here end d k (t ∷ ts) h = rw h refl
+
+pub no_else : (end end' d : ℕ) (k : List StmtNode → Steps) (s : List Spanned) → end' ≡ end → IsNot (token.Keyword keyword.Else) s → run end (MaybeElse d k) s ≡ run end' (k []) s
+no_else end end' d k s e h = same_end end end' (k []) s e (no_else_here end d k s h)
+
+pub else_next : (end end' d : ℕ) (k : List StmtNode → Steps) (s ts : List Spanned) (at : ℕ) → end' ≡ end → Begins (token.Keyword keyword.Else) at s ts → run end (MaybeElse d k) s ≡ run end' (block_steps d k) ts
+unfolding run scan feed
+else_next end end' d k s ts at e b = rw (b.text, e) refl
+
+no_column_here : (end : ℕ) (role : ℕ → Role) (i : ℕ) (cs : List ColumnNode) (k : List ColumnNode → Steps) (s : List Spanned) → IsNot (token.Symbol symbol.Comma) s → run end (MoreColumns role i cs k) s ≡ run end (k cs) s
+unfolding run scan feed finish
+no_column_here end role i cs k [] h = refl
+no_column_here end role i cs k (t ∷ ts) h = rw h refl
 
 pub no_column : (end end' : ℕ) (role : ℕ → Role) (i : ℕ) (cs : List ColumnNode) (k : List ColumnNode → Steps) (s : List Spanned) → end' ≡ end → IsNot (token.Symbol symbol.Comma) s → run end (MoreColumns role i cs k) s ≡ run end' (k cs) s
-unfolding run scan feed finish
-no_column end end' role i cs k [] e h = rw e refl
-no_column end end' role i cs k (t ∷ ts) e h = rw (e, h) refl
+no_column end end' role i cs k s e h = same_end end end' (k cs) s e (no_column_here end role i cs k s h)
 
 pub column_next : (end end' : ℕ) (role : ℕ → Role) (i n : ℕ) (cs : List ColumnNode) (k : List ColumnNode → Steps) (s ts : List Spanned) (at : ℕ) → end' ≡ end → n ≡ i → Begins (token.Symbol symbol.Comma) at s ts
     → run end (MoreColumns role i cs k) s ≡ run end' (column_steps (role (n + 1)) (λ c. MoreColumns role (i + 1) (cs ++ (c ∷ [])) k)) ts
 unfolding run scan feed
 column_next end end' role i n cs k s ts at e same b = rw (b.text, e, same, add-one) refl
 
-pub no_params : (end end' : ℕ) (k : List ColumnNode → Steps) (s : List Spanned) → end' ≡ end → IsNoName s → run end (SomeParams k) s ≡ run end' (k []) s
+no_params_here : (end : ℕ) (k : List ColumnNode → Steps) (s : List Spanned) → IsNoName s → run end (SomeParams k) s ≡ run end (k []) s
 unfolding run scan feed finish
-no_params end end' k [] e h = rw e refl
-no_params end end' k (t ∷ ts) e h = rw (e, h) refl
+no_params_here end k [] h = refl
+no_params_here end k (t ∷ ts) h = rw h refl
+
+pub no_params : (end end' : ℕ) (k : List ColumnNode → Steps) (s : List Spanned) → end' ≡ end → IsNoName s → run end (SomeParams k) s ≡ run end' (k []) s
+no_params end end' k s e h = same_end end end' (k []) s e (no_params_here end k s h)
 
 pub params_next : (end end' : ℕ) (k : List ColumnNode → Steps) (s ts : List Spanned) (n : NameNode) → end' ≡ end → s ≡ name_token n ∷ ts
-    → run end (SomeParams k) s ≡ run end' (want_keyword keyword.Int (MoreColumns ParamName 1 (record { name = n; ty = ty.Int } ∷ []) k)) ts
+    → run end (SomeParams k) s ≡ run end' (typed_steps n (λ c. MoreColumns ParamName 1 (c ∷ []) k)) ts
 unfolding run scan feed
 params_next end end' k s ts n e is = rw (is, e) refl
 
-pub no_table : (end end' : ℕ) (i : ℕ) (cs : List TableNode) (k : List TableNode → Steps) (s : List Spanned) → end' ≡ end → IsNot (token.Keyword keyword.Table) s → run end (MoreTables i cs k) s ≡ run end' (k cs) s
+no_table_here : (end : ℕ) (i : ℕ) (cs : List TableNode) (k : List TableNode → Steps) (s : List Spanned) → IsNot (token.Keyword keyword.Table) s → run end (MoreTables i cs k) s ≡ run end (k cs) s
 unfolding run scan feed finish
-no_table end end' i cs k [] e h = rw e refl
-no_table end end' i cs k (t ∷ ts) e h = rw (e, h) refl
+no_table_here end i cs k [] h = refl
+no_table_here end i cs k (t ∷ ts) h = rw h refl
+
+pub no_table : (end end' : ℕ) (i : ℕ) (cs : List TableNode) (k : List TableNode → Steps) (s : List Spanned) → end' ≡ end → IsNot (token.Keyword keyword.Table) s → run end (MoreTables i cs k) s ≡ run end' (k cs) s
+no_table end end' i cs k s e h = same_end end end' (k cs) s e (no_table_here end i cs k s h)
 
 pub table_past : (end : ℕ) (i : ℕ) (cs : List TableNode) (k : List TableNode → Steps) (s ts : List Spanned) (at : ℕ) → 64 ≤ i → Begins (token.Keyword keyword.Table) at s ts → run end (MoreTables i cs k) s ≡ refused at TooMany
 unfolding run scan feed
@@ -181,10 +283,13 @@ pub table_next : (end end' : ℕ) (i : ℕ) (cs : List TableNode) (k : List Tabl
 unfolding run scan feed
 table_next end end' i cs k s ts at e within b = rw (b.text, e, le-ltb 64 (suc i) (omega arith), add-one) refl
 
-pub no_proc : (end end' : ℕ) (i : ℕ) (cs : List ProcNode) (k : List ProcNode → Steps) (s : List Spanned) → end' ≡ end → IsNot (token.Keyword keyword.Proc) s → run end (MoreProcs i cs k) s ≡ run end' (k cs) s
+no_proc_here : (end : ℕ) (i : ℕ) (cs : List ProcNode) (k : List ProcNode → Steps) (s : List Spanned) → IsNot (token.Keyword keyword.Proc) s → run end (MoreProcs i cs k) s ≡ run end (k cs) s
 unfolding run scan feed finish
-no_proc end end' i cs k [] e h = rw e refl
-no_proc end end' i cs k (t ∷ ts) e h = rw (e, h) refl
+no_proc_here end i cs k [] h = refl
+no_proc_here end i cs k (t ∷ ts) h = rw h refl
+
+pub no_proc : (end end' : ℕ) (i : ℕ) (cs : List ProcNode) (k : List ProcNode → Steps) (s : List Spanned) → end' ≡ end → IsNot (token.Keyword keyword.Proc) s → run end (MoreProcs i cs k) s ≡ run end' (k cs) s
+no_proc end end' i cs k s e h = same_end end end' (k cs) s e (no_proc_here end i cs k s h)
 
 pub proc_past : (end : ℕ) (i : ℕ) (cs : List ProcNode) (k : List ProcNode → Steps) (s ts : List Spanned) (at : ℕ) → 64 ≤ i → Begins (token.Keyword keyword.Proc) at s ts → run end (MoreProcs i cs k) s ≡ refused at TooMany
 unfolding run scan feed
@@ -197,13 +302,13 @@ proc_next end end' i cs k s ts at e within b = rw (b.text, e, le-ltb 64 (suc i) 
 
 -- ---- limits of columns, the end
 
-pub role_within : (kind : ColumnKind) (n : ℕ) → n ≤ limit_of kind → over (role_of kind n) ≡ None
-role_within Column n h = rw (le-ltb 8 n h) refl
-role_within Param n h = rw (le-ltb 16 n h) refl
+pub role_within : (kind : ColumnKind) (n at : ℕ) → n ≤ limit_of kind → over_role (role_of kind n) at ≡ None
+role_within Column n at h = rw (le-ltb 8 n h) refl
+role_within Param n at h = rw (le-ltb 16 n h) refl
 
-pub role_past : (kind : ColumnKind) (n : ℕ) → limit_of kind < n → over (role_of kind n) ≡ Some TooMany
-role_past Column n h = rw (lt-ltb 8 n h) refl
-role_past Param n h = rw (lt-ltb 16 n h) refl
+pub role_past : (kind : ColumnKind) (n at : ℕ) → limit_of kind < n → over_role (role_of kind n) at ≡ Some (fault_of TooMany at)
+role_past Column n at h = rw (lt-ltb 8 n h) refl
+role_past Param n at h = rw (lt-ltb 16 n h) refl
 
 pub ended : (end : ℕ) (tree : Tree) (s : List Spanned) → s ≡ [] → run end (Done tree) s ≡ Ok tree
 unfolding run scan finish

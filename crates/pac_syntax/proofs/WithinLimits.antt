@@ -1,31 +1,32 @@
 -- A tree that is read is within the limits.
-use Rattle.std.proofs.Common.{◌≡◌, ℕ, suc, ◌+◌, ◌*◌, ◌≤◌, Bool, true, false, cond, ltb, List, [], ◌∷◌, length, Option, Some, None, refl, sym, ap, subst, ◌∙◌, arith}
+use Rattle.std.proofs.Common.{◌≡◌, ℕ, suc, ◌+◌, ◌*◌, ◌≤◌, Bool, true, false, cond, ltb, List, [], ◌∷◌, length, map, Option, Some, None, refl, sym, ap, subst, ◌∙◌, arith}
 use Rattle.std.specs.Prelude.{All}
 use Rattle.std.specs.List.{AllByRecursion}
 use Rattle.std.proofs.lemmas.List.Elements.{All-from_recursion}
 use Rattle.std.proofs.lemmas.Bool.{ltb-false}
-use Rattle.pac_syntax.specs.declared.fault.FaultKind.{FaultKind}
 use Rattle.pac_syntax.specs.declared.fault.FaultKind.TheVariants.{TooMany}
+use Rattle.pac_syntax.specs.declared.fault.Fault.{Fault}
 use Rattle.pac_syntax.specs.declared.tree.ColumnNode.{ColumnNode}
+use Rattle.pac_syntax.specs.declared.tree.ExprNode.{ExprNode}
 use Rattle.pac_syntax.specs.declared.tree.StmtNode.{StmtNode}
 use Rattle.pac_syntax.specs.declared.tree.StmtNode.TheVariants as stmt
 use Rattle.pac_syntax.specs.declared.tree.Tree.{Tree}
 use Rattle.pac_syntax.specs.declared.token.Spanned.{Spanned}
-use Rattle.pac_syntax.specs.Grammar.{LiteralForm, AnInt, ANegative, OperandForm, ALiteral, AName, expr_node, literal_node, value_nodes, ExprForm, AnOperand, ASum, ValuesForm, NoValue, AValue, StmtsForm, NoStmt, ALet, ARead, APut, ColumnsForm, NoColumn, AColumn, ParamsForm, NoParam, AParam, TablesForm, NoTable, ATable, ProcsForm, NoProc, AProc, stmt_nodes, column_node, column_nodes, param_nodes, table_nodes, proc_nodes, Role, ColumnName, ParamName, Marked, literal_before, operand_before, expr_before, values_before, stmts_before, columns_before, params_before, tables_before, procs_before, marks_of, tokens_of}
-use Rattle.pac_syntax.specs.Faults.{over, more_than, IsWithin, ReadsTokens}
-use Rattle.pac_syntax.proofs.NodeForms.{fold-Let, fold-Read, fold-Put}
-use Rattle.pac_syntax.specs.Limits.{size, size_step, sizes, IsTableWithinLimits, IsProcWithinLimits, IsWithinLimits, HasStoredType}
+use Rattle.pac_syntax.specs.Grammar.{LiteralForm, AnInt, ANegative, AText, ATrue, AFalse, ExprForm, ALiteral, AName, ANot, AParen, ABinary, ValuesForm, NoValue, AValue, StmtsForm, NoStmt, ALet, ARead, AHas, APut, ASet, ADelete, AnAbort, AnIf, AnIfElse, TypeForm, AnIntType, ATextType, ColumnsForm, NoColumn, AColumn, ParamsForm, NoParam, AParam, TablesForm, NoTable, ATable, ProcsForm, NoProc, AProc, literal_node, expr_node, value_nodes, stmt_nodes, type_of_form, column_node, column_nodes, param_nodes, table_nodes, proc_nodes, Role, ColumnName, ParamName, Marked, type_mark, counted, literal_before, expr_before, whole_before, values_before, stmts_before, columns_before, params_before, tables_before, procs_before, marks_of, tokens_of}
+use Rattle.pac_syntax.specs.Faults.{fault_of, past, over_role, IsWithin, ReadsTokens}
+use Rattle.pac_syntax.specs.Limits.{size, size_step, sizes, total, is_stored_type, IsTableWithinLimits, IsProcWithinLimits, IsWithinLimits, HasStoredType}
+use Rattle.pac_syntax.proofs.NodeForms.{fold-Let, fold-Read, fold-Has, fold-Put, fold-Set, fold-Delete, fold-AbortIf, fold-If}
 
 abbrev AllWithin : List Marked → Type 0
 AllWithin ms = AllByRecursion IsWithin ms
 
-within_test : (b : Bool) (kind : FaultKind) → ◌≡◌ {A = Option FaultKind} (cond b (Some kind) None) None → b ≡ false
-within_test true kind e = absurd cc
-within_test false kind e = refl
+within_test : (b : Bool) (fault : Fault) → ◌≡◌ {A = Option Fault} (cond b (Some fault) None) None → b ≡ false
+within_test true fault e = absurd cc
+within_test false fault e = refl
 
 -- a number within its limit
-at_most : (limit n : ℕ) → more_than limit n ≡ None → n ≤ limit
-at_most limit n e = ltb-false limit n (within_test (ltb limit n) TooMany e)
+at_most : (limit n : ℕ) (fault : Fault) → past limit n fault ≡ None → n ≤ limit
+at_most limit n fault e = ltb-false limit n (within_test (ltb limit n) fault e)
 
 -- ---- what stands in front of the rest keeps it within, and has tokens of its own
 
@@ -36,56 +37,97 @@ record Behind (ms rest : List Marked) : Type 0 where
 behind_literal : (l : LiteralForm) (rest : List Marked) → Behind (literal_before l rest) rest
 behind_literal (AnInt at z) rest = record { within = λ h. h.1; longer = omega arith }
 behind_literal (ANegative minus at z) rest = record { within = λ h. h.1.1; longer = omega arith }
+behind_literal (AText at text) rest = record { within = λ h. h.1; longer = omega arith }
+behind_literal (ATrue at) rest = record { within = λ h. h.1; longer = omega arith }
+behind_literal (AFalse at) rest = record { within = λ h. h.1; longer = omega arith }
 
-behind_operand : (x : OperandForm) (rest : List Marked) → Behind (operand_before x rest) rest
-behind_operand (ALiteral l) rest = behind_literal l rest
-behind_operand (AName n) rest = record { within = λ h. h.1; longer = omega arith }
+behind_expr : (e : ExprForm) (d o : ℕ) (rest : List Marked) → Behind (expr_before d o e rest) rest
+behind_expr (ALiteral l) d o rest = behind_literal l rest
+behind_expr (AName n) d o rest = record { within = λ h. h.1; longer = omega arith }
+behind_expr (ANot at e) d o rest = let b = behind_expr e d (suc o) rest in record { within = λ h. b.within h.1; longer = omega (arith, b.longer) }
+behind_expr (AParen opening e closing) d o rest = let b = behind_expr e (suc d) o (_ ∷ rest) in record { within = λ h. (b.within h.1).1; longer = omega (arith, b.longer) }
+behind_expr (ABinary op at l r) d o rest =
+    let right = behind_expr r d (suc (counted o l)) rest in
+    let left = behind_expr l d o (_ ∷ expr_before d (suc (counted o l)) r rest) in
+    record { within = λ h. right.within (left.within h).1; longer = omega (arith, right.longer, left.longer) }
 
-behind_expr : (e : ExprForm) (rest : List Marked) → Behind (expr_before e rest) rest
-behind_expr (AnOperand x) rest = behind_operand x rest
-behind_expr (ASum e plus x) rest =
-    let o = behind_operand x rest in
-    let b = behind_expr e (_ ∷ operand_before x rest) in
-    record { within = λ h. o.within (b.within h).1; longer = omega (arith, o.longer, b.longer) }
+behind_whole : (e : ExprForm) (rest : List Marked) → Behind (whole_before e rest) rest
+behind_whole e rest = behind_expr e 0 0 rest
 
 behind_values : (vs : ValuesForm) (rest : List Marked) → Behind (values_before vs rest) rest
 behind_values NoValue rest = record { within = λ h. h; longer = omega arith }
 behind_values (AValue comma e vs) rest =
     let o = behind_values vs rest in
-    let b = behind_expr e (values_before vs rest) in
+    let b = behind_whole e (values_before vs rest) in
     record { within = λ h. o.within (b.within h.1); longer = omega (arith, o.longer, b.longer) }
 
+-- ---- statements
+
 -- one statement more
-one_more : (node : StmtNode) (nodes : List StmtNode) → size node ≡ 1 → sizes (node ∷ nodes) ≡ suc (sizes nodes)
-one_more node nodes e =
-    let h : sizes (node ∷ nodes) ≡ size node + sizes nodes = refl in
-    omega (arith, e, h)
+one_more : (node : StmtNode) (nodes : List StmtNode) (n : ℕ) → size node ≡ n → sizes (node ∷ nodes) ≡ n + sizes nodes
+one_more node nodes n e = let h : sizes (node ∷ nodes) ≡ size node + sizes nodes = refl in omega (arith, e, h)
 
 -- each statement has two tokens at least
 record Statements (s : StmtsForm) (ms rest : List Marked) : Type 0 where
   within : AllWithin ms → AllWithin rest
   few : length rest + 2 * sizes (stmt_nodes s) ≤ length ms
 
-statements : (s : StmtsForm) (rest : List Marked) → Statements s (stmts_before s rest) rest
-statements NoStmt rest = record { within = λ h. h; few = omega arith }
-statements (ALet p0 x p1 e p2 s) rest =
-    let n : sizes (stmt_nodes (ALet p0 x p1 e p2 s)) ≡ suc (sizes (stmt_nodes s)) = one_more (stmt.Let x (expr_node e)) (stmt_nodes s) (fold-Let ℕ size_step x (expr_node e)) in
-    let more = statements s rest in
-    let b = behind_expr e (_ ∷ stmts_before s rest) in
+statements : (s : StmtsForm) (d : ℕ) (rest : List Marked) → Statements s (stmts_before d s rest) rest
+statements NoStmt d rest = record { within = λ h. h; few = omega arith }
+statements (ALet p0 x p1 e p2 s) d rest =
+    let n : sizes (stmt_nodes (ALet p0 x p1 e p2 s)) ≡ 1 + sizes (stmt_nodes s) = one_more (stmt.Let x (expr_node e)) (stmt_nodes s) 1 (fold-Let ℕ size_step x (expr_node e)) in
+    let more = statements s d rest in
+    let b = behind_whole e (_ ∷ stmts_before d s rest) in
     record { within = λ h. more.within (b.within h.1.1.1).1; few = omega (arith, more.few, b.longer, n) }
-statements (ARead p0 x p1 t p2 e p3 p4 c p5 l p6 s) rest =
-    let n : sizes (stmt_nodes (ARead p0 x p1 t p2 e p3 p4 c p5 l p6 s)) ≡ suc (sizes (stmt_nodes s)) = one_more (stmt.Read x t (expr_node e) c (literal_node l)) (stmt_nodes s) (fold-Read ℕ size_step x t (expr_node e) c (literal_node l)) in
-    let more = statements s rest in
-    let literal = behind_literal l (_ ∷ stmts_before s rest) in
-    let b = behind_expr e (_ ∷ _ ∷ _ ∷ _ ∷ literal_before l (_ ∷ stmts_before s rest)) in
+statements (ARead p0 x p1 t p2 e p3 p4 c p5 l p6 s) d rest =
+    let n : sizes (stmt_nodes (ARead p0 x p1 t p2 e p3 p4 c p5 l p6 s)) ≡ 1 + sizes (stmt_nodes s) = one_more (stmt.Read x t (expr_node e) c (literal_node l)) (stmt_nodes s) 1 (fold-Read ℕ size_step x t (expr_node e) c (literal_node l)) in
+    let more = statements s d rest in
+    let literal = behind_literal l (_ ∷ stmts_before d s rest) in
+    let b = behind_whole e (_ ∷ _ ∷ _ ∷ _ ∷ literal_before l (_ ∷ stmts_before d s rest)) in
     record { within = λ h. more.within (literal.within (b.within h.1.1.1.1.1).1.1.1.1).1; few = omega (arith, more.few, literal.longer, b.longer, n) }
-statements (APut p0 t p1 e p2 p3 p4 v vs p5 p6 s) rest =
-    let n : sizes (stmt_nodes (APut p0 t p1 e p2 p3 p4 v vs p5 p6 s)) ≡ suc (sizes (stmt_nodes s)) = one_more (stmt.Put t (expr_node e) (expr_node v ∷ value_nodes vs)) (stmt_nodes s) (fold-Put ℕ size_step t (expr_node e) (expr_node v ∷ value_nodes vs)) in
-    let more = statements s rest in
-    let values = behind_values vs (_ ∷ _ ∷ stmts_before s rest) in
-    let first = behind_expr v (values_before vs (_ ∷ _ ∷ stmts_before s rest)) in
-    let b = behind_expr e (_ ∷ _ ∷ _ ∷ expr_before v (values_before vs (_ ∷ _ ∷ stmts_before s rest))) in
+statements (AHas p0 x p1 t p2 e p3 p4 s) d rest =
+    let n : sizes (stmt_nodes (AHas p0 x p1 t p2 e p3 p4 s)) ≡ 1 + sizes (stmt_nodes s) = one_more (stmt.Has x t (expr_node e)) (stmt_nodes s) 1 (fold-Has ℕ size_step x t (expr_node e)) in
+    let more = statements s d rest in
+    let b = behind_whole e (_ ∷ _ ∷ stmts_before d s rest) in
+    record { within = λ h. more.within (b.within h.1.1.1.1.1).1.1; few = omega (arith, more.few, b.longer, n) }
+statements (APut p0 t p1 e p2 p3 p4 v vs p5 p6 s) d rest =
+    let n : sizes (stmt_nodes (APut p0 t p1 e p2 p3 p4 v vs p5 p6 s)) ≡ 1 + sizes (stmt_nodes s) = one_more (stmt.Put t (expr_node e) (expr_node v ∷ value_nodes vs)) (stmt_nodes s) 1 (fold-Put ℕ size_step t (expr_node e) (expr_node v ∷ value_nodes vs)) in
+    let more = statements s d rest in
+    let values = behind_values vs (_ ∷ _ ∷ stmts_before d s rest) in
+    let first = behind_whole v (values_before vs (_ ∷ _ ∷ stmts_before d s rest)) in
+    let b = behind_whole e (_ ∷ _ ∷ _ ∷ whole_before v (values_before vs (_ ∷ _ ∷ stmts_before d s rest))) in
     record { within = λ h. more.within (values.within (first.within (b.within h.1.1.1).1.1.1)).1.1; few = omega (arith, more.few, values.longer, first.longer, b.longer, n) }
+statements (ASet p0 t p1 e p2 p3 c p4 v p5 s) d rest =
+    let n : sizes (stmt_nodes (ASet p0 t p1 e p2 p3 c p4 v p5 s)) ≡ 1 + sizes (stmt_nodes s) = one_more (stmt.Set t (expr_node e) c (expr_node v)) (stmt_nodes s) 1 (fold-Set ℕ size_step t (expr_node e) c (expr_node v)) in
+    let more = statements s d rest in
+    let value = behind_whole v (_ ∷ stmts_before d s rest) in
+    let b = behind_whole e (_ ∷ _ ∷ _ ∷ _ ∷ whole_before v (_ ∷ stmts_before d s rest)) in
+    record { within = λ h. more.within (value.within (b.within h.1.1.1).1.1.1.1).1; few = omega (arith, more.few, value.longer, b.longer, n) }
+statements (ADelete p0 t p1 e p2 p3 s) d rest =
+    let n : sizes (stmt_nodes (ADelete p0 t p1 e p2 p3 s)) ≡ 1 + sizes (stmt_nodes s) = one_more (stmt.Delete t (expr_node e)) (stmt_nodes s) 1 (fold-Delete ℕ size_step t (expr_node e)) in
+    let more = statements s d rest in
+    let b = behind_whole e (_ ∷ _ ∷ stmts_before d s rest) in
+    record { within = λ h. more.within (b.within h.1.1.1).1.1; few = omega (arith, more.few, b.longer, n) }
+statements (AnAbort p0 p1 e p2 s) d rest =
+    let n : sizes (stmt_nodes (AnAbort p0 p1 e p2 s)) ≡ 1 + sizes (stmt_nodes s) = one_more (stmt.AbortIf (expr_node e)) (stmt_nodes s) 1 (fold-AbortIf ℕ size_step (expr_node e)) in
+    let more = statements s d rest in
+    let b = behind_whole e (_ ∷ stmts_before d s rest) in
+    record { within = λ h. more.within (b.within h.1.1).1; few = omega (arith, more.few, b.longer, n) }
+statements (AnIf p0 e p1 first p2 s) d rest =
+    let n : sizes (stmt_nodes (AnIf p0 e p1 first p2 s)) ≡ suc (sizes (stmt_nodes first) + 0) + sizes (stmt_nodes s) =
+        one_more (stmt.If (expr_node e) (stmt_nodes first) []) (stmt_nodes s) (suc (sizes (stmt_nodes first) + 0)) (fold-If ℕ size_step (expr_node e) (stmt_nodes first) []) in
+    let more = statements s d rest in
+    let inner = statements first (suc d) (_ ∷ stmts_before d s rest) in
+    let b = behind_whole e (_ ∷ stmts_before (suc d) first (_ ∷ stmts_before d s rest)) in
+    record { within = λ h. more.within (inner.within (b.within h.1).1).1; few = omega (arith, more.few, inner.few, b.longer, n) }
+statements (AnIfElse p0 e p1 first p2 p3 p4 second p5 s) d rest =
+    let n : sizes (stmt_nodes (AnIfElse p0 e p1 first p2 p3 p4 second p5 s)) ≡ suc (sizes (stmt_nodes first) + sizes (stmt_nodes second)) + sizes (stmt_nodes s) =
+        one_more (stmt.If (expr_node e) (stmt_nodes first) (stmt_nodes second)) (stmt_nodes s) (suc (sizes (stmt_nodes first) + sizes (stmt_nodes second))) (fold-If ℕ size_step (expr_node e) (stmt_nodes first) (stmt_nodes second)) in
+    let more = statements s d rest in
+    let other = statements second (suc d) (_ ∷ stmts_before d s rest) in
+    let inner = statements first (suc d) (_ ∷ _ ∷ _ ∷ stmts_before (suc d) second (_ ∷ stmts_before d s rest)) in
+    let b = behind_whole e (_ ∷ stmts_before (suc d) first (_ ∷ _ ∷ _ ∷ stmts_before (suc d) second (_ ∷ stmts_before d s rest))) in
+    record { within = λ h. more.within (other.within (inner.within (b.within h.1).1).1.1.1).1; few = omega (arith, more.few, other.few, inner.few, b.longer, n) }
 
 -- ---- columns and parameters
 
@@ -94,28 +136,32 @@ record Few (n limit : ℕ) (ms rest : List Marked) : Type 0 where
   within : AllWithin rest
   longer : length rest ≤ length ms
 
-columns : (role : ℕ → Role) (limit : ℕ) → ((n : ℕ) → over (role n) ≡ more_than limit n) → (c : ColumnsForm) (i : ℕ) (rest : List Marked) → i ≤ limit → AllWithin (columns_before role i c rest)
+columns : (role : ℕ → Role) (limit : ℕ) → ((n at : ℕ) → over_role (role n) at ≡ past limit n (fault_of TooMany at)) → (c : ColumnsForm) (i : ℕ) (rest : List Marked) → i ≤ limit → AllWithin (columns_before role i c rest)
     → Few (i + length (column_nodes c)) limit (columns_before role i c rest) rest
 columns role limit is NoColumn i rest le h = record { few = omega arith; within = h; longer = omega arith }
-columns role limit is (AColumn comma n type c) i rest le h =
-    let more = columns role limit is c (suc i) rest (at_most limit (suc i) (sym (is (suc i)) ∙ h.1.0)) h.1.1.1 in
+columns role limit is (AColumn comma n t c) i rest le h =
+    let more = columns role limit is c (suc i) rest (at_most limit (suc i) (fault_of TooMany n.at) (sym (is (suc i) n.at) ∙ h.1.0)) h.1.1.1 in
     record { few = omega (arith, more.few); within = more.within; longer = omega (arith, more.longer) }
 
 params : (c : ParamsForm) (rest : List Marked) → AllWithin (params_before c rest) → Few (length (param_nodes c)) 16 (params_before c rest) rest
 params NoParam rest h = record { few = omega arith; within = h; longer = omega arith }
-params (AParam n type c) rest h =
-    let more = columns ParamName 16 (λ n. refl) c 1 rest (omega arith) h.1.1 in
+params (AParam n t c) rest h =
+    let more = columns ParamName 16 (λ n at. refl) c 1 rest (omega arith) h.1.1 in
     record { few = omega (arith, more.few); within = more.within; longer = omega (arith, more.longer) }
 
 -- ---- the types of columns and parameters
 
+stored_type : (t : TypeForm) → is_stored_type (type_of_form t) ≡ true
+stored_type (AnIntType at) = refl
+stored_type (ATextType at) = refl
+
 stored_columns : (c : ColumnsForm) → AllByRecursion HasStoredType (column_nodes c)
 stored_columns NoColumn = tt
-stored_columns (AColumn comma n type c) = (refl, stored_columns c)
+stored_columns (AColumn comma n t c) = (stored_type t, stored_columns c)
 
 stored_params : (c : ParamsForm) → AllByRecursion HasStoredType (param_nodes c)
 stored_params NoParam = tt
-stored_params (AParam n type c) = (refl, stored_columns c)
+stored_params (AParam n t c) = (stored_type t, stored_columns c)
 
 -- each of these columns has a type that is stored
 all_stored : (nodes : List ColumnNode) → AllByRecursion HasStoredType nodes → All HasStoredType nodes
@@ -130,9 +176,9 @@ record Procs (f : ProcsForm) (i : ℕ) : Type 0 where
 procs : (f : ProcsForm) (i : ℕ) → i ≤ 64 → AllWithin (procs_before i f []) → length (procs_before i f []) ≤ 65536 → Procs f i
 procs NoProc i le h short = record { few = omega arith; each = tt }
 procs (AProc p0 n p1 ps p2 p3 s p4 f) i le h short =
-    let p = params ps (_ ∷ _ ∷ stmts_before s (_ ∷ procs_before (suc i) f [])) h.1.1.1 in
-    let b = statements s (_ ∷ procs_before (suc i) f []) in
-    let more = procs f (suc i) (at_most 64 (suc i) h.0) (b.within p.within.1.1).1 (omega (arith, p.longer, b.few)) in
+    let p = params ps (_ ∷ _ ∷ stmts_before 0 s (_ ∷ procs_before (suc i) f [])) h.1.1.1 in
+    let b = statements s 0 (_ ∷ procs_before (suc i) f []) in
+    let more = procs f (suc i) (at_most 64 (suc i) (fault_of TooMany p0) h.0) (b.within p.within.1.1).1 (omega (arith, p.longer, b.few)) in
     record { few = omega (arith, more.few); each = (record { few = p.few; params = all_stored (param_nodes ps) (stored_params ps); short = omega (arith, p.longer, p.few, b.few) }, more.each) }
 
 record Tables (f : TablesForm) (i : ℕ) (ms rest : List Marked) : Type 0 where
@@ -143,12 +189,12 @@ record Tables (f : TablesForm) (i : ℕ) (ms rest : List Marked) : Type 0 where
 
 tables : (f : TablesForm) (i : ℕ) (rest : List Marked) → i ≤ 64 → AllWithin (tables_before i f rest) → Tables f i (tables_before i f rest) rest
 tables NoTable i rest le h = record { few = omega arith; each = tt; within = h; longer = omega arith }
-tables (ATable p0 n p1 p2 p3 p4 c p5 cs p6 p7 f) i rest le h =
-    let columns_within = columns ColumnName 8 (λ n. refl) cs 1 (_ ∷ _ ∷ tables_before (suc i) f rest) (omega arith) h.1.1.1.1.1.1.1.1 in
-    let more = tables f (suc i) rest (at_most 64 (suc i) h.0) columns_within.within.1.1 in
+tables (ATable p0 n p1 p2 key p3 c t cs p4 p5 f) i rest le h =
+    let columns_within = columns ColumnName 8 (λ n at. refl) cs 1 (_ ∷ _ ∷ tables_before (suc i) f rest) (omega arith) h.1.1.1.1.1.1.1.1 in
+    let more = tables f (suc i) rest (at_most 64 (suc i) (fault_of TooMany p0) h.0) columns_within.within.1.1 in
     record {
       few = omega (arith, more.few);
-      each = (record { some = omega arith; few = omega (arith, columns_within.few); key = refl; columns = all_stored (column_node c ∷ column_nodes cs) (refl, stored_columns cs) }, more.each);
+      each = (record { some = omega arith; few = omega (arith, columns_within.few); key = stored_type key; columns = all_stored (column_node c t ∷ column_nodes cs) (stored_type t, stored_columns cs) }, more.each);
       within = more.within;
       longer = omega (arith, more.longer, columns_within.longer);
     }

@@ -1,5 +1,5 @@
 -- The limits of the grammar, what is read, and the first fault of what isn't.
-use Rattle.std.specs.Prelude.{◌≡◌, ℕ, ◌≤◌, List, [], ◌∷◌, ◌++◌, length, Option, Some, None, Result, Ok, Err, nat_lt, if◌then◌else◌}
+use Rattle.std.specs.Prelude.{◌≡◌, ◌⊎◌, ℕ, ◌≤◌, List, [], ◌∷◌, ◌++◌, length, Option, Some, None, Result, Ok, Err, nat_lt, if◌then◌else◌}
 use Rattle.std.specs.List.{AllByRecursion}
 use Rattle.pac_syntax.specs.declared.token.Spanned.{Spanned}
 use Rattle.pac_syntax.specs.declared.fault.FaultKind.{FaultKind}
@@ -8,22 +8,32 @@ use Rattle.pac_syntax.specs.declared.fault.Fault.{Fault}
 use Rattle.pac_syntax.specs.declared.fault.SyntaxError.{SyntaxError}
 use Rattle.pac_syntax.specs.declared.fault.SyntaxError.TheVariants as error
 use Rattle.pac_syntax.specs.declared.tree.Tree.{Tree}
-use Rattle.pac_syntax.specs.Grammar.{Role, Plain, TableWord, ProcWord, ColumnName, ParamName, Operator, Marked, Whole, tokens_of}
+use Rattle.pac_syntax.specs.Grammar.{Role, Plain, TableWord, ProcWord, ColumnName, ParamName, Operator, Paren, Nested, Marked, Whole, tokens_of}
 
-abbrev pub more_than : ℕ → ℕ → Option FaultKind
-more_than limit n = if nat_lt limit n then Some TooMany else None
+abbrev pub fault_of : FaultKind → ℕ → Fault
+fault_of kind at = record { at = at; kind = kind }
 
--- the fault of a token of this role that is over its limit
-abbrev pub over : Role → Option FaultKind
-over Plain = None
-over (TableWord n) = more_than 64 n
-over (ProcWord n) = more_than 64 n
-over (ColumnName n) = more_than 8 n
-over (ParamName n) = more_than 16 n
-over (Operator n) = more_than 64 n
+-- a fault where a number is over its limit
+abbrev pub past : ℕ → ℕ → Fault → Option Fault
+past limit n fault = if nat_lt limit n then Some fault else None
+
+-- The fault of a token of this role at this place, where it is over its limit. It is told at the token; a role that is
+-- settled by a later token than the one it is told at would carry that place.
+abbrev pub over_role : Role → ℕ → Option Fault
+over_role Plain at = None
+over_role (TableWord n) at = past 64 n (fault_of TooMany at)
+over_role (ProcWord n) at = past 64 n (fault_of TooMany at)
+over_role (ColumnName n) at = past 8 n (fault_of TooMany at)
+over_role (ParamName n) at = past 16 n (fault_of TooMany at)
+over_role (Operator n) at = past 64 n (fault_of TooMany at)
+over_role (Paren n) at = past 16 n (fault_of TooDeep at)
+over_role (Nested n) at = past 16 n (fault_of TooDeep at)
+
+abbrev pub over : Marked → Option Fault
+over m = over_role m.role m.token.at
 
 abbrev pub IsWithin : Marked → Type 0
-IsWithin m = over m.role ≡ None
+IsWithin m = over m ≡ None
 
 -- the tokens are a catalogue's within the limits, and this is its tree
 abbrev pub ReadsTokens : List Spanned → Tree → Type 0
@@ -33,22 +43,25 @@ ReadsTokens ts tree = (ms : List Marked) × Whole ms tree × (tokens_of ms ≡ t
 abbrev pub IsViable : List Spanned → Type 0
 IsViable p = (ms : List Marked) × (tree : Tree) × (more : List Spanned) × Whole ms tree × (tokens_of ms ≡ p ++ more)
 
--- in a catalogue that begins so, the token behind p is over a limit
-abbrev pub IsOverAt : List Spanned → List Spanned → FaultKind → Type 0
-IsOverAt p [] kind = ⊥
-IsOverAt p (t ∷ r) kind =
-    (before after : List Marked) × (role : Role) × (tree : Tree) × Whole (before ++ (record { token = t; role = role } ∷ after)) tree × (tokens_of before ≡ p) × (over role ≡ Some kind)
+-- the tokens p can go on to a catalogue, and not with what stands behind them; or they are none, and the text ends
+abbrev pub IsUnexpected : List Spanned → List Spanned → Type 0
+IsUnexpected p [] = IsViable p × ((ms : List Marked) (tree : Tree) → Whole ms tree → tokens_of ms ≡ p → ⊥)
+IsUnexpected p (t ∷ r) = IsViable p × (IsViable (p ++ (t ∷ [])) → ⊥)
 
--- A fault of the tokens p ++ r at the first token of r, or at their end.
-abbrev pub FaultAt : List Spanned → List Spanned → FaultKind → Type 0
--- p can go on, and is no catalogue
-FaultAt p [] Expected = IsViable p × ((ms : List Marked) (tree : Tree) → Whole ms tree → tokens_of ms ≡ p → ⊥)
--- p can go on, and not with this token
-FaultAt p (t ∷ r) Expected = IsViable p × (IsViable (p ++ (t ∷ [])) → ⊥)
-FaultAt p r TooDeep = IsOverAt p r TooDeep
-FaultAt p r TooMany = IsOverAt p r TooMany
-FaultAt p r Token = ⊥
-FaultAt p r TooLong = ⊥
+-- in a catalogue that begins so, the token behind p is over a limit
+abbrev pub IsOverAt : List Spanned → List Spanned → Fault → Type 0
+IsOverAt p [] fault = ⊥
+IsOverAt p (t ∷ r) fault =
+    (before after : List Marked) × (role : Role) × (tree : Tree) × Whole (before ++ (record { token = t; role = role } ∷ after)) tree × (tokens_of before ≡ p) × (over_role role t.at ≡ Some fault)
+
+-- the place of the first of these tokens, or of the end
+abbrev pub place : ℕ → List Spanned → ℕ
+place end [] = end
+place end (t ∷ r) = t.at
+
+-- A fault of the tokens p ++ r at the first token of r, or at the end of a text that ends there.
+abbrev pub FaultAt : ℕ → List Spanned → List Spanned → Fault → Type 0
+FaultAt end p r fault = ((fault ≡ fault_of Expected (place end r)) × IsUnexpected p r) ⊎ IsOverAt p r fault
 
 -- which of several faults at one place is told
 abbrev pub rank : FaultKind → ℕ
@@ -58,21 +71,16 @@ rank Expected = 2
 rank TooDeep = 3
 rank TooMany = 4
 
--- the fault of least place, and there the first by rank
-pub record IsFirst (ts p rest : List Spanned) (kind : FaultKind) : Type 0 where
+-- no fault stands before that behind the tokens p, and there it is the first by rank
+pub record IsFirst (end : ℕ) (ts p rest : List Spanned) (fault : Fault) : Type 0 where
   pub parts : ts ≡ p ++ rest
-  pub fault : FaultAt p rest kind
-  pub least : (p' rest' : List Spanned) (kind' : FaultKind) → ts ≡ p' ++ rest' → FaultAt p' rest' kind' → length p ≤ length p'
-  pub by_kind : (kind' : FaultKind) → FaultAt p rest kind' → rank kind ≤ rank kind'
-
--- the place of the first of these tokens, or of the end
-abbrev pub place : ℕ → List Spanned → ℕ
-place end [] = end
-place end (t ∷ r) = t.at
+  pub stands : FaultAt end p rest fault
+  pub least : (p' rest' : List Spanned) (fault' : Fault) → ts ≡ p' ++ rest' → FaultAt end p' rest' fault' → length p ≤ length p'
+  pub by_kind : (fault' : Fault) → FaultAt end p rest fault' → rank fault.kind ≤ rank fault'.kind
 
 -- the first fault of the tokens of a text that ends there
 abbrev pub IsFirstFault : ℕ → List Spanned → Fault → Type 0
-IsFirstFault end ts fault = (p rest : List Spanned) × IsFirst ts p rest fault.kind × (fault.at ≡ place end rest)
+IsFirstFault end ts fault = (p rest : List Spanned) × IsFirst end ts p rest fault
 
 -- the result is this tree, or memory ran out
 abbrev pub IsTreeOrMemory : Result Tree SyntaxError → Tree → Type 0

@@ -1,7 +1,9 @@
 -- The grammar of catalogues: derivations with the place of each token, their tokens, and the tree that each is read as.
-use Rattle.std.specs.Prelude.{◌≡◌, ℕ, suc, ℤ, List, [], ◌∷◌}
+use Rattle.std.specs.Prelude.{◌≡◌, ℕ, zero, suc, ◌<◌, ℤ, List, [], ◌∷◌, true, false}
+use Rattle.pac_value.specs.declared.values.Ty.{Ty}
 use Rattle.pac_value.specs.declared.values.Ty.TheVariants as ty
 use Rattle.pac_value.specs.declared.values.Value.TheVariants as value
+use Rattle.pac_value.specs.declared.expr.BinOp.{BinOp}
 use Rattle.pac_value.specs.declared.expr.BinOp.TheVariants as op
 use Rattle.pac_syntax.specs.declared.token.Keyword.{Keyword}
 use Rattle.pac_syntax.specs.declared.token.Keyword.TheVariants as keyword
@@ -13,7 +15,7 @@ use Rattle.pac_syntax.specs.declared.token.Spanned.{Spanned}
 use Rattle.pac_syntax.specs.declared.tree.NameNode.{NameNode}
 use Rattle.pac_syntax.specs.declared.tree.LiteralNode.{LiteralNode}
 use Rattle.pac_syntax.specs.declared.tree.ColumnNode.{ColumnNode}
-use Rattle.pac_syntax.specs.declared.tree.ExprNode.{ExprNode, Literal, Name, Binary}
+use Rattle.pac_syntax.specs.declared.tree.ExprNode.{ExprNode, Literal, Name, Binary, Not}
 use Rattle.pac_syntax.specs.declared.tree.StmtNode.{StmtNode}
 use Rattle.pac_syntax.specs.declared.tree.StmtNode.TheVariants as stmt
 use Rattle.pac_syntax.specs.declared.tree.TableNode.{TableNode}
@@ -22,20 +24,24 @@ use Rattle.pac_syntax.specs.declared.tree.Tree.{Tree}
 
 -- ---- derivations; their numbers are the places of the signs and words, in the order of the text
 
--- lit = [ "-" ] INT
+-- lit = [ "-" ] INT | TEXT | "true" | "false"
 pub data LiteralForm : Type 0 where
   AnInt : (at : ℕ) → ℤ → LiteralForm
   ANegative : (minus at : ℕ) → ℤ → LiteralForm
+  AText : (at : ℕ) → List ℕ → LiteralForm
+  ATrue : (at : ℕ) → LiteralForm
+  AFalse : (at : ℕ) → LiteralForm
 
--- operand = lit | NAME
-pub data OperandForm : Type 0 where
-  ALiteral : LiteralForm → OperandForm
-  AName : NameNode → OperandForm
-
--- expr = operand | expr "+" operand
+-- an expression, with its parentheses; which operand may stand where is told by its level, below
 pub data ExprForm : Type 0 where
-  AnOperand : OperandForm → ExprForm
-  ASum : ExprForm → (plus : ℕ) → OperandForm → ExprForm
+  ALiteral : LiteralForm → ExprForm
+  AName : NameNode → ExprForm
+  -- "!" operand
+  ANot : (at : ℕ) → ExprForm → ExprForm
+  -- "(" expr ")"
+  AParen : (opening : ℕ) → ExprForm → (closing : ℕ) → ExprForm
+  -- left operator right; the place is the operator's
+  ABinary : BinOp → (at : ℕ) → ExprForm → ExprForm → ExprForm
 
 -- { "," expr }
 pub data ValuesForm : Type 0 where
@@ -49,23 +55,40 @@ pub data StmtsForm : Type 0 where
   ALet : (p0 : ℕ) → NameNode → (p1 : ℕ) → ExprForm → (p2 : ℕ) → StmtsForm → StmtsForm
   -- "read" NAME "=" NAME "[" expr "]" "." NAME "default" lit ";"
   ARead : (p0 : ℕ) → NameNode → (p1 : ℕ) → NameNode → (p2 : ℕ) → ExprForm → (p3 p4 : ℕ) → NameNode → (p5 : ℕ) → LiteralForm → (p6 : ℕ) → StmtsForm → StmtsForm
+  -- "has" NAME "=" NAME "[" expr "]" ";"
+  AHas : (p0 : ℕ) → NameNode → (p1 : ℕ) → NameNode → (p2 : ℕ) → ExprForm → (p3 p4 : ℕ) → StmtsForm → StmtsForm
   -- "put" NAME "[" expr "]" "=" "(" expr { "," expr } ")" ";"
   APut : (p0 : ℕ) → NameNode → (p1 : ℕ) → ExprForm → (p2 p3 p4 : ℕ) → ExprForm → ValuesForm → (p5 p6 : ℕ) → StmtsForm → StmtsForm
+  -- "set" NAME "[" expr "]" "." NAME "=" expr ";"
+  ASet : (p0 : ℕ) → NameNode → (p1 : ℕ) → ExprForm → (p2 p3 : ℕ) → NameNode → (p4 : ℕ) → ExprForm → (p5 : ℕ) → StmtsForm → StmtsForm
+  -- "delete" NAME "[" expr "]" ";"
+  ADelete : (p0 : ℕ) → NameNode → (p1 : ℕ) → ExprForm → (p2 p3 : ℕ) → StmtsForm → StmtsForm
+  -- "abort" "if" expr ";"
+  AnAbort : (p0 p1 : ℕ) → ExprForm → (p2 : ℕ) → StmtsForm → StmtsForm
+  -- "if" expr "{" { stmt } "}"
+  AnIf : (p0 : ℕ) → ExprForm → (p1 : ℕ) → StmtsForm → (p2 : ℕ) → StmtsForm → StmtsForm
+  -- "if" expr "{" { stmt } "}" "else" "{" { stmt } "}"
+  AnIfElse : (p0 : ℕ) → ExprForm → (p1 : ℕ) → StmtsForm → (p2 p3 p4 : ℕ) → StmtsForm → (p5 : ℕ) → StmtsForm → StmtsForm
 
--- { "," NAME "int" }
+-- type = "int" | "text"
+pub data TypeForm : Type 0 where
+  AnIntType : (at : ℕ) → TypeForm
+  ATextType : (at : ℕ) → TypeForm
+
+-- { "," NAME type }
 pub data ColumnsForm : Type 0 where
   NoColumn : ColumnsForm
-  AColumn : (comma : ℕ) → NameNode → (type : ℕ) → ColumnsForm → ColumnsForm
+  AColumn : (comma : ℕ) → NameNode → TypeForm → ColumnsForm → ColumnsForm
 
--- [ NAME "int" { "," NAME "int" } ]
+-- [ NAME type { "," NAME type } ]
 pub data ParamsForm : Type 0 where
   NoParam : ParamsForm
-  AParam : NameNode → (type : ℕ) → ColumnsForm → ParamsForm
+  AParam : NameNode → TypeForm → ColumnsForm → ParamsForm
 
--- { "table" NAME "(" "key" "int" "," NAME "int" { "," NAME "int" } ")" ";" }
+-- { "table" NAME "(" "key" type "," NAME type { "," NAME type } ")" ";" }
 pub data TablesForm : Type 0 where
   NoTable : TablesForm
-  ATable : (p0 : ℕ) → NameNode → (p1 p2 p3 p4 : ℕ) → NameNode → (p5 : ℕ) → ColumnsForm → (p6 p7 : ℕ) → TablesForm → TablesForm
+  ATable : (p0 : ℕ) → NameNode → (p1 p2 : ℕ) → TypeForm → (p3 : ℕ) → NameNode → TypeForm → ColumnsForm → (p4 p5 : ℕ) → TablesForm → TablesForm
 
 -- { "proc" NAME "(" params ")" "{" { stmt } "}" }
 pub data ProcsForm : Type 0 where
@@ -77,54 +100,140 @@ pub record CatalogueForm : Type 0 where
   pub tables : TablesForm
   pub procs : ProcsForm
 
+-- ---- operators and levels
+
+abbrev pub sign_of : BinOp → Symbol
+sign_of op.Add = symbol.Plus
+sign_of op.Sub = symbol.Minus
+sign_of op.Mul = symbol.Star
+sign_of op.Div = symbol.Slash
+sign_of op.Rem = symbol.Percent
+sign_of op.Eq = symbol.Equal
+sign_of op.Ne = symbol.NotEqual
+sign_of op.Lt = symbol.Less
+sign_of op.Le = symbol.LessEqual
+sign_of op.Gt = symbol.Greater
+sign_of op.Ge = symbol.GreaterEqual
+sign_of op.And = symbol.And
+sign_of op.Or = symbol.Or
+
+-- how loosely an operator binds: `* / %` the least, `||` the most
+abbrev pub tier : BinOp → ℕ
+tier op.Mul = 0
+tier op.Div = 0
+tier op.Rem = 0
+tier op.Add = 1
+tier op.Sub = 1
+tier op.Eq = 2
+tier op.Ne = 2
+tier op.Lt = 2
+tier op.Le = 2
+tier op.Gt = 2
+tier op.Ge = 2
+tier op.And = 3
+tier op.Or = 4
+
+-- The level of the left operand of operators of a tier: they group from the left, and comparisons do not follow one
+-- another.
+abbrev pub left_level : ℕ → ℕ
+left_level zero = 1
+left_level (suc zero) = 2
+left_level (suc (suc zero)) = 2
+left_level (suc (suc (suc n))) = suc (suc (suc (suc n)))
+
+-- The levels: 0 a literal, a name, a negation or parentheses; 1 products, 2 sums, 3 comparisons, 4 conjunctions, and 5
+-- any expression. An operator's operands are of a level that binds tighter, but for the left one of its own tier.
+abbrev pub AtLevel : ℕ → ExprForm → Type 0
+AtLevel n (ALiteral l) = Unit {0}
+AtLevel n (AName x) = Unit {0}
+AtLevel n (ANot at e) = AtLevel 0 e
+AtLevel n (AParen opening e closing) = AtLevel 5 e
+AtLevel n (ABinary op at l r) = (tier op < n) × AtLevel (left_level (tier op)) l × AtLevel (tier op) r
+
+-- an expression whose operators stand as the levels say
+abbrev pub IsExpr : ExprForm → Type 0
+IsExpr e = AtLevel 5 e
+
+abbrev pub AreValues : ValuesForm → Type 0
+AreValues NoValue = Unit {0}
+AreValues (AValue comma e vs) = IsExpr e × AreValues vs
+
+abbrev pub AreStmts : StmtsForm → Type 0
+AreStmts NoStmt = Unit {0}
+AreStmts (ALet p0 x p1 e p2 s) = IsExpr e × AreStmts s
+AreStmts (ARead p0 x p1 t p2 e p3 p4 c p5 l p6 s) = IsExpr e × AreStmts s
+AreStmts (AHas p0 x p1 t p2 e p3 p4 s) = IsExpr e × AreStmts s
+AreStmts (APut p0 t p1 e p2 p3 p4 v vs p5 p6 s) = IsExpr e × IsExpr v × AreValues vs × AreStmts s
+AreStmts (ASet p0 t p1 e p2 p3 c p4 v p5 s) = IsExpr e × IsExpr v × AreStmts s
+AreStmts (ADelete p0 t p1 e p2 p3 s) = IsExpr e × AreStmts s
+AreStmts (AnAbort p0 p1 e p2 s) = IsExpr e × AreStmts s
+AreStmts (AnIf p0 e p1 first p2 s) = IsExpr e × AreStmts first × AreStmts s
+AreStmts (AnIfElse p0 e p1 first p2 p3 p4 second p5 s) = IsExpr e × AreStmts first × AreStmts second × AreStmts s
+
+abbrev pub AreProcs : ProcsForm → Type 0
+AreProcs NoProc = Unit {0}
+AreProcs (AProc p0 n p1 ps p2 p3 s p4 procs) = AreStmts s × AreProcs procs
+
 -- ---- the trees of derivations
 
 abbrev pub literal_node : LiteralForm → LiteralNode
 literal_node (AnInt at z) = record { at = at; value = value.Int z }
 literal_node (ANegative minus at z) = record { at = minus; value = value.Int z }
+literal_node (AText at text) = record { at = at; value = value.Text text }
+literal_node (ATrue at) = record { at = at; value = value.Bool true }
+literal_node (AFalse at) = record { at = at; value = value.Bool false }
 
 -- the place of the first token
-abbrev pub operand_place : OperandForm → ℕ
-operand_place (ALiteral l) = (literal_node l).at
-operand_place (AName n) = n.at
-
 abbrev pub expr_place : ExprForm → ℕ
-expr_place (AnOperand x) = operand_place x
-expr_place (ASum e plus x) = expr_place e
+expr_place (ALiteral l) = (literal_node l).at
+expr_place (AName n) = n.at
+expr_place (ANot at e) = at
+expr_place (AParen opening e closing) = opening
+expr_place (ABinary op at l r) = expr_place l
 
-abbrev pub operand_node : OperandForm → ExprNode
-operand_node (ALiteral l) = Literal (literal_node l)
-operand_node (AName n) = Name n
-
--- sums group from the left
+-- the tree keeps no parentheses
 abbrev pub expr_node : ExprForm → ExprNode
-expr_node (AnOperand x) = operand_node x
-expr_node (ASum e plus x) = Binary (expr_place e) op.Add (expr_node e) (operand_node x)
+expr_node (ALiteral l) = Literal (literal_node l)
+expr_node (AName n) = Name n
+expr_node (ANot at e) = Not at (expr_node e)
+expr_node (AParen opening e closing) = expr_node e
+expr_node (ABinary op at l r) = Binary (expr_place l) op (expr_node l) (expr_node r)
 
 abbrev pub value_nodes : ValuesForm → List ExprNode
 value_nodes NoValue = []
 value_nodes (AValue comma e vs) = expr_node e ∷ value_nodes vs
 
+-- an `else` with no statements is the same tree as none
 abbrev pub stmt_nodes : StmtsForm → List StmtNode
 stmt_nodes NoStmt = []
 stmt_nodes (ALet p0 x p1 e p2 s) = stmt.Let x (expr_node e) ∷ stmt_nodes s
 stmt_nodes (ARead p0 x p1 t p2 e p3 p4 c p5 l p6 s) = stmt.Read x t (expr_node e) c (literal_node l) ∷ stmt_nodes s
+stmt_nodes (AHas p0 x p1 t p2 e p3 p4 s) = stmt.Has x t (expr_node e) ∷ stmt_nodes s
 stmt_nodes (APut p0 t p1 e p2 p3 p4 v vs p5 p6 s) = stmt.Put t (expr_node e) (expr_node v ∷ value_nodes vs) ∷ stmt_nodes s
+stmt_nodes (ASet p0 t p1 e p2 p3 c p4 v p5 s) = stmt.Set t (expr_node e) c (expr_node v) ∷ stmt_nodes s
+stmt_nodes (ADelete p0 t p1 e p2 p3 s) = stmt.Delete t (expr_node e) ∷ stmt_nodes s
+stmt_nodes (AnAbort p0 p1 e p2 s) = stmt.AbortIf (expr_node e) ∷ stmt_nodes s
+stmt_nodes (AnIf p0 e p1 first p2 s) = stmt.If (expr_node e) (stmt_nodes first) [] ∷ stmt_nodes s
+stmt_nodes (AnIfElse p0 e p1 first p2 p3 p4 second p5 s) = stmt.If (expr_node e) (stmt_nodes first) (stmt_nodes second) ∷ stmt_nodes s
 
-abbrev pub column_node : NameNode → ColumnNode
-column_node n = record { name = n; ty = ty.Int }
+abbrev pub type_of_form : TypeForm → Ty
+type_of_form (AnIntType at) = ty.Int
+type_of_form (ATextType at) = ty.Text
+
+abbrev pub column_node : NameNode → TypeForm → ColumnNode
+column_node n t = record { name = n; ty = type_of_form t }
 
 abbrev pub column_nodes : ColumnsForm → List ColumnNode
 column_nodes NoColumn = []
-column_nodes (AColumn comma n type cs) = column_node n ∷ column_nodes cs
+column_nodes (AColumn comma n t cs) = column_node n t ∷ column_nodes cs
 
 abbrev pub param_nodes : ParamsForm → List ColumnNode
 param_nodes NoParam = []
-param_nodes (AParam n type cs) = column_node n ∷ column_nodes cs
+param_nodes (AParam n t cs) = column_node n t ∷ column_nodes cs
 
 abbrev pub table_nodes : TablesForm → List TableNode
 table_nodes NoTable = []
-table_nodes (ATable p0 n p1 p2 p3 p4 c p5 cs p6 p7 ts) = record { name = n; key = ty.Int; columns = column_node c ∷ column_nodes cs } ∷ table_nodes ts
+table_nodes (ATable p0 n p1 p2 k p3 c t cs p4 p5 ts) = record { name = n; key = type_of_form k; columns = column_node c t ∷ column_nodes cs } ∷ table_nodes ts
 
 abbrev pub proc_nodes : ProcsForm → List ProcNode
 proc_nodes NoProc = []
@@ -142,7 +251,9 @@ pub data Role : Type 0 where
   ProcWord : ℕ → Role  -- the `proc` of so many procedures
   ColumnName : ℕ → Role  -- the name of so many columns of its table, the key not counted
   ParamName : ℕ → Role  -- the name of so many parameters of its procedure
-  Operator : ℕ → Role  -- the operator of so many in its expression
+  Operator : ℕ → Role  -- the operator of so many in its expression, parentheses included
+  Paren : ℕ → Role  -- the `(` of so many parentheses of its expression that are open at once
+  Nested : ℕ → Role  -- the `if` of so many conditionals that stand one in another
 
 pub record Marked : Type 0 where
   pub token : Spanned
@@ -163,57 +274,91 @@ name_mark n role = marked (token.Name n.name) n.at role
 abbrev pub literal_before : LiteralForm → List Marked → List Marked
 literal_before (AnInt at z) rest = marked (token.Int z) at Plain ∷ rest
 literal_before (ANegative minus at z) rest = symbol_mark symbol.Minus minus Plain ∷ marked (token.Negative z) at Plain ∷ rest
+literal_before (AText at text) rest = marked (token.Text text) at Plain ∷ rest
+literal_before (ATrue at) rest = keyword_mark keyword.True at Plain ∷ rest
+literal_before (AFalse at) rest = keyword_mark keyword.False at Plain ∷ rest
 
-abbrev pub operand_before : OperandForm → List Marked → List Marked
-operand_before (ALiteral l) rest = literal_before l rest
-operand_before (AName n) rest = name_mark n Plain ∷ rest
+-- the operators up to an expression's end, where so many stand before it
+abbrev pub counted : ℕ → ExprForm → ℕ
+counted o (ALiteral l) = o
+counted o (AName n) = o
+counted o (ANot at e) = counted (suc o) e
+counted o (AParen opening e closing) = counted o e
+counted o (ABinary op at l r) = counted (suc (counted o l)) r
 
--- how many operators an expression has
-abbrev pub operators : ExprForm → ℕ
-operators (AnOperand x) = 0
-operators (ASum e plus x) = suc (operators e)
+-- the tokens of an expression, before those that follow, where so many parentheses are open and so many operators stand
+-- before
+abbrev pub expr_before : ℕ → ℕ → ExprForm → List Marked → List Marked
+expr_before d o (ALiteral l) rest = literal_before l rest
+expr_before d o (AName n) rest = name_mark n Plain ∷ rest
+expr_before d o (ANot at e) rest = symbol_mark symbol.Not at (Operator (suc o)) ∷ expr_before d (suc o) e rest
+expr_before d o (AParen opening e closing) rest = symbol_mark symbol.OpenParen opening (Paren (suc d)) ∷ expr_before (suc d) o e (symbol_mark symbol.CloseParen closing Plain ∷ rest)
+expr_before d o (ABinary op at l r) rest = expr_before d o l (symbol_mark (sign_of op) at (Operator (suc (counted o l))) ∷ expr_before d (suc (counted o l)) r rest)
 
--- the tokens of an expression, before those that follow
-abbrev pub expr_before : ExprForm → List Marked → List Marked
-expr_before (AnOperand x) rest = operand_before x rest
-expr_before (ASum e plus x) rest = expr_before e (symbol_mark symbol.Plus plus (Operator (suc (operators e))) ∷ operand_before x rest)
+-- those of a whole expression
+abbrev pub whole_before : ExprForm → List Marked → List Marked
+whole_before e rest = expr_before 0 0 e rest
 
 abbrev pub values_before : ValuesForm → List Marked → List Marked
 values_before NoValue rest = rest
-values_before (AValue comma e vs) rest = symbol_mark symbol.Comma comma Plain ∷ expr_before e (values_before vs rest)
+values_before (AValue comma e vs) rest = symbol_mark symbol.Comma comma Plain ∷ whole_before e (values_before vs rest)
 
-abbrev pub stmts_before : StmtsForm → List Marked → List Marked
-stmts_before NoStmt rest = rest
-stmts_before (ALet p0 x p1 e p2 s) rest =
+-- the tokens of statements in so many conditionals
+abbrev pub stmts_before : ℕ → StmtsForm → List Marked → List Marked
+stmts_before d NoStmt rest = rest
+stmts_before d (ALet p0 x p1 e p2 s) rest =
     keyword_mark keyword.Let p0 Plain ∷ name_mark x Plain ∷ symbol_mark symbol.Assign p1 Plain
-    ∷ expr_before e (symbol_mark symbol.Semicolon p2 Plain ∷ stmts_before s rest)
-stmts_before (ARead p0 x p1 t p2 e p3 p4 c p5 l p6 s) rest =
+    ∷ whole_before e (symbol_mark symbol.Semicolon p2 Plain ∷ stmts_before d s rest)
+stmts_before d (ARead p0 x p1 t p2 e p3 p4 c p5 l p6 s) rest =
     keyword_mark keyword.Read p0 Plain ∷ name_mark x Plain ∷ symbol_mark symbol.Assign p1 Plain ∷ name_mark t Plain ∷ symbol_mark symbol.OpenBracket p2 Plain
-    ∷ expr_before e (symbol_mark symbol.CloseBracket p3 Plain ∷ symbol_mark symbol.Dot p4 Plain ∷ name_mark c Plain ∷ keyword_mark keyword.Default p5 Plain
-    ∷ literal_before l (symbol_mark symbol.Semicolon p6 Plain ∷ stmts_before s rest))
-stmts_before (APut p0 t p1 e p2 p3 p4 v vs p5 p6 s) rest =
+    ∷ whole_before e (symbol_mark symbol.CloseBracket p3 Plain ∷ symbol_mark symbol.Dot p4 Plain ∷ name_mark c Plain ∷ keyword_mark keyword.Default p5 Plain
+    ∷ literal_before l (symbol_mark symbol.Semicolon p6 Plain ∷ stmts_before d s rest))
+stmts_before d (AHas p0 x p1 t p2 e p3 p4 s) rest =
+    keyword_mark keyword.Has p0 Plain ∷ name_mark x Plain ∷ symbol_mark symbol.Assign p1 Plain ∷ name_mark t Plain ∷ symbol_mark symbol.OpenBracket p2 Plain
+    ∷ whole_before e (symbol_mark symbol.CloseBracket p3 Plain ∷ symbol_mark symbol.Semicolon p4 Plain ∷ stmts_before d s rest)
+stmts_before d (APut p0 t p1 e p2 p3 p4 v vs p5 p6 s) rest =
     keyword_mark keyword.Put p0 Plain ∷ name_mark t Plain ∷ symbol_mark symbol.OpenBracket p1 Plain
-    ∷ expr_before e (symbol_mark symbol.CloseBracket p2 Plain ∷ symbol_mark symbol.Assign p3 Plain ∷ symbol_mark symbol.OpenParen p4 Plain
-    ∷ expr_before v (values_before vs (symbol_mark symbol.CloseParen p5 Plain ∷ symbol_mark symbol.Semicolon p6 Plain ∷ stmts_before s rest)))
+    ∷ whole_before e (symbol_mark symbol.CloseBracket p2 Plain ∷ symbol_mark symbol.Assign p3 Plain ∷ symbol_mark symbol.OpenParen p4 Plain
+    ∷ whole_before v (values_before vs (symbol_mark symbol.CloseParen p5 Plain ∷ symbol_mark symbol.Semicolon p6 Plain ∷ stmts_before d s rest)))
+stmts_before d (ASet p0 t p1 e p2 p3 c p4 v p5 s) rest =
+    keyword_mark keyword.Set p0 Plain ∷ name_mark t Plain ∷ symbol_mark symbol.OpenBracket p1 Plain
+    ∷ whole_before e (symbol_mark symbol.CloseBracket p2 Plain ∷ symbol_mark symbol.Dot p3 Plain ∷ name_mark c Plain ∷ symbol_mark symbol.Assign p4 Plain
+    ∷ whole_before v (symbol_mark symbol.Semicolon p5 Plain ∷ stmts_before d s rest))
+stmts_before d (ADelete p0 t p1 e p2 p3 s) rest =
+    keyword_mark keyword.Delete p0 Plain ∷ name_mark t Plain ∷ symbol_mark symbol.OpenBracket p1 Plain
+    ∷ whole_before e (symbol_mark symbol.CloseBracket p2 Plain ∷ symbol_mark symbol.Semicolon p3 Plain ∷ stmts_before d s rest)
+stmts_before d (AnAbort p0 p1 e p2 s) rest =
+    keyword_mark keyword.Abort p0 Plain ∷ keyword_mark keyword.If p1 Plain ∷ whole_before e (symbol_mark symbol.Semicolon p2 Plain ∷ stmts_before d s rest)
+stmts_before d (AnIf p0 e p1 first p2 s) rest =
+    keyword_mark keyword.If p0 (Nested (suc d)) ∷ whole_before e (symbol_mark symbol.OpenBrace p1 Plain
+    ∷ stmts_before (suc d) first (symbol_mark symbol.CloseBrace p2 Plain ∷ stmts_before d s rest))
+stmts_before d (AnIfElse p0 e p1 first p2 p3 p4 second p5 s) rest =
+    keyword_mark keyword.If p0 (Nested (suc d)) ∷ whole_before e (symbol_mark symbol.OpenBrace p1 Plain
+    ∷ stmts_before (suc d) first (symbol_mark symbol.CloseBrace p2 Plain ∷ keyword_mark keyword.Else p3 Plain ∷ symbol_mark symbol.OpenBrace p4 Plain
+    ∷ stmts_before (suc d) second (symbol_mark symbol.CloseBrace p5 Plain ∷ stmts_before d s rest)))
+
+abbrev pub type_mark : TypeForm → Marked
+type_mark (AnIntType at) = keyword_mark keyword.Int at Plain
+type_mark (ATextType at) = keyword_mark keyword.Text at Plain
 
 -- the tokens of columns or parameters behind so many others
 abbrev pub columns_before : (ℕ → Role) → ℕ → ColumnsForm → List Marked → List Marked
 columns_before role i NoColumn rest = rest
-columns_before role i (AColumn comma n type cs) rest =
-    symbol_mark symbol.Comma comma Plain ∷ name_mark n (role (suc i)) ∷ keyword_mark keyword.Int type Plain ∷ columns_before role (suc i) cs rest
+columns_before role i (AColumn comma n t cs) rest =
+    symbol_mark symbol.Comma comma Plain ∷ name_mark n (role (suc i)) ∷ type_mark t ∷ columns_before role (suc i) cs rest
 
 abbrev pub params_before : ParamsForm → List Marked → List Marked
 params_before NoParam rest = rest
-params_before (AParam n type cs) rest = name_mark n (ParamName 1) ∷ keyword_mark keyword.Int type Plain ∷ columns_before ParamName 1 cs rest
+params_before (AParam n t cs) rest = name_mark n (ParamName 1) ∷ type_mark t ∷ columns_before ParamName 1 cs rest
 
 -- the tokens of tables behind so many others
 abbrev pub tables_before : ℕ → TablesForm → List Marked → List Marked
 tables_before i NoTable rest = rest
-tables_before i (ATable p0 n p1 p2 p3 p4 c p5 cs p6 p7 ts) rest =
+tables_before i (ATable p0 n p1 p2 k p3 c t cs p4 p5 ts) rest =
     keyword_mark keyword.Table p0 (TableWord (suc i)) ∷ name_mark n Plain ∷ symbol_mark symbol.OpenParen p1 Plain
-    ∷ keyword_mark keyword.Key p2 Plain ∷ keyword_mark keyword.Int p3 Plain ∷ symbol_mark symbol.Comma p4 Plain
-    ∷ name_mark c (ColumnName 1) ∷ keyword_mark keyword.Int p5 Plain
-    ∷ columns_before ColumnName 1 cs (symbol_mark symbol.CloseParen p6 Plain ∷ symbol_mark symbol.Semicolon p7 Plain ∷ tables_before (suc i) ts rest)
+    ∷ keyword_mark keyword.Key p2 Plain ∷ type_mark k ∷ symbol_mark symbol.Comma p3 Plain
+    ∷ name_mark c (ColumnName 1) ∷ type_mark t
+    ∷ columns_before ColumnName 1 cs (symbol_mark symbol.CloseParen p4 Plain ∷ symbol_mark symbol.Semicolon p5 Plain ∷ tables_before (suc i) ts rest)
 
 -- the tokens of procedures behind so many others
 abbrev pub procs_before : ℕ → ProcsForm → List Marked → List Marked
@@ -221,7 +366,7 @@ procs_before i NoProc rest = rest
 procs_before i (AProc p0 n p1 ps p2 p3 s p4 procs) rest =
     keyword_mark keyword.Proc p0 (ProcWord (suc i)) ∷ name_mark n Plain ∷ symbol_mark symbol.OpenParen p1 Plain
     ∷ params_before ps (symbol_mark symbol.CloseParen p2 Plain ∷ symbol_mark symbol.OpenBrace p3 Plain
-    ∷ stmts_before s (symbol_mark symbol.CloseBrace p4 Plain ∷ procs_before (suc i) procs rest))
+    ∷ stmts_before 0 s (symbol_mark symbol.CloseBrace p4 Plain ∷ procs_before (suc i) procs rest))
 
 abbrev pub marks_of : CatalogueForm → List Marked
 marks_of form = tables_before 0 form.tables (procs_before 0 form.procs [])
@@ -233,5 +378,6 @@ tokens_of (m ∷ ms) = m.token ∷ tokens_of ms
 -- these tokens with their roles are a catalogue's in the grammar without limits, and this is its tree
 pub record Whole (ms : List Marked) (tree : Tree) : Type 0 where
   pub form : CatalogueForm
+  pub levels : AreProcs form.procs
   pub spells : marks_of form ≡ ms
   pub is_tree : tree_of form ≡ tree

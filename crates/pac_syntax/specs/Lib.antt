@@ -1,5 +1,7 @@
 pub mod Spelling
+pub mod Kinds
 pub mod Tokens
+pub mod Lexing
 pub mod Grammar
 pub mod Faults
 pub mod Machine

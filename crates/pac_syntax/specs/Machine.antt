@@ -1,7 +1,9 @@
 -- Reading tokens one at a time: what is still to come, and what is done with it.
-use Rattle.std.specs.Prelude.{◌≡◌, ℕ, suc, ℤ, List, [], ◌∷◌, ◌++◌, Option, Some, None, Result, Ok, Err, Bool, true, false, nat_eq}
+use Rattle.std.specs.Prelude.{◌≡◌, ℕ, zero, suc, ℤ, List, [], ◌∷◌, ◌++◌, Option, Some, None, Result, Ok, Err, Bool, true, false, nat_eq, if◌then◌else◌}
+use Rattle.pac_value.specs.declared.values.Ty.{Ty}
 use Rattle.pac_value.specs.declared.values.Ty.TheVariants as ty
 use Rattle.pac_value.specs.declared.values.Value.TheVariants as value
+use Rattle.pac_value.specs.declared.expr.BinOp.{BinOp}
 use Rattle.pac_value.specs.declared.expr.BinOp.TheVariants as op
 use Rattle.pac_syntax.specs.declared.token.Keyword.{Keyword}
 use Rattle.pac_syntax.specs.declared.token.Keyword.TheVariants as keyword
@@ -12,7 +14,6 @@ use Rattle.pac_syntax.specs.declared.token.Token.TheVariants as token
 use Rattle.pac_syntax.specs.declared.token.Spanned.{Spanned}
 use Rattle.pac_syntax.specs.declared.statement.StatementWord.{StatementWord}
 use Rattle.pac_syntax.specs.declared.statement.StatementWord.TheVariants as word
-use Rattle.pac_syntax.specs.declared.fault.FaultKind.{FaultKind}
 use Rattle.pac_syntax.specs.declared.fault.FaultKind.TheVariants.{Expected}
 use Rattle.pac_syntax.specs.declared.fault.Fault.{Fault}
 use Rattle.pac_syntax.specs.declared.fault.SyntaxError.{SyntaxError}
@@ -20,16 +21,16 @@ use Rattle.pac_syntax.specs.declared.fault.SyntaxError.TheVariants as error
 use Rattle.pac_syntax.specs.declared.tree.NameNode.{NameNode}
 use Rattle.pac_syntax.specs.declared.tree.LiteralNode.{LiteralNode}
 use Rattle.pac_syntax.specs.declared.tree.ColumnNode.{ColumnNode}
-use Rattle.pac_syntax.specs.declared.tree.ExprNode.{ExprNode, Literal, Name, Binary}
+use Rattle.pac_syntax.specs.declared.tree.ExprNode.{ExprNode, Literal, Name, Binary, Not}
 use Rattle.pac_syntax.specs.declared.tree.StmtNode.{StmtNode}
 use Rattle.pac_syntax.specs.declared.tree.StmtNode.TheVariants as stmt
 use Rattle.pac_syntax.specs.declared.tree.TableNode.{TableNode}
 use Rattle.pac_syntax.specs.declared.tree.ProcNode.{ProcNode}
 use Rattle.pac_syntax.specs.declared.tree.Tree.{Tree}
-use Rattle.pac_syntax.specs.Grammar.{Role, Plain, TableWord, ProcWord, ColumnName, ParamName, Operator}
-use Rattle.pac_syntax.specs.Faults.{over, place}
+use Rattle.pac_syntax.specs.Grammar.{Role, Plain, TableWord, ProcWord, ColumnName, ParamName, Operator, Paren, Nested, tier}
+use Rattle.pac_syntax.specs.Faults.{fault_of, over_role, place}
 
--- an expression, and where it begins
+-- an expression, and where it begins, parentheses round it included
 pub record Begun : Type 0 where
   pub from : ℕ
   pub expr : ExprNode
@@ -40,18 +41,21 @@ pub data Steps : Type 0 where
   Done : Tree → Steps
   -- this word or sign
   Want : Token → Steps → Steps
-  -- a name of this role
+  -- a name of this role; a type; a literal; the int behind a literal's `-` at this place
   WantName : Role → (NameNode → Steps) → Steps
-  -- a literal; the int behind a literal's `-` at this place
+  WantType : (Ty → Steps) → Steps
   WantLiteral : (LiteralNode → Steps) → Steps
   WantNegative : ℕ → (LiteralNode → Steps) → Steps
-  -- an operand; { "+" operand } behind a left side with so many operators
-  WantOperand : (Begun → Steps) → Steps
-  MoreOperands : Begun → ℕ → (ExprNode → Steps) → Steps
+  -- an expression of a level, where so many parentheses are open and so many operators stand before
+  Level : (open_parens level operators : ℕ) → (Begun → ℕ → Steps) → Steps
+  -- the operators of a tier with their right operands, behind a left one
+  Rest : (open_parens tier : ℕ) → Begun → (operators : ℕ) → (Begun → ℕ → Steps) → Steps
   -- { "," expr } behind these values
   MoreValues : List ExprNode → (List ExprNode → Steps) → Steps
-  -- { stmt } behind these statements
-  MoreStmts : List StmtNode → (List StmtNode → Steps) → Steps
+  -- { stmt } behind these statements, in so many conditionals
+  MoreStmts : ℕ → List StmtNode → (List StmtNode → Steps) → Steps
+  -- [ "else" block ]
+  MaybeElse : ℕ → (List StmtNode → Steps) → Steps
   -- { "," column } behind so many columns, whose names have these roles
   MoreColumns : (ℕ → Role) → ℕ → List ColumnNode → (List ColumnNode → Steps) → Steps
   -- [ column { "," column } ]
@@ -65,10 +69,10 @@ pub record Next : Type 0 where
   pub steps : Steps
   pub role : Role
 
--- the tokens from the refused one on
+-- where the reading stopped: the tokens from the refused one on, and the fault that is told
 pub record Stop : Type 0 where
   pub rest : List Spanned
-  pub kind : FaultKind
+  pub fault : Fault
 
 -- ---- tokens
 
@@ -106,6 +110,18 @@ symbol_code symbol.Dot = 8
 symbol_code symbol.Assign = 9
 symbol_code symbol.Plus = 10
 symbol_code symbol.Minus = 11
+symbol_code symbol.Star = 12
+symbol_code symbol.Slash = 13
+symbol_code symbol.Percent = 14
+symbol_code symbol.Not = 15
+symbol_code symbol.Less = 16
+symbol_code symbol.Greater = 17
+symbol_code symbol.Equal = 18
+symbol_code symbol.NotEqual = 19
+symbol_code symbol.LessEqual = 20
+symbol_code symbol.GreaterEqual = 21
+symbol_code symbol.And = 22
+symbol_code symbol.Or = 23
 
 -- the two are one word or one sign
 abbrev pub is_mark : Token → Token → Bool
@@ -117,8 +133,49 @@ abbrev pub name_in : Token → ℕ → Option NameNode
 name_in (token.Name n) at = Some (record { at = at; name = n })
 name_in _ at = None
 
+abbrev pub type_in : Token → Option Ty
+type_in (token.Keyword keyword.Int) = Some ty.Int
+type_in (token.Keyword keyword.Text) = Some ty.Text
+type_in _ = None
+
 abbrev pub literal_at : ℕ → ℤ → LiteralNode
 literal_at at z = record { at = at; value = value.Int z }
+
+-- a literal of one token
+abbrev pub literal_in : Token → ℕ → Option LiteralNode
+literal_in (token.Int z) at = Some (literal_at at z)
+literal_in (token.Text text) at = Some (record { at = at; value = value.Text text })
+literal_in (token.Keyword keyword.True) at = Some (record { at = at; value = value.Bool true })
+literal_in (token.Keyword keyword.False) at = Some (record { at = at; value = value.Bool false })
+literal_in _ at = None
+
+abbrev pub operator_of : Symbol → Option BinOp
+operator_of symbol.Plus = Some op.Add
+operator_of symbol.Minus = Some op.Sub
+operator_of symbol.Star = Some op.Mul
+operator_of symbol.Slash = Some op.Div
+operator_of symbol.Percent = Some op.Rem
+operator_of symbol.Equal = Some op.Eq
+operator_of symbol.NotEqual = Some op.Ne
+operator_of symbol.Less = Some op.Lt
+operator_of symbol.LessEqual = Some op.Le
+operator_of symbol.Greater = Some op.Gt
+operator_of symbol.GreaterEqual = Some op.Ge
+operator_of symbol.And = Some op.And
+operator_of symbol.Or = Some op.Or
+operator_of _ = None
+
+abbrev pub operator_in : Token → Option BinOp
+operator_in (token.Symbol s) = operator_of s
+operator_in _ = None
+
+abbrev pub of_tier : ℕ → Option BinOp → Option BinOp
+of_tier n None = None
+of_tier n (Some op) = if nat_eq (tier op) n then Some op else None
+
+-- the operator of a tier that a token is
+abbrev pub operator_at : ℕ → Token → Option BinOp
+operator_at n t = of_tier n (operator_in t)
 
 -- ---- the steps of each form
 
@@ -131,11 +188,38 @@ want_keyword w k = Want (token.Keyword w) k
 abbrev pub want_symbol : Symbol → Steps → Steps
 want_symbol sign k = Want (token.Symbol sign) k
 
+-- an expression of its own
 abbrev pub want_expr : (ExprNode → Steps) → Steps
-want_expr k = WantOperand (λ x. MoreOperands x 0 k)
+want_expr k = Level 0 5 0 (λ x o. k x.expr)
 
-abbrev pub joined : Begun → Begun → Begun
-joined l r = record { from = l.from; expr = Binary l.from op.Add l.expr r.expr }
+abbrev pub begun_name : NameNode → Begun
+begun_name n = record { from = n.at; expr = Name n }
+
+abbrev pub begun_literal : LiteralNode → Begun
+begun_literal l = record { from = l.at; expr = Literal l }
+
+abbrev pub negated : ℕ → Begun → Begun
+negated at x = record { from = at; expr = Not at x.expr }
+
+abbrev pub enclosed : ℕ → Begun → Begun
+enclosed at x = record { from = at; expr = x.expr }
+
+abbrev pub joined : BinOp → Begun → Begun → Begun
+joined op l r = record { from = l.from; expr = Binary l.from op l.expr r.expr }
+
+-- what may still follow behind an expression of a level: operators of the loosest tier in it, but behind a comparison
+-- none
+abbrev pub top : ℕ → ℕ → (Begun → ℕ → Steps) → Begun → ℕ → Steps
+top d zero k x o = k x o
+top d (suc zero) k x o = Rest d 0 x o k
+top d (suc (suc zero)) k x o = Rest d 1 x o k
+top d (suc (suc (suc zero))) k x o = k x o
+top d (suc (suc (suc (suc n)))) k x o = Rest d (suc (suc (suc n))) x o k
+
+-- the rests of the tiers below a level, from the tightest on
+abbrev pub lay : ℕ → ℕ → (Begun → ℕ → Steps) → Begun → ℕ → Steps
+lay d zero k = k
+lay d (suc n) k = lay d n (λ x o. Rest d n x o k)
 
 -- TABLE "[" expr "]"
 abbrev pub place_steps : (NameNode → ExprNode → Steps) → Steps
@@ -148,15 +232,34 @@ abbrev pub read_steps : (StmtNode → Steps) → Steps
 read_steps k = WantName Plain (λ x. want_symbol symbol.Assign (place_steps (λ t e. want_symbol symbol.Dot (WantName Plain (λ c.
     want_keyword keyword.Default (WantLiteral (λ l. want_symbol symbol.Semicolon (k (stmt.Read x t e c l)))))))))
 
+abbrev pub has_steps : (StmtNode → Steps) → Steps
+has_steps k = WantName Plain (λ x. want_symbol symbol.Assign (place_steps (λ t e. want_symbol symbol.Semicolon (k (stmt.Has x t e)))))
+
 abbrev pub values_steps : (List ExprNode → Steps) → Steps
 values_steps k = want_symbol symbol.OpenParen (want_expr (λ v. MoreValues (v ∷ []) (λ vs. want_symbol symbol.CloseParen (k vs))))
 
 abbrev pub put_steps : (StmtNode → Steps) → Steps
 put_steps k = place_steps (λ t e. want_symbol symbol.Assign (values_steps (λ vs. want_symbol symbol.Semicolon (k (stmt.Put t e vs)))))
 
+abbrev pub set_steps : (StmtNode → Steps) → Steps
+set_steps k = place_steps (λ t e. want_symbol symbol.Dot (WantName Plain (λ c. want_symbol symbol.Assign (want_expr (λ v. want_symbol symbol.Semicolon (k (stmt.Set t e c v)))))))
+
+abbrev pub delete_steps : (StmtNode → Steps) → Steps
+delete_steps k = place_steps (λ t e. want_symbol symbol.Semicolon (k (stmt.Delete t e)))
+
+abbrev pub abort_steps : (StmtNode → Steps) → Steps
+abort_steps k = want_keyword keyword.If (want_expr (λ e. want_symbol symbol.Semicolon (k (stmt.AbortIf e))))
+
+-- "{" { stmt } "}"
+abbrev pub block_steps : ℕ → (List StmtNode → Steps) → Steps
+block_steps d k = want_symbol symbol.OpenBrace (MoreStmts d [] (λ b. want_symbol symbol.CloseBrace (k b)))
+
+abbrev pub if_steps : ℕ → (StmtNode → Steps) → Steps
+if_steps d k = want_expr (λ e. block_steps (suc d) (λ first. MaybeElse (suc d) (λ second. k (stmt.If e first second))))
+
 -- the type behind a column's name
 abbrev pub typed_steps : NameNode → (ColumnNode → Steps) → Steps
-typed_steps n k = want_keyword keyword.Int (k (record { name = n; ty = ty.Int }))
+typed_steps n k = WantType (λ t. k (record { name = n; ty = t }))
 
 abbrev pub column_steps : Role → (ColumnNode → Steps) → Steps
 column_steps role k = WantName role (λ n. typed_steps n k)
@@ -165,12 +268,12 @@ abbrev pub columns_steps : (List ColumnNode → Steps) → Steps
 columns_steps k = column_steps (ColumnName 1) (λ c. MoreColumns ColumnName 1 (c ∷ []) k)
 
 abbrev pub table_steps : (TableNode → Steps) → Steps
-table_steps k = WantName Plain (λ n. want_symbol symbol.OpenParen (want_keyword keyword.Key (want_keyword keyword.Int (want_symbol symbol.Comma (columns_steps (λ cs.
-    want_symbol symbol.CloseParen (want_symbol symbol.Semicolon (k (record { name = n; key = ty.Int; columns = cs })))))))))
+table_steps k = WantName Plain (λ n. want_symbol symbol.OpenParen (want_keyword keyword.Key (WantType (λ key. want_symbol symbol.Comma (columns_steps (λ cs.
+    want_symbol symbol.CloseParen (want_symbol symbol.Semicolon (k (record { name = n; key = key; columns = cs })))))))))
 
 abbrev pub proc_steps : (ProcNode → Steps) → Steps
-proc_steps k = WantName Plain (λ n. want_symbol symbol.OpenParen (SomeParams (λ ps. want_symbol symbol.CloseParen (want_symbol symbol.OpenBrace (MoreStmts [] (λ b.
-    want_symbol symbol.CloseBrace (k (record { name = n; params = ps; body = b }))))))))
+proc_steps k = WantName Plain (λ n. want_symbol symbol.OpenParen (SomeParams (λ ps. want_symbol symbol.CloseParen (block_steps 0 (λ b.
+    k (record { name = n; params = ps; body = b }))))))
 
 abbrev pub tree_end : List TableNode → List ProcNode → Steps
 tree_end ts ps = Done (record { tables = ts; procs = ps })
@@ -191,65 +294,79 @@ abbrev pub where_true : Bool → Next → Option Next
 where_true true n = Some n
 where_true false n = None
 
-abbrev pub with_name : Option NameNode → (NameNode → Next) → Option Next
-with_name None f = None
-with_name (Some n) f = Some (f n)
+abbrev pub where_some : {A : Type 0} → Option A → (A → Next) → Option Next
+where_some None f = None
+where_some (Some x) f = Some (f x)
 
 abbrev pub literal_begins : Token → ℕ → (LiteralNode → Steps) → Option Next
-literal_begins (token.Int z) at k = Some (next (k (literal_at at z)) Plain)
-literal_begins (token.Symbol symbol.Minus) at k = Some (next (WantNegative at k) Plain)
-literal_begins _ at k = None
+literal_begins t at k = or_else (where_some (literal_in t at) (λ l. next (k l) Plain)) (where_true (is_mark (token.Symbol symbol.Minus) t) (next (WantNegative at k) Plain))
 
 abbrev pub negative_in : Token → ℕ → (LiteralNode → Steps) → Option Next
 negative_in (token.Negative z) minus k = Some (next (k (literal_at minus z)) Plain)
 negative_in _ minus k = None
 
-abbrev pub literal_operand : (Begun → Steps) → LiteralNode → Steps
-literal_operand k l = k (record { from = l.at; expr = Literal l })
+-- behind a negation's `!`, and behind a parenthesis
+abbrev pub negation_steps : ℕ → ℕ → ℕ → (Begun → ℕ → Steps) → Steps
+negation_steps at d o k = Level d 0 o (λ x o. k (negated at x) o)
 
-abbrev pub name_operand : (Begun → Steps) → NameNode → Next
-name_operand k n = next (k (record { from = n.at; expr = Name n })) Plain
+abbrev pub paren_steps : ℕ → ℕ → ℕ → (Begun → ℕ → Steps) → Steps
+paren_steps at d o k = Level d 5 o (λ x o. want_symbol symbol.CloseParen (k (enclosed at x) o))
 
-abbrev pub operand_begins : Token → ℕ → (Begun → Steps) → Option Next
-operand_begins t at k = or_else (with_name (name_in t at) (name_operand k)) (literal_begins t at (literal_operand k))
+abbrev pub operand_begins : Token → ℕ → ℕ → ℕ → (Begun → ℕ → Steps) → Option Next
+operand_begins (token.Name n) at d o k = Some (next (k (begun_name (record { at = at; name = n })) o) Plain)
+operand_begins (token.Symbol symbol.Not) at d o k = Some (next (negation_steps at d (suc o) k) (Operator (suc o)))
+operand_begins (token.Symbol symbol.OpenParen) at d o k = Some (next (paren_steps at (suc d) o k) (Paren (suc d)))
+operand_begins t at d o k = literal_begins t at (λ l. k (begun_literal l) o)
 
 -- the word that begins a statement
 abbrev pub stmt_word : Token → Option StatementWord
 stmt_word (token.Keyword keyword.Let) = Some word.Let
 stmt_word (token.Keyword keyword.Read) = Some word.Read
+stmt_word (token.Keyword keyword.Has) = Some word.Has
 stmt_word (token.Keyword keyword.Put) = Some word.Put
+stmt_word (token.Keyword keyword.Set) = Some word.Set
+stmt_word (token.Keyword keyword.Delete) = Some word.Delete
+stmt_word (token.Keyword keyword.Abort) = Some word.Abort
+stmt_word (token.Keyword keyword.If) = Some word.If
 stmt_word _ = None
 
 -- what comes behind it
-abbrev pub stmt_steps : StatementWord → (StmtNode → Steps) → Steps
-stmt_steps word.Let k = let_steps k
-stmt_steps word.Read k = read_steps k
-stmt_steps word.Put k = put_steps k
+abbrev pub stmt_steps : ℕ → StatementWord → (StmtNode → Steps) → Steps
+stmt_steps d word.Let k = let_steps k
+stmt_steps d word.Read k = read_steps k
+stmt_steps d word.Has k = has_steps k
+stmt_steps d word.Put k = put_steps k
+stmt_steps d word.Set k = set_steps k
+stmt_steps d word.Delete k = delete_steps k
+stmt_steps d word.Abort k = abort_steps k
+stmt_steps d word.If k = if_steps d k
 
-abbrev pub with_word : Option StatementWord → (StatementWord → Next) → Option Next
-with_word None f = None
-with_word (Some w) f = Some (f w)
+abbrev pub stmt_role : ℕ → StatementWord → Role
+stmt_role d word.If = Nested (suc d)
+stmt_role d _ = Plain
 
-abbrev pub stmt_begins : Token → (StmtNode → Steps) → Option Next
-stmt_begins t k = with_word (stmt_word t) (λ w. next (stmt_steps w k) Plain)
+abbrev pub stmt_begins : ℕ → Token → (StmtNode → Steps) → Option Next
+stmt_begins d t k = where_some (stmt_word t) (λ w. next (stmt_steps d w k) (stmt_role d w))
 
 -- what is to come behind the token, where it can follow
 unfoldable pub feed : Steps → Spanned → Option Next
 feed (Done tree) t = None
 feed (Want w k) t = where_true (is_mark w t.token) (next k Plain)
-feed (WantName role k) t = with_name (name_in t.token t.at) (λ n. next (k n) role)
+feed (WantName role k) t = where_some (name_in t.token t.at) (λ n. next (k n) role)
+feed (WantType k) t = where_some (type_in t.token) (λ y. next (k y) Plain)
 feed (WantLiteral k) t = literal_begins t.token t.at k
 feed (WantNegative minus k) t = negative_in t.token minus k
-feed (WantOperand k) t = operand_begins t.token t.at k
-feed (MoreOperands l i k) t =
-    or_else (where_true (is_mark (token.Symbol symbol.Plus) t.token) (next (WantOperand (λ r. MoreOperands (joined l r) (suc i) k)) (Operator (suc i)))) (feed (k l.expr) t)
+feed (Level d n o k) t = operand_begins t.token t.at d o (lay d n k)
+feed (Rest d n x o k) t =
+    or_else (where_some (operator_at n t.token) (λ op. next (Level d n (suc o) (λ y o. top d (suc n) k (joined op x y) o)) (Operator (suc o)))) (feed (k x o) t)
 feed (MoreValues vs k) t =
     or_else (where_true (is_mark (token.Symbol symbol.Comma) t.token) (next (want_expr (λ v. MoreValues (vs ++ (v ∷ [])) k)) Plain)) (feed (k vs) t)
-feed (MoreStmts ss k) t = or_else (stmt_begins t.token (λ s. MoreStmts (ss ++ (s ∷ [])) k)) (feed (k ss) t)
+feed (MoreStmts d ss k) t = or_else (stmt_begins d t.token (λ s. MoreStmts d (ss ++ (s ∷ [])) k)) (feed (k ss) t)
+feed (MaybeElse d k) t = or_else (where_true (is_mark (token.Keyword keyword.Else) t.token) (next (block_steps d k) Plain)) (feed (k []) t)
 feed (MoreColumns role i cs k) t =
     or_else (where_true (is_mark (token.Symbol symbol.Comma) t.token) (next (column_steps (role (suc i)) (λ c. MoreColumns role (suc i) (cs ++ (c ∷ [])) k)) Plain)) (feed (k cs) t)
 feed (SomeParams k) t =
-    or_else (with_name (name_in t.token t.at) (λ n. next (want_keyword keyword.Int (MoreColumns ParamName 1 (record { name = n; ty = ty.Int } ∷ []) k)) (ParamName 1))) (feed (k []) t)
+    or_else (where_some (name_in t.token t.at) (λ n. next (typed_steps n (λ c. MoreColumns ParamName 1 (c ∷ []) k)) (ParamName 1))) (feed (k []) t)
 feed (MoreTables i ts k) t =
     or_else (where_true (is_mark (token.Keyword keyword.Table) t.token) (next (table_steps (λ table. MoreTables (suc i) (ts ++ (table ∷ [])) k)) (TableWord (suc i)))) (feed (k ts) t)
 feed (MoreProcs i ps k) t =
@@ -257,46 +374,53 @@ feed (MoreProcs i ps k) t =
 
 -- ---- all tokens
 
-abbrev pub unended : Result Tree Stop
-unended = Err (record { rest = []; kind = Expected })
-
--- the end of the tokens
-unfoldable pub finish : Steps → Result Tree Stop
-finish (Done tree) = Ok tree
-finish (Want w k) = unended
-finish (WantName role k) = unended
-finish (WantLiteral k) = unended
-finish (WantNegative minus k) = unended
-finish (WantOperand k) = unended
-finish (MoreOperands l i k) = finish (k l.expr)
+-- the tree at the end of the tokens, where they may end
+unfoldable pub finish : Steps → Option Tree
+finish (Done tree) = Some tree
+finish (Want w k) = None
+finish (WantName role k) = None
+finish (WantType k) = None
+finish (WantLiteral k) = None
+finish (WantNegative minus k) = None
+finish (Level d n o k) = None
+finish (Rest d n x o k) = finish (k x o)
 finish (MoreValues vs k) = finish (k vs)
-finish (MoreStmts ss k) = finish (k ss)
+finish (MoreStmts d ss k) = finish (k ss)
+finish (MaybeElse d k) = finish (k [])
 finish (MoreColumns role i cs k) = finish (k cs)
 finish (SomeParams k) = finish (k [])
 finish (MoreTables i ts k) = finish (k ts)
 finish (MoreProcs i ps k) = finish (k ps)
 
+-- a stop at the first of these tokens, or at the end, which can't follow
+abbrev pub unexpected : ℕ → List Spanned → Stop
+unexpected end rest = record { rest = rest; fault = fault_of Expected (place end rest) }
+
+abbrev pub ended : ℕ → Option Tree → Result Tree Stop
+ended end (Some tree) = Ok tree
+ended end None = Err (unexpected end [])
+
 -- a token over a limit ends the reading
-abbrev pub bar : Option FaultKind → List Spanned → Result Tree Stop → Result Tree Stop
+abbrev pub bar : Option Fault → List Spanned → Result Tree Stop → Result Tree Stop
 bar None rest r = r
-bar (Some kind) rest r = Err (record { rest = rest; kind = kind })
+bar (Some fault) rest r = Err (record { rest = rest; fault = fault })
 
-abbrev pub go : Option Next → List Spanned → (Next → Result Tree Stop) → Result Tree Stop
-go None rest f = Err (record { rest = rest; kind = Expected })
-go (Some n) rest f = bar (over n.role) rest (f n)
+abbrev pub go : ℕ → Option Next → Spanned → List Spanned → (Next → Result Tree Stop) → Result Tree Stop
+go end None t ts f = Err (unexpected end (t ∷ ts))
+go end (Some n) t ts f = bar (over_role n.role t.at) (t ∷ ts) (f n)
 
--- the tree that the tokens give, or where and why they stop
-unfoldable pub scan : Steps → List Spanned → Result Tree Stop
-scan k [] = finish k
-scan k (t ∷ ts) = go (feed k t) (t ∷ ts) (λ n. scan n.steps ts)
+-- the tree that the tokens of a text that ends there give, or where and why they stop
+unfoldable pub scan : ℕ → Steps → List Spanned → Result Tree Stop
+scan end k [] = ended end (finish k)
+scan end k (t ∷ ts) = go end (feed k t) t ts (λ n. scan end n.steps ts)
 
-abbrev pub located : ℕ → Result Tree Stop → Result Tree Fault
-located end (Ok tree) = Ok tree
-located end (Err s) = Err (record { at = place end s.rest; kind = s.kind })
+abbrev pub told : Result Tree Stop → Result Tree Fault
+told (Ok tree) = Ok tree
+told (Err stop) = Err stop.fault
 
--- the same with the place of the stop, in a text that ends there
+-- the same with the fault alone
 unfoldable pub run : ℕ → Steps → List Spanned → Result Tree Fault
-run end k ts = located end (scan k ts)
+run end k ts = told (scan end k ts)
 
 -- ---- what a function of the parser says
 
@@ -313,3 +437,8 @@ Gives after (Err e) read = Fails e read
 abbrev pub OkOrMemory : {X : Type 0} → Result X SyntaxError → (X → Type 0) → Type 0
 OkOrMemory (Ok x) P = P x
 OkOrMemory (Err e) P = e ≡ error.NoMemory
+
+-- what follows where there is something, and where there is nothing
+abbrev pub either : {X Y : Type 0} → Option X → Y → (X → Y) → Y
+either None none some = none
+either (Some x) none some = some x

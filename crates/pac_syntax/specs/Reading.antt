@@ -1,7 +1,5 @@
 -- What a text is read as.
 use Rattle.std.specs.Prelude.{◌≡◌, ◌≤◌, ◌<◌, ◌⊎◌, ℕ, List, length, Option, Some, None, Result, Ok, Err, nat_lt, if◌then◌else◌}
-use Rattle.std.specs.Global.{Global}
-use Rattle.std.specs.Prelude.{Vec}
 use Rattle.pac_syntax.specs.declared.token.Spanned.{Spanned}
 use Rattle.pac_syntax.specs.declared.fault.FaultKind.TheVariants.{TooLong}
 use Rattle.pac_syntax.specs.declared.fault.Fault.{Fault}
@@ -18,9 +16,13 @@ pub record Reads (text : List ℕ) (tree : Tree) : Type 0 where
   pub lexed : IsLexed text tokens None
   pub parsed : ReadsTokens tokens tree
 
+-- some text reads as the tree
+abbrev pub IsTree : Tree → Type 0
+IsTree tree = (text : List ℕ) × Reads text tree
+
 -- the result is these tokens, or memory ran out
-abbrev pub AreTokensOrMemory : Result (Vec Spanned Global) SyntaxError → List Spanned → Type 0
-AreTokensOrMemory (Ok found) ts = found.items ≡ ts
+abbrev pub AreTokensOrMemory : Result (List Spanned) SyntaxError → List Spanned → Type 0
+AreTokensOrMemory (Ok found) ts = found ≡ ts
 AreTokensOrMemory (Err e) ts = e ≡ error.NoMemory
 
 -- the tokens in front of this place are a catalogue's, or their own first fault is not in front of it
@@ -33,13 +35,13 @@ IsFirstOf end ts None fault = IsFirstFault end ts fault
 IsFirstOf end ts (Some lexical) fault = (IsFirstFault lexical.at ts fault × (fault.at < lexical.at)) ⊎ ((fault ≡ lexical) × IsFineBefore lexical.at ts)
 
 -- the fault of a text that is too long: at its first byte too many
-abbrev pub IsTooLong : List ℕ → Fault → Type 0
-IsTooLong text fault = (65536 < length text) × (fault ≡ record { at = 65536; kind = TooLong })
+abbrev pub IsLongText : List ℕ → Fault → Type 0
+IsLongText text fault = (65536 < length text) × (fault ≡ record { at = 65536; kind = TooLong })
 
 -- the first fault of a text: it is too long, or the first one of its tokens
 abbrev pub IsTextFault : List ℕ → Fault → Type 0
 IsTextFault text fault =
-    IsTooLong text fault ⊎ ((length text ≤ 65536) × (ts : List Spanned) × (lexical : Option Fault) × IsLexed text ts lexical × IsFirstOf (length text) ts lexical fault)
+    IsLongText text fault ⊎ ((length text ≤ 65536) × (ts : List Spanned) × (lexical : Option Fault) × IsLexed text ts lexical × IsFirstOf (length text) ts lexical fault)
 
 -- what is told where the tokens in front of a fault are read so: the fault that stands first
 abbrev pub told_of : Result Tree SyntaxError → Fault → SyntaxError

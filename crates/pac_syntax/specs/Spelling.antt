@@ -1,5 +1,5 @@
--- How reserved words and signs are spelled.
-use Rattle.std.specs.Prelude.{ℕ, List, codes}
+-- How reserved words, signs and texts are spelled.
+use Rattle.std.specs.Prelude.{ℕ, List, [], ◌∷◌, ◌++◌, codes, nat_eq, ◌||◌, if◌then◌else◌}
 use Rattle.pac_syntax.specs.declared.token.Keyword.{Keyword}
 use Rattle.pac_syntax.specs.declared.token.Keyword.TheVariants as keyword
 use Rattle.pac_syntax.specs.declared.token.Symbol.{Symbol}
@@ -27,17 +27,43 @@ keyword_spelling keyword.False = codes "false"
 keyword_spelling keyword.For = codes "for"
 keyword_spelling keyword.In = codes "in"
 
--- the byte of a sign
-abbrev pub symbol_spelling : Symbol → ℕ
-symbol_spelling symbol.OpenParen = 40
-symbol_spelling symbol.CloseParen = 41
-symbol_spelling symbol.OpenBrace = 123
-symbol_spelling symbol.CloseBrace = 125
-symbol_spelling symbol.OpenBracket = 91
-symbol_spelling symbol.CloseBracket = 93
-symbol_spelling symbol.Comma = 44
-symbol_spelling symbol.Semicolon = 59
-symbol_spelling symbol.Dot = 46
-symbol_spelling symbol.Assign = 61
-symbol_spelling symbol.Plus = 43
-symbol_spelling symbol.Minus = 45
+-- the bytes of a sign
+abbrev pub symbol_spelling : Symbol → List ℕ
+symbol_spelling symbol.OpenParen = codes "("
+symbol_spelling symbol.CloseParen = codes ")"
+symbol_spelling symbol.OpenBrace = codes "{"
+symbol_spelling symbol.CloseBrace = codes "}"
+symbol_spelling symbol.OpenBracket = codes "["
+symbol_spelling symbol.CloseBracket = codes "]"
+symbol_spelling symbol.Comma = codes ","
+symbol_spelling symbol.Semicolon = codes ";"
+symbol_spelling symbol.Dot = codes "."
+symbol_spelling symbol.Assign = codes "="
+symbol_spelling symbol.Plus = codes "+"
+symbol_spelling symbol.Minus = codes "-"
+symbol_spelling symbol.Star = codes "*"
+symbol_spelling symbol.Slash = codes "/"
+symbol_spelling symbol.Percent = codes "%"
+symbol_spelling symbol.Not = codes "!"
+symbol_spelling symbol.Less = codes "<"
+symbol_spelling symbol.Greater = codes ">"
+symbol_spelling symbol.Equal = codes "=="
+symbol_spelling symbol.NotEqual = codes "!="
+symbol_spelling symbol.LessEqual = codes "<="
+symbol_spelling symbol.GreaterEqual = codes ">="
+symbol_spelling symbol.And = codes "&&"
+symbol_spelling symbol.Or = codes "||"
+
+-- ---- texts
+
+-- a byte of a text in its spelling: `"` and `\` have a `\` in front
+abbrev pub escaped_byte : ℕ → List ℕ
+escaped_byte b = if nat_eq b 34 || nat_eq b 92 then 92 ∷ b ∷ [] else b ∷ []
+
+abbrev pub escaped : List ℕ → List ℕ
+escaped [] = []
+escaped (b ∷ bs) = escaped_byte b ++ escaped bs
+
+-- a text between its quotes
+abbrev pub quoted : List ℕ → List ℕ
+quoted text = 34 ∷ (escaped text ++ (34 ∷ []))

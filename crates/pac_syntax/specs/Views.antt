@@ -1,16 +1,18 @@
 -- What the parser's parts say of the tokens that are left.
-use Rattle.std.specs.Prelude.{◌≡◌, ℕ, ℤ, List, [], ◌∷◌, true, false, Option, Some, None}
+use Rattle.std.specs.Prelude.{◌≡◌, ℕ, ℤ, List, [], ◌∷◌, Bool, true, false, nat_le, Option, Some, None}
+use Rattle.pac_value.specs.declared.values.Ty.{Ty}
 use Rattle.pac_syntax.specs.declared.token.Token.{Token}
 use Rattle.pac_syntax.specs.declared.token.Token.TheVariants as token
 use Rattle.pac_syntax.specs.declared.token.Spanned.{Spanned}
 use Rattle.pac_syntax.specs.declared.tree.NameNode.{NameNode}
 use Rattle.pac_syntax.specs.declared.tree.LiteralNode.{LiteralNode}
 use Rattle.pac_syntax.specs.declared.statement.StatementWord.{StatementWord}
+use Rattle.pac_syntax.specs.declared.statement.StatementWord.TheVariants as word
 use Rattle.pac_syntax.specs.declared.parser.ColumnKind.{ColumnKind}
 use Rattle.pac_syntax.specs.declared.parser.ColumnKind.TheVariants.{Column, Param}
 use Rattle.pac_syntax.specs.declared.parser.Operand.{Operand}
 use Rattle.pac_syntax.specs.Grammar.{Role, ColumnName, ParamName}
-use Rattle.pac_syntax.specs.Machine.{Begun, is_mark, name_in, literal_at, stmt_word}
+use Rattle.pac_syntax.specs.Machine.{Begun, is_mark, name_in, type_in, literal_in, literal_at}
 
 -- the tokens begin with this word or sign
 pub record Begins (w : Token) (at : ℕ) (ts rest : List Spanned) : Type 0 where
@@ -27,29 +29,36 @@ abbrev pub IsNoName : List Spanned → Type 0
 IsNoName [] = Unit {0}
 IsNoName (t ∷ ts) = name_in t.token t.at ≡ None
 
--- an int, where the token is one; the int of a literal below zero
-abbrev pub int_in : Token → Option ℤ
-int_in (token.Int z) = Some z
-int_in _ = None
+-- the tokens begin with a type
+pub record IsType (y : Ty) (ts rest : List Spanned) : Type 0 where
+  pub first : Spanned
+  pub text : ts ≡ first ∷ rest
+  pub is : type_in first.token ≡ Some y
 
+-- the first token is no type
+abbrev pub IsNoType : List Spanned → Type 0
+IsNoType [] = Unit {0}
+IsNoType (t ∷ ts) = type_in t.token ≡ None
+
+-- the tokens begin with a literal of one token
+pub record IsLiteral (l : LiteralNode) (ts rest : List Spanned) : Type 0 where
+  pub first : Spanned
+  pub text : ts ≡ first ∷ rest
+  pub is : literal_in first.token first.at ≡ Some l
+
+-- the first token is no literal by itself
+abbrev pub IsNoLiteral : List Spanned → Type 0
+IsNoLiteral [] = Unit {0}
+IsNoLiteral (t ∷ ts) = literal_in t.token t.at ≡ None
+
+-- the int of a literal below zero, where the token is one
 abbrev pub negative_of : Token → Option ℤ
 negative_of (token.Negative z) = Some z
 negative_of _ = None
 
--- the first token is no int, or none below zero
-abbrev pub IsNoInt : List Spanned → Type 0
-IsNoInt [] = Unit {0}
-IsNoInt (t ∷ ts) = int_in t.token ≡ None
-
 abbrev pub IsNoNegative : List Spanned → Type 0
 IsNoNegative [] = Unit {0}
 IsNoNegative (t ∷ ts) = negative_of t.token ≡ None
-
--- the tokens begin with the int of this literal
-pub record IsInt (l : LiteralNode) (ts rest : List Spanned) : Type 0 where
-  pub int : ℤ
-  pub text : ts ≡ record { token = token.Int int; at = l.at } ∷ rest
-  pub value : l ≡ literal_at l.at int
 
 -- the tokens begin with the int of this literal, whose `-` stands at this place
 pub record IsNegative (minus : ℕ) (l : LiteralNode) (ts rest : List Spanned) : Type 0 where
@@ -81,13 +90,7 @@ limit_of Param = 16
 abbrev pub begun_at : Operand → Begun
 begun_at x = record { from = x.from; expr = x.expr }
 
--- the tokens begin with a word that begins a statement
-pub record BeginsStmt (w : StatementWord) (ts rest : List Spanned) : Type 0 where
-  pub first : Spanned
-  pub text : ts ≡ first ∷ rest
-  pub word : stmt_word first.token ≡ Some w
-
--- the first token begins no statement
-abbrev pub IsNoStmt : List Spanned → Type 0
-IsNoStmt [] = Unit {0}
-IsNoStmt (t ∷ ts) = stmt_word t.token ≡ None
+-- whether a statement that begins with this word is a conditional in too many others
+abbrev pub is_too_deep : ℕ → StatementWord → Bool
+is_too_deep d word.If = nat_le 16 d
+is_too_deep d _ = false

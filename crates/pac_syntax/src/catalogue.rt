@@ -14,7 +14,6 @@ use crate::parser::{ColumnKind, Parser, split};
 use crate::token::{Keyword, Spanned, Symbol};
 use crate::tree::{ColumnNode, NameNode, ProcNode, TableNode, Tree};
 use pac_base::listed;
-use pac_value::Ty;
 use std::alloc::Global;
 
 const MAX_TABLES: usize = 64;
@@ -39,8 +38,8 @@ impl<'a> Parser<'a> {
         ensures left { OnOk result (length self.new.rest.now ≤ length self.old.rest.now) }
         ensures run { (k : AColumnNode → Steps) → Gives (λ c. run self.new.end (k c) self.new.rest.now) result (run self.old.end (typed_steps name k) self.old.rest.now) }
     {
-        self.keyword(Keyword::Int)?;
-        Ok(ColumnNode { name, ty: Ty::Int })
+        let ty = self.ty()?;
+        Ok(ColumnNode { name, ty })
     }
 
     // A column behind so many others.
@@ -106,12 +105,11 @@ impl<'a> Parser<'a> {
         let name = self.name()?;
         self.symbol(Symbol::OpenParen)?;
         self.keyword(Keyword::Key)?;
-        self.keyword(Keyword::Int)?;
+        let key = self.ty()?;
         self.symbol(Symbol::Comma)?;
         let columns = listed(self.columns()?);
         self.symbol(Symbol::CloseParen)?;
         self.symbol(Symbol::Semicolon)?;
-        let key = Ty::Int;
         Ok(TableNode { name, key, columns })
     }
 
@@ -141,9 +139,7 @@ impl<'a> Parser<'a> {
         self.symbol(Symbol::OpenParen)?;
         let params = listed(self.params()?);
         self.symbol(Symbol::CloseParen)?;
-        self.symbol(Symbol::OpenBrace)?;
-        let body = listed(self.statements()?);
-        self.symbol(Symbol::CloseBrace)?;
+        let body = listed(self.block(0)?);
         Ok(ProcNode { name, params, body })
     }
 
@@ -183,6 +179,7 @@ fn whole(alloc: Global, tokens: &[Spanned], end: usize) -> Result<Tree, SyntaxEr
         alloc,
         rest: tokens,
         end,
+        operators: 0,
     };
     let tables = listed(parser.tables()?);
     let procs = listed(parser.procedures()?);

@@ -1,5 +1,6 @@
 // Why a text is refused.
 ghost use Rattle.std.specs.Prelude.{◌≡◌};
+ghost use Rattle.pac_syntax.specs.Kinds.{kind_name};
 ghost use Rattle.pac_syntax.specs.declared.fault.SyntaxError.TheVariants.{NoMemory};
 
 use pac_base::NoMemory;
@@ -8,16 +9,31 @@ use std::alloc::{AllocError, AllocFailed};
 /// What is wrong at a place of a text.
 #[derive(Clone, Copy, Debug, PartialEq, Eq)]
 pub enum FaultKind {
-    /// A byte that begins no token.
+    /// A byte that begins no token, or a text that isn't well formed.
     Token,
     /// The token can't follow here, or the text ends too early.
     Expected,
     /// A name, a literal or the whole text is too long.
     TooLong,
-    /// Too much stands inside one another.
+    /// Too many parentheses are open at once, or too many conditionals stand one in another.
     TooDeep,
     /// There are too many of a kind.
     TooMany,
+}
+
+impl FaultKind {
+    /// The kind as it is printed.
+    pub fn name(&self) -> &'static str
+        ensures { result.now ≡ kind_name self.now }
+    {
+        match self {
+            FaultKind::Token => "Token",
+            FaultKind::Expected => "Expected",
+            FaultKind::TooLong => "TooLong",
+            FaultKind::TooDeep => "TooDeep",
+            FaultKind::TooMany => "TooMany",
+        }
+    }
 }
 
 /// A fault at a place of a text, a byte offset from 0.

@@ -1,12 +1,14 @@
 // Reads the tokens of a text.
-ghost use Rattle.std.specs.Prelude.{◌≡◌, pos, neg_ℤ, ◌≤◌, ◌<◌, ◌^◌, length, drop, IfOk, IfSome, Some, None, false, nat_le, if◌then◌else◌};
-ghost use Rattle.std.specs.List.{take_while};
-ghost use Rattle.pac_syntax.specs.Tokens.{is_blank, is_letter, is_digit, is_name, gap, digits_value, keyword_of, symbol_of, word_at, int_at, minus_at, symbol_at, token_at, after, next_digits, IsLexed};
+ghost use Rattle.std.specs.Prelude.{◌≡◌, pos, neg_ℤ, ◌≤◌, ◌<◌, ◌^◌, ◌+◌, length, drop, IfOk, IfErr, IfSome, IsTrue, Some, None, false, not, ◌&&◌, nat_eq, nat_le, nat_lt, if◌then◌else◌};
+ghost use Rattle.std.specs.List.{take_while, list_all};
+ghost use Rattle.pac_value.specs.Texts.{is_printable};
+ghost use Rattle.pac_syntax.specs.Tokens.{is_blank, is_letter, is_digit, is_name, gap, digits_value, keyword_of, after, next_digits, is_long_minus, IsNext, IsBad, IsLexed};
+ghost use Rattle.pac_syntax.specs.Lexing.{symbol_of, symbol_front, word_at, int_at, text_at, minus_at, symbol_at, token_at, closing_in, unescaped};
 
 use crate::fault::{Fault, FaultKind};
 use crate::token::{KEYWORDS, Keyword, SYMBOLS, Spanned, Symbol, Token};
 use pac_base::NoMemory;
-use pac_value::Name;
+use pac_value::{Name, Text};
 use std::alloc::Global;
 
 /// The tokens of a text, up to its end or to the first fault of a token.
@@ -96,14 +98,25 @@ fn find_keyword(word: &[u8]) -> Option<Keyword>
         .find(|keyword| keyword.spelling() == word)
 }
 
-#[tactic(auto, unfolding(crate::specs::Tokens::symbol_of))]
-fn find_symbol(byte: u8) -> Option<Symbol>
-    ensures { result ≡ symbol_of byte }
+// The sign that these bytes spell.
+#[tactic(auto, unfolding(crate::specs::Lexing::symbol_of))]
+fn find_symbol(bytes: &[u8]) -> Option<Symbol>
+    ensures { result ≡ symbol_of bytes.now }
 {
     SYMBOLS
         .iter()
         .copied()
-        .find(|symbol| symbol.spelling() == byte)
+        .find(|symbol| symbol.spelling() == bytes)
+}
+
+// The longest sign that stands in front.
+fn front_symbol(bytes: &[u8]) -> Option<Symbol>
+    ensures { result ≡ symbol_front bytes.now }
+{
+    match find_symbol(&bytes[..bytes.len().min(2)]) {
+        Some(symbol) => Some(symbol),
+        None => find_symbol(&bytes[..bytes.len().min(1)]),
+    }
 }
 
 // The value of decimal digits, if it is at most 2 ^ 63.
@@ -189,6 +202,97 @@ fn fits_behind_minus(behind: &[u8]) -> bool
     magnitude(digits).is_some()
 }
 
+fn is_printable_byte(byte: u8) -> bool
+    ensures { result ≡ is_printable byte }
+{
+    0x20 <= byte && byte <= 0x7E
+}
+
+// Where the closing quote of a text stands, whose opening quote stands in front of these bytes. `None`: it isn't well
+// formed.
+fn closing(bytes: &[u8]) -> Option<usize>
+    ensures closing { result ≡ closing_in false bytes.now }
+    ensures within { IfSome result (λ n. n < length bytes.now) }
+{
+    let mut escaped = false;
+    for (i, byte) in bytes.iter().enumerate() {
+        if escaped {
+            if *byte != b'"' && *byte != b'\\' {
+                return None;
+            }
+            escaped = false;
+        } else if *byte == b'"' {
+            return Some(i);
+        } else if *byte == b'\\' {
+            escaped = true;
+        } else if !is_printable_byte(*byte) {
+            return None;
+        }
+    }
+    None
+}
+
+// Whether a byte, behind a `\` or not, is the `\` of an escape.
+fn begins_escape(escaped: bool, byte: u8) -> bool
+    ensures { result ≡ (not escaped && nat_eq byte 92) }
+{
+    !escaped && byte == b'\\'
+}
+
+// The text of these bytes without its escapes, if it has at most 64.
+fn unescape(bytes: &[u8]) -> Option<Text>
+    requires { IsTrue (list_all is_printable (unescaped false bytes.now)) }
+    ensures { result ≡ (if nat_lt 64 (length (unescaped false bytes.now)) then None else Some (unescaped false bytes.now)) }
+{
+    let mut room = [0; 64];
+    let mut len: usize = 0;
+    let mut escaped = false;
+    for byte in bytes {
+        if begins_escape(escaped, *byte) {
+            escaped = true;
+            continue;
+        }
+        if len == Text::MAX {
+            return None;
+        }
+        room[len] = *byte;
+        len += 1;
+        escaped = false;
+    }
+    Text::from_bytes(&room[..len])
+}
+
+// A text, behind its opening quote.
+fn text(behind: &[u8]) -> Result<(Token, usize), FaultKind>
+    ensures token { result ≡ text_at behind.now }
+    ensures within { IfOk result (λ p. p.1 ≤ length behind.now + 1) }
+    ensures some { IfOk result (λ p. 1 ≤ p.1) }
+{
+    let Some(closing) = closing(behind) else {
+        return Err(FaultKind::Token);
+    };
+    match unescape(&behind[..closing]) {
+        Some(text) => Ok((Token::Text(text), closing + 2)),
+        None => Err(FaultKind::TooLong),
+    }
+}
+
+// A sign, which stands in front of the bytes.
+fn sign(before: Before, bytes: &[u8], behind: &[u8]) -> Result<(Token, usize), FaultKind>
+    requires { 1 ≤ length bytes.now }
+    ensures token { result ≡ symbol_at before (symbol_front bytes.now) behind.now }
+    ensures within { IfOk result (λ p. p.1 ≤ length bytes.now) }
+    ensures some { IfOk result (λ p. 1 ≤ p.1) }
+{
+    let Some(symbol) = front_symbol(bytes) else {
+        return Err(FaultKind::Token);
+    };
+    match symbol {
+        Symbol::Minus => minus(before, behind),
+        _ => Ok((Token::Symbol(symbol), symbol.spelling().len())),
+    }
+}
+
 // The token that begins at the first byte, and how many bytes it has.
 fn next(before: Before, bytes: &[u8]) -> Result<(Token, usize), FaultKind>
     ensures token { result ≡ token_at before bytes.now }
@@ -204,11 +308,21 @@ fn next(before: Before, bytes: &[u8]) -> Result<(Token, usize), FaultKind>
     if is_digit_byte(*first) {
         return int(before, bytes);
     }
-    match find_symbol(*first) {
-        None => Err(FaultKind::Token),
-        Some(Symbol::Minus) => minus(before, behind),
-        Some(symbol) => Ok((Token::Symbol(symbol), 1)),
+    if *first == b'"' {
+        return text(behind);
     }
+    sign(before, bytes, behind)
+}
+
+// The same in the words of the grammar: the longest token in front, unless it is too long.
+fn front(before: Before, bytes: &[u8]) -> Result<(Token, usize), FaultKind>
+    requires { 1 ≤ length bytes.now }
+    ensures token { IfOk result (λ p. IsNext before bytes.now p.0 p.1) }
+    ensures bad { IfErr result (λ kind. IsBad before bytes.now kind) }
+    ensures within { IfOk result (λ p. p.1 ≤ length bytes.now) }
+    ensures some { IfOk result (λ p. 1 ≤ p.1) }
+{
+    next(before, bytes)
 }
 
 impl Before {
@@ -217,7 +331,7 @@ impl Before {
         ensures { result ≡ after self token.now }
     {
         match token {
-            Token::Name(_) | Token::Int(_) | Token::Negative(_) => Before::Value,
+            Token::Name(_) | Token::Int(_) | Token::Negative(_) | Token::Text(_) => Before::Value,
             Token::Keyword(Keyword::True | Keyword::False) => Before::Value,
             Token::Symbol(Symbol::CloseParen) => Before::Value,
             Token::Symbol(Symbol::Minus) => match self {
@@ -245,7 +359,7 @@ pub fn lex(alloc: Global, text: &[u8]) -> Result<Lexed, NoMemory>
         if rest.is_empty() {
             return Ok(Lexed { items, fault: None });
         }
-        match next(before, rest) {
+        match front(before, rest) {
             Err(kind) => {
                 return Ok(Lexed {
                     items,

@@ -26,7 +26,7 @@ mod tree;
 
 pub use fault::{Fault, FaultKind, SyntaxError};
 pub use parse::{parse_catalogue, tokens};
-pub use token::{Keyword, Spanned, Symbol, Token};
+pub use token::{Keyword, Spanned, Symbol, Token, Tokens};
 pub use tree::{ColumnNode, ExprNode, LiteralNode, NameNode, ProcNode, StmtNode, TableNode, Tree};
 
 #[cfg(test)]

@@ -11,8 +11,9 @@ ghost use Rattle.pac_syntax.specs.declared.tree.Tree.{Tree as ATree};
 use crate::catalogue::parse_tokens;
 use crate::fault::{Fault, FaultKind, SyntaxError};
 use crate::lexer::lex;
-use crate::token::Spanned;
+use crate::token::Tokens;
 use crate::tree::Tree;
+use pac_base::listed;
 use std::alloc::Global;
 
 // The greatest length of a catalogue's text.
@@ -23,14 +24,14 @@ const MAX_TEXT: usize = 65536;
 /// # Errors
 ///
 /// `Fault` exactly where the text isn't a list of tokens: the first fault of a token, with its place.
-pub fn tokens(alloc: Global, text: &[u8]) -> Result<Vec<Spanned>, SyntaxError>
-    ensures ok { IfOk result (λ found. IsLexed text.now found.items None) }
+pub fn tokens(alloc: Global, text: &[u8]) -> Result<Tokens, SyntaxError>
+    ensures ok { IfOk result (λ found. IsLexed text.now found None) }
     ensures only { (ts : List ASpanned) → IsLexed text.now ts None → AreTokensOrMemory result ts }
     ensures fault { (fault : AFault) → IsErrOf result (SyntaxError.Fault fault) → (ts : List ASpanned) × IsLexed text.now ts (Some fault) }
 {
     let lexed = lex(alloc, text)?;
     match lexed.fault {
-        None => Ok(lexed.items),
+        None => Ok(listed(lexed.items)),
         Some(fault) => Err(SyntaxError::Fault(fault)),
     }
 }

@@ -2,8 +2,9 @@
 ghost use Rattle.std.specs.Prelude.{◌≡◌, ℕ, ◌∷◌, ◌++◌, [], ◌<◌, ◌≤◌, length, List, MatchOption, OnOk, IfOk, IfSome, true};
 ghost use Rattle.pac_syntax.specs.Faults.{place};
 ghost use Rattle.pac_syntax.specs.Grammar.{Plain};
-ghost use Rattle.pac_syntax.specs.Machine.{Steps, Begun, Want, WantName, WantLiteral, WantNegative, WantOperand, is_mark, keyword_code, symbol_code, literal_at, run, Gives};
-ghost use Rattle.pac_syntax.specs.Views.{Begins, IsNot, IsNoName, IsNoInt, IsNoNegative, IsInt, IsNegative, name_part, name_token, begun_at};
+ghost use Rattle.pac_value.specs.declared.values.Ty.{Ty as ATy};
+ghost use Rattle.pac_syntax.specs.Machine.{Steps, Want, WantName, WantType, WantLiteral, WantNegative, is_mark, keyword_code, symbol_code, literal_in, type_in, run, Gives};
+ghost use Rattle.pac_syntax.specs.Views.{Begins, IsNot, IsNoName, IsType, IsNoType, IsLiteral, IsNoLiteral, IsNoNegative, IsNegative, name_part, name_token};
 ghost use Rattle.pac_syntax.specs.declared.token.Token.TheVariants as token;
 ghost use Rattle.pac_syntax.specs.declared.tree.LiteralNode.{LiteralNode as ALiteralNode};
 ghost use Rattle.pac_syntax.specs.declared.tree.NameNode.{NameNode as ANameNode};
@@ -12,10 +13,10 @@ ghost use Rattle.pac_syntax.specs.declared.fault.SyntaxError.TheVariants as erro
 use crate::fault::{Fault, FaultKind, SyntaxError};
 use crate::token::{Keyword, Spanned, Symbol, Token};
 use crate::tree::{ExprNode, LiteralNode, NameNode};
-use pac_value::{Name, Value};
+use pac_value::{Name, Ty, Value};
 use std::alloc::Global;
 
-/// An operand, and where it begins.
+/// An expression, and where it begins, parentheses round it included.
 #[derive(Drop)]
 pub struct Operand {
     pub from: usize,
@@ -36,6 +37,8 @@ pub struct Parser<'a> {
     pub rest: &'a [Spanned],
     /// Where the text ends, or where its first fault of a token stands.
     pub end: usize,
+    /// How many operators of the expression were read.
+    pub operators: u8,
 }
 
 /// The first token, and those behind it.
@@ -56,6 +59,37 @@ fn name_of(token: Token) -> Option<Name>
         Token::Name(name) => Some(name),
         _ => None,
     }
+}
+
+// The type that a token is.
+fn type_of(token: &Token) -> Option<Ty>
+    ensures { result ≡ type_in token.now }
+{
+    let Token::Keyword(word) = token else {
+        return None;
+    };
+    match word {
+        Keyword::Int => Some(Ty::Int),
+        Keyword::Text => Some(Ty::Text),
+        _ => None,
+    }
+}
+
+// The literal that a token is by itself.
+fn literal_of(token: Token, at: usize) -> Option<LiteralNode>
+    ensures { result ≡ literal_in token at }
+{
+    let value = match token {
+        Token::Int(value) => Value::Int(value),
+        Token::Text(text) => Value::Text(text),
+        Token::Keyword(word) => match word {
+            Keyword::True => Value::Bool(true),
+            Keyword::False => Value::Bool(false),
+            _ => return None,
+        },
+        _ => return None,
+    };
+    Some(LiteralNode { at, value })
 }
 
 fn keyword_number(word: Keyword) -> u8
@@ -102,6 +136,7 @@ impl<'a> Parser<'a> {
     // Takes this word or sign and answers its place, where it comes next.
     fn takes(&mut self, wanted: Token) -> Option<usize>
         ensures end { self.new.end ≡ self.old.end }
+        ensures operators { self.new.operators ≡ self.old.operators }
         ensures token { MatchOption result ((self.new.rest ≡ self.old.rest) × IsNot wanted self.old.rest.now) (λ at. Begins wanted at self.old.rest.now self.new.rest.now) }
     {
         let Some((first, rest)) = split(self.rest) else {
@@ -123,6 +158,7 @@ impl<'a> Parser<'a> {
 
     pub fn takes_symbol(&mut self, sign: Symbol) -> Option<usize>
         ensures end { self.new.end ≡ self.old.end }
+        ensures operators { self.new.operators ≡ self.old.operators }
         ensures token { MatchOption result ((self.new.rest ≡ self.old.rest) × IsNot (token.Symbol sign) self.old.rest.now) (λ at. Begins (token.Symbol sign) at self.old.rest.now self.new.rest.now) }
     {
         self.takes(Token::Symbol(sign))
@@ -131,6 +167,7 @@ impl<'a> Parser<'a> {
     // Takes this word or sign.
     fn want(&mut self, wanted: Token) -> Result<(), SyntaxError>
         ensures left { length self.new.rest.now ≤ length self.old.rest.now }
+        ensures operators { self.new.operators ≡ self.old.operators }
         ensures run { (k : Steps) → Gives (λ _. run self.new.end k self.new.rest.now) result (run self.old.end (Want wanted k) self.old.rest.now) }
     {
         match self.takes(wanted) {
@@ -148,6 +185,7 @@ impl<'a> Parser<'a> {
 
     pub fn symbol(&mut self, sign: Symbol) -> Result<(), SyntaxError>
         ensures left { length self.new.rest.now ≤ length self.old.rest.now }
+        ensures operators { self.new.operators ≡ self.old.operators }
         ensures run { (k : Steps) → Gives (λ _. run self.new.end k self.new.rest.now) result (run self.old.end (Want (token.Symbol sign) k) self.old.rest.now) }
     {
         self.want(Token::Symbol(sign))
@@ -156,6 +194,7 @@ impl<'a> Parser<'a> {
     // Takes the name that comes next.
     pub fn takes_name(&mut self) -> Option<NameNode>
         ensures end { self.new.end ≡ self.old.end }
+        ensures operators { self.new.operators ≡ self.old.operators }
         ensures name { MatchOption result ((self.new.rest ≡ self.old.rest) × IsNoName self.old.rest.now) (λ n. self.old.rest.now ≡ name_token n ∷ self.new.rest.now) }
     {
         let Some((first, rest)) = split(self.rest) else {
@@ -179,27 +218,51 @@ impl<'a> Parser<'a> {
         }
     }
 
-    // Takes the int that comes next, and answers its place and its value.
-    fn takes_int(&mut self) -> Option<LiteralNode>
+    // Takes the type that comes next.
+    fn takes_type(&mut self) -> Option<Ty>
         ensures end { self.new.end ≡ self.old.end }
-        ensures int { MatchOption result ((self.new.rest ≡ self.old.rest) × IsNoInt self.old.rest.now) (λ l. IsInt l self.old.rest.now self.new.rest.now) }
+        ensures ty { MatchOption result ((self.new.rest ≡ self.old.rest) × IsNoType self.old.rest.now) (λ y. IsType y self.old.rest.now self.new.rest.now) }
     {
         let Some((first, rest)) = split(self.rest) else {
             return None;
         };
-        let Token::Int(value) = first.token else {
+        let Some(ty) = type_of(&first.token) else {
             return None;
         };
         self.rest = rest;
-        Some(LiteralNode {
-            at: first.at,
-            value: Value::Int(value),
-        })
+        Some(ty)
+    }
+
+    pub fn ty(&mut self) -> Result<Ty, SyntaxError>
+        ensures left { length self.new.rest.now ≤ length self.old.rest.now }
+        ensures run { (k : ATy → Steps) → Gives (λ y. run self.new.end (k y) self.new.rest.now) result (run self.old.end (WantType k) self.old.rest.now) }
+    {
+        match self.takes_type() {
+            None => Err(self.refuse(FaultKind::Expected)),
+            Some(ty) => Ok(ty),
+        }
+    }
+
+    // Takes the literal of one token that comes next.
+    fn takes_literal(&mut self) -> Option<LiteralNode>
+        ensures end { self.new.end ≡ self.old.end }
+        ensures operators { self.new.operators ≡ self.old.operators }
+        ensures literal { MatchOption result ((self.new.rest ≡ self.old.rest) × IsNoLiteral self.old.rest.now) (λ l. IsLiteral l self.old.rest.now self.new.rest.now) }
+    {
+        let Some((first, rest)) = split(self.rest) else {
+            return None;
+        };
+        let Some(literal) = literal_of(first.token, first.at) else {
+            return None;
+        };
+        self.rest = rest;
+        Some(literal)
     }
 
     // Takes the int that comes next, where it is that of a literal whose `-` stands at this place.
     fn takes_negative(&mut self, minus: usize) -> Option<LiteralNode>
         ensures end { self.new.end ≡ self.old.end }
+        ensures operators { self.new.operators ≡ self.old.operators }
         ensures int { MatchOption result ((self.new.rest ≡ self.old.rest) × IsNoNegative self.old.rest.now) (λ l. IsNegative minus l self.old.rest.now self.new.rest.now) }
     {
         let Some((first, rest)) = split(self.rest) else {
@@ -218,6 +281,7 @@ impl<'a> Parser<'a> {
     // The int of a literal whose `-` stands at this place.
     fn negative(&mut self, minus: usize) -> Result<LiteralNode, SyntaxError>
         ensures left { length self.new.rest.now ≤ length self.old.rest.now }
+        ensures operators { self.new.operators ≡ self.old.operators }
         ensures run { (k : ALiteralNode → Steps) → Gives (λ l. run self.new.end (k l) self.new.rest.now) result (run self.old.end (WantNegative minus k) self.old.rest.now) }
     {
         match self.takes_negative(minus) {
@@ -228,29 +292,16 @@ impl<'a> Parser<'a> {
 
     pub fn literal(&mut self) -> Result<LiteralNode, SyntaxError>
         ensures left { length self.new.rest.now ≤ length self.old.rest.now }
+        ensures shorter { OnOk result (length self.new.rest.now < length self.old.rest.now) }
+        ensures operators { self.new.operators ≡ self.old.operators }
         ensures run { (k : ALiteralNode → Steps) → Gives (λ l. run self.new.end (k l) self.new.rest.now) result (run self.old.end (WantLiteral k) self.old.rest.now) }
     {
         if let Some(minus) = self.takes_symbol(Symbol::Minus) {
             return self.negative(minus);
         }
-        match self.takes_int() {
+        match self.takes_literal() {
             None => Err(self.refuse(FaultKind::Expected)),
             Some(literal) => Ok(literal),
         }
-    }
-
-    pub fn operand(&mut self) -> Result<Operand, SyntaxError>
-        ensures left { length self.new.rest.now ≤ length self.old.rest.now }
-        ensures run { (k : Begun → Steps) → Gives (λ x. run self.new.end (k (begun_at x)) self.new.rest.now) result (run self.old.end (WantOperand k) self.old.rest.now) }
-    {
-        if let Some(name) = self.takes_name() {
-            let from = name.at;
-            let expr = ExprNode::Name(name);
-            return Ok(Operand { from, expr });
-        }
-        let literal = self.literal()?;
-        let from = literal.at;
-        let expr = ExprNode::Literal(literal);
-        Ok(Operand { from, expr })
     }
 }

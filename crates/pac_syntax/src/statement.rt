@@ -1,23 +1,30 @@
 // Reads statements.
-ghost use Rattle.std.specs.Prelude.{◌≡◌, ◌∷◌, ◌++◌, [], ◌<◌, ◌≤◌, length, List, OnOk, MatchOption};
-ghost use Rattle.pac_syntax.specs.Machine.{Steps, MoreStmts, MoreValues, let_steps, place_steps, put_steps, read_steps, stmt_steps, stmt_word, run, Gives, values_steps};
-ghost use Rattle.pac_syntax.specs.Views.{BeginsStmt, IsNoStmt};
+ghost use Rattle.std.specs.Prelude.{◌≡◌, ◌∷◌, ◌++◌, [], ◌<◌, ◌≤◌, ◌+◌, length, false, List, OnOk, IfOk, IfSome};
+ghost use Rattle.pac_syntax.specs.Machine.{Steps, MaybeElse, MoreStmts, MoreValues, abort_steps, block_steps, delete_steps, has_steps, if_steps, let_steps, place_steps, put_steps, read_steps, set_steps, stmt_steps, stmt_word, run, either, Gives, values_steps};
+ghost use Rattle.pac_syntax.specs.Views.{is_too_deep};
 ghost use Rattle.pac_syntax.specs.declared.tree.ExprNode.{ExprNode as AnExprNode};
 ghost use Rattle.pac_syntax.specs.declared.tree.NameNode.{NameNode as ANameNode};
 ghost use Rattle.pac_syntax.specs.declared.tree.StmtNode.{StmtNode as AStmtNode};
 
-use crate::fault::SyntaxError;
+use crate::fault::{FaultKind, SyntaxError};
 use crate::parser::{Parser, split};
 use crate::token::{Keyword, Symbol, Token};
 use crate::tree::{ExprNode, NameNode, StmtNode};
 use pac_base::listed;
+
+const MAX_NESTED: u8 = 16;
 
 /// The word that begins a statement.
 #[derive(Clone, Copy, Debug, PartialEq, Eq)]
 pub enum StatementWord {
     Let,
     Read,
+    Has,
     Put,
+    Set,
+    Delete,
+    Abort,
+    If,
 }
 
 fn statement_word(token: &Token) -> Option<StatementWord>
@@ -29,8 +36,23 @@ fn statement_word(token: &Token) -> Option<StatementWord>
     match word {
         Keyword::Let => Some(StatementWord::Let),
         Keyword::Read => Some(StatementWord::Read),
+        Keyword::Has => Some(StatementWord::Has),
         Keyword::Put => Some(StatementWord::Put),
+        Keyword::Set => Some(StatementWord::Set),
+        Keyword::Delete => Some(StatementWord::Delete),
+        Keyword::Abort => Some(StatementWord::Abort),
+        Keyword::If => Some(StatementWord::If),
         _ => None,
+    }
+}
+
+// Whether a statement that begins with this word is a conditional in too many others.
+fn stands_too_deep(nested: u8, word: StatementWord) -> bool
+    ensures { result ≡ is_too_deep nested word }
+{
+    match word {
+        StatementWord::If => nested >= MAX_NESTED,
+        _ => false,
     }
 }
 
@@ -107,6 +129,18 @@ impl<'a> Parser<'a> {
         })
     }
 
+    // A `has`, behind its word.
+    fn has_rest(&mut self) -> Result<StmtNode, SyntaxError>
+        ensures left { OnOk result (length self.new.rest.now ≤ length self.old.rest.now) }
+        ensures run { (k : AStmtNode → Steps) → Gives (λ s. run self.new.end (k s) self.new.rest.now) result (run self.old.end (has_steps k) self.old.rest.now) }
+    {
+        let name = self.name()?;
+        self.symbol(Symbol::Assign)?;
+        let (table, key) = self.place()?;
+        self.symbol(Symbol::Semicolon)?;
+        Ok(StmtNode::Has { name, table, key })
+    }
+
     // A `put`, behind its word.
     fn put_rest(&mut self) -> Result<StmtNode, SyntaxError>
         ensures left { OnOk result (length self.new.rest.now ≤ length self.old.rest.now) }
@@ -119,41 +153,135 @@ impl<'a> Parser<'a> {
         Ok(StmtNode::Put { table, key, values })
     }
 
-    // Takes the word that comes next, where it begins a statement.
-    fn takes_statement(&mut self) -> Option<StatementWord>
-        ensures end { self.new.end ≡ self.old.end }
-        ensures word { MatchOption result ((self.new.rest ≡ self.old.rest) × IsNoStmt self.old.rest.now) (λ w. BeginsStmt w self.old.rest.now self.new.rest.now) }
+    // A `set`, behind its word.
+    fn set_rest(&mut self) -> Result<StmtNode, SyntaxError>
+        ensures left { OnOk result (length self.new.rest.now ≤ length self.old.rest.now) }
+        ensures run { (k : AStmtNode → Steps) → Gives (λ s. run self.new.end (k s) self.new.rest.now) result (run self.old.end (set_steps k) self.old.rest.now) }
     {
-        let Some((first, rest)) = split(self.rest) else {
-            return None;
-        };
-        let Some(word) = statement_word(&first.token) else {
-            return None;
-        };
-        self.rest = rest;
-        Some(word)
+        let (table, key) = self.place()?;
+        self.symbol(Symbol::Dot)?;
+        let column = self.name()?;
+        self.symbol(Symbol::Assign)?;
+        let value = self.expression()?;
+        self.symbol(Symbol::Semicolon)?;
+        Ok(StmtNode::Set {
+            table,
+            key,
+            column,
+            value,
+        })
     }
 
-    // The statement behind its first word.
-    fn statement_rest(&mut self, word: StatementWord) -> Result<StmtNode, SyntaxError>
+    // A `delete`, behind its word.
+    fn delete_rest(&mut self) -> Result<StmtNode, SyntaxError>
         ensures left { OnOk result (length self.new.rest.now ≤ length self.old.rest.now) }
-        ensures run { (k : AStmtNode → Steps) → Gives (λ s. run self.new.end (k s) self.new.rest.now) result (run self.old.end (stmt_steps word k) self.old.rest.now) }
+        ensures run { (k : AStmtNode → Steps) → Gives (λ s. run self.new.end (k s) self.new.rest.now) result (run self.old.end (delete_steps k) self.old.rest.now) }
+    {
+        let (table, key) = self.place()?;
+        self.symbol(Symbol::Semicolon)?;
+        Ok(StmtNode::Delete { table, key })
+    }
+
+    // An `abort if`, behind its first word.
+    fn abort_rest(&mut self) -> Result<StmtNode, SyntaxError>
+        ensures left { OnOk result (length self.new.rest.now ≤ length self.old.rest.now) }
+        ensures run { (k : AStmtNode → Steps) → Gives (λ s. run self.new.end (k s) self.new.rest.now) result (run self.old.end (abort_steps k) self.old.rest.now) }
+    {
+        self.keyword(Keyword::If)?;
+        let test = self.expression()?;
+        self.symbol(Symbol::Semicolon)?;
+        Ok(StmtNode::AbortIf { test })
+    }
+
+    // A conditional in so many others, behind its word.
+    #[cycle(statement)]
+    fn if_rest(&mut self, nested: u8) -> Result<StmtNode, SyntaxError>
+        requires { nested < 16 }
+        ensures left { OnOk result (length self.new.rest.now ≤ length self.old.rest.now) }
+        ensures run { (k : AStmtNode → Steps) → Gives (λ s. run self.new.end (k s) self.new.rest.now) result (run self.old.end (if_steps nested k) self.old.rest.now) }
+    {
+        let test = self.expression()?;
+        let first = listed(self.block(nested + 1)?);
+        let second = listed(self.otherwise(nested + 1)?);
+        Ok(StmtNode::If {
+            test,
+            first,
+            second,
+        })
+    }
+
+    // [ "else" block ]
+    #[cycle(statement)]
+    fn otherwise(&mut self, nested: u8) -> Result<Vec<StmtNode>, SyntaxError>
+        ensures left { OnOk result (length self.new.rest.now ≤ length self.old.rest.now) }
+        ensures run { (k : List AStmtNode → Steps) → Gives (λ v. run self.new.end (k v.items) self.new.rest.now) result (run self.old.end (MaybeElse nested k) self.old.rest.now) }
+    {
+        match self.takes_keyword(Keyword::Else) {
+            None => Ok(Vec::new(self.alloc)),
+            Some(_) => self.block(nested),
+        }
+    }
+
+    /// Statements in braces, in so many conditionals.
+    #[cycle(statement)]
+    pub fn block(&mut self, nested: u8) -> Result<Vec<StmtNode>, SyntaxError>
+        ensures left { OnOk result (length self.new.rest.now ≤ length self.old.rest.now) }
+        ensures run { (k : List AStmtNode → Steps) → Gives (λ v. run self.new.end (k v.items) self.new.rest.now) result (run self.old.end (block_steps nested k) self.old.rest.now) }
+    {
+        self.symbol(Symbol::OpenBrace)?;
+        let body = self.statements(nested)?;
+        self.symbol(Symbol::CloseBrace)?;
+        Ok(body)
+    }
+
+    // The word that begins the next statement, unless the statement is a conditional in too many others.
+    fn next_statement(&mut self, nested: u8) -> Result<Option<StatementWord>, SyntaxError>
+        ensures left { length self.new.rest.now ≤ length self.old.rest.now }
+        ensures shorter { IfOk result (λ o. IfSome o (λ _. length self.new.rest.now < length self.old.rest.now)) }
+        ensures within { IfOk result (λ o. IfSome o (λ w. is_too_deep nested w ≡ false)) }
+        ensures run { (ss : List AStmtNode) (k : List AStmtNode → Steps) → Gives (λ o. either o (run self.new.end (k ss) self.new.rest.now) (λ w. run self.new.end (stmt_steps nested w (λ s. MoreStmts nested (ss ++ (s ∷ [])) k)) self.new.rest.now)) result (run self.old.end (MoreStmts nested ss k) self.old.rest.now) }
+    {
+        let Some((first, rest)) = split(self.rest) else {
+            return Ok(None);
+        };
+        let Some(word) = statement_word(&first.token) else {
+            return Ok(None);
+        };
+        if stands_too_deep(nested, word) {
+            return Err(self.refuse(FaultKind::TooDeep));
+        }
+        self.rest = rest;
+        Ok(Some(word))
+    }
+
+    // The statement behind its first word, in so many conditionals.
+    #[cycle(statement)]
+    fn statement_rest(&mut self, word: StatementWord, nested: u8) -> Result<StmtNode, SyntaxError>
+        requires { is_too_deep nested word ≡ false }
+        ensures left { OnOk result (length self.new.rest.now ≤ length self.old.rest.now) }
+        ensures run { (k : AStmtNode → Steps) → Gives (λ s. run self.new.end (k s) self.new.rest.now) result (run self.old.end (stmt_steps nested word k) self.old.rest.now) }
     {
         match word {
             StatementWord::Let => self.let_rest(),
             StatementWord::Read => self.read_rest(),
+            StatementWord::Has => self.has_rest(),
             StatementWord::Put => self.put_rest(),
+            StatementWord::Set => self.set_rest(),
+            StatementWord::Delete => self.delete_rest(),
+            StatementWord::Abort => self.abort_rest(),
+            StatementWord::If => self.if_rest(nested),
         }
     }
 
-    /// Statements, as many as there are.
-    pub fn statements(&mut self) -> Result<Vec<StmtNode>, SyntaxError>
+    // Statements in so many conditionals, as many as there are.
+    #[cycle(statement)]
+    fn statements(&mut self, nested: u8) -> Result<Vec<StmtNode>, SyntaxError>
         ensures left { OnOk result (length self.new.rest.now ≤ length self.old.rest.now) }
-        ensures run { (k : List AStmtNode → Steps) → Gives (λ v. run self.new.end (k v.items) self.new.rest.now) result (run self.old.end (MoreStmts [] k) self.old.rest.now) }
+        ensures run { (k : List AStmtNode → Steps) → Gives (λ v. run self.new.end (k v.items) self.new.rest.now) result (run self.old.end (MoreStmts nested [] k) self.old.rest.now) }
     {
         let mut statements = Vec::new(self.alloc);
-        while let Some(word) = self.takes_statement() {
-            let statement = self.statement_rest(word)?;
+        while let Some(word) = self.next_statement(nested)? {
+            let statement = self.statement_rest(word, nested)?;
             statements.push(statement)?;
         }
         Ok(statements)

@@ -2,7 +2,8 @@
 ghost use Rattle.std.specs.Prelude.{◌≡◌};
 ghost use Rattle.pac_syntax.specs.Spelling.{keyword_spelling, symbol_spelling};
 
-use pac_value::Name;
+use pac_base::Listed;
+use pac_value::{Name, Text};
 
 /// A reserved word, which is no name.
 #[derive(Clone, Copy, Debug, PartialEq, Eq)]
@@ -95,10 +96,22 @@ pub enum Symbol {
     Assign,
     Plus,
     Minus,
+    Star,
+    Slash,
+    Percent,
+    Not,
+    Less,
+    Greater,
+    Equal,
+    NotEqual,
+    LessEqual,
+    GreaterEqual,
+    And,
+    Or,
 }
 
 /// Every sign.
-pub const SYMBOLS: [Symbol; 12] = [
+pub const SYMBOLS: [Symbol; 24] = [
     Symbol::OpenParen,
     Symbol::CloseParen,
     Symbol::OpenBrace,
@@ -111,26 +124,50 @@ pub const SYMBOLS: [Symbol; 12] = [
     Symbol::Assign,
     Symbol::Plus,
     Symbol::Minus,
+    Symbol::Star,
+    Symbol::Slash,
+    Symbol::Percent,
+    Symbol::Not,
+    Symbol::Less,
+    Symbol::Greater,
+    Symbol::Equal,
+    Symbol::NotEqual,
+    Symbol::LessEqual,
+    Symbol::GreaterEqual,
+    Symbol::And,
+    Symbol::Or,
 ];
 
 impl Symbol {
-    /// The byte that spells it.
-    pub fn spelling(self) -> u8
-        ensures { result ≡ symbol_spelling self }
+    /// The bytes that spell it.
+    pub fn spelling(self) -> &'static [u8]
+        ensures { result.now ≡ symbol_spelling self }
     {
         match self {
-            Symbol::OpenParen => b'(',
-            Symbol::CloseParen => b')',
-            Symbol::OpenBrace => b'{',
-            Symbol::CloseBrace => b'}',
-            Symbol::OpenBracket => b'[',
-            Symbol::CloseBracket => b']',
-            Symbol::Comma => b',',
-            Symbol::Semicolon => b';',
-            Symbol::Dot => b'.',
-            Symbol::Assign => b'=',
-            Symbol::Plus => b'+',
-            Symbol::Minus => b'-',
+            Symbol::OpenParen => b"(",
+            Symbol::CloseParen => b")",
+            Symbol::OpenBrace => b"{",
+            Symbol::CloseBrace => b"}",
+            Symbol::OpenBracket => b"[",
+            Symbol::CloseBracket => b"]",
+            Symbol::Comma => b",",
+            Symbol::Semicolon => b";",
+            Symbol::Dot => b".",
+            Symbol::Assign => b"=",
+            Symbol::Plus => b"+",
+            Symbol::Minus => b"-",
+            Symbol::Star => b"*",
+            Symbol::Slash => b"/",
+            Symbol::Percent => b"%",
+            Symbol::Not => b"!",
+            Symbol::Less => b"<",
+            Symbol::Greater => b">",
+            Symbol::Equal => b"==",
+            Symbol::NotEqual => b"!=",
+            Symbol::LessEqual => b"<=",
+            Symbol::GreaterEqual => b">=",
+            Symbol::And => b"&&",
+            Symbol::Or => b"||",
         }
     }
 }
@@ -145,6 +182,8 @@ pub enum Token {
     Int(i64),
     /// The digits behind the `-` of a literal, as the literal's int.
     Negative(i64),
+    /// A text between quotes, without its escapes.
+    Text(Text),
 }
 
 /// A token and the place of its first byte.
@@ -153,3 +192,6 @@ pub struct Spanned {
     pub token: Token,
     pub at: usize,
 }
+
+/// The tokens of a text, in order.
+pub type Tokens = Listed<Spanned>;

@@ -1,7 +1,6 @@
 use Rattle.std.proofs.Common.{◌≡◌, ◌≤◌, length, drop, Err, arith}
 use Rattle.std.proofs.lemmas.Grind.{common_steps}
-use Rattle.std.proofs.lemmas.List.{nil_from_length}
-use Rattle.pac_syntax.specs.Tokens.{token_at}
+use Rattle.std.proofs.lemmas.List.{nil_from_length, take_rest}
 use Rattle.pac_syntax.proofs.LexLemmas.{all_read, faulty}
 use Rattle.pac_syntax.proofs.lexer.lex.Goals as goal
 
@@ -13,5 +12,4 @@ returns-then-is_empty-clause-lexed c =
 pub returns-in-Err-clause-lexed : goal.returns-in-Err-clause-lexed
 returns-in-Err-clause-lexed c =
     let h : 1 ≤ length (drop c.gap_len-gap.result c.loop-rest.rest.now) = grind (arith, common_steps, c.is_empty.ensures, c.if-is_empty.false) in
-    let e : token_at c.loop-rest.before (drop c.gap_len-gap.result c.loop-rest.rest.now) ≡ Err c.in-Err.kind = grind (arith, common_steps, c.in-Err.ensures.token, c.gap_len-gap.ensures.gap) in
-    faulty _ _ _ _ _ _ c.in-Err.kind c.loop-rest.invariant.lexed c.gap_len-gap.ensures.gap e h
+    faulty _ _ _ _ _ _ c.in-Err.kind c.loop-rest.invariant.lexed c.gap_len-gap.ensures.gap (simp take_rest at c.in-Err.ensures.bad) h
