@@ -253,7 +253,7 @@ operand_leads (token.Symbol symbol.Not) at d m k o n e =
 operand_leads (token.Symbol symbol.OpenParen) at d m k o n e =
     by_next (Level d m o k) (token.Symbol symbol.OpenParen) at (next (paren_steps at (suc d) o (lay d m k)) (Paren (suc d))) n e
     (λ z r f. let close = f.4 in
-      rw (f.3, close.2) (in_level d m k o (AParen at f.0 close.0) close.1 r (made d m k o (AParen at f.0 close.0) close.1 r f.2 close.3)))
+    rw (f.3, close.2) (in_level d m k o (AParen at f.0 close.0) close.1 r (made d m k o (AParen at f.0 close.0) close.1 r f.2 close.3)))
 operand_leads t at d m k o n e = literal_operand_leads t at d m k o n e
 
 -- a repetition goes on with one more, or ends and the token belongs to what is behind it
@@ -323,14 +323,14 @@ rest_leads (Some op) d m x o k t n is e others =
     let which = operator_is m t.token op is in
     by_next (Rest d m x o k) t.token t.at (next (Level d m (suc o) (λ y o. top d (suc m) k (joined op x y) o)) (Operator (suc o))) n e
     (λ z r f. rw which.sign (
-      let g = tail d m (joined op x (begun f.0)) (counted (suc o) f.0) k f.1 r f.4 in
-      let turn : Turn = record { op = op; at = t.at; right = f.0 } in (
-        turn ∷ g.turns,
-        g.rest,
-        (which.tier, f.2, g.one, g.are),
-        ap (λ y. symbol_mark (sign_of op) t.at (Operator (suc o)) ∷ y) (f.3 ∙ ap (expr_before d (suc o) f.0) g.text),
-        g.ends,
-      )))
+    let g = tail d m (joined op x (begun f.0)) (counted (suc o) f.0) k f.1 r f.4 in
+    let turn : Turn = record { op = op; at = t.at; right = f.0 } in (
+      turn ∷ g.turns,
+      g.rest,
+      (which.tier, f.2, g.one, g.are),
+      ap (λ y. symbol_mark (sign_of op) t.at (Operator (suc o)) ∷ y) (f.3 ∙ ap (expr_before d (suc o) f.0) g.text),
+      g.ends,
+    )))
 
 -- ---- values
 

@@ -15,3 +15,5 @@ pub mod LexLemmas
 pub mod TextFaults
 pub mod NodeForms
 pub mod WithinLimits
+pub mod Ordered
+pub mod Trees

@@ -243,9 +243,9 @@ no_sign_front : (b : ℕ) (bs : List ℕ) (two one : Option Symbol) → symbol_o
 no_sign_front b bs (Some t) one is_two is_one h = absurd cc
 no_sign_front b bs None (Some t) is_two is_one h = absurd cc
 no_sign_front b bs None None is_two is_one h = λ v after u e is. elim (cases_lt (length v) 2) [
-    | inl lt ↦ no_sign (take 1 (b ∷ bs)) u is_one (front_is (b ∷ bs) v after 1 e (omega (arith, ap length is, symbol_some u)) ∙ is)
-    | inr ge ↦ no_sign (take 2 (b ∷ bs)) u is_two (front_is (b ∷ bs) v after 2 e (omega (arith, ap length is, symbol_short u)) ∙ is)
-  ]
+  | inl lt ↦ no_sign (take 1 (b ∷ bs)) u is_one (front_is (b ∷ bs) v after 1 e (omega (arith, ap length is, symbol_some u)) ∙ is)
+  | inr ge ↦ no_sign (take 2 (b ∷ bs)) u is_two (front_is (b ∷ bs) v after 2 e (omega (arith, ap length is, symbol_short u)) ∙ is)
+]
 
 sign_longest : (before : Before) (b : ℕ) (bs : List ℕ) (s : Symbol) → class b ≡ 3 → SignFront (b ∷ bs) s → IsLongest before (b ∷ bs) (token.Symbol s) (symbol_spelling s) (drop (length (symbol_spelling s)) (b ∷ bs))
 sign_longest before b bs s c f = record {

@@ -157,7 +157,6 @@ paren_past end d o at k s ts past b = rw (b.text, lt-ltb 16 (suc d) (omega arith
 
 -- ---- levels and operators
 
-
 pub level_opens : (end d n m o : ℕ) (k : Begun → ℕ → Steps) (s : List Spanned) → m ≡ suc n → run end (Level d m o k) s ≡ run end (Level d n o (λ x o. Rest d n x o k)) s
 unfolding run scan finish feed
 level_opens end d n m o k [] e = refl

@@ -115,14 +115,14 @@ statements (AnAbort p0 p1 e p2 s) d rest =
     record { within = λ h. more.within (b.within h.1.1).1; few = omega (arith, more.few, b.longer, n) }
 statements (AnIf p0 e p1 first p2 s) d rest =
     let n : sizes (stmt_nodes (AnIf p0 e p1 first p2 s)) ≡ suc (sizes (stmt_nodes first) + 0) + sizes (stmt_nodes s) =
-        one_more (stmt.If (expr_node e) (stmt_nodes first) []) (stmt_nodes s) (suc (sizes (stmt_nodes first) + 0)) (fold-If ℕ size_step (expr_node e) (stmt_nodes first) []) in
+    one_more (stmt.If (expr_node e) (stmt_nodes first) []) (stmt_nodes s) (suc (sizes (stmt_nodes first) + 0)) (fold-If ℕ size_step (expr_node e) (stmt_nodes first) []) in
     let more = statements s d rest in
     let inner = statements first (suc d) (_ ∷ stmts_before d s rest) in
     let b = behind_whole e (_ ∷ stmts_before (suc d) first (_ ∷ stmts_before d s rest)) in
     record { within = λ h. more.within (inner.within (b.within h.1).1).1; few = omega (arith, more.few, inner.few, b.longer, n) }
 statements (AnIfElse p0 e p1 first p2 p3 p4 second p5 s) d rest =
     let n : sizes (stmt_nodes (AnIfElse p0 e p1 first p2 p3 p4 second p5 s)) ≡ suc (sizes (stmt_nodes first) + sizes (stmt_nodes second)) + sizes (stmt_nodes s) =
-        one_more (stmt.If (expr_node e) (stmt_nodes first) (stmt_nodes second)) (stmt_nodes s) (suc (sizes (stmt_nodes first) + sizes (stmt_nodes second))) (fold-If ℕ size_step (expr_node e) (stmt_nodes first) (stmt_nodes second)) in
+    one_more (stmt.If (expr_node e) (stmt_nodes first) (stmt_nodes second)) (stmt_nodes s) (suc (sizes (stmt_nodes first) + sizes (stmt_nodes second))) (fold-If ℕ size_step (expr_node e) (stmt_nodes first) (stmt_nodes second)) in
     let more = statements s d rest in
     let other = statements second (suc d) (_ ∷ stmts_before d s rest) in
     let inner = statements first (suc d) (_ ∷ _ ∷ _ ∷ stmts_before (suc d) second (_ ∷ stmts_before d s rest)) in

@@ -144,16 +144,16 @@ module _ (tree : Tree) where
   lower d j zero k lt = absurd (omega arith)
   lower d j (suc n) k lt = elim (cases_lt j n) [
     | inl below ↦ let l = lower d j n (λ v o. Rest d n v o k) below in record {
-        after = l.after;
-        opens = λ o s r. level_down d n k o s (l.opens o s r);
-        closes = λ v o x h r. l.closes v o x (ends_below (less n) (less (suc n)) x (less-less n (suc n) (omega arith)) h)
-            (runs_top d n (λ v o. Rest d n v o k) v o x (ends_below n (less (suc n)) x (le-less n (suc n) (omega arith)) h) (rest_of_top d n k v o x h r));
-      }
+      after = l.after;
+      opens = λ o s r. level_down d n k o s (l.opens o s r);
+      closes = λ v o x h r. l.closes v o x (ends_below (less n) (less (suc n)) x (less-less n (suc n) (omega arith)) h)
+          (runs_top d n (λ v o. Rest d n v o k) v o x (ends_below n (less (suc n)) x (le-less n (suc n) (omega arith)) h) (rest_of_top d n k v o x h r));
+    }
     | inr same ↦ let e : n ≡ j = omega arith in record {
-        after = k;
-        opens = λ o s r. subst (λ (i : ℕ). Runs (Level d (suc i) o k) s tree) (sym e) r;
-        closes = λ v o x h r. subst (λ (i : ℕ). Runs (top d (suc i) k v o) x tree) e r;
-      }
+      after = k;
+      opens = λ o s r. subst (λ (i : ℕ). Runs (Level d (suc i) o k) s tree) (sym e) r;
+      closes = λ v o x h r. subst (λ (i : ℕ). Runs (top d (suc i) k v o) x tree) e r;
+    }
   ]
 
   -- ---- expressions
@@ -208,7 +208,7 @@ module _ (tree : Tree) where
         refl,
         refl,
         read_expr e (suc d) o 5 after (close ∷ rest) lv (ends_all 4 close rest refl)
-        (runs_rest (suc d) 4 5 after (begun e) (counted o e) (close ∷ rest) (omega arith) (ends_all 5 close rest refl) (_, refl, refl, lay_top d n k (enclosed opening (begun e)) (counted o e) rest h r)),
+            (runs_rest (suc d) 4 5 after (begun e) (counted o e) (close ∷ rest) (omega arith) (ends_all 5 close rest refl) (_, refl, refl, lay_top d n k (enclosed opening (begun e)) (counted o e) rest h r)),
       )
   read_expr (ABinary op at a b) d o n k rest lv h r =
       let j = tier op in
@@ -319,7 +319,7 @@ module _ (tree : Tree) where
   read_columns NoColumn role i cs k p rest h = subst (λ (xs : List ColumnNode). Runs (k xs) (symbol_mark symbol.CloseParen p Plain ∷ rest) tree) (append-nil cs) h
   read_columns (AColumn comma n t c) role i cs k p rest h =
       let more = read_columns c role (suc i) (cs ++ (column_node n t ∷ [])) k p rest
-          (subst (λ (xs : List ColumnNode). Runs (k xs) (symbol_mark symbol.CloseParen p Plain ∷ rest) tree) (sym (append_assoc cs (column_node n t ∷ []) (column_nodes c))) h) in
+      (subst (λ (xs : List ColumnNode). Runs (k xs) (symbol_mark symbol.CloseParen p Plain ∷ rest) tree) (sym (append_assoc cs (column_node n t ∷ []) (column_nodes c))) h) in
       (_, refl, refl, (_, refl, refl, read_type t _ _ more))
 
   read_params : (c : ParamsForm) (k : List ColumnNode → Steps) (p : ℕ) (rest : List Marked)
@@ -354,7 +354,7 @@ module _ (tree : Tree) where
       let columns = read_columns cs ColumnName 1 (column_node c t ∷ []) (ended (type_of_form key)) p4 (symbol_mark symbol.Semicolon p5 Plain ∷ rest) end in
       let typed = read_type t (λ y. MoreColumns ColumnName 1 (record { name = c; ty = y } ∷ []) (ended (type_of_form key))) (columns_before ColumnName 1 cs (symbol_mark symbol.CloseParen p4 Plain ∷ symbol_mark symbol.Semicolon p5 Plain ∷ rest)) columns in
       let comma : Runs (want_symbol symbol.Comma (columns_steps (ended (type_of_form key)))) (symbol_mark symbol.Comma p3 Plain ∷ name_mark c (ColumnName 1) ∷ type_mark t ∷ columns_before ColumnName 1 cs (symbol_mark symbol.CloseParen p4 Plain ∷ symbol_mark symbol.Semicolon p5 Plain ∷ rest)) tree =
-          (_, refl, refl, (_, refl, refl, typed)) in
+      (_, refl, refl, (_, refl, refl, typed)) in
       (_, refl, refl, (_, refl, refl, (_, refl, refl, (_, refl, refl, read_type key (λ y. want_symbol symbol.Comma (columns_steps (ended y))) (symbol_mark symbol.Comma p3 Plain ∷ name_mark c (ColumnName 1) ∷ type_mark t ∷ columns_before ColumnName 1 cs (symbol_mark symbol.CloseParen p4 Plain ∷ symbol_mark symbol.Semicolon p5 Plain ∷ rest)) comma))))
 
 -- a catalogue's tokens lead to its tree

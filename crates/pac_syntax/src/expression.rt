@@ -22,6 +22,7 @@ const MAX_PARENS: u8 = 16;
 
 // The level of any expression, and the tier of comparisons, which do not follow one another.
 const EXPRESSION: u8 = 5;
+
 const COMPARISONS: u8 = 2;
 
 // The operator that a sign is.

@@ -1,7 +1,7 @@
 // Reads texts: their tokens, and the catalogue that they are.
 ghost use Rattle.std.specs.Prelude.{◌≡◌, ◌<◌, List, IfOk, IsErrOf, Some, None};
 ghost use Rattle.pac_syntax.specs.Tokens.{IsLexed};
-ghost use Rattle.pac_syntax.specs.Reading.{Reads, AreTokensOrMemory, IsTextFault, told_of};
+ghost use Rattle.pac_syntax.specs.Reading.{Reads, IsTree, AreTokensOrMemory, IsTextFault, told_of};
 ghost use Rattle.pac_syntax.specs.Limits.{IsWithinLimits};
 ghost use Rattle.pac_syntax.specs.Faults.{IsTreeOrMemory};
 ghost use Rattle.pac_syntax.specs.declared.fault.Fault.{Fault as AFault};
@@ -43,6 +43,7 @@ pub fn tokens(alloc: Global, text: &[u8]) -> Result<Tokens, SyntaxError>
 /// `Fault` exactly where the text is no catalogue in the grammar and within its limits: its first fault.
 pub fn parse_catalogue(alloc: Global, text: &[u8]) -> Result<Tree, SyntaxError>
     ensures reads { IfOk result (λ tree. Reads text.now tree) }
+    ensures tree { IfOk result IsTree }
     ensures within { IfOk result IsWithinLimits }
     ensures only { (tree : ATree) → Reads text.now tree → IsTreeOrMemory result tree }
     ensures fault { (fault : AFault) → IsErrOf result (SyntaxError.Fault fault) → IsTextFault text.now fault }
