@@ -1,7 +1,12 @@
 pub mod StmtForms
-pub mod CountLemmas
 pub mod ScopeLemmas
 pub mod SoundLemmas
 pub mod NameLemmas
 pub mod CheckLemmas
+pub mod ExprForms
+pub mod ExprLemmas
+pub mod StmtLemmas
+pub mod BlockLemmas
+pub mod TreeLemmas
+pub mod CountLemmas
 pub mod TypingLemmas

@@ -163,3 +163,22 @@ position-map test f i (x ∷ xs) = ap (cond (test (f x)) (Some i)) (position-map
 -- the number of a name among those of some items
 pub number-map : {X : Type 0} (f : X → List ℕ) (xs : List X) (name : List ℕ) → number_of (map f xs) name ≡ position_from (λ x. bytes_eq name (f x)) 0 xs
 number-map f xs name = number_is (map f xs) name ∙ position-map (bytes_eq name) f 0 xs
+
+-- one more at the end, which may stand before
+pub number-more : (xs : List (List ℕ)) (y q : List ℕ) → number_of (xs ++ y ∷ []) q ≡ option_or (number_of xs q) (cond (bytes_eq q y) (Some (length xs)) None)
+number-more xs y q =
+    number_is (xs ++ y ∷ []) q ∙ position-push (bytes_eq q) 0 xs y ∙ ap (λ n. option_or (position_from (bytes_eq q) 0 xs) (cond (bytes_eq q y) (Some n) None)) (zero-add (length xs))
+    ∙ ap (λ o. option_or o (cond (bytes_eq q y) (Some (length xs)) None)) (sym (number_is xs q))
+
+-- a name that stands before changes nothing
+pub map-same : (names : List (List ℕ)) (i : ℕ) (y : List ℕ) (before : List ℕ → Option ℕ) → i < length names → y ≡ get_or names i y → ((q : List ℕ) → before q ≡ number_of (take i names) q) → is_some (before y) ≡ true
+    → (q : List ℕ) → before q ≡ number_of (take (i + 1) names) q
+map-same names i y before within at numbered there q =
+    numbered q ∙ by (bytes_eq q y) refl ∙ sym (number-more (take i names) y q) ∙ ap (λ l. number_of l q) (sym (more names i y within at))
+  where
+    stays : (o w : Option ℕ) → is_some o ≡ true → o ≡ option_or o w
+    stays None w e = cc
+    stays (Some n) w e = refl
+    by : (b : Bool) → bytes_eq q y ≡ b → number_of (take i names) q ≡ option_or (number_of (take i names) q) (cond (bytes_eq q y) (Some (length (take i names))) None)
+    by true e = stays _ _ (ap (λ z. is_some (number_of (take i names) z)) (same q y e) ∙ ap is_some (sym (numbered y)) ∙ there)
+    by false e = sym (ap (λ b. option_or (number_of (take i names) q) (cond b (Some (length (take i names))) None)) e ∙ option_or-none (number_of (take i names) q))

@@ -1,31 +1,37 @@
--- Tables and procedures one more at a time.
-use Rattle.std.proofs.Common.{◌≡◌, ◌<◌, ◌≤◌, ℕ, ◌+◌, zero, suc, List, [], ◌∷◌, ◌++◌, length, take, map, get_or, true≢false, refl, sym, ap, ◌∙◌, subst, arith, add-one}
-use Rattle.std.specs.Prelude.{All, IfSome}
-use Rattle.pac_types.specs.Meaning.{operations}
-use Rattle.pac_types.proofs.CountLemmas.{body_size}
-use Rattle.std.proofs.Math.Seq.{take-suc}
-use Rattle.std.proofs.lemmas.List.Elements.{All-push, All-map, All-from_recursion, recursion_from_All}
-use Rattle.std.specs.Prelude.{Option, Some, None, IsSome, is_some, IsTrue, Result, Err}
-use Rattle.std.specs.List.{flat_map, AllZip, AllByRecursion}
+-- Tables, procedures and catalogues.
+use Rattle.std.proofs.Common.{◌≡◌, ◌<◌, ◌≤◌, ℕ, ◌+◌, zero, suc, Bool, true, false, List, [], ◌∷◌, ◌++◌, length, take, drop, map, get_or, Option, Some, None, Result, Ok, Err, true≢false, refl, sym, ap, ◌∙◌, subst, arith, add-one, length-append, take-append-drop}
+use Rattle.std.specs.Prelude.{All, IfSome, IsSome, IsTrue, is_some, bytes_eq, slice_get, nat_le}
+use Rattle.std.specs.List.{AllZip, AllByRecursion, IsDistinct}
 use Rattle.std.specs.Option.{option_map, option_and_then}
-use Rattle.std.proofs.Common.{length-append}
-use Rattle.std.proofs.lemmas.List.{length-map}
-use Rattle.pac_syntax.specs.declared.tree.StmtNode.{StmtNode}
-use Rattle.pac_syntax.specs.declared.tree.StmtNode.TheVariants as node
-use Rattle.pac_syntax.specs.declared.tree.ProcNode.{ProcNode}
-use Rattle.pac_syntax.specs.declared.tree.Tree.{Tree}
-use Rattle.pac_types.specs.declared.catalogue.Stmt.{Stmt}
-use Rattle.pac_types.specs.Sound.{Scope, IsSoundProc, types, scope_of, check, in_order, scope_after, scope_behind}
-use Rattle.pac_types.specs.declared.catalogue.Column.{Column}
-use Rattle.pac_types.specs.declared.catalogue.Proc.{Proc}
-use Rattle.pac_types.specs.Checking.{scope_by, scoped, checked_body}
-use Rattle.pac_types.specs.Typing.{IsProcOf, Types, CatalogueState, IsCatalogue, IsSoundTable, IsProc}
-use Rattle.pac_syntax.specs.Limits.{IsTableWithinLimits, IsProcWithinLimits, HasStoredType, is_stored_type}
+use Rattle.std.proofs.lemmas.List.{length-map, append-nil}
+use Rattle.std.proofs.lemmas.List.Elements.{All-map, All-from_recursion, recursion_from_All}
+use Rattle.std.proofs.lemmas.Option.{slice_get-get_or}
+use Rattle.std.proofs.lemmas.Grind.{common_steps}
 use Rattle.pac_value.specs.declared.values.Ty.{Ty}
+use Rattle.pac_value.specs.Expressions.{◌>>=◌}
+use Rattle.pac_syntax.specs.declared.tree.NameNode.{NameNode}
 use Rattle.pac_syntax.specs.declared.tree.ColumnNode.{ColumnNode}
 use Rattle.pac_syntax.specs.declared.tree.TableNode.{TableNode}
+use Rattle.pac_syntax.specs.declared.tree.ProcNode.{ProcNode}
+use Rattle.pac_syntax.specs.declared.tree.Tree.{Tree}
+use Rattle.pac_syntax.specs.Limits.{IsTableWithinLimits, IsProcWithinLimits, IsWithinLimits, HasStoredType, is_stored_type, sizes}
+use Rattle.pac_types.specs.declared.type_error.TypeFault.{TypeFault}
+use Rattle.pac_types.specs.declared.catalogue.Column.{Column}
 use Rattle.pac_types.specs.declared.catalogue.Table.{Table}
-use Rattle.pac_types.specs.Numbering.{AreDistinct, defined, variables, stmt_of, body_of, column_of, table_of, column_names, table_names}
+use Rattle.pac_types.specs.declared.catalogue.Proc.{Proc}
+use Rattle.pac_types.specs.declared.catalogue.Stmt.{Stmt}
+use Rattle.pac_types.specs.Sound.{IsSoundProc, types, is_width, column_types, column_types_of}
+use Rattle.pac_types.specs.Meaning.{operations}
+use Rattle.pac_types.specs.Numbering.{AreDistinct, variables, body_of, numbers_from, proc_of, column_of, table_of, column_names, table_names, table_number}
+use Rattle.pac_types.specs.Typing.{IsProcOf, HasDistinctColumns, Types, CatalogueState, IsCatalogue, IsSoundTable, IsProc, IsTyped}
+use Rattle.pac_types.specs.declared.type_error.TypeError.{TypeError}
+use Rattle.pac_types.specs.declared.type_error.TypeError.TheVariants as error
+use Rattle.pac_types.specs.Checking.{Gives, once, all_once, names_of, checked_table, checked_tables, checked_proc, checked_procs}
+use Rattle.pac_types.proofs.NameLemmas.{are_distinct, distinct-nil, number-within}
+use Rattle.pac_types.proofs.CountLemmas.{body_size}
+use Rattle.pac_types.proofs.ExprLemmas.{some_is, none_is}
+use Rattle.pac_types.proofs.StmtLemmas.{Wide}
+use Rattle.pac_types.proofs.TreeLemmas.{OnceTold, once_told, ProcTold, proc_told}
 
 columns-named : (nodes : List ColumnNode) → map (λ node. node.name.name) nodes ≡ column_names (map column_of nodes)
 columns-named [] = refl
@@ -41,144 +47,7 @@ pub columns-of : (nodes : List TableNode) → map (λ node. map (λ column. colu
 columns-of [] = refl
 columns-of (n ∷ ns) = ap (λ names. names ∷ map (λ node. map (λ column. column.name.name) node.columns) ns) (columns-named n.columns) ∙ ap (λ names. column_names (map column_of n.columns) ∷ names) (columns-of ns)
 
--- ---- one more
-
-pub take-more : {A : Type 0} (xs : List A) (i : ℕ) (x : A) → i < length xs → x ≡ get_or xs i x → take (i + 1) xs ≡ take i xs ++ x ∷ []
-take-more xs i x within at = rw add-one (take-suc xs i x within ∙ ap (λ z. take i xs ++ (z ∷ [])) (sym at))
-
-map-push : {A B : Type 0} (f : A → B) (xs : List A) (x : A) → map f (xs ++ x ∷ []) ≡ map f xs ++ f x ∷ []
-map-push f [] x = refl
-map-push f (y ∷ ys) x = ap (λ zs. f y ∷ zs) (map-push f ys x)
-
-pub map-more : {A B : Type 0} (f : A → B) (xs : List A) (i : ℕ) (x : A) (ys new : List B) (y : B) → i < length xs → x ≡ get_or xs i x → ys ≡ map f (take i xs) → new ≡ ys ++ y ∷ [] → y ≡ f x → new ≡ map f (take (i + 1) xs)
-map-more f xs i x ys new y within at before more is = more ∙ ap (λ zs. zs ++ y ∷ []) before ∙ ap (λ z. map f (take i xs) ++ z ∷ []) is ∙ sym (map-push f (take i xs) x) ∙ ap (map f) (sym (take-more xs i x within at))
-
-pub all-more : {A : Type 0} (P : A → Type 0) (xs : List A) (i : ℕ) (x : A) → i < length xs → x ≡ get_or xs i x → All P (take i xs) → P x → All P (take (i + 1) xs)
-all-more P xs i x within at before here = subst (All P) (sym (take-more xs i x within at)) (All-push P (take i xs) x before here)
-
--- ---- procedures
-
-one_defined : (s : StmtNode) → length (defined s) ≤ 1
-one_defined (node.Let name value) = omega arith
-one_defined (node.Read name table key column default) = omega arith
-one_defined (node.Put table key values) = omega arith
-
-defined-few : (ss : List StmtNode) → length (flat_map defined ss) ≤ length ss
-defined-few [] = omega arith
-defined-few (s ∷ ss) = omega (arith, one_defined s, defined-few ss, length-append (defined s) (flat_map defined ss))
-
--- a procedure has no more variables than parameters and statements
-pub variables-few : (proc : ProcNode) → length (variables proc) ≤ length proc.params + length proc.body
-variables-few proc = omega (arith, defined-few proc.body, length-append (map (λ param. param.name.name) proc.params) (flat_map defined proc.body), length-map proc.params (λ param. param.name.name))
-
--- statements by numbers, where they are sound
-abbrev kept : List Table → Scope → Option (List Stmt) → Option (List Stmt)
-kept tables scope b = option_and_then (λ ss. option_map (λ _. ss) (scope_behind tables ss scope)) b
-
-some_same : (xs ys : List Stmt) → Some xs ≡ Some ys → xs ≡ ys
-some_same xs ys h = cc
-
-proc_same : {p q : Proc} → Some p ≡ Some q → p ≡ q
-proc_same h = cc
-
-some≢none : {A : Type 0} {x : A} → Some x ≡ None → ⊥
-some≢none h = true≢false (ap is_some h)
-
-put_first : (s : Stmt) (ss : List Stmt) (o : Option Scope) → option_map (λ more. s ∷ more) (option_map (λ _. ss) o) ≡ option_map (λ _. s ∷ ss) o
-put_first s ss None = refl
-put_first s ss (Some scope) = refl
-
-module _ (tables : List Table) where
-  kept-first : (s : Stmt) (behind : Option Scope) (b : Option (List Stmt)) (rest : Scope → Option (List Stmt)) → ((scope : Scope) → rest scope ≡ kept tables scope b)
-      → option_and_then (λ (x : Stmt × Scope). option_map (λ more. x.0 ∷ more) (rest x.1)) (option_map (λ after. (s, after)) behind) ≡ option_and_then (λ ss. option_map (λ _. s ∷ ss) (option_and_then (in_order (map (check tables) ss)) behind)) b
-  kept-first s None None rest is = refl
-  kept-first s None (Some ss) rest is = refl
-  kept-first s (Some scope) None rest is = ap (option_map (λ more. s ∷ more)) (is scope)
-  kept-first s (Some scope) (Some ss) rest is = ap (option_map (λ more. s ∷ more)) (is scope) ∙ put_first s ss (in_order (map (check tables) ss) scope)
-
-  kept-step : (scope : Scope) (s : Option Stmt) (b : Option (List Stmt)) (rest : Scope → Option (List Stmt)) → ((after : Scope) → rest after ≡ kept tables after b)
-      → option_and_then (λ (x : Stmt × Scope). option_map (λ more. x.0 ∷ more) (rest x.1)) (scoped tables scope s) ≡ kept tables scope (option_and_then (λ a. option_map (λ more. a ∷ more) b) s)
-  kept-step scope None b rest is = refl
-  kept-step scope (Some s) None rest is = kept-first s (scope_after tables s scope) None rest is
-  kept-step scope (Some s) (Some ss) rest is = kept-first s (scope_after tables s scope) (Some ss) rest is
-
-  -- what the checker finds are the statements by numbers, where they are sound
-  checked-is : (names : List (List ℕ)) (nodes : List StmtNode) (seen : ℕ) (scope : Scope) → checked_body tables names seen scope nodes ≡ kept tables scope (body_of tables names seen nodes)
-  checked-is names [] seen scope = refl
-  checked-is names (n ∷ ns) seen scope = kept-step scope (stmt_of tables names seen n) (body_of tables names (seen + length (defined n)) ns) (λ after. checked_body tables names (seen + length (defined n)) after ns)
-      (λ after. checked-is names ns (seen + length (defined n)) after)
-
-  kept-some : (scope : Scope) (b : Option (List Stmt)) (ss : List Stmt) → kept tables scope b ≡ Some ss → (b ≡ Some ss) × IsSome (scope_behind tables ss scope)
-  kept-some scope None ss e = cc
-  kept-some scope (Some found) ss e = go (scope_behind tables found scope) refl e
-    where
-      go : (o : Option Scope) → scope_behind tables found scope ≡ o → option_map (λ _. found) o ≡ Some ss → (Some found ≡ Some ss) × IsSome (scope_behind tables ss scope)
-      go None is h = cc
-      go (Some after) is h = (h, subst (λ (o : Option Scope). IsSome o) (sym (ap (λ (zs : List Stmt). scope_behind tables zs scope) (sym (some_same found ss h)) ∙ is)) refl)
-
-  kept-none : (scope : Scope) (b : Option (List Stmt)) (ss : List Stmt) → kept tables scope b ≡ None → b ≡ Some ss → IsSome (scope_behind tables ss scope) → ⊥
-  kept-none scope b ss none is sound = go (scope_behind tables ss scope) sound (sym (ap (kept tables scope) is) ∙ none)
-    where
-      go : (o : Option Scope) → IsSome o → option_map (λ _. ss) o ≡ None → ⊥
-      go None s h = true≢false (sym s)
-      go (Some after) s h = some≢none h
-
-module _ (tables : List Table) (node : ProcNode) (params : List Column) (tys : List Ty) (names : List (List ℕ)) (found : names ≡ variables node) (as_written : params ≡ map column_of node.params) (typed : tys ≡ types params) where
-  same_scope : tys ≡ types (map column_of node.params)
-  same_scope = typed ∙ ap (λ (ps : List Column). types ps) as_written
-
-  as_many : length tys ≡ length node.params
-  as_many = ap length same_scope ∙ length-map (map column_of node.params) (λ (column : Column). column.ty) ∙ length-map node.params column_of
-
-  -- what the body of the node is
-  body-is : checked_body tables names (length tys) (scope_by tys) node.body ≡ kept tables (scope_of (map column_of node.params)) (body_of tables (variables node) (length node.params) node.body)
-  body-is = ap (λ (zs : List (List ℕ)). checked_body tables zs (length tys) (scope_by tys) node.body) found ∙ ap (λ n. checked_body tables (variables node) n (scope_by tys) node.body) as_many
-      ∙ ap (λ (zs : List Ty). checked_body tables (variables node) (length node.params) (scope_by zs) node.body) same_scope ∙ checked-is tables (variables node) node.body (length node.params) (scope_by (types (map column_of node.params)))
-
-  pub proc_typed : (body : List Stmt) → AreDistinct names → checked_body tables names (length tys) (scope_by tys) node.body ≡ Some body → IsProcOf tables node (record { name = node.name.name; params = params; body = body })
-  proc_typed body distinct is =
-      let both = kept-some tables (scope_of (map column_of node.params)) (body_of tables (variables node) (length node.params) node.body) body (sym body-is ∙ is) in
-      record {
-        distinct = subst AreDistinct found distinct;
-        named = ap (option_map (λ b. record { name = node.name.name; params = map column_of node.params; body = b })) both.0 ∙ ap (λ (ps : List Column). Some (record { name = node.name.name; params = ps; body = body })) (sym as_written);
-        sound = subst (λ (ps : List Column). IsSome (scope_behind tables body (scope_of ps))) (sym as_written) both.1;
-      }
-
-  pub proc_untyped : (proc : Proc) → checked_body tables names (length tys) (scope_by tys) node.body ≡ None → IsProcOf tables node proc → ⊥
-  proc_untyped proc none is = go (body_of tables (variables node) (length node.params) node.body) refl
-    where
-      go : (b : Option (List Stmt)) → body_of tables (variables node) (length node.params) node.body ≡ b → ⊥
-      go None e = some≢none (sym is.named ∙ ap (option_map (λ z. record { name = node.name.name; params = map column_of node.params; body = z })) e)
-      go (Some body) e =
-          let proc_is : record { name = node.name.name; params = map column_of node.params; body = body } ≡ proc = proc_same (sym (ap (option_map (λ z. record { name = node.name.name; params = map column_of node.params; body = z })) e) ∙ is.named) in
-          kept-none tables (scope_of (map column_of node.params)) (body_of tables (variables node) (length node.params) node.body) body (sym body-is ∙ none) e (subst (IsSoundProc tables) (sym proc_is) is.sound)
-
--- ---- what a `?` hands on
-
-same_error : {A E : Type 0} {x y : E} → ◌≡◌ {A = Result A E} (Err x) (Err y) → x ≡ y
-same_error h = cc
-
--- where what is returned is an error, so is what the callee returned
-pub handed_on : {A B E : Type 0} (r : Result A E) (x y e : E) → r ≡ Err x → x ≡ y → r ≡ Err e → ◌≡◌ {A = Result B E} (Err y) (Err e)
-handed_on r x y e is same h = ap Err (sym same ∙ same_error (sym is ∙ h))
-
 -- ---- lists place by place
-
-zip-push : {A B : Type 0} (R : A → B → Type 0) (xs : List A) (ys : List B) (x : A) (y : B) → AllZip R xs ys → R x y → AllZip R (xs ++ x ∷ []) (ys ++ y ∷ [])
-zip-push R [] [] x y before here = (here, tt)
-zip-push R [] (b ∷ bs) x y before here = absurd before
-zip-push R (a ∷ as_) [] x y before here = absurd before
-zip-push R (a ∷ as_) (b ∷ bs) x y before here = (before.0, zip-push R as_ bs x y before.1 here)
-
-pub zip-more : {A B : Type 0} (R : A → B → Type 0) (xs : List A) (i : ℕ) (x : A) (ys : List B) (y : B) → i < length xs → x ≡ get_or xs i x → AllZip R (take i xs) ys → R x y → AllZip R (take (i + 1) xs) (ys ++ y ∷ [])
-zip-more R xs i x ys y within at before here = subst (λ zs. AllZip R zs (ys ++ y ∷ [])) (sym (take-more xs i x within at)) (zip-push R (take i xs) ys x y before here)
-
--- an item with no partner
-pub zip-none : {A B : Type 0} (R : A → B → Type 0) (xs : List A) (i : ℕ) (x : A) (ys : List B) → i < length xs → x ≡ get_or xs i x → ((y : B) → R x y → ⊥) → AllZip R xs ys → ⊥
-zip-none R [] i x ys within at none all = omega arith
-zip-none R (a ∷ as_) i x [] within at none all = all
-zip-none R (a ∷ as_) zero x (b ∷ bs) within at none all = none b (subst (λ z. R z b) (sym at) all.0)
-zip-none R (a ∷ as_) (suc i) x (b ∷ bs) within at none all = zip-none R as_ i x bs (omega arith) at none all.1
 
 -- partners that each item has but one of
 zip-same : {A B : Type 0} (R : A → B → Type 0) → ((x : A) (y z : B) → R x y → R x z → y ≡ z) → (xs : List A) (ys zs : List B) → AllZip R xs ys → AllZip R xs zs → ys ≡ zs
@@ -191,7 +60,7 @@ zip-same R one (x ∷ xs) (y ∷ ys) (z ∷ zs) a b = ap (λ w. w ∷ ys) (one x
 
 -- a node has one procedure
 one_proc : (tables : List Table) (node : ProcNode) (p q : Proc) → IsProcOf tables node p → IsProcOf tables node q → p ≡ q
-one_proc tables node p q a b = proc_same (sym a.named ∙ b.named)
+one_proc tables node p q a b = some_is (sym a.named ∙ b.named)
 
 -- a tree has one catalogue
 pub one_catalogue : (tree : Tree) (c d : CatalogueState) → Types tree c → Types tree d → c ≡ d
@@ -228,20 +97,20 @@ zip-all R P Q step [] (y ∷ ys) all each = absurd all
 zip-all R P Q step (x ∷ xs) [] all each = absurd all
 zip-all R P Q step (x ∷ xs) (y ∷ ys) all each = (step x y each.0 all.0, zip-all R P Q step xs ys all.1 each.1)
 
-params-written : (tables : List Table) (node : ProcNode) (proc : Proc) (b : Option (List Stmt)) → option_map (λ body. record { name = node.name.name; params = map column_of node.params; body = body }) b ≡ Some proc → proc.params ≡ map column_of node.params
-params-written tables node proc None h = absurd (some≢none (sym h))
-params-written tables node proc (Some body) h = ap (λ (p : Proc). p.params) (sym (proc_same h))
 
--- what is said of a body holds of the procedure's
-body_has : (node : ProcNode) (proc : Proc) (P : List Stmt → Type 0) (b : Option (List Stmt)) → option_map (λ body. record { name = node.name.name; params = map column_of node.params; body = body }) b ≡ Some proc → IfSome b P → P proc.body
-body_has node proc P None h has = absurd (some≢none (sym h))
-body_has node proc P (Some body) h has = subst (λ (p : Proc). P p.body) (proc_same h) has
+abbrev the_proc : ProcNode → List Stmt → Proc
+the_proc node body = record { name = node.name.name; params = map column_of node.params; body = body }
+
+-- the body of a procedure by numbers
+body_found : (tables : List Table) (node : ProcNode) (proc : Proc) (b : Option (List Stmt)) → option_map (the_proc node) b ≡ Some proc → (body : List Stmt) × (b ≡ Some body) × (the_proc node body ≡ proc)
+body_found tables node proc None h = absurd (none_is h)
+body_found tables node proc (Some body) h = (body, refl, some_is h)
 
 a_proc : (tables : List Table) (node : ProcNode) (proc : Proc) → IsProcWithinLimits node → IsProcOf tables node proc → IsProc tables proc
 a_proc tables node proc limits is =
-    let params = params-written tables node proc (body_of tables (variables node) (length node.params) node.body) is.named in
-    let counted : operations proc.body ≡ length node.body =
-    body_has node proc (λ (body : List Stmt). operations body ≡ length node.body) (body_of tables (variables node) (length node.params) node.body) is.named (body_size tables (variables node) (length node.params) node.body) in
+    let b = body_found tables node proc (body_of tables (variables node) node.body (numbers_from 0 node.params) (length node.params)) is.named in
+    let params : proc.params ≡ map column_of node.params = ap (λ (p : Proc). p.params) (sym b.2) in
+    let counted : operations proc.body ≡ sizes node.body = ap (λ (p : Proc). operations p.body) (sym b.2) ∙ body_size tables (variables node) node.body (numbers_from 0 node.params) (length node.params) b.0 b.1 in
     record {
       few = subst (λ n. n ≤ 16) (sym (ap length params ∙ length-map node.params column_of)) limits.few;
       params = subst (All (λ column. IsTrue (is_stored_type column.ty))) (sym params) (stored-columns node.params limits.params);
@@ -255,3 +124,132 @@ procs_sound catalogue is = All-from_recursion (IsProc catalogue.tables) catalogu
 
 pub procs_few : (catalogue : CatalogueState) → IsCatalogue catalogue → length catalogue.procs ≤ 64
 procs_few catalogue is = subst (λ n. n ≤ 64) (sym (zip-long (IsProcOf catalogue.tables) is.0.procs catalogue.procs is.2.procs)) is.1.few_procs
+
+-- ---- what checking tables and procedures tells
+
+abbrev AllTold : List (List ℕ) → Result (Unit {0}) TypeFault → Type 0
+AllTold names (Ok x) = AreDistinct names
+AllTold names (Err f) = AreDistinct names → ⊥
+
+all_differ : (names : List (List ℕ)) (k : ℕ) → IsDistinct bytes_eq (take k names) → drop k names ≡ [] → AreDistinct names
+all_differ names k distinct none = are_distinct names (subst (IsDistinct bytes_eq) (sym (append-nil (take k names)) ∙ ap (λ zs. take k names ++ zs) (sym none) ∙ take-append-drop k names) distinct)
+
+columns_told : (names : List (List ℕ)) (nodes : List ColumnNode) (place : ℕ) → IsDistinct bytes_eq (take place names) → drop place names ≡ names_of nodes → AllTold names (all_once names place nodes)
+columns_told names [] place distinct left = all_differ names place distinct left
+columns_told names (node ∷ nodes) place distinct left = go (λ d l. columns_told names nodes (place + 1) d l) (once names place node.name) (once_told names place node.name (names_of nodes) distinct left)
+  where
+    go : (IsDistinct bytes_eq (take (place + 1) names) → drop (place + 1) names ≡ names_of nodes → AllTold names (all_once names (place + 1) nodes)) → (r : Result (Unit {0}) TypeFault) → OnceTold names place (names_of nodes) r
+        → AllTold names (r >>= λ _. all_once names (place + 1) nodes)
+    go later (Err f) told = told
+    go later (Ok x) told = later told.0 told.1
+
+abbrev node_names : List TableNode → List (List ℕ)
+node_names nodes = map (λ node. node.name.name) nodes
+
+abbrev TablesTold : List (List ℕ) → List TableNode → Result (Unit {0}) TypeFault → Type 0
+TablesTold names nodes (Ok x) = AreDistinct names × AllByRecursion HasDistinctColumns nodes
+TablesTold names nodes (Err f) = AreDistinct names → AllByRecursion HasDistinctColumns nodes → ⊥
+
+tables_told : (names : List (List ℕ)) (nodes : List TableNode) (place : ℕ) → IsDistinct bytes_eq (take place names) → drop place names ≡ node_names nodes → TablesTold names nodes (checked_tables names place nodes)
+tables_told names [] place distinct left = (all_differ names place distinct left, tt)
+tables_told names (node ∷ nodes) place distinct left = go (λ d l. tables_told names nodes (place + 1) d l) (once names place node.name) (once_told names place node.name (node_names nodes) distinct left)
+  where
+    later_told : (r : Result (Unit {0}) TypeFault) → HasDistinctColumns node → TablesTold names nodes r → TablesTold names (node ∷ nodes) r
+    later_told (Ok x) columns told = (told.0, (columns, told.1))
+    later_told (Err f) columns told = λ all each. told all each.1
+    with_columns : (r : Result (Unit {0}) TypeFault) → AllTold (names_of node.columns) r → TablesTold names nodes (checked_tables names (place + 1) nodes) → TablesTold names (node ∷ nodes) (r >>= λ _. checked_tables names (place + 1) nodes)
+    with_columns (Err f) told later = λ all each. told each.0
+    with_columns (Ok x) told later = later_told (checked_tables names (place + 1) nodes) told later
+    go : (IsDistinct bytes_eq (take (place + 1) names) → drop (place + 1) names ≡ node_names nodes → TablesTold names nodes (checked_tables names (place + 1) nodes)) → (r : Result (Unit {0}) TypeFault) → OnceTold names place (node_names nodes) r
+        → TablesTold names (node ∷ nodes) ((r >>= λ _. all_once (names_of node.columns) 0 node.columns) >>= λ _. checked_tables names (place + 1) nodes)
+    go later (Err f) told = λ all each. told all
+    go later (Ok x) told = with_columns (all_once (names_of node.columns) 0 node.columns) (columns_told (names_of node.columns) node.columns 0 distinct-nil refl) (later told.0 told.1)
+
+module _ (tables : List Table) (wide : (names : List (List ℕ)) → Wide tables names) (names : List (List ℕ)) where
+  abbrev proc_names : List ProcNode → List (List ℕ)
+  proc_names nodes = map (λ node. node.name.name) nodes
+
+  abbrev ProcsTold : List ProcNode → Result (List Proc) TypeFault → Type 0
+  ProcsTold nodes (Ok procs) = AreDistinct names × AllZip (IsProcOf tables) nodes procs
+  ProcsTold nodes (Err f) = (procs : List Proc) → AreDistinct names → AllZip (IsProcOf tables) nodes procs → ⊥
+
+  pub procs_told : (nodes : List ProcNode) (place : ℕ) → IsDistinct bytes_eq (take place names) → drop place names ≡ proc_names nodes → ProcsTold nodes (checked_procs tables names place nodes)
+  procs_told [] place distinct left = (all_differ names place distinct left, tt)
+  procs_told (node ∷ nodes) place distinct left = go (λ d l. procs_told nodes (place + 1) d l) (once names place node.name) (once_told names place node.name (proc_names nodes) distinct left)
+    where
+      others : (p : Proc) → IsProcOf tables node p → (r : Result (List Proc) TypeFault) → ProcsTold nodes r → ProcsTold (node ∷ nodes) (r >>= λ ps. Ok (p ∷ ps))
+      others p is (Ok ps) told = (told.0, (is, told.1))
+      others p is (Err f) told = none_left
+        where
+          none_left : (procs : List Proc) → AreDistinct names → AllZip (IsProcOf tables) (node ∷ nodes) procs → ⊥
+          none_left [] all zip = zip
+          none_left (q ∷ qs) all zip = told qs all zip.1
+      with_proc : (r : Result Proc TypeFault) → ProcTold tables node (wide (variables node)) r → ProcsTold nodes (checked_procs tables names (place + 1) nodes)
+          → ProcsTold (node ∷ nodes) (r >>= λ p. checked_procs tables names (place + 1) nodes >>= λ ps. Ok (p ∷ ps))
+      with_proc (Err f) told later = none_here
+        where
+          none_here : (procs : List Proc) → AreDistinct names → AllZip (IsProcOf tables) (node ∷ nodes) procs → ⊥
+          none_here [] all zip = zip
+          none_here (q ∷ qs) all zip = told q zip.0
+      with_proc (Ok p) told later = others p told (checked_procs tables names (place + 1) nodes) later
+      go : (IsDistinct bytes_eq (take (place + 1) names) → drop (place + 1) names ≡ proc_names nodes → ProcsTold nodes (checked_procs tables names (place + 1) nodes)) → (r : Result (Unit {0}) TypeFault) → OnceTold names place (proc_names nodes) r
+          → ProcsTold (node ∷ nodes) (r >>= λ _. checked_proc tables node >>= λ p. checked_procs tables names (place + 1) nodes >>= λ ps. Ok (p ∷ ps))
+      go later (Err f) told = λ procs all zip. told all
+      go later (Ok x) told = with_proc (checked_proc tables node) (proc_told tables node (wide (variables node))) (later told.0 told.1)
+
+-- ---- trees
+
+wide_is : (n : ℕ) → 1 ≤ n → n ≤ 8 → is_width n ≡ true
+wide_is n low high = grind (arith, common_steps)
+
+wide_at : (tables : List Table) (first : Table) (t : ℕ) → All IsSoundTable tables → t < length tables → is_width (length (column_types tables t)) ≡ true
+wide_at tables first t sound within =
+    let table = get_or tables t first in
+    let here = sound t first within in
+    ap (λ (o : Option Table). is_width (length (column_types_of o))) (slice_get-get_or tables t first within)
+    ∙ ap is_width (length-map table.columns (λ (column : Column). column.ty)) ∙ wide_is (length table.columns) here.some here.few
+
+pub tables_wide : (nodes : List TableNode) → All IsTableWithinLimits nodes → (names : List (List ℕ)) → Wide (map table_of nodes) names
+tables_wide nodes limits names name t found = go nodes limits (omega (arith, subst (λ (o : Option ℕ). IfSome o (λ n. n < length (table_names (map table_of nodes)))) found (number-within (table_names (map table_of nodes)) name), length-map (map table_of nodes) (λ (table : Table). table.name)))
+  where
+    go : (nodes : List TableNode) → All IsTableWithinLimits nodes → t < length (map table_of nodes) → is_width (length (column_types (map table_of nodes) t)) ≡ true
+    go [] limits within = let never : ⊥ = omega (arith, within) in absurd never
+    go (n ∷ ns) limits within = wide_at (map table_of (n ∷ ns)) (table_of n) t (All-map IsSoundTable table_of (n ∷ ns) (λ k d within. sound_table (get_or (n ∷ ns) k d) (limits k d within))) within
+
+module _ (tree : Tree) (limits : IsWithinLimits tree) where
+  abbrev of_tables : List (List ℕ)
+  of_tables = node_names tree.tables
+
+  abbrev of_procs : List (List ℕ)
+  of_procs = map (λ node. node.name.name) tree.procs
+
+  tables_of_tree : (r : Result (Unit {0}) TypeFault) → checked_tables of_tables 0 tree.tables ≡ r → TablesTold of_tables tree.tables r
+  tables_of_tree r e = subst (TablesTold of_tables tree.tables) e (tables_told of_tables tree.tables 0 distinct-nil refl)
+
+  wide_tables : (tables : List Table) → tables ≡ map table_of tree.tables → (names : List (List ℕ)) → Wide tables names
+  wide_tables tables is names = subst (λ (ts : List Table). Wide ts names) (sym is) (tables_wide tree.tables limits.tables names)
+
+  -- a tree with no fault has the catalogue that was found
+  pub tree_typed : (tables : List Table) (procs : List Proc) → tables ≡ map table_of tree.tables → checked_tables of_tables 0 tree.tables ≡ Ok tt → checked_procs tables of_procs 0 tree.procs ≡ Ok procs → Types tree (record { tables = tables; procs = procs })
+  tree_typed tables procs is names found =
+      let t = tables_of_tree (Ok tt) names in
+      let p = subst (ProcsTold tables (wide_tables tables is) of_procs tree.procs) found (procs_told tables (wide_tables tables is) of_procs tree.procs 0 distinct-nil refl) in
+      record { table_names = t.0; proc_names = p.0; column_names = All-from_recursion HasDistinctColumns tree.tables t.1; tables = is; procs = p.1 }
+
+  -- one with a fault has none
+  pub tables_untyped : (f : TypeFault) → checked_tables of_tables 0 tree.tables ≡ Err f → IsTyped tree → ⊥
+  tables_untyped f e typed = tables_of_tree (Err f) e typed.1.table_names (recursion_from_All HasDistinctColumns tree.tables typed.1.column_names)
+
+  pub procs_untyped : (tables : List Table) → tables ≡ map table_of tree.tables → (f : TypeFault) → checked_procs tables of_procs 0 tree.procs ≡ Err f → IsTyped tree → ⊥
+  procs_untyped tables is f e typed =
+      subst (ProcsTold tables (wide_tables tables is) of_procs tree.procs) e (procs_told tables (wide_tables tables is) of_procs tree.procs 0 distinct-nil refl)
+      typed.0.procs typed.1.proc_names (subst (λ (ts : List Table). AllZip (IsProcOf ts) tree.procs typed.0.procs) (typed.1.tables ∙ sym is) typed.1.procs)
+
+-- ---- what a `?` hands on
+
+same_error : {A E : Type 0} {x y : E} → ◌≡◌ {A = Result A E} (Err x) (Err y) → x ≡ y
+same_error h = cc
+
+-- where the result is a fault, so is what the callee returned
+pub fault_told : {X Y A : Type 0} (view : X → Y) (told : Result Y TypeFault) (r : Result A TypeError) (x y : TypeError) (f : TypeFault) → r ≡ Err x → x ≡ y → r ≡ Err (error.Fault f) → Gives view (Err y) told → told ≡ Err f
+fault_told view told r x y f is same h gives = subst (λ e. Gives view (Err e) told) (sym same ∙ same_error (sym is ∙ h)) gives

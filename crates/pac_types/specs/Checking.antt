@@ -1,28 +1,272 @@
--- What the checker finds statement by statement: numbers for names, and the types of the variables behind.
-use Rattle.std.specs.Prelude.{ℕ, ◌+◌, List, [], ◌∷◌, length, slice_get, Option, Some}
-use Rattle.std.specs.Option.{option_map, option_and_then}
+-- Checking from left to right: what the checker does, statement by statement, up to the first fault that it meets.
+use Rattle.std.specs.Prelude.{◌≡◌, ℕ, ◌+◌, ◌-◌, Bool, true, false, nat_lt, nat_eq, not, List, [], ◌∷◌, ◌++◌, length, take, replicate, map, slice_get, Option, Some, None, Result, Ok, Err}
 use Rattle.pac_value.specs.declared.values.Ty.{Ty}
+use Rattle.pac_value.specs.declared.values.Ty.TheVariants.{Int as IntTy, Text as TextTy, Bool as BoolTy}
+use Rattle.pac_value.specs.declared.expr.BinOp.{BinOp}
+use Rattle.pac_value.specs.declared.expr.BinOp.TheVariants.{Add, Sub, Mul, Div, Rem, Eq, Ne, Lt, Le, Gt, Ge, And, Or}
+use Rattle.pac_value.specs.declared.expr.Expr.{Expr}
+use Rattle.pac_value.specs.declared.expr.Expr.{Lit, Var, Bin}
+use Rattle.pac_value.specs.declared.expr.Expr as expr
+use Rattle.pac_value.specs.Values.{type_of}
+use Rattle.pac_value.specs.Expressions.{◌>>=◌}
+use Rattle.pac_syntax.specs.declared.tree.NameNode.{NameNode}
+use Rattle.pac_syntax.specs.declared.tree.LiteralNode.{LiteralNode}
+use Rattle.pac_syntax.specs.declared.tree.ColumnNode.{ColumnNode}
+use Rattle.pac_syntax.specs.declared.tree.TableNode.{TableNode}
+use Rattle.pac_syntax.specs.declared.tree.ProcNode.{ProcNode}
+use Rattle.pac_syntax.specs.declared.tree.ExprNode.{ExprNode}
+use Rattle.pac_syntax.specs.declared.tree.ExprNode.TheOpen as node
+use Rattle.pac_syntax.specs.declared.tree.ExprNode.TheOpen.{ExprNode-F}
+use Rattle.pac_syntax.specs.declared.tree.ExprNode.TheFolds.{fold-ExprNode}
 use Rattle.pac_syntax.specs.declared.tree.StmtNode.{StmtNode}
+use Rattle.pac_syntax.specs.declared.tree.StmtNode.TheOpen as form
+use Rattle.pac_syntax.specs.declared.tree.StmtNode.TheOpen.{StmtNode-F}
+use Rattle.pac_syntax.specs.declared.tree.StmtNode.TheFolds.{fold-StmtNode}
 use Rattle.pac_types.specs.declared.catalogue.Table.{Table}
-use Rattle.pac_types.specs.declared.catalogue.Stmt.{Stmt}
-use Rattle.pac_types.specs.Sound.{Scope, scope_after}
-use Rattle.pac_types.specs.Numbering.{stmt_of, defined}
+use Rattle.pac_types.specs.declared.catalogue.Proc.{Proc}
+use Rattle.pac_types.specs.declared.catalogue.Stmt.{Stmt, Let, Read, Has, Put, Set, Delete, AbortIf, If}
+use Rattle.pac_types.specs.declared.type_error.TypeError.{TypeError}
+use Rattle.pac_types.specs.declared.type_error.TypeError.TheVariants as error
+use Rattle.pac_types.specs.declared.type_error.TypeFault.{TypeFault}
+use Rattle.pac_types.specs.declared.type_error.TypeFaultKind.{TypeFaultKind}
+use Rattle.pac_types.specs.declared.type_error.TypeFaultKind.TheVariants.{UnknownName, Twice, WrongType, WrongCount, OutOfScope}
+use Rattle.pac_types.specs.declared.scope.Variable.{Variable}
+use Rattle.pac_types.specs.declared.expressions.Typed.{Typed}
+use Rattle.pac_types.specs.declared.statements.Cell.{Cell}
+use Rattle.pac_types.specs.declared.statements.Field.{Field}
+use Rattle.pac_types.specs.Numbering.{number_of, variables, table_number, column_number, table_of, column_of}
+use Rattle.pac_types.specs.Sound.{is_wanted, is_bool, key_type, column_type, column_types}
 
--- the first variables have these types
-abbrev pub scope_by : List Ty → Scope
-scope_by types x = slice_get types x
+-- a result is what is told, unless memory ran out
+abbrev pub Gives : {X Y : Type 0} → (X → Y) → Result X TypeError → Result Y TypeFault → Type 0
+Gives view (Ok x) told = told ≡ Ok (view x)
+Gives view (Err (error.Fault fault)) told = told ≡ Err fault
+Gives view (Err error.NoMemory) told = Unit {0}
 
-abbrev pub with_scope : List Table → Scope → Stmt → Option (Stmt × Scope)
-with_scope tables scope s = option_map (λ after. (s, after)) (scope_after tables s scope)
+abbrev pub refuse : {A : Type 0} → ℕ → TypeFaultKind → Result A TypeFault
+refuse at kind = Err (record { at = at; kind = kind })
 
-abbrev pub scoped : List Table → Scope → Option Stmt → Option (Stmt × Scope)
-scoped tables scope s = option_and_then (with_scope tables scope) s
+-- ---- names
 
--- a statement by numbers, and what is visible behind it
-abbrev pub checked_stmt : List Table → List (List ℕ) → ℕ → Scope → StmtNode → Option (Stmt × Scope)
-checked_stmt tables names seen scope s = scoped tables scope (stmt_of tables names seen s)
+abbrev pub is_before : Option ℕ → ℕ → Bool
+is_before None place = false
+is_before (Some number) place = nat_lt number place
 
-abbrev pub checked_body : List Table → List (List ℕ) → ℕ → Scope → List StmtNode → Option (List Stmt)
-checked_body tables names seen scope [] = Some []
-checked_body tables names seen scope (s ∷ ss) =
-    option_and_then (λ a. option_map (λ as_. a.0 ∷ as_) (checked_body tables names (seen + length (defined s)) a.1 ss)) (checked_stmt tables names seen scope s)
+abbrev pub unless : {A : Type 0} → Bool → A → ℕ → TypeFaultKind → Result A TypeFault
+unless true x at kind = refuse at kind
+unless false x at kind = Ok x
+
+-- the name at a place among these stands at none before it
+abbrev pub once : List (List ℕ) → ℕ → NameNode → Result (Unit {0}) TypeFault
+once names place name = unless (is_before (number_of names name.name) place) tt name.at Twice
+
+-- the names of a procedure, those that stand before with their variables where these are visible, and the number that
+-- the next variable gets
+pub record ScopeState : Type 0 where
+  pub names : List (List ℕ)
+  pub known : List (Option Variable)
+  pub next : ℕ
+
+abbrev pub seen_at : ℕ → Option (Option Variable) → Result Variable TypeFault
+seen_at at (Some (Some variable)) = Ok variable
+seen_at at _ = refuse at OutOfScope
+
+abbrev pub found_at : ℕ → List (Option Variable) → Option ℕ → Result Variable TypeFault
+found_at at known None = refuse at UnknownName
+found_at at known (Some place) = seen_at at (slice_get known place)
+
+-- the visible variable with a name
+abbrev pub found : ScopeState → NameNode → Result Variable TypeFault
+found scope name = found_at name.at scope.known (number_of scope.names name.name)
+
+abbrev pub defined_in : Ty → ScopeState → ScopeState
+defined_in ty scope = record { names = scope.names; known = scope.known ++ Some (record { number = scope.next; ty = ty }) ∷ []; next = scope.next + 1 }
+
+abbrev pub hidden_in : ScopeState → ScopeState
+hidden_in scope = record { names = scope.names; known = scope.known; next = scope.next + 1 }
+
+abbrev pub left_at : ℕ → ScopeState → ScopeState
+left_at place scope = record { names = scope.names; known = take place scope.known ++ replicate (length scope.known - place) None; next = scope.next }
+
+-- ---- expressions
+
+abbrev pub taken : ℕ → Bool → Result (Unit {0}) TypeFault
+taken at true = Ok tt
+taken at false = refuse at WrongType
+
+abbrev pub same_ty : Ty → Ty → Bool
+same_ty IntTy IntTy = true
+same_ty TextTy TextTy = true
+same_ty BoolTy BoolTy = true
+same_ty _ _ = false
+
+abbrev pub is_ordered : Ty → Bool
+is_ordered IntTy = true
+is_ordered TextTy = true
+is_ordered BoolTy = false
+
+-- an operator takes a left operand of this type
+abbrev pub is_left : BinOp → Ty → Bool
+is_left Add ty = same_ty ty IntTy
+is_left Sub ty = same_ty ty IntTy
+is_left Mul ty = same_ty ty IntTy
+is_left Div ty = same_ty ty IntTy
+is_left Rem ty = same_ty ty IntTy
+is_left Eq ty = true
+is_left Ne ty = true
+is_left Lt ty = is_ordered ty
+is_left Le ty = is_ordered ty
+is_left Gt ty = is_ordered ty
+is_left Ge ty = is_ordered ty
+is_left And ty = same_ty ty BoolTy
+is_left Or ty = same_ty ty BoolTy
+
+-- an operator takes a right operand of this type behind a left one of that
+abbrev pub is_right : BinOp → Ty → Ty → Bool
+is_right Add left right = same_ty right IntTy
+is_right Sub left right = same_ty right IntTy
+is_right Mul left right = same_ty right IntTy
+is_right Div left right = same_ty right IntTy
+is_right Rem left right = same_ty right IntTy
+is_right And left right = same_ty right BoolTy
+is_right Or left right = same_ty right BoolTy
+is_right _ left right = same_ty right left
+
+-- the type of what an operator gives
+abbrev pub given : BinOp → Ty
+given Add = IntTy
+given Sub = IntTy
+given Mul = IntTy
+given Div = IntTy
+given Rem = IntTy
+given _ = BoolTy
+
+abbrev pub operands : ℕ → BinOp → Result Typed TypeFault → Result Typed TypeFault → Result Typed TypeFault
+operands at op left right =
+    left >>= λ a. taken a.at (is_left op a.ty) >>= λ _. right >>= λ b. taken b.at (is_right op a.ty b.ty) >>= λ _. Ok (record { at = at; expr = Bin op a.expr b.expr; ty = given op })
+
+abbrev pub checked_step : ScopeState → ExprNode-F (Result Typed TypeFault) → Result Typed TypeFault
+checked_step scope (node.Literal literal) = Ok (record { at = literal.at; expr = Lit literal.value; ty = type_of literal.value })
+checked_step scope (node.Name name) = found scope name >>= λ v. Ok (record { at = name.at; expr = Var v.number; ty = v.ty })
+checked_step scope (node.Binary at op left right) = operands at op left right
+checked_step scope (node.Not at operand) = operand >>= λ a. taken a.at (same_ty a.ty BoolTy) >>= λ _. Ok (record { at = at; expr = expr.Not a.expr; ty = BoolTy })
+
+abbrev pub checked_expr : ScopeState → ExprNode → Result Typed TypeFault
+checked_expr scope = fold-ExprNode (Result Typed TypeFault) (checked_step scope)
+
+-- where a key or a column wants the type
+abbrev pub checked_wanted : ScopeState → ExprNode → Option Ty → Result Expr TypeFault
+checked_wanted scope e by = checked_expr scope e >>= λ v. taken v.at (is_wanted (Some v.ty) by) >>= λ _. Ok v.expr
+
+-- a condition
+abbrev pub checked_test : ScopeState → ExprNode → Result Expr TypeFault
+checked_test scope e = checked_expr scope e >>= λ v. taken v.at (same_ty v.ty BoolTy) >>= λ _. Ok v.expr
+
+-- ---- statements
+
+abbrev pub known_at : {A : Type 0} → ℕ → Option A → Result A TypeFault
+known_at at None = refuse at UnknownName
+known_at at (Some x) = Ok x
+
+abbrev pub Cells : Type 0
+Cells = ℕ × Expr
+
+abbrev pub Fields : Type 0
+Fields = ℕ × Expr × ℕ
+
+abbrev pub cell_of : Cell → Cells
+cell_of cell = (cell.table, cell.key)
+
+abbrev pub field_of : Field → Fields
+field_of field = (field.table, field.key, field.column)
+
+abbrev pub checked_cell : List Table → ScopeState → NameNode → ExprNode → Result Cells TypeFault
+checked_cell tables scope table key = known_at table.at (table_number tables table.name) >>= λ t. checked_wanted scope key (key_type tables t) >>= λ k. Ok (t, k)
+
+abbrev pub checked_field : List Table → ScopeState → NameNode → ExprNode → NameNode → Result Fields TypeFault
+checked_field tables scope table key column = checked_cell tables scope table key >>= λ a. known_at column.at (column_number tables a.0 column.name) >>= λ c. Ok (a.0, a.1, c)
+
+abbrev pub counted : ℕ → ℕ → ℕ → Result (Unit {0}) TypeFault
+counted at values columns = unless (not (nat_eq values columns)) tt at WrongCount
+
+abbrev pub checked_values : ScopeState → List ExprNode → List Ty → Result (List Expr) TypeFault
+checked_values scope [] tys = Ok []
+checked_values scope (e ∷ es) [] = Ok []
+checked_values scope (e ∷ es) (ty ∷ tys) = checked_wanted scope e (Some ty) >>= λ x. checked_values scope es tys >>= λ xs. Ok (x ∷ xs)
+
+abbrev pub checked_put : List Table → ScopeState → NameNode → ExprNode → List ExprNode → Result Stmt TypeFault
+checked_put tables scope table key values =
+    known_at table.at (table_number tables table.name) >>= λ t. counted table.at (length values) (length (column_types tables t)) >>= λ _.
+    checked_wanted scope key (key_type tables t) >>= λ k. checked_values scope values (column_types tables t) >>= λ es. Ok (Put t k es)
+
+abbrev pub Told : Type 0
+Told = Result (Stmt × ScopeState) TypeFault
+
+abbrev pub checked_read : List Table → ScopeState → Fields → LiteralNode → Told
+checked_read tables scope field default =
+    taken default.at (is_wanted (Some (type_of default.value)) (column_type tables field.0 field.2)) >>= λ _. Ok (Read scope.next field.0 field.1 field.2 default.value, defined_in (type_of default.value) scope)
+
+abbrev pub run_all : List (ScopeState → Told) → ScopeState → Result (List Stmt × ScopeState) TypeFault
+run_all [] scope = Ok ([], scope)
+run_all (s ∷ ss) scope = s scope >>= λ a. run_all ss a.1 >>= λ b. Ok (a.0 ∷ b.0, b.1)
+
+-- the statements of a block; none of its variables is visible behind it
+abbrev pub block : List (ScopeState → Told) → ScopeState → Result (List Stmt × ScopeState) TypeFault
+block ss scope = run_all ss scope >>= λ b. Ok (b.0, left_at (length scope.known) b.1)
+
+abbrev pub first_time : ScopeState → NameNode → Result (Unit {0}) TypeFault
+first_time scope name = once scope.names (length scope.known) name
+
+abbrev pub stmt_step : List Table → StmtNode-F (ScopeState → Told) → ScopeState → Told
+stmt_step tables (form.Let name value) scope = first_time scope name >>= λ _. checked_expr scope value >>= λ v. Ok (Let scope.next v.expr, defined_in v.ty scope)
+stmt_step tables (form.Read name table key column default) scope = first_time scope name >>= λ _. checked_field tables scope table key column >>= λ f. checked_read tables scope f default
+stmt_step tables (form.Has name table key) scope = first_time scope name >>= λ _. checked_cell tables scope table key >>= λ c. Ok (Has scope.next c.0 c.1, defined_in BoolTy scope)
+stmt_step tables (form.Put table key values) scope = checked_put tables scope table key values >>= λ s. Ok (s, scope)
+stmt_step tables (form.Set table key column value) scope = checked_field tables scope table key column >>= λ f. checked_wanted scope value (column_type tables f.0 f.2) >>= λ e. Ok (Set f.0 f.1 f.2 e, scope)
+stmt_step tables (form.Delete table key) scope = checked_cell tables scope table key >>= λ c. Ok (Delete c.0 c.1, scope)
+stmt_step tables (form.AbortIf test) scope = checked_test scope test >>= λ e. Ok (AbortIf e, scope)
+stmt_step tables (form.If test first second) scope = checked_test scope test >>= λ e. block first (hidden_in scope) >>= λ a. block second a.1 >>= λ b. Ok (If scope.next e a.0 b.0, b.1)
+
+abbrev pub checked_stmt : List Table → StmtNode → ScopeState → Told
+checked_stmt tables = fold-StmtNode (ScopeState → Told) (stmt_step tables)
+
+abbrev pub checked_run : List Table → List StmtNode → ScopeState → Result (List Stmt × ScopeState) TypeFault
+checked_run tables nodes = run_all (map (checked_stmt tables) nodes)
+
+abbrev pub checked_block : List Table → List StmtNode → ScopeState → Result (List Stmt × ScopeState) TypeFault
+checked_block tables nodes = block (map (checked_stmt tables) nodes)
+
+-- ---- tables and procedures
+
+-- each name from a place on stands at none before it
+abbrev pub all_once : List (List ℕ) → ℕ → List ColumnNode → Result (Unit {0}) TypeFault
+all_once names place [] = Ok tt
+all_once names place (node ∷ nodes) = once names place node.name >>= λ _. all_once names (place + 1) nodes
+
+abbrev pub names_of : List ColumnNode → List (List ℕ)
+names_of nodes = map (λ node. node.name.name) nodes
+
+abbrev pub checked_table : List (List ℕ) → ℕ → TableNode → Result (Unit {0}) TypeFault
+checked_table names place node = once names place node.name >>= λ _. all_once (names_of node.columns) 0 node.columns
+
+abbrev pub checked_tables : List (List ℕ) → ℕ → List TableNode → Result (Unit {0}) TypeFault
+checked_tables names place [] = Ok tt
+checked_tables names place (node ∷ nodes) = checked_table names place node >>= λ _. checked_tables names (place + 1) nodes
+
+-- the parameters, which are visible in the whole procedure
+abbrev pub checked_params : List ColumnNode → ScopeState → Result ScopeState TypeFault
+checked_params [] scope = Ok scope
+checked_params (node ∷ nodes) scope = first_time scope node.name >>= λ _. checked_params nodes (defined_in node.ty scope)
+
+abbrev pub opening : ProcNode → ScopeState
+opening node = record { names = variables node; known = []; next = 0 }
+
+abbrev pub checked_proc : List Table → ProcNode → Result Proc TypeFault
+checked_proc tables node =
+    checked_params node.params (opening node) >>= λ scope. checked_block tables node.body scope >>= λ b.
+    Ok (record { name = node.name.name; params = map column_of node.params; body = b.0 })
+
+abbrev pub checked_procs : List Table → List (List ℕ) → ℕ → List ProcNode → Result (List Proc) TypeFault
+checked_procs tables names place [] = Ok []
+checked_procs tables names place (node ∷ nodes) =
+    once names place node.name >>= λ _. checked_proc tables node >>= λ p. checked_procs tables names (place + 1) nodes >>= λ ps. Ok (p ∷ ps)

@@ -1,3 +1,4 @@
+pub mod Kinds
 pub mod Reasons
 pub mod Sound
 pub mod Meaning

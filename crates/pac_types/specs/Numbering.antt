@@ -1,22 +1,26 @@
 -- Names give way to numbers.
-use Rattle.std.specs.Prelude.{◌≢◌, ℕ, ◌+◌, List, [], ◌∷◌, ◌++◌, length, take, map, slice_get, Option, Some, bytes_eq, AllPairs}
+use Rattle.std.specs.Prelude.{◌≢◌, ℕ, ◌+◌, List, [], ◌∷◌, ◌++◌, length, replicate, map, slice_get, Option, Some, None, bytes_eq, AllPairs}
 use Rattle.std.specs.List.{position, flat_map}
 use Rattle.std.specs.Option.{option_map, option_and_then}
 use Rattle.pac_value.specs.declared.expr.Expr.{Expr, Lit, Var, Bin}
+use Rattle.pac_value.specs.declared.expr.Expr as expr
 use Rattle.pac_syntax.specs.declared.tree.NameNode.{NameNode}
 use Rattle.pac_syntax.specs.declared.tree.LiteralNode.{LiteralNode}
 use Rattle.pac_syntax.specs.declared.tree.ColumnNode.{ColumnNode}
 use Rattle.pac_syntax.specs.declared.tree.ExprNode.{ExprNode}
 use Rattle.pac_syntax.specs.declared.tree.ExprNode.TheOpen.{ExprNode-F, Literal, Name, Binary}
+use Rattle.pac_syntax.specs.declared.tree.ExprNode.TheOpen as node
 use Rattle.pac_syntax.specs.declared.tree.ExprNode.TheFolds.{fold-ExprNode}
 use Rattle.pac_syntax.specs.declared.tree.StmtNode.{StmtNode}
-use Rattle.pac_syntax.specs.declared.tree.StmtNode.TheVariants as node
+use Rattle.pac_syntax.specs.declared.tree.StmtNode.TheOpen as form
+use Rattle.pac_syntax.specs.declared.tree.StmtNode.TheOpen.{StmtNode-F}
+use Rattle.pac_syntax.specs.declared.tree.StmtNode.TheFolds.{fold-StmtNode}
 use Rattle.pac_syntax.specs.declared.tree.TableNode.{TableNode}
 use Rattle.pac_syntax.specs.declared.tree.ProcNode.{ProcNode}
 use Rattle.pac_types.specs.declared.catalogue.Column.{Column}
 use Rattle.pac_types.specs.declared.catalogue.Table.{Table}
 use Rattle.pac_types.specs.declared.catalogue.Proc.{Proc}
-use Rattle.pac_types.specs.declared.catalogue.Stmt.{Stmt, Let, Read, Put}
+use Rattle.pac_types.specs.declared.catalogue.Stmt.{Stmt, Let, Read, Has, Put, Set, Delete, AbortIf, If}
 
 -- no name stands twice
 abbrev pub AreDistinct : List (List ℕ) → Type 0
@@ -47,53 +51,128 @@ table_number tables name = number_of (table_names tables) name
 abbrev pub column_number : List Table → ℕ → List ℕ → Option ℕ
 column_number tables t name = option_and_then (λ table. number_of (column_names table.columns) name) (slice_get tables t)
 
--- ---- variables: the parameters of a procedure, and then what its statements define, in the order of the text
+-- ---- variables
 
--- the variable that a statement defines
+abbrev pub joined : List (List (List ℕ)) → List (List ℕ)
+joined [] = []
+joined (names ∷ more) = names ++ joined more
+
+-- the names of the variables that a statement defines, in the order of the text
+abbrev pub defined_step : StmtNode-F (List (List ℕ)) → List (List ℕ)
+defined_step (form.Let name value) = name.name ∷ []
+defined_step (form.Read name table key column default) = name.name ∷ []
+defined_step (form.Has name table key) = name.name ∷ []
+defined_step (form.If test first second) = joined first ++ joined second
+defined_step _ = []
+
 abbrev pub defined : StmtNode → List (List ℕ)
-defined (node.Let name value) = name.name ∷ []
-defined (node.Read name table key column default) = name.name ∷ []
-defined (node.Put table key values) = []
+defined = fold-StmtNode (List (List ℕ)) defined_step
 
+-- the names of a procedure: those of its parameters, and then those of the variables that its statements define
 abbrev pub variables : ProcNode → List (List ℕ)
 variables proc = map (λ param. param.name.name) proc.params ++ flat_map defined proc.body
 
+-- for each name so far the number of its variable, where that is visible
+abbrev pub Sight : Type 0
+Sight = List (Option ℕ)
+
+abbrev pub number_at : Option (Option ℕ) → Option ℕ
+number_at (Some number) = number
+number_at None = None
+
+-- the number of the visible variable with a name
+abbrev pub seen_number : List (List ℕ) → Sight → List ℕ → Option ℕ
+seen_number names sight name = option_and_then (λ place. number_at (slice_get sight place)) (number_of names name)
+
 -- an expression over the visible variables, from its operands; None where it names another
-abbrev pub resolve_step : List (List ℕ) → ExprNode-F (Option Expr) → Option Expr
-resolve_step visible (Literal literal) = Some (Lit literal.value)
-resolve_step visible (Name name) = option_map Var (number_of visible name.name)
-resolve_step visible (Binary at op l r) = option_and_then (λ a. option_map (λ b. Bin op a b) r) l
+abbrev pub resolve_step : List (List ℕ) → Sight → ExprNode-F (Option Expr) → Option Expr
+resolve_step names sight (Literal literal) = Some (Lit literal.value)
+resolve_step names sight (Name name) = option_map Var (seen_number names sight name.name)
+resolve_step names sight (Binary at op l r) = option_and_then (λ a. option_map (λ b. Bin op a b) r) l
+resolve_step names sight (node.Not at e) = option_map expr.Not e
 
-abbrev pub resolved : List (List ℕ) → ExprNode → Option Expr
-resolved visible = fold-ExprNode (Option Expr) (resolve_step visible)
+abbrev pub resolved : List (List ℕ) → Sight → ExprNode → Option Expr
+resolved names sight = fold-ExprNode (Option Expr) (resolve_step names sight)
 
-abbrev pub resolved_all : List (List ℕ) → List ExprNode → Option (List Expr)
-resolved_all visible [] = Some []
-resolved_all visible (e ∷ es) = option_and_then (λ a. option_map (λ as_. a ∷ as_) (resolved_all visible es)) (resolved visible e)
+abbrev pub resolved_all : List (List ℕ) → Sight → List ExprNode → Option (List Expr)
+resolved_all names sight [] = Some []
+resolved_all names sight (e ∷ es) = option_and_then (λ a. option_map (λ as_. a ∷ as_) (resolved_all names sight es)) (resolved names sight e)
 
--- ---- statements, where the first so many variables of the procedure are visible
+-- ---- statements
 
-abbrev pub let_of : List (List ℕ) → ℕ → ExprNode → Option Stmt
-let_of names seen value = option_map (λ e. Let seen e) (resolved (take seen names) value)
+-- what a statement is to numbering: how many names and how many variables it defines, the hidden one of a conditional
+-- among these; which of its names are visible behind it, with their numbers, where its first variable has a given one;
+-- and the statement by numbers, None where a name is none of those that are visible
+pub record Numbered : Type 0 where
+  pub names : ℕ
+  pub count : ℕ
+  pub shown : ℕ → Sight
+  pub stmt : Sight → ℕ → Option Stmt
 
-abbrev pub read_of : List Table → List (List ℕ) → ℕ → NameNode → ExprNode → NameNode → LiteralNode → Option Stmt
-read_of tables names seen table key column default =
-    option_and_then (λ t. option_and_then (λ k. option_map (λ c. Read seen t k c default.value) (column_number tables t column.name)) (resolved (take seen names) key)) (table_number tables table.name)
+-- a statement that defines a variable, and one that defines none
+abbrev pub naming : (Sight → ℕ → Option Stmt) → Numbered
+naming stmt = record { names = 1; count = 1; shown = λ n. Some n ∷ []; stmt = stmt }
 
-abbrev pub put_of : List Table → List (List ℕ) → ℕ → NameNode → ExprNode → List ExprNode → Option Stmt
-put_of tables names seen table key values =
-    option_and_then (λ t. option_and_then (λ k. option_map (λ es. Put t k es) (resolved_all (take seen names) values)) (resolved (take seen names) key)) (table_number tables table.name)
+abbrev pub plain : (Sight → ℕ → Option Stmt) → Numbered
+plain stmt = record { names = 0; count = 0; shown = λ n. []; stmt = stmt }
 
--- a statement's tables, columns and variables by their numbers; None where a name is none of those that are visible
-abbrev pub stmt_of : List Table → List (List ℕ) → ℕ → StmtNode → Option Stmt
-stmt_of tables names seen (node.Let name value) = let_of names seen value
-stmt_of tables names seen (node.Read name table key column default) = read_of tables names seen table key column default
-stmt_of tables names seen (node.Put table key values) = put_of tables names seen table key values
+abbrev pub all_names : List Numbered → ℕ
+all_names [] = 0
+all_names (s ∷ ss) = s.names + all_names ss
+
+abbrev pub counts : List Numbered → ℕ
+counts [] = 0
+counts (s ∷ ss) = s.count + counts ss
 
 -- statements one after another; a variable is visible behind its statement
-abbrev pub body_of : List Table → List (List ℕ) → ℕ → List StmtNode → Option (List Stmt)
-body_of tables names seen [] = Some []
-body_of tables names seen (s ∷ ss) = option_and_then (λ a. option_map (λ as_. a ∷ as_) (body_of tables names (seen + length (defined s)) ss)) (stmt_of tables names seen s)
+abbrev pub in_turn : List Numbered → Sight → ℕ → Option (List Stmt)
+in_turn [] sight n = Some []
+in_turn (s ∷ ss) sight n = option_and_then (λ a. option_map (λ as_. a ∷ as_) (in_turn ss (sight ++ s.shown n) (n + s.count))) (s.stmt sight n)
+
+-- names whose variables are not visible
+abbrev pub unseen : ℕ → Sight
+unseen k = replicate k None
+
+abbrev pub cell_by : Option ℕ → Option Expr → (ℕ → Expr → Option Stmt) → Option Stmt
+cell_by table key stmt = option_and_then (λ t. option_and_then (λ k. stmt t k) key) table
+
+-- a conditional's hidden variable comes before those of its blocks; what a block defines is not visible behind it
+abbrev pub branching : (Sight → Option Expr) → List Numbered → List Numbered → Numbered
+branching test first second = record {
+  names = all_names first + all_names second;
+  count = 1 + (counts first + counts second);
+  shown = λ n. unseen (all_names first) ++ unseen (all_names second);
+  stmt = λ sight n. option_and_then (λ e. option_and_then (λ a. option_map (λ b. If n e a b)
+      (in_turn second (sight ++ unseen (all_names first)) (n + 1 + counts first))) (in_turn first sight (n + 1))) (test sight);
+}
+
+abbrev pub number_step : List Table → List (List ℕ) → StmtNode-F Numbered → Numbered
+number_step tables names (form.Let name value) = naming (λ sight n. option_map (λ e. Let n e) (resolved names sight value))
+number_step tables names (form.Read name table key column default) = naming (λ sight n. cell_by (table_number tables table.name) (resolved names sight key)
+    (λ t k. option_map (λ c. Read n t k c default.value) (column_number tables t column.name)))
+number_step tables names (form.Has name table key) = naming (λ sight n. cell_by (table_number tables table.name) (resolved names sight key) (λ t k. Some (Has n t k)))
+number_step tables names (form.Put table key values) = plain (λ sight n. cell_by (table_number tables table.name) (resolved names sight key)
+    (λ t k. option_map (λ es. Put t k es) (resolved_all names sight values)))
+number_step tables names (form.Set table key column value) = plain (λ sight n. cell_by (table_number tables table.name) (resolved names sight key)
+    (λ t k. option_and_then (λ c. option_map (λ e. Set t k c e) (resolved names sight value)) (column_number tables t column.name)))
+number_step tables names (form.Delete table key) = plain (λ sight n. cell_by (table_number tables table.name) (resolved names sight key) (λ t k. Some (Delete t k)))
+number_step tables names (form.AbortIf test) = plain (λ sight n. option_map (λ e. AbortIf e) (resolved names sight test))
+number_step tables names (form.If test first second) = branching (λ sight. resolved names sight test) first second
+
+-- a statement to numbering
+abbrev pub numbered : List Table → List (List ℕ) → StmtNode → Numbered
+numbered tables names = fold-StmtNode Numbered (number_step tables names)
+
+-- statements by numbers
+abbrev pub body_of : List Table → List (List ℕ) → List StmtNode → Sight → ℕ → Option (List Stmt)
+body_of tables names nodes = in_turn (map (numbered tables names) nodes)
+
+-- the parameters are visible, and have the first numbers
+abbrev pub numbers_from : ℕ → List ColumnNode → Sight
+numbers_from n [] = []
+numbers_from n (param ∷ params) = Some n ∷ numbers_from (n + 1) params
 
 abbrev pub proc_of : List Table → ProcNode → Option Proc
-proc_of tables proc = option_map (λ body. record { name = proc.name.name; params = map column_of proc.params; body = body }) (body_of tables (variables proc) (length proc.params) proc.body)
+proc_of tables proc =
+    option_map (λ body. record { name = proc.name.name; params = map column_of proc.params; body = body })
+    (body_of tables (variables proc) proc.body (numbers_from 0 proc.params) (length proc.params))

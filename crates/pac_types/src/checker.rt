@@ -1,9 +1,9 @@
 // The checker of trees, and the catalogue that it gives.
 ghost use Rattle.std.specs.Prelude.{◌≡◌, ◌≤◌, ◌<◌, All, IfOk, IsErrOf, List, length, map};
-ghost use Rattle.std.specs.List.{AllZip};
-ghost use Rattle.pac_types.specs.declared.catalogue.Proc.{Proc as AProc};
+ghost use Rattle.pac_types.specs.declared.type_error.TypeFault.{TypeFault as AFault};
+ghost use Rattle.pac_types.specs.Checking.{Gives, checked_procs};
 ghost use Rattle.pac_types.specs.Numbering.{number_of};
-ghost use Rattle.pac_types.specs.Typing.{CatalogueState, IsProc, IsProcOf, IsSoundTable, IsTyped, Types};
+ghost use Rattle.pac_types.specs.Typing.{CatalogueState, IsProc, IsSoundTable, IsTyped, Types};
 ghost use Rattle.pac_syntax.specs.Limits.{IsProcWithinLimits, IsWithinLimits};
 
 use crate::names::Names;
@@ -50,13 +50,15 @@ fn names_of_procs(alloc: Global, nodes: &[ProcNode]) -> Result<Vec<Name>, AllocE
 
 // The procedures of these nodes over the tables.
 fn check_procs(alloc: Global, tables: &Tables, nodes: &[ProcNode]) -> Result<Vec<Proc>, TypeError>
-    requires { All IsProcWithinLimits nodes.now }
-    ensures ok { IfOk result (λ procs. AllZip (IsProcOf tables.now) nodes.now procs.items) }
-    ensures refused { IsErrOf result TypeError.Refused → (procs : List AProc) → ¬ AllZip (IsProcOf tables.now) nodes.now procs }
+    requires few { length nodes.now ≤ 64 }
+    requires limits { All IsProcWithinLimits nodes.now }
+    ensures { Gives (λ procs. procs.items) result (checked_procs tables.now (map (λ node. node.name.name) nodes.now) 0 nodes.now) }
 {
+    let names = Names::of(alloc, names_of_procs(alloc, nodes)?)?;
     let mut procs = Vec::with_capacity(alloc, nodes.len())?;
     for i in 0..nodes.len() {
         let node = &nodes[i];
+        names.once(i, &node.name)?;
         procs.push(check_proc(alloc, tables, node)?)?;
     }
     Ok(procs)
@@ -66,16 +68,12 @@ fn check_procs(alloc: Global, tables: &Tables, nodes: &[ProcNode]) -> Result<Vec
 ///
 /// # Errors
 ///
-/// [`TypeError::Refused`] exactly where the tree isn't typed: a name stands twice in its space, a name isn't that of a
-/// table, of a column of its table or of a visible variable, or an expression hasn't the type that its place wants.
-/// Tables and procedures have a space each, the columns of a table have one, and the parameters and variables of a
-/// procedure have one together. A parameter is visible in the whole procedure, a variable behind its statement.
-/// [`TypeError::NoMemory`].
+/// [`TypeError::Fault`] exactly where the tree isn't typed. [`TypeError::NoMemory`].
 pub fn check(alloc: Global, tree: Tree) -> Result<Catalogue, TypeError>
     requires { IsWithinLimits tree }
     ensures ok { IfOk result (λ catalogue. Types tree catalogue) }
     ensures one { IfOk result (λ catalogue. (other : CatalogueState) → Types tree other → other ≡ catalogue) }
-    ensures refused { IsErrOf result TypeError.Refused → ¬ IsTyped tree }
+    ensures refused { (fault : AFault) → IsErrOf result (TypeError.Fault fault) → ¬ IsTyped tree }
 {
     check_tree(alloc, tree)
 }
@@ -84,10 +82,9 @@ pub fn check(alloc: Global, tree: Tree) -> Result<Catalogue, TypeError>
 fn check_tree(alloc: Global, tree: Tree) -> Result<Catalogue, TypeError>
     requires { IsWithinLimits tree }
     ensures ok { IfOk result (λ catalogue. Types tree catalogue) }
-    ensures refused { IsErrOf result TypeError.Refused → ¬ IsTyped tree }
+    ensures refused { (fault : AFault) → IsErrOf result (TypeError.Fault fault) → ¬ IsTyped tree }
 {
     let tables = Tables::of(alloc, tree.tables.as_slice())?;
-    let _proc_names = Names::of(alloc, names_of_procs(alloc, tree.procs.as_slice())?)?;
     let procs = check_procs(alloc, &tables, tree.procs.as_slice())?;
     Ok(Catalogue {
         tables: listed(tables.into_tables()),

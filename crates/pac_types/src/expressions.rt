@@ -1,120 +1,148 @@
-// Expressions by numbers, and their types.
-ghost use Rattle.std.specs.Prelude.{◌≡◌, ◌≤◌, ◌^◌, IfOk, IsErrOf, Some, None, length, slice_get, take};
-ghost use Rattle.pac_value.specs.Expressions.{type_in, operator_type, negated_type};
-ghost use Rattle.pac_types.specs.Checking.{scope_by};
-ghost use Rattle.pac_types.specs.Numbering.{number_of, resolved, resolved_all};
+// Expressions by numbers, with their types.
+ghost use Rattle.std.specs.Prelude.{◌≡◌};
+ghost use Rattle.pac_types.specs.Checking.{Gives, taken, is_left, is_right, given, checked_expr, checked_wanted, checked_test};
+ghost use Rattle.pac_types.specs.Sound.{is_wanted, is_bool};
 
 use crate::TypeError;
-use crate::names::Names;
-use pac_base::{Boxed, Listed, listed};
+use crate::scope::Scope;
+use crate::type_error::{TypeFault, TypeFaultKind};
+use pac_base::Boxed;
 use pac_syntax::ExprNode;
-use pac_value::{BinOp, Expr, Name, Ty};
+use pac_value::{BinOp, Expr, Ty};
 use std::alloc::Global;
 
-// The number of a name among the first so many.
-fn visible(names: &Names, seen: usize, name: &Name) -> Option<u16>
-    ensures { result ≡ number_of (take seen names.now) name.now }
+/// An expression with a number for each name, its type, and the place where it stands.
+#[derive(Drop)]
+pub struct Typed {
+    pub at: usize,
+    pub expr: Expr,
+    pub ty: Ty,
+}
+
+// That an expression at a place has a type that is taken there.
+pub fn taken(at: usize, is_taken: bool) -> Result<(), TypeFault>
+    ensures { result ≡ taken at is_taken }
 {
-    match names.number(name) {
-        Some(number) if usize::from(number) < seen => Some(number),
-        _ => None,
+    if is_taken {
+        Ok(())
+    } else {
+        let kind = TypeFaultKind::WrongType;
+        Err(TypeFault { at, kind })
     }
 }
 
-// The expression with a number for each name.
-pub fn resolve(
-    alloc: Global,
-    names: &Names,
-    seen: usize,
-    node: &ExprNode,
-) -> Result<Expr, TypeError>
-    ensures ok { IfOk result (λ expr. resolved (take seen names.now) node.now ≡ Some expr) }
-    ensures refused { IsErrOf result TypeError.Refused → resolved (take seen names.now) node.now ≡ None }
+// Whether an operator takes a left operand of this type.
+fn is_left(op: BinOp, ty: Ty) -> bool
+    ensures { result ≡ is_left op ty }
+{
+    match op {
+        BinOp::Add | BinOp::Sub | BinOp::Mul | BinOp::Div | BinOp::Rem => ty == Ty::Int,
+        BinOp::Eq | BinOp::Ne => true,
+        BinOp::Lt | BinOp::Le | BinOp::Gt | BinOp::Ge => ty != Ty::Bool,
+        BinOp::And | BinOp::Or => ty == Ty::Bool,
+    }
+}
+
+// Whether an operator takes a right operand of this type behind a left one of that.
+fn is_right(op: BinOp, left: Ty, right: Ty) -> bool
+    ensures { result ≡ is_right op left right }
+{
+    match op {
+        BinOp::Add | BinOp::Sub | BinOp::Mul | BinOp::Div | BinOp::Rem => right == Ty::Int,
+        BinOp::And | BinOp::Or => right == Ty::Bool,
+        _ => right == left,
+    }
+}
+
+// The type of what an operator gives.
+fn given(op: BinOp) -> Ty
+    ensures { result ≡ given op }
+{
+    match op {
+        BinOp::Add | BinOp::Sub | BinOp::Mul | BinOp::Div | BinOp::Rem => Ty::Int,
+        _ => Ty::Bool,
+    }
+}
+
+/// The expression of a node over the visible variables.
+pub fn check_expr(alloc: Global, scope: &Scope, node: &ExprNode) -> Result<Typed, TypeError>
+    ensures { Gives (λ typed. typed) result (checked_expr scope.now node.now) }
 {
     match node {
-        ExprNode::Literal(literal) => Ok(Expr::Lit(literal.value)),
-        ExprNode::Name(name) => match visible(names, seen, &name.name) {
-            Some(number) => Ok(Expr::Var(number)),
-            None => Err(TypeError::Refused),
-        },
+        ExprNode::Literal(literal) => Ok(Typed {
+            at: literal.at,
+            expr: Expr::Lit(literal.value),
+            ty: literal.value.ty(),
+        }),
+        ExprNode::Name(name) => {
+            let variable = scope.find(name)?;
+            Ok(Typed {
+                at: name.at,
+                expr: Expr::Var(variable.number),
+                ty: variable.ty,
+            })
+        }
         ExprNode::Binary {
-            at: _,
+            at,
             op,
             left,
             right,
         } => {
-            let left = resolve(alloc, names, seen, left.get())?;
-            let right = resolve(alloc, names, seen, right.get())?;
-            Ok(Expr::Bin {
-                op: *op,
-                left: Boxed::new(alloc, left)?,
-                right: Boxed::new(alloc, right)?,
+            let left = check_expr(alloc, scope, left.get())?;
+            taken(left.at, is_left(*op, left.ty))?;
+            let right = check_expr(alloc, scope, right.get())?;
+            taken(right.at, is_right(*op, left.ty, right.ty))?;
+            Ok(Typed {
+                at: *at,
+                expr: Expr::Bin {
+                    op: *op,
+                    left: Boxed::new(alloc, left.expr)?,
+                    right: Boxed::new(alloc, right.expr)?,
+                },
+                ty: given(*op),
+            })
+        }
+        ExprNode::Not { at, operand } => {
+            let operand = check_expr(alloc, scope, operand.get())?;
+            taken(operand.at, operand.ty == Ty::Bool)?;
+            Ok(Typed {
+                at: *at,
+                expr: Expr::Not(Boxed::new(alloc, operand.expr)?),
+                ty: Ty::Bool,
             })
         }
     }
 }
 
-// The type of what an operator gives.
-fn type_by(op: BinOp, left: Ty, right: Ty) -> Option<Ty>
-    ensures { result ≡ operator_type op left right }
+// Whether an expression's type is what a key or a column wants.
+pub fn wanted(ty: Ty, by: Option<Ty>) -> bool
+    ensures { result ≡ is_wanted (Some ty) by }
 {
-    match (op, left, right) {
-        (BinOp::Add | BinOp::Sub | BinOp::Mul | BinOp::Div | BinOp::Rem, Ty::Int, Ty::Int) => {
-            Some(Ty::Int)
-        }
-        (BinOp::Eq | BinOp::Ne, Ty::Int, Ty::Int)
-        | (BinOp::Eq | BinOp::Ne, Ty::Text, Ty::Text)
-        | (BinOp::Eq | BinOp::Ne, Ty::Bool, Ty::Bool) => Some(Ty::Bool),
-        (BinOp::Lt | BinOp::Le | BinOp::Gt | BinOp::Ge, Ty::Int, Ty::Int)
-        | (BinOp::Lt | BinOp::Le | BinOp::Gt | BinOp::Ge, Ty::Text, Ty::Text) => Some(Ty::Bool),
-        (BinOp::And | BinOp::Or, Ty::Bool, Ty::Bool) => Some(Ty::Bool),
-        _ => None,
+    match (ty, by) {
+        (Ty::Int, Some(Ty::Int)) | (Ty::Text, Some(Ty::Text)) => true,
+        _ => false,
     }
 }
 
-// The type of the variable with this number. `None`: there is none.
-fn type_at(types: &[Ty], var: usize) -> Option<Ty>
-    ensures { result ≡ slice_get types.now var }
-{
-    if var < types.len() {
-        Some(types[var])
-    } else {
-        None
-    }
-}
-
-// The type of an expression whose variables have these types.
-pub fn type_of(types: &[Ty], expr: &Expr) -> Option<Ty>
-    ensures { result ≡ type_in (scope_by types.now) expr.now }
-{
-    match expr {
-        Expr::Lit(value) => Some(value.ty()),
-        Expr::Var(var) => type_at(types, usize::from(*var)),
-        Expr::Bin { op, left, right } => {
-            let left = type_of(types, left.get())?;
-            let right = type_of(types, right.get())?;
-            type_by(*op, left, right)
-        }
-        Expr::Not(operand) => match type_of(types, operand.get())? {
-            Ty::Bool => Some(Ty::Bool),
-            _ => None,
-        },
-    }
-}
-
-// The expressions with a number for each name.
-pub fn resolve_all(
+/// The expression of a node where a key or a column wants its type.
+pub fn check_wanted(
     alloc: Global,
-    names: &Names,
-    seen: usize,
-    nodes: &[ExprNode],
-) -> Result<Vec<Expr>, TypeError>
-    ensures ok { IfOk result (λ exprs. resolved_all (take seen names.now) nodes.now ≡ Some exprs.items) }
-    ensures refused { IsErrOf result TypeError.Refused → resolved_all (take seen names.now) nodes.now ≡ None }
+    scope: &Scope,
+    node: &ExprNode,
+    by: Option<Ty>,
+) -> Result<Expr, TypeError>
+    ensures { Gives (λ expr. expr) result (checked_wanted scope.now node.now by) }
 {
-    let mut exprs = Vec::with_capacity(alloc, nodes.len())?;
-    for node in nodes {
-        exprs.push(resolve(alloc, names, seen, node)?)?;
-    }
-    Ok(exprs)
+    let typed = check_expr(alloc, scope, node)?;
+    taken(typed.at, wanted(typed.ty, by))?;
+    Ok(typed.expr)
+}
+
+/// The expression of a node that is a condition.
+pub fn check_test(alloc: Global, scope: &Scope, node: &ExprNode) -> Result<Expr, TypeError>
+    ensures { Gives (λ expr. expr) result (checked_test scope.now node.now) }
+{
+    let typed = check_expr(alloc, scope, node)?;
+    taken(typed.at, typed.ty == Ty::Bool)?;
+    Ok(typed.expr)
 }

@@ -17,6 +17,7 @@ mod expressions;
 mod names;
 mod procedures;
 mod reason;
+mod scope;
 mod statements;
 mod tables;
 #[cfg(test)]
@@ -26,4 +27,4 @@ mod type_error;
 pub use catalogue::{Column, Columns, Exprs, Proc, Stmt, Stmts, Table};
 pub use checker::{Catalogue, check};
 pub use reason::Reason;
-pub use type_error::TypeError;
+pub use type_error::{TypeError, TypeFault, TypeFaultKind};

@@ -1,14 +1,16 @@
 // Names with numbers.
-ghost use Rattle.std.specs.Prelude.{◌≡◌, ◌≤◌, ◌^◌, ◌<◌, IfOk, IfSome, IsErrOf, length, vec_len};
-ghost use Rattle.pac_types.specs.Numbering.{AreDistinct, number_of};
+ghost use Rattle.std.specs.Prelude.{◌≡◌, ◌≤◌, ◌^◌, ◌<◌, IfOk, IfSome, length, vec_len};
+ghost use Rattle.pac_types.specs.Numbering.{number_of};
+ghost use Rattle.pac_types.specs.Checking.{once};
 
-use crate::TypeError;
+use crate::type_error::{TypeFault, TypeFaultKind};
+use pac_syntax::NameNode;
 use pac_value::Name;
-use std::alloc::Global;
+use std::alloc::{AllocError, Global};
 use std::collections::BTreeMap;
 use std::marker::Model;
 
-/// Names that all differ, each with its place as its number. A look-up goes by a map.
+/// Names, each with its first place as its number. A look-up goes by a map.
 #[derive(Drop)]
 pub struct Names {
     names: Vec<Name>,
@@ -29,20 +31,15 @@ impl Model for Names {
 
 impl Names {
     /// Numbers the names by their places.
-    ///
-    /// # Errors
-    ///
-    /// [`TypeError::Refused`] exactly where a name stands twice. [`TypeError::NoMemory`].
-    pub fn of(alloc: Global, names: Vec<Name>) -> Result<Names, TypeError>
+    pub fn of(alloc: Global, names: Vec<Name>) -> Result<Names, AllocError>
         requires { vec_len names ≤ 2 ^ 16 }
-        ensures ok { IfOk result (λ indexed. indexed ≡ names.items) }
-        ensures distinct { IfOk result (λ indexed. AreDistinct indexed) }
-        ensures refused { IsErrOf result TypeError.Refused → ¬ AreDistinct names.items }
+        ensures { IfOk result (λ indexed. indexed ≡ names.items) }
     {
         let mut numbers = BTreeMap::new(alloc);
         for i in 0..names.len() {
-            if numbers.insert(names[i], i as u16)?.is_some() {
-                return Err(TypeError::Refused);
+            let name = names[i];
+            if numbers.get(&name).is_none() {
+                numbers.insert(name, i as u16)?;
             }
         }
         Ok(Names { names, numbers })
@@ -54,5 +51,22 @@ impl Names {
         ensures within { IfSome result (λ number. number < length self.now) }
     {
         self.numbers.get(name).copied()
+    }
+
+    /// That the name at a place among these stands at none before it.
+    ///
+    /// # Errors
+    ///
+    /// Twice, where it does.
+    pub fn once(&self, place: usize, node: &NameNode) -> Result<(), TypeFault>
+        ensures { result ≡ once self.now place node.now }
+    {
+        match self.number(&node.name) {
+            Some(number) if usize::from(number) < place => Err(TypeFault {
+                at: node.at,
+                kind: TypeFaultKind::Twice,
+            }),
+            _ => Ok(()),
+        }
     }
 }

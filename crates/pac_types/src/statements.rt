@@ -1,220 +1,239 @@
-// Statements by numbers, and their types.
-ghost use Rattle.std.specs.Prelude.{◌≡◌, ◌≤◌, ◌<◌, ◌+◌, ◌^◌, IfOk, OnOk, IsErrOf, Some, None, length, slice_get, take, vec_len, map, List};
-ghost use Rattle.pac_value.specs.Expressions.{type_in};
-ghost use Rattle.pac_types.specs.declared.catalogue.Table.{Table as ATable};
-ghost use Rattle.pac_types.specs.Sound.{is_wanted, are_wanted, is_width, types};
-ghost use Rattle.pac_types.specs.Checking.{scope_by, scoped, checked_stmt, checked_body};
-ghost use Rattle.pac_types.specs.Numbering.{let_of, read_of, put_of, defined};
+// Statements by numbers.
+ghost use Rattle.std.specs.Prelude.{◌≡◌, ◌≤◌, ◌<◌, ◌+◌, ◌^◌, OnOk, Some, length, map};
+ghost use Rattle.std.specs.Prelude.{slice_get};
+ghost use Rattle.pac_syntax.specs.Limits.{size, sizes};
+ghost use Rattle.pac_types.specs.Sound.{types, column_type, column_types};
+ghost use Rattle.pac_types.specs.Checking.{Gives, checked_cell, checked_field, checked_values, counted, checked_put, checked_read, checked_stmt, checked_run, checked_block, cell_of, field_of};
 
-use crate::expressions::{resolve, resolve_all, type_of};
-use crate::names::Names;
+use crate::expressions::{check_expr, check_test, check_wanted, taken, wanted};
+use crate::scope::Scope;
 use crate::tables::Tables;
+use crate::type_error::{TypeFault, TypeFaultKind};
 use crate::{Column, Stmt, TypeError};
 use pac_base::listed;
 use pac_syntax::{ExprNode, LiteralNode, NameNode, StmtNode};
 use pac_value::{Expr, Ty};
 use std::alloc::Global;
 
-// Whether an expression's type is what a key or a column wants.
-fn wanted(ty: Option<Ty>, by: Option<Ty>) -> bool
-    ensures { result ≡ is_wanted ty by }
-{
-    match (ty, by) {
-        (Some(Ty::Int), Some(Ty::Int)) | (Some(Ty::Text), Some(Ty::Text)) => true,
-        _ => false,
-    }
+// A table, and an expression for a key of it.
+#[derive(Drop)]
+struct Cell {
+    table: u16,
+    key: Expr,
 }
 
-// The type of the column with this number. `None`: there is none.
-fn type_of_column(columns: &[Column], column: u16) -> Option<Ty>
-    ensures { result ≡ slice_get (types columns.now) column }
-{
-    if usize::from(column) < columns.len() {
-        Some(columns[usize::from(column)].ty)
-    } else {
-        None
-    }
+// A table, an expression for a key of it, and a column of it.
+#[derive(Drop)]
+struct Field {
+    table: u16,
+    key: Expr,
+    column: u16,
 }
 
-// Whether there are as many values as columns, each of its column's type.
-fn all_wanted(scope: &[Ty], values: &[Expr], columns: &[Column]) -> bool
-    ensures { result ≡ are_wanted (map (type_in (scope_by scope.now)) values.now) (types columns.now) }
-{
-    if values.len() != columns.len() {
-        return false;
-    }
-    for i in 0..values.len() {
-        if !wanted(type_of(scope, &values[i]), Some(columns[i].ty)) {
-            return false;
-        }
-    }
-    true
-}
-
-// Each of these takes `seen`, how many variables are visible, and their types, to which it adds that of the variable
-// that its statement defines.
-
-// `let NAME = value;`
-fn check_let(
-    alloc: Global,
-    names: &Names,
-    seen: usize,
-    types: &mut Vec<Ty>,
-    value: &ExprNode,
-) -> Result<Stmt, TypeError>
-    requires counted { seen ≡ length types.old.items }
-    requires room { seen < 2 ^ 16 }
-    ensures ok { (tables : List ATable) → IfOk result (λ s. scoped tables (scope_by types.old.items) (let_of names.now seen value.now) ≡ Some (s, scope_by types.new.items)) }
-    ensures defines { OnOk result (length types.new.items ≡ seen + 1) }
-    ensures refused { (tables : List ATable) → IsErrOf result TypeError.Refused → scoped tables (scope_by types.old.items) (let_of names.now seen value.now) ≡ None }
-{
-    let value = resolve(alloc, names, seen, value)?;
-    match type_of(types, &value) {
-        Some(ty) => {
-            types.push(ty)?;
-            Ok(Stmt::Let {
-                var: seen as u16,
-                value,
-            })
-        }
-        None => Err(TypeError::Refused),
-    }
-}
-
-// `read NAME = table[key].column default default;`
-fn check_read(
+// `TABLE[KEY]`
+fn check_cell(
     alloc: Global,
     tables: &Tables,
-    names: &Names,
-    seen: usize,
-    types: &mut Vec<Ty>,
+    scope: &Scope,
+    table: &NameNode,
+    key: &ExprNode,
+) -> Result<Cell, TypeError>
+    ensures { Gives cell_of result (checked_cell tables.now scope.now table.now key.now) }
+{
+    let table = tables.find(table)?;
+    let key = check_wanted(alloc, scope, key, tables.key_type(table))?;
+    Ok(Cell { table, key })
+}
+
+// `TABLE[KEY].COLUMN`
+fn check_field(
+    alloc: Global,
+    tables: &Tables,
+    scope: &Scope,
     table: &NameNode,
     key: &ExprNode,
     column: &NameNode,
-    default: &LiteralNode,
-) -> Result<Stmt, TypeError>
-    requires counted { seen ≡ length types.old.items }
-    requires room { seen < 2 ^ 16 }
-    ensures ok { IfOk result (λ s. scoped tables.now (scope_by types.old.items) (read_of tables.now names.now seen table.now key.now column.now default.now) ≡ Some (s, scope_by types.new.items)) }
-    ensures defines { OnOk result (length types.new.items ≡ seen + 1) }
-    ensures refused { IsErrOf result TypeError.Refused → scoped tables.now (scope_by types.old.items) (read_of tables.now names.now seen table.now key.now column.now default.now) ≡ None }
+) -> Result<Field, TypeError>
+    ensures { Gives field_of result (checked_field tables.now scope.now table.now key.now column.now) }
 {
-    let Some(table) = tables.number(&table.name) else {
-        return Err(TypeError::Refused);
-    };
-    let key = resolve(alloc, names, seen, key)?;
-    let Some(column) = tables.column(table, &column.name) else {
-        return Err(TypeError::Refused);
-    };
-    let default = default.value;
-    let ty = default.ty();
-    if !wanted(type_of(types, &key), tables.key_type(table)) {
-        return Err(TypeError::Refused);
-    }
-    if !wanted(Some(ty), type_of_column(tables.columns(table), column)) {
-        return Err(TypeError::Refused);
-    }
-    types.push(ty)?;
-    Ok(Stmt::Read {
-        var: seen as u16,
-        table,
-        key,
-        column,
-        default,
-    })
+    let Cell { table, key } = check_cell(alloc, tables, scope, table, key)?;
+    let column = tables.find_column(table, column)?;
+    Ok(Field { table, key, column })
 }
 
-// `put table[key] = (values);`
+// That a `put` has as many values as its table has columns.
+fn counted(at: usize, values: usize, columns: usize) -> Result<(), TypeFault>
+    ensures { result ≡ counted at values columns }
+{
+    if values == columns {
+        Ok(())
+    } else {
+        let kind = TypeFaultKind::WrongCount;
+        Err(TypeFault { at, kind })
+    }
+}
+
+// Values for as many columns.
+fn check_values(
+    alloc: Global,
+    scope: &Scope,
+    nodes: &[ExprNode],
+    columns: &[Column],
+) -> Result<Vec<Expr>, TypeError>
+    requires { length nodes.now ≡ length columns.now }
+    ensures { Gives (λ values. values.items) result (checked_values scope.now nodes.now (types columns.now)) }
+{
+    let mut values = Vec::with_capacity(alloc, nodes.len())?;
+    for i in 0..nodes.len() {
+        values.push(check_wanted(alloc, scope, &nodes[i], Some(columns[i].ty))?)?;
+    }
+    Ok(values)
+}
+
+// `put TABLE[KEY] = (VALUES);`
 fn check_put(
     alloc: Global,
     tables: &Tables,
-    names: &Names,
-    seen: usize,
-    types: &[Ty],
+    scope: &Scope,
     table: &NameNode,
     key: &ExprNode,
     values: &[ExprNode],
 ) -> Result<Stmt, TypeError>
-    ensures ok { IfOk result (λ s. scoped tables.now (scope_by types.now) (put_of tables.now names.now seen table.now key.now values.now) ≡ Some (s, scope_by types.now)) }
-    ensures refused { IsErrOf result TypeError.Refused → scoped tables.now (scope_by types.now) (put_of tables.now names.now seen table.now key.now values.now) ≡ None }
+    ensures { Gives (λ stmt. stmt) result (checked_put tables.now scope.now table.now key.now values.now) }
 {
-    let Some(table) = tables.number(&table.name) else {
-        return Err(TypeError::Refused);
-    };
-    let key = resolve(alloc, names, seen, key)?;
-    let values = resolve_all(alloc, names, seen, values)?;
-    if !wanted(type_of(types, &key), tables.key_type(table)) {
-        return Err(TypeError::Refused);
-    }
-    if values.is_empty() || values.len() > 8 {
-        return Err(TypeError::Refused);
-    }
-    if !all_wanted(types, &values, tables.columns(table)) {
-        return Err(TypeError::Refused);
-    }
+    let number = tables.find(table)?;
+    let columns = tables.columns(number);
+    counted(table.at, values.len(), columns.len())?;
+    let key = check_wanted(alloc, scope, key, tables.key_type(number))?;
+    let values = check_values(alloc, scope, values, columns)?;
     Ok(Stmt::Put {
-        table,
+        table: number,
         key,
         values: listed(values),
     })
 }
 
-// The statement by numbers, with the types of the variables behind it.
+// What is behind `read NAME = `, where this field is read.
+fn check_read(
+    tables: &Tables,
+    scope: &mut Scope,
+    field: Field,
+    default: &LiteralNode,
+) -> Result<Stmt, TypeError>
+    requires { scope.old.next < 2 ^ 16 }
+    ensures stmt { Gives (λ stmt. (stmt, scope.new)) result (checked_read tables.now scope.old (field_of field) default.now) }
+    ensures room { OnOk result (scope.new.next ≤ scope.old.next + 1) }
+{
+    let ty = default.value.ty();
+    taken(default.at, wanted(ty, tables.column_type(field.table, field.column)))?;
+    Ok(Stmt::Read {
+        var: scope.define(ty)?,
+        table: field.table,
+        key: field.key,
+        column: field.column,
+        default: default.value,
+    })
+}
+
+// The statement of a node, behind which the variable that it defines is visible.
+#[cycle(check)]
 fn check_stmt(
     alloc: Global,
     tables: &Tables,
-    names: &Names,
-    seen: usize,
-    types: &mut Vec<Ty>,
+    scope: &mut Scope,
     node: &StmtNode,
 ) -> Result<Stmt, TypeError>
-    requires counted { seen ≡ length types.old.items }
-    requires room { seen < 2 ^ 16 }
-    ensures ok { IfOk result (λ s. checked_stmt tables.now names.now seen (scope_by types.old.items) node.now ≡ Some (s, scope_by types.new.items)) }
-    ensures defines { OnOk result (length types.new.items ≡ seen + length (defined node.now)) }
-    ensures refused { IsErrOf result TypeError.Refused → checked_stmt tables.now names.now seen (scope_by types.old.items) node.now ≡ None }
+    requires fits { scope.old.next + size node.now ≤ 2 ^ 16 }
+    ensures stmt { Gives (λ stmt. (stmt, scope.new)) result (checked_stmt tables.now node.now scope.old) }
+    ensures room { OnOk result (scope.new.next ≤ scope.old.next + size node.now) }
 {
     match node {
-        StmtNode::Let { name: _, value } => check_let(alloc, names, seen, types, value),
+        StmtNode::Let { name, value } => {
+            scope.once(name)?;
+            let typed = check_expr(alloc, scope, value)?;
+            Ok(Stmt::Let {
+                var: scope.define(typed.ty)?,
+                value: typed.expr,
+            })
+        }
         StmtNode::Read {
-            name: _,
+            name,
             table,
             key,
             column,
             default,
-        } => check_read(
-            alloc, tables, names, seen, types, table, key, column, default,
-        ),
-        StmtNode::Put { table, key, values } => check_put(
-            alloc,
-            tables,
-            names,
-            seen,
-            types,
+        } => {
+            scope.once(name)?;
+            let field = check_field(alloc, tables, scope, table, key, column)?;
+            check_read(tables, scope, field, default)
+        }
+        StmtNode::Has { name, table, key } => {
+            scope.once(name)?;
+            let Cell { table, key } = check_cell(alloc, tables, scope, table, key)?;
+            let var = scope.define(Ty::Bool)?;
+            Ok(Stmt::Has { var, table, key })
+        }
+        StmtNode::Put { table, key, values } => {
+            check_put(alloc, tables, scope, table, key, values.as_slice())
+        }
+        StmtNode::Set {
             table,
             key,
-            values.as_slice(),
-        ),
+            column,
+            value,
+        } => {
+            let field = check_field(alloc, tables, scope, table, key, column)?;
+            let by = tables.column_type(field.table, field.column);
+            Ok(Stmt::Set {
+                table: field.table,
+                key: field.key,
+                column: field.column,
+                value: check_wanted(alloc, scope, value, by)?,
+            })
+        }
+        StmtNode::Delete { table, key } => {
+            let Cell { table, key } = check_cell(alloc, tables, scope, table, key)?;
+            Ok(Stmt::Delete { table, key })
+        }
+        StmtNode::AbortIf { test } => Ok(Stmt::AbortIf {
+            test: check_test(alloc, scope, test)?,
+        }),
+        StmtNode::If {
+            test,
+            first,
+            second,
+        } => {
+            let test = check_test(alloc, scope, test)?;
+            let var = scope.hide();
+            let first = check_block(alloc, tables, scope, first.as_slice())?;
+            let second = check_block(alloc, tables, scope, second.as_slice())?;
+            Ok(Stmt::If {
+                var,
+                test,
+                first: listed(first),
+                second: listed(second),
+            })
+        }
     }
 }
 
-/// The statements by numbers, where the first variables are parameters of these types.
-pub fn check_body(
+/// The statements of a block, behind which no variable of it is visible.
+#[cycle(check)]
+pub fn check_block(
     alloc: Global,
     tables: &Tables,
-    names: &Names,
-    params: Vec<Ty>,
+    scope: &mut Scope,
     nodes: &[StmtNode],
 ) -> Result<Vec<Stmt>, TypeError>
-    requires { length params.items + length nodes.now ≤ 2 ^ 16 }
-    ensures ok { IfOk result (λ body. checked_body tables.now names.now (length params.items) (scope_by params.items) nodes.now ≡ Some body.items) }
-    ensures refused { IsErrOf result TypeError.Refused → checked_body tables.now names.now (length params.items) (scope_by params.items) nodes.now ≡ None }
+    requires fits { scope.old.next + sizes nodes.now ≤ 2 ^ 16 }
+    ensures block { Gives (λ stmts. (stmts.items, scope.new)) result (checked_block tables.now nodes.now scope.old) }
+    ensures room { OnOk result (scope.new.next ≤ scope.old.next + sizes nodes.now) }
 {
-    let mut types = params;
-    let mut body = Vec::with_capacity(alloc, nodes.len())?;
+    let start = scope.len();
+    let mut stmts = Vec::with_capacity(alloc, nodes.len())?;
     for i in 0..nodes.len() {
-        let seen = types.len();
-        body.push(check_stmt(alloc, tables, names, seen, &mut types, &nodes[i])?)?;
+        stmts.push(check_stmt(alloc, tables, scope, &nodes[i])?)?;
     }
-    Ok(body)
+    scope.leave(start);
+    Ok(stmts)
 }

@@ -1,14 +1,15 @@
 // The tables of a catalogue by their names.
-ghost use Rattle.std.specs.Prelude.{◌≡◌, ◌≤◌, ◌<◌, ◌^◌, All, IfOk, IfSome, IsErrOf, OnOk, Some, length, map, slice_get};
-ghost use Rattle.pac_types.specs.Sound.{column_types, key_type, types};
-ghost use Rattle.pac_types.specs.Numbering.{AreDistinct, column_number, column_of, table_number, table_of};
-ghost use Rattle.pac_types.specs.Typing.{HasDistinctColumns};
+ghost use Rattle.std.specs.Prelude.{◌≡◌, ◌≤◌, ◌<◌, ◌^◌, All, IfOk, IfSome, length, map, slice_get};
+ghost use Rattle.pac_types.specs.Sound.{column_type, column_types, key_type, types};
+ghost use Rattle.pac_types.specs.Numbering.{column_number, column_of, table_number, table_of};
+ghost use Rattle.pac_types.specs.Checking.{Gives, all_once, checked_tables, known_at, names_of};
 ghost use Rattle.pac_syntax.specs.Limits.{IsTableWithinLimits};
 
 use crate::names::Names;
+use crate::type_error::{TypeFault, TypeFaultKind};
 use crate::{Column, Table, TypeError};
 use pac_base::listed;
-use pac_syntax::{ColumnNode, TableNode};
+use pac_syntax::{ColumnNode, NameNode, TableNode};
 use pac_value::{Name, Ty};
 use std::alloc::{AllocError, Global};
 use std::marker::Model;
@@ -73,28 +74,51 @@ fn names_of_tables(alloc: Global, nodes: &[TableNode]) -> Result<Vec<Name>, Allo
     nodes.iter().map(|node| node.name.name).collect(alloc)
 }
 
+// That no two of these have one name; with their names by number.
+fn columns_once(alloc: Global, nodes: &[ColumnNode]) -> Result<Names, TypeError>
+    requires { length nodes.now ≤ 2 ^ 16 }
+    ensures once { Gives (λ names. tt) result (all_once (names_of nodes.now) 0 nodes.now) }
+    ensures names { IfOk result (λ names. names ≡ names_of nodes.now) }
+{
+    let names = Names::of(alloc, names_of(alloc, nodes)?)?;
+    for i in 0..nodes.len() {
+        names.once(i, &nodes[i].name)?;
+    }
+    Ok(names)
+}
+
+// That what a name stands for is there.
+fn known(node: &NameNode, number: Option<u16>) -> Result<u16, TypeFault>
+    ensures { result ≡ known_at node.now.at number }
+{
+    match number {
+        Some(number) => Ok(number),
+        None => Err(TypeFault {
+            at: node.at,
+            kind: TypeFaultKind::UnknownName,
+        }),
+    }
+}
+
 impl Tables {
     /// The tables of these nodes.
     ///
     /// # Errors
     ///
-    /// [`TypeError::Refused`] exactly where two tables, or two columns of one table, have one name.
-    /// [`TypeError::NoMemory`].
+    /// The first fault: Twice, where two tables, or two columns of one table, have one name.
     pub fn of(alloc: Global, nodes: &[TableNode]) -> Result<Tables, TypeError>
         requires few { length nodes.now ≤ 64 }
         requires limits { All IsTableWithinLimits nodes.now }
+        ensures names { Gives (λ tables. tt) result (checked_tables (map (λ node. node.name.name) nodes.now) 0 nodes.now) }
         ensures value { IfOk result (λ tables. tables ≡ map table_of nodes.now) }
-        ensures distinct { OnOk result (AreDistinct (map (λ node. node.name.name) nodes.now)) }
-        ensures columns { OnOk result (All HasDistinctColumns nodes.now) }
-        ensures refused { IsErrOf result TypeError.Refused → AreDistinct (map (λ node. node.name.name) nodes.now) → ¬ All HasDistinctColumns nodes.now }
     {
         let names = Names::of(alloc, names_of_tables(alloc, nodes)?)?;
         let mut tables = Vec::with_capacity(alloc, nodes.len())?;
         let mut columns = Vec::with_capacity(alloc, nodes.len())?;
         for i in 0..nodes.len() {
             let node = &nodes[i];
-            let column_names = names_of(alloc, node.columns.as_slice())?;
-            columns.push(Names::of(alloc, column_names)?)?;
+            names.once(i, &node.name)?;
+            columns.push(columns_once(alloc, node.columns.as_slice())?)?;
             tables.push(table_of(alloc, node)?)?;
         }
         Ok(Tables {
@@ -104,44 +128,46 @@ impl Tables {
         })
     }
 
-    /// The number of a table. `None`: none has that name.
-    pub fn number(&self, name: &Name) -> Option<u16>
-        ensures value { result ≡ table_number self.now name.now }
-        ensures within { IfSome result (λ table. table < length self.now) }
+    /// The number of the table with a name.
+    pub fn find(&self, name: &NameNode) -> Result<u16, TypeFault>
+        ensures { result ≡ known_at name.now.at (table_number self.now name.now.name) }
     {
-        self.names.number(name)
+        known(name, self.names.number(&name.name))
     }
 
-    /// The table with a number.
-    pub fn table(&self, number: u16) -> &Table
-        requires { number < length self.now }
-        ensures { slice_get self.now number ≡ Some result.now }
+    /// The number of the column with a name.
+    pub fn find_column(&self, table: u16, name: &NameNode) -> Result<u16, TypeFault>
+        ensures { result ≡ known_at name.now.at (column_number self.now table name.now.name) }
     {
-        &self.tables[usize::from(number)]
+        let number = match self.columns.get(usize::from(table)) {
+            Some(columns) => columns.number(&name.name),
+            None => None,
+        };
+        known(name, number)
     }
 
     /// The type of a table's key.
     pub fn key_type(&self, table: u16) -> Option<Ty>
-        requires { table < length self.now }
         ensures { result ≡ key_type self.now table }
     {
-        Some(self.table(table).key)
+        Some(self.tables.get(usize::from(table))?.key)
     }
 
     /// The columns of a table.
     pub fn columns(&self, table: u16) -> &[Column]
-        requires { table < length self.now }
         ensures { types result.now ≡ column_types self.now table }
     {
-        self.table(table).columns.as_slice()
+        match self.tables.get(usize::from(table)) {
+            Some(table) => table.columns.as_slice(),
+            None => &[],
+        }
     }
 
-    /// The number of a column of a table. `None`: none has that name.
-    pub fn column(&self, table: u16, name: &Name) -> Option<u16>
-        requires { table < length self.now }
-        ensures { result ≡ column_number self.now table name.now }
+    /// The type of a table's column.
+    pub fn column_type(&self, table: u16, column: u16) -> Option<Ty>
+        ensures { result ≡ column_type self.now table column }
     {
-        self.columns[usize::from(table)].number(name)
+        Some(self.columns(table).get(usize::from(column))?.ty)
     }
 
     /// The tables alone.
