@@ -1,11 +1,11 @@
 -- Arguments read from the front are those that are written.
 use Rattle.std.proofs.Common.{◌≡◌, List, [], ◌∷◌, ◌++◌, map, Option, Some, None, refl, sym, ap, ◌∙◌, append_assoc}
 use Rattle.pac_value.specs.declared.values.Value.{Value}
-use Rattle.pac_value.specs.declared.values.Value.TheVariants.{Int}
+use Rattle.pac_value.specs.declared.values.Value.TheVariants.{Int, Text}
 use Rattle.pac_syntax.specs.declared.token.Token.{Token}
 use Rattle.pac_syntax.specs.declared.token.Token.TheVariants as token
 use Rattle.pac_syntax.specs.declared.token.Symbol.TheVariants as symbol
-use Rattle.pac_main.specs.Calls.{Literal, AnInt, ANegative, literal_value, more_literals, literals}
+use Rattle.pac_main.specs.Calls.{Literal, AnInt, ANegative, AText, literal_value, more_literals, literals}
 use Rattle.pac_main.specs.CallsRead.{next_in, more_in, args_in, with_value, with_values}
 
 abbrev read : Value → List Token → Option (Value × List Token)
@@ -18,6 +18,8 @@ read_is p q e = cc
 more-next : (ts us : List Token) (v : Value) → next_in ts ≡ Some (v, us) → more_in ts ≡ with_value v (more_in us)
 more-next (token.Symbol symbol.Comma ∷ token.Int z ∷ ts) us v e =
     let p = read_is (Int z, ts) (v, us) e in (λ i. with_value ((p i).0) (more_in ((p i).1)))
+more-next (token.Symbol symbol.Comma ∷ token.Text x ∷ ts) us v e =
+    let p = read_is (Text x, ts) (v, us) e in (λ i. with_value ((p i).0) (more_in ((p i).1)))
 more-next (token.Symbol symbol.Comma ∷ token.Symbol symbol.Minus ∷ token.Negative z ∷ ts) us v e =
     let p = read_is (Int z, ts) (v, us) e in (λ i. with_value ((p i).0) (more_in ((p i).1)))
 more-next _ us v e = absurd cc
@@ -36,11 +38,13 @@ more_argument ts us vs ws v all so_far e pushed =
 more_in-spelled : (ls : List Literal) → more_in (more_literals ls) ≡ Some (map literal_value ls)
 more_in-spelled [] = refl
 more_in-spelled (AnInt z ∷ ls) = ap (with_value (Int z)) (more_in-spelled ls)
+more_in-spelled (AText x ∷ ls) = ap (with_value (Text x)) (more_in-spelled ls)
 more_in-spelled (ANegative z ∷ ls) = ap (with_value (Int z)) (more_in-spelled ls)
 
 pub args_in-spelled : (ls : List Literal) → args_in (literals ls) ≡ Some (map literal_value ls)
 args_in-spelled [] = refl
 args_in-spelled (AnInt z ∷ ls) = ap (with_value (Int z)) (more_in-spelled ls)
+args_in-spelled (AText x ∷ ls) = ap (with_value (Text x)) (more_in-spelled ls)
 args_in-spelled (ANegative z ∷ ls) = ap (with_value (Int z)) (more_in-spelled ls)
 
 -- the literals that were read
@@ -66,6 +70,10 @@ more-spelled (token.Symbol symbol.Comma ∷ token.Int z ∷ ts) vs e =
     let w = with_value-some (Int z) (more_in ts) vs e in
     let m = more-spelled ts w.0 w.1 in
     record { literals = AnInt z ∷ m.literals; text = ap (λ us. token.Symbol symbol.Comma ∷ token.Int z ∷ us) m.text; values = ap (λ us. Int z ∷ us) m.values ∙ w.2 }
+more-spelled (token.Symbol symbol.Comma ∷ token.Text x ∷ ts) vs e =
+    let w = with_value-some (Text x) (more_in ts) vs e in
+    let m = more-spelled ts w.0 w.1 in
+    record { literals = AText x ∷ m.literals; text = ap (λ us. token.Symbol symbol.Comma ∷ token.Text x ∷ us) m.text; values = ap (λ us. Text x ∷ us) m.values ∙ w.2 }
 more-spelled (token.Symbol symbol.Comma ∷ token.Symbol symbol.Minus ∷ token.Negative z ∷ ts) vs e =
     let w = with_value-some (Int z) (more_in ts) vs e in
     let m = more-spelled ts w.0 w.1 in
@@ -78,6 +86,10 @@ args-spelled (token.Int z ∷ ts) vs e =
     let w = with_value-some (Int z) (more_in ts) vs e in
     let m = more-spelled ts w.0 w.1 in
     record { literals = AnInt z ∷ m.literals; text = ap (λ us. token.Int z ∷ us) m.text; values = ap (λ us. Int z ∷ us) m.values ∙ w.2 }
+args-spelled (token.Text x ∷ ts) vs e =
+    let w = with_value-some (Text x) (more_in ts) vs e in
+    let m = more-spelled ts w.0 w.1 in
+    record { literals = AText x ∷ m.literals; text = ap (λ us. token.Text x ∷ us) m.text; values = ap (λ us. Text x ∷ us) m.values ∙ w.2 }
 args-spelled (token.Symbol symbol.Minus ∷ token.Negative z ∷ ts) vs e =
     let w = with_value-some (Int z) (more_in ts) vs e in
     let m = more-spelled ts w.0 w.1 in

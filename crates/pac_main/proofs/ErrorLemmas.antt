@@ -4,6 +4,7 @@ use Rattle.pac_syntax.specs.declared.fault.SyntaxError.{SyntaxError}
 use Rattle.pac_syntax.specs.declared.fault.SyntaxError.TheVariants as syntax
 use Rattle.pac_syntax.specs.declared.tree.Tree.{Tree}
 use Rattle.pac_types.specs.declared.type_error.TypeError.{TypeError}
+use Rattle.pac_types.specs.declared.type_error.TypeFault.{TypeFault}
 use Rattle.pac_types.specs.declared.type_error.TypeError.TheVariants as type
 use Rattle.pac_types.specs.Typing.{CatalogueState, Types, IsTyped}
 use Rattle.pac_main.specs.declared.script_error.ScriptError.TheVariants.{NoMemory}
@@ -13,8 +14,8 @@ pub of_syntax : (e : SyntaxError) → e ≡ syntax.NoMemory → error_of_syntax 
 of_syntax e is = ap error_of_syntax is
 
 -- a tree that is typed isn't refused
-pub of_type : (e : TypeError) (tree : Tree) (catalogue : CatalogueState) → (e ≡ type.Refused → IsTyped tree → ⊥) → Types tree catalogue → error_of_type e ≡ NoMemory
-of_type type.Refused tree catalogue refused typed = absurd (refused refl (catalogue, typed))
+pub of_type : (e : TypeError) (tree : Tree) (catalogue : CatalogueState) → ((fault : TypeFault) → e ≡ type.Fault fault → IsTyped tree → ⊥) → Types tree catalogue → error_of_type e ≡ NoMemory
+of_type (type.Fault fault) tree catalogue refused typed = absurd (refused fault refl (catalogue, typed))
 of_type type.NoMemory tree catalogue refused typed = refl
 
 pub same_tree : (a b : Tree) (catalogue : CatalogueState) → a ≡ b → Types b catalogue → Types a catalogue

@@ -1,20 +1,22 @@
 -- What the bytes that were read tell of the input.
-use Rattle.std.proofs.Common.{◌≡◌, ◌≤◌, ℕ, List, [], ◌∷◌, ◌++◌, length, Option, Some, None, sym, ap, subst, ◌∙◌, arith, length-append}
+use Rattle.std.proofs.Common.{◌≡◌, ◌≤◌, ℕ, List, [], ◌∷◌, ◌++◌, length, Option, Some, None, Result, Err, refl, sym, ap, subst, ◌∙◌, arith, length-append, inl, inr}
 use Rattle.std.specs.List.{AllZip, AllByRecursion, flat_map}
 use Rattle.std.specs.Io.KnownBytes.{prepend_known}
 use Rattle.std.proofs.lemmas.List.{append-nil}
 use Rattle.pac_outside.specs.Content.{Gave, IsAtEnd}
+use Rattle.pac_syntax.specs.declared.fault.Fault.{Fault}
 use Rattle.pac_types.specs.declared.catalogue.Proc.{Proc}
 use Rattle.pac_serial.specs.declared.serial.Call.{Call}
 use Rattle.pac_serial.specs.Calls.{FitsProcs}
 use Rattle.pac_main.specs.declared.script.Script.{Script}
 use Rattle.pac_main.specs.declared.script_error.ScriptError.{ScriptError}
 use Rattle.pac_main.specs.declared.script_error.ScriptError.TheVariants as error
-use Rattle.pac_main.specs.declared.stop.Stop.TheVariants.{Refused}
+use Rattle.pac_main.specs.declared.stop.Stop.{Stop}
+use Rattle.pac_main.specs.declared.stop.Stop.TheVariants.{Usage, Syntax, Refused, Aborted, InputFault, OutputFault, NoMemory}
 use Rattle.pac_main.specs.Requests.{IsLine, AreCalls, some_call}
-use Rattle.pac_main.specs.Script.{IsScript}
-use Rattle.pac_main.specs.Stop.{stop_of_script}
-use Rattle.pac_main.specs.Replay.{IsTheScript, IsScriptOf, IsNoScript}
+use Rattle.pac_main.specs.Script.{IsScript, IsRefusal}
+use Rattle.pac_main.specs.Stop.{status_of, stop_of_script}
+use Rattle.pac_main.specs.Replay.{IsTheScript, IsScriptOf, IsNoScript, IsRefusedAs}
 
 -- the bytes that were read are the whole input, or more than a script has
 whole : (items rest : List ℕ) → (length items ≤ 65536 → rest ≡ []) → length (items ++ rest) ≤ 65536 → items ++ rest ≡ items
@@ -36,10 +38,43 @@ the_script items (Some rest) script at_end is = subst (λ (text : List ℕ). IsT
 pub input-script : (old new : Option (List ℕ)) (items : List ℕ) (script : Script) → Gave old items new → (length items ≤ 65536 → IsAtEnd new) → IsTheScript items script → IsScriptOf script old
 input-script old new items script gave at_end is = subst (λ (o : Option (List ℕ)). IsScriptOf script o) (sym gave) (the_script items new script at_end is)
 
--- only a script that is none is refused
-pub refused_of : (e : ScriptError) → stop_of_script e ≡ Refused → e ≡ error.NoMemory → ⊥
+-- a text that is refused is no text of a script, unless memory ran out
+pub refused_of : (e : ScriptError) → status_of (stop_of_script e) ≡ 2 → e ≡ error.NoMemory → ⊥
+refused_of (error.Syntax fault) is other = absurd cc
 refused_of error.Refused is other = absurd cc
-refused_of error.NoMemory is other = absurd cc
+refused_of error.NoMemory is other = absurd (omega (arith, is))
+
+-- ---- what is told of a text that is refused
+
+abbrev err_of : ScriptError → Result Script ScriptError
+err_of e = Err e
+
+-- what reading a text says of its error
+pub refusal_of : (text : List ℕ) (e : ScriptError) → ((fault : Fault) → err_of e ≡ Err (error.Syntax fault) → IsRefusal text (Syntax fault)) → (err_of e ≡ Err error.Refused → IsRefusal text Refused)
+    → status_of (stop_of_script e) ≡ 2 → IsRefusal text (stop_of_script e)
+refusal_of text (error.Syntax fault) syntax refused is = syntax fault refl
+refusal_of text error.Refused syntax refused is = refused refl
+refusal_of text error.NoMemory syntax refused is = absurd (omega (arith, is))
+
+pub refusal_same : (a b : List ℕ) (s t : Stop) → a ≡ b → s ≡ t → IsRefusal a s → IsRefusal b t
+refusal_same a b s t same stop h = subst (λ (x : List ℕ). IsRefusal x t) same (subst (λ (x : Stop). IsRefusal a x) stop h)
+
+refusal_longer : (items rest : List ℕ) (stop : Stop) → (length items ≤ 65536 → rest ≡ []) → IsRefusal items stop → IsRefusal (items ++ rest) stop
+refusal_longer items rest (Syntax fault) at_end h = subst (λ (text : List ℕ). IsRefusal text (Syntax fault)) (sym (ap (λ (r : List ℕ). items ++ r) (at_end h.short) ∙ append-nil items)) h
+refusal_longer items rest Refused at_end (inl long) = inl (omega (arith, length-append items rest, long))
+refusal_longer items rest Refused at_end (inr h) = subst (λ (text : List ℕ). IsRefusal text Refused) (sym (ap (λ (r : List ℕ). items ++ r) (at_end h.short) ∙ append-nil items)) (inr h)
+refusal_longer items rest Usage at_end h = h
+refusal_longer items rest (Aborted txn op reason) at_end h = h
+refusal_longer items rest InputFault at_end h = h
+refusal_longer items rest OutputFault at_end h = h
+refusal_longer items rest NoMemory at_end h = h
+
+refusal_told : (items : List ℕ) (new : Option (List ℕ)) (stop : Stop) → (length items ≤ 65536 → IsAtEnd new) → IsRefusal items stop → IsRefusedAs (prepend_known items new) stop
+refusal_told items None stop at_end h = tt
+refusal_told items (Some rest) stop at_end h = refusal_longer items rest stop at_end h
+
+pub input-refused : (old new : Option (List ℕ)) (items : List ℕ) (stop : Stop) → Gave old items new → (length items ≤ 65536 → IsAtEnd new) → IsRefusal items stop → IsRefusedAs old stop
+input-refused old new items stop gave at_end h = subst (λ (o : Option (List ℕ)). IsRefusedAs o stop) (sym gave) (refusal_told items new stop at_end h)
 
 -- ---- the calls of a script fit its procedures
 

@@ -1,26 +1,32 @@
--- Which stops have the status of an abort.
-use Rattle.std.proofs.Common.{◌≡◌, ◌⊎◌, ℕ, inl, inr, refl, sym, arith}
+-- What the stop that is told says of the stop that came.
+use Rattle.std.proofs.Common.{◌≡◌, ◌⊎◌, ℕ, inl, inr, refl, sym, ap, ◌∙◌, arith}
+use Rattle.std.specs.Prelude.{IsTrue}
 use Rattle.pac_types.specs.declared.reason.Reason.{Reason}
 use Rattle.pac_main.specs.declared.stop.Stop.{Stop}
-use Rattle.pac_main.specs.declared.stop.Stop.TheVariants.{Usage, Refused, Aborted, InputFault, OutputFault, NoMemory}
-use Rattle.pac_main.specs.Stop.{status_of}
+use Rattle.pac_main.specs.declared.stop.Stop.TheVariants.{Usage, Syntax, Refused, Aborted, InputFault, OutputFault, NoMemory}
+use Rattle.pac_main.specs.Stop.{status_of, takes_memory}
 
--- a stop with status 4 is an abort, and is told as one
-pub record AnAbort (stop told : Stop) : Type 0 where
+-- it is told itself, or there was no memory for its line
+abbrev pub Told : Stop → Stop → Type 0
+Told stop told = (told ≡ stop) ⊎ ((told ≡ NoMemory) × IsTrue (takes_memory stop))
+
+-- a stop that is told with another status than that of want of memory is the one that came
+pub told_same : (stop told : Stop) (n : ℕ) → Told stop told → status_of told ≡ n → (n ≡ 9 → ⊥) → told ≡ stop
+told_same stop told n (inl e) is other = e
+told_same stop told n (inr e) is other = absurd (other (sym is ∙ ap status_of e.0))
+
+-- a stop with status 4 is an abort
+pub record AnAbort (stop : Stop) : Type 0 where
   pub txn : ℕ
   pub op : ℕ
   pub reason : Reason
   pub is : stop ≡ Aborted txn op reason
-  pub told_so : told ≡ Aborted txn op reason
 
-pub aborted_of : (stop told : Stop) → (told ≡ stop) ⊎ ((told ≡ NoMemory) × (status_of stop ≡ 4)) → status_of told ≡ 4 → AnAbort stop told
-aborted_of stop (Aborted txn op reason) (inl e) four = record { txn = txn; op = op; reason = reason; is = sym e; told_so = refl }
-aborted_of stop (Aborted txn op reason) (inr e) four = absurd (no_memory txn op reason e.0)
-  where
-    no_memory : (txn op : ℕ) (reason : Reason) → Aborted txn op reason ≡ NoMemory → ⊥
-    no_memory txn op reason e = absurd cc
-aborted_of stop Usage which four = absurd (omega arith)
-aborted_of stop Refused which four = absurd (omega arith)
-aborted_of stop InputFault which four = absurd (omega arith)
-aborted_of stop OutputFault which four = absurd (omega arith)
-aborted_of stop NoMemory which four = absurd (omega arith)
+pub aborted_of : (stop : Stop) → status_of stop ≡ 4 → AnAbort stop
+aborted_of (Aborted txn op reason) four = record { txn = txn; op = op; reason = reason; is = refl }
+aborted_of Usage four = absurd (omega arith)
+aborted_of (Syntax fault) four = absurd (omega arith)
+aborted_of Refused four = absurd (omega arith)
+aborted_of InputFault four = absurd (omega arith)
+aborted_of OutputFault four = absurd (omega arith)
+aborted_of NoMemory four = absurd (omega arith)

@@ -1,7 +1,7 @@
 -- How a call is written: `call NAME ( [ lit { "," lit } ] )`.
 use Rattle.std.specs.Prelude.{◌≡◌, ℕ, ℤ, List, [], ◌∷◌, map, codes, Some}
 use Rattle.pac_value.specs.declared.values.Value.{Value}
-use Rattle.pac_value.specs.declared.values.Value.TheVariants.{Int}
+use Rattle.pac_value.specs.declared.values.Value.TheVariants.{Int, Text}
 use Rattle.pac_syntax.specs.declared.token.Token.{Token}
 use Rattle.pac_syntax.specs.declared.token.Token.TheVariants as token
 use Rattle.pac_syntax.specs.declared.token.Symbol.TheVariants as symbol
@@ -11,19 +11,22 @@ use Rattle.pac_types.specs.Numbering.{number_of}
 use Rattle.pac_serial.specs.declared.serial.Call.{Call}
 use Rattle.pac_serial.specs.Calls.{FitsProcs}
 
--- a literal as it is written: an int, or a `-` and an int
+-- a literal as it is written: an int, a `-` and an int, or a text
 pub data Literal : Type 0 where
   AnInt : ℤ → Literal
   ANegative : ℤ → Literal
+  AText : List ℕ → Literal
 
 abbrev pub literal_value : Literal → Value
 literal_value (AnInt z) = Int z
 literal_value (ANegative z) = Int z
+literal_value (AText text) = Text text
 
 -- the tokens of a literal, before those that follow
 abbrev pub literal_before : Literal → List Token → List Token
 literal_before (AnInt z) rest = token.Int z ∷ rest
 literal_before (ANegative z) rest = token.Symbol symbol.Minus ∷ token.Negative z ∷ rest
+literal_before (AText text) rest = token.Text text ∷ rest
 
 -- the tokens of literals behind a first one, up to the closing parenthesis
 abbrev pub more_literals : List Literal → List Token

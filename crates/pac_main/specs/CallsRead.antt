@@ -1,7 +1,7 @@
 -- Calls read from the front of their tokens.
 use Rattle.std.specs.Prelude.{ℕ, List, [], ◌∷◌, ◌++◌, codes, Option, Some, None, Bool, true, false, ◌&&◌, bytes_eq, if◌then◌else◌}
 use Rattle.pac_value.specs.declared.values.Value.{Value}
-use Rattle.pac_value.specs.declared.values.Value.TheVariants.{Int}
+use Rattle.pac_value.specs.declared.values.Value.TheVariants.{Int, Text}
 use Rattle.pac_syntax.specs.declared.token.Token.{Token}
 use Rattle.pac_syntax.specs.declared.token.Token.TheVariants as token
 use Rattle.pac_syntax.specs.declared.token.Symbol.TheVariants as symbol
@@ -10,10 +10,11 @@ abbrev pub with_value : Value → Option (List Value) → Option (List Value)
 with_value v None = None
 with_value v (Some vs) = Some (v ∷ vs)
 
--- the value of an int, or of the int behind a literal's `-`
-abbrev pub int_value : Token → Option Value
-int_value (token.Int z) = Some (Int z)
-int_value _ = None
+-- the value of a literal of one token, or of the int behind a literal's `-`
+abbrev pub one_value : Token → Option Value
+one_value (token.Int z) = Some (Int z)
+one_value (token.Text text) = Some (Text text)
+one_value _ = None
 
 abbrev pub negative_value : Token → Option Value
 negative_value (token.Negative z) = Some (Int z)
@@ -22,6 +23,7 @@ negative_value _ = None
 -- the literal in front, and the tokens behind it
 abbrev pub literal_in : List Token → Option (Value × List Token)
 literal_in (token.Int z ∷ ts) = Some (Int z, ts)
+literal_in (token.Text text ∷ ts) = Some (Text text, ts)
 literal_in (token.Symbol symbol.Minus ∷ token.Negative z ∷ ts) = Some (Int z, ts)
 literal_in _ = None
 
@@ -29,6 +31,7 @@ literal_in _ = None
 abbrev pub more_in : List Token → Option (List Value)
 more_in (token.Symbol symbol.CloseParen ∷ []) = Some []
 more_in (token.Symbol symbol.Comma ∷ token.Int z ∷ ts) = with_value (Int z) (more_in ts)
+more_in (token.Symbol symbol.Comma ∷ token.Text text ∷ ts) = with_value (Text text) (more_in ts)
 more_in (token.Symbol symbol.Comma ∷ token.Symbol symbol.Minus ∷ token.Negative z ∷ ts) = with_value (Int z) (more_in ts)
 more_in _ = None
 

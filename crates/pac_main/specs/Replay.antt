@@ -12,7 +12,8 @@ use Rattle.pac_serial.specs.declared.serial.SerialError.{SerialError}
 use Rattle.pac_serial.specs.declared.serial.SerialError.TheVariants.{Abort, NoMemory}
 use Rattle.pac_serial.specs.Dump.{tables_text}
 use Rattle.pac_main.specs.declared.script.Script.{Script}
-use Rattle.pac_main.specs.Script.{IsScript}
+use Rattle.pac_main.specs.declared.stop.Stop.{Stop}
+use Rattle.pac_main.specs.Script.{IsScript, IsRefusal}
 
 -- the words are the one word `replay`
 abbrev pub IsReplay : List (String Global) → Type 0
@@ -32,6 +33,10 @@ IsScriptOf script input = IfSome input (λ text. IsTheScript text script)
 -- the input is no script, where the source tells it
 abbrev pub IsNoScript : Option (List ℕ) → Type 0
 IsNoScript input = IfSome input (λ text. (script : Script) → IsScript text script → ⊥)
+
+-- the input is refused so, where the source tells it
+abbrev pub IsRefusedAs : Option (List ℕ) → Stop → Type 0
+IsRefusedAs input stop = IfSome input (λ text. IsRefusal text stop)
 
 -- the tables with which serial execution of the calls ends, from no rows on, or its abort
 abbrev pub outcome : Script → Result Tables TxnAbort

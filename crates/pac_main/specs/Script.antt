@@ -1,9 +1,12 @@
 -- What a script is: a catalogue, and behind a line that is exactly `---` the calls.
-use Rattle.std.specs.Prelude.{◌≤◌, ◌+◌, ℕ, List, [], ◌∷◌, take, drop, length, Option, Some, None, MatchOption}
+use Rattle.std.specs.Prelude.{◌≡◌, ◌⊎◌, ◌≤◌, ◌<◌, ◌+◌, ℕ, List, [], ◌∷◌, take, drop, length, Option, Some, None, MatchOption}
 use Rattle.pac_syntax.specs.declared.tree.Tree.{Tree}
-use Rattle.pac_syntax.specs.Reading.{Reads}
+use Rattle.pac_syntax.specs.declared.fault.Fault.{Fault}
+use Rattle.pac_syntax.specs.Reading.{Reads, IsTextFault}
 use Rattle.pac_types.specs.Typing.{CatalogueState, Types}
 use Rattle.pac_main.specs.declared.script.Script.{Script}
+use Rattle.pac_main.specs.declared.stop.Stop.{Stop}
+use Rattle.pac_main.specs.declared.stop.Stop.TheVariants.{Syntax, Refused}
 use Rattle.pac_main.specs.Lines.{lines, IsMark, HasNoMark}
 use Rattle.pac_main.specs.Requests.{AreCalls}
 
@@ -40,3 +43,29 @@ pub record IsScript (text : List ℕ) (script : Script) : Type 0 where
   pub mark : Option ℕ
   pub is_mark : MatchOption mark (HasNoMark text) (λ at. IsMark text at)
   pub parts : HasParts (text_before text mark) (text_behind text mark) script
+
+-- the text before the first line `---`, or all of it, is the catalogue's text
+abbrev pub IsCatalogueText : List ℕ → List ℕ → Type 0
+IsCatalogueText text front = (mark : Option ℕ) × MatchOption mark (HasNoMark text) (λ at. IsMark text at) × (front ≡ text_before text mark)
+
+-- the text has at most 65,536 bytes, and this is the first fault of its catalogue's text
+pub record HasSyntaxFault (text : List ℕ) (fault : Fault) : Type 0 where
+  pub short : length text ≤ 65536
+  pub front : List ℕ
+  pub is_front : IsCatalogueText text front
+  pub first : IsTextFault front fault
+
+-- the text has at most 65,536 bytes, and its catalogue's text is in the grammar and within its limits
+pub record HasTree (text : List ℕ) : Type 0 where
+  pub short : length text ≤ 65536
+  pub front : List ℕ
+  pub is_front : IsCatalogueText text front
+  pub tree : Tree
+  pub reads : Reads front tree
+
+-- What is told of a text that is no script: of a catalogue's text that isn't read its first fault; of a text that is too
+-- long, or whose catalogue's text is read, just that it is refused.
+abbrev pub IsRefusal : List ℕ → Stop → Type 0
+IsRefusal text (Syntax fault) = HasSyntaxFault text fault
+IsRefusal text Refused = (65536 < length text) ⊎ HasTree text
+IsRefusal text _ = ⊥

@@ -5,7 +5,7 @@ ghost use Rattle.pac_value.specs.Values.{type_of};
 ghost use Rattle.pac_types.specs.Sound.{FitParams};
 ghost use Rattle.pac_serial.specs.declared.serial.Call.{Call as ACall};
 ghost use Rattle.pac_main.specs.Calls.{kinds, IsCall, IsFitting};
-ghost use Rattle.pac_main.specs.CallsRead.{literal_in, more_in, args_in, next_in, is_closed, int_value, negative_value, name_in, is_call_word, is_open, head_in};
+ghost use Rattle.pac_main.specs.CallsRead.{literal_in, more_in, args_in, next_in, is_closed, one_value, negative_value, name_in, is_call_word, is_open, head_in};
 
 use pac_base::{NoMemory, Ruled};
 use pac_serial::Call;
@@ -33,12 +33,13 @@ fn is_symbol(token: &Token, sign: Symbol) -> bool
     }
 }
 
-// The value of a literal that is one int.
-fn int_of(token: &Token) -> Option<Value>
-    ensures { result ≡ int_value token.now }
+// The value of a literal of one token.
+fn value_of(token: &Token) -> Option<Value>
+    ensures { result ≡ one_value token.now }
 {
     match token {
         Token::Int(number) => Some(Value::Int(*number)),
+        Token::Text(text) => Some(Value::Text(*text)),
         _ => None,
     }
 }
@@ -61,7 +62,7 @@ fn literal(tokens: &[Spanned]) -> Option<(Value, &[Spanned])>
     let [first, behind @ ..] = tokens else {
         return None;
     };
-    if let Some(value) = int_of(&first.token) {
+    if let Some(value) = value_of(&first.token) {
         return Some((value, behind));
     }
     if !is_symbol(&first.token, Symbol::Minus) {

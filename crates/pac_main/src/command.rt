@@ -6,17 +6,16 @@ ghost use Rattle.pac_outside.specs.Causes.{Rose};
 ghost use Rattle.pac_outside.specs.Content.{Took, TookFront};
 ghost use Rattle.pac_types.specs.declared.reason.Reason.{Reason as AReason};
 ghost use Rattle.pac_serial.specs.Calls.{FitsProcs};
-ghost use Rattle.pac_main.specs.Stop.{status_of, line_of, abort_line};
-ghost use Rattle.pac_main.specs.Replay.{IsReplay, IsScriptOf, IsNoScript, outcome, SaysUnlessFault, IsDumpOf, IsAbortOf, DoesEnd};
+ghost use Rattle.pac_main.specs.Stop.{status_of, line_of, takes_memory, abort_line};
+ghost use Rattle.pac_main.specs.Replay.{IsReplay, IsScriptOf, IsNoScript, IsRefusedAs, outcome, SaysUnlessFault, IsDumpOf, IsAbortOf, DoesEnd};
 ghost use Rattle.pac_main.specs.declared.script.Script.{Script as AScript};
 ghost use Rattle.pac_main.specs.declared.stop.Stop.{Stop as AStop};
 
 use crate::script::{MAX_SCRIPT, Script, read_script};
-use crate::stop::{Stop, abort_line};
+use crate::stop::{Stop, abort_line, catalogue_line};
 use pac_outside::{Devices, Disk, Gate, Sink, Source, read_up_to, write_all};
 use pac_serial::{Rows, SerialError, dump_tables, exec_all};
-use pac_types::Reason;
-use std::alloc::Global;
+use std::alloc::{AllocError, Global};
 use std::sync::Wait;
 use std::thread::Threads;
 
@@ -24,7 +23,7 @@ use std::thread::Threads;
 fn read_input<I: Source>(alloc: Global, input: &mut I) -> Result<Script, Stop>
     ensures ok { IfOk result (λ script. IsScriptOf script (I.left input.old)) }
     ensures fit { IfOk result (λ script. AllByRecursion (FitsProcs script.catalogue.procs) script.calls) }
-    ensures refused { IsErrOf result Stop.Refused → IsNoScript (I.left input.old) }
+    ensures refused { (stop : AStop) → IsErrOf result stop → status_of stop ≡ 2 → IsNoScript (I.left input.old) × IsRefusedAs (I.left input.old) stop }
     ensures input_fault { IsErrOf result Stop.InputFault → Rose (I.faults input.old) (I.faults input.new) }
     ensures no_usage { ¬ IsErrOf result Stop.Usage }
     ensures no_output { ¬ IsErrOf result Stop.OutputFault }
@@ -49,7 +48,7 @@ fn execute(alloc: Global, script: &Script) -> Result<Rows, SerialError>
 // Replays the script and writes the dump.
 fn replay<I: Source, O: Sink>(alloc: Global, input: &mut I, output: &mut O) -> Result<(), Stop>
     ensures done { OnOk result (IsDumpOf (I.left input.old) (λ text. Took (O.held output.old) text (O.held output.new))) }
-    ensures refused { IsErrOf result Stop.Refused → IsNoScript (I.left input.old) }
+    ensures refused { (stop : AStop) → IsErrOf result stop → status_of stop ≡ 2 → IsNoScript (I.left input.old) × IsRefusedAs (I.left input.old) stop }
     ensures aborted { (txn op : ℕ) (reason : AReason) → IsErrOf result (Stop.Aborted txn op reason) → IsAbortOf (I.left input.old) txn op reason }
     ensures input_fault { IsErrOf result Stop.InputFault → Rose (I.faults input.old) (I.faults input.new) }
     ensures output_fault { IsErrOf result Stop.OutputFault → Rose (O.faults output.old) (O.faults output.new) }
@@ -80,7 +79,7 @@ fn command<I: Source, O: Sink>(
     output: &mut O,
 ) -> Result<(), Stop>
     ensures usage { IsErrOf result Stop.Usage ↔ ¬ IsReplay words.now }
-    ensures refused { IsErrOf result Stop.Refused → IsNoScript (I.left input.old) }
+    ensures refused { (stop : AStop) → IsErrOf result stop → status_of stop ≡ 2 → IsNoScript (I.left input.old) × IsRefusedAs (I.left input.old) stop }
     ensures aborted { (txn op : ℕ) (reason : AReason) → IsErrOf result (Stop.Aborted txn op reason) → IsAbortOf (I.left input.old) txn op reason }
     ensures input_fault { IsErrOf result Stop.InputFault → Rose (I.faults input.old) (I.faults input.new) }
     ensures output_fault { IsErrOf result Stop.OutputFault → Rose (O.faults output.old) (O.faults output.new) }
@@ -94,15 +93,16 @@ fn command<I: Source, O: Sink>(
     replay(alloc, input, output)
 }
 
-// Tells the error sink of an abort, and answers that, or that there was no memory for the line.
-fn told_abort<E: Sink>(alloc: Global, txn: u64, op: u64, reason: Reason, errors: &mut E) -> Stop
-    ensures which { (result ≡ Stop.Aborted txn op reason) ⊎ (result ≡ Stop.NoMemory) }
+// Tells the error sink the line that was made for the stop, and answers that, or that there was no memory for the line.
+fn told_made<E: Sink>(stop: Stop, made: Result<Vec<u8>, AllocError>, errors: &mut E) -> Stop
+    requires { IfOk made (λ line. line.items ≡ line_of stop) }
+    ensures which { (result ≡ stop) ⊎ (result ≡ Stop.NoMemory) }
     ensures line { SaysUnlessFault (E.held errors.old) (line_of result) (E.held errors.new) (E.faults errors.old) (E.faults errors.new) }
 {
-    match abort_line(alloc, txn, op, reason) {
+    match made {
         Ok(line) => {
             let _ = write_all(errors, &line);
-            Stop::Aborted { txn, op, reason }
+            stop
         }
         Err(_) => {
             let _ = write_all(errors, b"no memory\n");
@@ -111,18 +111,26 @@ fn told_abort<E: Sink>(alloc: Global, txn: u64, op: u64, reason: Reason, errors:
     }
 }
 
-// Tells the error sink why the command stopped, and answers that, or that there was no memory for the line of an abort.
+// Tells the error sink why the command stopped, and answers that, or that there was no memory for its line.
 fn told<E: Sink>(alloc: Global, stop: Stop, errors: &mut E) -> Stop
-    ensures which { (result ≡ stop) ⊎ ((result ≡ Stop.NoMemory) × (status_of stop ≡ 4)) }
+    ensures which { (result ≡ stop) ⊎ ((result ≡ Stop.NoMemory) × IsTrue (takes_memory stop)) }
     ensures line { SaysUnlessFault (E.held errors.old) (line_of result) (E.held errors.new) (E.faults errors.old) (E.faults errors.new) }
 {
-    if let Stop::Aborted { txn, op, reason } = stop {
-        return told_abort(alloc, txn, op, reason, errors);
+    match stop {
+        Stop::Syntax(fault) => {
+            let line = catalogue_line(alloc, fault.at, fault.kind.name());
+            told_made(stop, line, errors)
+        }
+        Stop::Aborted { txn, op, reason } => {
+            told_made(stop, abort_line(alloc, txn, op, reason), errors)
+        }
+        _ => {
+            if let Some(line) = stop.line() {
+                let _ = write_all(errors, line);
+            }
+            stop
+        }
     }
-    if let Some(line) = stop.line() {
-        let _ = write_all(errors, line);
-    }
-    stop
 }
 
 /// Does what the words say, and answers the program's exit status. The one command that runs is `replay`: it reads a
@@ -134,7 +142,7 @@ fn told<E: Sink>(alloc: Global, stop: Stop, errors: &mut E) -> Stop
 /// |---|---|---|
 /// | 0 | else: the output took the dump | nothing |
 /// | 1 | exactly where the words are not the one word `replay` | `usage: pacman init, run, recover, explain, replay or stress` |
-/// | 2 | only where the input is no script | `script refused` |
+/// | 2 | only where the input is no script | `catalogue AT KIND` where the catalogue's text isn't read: its first fault; else `script refused` |
 /// | 4 | only where serial execution of the calls aborts | `abort TXN OP REASON` |
 /// | 6 | only where the input's count of faults rose | `input fault` |
 /// | 7 | only where the output's count of faults rose; the output took a front of the dump | `output fault` |
@@ -156,6 +164,8 @@ pub fn pacman<RT: Threads + Wait + Sync, I: Source, O: Sink, E: Sink, D: Disk, G
     // Each status comes only where its cause holds.
     ensures usage { (result ≡ 1) ↔ ¬ IsReplay words.now }
     ensures refused { result ≡ 2 → IsNoScript (I.left input.old) }
+    ensures refusal { result ≡ 2 → (stop : AStop) × IsRefusedAs (I.left input.old) stop
+        × SaysUnlessFault (E.held errors.old) (line_of stop) (E.held errors.new) (E.faults errors.old) (E.faults errors.new) }
     ensures aborted { result ≡ 4 → (txn op : ℕ) × (reason : AReason) × IsAbortOf (I.left input.old) txn op reason
         × SaysUnlessFault (E.held errors.old) (abort_line txn op reason) (E.held errors.new) (E.faults errors.old) (E.faults errors.new) }
     ensures input_fault { result ≡ 6 → Rose (I.faults input.old) (I.faults input.new) }

@@ -1,5 +1,8 @@
 // Reads request lines.
 ghost use Rattle.std.specs.Prelude.{◌≡◌, ◌<◌, ◌++◌, List, Option, IfOk, OnOk, OnErr, IsErrOf, length, Some, None};
+ghost use Rattle.pac_syntax.specs.Tokens.{IsLexed};
+ghost use Rattle.pac_syntax.specs.declared.fault.Fault.{Fault as AFault};
+ghost use Rattle.pac_syntax.specs.declared.token.Spanned.{Spanned as ASpanned};
 ghost use Rattle.pac_serial.specs.declared.serial.Call.{Call as ACall};
 ghost use Rattle.pac_main.specs.Lines.{lines};
 ghost use Rattle.pac_main.specs.Errors.{Only, AreOnly};
@@ -9,26 +12,41 @@ use crate::call::read_call;
 use crate::script_error::ScriptError;
 use crate::split::first_line;
 use pac_serial::Call;
-use pac_syntax::tokens;
+use pac_syntax::{SyntaxError, Tokens, tokens};
 use pac_types::Catalogue;
 use std::alloc::Global;
 
 // The greatest length of a request line.
 const MAX_LINE: usize = 4096;
 
+// The tokens of a line.
+fn line_tokens(alloc: Global, line: &[u8]) -> Result<Tokens, ScriptError>
+    ensures ok { IfOk result (λ found. IsLexed line.now found None) }
+    ensures only { (ts : List ASpanned) → IsLexed line.now ts None → Only result ts }
+    ensures no_syntax { (fault : AFault) → ¬ IsErrOf result (ScriptError.Syntax fault) }
+{
+    match tokens(alloc, line) {
+        Ok(found) => Ok(found),
+        Err(SyntaxError::Fault(_)) => Err(ScriptError::Refused),
+        Err(SyntaxError::NoMemory) => Err(ScriptError::NoMemory),
+    }
+}
+
 // What a line says: a call, or nothing.
 fn read_line(alloc: Global, catalogue: &Catalogue, line: &[u8]) -> Result<Option<Call>, ScriptError>
     ensures ok { IfOk result (IsLine catalogue.now.procs line.now) }
     ensures only { (said : Option ACall) → IsLine catalogue.now.procs line.now said → Only result said }
+    ensures no_syntax { (fault : AFault) → ¬ IsErrOf result (ScriptError.Syntax fault) }
 {
     if line.len() > MAX_LINE {
         return Err(ScriptError::Refused);
     }
-    let found = tokens(alloc, line)?;
+    let found = line_tokens(alloc, line)?;
+    let found = found.as_slice();
     if found.is_empty() {
         return Ok(None);
     }
-    match read_call(alloc, catalogue, &found)? {
+    match read_call(alloc, catalogue, found)? {
         Some(call) => Ok(Some(call)),
         None => Err(ScriptError::Refused),
     }
@@ -53,6 +71,7 @@ pub fn read_calls(
 ) -> Result<Vec<Call>, ScriptError>
     ensures ok { IfOk result (λ calls. AreCalls catalogue.now.procs (lines text.now) calls.items) }
     ensures only { (calls : List ACall) → AreCalls catalogue.now.procs (lines text.now) calls → AreOnly result calls }
+    ensures no_syntax { (fault : AFault) → ¬ IsErrOf result (ScriptError.Syntax fault) }
 {
     let mut calls = Vec::new(alloc);
     let mut rest = text;

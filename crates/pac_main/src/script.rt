@@ -1,17 +1,19 @@
 // The script of a replay.
-ghost use Rattle.std.specs.Prelude.{◌≡◌, List, Option, IfOk, MatchOption, Some, None};
+ghost use Rattle.std.specs.Prelude.{◌≡◌, List, Option, IfOk, IsErrOf, MatchOption, Some, None};
 ghost use Rattle.pac_syntax.specs.declared.tree.Tree.{Tree as ATree};
-ghost use Rattle.pac_syntax.specs.Reading.{Reads};
+ghost use Rattle.pac_syntax.specs.declared.fault.Fault.{Fault as AFault};
+ghost use Rattle.pac_syntax.specs.Reading.{Reads, IsTextFault};
 ghost use Rattle.pac_types.specs.Typing.{Types, CatalogueState};
 ghost use Rattle.pac_serial.specs.declared.serial.Call.{Call as ACall};
 ghost use Rattle.pac_main.specs.Errors.{Only, AreOnly};
 ghost use Rattle.pac_main.specs.Requests.{AreCalls};
-ghost use Rattle.pac_main.specs.Script.{IsScript, HasCatalogue, HasParts, lines_behind};
+ghost use Rattle.pac_main.specs.Script.{IsScript, HasCatalogue, HasParts, IsRefusal, lines_behind};
 ghost use Rattle.pac_main.specs.declared.script.Script.{Script as AScript};
 
 use crate::lines::find_mark;
 use crate::request::read_calls;
 use crate::script_error::ScriptError;
+use crate::stop::Stop;
 use pac_base::{Listed, listed};
 use pac_serial::Call;
 use pac_syntax::parse_catalogue;
@@ -32,6 +34,8 @@ pub struct Script {
 fn read_catalogue(alloc: Global, text: &[u8]) -> Result<Catalogue, ScriptError>
     ensures ok { IfOk result (HasCatalogue text.now) }
     ensures only { (catalogue : CatalogueState) → HasCatalogue text.now catalogue → Only result catalogue }
+    ensures syntax { (fault : AFault) → IsErrOf result (ScriptError.Syntax fault) → IsTextFault text.now fault }
+    ensures refused { IsErrOf result ScriptError.Refused → (tree : ATree) × Reads text.now tree }
 {
     let tree = parse_catalogue(alloc, text)?;
     Ok(check(alloc, tree)?)
@@ -41,6 +45,7 @@ fn read_catalogue(alloc: Global, text: &[u8]) -> Result<Catalogue, ScriptError>
 fn read_behind(alloc: Global, catalogue: &Catalogue, text: &[u8]) -> Result<Vec<Call>, ScriptError>
     ensures ok { IfOk result (λ calls. AreCalls catalogue.now.procs (lines_behind text.now) calls.items) }
     ensures only { (calls : List ACall) → AreCalls catalogue.now.procs (lines_behind text.now) calls → AreOnly result calls }
+    ensures no_syntax { (fault : AFault) → ¬ IsErrOf result (ScriptError.Syntax fault) }
 {
     match text {
         [] => Ok(Vec::new(alloc)),
@@ -52,6 +57,8 @@ fn read_behind(alloc: Global, catalogue: &Catalogue, text: &[u8]) -> Result<Vec<
 fn read_parts(alloc: Global, front: &[u8], behind: &[u8]) -> Result<Script, ScriptError>
     ensures ok { IfOk result (HasParts front.now behind.now) }
     ensures only { (script : AScript) → HasParts front.now behind.now script → Only result script }
+    ensures syntax { (fault : AFault) → IsErrOf result (ScriptError.Syntax fault) → IsTextFault front.now fault }
+    ensures refused { IsErrOf result ScriptError.Refused → (tree : ATree) × Reads front.now tree }
 {
     let catalogue = read_catalogue(alloc, front)?;
     let calls = listed(read_behind(alloc, &catalogue, behind)?);
@@ -62,6 +69,8 @@ fn read_parts(alloc: Global, front: &[u8], behind: &[u8]) -> Result<Script, Scri
 pub fn read_script(alloc: Global, text: &[u8]) -> Result<Script, ScriptError>
     ensures ok { IfOk result (IsScript text.now) }
     ensures only { (script : AScript) → IsScript text.now script → Only result script }
+    ensures syntax { (fault : AFault) → IsErrOf result (ScriptError.Syntax fault) → IsRefusal text.now (Stop.Syntax fault) }
+    ensures refused { IsErrOf result ScriptError.Refused → IsRefusal text.now Stop.Refused }
 {
     if text.len() > MAX_SCRIPT {
         return Err(ScriptError::Refused);

@@ -4,14 +4,16 @@ ghost use Rattle.pac_main.specs.Errors.{error_of_syntax, error_of_type};
 ghost use Rattle.pac_main.specs.declared.script_error.ScriptError.TheVariants.{NoMemory as WantOfMemory};
 
 use pac_base::NoMemory;
-use pac_syntax::SyntaxError;
+use pac_syntax::{Fault, SyntaxError};
 use pac_types::TypeError;
 use std::alloc::{AllocError, AllocFailed};
 
 /// Why a text is not read as a script.
 #[derive(Clone, Copy, Debug, PartialEq, Eq)]
 pub enum ScriptError {
-    /// It is none.
+    /// The catalogue's text has this fault, its first.
+    Syntax(Fault),
+    /// It is none for another reason.
     Refused,
     /// An allocation was refused.
     NoMemory,
@@ -22,7 +24,7 @@ impl From<SyntaxError> for ScriptError {
 
     fn from(error: SyntaxError) -> Self {
         match error {
-            SyntaxError::Fault(_) => ScriptError::Refused,
+            SyntaxError::Fault(fault) => ScriptError::Syntax(fault),
             SyntaxError::NoMemory => ScriptError::NoMemory,
         }
     }
@@ -33,7 +35,7 @@ impl From<TypeError> for ScriptError {
 
     fn from(error: TypeError) -> Self {
         match error {
-            TypeError::Refused => ScriptError::Refused,
+            TypeError::Fault(_) => ScriptError::Refused,
             TypeError::NoMemory => ScriptError::NoMemory,
         }
     }

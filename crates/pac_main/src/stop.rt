@@ -1,12 +1,13 @@
 // Why a command stops before its end.
-ghost use Rattle.std.specs.Prelude.{◌≡◌, IfOk, MatchOption};
-ghost use Rattle.pac_main.specs.Stop.{status_of, line_of, abort_line, stop_of_read, stop_of_script, stop_of_serial};
+ghost use Rattle.std.specs.Prelude.{◌≡◌, IfOk, IsTrue, MatchOption};
+ghost use Rattle.pac_main.specs.Stop.{status_of, line_of, takes_memory, catalogue_line, abort_line, stop_of_read, stop_of_script, stop_of_serial};
 ghost use Rattle.pac_main.specs.declared.stop.Stop.TheVariants.{OutputFault, NoMemory as WantOfMemory};
 
 use crate::script_error::ScriptError;
 use pac_base::NoMemory;
 use pac_outside::{Failed, ReadError};
 use pac_serial::SerialError;
+use pac_syntax::Fault;
 use pac_types::Reason;
 use std::alloc::{AllocError, Global};
 
@@ -15,7 +16,9 @@ use std::alloc::{AllocError, Global};
 pub enum Stop {
     /// The words name no command that runs.
     Usage,
-    /// The input is no script.
+    /// The catalogue's text has this fault, its first.
+    Syntax(Fault),
+    /// The input is no script for another reason.
     Refused,
     /// The operation of the transaction with this number aborts for this reason.
     Aborted { txn: u64, op: u64, reason: Reason },
@@ -60,6 +63,7 @@ impl From<ScriptError> for Stop {
 
     fn from(error: ScriptError) -> Self {
         match error {
+            ScriptError::Syntax(fault) => Stop::Syntax(fault),
             ScriptError::Refused => Stop::Refused,
             ScriptError::NoMemory => Stop::NoMemory,
         }
@@ -84,7 +88,7 @@ impl Stop {
     {
         match self {
             Stop::Usage => 1,
-            Stop::Refused => 2,
+            Stop::Syntax(_) | Stop::Refused => 2,
             Stop::Aborted { .. } => 4,
             Stop::InputFault => 6,
             Stop::OutputFault => 7,
@@ -92,19 +96,33 @@ impl Stop {
         }
     }
 
-    /// What the error sink is told. `None`: the line of an abort is made by [`abort_line`].
+    /// What the error sink is told, where that is one text. `None`: it is made by [`catalogue_line`] or [`abort_line`].
     pub fn line(self) -> Option<&'static [u8]>
-        ensures { MatchOption result (status_of self ≡ 4) (λ line. line.now ≡ line_of self) }
+        ensures { MatchOption result (IsTrue (takes_memory self)) (λ line. line.now ≡ line_of self) }
     {
         match self {
             Stop::Usage => Some(b"usage: pacman init, run, recover, explain, replay or stress\n"),
             Stop::Refused => Some(b"script refused\n"),
-            Stop::Aborted { .. } => None,
+            Stop::Syntax(_) | Stop::Aborted { .. } => None,
             Stop::InputFault => Some(b"input fault\n"),
             Stop::OutputFault => Some(b"output fault\n"),
             Stop::NoMemory => Some(b"no memory\n"),
         }
     }
+}
+
+/// The line `catalogue AT KIND`.
+pub fn catalogue_line(alloc: Global, at: usize, kind: &str) -> Result<Vec<u8>, AllocError>
+    ensures { IfOk result (λ line. line.items ≡ catalogue_line at kind.now) }
+{
+    let at = at.to_string(alloc)?;
+    let mut line = Vec::new(alloc);
+    line.extend_from_slice(b"catalogue ")?;
+    line.extend_from_slice(at.as_bytes())?;
+    line.extend_from_slice(b" ")?;
+    line.extend_from_slice(kind.as_bytes())?;
+    line.extend_from_slice(b"\n")?;
+    Ok(line)
 }
 
 /// The line `abort TXN OP REASON`.

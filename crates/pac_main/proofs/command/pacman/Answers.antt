@@ -1,8 +1,22 @@
-use Rattle.std.proofs.Common.{Err, ap, sym, ◌∙◌}
-use Rattle.pac_main.proofs.StopLemmas.{aborted_of}
+use Rattle.std.proofs.Common.{Err, ap, refl, sym, ◌∙◌, arith}
+use Rattle.pac_main.specs.Stop.{line_of}
+use Rattle.pac_main.proofs.StopLemmas.{aborted_of, told_same}
 use Rattle.pac_main.proofs.command.pacman.Goals as goal
 
 pub returns-in-Err-clause-aborted : goal.returns-in-Err-clause-aborted
 returns-in-Err-clause-aborted g c = λ four.
-    let a = aborted_of c.in-Err.stop c.told.result c.told.ensures.which (sym c.status.ensures ∙ four) in
-    (a.txn, a.op, a.reason, c.in-Err.ensures.aborted a.txn a.op a.reason (ap (λ s. Err s) a.is), rw a.told_so at c.told.ensures.line)
+    let same = told_same c.in-Err.stop c.told.result 4 c.told.ensures.which (sym c.status.ensures ∙ four) (λ e. omega arith) in
+    let a = aborted_of c.told.result (sym c.status.ensures ∙ four) in
+    (a.txn, a.op, a.reason, c.in-Err.ensures.aborted a.txn a.op a.reason (ap (λ s. Err s) (sym same ∙ a.is)), rw a.is at c.told.ensures.line)
+
+pub returns-in-Err-clause-refused : goal.returns-in-Err-clause-refused
+returns-in-Err-clause-refused g c = λ two.
+    let is = sym c.status.ensures ∙ two in
+    let same = told_same c.in-Err.stop c.told.result 2 c.told.ensures.which is (λ e. omega arith) in
+    (c.in-Err.ensures.refused c.told.result (ap (λ s. Err s) (sym same)) is).0
+
+pub returns-in-Err-clause-refusal : goal.returns-in-Err-clause-refusal
+returns-in-Err-clause-refusal g c = λ two.
+    let is = sym c.status.ensures ∙ two in
+    let same = told_same c.in-Err.stop c.told.result 2 c.told.ensures.which is (λ e. omega arith) in
+    (c.told.result, (c.in-Err.ensures.refused c.told.result (ap (λ s. Err s) (sym same)) is).1, c.told.ensures.line)

@@ -13,7 +13,7 @@ returns-in_err-check-clause-only c =
     let p = err_from_is_err_and c.from_residual-in_err-check.result c.from_residual-in_err-check.ensures.1 in
     λ catalogue h.
     let same : c.in_ok-tree.tree ≡ h.tree = c.in_ok-tree.ensures.only h.tree h.reads in
-    rw (p.1, p.2) (of_type _ c.in_ok-tree.tree catalogue (λ is typed. c.in_err-check.ensures.refused (ap (λ e. Err e) is) typed) (same_tree _ _ catalogue same h.typed))
+    rw (p.1, p.2) (of_type _ c.in_ok-tree.tree catalogue (λ fault is typed. c.in_err-check.ensures.refused fault (ap (λ e. Err e) is) typed) (same_tree _ _ catalogue same h.typed))
 
 pub returns-clause-only : goal.returns-clause-only
 returns-clause-only c = λ catalogue h. sym (c.in_ok-check.ensures.one catalogue (same_tree _ _ catalogue (c.in_ok-tree.ensures.only h.tree h.reads) h.typed))
