@@ -3,243 +3,361 @@ ghost use Rattle.std.specs.Prelude.{Some};
 
 use crate::pacman;
 use pac_outside::{Devices, Failed, MemSink, MemSource, NoDisk, OpenGate, Sink};
+use std::alloc::Global;
+use std::sync::Wait;
 use std::test::Fail;
+use std::thread::Threads;
 
 const USAGE: &str = "usage: pacman init, run, recover, explain, replay or stress\n";
 
 const ADD: &str =
     "table T(key int, v int);\nproc Add(k int, n int) { read a = T[k].v default 0; let b = a + n; put T[k] = (b); }\n---\n";
 
-// The word, the catalogue, the lines behind it, the calls of the source and of the output that fail; the status, the
-// output and the errors.
-type Row = (
-    &'static str,
-    &'static str,
-    &'static str,
-    u64,
-    u64,
-    u8,
-    &'static str,
-    &'static str,
-);
+// Accounts: a transfer to a spouse, and a deposit, of which a fiftieth goes to the savings where the account gets large.
+const BANK: &str =
+    "table Family(key int, spouse int);\ntable Current(key int, value int);\ntable Saving(key int, value int);\ntable Stats(key int, count int);\nproc Transfer(src int, amount int) {\n  read dst = Family[src].spouse default 0;\n  if dst != 0 {\n    read a = Current[src].value default 0;\n    put Current[src] = (a - amount);\n    read b = Current[dst].value default 0;\n    put Current[dst] = (b + amount);\n    read s = Saving[src].value default 0;\n    put Saving[src] = (s + 1);\n  }\n}\nproc Deposit(name int, amount int, nation int) {\n  read v = Current[name].value default 0;\n  put Current[name] = (v + amount);\n  if v + amount > 10000 {\n    read s = Saving[name].value default 0;\n    put Saving[name] = (s + v / 50);\n  }\n  read n = Stats[nation].count default 0;\n  put Stats[nation] = (n + 1);\n}\n---\n";
 
-const ROWS: [Row; 22] = [
-    ("replay", "", "", 0, 0, 0, "", ""),
+// What the program answers: its status, and what the output and the error sink took.
+#[derive(Drop)]
+struct Answer {
+    status: u8,
+    output: MemSink,
+    errors: MemSink,
+}
+
+// Runs the word over this input, where these calls of the input and of the output fail.
+fn answer<RT: Threads + Wait + Sync>(
+    rt: &RT,
+    alloc: Global,
+    word: &str,
+    input: Vec<u8>,
+    bad_reads: Vec<u64>,
+    bad_writes: Vec<u64>,
+) -> Result<Answer, Fail> {
+    let mut words = Vec::new(alloc);
+    words.push(String::from_str(alloc, word)?)?;
+    let mut input = MemSource::new(input, bad_reads);
+    let mut output = MemSink::new(Vec::new(alloc), bad_writes);
+    let mut errors = MemSink::new(Vec::with_capacity(alloc, 4096)?, Vec::new(alloc));
+    let mut devices = no_devices();
+    let status = pacman(
+        rt,
+        alloc,
+        &words,
+        &mut input,
+        &mut output,
+        &mut errors,
+        &mut devices,
+        &OpenGate,
+    );
+    Ok(Answer {
+        status,
+        output,
+        errors,
+    })
+}
+
+fn no_devices() -> Devices<NoDisk> {
+    Devices {
+        log: NoDisk::new(),
+        slot_a: NoDisk::new(),
+        slot_b: NoDisk::new(),
+    }
+}
+
+// A text and another behind it.
+fn joined(alloc: Global, front: &str, behind: &str) -> Result<Vec<u8>, Fail> {
+    let mut text = front.as_bytes().to_vec(alloc)?;
+    text.extend_from_slice(behind.as_bytes())?;
+    Ok(text)
+}
+
+// The catalogue, the lines behind it; the status, the output and the errors.
+type Row = (&'static str, &'static str, u8, &'static str, &'static str);
+
+const ROWS: [Row; 34] = [
+    ("", "", 0, "", ""),
     (
-        "replay",
         ADD,
         "call Add(1, 5)\ncall Add(2, 7)\ncall Add(1, 3)\n",
-        0,
-        0,
         0,
         "table T 2\n1 (8)\n2 (7)\n",
         "",
     ),
     (
-        "replay",
         ADD,
         "call Add(1, 9223372036854775807)\ncall Add(1, 1)",
-        0,
-        0,
         4,
         "",
         "abort 2 1 Overflow\n",
     ),
     (
-        "replay",
         ADD,
         "call Add(3, 1)\ncall Add(-9223372036854775808, 2)\ncall Add(- 1, -4)",
-        0,
-        0,
         0,
         "table T 3\n-9223372036854775808 (2)\n-1 (-4)\n3 (1)\n",
         "",
     ),
     (
-        "replay",
         ADD,
         "\n  # nothing\n\tcall Add ( 1 , 1 ) # one\n",
-        0,
-        0,
         0,
         "table T 1\n1 (1)\n",
         "",
     ),
     (
-        "replay",
         "table B(key int, v int); table A(key int, v int, w int);",
         "",
-        0,
-        0,
         0,
         "table B 0\ntable A 0\n",
         "",
     ),
+    (ADD, "call Nobody(1)", 2, "", "script refused\n"),
+    (ADD, "call Add(1)", 2, "", "script refused\n"),
+    (ADD, "call Add(1, 2", 2, "", "script refused\n"),
+    (ADD, "call Add(1, \"2\")", 2, "", "script refused\n"),
+    (ADD, "call Add(1, true)", 2, "", "script refused\n"),
     (
-        "replay",
-        "table T(key int, v int, w int); proc P(k int) { put T[k] = (k, 1 + k + -3); }\n---\n",
-        "call P(4)",
-        0,
-        0,
-        0,
-        "table T 1\n4 (4, 2)\n",
-        "",
-    ),
-    (
-        "replay",
-        ADD,
-        "call Nobody(1)",
-        0,
-        0,
-        2,
-        "",
-        "script refused\n",
-    ),
-    (
-        "replay",
-        ADD,
-        "call Add(1)",
-        0,
-        0,
-        2,
-        "",
-        "script refused\n",
-    ),
-    (
-        "replay",
-        ADD,
-        "call Add(1, 2",
-        0,
-        0,
-        2,
-        "",
-        "script refused\n",
-    ),
-    (
-        "replay",
         ADD,
         "call Add(1, 9223372036854775808)",
-        0,
-        0,
         2,
         "",
         "script refused\n",
     ),
-    ("replay", ADD, "dump", 0, 0, 2, "", "script refused\n"),
+    (ADD, "dump", 2, "", "script refused\n"),
+    (ADD, "adhoc put T[1] = (2)", 2, "", "script refused\n"),
+    ("table T(key int);", "", 2, "", "catalogue 15 Expected\n"),
     (
-        "replay",
-        "table T(key int, v text);",
+        "table T(key int, v int); ?",
         "",
-        0,
-        0,
         2,
         "",
-        "script refused\n",
+        "catalogue 25 Token\n",
     ),
     (
-        "replay",
-        "table T(key int, v int); proc P() { if 1 == 1 { put T[1] = (1); } }",
+        "proc P() { let x = k - 9223372036854775808; }\n---\ncall",
         "",
-        0,
-        0,
         2,
         "",
-        "script refused\n",
+        "catalogue 23 TooLong\n",
     ),
     (
-        "replay",
-        "table T(key int, v int); proc P() { let a = 2 * 3; }",
+        "proc P() { let x = (((((((((((((((((1))))))))))))))))); }",
         "",
-        0,
-        0,
         2,
         "",
-        "script refused\n",
+        "catalogue 35 TooDeep\n",
     ),
     (
-        "replay",
-        "table T(key int, v int); proc P() { let a = (1); }",
+        "table T(key int, a int, b int, c int, d int, e int, f int, g int, h int, i int);",
         "",
-        0,
-        0,
         2,
         "",
-        "script refused\n",
+        "catalogue 73 TooMany\n",
     ),
     (
-        "replay",
-        ADD,
-        "adhoc Add(1, 2)",
-        0,
-        0,
-        2,
+        BANK,
         "",
-        "script refused\n",
+        0,
+        "table Family 0\ntable Current 0\ntable Saving 0\ntable Stats 0\n",
+        "",
     ),
     (
-        "replay",
-        "table T(key int, v int); proc P() { let a = b; }",
-        "",
+        BANK,
+        "call Deposit(1, 10000, 7)",
         0,
-        0,
-        2,
+        "table Family 0\ntable Current 1\n1 (10000)\ntable Saving 0\ntable Stats 1\n7 (1)\n",
         "",
-        "script refused\n",
-    ),
-    ("stress", "", "", 0, 0, 1, "", USAGE),
-    ("run", ADD, "call Add(1, 5)", 0, 0, 1, "", USAGE),
-    (
-        "replay",
-        ADD,
-        "call Add(1, 5)",
-        1,
-        0,
-        6,
-        "",
-        "input fault\n",
     ),
     (
-        "replay",
-        ADD,
-        "call Add(1, 5)",
+        BANK,
+        "call Deposit(1, 10500, 7)",
         0,
-        1,
-        7,
+        "table Family 0\ntable Current 1\n1 (10500)\ntable Saving 1\n1 (0)\ntable Stats 1\n7 (1)\n",
         "",
-        "output fault\n",
+    ),
+    (
+        "table T(key int, v int);\nproc Add(k int, n int) { read a = T[k].v default 0; let m = n; let b = a + m; put T[k] = (b); }\nproc Need(k int) { read a = T[k].v default 1; abort if a == 0; }\n---\n",
+        "call Add(1, 9223372036854775807)\ncall Add(2, 5)\ncall Add(1, 1)\ncall Need(1)",
+        4,
+        "",
+        "abort 3 2 Overflow\n",
+    ),
+    (
+        "table N(key text, v int);\nproc Put(k text, n int) { put N[k] = (n); }\nproc Del(k text) { delete N[k]; }\n---\n",
+        "call Put(\"b\", 1)\ncall Put(\"ab\", 2)\ncall Put(\"a\", 3)\ncall Put(\"a\\\"c\", 4)\ncall Put(\"z\\\\\", 5)\ncall Del(\"z\\\\\")\ncall Del(\"zz\")",
+        0,
+        "table N 4\n\"a\" (3)\n\"a\\\"c\" (4)\n\"ab\" (2)\n\"b\" (1)\n",
+        "",
+    ),
+    (
+        "table V(key int, v int); proc P() { put V[0] = (-7 % 2); }\n---\n",
+        "call P()",
+        0,
+        "table V 1\n0 (-1)\n",
+        "",
+    ),
+    (
+        "table V(key int, v int); proc P() { put V[0] = (7 / -2); }\n---\n",
+        "call P()",
+        0,
+        "table V 1\n0 (-3)\n",
+        "",
+    ),
+    (
+        "table V(key int, v int); proc P() { put V[0] = (-9223372036854775808 % -1); }\n---\n",
+        "call P()",
+        0,
+        "table V 1\n0 (0)\n",
+        "",
+    ),
+    (
+        "table V(key int, v int); proc P() { put V[0] = (2 + 3 * 4 - (5 - 1)); }\n---\n",
+        "call P()",
+        0,
+        "table V 1\n0 (10)\n",
+        "",
+    ),
+    (
+        "table V(key int, v int); proc P() { put V[0] = (1 / 0); }\n---\n",
+        "call P()",
+        4,
+        "",
+        "abort 1 0 DivZero\n",
+    ),
+    (
+        "table V(key int, v int); proc P() { put V[0] = (-9223372036854775808 / -1); }\n---\n",
+        "call P()",
+        4,
+        "",
+        "abort 1 0 Overflow\n",
+    ),
+    (
+        "table X(key int, v text); proc P() { let x = false && 1 / 0 == 0; if x || !(true && \"a\" < \"ab\") { put X[1] = (\"yes\"); } else { put X[1] = (\"no\"); } }\n---\n",
+        "call P()",
+        0,
+        "table X 1\n1 (\"no\")\n",
+        "",
+    ),
+    (
+        "table T(key int, v int, w int); proc P(k int) { has h = T[k]; if h { set T[k].w = 9; } else { put T[k] = (k, 1); } }\nproc Q(k int) { set T[k].v = 1; }\n---\n",
+        "call P(3)\ncall P(4)\ncall P(3)",
+        0,
+        "table T 2\n3 (3, 9)\n4 (4, 1)\n",
+        "",
+    ),
+    (
+        "table T(key int, v int); proc Q(k int) { put T[8] = (8); set T[k].v = 1; }\n---\n",
+        "call Q(8)\ncall Q(3)",
+        4,
+        "",
+        "abort 2 1 Missing\n",
+    ),
+    (
+        "table T(key int, v int); proc P(k int) { if k > 0 { put T[k] = (k); } else { put T[0] = (k); abort if k < 0; } }\n---\n",
+        "call P(1)\ncall P(0)\ncall P(-1)",
+        4,
+        "",
+        "abort 3 3 Asked\n",
     ),
 ];
 
 #[test]
 fn answers_scripts(rt: HostRuntime) -> Result<(), Fail> {
-    let alloc = rt.alloc();
-    for (word, catalogue, lines, bad_read, bad_write, status, text, line) in ROWS {
-        let mut words = Vec::new(alloc);
-        words.push(String::from_str(alloc, word)?)?;
-        let mut script = catalogue.as_bytes().to_vec(alloc)?;
-        script.extend_from_slice(lines.as_bytes())?;
-        let mut input = MemSource::new(script, vec![in alloc; bad_read]?);
-        let mut output = MemSink::new(Vec::new(alloc), vec![in alloc; bad_write]?);
-        let mut errors = MemSink::new(Vec::with_capacity(alloc, 4096)?, Vec::new(alloc));
-        let mut devices = Devices {
-            log: NoDisk::new(),
-            slot_a: NoDisk::new(),
-            slot_b: NoDisk::new(),
-        };
-        let answer = pacman(
+    for (catalogue, lines, status, text, line) in ROWS {
+        let alloc = rt.alloc();
+        let script = joined(alloc, catalogue, lines)?;
+        let answer = answer(
             &rt,
             alloc,
-            &words,
-            &mut input,
-            &mut output,
-            &mut errors,
-            &mut devices,
-            &OpenGate,
+            "replay",
+            script,
+            Vec::new(alloc),
+            Vec::new(alloc),
+        )?;
+        assert_eq!(rt; answer.status, status, "status of {catalogue}{lines}");
+        assert_eq!(rt;
+            answer.output.bytes(),
+            text.as_bytes(),
+            "output of {catalogue}{lines}"
         );
-        assert_eq!(rt; answer, status, "status of {lines}");
-        assert_eq!(rt; output.bytes(), text.as_bytes(), "output of {lines}");
-        assert_eq!(rt; errors.bytes(), line.as_bytes(), "errors of {lines}");
+        assert_eq!(rt;
+            answer.errors.bytes(),
+            line.as_bytes(),
+            "errors of {catalogue}{lines}"
+        );
     }
+    Ok(())
+}
+
+#[test]
+fn answers_other_words_and_faults(rt: HostRuntime) -> Result<(), Fail> {
+    let rows = [
+        ("stress", 0, 0, 1, USAGE),
+        ("run", 0, 0, 1, USAGE),
+        ("replay", 1, 0, 6, "input fault\n"),
+        ("replay", 0, 1, 7, "output fault\n"),
+    ];
+    for (word, bad_read, bad_write, status, line) in rows {
+        let alloc = rt.alloc();
+        let script = joined(alloc, ADD, "call Add(1, 5)")?;
+        let answer = answer(
+            &rt,
+            alloc,
+            word,
+            script,
+            vec![in alloc; bad_read]?,
+            vec![in alloc; bad_write]?,
+        )?;
+        assert_eq!(rt; answer.status, status, "status of {word}");
+        assert_eq!(rt; answer.output.bytes(), b"".as_slice(), "output of {word}");
+        assert_eq!(rt; answer.errors.bytes(), line.as_bytes(), "errors of {word}");
+    }
+    Ok(())
+}
+
+#[test]
+fn a_longer_input_is_refused_before_its_catalogue(rt: HostRuntime) -> Result<(), Fail> {
+    let alloc = rt.alloc();
+    for (blanks, status, line) in [
+        (65_535, 2, "catalogue 65535 Token\n"),
+        (65_536, 2, "script refused\n"),
+    ] {
+        let mut script = vec![in alloc; b' '; blanks]?;
+        script.push(b'?')?;
+        let answer = answer(
+            &rt,
+            alloc,
+            "replay",
+            script,
+            Vec::new(alloc),
+            Vec::new(alloc),
+        )?;
+        assert_eq!(rt; answer.status, status);
+        assert_eq!(rt; answer.errors.bytes(), line.as_bytes());
+    }
+    Ok(())
+}
+
+#[test]
+fn executes_a_thousand_calls_of_one_key_and_of_many(rt: HostRuntime) -> Result<(), Fail> {
+    let alloc = rt.alloc();
+    let mut one = ADD.as_bytes().to_vec(alloc)?;
+    let mut many = ADD.as_bytes().to_vec(alloc)?;
+    let mut rows = b"table T 1024\n".to_vec(alloc)?;
+    for key in 1..1025u32 {
+        let key = key.to_string(alloc)?;
+        one.extend_from_slice(b"call Add(1, 1)\n")?;
+        many.extend_from_slice(b"call Add(")?;
+        many.extend_from_slice(key.as_bytes())?;
+        many.extend_from_slice(b", 1)\n")?;
+        rows.extend_from_slice(key.as_bytes())?;
+        rows.extend_from_slice(b" (1)\n")?;
+    }
+    let one = answer(&rt, alloc, "replay", one, Vec::new(alloc), Vec::new(alloc))?;
+    assert_eq!(rt; one.output.bytes(), b"table T 1\n1 (1024)\n".as_slice());
+    let many = answer(&rt, alloc, "replay", many, Vec::new(alloc), Vec::new(alloc))?;
+    assert_eq!(rt; many.output.bytes(), rows.as_slice());
     Ok(())
 }
 
@@ -282,11 +400,7 @@ fn writes_all_to_sinks_of_one_byte_a_call(rt: HostRuntime) -> Result<(), Fail> {
         let mut errors = OneByte {
             inner: MemSink::new(Vec::new(alloc), Vec::new(alloc)),
         };
-        let mut devices = Devices {
-            log: NoDisk::new(),
-            slot_a: NoDisk::new(),
-            slot_b: NoDisk::new(),
-        };
+        let mut devices = no_devices();
         let answer = pacman(
             &rt,
             alloc,
