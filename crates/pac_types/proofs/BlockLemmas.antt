@@ -161,7 +161,7 @@ module _ (tables : List Table) (names : List (List ℕ)) where
   BlockTold ns known next scope rest (Ok b) = BlockGood ns known next scope rest b.0 b.1
   BlockTold ns known next scope rest (Err f) = RunBad (in_turn ns (numbers_of known) next) scope
 
-  left_is : (known extra : List (Option Variable)) (k next : ℕ) → length extra ≡ k → left_at (length known) (at tables names (known ++ extra) next) ≡ at tables names (known ++ replicate k None) next
+  pub left_is : (known extra : List (Option Variable)) (k next : ℕ) → length extra ≡ k → left_at (length known) (at tables names (known ++ extra) next) ≡ at tables names (known ++ replicate k None) next
   left_is known extra k next long =
       let count : length (known ++ extra) - length known ≡ k = omega (arith, length-append known extra, long) in
       λ i. at tables names (take-append_seam known extra i ++ replicate (count i) None) next

@@ -20,7 +20,8 @@ use Rattle.pac_types.specs.declared.scope.Variable.{Variable}
 use Rattle.pac_types.specs.declared.expressions.Typed.{Typed}
 use Rattle.pac_types.specs.Numbering.{number_of, Sight, number_at, seen_number, resolved, resolve_step}
 use Rattle.pac_types.specs.Sound.{Scope, is_wanted, is_bool}
-use Rattle.pac_types.specs.Checking.{ScopeState, found, found_at, seen_at, taken, same_ty, is_ordered, is_left, is_right, given, operands, checked_expr, checked_step, checked_wanted, checked_test}
+use Rattle.pac_types.specs.Faults.{same_ty, is_ordered, is_left}
+use Rattle.pac_types.specs.Checking.{ScopeState, found, found_at, seen_at, taken, is_right, given, operands, checked_expr, checked_step, checked_wanted, checked_test}
 use Rattle.pac_types.proofs.ExprForms.{by_nodes}
 
 -- ---- operators
@@ -100,7 +101,7 @@ no_right op a b l r = operator op a b ∙ ap (λ t. by_tests t (is_right op a b)
 pub both_taken : (op : BinOp) (a b : Ty) → is_left op a ≡ true → is_right op a b ≡ true → operator_type op a b ≡ Some (given op)
 both_taken op a b l r = operator op a b ∙ ap (λ t. by_tests t (is_right op a b) (given op)) l ∙ ap (λ t. by_tests true t (given op)) r
 
-negation : (a : Ty) → negated_type a ≡ by_tests true (same_ty a BoolTy) BoolTy
+pub negation : (a : Ty) → negated_type a ≡ by_tests true (same_ty a BoolTy) BoolTy
 negation IntTy = refl
 negation TextTy = refl
 negation BoolTy = refl
@@ -146,11 +147,11 @@ module _ (scope : Scope) where
   same_type : (o : Option Expr) (a b : Expr) (t : Option Ty) → o ≡ Some a → o ≡ Some b → type_in scope b ≡ t → type_in scope a ≡ t
   same_type o a b t p q e = ap (type_in scope) (some_is (sym p ∙ q)) ∙ e
 
-  none_right : (k : Ty → Ty → Option Ty) (o : Option Ty) → option_and_then (λ s. option_and_then (λ t. k s t) None) o ≡ None
+  pub none_right : (k : Ty → Ty → Option Ty) (o : Option Ty) → option_and_then (λ s. option_and_then (λ t. k s t) None) o ≡ None
   none_right k None = refl
   none_right k (Some s) = refl
 
-  none_for : (k : Ty → Option Ty) → ((t : Ty) → k t ≡ None) → (o : Option Ty) → option_and_then k o ≡ None
+  pub none_for : (k : Ty → Option Ty) → ((t : Ty) → k t ≡ None) → (o : Option Ty) → option_and_then k o ≡ None
   none_for k never None = refl
   none_for k never (Some t) = never t
 

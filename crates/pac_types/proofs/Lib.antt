@@ -10,3 +10,8 @@ pub mod BlockLemmas
 pub mod TreeLemmas
 pub mod CountLemmas
 pub mod TypingLemmas
+pub mod PlaceLemmas
+pub mod FaultLemmas
+pub mod RuleLemmas
+pub mod FirstLemmas
+pub mod TypedLemmas

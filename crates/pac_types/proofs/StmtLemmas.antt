@@ -24,7 +24,8 @@ use Rattle.pac_types.specs.declared.catalogue.Stmt.{Stmt, Let, Read, Has, Put, S
 use Rattle.pac_types.specs.declared.catalogue.Stmt.TheOpen as form
 use Rattle.pac_types.specs.Numbering.{AreDistinct, number_of, table_number, column_number, Sight, Numbered, naming, plain, cell_by, resolved, resolved_all, all_names, counts, in_turn, unseen, branching}
 use Rattle.pac_types.specs.Sound.{Scope, Check, check, check_step, scope_after, in_order, any_defines, without, with_var, if_so, is_wanted, is_bool, are_wanted, is_width, key_type, column_type, column_types}
-use Rattle.pac_types.specs.Checking.{ScopeState, Told, Cells, Fields, once, unless, is_before, taken, known_at, counted, defined_in, hidden_in, left_at, checked_expr, checked_wanted, checked_test, checked_cell, checked_field, checked_read, checked_values, checked_put, run_all, block}
+use Rattle.pac_types.specs.Faults.{is_before}
+use Rattle.pac_types.specs.Checking.{ScopeState, Told, Cells, Fields, once, unless, taken, known_at, counted, defined_in, hidden_in, left_at, checked_expr, checked_wanted, checked_test, checked_cell, checked_field, checked_read, checked_values, checked_put, run_all, block}
 use Rattle.pac_types.proofs.StmtForms.{at-Let, at-Read, at-Has, at-Put, at-Set, at-Delete, at-AbortIf, at-If}
 use Rattle.pac_types.proofs.NameLemmas.{number-take, below, distinct-more, not_yet}
 use Rattle.pac_types.proofs.ExprLemmas.{numbers_of, Said, said, Fit, Passed, wanted_passed, test_passed, some_is, none_is}

@@ -24,7 +24,8 @@ use Rattle.pac_types.specs.declared.catalogue.Stmt.{Stmt}
 use Rattle.pac_types.specs.Numbering.{AreDistinct, number_of, table_number, column_number, column_of, Sight, Numbered, naming, joined, defined, defined_step, numbered, number_step, branching, in_turn, body_of, numbers_from, proc_of, variables, resolved}
 use Rattle.pac_types.specs.Sound.{Scope, IsSoundProc, check, in_order, scope_of, types}
 use Rattle.pac_types.specs.Typing.{IsProcOf}
-use Rattle.pac_types.specs.Checking.{ScopeState, Told, once, unless, is_before, defined_in, hidden_in, checked_test, checked_stmt, stmt_step, checked_block, checked_params, checked_proc, opening, block}
+use Rattle.pac_types.specs.Faults.{is_before}
+use Rattle.pac_types.specs.Checking.{ScopeState, Told, once, unless, defined_in, hidden_in, checked_test, checked_stmt, stmt_step, checked_block, checked_params, checked_proc, opening, block}
 use Rattle.pac_types.proofs.NameLemmas.{number-take, below, distinct-more, distinct-nil, not_yet, are_distinct}
 use Rattle.pac_types.proofs.ExprLemmas.{numbers_of, said, Fit, Passed, test_passed, wanted_passed, some_is, none_is}
 use Rattle.pac_types.proofs.StmtLemmas.{at, Start, Wide, drop_first, plain_told, naming_told, not_before, is_there, let_told, read_told, has_told, put_told, set_told, delete_told, abort_told, cell_of_node, field_of_node}
@@ -140,7 +141,7 @@ module _ (names : List (List ℕ)) where
 -- ---- parameters
 
 -- the variables of parameters, where the first has this number
-abbrev variables_from : ℕ → List ColumnNode → List (Option Variable)
+abbrev pub variables_from : ℕ → List ColumnNode → List (Option Variable)
 variables_from n [] = []
 variables_from n (node ∷ nodes) = Some (record { number = n; ty = node.ty }) ∷ variables_from (n + 1) nodes
 

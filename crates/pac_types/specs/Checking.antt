@@ -35,6 +35,7 @@ use Rattle.pac_types.specs.declared.expressions.Typed.{Typed}
 use Rattle.pac_types.specs.declared.statements.Cell.{Cell}
 use Rattle.pac_types.specs.declared.statements.Field.{Field}
 use Rattle.pac_types.specs.Numbering.{number_of, variables, table_number, column_number, table_of, column_of}
+use Rattle.pac_types.specs.Faults.{is_before, same_ty, is_left}
 use Rattle.pac_types.specs.Sound.{is_wanted, is_bool, key_type, column_type, column_types}
 
 -- a result is what is told, unless memory ran out
@@ -47,10 +48,6 @@ abbrev pub refuse : {A : Type 0} → ℕ → TypeFaultKind → Result A TypeFaul
 refuse at kind = Err (record { at = at; kind = kind })
 
 -- ---- names
-
-abbrev pub is_before : Option ℕ → ℕ → Bool
-is_before None place = false
-is_before (Some number) place = nat_lt number place
 
 abbrev pub unless : {A : Type 0} → Bool → A → ℕ → TypeFaultKind → Result A TypeFault
 unless true x at kind = refuse at kind
@@ -93,33 +90,6 @@ left_at place scope = record { names = scope.names; known = take place scope.kno
 abbrev pub taken : ℕ → Bool → Result (Unit {0}) TypeFault
 taken at true = Ok tt
 taken at false = refuse at WrongType
-
-abbrev pub same_ty : Ty → Ty → Bool
-same_ty IntTy IntTy = true
-same_ty TextTy TextTy = true
-same_ty BoolTy BoolTy = true
-same_ty _ _ = false
-
-abbrev pub is_ordered : Ty → Bool
-is_ordered IntTy = true
-is_ordered TextTy = true
-is_ordered BoolTy = false
-
--- an operator takes a left operand of this type
-abbrev pub is_left : BinOp → Ty → Bool
-is_left Add ty = same_ty ty IntTy
-is_left Sub ty = same_ty ty IntTy
-is_left Mul ty = same_ty ty IntTy
-is_left Div ty = same_ty ty IntTy
-is_left Rem ty = same_ty ty IntTy
-is_left Eq ty = true
-is_left Ne ty = true
-is_left Lt ty = is_ordered ty
-is_left Le ty = is_ordered ty
-is_left Gt ty = is_ordered ty
-is_left Ge ty = is_ordered ty
-is_left And ty = same_ty ty BoolTy
-is_left Or ty = same_ty ty BoolTy
 
 -- an operator takes a right operand of this type behind a left one of that
 abbrev pub is_right : BinOp → Ty → Ty → Bool

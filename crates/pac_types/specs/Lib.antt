@@ -4,6 +4,7 @@ pub mod Sound
 pub mod Meaning
 pub mod Numbering
 pub mod NamesIndex
+pub mod Faults
 pub mod Checking
 pub mod TablesIndex
 pub mod Typing

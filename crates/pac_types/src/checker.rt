@@ -1,10 +1,12 @@
 // The checker of trees, and the catalogue that it gives.
-ghost use Rattle.std.specs.Prelude.{◌≡◌, ◌≤◌, ◌<◌, All, IfOk, IsErrOf, List, length, map};
+ghost use Rattle.std.specs.Prelude.{◌≡◌, ◌≤◌, ◌<◌, ◌↔◌, All, IfOk, IsErrOf, List, length, map};
 ghost use Rattle.pac_types.specs.declared.type_error.TypeFault.{TypeFault as AFault};
 ghost use Rattle.pac_types.specs.Checking.{Gives, checked_procs};
 ghost use Rattle.pac_types.specs.Numbering.{number_of};
 ghost use Rattle.pac_types.specs.Typing.{CatalogueState, IsProc, IsSoundTable, IsTyped, Types};
+ghost use Rattle.pac_types.specs.Faults.{IsFirstFault, Stands};
 ghost use Rattle.pac_syntax.specs.Limits.{IsProcWithinLimits, IsWithinLimits};
+ghost use Rattle.pac_syntax.specs.Order.{IsOrdered};
 
 use crate::names::Names;
 use crate::procedures::check_proc;
@@ -68,21 +70,30 @@ fn check_procs(alloc: Global, tables: &Tables, nodes: &[ProcNode]) -> Result<Vec
 ///
 /// # Errors
 ///
-/// [`TypeError::Fault`] exactly where the tree isn't typed. [`TypeError::NoMemory`].
+/// [`TypeError::Fault`] exactly where the tree isn't typed: its first fault, that with the least place. A name stands
+/// twice in its space, or it isn't that of a table, of a column of its table or of a visible variable; a `put` has
+/// another number of values than its table has columns; an expression hasn't the type that its place wants. Tables and
+/// procedures have a space each, the columns of a table have one, and the parameters and variables of a procedure have
+/// one together. A parameter is visible in the whole procedure, a variable behind its statement, to the end of the
+/// innermost block round it. [`TypeError::NoMemory`].
 pub fn check(alloc: Global, tree: Tree) -> Result<Catalogue, TypeError>
-    requires { IsWithinLimits tree }
+    requires limits { IsWithinLimits tree }
+    requires order { IsOrdered tree }
     ensures ok { IfOk result (λ catalogue. Types tree catalogue) }
     ensures one { IfOk result (λ catalogue. (other : CatalogueState) → Types tree other → other ≡ catalogue) }
-    ensures refused { (fault : AFault) → IsErrOf result (TypeError.Fault fault) → ¬ IsTyped tree }
+    ensures typed { IsTyped tree ↔ ((fault : AFault) → ¬ Stands tree fault) }
+    ensures only { IsTyped tree → (fault : AFault) → ¬ IsErrOf result (TypeError.Fault fault) }
+    ensures fault { (fault : AFault) → IsErrOf result (TypeError.Fault fault) → IsFirstFault tree fault }
 {
     check_tree(alloc, tree)
 }
 
-// The same, without the law that a tree has one catalogue.
+// The same, without the laws of trees.
 fn check_tree(alloc: Global, tree: Tree) -> Result<Catalogue, TypeError>
-    requires { IsWithinLimits tree }
+    requires limits { IsWithinLimits tree }
+    requires order { IsOrdered tree }
     ensures ok { IfOk result (λ catalogue. Types tree catalogue) }
-    ensures refused { (fault : AFault) → IsErrOf result (TypeError.Fault fault) → ¬ IsTyped tree }
+    ensures fault { (fault : AFault) → IsErrOf result (TypeError.Fault fault) → IsFirstFault tree fault }
 {
     let tables = Tables::of(alloc, tree.tables.as_slice())?;
     let procs = check_procs(alloc, &tables, tree.procs.as_slice())?;

@@ -1,6 +1,7 @@
 // Expressions by numbers, with their types.
 ghost use Rattle.std.specs.Prelude.{◌≡◌};
-ghost use Rattle.pac_types.specs.Checking.{Gives, taken, is_left, is_right, given, checked_expr, checked_wanted, checked_test};
+ghost use Rattle.pac_types.specs.Faults.{is_left};
+ghost use Rattle.pac_types.specs.Checking.{Gives, taken, is_right, given, checked_expr, checked_wanted, checked_test};
 ghost use Rattle.pac_types.specs.Sound.{is_wanted, is_bool};
 
 use crate::TypeError;
