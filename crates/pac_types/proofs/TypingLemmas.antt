@@ -14,6 +14,7 @@ use Rattle.pac_syntax.specs.declared.tree.ColumnNode.{ColumnNode}
 use Rattle.pac_syntax.specs.declared.tree.TableNode.{TableNode}
 use Rattle.pac_syntax.specs.declared.tree.ProcNode.{ProcNode}
 use Rattle.pac_syntax.specs.declared.tree.Tree.{Tree}
+use Rattle.pac_syntax.proofs.Trees.{tree-within}
 use Rattle.pac_syntax.specs.Limits.{IsTableWithinLimits, IsProcWithinLimits, IsWithinLimits, HasStoredType, is_stored_type, sizes}
 use Rattle.pac_types.specs.declared.type_error.TypeFault.{TypeFault}
 use Rattle.pac_types.specs.declared.catalogue.Column.{Column}
@@ -83,7 +84,7 @@ sound_table node limits = record {
 }
 
 pub tables_sound : (catalogue : CatalogueState) → IsCatalogue catalogue → All IsSoundTable catalogue.tables
-tables_sound catalogue is = subst (All IsSoundTable) (sym is.2.tables) (All-map IsSoundTable table_of is.0.tables (λ k d within. sound_table (get_or is.0.tables k d) (is.1.tables k d within)))
+tables_sound catalogue is = subst (All IsSoundTable) (sym is.2.tables) (All-map IsSoundTable table_of is.0.tables (λ k d within. sound_table (get_or is.0.tables k d) ((tree-within is.0 is.1).tables k d within)))
 
 zip-long : {A B : Type 0} (R : A → B → Type 0) (xs : List A) (ys : List B) → AllZip R xs ys → length ys ≡ length xs
 zip-long R [] [] all = refl
@@ -120,10 +121,13 @@ a_proc tables node proc limits is =
 
 pub procs_sound : (catalogue : CatalogueState) → IsCatalogue catalogue → All (IsProc catalogue.tables) catalogue.procs
 procs_sound catalogue is = All-from_recursion (IsProc catalogue.tables) catalogue.procs
-    (zip-all (IsProcOf catalogue.tables) IsProcWithinLimits (IsProc catalogue.tables) (a_proc catalogue.tables) is.0.procs catalogue.procs is.2.procs (recursion_from_All IsProcWithinLimits is.0.procs is.1.procs))
+    (zip-all (IsProcOf catalogue.tables) IsProcWithinLimits (IsProc catalogue.tables) (a_proc catalogue.tables) is.0.procs catalogue.procs is.2.procs (recursion_from_All IsProcWithinLimits is.0.procs (tree-within is.0 is.1).procs))
+
+pub tables_few : (catalogue : CatalogueState) → IsCatalogue catalogue → length catalogue.tables ≤ 64
+tables_few catalogue is = subst (λ n. n ≤ 64) (sym (ap length is.2.tables ∙ length-map is.0.tables table_of)) (tree-within is.0 is.1).few_tables
 
 pub procs_few : (catalogue : CatalogueState) → IsCatalogue catalogue → length catalogue.procs ≤ 64
-procs_few catalogue is = subst (λ n. n ≤ 64) (sym (zip-long (IsProcOf catalogue.tables) is.0.procs catalogue.procs is.2.procs)) is.1.few_procs
+procs_few catalogue is = subst (λ n. n ≤ 64) (sym (zip-long (IsProcOf catalogue.tables) is.0.procs catalogue.procs is.2.procs)) (tree-within is.0 is.1).few_procs
 
 -- ---- what checking tables and procedures tells
 

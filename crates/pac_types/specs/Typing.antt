@@ -4,7 +4,8 @@ use Rattle.std.specs.List.{AllZip}
 use Rattle.pac_syntax.specs.declared.tree.TableNode.{TableNode}
 use Rattle.pac_syntax.specs.declared.tree.ProcNode.{ProcNode}
 use Rattle.pac_syntax.specs.declared.tree.Tree.{Tree}
-use Rattle.pac_syntax.specs.Limits.{is_stored_type, IsWithinLimits}
+use Rattle.pac_syntax.specs.Limits.{is_stored_type}
+use Rattle.pac_syntax.specs.Reading.{IsTree}
 use Rattle.pac_types.specs.declared.catalogue.Table.{Table}
 use Rattle.pac_types.specs.declared.catalogue.Proc.{Proc}
 use Rattle.pac_types.specs.Numbering.{AreDistinct, table_of, variables, proc_of}
@@ -40,9 +41,9 @@ pub record Types (tree : Tree) (catalogue : CatalogueState) : Type 0 where
 abbrev pub IsTyped : Tree → Type 0
 IsTyped tree = (catalogue : CatalogueState) × Types tree catalogue
 
--- what every catalogue is: that of some tree within the limits
+-- what every catalogue is: that of some tree that some text reads as
 abbrev pub IsCatalogue : CatalogueState → Type 0
-IsCatalogue catalogue = (tree : Tree) × IsWithinLimits tree × Types tree catalogue
+IsCatalogue catalogue = (tree : Tree) × IsTree tree × Types tree catalogue
 
 -- a table has 1 to 8 columns; its key and they are ints or texts
 pub record IsSoundTable (table : Table) : Type 0 where

@@ -5,8 +5,8 @@ ghost use Rattle.pac_types.specs.Checking.{Gives, checked_procs};
 ghost use Rattle.pac_types.specs.Numbering.{number_of};
 ghost use Rattle.pac_types.specs.Typing.{CatalogueState, IsProc, IsSoundTable, IsTyped, Types};
 ghost use Rattle.pac_types.specs.Faults.{IsFirstFault, Stands};
-ghost use Rattle.pac_syntax.specs.Limits.{IsProcWithinLimits, IsWithinLimits};
-ghost use Rattle.pac_syntax.specs.Order.{IsOrdered};
+ghost use Rattle.pac_syntax.specs.Limits.{IsProcWithinLimits};
+ghost use Rattle.pac_syntax.specs.Reading.{IsTree};
 
 use crate::names::Names;
 use crate::procedures::check_proc;
@@ -77,8 +77,7 @@ fn check_procs(alloc: Global, tables: &Tables, nodes: &[ProcNode]) -> Result<Vec
 /// one together. A parameter is visible in the whole procedure, a variable behind its statement, to the end of the
 /// innermost block round it. [`TypeError::NoMemory`].
 pub fn check(alloc: Global, tree: Tree) -> Result<Catalogue, TypeError>
-    requires limits { IsWithinLimits tree }
-    requires order { IsOrdered tree }
+    requires { IsTree tree }
     ensures ok { IfOk result (λ catalogue. Types tree catalogue) }
     ensures one { IfOk result (λ catalogue. (other : CatalogueState) → Types tree other → other ≡ catalogue) }
     ensures typed { IsTyped tree ↔ ((fault : AFault) → ¬ Stands tree fault) }
@@ -90,8 +89,7 @@ pub fn check(alloc: Global, tree: Tree) -> Result<Catalogue, TypeError>
 
 // The same, without the laws of trees.
 fn check_tree(alloc: Global, tree: Tree) -> Result<Catalogue, TypeError>
-    requires limits { IsWithinLimits tree }
-    requires order { IsOrdered tree }
+    requires { IsTree tree }
     ensures ok { IfOk result (λ catalogue. Types tree catalogue) }
     ensures fault { (fault : AFault) → IsErrOf result (TypeError.Fault fault) → IsFirstFault tree fault }
 {
