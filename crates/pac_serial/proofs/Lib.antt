@@ -5,3 +5,4 @@ pub mod StmtForms
 pub mod ExecLemmas
 pub mod OpeningLemmas
 pub mod SerialLemmas
+pub mod PartLemmas

@@ -3,3 +3,4 @@ pub mod Outcomes
 pub mod Arguments
 pub mod Calls
 pub mod Dump
+pub mod Places

@@ -128,7 +128,7 @@ fn push_table(
 }
 
 /// The tables in the order of the catalogue: for each the line `table NAME COUNT`, and for each of its rows, in ascending
-/// order of the keys, the line `KEY (V1, V2)`. Looks at every row once for each table.
+/// order of the keys, the line `KEY (V1, V2)`. It looks up each table and each of its rows once, each in logarithmic time.
 pub fn dump_tables(alloc: Global, tables: &[Table], rows: &Rows) -> Result<Vec<u8>, NoMemory>
     requires { length tables.now ≤ 65536 }
     ensures { IfOk result (λ text. text.items ≡ tables_text rows.now 0 tables.now) }
