@@ -1,18 +1,17 @@
 -- The writes of a transaction that has not ended.
-use Rattle.std.specs.Prelude.{List, [], ◌∷◌, refl}
+use Rattle.std.specs.Prelude.{List, [], ◌∷◌, Option, refl}
 use Rattle.std.specs.Coded.{Coded, code_by, coded×}
-use Rattle.pac_value.specs.State.{Place, Tables, tables_code}
+use Rattle.pac_value.specs.State.{Place, RowValues, Tables, tables_code}
 use Rattle.pac_types.specs.Meaning.{set_row}
-use Rattle.pac_serial.specs.declared.draft.Change.{Change}
 
--- where a change is made
-abbrev pub place_of : Change → Place
-place_of change = (change.table, change.key)
+-- a change: where it is made, and the row that stands there from then on, or none
+abbrev pub Change : Type 0
+Change = Place × Option RowValues
 
--- the tables once changes are made, the first one first
+-- the tables with changes made; where two are at one place, the first counts
 abbrev pub laid : Tables → List Change → Tables
 laid tables [] = tables
-laid tables (change ∷ changes) = laid (set_row tables (place_of change) change.row) changes
+laid tables (change ∷ changes) = set_row (laid tables changes) change.0 change.1
 
 -- the tables as they were when the transaction began, and as it sees them now
 pub record Drafted : Type 0 where

@@ -3,27 +3,20 @@ ghost use Rattle.std.specs.Prelude.{◌≡◌, OnOk, OnErr, IfOk};
 ghost use Rattle.std.specs.Option.{option_map};
 ghost use Rattle.std.specs.FinMap as map;
 ghost use Rattle.pac_types.specs.Meaning.{set_row};
-ghost use Rattle.pac_serial.specs.Drafts.{laid, place_of};
 
 use crate::Rows;
-use pac_base::{NoMemory, Same};
+use pac_base::NoMemory;
 use pac_value::{Key, Row};
 use std::alloc::Global;
+use std::collections::BTreeMap;
 use std::marker::Model;
 
-// The row that stands at a place from then on, or none.
-#[derive(Drop)]
-struct Change {
-    table: u16,
-    key: Key,
-    row: Option<Row>,
-}
-
-/// The rows of all tables with the writes of a transaction: the rows stay as they are until it ends.
+/// The rows of all tables with the writes of a transaction: the rows stay as they are until it ends. At a place that is
+/// written, `changes` has the row that stands there from then on, or none.
 #[derive(Drop)]
 pub(crate) struct Draft {
     rows: Rows,
-    changes: Vec<Change>,
+    changes: BTreeMap<(u16, Key), Option<Row>>,
 }
 
 impl Model for Draft {
@@ -33,36 +26,36 @@ impl Model for Draft {
 
     ghost coded = { drafted_code };
 
-    ghost view = { λ draft. record { kept = draft.rows; tables = laid draft.rows draft.changes.items } };
+    ghost view = { λ draft. record { kept = draft.rows; tables = laid draft.rows draft.changes.entries } };
 }
 
 impl Draft {
-    /// Nothing is written yet.
+    /// Nothing is written yet. Takes no memory.
     pub(crate) fn new(alloc: Global, rows: Rows) -> Draft
         ensures { result ≡ record { kept = rows; tables = rows } }
     {
         Draft {
             rows,
-            changes: Vec::new(alloc),
+            changes: BTreeMap::new(alloc),
         }
     }
 
-    /// The row at a place, as the transaction sees it.
+    /// The row at a place, as the transaction sees it. It looks up the place in the transaction's writes, and then in the
+    /// rows.
     pub(crate) fn get(&self, table: u16, key: &Key) -> Option<&Row>
         ensures { option_map (λ row. row.now) result ≡ map.get self.now.tables (table, key.now) }
     {
-        row_at(&self.rows, &self.changes, table, key)
+        match self.changes.get(&(table, *key)) {
+            Some(row) => row.as_ref(),
+            None => self.rows.get(table, key),
+        }
     }
 
     pub(crate) fn put(&mut self, table: u16, key: Key, row: Row) -> Result<(), NoMemory>
         ensures ok { OnOk result (self.new ≡ record self.old { tables = map.insert self.old.tables (table, key) row }) }
         ensures err { OnErr result (self.new ≡ self.old) }
     {
-        self.changes.push(Change {
-            table,
-            key,
-            row: Some(row),
-        })?;
+        self.changes.insert((table, key), Some(row))?;
         Ok(())
     }
 
@@ -70,11 +63,7 @@ impl Draft {
         ensures ok { OnOk result (self.new ≡ record self.old { tables = map.remove self.old.tables (table, key) }) }
         ensures err { OnErr result (self.new ≡ self.old) }
     {
-        self.changes.push(Change {
-            table,
-            key,
-            row: None,
-        })?;
+        self.changes.insert((table, key), None)?;
         Ok(())
     }
 
@@ -90,9 +79,12 @@ impl Draft {
     pub(crate) fn lay(self) -> Result<Rows, Rows>
         ensures { IfOk result (λ rows. rows ≡ self.tables) }
     {
-        let Draft { mut rows, changes } = self;
-        for change in changes {
-            match make(&mut rows, change) {
+        let Draft {
+            mut rows,
+            mut changes,
+        } = self;
+        while let Some((place, row)) = changes.pop_last() {
+            match make(&mut rows, place, row) {
                 Ok(()) => {}
                 Err(NoMemory) => return Err(rows),
             }
@@ -102,10 +94,10 @@ impl Draft {
 }
 
 // Makes one change.
-fn make(rows: &mut Rows, change: Change) -> Result<(), NoMemory>
-    ensures { OnOk result (rows.new ≡ set_row rows.old (place_of change) change.row) }
+fn make(rows: &mut Rows, place: (u16, Key), row: Option<Row>) -> Result<(), NoMemory>
+    ensures { OnOk result (rows.new ≡ set_row rows.old place row) }
 {
-    let Change { table, key, row } = change;
+    let (table, key) = place;
     match row {
         Some(row) => rows.put(table, key, row),
         None => {
@@ -113,19 +105,4 @@ fn make(rows: &mut Rows, change: Change) -> Result<(), NoMemory>
             Ok(())
         }
     }
-}
-
-// The row at a place once the changes are made: that of the last change there, or the one that stood there.
-fn row_at<'a>(rows: &'a Rows, changes: &'a [Change], table: u16, key: &Key) -> Option<&'a Row>
-    ensures { option_map (λ row. row.now) result ≡ map.get (laid rows.now changes.now) (table, key.now) }
-{
-    let mut at = changes.len();
-    while at > 0 {
-        at -= 1;
-        let change = &changes[at];
-        if change.table == table && change.key.same(key) {
-            return change.row.as_ref();
-        }
-    }
-    rows.get(table, key)
 }

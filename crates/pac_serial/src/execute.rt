@@ -184,7 +184,8 @@ fn env_of(alloc: Global, args: &[Value]) -> Result<Env, NoMemory>
     Ok(env)
 }
 
-/// Executes one call of a sound procedure. It costs what its statements touch: no table is copied.
+/// Executes one call of a sound procedure. It costs what its statements touch: no table is copied, and a place is looked
+/// up in logarithmic time, in the call's own writes and in the rows.
 ///
 /// `Abort`: the operation aborts, and the rows are as before. `NoMemory`: an allocation was refused, and nothing is said
 /// of the rows.

@@ -1,11 +1,13 @@
--- One more change is made.
+-- The last change that is left is made.
 use Rattle.std.proofs.Common.{ap, sym, ◌∙◌}
-use Rattle.pac_types.specs.Meaning.{set_row}
-use Rattle.pac_serial.specs.Drafts.{place_of}
+use Rattle.pac_serial.specs.Drafts.{Change, laid}
 use Rattle.pac_serial.proofs.DraftLemmas.{laid-append}
 use Rattle.pac_serial.proofs.draft.Draft.lay.Goals as goal
 
-pub loop-change-preserved : goal.loop-change-preserved
-loop-change-preserved c =
-    c.in-Ok.ensures ∙ ap (λ t. set_row t (place_of c.in-Some.change) c.in-Some.change.row) c.loop-change.invariant
-    ∙ sym (laid-append c.self.inside.rows c.loop-change.yielded c.in-Some.change)
+pub loop-place-preserved : goal.loop-place-preserved
+loop-place-preserved c =
+    let change : Change = (c.in-Some.place, c.in-Some.row) in
+    ap (λ t. laid t c.pop_last.new.self.entries) c.in-Ok.ensures
+    ∙ sym (laid-append c.loop-place.rows c.pop_last.new.self.entries change)
+    ∙ sym (ap (laid c.loop-place.rows) c.in-Some.ensures.removal)
+    ∙ c.loop-place.invariant

@@ -1,7 +1,10 @@
--- The changes so far are made.
-use Rattle.std.proofs.Common.{◌≡◌}
+-- What is left to change, made to the rows so far, gives what the transaction saw.
+use Rattle.std.proofs.Common.{◌≡◌, btree_map_len}
 use Rattle.pac_serial.specs.Drafts.{laid}
 use Rattle.pac_serial.proofs.draft.Draft.lay.Given as goal
 
-abbrev pub invariant-loop-change : goal.invariant-loop-change
-invariant-loop-change l = l.rows ≡ laid l.initial.rows l.yielded
+abbrev pub invariant-loop-place : goal.invariant-loop-place
+invariant-loop-place l = laid l.rows l.changes.entries ≡ l.fn.self.tables
+
+abbrev pub decreases-loop-place : goal.decreases-loop-place
+decreases-loop-place l = btree_map_len l.changes
