@@ -4,7 +4,6 @@ use Rattle.std.specs.Prelude.{if◌then◌else◌}
 use Rattle.std.specs.Option.{option_map, option_and_then}
 use Rattle.pac_value.specs.declared.values.Ty.{Ty}
 use Rattle.pac_value.specs.Expressions.{Values, types_of, type_in}
-use Rattle.pac_types.specs.declared.reason.Reason.{Reason}
 use Rattle.pac_types.specs.declared.catalogue.Table.{Table}
 use Rattle.pac_types.specs.declared.catalogue.Stmt.{Stmt, Let, Read, Has, Put, Set, If}
 use Rattle.pac_types.specs.declared.catalogue.Stmt.TheOpen as form
@@ -15,16 +14,8 @@ use Rattle.pac_value.specs.declared.expr.Expr.{Expr}
 use Rattle.pac_value.specs.Values.{type_of}
 use Rattle.pac_serial.proofs.StmtForms.{at-Let, at-Read, at-Has, at-Put, at-Set, at-If}
 use Rattle.pac_types.specs.Sound.{Scope, with_var, without, if_so, Check, check_step, check, any_defines, in_order, scope_after, scope_behind}
-use Rattle.pac_types.specs.Meaning.{State, Abort as AnAbort, Code, code, one, numbered}
 use Rattle.pac_types.proofs.SoundLemmas.{ScopeWithin, scope_behind-within}
-use Rattle.pac_serial.specs.declared.operation.Stop.{Stop}
-use Rattle.pac_serial.specs.declared.operation.Stop.TheVariants.{Abort, NoMemory}
-use Rattle.pac_serial.specs.Outcomes.{Does, Runs, Sees, KeepsTypes, stopped}
-
--- an operation that stops, with its number
-pub runs-stopped : (A C : Type 0) {B : Type 0} (n : ℕ) (stop : Stop) (m : Result B Reason) (now : B) → Does {A = A} (Err stop) m now → Runs {A = C} (Err (stopped n stop)) (numbered n m) now
-runs-stopped A C n (Abort reason) m now h = ap (numbered n) h
-runs-stopped A C n NoMemory m now h = tt
+use Rattle.pac_serial.specs.Outcomes.{Sees, KeepsTypes}
 
 pub sees-if_so : (b : Bool) (f : Scope) (env : Values) → IsSome (if_so b f) → types_of env ≡ f → Sees (if_so b f) env
 sees-if_so true f env some e = λ x ty h. ap (λ (g : Scope). g x) e ∙ h
@@ -137,10 +128,6 @@ module _ (tables : List Table) (s : Stmt) (env : Values) where
 
   pub sees-Set : (t : ℕ) (k : Expr) (c : ℕ) (e : Expr) → s ≡ Set t k c e → IsSome (scope_after tables s (types_of env)) → Sees (scope_after tables s (types_of env)) env
   sees-Set t k c e is = sees_formed tables s env env (form.Set t k c e) (at-Set Check (check_step tables) s t k c e is) (λ some. sees-if_so _ _ env some refl)
-
--- a statement that is one operation runs as the operation does
-pub runs-one : (s : Stmt) (f : State → Result State Reason) (P : Result State AnAbort → Type 0) (n : ℕ) (st : State) → code s ≡ one f → P (numbered n (f st)) → P ((code s).run n st)
-runs-one s f P n st e h = subst (λ (c : Code). P (c.run n st)) (sym e) h
 
 pub on-ok : {A E : Type 0} (r : Result A E) (P Q : Type 0) → (P → Q) → OnOk r P → OnOk r Q
 on-ok (Ok x) P Q f h = f h

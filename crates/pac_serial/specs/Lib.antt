@@ -4,3 +4,4 @@ pub mod Arguments
 pub mod Calls
 pub mod Dump
 pub mod Places
+pub mod Transactions

@@ -6,11 +6,13 @@ ghost use Rattle.pac_value.specs.declared.values.Value.TheVariants.{Bool as Trut
 ghost use Rattle.pac_types.specs.Sound.{is_bool, check, any_defines, scope_after, scope_behind, FitTables, FitParams, IsSoundProc};
 ghost use Rattle.pac_types.specs.Meaning.{code, operations, meaning, with_values, called};
 ghost use Rattle.pac_serial.specs.Outcomes.{Runs, KeepsOnAbort, Sees, KeepsTypes, Stops, stopped};
+ghost use Rattle.pac_serial.specs.Transactions.{state_of};
 
 use crate::Rows;
 use crate::count::count_operations;
 use crate::draft::Draft;
 use crate::operation::{Stop, abort_if, assign, define, delete, has, put, read, set};
+use crate::transaction::{Target, Txn};
 use pac_base::NoMemory;
 use pac_types::{Proc, Reason, Stmt, Table};
 use pac_value::{Env, Expr, Value, eval};
@@ -46,6 +48,16 @@ fn at(op: u64, stop: Stop) -> ExecError
     }
 }
 
+// What an operation with this number gives: the number of the next one, or its stop.
+macro_rules! numbered {
+    ($op:expr, $done:expr) => {
+        match $done {
+            Ok(()) => Ok($op + 1),
+            Err(stop) => Err(at($op, stop)),
+        }
+    };
+}
+
 // The value of a conditional's test.
 fn test_of(op: u64, test: &Expr, env: &Env) -> Result<bool, ExecError>
     requires { IsTrue (is_bool (type_in (types_of env.now) test.now)) }
@@ -61,86 +73,65 @@ fn test_of(op: u64, test: &Expr, env: &Env) -> Result<bool, ExecError>
 
 // Executes a statement whose first operation has this number. Gives the number of the operation behind it.
 #[cycle(exec)]
-fn exec_stmt(
-    alloc: Global,
-    tables: &[Table],
-    stmt: &Stmt,
-    op: u64,
-    env: &mut Env,
-    draft: &mut Draft,
-) -> Result<u64, ExecError>
-    requires sound { IsSome (scope_after tables.now stmt.now (types_of env.old)) }
-    requires fits { FitTables tables.now draft.old.tables }
+fn exec_stmt(tables: &[Table], stmt: &Stmt, op: u64, txn: &mut Txn) -> Result<u64, ExecError>
+    requires sound { IsSome (scope_after tables.now stmt.now (types_of txn.old.env)) }
+    requires fits { FitTables tables.now txn.old.draft.tables }
     requires numbers { op + (code stmt.now).count < 2 ^ 64 }
-    ensures runs { Runs result ((code stmt.now).run op (record { env = env.old; tables = draft.old.tables })) (record { env = env.new; tables = draft.new.tables }) }
+    ensures runs { Runs result ((code stmt.now).run op (state_of txn.old)) (state_of txn.new) }
     ensures next { IfOk result (λ next. next ≡ op + (code stmt.now).count) }
-    ensures sees { OnOk result (Sees (scope_after tables.now stmt.now (types_of env.old)) env.new) }
-    ensures keeps { OnOk result (KeepsTypes (check tables.now stmt.now).defines env.old env.new) }
-    ensures fits { OnOk result (FitTables tables.now draft.new.tables) }
-    ensures kept { draft.new.kept ≡ draft.old.kept }
+    ensures sees { OnOk result (Sees (scope_after tables.now stmt.now (types_of txn.old.env)) txn.new.env) }
+    ensures keeps { OnOk result (KeepsTypes (check tables.now stmt.now).defines txn.old.env txn.new.env) }
+    ensures fits { OnOk result (FitTables tables.now txn.new.draft.tables) }
+    ensures kept { txn.new.draft.kept ≡ txn.old.draft.kept }
 {
     match stmt {
-        Stmt::Let { var, value } => match assign(*var, value, env) {
-            Ok(()) => Ok(op + 1),
-            Err(stop) => Err(at(op, stop)),
-        },
+        Stmt::Let { var, value } => numbered!(op, assign(*var, value, txn)),
         Stmt::Read {
             var,
             table,
             key,
             column,
             default,
-        } => match read(tables, *var, *table, key, *column, *default, env, draft) {
-            Ok(()) => Ok(op + 1),
-            Err(stop) => Err(at(op, stop)),
-        },
-        Stmt::Has { var, table, key } => match has(tables, *var, *table, key, env, draft) {
-            Ok(()) => Ok(op + 1),
-            Err(stop) => Err(at(op, stop)),
-        },
-        Stmt::Put { table, key, values } => match put(
-            alloc,
-            tables,
-            *table,
-            key,
-            values.as_slice(),
-            env,
-            draft,
-        ) {
-            Ok(()) => Ok(op + 1),
-            Err(stop) => Err(at(op, stop)),
-        },
+        } => {
+            let target = Target { table: *table, key };
+            numbered!(op, read(tables, &target, *column, *default, *var, txn))
+        }
+        Stmt::Has { var, table, key } => {
+            let target = Target { table: *table, key };
+            numbered!(op, has(tables, &target, *var, txn))
+        }
+        Stmt::Put { table, key, values } => {
+            let target = Target { table: *table, key };
+            numbered!(op, put(tables, &target, values.as_slice(), txn))
+        }
         Stmt::Set {
             table,
             key,
             column,
             value,
-        } => match set(alloc, tables, *table, key, *column, value, env, draft) {
-            Ok(()) => Ok(op + 1),
-            Err(stop) => Err(at(op, stop)),
-        },
-        Stmt::Delete { table, key } => match delete(tables, *table, key, env, draft) {
-            Ok(()) => Ok(op + 1),
-            Err(stop) => Err(at(op, stop)),
-        },
-        Stmt::AbortIf { test } => match abort_if(test, env) {
-            Ok(()) => Ok(op + 1),
-            Err(stop) => Err(at(op, stop)),
-        },
+        } => {
+            let target = Target { table: *table, key };
+            numbered!(op, set(tables, &target, *column, value, txn))
+        }
+        Stmt::Delete { table, key } => {
+            let target = Target { table: *table, key };
+            numbered!(op, delete(tables, &target, txn))
+        }
+        Stmt::AbortIf { test } => numbered!(op, abort_if(test, txn)),
         Stmt::If {
             var,
             test,
             first,
             second,
         } => {
-            let truth = test_of(op, test, env)?;
-            define(env, *var, Value::Bool(truth))?;
+            let truth = test_of(op, test, &txn.env)?;
+            define(&mut txn.env, *var, Value::Bool(truth))?;
             let behind = op + 1 + count_operations(first.as_slice());
             if truth {
-                exec_block(alloc, tables, first.as_slice(), op + 1, env, draft)?;
+                exec_block(tables, first.as_slice(), op + 1, txn)?;
                 Ok(behind + count_operations(second.as_slice()))
             } else {
-                exec_block(alloc, tables, second.as_slice(), behind, env, draft)
+                exec_block(tables, second.as_slice(), behind, txn)
             }
         }
     }
@@ -148,26 +139,19 @@ fn exec_stmt(
 
 // Executes statements in order. The first operation has this number.
 #[cycle(exec)]
-fn exec_block(
-    alloc: Global,
-    tables: &[Table],
-    stmts: &[Stmt],
-    first: u64,
-    env: &mut Env,
-    draft: &mut Draft,
-) -> Result<u64, ExecError>
-    requires sound { IsSome (scope_behind tables.now stmts.now (types_of env.old)) }
-    requires fits { FitTables tables.now draft.old.tables }
+fn exec_block(tables: &[Table], stmts: &[Stmt], first: u64, txn: &mut Txn) -> Result<u64, ExecError>
+    requires sound { IsSome (scope_behind tables.now stmts.now (types_of txn.old.env)) }
+    requires fits { FitTables tables.now txn.old.draft.tables }
     requires numbers { first + operations stmts.now < 2 ^ 64 }
-    ensures runs { Runs result (meaning stmts.now first (record { env = env.old; tables = draft.old.tables })) (record { env = env.new; tables = draft.new.tables }) }
+    ensures runs { Runs result (meaning stmts.now first (state_of txn.old)) (state_of txn.new) }
     ensures next { IfOk result (λ next. next ≡ first + operations stmts.now) }
-    ensures keeps { OnOk result (KeepsTypes (any_defines (map (check tables.now) stmts.now)) env.old env.new) }
-    ensures fits { OnOk result (FitTables tables.now draft.new.tables) }
-    ensures kept { draft.new.kept ≡ draft.old.kept }
+    ensures keeps { OnOk result (KeepsTypes (any_defines (map (check tables.now) stmts.now)) txn.old.env txn.new.env) }
+    ensures fits { OnOk result (FitTables tables.now txn.new.draft.tables) }
+    ensures kept { txn.new.draft.kept ≡ txn.old.draft.kept }
 {
     let mut op = first;
     for stmt in stmts {
-        op = exec_stmt(alloc, tables, stmt, op, env, draft)?;
+        op = exec_stmt(tables, stmt, op, txn)?;
     }
     Ok(op)
 }
@@ -205,9 +189,12 @@ pub fn exec(
     ensures fits { OnOk result (FitTables tables.now rows.new) }
     ensures kept { KeepsOnAbort result rows.old rows.new }
 {
-    let mut env = env_of(alloc, args)?;
-    let mut draft = Draft::new(alloc, mem::replace(rows, Rows::new(alloc)));
-    match exec_block(alloc, tables, proc.body.as_slice(), 0, &mut env, &mut draft) {
+    let env = env_of(alloc, args)?;
+    let draft = Draft::new(alloc, mem::replace(rows, Rows::new(alloc)));
+    let mut txn = Txn { alloc, env, draft };
+    let ended = exec_block(tables, proc.body.as_slice(), 0, &mut txn);
+    let Txn { draft, .. } = txn;
+    match ended {
         Ok(_) => match draft.lay() {
             Ok(laid) => {
                 *rows = laid;

@@ -3,8 +3,7 @@
 //!
 //! - [`Rows`]: the rows of all tables, a finite map from places to rows.
 //! - [`exec`]: executes one call of a sound procedure. Its writes stand apart until it ends, so an abort, an
-//!   [`ExecError`], leaves the rows as they were. A read looks through the writes of its own transaction, the last one
-//!   first.
+//!   [`ExecError`], leaves the rows as they were. A read looks up its place in the writes of its own transaction first.
 //! - [`Call`], [`Args`], [`exec_all`]: calls, and their execution in order up to the first abort, a [`SerialError`].
 //! - [`count_operations`]: how many operations statements are.
 //! - [`dump_tables`]: the text of all tables.
@@ -19,6 +18,7 @@ mod rows;
 mod serial;
 #[cfg(test)]
 mod tests;
+mod transaction;
 
 pub use count::count_operations;
 pub use dump::dump_tables;

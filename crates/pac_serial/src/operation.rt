@@ -5,13 +5,13 @@ ghost use Rattle.std.specs.FinMap as fin;
 ghost use Rattle.pac_value.specs.Values.{type_of, is_stored};
 ghost use Rattle.pac_value.specs.Expressions.{type_in, types_of};
 ghost use Rattle.pac_types.specs.Sound.{with_var, key_type, column_type, column_types, is_bool, is_wanted, are_wanted, is_width, type_of_key, FitTables};
-ghost use Rattle.pac_types.specs.Meaning.{State, values, touched, column_or, do_read, do_has, do_put, do_set, do_delete, do_let, do_abort_if};
+ghost use Rattle.pac_types.specs.Meaning.{values, touched, column_or, do_read, do_has, do_put, do_set, do_delete, do_let, do_abort_if};
 ghost use Rattle.pac_types.specs.Reasons.{or_abort};
-ghost use Rattle.pac_value.specs.State.{Tables as ATables};
 ghost use Rattle.pac_serial.specs.Outcomes.{Does, DoesGive};
+ghost use Rattle.pac_serial.specs.Transactions.{state_of};
 ghost use Rattle.pac_value.specs.declared.values.Ty.TheVariants.{Bool as BoolTy};
 
-use crate::draft::Draft;
+use crate::transaction::{Target, Txn};
 use pac_base::{NoMemory, copy_of};
 use pac_types::{Reason, Table};
 use pac_value::{Env, Expr, Key, Row, Trap, Value, eval};
@@ -79,13 +79,13 @@ pub(crate) fn define(env: &mut Env, var: u16, value: Value) -> Result<(), NoMemo
 }
 
 // The key of a table operation.
-fn key_of(tables: &[Table], table: u16, key: &Expr, env: &Env) -> Result<Key, Trap>
-    requires { IsTrue (is_wanted (type_in (types_of env.now) key.now) (key_type tables.now table)) }
-    ensures ok { IfOk result (λ k. touched table key.now env.now ≡ Ok (table, k)) }
-    ensures typed { IfOk result (λ k. key_type tables.now table ≡ Some (type_of_key k)) }
-    ensures trap { IfErr result (λ trap. touched table key.now env.now ≡ or_abort (Err trap)) }
+fn key_of(tables: &[Table], target: &Target<'_>, env: &Env) -> Result<Key, Trap>
+    requires { IsTrue (is_wanted (type_in (types_of env.now) target.now.key.now) (key_type tables.now target.now.table)) }
+    ensures ok { IfOk result (λ k. touched target.now.table target.now.key.now env.now ≡ Ok (target.now.table, k)) }
+    ensures typed { IfOk result (λ k. key_type tables.now target.now.table ≡ Some (type_of_key k)) }
+    ensures trap { IfErr result (λ trap. touched target.now.table target.now.key.now env.now ≡ or_abort (Err trap)) }
 {
-    match eval(key, env)? {
+    match eval(target.key, env)? {
         Value::Int(number) => Ok(Key::Int(number)),
         Value::Text(text) => Ok(Key::Text(text)),
         Value::Bool(_) => unreachable!(),
@@ -109,59 +109,52 @@ fn column_or(row: Option<&Row>, column: u16, default: Value) -> Value
 /// `read`.
 pub(crate) fn read(
     tables: &[Table],
-    var: u16,
-    table: u16,
-    key: &Expr,
+    target: &Target<'_>,
     column: u16,
     default: Value,
-    env: &mut Env,
-    draft: &Draft,
+    var: u16,
+    txn: &mut Txn,
 ) -> Result<(), Stop>
-    requires key { IsTrue (is_wanted (type_in (types_of env.old) key.now) (key_type tables.now table)) }
-    requires column { IsTrue (is_wanted (Some (type_of default)) (column_type tables.now table column)) }
-    requires fits { FitTables tables.now draft.now.tables }
-    ensures does { Does result (do_read var table key.now column default (record { env = env.old; tables = draft.now.tables })) (record { env = env.new; tables = draft.now.tables }) }
-    ensures types { OnOk result (types_of env.new ≡ with_var (types_of env.old) var (type_of default)) }
+    requires key { IsTrue (is_wanted (type_in (types_of txn.old.env) target.now.key.now) (key_type tables.now target.now.table)) }
+    requires column { IsTrue (is_wanted (Some (type_of default)) (column_type tables.now target.now.table column)) }
+    requires fits { FitTables tables.now txn.old.draft.tables }
+    ensures does { Does result (do_read var target.now.table target.now.key.now column default (state_of txn.old)) (state_of txn.new) }
+    ensures types { OnOk result (types_of txn.new.env ≡ with_var (types_of txn.old.env) var (type_of default)) }
+    ensures draft { txn.new.draft ≡ txn.old.draft }
 {
-    let key = key_of(tables, table, key, env)?;
-    let value = column_or(draft.get(table, &key), column, default);
-    Ok(define(env, var, value)?)
+    let key = key_of(tables, target, &txn.env)?;
+    let value = column_or(txn.draft.get(target.table, &key), column, default);
+    Ok(define(&mut txn.env, var, value)?)
 }
 
 /// `has`.
 pub(crate) fn has(
     tables: &[Table],
+    target: &Target<'_>,
     var: u16,
-    table: u16,
-    key: &Expr,
-    env: &mut Env,
-    draft: &Draft,
+    txn: &mut Txn,
 ) -> Result<(), Stop>
-    requires { IsTrue (is_wanted (type_in (types_of env.old) key.now) (key_type tables.now table)) }
-    ensures does { Does result (do_has var table key.now (record { env = env.old; tables = draft.now.tables })) (record { env = env.new; tables = draft.now.tables }) }
-    ensures types { OnOk result (types_of env.new ≡ with_var (types_of env.old) var BoolTy) }
+    requires { IsTrue (is_wanted (type_in (types_of txn.old.env) target.now.key.now) (key_type tables.now target.now.table)) }
+    ensures does { Does result (do_has var target.now.table target.now.key.now (state_of txn.old)) (state_of txn.new) }
+    ensures types { OnOk result (types_of txn.new.env ≡ with_var (types_of txn.old.env) var BoolTy) }
+    ensures draft { txn.new.draft ≡ txn.old.draft }
 {
-    let key = key_of(tables, table, key, env)?;
-    let found = draft.get(table, &key).is_some();
-    Ok(define(env, var, Value::Bool(found))?)
+    let key = key_of(tables, target, &txn.env)?;
+    let found = txn.draft.get(target.table, &key).is_some();
+    Ok(define(&mut txn.env, var, Value::Bool(found))?)
 }
 
 /// `delete`.
-pub(crate) fn delete(
-    tables: &[Table],
-    table: u16,
-    key: &Expr,
-    env: &Env,
-    draft: &mut Draft,
-) -> Result<(), Stop>
-    requires key { IsTrue (is_wanted (type_in (types_of env.now) key.now) (key_type tables.now table)) }
-    requires fits { FitTables tables.now draft.old.tables }
-    ensures does { Does result (do_delete table key.now (record { env = env.now; tables = draft.old.tables })) (record { env = env.now; tables = draft.new.tables }) }
-    ensures fits { OnOk result (FitTables tables.now draft.new.tables) }
-    ensures kept { draft.new.kept ≡ draft.old.kept }
+pub(crate) fn delete(tables: &[Table], target: &Target<'_>, txn: &mut Txn) -> Result<(), Stop>
+    requires key { IsTrue (is_wanted (type_in (types_of txn.old.env) target.now.key.now) (key_type tables.now target.now.table)) }
+    requires fits { FitTables tables.now txn.old.draft.tables }
+    ensures does { Does result (do_delete target.now.table target.now.key.now (state_of txn.old)) (state_of txn.new) }
+    ensures env { txn.new.env ≡ txn.old.env }
+    ensures fits { OnOk result (FitTables tables.now txn.new.draft.tables) }
+    ensures kept { txn.new.draft.kept ≡ txn.old.draft.kept }
 {
-    let key = key_of(tables, table, key, env)?;
-    draft.delete(table, key)?;
+    let key = key_of(tables, target, &txn.env)?;
+    txn.draft.delete(target.table, key)?;
     Ok(())
 }
 
@@ -187,25 +180,23 @@ fn row_of(
 
 /// `put`.
 pub(crate) fn put(
-    alloc: Global,
     tables: &[Table],
-    table: u16,
-    key: &Expr,
+    target: &Target<'_>,
     exprs: &[Expr],
-    env: &Env,
-    draft: &mut Draft,
+    txn: &mut Txn,
 ) -> Result<(), Stop>
-    requires key { IsTrue (is_wanted (type_in (types_of env.now) key.now) (key_type tables.now table)) }
+    requires key { IsTrue (is_wanted (type_in (types_of txn.old.env) target.now.key.now) (key_type tables.now target.now.table)) }
     requires width { IsTrue (is_width (length exprs.now)) }
-    requires typed { IsTrue (are_wanted (map (type_in (types_of env.now)) exprs.now) (column_types tables.now table)) }
-    requires fits { FitTables tables.now draft.old.tables }
-    ensures does { Does result (do_put table key.now exprs.now (record { env = env.now; tables = draft.old.tables })) (record { env = env.now; tables = draft.new.tables }) }
-    ensures fits { OnOk result (FitTables tables.now draft.new.tables) }
-    ensures kept { draft.new.kept ≡ draft.old.kept }
+    requires typed { IsTrue (are_wanted (map (type_in (types_of txn.old.env)) exprs.now) (column_types tables.now target.now.table)) }
+    requires fits { FitTables tables.now txn.old.draft.tables }
+    ensures does { Does result (do_put target.now.table target.now.key.now exprs.now (state_of txn.old)) (state_of txn.new) }
+    ensures env { txn.new.env ≡ txn.old.env }
+    ensures fits { OnOk result (FitTables tables.now txn.new.draft.tables) }
+    ensures kept { txn.new.draft.kept ≡ txn.old.draft.kept }
 {
-    let key = key_of(tables, table, key, env)?;
-    let row = row_of(alloc, tables, table, exprs, env)?;
-    draft.put(table, key, row)?;
+    let key = key_of(tables, target, &txn.env)?;
+    let row = row_of(txn.alloc, tables, target.table, exprs, &txn.env)?;
+    txn.draft.put(target.table, key, row)?;
     Ok(())
 }
 
@@ -222,49 +213,48 @@ fn with_column(alloc: Global, row: &Row, column: u16, value: Value) -> Result<Ro
 
 /// `set`.
 pub(crate) fn set(
-    alloc: Global,
     tables: &[Table],
-    table: u16,
-    key: &Expr,
+    target: &Target<'_>,
     column: u16,
     value: &Expr,
-    env: &Env,
-    draft: &mut Draft,
+    txn: &mut Txn,
 ) -> Result<(), Stop>
-    requires key { IsTrue (is_wanted (type_in (types_of env.now) key.now) (key_type tables.now table)) }
-    requires column { IsTrue (is_wanted (type_in (types_of env.now) value.now) (column_type tables.now table column)) }
-    requires fits { FitTables tables.now draft.old.tables }
-    ensures does { Does result (do_set table key.now column value.now (record { env = env.now; tables = draft.old.tables })) (record { env = env.now; tables = draft.new.tables }) }
-    ensures fits { OnOk result (FitTables tables.now draft.new.tables) }
-    ensures kept { draft.new.kept ≡ draft.old.kept }
+    requires key { IsTrue (is_wanted (type_in (types_of txn.old.env) target.now.key.now) (key_type tables.now target.now.table)) }
+    requires column { IsTrue (is_wanted (type_in (types_of txn.old.env) value.now) (column_type tables.now target.now.table column)) }
+    requires fits { FitTables tables.now txn.old.draft.tables }
+    ensures does { Does result (do_set target.now.table target.now.key.now column value.now (state_of txn.old)) (state_of txn.new) }
+    ensures env { txn.new.env ≡ txn.old.env }
+    ensures fits { OnOk result (FitTables tables.now txn.new.draft.tables) }
+    ensures kept { txn.new.draft.kept ≡ txn.old.draft.kept }
 {
-    let key = key_of(tables, table, key, env)?;
-    let value = eval(value, env)?;
-    let Some(row) = draft.get(table, &key) else {
+    let key = key_of(tables, target, &txn.env)?;
+    let value = eval(value, &txn.env)?;
+    let Some(row) = txn.draft.get(target.table, &key) else {
         return Err(Stop::Abort(Reason::Missing));
     };
-    let row = with_column(alloc, row, column, value)?;
-    draft.put(table, key, row)?;
+    let row = with_column(txn.alloc, row, column, value)?;
+    txn.draft.put(target.table, key, row)?;
     Ok(())
 }
 
 /// `let`.
-pub(crate) fn assign(var: u16, value: &Expr, env: &mut Env) -> Result<(), Stop>
-    requires { IsSome (type_in (types_of env.old) value.now) }
-    ensures does { (t : ATables) → Does result (do_let var value.now (record { env = env.old; tables = t })) (record { env = env.new; tables = t }) }
-    ensures types { OnOk result (option_map (with_var (types_of env.old) var) (type_in (types_of env.old) value.now) ≡ Some (types_of env.new)) }
+pub(crate) fn assign(var: u16, value: &Expr, txn: &mut Txn) -> Result<(), Stop>
+    requires { IsSome (type_in (types_of txn.old.env) value.now) }
+    ensures does { Does result (do_let var value.now (state_of txn.old)) (state_of txn.new) }
+    ensures types { OnOk result (option_map (with_var (types_of txn.old.env) var) (type_in (types_of txn.old.env) value.now) ≡ Some (types_of txn.new.env)) }
+    ensures draft { txn.new.draft ≡ txn.old.draft }
 {
-    let value = eval(value, env)?;
-    define(env, var, value)?;
+    let value = eval(value, &txn.env)?;
+    define(&mut txn.env, var, value)?;
     Ok(())
 }
 
 /// `abort if`.
-pub(crate) fn abort_if(test: &Expr, env: &Env) -> Result<(), Stop>
-    requires { IsTrue (is_bool (type_in (types_of env.now) test.now)) }
-    ensures { (t : ATables) → Does result (do_abort_if test.now (record { env = env.now; tables = t })) (record { env = env.now; tables = t }) }
+pub(crate) fn abort_if(test: &Expr, txn: &Txn) -> Result<(), Stop>
+    requires { IsTrue (is_bool (type_in (types_of txn.now.env) test.now)) }
+    ensures { Does result (do_abort_if test.now (state_of txn.now)) (state_of txn.now) }
 {
-    match eval(test, env)? {
+    match eval(test, &txn.env)? {
         Value::Bool(true) => Err(Stop::Abort(Reason::Asked)),
         _ => Ok(()),
     }

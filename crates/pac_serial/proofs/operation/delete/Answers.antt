@@ -8,6 +8,6 @@ use Rattle.pac_serial.proofs.operation.delete.Goals as goal
 
 pub returns-clause-fits : goal.returns-clause-fits
 returns-clause-fits c =
-    let place : Place = (c.args.table, c.in_ok-key.key) in
+    let place : Place = (c.args.target.now.table, c.in_ok-key.key) in
     subst (λ (d : Drafted). FitTables c.args.tables.now d.tables) (sym c.in_ok-delete.ensures.ok)
-    (FitTables-set_row c.args.tables.now c.args.draft.now.tables place None c.requires.fits (λ r e. cc))
+    (FitTables-set_row c.args.tables.now c.args.txn.now.draft.tables place None c.requires.fits (λ r e. cc))

@@ -8,8 +8,8 @@ use Rattle.pac_serial.proofs.operation.put.Goals as goal
 
 pub returns-clause-fits : goal.returns-clause-fits
 returns-clause-fits c =
-    let place : Place = (c.args.table, c.in_ok-key.key) in
+    let place : Place = (c.args.target.now.table, c.in_ok-key.key) in
     let new : FitsTable c.args.tables.now place c.in_ok-row.row = record { key = c.in_ok-key.ensures.typed; columns = c.in_ok-row.ensures.typed } in
     subst (λ (d : Drafted). FitTables c.args.tables.now d.tables) (sym c.in_ok-put.ensures.ok)
-    (FitTables-set_row c.args.tables.now c.args.draft.now.tables place (Some c.in_ok-row.row) c.requires.fits
+    (FitTables-set_row c.args.tables.now c.args.txn.now.draft.tables place (Some c.in_ok-row.row) c.requires.fits
     (λ r e. let same : c.in_ok-row.row ≡ r = cc in subst (λ (z : RowValues). FitsTable c.args.tables.now place z) same new))

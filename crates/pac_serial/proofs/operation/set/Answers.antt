@@ -11,16 +11,16 @@ use Rattle.pac_serial.proofs.operation.set.Goals as goal
 
 pub returns-clause-fits : goal.returns-clause-fits
 returns-clause-fits c =
-    let place : Place = (c.args.table, c.in_ok-key.key) in
+    let place : Place = (c.args.target.now.table, c.in_ok-key.key) in
     let old : RowValues = c.in-Some.row.now in
     let value = c.in_ok-value.value in
-    let found : fin.get c.args.draft.now.tables place ≡ Some old = sym c.in-Some.ensures in
+    let found : fin.get c.args.txn.now.draft.tables place ≡ Some old = sym c.in-Some.ensures in
     let fit : FitsTable c.args.tables.now place old = c.requires.fits place old found in
-    let wanted : is_wanted (Some (type_of value)) (column_type c.args.tables.now c.args.table c.args.column) ≡ true =
-    subst (λ (o : Option Ty). is_wanted o (column_type c.args.tables.now c.args.table c.args.column) ≡ true) c.in_ok-value.ensures.typed c.requires.column in
-    let types : map type_of c.in_ok-row.row ≡ column_types c.args.tables.now c.args.table =
-    ap (map type_of) c.in_ok-row.ensures ∙ types-set old (column_types c.args.tables.now c.args.table) c.args.column value fit.columns wanted in
+    let wanted : is_wanted (Some (type_of value)) (column_type c.args.tables.now c.args.target.now.table c.args.column) ≡ true =
+    subst (λ (o : Option Ty). is_wanted o (column_type c.args.tables.now c.args.target.now.table c.args.column) ≡ true) c.in_ok-value.ensures.typed c.requires.column in
+    let types : map type_of c.in_ok-row.row ≡ column_types c.args.tables.now c.args.target.now.table =
+    ap (map type_of) c.in_ok-row.ensures ∙ types-set old (column_types c.args.tables.now c.args.target.now.table) c.args.column value fit.columns wanted in
     let new : FitsTable c.args.tables.now place c.in_ok-row.row = record { key = fit.key; columns = types } in
     subst (λ (d : Drafted). FitTables c.args.tables.now d.tables) (sym c.in_ok-put.ensures.ok)
-    (FitTables-set_row c.args.tables.now c.args.draft.now.tables place (Some c.in_ok-row.row) c.requires.fits
+    (FitTables-set_row c.args.tables.now c.args.txn.now.draft.tables place (Some c.in_ok-row.row) c.requires.fits
     (λ r e. let same : c.in_ok-row.row ≡ r = cc in subst (λ (z : RowValues). FitsTable c.args.tables.now place z) same new))
