@@ -126,11 +126,11 @@ fn exec_stmt(tables: &[Table], stmt: &Stmt, op: u64, txn: &mut Txn) -> Result<u6
         } => {
             let truth = test_of(op, test, &txn.env)?;
             define(&mut txn.env, *var, Value::Bool(truth))?;
-            let behind = op + 1 + count_operations(first.as_slice());
             if truth {
-                exec_block(tables, first.as_slice(), op + 1, txn)?;
+                let behind = exec_block(tables, first.as_slice(), op + 1, txn)?;
                 Ok(behind + count_operations(second.as_slice()))
             } else {
+                let behind = op + 1 + count_operations(first.as_slice());
                 exec_block(tables, second.as_slice(), behind, txn)
             }
         }

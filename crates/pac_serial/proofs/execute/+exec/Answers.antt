@@ -49,25 +49,25 @@ exec_stmt-returns-in-Ok-set-clause-sees t c =
     subst (λ (m : Values). Sees (scope_after c.args.tables.now c.args.stmt.now (types_of c.args.txn.now.env)) m) (sym c.in-Ok-set.ensures.env)
     (sees-Set c.args.tables.now c.args.stmt.now c.args.txn.now.env c.in-Set.table c.in-Set.key c.in-Set.column c.in-Set.value c.in-Set.is c.requires.sound)
 
-pub exec_stmt-returns-in_ok-exec_block-in-If-clause-sees : goal.exec_stmt-returns-in_ok-exec_block-in-If-clause-sees
-exec_stmt-returns-in_ok-exec_block-in-If-clause-sees t c =
+pub exec_stmt-returns-in_ok-behind-in-If-clause-sees : goal.exec_stmt-returns-in_ok-behind-in-If-clause-sees
+exec_stmt-returns-in_ok-behind-in-If-clause-sees t c =
     sees-If c.args.tables.now c.args.stmt.now c.args.txn.now.env c.exec_block.new.txn.env c.in-If.var c.in-If.test c.in-If.first c.in-If.second c.define.new.env c.in-If.is c.in_ok-define-in-If.ensures.types
-    (λ y p q. c.in_ok-exec_block-in-If.ensures.keeps y (ap (λ xs. any_defines (map (check c.args.tables.now) xs) y) c.as_slice-then-truth.ensures ∙ p)) c.requires.sound
+    (λ y p q. c.in_ok-behind-in-If.ensures.keeps y (ap (λ xs. any_defines (map (check c.args.tables.now) xs) y) c.as_slice-then-truth.ensures ∙ p)) c.requires.sound
 
-pub exec_stmt-returns-in_ok-exec_block-in-If-clause-keeps : goal.exec_stmt-returns-in_ok-exec_block-in-If-clause-keeps
-exec_stmt-returns-in_ok-exec_block-in-If-clause-keeps t c =
+pub exec_stmt-returns-in_ok-behind-in-If-clause-keeps : goal.exec_stmt-returns-in_ok-behind-in-If-clause-keeps
+exec_stmt-returns-in_ok-behind-in-If-clause-keeps t c =
     keeps-If c.args.tables.now c.args.stmt.now c.args.txn.now.env c.exec_block.new.txn.env c.in-If.var c.in-If.test c.in-If.first c.in-If.second c.define.new.env c.in-If.is c.in_ok-define-in-If.ensures.types
-    (λ y p. c.in_ok-exec_block-in-If.ensures.keeps y (ap (λ xs. any_defines (map (check c.args.tables.now) xs) y) c.as_slice-then-truth.ensures ∙ p))
+    (λ y p. c.in_ok-behind-in-If.ensures.keeps y (ap (λ xs. any_defines (map (check c.args.tables.now) xs) y) c.as_slice-then-truth.ensures ∙ p))
 
 pub exec_stmt-returns-else-truth-clause-sees : goal.exec_stmt-returns-else-truth-clause-sees
 exec_stmt-returns-else-truth-clause-sees t c = on-ok c.exec_block-else-truth.result _ _ (λ k.
     sees-If c.args.tables.now c.args.stmt.now c.args.txn.now.env c.exec_block-else-truth.new.txn.env c.in-If.var c.in-If.test c.in-If.first c.in-If.second c.define.new.env c.in-If.is c.in_ok-define-in-If.ensures.types
-    (λ y p q. k y (ap (λ xs. any_defines (map (check c.args.tables.now) xs) y) c.as_slice-else-truth.ensures ∙ q)) c.requires.sound) c.exec_block-else-truth.ensures.keeps
+    (λ y p q. k y (ap (λ xs. any_defines (map (check c.args.tables.now) xs) y) c.as_slice-else-truth-2.ensures ∙ q)) c.requires.sound) c.exec_block-else-truth.ensures.keeps
 
 pub exec_stmt-returns-else-truth-clause-keeps : goal.exec_stmt-returns-else-truth-clause-keeps
 exec_stmt-returns-else-truth-clause-keeps t c = on-ok c.exec_block-else-truth.result _ _ (λ k.
     keeps-Else c.args.tables.now c.args.stmt.now c.args.txn.now.env c.exec_block-else-truth.new.txn.env c.in-If.var c.in-If.test c.in-If.first c.in-If.second c.define.new.env c.in-If.is c.in_ok-define-in-If.ensures.types
-    (λ y p. k y (ap (λ xs. any_defines (map (check c.args.tables.now) xs) y) c.as_slice-else-truth.ensures ∙ p))) c.exec_block-else-truth.ensures.keeps
+    (λ y p. k y (ap (λ xs. any_defines (map (check c.args.tables.now) xs) y) c.as_slice-else-truth-2.ensures ∙ p))) c.exec_block-else-truth.ensures.keeps
 
 pub exec_block-loop-stmt-preserved : goal.exec_block-loop-stmt-preserved
 exec_block-loop-stmt-preserved t c =
