@@ -1,26 +1,25 @@
 -- What checking statements one after another tells, and so of conditionals.
-use Rattle.std.proofs.Common.{◌≡◌, ◌<◌, ◌≤◌, ℕ, zero, suc, ◌+◌, ◌-◌, Bool, true, false, ◌&&◌, ◌||◌, ◌==◌, List, [], ◌∷◌, ◌++◌, length, take, drop, replicate, map, Option, Some, None, Result, Ok, Err, true≢false, refl, sym, ap, subst, ◌∙◌, arith, append_assoc, inl, inr, ◌⊎◌, length-append, is_some}
+use Rattle.std.proofs.Common.{◌≡◌, ◌<◌, ◌≤◌, ℕ, ◌+◌, ◌-◌, Bool, true, false, ◌||◌, ◌==◌, List, [], ◌∷◌, ◌++◌, length, take, drop, replicate, map, Option, Some, None, Result, Ok, Err, true≢false, refl, sym, ap, subst, ◌∙◌, arith, append_assoc, inl, inr, ◌⊎◌, length-append, is_some}
 use Rattle.std.specs.Prelude.{slice_get, if◌then◌else◌, bytes_eq}
 use Rattle.std.specs.Option.{option_map, option_and_then}
-use Rattle.std.specs.List.{IsDistinct, flat_map}
+use Rattle.std.specs.List.{IsDistinct}
 use Rattle.std.proofs.lemmas.List.{append-nil, length-replicate}
 use Rattle.std.proofs.Math.Seq.{take-append_seam}
-use Rattle.pac_value.specs.declared.values.Ty.{Ty}
 use Rattle.pac_value.specs.declared.values.Ty.TheVariants.{Bool as BoolTy}
 use Rattle.pac_value.specs.declared.expr.Expr.{Expr}
 use Rattle.pac_value.specs.Expressions.{◌>>=◌, type_in}
-use Rattle.pac_syntax.specs.declared.tree.ExprNode.{ExprNode}
 use Rattle.pac_types.specs.declared.type_error.TypeFault.{TypeFault}
 use Rattle.pac_types.specs.declared.scope.Variable.{Variable}
 use Rattle.pac_types.specs.declared.catalogue.Table.{Table}
 use Rattle.pac_types.specs.declared.catalogue.Stmt.{Stmt, If}
 use Rattle.pac_types.specs.declared.catalogue.Stmt.TheOpen as form
-use Rattle.pac_types.specs.Numbering.{AreDistinct, Sight, Numbered, joined, all_names, counts, in_turn, unseen, branching, resolved}
-use Rattle.pac_types.specs.Sound.{Scope, Check, check, check_step, scope_after, in_order, any_defines, without, with_var, if_so, is_bool}
+use Rattle.pac_types.specs.Numbering.{AreDistinct, Sight, Numbered, joined, all_names, counts, in_turn, unseen, branching}
+use Rattle.pac_types.specs.Sound.{Scope, Check, check, check_step, scope_after, in_order, any_defines, without, with_var, is_bool}
 use Rattle.pac_types.specs.Checking.{ScopeState, Told, left_at, run_all, block}
 use Rattle.pac_types.proofs.StmtForms.{at-If}
 use Rattle.pac_types.proofs.ExprLemmas.{numbers_of, Fit, Passed, some_is, none_is}
-use Rattle.pac_types.proofs.StmtLemmas.{at, Start, Good, Bad, StmtTold, in_either, unseen_none, numbers-append, numbers-unseen, map_is, then_is, some_of, so_true, so_some, and_true, or_true, both_true, clash, differs, equal, fit_hidden, fit_unseen, after_is, defines_is}
+use Rattle.pac_types.proofs.PartLemmas.{in_either, unseen_none, numbers-append, numbers-unseen, map_is, then_is, some_of, so_true, so_some, and_true, or_true, both_true, clash, differs, equal, fit_hidden, fit_unseen}
+use Rattle.pac_types.proofs.StmtLemmas.{at, Start, Good, StmtTold, after_is, defines_is}
 
 -- what is said of a statement: what it is to numbering, the names that it defines, and what checking it does
 pub record Piece : Type 0 where
@@ -105,8 +104,10 @@ module _ (tables : List Table) (names : List (List ℕ)) where
       where
         counted : next + n.count + counts ns ≡ next + (n.count + counts ns)
         counted = omega arith
+
         long : length (known ++ g.extra) + length r.extra ≡ length known + length (g.extra ++ r.extra)
         long = omega (arith, length-append known g.extra, length-append g.extra r.extra)
+
         in_one_of : (y : ℕ) → ((check tables s).defines y ≡ true) ⊎ (any_defines (map (check tables) b.0) y ≡ true) → (next ≤ y) × (y < next + (n.count + counts ns))
         in_one_of y (inl e) = let p = g.defines y e in (p.0, omega (arith, p.1))
         in_one_of y (inr e) = let p = r.defines y e in (omega (arith, p.0), omega (arith, p.1))
@@ -127,12 +128,14 @@ module _ (tables : List Table) (names : List (List ℕ)) where
     where
       same_next : next ≡ next + 0
       same_next = omega arith
+
       same_length : length known ≡ length known + 0
       same_length = omega arith
   run_told (p ∷ ps) all known next scope rest start = go (λ k n sc st. run_told ps all.1 k n sc rest st) (p.checked (at tables names known next)) (all.0 known next scope (defining ps ++ rest) (record { fit = start.fit; distinct = start.distinct; left = start.left ∙ append_assoc p.defined (defining ps) rest }))
     where
       others : Type 0
       others = (k : List (Option Variable)) (n : ℕ) (sc : Scope) → Start tables names k n sc (defining ps) rest → RunTold (numbering ps) k n sc rest (run_all (checking ps) (at tables names k n))
+
       go : others → (r : Told) → StmtTold tables names p.numbered known next scope (defining ps ++ rest) r → RunTold (numbering (p ∷ ps)) known next scope rest (r >>= λ a. run_all (checking ps) a.1 >>= λ b. Ok (a.0 ∷ b.0, b.1))
       go later (Err f) bad = λ ss is after sound distinct.
           let q = turn_is p.numbered (numbering ps) (numbers_of known) next ss is in
@@ -249,12 +252,16 @@ module _ (tables : List Table) (names : List (List ℕ)) where
       where
         the_form : check tables (If next e a b) ≡ check_step tables (form.If next e (map (check tables) a) (map (check tables) b))
         the_form = at-If Check (check_step tables) (If next e a b) next e a b refl
+
         behind_both : Scope
         behind_both = without (any_defines (map (check tables) a)) (without (any_defines (map (check tables) b)) (with_var scope next BoolTy))
+
         counted : next + 1 + c1 + c2 ≡ next + (1 + (c1 + c2))
         counted = omega arith
+
         long : length (known ++ replicate k1 None) + k2 ≡ length known + length (replicate {A = Option Variable} k1 None ++ replicate k2 None)
         long = omega (arith, length-append known (replicate k1 None), length-append {A = Option Variable} (replicate k1 None) (replicate k2 None), length-replicate {A = Option Variable} k1 None, length-replicate {A = Option Variable} k2 None)
+
         defined_by : (y : ℕ) → ((y == next) ≡ true) ⊎ ((any_defines (map (check tables) a) y || any_defines (map (check tables) b) y) ≡ true) → (next ≤ y) × (y < next + (1 + (c1 + c2)))
         defined_by y (inl h) = let q = equal y next h in (omega (arith, q), omega (arith, q))
         defined_by y (inr h) = go (or_true _ _ h)
@@ -262,24 +269,29 @@ module _ (tables : List Table) (names : List (List ℕ)) where
             go : (any_defines (map (check tables) a) y ≡ true) ⊎ (any_defines (map (check tables) b) y ≡ true) → (next ≤ y) × (y < next + (1 + (c1 + c2)))
             go (inl h) = let q = f.defines y h in (omega (arith, q.0), omega (arith, q.1))
             go (inr h) = let q = g.defines y h in (omega (arith, q.0), omega (arith, q.1))
+
         -- a variable in front of the conditional is none of its blocks
         stays : (y : ℕ) → y < next → behind_both y ≡ scope y
         stays y lt = first_no (any_defines (map (check tables) a) y) (λ h. (f.defines y h).0)
           where
             last : (if y == next then Some BoolTy else scope y) ≡ scope y
             last = ap (λ b. if b then Some BoolTy else scope y) (differs y next lt)
+
             second_no : (c : Bool) → (c ≡ true → next + 1 + c1 ≤ y) → (if c then None else (if y == next then Some BoolTy else scope y)) ≡ scope y
             second_no true h = let never : ⊥ = omega (arith, h refl) in absurd never
             second_no false h = last
+
             first_no : (c : Bool) → (c ≡ true → next + 1 ≤ y) → (if c then None else (if any_defines (map (check tables) b) y then None else (if y == next then Some BoolTy else scope y))) ≡ scope y
             first_no true h = let never : ⊥ = omega (arith, h refl) in absurd never
             first_no false h = second_no (any_defines (map (check tables) b) y) (λ h. (g.defines y h).0)
+
         fits : Fit (known ++ (replicate k1 None ++ replicate k2 None)) (next + (1 + (c1 + c2))) behind_both
         fits i v h = go (in_either known (replicate k1 None ++ replicate k2 None) i (Some v) h)
           where
             none : (j : ℕ) → (slice_get (replicate k1 None) j ≡ Some (Some v)) ⊎ ((l : ℕ) × (slice_get (replicate k2 None) l ≡ Some (Some v))) → ⊥
             none j (inl h) = unseen_none k1 j v h
             none j (inr h) = unseen_none k2 h.0 v h.1
+
             go : (slice_get known i ≡ Some (Some v)) ⊎ ((j : ℕ) × (slice_get (replicate k1 None ++ replicate k2 None) j ≡ Some (Some v))) → (v.number < next + (1 + (c1 + c2))) × (behind_both v.number ≡ Some v.ty)
             go (inl h) = let q = start.fit i v h in (omega (arith, q.0), stays v.number q.0 ∙ q.1)
             go (inr h) = absurd (none h.0 (in_either (replicate k1 None) (replicate k2 None) h.0 (Some v) h.1))

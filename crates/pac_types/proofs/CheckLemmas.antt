@@ -1,5 +1,5 @@
 -- What the code does, one step at a time.
-use Rattle.std.proofs.Common.{◌≡◌, ◌<◌, ◌≤◌, ℕ, ◌+◌, ◌-◌, zero, suc, List, [], ◌∷◌, ◌++◌, length, take, drop, set, get_or, replicate, map, Option, Some, None, Result, Ok, Err, refl, sym, ap, ◌∙◌, arith, append_assoc, drop-cons, add-one, length-append, length-take}
+use Rattle.std.proofs.Common.{◌≡◌, ◌<◌, ◌≤◌, ℕ, ◌+◌, ◌-◌, zero, suc, List, [], ◌∷◌, ◌++◌, length, take, drop, set, get_or, replicate, map, Result, Ok, Err, refl, sym, ap, ◌∙◌, arith, append_assoc, drop-cons, add-one, length-append, length-take}
 use Rattle.std.specs.List.{flat_map}
 use Rattle.std.proofs.lemmas.List.{length-replicate}
 use Rattle.pac_syntax.specs.declared.tree.ExprNode.{ExprNode}
@@ -20,7 +20,7 @@ size_of_if test first second = fold-If ℕ size_step test first second
 
 -- ---- names
 
-joined-map : (nodes : List StmtNode) → joined_names (map defined nodes) ≡ flat_map defined nodes
+pub joined-map : (nodes : List StmtNode) → joined_names (map defined nodes) ≡ flat_map defined nodes
 joined-map [] = refl
 joined-map (n ∷ ns) = ap (λ names. defined n ++ names) (joined-map ns)
 

@@ -1,10 +1,9 @@
 -- A procedure by numbers has as many operations as its text has statements, and no more variables.
-use Rattle.std.proofs.Common.{◌≡◌, ◌≤◌, ◌+◌, ℕ, suc, List, [], ◌∷◌, ◌++◌, length, map, Option, Some, None, refl, sym, ap, subst, ◌∙◌, arith, length-append}
+use Rattle.std.proofs.Common.{◌≡◌, ◌≤◌, ◌+◌, ℕ, List, [], ◌∷◌, ◌++◌, length, map, Some, refl, sym, ap, subst, ◌∙◌, arith, length-append}
 use Rattle.std.specs.List.{flat_map}
 use Rattle.std.specs.Prelude.{Result}
 use Rattle.std.specs.Option.{option_map, option_and_then}
 use Rattle.std.proofs.lemmas.List.{length-map}
-use Rattle.pac_value.specs.declared.expr.Expr.{Expr}
 use Rattle.pac_syntax.specs.declared.tree.StmtNode.{StmtNode}
 use Rattle.pac_syntax.specs.declared.tree.StmtNode.TheOpen as form
 use Rattle.pac_syntax.specs.declared.tree.StmtNode.TheOpen.{StmtNode-F}
@@ -19,7 +18,7 @@ use Rattle.pac_types.specs.Meaning.{State, Code, code, code_step, one, operation
 use Rattle.pac_types.specs.Meaning as meaning
 use Rattle.pac_types.specs.Numbering.{Numbered, Sight, numbered, number_step, in_turn, body_of, counts, all_names, defined, defined_step, joined, variables, resolved, resolved_all, table_number, column_number, unseen}
 use Rattle.pac_types.proofs.StmtForms.{at-Let, at-Read, at-Has, at-Put, at-Set, at-Delete, at-AbortIf, at-If}
-use Rattle.pac_types.proofs.StmtLemmas.{map_is, then_is, cell_is}
+use Rattle.pac_types.proofs.PartLemmas.{map_is, then_is, cell_is}
 use Rattle.pac_types.proofs.BlockLemmas.{turn_is, if_is}
 use Rattle.pac_types.proofs.ExprLemmas.{some_is}
 
@@ -51,36 +50,59 @@ module _ (tables : List Table) (names : List (List ℕ)) where
 
   step_counts : (y : StmtNode-F Counted-node) → Counted (defined_step (map-StmtNode StmtNode (List (List ℕ)) defined (map-StmtNode Counted-node StmtNode (λ q. q.0) y)))
       (number_step tables names (map-StmtNode StmtNode Numbered (numbered tables names) (map-StmtNode Counted-node StmtNode (λ q. q.0) y))) (size_step (map-StmtNode StmtNode ℕ size (map-StmtNode Counted-node StmtNode (λ q. q.0) y)))
-  step_counts (form.Let name value) = record { few = omega arith; operations = λ sight next s h. let p = map_is (λ e. Let next e) (resolved names sight value) s h in
-      one_by s _ (do_let next p.0) p.2 (at-Let Code code_step _ next p.0 refl) }
-  step_counts (form.Read name table key column default) = record { few = omega arith; operations = λ sight next s h. let p = cell_is (table_number tables table.name) (resolved names sight key) (λ t k. option_map (λ c. Read next t k c default.value) (column_number tables t column.name)) s h in let q = map_is (λ c. Read next p.0 p.1 c default.value) (column_number tables p.0 column.name) s p.4 in
-      one_by s _ (do_read next p.0 p.1 q.0 default.value) q.2 (at-Read Code code_step _ next p.0 p.1 q.0 default.value refl) }
-  step_counts (form.Has name table key) = record { few = omega arith; operations = λ sight next s h. let p = cell_is (table_number tables table.name) (resolved names sight key) (λ t k. Some (Has next t k)) s h in
-      one_by s _ (do_has next p.0 p.1) (some_is p.4) (at-Has Code code_step _ next p.0 p.1 refl) }
-  step_counts (form.Put table key values) = record { few = omega arith; operations = λ sight next s h. let p = cell_is (table_number tables table.name) (resolved names sight key) (λ t k. option_map (λ es. Put t k es) (resolved_all names sight values)) s h in let q = map_is (λ es. Put p.0 p.1 es) (resolved_all names sight values) s p.4 in
-      one_by s _ (do_put p.0 p.1 q.0) q.2 (at-Put Code code_step _ p.0 p.1 q.0 refl) }
-  step_counts (form.Set table key column value) = record { few = omega arith; operations = λ sight next s h.
-      let p = cell_is (table_number tables table.name) (resolved names sight key) (λ t k. option_and_then (λ c. option_map (λ e. Set t k c e) (resolved names sight value)) (column_number tables t column.name)) s h in let q = then_is (λ c. option_map (λ e. Set p.0 p.1 c e) (resolved names sight value)) (column_number tables p.0 column.name) s p.4 in let r = map_is (λ e. Set p.0 p.1 q.0 e) (resolved names sight value) s q.2 in
-      one_by s _ (do_set p.0 p.1 q.0 r.0) r.2 (at-Set Code code_step _ p.0 p.1 q.0 r.0 refl) }
-  step_counts (form.Delete table key) = record { few = omega arith; operations = λ sight next s h. let p = cell_is (table_number tables table.name) (resolved names sight key) (λ t k. Some (Delete t k)) s h in
-      one_by s _ (do_delete p.0 p.1) (some_is p.4) (at-Delete Code code_step _ p.0 p.1 refl) }
-  step_counts (form.AbortIf test) = record { few = omega arith; operations = λ sight next s h. let p = map_is (λ e. AbortIf e) (resolved names sight test) s h in
-      one_by s _ (do_abort_if p.0) p.2 (at-AbortIf Code code_step _ p.0 refl) }
+  step_counts (form.Let name value) = record {
+    few = omega arith;
+    operations = λ sight next s h. let p = map_is (λ e. Let next e) (resolved names sight value) s h in
+        one_by s _ (do_let next p.0) p.2 (at-Let Code code_step _ next p.0 refl);
+  }
+  step_counts (form.Read name table key column default) = record {
+    few = omega arith;
+    operations = λ sight next s h. let p = cell_is (table_number tables table.name) (resolved names sight key) (λ t k. option_map (λ c. Read next t k c default.value) (column_number tables t column.name)) s h in let q = map_is (λ c. Read next p.0 p.1 c default.value) (column_number tables p.0 column.name) s p.4 in
+        one_by s _ (do_read next p.0 p.1 q.0 default.value) q.2 (at-Read Code code_step _ next p.0 p.1 q.0 default.value refl);
+  }
+  step_counts (form.Has name table key) = record {
+    few = omega arith;
+    operations = λ sight next s h. let p = cell_is (table_number tables table.name) (resolved names sight key) (λ t k. Some (Has next t k)) s h in
+        one_by s _ (do_has next p.0 p.1) (some_is p.4) (at-Has Code code_step _ next p.0 p.1 refl);
+  }
+  step_counts (form.Put table key values) = record {
+    few = omega arith;
+    operations = λ sight next s h. let p = cell_is (table_number tables table.name) (resolved names sight key) (λ t k. option_map (λ es. Put t k es) (resolved_all names sight values)) s h in let q = map_is (λ es. Put p.0 p.1 es) (resolved_all names sight values) s p.4 in
+        one_by s _ (do_put p.0 p.1 q.0) q.2 (at-Put Code code_step _ p.0 p.1 q.0 refl);
+  }
+  step_counts (form.Set table key column value) = record {
+    few = omega arith;
+    operations = λ sight next s h.
+        let p = cell_is (table_number tables table.name) (resolved names sight key) (λ t k. option_and_then (λ c. option_map (λ e. Set t k c e) (resolved names sight value)) (column_number tables t column.name)) s h in let q = then_is (λ c. option_map (λ e. Set p.0 p.1 c e) (resolved names sight value)) (column_number tables p.0 column.name) s p.4 in let r = map_is (λ e. Set p.0 p.1 q.0 e) (resolved names sight value) s q.2 in
+        one_by s _ (do_set p.0 p.1 q.0 r.0) r.2 (at-Set Code code_step _ p.0 p.1 q.0 r.0 refl);
+  }
+  step_counts (form.Delete table key) = record {
+    few = omega arith;
+    operations = λ sight next s h. let p = cell_is (table_number tables table.name) (resolved names sight key) (λ t k. Some (Delete t k)) s h in
+        one_by s _ (do_delete p.0 p.1) (some_is p.4) (at-Delete Code code_step _ p.0 p.1 refl);
+  }
+  step_counts (form.AbortIf test) = record {
+    few = omega arith;
+    operations = λ sight next s h. let p = map_is (λ e. AbortIf e) (resolved names sight test) s h in
+        one_by s _ (do_abort_if p.0) p.2 (at-AbortIf Code code_step _ p.0 refl);
+  }
   step_counts (form.If test first second) = record {
     few = omega (arith, few_joined first, few_joined second, length-append (joined (map defined (nodes_of first))) (joined (map defined (nodes_of second))));
     operations = λ sight next s h.
-      let ns = map (numbered tables names) (nodes_of first) in
-      let p = if_is tables names (resolved names sight test) (in_turn ns sight (next + 1)) (in_turn (map (numbered tables names) (nodes_of second)) (sight ++ unseen (all_names ns)) (next + 1 + counts ns)) next s h in
-      let is : (code (If next p.0 p.1 p.2)).count ≡ 1 + (meaning.counts (map code p.1) + meaning.counts (map code p.2)) = ap (λ (c : Code). c.count) (at-If Code code_step _ next p.0 p.1 p.2 refl) in
-      ap (λ z. (code z).count) (sym p.6) ∙ omega (arith, is, run_counts first sight (next + 1) p.1 p.4, run_counts second _ _ p.2 p.5);
+        let ns = map (numbered tables names) (nodes_of first) in
+        let p = if_is tables names (resolved names sight test) (in_turn ns sight (next + 1)) (in_turn (map (numbered tables names) (nodes_of second)) (sight ++ unseen (all_names ns)) (next + 1 + counts ns)) next s h in
+        let is : (code (If next p.0 p.1 p.2)).count ≡ 1 + (meaning.counts (map code p.1) + meaning.counts (map code p.2)) = ap (λ (c : Code). c.count) (at-If Code code_step _ next p.0 p.1 p.2 refl) in
+        ap (λ z. (code z).count) (sym p.6) ∙ omega (arith, is, run_counts first sight (next + 1) p.1 p.4, run_counts second _ _ p.2 p.5);
   }
 
   counted : (node : StmtNode) → Counted (defined node) (numbered tables names node) (size node)
   counted = ind-StmtNode (λ node. Counted (defined node) (numbered tables names node) (size node)) (λ x y is. subst (λ z. Counted (defined (roll-StmtNode z)) (numbered tables names (roll-StmtNode z)) (size (roll-StmtNode z))) is
       (subst (λ (k : List (List ℕ) × Numbered × ℕ). Counted k.0 k.1 k.2)
-        (λ i. (sym (fold-roll-StmtNode (List (List ℕ)) defined_step (map-StmtNode Counted-node StmtNode (λ q. q.0) y)) i,
-          sym (fold-roll-StmtNode Numbered (number_step tables names) (map-StmtNode Counted-node StmtNode (λ q. q.0) y)) i,
-          sym (fold-roll-StmtNode ℕ size_step (map-StmtNode Counted-node StmtNode (λ q. q.0) y)) i)) (step_counts y)))
+      (λ i. (
+        sym (fold-roll-StmtNode (List (List ℕ)) defined_step (map-StmtNode Counted-node StmtNode (λ q. q.0) y)) i,
+        sym (fold-roll-StmtNode Numbered (number_step tables names) (map-StmtNode Counted-node StmtNode (λ q. q.0) y)) i,
+        sym (fold-roll-StmtNode ℕ size_step (map-StmtNode Counted-node StmtNode (λ q. q.0) y)) i,
+      )) (step_counts y)))
 
   pub body_size : (nodes : List StmtNode) (sight : Sight) (next : ℕ) (ss : List Stmt) → body_of tables names nodes sight next ≡ Some ss → operations ss ≡ sizes nodes
   body_size [] sight next ss h = ap (λ zs. meaning.counts (map code zs)) (sym (some_is h))

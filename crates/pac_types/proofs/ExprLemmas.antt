@@ -1,5 +1,5 @@
 -- What checking an expression tells: its numbers and its type, or that it has no type.
-use Rattle.std.proofs.Common.{◌≡◌, ◌<◌, ℕ, Bool, true, false, List, [], ◌∷◌, map, Option, Some, None, Result, Ok, Err, refl, sym, ap, subst, ◌∙◌}
+use Rattle.std.proofs.Common.{◌≡◌, ◌<◌, ℕ, Bool, true, false, List, map, Option, Some, None, Result, Ok, Err, refl, sym, ap, subst, ◌∙◌}
 use Rattle.std.specs.Prelude.{slice_get}
 use Rattle.std.specs.Option.{option_map, option_and_then}
 use Rattle.std.proofs.lemmas.Option.{slice_get-map}
@@ -7,21 +7,18 @@ use Rattle.pac_value.specs.declared.values.Ty.{Ty}
 use Rattle.pac_value.specs.declared.values.Ty.TheVariants.{Int as IntTy, Text as TextTy, Bool as BoolTy}
 use Rattle.pac_value.specs.declared.expr.BinOp.{BinOp}
 use Rattle.pac_value.specs.declared.expr.BinOp.TheVariants.{Add, Sub, Mul, Div, Rem, Eq, Ne, Lt, Le, Gt, Ge, And, Or}
-use Rattle.pac_value.specs.declared.expr.Expr.{Expr, Lit, Var, Bin, Not}
-use Rattle.pac_value.specs.Values.{type_of}
+use Rattle.pac_value.specs.declared.expr.Expr.{Expr, Var, Bin, Not}
 use Rattle.pac_value.specs.Expressions.{◌>>=◌, type_in, type_step, operator_type, arithmetic_type, equality_type, order_type, logic_type, negated_type}
 use Rattle.pac_value.proofs.ByForms.{fold-Lit, fold-Var, fold-Bin, fold-Not}
-use Rattle.pac_syntax.specs.declared.tree.NameNode.{NameNode}
 use Rattle.pac_syntax.specs.declared.tree.ExprNode.{ExprNode}
-use Rattle.pac_syntax.specs.declared.tree.ExprNode as node
 use Rattle.pac_syntax.proofs.NodeForms as forms
 use Rattle.pac_types.specs.declared.type_error.TypeFault.{TypeFault}
 use Rattle.pac_types.specs.declared.scope.Variable.{Variable}
 use Rattle.pac_types.specs.declared.expressions.Typed.{Typed}
-use Rattle.pac_types.specs.Numbering.{number_of, Sight, number_at, seen_number, resolved, resolve_step}
+use Rattle.pac_types.specs.Numbering.{number_of, Sight, number_at, resolved, resolve_step}
 use Rattle.pac_types.specs.Sound.{Scope, is_wanted, is_bool}
 use Rattle.pac_types.specs.Faults.{same_ty, is_ordered, is_left}
-use Rattle.pac_types.specs.Checking.{ScopeState, found, found_at, seen_at, taken, is_right, given, operands, checked_expr, checked_step, checked_wanted, checked_test}
+use Rattle.pac_types.specs.Checking.{ScopeState, found_at, seen_at, taken, is_right, given, operands, checked_expr, checked_step, checked_wanted, checked_test}
 use Rattle.pac_types.proofs.ExprForms.{by_nodes}
 
 -- ---- operators
@@ -136,6 +133,14 @@ part : {A B : Type 0} (f : A → B) (o : Option A) (x : B) → option_map f o �
 part f None x h = absurd (none_is h)
 part f (Some a) x h = (a, refl, some_is h)
 
+pub none_right : (k : Ty → Ty → Option Ty) (o : Option Ty) → option_and_then (λ s. option_and_then (λ t. k s t) None) o ≡ None
+none_right k None = refl
+none_right k (Some s) = refl
+
+pub none_for : (k : Ty → Option Ty) → ((t : Ty) → k t ≡ None) → (o : Option Ty) → option_and_then k o ≡ None
+none_for k never None = refl
+none_for k never (Some t) = never t
+
 module _ (scope : Scope) where
   bin_type : (op : BinOp) (a b x : Expr) → Bin op a b ≡ x → type_in scope x ≡ option_and_then (λ s. option_and_then (λ t. operator_type op s t) (type_in scope b)) (type_in scope a)
   bin_type op a b x e = ap (type_in scope) (sym e) ∙ fold-Bin (Option Ty) (type_step scope) op a b
@@ -147,14 +152,6 @@ module _ (scope : Scope) where
   same_type : (o : Option Expr) (a b : Expr) (t : Option Ty) → o ≡ Some a → o ≡ Some b → type_in scope b ≡ t → type_in scope a ≡ t
   same_type o a b t p q e = ap (type_in scope) (some_is (sym p ∙ q)) ∙ e
 
-  pub none_right : (k : Ty → Ty → Option Ty) (o : Option Ty) → option_and_then (λ s. option_and_then (λ t. k s t) None) o ≡ None
-  none_right k None = refl
-  none_right k (Some s) = refl
-
-  pub none_for : (k : Ty → Option Ty) → ((t : Ty) → k t ≡ None) → (o : Option Ty) → option_and_then k o ≡ None
-  none_for k never None = refl
-  none_for k never (Some t) = never t
-
   said_operands : (at : ℕ) (op : BinOp) (l r : Option Expr) (rl rr : Result Typed TypeFault) → Said scope l rl → Said scope r rr → Said scope (option_and_then (λ a. option_map (λ b. Bin op a b) r) l) (operands at op rl rr)
   said_operands at op l r (Err f) rr p q = λ x is. let h = parts (λ a b. Bin op a b) l r x is in
       bin_type op h.0 h.1 x h.4 ∙ ap (λ o. option_and_then (λ s. option_and_then (λ t. operator_type op s t) (type_in scope h.1)) o) (p h.0 h.2)
@@ -162,20 +159,25 @@ module _ (scope : Scope) where
     where
       whole : Option Expr
       whole = option_and_then (λ a. option_map (λ b. Bin op a b) r) l
+
       typed_left : (x : Expr) → l ≡ Some x → type_in scope x ≡ Some a.ty
       typed_left x is = same_type l x a.expr (Some a.ty) is p.0 p.1
+
       right : (rr : Result Typed TypeFault) → Said scope r rr → is_left op a.ty ≡ true → Said scope whole (rr >>= λ b. taken b.at (is_right op a.ty b.ty) >>= λ _. Ok (record { at = at; expr = Bin op a.expr b.expr; ty = given op }))
       right (Err f) q ok = λ x is. let h = parts (λ a b. Bin op a b) l r x is in
           bin_type op h.0 h.1 x h.4 ∙ ap (λ o. option_and_then (λ s. option_and_then (λ t. operator_type op s t) o) (type_in scope h.0)) (q h.1 h.3) ∙ none_right (operator_type op) (type_in scope h.0)
       right (Ok b) q ok = go (is_right op a.ty b.ty) refl
         where
           go : (t : Bool) → is_right op a.ty b.ty ≡ t → Said scope whole (taken b.at t >>= λ _. Ok (record { at = at; expr = Bin op a.expr b.expr; ty = given op }))
-          go true e = (ap (λ o. option_and_then (λ a. option_map (λ b. Bin op a b) r) o) p.0 ∙ ap (λ o. option_map (λ b. Bin op a.expr b) o) q.0,
-              bin_type op a.expr b.expr (Bin op a.expr b.expr) refl ∙ ap (λ o. option_and_then (λ s. option_and_then (λ t. operator_type op s t) (type_in scope b.expr)) o) p.1
-              ∙ ap (λ o. option_and_then (λ t. operator_type op a.ty t) o) q.1 ∙ both_taken op a.ty b.ty ok e)
+          go true e = (
+            ap (λ o. option_and_then (λ a. option_map (λ b. Bin op a b) r) o) p.0 ∙ ap (λ o. option_map (λ b. Bin op a.expr b) o) q.0,
+            bin_type op a.expr b.expr (Bin op a.expr b.expr) refl ∙ ap (λ o. option_and_then (λ s. option_and_then (λ t. operator_type op s t) (type_in scope b.expr)) o) p.1
+                ∙ ap (λ o. option_and_then (λ t. operator_type op a.ty t) o) q.1 ∙ both_taken op a.ty b.ty ok e,
+          )
           go false e = λ x is. let h = parts (λ a b. Bin op a b) l r x is in
               bin_type op h.0 h.1 x h.4 ∙ ap (λ o. option_and_then (λ s. option_and_then (λ t. operator_type op s t) (type_in scope h.1)) o) (typed_left h.0 h.2)
               ∙ ap (λ o. option_and_then (λ t. operator_type op a.ty t) o) (same_type r h.1 b.expr (Some b.ty) h.3 q.0 q.1) ∙ no_right op a.ty b.ty ok e
+
       left : (t : Bool) → is_left op a.ty ≡ t → Said scope whole (taken a.at t >>= λ _. rr >>= λ b. taken b.at (is_right op a.ty b.ty) >>= λ _. Ok (record { at = at; expr = Bin op a.expr b.expr; ty = given op }))
       left true e = right rr q e
       left false e = λ x is. let h = parts (λ a b. Bin op a b) l r x is in
@@ -220,13 +222,13 @@ module _ (names : List (List ℕ)) (known : List (Option Variable)) (next : ℕ)
   pub said : (e : ExprNode) → SaidOf e
   said = by_nodes SaidOf
       (λ l. along _ _ _ _ (forms.fold-Literal (Option Expr) (resolve_step names (numbers_of known)) l) (forms.fold-Literal (Result Typed TypeFault) (checked_step (record { names = names; known = known; next = next })) l)
-        (refl, fold-Lit (Option Ty) (type_step scope) l.value))
+      (refl, fold-Lit (Option Ty) (type_step scope) l.value))
       (λ n. along _ _ _ _ (forms.fold-Name (Option Expr) (resolve_step names (numbers_of known)) n) (forms.fold-Name (Result Typed TypeFault) (checked_step (record { names = names; known = known; next = next })) n)
-        (said_name n.at n.at (number_of names n.name)))
+      (said_name n.at n.at (number_of names n.name)))
       (λ at op l r p q. along _ _ _ _ (forms.fold-Binary (Option Expr) (resolve_step names (numbers_of known)) at op l r) (forms.fold-Binary (Result Typed TypeFault) (checked_step (record { names = names; known = known; next = next })) at op l r)
-        (said_operands scope at op _ _ _ _ p q))
+      (said_operands scope at op _ _ _ _ p q))
       (λ at e p. along _ _ _ _ (forms.fold-Not (Option Expr) (resolve_step names (numbers_of known)) at e) (forms.fold-Not (Result Typed TypeFault) (checked_step (record { names = names; known = known; next = next })) at e)
-        (said_not scope at _ _ p))
+      (said_not scope at _ _ p))
 
 -- ---- where a type is wanted
 

@@ -1,35 +1,31 @@
 -- Checking from left to right meets the first of the faults of an expression, and of the parts of a statement.
-use Rattle.std.proofs.Common.{◌≡◌, ◌<◌, ℕ, zero, suc, Bool, true, false, List, [], ◌∷◌, ◌++◌, length, map, Option, Some, None, Result, Ok, Err, true≢false, refl, sym, ap, subst, ◌∙◌, arith, append_assoc}
-use Rattle.std.specs.Prelude.{slice_get, nat_eq, not, if◌then◌else◌, IfSome}
+use Rattle.std.proofs.Common.{◌≡◌, ◌<◌, ℕ, zero, suc, Bool, true, false, List, [], ◌∷◌, ◌++◌, length, map, Option, Some, None, Result, Ok, Err, refl, sym, ap, subst, ◌∙◌, arith}
+use Rattle.std.specs.Prelude.{slice_get, not, IfSome}
 use Rattle.std.specs.Option.{option_map, option_and_then}
 use Rattle.std.proofs.lemmas.Option.{slice_get-map}
-use Rattle.std.proofs.lemmas.List.{append-nil, length-map}
+use Rattle.std.proofs.lemmas.List.{length-map}
 use Rattle.pac_value.specs.declared.values.Ty.{Ty}
-use Rattle.pac_value.specs.declared.values.Ty.TheVariants.{Int as IntTy, Text as TextTy, Bool as BoolTy}
+use Rattle.pac_value.specs.declared.values.Ty.TheVariants.{Bool as BoolTy}
 use Rattle.pac_value.specs.declared.expr.BinOp.{BinOp}
 use Rattle.pac_value.specs.declared.expr.BinOp.TheVariants.{Add, Sub, Mul, Div, Rem, Eq, Ne, Lt, Le, Gt, Ge, And, Or}
-use Rattle.pac_value.specs.declared.expr.Expr.{Expr, Lit, Var, Bin, Not}
-use Rattle.pac_value.specs.Values.{type_of}
+use Rattle.pac_value.specs.declared.expr.Expr.{Var, Bin, Not}
 use Rattle.pac_value.specs.Expressions.{◌>>=◌, operator_type, negated_type}
 use Rattle.pac_syntax.specs.declared.tree.NameNode.{NameNode}
 use Rattle.pac_syntax.specs.declared.tree.ExprNode.{ExprNode}
 use Rattle.pac_syntax.proofs.NodeForms as forms
 use Rattle.pac_types.specs.declared.type_error.TypeFault.{TypeFault}
-use Rattle.pac_types.specs.declared.type_error.TypeFaultKind.{TypeFaultKind}
-use Rattle.pac_types.specs.declared.type_error.TypeFaultKind.TheVariants.{UnknownName, Twice, WrongType, WrongCount}
+use Rattle.pac_types.specs.declared.type_error.TypeFaultKind.TheVariants.{Twice, WrongType}
 use Rattle.pac_types.specs.declared.scope.Variable.{Variable}
 use Rattle.pac_types.specs.declared.expressions.Typed.{Typed}
 use Rattle.pac_types.specs.declared.catalogue.Column.{Column}
 use Rattle.pac_types.specs.declared.catalogue.Table.{Table}
-use Rattle.pac_types.specs.declared.catalogue.Stmt.{Stmt, Put}
 use Rattle.pac_types.specs.Numbering.{number_of, table_number, column_number, column_names, table_names}
-use Rattle.pac_types.specs.Sound.{is_wanted, key_type, column_type, column_types, column_types_of, types}
-use Rattle.pac_types.specs.Faults.{fault_if, is_before, twice, Known, seen, name_faults, same_ty, is_left, wanted_right, is_same, is_fitting, is_test, Judged, wrong_type, placed, judge_step, judged, unknown, key_wanted, column_wanted, column_faults, wrong_count, count_faults, values_wanted, values_faults, cell_faults}
-use Rattle.pac_types.specs.Checking.{ScopeState, Cells, Fields, once, unless, found, found_at, seen_at, taken, is_right, given, operands, checked_step, checked_expr, checked_wanted, checked_test, known_at, checked_cell, checked_field, counted, checked_values, checked_put}
+use Rattle.pac_types.specs.Sound.{is_wanted, key_type, column_type, column_types_of, types}
+use Rattle.pac_types.specs.Faults.{fault_if, is_before, twice, Known, seen, name_faults, same_ty, is_left, wanted_right, is_same, is_fitting, is_test, Judged, wrong_type, placed, judge_step, judged, unknown, key_wanted, values_faults, cell_faults}
+use Rattle.pac_types.specs.Checking.{ScopeState, Cells, once, unless, found_at, seen_at, taken, is_right, given, operands, checked_step, checked_expr, checked_wanted, checked_test, known_at, checked_cell, checked_values}
 use Rattle.pac_types.proofs.ExprForms.{by_nodes}
-use Rattle.pac_types.proofs.ExprLemmas.{by_tests, no_left, no_right, both_taken, negation, some_is, none_is}
+use Rattle.pac_types.proofs.ExprLemmas.{by_tests, no_left, no_right, both_taken, negation, none_right, none_for, none_is}
 use Rattle.pac_types.proofs.NameLemmas.{number-within}
-use Rattle.pac_types.proofs.StmtLemmas.{equal}
 
 -- ---- a result and the faults of what it is of: none, or the first
 
@@ -100,14 +96,6 @@ right_is Ge a b = refl
 right_is And a b = refl
 right_is Or a b = refl
 
-none_right : (k : Ty → Ty → Option Ty) (o : Option Ty) → option_and_then (λ s. option_and_then (λ t. k s t) None) o ≡ None
-none_right k None = refl
-none_right k (Some s) = refl
-
-none_for : (k : Ty → Option Ty) → ((t : Ty) → k t ≡ None) → (o : Option Ty) → option_and_then k o ≡ None
-none_for k never None = refl
-none_for k never (Some t) = never t
-
 module _ (at : ℕ) (op : BinOp) (l r : Judged) where
   abbrev whole : Judged
   whole = record {
@@ -124,15 +112,24 @@ module _ (at : ℕ) (op : BinOp) (l r : Judged) where
 
   both_judged : (a b : Typed) (p : JudgedBy l (Ok a)) (q : JudgedBy r (Ok b)) → is_left op a.ty ≡ true → (c : Bool) → is_right op a.ty b.ty ≡ c
       → JudgedBy whole (taken b.at c >>= λ _. Ok (record { at = at; expr = Bin op a.expr b.expr; ty = given op }))
-  both_judged a b p q e true g = (refl, type_at a.ty p.1 ∙ ap (λ o. option_and_then (λ b. operator_type op a.ty b) o) q.1 ∙ both_taken op a.ty b.ty e g,
-      λ i. placed_taken (is_left op) l a p e i ++ placed_taken right_takes r b q (ap (λ o. is_same (wanted_right op o) b.ty) p.1 ∙ right_is op a.ty b.ty ∙ g) i)
-  both_judged a b p q e false g = (type_at a.ty p.1 ∙ ap (λ o. option_and_then (λ b. operator_type op a.ty b) o) q.1 ∙ no_right op a.ty b.ty e g, [],
-      λ i. placed_taken (is_left op) l a p e i ++ placed_wrong right_takes r b q (ap (λ o. is_same (wanted_right op o) b.ty) p.1 ∙ right_is op a.ty b.ty ∙ g) i)
+  both_judged a b p q e true g = (
+    refl,
+    type_at a.ty p.1 ∙ ap (λ o. option_and_then (λ b. operator_type op a.ty b) o) q.1 ∙ both_taken op a.ty b.ty e g,
+    λ i. placed_taken (is_left op) l a p e i ++ placed_taken right_takes r b q (ap (λ o. is_same (wanted_right op o) b.ty) p.1 ∙ right_is op a.ty b.ty ∙ g) i,
+  )
+  both_judged a b p q e false g = (
+    type_at a.ty p.1 ∙ ap (λ o. option_and_then (λ b. operator_type op a.ty b) o) q.1 ∙ no_right op a.ty b.ty e g,
+    [],
+    λ i. placed_taken (is_left op) l a p e i ++ placed_wrong right_takes r b q (ap (λ o. is_same (wanted_right op o) b.ty) p.1 ∙ right_is op a.ty b.ty ∙ g) i,
+  )
 
   right_judged : (a : Typed) (p : JudgedBy l (Ok a)) → is_left op a.ty ≡ true → (rr : Result Typed TypeFault) → JudgedBy r rr
       → JudgedBy whole (rr >>= λ b. taken b.at (is_right op a.ty b.ty) >>= λ _. Ok (record { at = at; expr = Bin op a.expr b.expr; ty = given op }))
-  right_judged a p e (Err f) q = (ap (λ o. option_and_then (λ a. option_and_then (λ b. operator_type op a b) o) l.ty) q.0 ∙ none_right (operator_type op) l.ty, q.1,
-      λ i. placed_taken (is_left op) l a p e i ++ placed_err right_takes r f q i)
+  right_judged a p e (Err f) q = (
+    ap (λ o. option_and_then (λ a. option_and_then (λ b. operator_type op a b) o) l.ty) q.0 ∙ none_right (operator_type op) l.ty,
+    q.1,
+    λ i. placed_taken (is_left op) l a p e i ++ placed_err right_takes r f q i,
+  )
   right_judged a p e (Ok b) q = both_judged a b p q e (is_right op a.ty b.ty) refl
 
   left_judged : (a : Typed) (p : JudgedBy l (Ok a)) (rr : Result Typed TypeFault) → JudgedBy r rr → (c : Bool) → is_left op a.ty ≡ c
@@ -182,13 +179,6 @@ module _ (names : List (List ℕ)) (known : List (Option Variable)) (next : ℕ)
       (λ n. judged-at _ _ _ (forms.fold-Name Judged (judge_step names types_here) n) (forms.fold-Name (Result Typed TypeFault) (checked_step here) n) (name_judged n.at known (number_of names n.name)))
       (λ at op l r p q. judged-at _ _ _ (forms.fold-Binary Judged (judge_step names types_here) at op l r) (forms.fold-Binary (Result Typed TypeFault) (checked_step here) at op l r) (operands_judged at op _ _ _ _ p q))
       (λ at e p. judged-at _ _ _ (forms.fold-Not Judged (judge_step names types_here) at e) (forms.fold-Not (Result Typed TypeFault) (checked_step here) at e) (not_judged at _ _ p))
-
-  pub let_agrees : (e : ExprNode) → Agree (judged names types_here e).faults (checked_expr here e)
-  let_agrees e = go (checked_expr here e) (expr_judged e)
-    where
-      go : (r : Result Typed TypeFault) → JudgedBy (judged names types_here e) r → Agree (judged names types_here e).faults r
-      go (Ok t) p = p.2
-      go (Err f) p = (p.1, p.2)
 
   pub test_agrees : (e : ExprNode) → Agree (placed is_test (judged names types_here e)) (checked_test here e)
   test_agrees e = placed_agrees is_test is_test (λ v. v.expr) (λ ty. refl) _ _ (expr_judged e)

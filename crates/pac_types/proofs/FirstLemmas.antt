@@ -1,14 +1,11 @@
 -- Checking from left to right meets the first fault of a tree.
-use Rattle.std.proofs.Common.{◌≡◌, ◌≤◌, ℕ, zero, suc, ◌+◌, ◌-◌, Bool, true, false, List, [], ◌∷◌, ◌++◌, length, replicate, map, Option, Some, None, Result, Ok, Err, refl, sym, ap, subst, ◌∙◌, arith, append_assoc, length-append, inl, inr}
+use Rattle.std.proofs.Common.{◌≡◌, ℕ, suc, ◌+◌, List, [], ◌∷◌, ◌++◌, length, replicate, map, Option, Some, None, Result, Ok, Err, refl, sym, ap, subst, ◌∙◌, arith, append_assoc, length-append, inl}
 use Rattle.std.proofs.lemmas.List.{append-nil, length-replicate}
-use Rattle.pac_value.specs.declared.values.Ty.{Ty}
 use Rattle.pac_value.specs.declared.values.Ty.TheVariants.{Bool as BoolTy}
 use Rattle.pac_value.specs.Values.{type_of}
 use Rattle.pac_value.specs.declared.expr.Expr.{Expr}
 use Rattle.pac_value.specs.Expressions.{◌>>=◌}
-use Rattle.pac_syntax.specs.declared.tree.NameNode.{NameNode}
 use Rattle.pac_syntax.specs.declared.tree.ColumnNode.{ColumnNode}
-use Rattle.pac_syntax.specs.declared.tree.ExprNode.{ExprNode}
 use Rattle.pac_syntax.specs.declared.tree.StmtNode.{StmtNode}
 use Rattle.pac_syntax.specs.declared.tree.StmtNode.TheOpen as form
 use Rattle.pac_syntax.specs.declared.tree.StmtNode.TheOpen.{StmtNode-F}
@@ -24,7 +21,7 @@ use Rattle.pac_types.specs.declared.catalogue.Table.{Table}
 use Rattle.pac_types.specs.declared.catalogue.Proc.{Proc}
 use Rattle.pac_types.specs.declared.catalogue.Stmt.{Stmt, Delete, AbortIf, If}
 use Rattle.pac_types.specs.Numbering.{table_number, variables, column_of, table_of}
-use Rattle.pac_types.specs.Faults.{twice, cell_faults, column_faults, column_wanted, wrong_type, is_fitting, Known, unseen, is_test, placed, judged, Ruled, all_names, all_faults, naming, plain, branching, rule_step, ruled, names_faults, tables_faults, params_known, proc_faults, procs_faults, tree_faults, IsAmong, Stands, IsFirstFault}
+use Rattle.pac_types.specs.Faults.{twice, cell_faults, column_faults, column_wanted, wrong_type, is_fitting, Known, unseen, is_test, placed, judged, Ruled, all_names, all_faults, plain, branching, rule_step, ruled, names_faults, tables_faults, params_known, proc_faults, procs_faults, tree_faults, IsAmong, Stands, IsFirstFault}
 use Rattle.pac_types.specs.Checking.{ScopeState, Told, once, defined_in, left_at, checked_test, checked_cell, checked_put, run_all, block, stmt_step, checked_stmt, checked_block, all_once, names_of, checked_tables, checked_params, checked_proc, checked_procs, opening}
 use Rattle.pac_types.proofs.BlockLemmas.{left_is}
 use Rattle.pac_types.proofs.TreeLemmas.{variables_from}
@@ -64,6 +61,7 @@ module _ (names : List (List ℕ)) where
     where
       same : all_faults (d ∷ ds) (known_types known) ≡ all_faults ds (known_types (known ++ extra))
       same = ap (λ zs. zs ++ all_faults ds (known_types known ++ d.shown (known_types known))) clean ∙ ap (λ zs. all_faults ds zs) (ap (λ zs. known_types known ++ zs) (sym shown) ∙ sym (types-append known extra))
+
       go : (r : Told-all) → RunAgrees ds (known ++ extra) r → RunAgrees (d ∷ ds) known (r >>= λ b. Ok (s ∷ b.0, b.1))
       go (Ok b) p = (same ∙ p.0, extra ++ p.1, p.2, p.3 ∙ (λ i. at names (append_assoc known extra p.1 i) p.2), omega (arith, length-append extra p.1, many, p.4))
       go (Err f) p = (p.0, same ∙ p.1)
@@ -112,10 +110,12 @@ module _ (names : List (List ℕ)) where
     second_agrees : (e : Expr) (a : List Stmt) → test (known_types known) ≡ [] → middle ≡ [] → (r : Told-all) → BlockAgrees (ruling second) (known ++ replicate k1 None) r → StmtAgrees names whole known (r >>= λ b. Ok (If next e a b.0, b.1))
     second_agrees e a clean first_clean (Ok b) p = (
       (λ i. clean i ++ (first_clean i ++ (ap (λ zs. all_faults (ruling second) zs) (sym types_is) ∙ p.0) i)),
-      replicate k1 None ++ replicate k2 None, p.1,
+      replicate k1 None ++ replicate k2 None,
+      p.1,
       p.2 ∙ (λ i. at names (append_assoc known (replicate k1 None) (replicate k2 None) i) p.1),
       types-append (replicate k1 None) (replicate k2 None) ∙ (λ i. types-unseen k1 i ++ types-unseen k2 i),
-      length-append (replicate k1 None) (replicate k2 None) ∙ (λ i. length-replicate {A = Option Variable} k1 None i + length-replicate {A = Option Variable} k2 None i))
+      length-append (replicate k1 None) (replicate k2 None) ∙ (λ i. length-replicate {A = Option Variable} k1 None i + length-replicate {A = Option Variable} k2 None i),
+    )
     second_agrees e a clean first_clean (Err f) p = (p.0, λ i. clean i ++ (first_clean i ++ (ap (λ zs. all_faults (ruling second) zs) (sym types_is) ∙ p.1) i))
 
     first_agrees : (e : Expr) → test (known_types known) ≡ [] → (r : Told-all) → BlockAgrees (ruling first) known r → StmtAgrees names whole known (r >>= λ a. block (checking second) a.1 >>= λ b. Ok (If next e a.0 b.0, b.1))
@@ -164,8 +164,8 @@ module _ (tables : List Table) (names : List (List ℕ)) where
       subst (λ (faults : Known → List TypeFault). StmtAgrees names (record { names = 1; shown = λ k. Some (column_wanted tables (table_number tables table.name) column.name) ∷ []; faults = λ k. twice names (length k) name ++ faults k }) known (stmt_step tables (form.Read name table key column default) (at names known next)))
       (λ i k. append_assoc (cell_faults tables (judged names k) table key) (column_faults tables (table_number tables table.name) column) (wrong_type (is_fitting (column_wanted tables (table_number tables table.name) column.name)) default.at (Some (type_of default.value))) i)
       (naming_agrees names known next (λ k. column_wanted tables (table_number tables table.name) column.name)
-        (λ k. (cell_faults tables (judged names k) table key ++ column_faults tables (table_number tables table.name) column) ++ wrong_type (is_fitting (column_wanted tables (table_number tables table.name) column.name)) default.at (Some (type_of default.value)))
-        name _ (read_naming names known next tables table key column default _ (field_agrees tables names known next table key column) (column_is tables names known next table key column)))
+      (λ k. (cell_faults tables (judged names k) table key ++ column_faults tables (table_number tables table.name) column) ++ wrong_type (is_fitting (column_wanted tables (table_number tables table.name) column.name)) default.at (Some (type_of default.value)))
+      name _ (read_naming names known next tables table key column default _ (field_agrees tables names known next table key column) (column_is tables names known next table key column)))
   step_agrees (form.Has name table key) known next = naming_agrees names known next (λ k. Some BoolTy) (λ k. cell_faults tables (judged names k) table key) name _ (has_naming names known next tables table key)
   step_agrees (form.Put table key values) known next = plain_agrees names known next (rule_step tables names (form.Put table key values)).faults (checked_put tables (at names known next) table key values) (λ s. s) (put_agrees tables names known next table key values)
   step_agrees (form.Set table key column value) known next =
@@ -236,12 +236,14 @@ params_agree names (node ∷ nodes) known next place long =
   where
     more : List (Option Variable)
     more = known ++ Some (record { number = next; ty = node.ty }) ∷ []
+
     whole : (r : Result ScopeState TypeFault) → twice names place node.name ≡ [] → ParamsAgree names more (next + 1) nodes (names_faults names (place + 1) nodes) r → ParamsAgree names known next (node ∷ nodes) (names_faults names place (node ∷ nodes)) r
     whole (Ok st) e p = ((λ i. e i ++ p.0 i), p.1 ∙ λ i. at names (append_assoc known (Some (record { number = next; ty = node.ty }) ∷ []) (variables_from (next + 1) nodes) i) (same i))
       where
         same : next + 1 + length nodes ≡ next + suc (length nodes)
         same = omega arith
     whole (Err f) e p = (p.0, λ i. e i ++ p.1 i)
+
     go : ParamsAgree names more (next + 1) nodes (names_faults names (place + 1) nodes) (checked_params nodes (at names more (next + 1))) → (r : Result (Unit {0}) TypeFault) → Agree (twice names place node.name) r
         → ParamsAgree names known next (node ∷ nodes) (names_faults names place (node ∷ nodes)) (r >>= λ _. checked_params nodes (defined_in node.ty (at names known next)))
     go later (Ok x) p = whole (checked_params nodes (at names more (next + 1))) p later

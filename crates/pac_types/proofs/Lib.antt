@@ -5,6 +5,7 @@ pub mod NameLemmas
 pub mod CheckLemmas
 pub mod ExprForms
 pub mod ExprLemmas
+pub mod PartLemmas
 pub mod StmtLemmas
 pub mod BlockLemmas
 pub mod TreeLemmas

@@ -109,9 +109,6 @@ none_from : (o : Option ℕ) → is_some o ≡ false → o ≡ None
 none_from None e = refl
 none_from (Some n) e = cc
 
-pub absent : (o m : Option ℕ) → o ≡ m → is_some o ≡ false → m ≡ None
-absent o m same none = sym same ∙ none_from o none
-
 -- a number below a bound
 abbrev pub below : ℕ → Option ℕ → Option ℕ
 below k None = None
@@ -138,15 +135,6 @@ position-take test (suc k) i (x ∷ xs) = by (test x) (position-take test k (i +
 -- the number among the first so many
 pub number-take : (names : List (List ℕ)) (k : ℕ) (q : List ℕ) → number_of (take k names) q ≡ below k (number_of names q)
 number-take names k q = number_is (take k names) q ∙ position-take (bytes_eq q) k 0 names ∙ ap (λ n. below n (position_from (bytes_eq q) 0 names)) (zero-add k) ∙ ap (below k) (sym (number_is names q))
-
-pub seen_some : (names : List (List ℕ)) (k : ℕ) (q : List ℕ) (n : ℕ) → Some n ≡ number_of names q → n < k → Some n ≡ number_of (take k names) q
-seen_some names k q n is lt = sym (number-take names k q ∙ ap (below k) (sym is) ∙ grind (arith, common_steps))
-
-pub seen_far : (names : List (List ℕ)) (k : ℕ) (q : List ℕ) (n : ℕ) → Some n ≡ number_of names q → k ≤ n → None ≡ number_of (take k names) q
-seen_far names k q n is le = sym (number-take names k q ∙ ap (below k) (sym is) ∙ grind (arith, common_steps))
-
-pub seen_none : (names : List (List ℕ)) (k : ℕ) (q : List ℕ) → None ≡ number_of names q → None ≡ number_of (take k names) q
-seen_none names k q is = sym (number-take names k q ∙ ap (below k) (sym is))
 
 pub number-within : (names : List (List ℕ)) (q : List ℕ) → IfSome (number_of names q) (λ n. n < length names)
 unfolding number_of
@@ -179,6 +167,7 @@ map-same names i y before within at numbered there q =
     stays : (o w : Option ℕ) → is_some o ≡ true → o ≡ option_or o w
     stays None w e = cc
     stays (Some n) w e = refl
+
     by : (b : Bool) → bytes_eq q y ≡ b → number_of (take i names) q ≡ option_or (number_of (take i names) q) (cond (bytes_eq q y) (Some (length (take i names))) None)
     by true e = stays _ _ (ap (λ z. is_some (number_of (take i names) z)) (same q y e) ∙ ap is_some (sym (numbered y)) ∙ there)
     by false e = sym (ap (λ b. option_or (number_of (take i names) q) (cond b (Some (length (take i names))) None)) e ∙ option_or-none (number_of (take i names) q))

@@ -16,14 +16,13 @@ use Rattle.pac_syntax.specs.declared.tree.StmtNode.TheFolds.{fold-roll-StmtNode,
 use Rattle.pac_syntax.specs.Order.{Ascends, IsOrdered, expr_places, expr_places_step, all_places, stmt_places, stmt_places_step, stmts_places, columns_places, table_places, proc_places, tree_places}
 use Rattle.pac_syntax.proofs.NodeForms as forms
 use Rattle.pac_value.specs.declared.values.Ty.{Ty}
-use Rattle.pac_value.specs.Values.{type_of}
 use Rattle.pac_types.specs.declared.catalogue.Table.{Table}
 use Rattle.pac_types.specs.declared.type_error.TypeFault.{TypeFault}
 use Rattle.pac_types.specs.declared.type_error.TypeFaultKind.{TypeFaultKind}
 use Rattle.pac_types.specs.declared.type_error.TypeFaultKind.TheVariants.{UnknownName, OutOfScope}
 use Rattle.pac_types.specs.Sound.{column_types}
-use Rattle.pac_types.specs.Numbering.{number_of, variables, table_number, column_number, table_of}
-use Rattle.pac_types.specs.Faults.{fault_if, twice, Known, unseen, name_faults, wrong_type, placed, Judged, judge_step, judged, is_left, is_same, wanted_right, is_fitting, is_test, unknown, column_faults, count_faults, wrong_count, values_wanted, values_faults, Ruled, all_names, all_faults, rule_step, ruled, cell_faults, key_wanted, column_wanted, names_faults, tables_faults, params_known, proc_faults, procs_faults, tree_faults, IsAmong}
+use Rattle.pac_types.specs.Numbering.{variables, table_of}
+use Rattle.pac_types.specs.Faults.{fault_if, Known, name_faults, wrong_type, placed, Judged, judge_step, judged, is_left, is_test, unknown, column_faults, count_faults, wrong_count, values_faults, Ruled, all_faults, rule_step, ruled, cell_faults, names_faults, tables_faults, params_known, proc_faults, procs_faults, tree_faults, IsAmong}
 use Rattle.pac_types.proofs.ExprForms.{by_nodes}
 
 abbrev pub places_of : List TypeFault → List ℕ
@@ -53,9 +52,11 @@ places-append [] b = refl
 places-append (x ∷ a) b = ap (λ zs. x.at ∷ zs) (places-append a b)
 
 pub both_along : (a b : List TypeFault) (p q : List ℕ) → Along a p → Along b q → Along (a ++ b) (p ++ q)
-both_along a b p q f g = record { by = λ low more others h k.
-    subst (λ zs. Ascends low zs) (sym (append_assoc (places_of a) (places_of b) others) ∙ ap (λ zs. zs ++ others) (sym (places-append a b)))
-    (f.by low (q ++ more) (places_of b ++ others) (subst (λ zs. Ascends low zs) (append_assoc p q more) h) (λ l i. g.by l more others i k)) }
+both_along a b p q f g = record {
+  by = λ low more others h k.
+      subst (λ zs. Ascends low zs) (sym (append_assoc (places_of a) (places_of b) others) ∙ ap (λ zs. zs ++ others) (sym (places-append a b)))
+      (f.by low (q ++ more) (places_of b ++ others) (subst (λ zs. Ascends low zs) (append_assoc p q more) h) (λ l i. g.by l more others i k));
+}
 
 -- a fault at the first place, and then those along all of them
 pub first_along : (b : Bool) (at : ℕ) (kind : TypeFaultKind) (a : List TypeFault) (p : List ℕ) → Along a (at ∷ p) → Along (fault_if b at kind ++ a) (at ∷ p)
@@ -90,8 +91,11 @@ module _ (names : List (List ℕ)) (known : Known) where
   stood = by_nodes (λ e. Stood (judged names known e) (expr_places e))
       (λ l. stood-at _ _ _ (forms.fold-Literal Judged (judge_step names known) l) (forms.fold-Literal (List ℕ) expr_places_step l) (record { tail = []; first = refl; along = none_along (l.at ∷ []) }))
       (λ n. stood-at _ _ _ (forms.fold-Name Judged (judge_step names known) n) (forms.fold-Name (List ℕ) expr_places_step n) (record { tail = []; first = refl; along = name_along n.at _ _ }))
-      (λ at op l r p q. stood-at _ _ _ (forms.fold-Binary Judged (judge_step names known) at op l r) (forms.fold-Binary (List ℕ) expr_places_step at op l r) (record { tail = _; first = refl;
-        along = later at _ _ (both_along _ _ _ _ (placed_along (is_left op) _ _ p) (placed_along _ _ _ q)) }))
+      (λ at op l r p q. stood-at _ _ _ (forms.fold-Binary Judged (judge_step names known) at op l r) (forms.fold-Binary (List ℕ) expr_places_step at op l r) (record {
+        tail = _;
+        first = refl;
+        along = later at _ _ (both_along _ _ _ _ (placed_along (is_left op) _ _ p) (placed_along _ _ _ q));
+      }))
       (λ at e p. stood-at _ _ _ (forms.fold-Not Judged (judge_step names known) at e) (forms.fold-Not (List ℕ) expr_places_step at e) (record { tail = _; first = refl; along = later at _ _ (placed_along is_test _ _ p) }))
     where
       later : (at : ℕ) (a : List TypeFault) (ps : List ℕ) → Along a ps → Along a (at ∷ ps)
@@ -152,7 +156,7 @@ module _ (tables : List Table) (names : List (List ℕ)) where
   pub stmt_along : (node : StmtNode) (known : Known) → Along ((ruled tables names node).faults known) (stmt_places node)
   stmt_along = ind-StmtNode (λ node. (known : Known) → Along ((ruled tables names node).faults known) (stmt_places node)) (λ x y is. subst (λ z. (known : Known) → Along ((ruled tables names (roll-StmtNode z)).faults known) (stmt_places (roll-StmtNode z))) is
       (subst (λ (k : Ruled × List ℕ). (known : Known) → Along (k.0.faults known) k.1)
-        (λ i. (sym (fold-roll-StmtNode Ruled (rule_step tables names) (map-StmtNode Stood-node StmtNode (λ q. q.0) y)) i, sym (fold-roll-StmtNode (List ℕ) stmt_places_step (map-StmtNode Stood-node StmtNode (λ q. q.0) y)) i)) (step_along y)))
+      (λ i. (sym (fold-roll-StmtNode Ruled (rule_step tables names) (map-StmtNode Stood-node StmtNode (λ q. q.0) y)) i, sym (fold-roll-StmtNode (List ℕ) stmt_places_step (map-StmtNode Stood-node StmtNode (λ q. q.0) y)) i)) (step_along y)))
 
   pub body_along : (nodes : List StmtNode) (known : Known) → Along (all_faults (map (ruled tables names) nodes) known) (stmts_places nodes)
   body_along [] known = none_along []

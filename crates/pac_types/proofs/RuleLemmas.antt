@@ -1,8 +1,8 @@
 -- Checking from left to right meets the first of the faults of statements.
-use Rattle.std.proofs.Common.{◌≡◌, ◌<◌, ℕ, zero, suc, ◌+◌, ◌-◌, Bool, true, false, List, [], ◌∷◌, ◌++◌, length, replicate, map, Option, Some, None, Result, Ok, Err, true≢false, refl, sym, ap, subst, ◌∙◌, arith, append_assoc, length-append}
-use Rattle.std.specs.Prelude.{slice_get, nat_eq, not, if◌then◌else◌}
+use Rattle.std.proofs.Common.{◌≡◌, ℕ, zero, suc, ◌+◌, Bool, true, false, List, [], ◌∷◌, ◌++◌, length, replicate, Option, Some, None, Result, Ok, Err, true≢false, refl, sym, ap, subst, ◌∙◌}
+use Rattle.std.specs.Prelude.{nat_eq, not, if◌then◌else◌}
 use Rattle.std.specs.Option.{option_map, option_and_then}
-use Rattle.std.proofs.lemmas.List.{append-nil, length-map, length-replicate}
+use Rattle.std.proofs.lemmas.List.{append-nil, length-map}
 use Rattle.pac_value.specs.declared.values.Ty.{Ty}
 use Rattle.pac_value.specs.declared.values.Ty.TheVariants.{Int as IntTy, Text as TextTy, Bool as BoolTy}
 use Rattle.pac_value.specs.declared.expr.Expr.{Expr}
@@ -11,25 +11,18 @@ use Rattle.pac_value.specs.Expressions.{◌>>=◌}
 use Rattle.pac_syntax.specs.declared.tree.NameNode.{NameNode}
 use Rattle.pac_syntax.specs.declared.tree.LiteralNode.{LiteralNode}
 use Rattle.pac_syntax.specs.declared.tree.ExprNode.{ExprNode}
-use Rattle.pac_syntax.specs.declared.tree.StmtNode.{StmtNode}
-use Rattle.pac_syntax.specs.declared.tree.StmtNode.TheOpen as form
-use Rattle.pac_syntax.specs.declared.tree.StmtNode.TheOpen.{StmtNode-F}
-use Rattle.pac_syntax.specs.declared.tree.StmtNode.TheViews.{roll-StmtNode}
-use Rattle.pac_syntax.specs.declared.tree.StmtNode.TheFolds.{fold-roll-StmtNode, ind-StmtNode, map-StmtNode}
 use Rattle.pac_types.specs.declared.type_error.TypeFault.{TypeFault}
-use Rattle.pac_types.specs.declared.type_error.TypeFaultKind.TheVariants.{Twice, WrongType, WrongCount}
+use Rattle.pac_types.specs.declared.type_error.TypeFaultKind.TheVariants.{WrongType, WrongCount}
 use Rattle.pac_types.specs.declared.scope.Variable.{Variable}
 use Rattle.pac_types.specs.declared.expressions.Typed.{Typed}
 use Rattle.pac_types.specs.declared.catalogue.Table.{Table}
-use Rattle.pac_types.specs.declared.catalogue.Stmt.{Stmt, Let, Read, Has, Put, Set, Delete, AbortIf, If}
+use Rattle.pac_types.specs.declared.catalogue.Stmt.{Stmt, Let, Read, Has, Put, Set}
 use Rattle.pac_types.specs.Numbering.{table_number, column_number}
 use Rattle.pac_types.specs.Sound.{is_wanted, key_type, column_type, column_types}
-use Rattle.pac_types.specs.Faults.{fault_if, twice, Known, unseen, is_fitting, is_test, Judged, wrong_type, placed, judged, unknown, key_wanted, column_wanted, column_faults, wrong_count, count_faults, values_wanted, values_faults, cell_faults, Ruled, all_names, all_faults, naming, plain, branching, rule_step, ruled}
-use Rattle.pac_types.specs.Checking.{ScopeState, Told, Cells, Fields, once, unless, taken, known_at, first_time, defined_in, hidden_in, left_at, checked_expr, checked_wanted, checked_test, checked_cell, checked_field, checked_read, counted, checked_values, checked_put, run_all, block, stmt_step, checked_stmt}
-use Rattle.pac_types.proofs.ExprLemmas.{some_is, none_is}
-use Rattle.pac_types.proofs.StmtLemmas.{equal}
-use Rattle.pac_types.proofs.BlockLemmas.{left_is}
-use Rattle.pac_types.proofs.FaultLemmas.{Agree, agree_then, agree_map, agree_same, once_agrees, known_types, JudgedBy, expr_judged, let_agrees, test_agrees, wanted_agrees, values_agree, key_found, column_found, then_ok, cell_agrees}
+use Rattle.pac_types.specs.Faults.{fault_if, twice, Known, unseen, is_fitting, Judged, wrong_type, placed, judged, unknown, key_wanted, column_wanted, column_faults, wrong_count, values_wanted, values_faults, cell_faults, Ruled, naming, plain}
+use Rattle.pac_types.specs.Checking.{ScopeState, Told, Cells, Fields, once, unless, taken, known_at, defined_in, checked_expr, checked_wanted, checked_cell, checked_field, checked_read, counted, checked_values, checked_put}
+use Rattle.pac_types.proofs.PartLemmas.{equal}
+use Rattle.pac_types.proofs.FaultLemmas.{Agree, agree_then, agree_map, agree_same, once_agrees, known_types, JudgedBy, expr_judged, wanted_agrees, values_agree, key_found, column_found, then_ok, cell_agrees}
 
 -- ---- the parts of statements
 
@@ -87,11 +80,12 @@ module _ (tables : List Table) (names : List (List ℕ)) (known : List (Option V
     where
       count : (t : ℕ) → table_number tables table.name ≡ Some t → (b : Bool) → nat_eq (length values) (length (column_types tables t)) ≡ b
           → Agree {A = Stmt} (fault_if (not b) table.at WrongCount ++ (placed (is_fitting (key_type tables t)) (judge key) ++ values_faults judge values (if b then column_types tables t else [])))
-            (unless {A = Unit {0}} (not b) tt table.at WrongCount >>= λ _. checked_wanted st key (key_type tables t) >>= λ k. checked_values st values (column_types tables t) >>= λ es. Ok (Put t k es))
+          (unless {A = Unit {0}} (not b) tt table.at WrongCount >>= λ _. checked_wanted st key (key_type tables t) >>= λ k. checked_values st values (column_types tables t) >>= λ es. Ok (Put t k es))
       count t e false g = (_, refl)
       count t e true g = let w = key_found tables table.name t e in
           agree_then _ _ (checked_wanted st key (key_type tables t)) (λ k. checked_values st values (column_types tables t) >>= λ es. Ok (Put t k es)) (wanted_agrees names known next key (key_type tables t) w.0 w.1)
           (λ k is. agree_map _ (checked_values st values (column_types tables t)) (λ es. Put t k es) (values_agree names known next values (column_types tables t) (equal _ _ g)))
+
       go : (o : Option ℕ) → table_number tables table.name ≡ o → Agree {A = Stmt} (unknown o table.at ++ (wrong_count tables o table.at (length values) ++ (placed (is_fitting (key_wanted tables o)) (judge key) ++ values_faults judge values (values_wanted tables o (length values)))))
           (known_at table.at o >>= λ t. counted table.at (length values) (length (column_types tables t)) >>= λ _. checked_wanted st key (key_type tables t) >>= λ k. checked_values st values (column_types tables t) >>= λ es. Ok (Put t k es))
       go None e = (_, refl)
@@ -133,6 +127,7 @@ module _ (names : List (List ℕ)) (known : List (Option Variable)) (next : ℕ)
       fresh : (r : Told) → NamingAgrees (ty (known_types known)) (faults (known_types known)) r → twice names (length (known_types known)) name ≡ [] → StmtAgrees names (naming ty (λ k. twice names (length k) name ++ faults k)) known r
       fresh (Ok a) p e = (ap (λ zs. zs ++ faults (known_types known)) e ∙ p.0, Some (record { number = next; ty = p.1 }) ∷ [], next + 1, p.2, (λ i. Some (sym p.3 i) ∷ []), refl)
       fresh (Err f) p e = (p.0, ap (λ zs. zs ++ faults (known_types known)) e ∙ p.1)
+
       go : (q : Result (Unit {0}) TypeFault) → Agree (twice names (length (known_types known)) name) q → StmtAgrees names (naming ty (λ k. twice names (length k) name ++ faults k)) known (q >>= λ _. r)
       go (Ok x) p = fresh r told p
       go (Err f) p = (p.0 ++ faults (known_types known), ap (λ zs. zs ++ faults (known_types known)) p.1)
@@ -188,6 +183,7 @@ module _ (names : List (List ℕ)) (known : List (Option Variable)) (next : ℕ)
         where
           w : (ty : Ty) × (column_type tables f.0 f.2 ≡ Some ty) × (wanted ≡ column_type tables f.0 f.2)
           w = q f refl
+
           go : (b : Bool) → is_wanted (Some (type_of default.value)) (column_type tables f.0 f.2) ≡ b
               → NamingAgrees wanted (field_faults ++ last) (taken default.at b >>= λ _. Ok (Read next f.0 f.1 f.2 default.value, defined_in (type_of default.value) (at names known next)))
           go true h = ((λ i. p i ++ read_faults true w.0 _ w.2 w.1 h i), type_of default.value, refl, w.2 ∙ is_the_type (type_of default.value) (column_type tables f.0 f.2) h)
@@ -195,10 +191,10 @@ module _ (names : List (List ℕ)) (known : List (Option Variable)) (next : ℕ)
 
     pub set_agrees : (table : NameNode) (key : ExprNode) (column : NameNode) (value : ExprNode)
         → Agree {A = Stmt × ScopeState} ((cell_faults tables (judged names (known_types known)) table key ++ column_faults tables (table_number tables table.name) column) ++ placed (is_fitting (column_wanted tables (table_number tables table.name) column.name)) (judged names (known_types known) value))
-          (checked_field tables (at names known next) table key column >>= λ f. checked_wanted (at names known next) value (column_type tables f.0 f.2) >>= λ e. Ok (Set f.0 f.1 f.2 e, at names known next))
+        (checked_field tables (at names known next) table key column >>= λ f. checked_wanted (at names known next) value (column_type tables f.0 f.2) >>= λ e. Ok (Set f.0 f.1 f.2 e, at names known next))
     set_agrees table key column value = agree_then _ _ (checked_field tables (at names known next) table key column) (λ f. checked_wanted (at names known next) value (column_type tables f.0 f.2) >>= λ e. Ok (Set f.0 f.1 f.2 e, at names known next)) (field_agrees tables names known next table key column)
         (λ f is. let w = column_is tables names known next table key column f is in
-          agree_same {A = Stmt × ScopeState} _ _ _ (ap (λ o. placed (is_fitting o) (judged names (known_types known) value)) w.2) (agree_map _ (checked_wanted (at names known next) value (column_type tables f.0 f.2)) (λ e. (Set f.0 f.1 f.2 e, at names known next)) (wanted_agrees names known next value (column_type tables f.0 f.2) w.0 w.1)))
+        agree_same {A = Stmt × ScopeState} _ _ _ (ap (λ o. placed (is_fitting o) (judged names (known_types known) value)) w.2) (agree_map _ (checked_wanted (at names known next) value (column_type tables f.0 f.2)) (λ e. (Set f.0 f.1 f.2 e, at names known next)) (wanted_agrees names known next value (column_type tables f.0 f.2) w.0 w.1)))
 
     abbrev set_rules : NameNode → ExprNode → NameNode → ExprNode → Ruled
     set_rules table key column value = plain (λ k. (cell_faults tables (judged names k) table key ++ column_faults tables (table_number tables table.name) column) ++ placed (is_fitting (column_wanted tables (table_number tables table.name) column.name)) (judged names k value))
@@ -212,6 +208,7 @@ module _ (names : List (List ℕ)) (known : List (Option Variable)) (next : ℕ)
             → StmtAgrees names (set_rules table key column value) known (r >>= λ e. Ok (Set f.0 f.1 f.2 e, at names known next))
         value_plain f (Ok e) p = (p, [], next, (λ i. at names (sym (append-nil known) i) next), refl, refl)
         value_plain f (Err x) p = p
+
         go : (r : Result Fields TypeFault) → Agree {A = Stmt × ScopeState} ((set_rules table key column value).faults (known_types known)) (r >>= λ f. checked_wanted (at names known next) value (column_type tables f.0 f.2) >>= λ e. Ok (Set f.0 f.1 f.2 e, at names known next))
             → StmtAgrees names (set_rules table key column value) known (r >>= λ f. checked_wanted (at names known next) value (column_type tables f.0 f.2) >>= λ e. Ok (Set f.0 f.1 f.2 e, at names known next))
         go (Err x) p = p

@@ -1,14 +1,11 @@
 -- What checking a statement tells: its numbers, that it is sound and what is visible behind it, or that it is neither.
-use Rattle.std.proofs.Common.{◌≡◌, ◌<◌, ◌≤◌, ℕ, zero, suc, ◌+◌, ◌-◌, Bool, true, false, ◌&&◌, ◌||◌, ◌==◌, cond, List, [], ◌∷◌, ◌++◌, length, take, drop, get_or, replicate, map, Option, Some, None, Result, Ok, Err, true≢false, refl, sym, ap, subst, ◌∙◌, arith, add-one, append_assoc, inl, inr, ◌⊎◌, length-append, is_some}
-use Rattle.std.specs.Prelude.{slice_get, if◌then◌else◌, bytes_eq, nat_lt, nat_eq, not}
+use Rattle.std.proofs.Common.{◌≡◌, ◌<◌, ◌≤◌, ℕ, suc, ◌+◌, Bool, true, false, ◌&&◌, ◌==◌, cond, List, [], ◌∷◌, ◌++◌, length, take, drop, get_or, map, Option, Some, None, Result, Ok, Err, true≢false, refl, sym, ap, subst, ◌∙◌, arith}
+use Rattle.std.specs.Prelude.{bytes_eq, nat_eq, not}
 use Rattle.std.specs.Option.{option_map, option_and_then}
-use Rattle.std.specs.List.{IsDistinct, flat_map}
-use Rattle.std.proofs.lemmas.Grind.{common_steps}
-use Rattle.std.proofs.lemmas.List.{append-nil, length-replicate}
-use Rattle.std.proofs.Math.Seq.{take-append_seam}
+use Rattle.std.specs.List.{IsDistinct}
+use Rattle.std.proofs.lemmas.List.{append-nil}
 use Rattle.pac_value.specs.declared.values.Ty.{Ty}
 use Rattle.pac_value.specs.declared.values.Ty.TheVariants.{Bool as BoolTy}
-use Rattle.pac_value.specs.declared.values.Value.{Value}
 use Rattle.pac_value.specs.declared.expr.Expr.{Expr}
 use Rattle.pac_value.specs.Values.{type_of}
 use Rattle.pac_value.specs.Expressions.{◌>>=◌, type_in}
@@ -16,137 +13,20 @@ use Rattle.pac_syntax.specs.declared.tree.NameNode.{NameNode}
 use Rattle.pac_syntax.specs.declared.tree.LiteralNode.{LiteralNode}
 use Rattle.pac_syntax.specs.declared.tree.ExprNode.{ExprNode}
 use Rattle.pac_types.specs.declared.type_error.TypeFault.{TypeFault}
-use Rattle.pac_types.specs.declared.type_error.TypeFaultKind.TheVariants.{UnknownName, Twice, WrongCount}
+use Rattle.pac_types.specs.declared.type_error.TypeFaultKind.TheVariants.{Twice, WrongCount}
 use Rattle.pac_types.specs.declared.scope.Variable.{Variable}
 use Rattle.pac_types.specs.declared.expressions.Typed.{Typed}
 use Rattle.pac_types.specs.declared.catalogue.Table.{Table}
-use Rattle.pac_types.specs.declared.catalogue.Stmt.{Stmt, Let, Read, Has, Put, Set, Delete, AbortIf, If}
+use Rattle.pac_types.specs.declared.catalogue.Stmt.{Stmt, Let, Read, Has, Put, Set, Delete, AbortIf}
 use Rattle.pac_types.specs.declared.catalogue.Stmt.TheOpen as form
-use Rattle.pac_types.specs.Numbering.{AreDistinct, number_of, table_number, column_number, Sight, Numbered, naming, plain, cell_by, resolved, resolved_all, all_names, counts, in_turn, unseen, branching}
-use Rattle.pac_types.specs.Sound.{Scope, Check, check, check_step, scope_after, in_order, any_defines, without, with_var, if_so, is_wanted, is_bool, are_wanted, is_width, key_type, column_type, column_types}
+use Rattle.pac_types.specs.Numbering.{AreDistinct, number_of, table_number, column_number, Sight, Numbered, naming, plain, cell_by, resolved, resolved_all}
+use Rattle.pac_types.specs.Sound.{Scope, Check, check, check_step, scope_after, with_var, if_so, is_wanted, is_bool, are_wanted, is_width, key_type, column_type, column_types}
 use Rattle.pac_types.specs.Faults.{is_before}
-use Rattle.pac_types.specs.Checking.{ScopeState, Told, Cells, Fields, once, unless, taken, known_at, counted, defined_in, hidden_in, left_at, checked_expr, checked_wanted, checked_test, checked_cell, checked_field, checked_read, checked_values, checked_put, run_all, block}
-use Rattle.pac_types.proofs.StmtForms.{at-Let, at-Read, at-Has, at-Put, at-Set, at-Delete, at-AbortIf, at-If}
+use Rattle.pac_types.specs.Checking.{ScopeState, Told, Cells, Fields, once, unless, taken, known_at, counted, defined_in, checked_wanted, checked_cell, checked_field, checked_read, checked_values}
+use Rattle.pac_types.proofs.StmtForms.{at-Let, at-Read, at-Has, at-Put, at-Set, at-Delete, at-AbortIf}
 use Rattle.pac_types.proofs.NameLemmas.{number-take, below, distinct-more, not_yet}
-use Rattle.pac_types.proofs.ExprLemmas.{numbers_of, Said, said, Fit, Passed, wanted_passed, test_passed, some_is, none_is}
-
--- ---- numbers and lists
-
-pub differs : (a b : ℕ) → a < b → (a == b) ≡ false
-differs a b lt = grind (arith, common_steps)
-
-pub itself : (a : ℕ) → (a == a) ≡ true
-itself a = grind (arith, common_steps)
-
-pub equal : (a b : ℕ) → (a == b) ≡ true → a ≡ b
-equal a b e = grind (arith, common_steps)
-
-pub in_either : {A : Type 0} (xs ys : List A) (i : ℕ) (y : A) → slice_get (xs ++ ys) i ≡ Some y → (slice_get xs i ≡ Some y) ⊎ ((j : ℕ) × (slice_get ys j ≡ Some y))
-in_either [] ys i y h = inr (i, h)
-in_either (x ∷ xs) ys zero y h = inl h
-in_either (x ∷ xs) ys (suc i) y h = in_either xs ys i y h
-
-in_one : {A : Type 0} (x y : A) (j : ℕ) → slice_get (x ∷ []) j ≡ Some y → x ≡ y
-in_one x y zero h = some_is h
-in_one x y (suc j) h = absurd (none_is h)
-
-pub unseen_none : (k j : ℕ) (v : Variable) → slice_get (replicate k None) j ≡ Some (Some v) → ⊥
-unseen_none zero j v h = none_is h
-unseen_none (suc k) zero v h = none_is (some_is h)
-unseen_none (suc k) (suc j) v h = unseen_none k j v h
-
-drop_suc : {A : Type 0} (xs : List A) (k : ℕ) (y : A) (ys : List A) → drop k xs ≡ y ∷ ys → (k < length xs) × (y ≡ get_or xs k y) × (drop (suc k) xs ≡ ys)
-drop_suc [] zero y ys h = absurd cc
-drop_suc [] (suc k) y ys h = absurd cc
-drop_suc (x ∷ xs) zero y ys h = (omega arith, cc, cc)
-drop_suc (x ∷ xs) (suc k) y ys h = let p = drop_suc xs k y ys h in (omega (arith, p.0), p.1, p.2)
-
-pub drop_first : {A : Type 0} (xs : List A) (k : ℕ) (y : A) (ys : List A) → drop k xs ≡ y ∷ ys → (k < length xs) × (y ≡ get_or xs k y) × (drop (k + 1) xs ≡ ys)
-drop_first xs k y ys h = let p = drop_suc xs k y ys h in (p.0, p.1, ap (λ n. drop n xs) (add-one k) ∙ p.2)
-
-pub numbers-append : (a b : List (Option Variable)) → numbers_of (a ++ b) ≡ numbers_of a ++ numbers_of b
-numbers-append [] b = refl
-numbers-append (x ∷ a) b = ap (λ zs. option_map (λ v. v.number) x ∷ zs) (numbers-append a b)
-
-pub numbers-unseen : (k : ℕ) → numbers_of (replicate k None) ≡ unseen k
-numbers-unseen zero = refl
-numbers-unseen (suc k) = ap (λ zs. None ∷ zs) (numbers-unseen k)
-
--- ---- what is joined from options
-
-pub map_is : {A B : Type 0} (f : A → B) (o : Option A) (x : B) → option_map f o ≡ Some x → (a : A) × (o ≡ Some a) × (f a ≡ x)
-map_is f None x h = absurd (none_is h)
-map_is f (Some a) x h = (a, refl, some_is h)
-
-pub then_is : {A B : Type 0} (f : A → Option B) (o : Option A) (x : B) → option_and_then f o ≡ Some x → (a : A) × (o ≡ Some a) × (f a ≡ Some x)
-then_is f None x h = absurd (none_is h)
-then_is f (Some a) x h = (a, refl, h)
-
-pub cell_is : (t : Option ℕ) (k : Option Expr) (f : ℕ → Expr → Option Stmt) (s : Stmt) → cell_by t k f ≡ Some s → (a : ℕ) × (b : Expr) × (t ≡ Some a) × (k ≡ Some b) × (f a b ≡ Some s)
-cell_is None k f s h = absurd (none_is h)
-cell_is (Some a) None f s h = absurd (none_is h)
-cell_is (Some a) (Some b) f s h = (a, b, refl, refl, h)
-
-pub some_of : {A : Type 0} (o : Option A) → is_some o ≡ true → (a : A) × (o ≡ Some a)
-some_of None h = absurd (true≢false (sym h))
-some_of (Some a) h = (a, refl)
-
-pub so_true : (b : Bool) (f g : Scope) → if_so b f ≡ Some g → b ≡ true
-so_true true f g h = refl
-so_true false f g h = absurd (none_is h)
-
-pub so_false : (b : Bool) (f : Scope) → b ≡ false → if_so b f ≡ None
-so_false true f e = absurd (true≢false e)
-so_false false f e = refl
-
-pub so_some : (b : Bool) (f : Scope) → b ≡ true → if_so b f ≡ Some f
-so_some true f e = refl
-so_some false f e = absurd (true≢false (sym e))
-
-pub and_true : (a b : Bool) → (a && b) ≡ true → (a ≡ true) × (b ≡ true)
-and_true true true h = (refl, refl)
-and_true true false h = absurd (true≢false (sym h))
-and_true false b h = absurd (true≢false (sym h))
-
-pub or_true : (a b : Bool) → (a || b) ≡ true → (a ≡ true) ⊎ (b ≡ true)
-or_true true b h = inl refl
-or_true false b h = inr h
-
-pub left_false : (a b : Bool) → a ≡ false → (a && b) ≡ false
-left_false true b e = absurd (true≢false e)
-left_false false b e = refl
-
-pub right_false : (a b : Bool) → b ≡ false → (a && b) ≡ false
-right_false true b e = e
-right_false false b e = refl
-
-pub both_true : (a b : Bool) → a ≡ true → b ≡ true → (a && b) ≡ true
-both_true a b p q = ap (λ c. c && b) p ∙ q
-
-pub clash : (b : Bool) → b ≡ true → b ≡ false → ⊥
-clash b p q = true≢false (sym p ∙ q)
-
--- ---- scopes
-
-fit_push : (known : List (Option Variable)) (next : ℕ) (scope : Scope) (ty : Ty) → Fit known next scope
-    → Fit (known ++ Some (record { number = next; ty = ty }) ∷ []) (next + 1) (with_var scope next ty)
-fit_push known next scope ty fit i v h = go (in_either known (Some (record { number = next; ty = ty }) ∷ []) i (Some v) h)
-  where
-    go : (slice_get known i ≡ Some (Some v)) ⊎ ((j : ℕ) × (slice_get (Some (record { number = next; ty = ty }) ∷ []) j ≡ Some (Some v))) → (v.number < next + 1) × (with_var scope next ty v.number ≡ Some v.ty)
-    go (inl e) = let p = fit i v e in (omega (arith, p.0), ap (λ b. if b then Some ty else scope v.number) (differs v.number next p.0) ∙ p.1)
-    go (inr e) =
-        let is : record { number = next; ty = ty } ≡ v = some_is (in_one _ _ e.0 e.1) in
-        subst (λ (w : Variable). (w.number < next + 1) × (with_var scope next ty w.number ≡ Some w.ty)) is (omega arith, ap (λ b. if b then Some ty else scope next) (itself next))
-
-pub fit_hidden : (known : List (Option Variable)) (next : ℕ) (scope : Scope) (ty : Ty) → Fit known next scope → Fit known (next + 1) (with_var scope next ty)
-fit_hidden known next scope ty fit i v h = let p = fit i v h in (omega (arith, p.0), ap (λ b. if b then Some ty else scope v.number) (differs v.number next p.0) ∙ p.1)
-
-pub fit_unseen : (known : List (Option Variable)) (next more k : ℕ) (scope : Scope) → next ≤ more → Fit known next scope → Fit (known ++ replicate k None) more scope
-fit_unseen known next more k scope le fit i v h = go (in_either known (replicate k None) i (Some v) h)
-  where
-    go : (slice_get known i ≡ Some (Some v)) ⊎ ((j : ℕ) × (slice_get (replicate k None) j ≡ Some (Some v))) → (v.number < more) × (scope v.number ≡ Some v.ty)
-    go (inl e) = let p = fit i v e in (omega (arith, p.0), p.1)
-    go (inr e) = absurd (unseen_none k e.0 v e.1)
+use Rattle.pac_types.proofs.ExprLemmas.{numbers_of, Said, Fit, Passed, wanted_passed, some_is, none_is}
+use Rattle.pac_types.proofs.PartLemmas.{itself, equal, drop_first, map_is, then_is, cell_is, so_false, so_some, and_true, left_false, right_false, both_true, clash, fit_push}
 
 module _ (tables : List Table) (names : List (List ℕ)) where
   abbrev pub at : List (Option Variable) → ℕ → ScopeState
@@ -202,6 +82,7 @@ module _ (tables : List Table) (names : List (List ℕ)) where
     where
       same_next : next ≡ next + 0
       same_next = omega arith
+
       same_length : length known ≡ length known + 0
       same_length = omega arith
 
@@ -225,6 +106,7 @@ module _ (tables : List Table) (names : List (List ℕ)) where
     where
       first : (length known < length names) × (name.name ≡ get_or names (length known) name.name) × (drop (length known + 1) names ≡ rest)
       first = drop_first names (length known) name.name rest start.left
+
       new : (r : Told) → NamingTold known next scope (f (numbers_of known) next) r → is_before (number_of names name.name) (length known) ≡ false → StmtTold (naming f) known next scope rest r
       new (Err e) told no_before = λ s is after sound distinct. none_is (sym (told s is) ∙ sound)
       new (Ok a) told no_before = record {
@@ -240,6 +122,7 @@ module _ (tables : List Table) (names : List (List ℕ)) where
         distinct = distinct-more names (length known) name.name first.0 first.1 start.distinct (number-take names (length known) name.name ∙ not_before (number_of names name.name) (length known) no_before);
         left = first.2;
       }
+
       go : (b : Bool) → is_before (number_of names name.name) (length known) ≡ b → StmtTold (naming f) known next scope rest (unless {A = Unit {0}} b tt name.at Twice >>= λ _. r)
       go true e = λ s is after sound distinct. is_there (number_of names name.name) (length known) e (sym (number-take names (length known) name.name) ∙ not_yet names (length known) name.name first.0 first.1 distinct)
       go false e = new r told e
@@ -304,9 +187,6 @@ module _ (tables : List Table) (names : List (List ℕ)) where
 
   -- ---- forms
 
-  abbrev form_is : Stmt → Check → Type 0
-  form_is s c = check tables s ≡ c
-
   pub after_is : (s : Stmt) (c : Check) (scope : Scope) → check tables s ≡ c → scope_after tables s scope ≡ c.after scope
   after_is s c scope e = ap (λ (c : Check). c.after scope) e
 
@@ -327,9 +207,13 @@ module _ (tables : List Table) (names : List (List ℕ)) where
     pub let_told : (o : Option Expr) (r : Result Typed TypeFault) → Said scope o r → NamingTold known next scope (option_map (λ e. Let next e) o) (r >>= λ v. Ok (Let next v.expr, defined_in v.ty (record { names = names; known = known; next = next })))
     let_told o (Err f) told = λ s is. let h = map_is (λ e. Let next e) o s is in
         ap (λ z. scope_after tables z scope) (sym h.2) ∙ after_is _ _ scope (at-Let Check (check_step tables) _ next h.0 refl) ∙ ap (option_map (with_var scope next)) (told h.0 h.1)
-    let_told o (Ok v) told = (v.ty, refl, ap (λ z. option_map (λ e. Let next e) z) told.0,
-        after_is _ _ scope (at-Let Check (check_step tables) _ next v.expr refl) ∙ ap (option_map (with_var scope next)) told.1,
-        λ y. defines_is _ _ y (at-Let Check (check_step tables) _ next v.expr refl))
+    let_told o (Ok v) told = (
+      v.ty,
+      refl,
+      ap (λ z. option_map (λ e. Let next e) z) told.0,
+      after_is _ _ scope (at-Let Check (check_step tables) _ next v.expr refl) ∙ ap (option_map (with_var scope next)) told.1,
+      λ y. defines_is _ _ y (at-Let Check (check_step tables) _ next v.expr refl),
+    )
 
     pub read_told : (t : Option ℕ) (k : Option Expr) (c : ℕ → Option ℕ) (default : LiteralNode) (r : Result Fields TypeFault) → FieldTold scope t k c r
         → NamingTold known next scope (cell_by t k (λ t k. option_map (λ c. Read next t k c default.value) (c t))) (r >>= λ f. checked_read tables (record { names = names; known = known; next = next }) f default)
@@ -341,8 +225,10 @@ module _ (tables : List Table) (names : List (List ℕ)) where
       where
         the_form : check tables (Read next f.0 f.1 f.2 default.value) ≡ check_step tables (form.Read next f.0 f.1 f.2 default.value)
         the_form = at-Read Check (check_step tables) _ next f.0 f.1 f.2 default.value refl
+
         found : cell_by t k (λ t k. option_map (λ c. Read next t k c default.value) (c t)) ≡ Some (Read next f.0 f.1 f.2 default.value)
         found = ap (λ z. cell_by z k (λ t k. option_map (λ c. Read next t k c default.value) (c t))) told.0 ∙ ap (λ z. cell_by (Some f.0) z (λ t k. option_map (λ c. Read next t k c default.value) (c t))) told.1 ∙ ap (λ z. option_map (λ c. Read next f.0 f.1 c default.value) z) told.2
+
         go : (b : Bool) → is_wanted (Some (type_of default.value)) (column_type tables f.0 f.2) ≡ b
             → NamingTold known next scope (cell_by t k (λ t k. option_map (λ c. Read next t k c default.value) (c t))) (taken default.at b >>= λ _. Ok (Read next f.0 f.1 f.2 default.value, defined_in (type_of default.value) (record { names = names; known = known; next = next })))
         go true e = (type_of default.value, refl, found, after_is _ _ scope the_form ∙ so_some _ _ (both_true _ _ told.3 e), λ y. defines_is _ _ y the_form)
@@ -352,21 +238,34 @@ module _ (tables : List Table) (names : List (List ℕ)) where
         → NamingTold known next scope (cell_by t k (λ t k. Some (Has next t k))) (r >>= λ c. Ok (Has next c.0 c.1, defined_in BoolTy (record { names = names; known = known; next = next })))
     has_told t k (Err f) told = λ s is. let h = cell_is t k _ s is in
         ap (λ z. scope_after tables z scope) (sym (some_is h.4)) ∙ after_is _ _ scope (at-Has Check (check_step tables) _ next h.0 h.1 refl) ∙ so_false _ _ (told h.0 h.1 h.2 h.3)
-    has_told t k (Ok c) told = (BoolTy, refl, ap (λ z. cell_by z k (λ t k. Some (Has next t k))) told.0 ∙ ap (λ z. cell_by (Some c.0) z (λ t k. Some (Has next t k))) told.1,
-        after_is _ _ scope (at-Has Check (check_step tables) _ next c.0 c.1 refl) ∙ so_some _ _ told.2, λ y. defines_is _ _ y (at-Has Check (check_step tables) _ next c.0 c.1 refl))
+    has_told t k (Ok c) told = (
+      BoolTy,
+      refl,
+      ap (λ z. cell_by z k (λ t k. Some (Has next t k))) told.0 ∙ ap (λ z. cell_by (Some c.0) z (λ t k. Some (Has next t k))) told.1,
+      after_is _ _ scope (at-Has Check (check_step tables) _ next c.0 c.1 refl) ∙ so_some _ _ told.2,
+      λ y. defines_is _ _ y (at-Has Check (check_step tables) _ next c.0 c.1 refl),
+    )
 
     pub delete_told : (t : Option ℕ) (k : Option Expr) (r : Result Cells TypeFault) → CellTold scope t k r
         → PlainTold known next scope (cell_by t k (λ t k. Some (Delete t k))) (r >>= λ c. Ok (Delete c.0 c.1, record { names = names; known = known; next = next }))
     delete_told t k (Err f) told = λ s is. let h = cell_is t k _ s is in
         ap (λ z. scope_after tables z scope) (sym (some_is h.4)) ∙ after_is _ _ scope (at-Delete Check (check_step tables) _ h.0 h.1 refl) ∙ so_false _ _ (told h.0 h.1 h.2 h.3)
-    delete_told t k (Ok c) told = (refl, ap (λ z. cell_by z k (λ t k. Some (Delete t k))) told.0 ∙ ap (λ z. cell_by (Some c.0) z (λ t k. Some (Delete t k))) told.1,
-        after_is _ _ scope (at-Delete Check (check_step tables) _ c.0 c.1 refl) ∙ so_some _ _ told.2, λ y. defines_is _ _ y (at-Delete Check (check_step tables) _ c.0 c.1 refl))
+    delete_told t k (Ok c) told = (
+      refl,
+      ap (λ z. cell_by z k (λ t k. Some (Delete t k))) told.0 ∙ ap (λ z. cell_by (Some c.0) z (λ t k. Some (Delete t k))) told.1,
+      after_is _ _ scope (at-Delete Check (check_step tables) _ c.0 c.1 refl) ∙ so_some _ _ told.2,
+      λ y. defines_is _ _ y (at-Delete Check (check_step tables) _ c.0 c.1 refl),
+    )
 
     pub abort_told : (o : Option Expr) (r : Result Expr TypeFault) → Passed scope is_bool o r → PlainTold known next scope (option_map (λ e. AbortIf e) o) (r >>= λ e. Ok (AbortIf e, record { names = names; known = known; next = next }))
     abort_told o (Err f) told = λ s is. let h = map_is (λ e. AbortIf e) o s is in
         ap (λ z. scope_after tables z scope) (sym h.2) ∙ after_is _ _ scope (at-AbortIf Check (check_step tables) _ h.0 refl) ∙ so_false _ _ (told h.0 h.1)
-    abort_told o (Ok e) told = (refl, ap (λ z. option_map (λ e. AbortIf e) z) told.0,
-        after_is _ _ scope (at-AbortIf Check (check_step tables) _ e refl) ∙ so_some _ _ told.1, λ y. defines_is _ _ y (at-AbortIf Check (check_step tables) _ e refl))
+    abort_told o (Ok e) told = (
+      refl,
+      ap (λ z. option_map (λ e. AbortIf e) z) told.0,
+      after_is _ _ scope (at-AbortIf Check (check_step tables) _ e refl) ∙ so_some _ _ told.1,
+      λ y. defines_is _ _ y (at-AbortIf Check (check_step tables) _ e refl),
+    )
 
     pub set_told : (t : Option ℕ) (k : Option Expr) (c : ℕ → Option ℕ) (o : Option Expr) (r : Result Fields TypeFault) (q : Option Ty → Result Expr TypeFault) → FieldTold scope t k c r → ((by : Option Ty) → Passed scope (λ ty. is_wanted ty by) o (q by))
         → PlainTold known next scope (cell_by t k (λ t k. option_and_then (λ c. option_map (λ e. Set t k c e) o) (c t))) (r >>= λ f. q (column_type tables f.0 f.2) >>= λ e. Ok (Set f.0 f.1 f.2 e, record { names = names; known = known; next = next }))
@@ -379,14 +278,20 @@ module _ (tables : List Table) (names : List (List ℕ)) where
       where
         numbered_set : Option Stmt
         numbered_set = cell_by t k (λ t k. option_and_then (λ c. option_map (λ e. Set t k c e) o) (c t))
+
         found : numbered_set ≡ option_map (λ e. Set f.0 f.1 f.2 e) o
         found = ap (λ z. cell_by z k (λ t k. option_and_then (λ c. option_map (λ e. Set t k c e) o) (c t))) told.0 ∙ ap (λ z. cell_by (Some f.0) z (λ t k. option_and_then (λ c. option_map (λ e. Set t k c e) o) (c t))) told.1
             ∙ ap (λ z. option_and_then (λ c. option_map (λ e. Set f.0 f.1 c e) o) z) told.2
+
         go : (r : Result Expr TypeFault) → Passed scope (λ ty. is_wanted ty (column_type tables f.0 f.2)) o r → PlainTold known next scope numbered_set (r >>= λ e. Ok (Set f.0 f.1 f.2 e, record { names = names; known = known; next = next }))
         go (Err g) p = λ s is. let j = map_is (λ e. Set f.0 f.1 f.2 e) o s (sym found ∙ is) in
             ap (λ z. scope_after tables z scope) (sym j.2) ∙ after_is _ _ scope (at-Set Check (check_step tables) _ f.0 f.1 f.2 j.0 refl) ∙ so_false _ _ (right_false _ _ (p j.0 j.1))
-        go (Ok e) p = (refl, found ∙ ap (λ z. option_map (λ e. Set f.0 f.1 f.2 e) z) p.0,
-            after_is _ _ scope (at-Set Check (check_step tables) _ f.0 f.1 f.2 e refl) ∙ so_some _ _ (both_true _ _ told.3 p.1), λ y. defines_is _ _ y (at-Set Check (check_step tables) _ f.0 f.1 f.2 e refl))
+        go (Ok e) p = (
+          refl,
+          found ∙ ap (λ z. option_map (λ e. Set f.0 f.1 f.2 e) z) p.0,
+          after_is _ _ scope (at-Set Check (check_step tables) _ f.0 f.1 f.2 e refl) ∙ so_some _ _ (both_true _ _ told.3 p.1),
+          λ y. defines_is _ _ y (at-Set Check (check_step tables) _ f.0 f.1 f.2 e refl),
+        )
 
     values_told : (es : List ExprNode) (tys : List Ty) → length es ≡ length tys → ValuesTold scope (resolved_all names (numbers_of known) es) tys (checked_values (record { names = names; known = known; next = next }) es tys)
     values_told [] [] e = (refl, refl)
@@ -422,10 +327,13 @@ module _ (tables : List Table) (names : List (List ℕ)) where
       put_values k is_key wants (Err f) told = λ s is. let h = put_is s is in
           h.6 ∙ so_false _ _ (right_false _ _ (ap (λ n. are_wanted (map (type_in scope) h.2) (column_types tables n)) (some_is (sym h.3 ∙ at_table)) ∙ told h.2 h.5))
       put_values k is_key wants (Ok es) told =
-          let width : is_width (length es) ≡ true = ap is_width (sym (length_types scope es) ∙ wanted_length _ _ told.1) ∙ wide table.name t at_table in
-          (refl, ap (λ z. cell_by z (resolved names (numbers_of known) key) (λ t k. option_map (λ es. Put t k es) (resolved_all names (numbers_of known) values))) at_table
-            ∙ ap (λ z. cell_by (Some t) z (λ t k. option_map (λ es. Put t k es) (resolved_all names (numbers_of known) values))) is_key ∙ ap (λ z. option_map (λ es. Put t k es) z) told.0,
-          after_is _ _ scope (at-Put Check (check_step tables) _ t k es refl) ∙ so_some _ _ (both_true _ _ (both_true _ _ wants width) told.1), λ y. defines_is _ _ y (at-Put Check (check_step tables) _ t k es refl))
+          let width : is_width (length es) ≡ true = ap is_width (sym (length_types scope es) ∙ wanted_length _ _ told.1) ∙ wide table.name t at_table in (
+            refl,
+            ap (λ z. cell_by z (resolved names (numbers_of known) key) (λ t k. option_map (λ es. Put t k es) (resolved_all names (numbers_of known) values))) at_table
+                ∙ ap (λ z. cell_by (Some t) z (λ t k. option_map (λ es. Put t k es) (resolved_all names (numbers_of known) values))) is_key ∙ ap (λ z. option_map (λ es. Put t k es) z) told.0,
+            after_is _ _ scope (at-Put Check (check_step tables) _ t k es refl) ∙ so_some _ _ (both_true _ _ (both_true _ _ wants width) told.1),
+            λ y. defines_is _ _ y (at-Put Check (check_step tables) _ t k es refl),
+          )
 
       put_key : length values ≡ length (column_types tables t) → (r : Result Expr TypeFault) → Passed scope (λ ty. is_wanted ty (key_type tables t)) (resolved names (numbers_of known) key) r
           → PutTold (r >>= λ k. checked_values (record { names = names; known = known; next = next }) values (column_types tables t) >>= λ es. Ok (Put t k es))

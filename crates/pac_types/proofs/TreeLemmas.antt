@@ -1,11 +1,9 @@
 -- What checking a procedure tells.
-use Rattle.std.proofs.Common.{◌≡◌, ◌<◌, ◌≤◌, ℕ, zero, suc, ◌+◌, Bool, true, false, List, [], ◌∷◌, ◌++◌, length, take, drop, get_or, map, Option, Some, None, Result, Ok, Err, true≢false, refl, sym, ap, subst, ◌∙◌, arith, add-one, append_assoc, is_some, take-append-drop, length-append}
+use Rattle.std.proofs.Common.{◌≡◌, ◌<◌, ℕ, zero, suc, ◌+◌, Bool, true, false, List, [], ◌∷◌, ◌++◌, length, take, drop, get_or, map, Option, Some, None, Result, Ok, Err, true≢false, refl, sym, ap, subst, ◌∙◌, arith, append_assoc, is_some, take-append-drop, length-append}
 use Rattle.std.specs.Prelude.{slice_get, bytes_eq, IsSome}
-use Rattle.std.specs.Option.{option_map, option_and_then}
+use Rattle.std.specs.Option.{option_map}
 use Rattle.std.specs.List.{IsDistinct, flat_map}
-use Rattle.std.proofs.lemmas.List.{append-nil, length-map}
-use Rattle.pac_value.specs.declared.values.Ty.{Ty}
-use Rattle.pac_value.specs.declared.expr.Expr.{Expr}
+use Rattle.std.proofs.lemmas.List.{append-nil}
 use Rattle.pac_value.specs.Expressions.{◌>>=◌}
 use Rattle.pac_syntax.specs.declared.tree.NameNode.{NameNode}
 use Rattle.pac_syntax.specs.declared.tree.ColumnNode.{ColumnNode}
@@ -21,15 +19,17 @@ use Rattle.pac_types.specs.declared.scope.Variable.{Variable}
 use Rattle.pac_types.specs.declared.catalogue.Table.{Table}
 use Rattle.pac_types.specs.declared.catalogue.Proc.{Proc}
 use Rattle.pac_types.specs.declared.catalogue.Stmt.{Stmt}
-use Rattle.pac_types.specs.Numbering.{AreDistinct, number_of, table_number, column_number, column_of, Sight, Numbered, naming, joined, defined, defined_step, numbered, number_step, branching, in_turn, body_of, numbers_from, proc_of, variables, resolved}
+use Rattle.pac_types.specs.Numbering.{AreDistinct, number_of, table_number, column_number, column_of, Numbered, joined, defined, defined_step, numbered, number_step, branching, in_turn, body_of, numbers_from, variables, resolved}
 use Rattle.pac_types.specs.Sound.{Scope, IsSoundProc, check, in_order, scope_of, types}
 use Rattle.pac_types.specs.Typing.{IsProcOf}
 use Rattle.pac_types.specs.Faults.{is_before}
-use Rattle.pac_types.specs.Checking.{ScopeState, Told, once, unless, defined_in, hidden_in, checked_test, checked_stmt, stmt_step, checked_block, checked_params, checked_proc, opening, block}
-use Rattle.pac_types.proofs.NameLemmas.{number-take, below, distinct-more, distinct-nil, not_yet, are_distinct}
-use Rattle.pac_types.proofs.ExprLemmas.{numbers_of, said, Fit, Passed, test_passed, wanted_passed, some_is, none_is}
-use Rattle.pac_types.proofs.StmtLemmas.{at, Start, Wide, drop_first, plain_told, naming_told, not_before, is_there, let_told, read_told, has_told, put_told, set_told, delete_told, abort_told, cell_of_node, field_of_node}
-use Rattle.pac_types.proofs.BlockLemmas.{Piece, numbering, checking, defining, Holds, AllHold, BlockTold, BlockGood, block_told, if_told, RunBad}
+use Rattle.pac_types.specs.Checking.{ScopeState, Told, once, unless, defined_in, checked_stmt, stmt_step, checked_block, checked_params, checked_proc, opening, block}
+use Rattle.pac_types.proofs.CheckLemmas.{joined-map}
+use Rattle.pac_types.proofs.NameLemmas.{number-take, distinct-more, distinct-nil, not_yet, are_distinct}
+use Rattle.pac_types.proofs.ExprLemmas.{numbers_of, said, Fit, test_passed, wanted_passed, some_is, none_is}
+use Rattle.pac_types.proofs.PartLemmas.{drop_first}
+use Rattle.pac_types.proofs.StmtLemmas.{at, Start, Wide, plain_told, naming_told, not_before, is_there, let_told, read_told, has_told, put_told, set_told, delete_told, abort_told, cell_of_node, field_of_node}
+use Rattle.pac_types.proofs.BlockLemmas.{Piece, numbering, checking, defining, Holds, AllHold, BlockTold, block_told, if_told}
 
 -- ---- statements
 
@@ -134,6 +134,7 @@ module _ (names : List (List ℕ)) where
     where
       first : (place < length names) × (name.name ≡ get_or names place name.name) × (drop (place + 1) names ≡ rest)
       first = drop_first names place name.name rest left
+
       go : (b : Bool) → is_before (number_of names name.name) place ≡ b → OnceTold place rest (unless {A = Unit {0}} b tt name.at Twice)
       go true e = λ all. is_there [] names (number_of names name.name) place e (sym (number-take names place name.name) ∙ not_yet names place name.name first.0 first.1 all)
       go false e = (distinct-more names place name.name first.0 first.1 distinct (number-take names place name.name ∙ not_before [] names (number_of names name.name) place e), first.2)
@@ -183,17 +184,23 @@ module _ (names : List (List ℕ)) where
     where
       more : List (Option Variable)
       more = known ++ Some (record { number = next; ty = node.ty }) ∷ []
+
       long : length known + 1 ≡ length more
       long = sym (length-append known (Some (record { number = next; ty = node.ty }) ∷ []))
+
       others : Type 0
       others = IsDistinct bytes_eq (take (length more) names) → drop (length more) names ≡ map (λ node. node.name.name) nodes ++ rest → ParamsTold nodes more (next + 1) rest (checked_params nodes (record { names = names; known = more; next = next + 1 }))
+
       whole : (r : Result ScopeState TypeFault) → ParamsTold nodes more (next + 1) rest r → ParamsTold (node ∷ nodes) known next rest r
       whole (Err f) told = told
       whole (Ok st) told =
           let count : length more + length nodes ≡ length known + suc (length nodes) = omega (arith, long) in
-          let same : next + 1 + length nodes ≡ next + suc (length nodes) = omega arith in
-          (told.0 ∙ (λ i. record { names = names; known = append_assoc known (Some (record { number = next; ty = node.ty }) ∷ []) (variables_from (next + 1) nodes) i; next = same i }),
-          subst (λ k. IsDistinct bytes_eq (take k names)) count told.1, subst (λ k. drop k names ≡ rest) count told.2)
+          let same : next + 1 + length nodes ≡ next + suc (length nodes) = omega arith in (
+            told.0 ∙ (λ i. record { names = names; known = append_assoc known (Some (record { number = next; ty = node.ty }) ∷ []) (variables_from (next + 1) nodes) i; next = same i }),
+            subst (λ k. IsDistinct bytes_eq (take k names)) count told.1,
+            subst (λ k. drop k names ≡ rest) count told.2,
+          )
+
       go : others → (r : Result (Unit {0}) TypeFault) → OnceTold names (length known) (map (λ node. node.name.name) nodes ++ rest) r
           → ParamsTold (node ∷ nodes) known next rest (r >>= λ _. checked_params nodes (defined_in node.ty (record { names = names; known = known; next = next })))
       go later (Err f) told = told
@@ -201,10 +208,6 @@ module _ (names : List (List ℕ)) where
           (later (subst (λ k. IsDistinct bytes_eq (take k names)) long told.0) (subst (λ k. drop k names ≡ map (λ node. node.name.name) nodes ++ rest) long told.1))
 
 -- ---- procedures
-
-joined-map : (nodes : List StmtNode) → joined (map defined nodes) ≡ flat_map defined nodes
-joined-map [] = refl
-joined-map (n ∷ ns) = ap (λ names. defined n ++ names) (joined-map ns)
 
 module _ (tables : List Table) (node : ProcNode) (wide : Wide tables (variables node)) where
   abbrev pub ProcTold : Result Proc TypeFault → Type 0
@@ -239,6 +242,7 @@ module _ (tables : List Table) (node : ProcNode) (wide : Wide tables (variables 
       found : (proc : Proc) → IsProcOf tables node proc → (body : List Stmt) → body_of tables (variables node) node.body (numbers_from 0 node.params) (length node.params) ≡ Some body → (o : Option Scope) → in_order (map (check tables) body) inner_scope ≡ o → IsSome o → ⊥
       found proc is body e None s h = true≢false (sym h)
       found proc is body e (Some after) s h = bad body (sym numbered_body ∙ e) after s is.distinct
+
       go : (proc : Proc) → IsProcOf tables node proc → (o : Option (List Stmt)) → body_of tables (variables node) node.body (numbers_from 0 node.params) (length node.params) ≡ o → ⊥
       go proc is None e = none_is (sym (ap (λ z. option_map the_proc z) e) ∙ is.named)
       go proc is (Some body) e =

@@ -1,5 +1,5 @@
 -- A tree is typed exactly where no fault stands in it.
-use Rattle.std.proofs.Common.{◌≡◌, List, map, Result, Ok, Err, refl, sym, ap, subst, ◌∙◌, ◌↔◌}
+use Rattle.std.proofs.Common.{◌≡◌, List, map, Result, Ok, Err, refl}
 use Rattle.pac_syntax.specs.declared.tree.Tree.{Tree}
 use Rattle.pac_syntax.specs.Limits.{IsWithinLimits}
 use Rattle.pac_syntax.specs.Order.{IsOrdered}
@@ -7,7 +7,7 @@ use Rattle.pac_types.specs.declared.catalogue.Proc.{Proc}
 use Rattle.pac_types.specs.declared.type_error.TypeFault.{TypeFault}
 use Rattle.pac_types.specs.Numbering.{table_of}
 use Rattle.pac_types.specs.Typing.{IsTyped}
-use Rattle.pac_types.specs.Faults.{Stands, IsFirstFault}
+use Rattle.pac_types.specs.Faults.{Stands}
 use Rattle.pac_types.specs.Checking.{checked_tables, checked_procs}
 use Rattle.pac_types.proofs.TypingLemmas.{tree_typed, tables_untyped, procs_untyped}
 use Rattle.pac_types.proofs.FirstLemmas.{tables_first, procs_first, none_stands}

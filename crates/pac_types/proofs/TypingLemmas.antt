@@ -1,15 +1,13 @@
 -- Tables, procedures and catalogues.
-use Rattle.std.proofs.Common.{◌≡◌, ◌<◌, ◌≤◌, ℕ, ◌+◌, zero, suc, Bool, true, false, List, [], ◌∷◌, ◌++◌, length, take, drop, map, get_or, Option, Some, None, Result, Ok, Err, true≢false, refl, sym, ap, ◌∙◌, subst, arith, add-one, length-append, take-append-drop}
-use Rattle.std.specs.Prelude.{All, IfSome, IsSome, IsTrue, is_some, bytes_eq, slice_get, nat_le}
+use Rattle.std.proofs.Common.{◌≡◌, ◌<◌, ◌≤◌, ℕ, ◌+◌, suc, true, List, [], ◌∷◌, ◌++◌, length, take, drop, map, get_or, Option, Some, None, Result, Ok, Err, refl, sym, ap, ◌∙◌, subst, arith, take-append-drop}
+use Rattle.std.specs.Prelude.{All, IfSome, IsTrue, bytes_eq}
 use Rattle.std.specs.List.{AllZip, AllByRecursion, IsDistinct}
-use Rattle.std.specs.Option.{option_map, option_and_then}
+use Rattle.std.specs.Option.{option_map}
 use Rattle.std.proofs.lemmas.List.{length-map, append-nil}
 use Rattle.std.proofs.lemmas.List.Elements.{All-map, All-from_recursion, recursion_from_All}
 use Rattle.std.proofs.lemmas.Option.{slice_get-get_or}
 use Rattle.std.proofs.lemmas.Grind.{common_steps}
-use Rattle.pac_value.specs.declared.values.Ty.{Ty}
 use Rattle.pac_value.specs.Expressions.{◌>>=◌}
-use Rattle.pac_syntax.specs.declared.tree.NameNode.{NameNode}
 use Rattle.pac_syntax.specs.declared.tree.ColumnNode.{ColumnNode}
 use Rattle.pac_syntax.specs.declared.tree.TableNode.{TableNode}
 use Rattle.pac_syntax.specs.declared.tree.ProcNode.{ProcNode}
@@ -21,13 +19,13 @@ use Rattle.pac_types.specs.declared.catalogue.Column.{Column}
 use Rattle.pac_types.specs.declared.catalogue.Table.{Table}
 use Rattle.pac_types.specs.declared.catalogue.Proc.{Proc}
 use Rattle.pac_types.specs.declared.catalogue.Stmt.{Stmt}
-use Rattle.pac_types.specs.Sound.{IsSoundProc, types, is_width, column_types, column_types_of}
+use Rattle.pac_types.specs.Sound.{is_width, column_types, column_types_of}
 use Rattle.pac_types.specs.Meaning.{operations}
-use Rattle.pac_types.specs.Numbering.{AreDistinct, variables, body_of, numbers_from, proc_of, column_of, table_of, column_names, table_names, table_number}
+use Rattle.pac_types.specs.Numbering.{AreDistinct, variables, body_of, numbers_from, column_of, table_of, column_names, table_names}
 use Rattle.pac_types.specs.Typing.{IsProcOf, HasDistinctColumns, Types, CatalogueState, IsCatalogue, IsSoundTable, IsProc, IsTyped}
 use Rattle.pac_types.specs.declared.type_error.TypeError.{TypeError}
 use Rattle.pac_types.specs.declared.type_error.TypeError.TheVariants as error
-use Rattle.pac_types.specs.Checking.{Gives, once, all_once, names_of, checked_table, checked_tables, checked_proc, checked_procs}
+use Rattle.pac_types.specs.Checking.{Gives, once, all_once, names_of, checked_tables, checked_proc, checked_procs}
 use Rattle.pac_types.proofs.NameLemmas.{are_distinct, distinct-nil, number-within}
 use Rattle.pac_types.proofs.CountLemmas.{body_size}
 use Rattle.pac_types.proofs.ExprLemmas.{some_is, none_is}
@@ -98,7 +96,6 @@ zip-all R P Q step [] (y ∷ ys) all each = absurd all
 zip-all R P Q step (x ∷ xs) [] all each = absurd all
 zip-all R P Q step (x ∷ xs) (y ∷ ys) all each = (step x y each.0 all.0, zip-all R P Q step xs ys all.1 each.1)
 
-
 abbrev the_proc : ProcNode → List Stmt → Proc
 the_proc node body = record { name = node.name.name; params = map column_of node.params; body = body }
 
@@ -161,9 +158,11 @@ tables_told names (node ∷ nodes) place distinct left = go (λ d l. tables_told
     later_told : (r : Result (Unit {0}) TypeFault) → HasDistinctColumns node → TablesTold names nodes r → TablesTold names (node ∷ nodes) r
     later_told (Ok x) columns told = (told.0, (columns, told.1))
     later_told (Err f) columns told = λ all each. told all each.1
+
     with_columns : (r : Result (Unit {0}) TypeFault) → AllTold (names_of node.columns) r → TablesTold names nodes (checked_tables names (place + 1) nodes) → TablesTold names (node ∷ nodes) (r >>= λ _. checked_tables names (place + 1) nodes)
     with_columns (Err f) told later = λ all each. told each.0
     with_columns (Ok x) told later = later_told (checked_tables names (place + 1) nodes) told later
+
     go : (IsDistinct bytes_eq (take (place + 1) names) → drop (place + 1) names ≡ node_names nodes → TablesTold names nodes (checked_tables names (place + 1) nodes)) → (r : Result (Unit {0}) TypeFault) → OnceTold names place (node_names nodes) r
         → TablesTold names (node ∷ nodes) ((r >>= λ _. all_once (names_of node.columns) 0 node.columns) >>= λ _. checked_tables names (place + 1) nodes)
     go later (Err f) told = λ all each. told all
@@ -188,6 +187,7 @@ module _ (tables : List Table) (wide : (names : List (List ℕ)) → Wide tables
           none_left : (procs : List Proc) → AreDistinct names → AllZip (IsProcOf tables) (node ∷ nodes) procs → ⊥
           none_left [] all zip = zip
           none_left (q ∷ qs) all zip = told qs all zip.1
+
       with_proc : (r : Result Proc TypeFault) → ProcTold tables node (wide (variables node)) r → ProcsTold nodes (checked_procs tables names (place + 1) nodes)
           → ProcsTold (node ∷ nodes) (r >>= λ p. checked_procs tables names (place + 1) nodes >>= λ ps. Ok (p ∷ ps))
       with_proc (Err f) told later = none_here
@@ -196,6 +196,7 @@ module _ (tables : List Table) (wide : (names : List (List ℕ)) → Wide tables
           none_here [] all zip = zip
           none_here (q ∷ qs) all zip = told q zip.0
       with_proc (Ok p) told later = others p told (checked_procs tables names (place + 1) nodes) later
+
       go : (IsDistinct bytes_eq (take (place + 1) names) → drop (place + 1) names ≡ proc_names nodes → ProcsTold nodes (checked_procs tables names (place + 1) nodes)) → (r : Result (Unit {0}) TypeFault) → OnceTold names place (proc_names nodes) r
           → ProcsTold (node ∷ nodes) (r >>= λ _. checked_proc tables node >>= λ p. checked_procs tables names (place + 1) nodes >>= λ ps. Ok (p ∷ ps))
       go later (Err f) told = λ procs all zip. told all

@@ -1,9 +1,9 @@
 -- Checking from left to right: what the checker does, statement by statement, up to the first fault that it meets.
-use Rattle.std.specs.Prelude.{◌≡◌, ℕ, ◌+◌, ◌-◌, Bool, true, false, nat_lt, nat_eq, not, List, [], ◌∷◌, ◌++◌, length, take, replicate, map, slice_get, Option, Some, None, Result, Ok, Err}
+use Rattle.std.specs.Prelude.{◌≡◌, ℕ, ◌+◌, ◌-◌, Bool, true, false, nat_eq, not, List, [], ◌∷◌, ◌++◌, length, take, replicate, map, slice_get, Option, Some, None, Result, Ok, Err}
 use Rattle.pac_value.specs.declared.values.Ty.{Ty}
-use Rattle.pac_value.specs.declared.values.Ty.TheVariants.{Int as IntTy, Text as TextTy, Bool as BoolTy}
+use Rattle.pac_value.specs.declared.values.Ty.TheVariants.{Int as IntTy, Bool as BoolTy}
 use Rattle.pac_value.specs.declared.expr.BinOp.{BinOp}
-use Rattle.pac_value.specs.declared.expr.BinOp.TheVariants.{Add, Sub, Mul, Div, Rem, Eq, Ne, Lt, Le, Gt, Ge, And, Or}
+use Rattle.pac_value.specs.declared.expr.BinOp.TheVariants.{Add, Sub, Mul, Div, Rem, And, Or}
 use Rattle.pac_value.specs.declared.expr.Expr.{Expr}
 use Rattle.pac_value.specs.declared.expr.Expr.{Lit, Var, Bin}
 use Rattle.pac_value.specs.declared.expr.Expr as expr
@@ -34,9 +34,9 @@ use Rattle.pac_types.specs.declared.scope.Variable.{Variable}
 use Rattle.pac_types.specs.declared.expressions.Typed.{Typed}
 use Rattle.pac_types.specs.declared.statements.Cell.{Cell}
 use Rattle.pac_types.specs.declared.statements.Field.{Field}
-use Rattle.pac_types.specs.Numbering.{number_of, variables, table_number, column_number, table_of, column_of}
+use Rattle.pac_types.specs.Numbering.{number_of, variables, table_number, column_number, column_of}
 use Rattle.pac_types.specs.Faults.{is_before, same_ty, is_left}
-use Rattle.pac_types.specs.Sound.{is_wanted, is_bool, key_type, column_type, column_types}
+use Rattle.pac_types.specs.Sound.{is_wanted, key_type, column_type, column_types}
 
 -- a result is what is told, unless memory ran out
 abbrev pub Gives : {X Y : Type 0} → (X → Y) → Result X TypeError → Result Y TypeFault → Type 0

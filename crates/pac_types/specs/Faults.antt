@@ -8,7 +8,6 @@ use Rattle.pac_value.specs.declared.expr.BinOp.TheVariants.{Add, Sub, Mul, Div, 
 use Rattle.pac_value.specs.Values.{type_of}
 use Rattle.pac_value.specs.Expressions.{operator_type, negated_type}
 use Rattle.pac_syntax.specs.declared.tree.NameNode.{NameNode}
-use Rattle.pac_syntax.specs.declared.tree.LiteralNode.{LiteralNode}
 use Rattle.pac_syntax.specs.declared.tree.ColumnNode.{ColumnNode}
 use Rattle.pac_syntax.specs.declared.tree.TableNode.{TableNode}
 use Rattle.pac_syntax.specs.declared.tree.ProcNode.{ProcNode}
@@ -40,7 +39,6 @@ fault_if false at kind = []
 abbrev pub is_before : Option ℕ → ℕ → Bool
 is_before None place = false
 is_before (Some number) place = nat_lt number place
-
 
 -- the name at a place among these stands at one before it too
 abbrev pub twice : List (List ℕ) → ℕ → NameNode → List TypeFault

@@ -4,8 +4,6 @@ use Rattle.std.specs.List.{position, flat_map}
 use Rattle.std.specs.Option.{option_map, option_and_then}
 use Rattle.pac_value.specs.declared.expr.Expr.{Expr, Lit, Var, Bin}
 use Rattle.pac_value.specs.declared.expr.Expr as expr
-use Rattle.pac_syntax.specs.declared.tree.NameNode.{NameNode}
-use Rattle.pac_syntax.specs.declared.tree.LiteralNode.{LiteralNode}
 use Rattle.pac_syntax.specs.declared.tree.ColumnNode.{ColumnNode}
 use Rattle.pac_syntax.specs.declared.tree.ExprNode.{ExprNode}
 use Rattle.pac_syntax.specs.declared.tree.ExprNode.TheOpen.{ExprNode-F, Literal, Name, Binary}

@@ -1,14 +1,20 @@
 //! The typed catalogue: tables and procedures whose names are resolved to numbers, and what they mean.
 //!
-//! - [`check`]: the [`Catalogue`] of a tree, or [`TypeError::Refused`] where the tree isn't typed.
+//! - [`check`]: the [`Catalogue`] of a tree, or the first [`TypeFault`] that stands in it, at a place and of a kind.
 //! - [`Table`], [`Column`]: a table's name, the type of its key and its columns.
 //! - [`Proc`], [`Stmt`]: a procedure's name, its parameters and its statements.
 //! - [`Reason`]: why a transaction aborts.
 //!
-//! `specs/Typing.antt` says which catalogue a tree has, by the names of `specs/Numbering.antt` and the types of
-//! `specs/Sound.antt`: sound statements can be executed without any test of types. A [`Catalogue`] is sound by its type.
+//! `specs/Faults.antt` says which faults stand in a tree, each at its place, by the rules of scope and type and without
+//! any order of looking for them. `specs/Typing.antt` says which catalogue a tree has, by the numbers of
+//! `specs/Numbering.antt` and the types of `specs/Sound.antt`: sound statements can be executed without any test of
+//! types. A tree has a catalogue exactly where no fault stands in it, and a [`Catalogue`] is sound by its type.
 //! `specs/Meaning.antt` says what statements, procedures and lists of calls mean, by recursion on the tree: the serial
 //! meaning, to which every execution is held.
+//!
+//! `specs/Checking.antt` is the checker as a function, from left to right up to the first fault that it meets; the code
+//! is held to it. `proofs/FirstLemmas.antt` shows that it meets the first fault of the definition,
+//! `proofs/TypingLemmas.antt` that what it finds is the tree's catalogue.
 #![tactic(auto)]
 
 mod catalogue;

@@ -8,8 +8,7 @@ ghost use Rattle.pac_syntax.specs.Limits.{IsProcWithinLimits};
 use crate::names::Names;
 use crate::scope::Scope;
 use crate::statements::check_block;
-use crate::tables::columns_of;
-use crate::tables::Tables;
+use crate::tables::{Tables, columns_of};
 use crate::{Proc, TypeError};
 use pac_base::listed;
 use pac_syntax::{ColumnNode, ProcNode, StmtNode};
@@ -23,9 +22,23 @@ fn add_name(names: &mut Vec<Name>, node: &StmtNode) -> Result<(), AllocError>
 {
     match node {
         StmtNode::Let { name, value: _ } => names.push(name.name)?,
-        StmtNode::Read { name, table: _, key: _, column: _, default: _ } => names.push(name.name)?,
-        StmtNode::Has { name, table: _, key: _ } => names.push(name.name)?,
-        StmtNode::If { test: _, first, second } => {
+        StmtNode::Read {
+            name,
+            table: _,
+            key: _,
+            column: _,
+            default: _,
+        } => names.push(name.name)?,
+        StmtNode::Has {
+            name,
+            table: _,
+            key: _,
+        } => names.push(name.name)?,
+        StmtNode::If {
+            test: _,
+            first,
+            second,
+        } => {
             add_names(names, first.as_slice())?;
             add_names(names, second.as_slice())?;
         }

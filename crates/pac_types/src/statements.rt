@@ -125,7 +125,10 @@ fn check_read(
     ensures room { OnOk result (scope.new.next ≤ scope.old.next + 1) }
 {
     let ty = default.value.ty();
-    taken(default.at, wanted(ty, tables.column_type(field.table, field.column)))?;
+    taken(
+        default.at,
+        wanted(ty, tables.column_type(field.table, field.column)),
+    )?;
     Ok(Stmt::Read {
         var: scope.define(ty)?,
         table: field.table,

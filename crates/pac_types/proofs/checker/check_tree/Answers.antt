@@ -1,5 +1,5 @@
 -- What was found is the tree's catalogue, and the fault that is met is the first.
-use Rattle.std.proofs.Common.{◌≡◌, ◌≤◌, ◌∙◌, ap, sym, subst, map, length, Ok, Err, List, Result}
+use Rattle.std.proofs.Common.{◌≤◌, ◌∙◌, ap, sym, subst, map, length, Ok, List}
 use Rattle.std.specs.Prelude.{All}
 use Rattle.pac_syntax.specs.Limits.{IsTableWithinLimits, IsProcWithinLimits}
 use Rattle.std.proofs.lemmas.Result.{err_from_is_err_and}
@@ -9,7 +9,6 @@ use Rattle.pac_types.specs.declared.catalogue.Table.{Table}
 use Rattle.pac_types.specs.declared.catalogue.Proc.{Proc}
 use Rattle.pac_types.specs.Numbering.{table_of}
 use Rattle.pac_types.specs.Checking.{checked_tables, checked_procs}
-use Rattle.pac_types.specs.Typing.{CatalogueState, Types}
 use Rattle.pac_syntax.proofs.Trees.{tree-within, tree-ordered}
 use Rattle.pac_types.proofs.TypingLemmas.{tree_typed, fault_told}
 use Rattle.pac_types.proofs.FirstLemmas.{tables_first, procs_first}
@@ -39,7 +38,7 @@ returns-clause-ok c = tree_typed c.args.tree (tree-within c.args.tree c.requires
     (c.listed.ensures ∙ c.into_tables.ensures ∙ c.in_ok-tables.ensures.value ∙ ap (λ (nodes : List TableNode). map table_of nodes) c.as_slice.ensures)
     (sym (ap (λ (nodes : List TableNode). checked_tables (map (λ node. node.name.name) nodes) 0 nodes) c.as_slice.ensures) ∙ c.in_ok-tables.ensures.names)
     (ap (λ (ts : List Table). checked_procs ts (map (λ node. node.name.name) c.args.tree.procs) 0 c.args.tree.procs) (c.listed.ensures ∙ c.into_tables.ensures)
-      ∙ sym (ap (λ (nodes : List ProcNode). checked_procs c.in_ok-tables.tables (map (λ node. node.name.name) nodes) 0 nodes) c.as_slice-2.ensures) ∙ c.in_ok-procs.ensures ∙ ap Ok (sym c.listed-2.ensures))
+    ∙ sym (ap (λ (nodes : List ProcNode). checked_procs c.in_ok-tables.tables (map (λ node. node.name.name) nodes) 0 nodes) c.as_slice-2.ensures) ∙ c.in_ok-procs.ensures ∙ ap Ok (sym c.listed-2.ensures))
 
 pub returns-in_err-tables-clause-fault : goal.returns-in_err-tables-clause-fault
 returns-in_err-tables-clause-fault c = λ fault h.

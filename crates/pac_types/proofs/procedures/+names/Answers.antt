@@ -1,5 +1,5 @@
 -- The names of both blocks, one after another.
-use Rattle.std.proofs.Common.{◌≡◌, ◌++◌, ◌∙◌, ap, sym, append_assoc, List, ℕ}
+use Rattle.std.proofs.Common.{◌++◌, ◌∙◌, ap, sym, append_assoc, List, ℕ}
 use Rattle.std.specs.List.{flat_map}
 use Rattle.pac_syntax.specs.declared.tree.StmtNode.{StmtNode}
 use Rattle.pac_types.specs.Numbering.{defined}

@@ -1,5 +1,5 @@
 -- A procedure has no more names than parameters and statements.
-use Rattle.std.proofs.Common.{◌+◌, arith, ap, length}
+use Rattle.std.proofs.Common.{arith, ap, length}
 use Rattle.pac_types.proofs.CountLemmas.{variables_few}
 use Rattle.pac_types.proofs.procedures.check_proc.Goals as goal
 

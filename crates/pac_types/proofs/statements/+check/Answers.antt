@@ -1,5 +1,5 @@
 -- A conditional is itself and the statements in its blocks.
-use Rattle.std.proofs.Common.{◌≡◌, ◌+◌, suc, rules, arith, ap, ◌∙◌}
+use Rattle.std.proofs.Common.{◌≡◌, ◌+◌, suc, arith, ap, ◌∙◌}
 use Rattle.pac_syntax.specs.Limits.{size, sizes}
 use Rattle.pac_types.proofs.CheckLemmas.{size_of_if}
 use Rattle.pac_types.specs.Checking.{ScopeState}

@@ -1,4 +1,4 @@
-use Rattle.std.proofs.Common.{◌≡◌, ◌++◌, drop, length, Ok}
+use Rattle.std.proofs.Common.{◌≡◌, ◌++◌, drop, Ok}
 use Rattle.pac_value.specs.Expressions.{◌>>=◌}
 use Rattle.pac_types.specs.Sound.{types}
 use Rattle.pac_types.specs.Checking.{checked_values}

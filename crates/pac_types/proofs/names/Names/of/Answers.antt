@@ -1,5 +1,5 @@
 -- Each name gets the next number unless it stands before.
-use Rattle.std.proofs.Common.{◌≡◌, ◌∙◌, ◌<◌, ap, sym, take, length, arith, rules, List, [], ℕ, Option, None, true, false}
+use Rattle.std.proofs.Common.{◌≡◌, ◌∙◌, ◌<◌, ap, sym, length, arith, rules, List, [], ℕ, None, true}
 use Rattle.std.specs.Option.{is_some}
 use Rattle.std.specs.Ordering.{nat_cmp}
 use Rattle.std.specs.Cmp.Lexicographic.{slice_cmp}
@@ -20,10 +20,10 @@ pub loop-i-preserved : goal.loop-i-preserved
 loop-i-preserved c =
     let within : c.loop-i.i < length c.args.names.items = omega arith in
     elim c.if-is_none.branch [
-      then-is_none+in_ok-insert w ↦
-        let new : get (slice_cmp nat_cmp) c.loop-i.numbers c.index.result.now ≡ None = search rules in
-        λ q. ap (λ (m : BTreeMap (List ℕ) ℕ). get (slice_cmp nat_cmp) m q) w.numbers-is ∙ map-push c.args.names.items c.loop-i.i c.index.result.now _ _ within c.index.ensures c.loop-i.invariant new w.in_ok-insert.ensures.updates.0 q
-    | else-is_none w ↦
-        let there : is_some (get (slice_cmp nat_cmp) c.loop-i.numbers c.index.result.now) ≡ true = search rules in
-        λ q. ap (λ (m : BTreeMap (List ℕ) ℕ). get (slice_cmp nat_cmp) m q) w.numbers-is ∙ map-same c.args.names.items c.loop-i.i c.index.result.now _ within c.index.ensures c.loop-i.invariant there q
+      | then-is_none+in_ok-insert w ↦
+          let new : get (slice_cmp nat_cmp) c.loop-i.numbers c.index.result.now ≡ None = search rules in
+          λ q. ap (λ (m : BTreeMap (List ℕ) ℕ). get (slice_cmp nat_cmp) m q) w.numbers-is ∙ map-push c.args.names.items c.loop-i.i c.index.result.now _ _ within c.index.ensures c.loop-i.invariant new w.in_ok-insert.ensures.updates.0 q
+      | else-is_none w ↦
+          let there : is_some (get (slice_cmp nat_cmp) c.loop-i.numbers c.index.result.now) ≡ true = search rules in
+          λ q. ap (λ (m : BTreeMap (List ℕ) ℕ). get (slice_cmp nat_cmp) m q) w.numbers-is ∙ map-same c.args.names.items c.loop-i.i c.index.result.now _ within c.index.ensures c.loop-i.invariant there q
     ]

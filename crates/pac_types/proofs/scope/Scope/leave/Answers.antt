@@ -1,4 +1,4 @@
-use Rattle.std.proofs.Common.{◌≡◌, ◌∙◌, arith, ap, set, sym, None}
+use Rattle.std.proofs.Common.{◌∙◌, arith, ap, set, None}
 use Rattle.pac_types.proofs.CheckLemmas.{set-next}
 use Rattle.pac_types.proofs.scope.Scope.leave.Goals as goal
 
