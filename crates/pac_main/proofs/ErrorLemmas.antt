@@ -7,16 +7,21 @@ use Rattle.pac_types.specs.declared.type_error.TypeError.{TypeError}
 use Rattle.pac_types.specs.declared.type_error.TypeFault.{TypeFault}
 use Rattle.pac_types.specs.declared.type_error.TypeError.TheVariants as type
 use Rattle.pac_types.specs.Typing.{CatalogueState, Types, IsTyped}
-use Rattle.pac_main.specs.declared.script_error.ScriptError.TheVariants.{NoMemory}
+use Rattle.pac_main.specs.declared.script_error.ScriptError.TheVariants.{Typing, NoMemory}
 use Rattle.pac_main.specs.Errors.{error_of_syntax, error_of_type}
 
 pub of_syntax : (e : SyntaxError) → e ≡ syntax.NoMemory → error_of_syntax e ≡ NoMemory
 of_syntax e is = ap error_of_syntax is
 
--- a tree that is typed isn't refused
-pub of_type : (e : TypeError) (tree : Tree) (catalogue : CatalogueState) → ((fault : TypeFault) → e ≡ type.Fault fault → IsTyped tree → ⊥) → Types tree catalogue → error_of_type e ≡ NoMemory
-of_type (type.Fault fault) tree catalogue refused typed = absurd (refused fault refl (catalogue, typed))
-of_type type.NoMemory tree catalogue refused typed = refl
+-- a tree that is typed has no fault
+pub of_type : (e : TypeError) (tree : Tree) (catalogue : CatalogueState) → (IsTyped tree → (fault : TypeFault) → e ≡ type.Fault fault → ⊥) → Types tree catalogue → error_of_type e ≡ NoMemory
+of_type (type.Fault fault) tree catalogue only typed = absurd (only (catalogue, typed) fault refl)
+of_type type.NoMemory tree catalogue only typed = refl
+
+-- a fault that is told is the tree's
+pub of_typing : (e : TypeError) (fault : TypeFault) → error_of_type e ≡ Typing fault → e ≡ type.Fault fault
+of_typing (type.Fault other) fault is = cc
+of_typing type.NoMemory fault is = absurd cc
 
 pub same_tree : (a b : Tree) (catalogue : CatalogueState) → a ≡ b → Types b catalogue → Types a catalogue
 same_tree a b catalogue same typed = subst (λ (tree : Tree). Types tree catalogue) (sym same) typed

@@ -5,6 +5,7 @@ use Rattle.std.specs.Io.KnownBytes.{prepend_known}
 use Rattle.std.proofs.lemmas.List.{append-nil}
 use Rattle.pac_outside.specs.Content.{Gave, IsAtEnd}
 use Rattle.pac_syntax.specs.declared.fault.Fault.{Fault}
+use Rattle.pac_types.specs.declared.type_error.TypeFault.{TypeFault}
 use Rattle.pac_types.specs.declared.catalogue.Proc.{Proc}
 use Rattle.pac_serial.specs.declared.serial.Call.{Call}
 use Rattle.pac_serial.specs.Calls.{FitsProcs}
@@ -12,7 +13,7 @@ use Rattle.pac_main.specs.declared.script.Script.{Script}
 use Rattle.pac_main.specs.declared.script_error.ScriptError.{ScriptError}
 use Rattle.pac_main.specs.declared.script_error.ScriptError.TheVariants as error
 use Rattle.pac_main.specs.declared.stop.Stop.{Stop}
-use Rattle.pac_main.specs.declared.stop.Stop.TheVariants.{Usage, Syntax, Refused, Aborted, InputFault, OutputFault, NoMemory}
+use Rattle.pac_main.specs.declared.stop.Stop.TheVariants.{Usage, Syntax, Typing, Refused, Aborted, InputFault, OutputFault, NoMemory}
 use Rattle.pac_main.specs.Requests.{IsLine, AreCalls, some_call}
 use Rattle.pac_main.specs.Script.{IsScript, IsRefusal}
 use Rattle.pac_main.specs.Stop.{status_of, stop_of_script}
@@ -41,6 +42,7 @@ input-script old new items script gave at_end is = subst (λ (o : Option (List �
 -- a text that is refused is no text of a script, unless memory ran out
 pub refused_of : (e : ScriptError) → status_of (stop_of_script e) ≡ 2 → e ≡ error.NoMemory → ⊥
 refused_of (error.Syntax fault) is other = absurd cc
+refused_of (error.Typing fault) is other = absurd cc
 refused_of error.Refused is other = absurd cc
 refused_of error.NoMemory is other = absurd (omega (arith, is))
 
@@ -50,17 +52,20 @@ abbrev err_of : ScriptError → Result Script ScriptError
 err_of e = Err e
 
 -- what reading a text says of its error
-pub refusal_of : (text : List ℕ) (e : ScriptError) → ((fault : Fault) → err_of e ≡ Err (error.Syntax fault) → IsRefusal text (Syntax fault)) → (err_of e ≡ Err error.Refused → IsRefusal text Refused)
+pub refusal_of : (text : List ℕ) (e : ScriptError) → ((fault : Fault) → err_of e ≡ Err (error.Syntax fault) → IsRefusal text (Syntax fault))
+    → ((fault : TypeFault) → err_of e ≡ Err (error.Typing fault) → IsRefusal text (Typing fault)) → (err_of e ≡ Err error.Refused → IsRefusal text Refused)
     → status_of (stop_of_script e) ≡ 2 → IsRefusal text (stop_of_script e)
-refusal_of text (error.Syntax fault) syntax refused is = syntax fault refl
-refusal_of text error.Refused syntax refused is = refused refl
-refusal_of text error.NoMemory syntax refused is = absurd (omega (arith, is))
+refusal_of text (error.Syntax fault) syntax typing refused is = syntax fault refl
+refusal_of text (error.Typing fault) syntax typing refused is = typing fault refl
+refusal_of text error.Refused syntax typing refused is = refused refl
+refusal_of text error.NoMemory syntax typing refused is = absurd (omega (arith, is))
 
 pub refusal_same : (a b : List ℕ) (s t : Stop) → a ≡ b → s ≡ t → IsRefusal a s → IsRefusal b t
 refusal_same a b s t same stop h = subst (λ (x : List ℕ). IsRefusal x t) same (subst (λ (x : Stop). IsRefusal a x) stop h)
 
 refusal_longer : (items rest : List ℕ) (stop : Stop) → (length items ≤ 65536 → rest ≡ []) → IsRefusal items stop → IsRefusal (items ++ rest) stop
 refusal_longer items rest (Syntax fault) at_end h = subst (λ (text : List ℕ). IsRefusal text (Syntax fault)) (sym (ap (λ (r : List ℕ). items ++ r) (at_end h.short) ∙ append-nil items)) h
+refusal_longer items rest (Typing fault) at_end h = subst (λ (text : List ℕ). IsRefusal text (Typing fault)) (sym (ap (λ (r : List ℕ). items ++ r) (at_end h.short) ∙ append-nil items)) h
 refusal_longer items rest Refused at_end (inl long) = inl (omega (arith, length-append items rest, long))
 refusal_longer items rest Refused at_end (inr h) = subst (λ (text : List ℕ). IsRefusal text Refused) (sym (ap (λ (r : List ℕ). items ++ r) (at_end h.short) ∙ append-nil items)) (inr h)
 refusal_longer items rest Usage at_end h = h

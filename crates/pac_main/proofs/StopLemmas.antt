@@ -3,7 +3,7 @@ use Rattle.std.proofs.Common.{◌≡◌, ◌⊎◌, ℕ, inl, inr, refl, sym, ap
 use Rattle.std.specs.Prelude.{IsTrue}
 use Rattle.pac_types.specs.declared.reason.Reason.{Reason}
 use Rattle.pac_main.specs.declared.stop.Stop.{Stop}
-use Rattle.pac_main.specs.declared.stop.Stop.TheVariants.{Usage, Syntax, Refused, Aborted, InputFault, OutputFault, NoMemory}
+use Rattle.pac_main.specs.declared.stop.Stop.TheVariants.{Usage, Syntax, Typing, Refused, Aborted, InputFault, OutputFault, NoMemory}
 use Rattle.pac_main.specs.Stop.{status_of, takes_memory}
 
 -- it is told itself, or there was no memory for its line
@@ -26,6 +26,7 @@ pub aborted_of : (stop : Stop) → status_of stop ≡ 4 → AnAbort stop
 aborted_of (Aborted txn op reason) four = record { txn = txn; op = op; reason = reason; is = refl }
 aborted_of Usage four = absurd (omega arith)
 aborted_of (Syntax fault) four = absurd (omega arith)
+aborted_of (Typing fault) four = absurd (omega arith)
 aborted_of Refused four = absurd (omega arith)
 aborted_of InputFault four = absurd (omega arith)
 aborted_of OutputFault four = absurd (omega arith)

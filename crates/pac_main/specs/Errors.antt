@@ -6,14 +6,14 @@ use Rattle.pac_syntax.specs.declared.fault.SyntaxError.TheVariants as syntax
 use Rattle.pac_types.specs.declared.type_error.TypeError.{TypeError}
 use Rattle.pac_types.specs.declared.type_error.TypeError.TheVariants as type
 use Rattle.pac_main.specs.declared.script_error.ScriptError.{ScriptError}
-use Rattle.pac_main.specs.declared.script_error.ScriptError.TheVariants.{Syntax, Refused, NoMemory}
+use Rattle.pac_main.specs.declared.script_error.ScriptError.TheVariants.{Syntax, Typing, NoMemory}
 
 abbrev pub error_of_syntax : SyntaxError → ScriptError
 error_of_syntax (syntax.Fault fault) = Syntax fault
 error_of_syntax syntax.NoMemory = NoMemory
 
 abbrev pub error_of_type : TypeError → ScriptError
-error_of_type (type.Fault fault) = Refused
+error_of_type (type.Fault fault) = Typing fault
 error_of_type type.NoMemory = NoMemory
 
 -- the result is this value, or memory ran out

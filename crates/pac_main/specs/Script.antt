@@ -3,10 +3,12 @@ use Rattle.std.specs.Prelude.{◌≡◌, ◌⊎◌, ◌≤◌, ◌<◌, ◌+◌,
 use Rattle.pac_syntax.specs.declared.tree.Tree.{Tree}
 use Rattle.pac_syntax.specs.declared.fault.Fault.{Fault}
 use Rattle.pac_syntax.specs.Reading.{Reads, IsTextFault}
+use Rattle.pac_types.specs.declared.type_error.TypeFault.{TypeFault}
 use Rattle.pac_types.specs.Typing.{CatalogueState, Types}
+use Rattle.pac_types.specs.Faults.{IsFirstFault}
 use Rattle.pac_main.specs.declared.script.Script.{Script}
 use Rattle.pac_main.specs.declared.stop.Stop.{Stop}
-use Rattle.pac_main.specs.declared.stop.Stop.TheVariants.{Syntax, Refused}
+use Rattle.pac_main.specs.declared.stop.Stop.TheVariants.{Syntax, Typing, Refused}
 use Rattle.pac_main.specs.Lines.{lines, IsMark, HasNoMark}
 use Rattle.pac_main.specs.Requests.{AreCalls}
 
@@ -15,6 +17,12 @@ pub record HasCatalogue (text : List ℕ) (catalogue : CatalogueState) : Type 0 
   pub tree : Tree
   pub reads : Reads text tree
   pub typed : Types tree catalogue
+
+-- the text is that of a tree in which this is the first fault of names and types
+pub record IsTypingFault (text : List ℕ) (fault : TypeFault) : Type 0 where
+  pub tree : Tree
+  pub reads : Reads text tree
+  pub first : IsFirstFault tree fault
 
 -- the lines behind a line feed, where there is one
 abbrev pub lines_behind : List ℕ → List (List ℕ)
@@ -55,17 +63,25 @@ pub record HasSyntaxFault (text : List ℕ) (fault : Fault) : Type 0 where
   pub is_front : IsCatalogueText text front
   pub first : IsTextFault front fault
 
--- the text has at most 65,536 bytes, and its catalogue's text is in the grammar and within its limits
-pub record HasTree (text : List ℕ) : Type 0 where
+-- the text has at most 65,536 bytes, and its catalogue's text is read, with this first fault of names and types
+pub record HasTypingFault (text : List ℕ) (fault : TypeFault) : Type 0 where
   pub short : length text ≤ 65536
   pub front : List ℕ
   pub is_front : IsCatalogueText text front
-  pub tree : Tree
-  pub reads : Reads front tree
+  pub first : IsTypingFault front fault
 
--- What is told of a text that is no script: of a catalogue's text that isn't read its first fault; of a text that is too
--- long, or whose catalogue's text is read, just that it is refused.
+-- the text has at most 65,536 bytes, and its catalogue's text has a catalogue
+pub record HasTypedText (text : List ℕ) : Type 0 where
+  pub short : length text ≤ 65536
+  pub front : List ℕ
+  pub is_front : IsCatalogueText text front
+  pub catalogue : CatalogueState
+  pub has : HasCatalogue front catalogue
+
+-- What is told of a text that is no script: of a catalogue's text that isn't read, or isn't typed, its first fault; of a
+-- text that is too long, or that has a catalogue, just that it is refused.
 abbrev pub IsRefusal : List ℕ → Stop → Type 0
 IsRefusal text (Syntax fault) = HasSyntaxFault text fault
-IsRefusal text Refused = (65536 < length text) ⊎ HasTree text
+IsRefusal text (Typing fault) = HasTypingFault text fault
+IsRefusal text Refused = (65536 < length text) ⊎ HasTypedText text
 IsRefusal text _ = ⊥

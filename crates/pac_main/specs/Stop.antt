@@ -3,7 +3,8 @@ use Rattle.std.specs.Prelude.{ℕ, Bool, true, false, List, ◌++◌, codes}
 use Rattle.std.specs.Fmt.{decimal}
 use Rattle.pac_outside.specs.declared.failed.ReadError.{ReadError}
 use Rattle.pac_outside.specs.declared.failed.ReadError.TheVariants as read
-use Rattle.pac_syntax.specs.Kinds.{kind_name}
+use Rattle.pac_syntax.specs.Kinds as syntax
+use Rattle.pac_types.specs.Kinds as typing
 use Rattle.pac_types.specs.declared.reason.Reason.{Reason}
 use Rattle.pac_types.specs.Reasons.{reason_name}
 use Rattle.pac_serial.specs.declared.serial.SerialError.{SerialError}
@@ -11,11 +12,12 @@ use Rattle.pac_serial.specs.declared.serial.SerialError.TheVariants as serial
 use Rattle.pac_main.specs.declared.script_error.ScriptError.{ScriptError}
 use Rattle.pac_main.specs.declared.script_error.ScriptError.TheVariants as script
 use Rattle.pac_main.specs.declared.stop.Stop.{Stop}
-use Rattle.pac_main.specs.declared.stop.Stop.TheVariants.{Usage, Syntax, Refused, Aborted, InputFault, OutputFault, NoMemory}
+use Rattle.pac_main.specs.declared.stop.Stop.TheVariants.{Usage, Syntax, Typing, Refused, Aborted, InputFault, OutputFault, NoMemory}
 
 abbrev pub status_of : Stop → ℕ
 status_of Usage = 1
 status_of (Syntax fault) = 2
+status_of (Typing fault) = 2
 status_of Refused = 2
 status_of (Aborted txn op reason) = 4
 status_of InputFault = 6
@@ -33,12 +35,14 @@ catalogue_line at kind = codes "catalogue " ++ decimal at ++ codes " " ++ kind +
 -- whether a stop's line has numbers, and is made
 abbrev pub takes_memory : Stop → Bool
 takes_memory (Syntax fault) = true
+takes_memory (Typing fault) = true
 takes_memory (Aborted txn op reason) = true
 takes_memory _ = false
 
 abbrev pub line_of : Stop → List ℕ
 line_of Usage = codes "usage: pacman init, run, recover, explain, replay or stress\n"
-line_of (Syntax fault) = catalogue_line fault.at (kind_name fault.kind)
+line_of (Syntax fault) = catalogue_line fault.at (syntax.kind_name fault.kind)
+line_of (Typing fault) = catalogue_line fault.at (typing.kind_name fault.kind)
 line_of Refused = codes "script refused\n"
 line_of (Aborted txn op reason) = abort_line txn op reason
 line_of InputFault = codes "input fault\n"
@@ -51,6 +55,7 @@ stop_of_read read.NoMemory = NoMemory
 
 abbrev pub stop_of_script : ScriptError → Stop
 stop_of_script (script.Syntax fault) = Syntax fault
+stop_of_script (script.Typing fault) = Typing fault
 stop_of_script script.Refused = Refused
 stop_of_script script.NoMemory = NoMemory
 

@@ -121,6 +121,10 @@ fn told<E: Sink>(alloc: Global, stop: Stop, errors: &mut E) -> Stop
             let line = catalogue_line(alloc, fault.at, fault.kind.name());
             told_made(stop, line, errors)
         }
+        Stop::Typing(fault) => {
+            let line = catalogue_line(alloc, fault.at, fault.kind.name());
+            told_made(stop, line, errors)
+        }
         Stop::Aborted { txn, op, reason } => {
             told_made(stop, abort_line(alloc, txn, op, reason), errors)
         }
@@ -142,7 +146,7 @@ fn told<E: Sink>(alloc: Global, stop: Stop, errors: &mut E) -> Stop
 /// |---|---|---|
 /// | 0 | else: the output took the dump | nothing |
 /// | 1 | exactly where the words are not the one word `replay` | `usage: pacman init, run, recover, explain, replay or stress` |
-/// | 2 | only where the input is no script | `catalogue AT KIND` where the catalogue's text isn't read: its first fault; else `script refused` |
+/// | 2 | only where the input is no script | `catalogue AT KIND` where the catalogue's text isn't read, or isn't typed: its first fault; else `script refused` |
 /// | 4 | only where serial execution of the calls aborts | `abort TXN OP REASON` |
 /// | 6 | only where the input's count of faults rose | `input fault` |
 /// | 7 | only where the output's count of faults rose; the output took a front of the dump | `output fault` |

@@ -2,6 +2,7 @@
 ghost use Rattle.std.specs.Prelude.{◌≡◌, ◌<◌, ◌++◌, List, Option, IfOk, OnOk, OnErr, IsErrOf, length, Some, None};
 ghost use Rattle.pac_syntax.specs.Tokens.{IsLexed};
 ghost use Rattle.pac_syntax.specs.declared.fault.Fault.{Fault as AFault};
+ghost use Rattle.pac_types.specs.declared.type_error.TypeFault.{TypeFault as ATypeFault};
 ghost use Rattle.pac_syntax.specs.declared.token.Spanned.{Spanned as ASpanned};
 ghost use Rattle.pac_serial.specs.declared.serial.Call.{Call as ACall};
 ghost use Rattle.pac_main.specs.Lines.{lines};
@@ -24,6 +25,7 @@ fn line_tokens(alloc: Global, line: &[u8]) -> Result<Tokens, ScriptError>
     ensures ok { IfOk result (λ found. IsLexed line.now found None) }
     ensures only { (ts : List ASpanned) → IsLexed line.now ts None → Only result ts }
     ensures no_syntax { (fault : AFault) → ¬ IsErrOf result (ScriptError.Syntax fault) }
+    ensures no_typing { (fault : ATypeFault) → ¬ IsErrOf result (ScriptError.Typing fault) }
 {
     match tokens(alloc, line) {
         Ok(found) => Ok(found),
@@ -37,6 +39,7 @@ fn read_line(alloc: Global, catalogue: &Catalogue, line: &[u8]) -> Result<Option
     ensures ok { IfOk result (IsLine catalogue.now.procs line.now) }
     ensures only { (said : Option ACall) → IsLine catalogue.now.procs line.now said → Only result said }
     ensures no_syntax { (fault : AFault) → ¬ IsErrOf result (ScriptError.Syntax fault) }
+    ensures no_typing { (fault : ATypeFault) → ¬ IsErrOf result (ScriptError.Typing fault) }
 {
     if line.len() > MAX_LINE {
         return Err(ScriptError::Refused);
@@ -72,6 +75,7 @@ pub fn read_calls(
     ensures ok { IfOk result (λ calls. AreCalls catalogue.now.procs (lines text.now) calls.items) }
     ensures only { (calls : List ACall) → AreCalls catalogue.now.procs (lines text.now) calls → AreOnly result calls }
     ensures no_syntax { (fault : AFault) → ¬ IsErrOf result (ScriptError.Syntax fault) }
+    ensures no_typing { (fault : ATypeFault) → ¬ IsErrOf result (ScriptError.Typing fault) }
 {
     let mut calls = Vec::new(alloc);
     let mut rest = text;

@@ -1,13 +1,13 @@
 // The script of a replay.
 ghost use Rattle.std.specs.Prelude.{◌≡◌, List, Option, IfOk, IsErrOf, MatchOption, Some, None};
-ghost use Rattle.pac_syntax.specs.declared.tree.Tree.{Tree as ATree};
 ghost use Rattle.pac_syntax.specs.declared.fault.Fault.{Fault as AFault};
-ghost use Rattle.pac_syntax.specs.Reading.{Reads, IsTextFault};
+ghost use Rattle.pac_syntax.specs.Reading.{IsTextFault};
+ghost use Rattle.pac_types.specs.declared.type_error.TypeFault.{TypeFault as ATypeFault};
 ghost use Rattle.pac_types.specs.Typing.{Types, CatalogueState};
 ghost use Rattle.pac_serial.specs.declared.serial.Call.{Call as ACall};
 ghost use Rattle.pac_main.specs.Errors.{Only, AreOnly};
 ghost use Rattle.pac_main.specs.Requests.{AreCalls};
-ghost use Rattle.pac_main.specs.Script.{IsScript, HasCatalogue, HasParts, IsRefusal, lines_behind};
+ghost use Rattle.pac_main.specs.Script.{IsScript, HasCatalogue, HasParts, IsRefusal, IsTypingFault, lines_behind};
 ghost use Rattle.pac_main.specs.declared.script.Script.{Script as AScript};
 
 use crate::lines::find_mark;
@@ -35,7 +35,8 @@ fn read_catalogue(alloc: Global, text: &[u8]) -> Result<Catalogue, ScriptError>
     ensures ok { IfOk result (HasCatalogue text.now) }
     ensures only { (catalogue : CatalogueState) → HasCatalogue text.now catalogue → Only result catalogue }
     ensures syntax { (fault : AFault) → IsErrOf result (ScriptError.Syntax fault) → IsTextFault text.now fault }
-    ensures refused { IsErrOf result ScriptError.Refused → (tree : ATree) × Reads text.now tree }
+    ensures typing { (fault : ATypeFault) → IsErrOf result (ScriptError.Typing fault) → IsTypingFault text.now fault }
+    ensures not_refused { ¬ IsErrOf result ScriptError.Refused }
 {
     let tree = parse_catalogue(alloc, text)?;
     Ok(check(alloc, tree)?)
@@ -46,6 +47,7 @@ fn read_behind(alloc: Global, catalogue: &Catalogue, text: &[u8]) -> Result<Vec<
     ensures ok { IfOk result (λ calls. AreCalls catalogue.now.procs (lines_behind text.now) calls.items) }
     ensures only { (calls : List ACall) → AreCalls catalogue.now.procs (lines_behind text.now) calls → AreOnly result calls }
     ensures no_syntax { (fault : AFault) → ¬ IsErrOf result (ScriptError.Syntax fault) }
+    ensures no_typing { (fault : ATypeFault) → ¬ IsErrOf result (ScriptError.Typing fault) }
 {
     match text {
         [] => Ok(Vec::new(alloc)),
@@ -58,7 +60,8 @@ fn read_parts(alloc: Global, front: &[u8], behind: &[u8]) -> Result<Script, Scri
     ensures ok { IfOk result (HasParts front.now behind.now) }
     ensures only { (script : AScript) → HasParts front.now behind.now script → Only result script }
     ensures syntax { (fault : AFault) → IsErrOf result (ScriptError.Syntax fault) → IsTextFault front.now fault }
-    ensures refused { IsErrOf result ScriptError.Refused → (tree : ATree) × Reads front.now tree }
+    ensures typing { (fault : ATypeFault) → IsErrOf result (ScriptError.Typing fault) → IsTypingFault front.now fault }
+    ensures refused { IsErrOf result ScriptError.Refused → (catalogue : CatalogueState) × HasCatalogue front.now catalogue }
 {
     let catalogue = read_catalogue(alloc, front)?;
     let calls = listed(read_behind(alloc, &catalogue, behind)?);
@@ -70,6 +73,7 @@ pub fn read_script(alloc: Global, text: &[u8]) -> Result<Script, ScriptError>
     ensures ok { IfOk result (IsScript text.now) }
     ensures only { (script : AScript) → IsScript text.now script → Only result script }
     ensures syntax { (fault : AFault) → IsErrOf result (ScriptError.Syntax fault) → IsRefusal text.now (Stop.Syntax fault) }
+    ensures typing { (fault : ATypeFault) → IsErrOf result (ScriptError.Typing fault) → IsRefusal text.now (Stop.Typing fault) }
     ensures refused { IsErrOf result ScriptError.Refused → IsRefusal text.now Stop.Refused }
 {
     if text.len() > MAX_SCRIPT {

@@ -5,7 +5,7 @@ ghost use Rattle.pac_main.specs.declared.script_error.ScriptError.TheVariants.{N
 
 use pac_base::NoMemory;
 use pac_syntax::{Fault, SyntaxError};
-use pac_types::TypeError;
+use pac_types::{TypeError, TypeFault};
 use std::alloc::{AllocError, AllocFailed};
 
 /// Why a text is not read as a script.
@@ -13,6 +13,8 @@ use std::alloc::{AllocError, AllocFailed};
 pub enum ScriptError {
     /// The catalogue's text has this fault, its first.
     Syntax(Fault),
+    /// The catalogue's text is read, and has this fault of names and types, its first.
+    Typing(TypeFault),
     /// It is none for another reason.
     Refused,
     /// An allocation was refused.
@@ -35,7 +37,7 @@ impl From<TypeError> for ScriptError {
 
     fn from(error: TypeError) -> Self {
         match error {
-            TypeError::Fault(_) => ScriptError::Refused,
+            TypeError::Fault(fault) => ScriptError::Typing(fault),
             TypeError::NoMemory => ScriptError::NoMemory,
         }
     }

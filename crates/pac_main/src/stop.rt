@@ -8,7 +8,7 @@ use pac_base::NoMemory;
 use pac_outside::{Failed, ReadError};
 use pac_serial::SerialError;
 use pac_syntax::Fault;
-use pac_types::Reason;
+use pac_types::{Reason, TypeFault};
 use std::alloc::{AllocError, Global};
 
 /// Why a command stops before its end.
@@ -18,6 +18,8 @@ pub enum Stop {
     Usage,
     /// The catalogue's text has this fault, its first.
     Syntax(Fault),
+    /// The catalogue's text is read, and has this fault of names and types, its first.
+    Typing(TypeFault),
     /// The input is no script for another reason.
     Refused,
     /// The operation of the transaction with this number aborts for this reason.
@@ -64,6 +66,7 @@ impl From<ScriptError> for Stop {
     fn from(error: ScriptError) -> Self {
         match error {
             ScriptError::Syntax(fault) => Stop::Syntax(fault),
+            ScriptError::Typing(fault) => Stop::Typing(fault),
             ScriptError::Refused => Stop::Refused,
             ScriptError::NoMemory => Stop::NoMemory,
         }
@@ -88,7 +91,7 @@ impl Stop {
     {
         match self {
             Stop::Usage => 1,
-            Stop::Syntax(_) | Stop::Refused => 2,
+            Stop::Syntax(_) | Stop::Typing(_) | Stop::Refused => 2,
             Stop::Aborted { .. } => 4,
             Stop::InputFault => 6,
             Stop::OutputFault => 7,
@@ -103,7 +106,7 @@ impl Stop {
         match self {
             Stop::Usage => Some(b"usage: pacman init, run, recover, explain, replay or stress\n"),
             Stop::Refused => Some(b"script refused\n"),
-            Stop::Syntax(_) | Stop::Aborted { .. } => None,
+            Stop::Syntax(_) | Stop::Typing(_) | Stop::Aborted { .. } => None,
             Stop::InputFault => Some(b"input fault\n"),
             Stop::OutputFault => Some(b"output fault\n"),
             Stop::NoMemory => Some(b"no memory\n"),

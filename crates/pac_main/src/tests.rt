@@ -26,7 +26,7 @@ struct Answer {
 }
 
 // Runs the word over this input, where these calls of the input and of the output fail.
-fn answer<RT: Threads + Wait + Sync>(
+fn run_word<RT: Threads + Wait + Sync>(
     rt: &RT,
     alloc: Global,
     word: &str,
@@ -75,7 +75,7 @@ fn joined(alloc: Global, front: &str, behind: &str) -> Result<Vec<u8>, Fail> {
 // The catalogue, the lines behind it; the status, the output and the errors.
 type Row = (&'static str, &'static str, u8, &'static str, &'static str);
 
-const ROWS: [Row; 34] = [
+const ROWS: [Row; 37] = [
     ("", "", 0, "", ""),
     (
         ADD,
@@ -154,6 +154,27 @@ const ROWS: [Row; 34] = [
         2,
         "",
         "catalogue 73 TooMany\n",
+    ),
+    (
+        "proc P(k int) { let x = k == true; }",
+        "",
+        2,
+        "",
+        "catalogue 29 WrongType\n",
+    ),
+    (
+        "proc P(k int) { if k > 0 { let y = k; } let z = y; }",
+        "call Nobody()",
+        2,
+        "",
+        "catalogue 48 OutOfScope\n",
+    ),
+    (
+        "proc P() { let x = k; } ;",
+        "",
+        2,
+        "",
+        "catalogue 24 Expected\n",
     ),
     (
         BANK,
@@ -267,7 +288,7 @@ fn answers_scripts(rt: HostRuntime) -> Result<(), Fail> {
     for (catalogue, lines, status, text, line) in ROWS {
         let alloc = rt.alloc();
         let script = joined(alloc, catalogue, lines)?;
-        let answer = answer(
+        let answer = run_word(
             &rt,
             alloc,
             "replay",
@@ -301,7 +322,7 @@ fn answers_other_words_and_faults(rt: HostRuntime) -> Result<(), Fail> {
     for (word, bad_read, bad_write, status, line) in rows {
         let alloc = rt.alloc();
         let script = joined(alloc, ADD, "call Add(1, 5)")?;
-        let answer = answer(
+        let answer = run_word(
             &rt,
             alloc,
             word,
@@ -325,7 +346,7 @@ fn a_longer_input_is_refused_before_its_catalogue(rt: HostRuntime) -> Result<(),
     ] {
         let mut script = vec![in alloc; b' '; blanks]?;
         script.push(b'?')?;
-        let answer = answer(
+        let answer = run_word(
             &rt,
             alloc,
             "replay",
@@ -354,9 +375,9 @@ fn executes_a_thousand_calls_of_one_key_and_of_many(rt: HostRuntime) -> Result<(
         rows.extend_from_slice(key.as_bytes())?;
         rows.extend_from_slice(b" (1)\n")?;
     }
-    let one = answer(&rt, alloc, "replay", one, Vec::new(alloc), Vec::new(alloc))?;
+    let one = run_word(&rt, alloc, "replay", one, Vec::new(alloc), Vec::new(alloc))?;
     assert_eq!(rt; one.output.bytes(), b"table T 1\n1 (1024)\n".as_slice());
-    let many = answer(&rt, alloc, "replay", many, Vec::new(alloc), Vec::new(alloc))?;
+    let many = run_word(&rt, alloc, "replay", many, Vec::new(alloc), Vec::new(alloc))?;
     assert_eq!(rt; many.output.bytes(), rows.as_slice());
     Ok(())
 }

@@ -16,7 +16,7 @@ returns-in_err-read_script-clause-refused g c =
       input-none _ _ c.in_ok-text.text.items c.in_ok-text.ensures.bytes c.in_ok-text.ensures.end
           (λ script h. refused_of _ status (c.in_err-read_script.ensures.only script (subst (λ (text : List ℕ). IsScript text script) (sym c.deref.ensures.value) h))),
       input-refused _ _ c.in_ok-text.text.items stop c.in_ok-text.ensures.bytes c.in_ok-text.ensures.end
-          (refusal_same _ _ _ _ c.deref.ensures.value came (refusal_of _ _ c.in_err-read_script.ensures.syntax c.in_err-read_script.ensures.refused status)),
+          (refusal_same _ _ _ _ c.deref.ensures.value came (refusal_of _ _ c.in_err-read_script.ensures.syntax c.in_err-read_script.ensures.typing c.in_err-read_script.ensures.refused status)),
     )
 
 pub returns-clause-ok : goal.returns-clause-ok
