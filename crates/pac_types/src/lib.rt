@@ -20,6 +20,8 @@
 mod catalogue;
 mod checker;
 mod expressions;
+#[cfg(test)]
+mod fault_tests;
 mod names;
 mod procedures;
 mod reason;
