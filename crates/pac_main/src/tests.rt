@@ -163,7 +163,7 @@ const ROWS: [Row; 37] = [
         "catalogue 29 WrongType\n",
     ),
     (
-        "proc P(k int) { if k > 0 { let y = k; } let z = y; }",
+        "proc P(k int) { if k > 0 { let y = k; } let z = y; }\n---\n",
         "call Nobody()",
         2,
         "",

@@ -1,5 +1,5 @@
 -- Each state of the reading can go on to a whole catalogue, and what it takes on the way is spelled by a derivation.
-use Rattle.std.proofs.Common.{◌≡◌, ◌<◌, ℕ, zero, suc, ℤ, pos, Bool, true, false, List, [], ◌∷◌, ◌++◌, Option, Some, None, refl, sym, ap, subst, ◌∙◌, append_assoc, arith, eqb, if◌then◌else◌}
+use Rattle.std.proofs.Common.{◌≡◌, ℕ, zero, suc, ℤ, pos, Bool, true, false, List, [], ◌∷◌, ◌++◌, Option, Some, None, refl, sym, ap, subst, ◌∙◌, append_assoc, arith, eqb, if◌then◌else◌}
 use Rattle.std.proofs.lemmas.Bool.{eqb-true}
 use Rattle.std.proofs.lemmas.List.{append-nil}
 use Rattle.pac_value.specs.declared.values.Ty.{Ty}
@@ -23,7 +23,7 @@ use Rattle.pac_syntax.specs.declared.tree.TableNode.{TableNode}
 use Rattle.pac_syntax.specs.declared.tree.ProcNode.{ProcNode}
 use Rattle.pac_syntax.specs.declared.tree.Tree.{Tree}
 use Rattle.pac_syntax.specs.Grammar.{LiteralForm, AnInt, ANegative, AText, ATrue, AFalse, ExprForm, ALiteral, AName, ANot, AParen, ABinary, ValuesForm, NoValue, AValue, StmtsForm, NoStmt, ALet, ARead, AHas, APut, ASet, ADelete, AnAbort, AnIf, AnIfElse, TypeForm, AnIntType, ATextType, ColumnsForm, NoColumn, AColumn, ParamsForm, NoParam, AParam, TablesForm, NoTable, ATable, ProcsForm, NoProc, AProc, sign_of, tier, left_level, AtLevel, AreValues, AreStmts, AreProcs, literal_node, expr_node, value_nodes, stmt_nodes, type_of_form, column_node, column_nodes, param_nodes, table_nodes, proc_nodes, Role, Plain, TableWord, ProcWord, ParamName, Operator, Paren, Nested, Marked, marked, keyword_mark, symbol_mark, name_mark, type_mark, literal_before, counted, expr_before, whole_before, values_before, stmts_before, columns_before, params_before, tables_before, procs_before, Whole}
-use Rattle.pac_syntax.specs.Machine.{Begun, Steps, Done, Want, WantName, WantType, WantLiteral, WantNegative, Level, Rest, MoreValues, MoreStmts, MaybeElse, MoreColumns, SomeParams, MoreTables, MoreProcs, Next, next, want_keyword, want_symbol, want_expr, begun_name, begun_literal, joined, top, lay, negation_steps, paren_steps, stmt_steps, stmt_role, block_steps, if_steps, values_steps, column_steps, typed_steps, table_steps, proc_steps, start, literal_at, literal_in, is_mark, name_in, type_in, operator_of, operator_in, operator_at, of_tier, or_else, where_true, where_some, literal_begins, negative_in, operand_begins, stmt_word, stmt_begins, feed, finish}
+use Rattle.pac_syntax.specs.Machine.{Begun, Steps, Done, Want, WantName, WantType, WantLiteral, WantNegative, Level, Rest, MoreValues, MoreStmts, MaybeElse, MoreColumns, SomeParams, MoreTables, MoreProcs, Next, next, want_expr, begun_name, begun_literal, joined, top, lay, negation_steps, paren_steps, stmt_steps, block_steps, if_steps, column_steps, typed_steps, table_steps, proc_steps, start, literal_at, is_mark, name_in, type_in, operator_of, operator_in, operator_at, of_tier, or_else, where_true, where_some, literal_begins, negative_in, operand_begins, stmt_begins, feed, finish}
 use Rattle.pac_syntax.proofs.Marks.{is_mark-true}
 use Rattle.pac_syntax.proofs.Running.{Runs}
 use Rattle.pac_syntax.proofs.Words.{begun}

@@ -1,5 +1,5 @@
 -- The token that is found by its first byte is the longest one in front, or the fault is that of the bytes.
-use Rattle.std.proofs.Common.{◌≡◌, ◌≤◌, ◌<◌, ◌+◌, ◌^◌, ℕ, zero, suc, pos, neg_ℤ, Bool, true, false, List, [], ◌∷◌, ◌++◌, length, take, drop, Option, Some, None, Result, Ok, Err, cond, refl, sym, ap, subst, ◌∙◌, arith, nat_eq, nat_lt, nat_le, if◌then◌else◌, ◌&&◌, inl, inr}
+use Rattle.std.proofs.Common.{◌≡◌, ◌≤◌, ◌+◌, ◌^◌, ℕ, zero, suc, pos, neg_ℤ, Bool, true, false, List, [], ◌∷◌, ◌++◌, length, take, drop, Option, Some, None, Result, Ok, Err, cond, refl, sym, ap, subst, ◌∙◌, arith, nat_eq, nat_lt, nat_le, if◌then◌else◌, ◌&&◌, inl, inr}
 use Rattle.std.specs.Prelude.{IfOk, IfErr}
 use Rattle.std.specs.List.{take_while, list_all}
 use Rattle.std.proofs.lemmas.List.Sums.{take_while-cons}
@@ -14,11 +14,11 @@ use Rattle.pac_syntax.specs.declared.lexer.Before.{Before}
 use Rattle.pac_syntax.specs.declared.lexer.Before.TheVariants.{Value, Other, LiteralMinus}
 use Rattle.pac_syntax.specs.declared.fault.FaultKind.{FaultKind}
 use Rattle.pac_syntax.specs.declared.fault.FaultKind.TheVariants as kind
-use Rattle.pac_syntax.specs.Spelling.{keyword_spelling, symbol_spelling, escaped, quoted}
-use Rattle.pac_syntax.specs.Tokens.{is_letter, is_digit, is_name, digits_value, keyword_of, IsWord, IsDigits, is_literal_minus, Spells, IsLongest, is_long_minus, is_long, IsNext, IsTooLong, IsNoToken, IsBad}
-use Rattle.pac_syntax.specs.Lexing.{word_token, word_at, int_at, closing_in, unescaped, text_of, closed_text, text_at, symbol_of, or_first, symbol_front, minus_at, symbol_at, token_at, IsFront}
+use Rattle.pac_syntax.specs.Spelling.{symbol_spelling, escaped, quoted}
+use Rattle.pac_syntax.specs.Tokens.{is_letter, is_digit, is_name, digits_value, keyword_of, IsWord, IsDigits, is_literal_minus, Spells, IsLongest, is_long_minus, IsNext, IsBad}
+use Rattle.pac_syntax.specs.Lexing.{word_token, word_at, int_at, closing_in, unescaped, closed_text, text_at, symbol_of, or_first, symbol_front, symbol_at, token_at, IsFront}
 use Rattle.pac_syntax.proofs.Quoted.{Closed, closes, closed, text_of_front}
-use Rattle.pac_syntax.proofs.Spelled.{keyword_is, symbol_is, keyword_found, symbol_found, keyword_short, symbol_some, symbol_short, first, class, class_by, token_class, spells_class, spells_some, spells_names, spells_digits, spells_quoted, spells_sign, some_is}
+use Rattle.pac_syntax.proofs.Spelled.{keyword_is, symbol_is, symbol_found, keyword_short, symbol_some, symbol_short, first, class, class_by, token_class, spells_class, spells_some, spells_names, spells_digits, spells_quoted, spells_sign, some_is}
 
 -- ---- the bytes in front that pass a test
 

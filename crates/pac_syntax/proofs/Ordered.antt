@@ -1,20 +1,16 @@
 -- The nodes of a tree that is read stand in the order of the text.
-use Rattle.std.proofs.Common.{◌≡◌, ℕ, suc, ◌+◌, ◌≤◌, List, [], ◌∷◌, ◌++◌, length, map, drop, Option, refl, sym, ap, subst, ◌∙◌, append_assoc, arith}
+use Rattle.std.proofs.Common.{◌≡◌, ℕ, suc, ◌+◌, ◌≤◌, List, [], ◌∷◌, ◌++◌, map, drop, Option, refl, sym, ap, subst, ◌∙◌, append_assoc, arith}
 use Rattle.std.specs.List.{flat_map}
 use Rattle.pac_syntax.specs.declared.lexer.Before.{Before}
 use Rattle.pac_syntax.specs.declared.fault.Fault.{Fault}
 use Rattle.pac_syntax.specs.declared.token.Spanned.{Spanned}
-use Rattle.pac_syntax.specs.declared.tree.ExprNode.{ExprNode}
-use Rattle.pac_syntax.specs.declared.tree.ColumnNode.{ColumnNode}
 use Rattle.pac_syntax.specs.declared.tree.StmtNode.{StmtNode}
 use Rattle.pac_syntax.specs.declared.tree.StmtNode.TheVariants as stmt
-use Rattle.pac_syntax.specs.declared.tree.TableNode.{TableNode}
-use Rattle.pac_syntax.specs.declared.tree.ProcNode.{ProcNode}
 use Rattle.pac_syntax.specs.declared.tree.Tree.{Tree}
-use Rattle.pac_syntax.specs.Grammar.{LiteralForm, AnInt, ANegative, AText, ATrue, AFalse, ExprForm, ALiteral, AName, ANot, AParen, ABinary, ValuesForm, NoValue, AValue, StmtsForm, NoStmt, ALet, ARead, AHas, APut, ASet, ADelete, AnAbort, AnIf, AnIfElse, TypeForm, AnIntType, ATextType, ColumnsForm, NoColumn, AColumn, ParamsForm, NoParam, AParam, TablesForm, NoTable, ATable, ProcsForm, NoProc, AProc, literal_node, expr_place, expr_node, value_nodes, stmt_nodes, type_of_form, column_node, column_nodes, param_nodes, table_nodes, proc_nodes, Role, ColumnName, ParamName, Marked, type_mark, counted, literal_before, expr_before, whole_before, values_before, stmts_before, columns_before, params_before, tables_before, procs_before, marks_of, tokens_of}
+use Rattle.pac_syntax.specs.Grammar.{LiteralForm, AnInt, ANegative, AText, ATrue, AFalse, ExprForm, ALiteral, AName, ANot, AParen, ABinary, ValuesForm, NoValue, AValue, StmtsForm, NoStmt, ALet, ARead, AHas, APut, ASet, ADelete, AnAbort, AnIf, AnIfElse, TypeForm, ColumnsForm, NoColumn, AColumn, ParamsForm, NoParam, AParam, TablesForm, NoTable, ATable, ProcsForm, NoProc, AProc, literal_node, expr_place, expr_node, value_nodes, stmt_nodes, column_nodes, param_nodes, table_nodes, proc_nodes, Role, ColumnName, ParamName, Marked, type_mark, counted, literal_before, expr_before, whole_before, values_before, stmts_before, columns_before, params_before, tables_before, procs_before, marks_of, tokens_of}
 use Rattle.pac_syntax.specs.Faults.{ReadsTokens}
 use Rattle.pac_syntax.specs.Tokens.{Lexed, IsLexed, gap, after}
-use Rattle.pac_syntax.specs.Order.{expr_places, expr_places_step, all_places, stmt_places, stmt_places_step, stmts_places, columns_places, table_places, proc_places, tree_places, Ascends, IsOrdered}
+use Rattle.pac_syntax.specs.Order.{expr_places, expr_places_step, all_places, stmt_places, stmt_places_step, stmts_places, columns_places, table_places, proc_places, Ascends, IsOrdered}
 use Rattle.pac_syntax.proofs.NodeForms.{fold-Literal, fold-Name, fold-Binary, fold-Not, fold-Let, fold-Read, fold-Has, fold-Put, fold-Set, fold-Delete, fold-AbortIf, fold-If}
 
 -- the places of tokens

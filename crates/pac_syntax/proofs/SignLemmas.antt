@@ -1,5 +1,5 @@
 -- Signs that are found stand in front of the bytes.
-use Rattle.std.proofs.Common.{◌≡◌, ◌≤◌, ℕ, List, length, take, Option, Some, None, Ok, refl, sym, ap, ◌∙◌, arith}
+use Rattle.std.proofs.Common.{◌≡◌, ◌≤◌, ℕ, List, length, take, Option, Some, None, Ok, refl, ap, ◌∙◌, arith}
 use Rattle.std.proofs.lemmas.List.{length-take}
 use Rattle.pac_syntax.specs.declared.token.Symbol.{Symbol}
 use Rattle.pac_syntax.specs.declared.token.Symbol.TheVariants as symbol

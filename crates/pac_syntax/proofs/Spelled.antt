@@ -1,5 +1,5 @@
 -- What spells a token: by its first byte, and of one token at most.
-use Rattle.std.proofs.Common.{◌≡◌, ◌≤◌, ℤ, ℕ, suc, pos, neg_ℤ, Bool, true, false, List, [], ◌∷◌, ◌++◌, length, Option, Some, None, find, cond, refl, sym, ap, ◌∙◌, arith, nat_eq, if◌then◌else◌, ◌&&◌}
+use Rattle.std.proofs.Common.{◌≡◌, ◌≤◌, ℕ, Bool, true, false, List, [], ◌∷◌, length, Option, Some, None, find, cond, refl, sym, ap, ◌∙◌, arith, nat_eq, if◌then◌else◌, ◌&&◌}
 use Rattle.std.specs.List.{list_all}
 use Rattle.std.specs.Cmp.Lexicographic.{pointwise}
 use Rattle.std.proofs.lemmas.Bool.{eqb-true}
@@ -13,7 +13,7 @@ use Rattle.pac_syntax.specs.declared.token.Token.TheVariants as token
 use Rattle.pac_syntax.specs.declared.token.TheConstants.{KEYWORDS, SYMBOLS}
 use Rattle.pac_syntax.specs.declared.lexer.Before.{Before}
 use Rattle.pac_syntax.specs.Spelling.{keyword_spelling, symbol_spelling, quoted}
-use Rattle.pac_syntax.specs.Tokens.{is_letter, is_digit, is_name, is_literal_minus, digits_value, IsWord, IsDigits, keyword_of, Spells}
+use Rattle.pac_syntax.specs.Tokens.{is_letter, is_digit, is_name, is_literal_minus, IsWord, IsDigits, keyword_of, Spells}
 use Rattle.pac_syntax.specs.Lexing.{symbol_of}
 use Rattle.pac_syntax.proofs.Quoted.{quoted_once}
 

@@ -1,5 +1,5 @@
 -- What one step of the reading does, for the parser's functions.
-use Rattle.std.proofs.Common.{◌≡◌, ◌≢◌, ℕ, zero, suc, ◌+◌, ◌-◌, ◌<◌, ◌≤◌, true, false, List, [], ◌∷◌, ◌++◌, length, Option, Some, None, Result, Ok, Err, refl, sym, ap, ◌∙◌, arith, add-one}
+use Rattle.std.proofs.Common.{◌≡◌, ◌≢◌, ℕ, zero, suc, ◌+◌, ◌<◌, ◌≤◌, true, false, List, [], ◌∷◌, ◌++◌, length, Some, None, Result, Ok, Err, refl, sym, ap, ◌∙◌, arith, add-one}
 use Rattle.std.proofs.lemmas.Bool.{lt-ltb, le-ltb}
 use Rattle.std.proofs.lemmas.List.{length-append}
 use Rattle.pac_value.specs.declared.values.Ty.{Ty}
@@ -28,7 +28,7 @@ use Rattle.pac_syntax.specs.declared.parser.ColumnKind.{ColumnKind}
 use Rattle.pac_syntax.specs.declared.parser.ColumnKind.TheVariants.{Column, Param}
 use Rattle.pac_syntax.specs.Grammar.{Role, ParamName}
 use Rattle.pac_syntax.specs.Faults.{fault_of, over_role, place}
-use Rattle.pac_syntax.specs.Machine.{Begun, Steps, Done, Want, WantName, WantType, WantLiteral, WantNegative, Level, Rest, MoreValues, MoreStmts, MaybeElse, MoreColumns, SomeParams, MoreTables, MoreProcs, want_keyword, want_expr, begun_name, begun_literal, joined, top, lay, negation_steps, paren_steps, stmt_steps, stmt_role, stmt_word, block_steps, column_steps, typed_steps, table_steps, proc_steps, is_mark, literal_in, literal_begins, negative_in, name_in, operand_begins, operator_at, feed, finish, scan, run, Fails, Gives, OkOrMemory}
+use Rattle.pac_syntax.specs.Machine.{Begun, Steps, Done, Want, WantName, WantType, WantLiteral, WantNegative, Level, Rest, MoreValues, MoreStmts, MaybeElse, MoreColumns, SomeParams, MoreTables, MoreProcs, want_expr, begun_name, begun_literal, joined, top, negation_steps, paren_steps, stmt_steps, stmt_role, stmt_word, block_steps, column_steps, typed_steps, table_steps, proc_steps, is_mark, literal_begins, negative_in, name_in, operand_begins, operator_at, feed, finish, scan, run, Fails, Gives, OkOrMemory}
 use Rattle.pac_syntax.specs.Views.{is_too_deep, Begins, IsNot, IsNoName, IsType, IsNoType, IsLiteral, IsNoLiteral, IsNoNegative, IsNegative, negative_of, name_token, role_of, limit_of}
 
 abbrev Read : Type 0

@@ -1,12 +1,12 @@
 -- What every tree of a text is: within the limits, and in the order of the text.
-use Rattle.std.proofs.Common.{◌≡◌, ◌+◌, ◌≤◌, ℕ, List, [], ◌∷◌, ◌++◌, length, drop, Option, ap, arith}
+use Rattle.std.proofs.Common.{◌+◌, ◌≤◌, ℕ, List, [], ◌∷◌, length, drop, Option, ap, arith}
 use Rattle.std.proofs.lemmas.List.{length-append, length-drop}
 use Rattle.pac_syntax.specs.declared.lexer.Before.{Before}
 use Rattle.pac_syntax.specs.declared.fault.Fault.{Fault}
 use Rattle.pac_syntax.specs.declared.token.Spanned.{Spanned}
 use Rattle.pac_syntax.specs.declared.tree.Tree.{Tree}
 use Rattle.pac_syntax.specs.Tokens.{Lexed, gap, after}
-use Rattle.pac_syntax.specs.Reading.{Reads, IsTree}
+use Rattle.pac_syntax.specs.Reading.{IsTree}
 use Rattle.pac_syntax.specs.Limits.{IsWithinLimits}
 use Rattle.pac_syntax.specs.Order.{IsOrdered}
 use Rattle.pac_syntax.proofs.Spelled.{spells_some}

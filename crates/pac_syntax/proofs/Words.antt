@@ -1,15 +1,12 @@
 -- What a derivation spells leads to its tree.
-use Rattle.std.proofs.Common.{◌≡◌, ◌<◌, ◌≤◌, ℕ, zero, suc, Bool, true, false, List, [], ◌∷◌, ◌++◌, Option, Some, None, refl, sym, ap, subst, ◌∙◌, append_assoc, arith, inl, inr}
+use Rattle.std.proofs.Common.{◌≡◌, ◌<◌, ◌≤◌, ℕ, zero, suc, List, [], ◌∷◌, ◌++◌, Some, None, refl, sym, ap, subst, ◌∙◌, append_assoc, arith, inl, inr}
 use Rattle.std.proofs.lemmas.Bool.{cases_lt, eq-eqb}
 use Rattle.std.proofs.lemmas.List.{append-nil}
 use Rattle.pac_value.specs.declared.values.Ty.{Ty}
 use Rattle.pac_value.specs.declared.expr.BinOp.{BinOp}
 use Rattle.pac_value.specs.declared.expr.BinOp.TheVariants as op
-use Rattle.pac_syntax.specs.declared.token.Token.{Token}
 use Rattle.pac_syntax.specs.declared.token.Token.TheVariants as token
-use Rattle.pac_syntax.specs.declared.token.Symbol.{Symbol}
 use Rattle.pac_syntax.specs.declared.token.Symbol.TheVariants as symbol
-use Rattle.pac_syntax.specs.declared.token.Keyword.TheVariants as keyword
 use Rattle.pac_syntax.specs.declared.tree.LiteralNode.{LiteralNode}
 use Rattle.pac_syntax.specs.declared.tree.ColumnNode.{ColumnNode}
 use Rattle.pac_syntax.specs.declared.tree.ExprNode.{ExprNode}
@@ -18,8 +15,8 @@ use Rattle.pac_syntax.specs.declared.tree.StmtNode.TheVariants as stmt
 use Rattle.pac_syntax.specs.declared.tree.TableNode.{TableNode}
 use Rattle.pac_syntax.specs.declared.tree.ProcNode.{ProcNode}
 use Rattle.pac_syntax.specs.declared.tree.Tree.{Tree}
-use Rattle.pac_syntax.specs.Grammar.{LiteralForm, AnInt, ANegative, AText, ATrue, AFalse, ExprForm, ALiteral, AName, ANot, AParen, ABinary, ValuesForm, NoValue, AValue, StmtsForm, NoStmt, ALet, ARead, AHas, APut, ASet, ADelete, AnAbort, AnIf, AnIfElse, TypeForm, AnIntType, ATextType, ColumnsForm, NoColumn, AColumn, ParamsForm, NoParam, AParam, TablesForm, NoTable, ATable, ProcsForm, NoProc, AProc, sign_of, tier, left_level, AtLevel, IsExpr, AreValues, AreStmts, AreProcs, literal_node, expr_place, expr_node, value_nodes, stmt_nodes, type_of_form, column_node, column_nodes, param_nodes, table_nodes, proc_nodes, Role, Plain, ColumnName, ParamName, Operator, Marked, marked, keyword_mark, symbol_mark, name_mark, type_mark, literal_before, counted, expr_before, whole_before, values_before, stmts_before, columns_before, params_before, tables_before, procs_before, Whole}
-use Rattle.pac_syntax.specs.Machine.{Begun, Steps, WantType, WantLiteral, WantNegative, Level, Rest, MoreValues, MoreStmts, MaybeElse, MoreColumns, SomeParams, MoreTables, MoreProcs, Next, next, want_symbol, want_expr, begun_literal, negated, enclosed, joined, top, lay, columns_steps, tree_end, tree_procs, start, operator_of, operator_in, operator_at, of_tier, feed, finish}
+use Rattle.pac_syntax.specs.Grammar.{LiteralForm, AnInt, ANegative, AText, ATrue, AFalse, ExprForm, ALiteral, AName, ANot, AParen, ABinary, ValuesForm, NoValue, AValue, StmtsForm, NoStmt, ALet, ARead, AHas, APut, ASet, ADelete, AnAbort, AnIf, AnIfElse, TypeForm, AnIntType, ATextType, ColumnsForm, NoColumn, AColumn, ParamsForm, NoParam, AParam, TablesForm, NoTable, ATable, ProcsForm, NoProc, AProc, sign_of, tier, left_level, AtLevel, IsExpr, AreValues, AreStmts, AreProcs, literal_node, expr_place, expr_node, value_nodes, stmt_nodes, type_of_form, column_node, column_nodes, param_nodes, table_nodes, proc_nodes, Role, Plain, ColumnName, ParamName, Operator, Marked, symbol_mark, name_mark, type_mark, literal_before, counted, expr_before, whole_before, values_before, stmts_before, columns_before, params_before, tables_before, procs_before, Whole}
+use Rattle.pac_syntax.specs.Machine.{Begun, Steps, WantType, WantLiteral, Level, Rest, MoreValues, MoreStmts, MaybeElse, MoreColumns, SomeParams, MoreTables, MoreProcs, want_symbol, want_expr, begun_literal, negated, enclosed, joined, top, lay, columns_steps, tree_end, tree_procs, start, operator_of, operator_in, operator_at, of_tier, feed, finish}
 use Rattle.pac_syntax.proofs.Running.{Runs}
 
 -- an expression with the place at which it begins

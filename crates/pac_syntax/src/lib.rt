@@ -4,14 +4,17 @@
 //! - [`parse_catalogue`]: the tree of a catalogue's text, [`Tree`], with one node for each rule of the grammar.
 //! - [`SyntaxError`]: why a text isn't read: its first [`Fault`], at a place (a byte offset) and of a kind.
 //!
-//! What a text is read as stands in `specs/`, without any parser: `Tokens` (the tokens of bytes), `Grammar` (derivations
-//! with the place of each token, and the tree of each), `Faults` (limits are roles of tokens in a derivation; a fault is
-//! a token that can't follow, or one over a limit, and the first one is told), `Reading` (the text as a whole) and
-//! `Limits` (what a tree that is read may hold).
+//! What a text is read as stands in `specs/`, without any lexer or parser: `Tokens` (the tokens of bytes: the longest
+//! front that spells one), `Grammar` (derivations with the place of each token, and the tree of each), `Faults` (limits
+//! are roles of tokens in a derivation; a fault is a token that can't follow, or one over a limit, and the first one is
+//! told), `Kinds` (how a fault's kind is printed) and `Reading` (the text as a whole). Of every tree that is read
+//! `proofs/Trees.antt` shows how much it may hold (`Limits`) and that its places stand in the order of the text (`Order`).
 //!
-//! The proof goes over a reading machine that is fed one token at a time (`specs/Machine.antt`): `proofs/Words.antt` and
-//! `proofs/Ends.antt` show that it takes just the derivations, `proofs/Meets.antt` that it stops at the first fault, and
-//! each function of the recursive descent says in its contract how far it moves the machine (`proofs/Stepping.antt`).
+//! The proof goes over machines that definitions of what is read don't name. `specs/Lexing.antt` computes the longest
+//! token from the first byte on, as the lexer does; `proofs/Longest.antt` shows that it is that. The parser stands
+//! against a machine that is fed one token at a time (`specs/Machine.antt`): `proofs/Words.antt` and `proofs/Ends.antt`
+//! show that it takes just the derivations, `proofs/Meets.antt` that it stops at the first fault, and each function of
+//! the recursive descent says in its contract how far it moves the machine (`proofs/Stepping.antt`).
 #![tactic(auto)]
 
 mod catalogue;

@@ -8,8 +8,8 @@ returns-in-Some-clause-only c = λ script is. (simp take_rest at c.read_parts-in
 
 pub returns-in-Some-clause-typing : goal.returns-in-Some-clause-typing
 returns-in-Some-clause-typing c = λ fault told. record {
-      short = omega arith;
-      front = take c.in-Some.at c.args.text.now;
-      is_front = (Some c.in-Some.at, c.in-Some.ensures.mark, refl);
-      first = c.read_parts-in-Some.ensures.typing fault told;
-    }
+  short = omega arith;
+  front = take c.in-Some.at c.args.text.now;
+  is_front = (Some c.in-Some.at, c.in-Some.ensures.mark, refl);
+  first = c.read_parts-in-Some.ensures.typing fault told;
+}

@@ -1,5 +1,4 @@
-use Rattle.std.proofs.Common.{subst, sym}
-use Rattle.pac_syntax.proofs.Longest.{front_of, front_ok, front_err}
+use Rattle.pac_syntax.proofs.Longest.{front_ok, front_err}
 use Rattle.pac_syntax.proofs.lexer.front.Goals as goal
 
 pub returns-clause-token : goal.returns-clause-token

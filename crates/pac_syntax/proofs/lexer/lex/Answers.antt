@@ -1,4 +1,4 @@
-use Rattle.std.proofs.Common.{◌≡◌, ◌≤◌, length, drop, Err, arith}
+use Rattle.std.proofs.Common.{◌≡◌, ◌≤◌, length, drop, arith}
 use Rattle.std.proofs.lemmas.Grind.{common_steps}
 use Rattle.std.proofs.lemmas.List.{nil_from_length, take_rest}
 use Rattle.pac_syntax.proofs.LexLemmas.{all_read, faulty}

@@ -1,4 +1,4 @@
-use Rattle.std.proofs.Common.{◌≤◌, ◌∙◌, sym, ap, length, subst, arith}
+use Rattle.std.proofs.Common.{◌∙◌, sym, ap, length, arith}
 use Rattle.pac_syntax.specs.Lexing.{symbol_at}
 use Rattle.pac_syntax.proofs.Spelled.{symbol_some}
 use Rattle.pac_syntax.proofs.SignLemmas.{other_sign, sign_within}

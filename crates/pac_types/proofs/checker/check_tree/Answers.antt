@@ -27,11 +27,15 @@ pub check_procs-requires-clause-limits : goal.check_procs-requires-clause-limits
 check_procs-requires-clause-limits c = subst (λ (nodes : List ProcNode). All IsProcWithinLimits nodes) (sym c.as_slice-2.ensures) (tree-within c.args.tree c.requires).procs
 
 pub invariant_of-result : goal.invariant_of-result
-invariant_of-result c = (c.args.tree, c.requires, tree_typed c.args.tree (tree-within c.args.tree c.requires) c.listed.result c.listed-2.result
-    (c.listed.ensures ∙ c.into_tables.ensures ∙ c.in_ok-tables.ensures.value ∙ ap (λ (nodes : List TableNode). map table_of nodes) c.as_slice.ensures)
-    (sym (ap (λ (nodes : List TableNode). checked_tables (map (λ node. node.name.name) nodes) 0 nodes) c.as_slice.ensures) ∙ c.in_ok-tables.ensures.names)
-    (ap (λ (ts : List Table). checked_procs ts (map (λ node. node.name.name) c.args.tree.procs) 0 c.args.tree.procs) (c.listed.ensures ∙ c.into_tables.ensures)
-      ∙ sym (ap (λ (nodes : List ProcNode). checked_procs c.in_ok-tables.tables (map (λ node. node.name.name) nodes) 0 nodes) c.as_slice-2.ensures) ∙ c.in_ok-procs.ensures ∙ ap Ok (sym c.listed-2.ensures)))
+invariant_of-result c = (
+  c.args.tree,
+  c.requires,
+  tree_typed c.args.tree (tree-within c.args.tree c.requires) c.listed.result c.listed-2.result
+      (c.listed.ensures ∙ c.into_tables.ensures ∙ c.in_ok-tables.ensures.value ∙ ap (λ (nodes : List TableNode). map table_of nodes) c.as_slice.ensures)
+      (sym (ap (λ (nodes : List TableNode). checked_tables (map (λ node. node.name.name) nodes) 0 nodes) c.as_slice.ensures) ∙ c.in_ok-tables.ensures.names)
+      (ap (λ (ts : List Table). checked_procs ts (map (λ node. node.name.name) c.args.tree.procs) 0 c.args.tree.procs) (c.listed.ensures ∙ c.into_tables.ensures)
+      ∙ sym (ap (λ (nodes : List ProcNode). checked_procs c.in_ok-tables.tables (map (λ node. node.name.name) nodes) 0 nodes) c.as_slice-2.ensures) ∙ c.in_ok-procs.ensures ∙ ap Ok (sym c.listed-2.ensures)),
+)
 
 pub returns-clause-ok : goal.returns-clause-ok
 returns-clause-ok c = tree_typed c.args.tree (tree-within c.args.tree c.requires) c.listed.result c.listed-2.result

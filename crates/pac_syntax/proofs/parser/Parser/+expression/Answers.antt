@@ -1,8 +1,8 @@
 use Rattle.std.proofs.Common.{◌≡◌, suc, ◌+◌, ◌-◌, ◌∙◌, refl, sym, ap, arith}
 use Rattle.std.proofs.lemmas.Result.{err_from_is_err_and}
-use Rattle.pac_syntax.specs.Machine.{Begun, Steps, Level, joined, run}
+use Rattle.pac_syntax.specs.Machine.{Level, run}
 use Rattle.pac_syntax.specs.Views.{begun_at}
-use Rattle.pac_syntax.proofs.Stepping.{level_opens, negation_next, negation_past, paren_next, paren_past, fails_along, gives_along, gives_made}
+use Rattle.pac_syntax.proofs.Stepping.{level_opens, negation_next, negation_past, paren_next, paren_past, fails_along, gives_along}
 use Rattle.pac_syntax.proofs.parser.Parser.+expression.Goals as goal
 
 -- ---- a name, a literal, a negation or parentheses
