@@ -194,7 +194,7 @@ pub(crate) fn put(
     ensures fits { OnOk result (FitTables tables.now txn.new.draft.tables) }
     ensures kept { txn.new.draft.kept ≡ txn.old.draft.kept }
 {
-    let key = key_of(tables, target, &txn.env)?;
+    let key = key_of(tables, target, &txn.env)?; // before the values
     let row = row_of(txn.alloc, tables, target.table, exprs, &txn.env)?;
     txn.draft.put(target.table, key, row)?;
     Ok(())
