@@ -9,3 +9,4 @@ pub mod Views
 pub mod Limits
 pub mod Reading
 pub mod Order
+pub mod Canonical
