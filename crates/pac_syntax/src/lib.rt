@@ -39,4 +39,6 @@ pub use token::{Keyword, Spanned, Symbol, Token, Tokens};
 pub use tree::{ColumnNode, ExprNode, LiteralNode, NameNode, ProcNode, StmtNode, TableNode, Tree};
 
 #[cfg(test)]
+mod print_tests;
+#[cfg(test)]
 mod tests;
