@@ -17,3 +17,4 @@ pub mod NodeForms
 pub mod WithinLimits
 pub mod Ordered
 pub mod Trees
+pub mod SameText

@@ -8,7 +8,6 @@ use Rattle.pac_value.specs.declared.values.Value.{Value}
 use Rattle.pac_value.specs.declared.values.Value.TheVariants as value
 use Rattle.pac_value.specs.declared.expr.BinOp.{BinOp}
 use Rattle.pac_syntax.specs.declared.tree.NameNode.{NameNode}
-use Rattle.pac_syntax.specs.declared.tree.LiteralNode.{LiteralNode}
 use Rattle.pac_syntax.specs.declared.tree.ColumnNode.{ColumnNode}
 use Rattle.pac_syntax.specs.declared.tree.ExprNode.{ExprNode}
 use Rattle.pac_syntax.specs.declared.tree.ExprNode.TheOpen.{ExprNode-F, Literal, Name, Binary, Not}

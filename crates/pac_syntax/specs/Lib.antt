@@ -10,3 +10,4 @@ pub mod Limits
 pub mod Reading
 pub mod Order
 pub mod Canonical
+pub mod Unplaced

@@ -1,6 +1,8 @@
 // Writes trees as their canonical texts.
 ghost use Rattle.std.specs.Prelude.{◌≡◌, ◌++◌, flat_map, OnOk, IfOk};
 ghost use Rattle.pac_syntax.specs.Canonical.{type_text, column_text, further_column_text, params_text, table_text, proc_text, canonical};
+ghost use Rattle.pac_syntax.specs.Unplaced.{without_places};
+ghost use Rattle.pac_syntax.specs.declared.tree.Tree.{Tree as ATree};
 
 use crate::print_statement::{deeper, push_name, push_stmts};
 use crate::tree::{ColumnNode, ProcNode, TableNode, Tree};
@@ -75,9 +77,10 @@ fn push_proc(alloc: Global, out: &mut Vec<u8>, proc: &ProcNode) -> Result<(), No
     Ok(())
 }
 
-/// The canonical text of a tree. Linear in that text.
+/// The canonical text of a tree, which the places of its nodes are no part of. Linear in that text.
 pub fn print(alloc: Global, tree: &Tree) -> Result<Vec<u8>, NoMemory>
-    ensures { IfOk result (λ text. text.items ≡ canonical tree.now) }
+    ensures text { IfOk result (λ text. text.items ≡ canonical tree.now) }
+    ensures places { (other : ATree) → without_places other ≡ without_places tree.now → IfOk result (λ text. text.items ≡ canonical other) }
 {
     let mut out = Vec::new(alloc);
     for table in tree.tables.as_slice() {

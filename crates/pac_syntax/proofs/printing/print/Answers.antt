@@ -1,0 +1,9 @@
+-- What is written is the text of each tree that is the same but for places.
+use Rattle.std.proofs.Common.{sym, ◌∙◌}
+use Rattle.pac_syntax.proofs.SameText.{same_text, all_written}
+use Rattle.pac_syntax.proofs.printing.print.Goals as goal
+
+pub returns-clause-places : goal.returns-clause-places
+returns-clause-places c = λ other same.
+    all_written c.loop-proc.out.items c.loop-proc.proc-index c.as_slice-proc-items.result.now c.args.tree.now c.loop-proc-test.false c.loop-proc.invariant
+    ∙ sym (same_text other c.args.tree.now same)
