@@ -1,5 +1,7 @@
 // Texts with what they are read as, and with their first faults.
-use crate::{ExprNode, Fault, FaultKind, StmtNode, SyntaxError, Token, parse_catalogue, tokens};
+use crate::{
+    ExprNode, Fault, FaultKind, ProcNode, StmtNode, SyntaxError, Token, parse_catalogue, tokens,
+};
 use pac_value::{BinOp, Value};
 use std::alloc::Global;
 use std::test::Fail;
@@ -39,8 +41,11 @@ fn parts(expr: &ExprNode) -> Option<(BinOp, usize, &ExprNode, &ExprNode)> {
 }
 
 // The value of the `let` that is the only statement of the only procedure.
-fn value_of(statements: &[StmtNode]) -> Option<&ExprNode> {
-    match statements {
+fn value_of(procs: &[ProcNode]) -> Option<&ExprNode> {
+    let [proc] = procs else {
+        return None;
+    };
+    match proc.body.as_slice() {
         [StmtNode::Let { name: _, value }] => Some(value),
         _ => None,
     }
@@ -81,8 +86,7 @@ fn operators_bind_by_their_levels(rt: HostRuntime) -> Result<(), Fail> {
     for (text, op, left, right) in rows {
         let catalogue = let_of(rt.alloc(), text)?;
         let tree = parse_catalogue(rt.alloc(), &catalogue)?;
-        let procs = tree.procs.as_slice();
-        let found = value_of(procs[0].body.as_slice()).and_then(parts);
+        let found = value_of(tree.procs.as_slice()).and_then(parts);
         assert!(rt; found.is_some(), "{text}");
         if let Some((top, at, first, second)) = found {
             assert_eq!(rt; at, 19);
@@ -375,8 +379,7 @@ fn literals_have_their_values(rt: HostRuntime) -> Result<(), Fail> {
     ];
     for (text, want) in rows {
         let tree = parse_catalogue(rt.alloc(), &let_of(rt.alloc(), text)?)?;
-        let procs = tree.procs.as_slice();
-        let value = value_of(procs[0].body.as_slice());
+        let value = value_of(tree.procs.as_slice());
         assert!(rt;
             matches!(value, Some(ExprNode::Literal(literal)) if literal.value == want),
             "{text}"
