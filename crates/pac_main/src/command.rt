@@ -139,8 +139,7 @@ fn told<E: Sink>(alloc: Global, stop: Stop, errors: &mut E) -> Stop
 
 /// Does what the words say, and answers the program's exit status. The one command that runs is `replay`: it reads a
 /// script from the input, to its end or to 65,537 bytes, executes its calls one after another from no
-/// rows on, and writes the tables. Time and memory are near linear in the script and in what its calls write, but for
-/// the dump, which looks at each row once for each table.
+/// rows on, and writes the tables. Time is near linear in the script and in the operations that its calls execute.
 ///
 /// | status | comes | the error sink takes |
 /// |---|---|---|
