@@ -279,7 +279,9 @@ fn every_form_is_typed(rt: HostRuntime) -> Result<(), Fail> {
             delete T[k];
         }";
     let catalogue = typed(rt.alloc(), text)??;
-    let body = catalogue.procs()[0].body.as_slice();
+    let procs = catalogue.procs();
+    assert_eq!(rt; procs.len(), 1);
+    let body = procs[0].body.as_slice();
     assert_eq!(rt; body.len(), 4);
     let Stmt::If {
         var: 3,
@@ -291,7 +293,9 @@ fn every_form_is_typed(rt: HostRuntime) -> Result<(), Fail> {
         assert!(rt; false, "no conditional");
         return Ok(());
     };
-    let read = match &first.as_slice()[0] {
+    let first = first.as_slice();
+    assert_eq!(rt; first.len(), 3);
+    let read = match &first[0] {
         Stmt::Read {
             var: 4,
             table: 0,
@@ -302,7 +306,9 @@ fn every_form_is_typed(rt: HostRuntime) -> Result<(), Fail> {
         _ => false,
     };
     assert!(rt; read);
-    let fresh = match &second.as_slice()[0] {
+    let second = second.as_slice();
+    assert_eq!(rt; second.len(), 2);
+    let fresh = match &second[0] {
         Stmt::Let { var: 5, value: _ } => true,
         _ => false,
     };
