@@ -1,5 +1,6 @@
 -- A text has one list of tokens, and ends in one way.
-use Rattle.std.proofs.Common.{◌≡◌, ℕ, ◌+◌, Bool, true, false, List, [], ◌∷◌, ◌++◌, length, take, drop, Option, Some, None, refl, sym, ap, subst, ◌∙◌, arith}
+use Rattle.std.proofs.Common.{◌≡◌, ℕ, ◌+◌, List, [], ◌∷◌, ◌++◌, length, take, drop, Option, Some, None, refl, sym, ap, subst, ◌∙◌, arith}
+use Rattle.std.proofs.Math.Seq.{take-append_seam, drop-append_seam}
 use Rattle.pac_syntax.specs.declared.lexer.Before.{Before}
 use Rattle.pac_syntax.specs.declared.token.Token.{Token}
 use Rattle.pac_syntax.specs.declared.token.Spanned.{Spanned}
@@ -7,15 +8,7 @@ use Rattle.pac_syntax.specs.declared.fault.Fault.{Fault}
 use Rattle.pac_syntax.specs.declared.fault.FaultKind.{FaultKind}
 use Rattle.pac_syntax.specs.declared.fault.FaultKind.TheVariants as kind
 use Rattle.pac_syntax.specs.Tokens.{Lexed, IsLexed, EndsAt, gap, after, Spells, IsLongest, IsNext, IsTooLong, IsBad, is_long}
-use Rattle.pac_syntax.proofs.Spelled.{spells_one, spells_some}
-
-take_front : (v rest : List ℕ) → take (length v) (v ++ rest) ≡ v
-take_front [] rest = refl
-take_front (b ∷ v) rest = ap (λ y. b ∷ y) (take_front v rest)
-
-drop_front : (v rest : List ℕ) → drop (length v) (v ++ rest) ≡ rest
-drop_front [] rest = refl
-drop_front (b ∷ v) rest = drop_front v rest
+use Rattle.pac_syntax.proofs.Spelled.{flags, spells_one, spells_some}
 
 -- ---- there is one longest token
 
@@ -29,16 +22,12 @@ longest_once before bytes t u w v r q h k =
     let more = h.longest v q u k.parts k.spells in
     let less = k.longest w r t h.parts h.spells in
     let len : length w ≡ length v = omega (arith, more, less) in
-    let front : w ≡ v = sym (take_front w r) ∙ ap (take (length w)) (sym h.parts) ∙ ap (λ n. take n bytes) len ∙ ap (take (length v)) k.parts ∙ take_front v q in
+    let front : w ≡ v = sym (take-append_seam w r) ∙ ap (take (length w)) (sym h.parts) ∙ ap (λ n. take n bytes) len ∙ ap (take (length v)) k.parts ∙ take-append_seam v q in
     record {
       token = spells_one before t u w h.spells (subst (λ (x : List ℕ). Spells before u x) (sym front) k.spells);
       front = front;
-      rest = sym (drop_front w r) ∙ ap (drop (length w)) (sym h.parts) ∙ ap (λ n. drop n bytes) len ∙ ap (drop (length v)) k.parts ∙ drop_front v q;
+      rest = sym (drop-append_seam w r) ∙ ap (drop (length w)) (sym h.parts) ∙ ap (λ n. drop n bytes) len ∙ ap (drop (length v)) k.parts ∙ drop-append_seam v q;
     }
-
-flags : (b : Bool) → b ≡ true → b ≡ false → ⊥
-flags true h k = absurd cc
-flags false h k = absurd cc
 
 -- a token that is too long is none that is short enough
 long_short : (before : Before) (bytes : List ℕ) (t : Token) (n : ℕ) → IsNext before bytes t n → IsTooLong before bytes → ⊥

@@ -1,10 +1,12 @@
 -- The token that is found by its first byte is the longest one in front, or the fault is that of the bytes.
-use Rattle.std.proofs.Common.{◌≡◌, ◌≤◌, ◌+◌, ◌^◌, ℕ, zero, suc, pos, neg_ℤ, Bool, true, false, List, [], ◌∷◌, ◌++◌, length, take, drop, Option, Some, None, Result, Ok, Err, cond, refl, sym, ap, subst, ◌∙◌, arith, nat_eq, nat_lt, nat_le, if◌then◌else◌, ◌&&◌, inl, inr}
+use Rattle.std.proofs.Common.{◌≡◌, ◌≤◌, ◌+◌, ◌^◌, ℕ, zero, suc, pos, neg_ℤ, Bool, true, false, List, [], ◌∷◌, ◌++◌, length, take, drop, Option, Some, None, Result, Ok, Err, cond, refl, sym, ap, subst, ◌∙◌, append_assoc, arith, nat_eq, nat_lt, nat_le, if◌then◌else◌, inl, inr}
 use Rattle.std.specs.Prelude.{IfOk, IfErr}
+use Rattle.std.specs.Cmp.{first_so, second_so}
 use Rattle.std.specs.List.{take_while, list_all}
 use Rattle.std.proofs.lemmas.List.Sums.{take_while-cons}
 use Rattle.std.proofs.lemmas.List.{length-append, length-take}
-use Rattle.std.proofs.lemmas.Bool.{cases_lt, eqb-true, ltb-true}
+use Rattle.std.proofs.Math.Seq.{take-append_seam}
+use Rattle.std.proofs.lemmas.Bool.{cases_lt, cond-true, cond-false, eqb-true, ltb-true}
 use Rattle.pac_syntax.specs.declared.token.Keyword.{Keyword}
 use Rattle.pac_syntax.specs.declared.token.Symbol.{Symbol}
 use Rattle.pac_syntax.specs.declared.token.Symbol.TheVariants as symbol
@@ -22,12 +24,6 @@ use Rattle.pac_syntax.proofs.Spelled.{keyword_is, symbol_is, symbol_found, keywo
 
 -- ---- the bytes in front that pass a test
 
-by_test : (c : Bool) (x y : List ℕ) → c ≡ true → cond c x y ≡ x
-by_test c x y h = rw h refl
-
-by_fail : (c : Bool) (x y : List ℕ) → c ≡ false → cond c x y ≡ y
-by_fail c x y h = rw h refl
-
 -- what passes in front, and what is behind it
 record Passing (p : ℕ → Bool) (s : List ℕ) : Type 0 where
   rest : List ℕ
@@ -40,23 +36,15 @@ passing p (b ∷ s) = by (p b) refl (passing p s)
   where
     by : (c : Bool) → p b ≡ c → Passing p s → Passing p (b ∷ s)
     by true e f =
-        let is : take_while p (b ∷ s) ≡ b ∷ take_while p s = take_while-cons p b s ∙ by_test (p b) (b ∷ take_while p s) [] e in
+        let is : take_while p (b ∷ s) ≡ b ∷ take_while p s = take_while-cons p b s ∙ cond-true (p b) (b ∷ take_while p s) [] e in
         record {
           rest = f.rest;
           parts = ap (λ x. b ∷ x) f.parts ∙ ap (λ x. x ++ f.rest) (sym is);
           all = ap (list_all p) is ∙ (rw (e, f.all) refl);
         }
     by false e f =
-        let is : take_while p (b ∷ s) ≡ [] = take_while-cons p b s ∙ by_fail (p b) (b ∷ take_while p s) [] e in
+        let is : take_while p (b ∷ s) ≡ [] = take_while-cons p b s ∙ cond-false (p b) (b ∷ take_while p s) [] e in
         record { rest = b ∷ s; parts = ap (λ x. x ++ (b ∷ s)) (sym is); all = ap (list_all p) is }
-
-and_left : (a b : Bool) → (a && b) ≡ true → a ≡ true
-and_left true b e = refl
-and_left false b e = e
-
-and_right : (a b : Bool) → (a && b) ≡ true → b ≡ true
-and_right true b e = e
-and_right false b e = absurd cc
 
 heads : (a b : ℕ) (x y : List ℕ) → a ∷ x ≡ b ∷ y → a ≡ b
 heads a b x y e = cc
@@ -68,9 +56,9 @@ most : (p : ℕ → Bool) (s v after : List ℕ) → s ≡ v ++ after → list_a
 most p s [] after e all = omega arith
 most p [] (b ∷ v) after e all = absurd cc
 most p (a ∷ s) (b ∷ v) after e all =
-    let passes : p a ≡ true = ap p (heads a b s (v ++ after) e) ∙ and_left (p b) (list_all p v) all in
-    let is : take_while p (a ∷ s) ≡ a ∷ take_while p s = take_while-cons p a s ∙ by_test (p a) (a ∷ take_while p s) [] passes in
-    omega (arith, ap length is, most p s v after (tails a b s (v ++ after) e) (and_right (p b) (list_all p v) all))
+    let passes : p a ≡ true = ap p (heads a b s (v ++ after) e) ∙ first_so (p b) (list_all p v) all in
+    let is : take_while p (a ∷ s) ≡ a ∷ take_while p s = take_while-cons p a s ∙ cond-true (p a) (a ∷ take_while p s) [] passes in
+    omega (arith, ap length is, most p s v after (tails a b s (v ++ after) e) (second_so (p b) (list_all p v) all))
 
 -- ---- the class of what spells a front
 
@@ -84,8 +72,8 @@ front_class before b bs (c ∷ v) after u e h = ap class (heads b c bs (v ++ aft
 word_letters : (b : ℕ) (s : List ℕ) → is_letter b ≡ true → list_all is_name (take_while is_name (b ∷ s)) ≡ true → IsWord (take_while is_name (b ∷ s))
 word_letters b s h all =
     let name : is_name b ≡ true = rw h refl in
-    let is : take_while is_name (b ∷ s) ≡ b ∷ take_while is_name s = take_while-cons is_name b s ∙ by_test (is_name b) (b ∷ take_while is_name s) [] name in
-    subst (λ (x : List ℕ). IsWord x) (sym is) (h, and_right (is_name b) (list_all is_name (take_while is_name s)) (sym (ap (list_all is_name) is) ∙ all))
+    let is : take_while is_name (b ∷ s) ≡ b ∷ take_while is_name s = take_while-cons is_name b s ∙ cond-true (is_name b) (b ∷ take_while is_name s) [] name in
+    subst (λ (x : List ℕ). IsWord x) (sym is) (h, second_so (is_name b) (list_all is_name (take_while is_name s)) (sym (ap (list_all is_name) is) ∙ all))
 
 word_longest : (before : Before) (b : ℕ) (bs : List ℕ) → class b ≡ 0 → (t : Token) → Spells before t (take_while is_name (b ∷ bs)) → IsLongest before (b ∷ bs) t (take_while is_name (b ∷ bs)) (passing is_name (b ∷ bs)).rest
 word_longest before b bs c t spells = record {
@@ -110,8 +98,8 @@ word_front before b bs c h =
 
 number_digits : (b : ℕ) (s : List ℕ) → is_digit b ≡ true → list_all is_digit (take_while is_digit (b ∷ s)) ≡ true → IsDigits (take_while is_digit (b ∷ s))
 number_digits b s h all =
-    let is : take_while is_digit (b ∷ s) ≡ b ∷ take_while is_digit s = take_while-cons is_digit b s ∙ by_test (is_digit b) (b ∷ take_while is_digit s) [] h in
-    subst (λ (x : List ℕ). IsDigits x) (sym is) (h, and_right (is_digit b) (list_all is_digit (take_while is_digit s)) (sym (ap (list_all is_digit) is) ∙ all))
+    let is : take_while is_digit (b ∷ s) ≡ b ∷ take_while is_digit s = take_while-cons is_digit b s ∙ cond-true (is_digit b) (b ∷ take_while is_digit s) [] h in
+    subst (λ (x : List ℕ). IsDigits x) (sym is) (h, second_so (is_digit b) (list_all is_digit (take_while is_digit s)) (sym (ap (list_all is_digit) is) ∙ all))
 
 le_lt : (a b : ℕ) (t : Bool) → nat_le a b ≡ t → nat_lt b a ≡ cond t false true
 le_lt a b true is = grind arith
@@ -158,22 +146,18 @@ int_front Other b bs c h = plain_front Other b bs c h refl
 
 -- ---- texts
 
-append_quote : (x after : List ℕ) → x ++ (34 ∷ after) ≡ (x ++ (34 ∷ [])) ++ after
-append_quote [] after = refl
-append_quote (b ∷ x) after = ap (λ y. b ∷ y) (append_quote x after)
-
 quoted_length : (x : List ℕ) → length (quoted x) ≡ length (escaped x) + 2
 quoted_length x = omega (arith, length-append (escaped x) (34 ∷ []))
 
 -- a front that is a text shows where the bytes close
 closes_where : (bs v after : List ℕ) (x : List ℕ) → 34 ∷ bs ≡ v ++ after → v ≡ quoted x → bs ≡ escaped x ++ (34 ∷ after)
-closes_where bs v after x e is = tails 34 34 bs ((escaped x ++ (34 ∷ [])) ++ after) (e ∙ ap (λ y. y ++ after) is) ∙ sym (append_quote (escaped x) after)
+closes_where bs v after x e is = tails 34 34 bs ((escaped x ++ (34 ∷ [])) ++ after) (e ∙ ap (λ y. y ++ after) is) ∙ append_assoc (escaped x) (34 ∷ []) after
 
 text_longest : (before : Before) (bs : List ℕ) (n : ℕ) → closing_in false bs ≡ Some n → (k : Closed bs n) → IsLongest before (34 ∷ bs) (token.Text (unescaped false (take n bs))) (quoted (unescaped false (take n bs))) k.rest
 text_longest before bs n is k =
     let text = unescaped false (take n bs) in
     record {
-      parts = ap (λ y. 34 ∷ y) (k.parts ∙ append_quote (escaped text) k.rest);
+      parts = ap (λ y. 34 ∷ y) (k.parts ∙ sym (append_assoc (escaped text) (34 ∷ []) k.rest));
       spells = (refl, k.printable);
       longest = λ v after u e h.
           let q = spells_quoted before u v (sym (front_class before 34 bs v after u e h)) h in
@@ -203,13 +187,9 @@ take_parts zero bytes = refl
 take_parts (suc k) [] = refl
 take_parts (suc k) (b ∷ bs) = ap (λ y. b ∷ y) (take_parts k bs)
 
-take_front : (v after : List ℕ) → take (length v) (v ++ after) ≡ v
-take_front [] after = refl
-take_front (b ∷ v) after = ap (λ y. b ∷ y) (take_front v after)
-
 -- a front of so many bytes
 front_is : (bytes v after : List ℕ) (n : ℕ) → bytes ≡ v ++ after → length v ≡ n → take n bytes ≡ v
-front_is bytes v after n e len = rw (e, ← len) (take_front v after)
+front_is bytes v after n e len = rw (e, ← len) (take-append_seam v after)
 
 no_sign : (w : List ℕ) (s : Symbol) → symbol_of w ≡ None → w ≡ symbol_spelling s → ⊥
 no_sign w s none is = let clash : ◌≡◌ {A = Option Symbol} None (Some s) = sym none ∙ ap symbol_of is ∙ symbol_found s in absurd cc

@@ -1,9 +1,11 @@
 -- Texts between quotes: where they close, and what they are without their escapes.
-use Rattle.std.proofs.Common.{◌≡◌, ◌<◌, ◌+◌, get_or, ℕ, suc, Bool, true, false, List, [], ◌∷◌, ◌++◌, length, take, drop, Option, Some, None, refl, sym, ap, ◌∙◌, nat_eq, if◌then◌else◌, not, ◌||◌, ◌&&◌}
+use Rattle.std.proofs.Common.{◌≡◌, ◌<◌, ◌+◌, get_or, ℕ, suc, Bool, true, false, List, [], ◌∷◌, ◌++◌, length, take, drop, Option, Some, None, refl, sym, ap, ◌∙◌, append_assoc, nat_eq, if◌then◌else◌, not, ◌||◌, ◌&&◌}
+use Rattle.std.specs.Cmp.{first_so, second_so}
 use Rattle.std.specs.List.{list_all}
 use Rattle.std.specs.Option.{option_map}
 use Rattle.std.proofs.lemmas.Bool.{eqb-true}
 use Rattle.std.proofs.lemmas.List.{drop_more}
+use Rattle.std.proofs.Math.Seq.{take-append_seam}
 use Rattle.pac_value.specs.Texts.{is_printable}
 use Rattle.pac_syntax.specs.Spelling.{escaped, escaped_byte, quoted}
 use Rattle.pac_syntax.specs.Lexing.{closing_in, unescaped}
@@ -31,23 +33,11 @@ closes_byte b x rest false true p is_q is_e is_p print h = rw (is_q, is_e, h) re
 closes_byte b x rest false false true is_q is_e is_p print h = rw (is_q, is_e, is_p, h) refl
 closes_byte b x rest false false false is_q is_e is_p print h = absurd cc
 
-and_left : (a b : Bool) → (a && b) ≡ true → a ≡ true
-and_left true b e = refl
-and_left false b e = e
-
-and_right : (a b : Bool) → (a && b) ≡ true → b ≡ true
-and_right true b e = e
-and_right false b e = absurd cc
-
-append_cons : (a x : List ℕ) (c : ℕ) (after : List ℕ) → (a ++ x) ++ (c ∷ after) ≡ a ++ (x ++ (c ∷ after))
-append_cons [] x c after = refl
-append_cons (b ∷ a) x c after = ap (λ y. b ∷ y) (append_cons a x c after)
-
 pub closes : (x after : List ℕ) → list_all is_printable x ≡ true → closing_in false (escaped x ++ (34 ∷ after)) ≡ some (length (escaped x))
 closes [] after all = refl
 closes (b ∷ x) after all =
-    ap (closing_in false) (append_cons (escaped_byte b) (escaped x) 34 after)
-    ∙ closes_byte b (escaped x) (escaped x ++ (34 ∷ after)) (nat_eq b 34) (nat_eq b 92) (is_printable b) refl refl refl (and_left (is_printable b) (list_all is_printable x) all) (closes x after (and_right (is_printable b) (list_all is_printable x) all))
+    ap (closing_in false) (append_assoc (escaped_byte b) (escaped x) (34 ∷ after))
+    ∙ closes_byte b (escaped x) (escaped x ++ (34 ∷ after)) (nat_eq b 34) (nat_eq b 92) (is_printable b) refl refl refl (first_so (is_printable b) (list_all is_printable x) all) (closes x after (second_so (is_printable b) (list_all is_printable x) all))
 
 -- ---- what is escaped is the text without its escapes
 
@@ -121,15 +111,11 @@ closed (b ∷ c ∷ bs) n h = step (nat_eq b 34) (nat_eq b 92) (is_printable b) 
 
 -- ---- a text has one spelling
 
-take_front : (x rest : List ℕ) → take (length x) (x ++ rest) ≡ x
-take_front [] rest = refl
-take_front (b ∷ x) rest = ap (λ y. b ∷ y) (take_front x rest)
-
 -- the text that closes in these bytes, where they begin with an escaped one
 pub text_of_front : (bytes x after : List ℕ) (n : ℕ) → list_all is_printable x ≡ true → bytes ≡ escaped x ++ (34 ∷ after) → closing_in false bytes ≡ some n → (n ≡ length (escaped x)) × (unescaped false (take n bytes) ≡ x)
 text_of_front bytes x after n all parts h =
     let len : n ≡ length (escaped x) = some_is n (length (escaped x)) (sym h ∙ ap (closing_in false) parts ∙ closes x after all) in
-    (len, rw (len, parts, take_front (escaped x) (34 ∷ after)) (unescapes x))
+    (len, rw (len, parts, take-append_seam (escaped x) (34 ∷ after)) (unescapes x))
 
 tails : (a b : ℕ) (x y : List ℕ) → a ∷ x ≡ b ∷ y → x ≡ y
 tails a b x y e = cc

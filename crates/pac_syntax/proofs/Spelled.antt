@@ -368,7 +368,8 @@ spells_sign before _ w e h = absurd cc
 
 -- ---- bytes spell one token
 
-flags : (b : Bool) → b ≡ true → b ≡ false → ⊥
+-- a test has one answer
+pub flags : (b : Bool) → b ≡ true → b ≡ false → ⊥
 flags true h k = absurd cc
 flags false h k = absurd cc
 
