@@ -18,3 +18,15 @@ pub mod WithinLimits
 pub mod Ordered
 pub mod Trees
 pub mod SameText
+pub mod Decimals
+pub mod TokenFacts
+pub mod Fronts
+pub mod SignFronts
+pub mod Proper
+pub mod ProperWithin
+pub mod PrintedExprs
+pub mod Pieces
+pub mod PrintedStmts
+pub mod PrintedBlocks
+pub mod PrintedTrees
+pub mod ReadsBack

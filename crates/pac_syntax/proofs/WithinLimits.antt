@@ -16,7 +16,8 @@ use Rattle.pac_syntax.specs.Faults.{fault_of, past, over_role, IsWithin, ReadsTo
 use Rattle.pac_syntax.specs.Limits.{size, size_step, sizes, is_stored_type, IsTableWithinLimits, IsProcWithinLimits, IsWithinLimits, HasStoredType}
 use Rattle.pac_syntax.proofs.NodeForms.{fold-Let, fold-Read, fold-Has, fold-Put, fold-Set, fold-Delete, fold-AbortIf, fold-If}
 
-abbrev AllWithin : List Marked → Type 0
+-- each token is within its limit
+abbrev pub AllWithin : List Marked → Type 0
 AllWithin ms = AllByRecursion IsWithin ms
 
 within_test : (b : Bool) (fault : Fault) → ◌≡◌ {A = Option Fault} (cond b (Some fault) None) None → b ≡ false
@@ -24,7 +25,7 @@ within_test true fault e = absurd cc
 within_test false fault e = refl
 
 -- a number within its limit
-at_most : (limit n : ℕ) (fault : Fault) → past limit n fault ≡ None → n ≤ limit
+pub at_most : (limit n : ℕ) (fault : Fault) → past limit n fault ≡ None → n ≤ limit
 at_most limit n fault e = ltb-false limit n (within_test (ltb limit n) fault e)
 
 -- ---- what stands in front of the rest keeps it within, and has tokens of its own

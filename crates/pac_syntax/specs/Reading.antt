@@ -8,6 +8,7 @@ use Rattle.pac_syntax.specs.declared.fault.SyntaxError.TheVariants as error
 use Rattle.pac_syntax.specs.declared.tree.Tree.{Tree}
 use Rattle.pac_syntax.specs.Tokens.{IsLexed}
 use Rattle.pac_syntax.specs.Faults.{ReadsTokens, IsFirstFault}
+use Rattle.pac_syntax.specs.Unplaced.{without_places}
 
 -- the text is this catalogue's: it is short enough, and its tokens are the catalogue's within the limits
 pub record Reads (text : List ℕ) (tree : Tree) : Type 0 where
@@ -19,6 +20,10 @@ pub record Reads (text : List ℕ) (tree : Tree) : Type 0 where
 -- some text reads as the tree
 abbrev pub IsTree : Tree → Type 0
 IsTree tree = (text : List ℕ) × Reads text tree
+
+-- the text reads as a tree that is the same but for places
+abbrev pub ReadsButForPlaces : List ℕ → Tree → Type 0
+ReadsButForPlaces text tree = (again : Tree) × Reads text again × (without_places again ≡ without_places tree)
 
 -- the result is these tokens, or memory ran out
 abbrev pub AreTokensOrMemory : Result (List Spanned) SyntaxError → List Spanned → Type 0

@@ -2,7 +2,7 @@
 //!
 //! - [`tokens`]: the tokens of a text, with their places; it serves catalogues and request lines.
 //! - [`parse_catalogue`]: the tree of a catalogue's text, [`Tree`], with one node for each rule of the grammar.
-//! - [`print`]: the canonical text of a tree.
+//! - [`print`]: the canonical text of a tree, which reads as that tree again.
 //! - [`SyntaxError`]: why a text isn't read: its first [`Fault`], at a place (a byte offset) and of a kind.
 //!
 //! What a text is read as stands in `specs/`, without any lexer or parser: `Tokens` (the tokens of bytes: the longest
@@ -17,6 +17,9 @@
 //! against a machine that is fed one token at a time (`specs/Machine.antt`): `proofs/Words.antt` and `proofs/Ends.antt`
 //! show that it takes just the derivations, `proofs/Meets.antt` that it stops at the first fault, and each function of
 //! the recursive descent says in its contract how far it moves the machine (`proofs/Stepping.antt`).
+//!
+//! That a canonical text reads as its tree again needs neither machine (`proofs/ReadsBack.antt`): from the derivation that
+//! the tree was read by comes one of the canonical text (`PrintedExprs` to `PrintedTrees`), piece by piece (`Pieces`).
 #![tactic(auto)]
 
 mod catalogue;

@@ -1,7 +1,8 @@
 // Writes trees as their canonical texts.
-ghost use Rattle.std.specs.Prelude.{◌≡◌, ◌++◌, flat_map, OnOk, IfOk};
+ghost use Rattle.std.specs.Prelude.{◌≡◌, ◌≤◌, ◌++◌, length, flat_map, OnOk, IfOk};
 ghost use Rattle.pac_syntax.specs.Canonical.{type_text, column_text, further_column_text, params_text, table_text, proc_text, canonical};
 ghost use Rattle.pac_syntax.specs.Unplaced.{without_places};
+ghost use Rattle.pac_syntax.specs.Reading.{Reads, IsTree, ReadsButForPlaces};
 ghost use Rattle.pac_syntax.specs.declared.tree.Tree.{Tree as ATree};
 
 use crate::print_statement::{deeper, push_name, push_stmts};
@@ -77,9 +78,16 @@ fn push_proc(alloc: Global, out: &mut Vec<u8>, proc: &ProcNode) -> Result<(), No
     Ok(())
 }
 
-/// The canonical text of a tree, which the places of its nodes are no part of. Linear in that text.
+/// The canonical text of a tree, which the places of its nodes are no part of. The text of a tree that was read reads as
+/// that tree again, where it has at most 65,536 bytes. Linear in the text.
+///
+/// # Errors
+///
+/// `NoMemory` alone.
 pub fn print(alloc: Global, tree: &Tree) -> Result<Vec<u8>, NoMemory>
     ensures text { IfOk result (λ text. text.items ≡ canonical tree.now) }
+    ensures reads { IsTree tree.now → IfOk result (λ text. length text.items ≤ 65536 → ReadsButForPlaces text.items tree.now) }
+    ensures again { (other : ATree) → IsTree tree.now → IfOk result (λ text. Reads text.items other → text.items ≡ canonical other) }
     ensures places { (other : ATree) → without_places other ≡ without_places tree.now → IfOk result (λ text. text.items ≡ canonical other) }
 {
     let mut out = Vec::new(alloc);
