@@ -18,7 +18,7 @@
 //! show that it takes just the derivations, `proofs/Meets.antt` that it stops at the first fault, and each function of
 //! the recursive descent says in its contract how far it moves the machine (`proofs/Stepping.antt`).
 //!
-//! That a canonical text reads as its tree again needs neither machine (`proofs/ReadsBack.antt`): from the derivation that
+//! That a canonical text reads as its tree again is shown over derivations (`proofs/ReadsBack.antt`): from the one that
 //! the tree was read by comes one of the canonical text (`PrintedExprs` to `PrintedTrees`), piece by piece (`Pieces`).
 #![tactic(auto)]
 
