@@ -1,7 +1,6 @@
 // Reads expressions.
 ghost use Rattle.std.specs.Prelude.{◌≡◌, ◌≢◌, ◌<◌, ◌≤◌, ◌+◌, ℕ, zero, length, OnOk, IfOk, IfErr, IfSome};
-ghost use Rattle.pac_syntax.specs.Grammar.{tier};
-ghost use Rattle.pac_syntax.specs.Machine.{Steps, Begun, Level, Rest, joined, top, operator_at, operator_of, want_expr, negation_steps, paren_steps, run, either, Gives, OkOrMemory};
+ghost use Rattle.pac_syntax.specs.Machine.{Steps, Begun, Level, Rest, joined, top, operator_at, want_expr, negation_steps, paren_steps, run, either, Gives, OkOrMemory};
 ghost use Rattle.pac_syntax.specs.Views.{begun_at, IsNot};
 ghost use Rattle.pac_syntax.specs.declared.token.Token.TheVariants as token;
 ghost use Rattle.pac_syntax.specs.declared.token.Symbol.TheVariants as symbol;
@@ -10,6 +9,7 @@ ghost use Rattle.pac_syntax.specs.declared.fault.SyntaxError.TheVariants as erro
 ghost use Rattle.pac_syntax.specs.declared.tree.ExprNode.{ExprNode as AnExprNode};
 
 use crate::fault::{Fault, FaultKind, SyntaxError};
+use crate::operator::{COMPARISONS, operator_by, tier_of};
 use crate::parser::{Operand, Parser, split};
 use crate::token::{Symbol, Token};
 use crate::tree::ExprNode;
@@ -20,45 +20,8 @@ const MAX_OPERATORS: u8 = 64;
 
 const MAX_PARENS: u8 = 16;
 
-// The level of any expression, and the tier of comparisons, which do not follow one another.
+// The level of any expression.
 const EXPRESSION: u8 = 5;
-
-const COMPARISONS: u8 = 2;
-
-// The operator that a sign is.
-fn operator_by(sign: Symbol) -> Option<BinOp>
-    ensures { result ≡ operator_of sign }
-{
-    match sign {
-        Symbol::Plus => Some(BinOp::Add),
-        Symbol::Minus => Some(BinOp::Sub),
-        Symbol::Star => Some(BinOp::Mul),
-        Symbol::Slash => Some(BinOp::Div),
-        Symbol::Percent => Some(BinOp::Rem),
-        Symbol::Equal => Some(BinOp::Eq),
-        Symbol::NotEqual => Some(BinOp::Ne),
-        Symbol::Less => Some(BinOp::Lt),
-        Symbol::LessEqual => Some(BinOp::Le),
-        Symbol::Greater => Some(BinOp::Gt),
-        Symbol::GreaterEqual => Some(BinOp::Ge),
-        Symbol::And => Some(BinOp::And),
-        Symbol::Or => Some(BinOp::Or),
-        _ => None,
-    }
-}
-
-// How loosely an operator binds.
-fn tier_of(op: BinOp) -> u8
-    ensures { result ≡ tier op }
-{
-    match op {
-        BinOp::Mul | BinOp::Div | BinOp::Rem => 0,
-        BinOp::Add | BinOp::Sub => 1,
-        BinOp::Eq | BinOp::Ne | BinOp::Lt | BinOp::Le | BinOp::Gt | BinOp::Ge => COMPARISONS,
-        BinOp::And => 3,
-        BinOp::Or => 4,
-    }
-}
 
 // The operator of a tier that a token is.
 fn operator_of_tier(tier: u8, token: &Token) -> Option<BinOp>

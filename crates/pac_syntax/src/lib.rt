@@ -26,6 +26,7 @@ mod catalogue;
 mod expression;
 mod fault;
 mod lexer;
+mod operator;
 mod parse;
 mod parser;
 mod print_expression;

@@ -1,11 +1,11 @@
 // Writes literals and expressions.
-ghost use Rattle.std.specs.Prelude.{◌≡◌, ◌++◌, suc, OnOk};
+ghost use Rattle.std.specs.Prelude.{◌≡◌, ◌++◌, OnOk};
 ghost use Rattle.std.specs.Fmt.{signed_decimal};
 ghost use Rattle.pac_syntax.specs.Spelling.{escaped_byte, quoted};
-ghost use Rattle.pac_syntax.specs.Grammar.{sign_of, tier, left_level};
+ghost use Rattle.pac_syntax.specs.Grammar.{tier, left_level};
 ghost use Rattle.pac_syntax.specs.Canonical.{value_text, spelled, operand_text, expr_text, further_text, exprs_text};
 
-use crate::token::Symbol;
+use crate::operator::{COMPARISONS, sign_of, tier_of};
 use crate::tree::ExprNode;
 use pac_base::NoMemory;
 use pac_value::{BinOp, Text, Value};
@@ -51,68 +51,17 @@ pub fn push_value(alloc: Global, out: &mut Vec<u8>, value: &Value) -> Result<(),
     }
 }
 
-// The sign of an operator.
-fn sign_of(op: BinOp) -> Symbol
-    ensures { result ≡ sign_of op }
-{
-    match op {
-        BinOp::Add => Symbol::Plus,
-        BinOp::Sub => Symbol::Minus,
-        BinOp::Mul => Symbol::Star,
-        BinOp::Div => Symbol::Slash,
-        BinOp::Rem => Symbol::Percent,
-        BinOp::Eq => Symbol::Equal,
-        BinOp::Ne => Symbol::NotEqual,
-        BinOp::Lt => Symbol::Less,
-        BinOp::Le => Symbol::LessEqual,
-        BinOp::Gt => Symbol::Greater,
-        BinOp::Ge => Symbol::GreaterEqual,
-        BinOp::And => Symbol::And,
-        BinOp::Or => Symbol::Or,
-    }
-}
-
-// The levels of expressions, each binding looser than those before it.
+// The level of what has no operator at its top.
 const UNARY: u8 = 0;
-
-const PRODUCT: u8 = 1;
-
-const SUM: u8 = 2;
-
-const COMPARISON: u8 = 3;
-
-const CONJUNCTION: u8 = 4;
-
-const DISJUNCTION: u8 = 5;
-
-// The level of an expression with this operator at its top.
-fn level_with(op: BinOp) -> u8
-    ensures { result ≡ suc (tier op) }
-{
-    match op {
-        BinOp::Mul | BinOp::Div | BinOp::Rem => PRODUCT,
-        BinOp::Add | BinOp::Sub => SUM,
-        BinOp::Eq | BinOp::Ne | BinOp::Lt | BinOp::Le | BinOp::Gt | BinOp::Ge => COMPARISON,
-        BinOp::And => CONJUNCTION,
-        BinOp::Or => DISJUNCTION,
-    }
-}
 
 // The loosest level of a left operand. Comparisons do not follow one another.
 fn loosest_left(op: BinOp) -> u8
     ensures { result ≡ left_level (tier op) }
 {
-    match level_with(op) {
-        COMPARISON => SUM,
-        level => level,
+    match tier_of(op) {
+        COMPARISONS => COMPARISONS,
+        tier => tier + 1,
     }
-}
-
-// The loosest level of a right operand: operators group from the left.
-fn loosest_right(op: BinOp) -> u8
-    ensures { result ≡ tier op }
-{
-    level_with(op) - 1
 }
 
 fn level_of(expr: &ExprNode) -> u8
@@ -120,7 +69,7 @@ fn level_of(expr: &ExprNode) -> u8
 {
     match expr {
         ExprNode::Literal(_) | ExprNode::Name(_) | ExprNode::Not { .. } => UNARY,
-        ExprNode::Binary { op, .. } => level_with(*op),
+        ExprNode::Binary { op, .. } => tier_of(*op) + 1,
     }
 }
 
@@ -141,7 +90,8 @@ pub fn push_expr(alloc: Global, out: &mut Vec<u8>, expr: &ExprNode) -> Result<()
             out.extend_from_slice(b" ")?;
             out.extend_from_slice(sign_of(*op).spelling())?;
             out.extend_from_slice(b" ")?;
-            push_operand(alloc, out, right.get(), loosest_right(*op))
+            // Operators group from the left.
+            push_operand(alloc, out, right.get(), tier_of(*op))
         }
         ExprNode::Not { operand, .. } => {
             out.extend_from_slice(b"!")?;
