@@ -1,5 +1,5 @@
--- What a fold gives for each form of an expression's or a statement's node.
-use Rattle.std.proofs.Common.{◌≡◌, ℕ, List, map, sym, ap, ◌∙◌}
+-- What a fold gives for each form of an expression's or a statement's node, and induction over those of expressions.
+use Rattle.std.proofs.Common.{◌≡◌, ℕ, List, map, sym, ap, subst, ◌∙◌}
 use Rattle.pac_value.specs.declared.expr.BinOp.{BinOp}
 use Rattle.pac_syntax.specs.declared.tree.NameNode.{NameNode}
 use Rattle.pac_syntax.specs.declared.tree.LiteralNode.{LiteralNode}
@@ -7,7 +7,8 @@ use Rattle.pac_syntax.specs.declared.tree.ExprNode.{ExprNode, Literal, Name, Bin
 use Rattle.pac_syntax.specs.declared.tree.ExprNode.TheOpen as expr_form
 use Rattle.pac_syntax.specs.declared.tree.ExprNode.TheOpen.{ExprNode-F}
 use Rattle.pac_syntax.specs.declared.tree.ExprNode.TheVariants.{rolls-Literal, rolls-Name, rolls-Binary, rolls-Not}
-use Rattle.pac_syntax.specs.declared.tree.ExprNode.TheFolds.{fold-ExprNode, fold-roll-ExprNode}
+use Rattle.pac_syntax.specs.declared.tree.ExprNode.TheViews.{roll-ExprNode}
+use Rattle.pac_syntax.specs.declared.tree.ExprNode.TheFolds.{fold-ExprNode, fold-roll-ExprNode, ind-ExprNode, map-ExprNode}
 use Rattle.pac_syntax.specs.declared.tree.StmtNode.{StmtNode, Let, Read, Has, Put, Set, Delete, AbortIf, If}
 use Rattle.pac_syntax.specs.declared.tree.StmtNode.TheOpen as form
 use Rattle.pac_syntax.specs.declared.tree.StmtNode.TheOpen.{StmtNode-F}
@@ -51,3 +52,14 @@ module _ (A : Type 0) (step : StmtNode-F A → A) where
 
   pub fold-If : (test : ExprNode) (first second : List StmtNode) → fold-StmtNode A step (If test first second) ≡ step (form.If test (map (fold-StmtNode A step) first) (map (fold-StmtNode A step) second))
   fold-If test first second = ap (fold-StmtNode A step) (sym (rolls-If test first second)) ∙ fold-roll-StmtNode A step (form.If test first second)
+
+-- induction over the nodes of expressions
+pub by_nodes : (P : ExprNode → Type 0) → ((l : LiteralNode) → P (Literal l)) → ((n : NameNode) → P (Name n))
+    → ((at : ℕ) (op : BinOp) (l r : ExprNode) → P l → P r → P (Binary at op l r)) → ((at : ℕ) (e : ExprNode) → P e → P (Not at e)) → (e : ExprNode) → P e
+by_nodes P literal name binary neg = ind-ExprNode P (λ x y is. subst (λ z. P (roll-ExprNode z)) is (go y))
+  where
+    go : (y : ExprNode-F ((e : ExprNode) × P e)) → P (roll-ExprNode (map-ExprNode ((e : ExprNode) × P e) ExprNode (λ e. e.0) y))
+    go (expr_form.Literal l) = subst P (sym (rolls-Literal l)) (literal l)
+    go (expr_form.Name n) = subst P (sym (rolls-Name n)) (name n)
+    go (expr_form.Binary at op l r) = subst P (sym (rolls-Binary at op l.0 r.0)) (binary at op l.0 r.0 l.1 r.1)
+    go (expr_form.Not at e) = subst P (sym (rolls-Not at e.0)) (neg at e.0 e.1)

@@ -6,12 +6,8 @@ use Rattle.pac_value.specs.declared.expr.BinOp.{BinOp}
 use Rattle.pac_syntax.specs.declared.tree.NameNode.{NameNode}
 use Rattle.pac_syntax.specs.declared.tree.LiteralNode.{LiteralNode}
 use Rattle.pac_syntax.specs.declared.tree.ColumnNode.{ColumnNode}
-use Rattle.pac_syntax.specs.declared.tree.ExprNode.{ExprNode, Literal, Name, Binary, Not}
+use Rattle.pac_syntax.specs.declared.tree.ExprNode.{ExprNode}
 use Rattle.pac_syntax.specs.declared.tree.ExprNode.TheOpen as expr_form
-use Rattle.pac_syntax.specs.declared.tree.ExprNode.TheOpen.{ExprNode-F}
-use Rattle.pac_syntax.specs.declared.tree.ExprNode.TheViews.{roll-ExprNode}
-use Rattle.pac_syntax.specs.declared.tree.ExprNode.TheVariants.{rolls-Literal, rolls-Name, rolls-Binary, rolls-Not}
-use Rattle.pac_syntax.specs.declared.tree.ExprNode.TheFolds.{ind-ExprNode, map-ExprNode}
 use Rattle.pac_syntax.specs.declared.tree.StmtNode.{StmtNode}
 use Rattle.pac_syntax.specs.declared.tree.StmtNode.TheOpen as form
 use Rattle.pac_syntax.specs.declared.tree.StmtNode.TheOpen.{StmtNode-F}
@@ -23,21 +19,12 @@ use Rattle.pac_syntax.specs.declared.tree.ProcNode.{ProcNode}
 use Rattle.pac_syntax.specs.declared.tree.Tree.{Tree}
 use Rattle.pac_syntax.specs.Canonical.{value_text, Spelled, expr_step, spelled, expr_text, further_text, exprs_text, Indented, deeper, lines, else_text, stmt_step, stmt_text, column_text, further_column_text, params_text, table_text, proc_text, canonical}
 use Rattle.pac_syntax.specs.Unplaced.{unplaced_name, unplaced_literal, unplaced_column, unplaced_expr, unplaced_expr_step, unplaced_stmt, unplaced_stmt_step, unplaced_table, unplaced_proc, without_places}
-use Rattle.pac_syntax.proofs.NodeForms.{fold-Literal, fold-Name, fold-Binary, fold-Not, fold-Let, fold-Read, fold-Has, fold-Put, fold-Set, fold-Delete, fold-AbortIf, fold-If}
+use Rattle.pac_syntax.proofs.NodeForms.{by_nodes, fold-Literal, fold-Name, fold-Binary, fold-Not, fold-Let, fold-Read, fold-Has, fold-Put, fold-Set, fold-Delete, fold-AbortIf, fold-If}
 
 -- ---- expressions
 
-expr_by_forms : (P : ExprNode → Type 0) → ((l : LiteralNode) → P (Literal l)) → ((n : NameNode) → P (Name n)) → ((at : ℕ) (op : BinOp) (l r : ExprNode) → P l → P r → P (Binary at op l r)) → ((at : ℕ) (e : ExprNode) → P e → P (Not at e)) → (e : ExprNode) → P e
-expr_by_forms P lit name bin neg = ind-ExprNode P (λ x y is. subst (λ z. P (roll-ExprNode z)) is (go y))
-  where
-    go : (y : ExprNode-F ((e : ExprNode) × P e)) → P (roll-ExprNode (map-ExprNode ((e : ExprNode) × P e) ExprNode (λ e. e.0) y))
-    go (expr_form.Literal l) = subst P (sym (rolls-Literal l)) (lit l)
-    go (expr_form.Name n) = subst P (sym (rolls-Name n)) (name n)
-    go (expr_form.Binary at op l r) = subst P (sym (rolls-Binary at op l.0 r.0)) (bin at op l.0 r.0 l.1 r.1)
-    go (expr_form.Not at e) = subst P (sym (rolls-Not at e.0)) (neg at e.0 e.1)
-
 same_spelled : (e : ExprNode) → spelled (unplaced_expr e) ≡ spelled e
-same_spelled = expr_by_forms (λ e. spelled (unplaced_expr e) ≡ spelled e)
+same_spelled = by_nodes (λ e. spelled (unplaced_expr e) ≡ spelled e)
     (λ l. ap spelled (fold-Literal ExprNode unplaced_expr_step l) ∙ fold-Literal Spelled expr_step (unplaced_literal l) ∙ sym (fold-Literal Spelled expr_step l))
     (λ n. ap spelled (fold-Name ExprNode unplaced_expr_step n) ∙ fold-Name Spelled expr_step (unplaced_name n) ∙ sym (fold-Name Spelled expr_step n))
     (λ at op l r p q.

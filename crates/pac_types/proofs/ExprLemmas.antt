@@ -19,7 +19,7 @@ use Rattle.pac_types.specs.Numbering.{number_of, Sight, number_at, resolved, res
 use Rattle.pac_types.specs.Sound.{Scope, is_wanted, is_bool}
 use Rattle.pac_types.specs.Faults.{same_ty, is_ordered, is_left}
 use Rattle.pac_types.specs.Checking.{ScopeState, found_at, seen_at, taken, is_right, given, operands, checked_expr, checked_step, checked_wanted, checked_test}
-use Rattle.pac_types.proofs.ExprForms.{by_nodes}
+use Rattle.pac_syntax.proofs.NodeForms.{by_nodes}
 
 -- ---- operators
 

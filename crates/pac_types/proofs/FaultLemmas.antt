@@ -23,7 +23,8 @@ use Rattle.pac_types.specs.Numbering.{number_of, table_number, column_number, co
 use Rattle.pac_types.specs.Sound.{is_wanted, key_type, column_type, column_types_of, types}
 use Rattle.pac_types.specs.Faults.{fault_if, is_before, twice, Known, seen, name_faults, same_ty, is_left, wanted_right, is_same, is_fitting, is_test, Judged, wrong_type, placed, judge_step, judged, unknown, key_wanted, values_faults, cell_faults}
 use Rattle.pac_types.specs.Checking.{ScopeState, Cells, once, unless, found_at, seen_at, taken, is_right, given, operands, checked_step, checked_expr, checked_wanted, checked_test, known_at, checked_cell, checked_values}
-use Rattle.pac_types.proofs.ExprForms.{by_nodes}
+use Rattle.pac_syntax.proofs.NodeForms.{by_nodes}
+use Rattle.pac_types.proofs.CleanLemmas.{right_is}
 use Rattle.pac_types.proofs.ExprLemmas.{by_tests, no_left, no_right, both_taken, negation, none_right, none_for, none_is}
 use Rattle.pac_types.proofs.NameLemmas.{number-within}
 
@@ -80,21 +81,6 @@ placed_agrees {B} takes by h same j (Ok v) p = go (by v.ty) refl
     go : (b : Bool) → by v.ty ≡ b → Agree {A = B} (placed takes j) (taken v.at b >>= λ _. Ok (h v))
     go true e = placed_taken takes j v p (sym (same v.ty) ∙ e)
     go false e = ([], placed_wrong takes j v p (sym (same v.ty) ∙ e))
-
-right_is : (op : BinOp) (a b : Ty) → is_same (wanted_right op (Some a)) b ≡ is_right op a b
-right_is Add a b = refl
-right_is Sub a b = refl
-right_is Mul a b = refl
-right_is Div a b = refl
-right_is Rem a b = refl
-right_is Eq a b = refl
-right_is Ne a b = refl
-right_is Lt a b = refl
-right_is Le a b = refl
-right_is Gt a b = refl
-right_is Ge a b = refl
-right_is And a b = refl
-right_is Or a b = refl
 
 module _ (at : ℕ) (op : BinOp) (l r : Judged) where
   abbrev whole : Judged

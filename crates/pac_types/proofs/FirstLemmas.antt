@@ -1,5 +1,5 @@
 -- Checking from left to right meets the first fault of a tree.
-use Rattle.std.proofs.Common.{◌≡◌, ℕ, suc, ◌+◌, List, [], ◌∷◌, ◌++◌, length, replicate, map, Option, Some, None, Result, Ok, Err, refl, sym, ap, subst, ◌∙◌, arith, append_assoc, length-append, inl}
+use Rattle.std.proofs.Common.{◌≡◌, ℕ, suc, ◌+◌, List, [], ◌∷◌, ◌++◌, length, replicate, map, Option, Some, None, Result, Ok, Err, refl, sym, ap, subst, ◌∙◌, arith, append_assoc, length-append, inl, inr, ◌⊎◌, ◌≤◌, ◌<◌}
 use Rattle.std.proofs.lemmas.List.{append-nil, length-replicate}
 use Rattle.pac_value.specs.declared.values.Ty.TheVariants.{Bool as BoolTy}
 use Rattle.pac_value.specs.Values.{type_of}
@@ -27,7 +27,7 @@ use Rattle.pac_types.proofs.BlockLemmas.{left_is}
 use Rattle.pac_types.proofs.TreeLemmas.{variables_from}
 use Rattle.pac_types.proofs.FaultLemmas.{Agree, agree_then, agree_map, agree_same, once_agrees, known_types, test_agrees, cell_agrees}
 use Rattle.pac_types.proofs.RuleLemmas.{at, StmtAgrees, types-append, types-unseen, plain_agrees, naming_agrees, let_naming, has_naming, read_naming, set_plain, put_agrees, column_is, field_agrees}
-use Rattle.pac_types.proofs.PlaceLemmas.{faults_ascend, first_least}
+use Rattle.pac_types.proofs.PlaceLemmas.{faults_climb, first_before}
 
 -- a statement to the rules, and what checking it does
 pub record Case : Type 0 where
@@ -296,10 +296,19 @@ module _ (tree : Tree) where
   procs_result : (tables : List Table) → tables ≡ map table_of tree.tables → (r : Result (List Proc) TypeFault) → checked_procs tables proc_names 0 tree.procs ≡ r → Agree last_faults r
   procs_result tables is r e = subst (Agree last_faults) (ap (λ (ts : List Table). checked_procs ts proc_names 0 tree.procs) (sym is) ∙ e) (procs_agree (map table_of tree.tables) proc_names 0 tree.procs)
 
+  not_before : (f other : TypeFault) → (f ≡ other) ⊎ (f.at < other.at) → f.at ≤ other.at
+  not_before f other (inl e) = omega (arith, ap (λ (z : TypeFault). z.at) e)
+  not_before f other (inr lt) = omega arith
+
+  same_place : (f other : TypeFault) → (f ≡ other) ⊎ (f.at < other.at) → other.at ≡ f.at → other ≡ f
+  same_place f other (inl e) at = sym e
+  same_place f other (inr lt) at = absurd (omega arith)
+
   a_first : IsOrdered tree → (f : TypeFault) (rest : List TypeFault) → tree_faults tree ≡ f ∷ rest → IsFirstFault tree f
   a_first ordered f rest is = record {
     stands = subst (λ fs. IsAmong fs f) (sym is) (inl refl);
-    least = first_least f (tree_faults tree) rest is (faults_ascend tree ordered);
+    least = λ other stands. not_before f other (first_before f (tree_faults tree) rest is (faults_climb tree ordered) other stands);
+    alone = λ other stands at. same_place f other (first_before f (tree_faults tree) rest is (faults_climb tree ordered) other stands) at;
   }
 
   -- the fault that is met among the tables, or else among the procedures, is the first

@@ -3,7 +3,6 @@ pub mod ScopeLemmas
 pub mod SoundLemmas
 pub mod NameLemmas
 pub mod CheckLemmas
-pub mod ExprForms
 pub mod ExprLemmas
 pub mod PartLemmas
 pub mod StmtLemmas
@@ -11,6 +10,7 @@ pub mod BlockLemmas
 pub mod TreeLemmas
 pub mod CountLemmas
 pub mod TypingLemmas
+pub mod CleanLemmas
 pub mod PlaceLemmas
 pub mod FaultLemmas
 pub mod RuleLemmas

@@ -1,5 +1,5 @@
--- The faults of a tree stand in the order of its places.
-use Rattle.std.proofs.Common.{◌≡◌, ◌≤◌, ℕ, ◌+◌, Bool, true, false, List, [], ◌∷◌, ◌++◌, length, map, Option, Some, None, refl, sym, ap, subst, ◌∙◌, arith, append_assoc, inl, inr, ◌⊎◌}
+-- The faults of a tree stand in the order of its places, and no two at one place.
+use Rattle.std.proofs.Common.{◌≡◌, ◌≤◌, ◌<◌, ℕ, suc, ◌+◌, Bool, true, false, not, List, [], ◌∷◌, ◌++◌, length, map, Option, Some, None, refl, sym, ap, subst, ◌∙◌, arith, append_assoc, inl, inr, ◌⊎◌}
 use Rattle.std.specs.List.{flat_map}
 use Rattle.std.proofs.lemmas.List.{append-nil}
 use Rattle.pac_syntax.specs.declared.tree.NameNode.{NameNode}
@@ -13,99 +13,113 @@ use Rattle.pac_syntax.specs.declared.tree.StmtNode.TheOpen as form
 use Rattle.pac_syntax.specs.declared.tree.StmtNode.TheOpen.{StmtNode-F}
 use Rattle.pac_syntax.specs.declared.tree.StmtNode.TheViews.{roll-StmtNode}
 use Rattle.pac_syntax.specs.declared.tree.StmtNode.TheFolds.{fold-roll-StmtNode, ind-StmtNode, map-StmtNode}
-use Rattle.pac_syntax.specs.Order.{Ascends, IsOrdered, expr_places, expr_places_step, all_places, stmt_places, stmt_places_step, stmts_places, columns_places, table_places, proc_places, tree_places}
+use Rattle.pac_syntax.specs.Order.{Place, Own, Shared, Climbs, Ascends, IsOrdered, expr_places, expr_places_step, all_places, stmt_places, stmt_places_step, stmts_places, columns_places, table_places, proc_places, tree_places}
 use Rattle.pac_syntax.proofs.NodeForms as forms
 use Rattle.pac_value.specs.declared.values.Ty.{Ty}
 use Rattle.pac_types.specs.declared.catalogue.Table.{Table}
 use Rattle.pac_types.specs.declared.type_error.TypeFault.{TypeFault}
 use Rattle.pac_types.specs.declared.type_error.TypeFaultKind.{TypeFaultKind}
-use Rattle.pac_types.specs.declared.type_error.TypeFaultKind.TheVariants.{UnknownName, OutOfScope}
+use Rattle.pac_types.specs.declared.type_error.TypeFaultKind.TheVariants.{UnknownName, WrongType, OutOfScope}
 use Rattle.pac_types.specs.Sound.{column_types}
 use Rattle.pac_types.specs.Numbering.{variables, table_of}
 use Rattle.pac_types.specs.Faults.{fault_if, Known, name_faults, wrong_type, placed, Judged, judge_step, judged, is_left, is_test, unknown, column_faults, count_faults, wrong_count, values_faults, Ruled, all_faults, rule_step, ruled, cell_faults, names_faults, tables_faults, params_known, proc_faults, procs_faults, tree_faults, IsAmong}
-use Rattle.pac_types.proofs.ExprForms.{by_nodes}
+use Rattle.pac_syntax.proofs.NodeForms.{by_nodes}
+use Rattle.pac_types.proofs.CleanLemmas.{IsClean, clean}
 
 abbrev pub places_of : List TypeFault → List ℕ
 places_of faults = map (λ fault. fault.at) faults
 
-lower : (low l : ℕ) (ps : List ℕ) → low ≤ l → Ascends l ps → Ascends low ps
+lower : (low l : ℕ) (ps : List Place) → low ≤ l → Ascends l ps → Ascends low ps
 lower low l [] le h = tt
-lower low l (p ∷ ps) le h = (omega (arith, le, h.0), h.1)
+lower low l (Own p ∷ ps) le h = (omega (arith, le, h.0), h.1)
+lower low l (Shared p ∷ ps) le h = (omega (arith, le, h.0), h.1)
 
-skip : (low : ℕ) (ps more : List ℕ) → Ascends low (ps ++ more) → Ascends low more
+skip : (low : ℕ) (ps more : List Place) → Ascends low (ps ++ more) → Ascends low more
 skip low [] more h = h
-skip low (p ∷ ps) more h = lower low p more h.0 (skip p ps more h.1)
+skip low (Own p ∷ ps) more h = lower low (suc p) more (omega (arith, h.0)) (skip (suc p) ps more h.1)
+skip low (Shared p ∷ ps) more h = lower low p more h.0 (skip p ps more h.1)
 
--- these faults stand along these places: where the places ascend, and what comes behind them does, so do the faults
-pub record Along (faults : List TypeFault) (places : List ℕ) : Type 0 where
-  pub by : (low : ℕ) (more : List ℕ) (others : List ℕ) → Ascends low (places ++ more) → ((l : ℕ) → Ascends l more → Ascends l others) → Ascends low (places_of faults ++ others)
+-- These faults stand along these places: where the places ascend, and what comes behind them climbs, so do the faults, and
+-- no two of them stand at one place.
+pub record Along (faults : List TypeFault) (places : List Place) : Type 0 where
+  pub by : (low : ℕ) (more : List Place) (others : List ℕ) → Ascends low (places ++ more) → ((l : ℕ) → Ascends l more → Climbs l others) → Climbs low (places_of faults ++ others)
 
-pub none_along : (places : List ℕ) → Along [] places
+pub none_along : (places : List Place) → Along [] places
 none_along places = record { by = λ low more others h k. k low (skip low places more h) }
 
-pub one_along : (b : Bool) (at : ℕ) (kind : TypeFaultKind) → Along (fault_if b at kind) (at ∷ [])
-one_along true at kind = record { by = λ low more others h k. (h.0, k at h.1) }
-one_along false at kind = record { by = λ low more others h k. k low (lower low at more h.0 h.1) }
+pub one_along : (b : Bool) (at : ℕ) (kind : TypeFaultKind) → Along (fault_if b at kind) (Own at ∷ [])
+one_along true at kind = record { by = λ low more others h k. (h.0, k (suc at) h.1) }
+one_along false at kind = none_along (Own at ∷ [])
 
 places-append : (a b : List TypeFault) → places_of (a ++ b) ≡ places_of a ++ places_of b
 places-append [] b = refl
 places-append (x ∷ a) b = ap (λ zs. x.at ∷ zs) (places-append a b)
 
-pub both_along : (a b : List TypeFault) (p q : List ℕ) → Along a p → Along b q → Along (a ++ b) (p ++ q)
+pub both_along : (a b : List TypeFault) (p q : List Place) → Along a p → Along b q → Along (a ++ b) (p ++ q)
 both_along a b p q f g = record {
   by = λ low more others h k.
-      subst (λ zs. Ascends low zs) (sym (append_assoc (places_of a) (places_of b) others) ∙ ap (λ zs. zs ++ others) (sym (places-append a b)))
+      subst (λ zs. Climbs low zs) (sym (append_assoc (places_of a) (places_of b) others) ∙ ap (λ zs. zs ++ others) (sym (places-append a b)))
       (f.by low (q ++ more) (places_of b ++ others) (subst (λ zs. Ascends low zs) (append_assoc p q more) h) (λ l i. g.by l more others i k));
 }
 
--- a fault at the first place, and then those along all of them
-pub first_along : (b : Bool) (at : ℕ) (kind : TypeFaultKind) (a : List TypeFault) (p : List ℕ) → Along a (at ∷ p) → Along (fault_if b at kind ++ a) (at ∷ p)
-first_along true at kind a p f = record { by = λ low more others h k. (h.0, f.by at more others (omega arith, h.1) k) }
-first_along false at kind a p f = f
-
 -- ---- expressions
 
--- the places of an expression begin with its own, and its faults stand along them
-pub record Stood (j : Judged) (places : List ℕ) : Type 0 where
-  pub tail : List ℕ
-  pub first : places ≡ j.at ∷ tail
+-- The faults of an expression stand along its places. It begins at its own place, and what is behind it is behind that.
+pub record Stood (j : Judged) (places : List Place) : Type 0 where
   pub along : Along j.faults places
+  pub past : (low : ℕ) (more : List Place) → Ascends low (places ++ more) → (low ≤ j.at) × Ascends (suc j.at) more
 
-pub placed_along : (takes : Ty → Bool) (j : Judged) (places : List ℕ) → Stood j places → Along (placed takes j) places
-placed_along takes j places s = subst (λ ps. Along (placed takes j) ps) (sym s.first) (go j.ty (subst (λ ps. Along j.faults ps) s.first s.along))
+-- a fault at an expression's own place, where it has none inside
+own_along : (j : Judged) (places : List Place) → Stood j places → (b : Bool) (kind : TypeFaultKind) → Along (fault_if b j.at kind) places
+own_along j places s true kind = record { by = λ low more others h k. let p = s.past low more h in (p.0, k (suc j.at) p.1) }
+own_along j places s false kind = none_along places
+
+pub placed_along : (takes : Ty → Bool) (j : Judged) (places : List Place) → IsClean j → Stood j places → Along (placed takes j) places
+placed_along takes j places clean s = go j.ty refl
   where
-    go : (o : Option Ty) → Along j.faults (j.at ∷ s.tail) → Along (wrong_type takes j.at o ++ j.faults) (j.at ∷ s.tail)
-    go None h = h
-    go (Some ty) h = first_along _ j.at _ j.faults s.tail h
+    go : (o : Option Ty) → j.ty ≡ o → Along (wrong_type takes j.at o ++ j.faults) places
+    go None e = s.along
+    go (Some ty) e =
+        let wrong : List TypeFault = fault_if (not (takes ty)) j.at WrongType in
+        subst (λ (zs : List TypeFault). Along zs places) (sym (append-nil wrong) ∙ ap (λ (zs : List TypeFault). wrong ++ zs) (sym (clean ty e))) (own_along j places s (not (takes ty)) WrongType)
 
-name_along : (at : ℕ) (place : Option ℕ) (ty : Option (Option Ty)) → Along (name_faults at place ty) (at ∷ [])
+name_along : (at : ℕ) (place : Option ℕ) (ty : Option (Option Ty)) → Along (name_faults at place ty) (Own at ∷ [])
 name_along at None ty = one_along true at UnknownName
 name_along at (Some place) None = one_along true at OutOfScope
-name_along at (Some place) (Some ty) = none_along (at ∷ [])
+name_along at (Some place) (Some ty) = none_along (Own at ∷ [])
+
+-- what stands behind a place stands along it too
+behind : (at : Place) (a : List TypeFault) (ps : List Place) → Along a ps → Along a (at ∷ ps)
+behind at a ps f = both_along [] a (at ∷ []) ps (none_along (at ∷ [])) f
+
+-- an operation begins where its first operand does, or before
+binary_past : (at : ℕ) (l : Judged) (ps qs : List Place) → Stood l ps → (low : ℕ) (more : List Place) → Ascends low ((Shared at ∷ (ps ++ qs)) ++ more) → (low ≤ at) × Ascends (suc at) more
+binary_past at l ps qs s low more h =
+    let p = s.past at (qs ++ more) (subst (λ (zs : List Place). Ascends at zs) (append_assoc ps qs more) h.1) in
+    (h.0, lower (suc at) (suc l.at) more (omega (arith, p.0)) (skip (suc l.at) qs more p.1))
 
 module _ (names : List (List ℕ)) (known : Known) where
-  stood-at : (e : ExprNode) (j : Judged) (ps : List ℕ) → judged names known e ≡ j → expr_places e ≡ ps → Stood j ps → Stood (judged names known e) (expr_places e)
+  stood-at : (e : ExprNode) (j : Judged) (ps : List Place) → judged names known e ≡ j → expr_places e ≡ ps → Stood j ps → Stood (judged names known e) (expr_places e)
   stood-at e j ps p q h = subst (λ z. Stood z (expr_places e)) (sym p) (subst (λ z. Stood j z) (sym q) h)
 
   pub stood : (e : ExprNode) → Stood (judged names known e) (expr_places e)
   stood = by_nodes (λ e. Stood (judged names known e) (expr_places e))
-      (λ l. stood-at _ _ _ (forms.fold-Literal Judged (judge_step names known) l) (forms.fold-Literal (List ℕ) expr_places_step l) (record { tail = []; first = refl; along = none_along (l.at ∷ []) }))
-      (λ n. stood-at _ _ _ (forms.fold-Name Judged (judge_step names known) n) (forms.fold-Name (List ℕ) expr_places_step n) (record { tail = []; first = refl; along = name_along n.at _ _ }))
-      (λ at op l r p q. stood-at _ _ _ (forms.fold-Binary Judged (judge_step names known) at op l r) (forms.fold-Binary (List ℕ) expr_places_step at op l r) (record {
-        tail = _;
-        first = refl;
-        along = later at _ _ (both_along _ _ _ _ (placed_along (is_left op) _ _ p) (placed_along _ _ _ q));
+      (λ l. stood-at _ _ _ (forms.fold-Literal Judged (judge_step names known) l) (forms.fold-Literal (List Place) expr_places_step l) (record { along = none_along (Own l.at ∷ []); past = λ low more h. h }))
+      (λ n. stood-at _ _ _ (forms.fold-Name Judged (judge_step names known) n) (forms.fold-Name (List Place) expr_places_step n) (record { along = name_along n.at _ _; past = λ low more h. h }))
+      (λ at op l r p q. stood-at _ _ _ (forms.fold-Binary Judged (judge_step names known) at op l r) (forms.fold-Binary (List Place) expr_places_step at op l r) (record {
+        along = behind (Shared at) _ _ (both_along _ _ _ _ (placed_along (is_left op) _ _ (clean names known l) p) (placed_along _ _ _ (clean names known r) q));
+        past = λ low more h. binary_past at (judged names known l) (expr_places l) (expr_places r) p low more h;
       }))
-      (λ at e p. stood-at _ _ _ (forms.fold-Not Judged (judge_step names known) at e) (forms.fold-Not (List ℕ) expr_places_step at e) (record { tail = _; first = refl; along = later at _ _ (placed_along is_test _ _ p) }))
-    where
-      later : (at : ℕ) (a : List TypeFault) (ps : List ℕ) → Along a ps → Along a (at ∷ ps)
-      later at a ps f = both_along [] a (at ∷ []) ps (none_along (at ∷ [])) f
+      (λ at e p. stood-at _ _ _ (forms.fold-Not Judged (judge_step names known) at e) (forms.fold-Not (List Place) expr_places_step at e) (record {
+        along = behind (Own at) _ _ (placed_along is_test _ _ (clean names known e) p);
+        past = λ low more h. (h.0, skip (suc at) (expr_places e) more h.1);
+      }))
 
   pub expr_along : (e : ExprNode) → Along (judged names known e).faults (expr_places e)
   expr_along e = (stood e).along
 
   pub here_along : (takes : Ty → Bool) (e : ExprNode) → Along (placed takes (judged names known e)) (expr_places e)
-  here_along takes e = placed_along takes _ _ (stood e)
+  here_along takes e = placed_along takes _ _ (clean names known e) (stood e)
 
   pub values_along : (es : List ExprNode) (tys : List Ty) → Along (values_faults (judged names known) es tys) (flat_map expr_places es)
   values_along [] tys = none_along []
@@ -114,18 +128,18 @@ module _ (names : List (List ℕ)) (known : Known) where
 
 -- ---- statements
 
-unknown_along : (o : Option ℕ) (at : ℕ) → Along (unknown o at) (at ∷ [])
+unknown_along : (o : Option ℕ) (at : ℕ) → Along (unknown o at) (Own at ∷ [])
 unknown_along None at = one_along true at UnknownName
-unknown_along (Some n) at = none_along (at ∷ [])
+unknown_along (Some n) at = none_along (Own at ∷ [])
 
-column_along : (tables : List Table) (o : Option ℕ) (column : NameNode) → Along (column_faults tables o column) (column.at ∷ [])
-column_along tables None column = none_along (column.at ∷ [])
+column_along : (tables : List Table) (o : Option ℕ) (column : NameNode) → Along (column_faults tables o column) (Own column.at ∷ [])
+column_along tables None column = none_along (Own column.at ∷ [])
 column_along tables (Some t) column = unknown_along _ column.at
 
 -- an unknown table, or another number of values than it has columns
-table_along : (tables : List Table) (o : Option ℕ) (at values : ℕ) (a : List TypeFault) (p : List ℕ) → Along a p → Along (unknown o at ++ (wrong_count tables o at values ++ a)) (at ∷ p)
-table_along tables None at values a p f = both_along (fault_if true at UnknownName) a (at ∷ []) p (one_along true at UnknownName) f
-table_along tables (Some t) at values a p f = both_along (count_faults at values (length (column_types tables t))) a (at ∷ []) p (one_along _ at _) f
+table_along : (tables : List Table) (o : Option ℕ) (at values : ℕ) (a : List TypeFault) (p : List Place) → Along a p → Along (unknown o at ++ (wrong_count tables o at values ++ a)) (Own at ∷ p)
+table_along tables None at values a p f = both_along (fault_if true at UnknownName) a (Own at ∷ []) p (one_along true at UnknownName) f
+table_along tables (Some t) at values a p f = both_along (count_faults at values (length (column_types tables t))) a (Own at ∷ []) p (one_along _ at _) f
 
 module _ (tables : List Table) (names : List (List ℕ)) where
   abbrev Stood-node : Type 0
@@ -138,25 +152,25 @@ module _ (tables : List Table) (names : List (List ℕ)) where
   run_along [] known = none_along []
   run_along (q ∷ qs) known = both_along _ _ _ _ (q.1 known) (run_along qs _)
 
-  cell_along : (known : Known) (table : NameNode) (key : ExprNode) → Along (cell_faults tables (judged names known) table key) (table.at ∷ expr_places key)
-  cell_along known table key = both_along _ _ (table.at ∷ []) _ (unknown_along _ table.at) (here_along names known _ key)
+  cell_along : (known : Known) (table : NameNode) (key : ExprNode) → Along (cell_faults tables (judged names known) table key) (Own table.at ∷ expr_places key)
+  cell_along known table key = both_along _ _ (Own table.at ∷ []) _ (unknown_along _ table.at) (here_along names known _ key)
 
   step_along : (y : StmtNode-F Stood-node) (known : Known) → Along ((rule_step tables names (map-StmtNode StmtNode Ruled (ruled tables names) (map-StmtNode Stood-node StmtNode (λ q. q.0) y))).faults known)
-      (stmt_places_step (map-StmtNode StmtNode (List ℕ) stmt_places (map-StmtNode Stood-node StmtNode (λ q. q.0) y)))
-  step_along (form.Let name value) known = both_along _ _ (name.at ∷ []) _ (one_along _ name.at _) (expr_along names known value)
-  step_along (form.Read name table key column default) known = both_along _ _ (name.at ∷ []) _ (one_along _ name.at _)
-      (both_along _ _ (table.at ∷ expr_places key) _ (cell_along known table key) (both_along _ _ (column.at ∷ []) _ (column_along tables _ column) (one_along _ default.at _)))
-  step_along (form.Has name table key) known = both_along _ _ (name.at ∷ []) _ (one_along _ name.at _) (cell_along known table key)
+      (stmt_places_step (map-StmtNode StmtNode (List Place) stmt_places (map-StmtNode Stood-node StmtNode (λ q. q.0) y)))
+  step_along (form.Let name value) known = both_along _ _ (Own name.at ∷ []) _ (one_along _ name.at _) (expr_along names known value)
+  step_along (form.Read name table key column default) known = both_along _ _ (Own name.at ∷ []) _ (one_along _ name.at _)
+      (both_along _ _ (Own table.at ∷ expr_places key) _ (cell_along known table key) (both_along _ _ (Own column.at ∷ []) _ (column_along tables _ column) (one_along _ default.at _)))
+  step_along (form.Has name table key) known = both_along _ _ (Own name.at ∷ []) _ (one_along _ name.at _) (cell_along known table key)
   step_along (form.Put table key values) known = table_along tables _ table.at _ _ _ (both_along _ _ _ _ (here_along names known _ key) (values_along names known values _))
-  step_along (form.Set table key column value) known = both_along _ _ (table.at ∷ expr_places key) _ (cell_along known table key) (both_along _ _ (column.at ∷ []) _ (column_along tables _ column) (here_along names known _ value))
+  step_along (form.Set table key column value) known = both_along _ _ (Own table.at ∷ expr_places key) _ (cell_along known table key) (both_along _ _ (Own column.at ∷ []) _ (column_along tables _ column) (here_along names known _ value))
   step_along (form.Delete table key) known = cell_along known table key
   step_along (form.AbortIf test) known = here_along names known _ test
   step_along (form.If test first second) known = both_along _ _ _ _ (here_along names known _ test) (both_along _ _ _ _ (run_along first known) (run_along second _))
 
   pub stmt_along : (node : StmtNode) (known : Known) → Along ((ruled tables names node).faults known) (stmt_places node)
   stmt_along = ind-StmtNode (λ node. (known : Known) → Along ((ruled tables names node).faults known) (stmt_places node)) (λ x y is. subst (λ z. (known : Known) → Along ((ruled tables names (roll-StmtNode z)).faults known) (stmt_places (roll-StmtNode z))) is
-      (subst (λ (k : Ruled × List ℕ). (known : Known) → Along (k.0.faults known) k.1)
-      (λ i. (sym (fold-roll-StmtNode Ruled (rule_step tables names) (map-StmtNode Stood-node StmtNode (λ q. q.0) y)) i, sym (fold-roll-StmtNode (List ℕ) stmt_places_step (map-StmtNode Stood-node StmtNode (λ q. q.0) y)) i)) (step_along y)))
+      (subst (λ (k : Ruled × List Place). (known : Known) → Along (k.0.faults known) k.1)
+      (λ i. (sym (fold-roll-StmtNode Ruled (rule_step tables names) (map-StmtNode Stood-node StmtNode (λ q. q.0) y)) i, sym (fold-roll-StmtNode (List Place) stmt_places_step (map-StmtNode Stood-node StmtNode (λ q. q.0) y)) i)) (step_along y)))
 
   pub body_along : (nodes : List StmtNode) (known : Known) → Along (all_faults (map (ruled tables names) nodes) known) (stmts_places nodes)
   body_along [] known = none_along []
@@ -166,32 +180,32 @@ module _ (tables : List Table) (names : List (List ℕ)) where
 
 columns_along : (names : List (List ℕ)) (place : ℕ) (nodes : List ColumnNode) → Along (names_faults names place nodes) (columns_places nodes)
 columns_along names place [] = none_along []
-columns_along names place (n ∷ ns) = both_along _ _ (n.name.at ∷ []) _ (one_along _ n.name.at _) (columns_along names (place + 1) ns)
+columns_along names place (n ∷ ns) = both_along _ _ (Own n.name.at ∷ []) _ (one_along _ n.name.at _) (columns_along names (place + 1) ns)
 
 tables_along : (names : List (List ℕ)) (place : ℕ) (nodes : List TableNode) → Along (tables_faults names place nodes) (flat_map table_places nodes)
 tables_along names place [] = none_along []
-tables_along names place (n ∷ ns) = both_along _ _ (table_places n) _ (both_along _ _ (n.name.at ∷ []) _ (one_along _ n.name.at _) (columns_along _ 0 n.columns)) (tables_along names (place + 1) ns)
+tables_along names place (n ∷ ns) = both_along _ _ (table_places n) _ (both_along _ _ (Own n.name.at ∷ []) _ (one_along _ n.name.at _) (columns_along _ 0 n.columns)) (tables_along names (place + 1) ns)
 
 proc_along : (tables : List Table) (node : ProcNode) → Along (proc_faults tables node) (columns_places node.params ++ stmts_places node.body)
 proc_along tables node = both_along _ _ _ _ (columns_along (variables node) 0 node.params) (body_along tables (variables node) node.body (params_known node.params))
 
 procs_along : (tables : List Table) (names : List (List ℕ)) (place : ℕ) (nodes : List ProcNode) → Along (procs_faults tables names place nodes) (flat_map proc_places nodes)
 procs_along tables names place [] = none_along []
-procs_along tables names place (n ∷ ns) = both_along _ _ (proc_places n) _ (both_along _ _ (n.name.at ∷ []) _ (one_along _ n.name.at _) (proc_along tables n)) (procs_along tables names (place + 1) ns)
+procs_along tables names place (n ∷ ns) = both_along _ _ (proc_places n) _ (both_along _ _ (Own n.name.at ∷ []) _ (one_along _ n.name.at _) (proc_along tables n)) (procs_along tables names (place + 1) ns)
 
--- where the places of a tree ascend, those of its faults do
-pub faults_ascend : (tree : Tree) → IsOrdered tree → Ascends 0 (places_of (tree_faults tree) ++ [])
-faults_ascend tree ordered = (both_along _ _ _ _ (tables_along (map (λ node. node.name.name) tree.tables) 0 tree.tables) (procs_along (map table_of tree.tables) (map (λ node. node.name.name) tree.procs) 0 tree.procs)).by 0 [] [] (subst (λ ps. Ascends 0 ps) (sym (append-nil (tree_places tree))) ordered) (λ l h. h)
+-- where the places of a tree ascend, those of its faults climb
+pub faults_climb : (tree : Tree) → IsOrdered tree → Climbs 0 (places_of (tree_faults tree) ++ [])
+faults_climb tree ordered = (both_along _ _ _ _ (tables_along (map (λ node. node.name.name) tree.tables) 0 tree.tables) (procs_along (map table_of tree.tables) (map (λ node. node.name.name) tree.procs) 0 tree.procs)).by 0 [] [] (subst (λ ps. Ascends 0 ps) (sym (append-nil (tree_places tree))) ordered) (λ l h. tt)
 
-among_least : (low : ℕ) (faults : List TypeFault) (f : TypeFault) → Ascends low (places_of faults ++ []) → IsAmong faults f → low ≤ f.at
+among_least : (low : ℕ) (faults : List TypeFault) (f : TypeFault) → Climbs low (places_of faults ++ []) → IsAmong faults f → low ≤ f.at
 among_least low [] f h i = absurd i
 among_least low (g ∷ gs) f h (inl e) = omega (arith, h.0, ap (λ (z : TypeFault). z.at) e)
-among_least low (g ∷ gs) f h (inr i) = omega (arith, h.0, among_least g.at gs f h.1 i)
+among_least low (g ∷ gs) f h (inr i) = omega (arith, h.0, among_least (suc g.at) gs f h.1 i)
 
--- the first of ascending faults is the least
-pub first_least : (first : TypeFault) (faults rest : List TypeFault) → faults ≡ first ∷ rest → Ascends 0 (places_of faults ++ []) → (other : TypeFault) → IsAmong faults other → first.at ≤ other.at
-first_least first faults rest is h other i = go (subst (λ fs. Ascends 0 (places_of fs ++ [])) is h) (subst (λ fs. IsAmong fs other) is i)
+-- of climbing faults each but the first stands behind it
+pub first_before : (first : TypeFault) (faults rest : List TypeFault) → faults ≡ first ∷ rest → Climbs 0 (places_of faults ++ []) → (other : TypeFault) → IsAmong faults other → (first ≡ other) ⊎ (first.at < other.at)
+first_before first faults rest is h other i = go (subst (λ fs. Climbs 0 (places_of fs ++ [])) is h) (subst (λ fs. IsAmong fs other) is i)
   where
-    go : Ascends 0 (places_of (first ∷ rest) ++ []) → (first ≡ other) ⊎ IsAmong rest other → first.at ≤ other.at
-    go h (inl e) = omega (arith, ap (λ (z : TypeFault). z.at) e)
-    go h (inr i) = among_least first.at rest other h.1 i
+    go : Climbs 0 (places_of (first ∷ rest) ++ []) → (first ≡ other) ⊎ IsAmong rest other → (first ≡ other) ⊎ (first.at < other.at)
+    go h (inl e) = inl e
+    go h (inr i) = inr (among_least (suc first.at) rest other h.1 i)

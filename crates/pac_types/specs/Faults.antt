@@ -273,7 +273,8 @@ IsAmong (f ∷ fs) fault = (f ≡ fault) ⊎ IsAmong fs fault
 abbrev pub Stands : Tree → TypeFault → Type 0
 Stands tree fault = IsAmong (tree_faults tree) fault
 
--- the tree's first fault: it stands in the tree, and none that does has a lesser place
+-- the tree's first fault: it stands in the tree, none that does has a lesser place, and no other has the same place
 pub record IsFirstFault (tree : Tree) (fault : TypeFault) : Type 0 where
   pub stands : Stands tree fault
   pub least : (other : TypeFault) → Stands tree other → fault.at ≤ other.at
+  pub alone : (other : TypeFault) → Stands tree other → other.at ≡ fault.at → other ≡ fault

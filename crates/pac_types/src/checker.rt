@@ -70,7 +70,7 @@ fn check_procs(alloc: Global, tables: &Tables, nodes: &[ProcNode]) -> Result<Vec
 ///
 /// # Errors
 ///
-/// [`TypeError::Fault`] exactly where the tree isn't typed: its first fault, that with the least place. A name stands
+/// [`TypeError::Fault`] exactly where the tree isn't typed: its first fault, the one with the least place. A name stands
 /// twice in its space, or it isn't that of a table, of a column of its table or of a visible variable; a `put` has
 /// another number of values than its table has columns; an expression hasn't the type that its place wants. Tables and
 /// procedures have a space each, the columns of a table have one, and the parameters and variables of a procedure have
