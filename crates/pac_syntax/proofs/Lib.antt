@@ -30,3 +30,4 @@ pub mod PrintedStmts
 pub mod PrintedBlocks
 pub mod PrintedTrees
 pub mod ReadsBack
+pub mod OneFault

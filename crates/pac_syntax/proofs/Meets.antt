@@ -268,27 +268,43 @@ longer (u ∷ p) (w ∷ q) rest rest' t e lt =
     let l = longer p q rest rest' t (tail_is u w (p ++ rest) (q ++ (t ∷ rest')) e) (omega arith) in
     (l.0, ap (λ x. x ∷ p) (head_is u w (p ++ rest) (q ++ (t ∷ rest')) e) ∙ ap (λ x. w ∷ x) l.1)
 
--- nothing over a limit stands before the stop
-record Overs (ts : List Spanned) (p' rest' : List Spanned) (fault : Fault) (s : Stop) : Type 0 where
-  enough : length ts ≤ length p' + length s.rest
-  here : length ts ≡ length p' + length s.rest → s.fault ≡ fault
+-- where a token over a limit stands the reading stops, or before
+pub record StopsBy (end : ℕ) (p : List Spanned) (t : Spanned) (r : List Spanned) (fault : Fault) : Type 0 where
+  pub stop : Stop
+  pub is : scan end start (p ++ (t ∷ r)) ≡ Err stop
+  pub enough : length r < length stop.rest
+  pub here : length stop.rest ≡ suc (length r) → stop.fault ≡ fault
 
-overs : (end : ℕ) (ts : List Spanned) (p' rest' : List Spanned) (fault : Fault) (s : Stop) → scan end start ts ≡ Err s → ts ≡ p' ++ rest' → IsOverAt p' rest' fault → Overs ts p' rest' fault s
+pub over_stops : (end : ℕ) (p : List Spanned) (t : Spanned) (r : List Spanned) (fault : Fault) → IsOverAt p (t ∷ r) fault → StopsBy end p t r fault
+over_stops end p t r fault h =
+    let before = h.0 in let after = h.1 in let tree = h.3 in
+    let m : Marked = record { token = t; role = h.2 } in
+    let g = guard_stops before after m fault (Ok tree) h.6 in
+    let text : tokens_of (before ++ (m ∷ after)) ≡ (p ++ (t ∷ [])) ++ tokens_of after = tokens_append before (m ∷ after) ∙ ap (λ x. x ++ (t ∷ tokens_of after)) h.5 ∙ sym (append_assoc p (t ∷ []) (tokens_of after)) in
+    let stopped_there : scan end start ((p ++ (t ∷ [])) ++ tokens_of after) ≡ Err g.stop = ap (scan end start) (sym text) ∙ scan_whole end (before ++ (m ∷ after)) tree h.4 ∙ g.is in
+    let w = within end (p ++ (t ∷ [])) (tokens_of after) r start g.stop g.enough stopped_there in
+    record {
+      stop = w.stop;
+      is = ap (scan end start) (sym (append_assoc p (t ∷ []) r)) ∙ w.is;
+      enough = omega (arith, w.same, g.enough);
+      here = λ e. w.fault ∙ g.here (omega (arith, w.same, e));
+    }
+
+-- nothing over a limit stands before the stop
+pub record Overs (ts : List Spanned) (p' rest' : List Spanned) (fault : Fault) (s : Stop) : Type 0 where
+  pub enough : length ts ≤ length p' + length s.rest
+  pub here : length ts ≡ length p' + length s.rest → s.fault ≡ fault
+
+pub overs : (end : ℕ) (ts : List Spanned) (p' rest' : List Spanned) (fault : Fault) (s : Stop) → scan end start ts ≡ Err s → ts ≡ p' ++ rest' → IsOverAt p' rest' fault → Overs ts p' rest' fault s
 overs end ts p' [] fault s e parts h = absurd h
 overs end ts p' (t ∷ r) fault s e parts h =
-    let before = h.0 in let after = h.1 in let role = h.2 in let tree = h.3 in
-    let m : Marked = record { token = t; role = role } in
-    let g = guard_stops before after m fault (Ok tree) h.6 in
-    let text : tokens_of (before ++ (m ∷ after)) ≡ (p' ++ (t ∷ [])) ++ tokens_of after = tokens_append before (m ∷ after) ∙ ap (λ x. x ++ (t ∷ tokens_of after)) h.5 ∙ sym (append_assoc p' (t ∷ []) (tokens_of after)) in
-    let stopped_there : scan end start ((p' ++ (t ∷ [])) ++ tokens_of after) ≡ Err g.stop = ap (scan end start) (sym text) ∙ scan_whole end (before ++ (m ∷ after)) tree h.4 ∙ g.is in
-    let w = within end (p' ++ (t ∷ [])) (tokens_of after) r start g.stop g.enough stopped_there in
-    let whole : ts ≡ (p' ++ (t ∷ [])) ++ r = parts ∙ sym (append_assoc p' (t ∷ []) r) in
-    let same : w.stop ≡ s = stop_is w.stop s (sym w.is ∙ ap (scan end start) (sym whole) ∙ e) in
+    let by = over_stops end p' t r fault h in
+    let same : by.stop ≡ s = stop_is by.stop s (sym by.is ∙ ap (scan end start) (sym parts) ∙ e) in
     let len : length ts ≡ length p' + suc (length r) = ap length parts ∙ length-append p' (t ∷ r) in
-    let rests : length w.stop.rest ≡ length s.rest = ap (λ (u : Stop). length u.rest) same in
+    let rests : length by.stop.rest ≡ length s.rest = ap (λ (u : Stop). length u.rest) same in
     record {
-      enough = omega (arith, len, rests, w.same, g.enough);
-      here = λ h2. ap (λ (u : Stop). u.fault) (sym same) ∙ w.fault ∙ g.here (omega (arith, len, rests, w.same, h2));
+      enough = omega (arith, len, rests, by.enough);
+      here = λ h2. ap (λ (u : Stop). u.fault) (sym same) ∙ by.here (omega (arith, len, rests, h2));
     }
 
 least_unexpected : (ts p rest p' rest' : List Spanned) → ts ≡ p ++ rest → IsViable p → ts ≡ p' ++ rest' → IsUnexpected p' rest' → length p ≤ length p'
@@ -346,7 +362,7 @@ over_viable p t r fault h =
     let m : Marked = record { token = t; role = h.2 } in
     (h.0 ++ (m ∷ h.1), h.3, tokens_of h.1, h.4, tokens_append h.0 (m ∷ h.1) ∙ ap (λ x. x ++ (t ∷ tokens_of h.1)) h.5 ∙ sym (append_assoc p (t ∷ []) (tokens_of h.1)))
 
-not_both : (p rest : List Spanned) (fault : Fault) → IsOverAt p rest fault → IsUnexpected p rest → ⊥
+pub not_both : (p rest : List Spanned) (fault : Fault) → IsOverAt p rest fault → IsUnexpected p rest → ⊥
 not_both p [] fault h f = absurd h
 not_both p (t ∷ r) fault h f = f.1 (over_viable p t r fault h)
 

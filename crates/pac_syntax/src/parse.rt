@@ -40,8 +40,20 @@ pub fn tokens(alloc: Global, text: &[u8]) -> Result<Tokens, SyntaxError>
 ///
 /// # Errors
 ///
-/// `Fault` exactly where the text is no catalogue in the grammar and within its limits: its first fault.
+/// `Fault` exactly where the text is no catalogue in the grammar and within its limits: its first fault, and it has one.
 pub fn parse_catalogue(alloc: Global, text: &[u8]) -> Result<Tree, SyntaxError>
+    ensures reads { IfOk result (λ tree. Reads text.now tree) }
+    ensures tree { IfOk result IsTree }
+    ensures within { IfOk result IsWithinLimits }
+    ensures only { (tree : ATree) → Reads text.now tree → IsTreeOrMemory result tree }
+    ensures fault { (fault : AFault) → IsErrOf result (SyntaxError.Fault fault) → IsTextFault text.now fault }
+    ensures one { (fault other : AFault) → IsErrOf result (SyntaxError.Fault fault) → IsTextFault text.now other → other ≡ fault }
+{
+    parse_text(alloc, text)
+}
+
+// The same, without the law of first faults.
+fn parse_text(alloc: Global, text: &[u8]) -> Result<Tree, SyntaxError>
     ensures reads { IfOk result (λ tree. Reads text.now tree) }
     ensures tree { IfOk result IsTree }
     ensures within { IfOk result IsWithinLimits }
