@@ -17,6 +17,7 @@ use Rattle.pac_main.specs.declared.stop.Stop.TheVariants.{Usage, Syntax, Typing,
 use Rattle.pac_main.specs.Requests.{IsLine, AreCalls, some_call}
 use Rattle.pac_main.specs.Script.{IsScript, IsRefusal}
 use Rattle.pac_main.specs.Stop.{status_of, stop_of_script}
+use Rattle.pac_main.proofs.OneRefusal.{the_refusal}
 use Rattle.pac_main.specs.Replay.{IsTheScript, IsScriptOf, IsNoScript, IsRefusedAs}
 
 -- the bytes that were read are the whole input, or more than a script has
@@ -76,7 +77,7 @@ refusal_longer items rest NoMemory at_end h = h
 
 refusal_told : (items : List ℕ) (new : Option (List ℕ)) (stop : Stop) → (length items ≤ 65536 → IsAtEnd new) → IsRefusal items stop → IsRefusedAs (prepend_known items new) stop
 refusal_told items None stop at_end h = tt
-refusal_told items (Some rest) stop at_end h = refusal_longer items rest stop at_end h
+refusal_told items (Some rest) stop at_end h = the_refusal (items ++ rest) stop (refusal_longer items rest stop at_end h)
 
 pub input-refused : (old new : Option (List ℕ)) (items : List ℕ) (stop : Stop) → Gave old items new → (length items ≤ 65536 → IsAtEnd new) → IsRefusal items stop → IsRefusedAs old stop
 input-refused old new items stop gave at_end h = subst (λ (o : Option (List ℕ)). IsRefusedAs o stop) (sym gave) (refusal_told items new stop at_end h)

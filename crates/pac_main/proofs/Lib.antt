@@ -4,6 +4,7 @@ pub mod FitLemmas
 pub mod CallOnce
 pub mod RequestLemmas
 pub mod ScriptLemmas
+pub mod OneRefusal
 pub mod ErrorLemmas
 pub mod InputLemmas
 pub mod StopLemmas

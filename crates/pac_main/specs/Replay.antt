@@ -13,7 +13,7 @@ use Rattle.pac_serial.specs.declared.serial.SerialError.TheVariants.{Abort, NoMe
 use Rattle.pac_serial.specs.Dump.{tables_text}
 use Rattle.pac_main.specs.declared.script.Script.{Script}
 use Rattle.pac_main.specs.declared.stop.Stop.{Stop}
-use Rattle.pac_main.specs.Script.{IsScript, IsRefusal}
+use Rattle.pac_main.specs.Script.{IsScript, IsTheRefusal}
 
 -- the words are the one word `replay`
 abbrev pub IsReplay : List (String Global) → Type 0
@@ -34,9 +34,9 @@ IsScriptOf script input = IfSome input (λ text. IsTheScript text script)
 abbrev pub IsNoScript : Option (List ℕ) → Type 0
 IsNoScript input = IfSome input (λ text. (script : Script) → IsScript text script → ⊥)
 
--- the input is refused so, where the source tells it
+-- the input is refused so, and in no other way, where the source tells it
 abbrev pub IsRefusedAs : Option (List ℕ) → Stop → Type 0
-IsRefusedAs input stop = IfSome input (λ text. IsRefusal text stop)
+IsRefusedAs input stop = IfSome input (λ text. IsTheRefusal text stop)
 
 -- the tables with which serial execution of the calls ends, from no rows on, or its abort
 abbrev pub outcome : Script → Result Tables TxnAbort

@@ -85,3 +85,8 @@ IsRefusal text (Syntax fault) = HasSyntaxFault text fault
 IsRefusal text (Typing fault) = HasTypingFault text fault
 IsRefusal text Refused = (65536 < length text) ⊎ HasTypedText text
 IsRefusal text _ = ⊥
+
+-- this is what is told of the text, and nothing else is
+pub record IsTheRefusal (text : List ℕ) (stop : Stop) : Type 0 where
+  pub is : IsRefusal text stop
+  pub only : (other : Stop) → IsRefusal text other → other ≡ stop

@@ -13,6 +13,7 @@ pub mod SignLemmas
 pub mod LexedOnce
 pub mod LexLemmas
 pub mod TextFaults
+pub mod OneReading
 pub mod NodeForms
 pub mod WithinLimits
 pub mod Ordered
@@ -30,4 +31,3 @@ pub mod PrintedStmts
 pub mod PrintedBlocks
 pub mod PrintedTrees
 pub mod ReadsBack
-pub mod OneFault

@@ -1,5 +1,5 @@
 -- The canonical text of a tree that is read reads as the same tree again, whose text it is.
-use Rattle.std.proofs.Common.{◌≡◌, ◌≤◌, ℕ, List, length, Result, Ok, refl, sym, ap, subst, ◌∙◌}
+use Rattle.std.proofs.Common.{◌≡◌, ◌≤◌, ℕ, List, length, refl, sym, ap, subst, ◌∙◌}
 use Rattle.std.specs.List.{AllByRecursion}
 use Rattle.pac_syntax.specs.declared.token.Spanned.{Spanned}
 use Rattle.pac_syntax.specs.declared.tree.Tree.{Tree}
@@ -8,9 +8,7 @@ use Rattle.pac_syntax.specs.Faults.{ReadsTokens}
 use Rattle.pac_syntax.specs.Reading.{Reads, IsTree, ReadsButForPlaces}
 use Rattle.pac_syntax.specs.Canonical.{canonical}
 use Rattle.pac_syntax.specs.Unplaced.{without_places}
-use Rattle.pac_syntax.specs.Machine.{Stop, scan, start}
-use Rattle.pac_syntax.proofs.LexedOnce.{same_tokens}
-use Rattle.pac_syntax.proofs.Meets.{ok_reads}
+use Rattle.pac_syntax.proofs.OneReading.{reads_once}
 use Rattle.pac_syntax.proofs.PrintedTrees.{catalogue}
 use Rattle.pac_syntax.proofs.Proper.{IsProperCatalogue, IsFine, all_fine, fine_catalogue}
 use Rattle.pac_syntax.proofs.ProperWithin.{catalogue_within, catalogue_levels}
@@ -36,18 +34,6 @@ reads_back tree is short =
     let fine : AllByRecursion IsFine (marks_of whole.form) = subst (λ (ms : List Marked). AllByRecursion IsFine ms) (sym whole.spells) (all_fine reads.parsed.0 reads.parsed.3 tokens) in
     let short_form : length (canonical (tree_of whole.form)) ≤ 65536 = subst (λ (t : Tree). length (canonical t) ≤ 65536) (sym whole.is_tree) short in
     subst (λ (t : Tree). ReadsButForPlaces (canonical t) t) whole.is_tree (derivation_back whole.form (fine_catalogue whole.form whole.levels fine) short_form)
-
-abbrev ok_read : Tree → Result Tree Stop
-ok_read tree = Ok tree
-
-ok_is : (a b : Tree) → ok_read a ≡ ok_read b → a ≡ b
-ok_is a b e = cc
-
--- a text reads as one tree
-reads_once : (text : List ℕ) (a b : Tree) → Reads text a → Reads text b → a ≡ b
-reads_once text a b h k =
-    let same : h.tokens ≡ k.tokens = same_tokens text h.tokens k.tokens _ _ h.lexed k.lexed in
-    ok_is a b (sym (ok_reads 0 h.tokens a h.parsed) ∙ ap (scan 0 start) same ∙ ok_reads 0 k.tokens b k.parsed)
 
 -- ---- what is written of a tree
 

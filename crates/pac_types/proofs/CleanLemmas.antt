@@ -13,8 +13,9 @@ use Rattle.pac_types.specs.Checking.{is_right}
 use Rattle.pac_types.specs.Faults.{fault_if, Known, seen, name_faults, is_left, wanted_right, is_same, is_test, Judged, wrong_type, placed, judge_step, judged}
 use Rattle.pac_types.proofs.ExprLemmas.{no_left, no_right}
 
-abbrev pub IsClean : Judged → Type 0
-IsClean j = (ty : Ty) → j.ty ≡ Some ty → j.faults ≡ []
+-- it has no fault inside where it has a type
+abbrev pub TypedIsClean : Judged → Type 0
+TypedIsClean j = (ty : Ty) → j.ty ≡ Some ty → j.faults ≡ []
 
 abbrev some_type : Ty → Option Ty
 some_type ty = Some ty
@@ -34,7 +35,7 @@ name_clean known (Some place) at ty e = by (seen known (Some place)) e
     by (Some x) e = refl
 
 -- a place that takes the type that an expression has
-taken_clean : (takes : Ty → Bool) (j : Judged) (ty : Ty) → IsClean j → j.ty ≡ Some ty → takes ty ≡ true → placed takes j ≡ []
+taken_clean : (takes : Ty → Bool) (j : Judged) (ty : Ty) → TypedIsClean j → j.ty ≡ Some ty → takes ty ≡ true → placed takes j ≡ []
 taken_clean takes j ty clean e t = ap (λ (o : Option Ty). wrong_type takes j.at o ++ j.faults) e ∙ ap (λ (b : Bool). fault_if (not b) j.at WrongType ++ j.faults) t ∙ clean ty e
 
 pub right_is : (op : BinOp) (a b : Ty) → is_same (wanted_right op (Some a)) b ≡ is_right op a b
@@ -52,7 +53,7 @@ right_is Ge a b = refl
 right_is And a b = refl
 right_is Or a b = refl
 
-binary_clean : (op : BinOp) (l r : Judged) → IsClean l → IsClean r → (ty : Ty) → option_and_then (λ a. option_and_then (λ b. operator_type op a b) r.ty) l.ty ≡ some_type ty → placed (is_left op) l ++ placed (is_same (wanted_right op l.ty)) r ≡ []
+binary_clean : (op : BinOp) (l r : Judged) → TypedIsClean l → TypedIsClean r → (ty : Ty) → option_and_then (λ a. option_and_then (λ b. operator_type op a b) r.ty) l.ty ≡ some_type ty → placed (is_left op) l ++ placed (is_same (wanted_right op l.ty)) r ≡ []
 binary_clean op l r left_clean right_clean ty h = by_left l.ty refl h
   where
     left_takes : (a b : Ty) (c : Bool) → is_left op a ≡ c → operator_type op a b ≡ some_type ty → is_left op a ≡ true
@@ -77,7 +78,7 @@ binary_clean op l r left_clean right_clean ty h = by_left l.ty refl h
     by_left None e g = absurd (none_some ty g)
     by_left (Some a) e g = by_right a e r.ty refl g
 
-not_clean : (j : Judged) → IsClean j → (ty : Ty) → option_and_then negated_type j.ty ≡ some_type ty → placed is_test j ≡ []
+not_clean : (j : Judged) → TypedIsClean j → (ty : Ty) → option_and_then negated_type j.ty ≡ some_type ty → placed is_test j ≡ []
 not_clean j clean ty h = by j.ty refl h
   where
     by : (o : Option Ty) → j.ty ≡ o → option_and_then negated_type o ≡ some_type ty → placed is_test j ≡ []
@@ -87,11 +88,11 @@ not_clean j clean ty h = by j.ty refl h
     by (Some BoolTy) e g = taken_clean is_test j BoolTy clean e refl
 
 module _ (names : List (List ℕ)) (known : Known) where
-  clean_at : (e : ExprNode) (j : Judged) → judged names known e ≡ j → IsClean j → IsClean (judged names known e)
-  clean_at e j is h = subst (λ (z : Judged). IsClean z) (sym is) h
+  clean_at : (e : ExprNode) (j : Judged) → judged names known e ≡ j → TypedIsClean j → TypedIsClean (judged names known e)
+  clean_at e j is h = subst (λ (z : Judged). TypedIsClean z) (sym is) h
 
-  pub clean : (e : ExprNode) → IsClean (judged names known e)
-  clean = by_nodes (λ e. IsClean (judged names known e))
+  pub clean : (e : ExprNode) → TypedIsClean (judged names known e)
+  clean = by_nodes (λ e. TypedIsClean (judged names known e))
       (λ l. clean_at _ _ (fold-Literal Judged (judge_step names known) l) (λ ty e. refl))
       (λ n. clean_at _ _ (fold-Name Judged (judge_step names known) n) (λ ty e. name_clean known _ n.at ty e))
       (λ at op l r p q. clean_at _ _ (fold-Binary Judged (judge_step names known) at op l r) (λ ty e. binary_clean op (judged names known l) (judged names known r) p q ty e))

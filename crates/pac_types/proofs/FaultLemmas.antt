@@ -7,7 +7,6 @@ use Rattle.std.proofs.lemmas.List.{length-map}
 use Rattle.pac_value.specs.declared.values.Ty.{Ty}
 use Rattle.pac_value.specs.declared.values.Ty.TheVariants.{Bool as BoolTy}
 use Rattle.pac_value.specs.declared.expr.BinOp.{BinOp}
-use Rattle.pac_value.specs.declared.expr.BinOp.TheVariants.{Add, Sub, Mul, Div, Rem, Eq, Ne, Lt, Le, Gt, Ge, And, Or}
 use Rattle.pac_value.specs.declared.expr.Expr.{Var, Bin, Not}
 use Rattle.pac_value.specs.Expressions.{◌>>=◌, operator_type, negated_type}
 use Rattle.pac_syntax.specs.declared.tree.NameNode.{NameNode}

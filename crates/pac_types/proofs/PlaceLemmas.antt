@@ -24,7 +24,7 @@ use Rattle.pac_types.specs.Sound.{column_types}
 use Rattle.pac_types.specs.Numbering.{variables, table_of}
 use Rattle.pac_types.specs.Faults.{fault_if, Known, name_faults, wrong_type, placed, Judged, judge_step, judged, is_left, is_test, unknown, column_faults, count_faults, wrong_count, values_faults, Ruled, all_faults, rule_step, ruled, cell_faults, names_faults, tables_faults, params_known, proc_faults, procs_faults, tree_faults, IsAmong}
 use Rattle.pac_syntax.proofs.NodeForms.{by_nodes}
-use Rattle.pac_types.proofs.CleanLemmas.{IsClean, clean}
+use Rattle.pac_types.proofs.CleanLemmas.{TypedIsClean, clean}
 
 abbrev pub places_of : List TypeFault → List ℕ
 places_of faults = map (λ fault. fault.at) faults
@@ -74,7 +74,7 @@ own_along : (j : Judged) (places : List Place) → Stood j places → (b : Bool)
 own_along j places s true kind = record { by = λ low more others h k. let p = s.past low more h in (p.0, k (suc j.at) p.1) }
 own_along j places s false kind = none_along places
 
-pub placed_along : (takes : Ty → Bool) (j : Judged) (places : List Place) → IsClean j → Stood j places → Along (placed takes j) places
+pub placed_along : (takes : Ty → Bool) (j : Judged) (places : List Place) → TypedIsClean j → Stood j places → Along (placed takes j) places
 placed_along takes j places clean s = go j.ty refl
   where
     go : (o : Option Ty) → j.ty ≡ o → Along (wrong_type takes j.at o ++ j.faults) places

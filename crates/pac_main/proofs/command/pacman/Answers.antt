@@ -1,5 +1,4 @@
-use Rattle.std.proofs.Common.{Err, ap, refl, sym, ◌∙◌, arith}
-use Rattle.pac_main.specs.Stop.{line_of}
+use Rattle.std.proofs.Common.{Err, ap, sym, ◌∙◌, arith}
 use Rattle.pac_main.proofs.StopLemmas.{aborted_of, told_same}
 use Rattle.pac_main.proofs.command.pacman.Goals as goal
 

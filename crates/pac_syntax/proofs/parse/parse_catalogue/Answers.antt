@@ -1,5 +1,5 @@
 -- The fault that is told is the text's only first one.
-use Rattle.pac_syntax.proofs.OneFault.{one_fault}
+use Rattle.pac_syntax.proofs.OneReading.{one_fault}
 use Rattle.pac_syntax.proofs.parse.parse_catalogue.Goals as goal
 
 pub returns-clause-one : goal.returns-clause-one

@@ -1,12 +1,12 @@
--- A text has one first fault, and none where it is read.
-use Rattle.std.proofs.Common.{◌≡◌, ◌≤◌, ◌<◌, ℕ, List, [], ◌∷◌, ◌++◌, length, take, drop, Option, Some, None, Result, Ok, Err, refl, sym, ap, subst, ◌∙◌, append_assoc, arith, inl, inr, ◌⊎◌}
+-- A text reads as one tree at most, or else has one first fault.
+use Rattle.std.proofs.Common.{◌≡◌, ◌≤◌, ◌<◌, ℕ, List, [], ◌∷◌, ◌++◌, length, take, drop, Option, Some, None, Result, Ok, Err, refl, sym, ap, subst, ◌∙◌, append_assoc, arith, inl, inr}
 use Rattle.std.proofs.lemmas.List.{append-nil, length-append}
 use Rattle.std.proofs.Math.Seq.{take-append_seam, drop-append_seam}
 use Rattle.pac_syntax.specs.declared.token.Spanned.{Spanned}
 use Rattle.pac_syntax.specs.declared.fault.Fault.{Fault}
 use Rattle.pac_syntax.specs.declared.tree.Tree.{Tree}
-use Rattle.pac_syntax.specs.Faults.{ReadsTokens, IsUnexpected, IsOverAt, FaultAt, IsFirst, IsFirstFault}
-use Rattle.pac_syntax.specs.Reading.{IsFirstOf, IsFineBefore, IsTextFault}
+use Rattle.pac_syntax.specs.Faults.{ReadsTokens, FaultAt, IsFirstFault}
+use Rattle.pac_syntax.specs.Reading.{Reads, IsFirstOf, IsFineBefore, IsTextFault}
 use Rattle.pac_syntax.specs.Machine.{Stop, scan, start}
 use Rattle.pac_syntax.proofs.LexedOnce.{same_tokens, same_fault}
 use Rattle.pac_syntax.proofs.Meets.{reads_ok, ok_reads, first_fault, over_stops, overs, not_both}
@@ -90,3 +90,20 @@ one_fault text f g (inr (short, ts, lexical, lexed, h)) (inr (short', us, other,
     let tokens : us ≡ ts = same_tokens text us ts other lexical lexed' lexed in
     let ends : other ≡ lexical = same_fault text us ts other lexical lexed' lexed in
     one_first_of (length text) ts lexical f g h (subst (λ (o : Option Fault). IsFirstOf (length text) ts o g) ends (subst (λ (x : List Spanned). IsFirstOf (length text) x other g) tokens k))
+
+-- a text that is read has none
+pub no_fault : (text : List ℕ) (tree : Tree) (f : Fault) → Reads text tree → IsTextFault text f → ⊥
+no_fault text tree f h (inl long) = absurd (omega (arith, h.short, long.0))
+no_fault text tree f h (inr (short, ts, lexical, lexed, first)) =
+    let tokens : ts ≡ h.tokens = same_tokens text ts h.tokens lexical _ lexed h.lexed in
+    let ends : lexical ≡ None = same_fault text ts h.tokens lexical _ lexed h.lexed in
+    none_first (length text) ts tree f (subst (λ (x : List Spanned). ReadsTokens x tree) (sym tokens) h.parsed) (subst (λ (o : Option Fault). IsFirstOf (length text) ts o f) ends first)
+
+ok_is : (a b : Tree) → ok_read a ≡ ok_read b → a ≡ b
+ok_is a b e = cc
+
+-- a text reads as one tree
+pub reads_once : (text : List ℕ) (a b : Tree) → Reads text a → Reads text b → a ≡ b
+reads_once text a b h k =
+    let same : h.tokens ≡ k.tokens = same_tokens text h.tokens k.tokens _ _ h.lexed k.lexed in
+    ok_is a b (sym (ok_reads 0 h.tokens a h.parsed) ∙ ap (scan 0 start) same ∙ ok_reads 0 k.tokens b k.parsed)
