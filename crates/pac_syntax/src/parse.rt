@@ -23,11 +23,12 @@ const MAX_TEXT: usize = 65536;
 ///
 /// # Errors
 ///
-/// `Fault` exactly where the text isn't a list of tokens: the first fault of a token, with its place.
+/// `Fault` exactly where the text isn't a list of tokens: the first fault of a token, with its place; it has one.
 pub fn tokens(alloc: Global, text: &[u8]) -> Result<Tokens, SyntaxError>
     ensures ok { IfOk result (λ found. IsLexed text.now found None) }
     ensures only { (ts : List ASpanned) → IsLexed text.now ts None → AreTokensOrMemory result ts }
     ensures fault { (fault : AFault) → IsErrOf result (SyntaxError.Fault fault) → (ts : List ASpanned) × IsLexed text.now ts (Some fault) }
+    ensures one { (fault other : AFault) → (ts : List ASpanned) → IsErrOf result (SyntaxError.Fault fault) → IsLexed text.now ts (Some other) → other ≡ fault }
 {
     let lexed = lex(alloc, text)?;
     match lexed.fault {
