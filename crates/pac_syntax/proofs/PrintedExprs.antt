@@ -13,7 +13,7 @@ use Rattle.pac_syntax.specs.declared.tree.ExprNode.{ExprNode, Literal, Binary, N
 use Rattle.pac_syntax.specs.Spelling.{symbol_spelling, quoted}
 use Rattle.pac_syntax.specs.Tokens.{is_letter, is_name, IsWord, Lexed}
 use Rattle.pac_syntax.specs.Grammar.{LiteralForm, AnInt, ANegative, AText, ATrue, AFalse, ExprForm, ALiteral, AName, ANot, AParen, ABinary, sign_of, tier, left_level, AtLevel, literal_node, expr_place, expr_node, Plain, Operator, Marked, symbol_mark, counted, literal_before, expr_before, whole_before, tokens_of}
-use Rattle.pac_syntax.specs.Canonical.{value_text, Spelled, operand_text, expr_step, spelled, expr_text}
+use Rattle.pac_syntax.specs.Canonical.{value_text, Spelled, operand_text, binary_text, expr_step, spelled, expr_text}
 use Rattle.pac_syntax.specs.Unplaced.{unplaced_literal, unplaced_expr_step, unplaced_expr}
 use Rattle.pac_syntax.proofs.Decimals.{decimal_is_digits}
 use Rattle.pac_syntax.proofs.Fronts.{Stops, space_first, keyword_first, name_first, int_first, text_first}
@@ -165,26 +165,26 @@ shallower (ANot at e) c d le h = shallower e c d le h
 shallower (AParen opening e closing) c d le h = (omega (arith, h.0), shallower e (suc c) (suc d) (omega arith) h.1)
 shallower (ABinary op at l r) c d le h = (shallower l c d le h.0, shallower r c d le h.1)
 
-tier_least : (op : BinOp) → tier op ≤ 4
-tier_least op.Mul = omega arith
-tier_least op.Div = omega arith
-tier_least op.Rem = omega arith
-tier_least op.Add = omega arith
-tier_least op.Sub = omega arith
-tier_least op.Eq = omega arith
-tier_least op.Ne = omega arith
-tier_least op.Lt = omega arith
-tier_least op.Le = omega arith
-tier_least op.Gt = omega arith
-tier_least op.Ge = omega arith
-tier_least op.And = omega arith
-tier_least op.Or = omega arith
+tier_most : (op : BinOp) → tier op ≤ 4
+tier_most op.Mul = omega arith
+tier_most op.Div = omega arith
+tier_most op.Rem = omega arith
+tier_most op.Add = omega arith
+tier_most op.Sub = omega arith
+tier_most op.Eq = omega arith
+tier_most op.Ne = omega arith
+tier_most op.Lt = omega arith
+tier_most op.Le = omega arith
+tier_most op.Gt = omega arith
+tier_most op.Ge = omega arith
+tier_most op.And = omega arith
+tier_most op.Or = omega arith
 
 level_is : (e : ExprForm) (s : Spelled) → spelling e ≡ s → (spelling e).level ≡ s.level
 level_is e s h = ap (λ x. x.level) h
 
 abbrev binary_spelling : BinOp → ExprForm → ExprForm → Spelled
-binary_spelling op l r = record { level = suc (tier op); text = operand_text (left_level (tier op)) (spelling l) ++ codes " " ++ symbol_spelling (sign_of op) ++ codes " " ++ operand_text (tier op) (spelling r) }
+binary_spelling op l r = record { level = suc (tier op); text = binary_text op (spelling l) (spelling r) }
 
 abbrev not_spelling : ExprForm → Spelled
 not_spelling e = record { level = 0; text = codes "!" ++ operand_text 0 (spelling e) }
@@ -204,7 +204,7 @@ level_most (ALiteral l) = omega (arith, level_is (ALiteral l) _ (literal_is l))
 level_most (AName x) = omega (arith, level_is (AName x) _ (fold-Name Spelled expr_step x))
 level_most (ANot at e) = omega (arith, level_is (ANot at e) (not_spelling e) (not_is at e))
 level_most (AParen opening e closing) = level_most e
-level_most (ABinary op at l r) = omega (arith, level_is (ABinary op at l r) (binary_spelling op l r) (binary_is op at l r), tier_least op)
+level_most (ABinary op at l r) = omega (arith, level_is (ABinary op at l r) (binary_spelling op l r) (binary_is op at l r), tier_most op)
 
 -- an operand that is too loose for its place stood in parentheses
 record Enclosed (e : ExprForm) (d : ℕ) : Type 0 where
