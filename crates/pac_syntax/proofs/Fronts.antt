@@ -21,7 +21,7 @@ use Rattle.pac_syntax.specs.Lexing.{token_at, word_at, word_token, int_at, text_
 use Rattle.pac_syntax.proofs.Decimals.{decimal_is_digits, decimal_has_value}
 use Rattle.pac_syntax.proofs.Longest.{front_ok}
 use Rattle.pac_syntax.proofs.Quoted.{closes, text_of_front}
-use Rattle.pac_syntax.proofs.Spelled.{first, class, class_by, spells_class, keyword_found, keyword_short, keyword_names}
+use Rattle.pac_syntax.proofs.Spelled.{first, class, class_by, spells_class, keyword_found, keyword_short, keyword_names, word_names, all_digits}
 
 -- a token at a place
 abbrev pub spanned : Token → ℕ → Spanned
@@ -66,14 +66,14 @@ line_first before at rest ts f h = blank_first before at 10 rest ts f refl h
 -- ---- a token
 
 -- what is a token in front, where no blank stands before it
-abbrev FirstToken : Before → ℕ → Token → ℕ → List ℕ → List Spanned → Option Fault → ℕ → Type 0
-FirstToken before at t len bytes ts f g = (n : ℕ) × IsNext before (drop g bytes) t n × (at ≡ at + g) × Lexed (after before t) (at + g + n) (drop n (drop g bytes)) ts f
+abbrev FirstToken : Before → ℕ → Token → List ℕ → List Spanned → Option Fault → ℕ → Type 0
+FirstToken before at t bytes ts f g = (n : ℕ) × IsNext before (drop g bytes) t n × (at ≡ at + g) × Lexed (after before t) (at + g + n) (drop n (drop g bytes)) ts f
 
 next_first : (before : Before) (at : ℕ) (t : Token) (len : ℕ) (bytes : List ℕ) (ts : List Spanned) (f : Option Fault) → gap bytes ≡ 0 → IsNext before bytes t len → Lexed (after before t) (at + len) (drop len bytes) ts f → Lexed before at bytes (spanned t at ∷ ts) f
 next_first before at t len bytes ts f g n h =
     let here : at ≡ at + 0 = omega arith in
-    let first : FirstToken before at t len bytes ts f 0 = (len, n, here, subst (λ (m : ℕ). Lexed (after before t) (m + len) (drop len bytes) ts f) here h) in
-    subst (λ (m : ℕ). FirstToken before at t len bytes ts f m) (sym g) first
+    let first : FirstToken before at t bytes ts f 0 = (len, n, here, subst (λ (m : ℕ). Lexed (after before t) (m + len) (drop len bytes) ts f) here h) in
+    subst (λ (m : ℕ). FirstToken before at t bytes ts f m) (sym g) first
 
 abbrev pub found : Token → ℕ → Result (Token × ℕ) FaultKind
 found t len = Ok (t, len)
@@ -108,14 +108,11 @@ word_front before b w rest t letter all short is stops = by_letter (is_letter b)
     by_letter true e = ap word_at (take_stops is_name (b ∷ w) rest all stops) ∙ word_found (b ∷ w) t short is
     by_letter false e = absurd cc
 
-name_letter : (b : ℕ) → is_letter b ≡ true → is_name b ≡ true
-name_letter b h = rw h refl
-
 word_first : (before : Before) (at : ℕ) (t : Token) (w rest : List ℕ) (ts : List Spanned) (f : Option Fault) → IsWord w → length w ≤ 32 → word_token (keyword_of w) w ≡ t → Stops is_name rest
     → Lexed (after before t) (at + length w) rest ts f → Lexed before at (w ++ rest) (spanned t at ∷ ts) f
 word_first before at t [] rest ts f word short is stops h = absurd word
 word_first before at t (b ∷ w) rest ts f word short is stops h =
-    let all : list_all is_name (b ∷ w) ≡ true = rw (name_letter b word.0) word.1 in
+    let all : list_all is_name (b ∷ w) ≡ true = word_names (b ∷ w) word in
     token_first before at t (b ∷ w) rest ts f (letter_gap b (w ++ rest) word.0) (omega arith) (word_front before b w rest t word.0 all short is stops) h
 
 -- bytes of names of which the first is a letter
@@ -162,7 +159,7 @@ digits_first : (before : Before) (at : ℕ) (t : Token) (ds rest : List ℕ) (ts
     → Lexed (after before t) (at + length ds) rest ts f → Lexed before at (ds ++ rest) (spanned t at ∷ ts) f
 digits_first before at t [] rest ts f digits is stops h = absurd digits
 digits_first before at t (b ∷ ds) rest ts f digits is stops h =
-    let all : list_all is_digit (b ∷ ds) ≡ true = rw digits.0 digits.1 in
+    let all : list_all is_digit (b ∷ ds) ≡ true = all_digits (b ∷ ds) digits in
     token_first before at t (b ∷ ds) rest ts f (digit_gap b (ds ++ rest) digits.0) (omega arith) (digits_front before b ds rest digits.0 all stops ∙ is) h
 
 pub name_stops : (rest : List ℕ) → Stops is_name rest → Stops is_digit rest
@@ -189,7 +186,7 @@ negative_first at n rest ts f small stops h =
 pub digits_next : (ds rest : List ℕ) → IsDigits ds → Stops is_digit rest → next_digits (ds ++ rest) ≡ ds
 digits_next [] rest digits stops = absurd digits
 digits_next (b ∷ ds) rest digits stops =
-    let all : list_all is_digit (b ∷ ds) ≡ true = rw digits.0 digits.1 in
+    let all : list_all is_digit (b ∷ ds) ≡ true = all_digits (b ∷ ds) digits in
     ap (λ g. take_while is_digit (drop g (b ∷ (ds ++ rest)))) (digit_gap b (ds ++ rest) digits.0) ∙ take_stops is_digit (b ∷ ds) rest all stops
 
 -- ---- texts

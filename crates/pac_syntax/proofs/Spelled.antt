@@ -329,11 +329,11 @@ spells_some before (token.Symbol s) w h = rw h (symbol_some s)
 name_letter : (b : ℕ) → is_letter b ≡ true → is_name b ≡ true
 name_letter b h = rw h refl
 
-word_names : (w : List ℕ) → IsWord w → list_all is_name w ≡ true
+pub word_names : (w : List ℕ) → IsWord w → list_all is_name w ≡ true
 word_names [] h = absurd h
 word_names (b ∷ bs) h = rw (name_letter b h.0) h.1
 
-all_digits : (w : List ℕ) → IsDigits w → list_all is_digit w ≡ true
+pub all_digits : (w : List ℕ) → IsDigits w → list_all is_digit w ≡ true
 all_digits [] h = absurd h
 all_digits (b ∷ bs) h = rw h.0 h.1
 
