@@ -2,7 +2,7 @@
 ghost use Rattle.std.specs.Prelude.{◌≡◌, ◌∷◌, [], ◌≤◌, ◌+◌, length, List, OnOk, IfOk, IsErrOf, Ok};
 ghost use Rattle.pac_syntax.specs.Machine.{Steps, MoreColumns, MoreProcs, MoreTables, SomeParams, column_steps, columns_steps, proc_steps, table_steps, typed_steps, start, run, Gives};
 ghost use Rattle.pac_syntax.specs.Faults.{IsFirstFault, IsTreeOrMemory, ReadsTokens};
-ghost use Rattle.pac_syntax.specs.Views.{role_of, limit_of};
+ghost use Rattle.pac_syntax.specs.Views.{role_of, limit_of, Goes, GoesAll};
 ghost use Rattle.pac_syntax.specs.declared.fault.Fault.{Fault as AFault};
 ghost use Rattle.pac_syntax.specs.declared.tree.Tree.{Tree as ATree};
 ghost use Rattle.pac_syntax.specs.declared.tree.ColumnNode.{ColumnNode as AColumnNode};
@@ -36,7 +36,7 @@ impl<'a> Parser<'a> {
     // The type behind a column's name.
     fn typed(&mut self, name: NameNode) -> Result<ColumnNode, SyntaxError>
         ensures left { OnOk result (length self.new.rest.now ≤ length self.old.rest.now) }
-        ensures run { (k : AColumnNode → Steps) → Gives (λ c. run self.new.end (k c) self.new.rest.now) result (run self.old.end (typed_steps name k) self.old.rest.now) }
+        ensures run { Goes (typed_steps name) self.old self.new result }
     {
         let ty = self.ty()?;
         Ok(ColumnNode { name, ty })
@@ -45,7 +45,7 @@ impl<'a> Parser<'a> {
     // A column behind so many others.
     fn column(&mut self, kind: ColumnKind, before: usize) -> Result<ColumnNode, SyntaxError>
         ensures left { OnOk result (length self.new.rest.now ≤ length self.old.rest.now) }
-        ensures run { (k : AColumnNode → Steps) → Gives (λ c. run self.new.end (k c) self.new.rest.now) result (run self.old.end (column_steps (role_of kind (before + 1)) k) self.old.rest.now) }
+        ensures run { Goes (column_steps (role_of kind (before + 1))) self.old self.new result }
     {
         let Some(name) = self.takes_name() else {
             return Err(self.refuse(FaultKind::Expected));
@@ -65,7 +65,7 @@ impl<'a> Parser<'a> {
         first: ColumnNode,
     ) -> Result<Vec<ColumnNode>, SyntaxError>
         ensures left { OnOk result (length self.new.rest.now ≤ length self.old.rest.now) }
-        ensures run { (k : List AColumnNode → Steps) → Gives (λ v. run self.new.end (k v.items) self.new.rest.now) result (run self.old.end (MoreColumns (role_of kind) 1 (first ∷ []) k) self.old.rest.now) }
+        ensures run { GoesAll (MoreColumns (role_of kind) 1 (first ∷ [])) self.old self.new result }
     {
         let mut columns = Vec::new(self.alloc);
         columns.push(first)?;
@@ -79,7 +79,7 @@ impl<'a> Parser<'a> {
     // column { "," column }
     fn columns(&mut self) -> Result<Vec<ColumnNode>, SyntaxError>
         ensures left { OnOk result (length self.new.rest.now ≤ length self.old.rest.now) }
-        ensures run { (k : List AColumnNode → Steps) → Gives (λ v. run self.new.end (k v.items) self.new.rest.now) result (run self.old.end (columns_steps k) self.old.rest.now) }
+        ensures run { GoesAll columns_steps self.old self.new result }
     {
         let first = self.column(ColumnKind::Column, 0)?;
         self.more_columns(ColumnKind::Column, first)
@@ -88,7 +88,7 @@ impl<'a> Parser<'a> {
     // [ column { "," column } ]
     fn params(&mut self) -> Result<Vec<ColumnNode>, SyntaxError>
         ensures left { OnOk result (length self.new.rest.now ≤ length self.old.rest.now) }
-        ensures run { (k : List AColumnNode → Steps) → Gives (λ v. run self.new.end (k v.items) self.new.rest.now) result (run self.old.end (SomeParams k) self.old.rest.now) }
+        ensures run { GoesAll SomeParams self.old self.new result }
     {
         let Some(name) = self.takes_name() else {
             return Ok(Vec::new(self.alloc));
@@ -100,7 +100,7 @@ impl<'a> Parser<'a> {
     // A table, behind its word.
     fn table(&mut self) -> Result<TableNode, SyntaxError>
         ensures left { OnOk result (length self.new.rest.now ≤ length self.old.rest.now) }
-        ensures run { (k : ATableNode → Steps) → Gives (λ t. run self.new.end (k t) self.new.rest.now) result (run self.old.end (table_steps k) self.old.rest.now) }
+        ensures run { Goes table_steps self.old self.new result }
     {
         let name = self.name()?;
         self.symbol(Symbol::OpenParen)?;
@@ -116,7 +116,7 @@ impl<'a> Parser<'a> {
     /// Tables, as many as there are.
     pub fn tables(&mut self) -> Result<Vec<TableNode>, SyntaxError>
         ensures left { OnOk result (length self.new.rest.now ≤ length self.old.rest.now) }
-        ensures run { (k : List ATableNode → Steps) → Gives (λ v. run self.new.end (k v.items) self.new.rest.now) result (run self.old.end (MoreTables 0 [] k) self.old.rest.now) }
+        ensures run { GoesAll (MoreTables 0 []) self.old self.new result }
     {
         let mut tables = Vec::new(self.alloc);
         while let Some(at) = self.takes_keyword(Keyword::Table) {
@@ -133,7 +133,7 @@ impl<'a> Parser<'a> {
     // A procedure, behind its word.
     fn procedure(&mut self) -> Result<ProcNode, SyntaxError>
         ensures left { OnOk result (length self.new.rest.now ≤ length self.old.rest.now) }
-        ensures run { (k : AProcNode → Steps) → Gives (λ p. run self.new.end (k p) self.new.rest.now) result (run self.old.end (proc_steps k) self.old.rest.now) }
+        ensures run { Goes proc_steps self.old self.new result }
     {
         let name = self.name()?;
         self.symbol(Symbol::OpenParen)?;
@@ -146,7 +146,7 @@ impl<'a> Parser<'a> {
     /// Procedures, as many as there are.
     pub fn procedures(&mut self) -> Result<Vec<ProcNode>, SyntaxError>
         ensures left { OnOk result (length self.new.rest.now ≤ length self.old.rest.now) }
-        ensures run { (k : List AProcNode → Steps) → Gives (λ v. run self.new.end (k v.items) self.new.rest.now) result (run self.old.end (MoreProcs 0 [] k) self.old.rest.now) }
+        ensures run { GoesAll (MoreProcs 0 []) self.old self.new result }
     {
         let mut procs = Vec::new(self.alloc);
         while let Some(at) = self.takes_keyword(Keyword::Proc) {

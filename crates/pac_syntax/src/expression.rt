@@ -1,7 +1,7 @@
 // Reads expressions.
 ghost use Rattle.std.specs.Prelude.{◌≡◌, ◌≢◌, ◌<◌, ◌≤◌, ◌+◌, ℕ, zero, length, OnOk, IfOk, IfErr, IfSome};
 ghost use Rattle.pac_syntax.specs.Machine.{Steps, Begun, Level, Rest, joined, top, operator_at, want_expr, negation_steps, paren_steps, run, either, Gives, OkOrMemory};
-ghost use Rattle.pac_syntax.specs.Views.{begun_at, IsNot};
+ghost use Rattle.pac_syntax.specs.Views.{begun_at, IsNot, Goes};
 ghost use Rattle.pac_syntax.specs.declared.token.Token.TheVariants as token;
 ghost use Rattle.pac_syntax.specs.declared.token.Symbol.TheVariants as symbol;
 ghost use Rattle.pac_syntax.specs.declared.fault.FaultKind.TheVariants.{TooMany};
@@ -197,7 +197,7 @@ impl<'a> Parser<'a> {
     /// A whole expression.
     pub fn expression(&mut self) -> Result<ExprNode, SyntaxError>
         ensures left { OnOk result (length self.new.rest.now ≤ length self.old.rest.now) }
-        ensures run { (k : AnExprNode → Steps) → Gives (λ e. run self.new.end (k e) self.new.rest.now) result (run self.old.end (want_expr k) self.old.rest.now) }
+        ensures run { Goes want_expr self.old self.new result }
     {
         self.operators = 0;
         let whole = self.level(0, EXPRESSION)?;

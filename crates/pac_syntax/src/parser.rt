@@ -4,7 +4,7 @@ ghost use Rattle.pac_syntax.specs.Faults.{place};
 ghost use Rattle.pac_syntax.specs.Grammar.{Plain};
 ghost use Rattle.pac_value.specs.declared.values.Ty.{Ty as ATy};
 ghost use Rattle.pac_syntax.specs.Machine.{Steps, Want, WantName, WantType, WantLiteral, WantNegative, is_mark, keyword_code, symbol_code, literal_in, type_in, run, Gives};
-ghost use Rattle.pac_syntax.specs.Views.{Begins, IsNot, IsNoName, IsType, IsNoType, IsLiteral, IsNoLiteral, IsNoNegative, IsNegative, name_part, name_token};
+ghost use Rattle.pac_syntax.specs.Views.{Begins, IsNot, IsNoName, IsType, IsNoType, IsLiteral, IsNoLiteral, IsNoNegative, IsNegative, name_part, name_token, Goes};
 ghost use Rattle.pac_syntax.specs.declared.token.Token.TheVariants as token;
 ghost use Rattle.pac_syntax.specs.declared.tree.LiteralNode.{LiteralNode as ALiteralNode};
 ghost use Rattle.pac_syntax.specs.declared.tree.NameNode.{NameNode as ANameNode};
@@ -210,7 +210,7 @@ impl<'a> Parser<'a> {
 
     pub fn name(&mut self) -> Result<NameNode, SyntaxError>
         ensures left { length self.new.rest.now ≤ length self.old.rest.now }
-        ensures run { (k : ANameNode → Steps) → Gives (λ n. run self.new.end (k n) self.new.rest.now) result (run self.old.end (WantName Plain k) self.old.rest.now) }
+        ensures run { Goes (WantName Plain) self.old self.new result }
     {
         match self.takes_name() {
             None => Err(self.refuse(FaultKind::Expected)),
@@ -235,7 +235,7 @@ impl<'a> Parser<'a> {
 
     pub fn ty(&mut self) -> Result<Ty, SyntaxError>
         ensures left { length self.new.rest.now ≤ length self.old.rest.now }
-        ensures run { (k : ATy → Steps) → Gives (λ y. run self.new.end (k y) self.new.rest.now) result (run self.old.end (WantType k) self.old.rest.now) }
+        ensures run { Goes WantType self.old self.new result }
     {
         match self.takes_type() {
             None => Err(self.refuse(FaultKind::Expected)),
@@ -282,7 +282,7 @@ impl<'a> Parser<'a> {
     fn negative(&mut self, minus: usize) -> Result<LiteralNode, SyntaxError>
         ensures left { length self.new.rest.now ≤ length self.old.rest.now }
         ensures operators { self.new.operators ≡ self.old.operators }
-        ensures run { (k : ALiteralNode → Steps) → Gives (λ l. run self.new.end (k l) self.new.rest.now) result (run self.old.end (WantNegative minus k) self.old.rest.now) }
+        ensures run { Goes (WantNegative minus) self.old self.new result }
     {
         match self.takes_negative(minus) {
             None => Err(self.refuse(FaultKind::Expected)),
@@ -294,7 +294,7 @@ impl<'a> Parser<'a> {
         ensures left { length self.new.rest.now ≤ length self.old.rest.now }
         ensures shorter { OnOk result (length self.new.rest.now < length self.old.rest.now) }
         ensures operators { self.new.operators ≡ self.old.operators }
-        ensures run { (k : ALiteralNode → Steps) → Gives (λ l. run self.new.end (k l) self.new.rest.now) result (run self.old.end (WantLiteral k) self.old.rest.now) }
+        ensures run { Goes WantLiteral self.old self.new result }
     {
         if let Some(minus) = self.takes_symbol(Symbol::Minus) {
             return self.negative(minus);

@@ -1,7 +1,7 @@
 // Reads statements.
 ghost use Rattle.std.specs.Prelude.{◌≡◌, ◌∷◌, ◌++◌, [], ◌<◌, ◌≤◌, ◌+◌, length, false, List, OnOk, IfOk, IfSome};
 ghost use Rattle.pac_syntax.specs.Machine.{Steps, MaybeElse, MoreStmts, MoreValues, abort_steps, block_steps, delete_steps, has_steps, if_steps, let_steps, place_steps, put_steps, read_steps, set_steps, stmt_steps, stmt_word, run, either, Gives, values_steps};
-ghost use Rattle.pac_syntax.specs.Views.{is_too_deep};
+ghost use Rattle.pac_syntax.specs.Views.{is_too_deep, Goes, GoesAll};
 ghost use Rattle.pac_syntax.specs.declared.tree.ExprNode.{ExprNode as AnExprNode};
 ghost use Rattle.pac_syntax.specs.declared.tree.NameNode.{NameNode as ANameNode};
 ghost use Rattle.pac_syntax.specs.declared.tree.StmtNode.{StmtNode as AStmtNode};
@@ -72,7 +72,7 @@ impl<'a> Parser<'a> {
     // "(" VALUE { "," VALUE } ")"
     fn values(&mut self) -> Result<Vec<ExprNode>, SyntaxError>
         ensures left { OnOk result (length self.new.rest.now ≤ length self.old.rest.now) }
-        ensures run { (k : List AnExprNode → Steps) → Gives (λ v. run self.new.end (k v.items) self.new.rest.now) result (run self.old.end (values_steps k) self.old.rest.now) }
+        ensures run { GoesAll values_steps self.old self.new result }
     {
         self.symbol(Symbol::OpenParen)?;
         let first = self.expression()?;
@@ -84,7 +84,7 @@ impl<'a> Parser<'a> {
     // { "," VALUE } behind a first one
     fn more_values(&mut self, first: ExprNode) -> Result<Vec<ExprNode>, SyntaxError>
         ensures left { OnOk result (length self.new.rest.now ≤ length self.old.rest.now) }
-        ensures run { (k : List AnExprNode → Steps) → Gives (λ v. run self.new.end (k v.items) self.new.rest.now) result (run self.old.end (MoreValues (first ∷ []) k) self.old.rest.now) }
+        ensures run { GoesAll (MoreValues (first ∷ [])) self.old self.new result }
     {
         let mut values = Vec::new(self.alloc);
         values.push(first)?;
@@ -98,7 +98,7 @@ impl<'a> Parser<'a> {
     // A `let`, behind its word.
     fn let_rest(&mut self) -> Result<StmtNode, SyntaxError>
         ensures left { OnOk result (length self.new.rest.now ≤ length self.old.rest.now) }
-        ensures run { (k : AStmtNode → Steps) → Gives (λ s. run self.new.end (k s) self.new.rest.now) result (run self.old.end (let_steps k) self.old.rest.now) }
+        ensures run { Goes let_steps self.old self.new result }
     {
         let name = self.name()?;
         self.symbol(Symbol::Assign)?;
@@ -110,7 +110,7 @@ impl<'a> Parser<'a> {
     // A `read`, behind its word.
     fn read_rest(&mut self) -> Result<StmtNode, SyntaxError>
         ensures left { OnOk result (length self.new.rest.now ≤ length self.old.rest.now) }
-        ensures run { (k : AStmtNode → Steps) → Gives (λ s. run self.new.end (k s) self.new.rest.now) result (run self.old.end (read_steps k) self.old.rest.now) }
+        ensures run { Goes read_steps self.old self.new result }
     {
         let name = self.name()?;
         self.symbol(Symbol::Assign)?;
@@ -132,7 +132,7 @@ impl<'a> Parser<'a> {
     // A `has`, behind its word.
     fn has_rest(&mut self) -> Result<StmtNode, SyntaxError>
         ensures left { OnOk result (length self.new.rest.now ≤ length self.old.rest.now) }
-        ensures run { (k : AStmtNode → Steps) → Gives (λ s. run self.new.end (k s) self.new.rest.now) result (run self.old.end (has_steps k) self.old.rest.now) }
+        ensures run { Goes has_steps self.old self.new result }
     {
         let name = self.name()?;
         self.symbol(Symbol::Assign)?;
@@ -144,7 +144,7 @@ impl<'a> Parser<'a> {
     // A `put`, behind its word.
     fn put_rest(&mut self) -> Result<StmtNode, SyntaxError>
         ensures left { OnOk result (length self.new.rest.now ≤ length self.old.rest.now) }
-        ensures run { (k : AStmtNode → Steps) → Gives (λ s. run self.new.end (k s) self.new.rest.now) result (run self.old.end (put_steps k) self.old.rest.now) }
+        ensures run { Goes put_steps self.old self.new result }
     {
         let (table, key) = self.place()?;
         self.symbol(Symbol::Assign)?;
@@ -156,7 +156,7 @@ impl<'a> Parser<'a> {
     // A `set`, behind its word.
     fn set_rest(&mut self) -> Result<StmtNode, SyntaxError>
         ensures left { OnOk result (length self.new.rest.now ≤ length self.old.rest.now) }
-        ensures run { (k : AStmtNode → Steps) → Gives (λ s. run self.new.end (k s) self.new.rest.now) result (run self.old.end (set_steps k) self.old.rest.now) }
+        ensures run { Goes set_steps self.old self.new result }
     {
         let (table, key) = self.place()?;
         self.symbol(Symbol::Dot)?;
@@ -175,7 +175,7 @@ impl<'a> Parser<'a> {
     // A `delete`, behind its word.
     fn delete_rest(&mut self) -> Result<StmtNode, SyntaxError>
         ensures left { OnOk result (length self.new.rest.now ≤ length self.old.rest.now) }
-        ensures run { (k : AStmtNode → Steps) → Gives (λ s. run self.new.end (k s) self.new.rest.now) result (run self.old.end (delete_steps k) self.old.rest.now) }
+        ensures run { Goes delete_steps self.old self.new result }
     {
         let (table, key) = self.place()?;
         self.symbol(Symbol::Semicolon)?;
@@ -185,7 +185,7 @@ impl<'a> Parser<'a> {
     // An `abort if`, behind its first word.
     fn abort_rest(&mut self) -> Result<StmtNode, SyntaxError>
         ensures left { OnOk result (length self.new.rest.now ≤ length self.old.rest.now) }
-        ensures run { (k : AStmtNode → Steps) → Gives (λ s. run self.new.end (k s) self.new.rest.now) result (run self.old.end (abort_steps k) self.old.rest.now) }
+        ensures run { Goes abort_steps self.old self.new result }
     {
         self.keyword(Keyword::If)?;
         let test = self.expression()?;
@@ -198,7 +198,7 @@ impl<'a> Parser<'a> {
     fn if_rest(&mut self, nested: u8) -> Result<StmtNode, SyntaxError>
         requires { nested < 16 }
         ensures left { OnOk result (length self.new.rest.now ≤ length self.old.rest.now) }
-        ensures run { (k : AStmtNode → Steps) → Gives (λ s. run self.new.end (k s) self.new.rest.now) result (run self.old.end (if_steps nested k) self.old.rest.now) }
+        ensures run { Goes (if_steps nested) self.old self.new result }
     {
         let test = self.expression()?;
         let first = listed(self.block(nested + 1)?);
@@ -214,7 +214,7 @@ impl<'a> Parser<'a> {
     #[cycle(statement)]
     fn otherwise(&mut self, nested: u8) -> Result<Vec<StmtNode>, SyntaxError>
         ensures left { OnOk result (length self.new.rest.now ≤ length self.old.rest.now) }
-        ensures run { (k : List AStmtNode → Steps) → Gives (λ v. run self.new.end (k v.items) self.new.rest.now) result (run self.old.end (MaybeElse nested k) self.old.rest.now) }
+        ensures run { GoesAll (MaybeElse nested) self.old self.new result }
     {
         match self.takes_keyword(Keyword::Else) {
             None => Ok(Vec::new(self.alloc)),
@@ -226,7 +226,7 @@ impl<'a> Parser<'a> {
     #[cycle(statement)]
     pub fn block(&mut self, nested: u8) -> Result<Vec<StmtNode>, SyntaxError>
         ensures left { OnOk result (length self.new.rest.now ≤ length self.old.rest.now) }
-        ensures run { (k : List AStmtNode → Steps) → Gives (λ v. run self.new.end (k v.items) self.new.rest.now) result (run self.old.end (block_steps nested k) self.old.rest.now) }
+        ensures run { GoesAll (block_steps nested) self.old self.new result }
     {
         self.symbol(Symbol::OpenBrace)?;
         let body = self.statements(nested)?;
@@ -259,7 +259,7 @@ impl<'a> Parser<'a> {
     fn statement_rest(&mut self, word: StatementWord, nested: u8) -> Result<StmtNode, SyntaxError>
         requires { is_too_deep nested word ≡ false }
         ensures left { OnOk result (length self.new.rest.now ≤ length self.old.rest.now) }
-        ensures run { (k : AStmtNode → Steps) → Gives (λ s. run self.new.end (k s) self.new.rest.now) result (run self.old.end (stmt_steps nested word k) self.old.rest.now) }
+        ensures run { Goes (stmt_steps nested word) self.old self.new result }
     {
         match word {
             StatementWord::Let => self.let_rest(),
@@ -277,7 +277,7 @@ impl<'a> Parser<'a> {
     #[cycle(statement)]
     fn statements(&mut self, nested: u8) -> Result<Vec<StmtNode>, SyntaxError>
         ensures left { OnOk result (length self.new.rest.now ≤ length self.old.rest.now) }
-        ensures run { (k : List AStmtNode → Steps) → Gives (λ v. run self.new.end (k v.items) self.new.rest.now) result (run self.old.end (MoreStmts nested [] k) self.old.rest.now) }
+        ensures run { GoesAll (MoreStmts nested []) self.old self.new result }
     {
         let mut statements = Vec::new(self.alloc);
         while let Some(word) = self.next_statement(nested)? {
