@@ -9,12 +9,14 @@
 //! - [`Listed`]`<T>`: a vector that is seen as the list of its items.
 //! - [`Ruled`]`<R>`: a list whose items keep the rule `R`.
 //! - [`Exact`]: a copy gives an equal value. [`Same`]: the test is equality.
-//! - [`NoMemory`]: the one error of a call that only memory can stop.
+//! - [`NoMemory`]: the one error of a call that only memory can stop. [`Refusal`]`<F>`: why a call is refused that a fault
+//!   `F` of its input can stop too; `specs/Refusals.antt` has the words for what such a call answers.
 #![tactic(auto)]
 
 mod exact;
 mod lists;
 mod no_memory;
+mod refusal;
 mod ruled;
 #[cfg(test)]
 mod tests;
@@ -22,5 +24,6 @@ mod tests;
 pub use exact::{Exact, Same};
 pub use lists::{Listed, are_same, copy_of, listed};
 pub use no_memory::NoMemory;
+pub use refusal::Refusal;
 pub use ruled::{Rule, Ruled};
 pub use sqlite_items::Boxed;

@@ -2,11 +2,11 @@
 use Rattle.std.proofs.Common.{◌≡◌, List, [], ◌∷◌, ◌++◌, map, Option, Some, None, refl, sym, ap, ◌∙◌, append_assoc}
 use Rattle.pac_value.specs.declared.values.Value.{Value}
 use Rattle.pac_value.specs.declared.values.Value.TheVariants.{Int, Text}
-use Rattle.pac_syntax.specs.declared.token.Token.{Token}
-use Rattle.pac_syntax.specs.declared.token.Token.TheVariants as token
-use Rattle.pac_syntax.specs.declared.token.Symbol.TheVariants as symbol
+use Rattle.pac_tokens.specs.declared.token.Token.{Token}
+use Rattle.pac_tokens.specs.declared.token.Token.TheVariants as token
+use Rattle.pac_tokens.specs.declared.token.Symbol.TheVariants as symbol
 use Rattle.pac_main.specs.Calls.{Literal, AnInt, ANegative, AText, literal_value, more_literals, literals}
-use Rattle.pac_main.specs.CallsRead.{next_in, more_in, args_in, with_value, with_values}
+use Rattle.pac_main.specs.CallsRead.{next_in, more_in, args_in, with_value, arguments_before}
 
 abbrev read : Value → List Token → Option (Value × List Token)
 read v ts = Some (v, ts)
@@ -24,14 +24,14 @@ more-next (token.Symbol symbol.Comma ∷ token.Symbol symbol.Minus ∷ token.Neg
     let p = read_is (Int z, ts) (v, us) e in (λ i. with_value ((p i).0) (more_in ((p i).1)))
 more-next _ us v e = absurd cc
 
-with_values-push : (vs : List Value) (v : Value) (o : Option (List Value)) → with_values (vs ++ (v ∷ [])) o ≡ with_values vs (with_value v o)
+with_values-push : (vs : List Value) (v : Value) (o : Option (List Value)) → arguments_before (vs ++ (v ∷ [])) o ≡ arguments_before vs (with_value v o)
 with_values-push vs v None = refl
 with_values-push vs v (Some ws) = ap (λ xs. Some xs) (append_assoc vs (v ∷ []) ws)
 
 -- one more argument
-pub more_argument : (ts us : List Token) (vs ws : List Value) (v : Value) (all : Option (List Value)) → all ≡ with_values vs (more_in ts) → next_in ts ≡ Some (v, us) → ws ≡ vs ++ (v ∷ []) → all ≡ with_values ws (more_in us)
+pub more_argument : (ts us : List Token) (vs ws : List Value) (v : Value) (all : Option (List Value)) → all ≡ arguments_before vs (more_in ts) → next_in ts ≡ Some (v, us) → ws ≡ vs ++ (v ∷ []) → all ≡ arguments_before ws (more_in us)
 more_argument ts us vs ws v all so_far e pushed =
-    so_far ∙ ap (with_values vs) (more-next ts us v e) ∙ sym (with_values-push vs v (more_in us)) ∙ ap (λ xs. with_values xs (more_in us)) (sym pushed)
+    so_far ∙ ap (arguments_before vs) (more-next ts us v e) ∙ sym (with_values-push vs v (more_in us)) ∙ ap (λ xs. arguments_before xs (more_in us)) (sym pushed)
 
 -- ---- both directions
 

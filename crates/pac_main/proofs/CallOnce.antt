@@ -7,11 +7,11 @@ use Rattle.std.proofs.lemmas.List.Quantifiers.{position-Some}
 use Rattle.std.proofs.lemmas.Option.{slice_get_read}
 use Rattle.std.proofs.lemmas.Slice.Eq.{bytes_eq-Decides}
 use Rattle.pac_value.specs.declared.values.Value.{Value}
-use Rattle.pac_syntax.specs.declared.token.Token.{Token}
-use Rattle.pac_syntax.specs.declared.token.Token.TheVariants as token
-use Rattle.pac_syntax.specs.declared.token.Symbol.TheVariants as symbol
-use Rattle.pac_types.specs.declared.catalogue.Table.{Table}
-use Rattle.pac_types.specs.declared.catalogue.Proc.{Proc}
+use Rattle.pac_tokens.specs.declared.token.Token.{Token}
+use Rattle.pac_tokens.specs.declared.token.Token.TheVariants as token
+use Rattle.pac_tokens.specs.declared.token.Symbol.TheVariants as symbol
+use Rattle.pac_types.specs.declared.table.Table.{Table}
+use Rattle.pac_types.specs.declared.procedure.Proc.{Proc}
 use Rattle.pac_types.specs.Numbering.{number_of}
 use Rattle.pac_types.specs.Sound.{FitParams}
 use Rattle.pac_types.specs.Typing.{IsProc}
@@ -19,7 +19,7 @@ use Rattle.pac_serial.specs.declared.serial.Call.{Call}
 use Rattle.pac_serial.specs.Arguments.{IsArgs}
 use Rattle.pac_serial.specs.Calls.{FitsProcs}
 use Rattle.pac_main.specs.Calls.{literals, IsCall, IsFitting, proc_names}
-use Rattle.pac_main.specs.CallsRead.{args_in, head_in, named, name_in, is_call_word, is_open}
+use Rattle.pac_main.specs.CallsRead.{args_in, head_in, named, name_of_token, is_call_word, is_open}
 use Rattle.pac_main.proofs.CallLemmas.{args_in-spelled, args-spelled}
 use Rattle.pac_main.proofs.FitLemmas.{fit-long, args-stored}
 
@@ -50,7 +50,7 @@ open_is : (t : Token) → is_open t ≡ true → t ≡ token.Symbol symbol.OpenP
 open_is (token.Symbol symbol.OpenParen) e = refl
 open_is _ e = absurd cc
 
-name_is : (t : Token) (n : List ℕ) → name_in t ≡ Some n → t ≡ token.Name n
+name_is : (t : Token) (n : List ℕ) → name_of_token t ≡ Some n → t ≡ token.Name n
 name_is (token.Name m) n e = let same : m ≡ n = cc in ap (λ (w : List ℕ). token.Name w) same
 name_is _ n e = absurd cc
 
@@ -63,9 +63,9 @@ head_is [] name rest e = absurd cc
 head_is (a ∷ []) name rest e = absurd cc
 head_is (a ∷ b ∷ []) name rest e = absurd cc
 head_is (a ∷ b ∷ c ∷ ts) name rest e =
-    let so = test_so (is_call_word a && is_open c) (named (name_in b) ts) (name, rest) e in
+    let so = test_so (is_call_word a && is_open c) (named (name_of_token b) ts) (name, rest) e in
     let words = both_so (is_call_word a) (is_open c) so.0 in
-    let n = named_is (name_in b) ts (name, rest) so.1 in
+    let n = named_is (name_of_token b) ts (name, rest) so.1 in
     λ i. word_is a words.0 i ∷ name_is b name n.0 i ∷ open_is c words.1 i ∷ n.1 i
 
 -- a call that is read from the front and fits is the call of its tokens

@@ -1,25 +1,24 @@
 -- What errors of lower layers become.
 use Rattle.std.proofs.Common.{◌≡◌, Result, Ok, Err, refl, sym, ap, subst, ◌∙◌}
-use Rattle.pac_syntax.specs.declared.fault.SyntaxError.{SyntaxError}
-use Rattle.pac_syntax.specs.declared.fault.SyntaxError.TheVariants as syntax
+use Rattle.pac_base.specs.declared.refusal.Refusal.{Refusal}
+use Rattle.pac_base.specs.declared.refusal.Refusal.TheVariants as syntax
 use Rattle.pac_syntax.specs.declared.tree.Tree.{Tree}
-use Rattle.pac_types.specs.declared.type_error.TypeError.{TypeError}
 use Rattle.pac_types.specs.declared.type_error.TypeFault.{TypeFault}
-use Rattle.pac_types.specs.declared.type_error.TypeError.TheVariants as type
+use Rattle.pac_base.specs.declared.refusal.Refusal.TheVariants as type
 use Rattle.pac_types.specs.Typing.{CatalogueState, Types, IsTyped}
 use Rattle.pac_main.specs.declared.script_error.ScriptError.TheVariants.{Typing, NoMemory}
 use Rattle.pac_main.specs.Errors.{error_of_syntax, error_of_type}
 
-pub of_syntax : (e : SyntaxError) → e ≡ syntax.NoMemory → error_of_syntax e ≡ NoMemory
+pub of_syntax : (e : Refusal Fault) → e ≡ syntax.NoMemory → error_of_syntax e ≡ NoMemory
 of_syntax e is = ap error_of_syntax is
 
 -- a tree that is typed has no fault
-pub of_type : (e : TypeError) (tree : Tree) (catalogue : CatalogueState) → (IsTyped tree → (fault : TypeFault) → e ≡ type.Fault fault → ⊥) → Types tree catalogue → error_of_type e ≡ NoMemory
+pub of_type : (e : Refusal TypeFault) (tree : Tree) (catalogue : CatalogueState) → (IsTyped tree → (fault : TypeFault) → e ≡ type.Fault fault → ⊥) → Types tree catalogue → error_of_type e ≡ NoMemory
 of_type (type.Fault fault) tree catalogue only typed = absurd (only (catalogue, typed) fault refl)
 of_type type.NoMemory tree catalogue only typed = refl
 
 -- a fault that is told is the tree's
-pub of_typing : (e : TypeError) (fault : TypeFault) → error_of_type e ≡ Typing fault → e ≡ type.Fault fault
+pub of_typing : (e : Refusal TypeFault) (fault : TypeFault) → error_of_type e ≡ Typing fault → e ≡ type.Fault fault
 of_typing (type.Fault other) fault is = cc
 of_typing type.NoMemory fault is = absurd cc
 

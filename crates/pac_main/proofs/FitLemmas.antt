@@ -10,7 +10,7 @@ use Rattle.pac_value.specs.declared.values.Value.{Value}
 use Rattle.pac_value.specs.declared.values.Value.TheVariants.{Int, Text, Bool as Truth}
 use Rattle.pac_value.specs.Values.{type_of, is_stored}
 use Rattle.pac_syntax.specs.Limits.{is_stored_type}
-use Rattle.pac_types.specs.declared.catalogue.Column.{Column}
+use Rattle.pac_types.specs.declared.table.Column.{Column}
 use Rattle.pac_types.specs.Sound.{FitParams, types}
 
 -- two lists that agree so far, and at the next place

@@ -4,9 +4,9 @@ use Rattle.std.specs.List.{AllZip, AllByRecursion, flat_map}
 use Rattle.std.specs.Io.KnownBytes.{prepend_known}
 use Rattle.std.proofs.lemmas.List.{append-nil}
 use Rattle.pac_outside.specs.Content.{Gave, IsAtEnd}
-use Rattle.pac_syntax.specs.declared.fault.Fault.{Fault}
+use Rattle.pac_tokens.specs.declared.fault.Fault.{Fault}
 use Rattle.pac_types.specs.declared.type_error.TypeFault.{TypeFault}
-use Rattle.pac_types.specs.declared.catalogue.Proc.{Proc}
+use Rattle.pac_types.specs.declared.procedure.Proc.{Proc}
 use Rattle.pac_serial.specs.declared.serial.Call.{Call}
 use Rattle.pac_serial.specs.Calls.{FitsProcs}
 use Rattle.pac_main.specs.declared.script.Script.{Script}

@@ -1,13 +1,13 @@
 -- A text is refused in one way.
 use Rattle.std.proofs.Common.{◌≡◌, ℕ, List, refl, sym, ap, subst, ◌∙◌, arith, inl, inr}
 use Rattle.pac_syntax.specs.declared.tree.Tree.{Tree}
-use Rattle.pac_syntax.specs.declared.fault.Fault.{Fault}
+use Rattle.pac_tokens.specs.declared.fault.Fault.{Fault}
 use Rattle.pac_syntax.specs.Reading.{Reads, IsTextFault}
 use Rattle.pac_syntax.proofs.OneReading.{one_fault, no_fault, reads_once}
 use Rattle.pac_syntax.proofs.Trees.{tree-within, tree-ordered}
 use Rattle.pac_types.specs.declared.type_error.TypeFault.{TypeFault}
 use Rattle.pac_types.specs.Typing.{CatalogueState, Types}
-use Rattle.pac_types.specs.Faults.{Stands, IsFirstFault}
+use Rattle.pac_types.specs.Faults.{Stands, IsFirstTypeFault}
 use Rattle.pac_types.proofs.TypedLemmas.{typed_both}
 use Rattle.pac_main.specs.declared.stop.Stop.{Stop}
 use Rattle.pac_main.specs.declared.stop.Stop.TheVariants.{Syntax, Typing, Refused}
@@ -24,10 +24,10 @@ not_typed front tree catalogue fault reads typed stands =
     (typed_both tree (tree-within tree (front, reads)) (tree-ordered tree (front, reads))).0 (catalogue, typed) fault stands
 
 -- the faults of a text that is read are those of its one tree
-first_once : (front : List ℕ) (a b : Tree) (f g : TypeFault) → Reads front a → Reads front b → IsFirstFault a f → IsFirstFault b g → f ≡ g
+first_once : (front : List ℕ) (a b : Tree) (f g : TypeFault) → Reads front a → Reads front b → IsFirstTypeFault a f → IsFirstTypeFault b g → f ≡ g
 first_once front a b f g h k first other =
     let same : b ≡ a = reads_once front b a k h in
-    let second : IsFirstFault a g = subst (λ (t : Tree). IsFirstFault t g) same other in
+    let second : IsFirstTypeFault a g = subst (λ (t : Tree). IsFirstTypeFault t g) same other in
     second.alone f first.stands (omega (arith, first.least g second.stands, second.least f first.stands))
 
 two_syntax : (text : List ℕ) (f g : Fault) → HasSyntaxFault text f → HasSyntaxFault text g → f ≡ g

@@ -2,11 +2,11 @@
 use Rattle.std.specs.Prelude.{◌≡◌, ℕ, ℤ, List, [], ◌∷◌, map, codes, Some}
 use Rattle.pac_value.specs.declared.values.Value.{Value}
 use Rattle.pac_value.specs.declared.values.Value.TheVariants.{Int, Text}
-use Rattle.pac_syntax.specs.declared.token.Token.{Token}
-use Rattle.pac_syntax.specs.declared.token.Token.TheVariants as token
-use Rattle.pac_syntax.specs.declared.token.Symbol.TheVariants as symbol
-use Rattle.pac_syntax.specs.declared.token.Spanned.{Spanned}
-use Rattle.pac_types.specs.declared.catalogue.Proc.{Proc}
+use Rattle.pac_tokens.specs.declared.token.Token.{Token}
+use Rattle.pac_tokens.specs.declared.token.Token.TheVariants as token
+use Rattle.pac_tokens.specs.declared.token.Symbol.TheVariants as symbol
+use Rattle.pac_tokens.specs.declared.token.Spanned.{Spanned}
+use Rattle.pac_types.specs.declared.procedure.Proc.{Proc}
 use Rattle.pac_types.specs.Numbering.{number_of}
 use Rattle.pac_serial.specs.declared.serial.Call.{Call}
 use Rattle.pac_serial.specs.Calls.{FitsProcs}
@@ -23,20 +23,20 @@ literal_value (ANegative z) = Int z
 literal_value (AText text) = Text text
 
 -- the tokens of a literal, before those that follow
-abbrev pub literal_before : Literal → List Token → List Token
-literal_before (AnInt z) rest = token.Int z ∷ rest
-literal_before (ANegative z) rest = token.Symbol symbol.Minus ∷ token.Negative z ∷ rest
-literal_before (AText text) rest = token.Text text ∷ rest
+abbrev pub argument_before : Literal → List Token → List Token
+argument_before (AnInt z) rest = token.Int z ∷ rest
+argument_before (ANegative z) rest = token.Symbol symbol.Minus ∷ token.Negative z ∷ rest
+argument_before (AText text) rest = token.Text text ∷ rest
 
 -- the tokens of literals behind a first one, up to the closing parenthesis
 abbrev pub more_literals : List Literal → List Token
 more_literals [] = token.Symbol symbol.CloseParen ∷ []
-more_literals (l ∷ ls) = token.Symbol symbol.Comma ∷ literal_before l (more_literals ls)
+more_literals (l ∷ ls) = token.Symbol symbol.Comma ∷ argument_before l (more_literals ls)
 
 -- the tokens of a list of literals, up to the closing parenthesis
 abbrev pub literals : List Literal → List Token
 literals [] = token.Symbol symbol.CloseParen ∷ []
-literals (l ∷ ls) = literal_before l (more_literals ls)
+literals (l ∷ ls) = argument_before l (more_literals ls)
 
 -- the tokens of a call of this procedure
 abbrev pub call_tokens : List ℕ → List Literal → List Token

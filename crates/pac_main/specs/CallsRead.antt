@@ -2,9 +2,9 @@
 use Rattle.std.specs.Prelude.{ℕ, List, [], ◌∷◌, ◌++◌, codes, Option, Some, None, Bool, true, false, ◌&&◌, bytes_eq, if◌then◌else◌}
 use Rattle.pac_value.specs.declared.values.Value.{Value}
 use Rattle.pac_value.specs.declared.values.Value.TheVariants.{Int, Text}
-use Rattle.pac_syntax.specs.declared.token.Token.{Token}
-use Rattle.pac_syntax.specs.declared.token.Token.TheVariants as token
-use Rattle.pac_syntax.specs.declared.token.Symbol.TheVariants as symbol
+use Rattle.pac_tokens.specs.declared.token.Token.{Token}
+use Rattle.pac_tokens.specs.declared.token.Token.TheVariants as token
+use Rattle.pac_tokens.specs.declared.token.Symbol.TheVariants as symbol
 
 abbrev pub with_value : Value → Option (List Value) → Option (List Value)
 with_value v None = None
@@ -21,11 +21,11 @@ negative_value (token.Negative z) = Some (Int z)
 negative_value _ = None
 
 -- the literal in front, and the tokens behind it
-abbrev pub literal_in : List Token → Option (Value × List Token)
-literal_in (token.Int z ∷ ts) = Some (Int z, ts)
-literal_in (token.Text text ∷ ts) = Some (Text text, ts)
-literal_in (token.Symbol symbol.Minus ∷ token.Negative z ∷ ts) = Some (Int z, ts)
-literal_in _ = None
+abbrev pub argument_in : List Token → Option (Value × List Token)
+argument_in (token.Int z ∷ ts) = Some (Int z, ts)
+argument_in (token.Text text ∷ ts) = Some (Text text, ts)
+argument_in (token.Symbol symbol.Minus ∷ token.Negative z ∷ ts) = Some (Int z, ts)
+argument_in _ = None
 
 -- the arguments behind a first one
 abbrev pub more_in : List Token → Option (List Value)
@@ -42,12 +42,12 @@ after_first (Some p) = with_value p.0 (more_in p.1)
 -- all arguments
 abbrev pub args_in : List Token → Option (List Value)
 args_in (token.Symbol symbol.CloseParen ∷ []) = Some []
-args_in ts = after_first (literal_in ts)
+args_in ts = after_first (argument_in ts)
 
 -- values in front
-abbrev pub with_values : List Value → Option (List Value) → Option (List Value)
-with_values vs None = None
-with_values vs (Some ws) = Some (vs ++ ws)
+abbrev pub arguments_before : List Value → Option (List Value) → Option (List Value)
+arguments_before vs None = None
+arguments_before vs (Some ws) = Some (vs ++ ws)
 
 -- the closing parenthesis is all that is left
 abbrev pub is_closed : List Token → Bool
@@ -56,13 +56,13 @@ is_closed _ = false
 
 -- the literal behind a comma, and the tokens behind it
 abbrev pub next_in : List Token → Option (Value × List Token)
-next_in (token.Symbol symbol.Comma ∷ ts) = literal_in ts
+next_in (token.Symbol symbol.Comma ∷ ts) = argument_in ts
 next_in _ = None
 
 -- a name, where the token is one
-abbrev pub name_in : Token → Option (List ℕ)
-name_in (token.Name n) = Some n
-name_in _ = None
+abbrev pub name_of_token : Token → Option (List ℕ)
+name_of_token (token.Name n) = Some n
+name_of_token _ = None
 
 -- the word `call`
 abbrev pub is_call_word : Token → Bool
@@ -79,5 +79,5 @@ named (Some n) ts = Some (n, ts)
 
 -- the name of the procedure that is called, and the tokens behind the opening parenthesis
 abbrev pub head_in : List Token → Option (List ℕ × List Token)
-head_in (word ∷ name ∷ open_ ∷ ts) = if is_call_word word && is_open open_ then named (name_in name) ts else None
+head_in (word ∷ name ∷ open_ ∷ ts) = if is_call_word word && is_open open_ then named (name_of_token name) ts else None
 head_in _ = None

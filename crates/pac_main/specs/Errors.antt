@@ -1,18 +1,17 @@
 -- How reading a script ends.
 use Rattle.std.specs.Prelude.{◌≡◌, List, Result, Ok, Err, Vec}
 use Rattle.std.specs.Global.{Global}
-use Rattle.pac_syntax.specs.declared.fault.SyntaxError.{SyntaxError}
-use Rattle.pac_syntax.specs.declared.fault.SyntaxError.TheVariants as syntax
-use Rattle.pac_types.specs.declared.type_error.TypeError.{TypeError}
-use Rattle.pac_types.specs.declared.type_error.TypeError.TheVariants as type
+use Rattle.pac_base.specs.declared.refusal.Refusal.{Refusal}
+use Rattle.pac_base.specs.declared.refusal.Refusal.TheVariants as syntax
+use Rattle.pac_base.specs.declared.refusal.Refusal.TheVariants as type
 use Rattle.pac_main.specs.declared.script_error.ScriptError.{ScriptError}
 use Rattle.pac_main.specs.declared.script_error.ScriptError.TheVariants.{Syntax, Typing, NoMemory}
 
-abbrev pub error_of_syntax : SyntaxError → ScriptError
+abbrev pub error_of_syntax : Refusal Fault → ScriptError
 error_of_syntax (syntax.Fault fault) = Syntax fault
 error_of_syntax syntax.NoMemory = NoMemory
 
-abbrev pub error_of_type : TypeError → ScriptError
+abbrev pub error_of_type : Refusal TypeFault → ScriptError
 error_of_type (type.Fault fault) = Typing fault
 error_of_type type.NoMemory = NoMemory
 

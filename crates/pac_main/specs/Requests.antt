@@ -1,10 +1,10 @@
 -- What a request line says.
 use Rattle.std.specs.Prelude.{◌≡◌, ◌≤◌, ℕ, List, [], ◌∷◌, length, Option, Some, None}
 use Rattle.std.specs.List.{AllZip, flat_map}
-use Rattle.pac_syntax.specs.declared.token.Token.{Token}
-use Rattle.pac_syntax.specs.declared.token.Spanned.{Spanned}
-use Rattle.pac_syntax.specs.Tokens.{IsLexed}
-use Rattle.pac_types.specs.declared.catalogue.Proc.{Proc}
+use Rattle.pac_tokens.specs.declared.token.Token.{Token}
+use Rattle.pac_tokens.specs.declared.token.Spanned.{Spanned}
+use Rattle.pac_tokens.specs.Tokens.{IsLexed}
+use Rattle.pac_types.specs.declared.procedure.Proc.{Proc}
 use Rattle.pac_serial.specs.declared.serial.Call.{Call}
 use Rattle.pac_main.specs.Calls.{kinds, IsCall}
 

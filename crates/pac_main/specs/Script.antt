@@ -1,11 +1,11 @@
 -- What a script is: a catalogue, and behind a line that is exactly `---` the calls.
 use Rattle.std.specs.Prelude.{◌≡◌, ◌⊎◌, ◌≤◌, ◌<◌, ◌+◌, ℕ, List, [], ◌∷◌, take, drop, length, Option, Some, None, MatchOption}
 use Rattle.pac_syntax.specs.declared.tree.Tree.{Tree}
-use Rattle.pac_syntax.specs.declared.fault.Fault.{Fault}
+use Rattle.pac_tokens.specs.declared.fault.Fault.{Fault}
 use Rattle.pac_syntax.specs.Reading.{Reads, IsTextFault}
 use Rattle.pac_types.specs.declared.type_error.TypeFault.{TypeFault}
 use Rattle.pac_types.specs.Typing.{CatalogueState, Types}
-use Rattle.pac_types.specs.Faults.{IsFirstFault}
+use Rattle.pac_types.specs.Faults.{IsFirstTypeFault}
 use Rattle.pac_main.specs.declared.script.Script.{Script}
 use Rattle.pac_main.specs.declared.stop.Stop.{Stop}
 use Rattle.pac_main.specs.declared.stop.Stop.TheVariants.{Syntax, Typing, Refused}
@@ -22,7 +22,7 @@ pub record HasCatalogue (text : List ℕ) (catalogue : CatalogueState) : Type 0 
 pub record IsTypingFault (text : List ℕ) (fault : TypeFault) : Type 0 where
   pub tree : Tree
   pub reads : Reads text tree
-  pub first : IsFirstFault tree fault
+  pub first : IsFirstTypeFault tree fault
 
 -- the lines behind a line feed, where there is one
 abbrev pub lines_behind : List ℕ → List (List ℕ)

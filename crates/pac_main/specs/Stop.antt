@@ -3,7 +3,7 @@ use Rattle.std.specs.Prelude.{ℕ, Bool, true, false, List, ◌++◌, codes}
 use Rattle.std.specs.Fmt.{decimal}
 use Rattle.pac_outside.specs.declared.failed.ReadError.{ReadError}
 use Rattle.pac_outside.specs.declared.failed.ReadError.TheVariants as read
-use Rattle.pac_syntax.specs.Kinds as syntax
+use Rattle.pac_tokens.specs.Kinds as syntax
 use Rattle.pac_types.specs.Kinds as typing
 use Rattle.pac_types.specs.declared.reason.Reason.{Reason}
 use Rattle.pac_types.specs.Reasons.{reason_name}

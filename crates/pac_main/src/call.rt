@@ -5,7 +5,7 @@ ghost use Rattle.pac_value.specs.Values.{type_of};
 ghost use Rattle.pac_types.specs.Sound.{FitParams};
 ghost use Rattle.pac_serial.specs.declared.serial.Call.{Call as ACall};
 ghost use Rattle.pac_main.specs.Calls.{kinds, IsCall, IsFitting};
-ghost use Rattle.pac_main.specs.CallsRead.{literal_in, more_in, args_in, next_in, is_closed, one_value, negative_value, name_in, is_call_word, is_open, head_in};
+ghost use Rattle.pac_main.specs.CallsRead.{argument_in, more_in, args_in, next_in, is_closed, one_value, negative_value, name_of_token, is_call_word, is_open, head_in};
 
 use pac_base::{NoMemory, Ruled};
 use pac_serial::Call;
@@ -57,7 +57,7 @@ fn negative_of(token: &Token) -> Option<Value>
 // The literal in front, and the tokens behind it.
 fn literal(tokens: &[Spanned]) -> Option<(Value, &[Spanned])>
     ensures within { IfSome result (λ p. length p.1.now < length tokens.now) }
-    ensures literal { MatchOption result (literal_in (kinds tokens.now) ≡ None) (λ p. literal_in (kinds tokens.now) ≡ Some (p.0, kinds p.1.now)) }
+    ensures literal { MatchOption result (argument_in (kinds tokens.now) ≡ None) (λ p. argument_in (kinds tokens.now) ≡ Some (p.0, kinds p.1.now)) }
 {
     let [first, behind @ ..] = tokens else {
         return None;
@@ -89,7 +89,7 @@ fn next_argument(tokens: &[Spanned]) -> Option<(Value, &[Spanned])>
 }
 
 fn name_of(token: &Token) -> Option<Name>
-    ensures { result ≡ name_in token.now }
+    ensures { result ≡ name_of_token token.now }
 {
     match token {
         Token::Name(name) => Some(*name),

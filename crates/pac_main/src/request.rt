@@ -1,9 +1,9 @@
 // Reads request lines.
 ghost use Rattle.std.specs.Prelude.{◌≡◌, ◌<◌, ◌++◌, List, Option, IfOk, OnOk, OnErr, IsErrOf, length, Some, None};
-ghost use Rattle.pac_syntax.specs.Tokens.{IsLexed};
-ghost use Rattle.pac_syntax.specs.declared.fault.Fault.{Fault as AFault};
+ghost use Rattle.pac_tokens.specs.Tokens.{IsLexed};
+ghost use Rattle.pac_tokens.specs.declared.fault.Fault.{Fault as AFault};
 ghost use Rattle.pac_types.specs.declared.type_error.TypeFault.{TypeFault as ATypeFault};
-ghost use Rattle.pac_syntax.specs.declared.token.Spanned.{Spanned as ASpanned};
+ghost use Rattle.pac_tokens.specs.declared.token.Spanned.{Spanned as ASpanned};
 ghost use Rattle.pac_serial.specs.declared.serial.Call.{Call as ACall};
 ghost use Rattle.pac_main.specs.Lines.{lines};
 ghost use Rattle.pac_main.specs.Errors.{Only, AreOnly};

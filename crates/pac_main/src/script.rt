@@ -1,6 +1,6 @@
 // The script of a replay.
 ghost use Rattle.std.specs.Prelude.{◌≡◌, List, Option, IfOk, IsErrOf, MatchOption, Some, None};
-ghost use Rattle.pac_syntax.specs.declared.fault.Fault.{Fault as AFault};
+ghost use Rattle.pac_tokens.specs.declared.fault.Fault.{Fault as AFault};
 ghost use Rattle.pac_syntax.specs.Reading.{IsTextFault};
 ghost use Rattle.pac_types.specs.declared.type_error.TypeFault.{TypeFault as ATypeFault};
 ghost use Rattle.pac_types.specs.Typing.{Types, CatalogueState};

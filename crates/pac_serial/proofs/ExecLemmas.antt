@@ -4,10 +4,10 @@ use Rattle.std.specs.Prelude.{if◌then◌else◌}
 use Rattle.std.specs.Option.{option_map, option_and_then}
 use Rattle.pac_value.specs.declared.values.Ty.{Ty}
 use Rattle.pac_value.specs.Expressions.{Values, types_of, type_in}
-use Rattle.pac_types.specs.declared.catalogue.Table.{Table}
-use Rattle.pac_types.specs.declared.catalogue.Stmt.{Stmt, Let, Read, Has, Put, Set, If}
-use Rattle.pac_types.specs.declared.catalogue.Stmt.TheOpen as form
-use Rattle.pac_types.specs.declared.catalogue.Stmt.TheOpen.{Stmt-F}
+use Rattle.pac_types.specs.declared.table.Table.{Table}
+use Rattle.pac_types.specs.declared.statement.Stmt.{Stmt, Let, Read, Has, Put, Set, If}
+use Rattle.pac_types.specs.declared.statement.Stmt.TheOpen as form
+use Rattle.pac_types.specs.declared.statement.Stmt.TheOpen.{Stmt-F}
 use Rattle.pac_value.specs.declared.values.Ty.TheVariants.{Bool as BoolTy}
 use Rattle.pac_value.specs.declared.values.Value.{Value}
 use Rattle.pac_value.specs.declared.expr.Expr.{Expr}

@@ -14,8 +14,8 @@ use Rattle.pac_value.specs.declared.values.Ty.TheVariants.{Int, Text, Bool as Bo
 use Rattle.pac_value.specs.declared.values.Value.{Value}
 use Rattle.pac_value.specs.Values.{type_of, is_stored, IsRow}
 use Rattle.pac_value.specs.Expressions.{Values, types_of}
-use Rattle.pac_value.specs.State.{Place, place_cmp, RowValues, Tables}
-use Rattle.pac_types.specs.declared.catalogue.Table.{Table}
+use Rattle.pac_value.specs.State.{Cell, cell_cmp, RowValues, Tables}
+use Rattle.pac_types.specs.declared.table.Table.{Table}
 use Rattle.pac_types.specs.Sound.{with_var, is_wanted, are_wanted, column_types, FitsTable, FitTables}
 use Rattle.pac_types.specs.Meaning.{set_row, column_or}
 use Rattle.pac_serial.proofs.DraftLemmas.{get-set_row, tied_same}
@@ -62,29 +62,29 @@ wanted_is a b ty e h = go ty b (subst (λ (o : Option Ty). is_wanted o b ≡ tru
     go BoolTy None h = cc
 
 -- what is read has the default's type
-pub column_or-type : (tables : List Table) (rows : Tables) (place : Place) (c : ℕ) (d : Value) → FitTables tables rows
-    → is_wanted (Some (type_of d)) (slice_get (column_types tables place.0) c) ≡ true
-    → type_of (column_or (get rows place) c d) ≡ type_of d
-column_or-type tables rows place c d fits h = go (get rows place) refl
+pub column_or-type : (tables : List Table) (rows : Tables) (cell : Cell) (c : ℕ) (d : Value) → FitTables tables rows
+    → is_wanted (Some (type_of d)) (slice_get (column_types tables cell.0) c) ≡ true
+    → type_of (column_or (get rows cell) c d) ≡ type_of d
+column_or-type tables rows cell c d fits h = go (get rows cell) refl
   where
-    inner : (row : RowValues) (o : Option Value) → slice_get row c ≡ o → map type_of row ≡ column_types tables place.0 → type_of (unwrap_or o d) ≡ type_of d
+    inner : (row : RowValues) (o : Option Value) → slice_get row c ≡ o → map type_of row ≡ column_types tables cell.0 → type_of (unwrap_or o d) ≡ type_of d
     inner row None e same = refl
     inner row (Some v) e same =
         let one : Some (type_of v) ≡ Some (type_of d) =
-        ap (option_map type_of) (sym e) ∙ sym (slice_get-map type_of row c) ∙ ap (λ tys. slice_get tys c) same ∙ wanted_is (Some (type_of d)) (slice_get (column_types tables place.0) c) (type_of d) refl h in
+        ap (option_map type_of) (sym e) ∙ sym (slice_get-map type_of row c) ∙ ap (λ tys. slice_get tys c) same ∙ wanted_is (Some (type_of d)) (slice_get (column_types tables cell.0) c) (type_of d) refl h in
         cc
 
-    go : (o : Option RowValues) → get rows place ≡ o → type_of (column_or o c d) ≡ type_of d
+    go : (o : Option RowValues) → get rows cell ≡ o → type_of (column_or o c d) ≡ type_of d
     go None e = refl
-    go (Some row) e = inner row (slice_get row c) refl (fits place row e).columns
+    go (Some row) e = inner row (slice_get row c) refl (fits cell row e).columns
 
--- a row that fits may stand at its place, and so may none
-pub FitTables-set_row : (tables : List Table) (rows : Tables) (p : Place) (row : Option RowValues) → FitTables tables rows
+-- a row that fits may stand at its cell, and so may none
+pub FitTables-set_row : (tables : List Table) (rows : Tables) (p : Cell) (row : Option RowValues) → FitTables tables rows
     → ((r : RowValues) → row ≡ Some r → FitsTable tables p r) → FitTables tables (set_row rows p row)
-FitTables-set_row tables rows p row fits new q r found = go (eq_by_cmp place_cmp q p) refl (sym (get-set_row rows p row q) ∙ found)
+FitTables-set_row tables rows p row fits new q r found = go (eq_by_cmp cell_cmp q p) refl (sym (get-set_row rows p row q) ∙ found)
   where
-    go : (b : Bool) → eq_by_cmp place_cmp q p ≡ b → cond b row (get rows q) ≡ Some r → FitsTable tables q r
-    go true e h = subst (λ (z : Place). FitsTable tables z r) (tied_same q p e) (new r h)
+    go : (b : Bool) → eq_by_cmp cell_cmp q p ≡ b → cond b row (get rows q) ≡ Some r → FitsTable tables q r
+    go true e h = subst (λ (z : Cell). FitsTable tables z r) (tied_same q p e) (new r h)
     go false e h = fits q r h
 
 list_all-set : {A : Type 0} (p : A → Bool) (xs : List A) (i : ℕ) (v : A) → list_all p xs ≡ true → p v ≡ true → list_all p (slice_set xs i v) ≡ true
@@ -122,7 +122,7 @@ wanted-length (a ∷ as_) (ty ∷ tys) h = ap suc (wanted-length as_ tys (and-ri
 
 -- no row is unfit where there is none
 pub FitTables-empty : (tables : List Table) (rows : Tables) → rows ≡ empty → FitTables tables rows
-FitTables-empty tables rows e place row found =
-    let none : None ≡ Some row = sym (get-empty place_cmp place) ∙ ap (λ m. get m place) (sym e) ∙ found in
+FitTables-empty tables rows e cell row found =
+    let none : None ≡ Some row = sym (get-empty cell_cmp cell) ∙ ap (λ m. get m cell) (sym e) ∙ found in
     let no_way : ⊥ = cc in
     absurd no_way

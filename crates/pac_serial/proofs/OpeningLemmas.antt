@@ -9,9 +9,9 @@ use Rattle.std.proofs.lemmas.Bool.Decides.{nat_tests}
 use Rattle.pac_value.specs.declared.values.Value.{Value}
 use Rattle.pac_value.specs.Values.{type_of}
 use Rattle.pac_value.specs.Expressions.{Values, types_of}
-use Rattle.pac_types.specs.declared.catalogue.Column.{Column}
-use Rattle.pac_types.specs.declared.catalogue.Table.{Table}
-use Rattle.pac_types.specs.declared.catalogue.Proc.{Proc}
+use Rattle.pac_types.specs.declared.table.Column.{Column}
+use Rattle.pac_types.specs.declared.table.Table.{Table}
+use Rattle.pac_types.specs.declared.procedure.Proc.{Proc}
 use Rattle.pac_types.specs.Sound.{scope_of, scope_behind, FitParams, IsSoundProc}
 use Rattle.pac_types.specs.Meaning.{with_values}
 use Rattle.pac_types.proofs.ScopeLemmas.{Within}
@@ -49,8 +49,8 @@ opening-within params args fit x ty h = go (slice_get args x) refl
     go : (o : Option Value) → slice_get args x ≡ o → types_of (with_values 0 args empty) x ≡ Some ty
     go None e = let none : None ≡ Some ty = ap (option_map type_of) (sym e) ∙ found in cc
     go (Some v) e =
-        let place : x ≡ 0 + x = omega arith in
-        ap (λ n. option_map type_of (get (with_values 0 args empty) n)) place
+        let cell : x ≡ 0 + x = omega arith in
+        ap (λ n. option_map type_of (get (with_values 0 args empty) n)) cell
         ∙ ap (option_map type_of) (at 0 args empty x v e ∙ sym e) ∙ found
 
 -- a sound procedure is sound where it begins

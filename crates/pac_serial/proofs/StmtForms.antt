@@ -2,11 +2,11 @@
 use Rattle.std.proofs.Common.{◌≡◌, ℕ, List, map, sym, ap, ◌∙◌}
 use Rattle.pac_value.specs.declared.values.Value.{Value}
 use Rattle.pac_value.specs.declared.expr.Expr.{Expr}
-use Rattle.pac_types.specs.declared.catalogue.Stmt.{Stmt, Let, Read, Has, Put, Set, Delete, AbortIf, If}
-use Rattle.pac_types.specs.declared.catalogue.Stmt.TheOpen as form
-use Rattle.pac_types.specs.declared.catalogue.Stmt.TheOpen.{Stmt-F}
-use Rattle.pac_types.specs.declared.catalogue.Stmt.TheVariants.{rolls-Let, rolls-Read, rolls-Has, rolls-Put, rolls-Set, rolls-Delete, rolls-AbortIf, rolls-If}
-use Rattle.pac_types.specs.declared.catalogue.Stmt.TheFolds.{fold-Stmt, fold-roll-Stmt}
+use Rattle.pac_types.specs.declared.statement.Stmt.{Stmt, Let, Read, Has, Put, Set, Delete, AbortIf, If}
+use Rattle.pac_types.specs.declared.statement.Stmt.TheOpen as form
+use Rattle.pac_types.specs.declared.statement.Stmt.TheOpen.{Stmt-F}
+use Rattle.pac_types.specs.declared.statement.Stmt.TheVariants.{rolls-Let, rolls-Read, rolls-Has, rolls-Put, rolls-Set, rolls-Delete, rolls-AbortIf, rolls-If}
+use Rattle.pac_types.specs.declared.statement.Stmt.TheFolds.{fold-Stmt, fold-roll-Stmt}
 
 module _ (A : Type 0) (step : Stmt-F A → A) (s : Stmt) where
   pub at-Let : (x : ℕ) (e : Expr) → s ≡ Let x e → fold-Stmt A step s ≡ step (form.Let x e)

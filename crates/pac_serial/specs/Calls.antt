@@ -1,7 +1,7 @@
 -- Calls, and what the execution of several gives.
 use Rattle.std.specs.Prelude.{◌≡◌, ◌<◌, ◌^◌, ◌-◌, List, take, slice_get, Result, Ok, Err, IsSomeAnd}
 use Rattle.pac_value.specs.State.{Tables}
-use Rattle.pac_types.specs.declared.catalogue.Proc.{Proc}
+use Rattle.pac_types.specs.declared.procedure.Proc.{Proc}
 use Rattle.pac_types.specs.Sound.{FitParams}
 use Rattle.pac_types.specs.Meaning.{Call as ACall, TxnAbort, operations, serial}
 use Rattle.pac_serial.specs.declared.serial.Call.{Call}

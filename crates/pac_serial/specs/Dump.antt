@@ -7,7 +7,7 @@ use Rattle.pac_value.specs.declared.values.Value.TheVariants.{Int, Text, Bool as
 use Rattle.pac_value.specs.declared.values.Key.{Key}
 use Rattle.pac_value.specs.declared.values.Key.TheVariants.{Int as IntKey, Text as TextKey}
 use Rattle.pac_value.specs.State.{RowValues, Tables, keys_of}
-use Rattle.pac_types.specs.declared.catalogue.Table.{Table}
+use Rattle.pac_types.specs.declared.table.Table.{Table}
 
 -- a byte in a literal: `"` and `\` stand behind a `\`
 abbrev pub escaped : ℕ → List ℕ
@@ -47,11 +47,11 @@ abbrev pub row_line : Tables → ℕ → Key → List ℕ
 row_line tables t key = key_literal key ++ codes " (" ++ row_text (map.get tables (t, key)) ++ codes ")\n"
 
 -- table NAME COUNT, and its rows in ascending order of their keys
-abbrev pub table_text : Tables → ℕ → List ℕ → List ℕ
-table_text tables t name =
+abbrev pub table_dump : Tables → ℕ → List ℕ → List ℕ
+table_dump tables t name =
     codes "table " ++ name ++ codes " " ++ decimal (length (keys_of tables t)) ++ codes "\n" ++ flat_map (row_line tables t) (keys_of tables t)
 
 -- the tables of a catalogue, numbered from t
 abbrev pub tables_text : Tables → ℕ → List Table → List ℕ
 tables_text tables t [] = []
-tables_text tables t (table ∷ others) = table_text tables t table.name ++ tables_text tables (t + 1) others
+tables_text tables t (table ∷ others) = table_dump tables t table.name ++ tables_text tables (t + 1) others

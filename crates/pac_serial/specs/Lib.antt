@@ -3,5 +3,5 @@ pub mod Outcomes
 pub mod Arguments
 pub mod Calls
 pub mod Dump
-pub mod Places
+pub mod Cells
 pub mod Transactions

@@ -8,19 +8,19 @@ use Rattle.pac_value.specs.State.{Tables}
 use Rattle.pac_types.specs.Reasons.{reason_of}
 use Rattle.pac_types.specs.Sound.{Scope}
 use Rattle.pac_types.specs.Meaning.{Abort as AnAbort}
-use Rattle.pac_serial.specs.declared.operation.Stop.{Stop}
-use Rattle.pac_serial.specs.declared.operation.Stop.TheVariants.{Abort, NoMemory}
+use Rattle.pac_serial.specs.declared.operation.Halt.{Halt}
+use Rattle.pac_serial.specs.declared.operation.Halt.TheVariants.{Abort, NoMemory}
 use Rattle.pac_serial.specs.declared.execute.ExecError.{ExecError}
 use Rattle.pac_serial.specs.declared.execute.ExecError.TheVariants.{Abort as AbortAt, NoMemory as NoMemoryAtAll}
 
 -- an operation gives what it means, aborts as it means to, or finds no memory
-abbrev pub Does : {A B : Type 0} → Result A Stop → Result B Reason → B → Type 0
+abbrev pub Does : {A B : Type 0} → Result A Halt → Result B Reason → B → Type 0
 Does (Ok x) meaning now = meaning ≡ Ok now
 Does (Err (Abort reason)) meaning now = meaning ≡ Err reason
 Does (Err NoMemory) meaning now = Unit {0}
 
 -- the same of a value that is given
-abbrev pub DoesGive : {A : Type 0} → Result A Stop → Result A Reason → Type 0
+abbrev pub DoesGive : {A : Type 0} → Result A Halt → Result A Reason → Type 0
 DoesGive (Ok x) meaning = meaning ≡ Ok x
 DoesGive (Err (Abort reason)) meaning = meaning ≡ Err reason
 DoesGive (Err NoMemory) meaning = Unit {0}
@@ -41,7 +41,7 @@ abbrev pub KeepsTypes : (ℕ → Bool) → Values → Values → Type 0
 KeepsTypes some old new = (x : ℕ) → some x ≡ false → types_of new x ≡ types_of old x
 
 -- an operation with this number stopped
-abbrev pub stopped : ℕ → Stop → ExecError
+abbrev pub stopped : ℕ → Halt → ExecError
 stopped n (Abort reason) = AbortAt n reason
 stopped n NoMemory = NoMemoryAtAll
 

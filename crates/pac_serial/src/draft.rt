@@ -11,7 +11,7 @@ use std::alloc::Global;
 use std::collections::BTreeMap;
 use std::marker::Model;
 
-/// The rows of all tables with the writes of a transaction: the rows stay as they are until it ends. At a place that is
+/// The rows of all tables with the writes of a transaction: the rows stay as they are until it ends. At a cell that is
 /// written, `changes` has the row that stands there from then on, or none.
 #[derive(Drop)]
 pub(crate) struct Draft {
@@ -40,7 +40,7 @@ impl Draft {
         }
     }
 
-    /// The row at a place, as the transaction sees it. It looks up the place in the transaction's writes, and then in the
+    /// The row at a cell, as the transaction sees it. It looks up the cell in the transaction's writes, and then in the
     /// rows.
     pub(crate) fn get(&self, table: u16, key: &Key) -> Option<&Row>
         ensures { option_map (λ row. row.now) result ≡ map.get self.now.tables (table, key.now) }
@@ -83,8 +83,8 @@ impl Draft {
             mut rows,
             mut changes,
         } = self;
-        while let Some((place, row)) = changes.pop_last() {
-            match make(&mut rows, place, row) {
+        while let Some((cell, row)) = changes.pop_last() {
+            match make(&mut rows, cell, row) {
                 Ok(()) => {}
                 Err(NoMemory) => return Err(rows),
             }
@@ -94,10 +94,10 @@ impl Draft {
 }
 
 // Makes one change.
-fn make(rows: &mut Rows, place: (u16, Key), row: Option<Row>) -> Result<(), NoMemory>
-    ensures { OnOk result (rows.new ≡ set_row rows.old place row) }
+fn make(rows: &mut Rows, cell: (u16, Key), row: Option<Row>) -> Result<(), NoMemory>
+    ensures { OnOk result (rows.new ≡ set_row rows.old cell row) }
 {
-    let (table, key) = place;
+    let (table, key) = cell;
     match row {
         Some(row) => rows.put(table, key, row),
         None => {

@@ -1,7 +1,7 @@
 // The text of tables.
 ghost use Rattle.std.specs.Prelude.{◌≡◌, ◌≤◌, ◌++◌, length, flat_map, IfOk, OnOk};
 ghost use Rattle.std.specs.Fmt.{decimal, signed_decimal};
-ghost use Rattle.pac_serial.specs.Dump.{escaped, text_literal, value_literal, key_literal, further_literal, values_text, row_line, table_text, tables_text};
+ghost use Rattle.pac_serial.specs.Dump.{escaped, text_literal, value_literal, key_literal, further_literal, values_text, row_line, table_dump, tables_text};
 
 use crate::Rows;
 use pac_base::NoMemory;
@@ -113,7 +113,7 @@ fn push_table(
     table: u16,
     name: Name,
 ) -> Result<(), NoMemory>
-    ensures { OnOk result (out.new.items ≡ out.old.items ++ table_text rows.now table name) }
+    ensures { OnOk result (out.new.items ≡ out.old.items ++ table_dump rows.now table name) }
 {
     let keys = rows.sorted_keys(alloc, table)?;
     out.extend_from_slice(b"table ")?;

@@ -11,7 +11,7 @@ ghost use Rattle.pac_serial.specs.Transactions.{state_of};
 use crate::Rows;
 use crate::count::count_operations;
 use crate::draft::Draft;
-use crate::operation::{Stop, abort_if, assign, define, delete, has, put, read, set};
+use crate::operation::{Halt, abort_if, assign, define, delete, has, put, read, set};
 use crate::transaction::{Target, Txn};
 use pac_base::NoMemory;
 use pac_types::{Proc, Reason, Stmt, Table};
@@ -39,12 +39,12 @@ impl From<NoMemory> for ExecError {
     }
 }
 
-fn at(op: u64, stop: Stop) -> ExecError
+fn at(op: u64, stop: Halt) -> ExecError
     ensures { result ≡ stopped op stop }
 {
     match stop {
-        Stop::Abort(reason) => ExecError::Abort { op, reason },
-        Stop::NoMemory => ExecError::NoMemory,
+        Halt::Abort(reason) => ExecError::Abort { op, reason },
+        Halt::NoMemory => ExecError::NoMemory,
     }
 }
 
@@ -168,7 +168,7 @@ fn env_of(alloc: Global, args: &[Value]) -> Result<Env, NoMemory>
     Ok(env)
 }
 
-/// Executes one call of a sound procedure. It costs what its statements touch: no table is copied, and a place is looked
+/// Executes one call of a sound procedure. It costs what its statements touch: no table is copied, and a cell is looked
 /// up in logarithmic time, in the call's own writes and in the rows.
 ///
 /// `Abort`: the operation aborts, and the rows are as before. `NoMemory`: an allocation was refused, and nothing is said

@@ -1,9 +1,9 @@
 //! Serial execution: the rows of the tables, and calls that are executed one after another, exactly as the serial meaning
 //! of the typed catalogue says.
 //!
-//! - [`Rows`]: the rows of all tables, a finite map from places to rows.
+//! - [`Rows`]: the rows of all tables, a finite map from cells to rows.
 //! - [`exec`]: executes one call of a sound procedure. Its writes stand apart until it ends, so an abort, an
-//!   [`ExecError`], leaves the rows as they were. A read looks up its place in the writes of its own transaction first.
+//!   [`ExecError`], leaves the rows as they were. A read looks up its cell in the writes of its own transaction first.
 //! - [`Call`], [`Args`], [`exec_all`]: calls, and their execution in order up to the first abort, a [`SerialError`].
 //! - [`count_operations`]: how many operations statements are.
 //! - [`dump_tables`]: the text of all tables.

@@ -19,53 +19,53 @@ use std::alloc::{AllocError, AllocFailed, Global};
 
 /// Why an operation is not executed.
 #[derive(Clone, Copy, Debug, PartialEq, Eq)]
-pub(crate) enum Stop {
+pub(crate) enum Halt {
     Abort(Reason),
     NoMemory,
 }
 
-impl From<NoMemory> for Stop {
+impl From<NoMemory> for Halt {
     ghost use Rattle.std.specs.Prelude.{◌≡◌};
-    ghost use Rattle.pac_serial.specs.declared.operation.Stop.TheVariants.{NoMemory};
+    ghost use Rattle.pac_serial.specs.declared.operation.Halt.TheVariants.{NoMemory};
 
     ghost from_gives = { λ _ stop. stop ≡ NoMemory };
 
     fn from(_: NoMemory) -> Self {
-        Stop::NoMemory
+        Halt::NoMemory
     }
 }
 
-impl From<AllocError> for Stop {
+impl From<AllocError> for Halt {
     ghost use Rattle.std.specs.Prelude.{◌≡◌};
-    ghost use Rattle.pac_serial.specs.declared.operation.Stop.TheVariants.{NoMemory};
+    ghost use Rattle.pac_serial.specs.declared.operation.Halt.TheVariants.{NoMemory};
 
     ghost from_gives = { λ _ stop. stop ≡ NoMemory };
 
     fn from(_: AllocError) -> Self {
-        Stop::NoMemory
+        Halt::NoMemory
     }
 }
 
-impl<T: Drop> From<AllocFailed<T>> for Stop {
+impl<T: Drop> From<AllocFailed<T>> for Halt {
     ghost use Rattle.std.specs.Prelude.{◌≡◌};
-    ghost use Rattle.pac_serial.specs.declared.operation.Stop.TheVariants.{NoMemory};
+    ghost use Rattle.pac_serial.specs.declared.operation.Halt.TheVariants.{NoMemory};
 
     ghost from_gives = { λ _ stop. stop ≡ NoMemory };
 
     fn from(_: AllocFailed<T>) -> Self {
-        Stop::NoMemory
+        Halt::NoMemory
     }
 }
 
-impl From<Trap> for Stop {
+impl From<Trap> for Halt {
     ghost use Rattle.std.specs.Prelude.{◌≡◌};
     ghost use Rattle.pac_types.specs.Reasons.{reason_of};
-    ghost use Rattle.pac_serial.specs.declared.operation.Stop.TheVariants.{Abort};
+    ghost use Rattle.pac_serial.specs.declared.operation.Halt.TheVariants.{Abort};
 
     ghost from_gives = { λ trap stop. stop ≡ Abort (reason_of trap) };
 
     fn from(trap: Trap) -> Self {
-        Stop::Abort(trap.into())
+        Halt::Abort(trap.into())
     }
 }
 
@@ -114,7 +114,7 @@ pub(crate) fn read(
     default: Value,
     var: u16,
     txn: &mut Txn,
-) -> Result<(), Stop>
+) -> Result<(), Halt>
     requires key { IsTrue (is_wanted (type_in (types_of txn.old.env) target.now.key.now) (key_type tables.now target.now.table)) }
     requires column { IsTrue (is_wanted (Some (type_of default)) (column_type tables.now target.now.table column)) }
     requires fits { FitTables tables.now txn.old.draft.tables }
@@ -133,7 +133,7 @@ pub(crate) fn has(
     target: &Target<'_>,
     var: u16,
     txn: &mut Txn,
-) -> Result<(), Stop>
+) -> Result<(), Halt>
     requires { IsTrue (is_wanted (type_in (types_of txn.old.env) target.now.key.now) (key_type tables.now target.now.table)) }
     ensures does { Does result (do_has var target.now.table target.now.key.now (state_of txn.old)) (state_of txn.new) }
     ensures types { OnOk result (types_of txn.new.env ≡ with_var (types_of txn.old.env) var BoolTy) }
@@ -145,7 +145,7 @@ pub(crate) fn has(
 }
 
 /// `delete`.
-pub(crate) fn delete(tables: &[Table], target: &Target<'_>, txn: &mut Txn) -> Result<(), Stop>
+pub(crate) fn delete(tables: &[Table], target: &Target<'_>, txn: &mut Txn) -> Result<(), Halt>
     requires key { IsTrue (is_wanted (type_in (types_of txn.old.env) target.now.key.now) (key_type tables.now target.now.table)) }
     requires fits { FitTables tables.now txn.old.draft.tables }
     ensures does { Does result (do_delete target.now.table target.now.key.now (state_of txn.old)) (state_of txn.new) }
@@ -165,7 +165,7 @@ fn row_of(
     table: u16,
     exprs: &[Expr],
     env: &Env,
-) -> Result<Row, Stop>
+) -> Result<Row, Halt>
     requires width { IsTrue (is_width (length exprs.now)) }
     requires typed { IsTrue (are_wanted (map (type_in (types_of env.now)) exprs.now) (column_types tables.now table)) }
     ensures does { DoesGive result (or_abort (values exprs.now env.now)) }
@@ -184,7 +184,7 @@ pub(crate) fn put(
     target: &Target<'_>,
     exprs: &[Expr],
     txn: &mut Txn,
-) -> Result<(), Stop>
+) -> Result<(), Halt>
     requires key { IsTrue (is_wanted (type_in (types_of txn.old.env) target.now.key.now) (key_type tables.now target.now.table)) }
     requires width { IsTrue (is_width (length exprs.now)) }
     requires typed { IsTrue (are_wanted (map (type_in (types_of txn.old.env)) exprs.now) (column_types tables.now target.now.table)) }
@@ -218,7 +218,7 @@ pub(crate) fn set(
     column: u16,
     value: &Expr,
     txn: &mut Txn,
-) -> Result<(), Stop>
+) -> Result<(), Halt>
     requires key { IsTrue (is_wanted (type_in (types_of txn.old.env) target.now.key.now) (key_type tables.now target.now.table)) }
     requires column { IsTrue (is_wanted (type_in (types_of txn.old.env) value.now) (column_type tables.now target.now.table column)) }
     requires fits { FitTables tables.now txn.old.draft.tables }
@@ -230,7 +230,7 @@ pub(crate) fn set(
     let key = key_of(tables, target, &txn.env)?;
     let value = eval(value, &txn.env)?;
     let Some(row) = txn.draft.get(target.table, &key) else {
-        return Err(Stop::Abort(Reason::Missing));
+        return Err(Halt::Abort(Reason::Missing));
     };
     let row = with_column(txn.alloc, row, column, value)?;
     txn.draft.put(target.table, key, row)?;
@@ -238,7 +238,7 @@ pub(crate) fn set(
 }
 
 /// `let`.
-pub(crate) fn assign(var: u16, value: &Expr, txn: &mut Txn) -> Result<(), Stop>
+pub(crate) fn assign(var: u16, value: &Expr, txn: &mut Txn) -> Result<(), Halt>
     requires { IsSome (type_in (types_of txn.old.env) value.now) }
     ensures does { Does result (do_let var value.now (state_of txn.old)) (state_of txn.new) }
     ensures types { OnOk result (option_map (with_var (types_of txn.old.env) var) (type_in (types_of txn.old.env) value.now) ≡ Some (types_of txn.new.env)) }
@@ -250,12 +250,12 @@ pub(crate) fn assign(var: u16, value: &Expr, txn: &mut Txn) -> Result<(), Stop>
 }
 
 /// `abort if`.
-pub(crate) fn abort_if(test: &Expr, txn: &Txn) -> Result<(), Stop>
+pub(crate) fn abort_if(test: &Expr, txn: &Txn) -> Result<(), Halt>
     requires { IsTrue (is_bool (type_in (types_of txn.now.env) test.now)) }
     ensures { Does result (do_abort_if test.now (state_of txn.now)) (state_of txn.now) }
 {
     match eval(test, &txn.env)? {
-        Value::Bool(true) => Err(Stop::Abort(Reason::Asked)),
+        Value::Bool(true) => Err(Halt::Abort(Reason::Asked)),
         _ => Ok(()),
     }
 }

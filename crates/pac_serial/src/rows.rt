@@ -6,9 +6,9 @@ ghost use Rattle.std.specs.Map.Iter.{ShowsInOrder, deref_pair};
 ghost use Rattle.pac_value.specs.declared.values.Key.{Key as AKey};
 ghost use Rattle.std.specs.BTreeMap as tree;
 ghost use Rattle.std.specs.FinMap as map;
-ghost use Rattle.pac_types.specs.declared.catalogue.Table.{Table};
+ghost use Rattle.pac_types.specs.declared.table.Table.{Table};
 ghost use Rattle.pac_types.specs.Sound.{FitTables};
-ghost use Rattle.pac_serial.specs.Places.{CanStand, EndsTable};
+ghost use Rattle.pac_serial.specs.Cells.{CanStand, EndsTable};
 ghost use Rattle.pac_value.specs.State.{RowValues, keys_of};
 
 use pac_base::NoMemory;
@@ -19,7 +19,7 @@ use std::collections::btree_map::Range;
 use std::marker::Model;
 use std::ops::Bound;
 
-/// The rows of all tables: a finite map from places, a table's number and a key, to rows.
+/// The rows of all tables: a finite map from cells, a table's number and a key, to rows.
 #[derive(Drop)]
 pub struct Rows {
     rows: BTreeMap<(u16, Key), Row>,
@@ -30,7 +30,7 @@ impl Model for Rows {
     ghost use Rattle.std.specs.BTreeMap as tree;
     ghost use Rattle.pac_value.specs.State.{Tables, tables_code};
     ghost use Rattle.std.specs.List.{All};
-    ghost use Rattle.pac_serial.specs.Places.{CanStand};
+    ghost use Rattle.pac_serial.specs.Cells.{CanStand};
 
     ghost Value = { Tables };
 
@@ -52,23 +52,23 @@ impl Rows {
         }
     }
 
-    /// The row at a place. `None`: no row stands there.
+    /// The row at a cell. `None`: no row stands there.
     pub fn get(&self, table: u16, key: &Key) -> Option<&Row>
         ensures { option_map (λ row. row.now) result ≡ map.get self.now (table, key.now) }
     {
         self.rows.get(&(table, *key))
     }
 
-    /// Inserts or replaces the row at a place. `NoMemory`: nothing is changed.
+    /// Inserts or replaces the row at a cell. `NoMemory`: nothing is changed.
     pub fn put(&mut self, table: u16, key: Key, row: Row) -> Result<(), NoMemory>
         ensures ok { OnOk result (self.new ≡ map.insert self.old (table, key) row) }
         ensures err { OnErr result (self.new ≡ self.old) }
     {
-        self.rows.insert(place(table, key), row)?;
+        self.rows.insert(cell(table, key), row)?;
         Ok(())
     }
 
-    /// Removes the row at a place, where there is one.
+    /// Removes the row at a cell, where there is one.
     pub fn delete(&mut self, table: u16, key: &Key)
         ensures { self.new ≡ map.remove self.old (table, key.now) }
     {
@@ -92,15 +92,15 @@ impl Rows {
     }
 }
 
-// The place of a key in a table.
-fn place(table: u16, key: Key) -> (u16, Key)
+// The cell of a key in a table.
+fn cell(table: u16, key: Key) -> (u16, Key)
     ensures value { result ≡ (table, key) }
     ensures stands { CanStand (table, key) }
 {
     (table, key)
 }
 
-// Where the places of a table end.
+// Where the cells of a table end.
 fn end_of(table: u16) -> Bound<(u16, Key)>
     ensures { EndsTable table result }
 {
@@ -110,7 +110,7 @@ fn end_of(table: u16) -> Bound<(u16, Key)>
     }
 }
 
-// The entries of a table, which stand together in the order of places.
+// The entries of a table, which stand together in the order of cells.
 fn part_of(rows: &BTreeMap<(u16, Key), Row>, table: u16) -> Range<'_, (u16, Key), Row>
     requires { All CanStand (tree.keys rows.now) }
     ensures part { result ≡ filter (λ e. e.0.0 == table) rows.now.entries }
@@ -131,7 +131,7 @@ fn keys_in(
     ensures { IfOk result (λ found. found.items ≡ map_list (λ e. e.0.1) (filter (λ e. e.0.0 == table) rows.now.entries)) }
 {
     let keys = part_of(rows, table)
-        .map(|(place, _)| place.1)
+        .map(|(cell, _)| cell.1)
         .collect(alloc)?;
     Ok(keys)
 }

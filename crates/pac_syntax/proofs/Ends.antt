@@ -5,14 +5,14 @@ use Rattle.std.proofs.lemmas.List.{append-nil}
 use Rattle.pac_value.specs.declared.values.Ty.{Ty}
 use Rattle.pac_value.specs.declared.expr.BinOp.{BinOp}
 use Rattle.pac_value.specs.declared.expr.BinOp.TheVariants as op
-use Rattle.pac_syntax.specs.declared.token.Keyword.TheVariants as keyword
-use Rattle.pac_syntax.specs.declared.token.Symbol.{Symbol}
-use Rattle.pac_syntax.specs.declared.token.Symbol.TheVariants as symbol
-use Rattle.pac_syntax.specs.declared.token.Token.{Token}
-use Rattle.pac_syntax.specs.declared.token.Token.TheVariants as token
-use Rattle.pac_syntax.specs.declared.token.Spanned.{Spanned}
-use Rattle.pac_syntax.specs.declared.statement.StatementWord.{StatementWord}
-use Rattle.pac_syntax.specs.declared.statement.StatementWord.TheVariants as word
+use Rattle.pac_tokens.specs.declared.token.Keyword.TheVariants as keyword
+use Rattle.pac_tokens.specs.declared.token.Symbol.{Symbol}
+use Rattle.pac_tokens.specs.declared.token.Symbol.TheVariants as symbol
+use Rattle.pac_tokens.specs.declared.token.Token.{Token}
+use Rattle.pac_tokens.specs.declared.token.Token.TheVariants as token
+use Rattle.pac_tokens.specs.declared.token.Spanned.{Spanned}
+use Rattle.pac_syntax.specs.declared.parse.statement.StatementWord.{StatementWord}
+use Rattle.pac_syntax.specs.declared.parse.statement.StatementWord.TheVariants as word
 use Rattle.pac_syntax.specs.declared.tree.NameNode.{NameNode}
 use Rattle.pac_syntax.specs.declared.tree.LiteralNode.{LiteralNode}
 use Rattle.pac_syntax.specs.declared.tree.ColumnNode.{ColumnNode}
@@ -23,7 +23,7 @@ use Rattle.pac_syntax.specs.declared.tree.TableNode.{TableNode}
 use Rattle.pac_syntax.specs.declared.tree.ProcNode.{ProcNode}
 use Rattle.pac_syntax.specs.declared.tree.Tree.{Tree}
 use Rattle.pac_syntax.specs.Grammar.{LiteralForm, AnInt, ANegative, AText, ATrue, AFalse, ExprForm, ALiteral, AName, ANot, AParen, ABinary, ValuesForm, NoValue, AValue, StmtsForm, NoStmt, ALet, ARead, AHas, APut, ASet, ADelete, AnAbort, AnIf, AnIfElse, TypeForm, AnIntType, ATextType, ColumnsForm, NoColumn, AColumn, ParamsForm, NoParam, AParam, TablesForm, NoTable, ATable, ProcsForm, NoProc, AProc, sign_of, tier, left_level, AtLevel, AreValues, AreStmts, AreProcs, literal_node, expr_node, value_nodes, stmt_nodes, type_of_form, column_node, column_nodes, param_nodes, table_nodes, proc_nodes, Role, Plain, TableWord, ProcWord, ParamName, Operator, Paren, Nested, Marked, marked, keyword_mark, symbol_mark, name_mark, type_mark, literal_before, counted, expr_before, whole_before, values_before, stmts_before, columns_before, params_before, tables_before, procs_before, Whole}
-use Rattle.pac_syntax.specs.Machine.{Begun, Steps, Done, Want, WantName, WantType, WantLiteral, WantNegative, Level, Rest, MoreValues, MoreStmts, MaybeElse, MoreColumns, SomeParams, MoreTables, MoreProcs, Next, next, want_expr, begun_name, begun_literal, joined, top, lay, negation_steps, paren_steps, stmt_steps, block_steps, if_steps, column_steps, typed_steps, table_steps, proc_steps, start, literal_at, is_mark, name_in, type_in, operator_of, operator_in, operator_at, of_tier, or_else, where_true, where_some, literal_begins, negative_in, operand_begins, stmt_begins, feed, finish}
+use Rattle.pac_syntax.specs.Machine.{Begun, Steps, Done, Want, WantName, WantType, WantLiteral, WantNegative, Level, Rest, MoreValues, MoreStmts, MaybeElse, MoreColumns, SomeParams, MoreTables, MoreProcs, Next, next, want_expr, begun_name, begun_literal, begun_binary, top, lay, negation_steps, paren_steps, stmt_steps, block_steps, if_steps, column_steps, typed_steps, table_steps, proc_steps, start, literal_at, is_mark, name_in, type_of_token, operator_of, operator_in, operator_at, of_tier, or_else, where_true, where_some, literal_begins, negative_in, operand_begins, stmt_begins, feed, finish}
 use Rattle.pac_syntax.proofs.Marks.{is_mark-true}
 use Rattle.pac_syntax.proofs.Running.{Runs}
 use Rattle.pac_syntax.proofs.Words.{begun}
@@ -54,7 +54,7 @@ with_turns e (t ∷ ts) = with_turns (ABinary t.op t.at e t.right) ts
 
 abbrev pub turned : Begun → List Turn → Begun
 turned l [] = l
-turned l (t ∷ ts) = turned (joined t.op l (begun t.right)) ts
+turned l (t ∷ ts) = turned (begun_binary t.op l (begun t.right)) ts
 
 begun-with_turns : (e : ExprForm) (ts : List Turn) → begun (with_turns e ts) ≡ turned (begun e) ts
 begun-with_turns e [] = refl
@@ -211,7 +211,7 @@ name_leads : (t : Token) (at : ℕ) (role : Role) (k : NameNode → Steps) (n : 
 name_leads (token.Name x) at role k n e = by_next (WantName role k) (token.Name x) at (next (k (record { at = at; name = x })) role) n e (λ z r f. (record { at = at; name = x }, z, refl, f))
 name_leads _ at role k n e = absurd cc
 
-type_leads : (t : Token) (at : ℕ) (k : Ty → Steps) (n : Next) → where_some (type_in t) (λ y. next (k y) Plain) ≡ Some n → Leads (WantType k) t at n
+type_leads : (t : Token) (at : ℕ) (k : Ty → Steps) (n : Next) → where_some (type_of_token t) (λ y. next (k y) Plain) ≡ Some n → Leads (WantType k) t at n
 type_leads (token.Keyword keyword.Int) at k n e = by_next (WantType k) (token.Keyword keyword.Int) at (next (k (type_of_form (AnIntType at))) Plain) n e (λ z r f. (AnIntType at, z, refl, f))
 type_leads (token.Keyword keyword.Text) at k n e = by_next (WantType k) (token.Keyword keyword.Text) at (next (k (type_of_form (ATextType at))) Plain) n e (λ z r f. (ATextType at, z, refl, f))
 type_leads _ at k n e = absurd cc
@@ -316,14 +316,14 @@ tail d (suc (suc zero)) x o k z r f = record { turns = []; rest = z; are = tt; o
 tail d (suc (suc (suc n))) x o k z r f = record { turns = f.0; rest = f.1; are = f.2; one = λ e. absurd (omega (arith, e)); text = f.3; ends = f.4 }
 
 rest_leads : (found : Option BinOp) (d m : ℕ) (x : Begun) (o : ℕ) (k : Begun → ℕ → Steps) (t : Spanned) (n : Next) → operator_at m t.token ≡ found
-    → or_else (where_some found (λ op. next (Level d m (suc o) (λ y o. top d (suc m) k (joined op x y) o)) (Operator (suc o)))) (feed (k x o) t) ≡ Some n
+    → or_else (where_some found (λ op. next (Level d m (suc o) (λ y o. top d (suc m) k (begun_binary op x y) o)) (Operator (suc o)))) (feed (k x o) t) ≡ Some n
     → Others (k x o) t n → Leads (Rest d m x o k) t.token t.at n
 rest_leads None d m x o k t n is e others = λ z r f. ([], marked t.token t.at n.role ∷ z, tt, refl, others e z r f)
 rest_leads (Some op) d m x o k t n is e others =
     let which = operator_is m t.token op is in
-    by_next (Rest d m x o k) t.token t.at (next (Level d m (suc o) (λ y o. top d (suc m) k (joined op x y) o)) (Operator (suc o))) n e
+    by_next (Rest d m x o k) t.token t.at (next (Level d m (suc o) (λ y o. top d (suc m) k (begun_binary op x y) o)) (Operator (suc o))) n e
     (λ z r f. rw which.sign (
-    let g = tail d m (joined op x (begun f.0)) (counted (suc o) f.0) k f.1 r f.4 in
+    let g = tail d m (begun_binary op x (begun f.0)) (counted (suc o) f.0) k f.1 r f.4 in
     let turn : Turn = record { op = op; at = t.at; right = f.0 } in (
       turn ∷ g.turns,
       g.rest,

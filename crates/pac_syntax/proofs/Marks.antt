@@ -1,13 +1,13 @@
 -- Two tokens that are one word or one sign are equal.
 use Rattle.std.proofs.Common.{◌≡◌, true, get_or, refl, sym, ap, ◌∙◌}
 use Rattle.std.proofs.lemmas.Bool.{eqb-true}
-use Rattle.pac_syntax.specs.declared.token.Keyword.{Keyword}
-use Rattle.pac_syntax.specs.declared.token.Keyword.TheVariants as keyword
-use Rattle.pac_syntax.specs.declared.token.Symbol.{Symbol}
-use Rattle.pac_syntax.specs.declared.token.Symbol.TheVariants as symbol
-use Rattle.pac_syntax.specs.declared.token.Token.{Token}
-use Rattle.pac_syntax.specs.declared.token.Token.TheVariants as token
-use Rattle.pac_syntax.specs.declared.token.TheConstants.{KEYWORDS, SYMBOLS}
+use Rattle.pac_tokens.specs.declared.token.Keyword.{Keyword}
+use Rattle.pac_tokens.specs.declared.token.Keyword.TheVariants as keyword
+use Rattle.pac_tokens.specs.declared.token.Symbol.{Symbol}
+use Rattle.pac_tokens.specs.declared.token.Symbol.TheVariants as symbol
+use Rattle.pac_tokens.specs.declared.token.Token.{Token}
+use Rattle.pac_tokens.specs.declared.token.Token.TheVariants as token
+use Rattle.pac_tokens.specs.declared.token.TheConstants.{KEYWORDS, SYMBOLS}
 use Rattle.pac_syntax.specs.Machine.{keyword_code, symbol_code, is_mark}
 
 keyword_decoded : (word : Keyword) → get_or KEYWORDS (keyword_code word) keyword.Table ≡ word

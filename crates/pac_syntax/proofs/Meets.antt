@@ -3,10 +3,10 @@ use Rattle.std.proofs.Common.{◌≡◌, suc, ◌+◌, ◌<◌, ◌≤◌, ℕ, 
 use Rattle.std.specs.List.{AllByRecursion}
 use Rattle.std.proofs.lemmas.Bool.{cases_lt}
 use Rattle.std.proofs.lemmas.List.{append-nil, length-append}
-use Rattle.pac_syntax.specs.declared.token.Spanned.{Spanned}
-use Rattle.pac_syntax.specs.declared.fault.FaultKind.{FaultKind}
-use Rattle.pac_syntax.specs.declared.fault.FaultKind.TheVariants.{Expected, TooDeep, TooMany}
-use Rattle.pac_syntax.specs.declared.fault.Fault.{Fault}
+use Rattle.pac_tokens.specs.declared.token.Spanned.{Spanned}
+use Rattle.pac_tokens.specs.declared.fault.FaultKind.{FaultKind}
+use Rattle.pac_tokens.specs.declared.fault.FaultKind.TheVariants.{Expected, TooDeep, TooMany}
+use Rattle.pac_tokens.specs.declared.fault.Fault.{Fault}
 use Rattle.pac_syntax.specs.declared.tree.Tree.{Tree}
 use Rattle.pac_syntax.specs.Grammar.{Role, Plain, TableWord, ProcWord, ColumnName, ParamName, Operator, Paren, Nested, Marked, Whole, tokens_of}
 use Rattle.pac_syntax.specs.Faults.{fault_of, over_role, over, IsWithin, ReadsTokens, IsViable, IsUnexpected, IsOverAt, FaultAt, IsFirst, place, rank}

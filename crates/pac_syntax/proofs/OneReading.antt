@@ -2,13 +2,13 @@
 use Rattle.std.proofs.Common.{◌≡◌, ◌≤◌, ◌<◌, ℕ, List, [], ◌∷◌, ◌++◌, length, take, drop, Option, Some, None, Result, Ok, Err, refl, sym, ap, subst, ◌∙◌, append_assoc, arith, inl, inr}
 use Rattle.std.proofs.lemmas.List.{append-nil, length-append}
 use Rattle.std.proofs.Math.Seq.{take-append_seam, drop-append_seam}
-use Rattle.pac_syntax.specs.declared.token.Spanned.{Spanned}
-use Rattle.pac_syntax.specs.declared.fault.Fault.{Fault}
+use Rattle.pac_tokens.specs.declared.token.Spanned.{Spanned}
+use Rattle.pac_tokens.specs.declared.fault.Fault.{Fault}
 use Rattle.pac_syntax.specs.declared.tree.Tree.{Tree}
 use Rattle.pac_syntax.specs.Faults.{ReadsTokens, FaultAt, IsFirstFault}
 use Rattle.pac_syntax.specs.Reading.{Reads, IsFirstOf, IsFineBefore, IsTextFault}
 use Rattle.pac_syntax.specs.Machine.{Stop, scan, start}
-use Rattle.pac_syntax.proofs.LexedOnce.{same_tokens, same_fault}
+use Rattle.pac_tokens.proofs.LexedOnce.{same_tokens, same_fault}
 use Rattle.pac_syntax.proofs.Meets.{reads_ok, ok_reads, first_fault, over_stops, overs, not_both}
 
 -- ---- the tokens of a text

@@ -1,17 +1,17 @@
 -- The nodes of a tree that is read stand in the order of the text.
 use Rattle.std.proofs.Common.{◌≡◌, ℕ, suc, ◌+◌, ◌≤◌, List, [], ◌∷◌, ◌++◌, map, drop, Option, refl, sym, ap, subst, ◌∙◌, append_assoc, arith}
 use Rattle.std.specs.List.{flat_map}
-use Rattle.pac_syntax.specs.declared.lexer.Before.{Before}
-use Rattle.pac_syntax.specs.declared.fault.Fault.{Fault}
-use Rattle.pac_syntax.specs.declared.token.Spanned.{Spanned}
+use Rattle.pac_tokens.specs.declared.lexer.Before.{Before}
+use Rattle.pac_tokens.specs.declared.fault.Fault.{Fault}
+use Rattle.pac_tokens.specs.declared.token.Spanned.{Spanned}
 use Rattle.pac_syntax.specs.declared.tree.StmtNode.{StmtNode}
 use Rattle.pac_syntax.specs.declared.tree.StmtNode.TheVariants as stmt
 use Rattle.pac_syntax.specs.declared.tree.Tree.{Tree}
 use Rattle.pac_syntax.specs.Grammar.{LiteralForm, AnInt, ANegative, AText, ATrue, AFalse, ExprForm, ALiteral, AName, ANot, AParen, ABinary, ValuesForm, NoValue, AValue, StmtsForm, NoStmt, ALet, ARead, AHas, APut, ASet, ADelete, AnAbort, AnIf, AnIfElse, TypeForm, ColumnsForm, NoColumn, AColumn, ParamsForm, NoParam, AParam, TablesForm, NoTable, ATable, ProcsForm, NoProc, AProc, literal_node, expr_place, expr_node, value_nodes, stmt_nodes, column_nodes, param_nodes, table_nodes, proc_nodes, Role, ColumnName, ParamName, Marked, type_mark, counted, literal_before, expr_before, whole_before, values_before, stmts_before, columns_before, params_before, tables_before, procs_before, marks_of, tokens_of}
 use Rattle.pac_syntax.specs.Faults.{ReadsTokens}
-use Rattle.pac_syntax.specs.Tokens.{Lexed, IsLexed, gap, after}
-use Rattle.pac_syntax.specs.Order.{Place, Own, Shared, expr_places, expr_places_step, all_places, stmt_places, stmt_places_step, stmts_places, columns_places, table_places, proc_places, Climbs, Ascends, IsOrdered}
-use Rattle.pac_syntax.proofs.Spelled.{spells_some}
+use Rattle.pac_tokens.specs.Tokens.{Lexed, IsLexed, gap, after}
+use Rattle.pac_syntax.specs.Order.{NodePlace, Own, Shared, expr_places, expr_places_step, all_places, stmt_places, stmt_places_step, stmts_places, columns_places, table_places, proc_places, Climbs, Ascends, IsOrdered}
+use Rattle.pac_tokens.proofs.Spelled.{spells_some}
 use Rattle.pac_syntax.proofs.NodeForms.{fold-Literal, fold-Name, fold-Binary, fold-Not, fold-Let, fold-Read, fold-Has, fold-Put, fold-Set, fold-Delete, fold-AbortIf, fold-If}
 
 -- the places of tokens
@@ -19,29 +19,29 @@ abbrev places : List Marked → List ℕ
 places [] = []
 places (m ∷ ms) = m.token.at ∷ places ms
 
-earlier : (low at : ℕ) (ps : List Place) → low ≤ at → Ascends at ps → Ascends low ps
+earlier : (low at : ℕ) (ps : List NodePlace) → low ≤ at → Ascends at ps → Ascends low ps
 earlier low at [] le h = tt
 earlier low at (Own p ∷ ps) le h = (omega (arith, h.0), h.1)
 earlier low at (Shared p ∷ ps) le h = (omega (arith, h.0), h.1)
 
 -- these places ascend from wherever those of the tokens do
-record Follow (ms : List Marked) (ps : List Place) : Type 0 where
+record Follow (ms : List Marked) (ps : List NodePlace) : Type 0 where
   go : (low : ℕ) → Climbs low (places ms) → Ascends low ps
 
 -- one token that has no node
-skip : (m : Marked) (ms : List Marked) (ps : List Place) → Follow ms ps → Follow (m ∷ ms) ps
+skip : (m : Marked) (ms : List Marked) (ps : List NodePlace) → Follow ms ps → Follow (m ∷ ms) ps
 skip m ms ps f = record { go = λ low h. earlier low (suc m.token.at) ps (omega (arith, h.0)) (f.go (suc m.token.at) h.1) }
 
 -- one token with a node of its own
-stands : (m : Marked) (ms : List Marked) (ps : List Place) → Follow ms ps → Follow (m ∷ ms) (Own m.token.at ∷ ps)
+stands : (m : Marked) (ms : List Marked) (ps : List NodePlace) → Follow ms ps → Follow (m ∷ ms) (Own m.token.at ∷ ps)
 stands m ms ps f = record { go = λ low h. (h.0, f.go (suc m.token.at) h.1) }
 
-same_places : (ms : List Marked) (ps qs : List Place) → ps ≡ qs → Follow ms qs → Follow ms ps
-same_places ms ps qs e f = subst (λ (x : List Place). Follow ms x) (sym e) f
+same_places : (ms : List Marked) (ps qs : List NodePlace) → ps ≡ qs → Follow ms qs → Follow ms ps
+same_places ms ps qs e f = subst (λ (x : List NodePlace). Follow ms x) (sym e) f
 
 -- ---- expressions
 
-literal : (l : LiteralForm) (ms : List Marked) (ps : List Place) → Follow ms ps → Follow (literal_before l ms) (Own (literal_node l).at ∷ ps)
+literal : (l : LiteralForm) (ms : List Marked) (ps : List NodePlace) → Follow ms ps → Follow (literal_before l ms) (Own (literal_node l).at ∷ ps)
 literal (AnInt at z) ms ps f = stands _ ms ps f
 literal (ANegative minus at z) ms ps f = stands _ (_ ∷ ms) ps (skip _ ms ps f)
 literal (AText at text) ms ps f = stands _ ms ps f
@@ -67,7 +67,7 @@ begins (ANot at e) d o ms = record { rest = places (expr_before d (suc o) e ms);
 begins (AParen opening e closing) d o ms = record { rest = places (expr_before (suc d) o e (_ ∷ ms)); is = refl }
 begins (ABinary op at l r) d o ms = begins l d o (_ ∷ expr_before d (suc (counted o l)) r ms)
 
-from_first : (ms : List Marked) (at : ℕ) (ps : List Place) → Begins ms at → Follow ms ps → Follow ms (Shared at ∷ ps)
+from_first : (ms : List Marked) (at : ℕ) (ps : List NodePlace) → Begins ms at → Follow ms ps → Follow ms (Shared at ∷ ps)
 from_first ms at ps b f = record {
   go = λ low h.
       let k : Climbs low (at ∷ b.rest) = subst (λ (x : List ℕ). Climbs low x) b.is h in
@@ -75,25 +75,25 @@ from_first ms at ps b f = record {
       (k.0, f.go at (subst (λ (x : List ℕ). Climbs at x) (sym b.is) again));
 }
 
-expr : (e : ExprForm) (d o : ℕ) (ms : List Marked) (ps : List Place) → Follow ms ps → Follow (expr_before d o e ms) (expr_places (expr_node e) ++ ps)
+expr : (e : ExprForm) (d o : ℕ) (ms : List Marked) (ps : List NodePlace) → Follow ms ps → Follow (expr_before d o e ms) (expr_places (expr_node e) ++ ps)
 expr (ALiteral l) d o ms ps f =
-    same_places (literal_before l ms) _ (Own (literal_node l).at ∷ ps) (ap (λ q. q ++ ps) (fold-Literal (List Place) expr_places_step (literal_node l))) (literal l ms ps f)
-expr (AName n) d o ms ps f = same_places (expr_before d o (AName n) ms) _ (Own n.at ∷ ps) (ap (λ q. q ++ ps) (fold-Name (List Place) expr_places_step n)) (stands _ ms ps f)
+    same_places (literal_before l ms) _ (Own (literal_node l).at ∷ ps) (ap (λ q. q ++ ps) (fold-Literal (List NodePlace) expr_places_step (literal_node l))) (literal l ms ps f)
+expr (AName n) d o ms ps f = same_places (expr_before d o (AName n) ms) _ (Own n.at ∷ ps) (ap (λ q. q ++ ps) (fold-Name (List NodePlace) expr_places_step n)) (stands _ ms ps f)
 expr (ANot at e) d o ms ps f =
-    same_places (expr_before d o (ANot at e) ms) _ (Own at ∷ (expr_places (expr_node e) ++ ps)) (ap (λ q. q ++ ps) (fold-Not (List Place) expr_places_step at (expr_node e)))
+    same_places (expr_before d o (ANot at e) ms) _ (Own at ∷ (expr_places (expr_node e) ++ ps)) (ap (λ q. q ++ ps) (fold-Not (List NodePlace) expr_places_step at (expr_node e)))
     (stands _ (expr_before d (suc o) e ms) _ (expr e d (suc o) ms ps f))
 expr (AParen opening e closing) d o ms ps f = skip _ (expr_before (suc d) o e (_ ∷ ms)) _ (expr e (suc d) o (_ ∷ ms) ps (skip _ ms ps f))
 expr (ABinary op at l r) d o ms ps f =
     let right = expr r d (suc (counted o l)) ms ps f in
     let left = expr l d o (_ ∷ expr_before d (suc (counted o l)) r ms) _ (skip _ (expr_before d (suc (counted o l)) r ms) _ right) in
     same_places (expr_before d o (ABinary op at l r) ms) _ (Shared (expr_place l) ∷ (expr_places (expr_node l) ++ (expr_places (expr_node r) ++ ps)))
-    (ap (λ q. q ++ ps) (fold-Binary (List Place) expr_places_step (expr_place l) op (expr_node l) (expr_node r)) ∙ ap (λ q. Shared (expr_place l) ∷ q) (append_assoc (expr_places (expr_node l)) (expr_places (expr_node r)) ps))
+    (ap (λ q. q ++ ps) (fold-Binary (List NodePlace) expr_places_step (expr_place l) op (expr_node l) (expr_node r)) ∙ ap (λ q. Shared (expr_place l) ∷ q) (append_assoc (expr_places (expr_node l)) (expr_places (expr_node r)) ps))
     (from_first (expr_before d o (ABinary op at l r) ms) (expr_place l) _ (begins (ABinary op at l r) d o ms) left)
 
-whole : (e : ExprForm) (ms : List Marked) (ps : List Place) → Follow ms ps → Follow (whole_before e ms) (expr_places (expr_node e) ++ ps)
+whole : (e : ExprForm) (ms : List Marked) (ps : List NodePlace) → Follow ms ps → Follow (whole_before e ms) (expr_places (expr_node e) ++ ps)
 whole e ms ps f = expr e 0 0 ms ps f
 
-values : (vs : ValuesForm) (ms : List Marked) (ps : List Place) → Follow ms ps → Follow (values_before vs ms) (flat_map expr_places (value_nodes vs) ++ ps)
+values : (vs : ValuesForm) (ms : List Marked) (ps : List NodePlace) → Follow ms ps → Follow (values_before vs ms) (flat_map expr_places (value_nodes vs) ++ ps)
 values NoValue ms ps f = f
 values (AValue comma e vs) ms ps f =
     same_places (values_before (AValue comma e vs) ms) _ (expr_places (expr_node e) ++ (flat_map expr_places (value_nodes vs) ++ ps)) (append_assoc (expr_places (expr_node e)) (flat_map expr_places (value_nodes vs)) ps)
@@ -106,80 +106,80 @@ all_flat [] = refl
 all_flat (n ∷ ns) = ap (λ q. stmt_places n ++ q) (all_flat ns)
 
 -- the places of a statement and of those behind it
-node_then : (node : StmtNode) (nodes : List StmtNode) (ps qs : List Place) → stmt_places node ≡ qs → stmts_places (node ∷ nodes) ++ ps ≡ qs ++ (stmts_places nodes ++ ps)
+node_then : (node : StmtNode) (nodes : List StmtNode) (ps qs : List NodePlace) → stmt_places node ≡ qs → stmts_places (node ∷ nodes) ++ ps ≡ qs ++ (stmts_places nodes ++ ps)
 node_then node nodes ps qs e = ap (λ q. (q ++ stmts_places nodes) ++ ps) e ∙ append_assoc qs (stmts_places nodes) ps
 
-stmts : (s : StmtsForm) (d : ℕ) (ms : List Marked) (ps : List Place) → Follow ms ps → Follow (stmts_before d s ms) (stmts_places (stmt_nodes s) ++ ps)
+stmts : (s : StmtsForm) (d : ℕ) (ms : List Marked) (ps : List NodePlace) → Follow ms ps → Follow (stmts_before d s ms) (stmts_places (stmt_nodes s) ++ ps)
 stmts NoStmt d ms ps f = f
 stmts (ALet p0 x p1 e p2 s) d ms ps f =
     let node = stmt.Let x (expr_node e) in
     let z = stmts_places (stmt_nodes s) ++ ps in
     same_places (stmts_before d (ALet p0 x p1 e p2 s) ms) _ _
-    (node_then node (stmt_nodes s) ps (Own x.at ∷ expr_places (expr_node e)) (fold-Let (List Place) stmt_places_step x (expr_node e)))
+    (node_then node (stmt_nodes s) ps (Own x.at ∷ expr_places (expr_node e)) (fold-Let (List NodePlace) stmt_places_step x (expr_node e)))
     (skip _ (_ ∷ _ ∷ whole_before e (_ ∷ stmts_before d s ms)) _ (stands _ (_ ∷ whole_before e (_ ∷ stmts_before d s ms)) _ (skip _ (whole_before e (_ ∷ stmts_before d s ms)) _ (whole e (_ ∷ stmts_before d s ms) _ (skip _ (stmts_before d s ms) _ (stmts s d ms ps f))))))
 stmts (ARead p0 x p1 t p2 e p3 p4 c p5 l p6 s) d ms ps f =
     let node = stmt.Read x t (expr_node e) c (literal_node l) in
     let z = stmts_places (stmt_nodes s) ++ ps in
     same_places (stmts_before d (ARead p0 x p1 t p2 e p3 p4 c p5 l p6 s) ms) _ _
-    (node_then node (stmt_nodes s) ps (Own x.at ∷ Own t.at ∷ (expr_places (expr_node e) ++ (Own c.at ∷ Own (literal_node l).at ∷ []))) (fold-Read (List Place) stmt_places_step x t (expr_node e) c (literal_node l)) ∙ ap (λ q. Own x.at ∷ Own t.at ∷ q) (append_assoc (expr_places (expr_node e)) (Own c.at ∷ Own (literal_node l).at ∷ []) z))
+    (node_then node (stmt_nodes s) ps (Own x.at ∷ Own t.at ∷ (expr_places (expr_node e) ++ (Own c.at ∷ Own (literal_node l).at ∷ []))) (fold-Read (List NodePlace) stmt_places_step x t (expr_node e) c (literal_node l)) ∙ ap (λ q. Own x.at ∷ Own t.at ∷ q) (append_assoc (expr_places (expr_node e)) (Own c.at ∷ Own (literal_node l).at ∷ []) z))
     (skip _ (_ ∷ _ ∷ _ ∷ _ ∷ whole_before e (_ ∷ _ ∷ _ ∷ _ ∷ literal_before l (_ ∷ stmts_before d s ms))) _ (stands _ (_ ∷ _ ∷ _ ∷ whole_before e (_ ∷ _ ∷ _ ∷ _ ∷ literal_before l (_ ∷ stmts_before d s ms))) _ (skip _ (_ ∷ _ ∷ whole_before e (_ ∷ _ ∷ _ ∷ _ ∷ literal_before l (_ ∷ stmts_before d s ms))) _ (stands _ (_ ∷ whole_before e (_ ∷ _ ∷ _ ∷ _ ∷ literal_before l (_ ∷ stmts_before d s ms))) _ (skip _ (whole_before e (_ ∷ _ ∷ _ ∷ _ ∷ literal_before l (_ ∷ stmts_before d s ms))) _ (whole e (_ ∷ _ ∷ _ ∷ _ ∷ literal_before l (_ ∷ stmts_before d s ms)) _ (skip _ (_ ∷ _ ∷ _ ∷ literal_before l (_ ∷ stmts_before d s ms)) _ (skip _ (_ ∷ _ ∷ literal_before l (_ ∷ stmts_before d s ms)) _ (stands _ (_ ∷ literal_before l (_ ∷ stmts_before d s ms)) _ (skip _ (literal_before l (_ ∷ stmts_before d s ms)) _ (literal l (_ ∷ stmts_before d s ms) _ (skip _ (stmts_before d s ms) _ (stmts s d ms ps f)))))))))))))
 stmts (AHas p0 x p1 t p2 e p3 p4 s) d ms ps f =
     let node = stmt.Has x t (expr_node e) in
     let z = stmts_places (stmt_nodes s) ++ ps in
     same_places (stmts_before d (AHas p0 x p1 t p2 e p3 p4 s) ms) _ _
-    (node_then node (stmt_nodes s) ps (Own x.at ∷ Own t.at ∷ expr_places (expr_node e)) (fold-Has (List Place) stmt_places_step x t (expr_node e)))
+    (node_then node (stmt_nodes s) ps (Own x.at ∷ Own t.at ∷ expr_places (expr_node e)) (fold-Has (List NodePlace) stmt_places_step x t (expr_node e)))
     (skip _ (_ ∷ _ ∷ _ ∷ _ ∷ whole_before e (_ ∷ _ ∷ stmts_before d s ms)) _ (stands _ (_ ∷ _ ∷ _ ∷ whole_before e (_ ∷ _ ∷ stmts_before d s ms)) _ (skip _ (_ ∷ _ ∷ whole_before e (_ ∷ _ ∷ stmts_before d s ms)) _ (stands _ (_ ∷ whole_before e (_ ∷ _ ∷ stmts_before d s ms)) _ (skip _ (whole_before e (_ ∷ _ ∷ stmts_before d s ms)) _ (whole e (_ ∷ _ ∷ stmts_before d s ms) _ (skip _ (_ ∷ stmts_before d s ms) _ (skip _ (stmts_before d s ms) _ (stmts s d ms ps f)))))))))
 stmts (APut p0 t p1 e p2 p3 p4 v vs p5 p6 s) d ms ps f =
     let node = stmt.Put t (expr_node e) (expr_node v ∷ value_nodes vs) in
     let z = stmts_places (stmt_nodes s) ++ ps in
     same_places (stmts_before d (APut p0 t p1 e p2 p3 p4 v vs p5 p6 s) ms) _ _
-    (node_then node (stmt_nodes s) ps (Own t.at ∷ (expr_places (expr_node e) ++ (expr_places (expr_node v) ++ flat_map expr_places (value_nodes vs)))) (fold-Put (List Place) stmt_places_step t (expr_node e) (expr_node v ∷ value_nodes vs)) ∙ ap (λ q. Own t.at ∷ q) (append_assoc (expr_places (expr_node e)) (expr_places (expr_node v) ++ flat_map expr_places (value_nodes vs)) z ∙ ap (λ q. expr_places (expr_node e) ++ q) (append_assoc (expr_places (expr_node v)) (flat_map expr_places (value_nodes vs)) z)))
+    (node_then node (stmt_nodes s) ps (Own t.at ∷ (expr_places (expr_node e) ++ (expr_places (expr_node v) ++ flat_map expr_places (value_nodes vs)))) (fold-Put (List NodePlace) stmt_places_step t (expr_node e) (expr_node v ∷ value_nodes vs)) ∙ ap (λ q. Own t.at ∷ q) (append_assoc (expr_places (expr_node e)) (expr_places (expr_node v) ++ flat_map expr_places (value_nodes vs)) z ∙ ap (λ q. expr_places (expr_node e) ++ q) (append_assoc (expr_places (expr_node v)) (flat_map expr_places (value_nodes vs)) z)))
     (skip _ (_ ∷ _ ∷ whole_before e (_ ∷ _ ∷ _ ∷ whole_before v (values_before vs (_ ∷ _ ∷ stmts_before d s ms)))) _ (stands _ (_ ∷ whole_before e (_ ∷ _ ∷ _ ∷ whole_before v (values_before vs (_ ∷ _ ∷ stmts_before d s ms)))) _ (skip _ (whole_before e (_ ∷ _ ∷ _ ∷ whole_before v (values_before vs (_ ∷ _ ∷ stmts_before d s ms)))) _ (whole e (_ ∷ _ ∷ _ ∷ whole_before v (values_before vs (_ ∷ _ ∷ stmts_before d s ms))) _ (skip _ (_ ∷ _ ∷ whole_before v (values_before vs (_ ∷ _ ∷ stmts_before d s ms))) _ (skip _ (_ ∷ whole_before v (values_before vs (_ ∷ _ ∷ stmts_before d s ms))) _ (skip _ (whole_before v (values_before vs (_ ∷ _ ∷ stmts_before d s ms))) _ (whole v (values_before vs (_ ∷ _ ∷ stmts_before d s ms)) _ (values vs (_ ∷ _ ∷ stmts_before d s ms) _ (skip _ (_ ∷ stmts_before d s ms) _ (skip _ (stmts_before d s ms) _ (stmts s d ms ps f))))))))))))
 stmts (ASet p0 t p1 e p2 p3 c p4 v p5 s) d ms ps f =
     let node = stmt.Set t (expr_node e) c (expr_node v) in
     let z = stmts_places (stmt_nodes s) ++ ps in
     same_places (stmts_before d (ASet p0 t p1 e p2 p3 c p4 v p5 s) ms) _ _
-    (node_then node (stmt_nodes s) ps (Own t.at ∷ (expr_places (expr_node e) ++ (Own c.at ∷ expr_places (expr_node v)))) (fold-Set (List Place) stmt_places_step t (expr_node e) c (expr_node v)) ∙ ap (λ q. Own t.at ∷ q) (append_assoc (expr_places (expr_node e)) (Own c.at ∷ expr_places (expr_node v)) z))
+    (node_then node (stmt_nodes s) ps (Own t.at ∷ (expr_places (expr_node e) ++ (Own c.at ∷ expr_places (expr_node v)))) (fold-Set (List NodePlace) stmt_places_step t (expr_node e) c (expr_node v)) ∙ ap (λ q. Own t.at ∷ q) (append_assoc (expr_places (expr_node e)) (Own c.at ∷ expr_places (expr_node v)) z))
     (skip _ (_ ∷ _ ∷ whole_before e (_ ∷ _ ∷ _ ∷ _ ∷ whole_before v (_ ∷ stmts_before d s ms))) _ (stands _ (_ ∷ whole_before e (_ ∷ _ ∷ _ ∷ _ ∷ whole_before v (_ ∷ stmts_before d s ms))) _ (skip _ (whole_before e (_ ∷ _ ∷ _ ∷ _ ∷ whole_before v (_ ∷ stmts_before d s ms))) _ (whole e (_ ∷ _ ∷ _ ∷ _ ∷ whole_before v (_ ∷ stmts_before d s ms)) _ (skip _ (_ ∷ _ ∷ _ ∷ whole_before v (_ ∷ stmts_before d s ms)) _ (skip _ (_ ∷ _ ∷ whole_before v (_ ∷ stmts_before d s ms)) _ (stands _ (_ ∷ whole_before v (_ ∷ stmts_before d s ms)) _ (skip _ (whole_before v (_ ∷ stmts_before d s ms)) _ (whole v (_ ∷ stmts_before d s ms) _ (skip _ (stmts_before d s ms) _ (stmts s d ms ps f)))))))))))
 stmts (ADelete p0 t p1 e p2 p3 s) d ms ps f =
     let node = stmt.Delete t (expr_node e) in
     let z = stmts_places (stmt_nodes s) ++ ps in
     same_places (stmts_before d (ADelete p0 t p1 e p2 p3 s) ms) _ _
-    (node_then node (stmt_nodes s) ps (Own t.at ∷ expr_places (expr_node e)) (fold-Delete (List Place) stmt_places_step t (expr_node e)))
+    (node_then node (stmt_nodes s) ps (Own t.at ∷ expr_places (expr_node e)) (fold-Delete (List NodePlace) stmt_places_step t (expr_node e)))
     (skip _ (_ ∷ _ ∷ whole_before e (_ ∷ _ ∷ stmts_before d s ms)) _ (stands _ (_ ∷ whole_before e (_ ∷ _ ∷ stmts_before d s ms)) _ (skip _ (whole_before e (_ ∷ _ ∷ stmts_before d s ms)) _ (whole e (_ ∷ _ ∷ stmts_before d s ms) _ (skip _ (_ ∷ stmts_before d s ms) _ (skip _ (stmts_before d s ms) _ (stmts s d ms ps f)))))))
 stmts (AnAbort p0 p1 e p2 s) d ms ps f =
     let node = stmt.AbortIf (expr_node e) in
     let z = stmts_places (stmt_nodes s) ++ ps in
     same_places (stmts_before d (AnAbort p0 p1 e p2 s) ms) _ _
-    (node_then node (stmt_nodes s) ps (expr_places (expr_node e)) (fold-AbortIf (List Place) stmt_places_step (expr_node e)))
+    (node_then node (stmt_nodes s) ps (expr_places (expr_node e)) (fold-AbortIf (List NodePlace) stmt_places_step (expr_node e)))
     (skip _ (_ ∷ whole_before e (_ ∷ stmts_before d s ms)) _ (skip _ (whole_before e (_ ∷ stmts_before d s ms)) _ (whole e (_ ∷ stmts_before d s ms) _ (skip _ (stmts_before d s ms) _ (stmts s d ms ps f)))))
 stmts (AnIf p0 e p1 first p2 s) d ms ps f =
     let node = stmt.If (expr_node e) (stmt_nodes first) [] in
     let z = stmts_places (stmt_nodes s) ++ ps in
     same_places (stmts_before d (AnIf p0 e p1 first p2 s) ms) _ _
-    (node_then node (stmt_nodes s) ps (expr_places (expr_node e) ++ (stmts_places (stmt_nodes first) ++ [])) (fold-If (List Place) stmt_places_step (expr_node e) (stmt_nodes first) [] ∙ ap (λ q. expr_places (expr_node e) ++ (q ++ [])) (all_flat (stmt_nodes first))) ∙ append_assoc (expr_places (expr_node e)) (stmts_places (stmt_nodes first) ++ []) z ∙ ap (λ q. expr_places (expr_node e) ++ q) (append_assoc (stmts_places (stmt_nodes first)) [] z))
+    (node_then node (stmt_nodes s) ps (expr_places (expr_node e) ++ (stmts_places (stmt_nodes first) ++ [])) (fold-If (List NodePlace) stmt_places_step (expr_node e) (stmt_nodes first) [] ∙ ap (λ q. expr_places (expr_node e) ++ (q ++ [])) (all_flat (stmt_nodes first))) ∙ append_assoc (expr_places (expr_node e)) (stmts_places (stmt_nodes first) ++ []) z ∙ ap (λ q. expr_places (expr_node e) ++ q) (append_assoc (stmts_places (stmt_nodes first)) [] z))
     (skip _ (whole_before e (_ ∷ stmts_before (suc d) first (_ ∷ stmts_before d s ms))) _ (whole e (_ ∷ stmts_before (suc d) first (_ ∷ stmts_before d s ms)) _ (skip _ (stmts_before (suc d) first (_ ∷ stmts_before d s ms)) _ (stmts first (suc d) (_ ∷ stmts_before d s ms) _ (skip _ (stmts_before d s ms) _ (stmts s d ms ps f))))))
 stmts (AnIfElse p0 e p1 first p2 p3 p4 second p5 s) d ms ps f =
     let node = stmt.If (expr_node e) (stmt_nodes first) (stmt_nodes second) in
     let z = stmts_places (stmt_nodes s) ++ ps in
     same_places (stmts_before d (AnIfElse p0 e p1 first p2 p3 p4 second p5 s) ms) _ _
-    (node_then node (stmt_nodes s) ps (expr_places (expr_node e) ++ (stmts_places (stmt_nodes first) ++ stmts_places (stmt_nodes second))) (fold-If (List Place) stmt_places_step (expr_node e) (stmt_nodes first) (stmt_nodes second) ∙ ap (λ q. expr_places (expr_node e) ++ (q ++ all_places (map stmt_places (stmt_nodes second)))) (all_flat (stmt_nodes first)) ∙ ap (λ q. expr_places (expr_node e) ++ (stmts_places (stmt_nodes first) ++ q)) (all_flat (stmt_nodes second))) ∙ append_assoc (expr_places (expr_node e)) (stmts_places (stmt_nodes first) ++ stmts_places (stmt_nodes second)) z ∙ ap (λ q. expr_places (expr_node e) ++ q) (append_assoc (stmts_places (stmt_nodes first)) (stmts_places (stmt_nodes second)) z))
+    (node_then node (stmt_nodes s) ps (expr_places (expr_node e) ++ (stmts_places (stmt_nodes first) ++ stmts_places (stmt_nodes second))) (fold-If (List NodePlace) stmt_places_step (expr_node e) (stmt_nodes first) (stmt_nodes second) ∙ ap (λ q. expr_places (expr_node e) ++ (q ++ all_places (map stmt_places (stmt_nodes second)))) (all_flat (stmt_nodes first)) ∙ ap (λ q. expr_places (expr_node e) ++ (stmts_places (stmt_nodes first) ++ q)) (all_flat (stmt_nodes second))) ∙ append_assoc (expr_places (expr_node e)) (stmts_places (stmt_nodes first) ++ stmts_places (stmt_nodes second)) z ∙ ap (λ q. expr_places (expr_node e) ++ q) (append_assoc (stmts_places (stmt_nodes first)) (stmts_places (stmt_nodes second)) z))
     (skip _ (whole_before e (_ ∷ stmts_before (suc d) first (_ ∷ _ ∷ _ ∷ stmts_before (suc d) second (_ ∷ stmts_before d s ms)))) _ (whole e (_ ∷ stmts_before (suc d) first (_ ∷ _ ∷ _ ∷ stmts_before (suc d) second (_ ∷ stmts_before d s ms))) _ (skip _ (stmts_before (suc d) first (_ ∷ _ ∷ _ ∷ stmts_before (suc d) second (_ ∷ stmts_before d s ms))) _ (stmts first (suc d) (_ ∷ _ ∷ _ ∷ stmts_before (suc d) second (_ ∷ stmts_before d s ms)) _ (skip _ (_ ∷ _ ∷ stmts_before (suc d) second (_ ∷ stmts_before d s ms)) _ (skip _ (_ ∷ stmts_before (suc d) second (_ ∷ stmts_before d s ms)) _ (skip _ (stmts_before (suc d) second (_ ∷ stmts_before d s ms)) _ (stmts second (suc d) (_ ∷ stmts_before d s ms) _ (skip _ (stmts_before d s ms) _ (stmts s d ms ps f))))))))))
 
 -- ---- columns, tables and procedures
 
-type_of : (t : TypeForm) (ms : List Marked) (ps : List Place) → Follow ms ps → Follow (type_mark t ∷ ms) ps
+type_of : (t : TypeForm) (ms : List Marked) (ps : List NodePlace) → Follow ms ps → Follow (type_mark t ∷ ms) ps
 type_of t ms ps f = skip (type_mark t) ms ps f
 
-columns : (c : ColumnsForm) (role : ℕ → Role) (i : ℕ) (ms : List Marked) (ps : List Place) → Follow ms ps → Follow (columns_before role i c ms) (columns_places (column_nodes c) ++ ps)
+columns : (c : ColumnsForm) (role : ℕ → Role) (i : ℕ) (ms : List Marked) (ps : List NodePlace) → Follow ms ps → Follow (columns_before role i c ms) (columns_places (column_nodes c) ++ ps)
 columns NoColumn role i ms ps f = f
 columns (AColumn comma n t c) role i ms ps f = skip _ _ _ (stands _ _ _ (type_of t (columns_before role (suc i) c ms) _ (columns c role (suc i) ms ps f)))
 
-params : (c : ParamsForm) (ms : List Marked) (ps : List Place) → Follow ms ps → Follow (params_before c ms) (columns_places (param_nodes c) ++ ps)
+params : (c : ParamsForm) (ms : List Marked) (ps : List NodePlace) → Follow ms ps → Follow (params_before c ms) (columns_places (param_nodes c) ++ ps)
 params NoParam ms ps f = f
 params (AParam n t c) ms ps f = stands _ _ _ (type_of t (columns_before ParamName 1 c ms) _ (columns c ParamName 1 ms ps f))
 
-tables : (f : TablesForm) (i : ℕ) (ms : List Marked) (ps : List Place) → Follow ms ps → Follow (tables_before i f ms) (flat_map table_places (table_nodes f) ++ ps)
+tables : (f : TablesForm) (i : ℕ) (ms : List Marked) (ps : List NodePlace) → Follow ms ps → Follow (tables_before i f ms) (flat_map table_places (table_nodes f) ++ ps)
 tables NoTable i ms ps f = f
 tables (ATable p0 n p1 p2 key p3 c t cs p4 p5 fs) i ms ps f =
     let z = flat_map table_places (table_nodes fs) ++ ps in

@@ -2,18 +2,19 @@
 use Rattle.std.proofs.Common.{◌≡◌, ◌≢◌, ℕ, zero, suc, ◌+◌, ◌<◌, ◌≤◌, true, false, List, [], ◌∷◌, ◌++◌, length, Some, None, Result, Ok, Err, refl, sym, ap, ◌∙◌, arith, add-one}
 use Rattle.std.proofs.lemmas.Bool.{lt-ltb, le-ltb}
 use Rattle.std.proofs.lemmas.List.{length-append}
+use Rattle.pac_base.specs.Refusals.{Fails, Gives, OkUnlessMemory}
 use Rattle.pac_value.specs.declared.values.Ty.{Ty}
 use Rattle.pac_value.specs.declared.expr.BinOp.{BinOp}
-use Rattle.pac_syntax.specs.declared.token.Keyword.TheVariants as keyword
-use Rattle.pac_syntax.specs.declared.token.Symbol.TheVariants as symbol
-use Rattle.pac_syntax.specs.declared.token.Token.{Token}
-use Rattle.pac_syntax.specs.declared.token.Token.TheVariants as token
-use Rattle.pac_syntax.specs.declared.token.Spanned.{Spanned}
-use Rattle.pac_syntax.specs.declared.fault.Fault.{Fault}
-use Rattle.pac_syntax.specs.declared.fault.FaultKind.{FaultKind}
-use Rattle.pac_syntax.specs.declared.fault.FaultKind.TheVariants.{Expected, TooDeep, TooMany}
-use Rattle.pac_syntax.specs.declared.fault.SyntaxError.{SyntaxError}
-use Rattle.pac_syntax.specs.declared.fault.SyntaxError.TheVariants as error
+use Rattle.pac_tokens.specs.declared.token.Keyword.TheVariants as keyword
+use Rattle.pac_tokens.specs.declared.token.Symbol.TheVariants as symbol
+use Rattle.pac_tokens.specs.declared.token.Token.{Token}
+use Rattle.pac_tokens.specs.declared.token.Token.TheVariants as token
+use Rattle.pac_tokens.specs.declared.token.Spanned.{Spanned}
+use Rattle.pac_tokens.specs.declared.fault.Fault.{Fault}
+use Rattle.pac_tokens.specs.declared.fault.FaultKind.{FaultKind}
+use Rattle.pac_tokens.specs.declared.fault.FaultKind.TheVariants.{Expected, TooDeep, TooMany}
+use Rattle.pac_base.specs.declared.refusal.Refusal.{Refusal}
+use Rattle.pac_base.specs.declared.refusal.Refusal.TheVariants as error
 use Rattle.pac_syntax.specs.declared.tree.NameNode.{NameNode}
 use Rattle.pac_syntax.specs.declared.tree.LiteralNode.{LiteralNode}
 use Rattle.pac_syntax.specs.declared.tree.ColumnNode.{ColumnNode}
@@ -22,23 +23,23 @@ use Rattle.pac_syntax.specs.declared.tree.StmtNode.{StmtNode}
 use Rattle.pac_syntax.specs.declared.tree.TableNode.{TableNode}
 use Rattle.pac_syntax.specs.declared.tree.ProcNode.{ProcNode}
 use Rattle.pac_syntax.specs.declared.tree.Tree.{Tree}
-use Rattle.pac_syntax.specs.declared.statement.StatementWord.{StatementWord}
-use Rattle.pac_syntax.specs.declared.statement.StatementWord.TheVariants as word
-use Rattle.pac_syntax.specs.declared.parser.ColumnKind.{ColumnKind}
-use Rattle.pac_syntax.specs.declared.parser.ColumnKind.TheVariants.{Column, Param}
+use Rattle.pac_syntax.specs.declared.parse.statement.StatementWord.{StatementWord}
+use Rattle.pac_syntax.specs.declared.parse.statement.StatementWord.TheVariants as word
+use Rattle.pac_syntax.specs.declared.parse.parser.ColumnKind.{ColumnKind}
+use Rattle.pac_syntax.specs.declared.parse.parser.ColumnKind.TheVariants.{Column, Param}
 use Rattle.pac_syntax.specs.Grammar.{Role, ParamName}
 use Rattle.pac_syntax.specs.Faults.{fault_of, over_role, place}
-use Rattle.pac_syntax.specs.Machine.{Begun, Steps, Done, Want, WantName, WantType, WantLiteral, WantNegative, Level, Rest, MoreValues, MoreStmts, MaybeElse, MoreColumns, SomeParams, MoreTables, MoreProcs, want_expr, begun_name, begun_literal, joined, top, negation_steps, paren_steps, stmt_steps, stmt_role, stmt_word, block_steps, column_steps, typed_steps, table_steps, proc_steps, is_mark, literal_begins, negative_in, name_in, operand_begins, operator_at, feed, finish, scan, run, Fails, Gives, OkOrMemory}
+use Rattle.pac_syntax.specs.Machine.{Begun, Steps, Done, Want, WantName, WantType, WantLiteral, WantNegative, Level, Rest, MoreValues, MoreStmts, MaybeElse, MoreColumns, SomeParams, MoreTables, MoreProcs, want_expr, begun_name, begun_literal, begun_binary, top, negation_steps, paren_steps, stmt_steps, stmt_role, stmt_word, block_steps, column_steps, typed_steps, table_steps, proc_steps, is_mark, literal_begins, negative_in, name_in, operand_begins, operator_at, feed, finish, scan, run}
 use Rattle.pac_syntax.specs.Views.{is_too_deep, Begins, IsNot, IsNoName, IsType, IsNoType, IsLiteral, IsNoLiteral, IsNoNegative, IsNegative, negative_of, name_token, role_of, limit_of}
 
 abbrev Read : Type 0
 Read = Result Tree Fault
 
-pub fails_along : {Y : Type 0} (e : SyntaxError) (a b : Result Y Fault) → a ≡ b → Fails e b → Fails e a
+pub fails_along : {Y : Type 0} (e : Refusal Fault) (a b : Result Y Fault) → a ≡ b → Fails e b → Fails e a
 fails_along error.NoMemory a b p h = tt
 fails_along (error.Fault f) a b p h = p ∙ h
 
-pub gives_along : {X Y : Type 0} (after : X → Result Y Fault) (r : Result X SyntaxError) (a b : Result Y Fault) → a ≡ b → Gives after r b → Gives after r a
+pub gives_along : {X Y : Type 0} (after : X → Result Y Fault) (r : Result X (Refusal Fault)) (a b : Result Y Fault) → a ≡ b → Gives after r b → Gives after r a
 gives_along after (Ok x) a b p h = p ∙ h
 gives_along after (Err e) a b p h = fails_along e a b p h
 
@@ -46,7 +47,7 @@ same_end : (end end' : ℕ) (k : Steps) (s : List Spanned) {r : Read} → end' �
 same_end end end' k s e h = h ∙ ap (λ x. run x k s) (sym e)
 
 -- what a function made is what is handed on
-pub gives_made : {X Y : Type 0} (view : X → Begun) (after : Begun → Result Y Fault) (r : Result X SyntaxError) (made : Begun) (a : Result Y Fault) → OkOrMemory r (λ x. view x ≡ made) → a ≡ after made → Gives (λ x. after (view x)) r a
+pub gives_made : {X Y : Type 0} (view : X → Begun) (after : Begun → Result Y Fault) (r : Result X (Refusal Fault)) (made : Begun) (a : Result Y Fault) → OkUnlessMemory r (λ x. view x ≡ made) → a ≡ after made → Gives (λ x. after (view x)) r a
 gives_made view after (Ok x) made a is h = h ∙ ap after (sym is)
 gives_made view after (Err error.NoMemory) made a is h = tt
 gives_made view after (Err (error.Fault f)) made a is h = absurd cc
@@ -182,7 +183,7 @@ unfolding run scan feed
 operator_past end d n o x k s ts t op e h past = rw (e, h, lt-ltb 64 (suc o) (omega arith)) refl
 
 pub operator_next : (end end' d n o o' : ℕ) (x : Begun) (k : Begun → ℕ → Steps) (s ts : List Spanned) (t : Spanned) (op : BinOp) → end' ≡ end → o' ≡ o + 1 → s ≡ t ∷ ts → operator_at n t.token ≡ Some op → o < 64
-    → run end (Rest d n x o k) s ≡ run end' (Level d n o' (λ y o. top d (n + 1) k (joined op x y) o)) ts
+    → run end (Rest d n x o k) s ≡ run end' (Level d n o' (λ y o. top d (n + 1) k (begun_binary op x y) o)) ts
 unfolding run scan feed
 operator_next end end' d n o o' x k s ts t op e more is h within = rw (is, h, e, more, le-ltb 64 (suc o) (omega arith), one_more o, one_more n) refl
 

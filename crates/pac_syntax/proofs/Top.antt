@@ -1,17 +1,18 @@
 -- What the parser's answer says of the grammar.
 use Rattle.std.proofs.Common.{◌≡◌, ℕ, List, Result, Ok, Err, refl, sym, ap, subst, ◌∙◌}
 use Rattle.std.specs.Prelude.{IfOk, IsErrOf}
-use Rattle.pac_syntax.specs.declared.token.Spanned.{Spanned}
+use Rattle.pac_base.specs.Refusals.{Gives, Only}
+use Rattle.pac_tokens.specs.declared.token.Spanned.{Spanned}
 use Rattle.pac_syntax.specs.declared.tree.Tree.{Tree}
-use Rattle.pac_syntax.specs.declared.fault.Fault.{Fault}
-use Rattle.pac_syntax.specs.declared.fault.SyntaxError.{SyntaxError}
-use Rattle.pac_syntax.specs.declared.fault.SyntaxError.TheVariants as error
-use Rattle.pac_syntax.specs.Faults.{ReadsTokens, IsFirstFault, IsTreeOrMemory}
-use Rattle.pac_syntax.specs.Machine.{Stop, run, scan, told, Gives, start}
+use Rattle.pac_tokens.specs.declared.fault.Fault.{Fault}
+use Rattle.pac_base.specs.declared.refusal.Refusal.{Refusal}
+use Rattle.pac_base.specs.declared.refusal.Refusal.TheVariants as error
+use Rattle.pac_syntax.specs.Faults.{ReadsTokens, IsFirstFault}
+use Rattle.pac_syntax.specs.Machine.{Stop, run, scan, told, start}
 use Rattle.pac_syntax.proofs.Meets.{reads_ok, ok_reads, first_fault}
 
 abbrev Answer : Type 0
-Answer = Result Tree SyntaxError
+Answer = Result Tree (Refusal Fault)
 
 abbrev ok_read : Tree → Result Tree Fault
 ok_read x = Ok x
@@ -37,7 +38,7 @@ unfolding run
 top_reads (Ok x) end ts g = reads_ok end ts x (read_is (scan end start ts) x g)
 top_reads (Err e) end ts g = tt
 
-pub top_only : (r : Answer) (end : ℕ) (ts : List Spanned) → Given r end ts → (tree : Tree) → ReadsTokens ts tree → IsTreeOrMemory r tree
+pub top_only : (r : Answer) (end : ℕ) (ts : List Spanned) → Given r end ts → (tree : Tree) → ReadsTokens ts tree → Only r tree
 unfolding run
 top_only (Ok x) end ts g tree h = ok_is x tree (sym g ∙ ap told (ok_reads end ts tree h))
 top_only (Err error.NoMemory) end ts g tree h = refl
@@ -49,10 +50,10 @@ by_stop end ts f (Err s) is e =
     let first = first_fault end ts s is in
     subst (λ (f : Fault). IsFirstFault end ts f) (err_is s.fault f e) (first.0, s.rest, first.1)
 
-abbrev err_of : SyntaxError → Answer
+abbrev err_of : Refusal Fault → Answer
 err_of e = Err e
 
-fault_is : (e : SyntaxError) (f : Fault) → err_of e ≡ err_of (error.Fault f) → e ≡ error.Fault f
+fault_is : (e : Refusal Fault) (f : Fault) → err_of e ≡ err_of (error.Fault f) → e ≡ error.Fault f
 fault_is e f h = cc
 
 of_fault : (end : ℕ) (ts : List Spanned) (f : Fault) → Given (Err (error.Fault f)) end ts → IsFirstFault end ts f

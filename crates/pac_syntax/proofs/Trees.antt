@@ -1,15 +1,15 @@
 -- What every tree of a text is: within the limits, and in the order of the text.
 use Rattle.std.proofs.Common.{◌+◌, ◌≤◌, ℕ, List, [], ◌∷◌, length, drop, Option, ap, arith}
 use Rattle.std.proofs.lemmas.List.{length-append, length-drop}
-use Rattle.pac_syntax.specs.declared.lexer.Before.{Before}
-use Rattle.pac_syntax.specs.declared.fault.Fault.{Fault}
-use Rattle.pac_syntax.specs.declared.token.Spanned.{Spanned}
+use Rattle.pac_tokens.specs.declared.lexer.Before.{Before}
+use Rattle.pac_tokens.specs.declared.fault.Fault.{Fault}
+use Rattle.pac_tokens.specs.declared.token.Spanned.{Spanned}
 use Rattle.pac_syntax.specs.declared.tree.Tree.{Tree}
-use Rattle.pac_syntax.specs.Tokens.{Lexed, gap, after}
+use Rattle.pac_tokens.specs.Tokens.{Lexed, gap, after}
 use Rattle.pac_syntax.specs.Reading.{IsTree}
 use Rattle.pac_syntax.specs.Limits.{IsWithinLimits}
 use Rattle.pac_syntax.specs.Order.{IsOrdered}
-use Rattle.pac_syntax.proofs.Spelled.{spells_some}
+use Rattle.pac_tokens.proofs.Spelled.{spells_some}
 use Rattle.pac_syntax.proofs.WithinLimits.{reads-within}
 use Rattle.pac_syntax.proofs.Ordered.{reads-ordered}
 

@@ -5,8 +5,8 @@ use Rattle.std.proofs.lemmas.List.{append-nil}
 use Rattle.pac_value.specs.declared.values.Ty.{Ty}
 use Rattle.pac_value.specs.declared.expr.BinOp.{BinOp}
 use Rattle.pac_value.specs.declared.expr.BinOp.TheVariants as op
-use Rattle.pac_syntax.specs.declared.token.Token.TheVariants as token
-use Rattle.pac_syntax.specs.declared.token.Symbol.TheVariants as symbol
+use Rattle.pac_tokens.specs.declared.token.Token.TheVariants as token
+use Rattle.pac_tokens.specs.declared.token.Symbol.TheVariants as symbol
 use Rattle.pac_syntax.specs.declared.tree.LiteralNode.{LiteralNode}
 use Rattle.pac_syntax.specs.declared.tree.ColumnNode.{ColumnNode}
 use Rattle.pac_syntax.specs.declared.tree.ExprNode.{ExprNode}
@@ -16,7 +16,7 @@ use Rattle.pac_syntax.specs.declared.tree.TableNode.{TableNode}
 use Rattle.pac_syntax.specs.declared.tree.ProcNode.{ProcNode}
 use Rattle.pac_syntax.specs.declared.tree.Tree.{Tree}
 use Rattle.pac_syntax.specs.Grammar.{LiteralForm, AnInt, ANegative, AText, ATrue, AFalse, ExprForm, ALiteral, AName, ANot, AParen, ABinary, ValuesForm, NoValue, AValue, StmtsForm, NoStmt, ALet, ARead, AHas, APut, ASet, ADelete, AnAbort, AnIf, AnIfElse, TypeForm, AnIntType, ATextType, ColumnsForm, NoColumn, AColumn, ParamsForm, NoParam, AParam, TablesForm, NoTable, ATable, ProcsForm, NoProc, AProc, sign_of, tier, left_level, AtLevel, IsExpr, AreValues, AreStmts, AreProcs, literal_node, expr_place, expr_node, value_nodes, stmt_nodes, type_of_form, column_node, column_nodes, param_nodes, table_nodes, proc_nodes, Role, Plain, ColumnName, ParamName, Operator, Marked, symbol_mark, name_mark, type_mark, literal_before, counted, expr_before, whole_before, values_before, stmts_before, columns_before, params_before, tables_before, procs_before, Whole}
-use Rattle.pac_syntax.specs.Machine.{Begun, Steps, WantType, WantLiteral, Level, Rest, MoreValues, MoreStmts, MaybeElse, MoreColumns, SomeParams, MoreTables, MoreProcs, want_symbol, want_expr, begun_literal, negated, enclosed, joined, top, lay, columns_steps, tree_end, tree_procs, start, operator_of, operator_in, operator_at, of_tier, feed, finish}
+use Rattle.pac_syntax.specs.Machine.{Begun, Steps, WantType, WantLiteral, Level, Rest, MoreValues, MoreStmts, MaybeElse, MoreColumns, SomeParams, MoreTables, MoreProcs, want_symbol, want_expr, begun_literal, begun_not, begun_paren, begun_binary, top, lay, columns_steps, tree_end, tree_procs, start, operator_of, operator_in, operator_at, of_tier, feed, finish}
 use Rattle.pac_syntax.proofs.Running.{Runs}
 
 -- an expression with the place at which it begins
@@ -184,7 +184,7 @@ module _ (tree : Tree) where
   left_operand e d o (suc (suc (suc n))) after x reads l h r = reads (suc (suc (suc (suc n)))) after x l h r
 
   takes_sign : (d : ℕ) (op : BinOp) (at : ℕ) (k : Begun → ℕ → Steps) (v : Begun) (o : ℕ) (x : List Marked)
-      → Runs (Level d (tier op) (suc o) (λ w o. top d (suc (tier op)) k (joined op v w) o)) x tree → Runs (Rest d (tier op) v o k) (symbol_mark (sign_of op) at (Operator (suc o)) ∷ x) tree
+      → Runs (Level d (tier op) (suc o) (λ w o. top d (suc (tier op)) k (begun_binary op v w) o)) x tree → Runs (Rest d (tier op) v o k) (symbol_mark (sign_of op) at (Operator (suc o)) ∷ x) tree
   unfolding feed
   takes_sign d op at k v o x r = rw (at_sign op) (_, refl, refl, r)
 
@@ -196,23 +196,23 @@ module _ (tree : Tree) where
     _,
     refl,
     refl,
-    read_expr e d (suc o) 0 (λ x o. lay d n k (negated at x) o) rest lv (ends_below 0 (less n) rest (omega arith) h) (lay_top d n k (negated at (begun e)) (counted (suc o) e) rest h r),
+    read_expr e d (suc o) 0 (λ x o. lay d n k (begun_not at x) o) rest lv (ends_below 0 (less n) rest (omega arith) h) (lay_top d n k (begun_not at (begun e)) (counted (suc o) e) rest h r),
   )
   read_expr (AParen opening e closing) d o n k rest lv h r =
       let close = symbol_mark symbol.CloseParen closing Plain in
-      let after : Begun → ℕ → Steps = λ x o. want_symbol symbol.CloseParen (lay d n k (enclosed opening x) o) in (
+      let after : Begun → ℕ → Steps = λ x o. want_symbol symbol.CloseParen (lay d n k (begun_paren opening x) o) in (
         _,
         refl,
         refl,
         read_expr e (suc d) o 5 after (close ∷ rest) lv (ends_all 4 close rest refl)
-            (runs_rest (suc d) 4 5 after (begun e) (counted o e) (close ∷ rest) (omega arith) (ends_all 5 close rest refl) (_, refl, refl, lay_top d n k (enclosed opening (begun e)) (counted o e) rest h r)),
+            (runs_rest (suc d) 4 5 after (begun e) (counted o e) (close ∷ rest) (omega arith) (ends_all 5 close rest refl) (_, refl, refl, lay_top d n k (begun_paren opening (begun e)) (counted o e) rest h r)),
       )
   read_expr (ABinary op at a b) d o n k rest lv h r =
       let j = tier op in
       let lo = lower d j n k lv.0 in
       let before = counted o a in
       let whole = begun (ABinary op at a b) in
-      let after : Begun → ℕ → Steps = λ w o. top d (suc j) lo.after (joined op (begun a) w) o in
+      let after : Begun → ℕ → Steps = λ w o. top d (suc j) lo.after (begun_binary op (begun a) w) o in
       let x = symbol_mark (sign_of op) at (Operator (suc before)) ∷ expr_before d (suc before) b rest in
       lo.opens o (expr_before d o a x) (left_operand a d o j lo.after x (read_expr a d o) lv.1 (below_sign op)
       (takes_sign d op at lo.after (begun a) before (expr_before d (suc before) b rest)

@@ -1,12 +1,12 @@
 -- The limits of the grammar, what is read, and the first fault of what isn't.
 use Rattle.std.specs.Prelude.{◌≡◌, ◌⊎◌, ℕ, ◌≤◌, List, [], ◌∷◌, ◌++◌, length, Option, Some, None, Result, Ok, Err, nat_lt, if◌then◌else◌}
 use Rattle.std.specs.List.{AllByRecursion}
-use Rattle.pac_syntax.specs.declared.token.Spanned.{Spanned}
-use Rattle.pac_syntax.specs.declared.fault.FaultKind.{FaultKind}
-use Rattle.pac_syntax.specs.declared.fault.FaultKind.TheVariants.{Token, Expected, TooLong, TooDeep, TooMany}
-use Rattle.pac_syntax.specs.declared.fault.Fault.{Fault}
-use Rattle.pac_syntax.specs.declared.fault.SyntaxError.{SyntaxError}
-use Rattle.pac_syntax.specs.declared.fault.SyntaxError.TheVariants as error
+use Rattle.pac_tokens.specs.declared.token.Spanned.{Spanned}
+use Rattle.pac_tokens.specs.declared.fault.FaultKind.{FaultKind}
+use Rattle.pac_tokens.specs.declared.fault.FaultKind.TheVariants.{Token, Expected, TooLong, TooDeep, TooMany}
+use Rattle.pac_tokens.specs.declared.fault.Fault.{Fault}
+use Rattle.pac_base.specs.declared.refusal.Refusal.{Refusal}
+use Rattle.pac_base.specs.declared.refusal.Refusal.TheVariants as error
 use Rattle.pac_syntax.specs.declared.tree.Tree.{Tree}
 use Rattle.pac_syntax.specs.Grammar.{Role, Plain, TableWord, ProcWord, ColumnName, ParamName, Operator, Paren, Nested, Marked, Whole, tokens_of}
 
@@ -81,8 +81,3 @@ pub record IsFirst (end : ℕ) (ts p rest : List Spanned) (fault : Fault) : Type
 -- the first fault of the tokens of a text that ends there
 abbrev pub IsFirstFault : ℕ → List Spanned → Fault → Type 0
 IsFirstFault end ts fault = (p rest : List Spanned) × IsFirst end ts p rest fault
-
--- the result is this tree, or memory ran out
-abbrev pub IsTreeOrMemory : Result Tree SyntaxError → Tree → Type 0
-IsTreeOrMemory (Ok read) tree = read ≡ tree
-IsTreeOrMemory (Err e) tree = e ≡ error.NoMemory

@@ -5,13 +5,13 @@ use Rattle.pac_value.specs.declared.values.Ty.TheVariants as ty
 use Rattle.pac_value.specs.declared.values.Value.TheVariants as value
 use Rattle.pac_value.specs.declared.expr.BinOp.{BinOp}
 use Rattle.pac_value.specs.declared.expr.BinOp.TheVariants as op
-use Rattle.pac_syntax.specs.declared.token.Keyword.{Keyword}
-use Rattle.pac_syntax.specs.declared.token.Keyword.TheVariants as keyword
-use Rattle.pac_syntax.specs.declared.token.Symbol.{Symbol}
-use Rattle.pac_syntax.specs.declared.token.Symbol.TheVariants as symbol
-use Rattle.pac_syntax.specs.declared.token.Token.{Token}
-use Rattle.pac_syntax.specs.declared.token.Token.TheVariants as token
-use Rattle.pac_syntax.specs.declared.token.Spanned.{Spanned}
+use Rattle.pac_tokens.specs.declared.token.Keyword.{Keyword}
+use Rattle.pac_tokens.specs.declared.token.Keyword.TheVariants as keyword
+use Rattle.pac_tokens.specs.declared.token.Symbol.{Symbol}
+use Rattle.pac_tokens.specs.declared.token.Symbol.TheVariants as symbol
+use Rattle.pac_tokens.specs.declared.token.Token.{Token}
+use Rattle.pac_tokens.specs.declared.token.Token.TheVariants as token
+use Rattle.pac_tokens.specs.declared.token.Spanned.{Spanned}
 use Rattle.pac_syntax.specs.declared.tree.NameNode.{NameNode}
 use Rattle.pac_syntax.specs.declared.tree.LiteralNode.{LiteralNode}
 use Rattle.pac_syntax.specs.declared.tree.ColumnNode.{ColumnNode}

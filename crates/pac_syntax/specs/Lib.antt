@@ -1,7 +1,3 @@
-pub mod Spelling
-pub mod Kinds
-pub mod Tokens
-pub mod Lexing
 pub mod Grammar
 pub mod Faults
 pub mod Machine
@@ -9,5 +5,3 @@ pub mod Views
 pub mod Limits
 pub mod Reading
 pub mod Order
-pub mod Canonical
-pub mod Unplaced

@@ -5,19 +5,19 @@ use Rattle.pac_value.specs.declared.values.Ty.TheVariants as ty
 use Rattle.pac_value.specs.declared.values.Value.TheVariants as value
 use Rattle.pac_value.specs.declared.expr.BinOp.{BinOp}
 use Rattle.pac_value.specs.declared.expr.BinOp.TheVariants as op
-use Rattle.pac_syntax.specs.declared.token.Keyword.{Keyword}
-use Rattle.pac_syntax.specs.declared.token.Keyword.TheVariants as keyword
-use Rattle.pac_syntax.specs.declared.token.Symbol.{Symbol}
-use Rattle.pac_syntax.specs.declared.token.Symbol.TheVariants as symbol
-use Rattle.pac_syntax.specs.declared.token.Token.{Token}
-use Rattle.pac_syntax.specs.declared.token.Token.TheVariants as token
-use Rattle.pac_syntax.specs.declared.token.Spanned.{Spanned}
-use Rattle.pac_syntax.specs.declared.statement.StatementWord.{StatementWord}
-use Rattle.pac_syntax.specs.declared.statement.StatementWord.TheVariants as word
-use Rattle.pac_syntax.specs.declared.fault.FaultKind.TheVariants.{Expected}
-use Rattle.pac_syntax.specs.declared.fault.Fault.{Fault}
-use Rattle.pac_syntax.specs.declared.fault.SyntaxError.{SyntaxError}
-use Rattle.pac_syntax.specs.declared.fault.SyntaxError.TheVariants as error
+use Rattle.pac_tokens.specs.declared.token.Keyword.{Keyword}
+use Rattle.pac_tokens.specs.declared.token.Keyword.TheVariants as keyword
+use Rattle.pac_tokens.specs.declared.token.Symbol.{Symbol}
+use Rattle.pac_tokens.specs.declared.token.Symbol.TheVariants as symbol
+use Rattle.pac_tokens.specs.declared.token.Token.{Token}
+use Rattle.pac_tokens.specs.declared.token.Token.TheVariants as token
+use Rattle.pac_tokens.specs.declared.token.Spanned.{Spanned}
+use Rattle.pac_syntax.specs.declared.parse.statement.StatementWord.{StatementWord}
+use Rattle.pac_syntax.specs.declared.parse.statement.StatementWord.TheVariants as word
+use Rattle.pac_tokens.specs.declared.fault.FaultKind.TheVariants.{Expected}
+use Rattle.pac_tokens.specs.declared.fault.Fault.{Fault}
+use Rattle.pac_base.specs.declared.refusal.Refusal.{Refusal}
+use Rattle.pac_base.specs.declared.refusal.Refusal.TheVariants as error
 use Rattle.pac_syntax.specs.declared.tree.NameNode.{NameNode}
 use Rattle.pac_syntax.specs.declared.tree.LiteralNode.{LiteralNode}
 use Rattle.pac_syntax.specs.declared.tree.ColumnNode.{ColumnNode}
@@ -133,10 +133,10 @@ abbrev pub name_in : Token → ℕ → Option NameNode
 name_in (token.Name n) at = Some (record { at = at; name = n })
 name_in _ at = None
 
-abbrev pub type_in : Token → Option Ty
-type_in (token.Keyword keyword.Int) = Some ty.Int
-type_in (token.Keyword keyword.Text) = Some ty.Text
-type_in _ = None
+abbrev pub type_of_token : Token → Option Ty
+type_of_token (token.Keyword keyword.Int) = Some ty.Int
+type_of_token (token.Keyword keyword.Text) = Some ty.Text
+type_of_token _ = None
 
 abbrev pub literal_at : ℕ → ℤ → LiteralNode
 literal_at at z = record { at = at; value = value.Int z }
@@ -198,14 +198,14 @@ begun_name n = record { from = n.at; expr = Name n }
 abbrev pub begun_literal : LiteralNode → Begun
 begun_literal l = record { from = l.at; expr = Literal l }
 
-abbrev pub negated : ℕ → Begun → Begun
-negated at x = record { from = at; expr = Not at x.expr }
+abbrev pub begun_not : ℕ → Begun → Begun
+begun_not at x = record { from = at; expr = Not at x.expr }
 
-abbrev pub enclosed : ℕ → Begun → Begun
-enclosed at x = record { from = at; expr = x.expr }
+abbrev pub begun_paren : ℕ → Begun → Begun
+begun_paren at x = record { from = at; expr = x.expr }
 
-abbrev pub joined : BinOp → Begun → Begun → Begun
-joined op l r = record { from = l.from; expr = Binary l.from op l.expr r.expr }
+abbrev pub begun_binary : BinOp → Begun → Begun → Begun
+begun_binary op l r = record { from = l.from; expr = Binary l.from op l.expr r.expr }
 
 -- what may still follow behind an expression of a level: operators of the loosest tier in it, but behind a comparison
 -- none
@@ -307,10 +307,10 @@ negative_in _ minus k = None
 
 -- behind a negation's `!`, and behind a parenthesis
 abbrev pub negation_steps : ℕ → ℕ → ℕ → (Begun → ℕ → Steps) → Steps
-negation_steps at d o k = Level d 0 o (λ x o. k (negated at x) o)
+negation_steps at d o k = Level d 0 o (λ x o. k (begun_not at x) o)
 
 abbrev pub paren_steps : ℕ → ℕ → ℕ → (Begun → ℕ → Steps) → Steps
-paren_steps at d o k = Level d 5 o (λ x o. want_symbol symbol.CloseParen (k (enclosed at x) o))
+paren_steps at d o k = Level d 5 o (λ x o. want_symbol symbol.CloseParen (k (begun_paren at x) o))
 
 abbrev pub operand_begins : Token → ℕ → ℕ → ℕ → (Begun → ℕ → Steps) → Option Next
 operand_begins (token.Name n) at d o k = Some (next (k (begun_name (record { at = at; name = n })) o) Plain)
@@ -353,12 +353,12 @@ unfoldable pub feed : Steps → Spanned → Option Next
 feed (Done tree) t = None
 feed (Want w k) t = where_true (is_mark w t.token) (next k Plain)
 feed (WantName role k) t = where_some (name_in t.token t.at) (λ n. next (k n) role)
-feed (WantType k) t = where_some (type_in t.token) (λ y. next (k y) Plain)
+feed (WantType k) t = where_some (type_of_token t.token) (λ y. next (k y) Plain)
 feed (WantLiteral k) t = literal_begins t.token t.at k
 feed (WantNegative minus k) t = negative_in t.token minus k
 feed (Level d n o k) t = operand_begins t.token t.at d o (lay d n k)
 feed (Rest d n x o k) t =
-    or_else (where_some (operator_at n t.token) (λ op. next (Level d n (suc o) (λ y o. top d (suc n) k (joined op x y) o)) (Operator (suc o)))) (feed (k x o) t)
+    or_else (where_some (operator_at n t.token) (λ op. next (Level d n (suc o) (λ y o. top d (suc n) k (begun_binary op x y) o)) (Operator (suc o)))) (feed (k x o) t)
 feed (MoreValues vs k) t =
     or_else (where_true (is_mark (token.Symbol symbol.Comma) t.token) (next (want_expr (λ v. MoreValues (vs ++ (v ∷ [])) k)) Plain)) (feed (k vs) t)
 feed (MoreStmts d ss k) t = or_else (stmt_begins d t.token (λ s. MoreStmts d (ss ++ (s ∷ [])) k)) (feed (k ss) t)
@@ -423,20 +423,6 @@ unfoldable pub run : ℕ → Steps → List Spanned → Result Tree Fault
 run end k ts = told (scan end k ts)
 
 -- ---- what a function of the parser says
-
-abbrev pub Fails : {Y : Type 0} → SyntaxError → Result Y Fault → Type 0
-Fails error.NoMemory read = Unit {0}
-Fails (error.Fault fault) read = read ≡ Err fault
-
--- What a function returned leads to what the reading gives, unless memory ran out.
-abbrev pub Gives : {X Y : Type 0} → (X → Result Y Fault) → Result X SyntaxError → Result Y Fault → Type 0
-Gives after (Ok x) read = read ≡ after x
-Gives after (Err e) read = Fails e read
-
--- a function that only want of memory stops
-abbrev pub OkOrMemory : {X : Type 0} → Result X SyntaxError → (X → Type 0) → Type 0
-OkOrMemory (Ok x) P = P x
-OkOrMemory (Err e) P = e ≡ error.NoMemory
 
 -- what follows where there is something, and where there is nothing
 abbrev pub either : {X Y : Type 0} → Option X → Y → (X → Y) → Y

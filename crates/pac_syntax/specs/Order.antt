@@ -13,26 +13,26 @@ use Rattle.pac_syntax.specs.declared.tree.ProcNode.{ProcNode}
 use Rattle.pac_syntax.specs.declared.tree.Tree.{Tree}
 
 -- Where a node stands: at a token of its own, or where its first operand begins, whose token this is.
-pub data Place : Type 0 where
-  Own : ℕ → Place
-  Shared : ℕ → Place
+pub data NodePlace : Type 0 where
+  Own : ℕ → NodePlace
+  Shared : ℕ → NodePlace
 
 -- an operation stands where its first operand does, parentheses round that included
-abbrev pub expr_places_step : ExprNode-F (List Place) → List Place
+abbrev pub expr_places_step : ExprNode-F (List NodePlace) → List NodePlace
 expr_places_step (Literal literal) = Own literal.at ∷ []
 expr_places_step (Name name) = Own name.at ∷ []
 expr_places_step (Binary at op l r) = Shared at ∷ (l ++ r)
 expr_places_step (Not at e) = Own at ∷ e
 
 -- the places of an expression's nodes
-abbrev pub expr_places : ExprNode → List Place
-expr_places = fold-ExprNode (List Place) expr_places_step
+abbrev pub expr_places : ExprNode → List NodePlace
+expr_places = fold-ExprNode (List NodePlace) expr_places_step
 
-abbrev pub all_places : List (List Place) → List Place
+abbrev pub all_places : List (List NodePlace) → List NodePlace
 all_places [] = []
 all_places (ps ∷ rest) = ps ++ all_places rest
 
-abbrev pub stmt_places_step : StmtNode-F (List Place) → List Place
+abbrev pub stmt_places_step : StmtNode-F (List NodePlace) → List NodePlace
 stmt_places_step (Let name value) = Own name.at ∷ expr_places value
 stmt_places_step (Read name table key column default) = Own name.at ∷ Own table.at ∷ (expr_places key ++ (Own column.at ∷ Own default.at ∷ []))
 stmt_places_step (Has name table key) = Own name.at ∷ Own table.at ∷ expr_places key
@@ -43,22 +43,22 @@ stmt_places_step (AbortIf test) = expr_places test
 stmt_places_step (If test first second) = expr_places test ++ (all_places first ++ all_places second)
 
 -- the places of a statement's nodes
-abbrev pub stmt_places : StmtNode → List Place
-stmt_places = fold-StmtNode (List Place) stmt_places_step
+abbrev pub stmt_places : StmtNode → List NodePlace
+stmt_places = fold-StmtNode (List NodePlace) stmt_places_step
 
-abbrev pub stmts_places : List StmtNode → List Place
+abbrev pub stmts_places : List StmtNode → List NodePlace
 stmts_places nodes = flat_map stmt_places nodes
 
-abbrev pub columns_places : List ColumnNode → List Place
+abbrev pub columns_places : List ColumnNode → List NodePlace
 columns_places nodes = flat_map (λ node. Own node.name.at ∷ []) nodes
 
-abbrev pub table_places : TableNode → List Place
+abbrev pub table_places : TableNode → List NodePlace
 table_places node = Own node.name.at ∷ columns_places node.columns
 
-abbrev pub proc_places : ProcNode → List Place
+abbrev pub proc_places : ProcNode → List NodePlace
 proc_places node = Own node.name.at ∷ (columns_places node.params ++ stmts_places node.body)
 
-abbrev pub tree_places : Tree → List Place
+abbrev pub tree_places : Tree → List NodePlace
 tree_places tree = flat_map table_places tree.tables ++ flat_map proc_places tree.procs
 
 -- each place stands behind the one before it, and none before this one
@@ -67,7 +67,7 @@ Climbs low [] = Unit {0}
 Climbs low (p ∷ ps) = (low ≤ p) × Climbs (suc p) ps
 
 -- none of the places stands before this one, and each stands behind the tokens of those before it
-abbrev pub Ascends : ℕ → List Place → Type 0
+abbrev pub Ascends : ℕ → List NodePlace → Type 0
 Ascends low [] = Unit {0}
 Ascends low (Own p ∷ ps) = (low ≤ p) × Ascends (suc p) ps
 Ascends low (Shared p ∷ ps) = (low ≤ p) × Ascends p ps

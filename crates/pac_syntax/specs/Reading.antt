@@ -1,14 +1,13 @@
 -- What a text is read as.
 use Rattle.std.specs.Prelude.{◌≡◌, ◌≤◌, ◌<◌, ◌⊎◌, ℕ, List, length, Option, Some, None, Result, Ok, Err, nat_lt, if◌then◌else◌}
-use Rattle.pac_syntax.specs.declared.token.Spanned.{Spanned}
-use Rattle.pac_syntax.specs.declared.fault.FaultKind.TheVariants.{TooLong}
-use Rattle.pac_syntax.specs.declared.fault.Fault.{Fault}
-use Rattle.pac_syntax.specs.declared.fault.SyntaxError.{SyntaxError}
-use Rattle.pac_syntax.specs.declared.fault.SyntaxError.TheVariants as error
+use Rattle.pac_tokens.specs.declared.token.Spanned.{Spanned}
+use Rattle.pac_tokens.specs.declared.fault.FaultKind.TheVariants.{TooLong}
+use Rattle.pac_tokens.specs.declared.fault.Fault.{Fault}
+use Rattle.pac_base.specs.declared.refusal.Refusal.{Refusal}
+use Rattle.pac_base.specs.declared.refusal.Refusal.TheVariants as error
 use Rattle.pac_syntax.specs.declared.tree.Tree.{Tree}
-use Rattle.pac_syntax.specs.Tokens.{IsLexed}
+use Rattle.pac_tokens.specs.Tokens.{IsLexed}
 use Rattle.pac_syntax.specs.Faults.{ReadsTokens, IsFirstFault}
-use Rattle.pac_syntax.specs.Unplaced.{without_places}
 
 -- the text is this catalogue's: it is short enough, and its tokens are the catalogue's within the limits
 pub record Reads (text : List ℕ) (tree : Tree) : Type 0 where
@@ -20,15 +19,6 @@ pub record Reads (text : List ℕ) (tree : Tree) : Type 0 where
 -- some text reads as the tree
 abbrev pub IsTree : Tree → Type 0
 IsTree tree = (text : List ℕ) × Reads text tree
-
--- the text reads as a tree that is the same but for places
-abbrev pub ReadsButForPlaces : List ℕ → Tree → Type 0
-ReadsButForPlaces text tree = (again : Tree) × Reads text again × (without_places again ≡ without_places tree)
-
--- the result is these tokens, or memory ran out
-abbrev pub AreTokensOrMemory : Result (List Spanned) SyntaxError → List Spanned → Type 0
-AreTokensOrMemory (Ok found) ts = found ≡ ts
-AreTokensOrMemory (Err e) ts = e ≡ error.NoMemory
 
 -- the tokens in front of this place are a catalogue's, or their own first fault is not in front of it
 abbrev pub IsFineBefore : ℕ → List Spanned → Type 0
@@ -49,7 +39,7 @@ IsTextFault text fault =
     IsLongText text fault ⊎ ((length text ≤ 65536) × (ts : List Spanned) × (lexical : Option Fault) × IsLexed text ts lexical × IsFirstOf (length text) ts lexical fault)
 
 -- what is told where the tokens in front of a fault are read so: the fault that stands first
-abbrev pub told_of : Result Tree SyntaxError → Fault → SyntaxError
+abbrev pub told_of : Result Tree (Refusal Fault) → Fault → Refusal Fault
 told_of (Ok tree) lexical = error.Fault lexical
 told_of (Err error.NoMemory) lexical = error.NoMemory
 told_of (Err (error.Fault first)) lexical = if nat_lt first.at lexical.at then error.Fault first else error.Fault lexical

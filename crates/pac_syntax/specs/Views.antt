@@ -1,21 +1,23 @@
 -- What the parser's parts say of the tokens that are left.
 use Rattle.std.specs.Prelude.{◌≡◌, ℕ, ℤ, List, [], ◌∷◌, Bool, true, false, nat_le, Option, Some, None, Result, Vec}
 use Rattle.std.specs.Global.{Global}
+use Rattle.pac_base.specs.Refusals.{Gives}
 use Rattle.pac_value.specs.declared.values.Ty.{Ty}
-use Rattle.pac_syntax.specs.declared.token.Token.{Token}
-use Rattle.pac_syntax.specs.declared.token.Token.TheVariants as token
-use Rattle.pac_syntax.specs.declared.token.Spanned.{Spanned}
+use Rattle.pac_tokens.specs.declared.token.Token.{Token}
+use Rattle.pac_tokens.specs.declared.token.Token.TheVariants as token
+use Rattle.pac_tokens.specs.declared.token.Spanned.{Spanned}
 use Rattle.pac_syntax.specs.declared.tree.NameNode.{NameNode}
 use Rattle.pac_syntax.specs.declared.tree.LiteralNode.{LiteralNode}
-use Rattle.pac_syntax.specs.declared.statement.StatementWord.{StatementWord}
-use Rattle.pac_syntax.specs.declared.statement.StatementWord.TheVariants as word
-use Rattle.pac_syntax.specs.declared.parser.ColumnKind.{ColumnKind}
-use Rattle.pac_syntax.specs.declared.parser.ColumnKind.TheVariants.{Column, Param}
-use Rattle.pac_syntax.specs.declared.parser.Operand.{Operand}
-use Rattle.pac_syntax.specs.declared.parser.Parser.{Parser}
-use Rattle.pac_syntax.specs.declared.fault.SyntaxError.{SyntaxError}
+use Rattle.pac_syntax.specs.declared.parse.statement.StatementWord.{StatementWord}
+use Rattle.pac_syntax.specs.declared.parse.statement.StatementWord.TheVariants as word
+use Rattle.pac_syntax.specs.declared.parse.parser.ColumnKind.{ColumnKind}
+use Rattle.pac_syntax.specs.declared.parse.parser.ColumnKind.TheVariants.{Column, Param}
+use Rattle.pac_syntax.specs.declared.parse.parser.Operand.{Operand}
+use Rattle.pac_syntax.specs.declared.parse.parser.Parser.{Parser}
+use Rattle.pac_base.specs.declared.refusal.Refusal.{Refusal}
+use Rattle.pac_tokens.specs.declared.fault.Fault.{Fault}
 use Rattle.pac_syntax.specs.Grammar.{Role, ColumnName, ParamName}
-use Rattle.pac_syntax.specs.Machine.{Steps, Gives, run, Begun, is_mark, name_in, type_in, literal_in, literal_at}
+use Rattle.pac_syntax.specs.Machine.{Steps, run, Begun, is_mark, name_in, type_of_token, literal_in, literal_at}
 
 -- the tokens begin with this word or sign
 pub record Begins (w : Token) (at : ℕ) (ts rest : List Spanned) : Type 0 where
@@ -36,12 +38,12 @@ IsNoName (t ∷ ts) = name_in t.token t.at ≡ None
 pub record IsType (y : Ty) (ts rest : List Spanned) : Type 0 where
   pub first : Spanned
   pub text : ts ≡ first ∷ rest
-  pub is : type_in first.token ≡ Some y
+  pub is : type_of_token first.token ≡ Some y
 
 -- the first token is no type
 abbrev pub IsNoType : List Spanned → Type 0
 IsNoType [] = Unit {0}
-IsNoType (t ∷ ts) = type_in t.token ≡ None
+IsNoType (t ∷ ts) = type_of_token t.token ≡ None
 
 -- the tokens begin with a literal of one token
 pub record IsLiteral (l : LiteralNode) (ts rest : List Spanned) : Type 0 where
@@ -99,9 +101,9 @@ is_too_deep d word.If = nat_le 16 d
 is_too_deep d _ = false
 
 -- the parser read what these steps want, and gives it: behind it the reading goes on where the parser stands now
-abbrev pub Goes : {A : Type 0} → ((A → Steps) → Steps) → Parser → Parser → Result A SyntaxError → Type 0
+abbrev pub Goes : {A : Type 0} → ((A → Steps) → Steps) → Parser → Parser → Result A (Refusal Fault) → Type 0
 Goes {A} steps old new result = (k : A → Steps) → Gives (λ read. run new.end (k read) new.rest.now) result (run old.end (steps k) old.rest.now)
 
 -- the same, where what it gives is a vector of what these steps want
-abbrev pub GoesAll : {A : Type 0} → ((List A → Steps) → Steps) → Parser → Parser → Result (Vec A Global) SyntaxError → Type 0
+abbrev pub GoesAll : {A : Type 0} → ((List A → Steps) → Steps) → Parser → Parser → Result (Vec A Global) (Refusal Fault) → Type 0
 GoesAll {A} steps old new result = (k : List A → Steps) → Gives (λ read. run new.end (k read.items) new.rest.now) result (run old.end (steps k) old.rest.now)

@@ -3,7 +3,7 @@ ghost use Rattle.std.specs.Prelude.{◌≡◌};
 ghost use Rattle.pac_syntax.specs.Grammar.{sign_of, tier};
 ghost use Rattle.pac_syntax.specs.Machine.{operator_of};
 
-use crate::token::Symbol;
+use pac_tokens::Symbol;
 use pac_value::BinOp;
 
 /// The tier of comparisons, which do not follow one another.

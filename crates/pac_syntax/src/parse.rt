@@ -1,41 +1,24 @@
-// Reads texts: their tokens, and the catalogue that they are.
+// Reads the text of a catalogue, by recursive descent over its tokens.
 ghost use Rattle.std.specs.Prelude.{◌≡◌, ◌<◌, List, IfOk, IsErrOf, Some, None};
-ghost use Rattle.pac_syntax.specs.Tokens.{IsLexed};
-ghost use Rattle.pac_syntax.specs.Reading.{Reads, IsTree, AreTokensOrMemory, IsTextFault, told_of};
+ghost use Rattle.pac_base.specs.Refusals.{Only};
+ghost use Rattle.pac_base.specs.declared.refusal.Refusal.TheVariants as error;
+ghost use Rattle.pac_syntax.specs.Reading.{Reads, IsTree, IsTextFault, told_of};
 ghost use Rattle.pac_syntax.specs.Limits.{IsWithinLimits};
-ghost use Rattle.pac_syntax.specs.Faults.{IsTreeOrMemory};
-ghost use Rattle.pac_syntax.specs.declared.fault.Fault.{Fault as AFault};
-ghost use Rattle.pac_syntax.specs.declared.token.Spanned.{Spanned as ASpanned};
+ghost use Rattle.pac_tokens.specs.declared.fault.Fault.{Fault as AFault};
 ghost use Rattle.pac_syntax.specs.declared.tree.Tree.{Tree as ATree};
 
-use crate::catalogue::parse_tokens;
-use crate::fault::{Fault, FaultKind, SyntaxError};
-use crate::lexer::lex;
-use crate::token::Tokens;
+mod catalogue;
+mod expression;
+mod parser;
+mod statement;
+
+use catalogue::parse_tokens;
 use crate::tree::Tree;
-use pac_base::listed;
+use pac_tokens::{Fault, FaultKind, SyntaxError, lex};
 use std::alloc::Global;
 
 // The greatest length of a catalogue's text.
 const MAX_TEXT: usize = 65536;
-
-/// The tokens of a text, with their places. Linear in the text.
-///
-/// # Errors
-///
-/// `Fault` exactly where the text isn't a list of tokens: the first fault of a token, with its place; it has one.
-pub fn tokens(alloc: Global, text: &[u8]) -> Result<Tokens, SyntaxError>
-    ensures ok { IfOk result (λ found. IsLexed text.now found None) }
-    ensures only { (ts : List ASpanned) → IsLexed text.now ts None → AreTokensOrMemory result ts }
-    ensures fault { (fault : AFault) → IsErrOf result (SyntaxError.Fault fault) → (ts : List ASpanned) × IsLexed text.now ts (Some fault) }
-    ensures one { (fault other : AFault) → (ts : List ASpanned) → IsErrOf result (SyntaxError.Fault fault) → IsLexed text.now ts (Some other) → other ≡ fault }
-{
-    let lexed = lex(alloc, text)?;
-    match lexed.fault {
-        None => Ok(listed(lexed.items)),
-        Some(fault) => Err(SyntaxError::Fault(fault)),
-    }
-}
 
 /// The tree of a catalogue's text, which has at most 65,536 bytes. Linear in the text.
 ///
@@ -46,9 +29,9 @@ pub fn parse_catalogue(alloc: Global, text: &[u8]) -> Result<Tree, SyntaxError>
     ensures reads { IfOk result (λ tree. Reads text.now tree) }
     ensures tree { IfOk result IsTree }
     ensures within { IfOk result IsWithinLimits }
-    ensures only { (tree : ATree) → Reads text.now tree → IsTreeOrMemory result tree }
-    ensures fault { (fault : AFault) → IsErrOf result (SyntaxError.Fault fault) → IsTextFault text.now fault }
-    ensures one { (fault other : AFault) → IsErrOf result (SyntaxError.Fault fault) → IsTextFault text.now other → other ≡ fault }
+    ensures only { (tree : ATree) → Reads text.now tree → Only result tree }
+    ensures fault { (fault : AFault) → IsErrOf result (error.Fault fault) → IsTextFault text.now fault }
+    ensures one { (fault other : AFault) → IsErrOf result (error.Fault fault) → IsTextFault text.now other → other ≡ fault }
 {
     parse_text(alloc, text)
 }
@@ -58,8 +41,8 @@ fn parse_text(alloc: Global, text: &[u8]) -> Result<Tree, SyntaxError>
     ensures reads { IfOk result (λ tree. Reads text.now tree) }
     ensures tree { IfOk result IsTree }
     ensures within { IfOk result IsWithinLimits }
-    ensures only { (tree : ATree) → Reads text.now tree → IsTreeOrMemory result tree }
-    ensures fault { (fault : AFault) → IsErrOf result (SyntaxError.Fault fault) → IsTextFault text.now fault }
+    ensures only { (tree : ATree) → Reads text.now tree → Only result tree }
+    ensures fault { (fault : AFault) → IsErrOf result (error.Fault fault) → IsTextFault text.now fault }
 {
     if text.len() > MAX_TEXT {
         let at = MAX_TEXT;

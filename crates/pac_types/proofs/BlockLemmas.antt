@@ -9,11 +9,11 @@ use Rattle.pac_value.specs.declared.values.Ty.TheVariants.{Bool as BoolTy}
 use Rattle.pac_value.specs.declared.expr.Expr.{Expr}
 use Rattle.pac_value.specs.Expressions.{◌>>=◌, type_in}
 use Rattle.pac_types.specs.declared.type_error.TypeFault.{TypeFault}
-use Rattle.pac_types.specs.declared.scope.Variable.{Variable}
-use Rattle.pac_types.specs.declared.catalogue.Table.{Table}
-use Rattle.pac_types.specs.declared.catalogue.Stmt.{Stmt, If}
-use Rattle.pac_types.specs.declared.catalogue.Stmt.TheOpen as form
-use Rattle.pac_types.specs.Numbering.{AreDistinct, Sight, Numbered, joined, all_names, counts, in_turn, unseen, branching}
+use Rattle.pac_types.specs.declared.checker.scope.Variable.{Variable}
+use Rattle.pac_types.specs.declared.table.Table.{Table}
+use Rattle.pac_types.specs.declared.statement.Stmt.{Stmt, If}
+use Rattle.pac_types.specs.declared.statement.Stmt.TheOpen as form
+use Rattle.pac_types.specs.Numbering.{AreDistinct, Sight, Numbered, in_a_row, all_names, variables_in, in_turn, unseen, branching}
 use Rattle.pac_types.specs.Sound.{Scope, Check, check, check_step, scope_after, in_order, any_defines, without, with_var, is_bool}
 use Rattle.pac_types.specs.Checking.{ScopeState, Told, left_at, run_all, block}
 use Rattle.pac_types.proofs.StmtForms.{at-If}
@@ -34,7 +34,7 @@ abbrev pub checking : List Piece → List (ScopeState → Told)
 checking ps = map (λ p. p.checked) ps
 
 abbrev pub defining : List Piece → List (List ℕ)
-defining ps = joined (map (λ p. p.defined) ps)
+defining ps = in_a_row (map (λ p. p.defined) ps)
 
 module _ (tables : List Table) (names : List (List ℕ)) where
   -- what checking the statement tells, wherever it stands
@@ -51,12 +51,12 @@ module _ (tables : List Table) (names : List (List ℕ)) where
 
   pub record RunGood (ns : List Numbered) (known : List (Option Variable)) (next : ℕ) (scope : Scope) (rest : List (List ℕ)) (ss : List Stmt) (st : ScopeState) : Type 0 where
     pub extra : List (Option Variable)
-    pub state : st ≡ at tables names (known ++ extra) (next + counts ns)
+    pub state : st ≡ at tables names (known ++ extra) (next + variables_in ns)
     pub many : length extra ≡ all_names ns
     pub is : in_turn ns (numbers_of known) next ≡ Some ss
     pub after : Scope
     pub sound : in_order (map (check tables) ss) scope ≡ Some after
-    pub defines : (y : ℕ) → any_defines (map (check tables) ss) y ≡ true → (next ≤ y) × (y < next + counts ns)
+    pub defines : (y : ℕ) → any_defines (map (check tables) ss) y ≡ true → (next ≤ y) × (y < next + variables_in ns)
     pub distinct : IsDistinct bytes_eq (take (length known + length extra) names)
     pub left : drop (length known + length extra) names ≡ rest
 
@@ -102,13 +102,13 @@ module _ (tables : List Table) (names : List (List ℕ)) where
       left = subst (λ k. drop k names ≡ rest) long r.left;
     }
       where
-        counted : next + n.count + counts ns ≡ next + (n.count + counts ns)
+        counted : next + n.count + variables_in ns ≡ next + (n.count + variables_in ns)
         counted = omega arith
 
         long : length (known ++ g.extra) + length r.extra ≡ length known + length (g.extra ++ r.extra)
         long = omega (arith, length-append known g.extra, length-append g.extra r.extra)
 
-        in_one_of : (y : ℕ) → ((check tables s).defines y ≡ true) ⊎ (any_defines (map (check tables) b.0) y ≡ true) → (next ≤ y) × (y < next + (n.count + counts ns))
+        in_one_of : (y : ℕ) → ((check tables s).defines y ≡ true) ⊎ (any_defines (map (check tables) b.0) y ≡ true) → (next ≤ y) × (y < next + (n.count + variables_in ns))
         in_one_of y (inl e) = let p = g.defines y e in (p.0, omega (arith, p.1))
         in_one_of y (inr e) = let p = r.defines y e in (omega (arith, p.0), omega (arith, p.1))
 
@@ -152,11 +152,11 @@ module _ (tables : List Table) (names : List (List ℕ)) where
   -- ---- blocks
 
   pub record BlockGood (ns : List Numbered) (known : List (Option Variable)) (next : ℕ) (scope : Scope) (rest : List (List ℕ)) (ss : List Stmt) (st : ScopeState) : Type 0 where
-    pub state : st ≡ at tables names (known ++ replicate (all_names ns) None) (next + counts ns)
+    pub state : st ≡ at tables names (known ++ replicate (all_names ns) None) (next + variables_in ns)
     pub is : in_turn ns (numbers_of known) next ≡ Some ss
     pub after : Scope
     pub sound : in_order (map (check tables) ss) scope ≡ Some after
-    pub defines : (y : ℕ) → any_defines (map (check tables) ss) y ≡ true → (next ≤ y) × (y < next + counts ns)
+    pub defines : (y : ℕ) → any_defines (map (check tables) ss) y ≡ true → (next ≤ y) × (y < next + variables_in ns)
     pub distinct : IsDistinct bytes_eq (take (length known + all_names ns) names)
     pub left : drop (length known + all_names ns) names ≡ rest
 
@@ -176,7 +176,7 @@ module _ (tables : List Table) (names : List (List ℕ)) where
       go : (r : Told-all) → RunTold (numbering ps) known next scope rest r → BlockTold (numbering ps) known next scope rest (r >>= λ b. Ok (b.0, left_at (length known) b.1))
       go (Err f) bad = bad
       go (Ok b) g = record {
-        state = ap (λ st. left_at (length known) st) g.state ∙ left_is known g.extra (all_names (numbering ps)) (next + counts (numbering ps)) g.many;
+        state = ap (λ st. left_at (length known) st) g.state ∙ left_is known g.extra (all_names (numbering ps)) (next + variables_in (numbering ps)) g.many;
         is = g.is;
         after = g.after;
         sound = g.sound;
@@ -216,10 +216,10 @@ module _ (tables : List Table) (names : List (List ℕ)) where
     k2 = all_names (numbering second)
 
     abbrev c1 : ℕ
-    c1 = counts (numbering first)
+    c1 = variables_in (numbering first)
 
     abbrev c2 : ℕ
-    c2 = counts (numbering second)
+    c2 = variables_in (numbering second)
 
     abbrev whole : Numbered
     whole = branching test (numbering first) (numbering second)

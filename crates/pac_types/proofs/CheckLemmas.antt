@@ -8,10 +8,10 @@ use Rattle.pac_syntax.specs.Limits.{size, size_step, sizes}
 use Rattle.pac_syntax.proofs.NodeForms.{fold-If}
 use Rattle.pac_syntax.specs.declared.tree.ProcNode.{ProcNode}
 use Rattle.pac_value.specs.Expressions.{◌>>=◌}
-use Rattle.pac_types.specs.declared.catalogue.Table.{Table}
-use Rattle.pac_types.specs.declared.catalogue.Proc.{Proc}
+use Rattle.pac_types.specs.declared.table.Table.{Table}
+use Rattle.pac_types.specs.declared.procedure.Proc.{Proc}
 use Rattle.pac_types.specs.declared.type_error.TypeFault.{TypeFault}
-use Rattle.pac_types.specs.Numbering.{joined as joined_names, defined, defined_step}
+use Rattle.pac_types.specs.Numbering.{in_a_row as joined_names, defined, defined_step}
 use Rattle.pac_types.specs.Checking.{once, checked_proc, checked_procs}
 
 -- a conditional is itself and the statements in its blocks

@@ -11,12 +11,12 @@ use Rattle.pac_syntax.specs.declared.tree.StmtNode.TheViews.{roll-StmtNode}
 use Rattle.pac_syntax.specs.declared.tree.StmtNode.TheFolds.{fold-roll-StmtNode, ind-StmtNode, map-StmtNode}
 use Rattle.pac_syntax.specs.declared.tree.ProcNode.{ProcNode}
 use Rattle.pac_syntax.specs.Limits.{size, size_step, sizes, total}
-use Rattle.pac_types.specs.declared.catalogue.Table.{Table}
-use Rattle.pac_types.specs.declared.catalogue.Stmt.{Stmt, Let, Read, Has, Put, Set, Delete, AbortIf, If}
+use Rattle.pac_types.specs.declared.table.Table.{Table}
+use Rattle.pac_types.specs.declared.statement.Stmt.{Stmt, Let, Read, Has, Put, Set, Delete, AbortIf, If}
 use Rattle.pac_types.specs.declared.reason.Reason.{Reason}
 use Rattle.pac_types.specs.Meaning.{State, Code, code, code_step, one, operations, do_let, do_read, do_has, do_put, do_set, do_delete, do_abort_if, conditional}
 use Rattle.pac_types.specs.Meaning as meaning
-use Rattle.pac_types.specs.Numbering.{Numbered, Sight, numbered, number_step, in_turn, body_of, counts, all_names, defined, defined_step, joined, variables, resolved, resolved_all, table_number, column_number, unseen}
+use Rattle.pac_types.specs.Numbering.{Numbered, Sight, numbered, number_step, in_turn, body_of, variables_in, all_names, defined, defined_step, in_a_row, variables, resolved, resolved_all, table_number, column_number, unseen}
 use Rattle.pac_types.proofs.StmtForms.{at-Let, at-Read, at-Has, at-Put, at-Set, at-Delete, at-AbortIf, at-If}
 use Rattle.pac_types.proofs.PartLemmas.{map_is, then_is, cell_is}
 use Rattle.pac_types.proofs.BlockLemmas.{turn_is, if_is}
@@ -38,9 +38,9 @@ module _ (tables : List Table) (names : List (List ℕ)) where
   abbrev nodes_of : List Counted-node → List StmtNode
   nodes_of qs = map (λ q. q.0) qs
 
-  few_joined : (qs : List Counted-node) → length (joined (map defined (nodes_of qs))) ≤ total (map size (nodes_of qs))
+  few_joined : (qs : List Counted-node) → length (in_a_row (map defined (nodes_of qs))) ≤ total (map size (nodes_of qs))
   few_joined [] = omega arith
-  few_joined (q ∷ qs) = omega (arith, q.1.few, few_joined qs, length-append (defined q.0) (joined (map defined (nodes_of qs))))
+  few_joined (q ∷ qs) = omega (arith, q.1.few, few_joined qs, length-append (defined q.0) (in_a_row (map defined (nodes_of qs))))
 
   run_counts : (qs : List Counted-node) (sight : Sight) (next : ℕ) (ss : List Stmt) → in_turn (map (numbered tables names) (nodes_of qs)) sight next ≡ Some ss → meaning.counts (map code ss) ≡ total (map size (nodes_of qs))
   run_counts [] sight next ss h = ap (λ zs. meaning.counts (map code zs)) (sym (some_is h))
@@ -87,10 +87,10 @@ module _ (tables : List Table) (names : List (List ℕ)) where
         one_by s _ (do_abort_if p.0) p.2 (at-AbortIf Code code_step _ p.0 refl);
   }
   step_counts (form.If test first second) = record {
-    few = omega (arith, few_joined first, few_joined second, length-append (joined (map defined (nodes_of first))) (joined (map defined (nodes_of second))));
+    few = omega (arith, few_joined first, few_joined second, length-append (in_a_row (map defined (nodes_of first))) (in_a_row (map defined (nodes_of second))));
     operations = λ sight next s h.
         let ns = map (numbered tables names) (nodes_of first) in
-        let p = if_is tables names (resolved names sight test) (in_turn ns sight (next + 1)) (in_turn (map (numbered tables names) (nodes_of second)) (sight ++ unseen (all_names ns)) (next + 1 + counts ns)) next s h in
+        let p = if_is tables names (resolved names sight test) (in_turn ns sight (next + 1)) (in_turn (map (numbered tables names) (nodes_of second)) (sight ++ unseen (all_names ns)) (next + 1 + variables_in ns)) next s h in
         let is : (code (If next p.0 p.1 p.2)).count ≡ 1 + (meaning.counts (map code p.1) + meaning.counts (map code p.2)) = ap (λ (c : Code). c.count) (at-If Code code_step _ next p.0 p.1 p.2 refl) in
         ap (λ z. (code z).count) (sym p.6) ∙ omega (arith, is, run_counts first sight (next + 1) p.1 p.4, run_counts second _ _ p.2 p.5);
   }

@@ -13,8 +13,8 @@ use Rattle.pac_value.proofs.ByForms.{fold-Lit, fold-Var, fold-Bin, fold-Not}
 use Rattle.pac_syntax.specs.declared.tree.ExprNode.{ExprNode}
 use Rattle.pac_syntax.proofs.NodeForms as forms
 use Rattle.pac_types.specs.declared.type_error.TypeFault.{TypeFault}
-use Rattle.pac_types.specs.declared.scope.Variable.{Variable}
-use Rattle.pac_types.specs.declared.expressions.Typed.{Typed}
+use Rattle.pac_types.specs.declared.checker.scope.Variable.{Variable}
+use Rattle.pac_types.specs.declared.checker.expressions.Typed.{Typed}
 use Rattle.pac_types.specs.Numbering.{number_of, Sight, number_at, resolved, resolve_step}
 use Rattle.pac_types.specs.Sound.{Scope, is_wanted, is_bool}
 use Rattle.pac_types.specs.Faults.{same_ty, is_ordered, is_left}

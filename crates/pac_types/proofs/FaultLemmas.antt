@@ -14,10 +14,10 @@ use Rattle.pac_syntax.specs.declared.tree.ExprNode.{ExprNode}
 use Rattle.pac_syntax.proofs.NodeForms as forms
 use Rattle.pac_types.specs.declared.type_error.TypeFault.{TypeFault}
 use Rattle.pac_types.specs.declared.type_error.TypeFaultKind.TheVariants.{Twice, WrongType}
-use Rattle.pac_types.specs.declared.scope.Variable.{Variable}
-use Rattle.pac_types.specs.declared.expressions.Typed.{Typed}
-use Rattle.pac_types.specs.declared.catalogue.Column.{Column}
-use Rattle.pac_types.specs.declared.catalogue.Table.{Table}
+use Rattle.pac_types.specs.declared.checker.scope.Variable.{Variable}
+use Rattle.pac_types.specs.declared.checker.expressions.Typed.{Typed}
+use Rattle.pac_types.specs.declared.table.Column.{Column}
+use Rattle.pac_types.specs.declared.table.Table.{Table}
 use Rattle.pac_types.specs.Numbering.{number_of, table_number, column_number, column_names, table_names}
 use Rattle.pac_types.specs.Sound.{is_wanted, key_type, column_type, column_types_of, types}
 use Rattle.pac_types.specs.Faults.{fault_if, is_before, twice, Known, seen, name_faults, same_ty, is_left, wanted_right, is_same, is_fitting, is_test, Judged, wrong_type, placed, judge_step, judged, unknown, key_wanted, values_faults, cell_faults}

@@ -16,13 +16,13 @@ use Rattle.pac_syntax.specs.declared.tree.ProcNode.{ProcNode}
 use Rattle.pac_syntax.specs.declared.tree.Tree.{Tree}
 use Rattle.pac_syntax.specs.Order.{IsOrdered}
 use Rattle.pac_types.specs.declared.type_error.TypeFault.{TypeFault}
-use Rattle.pac_types.specs.declared.scope.Variable.{Variable}
-use Rattle.pac_types.specs.declared.catalogue.Table.{Table}
-use Rattle.pac_types.specs.declared.catalogue.Proc.{Proc}
-use Rattle.pac_types.specs.declared.catalogue.Stmt.{Stmt, Delete, AbortIf, If}
+use Rattle.pac_types.specs.declared.checker.scope.Variable.{Variable}
+use Rattle.pac_types.specs.declared.table.Table.{Table}
+use Rattle.pac_types.specs.declared.procedure.Proc.{Proc}
+use Rattle.pac_types.specs.declared.statement.Stmt.{Stmt, Delete, AbortIf, If}
 use Rattle.pac_types.specs.Numbering.{table_number, variables, column_of, table_of}
-use Rattle.pac_types.specs.Faults.{twice, cell_faults, column_faults, column_wanted, wrong_type, is_fitting, Known, unseen, is_test, placed, judged, Ruled, all_names, all_faults, plain, branching, rule_step, ruled, names_faults, tables_faults, params_known, proc_faults, procs_faults, tree_faults, IsAmong, Stands, IsFirstFault}
-use Rattle.pac_types.specs.Checking.{ScopeState, Told, once, defined_in, left_at, checked_test, checked_cell, checked_put, run_all, block, stmt_step, checked_stmt, checked_block, all_once, names_of, checked_tables, checked_params, checked_proc, checked_procs, opening}
+use Rattle.pac_types.specs.Faults.{twice, cell_faults, column_faults, column_wanted, wrong_type, is_fitting, Known, out_of_sight, is_test, placed, judged, Ruled, ruled_names, all_faults, ruled_plain, ruled_branching, rule_step, ruled, names_faults, tables_faults, params_known, proc_faults, procs_faults, tree_faults, IsAmong, Stands, IsFirstTypeFault}
+use Rattle.pac_types.specs.Checking.{ScopeState, Told, once, defined_in, left_at, checked_test, checked_cell, checked_put, run_all, block, checked_stmt_step, checked_stmt, checked_block, all_once, names_of, checked_tables, checked_params, checked_proc, checked_procs, opening_scope}
 use Rattle.pac_types.proofs.BlockLemmas.{left_is}
 use Rattle.pac_types.proofs.TreeLemmas.{variables_from}
 use Rattle.pac_types.proofs.FaultLemmas.{Agree, agree_then, agree_map, agree_same, once_agrees, known_types, test_agrees, cell_agrees}
@@ -52,7 +52,7 @@ module _ (names : List (List ℕ)) where
   Told-all = Result (List Stmt × ScopeState) TypeFault
 
   abbrev RunAgrees : List Ruled → List (Option Variable) → Told-all → Type 0
-  RunAgrees ds known (Ok b) = (all_faults ds (known_types known) ≡ []) × (extra : List (Option Variable)) × (n : ℕ) × (b.1 ≡ at names (known ++ extra) n) × (length extra ≡ all_names ds)
+  RunAgrees ds known (Ok b) = (all_faults ds (known_types known) ≡ []) × (extra : List (Option Variable)) × (n : ℕ) × (b.1 ≡ at names (known ++ extra) n) × (length extra ≡ ruled_names ds)
   RunAgrees ds known (Err f) = (rest : List TypeFault) × (all_faults ds (known_types known) ≡ f ∷ rest)
 
   behind : (d : Ruled) (ds : List Ruled) (known extra : List (Option Variable)) (s : Stmt) (r : Told-all) → d.faults (known_types known) ≡ [] → known_types extra ≡ d.shown (known_types known) → length extra ≡ d.names
@@ -76,35 +76,35 @@ module _ (names : List (List ℕ)) where
           (subst (λ st. RunAgrees (ruling cs) (known ++ p.1) (run_all (checking cs) st)) (sym p.3) (later (known ++ p.1) p.2))
 
   abbrev BlockAgrees : List Ruled → List (Option Variable) → Told-all → Type 0
-  BlockAgrees ds known (Ok b) = (all_faults ds (known_types known) ≡ []) × (n : ℕ) × (b.1 ≡ at names (known ++ replicate (all_names ds) None) n)
+  BlockAgrees ds known (Ok b) = (all_faults ds (known_types known) ≡ []) × (n : ℕ) × (b.1 ≡ at names (known ++ replicate (ruled_names ds) None) n)
   BlockAgrees ds known (Err f) = (rest : List TypeFault) × (all_faults ds (known_types known) ≡ f ∷ rest)
 
   block_agrees : (cs : List Case) → AllAgree cs → (known : List (Option Variable)) (next : ℕ) → BlockAgrees (ruling cs) known (block (checking cs) (at names known next))
   block_agrees cs all known next = go (run_all (checking cs) (at names known next)) (run_agrees cs all known next)
     where
       go : (r : Told-all) → RunAgrees (ruling cs) known r → BlockAgrees (ruling cs) known (r >>= λ b. Ok (b.0, left_at (length known) b.1))
-      go (Ok b) p = (p.0, p.2, ap (λ st. left_at (length known) st) p.3 ∙ left_is [] names known p.1 (all_names (ruling cs)) p.2 p.4)
+      go (Ok b) p = (p.0, p.2, ap (λ st. left_at (length known) st) p.3 ∙ left_is [] names known p.1 (ruled_names (ruling cs)) p.2 p.4)
       go (Err f) p = p
 
   -- ---- conditionals
 
   module _ (first second : List Case) (all_first : AllAgree first) (all_second : AllAgree second) (test : Known → List TypeFault) (known : List (Option Variable)) (next : ℕ) where
     abbrev k1 : ℕ
-    k1 = all_names (ruling first)
+    k1 = ruled_names (ruling first)
 
     abbrev k2 : ℕ
-    k2 = all_names (ruling second)
+    k2 = ruled_names (ruling second)
 
     abbrev whole : Ruled
-    whole = branching test (ruling first) (ruling second)
+    whole = ruled_branching test (ruling first) (ruling second)
 
     abbrev middle : List TypeFault
     middle = all_faults (ruling first) (known_types known)
 
     abbrev end : List TypeFault
-    end = all_faults (ruling second) (known_types known ++ unseen k1)
+    end = all_faults (ruling second) (known_types known ++ out_of_sight k1)
 
-    types_is : known_types (known ++ replicate k1 None) ≡ known_types known ++ unseen k1
+    types_is : known_types (known ++ replicate k1 None) ≡ known_types known ++ out_of_sight k1
     types_is = types-append known (replicate k1 None) ∙ ap (λ zs. known_types known ++ zs) (types-unseen k1)
 
     second_agrees : (e : Expr) (a : List Stmt) → test (known_types known) ≡ [] → middle ≡ [] → (r : Told-all) → BlockAgrees (ruling second) (known ++ replicate k1 None) r → StmtAgrees names whole known (r >>= λ b. Ok (If next e a b.0, b.1))
@@ -157,11 +157,11 @@ module _ (tables : List Table) (names : List (List ℕ)) where
 
   step_agrees : (y : StmtNode-F Agreed) → Agrees names (record {
     ruled = rule_step tables names (map-StmtNode StmtNode Ruled (ruled tables names) (map-StmtNode Agreed StmtNode (λ q. q.0) y));
-    checked = stmt_step tables (map-StmtNode StmtNode (ScopeState → Told) (checked_stmt tables) (map-StmtNode Agreed StmtNode (λ q. q.0) y));
+    checked = checked_stmt_step tables (map-StmtNode StmtNode (ScopeState → Told) (checked_stmt tables) (map-StmtNode Agreed StmtNode (λ q. q.0) y));
   })
   step_agrees (form.Let name value) known next = naming_agrees names known next (λ k. (judged names k value).ty) (λ k. (judged names k value).faults) name _ (let_naming names known next value)
   step_agrees (form.Read name table key column default) known next =
-      subst (λ (faults : Known → List TypeFault). StmtAgrees names (record { names = 1; shown = λ k. Some (column_wanted tables (table_number tables table.name) column.name) ∷ []; faults = λ k. twice names (length k) name ++ faults k }) known (stmt_step tables (form.Read name table key column default) (at names known next)))
+      subst (λ (faults : Known → List TypeFault). StmtAgrees names (record { names = 1; shown = λ k. Some (column_wanted tables (table_number tables table.name) column.name) ∷ []; faults = λ k. twice names (length k) name ++ faults k }) known (checked_stmt_step tables (form.Read name table key column default) (at names known next)))
       (λ i k. append_assoc (cell_faults tables (judged names k) table key) (column_faults tables (table_number tables table.name) column) (wrong_type (is_fitting (column_wanted tables (table_number tables table.name) column.name)) default.at (Some (type_of default.value))) i)
       (naming_agrees names known next (λ k. column_wanted tables (table_number tables table.name) column.name)
       (λ k. (cell_faults tables (judged names k) table key ++ column_faults tables (table_number tables table.name) column) ++ wrong_type (is_fitting (column_wanted tables (table_number tables table.name) column.name)) default.at (Some (type_of default.value)))
@@ -169,15 +169,15 @@ module _ (tables : List Table) (names : List (List ℕ)) where
   step_agrees (form.Has name table key) known next = naming_agrees names known next (λ k. Some BoolTy) (λ k. cell_faults tables (judged names k) table key) name _ (has_naming names known next tables table key)
   step_agrees (form.Put table key values) known next = plain_agrees names known next (rule_step tables names (form.Put table key values)).faults (checked_put tables (at names known next) table key values) (λ s. s) (put_agrees tables names known next table key values)
   step_agrees (form.Set table key column value) known next =
-      subst (λ (faults : Known → List TypeFault). StmtAgrees names (plain faults) known (stmt_step tables (form.Set table key column value) (at names known next)))
+      subst (λ (faults : Known → List TypeFault). StmtAgrees names (ruled_plain faults) known (checked_stmt_step tables (form.Set table key column value) (at names known next)))
       (λ i k. append_assoc (cell_faults tables (judged names k) table key) (column_faults tables (table_number tables table.name) column) (placed (is_fitting (column_wanted tables (table_number tables table.name) column.name)) (judged names k value)) i)
       (set_plain names known next tables table key column value)
   step_agrees (form.Delete table key) known next = plain_agrees names known next (rule_step tables names (form.Delete table key)).faults (checked_cell tables (at names known next) table key) (λ c. Delete c.0 c.1) (cell_agrees tables names known next table key)
   step_agrees (form.AbortIf test) known next = plain_agrees names known next (rule_step tables names (form.AbortIf test)).faults (checked_test (at names known next) test) (λ e. AbortIf e) (test_agrees names known next test)
   step_agrees (form.If test first second) known next =
       subst (λ (c : Case). StmtAgrees names c.ruled known (c.checked (at names known next))) (λ i. record {
-        ruled = branching (λ k. placed is_test (judged names k test)) (sym (ruling_is first) i) (sym (ruling_is second) i);
-        checked = λ scope. stmt_step tables (form.If test (sym (checking_is first) i) (sym (checking_is second) i)) scope;
+        ruled = ruled_branching (λ k. placed is_test (judged names k test)) (sym (ruling_is first) i) (sym (ruling_is second) i);
+        checked = λ scope. checked_stmt_step tables (form.If test (sym (checking_is first) i) (sym (checking_is second) i)) scope;
       })
       (if_agrees names (cases first) (cases second) (all_agree first) (all_agree second) (λ k. placed is_test (judged names k test)) known next _ (test_agrees names known next test))
 
@@ -185,7 +185,7 @@ module _ (tables : List Table) (names : List (List ℕ)) where
   stmt_agrees = ind-StmtNode (λ node. Agrees names (case_of node)) (λ x y is. subst (λ z. Agrees names (case_of (roll-StmtNode z))) is
       (subst (λ (c : Case). Agrees names c) (λ i. record {
         ruled = sym (fold-roll-StmtNode Ruled (rule_step tables names) (map-StmtNode Agreed StmtNode (λ q. q.0) y)) i;
-        checked = sym (fold-roll-StmtNode (ScopeState → Told) (stmt_step tables) (map-StmtNode Agreed StmtNode (λ q. q.0) y)) i;
+        checked = sym (fold-roll-StmtNode (ScopeState → Told) (checked_stmt_step tables) (map-StmtNode Agreed StmtNode (λ q. q.0) y)) i;
       }) (step_agrees y)))
 
   abbrev agreed : List StmtNode → List Agreed
@@ -258,7 +258,7 @@ module _ (tables : List Table) where
   the_proc node body = record { name = node.name.name; params = map column_of node.params; body = body }
 
   proc_agrees : (node : ProcNode) → Agree (proc_faults tables node) (checked_proc tables node)
-  proc_agrees node = go (checked_params node.params (opening node)) (params_agree (variables node) node.params [] 0 0 refl)
+  proc_agrees node = go (checked_params node.params (opening_scope node)) (params_agree (variables node) node.params [] 0 0 refl)
     where
       go : (r : Result ScopeState TypeFault) → ParamsAgree (variables node) [] 0 node.params (names_faults (variables node) 0 node.params) r
           → Agree {A = Proc} (names_faults (variables node) 0 node.params ++ all_faults (map (ruled tables (variables node)) node.body) (params_known node.params)) (r >>= λ scope. checked_block tables node.body scope >>= λ b. Ok (the_proc node b.0))
@@ -304,7 +304,7 @@ module _ (tree : Tree) where
   same_place f other (inl e) at = sym e
   same_place f other (inr lt) at = absurd (omega arith)
 
-  a_first : IsOrdered tree → (f : TypeFault) (rest : List TypeFault) → tree_faults tree ≡ f ∷ rest → IsFirstFault tree f
+  a_first : IsOrdered tree → (f : TypeFault) (rest : List TypeFault) → tree_faults tree ≡ f ∷ rest → IsFirstTypeFault tree f
   a_first ordered f rest is = record {
     stands = subst (λ fs. IsAmong fs f) (sym is) (inl refl);
     least = λ other stands. not_before f other (first_before f (tree_faults tree) rest is (faults_climb tree ordered) other stands);
@@ -312,10 +312,10 @@ module _ (tree : Tree) where
   }
 
   -- the fault that is met among the tables, or else among the procedures, is the first
-  pub tables_first : IsOrdered tree → (f : TypeFault) → checked_tables table_names 0 tree.tables ≡ Err f → IsFirstFault tree f
+  pub tables_first : IsOrdered tree → (f : TypeFault) → checked_tables table_names 0 tree.tables ≡ Err f → IsFirstTypeFault tree f
   tables_first ordered f e = let p = tables_result (Err f) e in a_first ordered f (p.0 ++ last_faults) (ap (λ zs. zs ++ last_faults) p.1)
 
-  pub procs_first : IsOrdered tree → checked_tables table_names 0 tree.tables ≡ Ok tt → (tables : List Table) → tables ≡ map table_of tree.tables → (f : TypeFault) → checked_procs tables proc_names 0 tree.procs ≡ Err f → IsFirstFault tree f
+  pub procs_first : IsOrdered tree → checked_tables table_names 0 tree.tables ≡ Ok tt → (tables : List Table) → tables ≡ map table_of tree.tables → (f : TypeFault) → checked_procs tables proc_names 0 tree.procs ≡ Err f → IsFirstTypeFault tree f
   procs_first ordered clean tables is f e = let p = procs_result tables is (Err f) e in a_first ordered f p.0 (λ i. tables_result (Ok tt) clean i ++ p.1 i)
 
   -- where none is met, none stands in the tree

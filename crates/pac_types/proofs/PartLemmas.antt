@@ -5,8 +5,8 @@ use Rattle.std.specs.Option.{option_map, option_and_then}
 use Rattle.std.proofs.lemmas.Grind.{common_steps}
 use Rattle.pac_value.specs.declared.values.Ty.{Ty}
 use Rattle.pac_value.specs.declared.expr.Expr.{Expr}
-use Rattle.pac_types.specs.declared.scope.Variable.{Variable}
-use Rattle.pac_types.specs.declared.catalogue.Stmt.{Stmt}
+use Rattle.pac_types.specs.declared.checker.scope.Variable.{Variable}
+use Rattle.pac_types.specs.declared.statement.Stmt.{Stmt}
 use Rattle.pac_types.specs.Numbering.{cell_by, unseen}
 use Rattle.pac_types.specs.Sound.{Scope, with_var, if_so}
 use Rattle.pac_types.proofs.ExprLemmas.{numbers_of, Fit, some_is, none_is}

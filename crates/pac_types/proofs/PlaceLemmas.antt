@@ -13,10 +13,10 @@ use Rattle.pac_syntax.specs.declared.tree.StmtNode.TheOpen as form
 use Rattle.pac_syntax.specs.declared.tree.StmtNode.TheOpen.{StmtNode-F}
 use Rattle.pac_syntax.specs.declared.tree.StmtNode.TheViews.{roll-StmtNode}
 use Rattle.pac_syntax.specs.declared.tree.StmtNode.TheFolds.{fold-roll-StmtNode, ind-StmtNode, map-StmtNode}
-use Rattle.pac_syntax.specs.Order.{Place, Own, Shared, Climbs, Ascends, IsOrdered, expr_places, expr_places_step, all_places, stmt_places, stmt_places_step, stmts_places, columns_places, table_places, proc_places, tree_places}
+use Rattle.pac_syntax.specs.Order.{NodePlace, Own, Shared, Climbs, Ascends, IsOrdered, expr_places, expr_places_step, all_places, stmt_places, stmt_places_step, stmts_places, columns_places, table_places, proc_places, tree_places}
 use Rattle.pac_syntax.proofs.NodeForms as forms
 use Rattle.pac_value.specs.declared.values.Ty.{Ty}
-use Rattle.pac_types.specs.declared.catalogue.Table.{Table}
+use Rattle.pac_types.specs.declared.table.Table.{Table}
 use Rattle.pac_types.specs.declared.type_error.TypeFault.{TypeFault}
 use Rattle.pac_types.specs.declared.type_error.TypeFaultKind.{TypeFaultKind}
 use Rattle.pac_types.specs.declared.type_error.TypeFaultKind.TheVariants.{UnknownName, WrongType, OutOfScope}
@@ -29,22 +29,22 @@ use Rattle.pac_types.proofs.CleanLemmas.{TypedIsClean, clean}
 abbrev pub places_of : List TypeFault → List ℕ
 places_of faults = map (λ fault. fault.at) faults
 
-lower : (low l : ℕ) (ps : List Place) → low ≤ l → Ascends l ps → Ascends low ps
+lower : (low l : ℕ) (ps : List NodePlace) → low ≤ l → Ascends l ps → Ascends low ps
 lower low l [] le h = tt
 lower low l (Own p ∷ ps) le h = (omega (arith, le, h.0), h.1)
 lower low l (Shared p ∷ ps) le h = (omega (arith, le, h.0), h.1)
 
-skip : (low : ℕ) (ps more : List Place) → Ascends low (ps ++ more) → Ascends low more
+skip : (low : ℕ) (ps more : List NodePlace) → Ascends low (ps ++ more) → Ascends low more
 skip low [] more h = h
 skip low (Own p ∷ ps) more h = lower low (suc p) more (omega (arith, h.0)) (skip (suc p) ps more h.1)
 skip low (Shared p ∷ ps) more h = lower low p more h.0 (skip p ps more h.1)
 
 -- These faults stand along these places: where the places ascend, and what comes behind them climbs, so do the faults, and
 -- no two of them stand at one place.
-pub record Along (faults : List TypeFault) (places : List Place) : Type 0 where
-  pub by : (low : ℕ) (more : List Place) (others : List ℕ) → Ascends low (places ++ more) → ((l : ℕ) → Ascends l more → Climbs l others) → Climbs low (places_of faults ++ others)
+pub record Along (faults : List TypeFault) (places : List NodePlace) : Type 0 where
+  pub by : (low : ℕ) (more : List NodePlace) (others : List ℕ) → Ascends low (places ++ more) → ((l : ℕ) → Ascends l more → Climbs l others) → Climbs low (places_of faults ++ others)
 
-pub none_along : (places : List Place) → Along [] places
+pub none_along : (places : List NodePlace) → Along [] places
 none_along places = record { by = λ low more others h k. k low (skip low places more h) }
 
 pub one_along : (b : Bool) (at : ℕ) (kind : TypeFaultKind) → Along (fault_if b at kind) (Own at ∷ [])
@@ -55,7 +55,7 @@ places-append : (a b : List TypeFault) → places_of (a ++ b) ≡ places_of a ++
 places-append [] b = refl
 places-append (x ∷ a) b = ap (λ zs. x.at ∷ zs) (places-append a b)
 
-pub both_along : (a b : List TypeFault) (p q : List Place) → Along a p → Along b q → Along (a ++ b) (p ++ q)
+pub both_along : (a b : List TypeFault) (p q : List NodePlace) → Along a p → Along b q → Along (a ++ b) (p ++ q)
 both_along a b p q f g = record {
   by = λ low more others h k.
       subst (λ zs. Climbs low zs) (sym (append_assoc (places_of a) (places_of b) others) ∙ ap (λ zs. zs ++ others) (sym (places-append a b)))
@@ -65,16 +65,16 @@ both_along a b p q f g = record {
 -- ---- expressions
 
 -- The faults of an expression stand along its places. It begins at its own place, and what is behind it is behind that.
-pub record Stood (j : Judged) (places : List Place) : Type 0 where
+pub record Stood (j : Judged) (places : List NodePlace) : Type 0 where
   pub along : Along j.faults places
-  pub past : (low : ℕ) (more : List Place) → Ascends low (places ++ more) → (low ≤ j.at) × Ascends (suc j.at) more
+  pub past : (low : ℕ) (more : List NodePlace) → Ascends low (places ++ more) → (low ≤ j.at) × Ascends (suc j.at) more
 
 -- a fault at an expression's own place, where it has none inside
-own_along : (j : Judged) (places : List Place) → Stood j places → (b : Bool) (kind : TypeFaultKind) → Along (fault_if b j.at kind) places
+own_along : (j : Judged) (places : List NodePlace) → Stood j places → (b : Bool) (kind : TypeFaultKind) → Along (fault_if b j.at kind) places
 own_along j places s true kind = record { by = λ low more others h k. let p = s.past low more h in (p.0, k (suc j.at) p.1) }
 own_along j places s false kind = none_along places
 
-pub placed_along : (takes : Ty → Bool) (j : Judged) (places : List Place) → TypedIsClean j → Stood j places → Along (placed takes j) places
+pub placed_along : (takes : Ty → Bool) (j : Judged) (places : List NodePlace) → TypedIsClean j → Stood j places → Along (placed takes j) places
 placed_along takes j places clean s = go j.ty refl
   where
     go : (o : Option Ty) → j.ty ≡ o → Along (wrong_type takes j.at o ++ j.faults) places
@@ -89,28 +89,28 @@ name_along at (Some place) None = one_along true at OutOfScope
 name_along at (Some place) (Some ty) = none_along (Own at ∷ [])
 
 -- what stands behind a place stands along it too
-behind : (at : Place) (a : List TypeFault) (ps : List Place) → Along a ps → Along a (at ∷ ps)
+behind : (at : NodePlace) (a : List TypeFault) (ps : List NodePlace) → Along a ps → Along a (at ∷ ps)
 behind at a ps f = both_along [] a (at ∷ []) ps (none_along (at ∷ [])) f
 
 -- an operation begins where its first operand does, or before
-binary_past : (at : ℕ) (l : Judged) (ps qs : List Place) → Stood l ps → (low : ℕ) (more : List Place) → Ascends low ((Shared at ∷ (ps ++ qs)) ++ more) → (low ≤ at) × Ascends (suc at) more
+binary_past : (at : ℕ) (l : Judged) (ps qs : List NodePlace) → Stood l ps → (low : ℕ) (more : List NodePlace) → Ascends low ((Shared at ∷ (ps ++ qs)) ++ more) → (low ≤ at) × Ascends (suc at) more
 binary_past at l ps qs s low more h =
-    let p = s.past at (qs ++ more) (subst (λ (zs : List Place). Ascends at zs) (append_assoc ps qs more) h.1) in
+    let p = s.past at (qs ++ more) (subst (λ (zs : List NodePlace). Ascends at zs) (append_assoc ps qs more) h.1) in
     (h.0, lower (suc at) (suc l.at) more (omega (arith, p.0)) (skip (suc l.at) qs more p.1))
 
 module _ (names : List (List ℕ)) (known : Known) where
-  stood-at : (e : ExprNode) (j : Judged) (ps : List Place) → judged names known e ≡ j → expr_places e ≡ ps → Stood j ps → Stood (judged names known e) (expr_places e)
+  stood-at : (e : ExprNode) (j : Judged) (ps : List NodePlace) → judged names known e ≡ j → expr_places e ≡ ps → Stood j ps → Stood (judged names known e) (expr_places e)
   stood-at e j ps p q h = subst (λ z. Stood z (expr_places e)) (sym p) (subst (λ z. Stood j z) (sym q) h)
 
   pub stood : (e : ExprNode) → Stood (judged names known e) (expr_places e)
   stood = by_nodes (λ e. Stood (judged names known e) (expr_places e))
-      (λ l. stood-at _ _ _ (forms.fold-Literal Judged (judge_step names known) l) (forms.fold-Literal (List Place) expr_places_step l) (record { along = none_along (Own l.at ∷ []); past = λ low more h. h }))
-      (λ n. stood-at _ _ _ (forms.fold-Name Judged (judge_step names known) n) (forms.fold-Name (List Place) expr_places_step n) (record { along = name_along n.at _ _; past = λ low more h. h }))
-      (λ at op l r p q. stood-at _ _ _ (forms.fold-Binary Judged (judge_step names known) at op l r) (forms.fold-Binary (List Place) expr_places_step at op l r) (record {
+      (λ l. stood-at _ _ _ (forms.fold-Literal Judged (judge_step names known) l) (forms.fold-Literal (List NodePlace) expr_places_step l) (record { along = none_along (Own l.at ∷ []); past = λ low more h. h }))
+      (λ n. stood-at _ _ _ (forms.fold-Name Judged (judge_step names known) n) (forms.fold-Name (List NodePlace) expr_places_step n) (record { along = name_along n.at _ _; past = λ low more h. h }))
+      (λ at op l r p q. stood-at _ _ _ (forms.fold-Binary Judged (judge_step names known) at op l r) (forms.fold-Binary (List NodePlace) expr_places_step at op l r) (record {
         along = behind (Shared at) _ _ (both_along _ _ _ _ (placed_along (is_left op) _ _ (clean names known l) p) (placed_along _ _ _ (clean names known r) q));
         past = λ low more h. binary_past at (judged names known l) (expr_places l) (expr_places r) p low more h;
       }))
-      (λ at e p. stood-at _ _ _ (forms.fold-Not Judged (judge_step names known) at e) (forms.fold-Not (List Place) expr_places_step at e) (record {
+      (λ at e p. stood-at _ _ _ (forms.fold-Not Judged (judge_step names known) at e) (forms.fold-Not (List NodePlace) expr_places_step at e) (record {
         along = behind (Own at) _ _ (placed_along is_test _ _ (clean names known e) p);
         past = λ low more h. (h.0, skip (suc at) (expr_places e) more h.1);
       }))
@@ -137,7 +137,7 @@ column_along tables None column = none_along (Own column.at ∷ [])
 column_along tables (Some t) column = unknown_along _ column.at
 
 -- an unknown table, or another number of values than it has columns
-table_along : (tables : List Table) (o : Option ℕ) (at values : ℕ) (a : List TypeFault) (p : List Place) → Along a p → Along (unknown o at ++ (wrong_count tables o at values ++ a)) (Own at ∷ p)
+table_along : (tables : List Table) (o : Option ℕ) (at values : ℕ) (a : List TypeFault) (p : List NodePlace) → Along a p → Along (unknown o at ++ (wrong_count tables o at values ++ a)) (Own at ∷ p)
 table_along tables None at values a p f = both_along (fault_if true at UnknownName) a (Own at ∷ []) p (one_along true at UnknownName) f
 table_along tables (Some t) at values a p f = both_along (count_faults at values (length (column_types tables t))) a (Own at ∷ []) p (one_along _ at _) f
 
@@ -156,7 +156,7 @@ module _ (tables : List Table) (names : List (List ℕ)) where
   cell_along known table key = both_along _ _ (Own table.at ∷ []) _ (unknown_along _ table.at) (here_along names known _ key)
 
   step_along : (y : StmtNode-F Stood-node) (known : Known) → Along ((rule_step tables names (map-StmtNode StmtNode Ruled (ruled tables names) (map-StmtNode Stood-node StmtNode (λ q. q.0) y))).faults known)
-      (stmt_places_step (map-StmtNode StmtNode (List Place) stmt_places (map-StmtNode Stood-node StmtNode (λ q. q.0) y)))
+      (stmt_places_step (map-StmtNode StmtNode (List NodePlace) stmt_places (map-StmtNode Stood-node StmtNode (λ q. q.0) y)))
   step_along (form.Let name value) known = both_along _ _ (Own name.at ∷ []) _ (one_along _ name.at _) (expr_along names known value)
   step_along (form.Read name table key column default) known = both_along _ _ (Own name.at ∷ []) _ (one_along _ name.at _)
       (both_along _ _ (Own table.at ∷ expr_places key) _ (cell_along known table key) (both_along _ _ (Own column.at ∷ []) _ (column_along tables _ column) (one_along _ default.at _)))
@@ -169,8 +169,8 @@ module _ (tables : List Table) (names : List (List ℕ)) where
 
   pub stmt_along : (node : StmtNode) (known : Known) → Along ((ruled tables names node).faults known) (stmt_places node)
   stmt_along = ind-StmtNode (λ node. (known : Known) → Along ((ruled tables names node).faults known) (stmt_places node)) (λ x y is. subst (λ z. (known : Known) → Along ((ruled tables names (roll-StmtNode z)).faults known) (stmt_places (roll-StmtNode z))) is
-      (subst (λ (k : Ruled × List Place). (known : Known) → Along (k.0.faults known) k.1)
-      (λ i. (sym (fold-roll-StmtNode Ruled (rule_step tables names) (map-StmtNode Stood-node StmtNode (λ q. q.0) y)) i, sym (fold-roll-StmtNode (List Place) stmt_places_step (map-StmtNode Stood-node StmtNode (λ q. q.0) y)) i)) (step_along y)))
+      (subst (λ (k : Ruled × List NodePlace). (known : Known) → Along (k.0.faults known) k.1)
+      (λ i. (sym (fold-roll-StmtNode Ruled (rule_step tables names) (map-StmtNode Stood-node StmtNode (λ q. q.0) y)) i, sym (fold-roll-StmtNode (List NodePlace) stmt_places_step (map-StmtNode Stood-node StmtNode (λ q. q.0) y)) i)) (step_along y)))
 
   pub body_along : (nodes : List StmtNode) (known : Known) → Along (all_faults (map (ruled tables names) nodes) known) (stmts_places nodes)
   body_along [] known = none_along []

@@ -13,14 +13,14 @@ use Rattle.pac_syntax.specs.declared.tree.LiteralNode.{LiteralNode}
 use Rattle.pac_syntax.specs.declared.tree.ExprNode.{ExprNode}
 use Rattle.pac_types.specs.declared.type_error.TypeFault.{TypeFault}
 use Rattle.pac_types.specs.declared.type_error.TypeFaultKind.TheVariants.{WrongType, WrongCount}
-use Rattle.pac_types.specs.declared.scope.Variable.{Variable}
-use Rattle.pac_types.specs.declared.expressions.Typed.{Typed}
-use Rattle.pac_types.specs.declared.catalogue.Table.{Table}
-use Rattle.pac_types.specs.declared.catalogue.Stmt.{Stmt, Let, Read, Has, Put, Set}
+use Rattle.pac_types.specs.declared.checker.scope.Variable.{Variable}
+use Rattle.pac_types.specs.declared.checker.expressions.Typed.{Typed}
+use Rattle.pac_types.specs.declared.table.Table.{Table}
+use Rattle.pac_types.specs.declared.statement.Stmt.{Stmt, Let, Read, Has, Put, Set}
 use Rattle.pac_types.specs.Numbering.{table_number, column_number}
 use Rattle.pac_types.specs.Sound.{is_wanted, key_type, column_type, column_types}
-use Rattle.pac_types.specs.Faults.{fault_if, twice, Known, unseen, is_fitting, Judged, wrong_type, placed, judged, unknown, key_wanted, column_wanted, column_faults, wrong_count, values_wanted, values_faults, cell_faults, Ruled, naming, plain}
-use Rattle.pac_types.specs.Checking.{ScopeState, Told, Cells, Fields, once, unless, taken, known_at, defined_in, checked_expr, checked_wanted, checked_cell, checked_field, checked_read, counted, checked_values, checked_put}
+use Rattle.pac_types.specs.Faults.{fault_if, twice, Known, out_of_sight, is_fitting, Judged, wrong_type, placed, judged, unknown, key_wanted, column_wanted, column_faults, wrong_count, values_wanted, values_faults, cell_faults, Ruled, ruled_naming, ruled_plain}
+use Rattle.pac_types.specs.Checking.{ScopeState, Told, Cells, Fields, once, unless, taken, known_at, defined_in, checked_expr, checked_wanted, checked_cell, checked_field, checked_read, same_count, checked_values, checked_put}
 use Rattle.pac_types.proofs.PartLemmas.{equal}
 use Rattle.pac_types.proofs.FaultLemmas.{Agree, agree_then, agree_map, agree_same, once_agrees, known_types, JudgedBy, expr_judged, wanted_agrees, values_agree, key_found, column_found, then_ok, cell_agrees}
 
@@ -87,7 +87,7 @@ module _ (tables : List Table) (names : List (List ℕ)) (known : List (Option V
           (λ k is. agree_map _ (checked_values st values (column_types tables t)) (λ es. Put t k es) (values_agree names known next values (column_types tables t) (equal _ _ g)))
 
       go : (o : Option ℕ) → table_number tables table.name ≡ o → Agree {A = Stmt} (unknown o table.at ++ (wrong_count tables o table.at (length values) ++ (placed (is_fitting (key_wanted tables o)) (judge key) ++ values_faults judge values (values_wanted tables o (length values)))))
-          (known_at table.at o >>= λ t. counted table.at (length values) (length (column_types tables t)) >>= λ _. checked_wanted st key (key_type tables t) >>= λ k. checked_values st values (column_types tables t) >>= λ es. Ok (Put t k es))
+          (known_at table.at o >>= λ t. same_count table.at (length values) (length (column_types tables t)) >>= λ _. checked_wanted st key (key_type tables t) >>= λ k. checked_values st values (column_types tables t) >>= λ es. Ok (Put t k es))
       go None e = (_, refl)
       go (Some t) e = count t e (nat_eq (length values) (length (column_types tables t))) refl
 
@@ -97,7 +97,7 @@ pub types-append : (a b : List (Option Variable)) → known_types (a ++ b) ≡ k
 types-append [] b = refl
 types-append (x ∷ a) b = ap (λ zs. option_map (λ v. Some v.ty) x ∷ zs) (types-append a b)
 
-pub types-unseen : (k : ℕ) → known_types (replicate k None) ≡ unseen k
+pub types-unseen : (k : ℕ) → known_types (replicate k None) ≡ out_of_sight k
 types-unseen zero = refl
 types-unseen (suc k) = ap (λ zs. None ∷ zs) (types-unseen k)
 
@@ -111,7 +111,7 @@ StmtAgrees names d known (Err f) = (rest : List TypeFault) × (d.faults (known_t
 
 module _ (names : List (List ℕ)) (known : List (Option Variable)) (next : ℕ) where
   -- a statement that defines nothing leaves what is known
-  pub plain_agrees : {A : Type 0} (faults : Known → List TypeFault) (r : Result A TypeFault) (h : A → Stmt) → Agree (faults (known_types known)) r → StmtAgrees names (plain faults) known (r >>= λ x. Ok (h x, at names known next))
+  pub plain_agrees : {A : Type 0} (faults : Known → List TypeFault) (r : Result A TypeFault) (h : A → Stmt) → Agree (faults (known_types known)) r → StmtAgrees names (ruled_plain faults) known (r >>= λ x. Ok (h x, at names known next))
   plain_agrees faults (Ok x) h p = (p, [], next, (λ i. at names (sym (append-nil known) i) next), refl, refl)
   plain_agrees faults (Err f) h p = p
 
@@ -121,14 +121,14 @@ module _ (names : List (List ℕ)) (known : List (Option Variable)) (next : ℕ)
   NamingAgrees o faults (Err f) = (rest : List TypeFault) × (faults ≡ f ∷ rest)
 
   pub naming_agrees : (ty : Known → Option Ty) (faults : Known → List TypeFault) (name : NameNode) (r : Told) → NamingAgrees (ty (known_types known)) (faults (known_types known)) r
-      → StmtAgrees names (naming ty (λ k. twice names (length k) name ++ faults k)) known (once names (length known) name >>= λ _. r)
+      → StmtAgrees names (ruled_naming ty (λ k. twice names (length k) name ++ faults k)) known (once names (length known) name >>= λ _. r)
   naming_agrees ty faults name r told = go (once names (length known) name) (subst (λ k. Agree (twice names k name) (once names (length known) name)) (sym (length-map known (λ o. option_map (λ v. Some v.ty) o))) (once_agrees names (length known) name))
     where
-      fresh : (r : Told) → NamingAgrees (ty (known_types known)) (faults (known_types known)) r → twice names (length (known_types known)) name ≡ [] → StmtAgrees names (naming ty (λ k. twice names (length k) name ++ faults k)) known r
+      fresh : (r : Told) → NamingAgrees (ty (known_types known)) (faults (known_types known)) r → twice names (length (known_types known)) name ≡ [] → StmtAgrees names (ruled_naming ty (λ k. twice names (length k) name ++ faults k)) known r
       fresh (Ok a) p e = (ap (λ zs. zs ++ faults (known_types known)) e ∙ p.0, Some (record { number = next; ty = p.1 }) ∷ [], next + 1, p.2, (λ i. Some (sym p.3 i) ∷ []), refl)
       fresh (Err f) p e = (p.0, ap (λ zs. zs ++ faults (known_types known)) e ∙ p.1)
 
-      go : (q : Result (Unit {0}) TypeFault) → Agree (twice names (length (known_types known)) name) q → StmtAgrees names (naming ty (λ k. twice names (length k) name ++ faults k)) known (q >>= λ _. r)
+      go : (q : Result (Unit {0}) TypeFault) → Agree (twice names (length (known_types known)) name) q → StmtAgrees names (ruled_naming ty (λ k. twice names (length k) name ++ faults k)) known (q >>= λ _. r)
       go (Ok x) p = fresh r told p
       go (Err f) p = (p.0 ++ faults (known_types known), ap (λ zs. zs ++ faults (known_types known)) p.1)
 
@@ -197,7 +197,7 @@ module _ (names : List (List ℕ)) (known : List (Option Variable)) (next : ℕ)
         agree_same {A = Stmt × ScopeState} _ _ _ (ap (λ o. placed (is_fitting o) (judged names (known_types known) value)) w.2) (agree_map _ (checked_wanted (at names known next) value (column_type tables f.0 f.2)) (λ e. (Set f.0 f.1 f.2 e, at names known next)) (wanted_agrees names known next value (column_type tables f.0 f.2) w.0 w.1)))
 
     abbrev set_rules : NameNode → ExprNode → NameNode → ExprNode → Ruled
-    set_rules table key column value = plain (λ k. (cell_faults tables (judged names k) table key ++ column_faults tables (table_number tables table.name) column) ++ placed (is_fitting (column_wanted tables (table_number tables table.name) column.name)) (judged names k value))
+    set_rules table key column value = ruled_plain (λ k. (cell_faults tables (judged names k) table key ++ column_faults tables (table_number tables table.name) column) ++ placed (is_fitting (column_wanted tables (table_number tables table.name) column.name)) (judged names k value))
 
     -- a `set` leaves what is known
     pub set_plain : (table : NameNode) (key : ExprNode) (column : NameNode) (value : ExprNode)

@@ -5,12 +5,12 @@ use Rattle.pac_value.specs.declared.values.Ty.{Ty}
 use Rattle.pac_value.specs.declared.values.Ty.TheVariants.{Bool as BoolTy}
 use Rattle.pac_value.specs.Values.{type_of}
 use Rattle.pac_value.specs.Expressions.{type_in}
-use Rattle.pac_types.specs.declared.catalogue.Table.{Table}
-use Rattle.pac_types.specs.declared.catalogue.Stmt.{Stmt}
-use Rattle.pac_types.specs.declared.catalogue.Stmt.TheOpen as form
-use Rattle.pac_types.specs.declared.catalogue.Stmt.TheOpen.{Stmt-F}
-use Rattle.pac_types.specs.declared.catalogue.Stmt.TheViews.{roll-Stmt}
-use Rattle.pac_types.specs.declared.catalogue.Stmt.TheFolds.{fold-roll-Stmt, ind-Stmt, map-Stmt}
+use Rattle.pac_types.specs.declared.table.Table.{Table}
+use Rattle.pac_types.specs.declared.statement.Stmt.{Stmt}
+use Rattle.pac_types.specs.declared.statement.Stmt.TheOpen as form
+use Rattle.pac_types.specs.declared.statement.Stmt.TheOpen.{Stmt-F}
+use Rattle.pac_types.specs.declared.statement.Stmt.TheViews.{roll-Stmt}
+use Rattle.pac_types.specs.declared.statement.Stmt.TheFolds.{fold-roll-Stmt, ind-Stmt, map-Stmt}
 use Rattle.pac_types.specs.Sound.{Scope, with_var, key_type, column_type, column_types, if_so, Check, in_order, check_step, check, scope_behind}
 use Rattle.pac_types.proofs.ScopeLemmas.{Within, type_in-within, is_wanted-within, is_bool-within, and-implied, are_wanted-within, with_var-within, without-within}
 

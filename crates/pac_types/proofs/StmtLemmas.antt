@@ -14,15 +14,15 @@ use Rattle.pac_syntax.specs.declared.tree.LiteralNode.{LiteralNode}
 use Rattle.pac_syntax.specs.declared.tree.ExprNode.{ExprNode}
 use Rattle.pac_types.specs.declared.type_error.TypeFault.{TypeFault}
 use Rattle.pac_types.specs.declared.type_error.TypeFaultKind.TheVariants.{Twice, WrongCount}
-use Rattle.pac_types.specs.declared.scope.Variable.{Variable}
-use Rattle.pac_types.specs.declared.expressions.Typed.{Typed}
-use Rattle.pac_types.specs.declared.catalogue.Table.{Table}
-use Rattle.pac_types.specs.declared.catalogue.Stmt.{Stmt, Let, Read, Has, Put, Set, Delete, AbortIf}
-use Rattle.pac_types.specs.declared.catalogue.Stmt.TheOpen as form
+use Rattle.pac_types.specs.declared.checker.scope.Variable.{Variable}
+use Rattle.pac_types.specs.declared.checker.expressions.Typed.{Typed}
+use Rattle.pac_types.specs.declared.table.Table.{Table}
+use Rattle.pac_types.specs.declared.statement.Stmt.{Stmt, Let, Read, Has, Put, Set, Delete, AbortIf}
+use Rattle.pac_types.specs.declared.statement.Stmt.TheOpen as form
 use Rattle.pac_types.specs.Numbering.{AreDistinct, number_of, table_number, column_number, Sight, Numbered, naming, plain, cell_by, resolved, resolved_all}
 use Rattle.pac_types.specs.Sound.{Scope, Check, check, check_step, scope_after, with_var, if_so, is_wanted, is_bool, are_wanted, is_width, key_type, column_type, column_types}
 use Rattle.pac_types.specs.Faults.{is_before}
-use Rattle.pac_types.specs.Checking.{ScopeState, Told, Cells, Fields, once, unless, taken, known_at, counted, defined_in, checked_wanted, checked_cell, checked_field, checked_read, checked_values}
+use Rattle.pac_types.specs.Checking.{ScopeState, Told, Cells, Fields, once, unless, taken, known_at, same_count, defined_in, checked_wanted, checked_cell, checked_field, checked_read, checked_values}
 use Rattle.pac_types.proofs.StmtForms.{at-Let, at-Read, at-Has, at-Put, at-Set, at-Delete, at-AbortIf}
 use Rattle.pac_types.proofs.NameLemmas.{number-take, below, distinct-more, not_yet}
 use Rattle.pac_types.proofs.ExprLemmas.{numbers_of, Said, Fit, Passed, wanted_passed, some_is, none_is}
@@ -353,6 +353,6 @@ module _ (tables : List Table) (names : List (List ℕ)) where
               absurd (true≢false (sym (itself (length values)) ∙ ap (λ n. nat_eq (length values) n) long ∙ e))
 
     pub put_told : (o : Option ℕ) → table_number tables table.name ≡ o
-        → PutTold (known_at table.at o >>= λ t. counted table.at (length values) (length (column_types tables t)) >>= λ _. checked_wanted (record { names = names; known = known; next = next }) key (key_type tables t) >>= λ k. checked_values (record { names = names; known = known; next = next }) values (column_types tables t) >>= λ es. Ok (Put t k es))
+        → PutTold (known_at table.at o >>= λ t. same_count table.at (length values) (length (column_types tables t)) >>= λ _. checked_wanted (record { names = names; known = known; next = next }) key (key_type tables t) >>= λ k. checked_values (record { names = names; known = known; next = next }) values (column_types tables t) >>= λ es. Ok (Put t k es))
     put_told None e = λ s is. let h = put_is s is in absurd (none_is (sym e ∙ h.3))
     put_told (Some t) e = put_counted t e (nat_eq (length values) (length (column_types tables t))) refl

@@ -15,15 +15,15 @@ use Rattle.pac_syntax.specs.declared.tree.StmtNode.TheFolds.{fold-roll-StmtNode,
 use Rattle.pac_syntax.specs.declared.tree.ProcNode.{ProcNode}
 use Rattle.pac_types.specs.declared.type_error.TypeFault.{TypeFault}
 use Rattle.pac_types.specs.declared.type_error.TypeFaultKind.TheVariants.{Twice}
-use Rattle.pac_types.specs.declared.scope.Variable.{Variable}
-use Rattle.pac_types.specs.declared.catalogue.Table.{Table}
-use Rattle.pac_types.specs.declared.catalogue.Proc.{Proc}
-use Rattle.pac_types.specs.declared.catalogue.Stmt.{Stmt}
-use Rattle.pac_types.specs.Numbering.{AreDistinct, number_of, table_number, column_number, column_of, Numbered, joined, defined, defined_step, numbered, number_step, branching, in_turn, body_of, numbers_from, variables, resolved}
+use Rattle.pac_types.specs.declared.checker.scope.Variable.{Variable}
+use Rattle.pac_types.specs.declared.table.Table.{Table}
+use Rattle.pac_types.specs.declared.procedure.Proc.{Proc}
+use Rattle.pac_types.specs.declared.statement.Stmt.{Stmt}
+use Rattle.pac_types.specs.Numbering.{AreDistinct, number_of, table_number, column_number, column_of, Numbered, in_a_row, defined, defined_step, numbered, number_step, branching, in_turn, body_of, numbers_from, variables, resolved}
 use Rattle.pac_types.specs.Sound.{Scope, IsSoundProc, check, in_order, scope_of, types}
 use Rattle.pac_types.specs.Typing.{IsProcOf}
 use Rattle.pac_types.specs.Faults.{is_before}
-use Rattle.pac_types.specs.Checking.{ScopeState, Told, once, unless, defined_in, checked_stmt, stmt_step, checked_block, checked_params, checked_proc, opening, block}
+use Rattle.pac_types.specs.Checking.{ScopeState, Told, once, unless, defined_in, checked_stmt, checked_stmt_step, checked_block, checked_params, checked_proc, opening_scope, block}
 use Rattle.pac_types.proofs.CheckLemmas.{joined-map}
 use Rattle.pac_types.proofs.NameLemmas.{number-take, distinct-more, distinct-nil, not_yet, are_distinct}
 use Rattle.pac_types.proofs.ExprLemmas.{numbers_of, said, Fit, test_passed, wanted_passed, some_is, none_is}
@@ -59,7 +59,7 @@ module _ (tables : List Table) (names : List (List ℕ)) (wide : Wide tables nam
   checking_is [] = refl
   checking_is (q ∷ qs) = ap (λ zs. checked_stmt tables q.0 ∷ zs) (checking_is qs)
 
-  defining_is : (qs : List Known-node) → joined (map defined (nodes_of qs)) ≡ defining (pieces qs)
+  defining_is : (qs : List Known-node) → in_a_row (map defined (nodes_of qs)) ≡ defining (pieces qs)
   defining_is [] = refl
   defining_is (q ∷ qs) = ap (λ zs. defined q.0 ++ zs) (defining_is qs)
 
@@ -67,7 +67,7 @@ module _ (tables : List Table) (names : List (List ℕ)) (wide : Wide tables nam
   open_piece y = record {
     numbered = number_step tables names (map-StmtNode StmtNode Numbered (numbered tables names) (map-StmtNode Known-node StmtNode (λ q. q.0) y));
     defined = defined_step (map-StmtNode StmtNode (List (List ℕ)) defined (map-StmtNode Known-node StmtNode (λ q. q.0) y));
-    checked = stmt_step tables (map-StmtNode StmtNode (ScopeState → Told) (checked_stmt tables) (map-StmtNode Known-node StmtNode (λ q. q.0) y));
+    checked = checked_stmt_step tables (map-StmtNode StmtNode (ScopeState → Told) (checked_stmt tables) (map-StmtNode Known-node StmtNode (λ q. q.0) y));
   }
 
   step_holds : (y : StmtNode-F Known-node) → Holds tables names (open_piece y)
@@ -89,7 +89,7 @@ module _ (tables : List Table) (names : List (List ℕ)) (wide : Wide tables nam
       subst (Holds tables names) (λ i. record {
         numbered = branching (λ sight. resolved names sight test) (sym (numbering_is first) i) (sym (numbering_is second) i);
         defined = sym (defining_is first) i ++ sym (defining_is second) i;
-        checked = λ scope. stmt_step tables (form.If test (sym (checking_is first) i) (sym (checking_is second) i)) scope;
+        checked = λ scope. checked_stmt_step tables (form.If test (sym (checking_is first) i) (sym (checking_is second) i)) scope;
       })
       (λ known next scope rest start. if_told tables names (pieces first) (pieces second) (all_hold first) (all_hold second) (λ sight. resolved names sight test) known next scope rest start _ (test_passed names known next scope start.fit test))
       known next scope rest start
@@ -99,7 +99,7 @@ module _ (tables : List Table) (names : List (List ℕ)) (wide : Wide tables nam
       (subst (Holds tables names) (λ i. record {
         numbered = sym (fold-roll-StmtNode Numbered (number_step tables names) (map-StmtNode Known-node StmtNode (λ q. q.0) y)) i;
         defined = sym (fold-roll-StmtNode (List (List ℕ)) defined_step (map-StmtNode Known-node StmtNode (λ q. q.0) y)) i;
-        checked = sym (fold-roll-StmtNode (ScopeState → Told) (stmt_step tables) (map-StmtNode Known-node StmtNode (λ q. q.0) y)) i;
+        checked = sym (fold-roll-StmtNode (ScopeState → Told) (checked_stmt_step tables) (map-StmtNode Known-node StmtNode (λ q. q.0) y)) i;
       }) (step_holds y)))
 
   abbrev known_nodes : List StmtNode → List Known-node
@@ -110,13 +110,13 @@ module _ (tables : List Table) (names : List (List ℕ)) (wide : Wide tables nam
   nodes_same (n ∷ ns) = ap (λ zs. n ∷ zs) (nodes_same ns)
 
   -- what checking a body tells
-  pub body_told : (nodes : List StmtNode) (known : List (Option Variable)) (next : ℕ) (scope : Scope) (rest : List (List ℕ)) → Start tables names known next scope (joined (map defined nodes)) rest
+  pub body_told : (nodes : List StmtNode) (known : List (Option Variable)) (next : ℕ) (scope : Scope) (rest : List (List ℕ)) → Start tables names known next scope (in_a_row (map defined nodes)) rest
       → BlockTold tables names (map (numbered tables names) nodes) known next scope rest (checked_block tables nodes (at tables names known next))
   body_told nodes known next scope rest start =
       let qs = known_nodes nodes in
       let ns : numbering (pieces qs) ≡ map (numbered tables names) nodes = sym (numbering_is qs) ∙ ap (λ (zs : List StmtNode). map (numbered tables names) zs) (nodes_same nodes) in
       let cs : checking (pieces qs) ≡ map (checked_stmt tables) nodes = sym (checking_is qs) ∙ ap (λ (zs : List StmtNode). map (checked_stmt tables) zs) (nodes_same nodes) in
-      let ds : joined (map defined nodes) ≡ defining (pieces qs) = sym (ap (λ (zs : List StmtNode). joined (map defined zs)) (nodes_same nodes)) ∙ defining_is qs in
+      let ds : in_a_row (map defined nodes) ≡ defining (pieces qs) = sym (ap (λ (zs : List StmtNode). in_a_row (map defined zs)) (nodes_same nodes)) ∙ defining_is qs in
       subst (λ zs. BlockTold tables names zs known next scope rest (checked_block tables nodes (at tables names known next))) ns
       (subst (λ zs. BlockTold tables names (numbering (pieces qs)) known next scope rest (block zs (at tables names known next))) cs
       (block_told tables names (pieces qs) (all_hold qs) known next scope rest (subst (λ zs. Start tables names known next scope zs rest) ds start)))
@@ -258,8 +258,8 @@ module _ (tables : List Table) (node : ProcNode) (wide : Wide tables (variables 
       (body_proc _ (body_told tables (variables node) wide node.body start_of (length node.params) inner_scope [] (record {
         fit = fit_params node.params;
         distinct = subst (λ k. IsDistinct bytes_eq (take k (variables node))) long told.1;
-        left = subst (λ k. drop k (variables node) ≡ flat_map defined node.body) long told.2 ∙ sym (joined-map node.body) ∙ sym (append-nil (joined (map defined node.body)));
+        left = subst (λ k. drop k (variables node) ≡ flat_map defined node.body) long told.2 ∙ sym (joined-map node.body) ∙ sym (append-nil (in_a_row (map defined node.body)));
       })))
 
   pub proc_told : ProcTold (checked_proc tables node)
-  proc_told = params_proc (checked_params node.params (opening node)) (params_told (variables node) node.params [] 0 (flat_map defined node.body) distinct-nil refl)
+  proc_told = params_proc (checked_params node.params (opening_scope node)) (params_told (variables node) node.params [] 0 (flat_map defined node.body) distinct-nil refl)

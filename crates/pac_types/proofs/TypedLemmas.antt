@@ -3,7 +3,7 @@ use Rattle.std.proofs.Common.{◌≡◌, List, map, Result, Ok, Err, refl}
 use Rattle.pac_syntax.specs.declared.tree.Tree.{Tree}
 use Rattle.pac_syntax.specs.Limits.{IsWithinLimits}
 use Rattle.pac_syntax.specs.Order.{IsOrdered}
-use Rattle.pac_types.specs.declared.catalogue.Proc.{Proc}
+use Rattle.pac_types.specs.declared.procedure.Proc.{Proc}
 use Rattle.pac_types.specs.declared.type_error.TypeFault.{TypeFault}
 use Rattle.pac_types.specs.Numbering.{table_of}
 use Rattle.pac_types.specs.Typing.{IsTyped}

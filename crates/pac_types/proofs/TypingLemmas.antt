@@ -7,6 +7,7 @@ use Rattle.std.proofs.lemmas.List.{length-map, append-nil}
 use Rattle.std.proofs.lemmas.List.Elements.{All-map, All-from_recursion, recursion_from_All}
 use Rattle.std.proofs.lemmas.Option.{slice_get-get_or}
 use Rattle.std.proofs.lemmas.Grind.{common_steps}
+use Rattle.pac_base.specs.Refusals.{Tells}
 use Rattle.pac_value.specs.Expressions.{◌>>=◌}
 use Rattle.pac_syntax.specs.declared.tree.ColumnNode.{ColumnNode}
 use Rattle.pac_syntax.specs.declared.tree.TableNode.{TableNode}
@@ -15,17 +16,17 @@ use Rattle.pac_syntax.specs.declared.tree.Tree.{Tree}
 use Rattle.pac_syntax.proofs.Trees.{tree-within}
 use Rattle.pac_syntax.specs.Limits.{IsTableWithinLimits, IsProcWithinLimits, IsWithinLimits, HasStoredType, is_stored_type, sizes}
 use Rattle.pac_types.specs.declared.type_error.TypeFault.{TypeFault}
-use Rattle.pac_types.specs.declared.catalogue.Column.{Column}
-use Rattle.pac_types.specs.declared.catalogue.Table.{Table}
-use Rattle.pac_types.specs.declared.catalogue.Proc.{Proc}
-use Rattle.pac_types.specs.declared.catalogue.Stmt.{Stmt}
+use Rattle.pac_types.specs.declared.table.Column.{Column}
+use Rattle.pac_types.specs.declared.table.Table.{Table}
+use Rattle.pac_types.specs.declared.procedure.Proc.{Proc}
+use Rattle.pac_types.specs.declared.statement.Stmt.{Stmt}
 use Rattle.pac_types.specs.Sound.{is_width, column_types, column_types_of}
 use Rattle.pac_types.specs.Meaning.{operations}
 use Rattle.pac_types.specs.Numbering.{AreDistinct, variables, body_of, numbers_from, column_of, table_of, column_names, table_names}
 use Rattle.pac_types.specs.Typing.{IsProcOf, HasDistinctColumns, Types, CatalogueState, IsCatalogue, IsSoundTable, IsProc, IsTyped}
-use Rattle.pac_types.specs.declared.type_error.TypeError.{TypeError}
-use Rattle.pac_types.specs.declared.type_error.TypeError.TheVariants as error
-use Rattle.pac_types.specs.Checking.{Gives, once, all_once, names_of, checked_tables, checked_proc, checked_procs}
+use Rattle.pac_base.specs.declared.refusal.Refusal.{Refusal}
+use Rattle.pac_base.specs.declared.refusal.Refusal.TheVariants as error
+use Rattle.pac_types.specs.Checking.{once, all_once, names_of, checked_tables, checked_proc, checked_procs}
 use Rattle.pac_types.proofs.NameLemmas.{are_distinct, distinct-nil, number-within}
 use Rattle.pac_types.proofs.CountLemmas.{body_size}
 use Rattle.pac_types.proofs.ExprLemmas.{some_is, none_is}
@@ -256,5 +257,5 @@ same_error : {A E : Type 0} {x y : E} → ◌≡◌ {A = Result A E} (Err x) (Er
 same_error h = cc
 
 -- where the result is a fault, so is what the callee returned
-pub fault_told : {X Y A : Type 0} (view : X → Y) (told : Result Y TypeFault) (r : Result A TypeError) (x y : TypeError) (f : TypeFault) → r ≡ Err x → x ≡ y → r ≡ Err (error.Fault f) → Gives view (Err y) told → told ≡ Err f
-fault_told view told r x y f is same h gives = subst (λ e. Gives view (Err e) told) (sym same ∙ same_error (sym is ∙ h)) gives
+pub fault_told : {X Y A : Type 0} (view : X → Y) (told : Result Y TypeFault) (r : Result A (Refusal TypeFault)) (x y : Refusal TypeFault) (f : TypeFault) → r ≡ Err x → x ≡ y → r ≡ Err (error.Fault f) → Tells view (Err y) told → told ≡ Err f
+fault_told view told r x y f is same h gives = subst (λ e. Tells view (Err e) told) (sym same ∙ same_error (sym is ∙ h)) gives

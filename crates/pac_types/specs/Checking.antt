@@ -22,27 +22,19 @@ use Rattle.pac_syntax.specs.declared.tree.StmtNode.{StmtNode}
 use Rattle.pac_syntax.specs.declared.tree.StmtNode.TheOpen as form
 use Rattle.pac_syntax.specs.declared.tree.StmtNode.TheOpen.{StmtNode-F}
 use Rattle.pac_syntax.specs.declared.tree.StmtNode.TheFolds.{fold-StmtNode}
-use Rattle.pac_types.specs.declared.catalogue.Table.{Table}
-use Rattle.pac_types.specs.declared.catalogue.Proc.{Proc}
-use Rattle.pac_types.specs.declared.catalogue.Stmt.{Stmt, Let, Read, Has, Put, Set, Delete, AbortIf, If}
-use Rattle.pac_types.specs.declared.type_error.TypeError.{TypeError}
-use Rattle.pac_types.specs.declared.type_error.TypeError.TheVariants as error
+use Rattle.pac_types.specs.declared.table.Table.{Table}
+use Rattle.pac_types.specs.declared.procedure.Proc.{Proc}
+use Rattle.pac_types.specs.declared.statement.Stmt.{Stmt, Let, Read, Has, Put, Set, Delete, AbortIf, If}
 use Rattle.pac_types.specs.declared.type_error.TypeFault.{TypeFault}
 use Rattle.pac_types.specs.declared.type_error.TypeFaultKind.{TypeFaultKind}
 use Rattle.pac_types.specs.declared.type_error.TypeFaultKind.TheVariants.{UnknownName, Twice, WrongType, WrongCount, OutOfScope}
-use Rattle.pac_types.specs.declared.scope.Variable.{Variable}
-use Rattle.pac_types.specs.declared.expressions.Typed.{Typed}
-use Rattle.pac_types.specs.declared.statements.Cell.{Cell}
-use Rattle.pac_types.specs.declared.statements.Field.{Field}
+use Rattle.pac_types.specs.declared.checker.scope.Variable.{Variable}
+use Rattle.pac_types.specs.declared.checker.expressions.Typed.{Typed}
+use Rattle.pac_types.specs.declared.checker.statements.Cell.{Cell}
+use Rattle.pac_types.specs.declared.checker.statements.Field.{Field}
 use Rattle.pac_types.specs.Numbering.{number_of, variables, table_number, column_number, column_of}
 use Rattle.pac_types.specs.Faults.{is_before, same_ty, is_left}
 use Rattle.pac_types.specs.Sound.{is_wanted, key_type, column_type, column_types}
-
--- a result is what is told, unless memory ran out
-abbrev pub Gives : {X Y : Type 0} → (X → Y) → Result X TypeError → Result Y TypeFault → Type 0
-Gives view (Ok x) told = told ≡ Ok (view x)
-Gives view (Err (error.Fault fault)) told = told ≡ Err fault
-Gives view (Err error.NoMemory) told = Unit {0}
 
 abbrev pub refuse : {A : Type 0} → ℕ → TypeFaultKind → Result A TypeFault
 refuse at kind = Err (record { at = at; kind = kind })
@@ -156,8 +148,8 @@ checked_cell tables scope table key = known_at table.at (table_number tables tab
 abbrev pub checked_field : List Table → ScopeState → NameNode → ExprNode → NameNode → Result Fields TypeFault
 checked_field tables scope table key column = checked_cell tables scope table key >>= λ a. known_at column.at (column_number tables a.0 column.name) >>= λ c. Ok (a.0, a.1, c)
 
-abbrev pub counted : ℕ → ℕ → ℕ → Result (Unit {0}) TypeFault
-counted at values columns = unless (not (nat_eq values columns)) tt at WrongCount
+abbrev pub same_count : ℕ → ℕ → ℕ → Result (Unit {0}) TypeFault
+same_count at values columns = unless (not (nat_eq values columns)) tt at WrongCount
 
 abbrev pub checked_values : ScopeState → List ExprNode → List Ty → Result (List Expr) TypeFault
 checked_values scope [] tys = Ok []
@@ -166,7 +158,7 @@ checked_values scope (e ∷ es) (ty ∷ tys) = checked_wanted scope e (Some ty) 
 
 abbrev pub checked_put : List Table → ScopeState → NameNode → ExprNode → List ExprNode → Result Stmt TypeFault
 checked_put tables scope table key values =
-    known_at table.at (table_number tables table.name) >>= λ t. counted table.at (length values) (length (column_types tables t)) >>= λ _.
+    known_at table.at (table_number tables table.name) >>= λ t. same_count table.at (length values) (length (column_types tables t)) >>= λ _.
     checked_wanted scope key (key_type tables t) >>= λ k. checked_values scope values (column_types tables t) >>= λ es. Ok (Put t k es)
 
 abbrev pub Told : Type 0
@@ -187,18 +179,18 @@ block ss scope = run_all ss scope >>= λ b. Ok (b.0, left_at (length scope.known
 abbrev pub first_time : ScopeState → NameNode → Result (Unit {0}) TypeFault
 first_time scope name = once scope.names (length scope.known) name
 
-abbrev pub stmt_step : List Table → StmtNode-F (ScopeState → Told) → ScopeState → Told
-stmt_step tables (form.Let name value) scope = first_time scope name >>= λ _. checked_expr scope value >>= λ v. Ok (Let scope.next v.expr, defined_in v.ty scope)
-stmt_step tables (form.Read name table key column default) scope = first_time scope name >>= λ _. checked_field tables scope table key column >>= λ f. checked_read tables scope f default
-stmt_step tables (form.Has name table key) scope = first_time scope name >>= λ _. checked_cell tables scope table key >>= λ c. Ok (Has scope.next c.0 c.1, defined_in BoolTy scope)
-stmt_step tables (form.Put table key values) scope = checked_put tables scope table key values >>= λ s. Ok (s, scope)
-stmt_step tables (form.Set table key column value) scope = checked_field tables scope table key column >>= λ f. checked_wanted scope value (column_type tables f.0 f.2) >>= λ e. Ok (Set f.0 f.1 f.2 e, scope)
-stmt_step tables (form.Delete table key) scope = checked_cell tables scope table key >>= λ c. Ok (Delete c.0 c.1, scope)
-stmt_step tables (form.AbortIf test) scope = checked_test scope test >>= λ e. Ok (AbortIf e, scope)
-stmt_step tables (form.If test first second) scope = checked_test scope test >>= λ e. block first (hidden_in scope) >>= λ a. block second a.1 >>= λ b. Ok (If scope.next e a.0 b.0, b.1)
+abbrev pub checked_stmt_step : List Table → StmtNode-F (ScopeState → Told) → ScopeState → Told
+checked_stmt_step tables (form.Let name value) scope = first_time scope name >>= λ _. checked_expr scope value >>= λ v. Ok (Let scope.next v.expr, defined_in v.ty scope)
+checked_stmt_step tables (form.Read name table key column default) scope = first_time scope name >>= λ _. checked_field tables scope table key column >>= λ f. checked_read tables scope f default
+checked_stmt_step tables (form.Has name table key) scope = first_time scope name >>= λ _. checked_cell tables scope table key >>= λ c. Ok (Has scope.next c.0 c.1, defined_in BoolTy scope)
+checked_stmt_step tables (form.Put table key values) scope = checked_put tables scope table key values >>= λ s. Ok (s, scope)
+checked_stmt_step tables (form.Set table key column value) scope = checked_field tables scope table key column >>= λ f. checked_wanted scope value (column_type tables f.0 f.2) >>= λ e. Ok (Set f.0 f.1 f.2 e, scope)
+checked_stmt_step tables (form.Delete table key) scope = checked_cell tables scope table key >>= λ c. Ok (Delete c.0 c.1, scope)
+checked_stmt_step tables (form.AbortIf test) scope = checked_test scope test >>= λ e. Ok (AbortIf e, scope)
+checked_stmt_step tables (form.If test first second) scope = checked_test scope test >>= λ e. block first (hidden_in scope) >>= λ a. block second a.1 >>= λ b. Ok (If scope.next e a.0 b.0, b.1)
 
 abbrev pub checked_stmt : List Table → StmtNode → ScopeState → Told
-checked_stmt tables = fold-StmtNode (ScopeState → Told) (stmt_step tables)
+checked_stmt tables = fold-StmtNode (ScopeState → Told) (checked_stmt_step tables)
 
 abbrev pub checked_run : List Table → List StmtNode → ScopeState → Result (List Stmt × ScopeState) TypeFault
 checked_run tables nodes = run_all (map (checked_stmt tables) nodes)
@@ -228,12 +220,12 @@ abbrev pub checked_params : List ColumnNode → ScopeState → Result ScopeState
 checked_params [] scope = Ok scope
 checked_params (node ∷ nodes) scope = first_time scope node.name >>= λ _. checked_params nodes (defined_in node.ty scope)
 
-abbrev pub opening : ProcNode → ScopeState
-opening node = record { names = variables node; known = []; next = 0 }
+abbrev pub opening_scope : ProcNode → ScopeState
+opening_scope node = record { names = variables node; known = []; next = 0 }
 
 abbrev pub checked_proc : List Table → ProcNode → Result Proc TypeFault
 checked_proc tables node =
-    checked_params node.params (opening node) >>= λ scope. checked_block tables node.body scope >>= λ b.
+    checked_params node.params (opening_scope node) >>= λ scope. checked_block tables node.body scope >>= λ b.
     Ok (record { name = node.name.name; params = map column_of node.params; body = b.0 })
 
 abbrev pub checked_procs : List Table → List (List ℕ) → ℕ → List ProcNode → Result (List Proc) TypeFault

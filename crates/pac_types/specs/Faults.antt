@@ -20,7 +20,7 @@ use Rattle.pac_syntax.specs.declared.tree.StmtNode.{StmtNode}
 use Rattle.pac_syntax.specs.declared.tree.StmtNode.TheOpen as form
 use Rattle.pac_syntax.specs.declared.tree.StmtNode.TheOpen.{StmtNode-F}
 use Rattle.pac_syntax.specs.declared.tree.StmtNode.TheFolds.{fold-StmtNode}
-use Rattle.pac_types.specs.declared.catalogue.Table.{Table}
+use Rattle.pac_types.specs.declared.table.Table.{Table}
 use Rattle.pac_types.specs.declared.type_error.TypeFault.{TypeFault}
 use Rattle.pac_types.specs.declared.type_error.TypeFaultKind.{TypeFaultKind}
 use Rattle.pac_types.specs.declared.type_error.TypeFaultKind.TheVariants.{UnknownName, Twice, WrongType, WrongCount, OutOfScope}
@@ -49,8 +49,8 @@ twice names place name = fault_if (is_before (number_of names name.name) place) 
 abbrev pub Known : Type 0
 Known = List (Option (Option Ty))
 
-abbrev pub unseen : ℕ → Known
-unseen k = replicate k None
+abbrev pub out_of_sight : ℕ → Known
+out_of_sight k = replicate k None
 
 -- the visible variable at a place among the names
 abbrev pub seen : Known → Option ℕ → Option (Option Ty)
@@ -156,8 +156,8 @@ unknown (Some n) at = []
 abbrev pub key_wanted : List Table → Option ℕ → Option Ty
 key_wanted tables table = option_and_then (λ t. key_type tables t) table
 
-abbrev pub column_of : List Table → Option ℕ → List ℕ → Option ℕ
-column_of tables table name = option_and_then (λ t. column_number tables t name) table
+abbrev pub column_numbered : List Table → Option ℕ → List ℕ → Option ℕ
+column_numbered tables table name = option_and_then (λ t. column_number tables t name) table
 
 abbrev pub column_wanted : List Table → Option ℕ → List ℕ → Option Ty
 column_wanted tables table name = option_and_then (λ t. option_and_then (λ c. column_type tables t c) (column_number tables t name)) table
@@ -190,48 +190,48 @@ pub record Ruled : Type 0 where
   pub shown : Known → Known
   pub faults : Known → List TypeFault
 
-abbrev pub all_names : List Ruled → ℕ
-all_names [] = 0
-all_names (s ∷ ss) = s.names + all_names ss
+abbrev pub ruled_names : List Ruled → ℕ
+ruled_names [] = 0
+ruled_names (s ∷ ss) = s.names + ruled_names ss
 
 -- a variable is visible behind its statement
 abbrev pub all_faults : List Ruled → Known → List TypeFault
 all_faults [] known = []
 all_faults (s ∷ ss) known = s.faults known ++ all_faults ss (known ++ s.shown known)
 
-abbrev pub naming : (Known → Option Ty) → (Known → List TypeFault) → Ruled
-naming ty faults = record { names = 1; shown = λ known. Some (ty known) ∷ []; faults = faults }
+abbrev pub ruled_naming : (Known → Option Ty) → (Known → List TypeFault) → Ruled
+ruled_naming ty faults = record { names = 1; shown = λ known. Some (ty known) ∷ []; faults = faults }
 
-abbrev pub plain : (Known → List TypeFault) → Ruled
-plain faults = record { names = 0; shown = λ known. []; faults = faults }
+abbrev pub ruled_plain : (Known → List TypeFault) → Ruled
+ruled_plain faults = record { names = 0; shown = λ known. []; faults = faults }
 
 -- what a block defines is not visible behind it
-abbrev pub branching : (Known → List TypeFault) → List Ruled → List Ruled → Ruled
-branching test first second = record {
-  names = all_names first + all_names second;
-  shown = λ known. unseen (all_names first) ++ unseen (all_names second);
-  faults = λ known. test known ++ (all_faults first known ++ all_faults second (known ++ unseen (all_names first)));
+abbrev pub ruled_branching : (Known → List TypeFault) → List Ruled → List Ruled → Ruled
+ruled_branching test first second = record {
+  names = ruled_names first + ruled_names second;
+  shown = λ known. out_of_sight (ruled_names first) ++ out_of_sight (ruled_names second);
+  faults = λ known. test known ++ (all_faults first known ++ all_faults second (known ++ out_of_sight (ruled_names first)));
 }
 
 abbrev pub cell_faults : List Table → (ExprNode → Judged) → NameNode → ExprNode → List TypeFault
 cell_faults tables judge table key = unknown (table_number tables table.name) table.at ++ placed (is_fitting (key_wanted tables (table_number tables table.name))) (judge key)
 
 abbrev pub rule_step : List Table → List (List ℕ) → StmtNode-F Ruled → Ruled
-rule_step tables names (form.Let name value) = naming (λ known. (judged names known value).ty) (λ known. twice names (length known) name ++ (judged names known value).faults)
-rule_step tables names (form.Read name table key column default) = naming (λ known. column_wanted tables (table_number tables table.name) column.name) (λ known.
+rule_step tables names (form.Let name value) = ruled_naming (λ known. (judged names known value).ty) (λ known. twice names (length known) name ++ (judged names known value).faults)
+rule_step tables names (form.Read name table key column default) = ruled_naming (λ known. column_wanted tables (table_number tables table.name) column.name) (λ known.
     twice names (length known) name ++ (cell_faults tables (judged names known) table key ++ (column_faults tables (table_number tables table.name) column
     ++ wrong_type (is_fitting (column_wanted tables (table_number tables table.name) column.name)) default.at (Some (type_of default.value)))))
-rule_step tables names (form.Has name table key) = naming (λ known. Some BoolTy) (λ known. twice names (length known) name ++ cell_faults tables (judged names known) table key)
-rule_step tables names (form.Put table key values) = plain (λ known.
+rule_step tables names (form.Has name table key) = ruled_naming (λ known. Some BoolTy) (λ known. twice names (length known) name ++ cell_faults tables (judged names known) table key)
+rule_step tables names (form.Put table key values) = ruled_plain (λ known.
     unknown (table_number tables table.name) table.at ++ (wrong_count tables (table_number tables table.name) table.at (length values)
     ++ (placed (is_fitting (key_wanted tables (table_number tables table.name))) (judged names known key)
     ++ values_faults (judged names known) values (values_wanted tables (table_number tables table.name) (length values)))))
-rule_step tables names (form.Set table key column value) = plain (λ known.
+rule_step tables names (form.Set table key column value) = ruled_plain (λ known.
     cell_faults tables (judged names known) table key ++ (column_faults tables (table_number tables table.name) column
     ++ placed (is_fitting (column_wanted tables (table_number tables table.name) column.name)) (judged names known value)))
-rule_step tables names (form.Delete table key) = plain (λ known. cell_faults tables (judged names known) table key)
-rule_step tables names (form.AbortIf test) = plain (λ known. placed is_test (judged names known test))
-rule_step tables names (form.If test first second) = branching (λ known. placed is_test (judged names known test)) first second
+rule_step tables names (form.Delete table key) = ruled_plain (λ known. cell_faults tables (judged names known) table key)
+rule_step tables names (form.AbortIf test) = ruled_plain (λ known. placed is_test (judged names known test))
+rule_step tables names (form.If test first second) = ruled_branching (λ known. placed is_test (judged names known test)) first second
 
 -- a statement to the rules, over the tables and the names of its procedure
 abbrev pub ruled : List Table → List (List ℕ) → StmtNode → Ruled
@@ -274,7 +274,7 @@ abbrev pub Stands : Tree → TypeFault → Type 0
 Stands tree fault = IsAmong (tree_faults tree) fault
 
 -- the tree's first fault: it stands in the tree, none that does has a lesser place, and no other has the same place
-pub record IsFirstFault (tree : Tree) (fault : TypeFault) : Type 0 where
+pub record IsFirstTypeFault (tree : Tree) (fault : TypeFault) : Type 0 where
   pub stands : Stands tree fault
   pub least : (other : TypeFault) → Stands tree other → fault.at ≤ other.at
   pub alone : (other : TypeFault) → Stands tree other → other.at ≡ fault.at → other ≡ fault

@@ -8,13 +8,13 @@ use Rattle.pac_value.specs.declared.values.Value.TheVariants.{Int, Text, Bool as
 use Rattle.pac_value.specs.declared.expr.Expr.{Expr}
 use Rattle.pac_value.specs.declared.expr.Trap.{Trap}
 use Rattle.pac_value.specs.Expressions.{Values, value, ◌>>=◌}
-use Rattle.pac_value.specs.State.{Place, RowValues, Tables}
+use Rattle.pac_value.specs.State.{Cell, RowValues, Tables}
 use Rattle.pac_types.specs.declared.reason.Reason.{Reason}
 use Rattle.pac_types.specs.declared.reason.Reason.TheVariants.{Missing, Asked}
-use Rattle.pac_types.specs.declared.catalogue.Proc.{Proc}
-use Rattle.pac_types.specs.declared.catalogue.Stmt.{Stmt}
-use Rattle.pac_types.specs.declared.catalogue.Stmt.TheOpen.{Stmt-F, Let, Read, Has, Put, Set, Delete, AbortIf, If}
-use Rattle.pac_types.specs.declared.catalogue.Stmt.TheFolds.{fold-Stmt}
+use Rattle.pac_types.specs.declared.procedure.Proc.{Proc}
+use Rattle.pac_types.specs.declared.statement.Stmt.{Stmt}
+use Rattle.pac_types.specs.declared.statement.Stmt.TheOpen.{Stmt-F, Let, Read, Has, Put, Set, Delete, AbortIf, If}
+use Rattle.pac_types.specs.declared.statement.Stmt.TheFolds.{fold-Stmt}
 use Rattle.pac_types.specs.Reasons.{or_abort}
 
 -- the values of variables, and the tables
@@ -26,13 +26,13 @@ pub record State : Type 0 where
 abbrev pub define : ℕ → Value → State → State
 define x v s = record { env = insert s.env x v; tables = s.tables }
 
--- a row stands at a place from now on, or none
-abbrev pub set_row : Tables → Place → Option RowValues → Tables
-set_row tables place None = remove tables place
-set_row tables place (Some row) = insert tables place row
+-- a row stands at a cell from now on, or none
+abbrev pub set_row : Tables → Cell → Option RowValues → Tables
+set_row tables cell None = remove tables cell
+set_row tables cell (Some row) = insert tables cell row
 
-abbrev pub write : Place → Option RowValues → State → State
-write place row s = record { env = s.env; tables = set_row s.tables place row }
+abbrev pub write : Cell → Option RowValues → State → State
+write cell row s = record { env = s.env; tables = set_row s.tables cell row }
 
 -- the key with an int's or a text's value; a bool is not well typed there
 abbrev pub as_key : Value → Key
@@ -40,8 +40,8 @@ as_key (Int n) = IntKey n
 as_key (Text t) = TextKey t
 as_key (Truth b) = IntKey (pos 0)
 
--- the place that a table operation looks at or changes, unless its key traps
-abbrev pub touched : ℕ → Expr → Values → Result Place Reason
+-- the cell that a table operation looks at or changes, unless its key traps
+abbrev pub touched : ℕ → Expr → Values → Result Cell Reason
 touched t k env = or_abort (value k env) >>= λ v. Ok (t, as_key v)
 
 -- the values of expressions, from left to right
@@ -49,7 +49,7 @@ abbrev pub values : List Expr → Values → Result RowValues Trap
 values [] env = Ok []
 values (e ∷ es) env = value e env >>= λ v. values es env >>= λ vs. Ok (v ∷ vs)
 
--- a column of the row that stands at a place, or the default
+-- a column of the row that stands at a cell, or the default
 abbrev pub column_or : Option RowValues → ℕ → Value → Value
 column_or None c default = default
 column_or (Some row) c default = unwrap_or (slice_get row c) default
@@ -65,23 +65,23 @@ do_let x e s = or_abort (value e s.env) >>= λ v. Ok (define x v s)
 
 -- `read x = t[k].c default d`
 abbrev pub do_read : ℕ → ℕ → Expr → ℕ → Value → State → Result State Reason
-do_read x t k c d s = touched t k s.env >>= λ place. Ok (define x (column_or (get s.tables place) c d) s)
+do_read x t k c d s = touched t k s.env >>= λ cell. Ok (define x (column_or (get s.tables cell) c d) s)
 
 -- `has x = t[k]`
 abbrev pub do_has : ℕ → ℕ → Expr → State → Result State Reason
-do_has x t k s = touched t k s.env >>= λ place. Ok (define x (Truth (is_some (get s.tables place))) s)
+do_has x t k s = touched t k s.env >>= λ cell. Ok (define x (Truth (is_some (get s.tables cell))) s)
 
 -- `put t[k] = (es)`
 abbrev pub do_put : ℕ → Expr → List Expr → State → Result State Reason
-do_put t k es s = touched t k s.env >>= λ place. or_abort (values es s.env) >>= λ row. Ok (write place (Some row) s)
+do_put t k es s = touched t k s.env >>= λ cell. or_abort (values es s.env) >>= λ row. Ok (write cell (Some row) s)
 
 -- `set t[k].c = e`
 abbrev pub do_set : ℕ → Expr → ℕ → Expr → State → Result State Reason
-do_set t k c e s = touched t k s.env >>= λ place. or_abort (value e s.env) >>= λ v. replaced (get s.tables place) c v >>= λ row. Ok (write place (Some row) s)
+do_set t k c e s = touched t k s.env >>= λ cell. or_abort (value e s.env) >>= λ v. replaced (get s.tables cell) c v >>= λ row. Ok (write cell (Some row) s)
 
 -- `delete t[k]`
 abbrev pub do_delete : ℕ → Expr → State → Result State Reason
-do_delete t k s = touched t k s.env >>= λ place. Ok (write place None s)
+do_delete t k s = touched t k s.env >>= λ cell. Ok (write cell None s)
 
 -- an `abort if` aborts where its test is true
 abbrev pub unless_asked : Value → State → Result State Reason
@@ -97,9 +97,9 @@ abbrev pub Abort : Type 0
 Abort = ℕ × Reason
 
 -- an operation that aborts has this number
-abbrev pub numbered : {A : Type 0} → ℕ → Result A Reason → Result A Abort
-numbered n (Ok x) = Ok x
-numbered n (Err reason) = Err (n, reason)
+abbrev pub at_operation : {A : Type 0} → ℕ → Result A Reason → Result A Abort
+at_operation n (Ok x) = Ok x
+at_operation n (Err reason) = Err (n, reason)
 
 -- what statements are: how many operations, and what they do where the first has a given number
 pub record Code : Type 0 where
@@ -108,14 +108,14 @@ pub record Code : Type 0 where
 
 -- a statement that is one operation
 abbrev pub one : (State → Result State Reason) → Code
-one f = record { count = 1; run = λ n s. numbered n (f s) }
+one f = record { count = 1; run = λ n s. at_operation n (f s) }
 
 -- how many operations
 abbrev pub counts : List Code → ℕ
 counts [] = 0
 counts (code ∷ codes) = code.count + counts codes
 
--- one after another, numbered on
+-- one after another, at_operation on
 abbrev pub runs : List Code → ℕ → State → Result State Abort
 runs [] n s = Ok s
 runs (code ∷ codes) n s = code.run n s >>= λ t. runs codes (n + code.count) t
@@ -129,7 +129,7 @@ branch v first second = second
 abbrev pub conditional : ℕ → Expr → List Code → List Code → Code
 conditional x e first second = record {
   count = 1 + (counts first + counts second);
-  run = λ n s. numbered n (or_abort (value e s.env)) >>= λ v. branch v (runs first (n + 1)) (runs second (n + 1 + counts first)) (define x v s);
+  run = λ n s. at_operation n (or_abort (value e s.env)) >>= λ v. branch v (runs first (n + 1)) (runs second (n + 1 + counts first)) (define x v s);
 }
 
 abbrev pub code_step : Stmt-F Code → Code
@@ -184,7 +184,7 @@ abbrev pub in_txn : {A : Type 0} → ℕ → Result A Abort → Result A TxnAbor
 in_txn txn (Ok x) = Ok x
 in_txn txn (Err abort) = Err (txn, abort.0, abort.1)
 
--- the calls one after another, numbered from txn, up to the first that aborts
+-- the calls one after another, at_operation from txn, up to the first that aborts
 abbrev pub serial : List Proc → ℕ → List Call → Tables → Result Tables TxnAbort
 serial procs txn [] tables = Ok tables
 serial procs txn (call ∷ calls) tables = in_txn txn (called_at (slice_get procs call.0) call.1 tables) >>= λ t. serial procs (txn + 1) calls t

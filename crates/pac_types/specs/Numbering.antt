@@ -15,10 +15,10 @@ use Rattle.pac_syntax.specs.declared.tree.StmtNode.TheOpen.{StmtNode-F}
 use Rattle.pac_syntax.specs.declared.tree.StmtNode.TheFolds.{fold-StmtNode}
 use Rattle.pac_syntax.specs.declared.tree.TableNode.{TableNode}
 use Rattle.pac_syntax.specs.declared.tree.ProcNode.{ProcNode}
-use Rattle.pac_types.specs.declared.catalogue.Column.{Column}
-use Rattle.pac_types.specs.declared.catalogue.Table.{Table}
-use Rattle.pac_types.specs.declared.catalogue.Proc.{Proc}
-use Rattle.pac_types.specs.declared.catalogue.Stmt.{Stmt, Let, Read, Has, Put, Set, Delete, AbortIf, If}
+use Rattle.pac_types.specs.declared.table.Column.{Column}
+use Rattle.pac_types.specs.declared.table.Table.{Table}
+use Rattle.pac_types.specs.declared.procedure.Proc.{Proc}
+use Rattle.pac_types.specs.declared.statement.Stmt.{Stmt, Let, Read, Has, Put, Set, Delete, AbortIf, If}
 
 -- no name stands twice
 abbrev pub AreDistinct : List (List ℕ) → Type 0
@@ -51,16 +51,16 @@ column_number tables t name = option_and_then (λ table. number_of (column_names
 
 -- ---- variables
 
-abbrev pub joined : List (List (List ℕ)) → List (List ℕ)
-joined [] = []
-joined (names ∷ more) = names ++ joined more
+abbrev pub in_a_row : List (List (List ℕ)) → List (List ℕ)
+in_a_row [] = []
+in_a_row (names ∷ more) = names ++ in_a_row more
 
 -- the names of the variables that a statement defines, in the order of the text
 abbrev pub defined_step : StmtNode-F (List (List ℕ)) → List (List ℕ)
 defined_step (form.Let name value) = name.name ∷ []
 defined_step (form.Read name table key column default) = name.name ∷ []
 defined_step (form.Has name table key) = name.name ∷ []
-defined_step (form.If test first second) = joined first ++ joined second
+defined_step (form.If test first second) = in_a_row first ++ in_a_row second
 defined_step _ = []
 
 abbrev pub defined : StmtNode → List (List ℕ)
@@ -118,9 +118,9 @@ abbrev pub all_names : List Numbered → ℕ
 all_names [] = 0
 all_names (s ∷ ss) = s.names + all_names ss
 
-abbrev pub counts : List Numbered → ℕ
-counts [] = 0
-counts (s ∷ ss) = s.count + counts ss
+abbrev pub variables_in : List Numbered → ℕ
+variables_in [] = 0
+variables_in (s ∷ ss) = s.count + variables_in ss
 
 -- statements one after another; a variable is visible behind its statement
 abbrev pub in_turn : List Numbered → Sight → ℕ → Option (List Stmt)
@@ -138,10 +138,10 @@ cell_by table key stmt = option_and_then (λ t. option_and_then (λ k. stmt t k)
 abbrev pub branching : (Sight → Option Expr) → List Numbered → List Numbered → Numbered
 branching test first second = record {
   names = all_names first + all_names second;
-  count = 1 + (counts first + counts second);
+  count = 1 + (variables_in first + variables_in second);
   shown = λ n. unseen (all_names first) ++ unseen (all_names second);
   stmt = λ sight n. option_and_then (λ e. option_and_then (λ a. option_map (λ b. If n e a b)
-      (in_turn second (sight ++ unseen (all_names first)) (n + 1 + counts first))) (in_turn first sight (n + 1))) (test sight);
+      (in_turn second (sight ++ unseen (all_names first)) (n + 1 + variables_in first))) (in_turn first sight (n + 1))) (test sight);
 }
 
 abbrev pub number_step : List Table → List (List ℕ) → StmtNode-F Numbered → Numbered

@@ -10,13 +10,13 @@ use Rattle.pac_value.specs.declared.values.Value.{Value}
 use Rattle.pac_value.specs.declared.expr.Expr.{Expr}
 use Rattle.pac_value.specs.Values.{type_of}
 use Rattle.pac_value.specs.Expressions.{type_in}
-use Rattle.pac_value.specs.State.{Place, RowValues, Tables}
-use Rattle.pac_types.specs.declared.catalogue.Column.{Column}
-use Rattle.pac_types.specs.declared.catalogue.Table.{Table}
-use Rattle.pac_types.specs.declared.catalogue.Proc.{Proc}
-use Rattle.pac_types.specs.declared.catalogue.Stmt.{Stmt}
-use Rattle.pac_types.specs.declared.catalogue.Stmt.TheOpen.{Stmt-F, Let, Read, Has, Put, Set, Delete, AbortIf, If}
-use Rattle.pac_types.specs.declared.catalogue.Stmt.TheFolds.{fold-Stmt}
+use Rattle.pac_value.specs.State.{Cell, RowValues, Tables}
+use Rattle.pac_types.specs.declared.table.Column.{Column}
+use Rattle.pac_types.specs.declared.table.Table.{Table}
+use Rattle.pac_types.specs.declared.procedure.Proc.{Proc}
+use Rattle.pac_types.specs.declared.statement.Stmt.{Stmt}
+use Rattle.pac_types.specs.declared.statement.Stmt.TheOpen.{Stmt-F, Let, Read, Has, Put, Set, Delete, AbortIf, If}
+use Rattle.pac_types.specs.declared.statement.Stmt.TheFolds.{fold-Stmt}
 
 -- the types of the variables that are visible
 abbrev pub Scope : Type 0
@@ -80,8 +80,8 @@ pub record Check : Type 0 where
 abbrev pub defining : ℕ → (Scope → Option Scope) → Check
 defining x after = record { defines = λ y. y == x; after = after }
 
-abbrev pub plain : (Scope → Option Scope) → Check
-plain after = record { defines = λ y. false; after = after }
+abbrev pub sound_plain : (Scope → Option Scope) → Check
+sound_plain after = record { defines = λ y. false; after = after }
 
 -- the variables that one of several statements defines
 abbrev pub any_defines : List Check → ℕ → Bool
@@ -97,9 +97,9 @@ in_order (c ∷ cs) scope = option_and_then (in_order cs) (c.after scope)
 abbrev pub without : (ℕ → Bool) → Scope → Scope
 without some scope y = if some y then None else scope y
 
--- a conditional: the hidden variable is visible in the blocks and behind them, what a block defines is not
-abbrev pub conditional : ℕ → Expr → List Check → List Check → Check
-conditional x e first second = record {
+-- a sound_conditional: the hidden variable is visible in the blocks and behind them, what a block defines is not
+abbrev pub sound_conditional : ℕ → Expr → List Check → List Check → Check
+sound_conditional x e first second = record {
   defines = λ y. y == x || (any_defines first y || any_defines second y);
   after = λ scope. if_so
       (is_bool (type_in scope e) && is_some (in_order first (with_var scope x BoolTy)) && is_some (in_order second (with_var scope x BoolTy)))
@@ -111,12 +111,12 @@ check_step tables (Let x e) = defining x (λ scope. option_map (with_var scope x
 check_step tables (Read x t k c default) = defining x (λ scope.
     if_so (is_wanted (type_in scope k) (key_type tables t) && is_wanted (Some (type_of default)) (column_type tables t c)) (with_var scope x (type_of default)))
 check_step tables (Has x t k) = defining x (λ scope. if_so (is_wanted (type_in scope k) (key_type tables t)) (with_var scope x BoolTy))
-check_step tables (Put t k es) = plain (λ scope.
+check_step tables (Put t k es) = sound_plain (λ scope.
     if_so (is_wanted (type_in scope k) (key_type tables t) && is_width (length es) && are_wanted (map (type_in scope) es) (column_types tables t)) scope)
-check_step tables (Set t k c e) = plain (λ scope. if_so (is_wanted (type_in scope k) (key_type tables t) && is_wanted (type_in scope e) (column_type tables t c)) scope)
-check_step tables (Delete t k) = plain (λ scope. if_so (is_wanted (type_in scope k) (key_type tables t)) scope)
-check_step tables (AbortIf e) = plain (λ scope. if_so (is_bool (type_in scope e)) scope)
-check_step tables (If x e first second) = conditional x e first second
+check_step tables (Set t k c e) = sound_plain (λ scope. if_so (is_wanted (type_in scope k) (key_type tables t) && is_wanted (type_in scope e) (column_type tables t c)) scope)
+check_step tables (Delete t k) = sound_plain (λ scope. if_so (is_wanted (type_in scope k) (key_type tables t)) scope)
+check_step tables (AbortIf e) = sound_plain (λ scope. if_so (is_bool (type_in scope e)) scope)
+check_step tables (If x e first second) = sound_conditional x e first second
 
 abbrev pub check : List Table → Stmt → Check
 check tables = fold-Stmt Check (check_step tables)
@@ -147,10 +147,10 @@ type_of_key (Int n) = IntTy
 type_of_key (Text t) = TextTy
 
 -- a row has its table's key and column types
-pub record FitsTable (tables : List Table) (place : Place) (row : RowValues) : Type 0 where
+pub record FitsTable (tables : List Table) (place : Cell) (row : RowValues) : Type 0 where
   pub key : key_type tables place.0 ≡ Some (type_of_key place.1)
   pub columns : map type_of row ≡ column_types tables place.0
 
 -- each row has its table's key and column types
 abbrev pub FitTables : List Table → Tables → Type 0
-FitTables tables rows = (place : Place) (row : RowValues) → get rows place ≡ Some row → FitsTable tables place row
+FitTables tables rows = (place : Cell) (row : RowValues) → get rows place ≡ Some row → FitsTable tables place row

@@ -1,6 +1,6 @@
 -- What keeps tables and the maps of their names together.
 use Rattle.std.specs.Prelude.{◌≡◌, ℕ, List, map}
-use Rattle.pac_types.specs.declared.catalogue.Table.{Table}
+use Rattle.pac_types.specs.declared.table.Table.{Table}
 use Rattle.pac_types.specs.Numbering.{column_names, table_names}
 
 -- the names are the tables', and for each table those of its columns

@@ -6,8 +6,8 @@ use Rattle.pac_syntax.specs.declared.tree.ProcNode.{ProcNode}
 use Rattle.pac_syntax.specs.declared.tree.Tree.{Tree}
 use Rattle.pac_syntax.specs.Limits.{is_stored_type}
 use Rattle.pac_syntax.specs.Reading.{IsTree}
-use Rattle.pac_types.specs.declared.catalogue.Table.{Table}
-use Rattle.pac_types.specs.declared.catalogue.Proc.{Proc}
+use Rattle.pac_types.specs.declared.table.Table.{Table}
+use Rattle.pac_types.specs.declared.procedure.Proc.{Proc}
 use Rattle.pac_types.specs.Numbering.{AreDistinct, table_of, variables, proc_of}
 use Rattle.pac_types.specs.Sound.{IsSoundProc}
 use Rattle.pac_types.specs.Meaning.{operations}

@@ -1,193 +1,84 @@
-// Tables and procedures.
-ghost use Rattle.std.specs.Prelude.{◌≡◌, IfOk};
+// The catalogue of a tree.
+ghost use Rattle.std.specs.Prelude.{◌≡◌, ◌≤◌, All, length, map};
+ghost use Rattle.pac_types.specs.Numbering.{number_of};
+ghost use Rattle.pac_types.specs.Typing.{IsProc, IsSoundTable};
 
-use pac_base::{Exact, Listed, NoMemory, listed};
-use pac_value::{Expr, Name, Ty, Value};
+use crate::{Proc, Table};
+use pac_base::{Exact, Listed, NoMemory};
 use std::alloc::Global;
+use std::marker::Model;
 
-/// A column of a table, or a parameter of a procedure.
-#[derive(Clone, Copy, Debug, PartialEq, Eq)]
-pub struct Column {
-    pub name: Name,
-    pub ty: Ty,
-}
-
-pub type Columns = Listed<Column>;
-
-/// A table: its name, the type of its key, and its columns.
+/// The tables and procedures of a tree that is typed. It keeps by its type that there is such a tree.
 #[derive(Debug, Drop)]
-pub struct Table {
-    pub name: Name,
-    pub key: Ty,
-    pub columns: Columns,
+pub struct Catalogue {
+    pub(crate) tables: Listed<Table>,
+    pub(crate) procs: Listed<Proc>,
 }
 
-pub type Exprs = Listed<Expr>;
+impl Model for Catalogue {
+    ghost use Rattle.pac_types.specs.Typing.{CatalogueState, IsCatalogue};
+    ghost use Rattle.std.specs.Coded.{codes};
+    ghost use Rattle.pac_types.specs.contracts.statement.Stmt as stmt;
 
-pub type Stmts = Listed<Stmt>;
+    ghost Value = { CatalogueState };
 
-/// A statement. Variables, tables and columns have numbers: the parameters of a procedure are its first variables, and
-/// each statement that defines a variable has the next one.
-#[derive(Debug, Drop)]
-pub enum Stmt {
-    /// The variable gets the value.
-    Let {
-        var: u16,
-        value: Expr,
-    },
-    /// The variable gets a column of the row at a key, or the default where there is no row.
-    Read {
-        var: u16,
-        table: u16,
-        key: Expr,
-        column: u16,
-        default: Value,
-    },
-    /// The variable gets whether there is a row at a key.
-    Has {
-        var: u16,
-        table: u16,
-        key: Expr,
-    },
-    /// Inserts or replaces the row at a key.
-    Put {
-        table: u16,
-        key: Expr,
-        values: Exprs,
-    },
-    /// Replaces a column of the row at a key, which has to be there.
-    Set {
-        table: u16,
-        key: Expr,
-        column: u16,
-        value: Expr,
-    },
-    /// Removes the row at a key, where there is one.
-    Delete {
-        table: u16,
-        key: Expr,
-    },
-    /// Aborts the transaction where the test is true.
-    AbortIf {
-        test: Expr,
-    },
-    /// Runs the first block where the test is true, and else the second. The hidden variable gets the test's value.
-    If {
-        var: u16,
-        test: Expr,
-        first: Stmts,
-        second: Stmts,
-    },
+    ghost coded = { Prim.hlevel (codes, stmt.the_row.coded) };
+
+    ghost view = { λ catalogue. record { tables = catalogue.tables; procs = catalogue.procs } };
+
+    ghost invariant = { λ catalogue. IsCatalogue (record { tables = catalogue.tables; procs = catalogue.procs }) };
 }
 
-/// A procedure: its name, its parameters and its statements.
-#[derive(Debug, Drop)]
-pub struct Proc {
-    pub name: Name,
-    pub params: Columns,
-    pub body: Stmts,
-}
+impl Catalogue {
+    /// The tables, by their numbers.
+    pub fn tables(&self) -> &[Table]
+        ensures value { result.now ≡ self.now.tables }
+        ensures few { length self.now.tables ≤ 64 }
+        ensures sound { All IsSoundTable self.now.tables }
+    {
+        self.tables.as_slice()
+    }
 
-impl Exact for Column {
-    fn copy(&self, _: Global) -> Result<Column, NoMemory> {
-        Ok(*self)
+    /// The procedures, by their numbers.
+    pub fn procs(&self) -> &[Proc]
+        ensures value { result.now ≡ self.now.procs }
+        ensures few { length self.now.procs ≤ 64 }
+        ensures sound { All (IsProc self.now.tables) self.now.procs }
+    {
+        self.procs.as_slice()
+    }
+
+    /// The number of the table with this name. `None`: none has it.
+    pub fn table_named(&self, name: &[u8]) -> Option<u16>
+        ensures { result ≡ number_of (map (λ table. table.name) self.now.tables) name.now }
+    {
+        let tables = self.tables();
+        for i in 0..tables.len() {
+            if name == tables[i].name.bytes() {
+                return Some(i as u16);
+            }
+        }
+        None
+    }
+
+    /// The number of the procedure with this name. `None`: none has it.
+    pub fn proc_named(&self, name: &[u8]) -> Option<u16>
+        ensures { result ≡ number_of (map (λ proc. proc.name) self.now.procs) name.now }
+    {
+        let procs = self.procs();
+        for i in 0..procs.len() {
+            if name == procs[i].name.bytes() {
+                return Some(i as u16);
+            }
+        }
+        None
     }
 }
 
-impl Exact for Table {
-    fn copy(&self, alloc: Global) -> Result<Table, NoMemory> {
-        let columns = self.columns.copy(alloc)?;
-        Ok(Table {
-            name: self.name,
-            key: self.key,
-            columns,
-        })
-    }
-}
-
-impl Exact for Stmt {
-    #[cycle(copy)]
-    fn copy(&self, alloc: Global) -> Result<Stmt, NoMemory> {
-        Ok(match self {
-            Stmt::Let { var, value } => Stmt::Let {
-                var: *var,
-                value: value.copy(alloc)?,
-            },
-            Stmt::Read {
-                var,
-                table,
-                key,
-                column,
-                default,
-            } => Stmt::Read {
-                var: *var,
-                table: *table,
-                key: key.copy(alloc)?,
-                column: *column,
-                default: *default,
-            },
-            Stmt::Has { var, table, key } => Stmt::Has {
-                var: *var,
-                table: *table,
-                key: key.copy(alloc)?,
-            },
-            Stmt::Put { table, key, values } => Stmt::Put {
-                table: *table,
-                key: key.copy(alloc)?,
-                values: values.copy(alloc)?,
-            },
-            Stmt::Set {
-                table,
-                key,
-                column,
-                value,
-            } => Stmt::Set {
-                table: *table,
-                key: key.copy(alloc)?,
-                column: *column,
-                value: value.copy(alloc)?,
-            },
-            Stmt::Delete { table, key } => Stmt::Delete {
-                table: *table,
-                key: key.copy(alloc)?,
-            },
-            Stmt::AbortIf { test } => Stmt::AbortIf {
-                test: test.copy(alloc)?,
-            },
-            Stmt::If {
-                var,
-                test,
-                first,
-                second,
-            } => Stmt::If {
-                var: *var,
-                test: test.copy(alloc)?,
-                first: copy_all(alloc, first.as_slice())?,
-                second: copy_all(alloc, second.as_slice())?,
-            },
-        })
-    }
-}
-
-#[cycle(copy)]
-fn copy_all(alloc: Global, stmts: &[Stmt]) -> Result<Stmts, NoMemory>
-    ensures { IfOk result (λ copy. copy ≡ stmts.now) }
-{
-    let mut copy = Vec::with_capacity(alloc, stmts.len())?;
-    for stmt in stmts {
-        copy.push(stmt.copy(alloc)?)?;
-    }
-    Ok(listed(copy))
-}
-
-impl Exact for Proc {
-    fn copy(&self, alloc: Global) -> Result<Proc, NoMemory> {
-        let params = self.params.copy(alloc)?;
-        let body = copy_all(alloc, self.body.as_slice())?;
-        Ok(Proc {
-            name: self.name,
-            params,
-            body,
-        })
+impl Exact for Catalogue {
+    fn copy(&self, alloc: Global) -> Result<Catalogue, NoMemory> {
+        let tables = self.tables.copy(alloc)?;
+        let procs = self.procs.copy(alloc)?;
+        Ok(Catalogue { tables, procs })
     }
 }

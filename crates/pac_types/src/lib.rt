@@ -19,20 +19,20 @@
 
 mod catalogue;
 mod checker;
-mod expressions;
 #[cfg(test)]
 mod fault_tests;
-mod names;
-mod procedures;
+mod procedure;
 mod reason;
-mod scope;
-mod statements;
-mod tables;
+mod statement;
+mod table;
 #[cfg(test)]
 mod tests;
 mod type_error;
 
-pub use catalogue::{Column, Columns, Exprs, Proc, Stmt, Stmts, Table};
-pub use checker::{Catalogue, check};
+pub use catalogue::Catalogue;
+pub use checker::check;
+pub use procedure::Proc;
 pub use reason::Reason;
+pub use statement::{Exprs, Stmt, Stmts};
+pub use table::{Column, Columns, Table};
 pub use type_error::{TypeError, TypeFault, TypeFaultKind};

@@ -1,10 +1,11 @@
 // Why a tree has no catalogue.
 ghost use Rattle.std.specs.Prelude.{◌≡◌};
-ghost use Rattle.pac_types.specs.Kinds.{kind_name};
-ghost use Rattle.pac_types.specs.declared.type_error.TypeError.TheVariants.{Fault as AFault, NoMemory as WantOfMemory};
+ghost use Rattle.pac_types.specs.Kinds.{type_kind_name};
+ghost use Rattle.pac_base.specs.declared.refusal.Refusal.TheVariants.{Fault as AFault};
 
-use pac_base::NoMemory;
-use std::alloc::{AllocError, AllocFailed};
+use pac_base::Refusal;
+use std::fmt;
+use thiserror::Error;
 
 /// What is wrong at a place of a tree.
 #[derive(Clone, Copy, Debug, PartialEq, Eq)]
@@ -24,7 +25,7 @@ pub enum TypeFaultKind {
 impl TypeFaultKind {
     /// The kind as it is printed.
     pub fn name(&self) -> &'static str
-        ensures { result.now ≡ kind_name self.now }
+        ensures { result.now ≡ type_kind_name self.now }
     {
         match self {
             TypeFaultKind::UnknownName => "UnknownName",
@@ -36,50 +37,32 @@ impl TypeFaultKind {
     }
 }
 
-/// A fault at a place of a text, a byte offset from 0.
-#[derive(Clone, Copy, Debug, PartialEq, Eq)]
+impl fmt::Display for TypeFaultKind {
+    ghost use Rattle.std.specs.Prelude.{Some};
+    ghost use Rattle.pac_types.specs.Kinds.{type_kind_name};
+
+    ghost output = { λ kind. Some (type_kind_name kind) };
+
+    fn fmt<W: fmt::Write>(&self, f: &mut fmt::Formatter<W>) -> fmt::Result {
+        f.write_str(self.name())
+    }
+}
+
+/// A fault of names or types at a place of a text, a byte offset from 0.
+#[derive(Clone, Copy, Debug, PartialEq, Eq, Error)]
+#[error("{kind} at byte {at}")]
 pub struct TypeFault {
     pub at: usize,
     pub kind: TypeFaultKind,
 }
 
-/// Why a tree was not typed.
-#[derive(Clone, Copy, Debug, PartialEq, Eq)]
-pub enum TypeError {
-    /// The tree's first fault.
-    Fault(TypeFault),
-    /// There was no memory for the catalogue.
-    NoMemory,
-}
+/// Why a tree isn't typed: its first fault, or want of memory.
+pub type TypeError = Refusal<TypeFault>;
 
 impl From<TypeFault> for TypeError {
     ghost from_gives = { λ fault error. error ≡ AFault fault };
 
     fn from(fault: TypeFault) -> Self {
-        TypeError::Fault(fault)
-    }
-}
-
-impl From<NoMemory> for TypeError {
-    ghost from_gives = { λ _ error. error ≡ WantOfMemory };
-
-    fn from(_: NoMemory) -> Self {
-        TypeError::NoMemory
-    }
-}
-
-impl From<AllocError> for TypeError {
-    ghost from_gives = { λ _ error. error ≡ WantOfMemory };
-
-    fn from(_: AllocError) -> Self {
-        TypeError::NoMemory
-    }
-}
-
-impl<T: Drop> From<AllocFailed<T>> for TypeError {
-    ghost from_gives = { λ _ error. error ≡ WantOfMemory };
-
-    fn from(_: AllocFailed<T>) -> Self {
-        TypeError::NoMemory
+        Refusal::Fault(fault)
     }
 }

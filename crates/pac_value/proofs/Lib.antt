@@ -2,5 +2,5 @@ pub mod MapLemmas
 pub mod EntryLemmas
 pub mod ValueLemmas
 pub mod RemainderLemmas
-pub mod PlaceLemmas
+pub mod CellLemmas
 pub mod ByForms

@@ -11,28 +11,28 @@ use Rattle.pac_value.specs.contracts.values.Value as value
 use Rattle.pac_value.specs.Keys.{key_cmp}
 
 -- where a row stands: in which table, and at which key
-abbrev pub Place : Type 0
-Place = ℕ × Key
+abbrev pub Cell : Type 0
+Cell = ℕ × Key
 
 -- by table, and then by key
-abbrev pub place_cmp : Place → Place → Ordering
-place_cmp a b = ordering_then (nat_cmp a.0 b.0) (key_cmp a.1 b.1)
+abbrev pub cell_cmp : Cell → Cell → Ordering
+cell_cmp a b = ordering_then (nat_cmp a.0 b.0) (key_cmp a.1 b.1)
 
 -- a row: the values of its columns
 abbrev pub RowValues : Type 0
 RowValues = List Value
 
--- the rows of all tables, by their places
+-- the rows of all tables, by their cells
 abbrev pub Tables : Type 0
-Tables = FinMap place_cmp RowValues
+Tables = FinMap cell_cmp RowValues
 
 -- how the tables are told apart, for a type whose contracts see it as them
 abbrev pub tables_code : Coded Tables
 tables_code = code (coded× coded_ℕ key.the_row.coded) (coded_list value.the_row.coded)
 
--- the keys at places of a table
-abbrev pub keys_among : List Place → ℕ → List Key
-keys_among places table = map (λ place. place.1) (filter (λ place. place.0 == table) places)
+-- the keys at cells of a table
+abbrev pub keys_among : List Cell → ℕ → List Key
+keys_among cells table = map (λ cell. cell.1) (filter (λ cell. cell.0 == table) cells)
 
 -- the keys of a table's rows, ascending
 abbrev pub keys_of : Tables → ℕ → List Key

@@ -1,5 +1,5 @@
 //! The data that every layer speaks of: names, texts, values, keys and rows, expressions and their values, and the
-//! order of places in tables. Nothing here reads or writes anything, and only copies and maps take memory.
+//! order of cells in tables. Nothing here reads or writes anything, and only copies and maps take memory.
 //!
 //! - [`Name`]: the name of a table, a column, a procedure or a variable, at most 32 bytes.
 //! - [`Text`]: at most 64 printable bytes.
@@ -10,7 +10,7 @@
 //!
 //! What an expression is worth is defined over unbounded whole numbers in `specs/Expressions.antt`: a result that
 //! leaves 64 bits is the trap Overflow, a zero divisor the trap DivZero, `/` rounds toward zero and `a % b` is what `/`
-//! leaves of `a`. `specs/State.antt` says what the tables of a database are: a finite map from places, a table's number
+//! leaves of `a`. `specs/State.antt` says what the tables of a database are: a finite map from cells, a table's number
 //! and a key, to rows.
 #![tactic(auto)]
 

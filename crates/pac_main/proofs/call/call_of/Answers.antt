@@ -1,7 +1,7 @@
 use Rattle.std.proofs.Common.{◌≡◌, ◌<◌, true, false, List, length, get_or, Some, sym, ap, ◌∙◌, arith, refl}
 use Rattle.pac_value.specs.declared.values.Value.{Value}
-use Rattle.pac_types.specs.declared.catalogue.Column.{Column}
-use Rattle.pac_types.specs.declared.catalogue.Proc.{Proc}
+use Rattle.pac_types.specs.declared.table.Column.{Column}
+use Rattle.pac_types.specs.declared.procedure.Proc.{Proc}
 use Rattle.pac_types.specs.Numbering.{number_of}
 use Rattle.pac_types.specs.Sound.{FitParams}
 use Rattle.pac_main.specs.Calls.{proc_names}

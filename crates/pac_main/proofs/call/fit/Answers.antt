@@ -1,6 +1,6 @@
 use Rattle.std.proofs.Common.{◌<◌, length, sym, ap, ◌∙◌, arith, refl}
 use Rattle.pac_main.proofs.FitLemmas.{types-next, fit-at}
-use Rattle.pac_types.specs.declared.catalogue.Column.{Column}
+use Rattle.pac_types.specs.declared.table.Column.{Column}
 use Rattle.pac_main.proofs.call.fit.Goals as goal
 
 pub returns-then-not-is_of : goal.returns-then-not-is_of

@@ -1,6 +1,6 @@
 use Rattle.std.proofs.Common.{◌≡◌, ◌∙◌, ap, subst, List, ℕ}
 use Rattle.pac_outside.specs.Content.{Took, TookFront}
-use Rattle.pac_types.specs.declared.catalogue.Table.{Table}
+use Rattle.pac_types.specs.declared.table.Table.{Table}
 use Rattle.pac_serial.specs.Dump.{tables_text}
 use Rattle.pac_main.specs.Replay.{dump}
 use Rattle.pac_main.proofs.command.replay.Goals as goal

@@ -2,7 +2,7 @@
 use Rattle.std.proofs.Common.{◌≡◌, ◌∷◌, ◌+◌, Result, ap, sym, subst, ◌∙◌, arith, map, drop, IsSome, List}
 use Rattle.std.proofs.lemmas.List.{drop_more}
 use Rattle.pac_value.specs.Expressions.{Values, types_of, ◌>>=◌}
-use Rattle.pac_types.specs.declared.catalogue.Stmt.{Stmt}
+use Rattle.pac_types.specs.declared.statement.Stmt.{Stmt}
 use Rattle.pac_types.specs.Sound.{scope_after, scope_behind, FitTables, check, any_defines}
 use Rattle.pac_types.specs.Meaning.{State, Abort, code, operations, meaning}
 use Rattle.pac_serial.specs.Outcomes.{Sees}

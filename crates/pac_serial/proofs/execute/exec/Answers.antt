@@ -2,7 +2,7 @@
 use Rattle.std.proofs.Common.{List, IsSome, ap, sym, subst, ◌∙◌}
 use Rattle.pac_value.specs.Expressions.{types_of}
 use Rattle.pac_value.specs.State.{Tables}
-use Rattle.pac_types.specs.declared.catalogue.Stmt.{Stmt}
+use Rattle.pac_types.specs.declared.statement.Stmt.{Stmt}
 use Rattle.pac_types.specs.Sound.{scope_behind, FitTables}
 use Rattle.pac_serial.proofs.OpeningLemmas.{opening-sound}
 use Rattle.pac_serial.proofs.execute.exec.Goals as goal

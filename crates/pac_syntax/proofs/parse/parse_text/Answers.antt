@@ -1,11 +1,11 @@
 use Rattle.std.proofs.Common.{◌≡◌, ◌∙◌, ◌≤◌, Option, Some, sym, subst, ap, List, length, arith, inr}
 use Rattle.std.proofs.lemmas.Result.{IfOk-weaker}
-use Rattle.pac_syntax.specs.declared.token.Spanned.{Spanned}
+use Rattle.pac_tokens.specs.declared.token.Spanned.{Spanned}
 use Rattle.pac_syntax.specs.Faults.{ReadsTokens}
-use Rattle.pac_syntax.specs.declared.fault.Fault.{Fault}
-use Rattle.pac_syntax.specs.Tokens.{IsLexed}
+use Rattle.pac_tokens.specs.declared.fault.Fault.{Fault}
+use Rattle.pac_tokens.specs.Tokens.{IsLexed}
 use Rattle.pac_syntax.proofs.TextFaults.{tells_first, error_is}
-use Rattle.pac_syntax.proofs.LexedOnce.{same_tokens, same_fault, some_none}
+use Rattle.pac_tokens.proofs.LexedOnce.{same_tokens, same_fault, some_none}
 use Rattle.pac_syntax.proofs.WithinLimits.{reads-within}
 use Rattle.pac_syntax.proofs.parse.parse_text.Goals as goal
 

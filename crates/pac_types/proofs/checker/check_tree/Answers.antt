@@ -5,8 +5,8 @@ use Rattle.pac_syntax.specs.Limits.{IsTableWithinLimits, IsProcWithinLimits}
 use Rattle.std.proofs.lemmas.Result.{err_from_is_err_and}
 use Rattle.pac_syntax.specs.declared.tree.TableNode.{TableNode}
 use Rattle.pac_syntax.specs.declared.tree.ProcNode.{ProcNode}
-use Rattle.pac_types.specs.declared.catalogue.Table.{Table}
-use Rattle.pac_types.specs.declared.catalogue.Proc.{Proc}
+use Rattle.pac_types.specs.declared.table.Table.{Table}
+use Rattle.pac_types.specs.declared.procedure.Proc.{Proc}
 use Rattle.pac_types.specs.Numbering.{table_of}
 use Rattle.pac_types.specs.Checking.{checked_tables, checked_procs}
 use Rattle.pac_syntax.proofs.Trees.{tree-within, tree-ordered}

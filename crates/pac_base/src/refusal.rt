@@ -1,0 +1,45 @@
+// Why a call is refused.
+ghost use Rattle.std.specs.Prelude.{◌≡◌};
+ghost use Rattle.pac_base.specs.declared.refusal.Refusal.TheVariants.{NoMemory as WantOfMemory};
+
+use crate::NoMemory;
+use std::alloc::{AllocError, AllocFailed};
+use std::fmt::Display;
+use thiserror::Error;
+
+/// Why a call is refused that a fault of its input, or want of memory, can stop. Each layer's error is this of its own
+/// fault, so its `From`s stand here once. What a call answers with it is said by the words of `specs/Refusals.antt`.
+#[derive(Clone, Copy, Debug, PartialEq, Eq, Error)]
+#[error_bound(F: Display)]
+pub enum Refusal<F> {
+    /// What was given has this fault.
+    #[error("{0}")]
+    Fault(F),
+    /// An allocation was refused.
+    #[error("out of memory")]
+    NoMemory,
+}
+
+impl<F> From<NoMemory> for Refusal<F> {
+    ghost from_gives = { λ _ refusal. refusal ≡ WantOfMemory };
+
+    fn from(_: NoMemory) -> Self {
+        Refusal::NoMemory
+    }
+}
+
+impl<F> From<AllocError> for Refusal<F> {
+    ghost from_gives = { λ _ refusal. refusal ≡ WantOfMemory };
+
+    fn from(_: AllocError) -> Self {
+        Refusal::NoMemory
+    }
+}
+
+impl<F, T: Drop> From<AllocFailed<T>> for Refusal<F> {
+    ghost from_gives = { λ _ refusal. refusal ≡ WantOfMemory };
+
+    fn from(_: AllocFailed<T>) -> Self {
+        Refusal::NoMemory
+    }
+}

@@ -1,0 +1,13 @@
+pub mod SameText
+pub mod Decimals
+pub mod TokenFacts
+pub mod Fronts
+pub mod SignFronts
+pub mod Proper
+pub mod ProperWithin
+pub mod PrintedExprs
+pub mod Pieces
+pub mod PrintedStmts
+pub mod PrintedBlocks
+pub mod PrintedTrees
+pub mod ReadsBack

@@ -1,0 +1,63 @@
+-- A tree without the places of its nodes: what is left of it in its canonical text.
+use Rattle.std.specs.Prelude.{◌≡◌, ℕ, List, map}
+use Rattle.pac_syntax.specs.declared.tree.NameNode.{NameNode}
+use Rattle.pac_syntax.specs.declared.tree.LiteralNode.{LiteralNode}
+use Rattle.pac_syntax.specs.declared.tree.ColumnNode.{ColumnNode}
+use Rattle.pac_syntax.specs.declared.tree.ExprNode.{ExprNode}
+use Rattle.pac_syntax.specs.declared.tree.ExprNode.{Literal as ALiteral, Name as AName, Binary as ABinary, Not as ANot}
+use Rattle.pac_syntax.specs.declared.tree.ExprNode.TheOpen.{ExprNode-F, Literal, Name, Binary, Not}
+use Rattle.pac_syntax.specs.declared.tree.ExprNode.TheFolds.{fold-ExprNode}
+use Rattle.pac_syntax.specs.declared.tree.StmtNode.{StmtNode}
+use Rattle.pac_syntax.specs.declared.tree.StmtNode.TheVariants as stmt
+use Rattle.pac_syntax.specs.declared.tree.StmtNode.TheOpen.{StmtNode-F, Let, Read, Has, Put, Set, Delete, AbortIf, If}
+use Rattle.pac_syntax.specs.declared.tree.StmtNode.TheFolds.{fold-StmtNode}
+use Rattle.pac_syntax.specs.declared.tree.TableNode.{TableNode}
+use Rattle.pac_syntax.specs.declared.tree.ProcNode.{ProcNode}
+use Rattle.pac_syntax.specs.declared.tree.Tree.{Tree}
+use Rattle.pac_syntax.specs.Reading.{Reads}
+
+-- each place is 0
+abbrev pub unplaced_name : NameNode → NameNode
+unplaced_name name = record { at = 0; name = name.name }
+
+abbrev pub unplaced_literal : LiteralNode → LiteralNode
+unplaced_literal literal = record { at = 0; value = literal.value }
+
+abbrev pub unplaced_column : ColumnNode → ColumnNode
+unplaced_column column = record { name = unplaced_name column.name; ty = column.ty }
+
+abbrev pub unplaced_expr_step : ExprNode-F ExprNode → ExprNode
+unplaced_expr_step (Literal literal) = ALiteral (unplaced_literal literal)
+unplaced_expr_step (Name name) = AName (unplaced_name name)
+unplaced_expr_step (Binary at op left right) = ABinary 0 op left right
+unplaced_expr_step (Not at operand) = ANot 0 operand
+
+abbrev pub unplaced_expr : ExprNode → ExprNode
+unplaced_expr = fold-ExprNode ExprNode unplaced_expr_step
+
+abbrev pub unplaced_stmt_step : StmtNode-F StmtNode → StmtNode
+unplaced_stmt_step (Let name expr) = stmt.Let (unplaced_name name) (unplaced_expr expr)
+unplaced_stmt_step (Read name table key column default) =
+    stmt.Read (unplaced_name name) (unplaced_name table) (unplaced_expr key) (unplaced_name column) (unplaced_literal default)
+unplaced_stmt_step (Has name table key) = stmt.Has (unplaced_name name) (unplaced_name table) (unplaced_expr key)
+unplaced_stmt_step (Put table key exprs) = stmt.Put (unplaced_name table) (unplaced_expr key) (map unplaced_expr exprs)
+unplaced_stmt_step (Set table key column expr) = stmt.Set (unplaced_name table) (unplaced_expr key) (unplaced_name column) (unplaced_expr expr)
+unplaced_stmt_step (Delete table key) = stmt.Delete (unplaced_name table) (unplaced_expr key)
+unplaced_stmt_step (AbortIf test) = stmt.AbortIf (unplaced_expr test)
+unplaced_stmt_step (If test first second) = stmt.If (unplaced_expr test) first second
+
+abbrev pub unplaced_stmt : StmtNode → StmtNode
+unplaced_stmt = fold-StmtNode StmtNode unplaced_stmt_step
+
+abbrev pub unplaced_table : TableNode → TableNode
+unplaced_table table = record { name = unplaced_name table.name; key = table.key; columns = map unplaced_column table.columns }
+
+abbrev pub unplaced_proc : ProcNode → ProcNode
+unplaced_proc proc = record { name = unplaced_name proc.name; params = map unplaced_column proc.params; body = map unplaced_stmt proc.body }
+
+abbrev pub without_places : Tree → Tree
+without_places tree = record { tables = map unplaced_table tree.tables; procs = map unplaced_proc tree.procs }
+
+-- the text reads as a tree that is the same but for places
+abbrev pub ReadsButForPlaces : List ℕ → Tree → Type 0
+ReadsButForPlaces text tree = (again : Tree) × Reads text again × (without_places again ≡ without_places tree)

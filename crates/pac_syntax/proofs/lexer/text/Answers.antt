@@ -1,6 +1,0 @@
-use Rattle.std.proofs.Common.{sym, ◌∙◌}
-use Rattle.pac_syntax.proofs.Quoted.{closed}
-use Rattle.pac_syntax.proofs.lexer.text.Goals as goal
-
-pub unescape-requires : goal.unescape-requires
-unescape-requires c = (closed c.args.behind.now c.in-Some.closing (sym c.closing.ensures.closing ∙ c.in-Some.is)).printable

@@ -1,0 +1,14 @@
+use Rattle.std.proofs.Common.{◌≡◌, ◌≤◌, List, [], length}
+use Rattle.pac_syntax.specs.declared.tree.TableNode.{TableNode}
+use Rattle.pac_syntax.specs.Machine.{Steps, MoreTables, run}
+use Rattle.pac_syntax.proofs.parse.parser.Parser.tables.Given as goal
+
+-- to read on behind what was read is to read the whole
+abbrev pub invariant-loop-at : goal.invariant-loop-at
+invariant-loop-at l = record {
+  left : length l.self.rest.now ≤ length l.fn.self.rest.now;
+  run : (k : List TableNode → Steps) → run l.fn.self.end (MoreTables 0 [] k) l.fn.self.rest.now ≡ run l.self.end (MoreTables (length l.tables.items) l.tables.items k) l.self.rest.now;
+}
+
+abbrev pub decreases-loop-at : goal.decreases-loop-at
+decreases-loop-at l = length l.self.rest.now

@@ -1,0 +1,206 @@
+// Reads expressions.
+ghost use Rattle.std.specs.Prelude.{◌≡◌, ◌≢◌, ◌<◌, ◌≤◌, ◌+◌, ℕ, zero, length, OnOk, IfOk, IfErr, IfSome};
+ghost use Rattle.pac_base.specs.Refusals.{Gives, OkUnlessMemory};
+ghost use Rattle.pac_syntax.specs.Machine.{Steps, Begun, Level, Rest, begun_binary, top, operator_at, want_expr, negation_steps, paren_steps, run, either};
+ghost use Rattle.pac_syntax.specs.Views.{begun_at, IsNot, Goes};
+ghost use Rattle.pac_tokens.specs.declared.token.Token.TheVariants as token;
+ghost use Rattle.pac_tokens.specs.declared.token.Symbol.TheVariants as symbol;
+ghost use Rattle.pac_tokens.specs.declared.fault.FaultKind.TheVariants.{TooMany};
+ghost use Rattle.pac_base.specs.declared.refusal.Refusal.TheVariants as error;
+ghost use Rattle.pac_syntax.specs.declared.tree.ExprNode.{ExprNode as AnExprNode};
+
+use crate::operator::{COMPARISONS, operator_by, tier_of};
+use super::parser::{Operand, Parser, split};
+use crate::tree::ExprNode;
+use pac_base::Boxed;
+use pac_tokens::{Fault, FaultKind, Symbol, SyntaxError, Token};
+use pac_value::BinOp;
+
+const MAX_OPERATORS: u8 = 64;
+
+const MAX_PARENS: u8 = 16;
+
+// The level of any expression.
+const EXPRESSION: u8 = 5;
+
+// The operator of a tier that a token is.
+fn operator_of_tier(tier: u8, token: &Token) -> Option<BinOp>
+    ensures { result ≡ operator_at tier token.now }
+{
+    let Token::Symbol(sign) = token else {
+        return None;
+    };
+    match operator_by(*sign) {
+        Some(op) if tier_of(op) == tier => Some(op),
+        _ => None,
+    }
+}
+
+impl<'a> Parser<'a> {
+    // One more operator, at this place.
+    fn count(&mut self, at: usize) -> Result<(), SyntaxError>
+        ensures end { self.new.end ≡ self.old.end }
+        ensures rest { self.new.rest ≡ self.old.rest }
+        ensures ok { OnOk result ((self.old.operators < 64) × (self.new.operators ≡ self.old.operators + 1)) }
+        ensures err { IfErr result (λ e. (64 ≤ self.old.operators) × (e ≡ error.Fault (record { at = at; kind = TooMany }))) }
+    {
+        if self.operators >= MAX_OPERATORS {
+            let kind = FaultKind::TooMany;
+            return Err(SyntaxError::Fault(Fault { at, kind }));
+        }
+        self.operators += 1;
+        Ok(())
+    }
+
+    // The operator of this tier that comes next, which is taken.
+    fn operator(&mut self, tier: u8) -> Result<Option<BinOp>, SyntaxError>
+        ensures left { length self.new.rest.now ≤ length self.old.rest.now }
+        ensures shorter { IfOk result (λ o. IfSome o (λ _. length self.new.rest.now < length self.old.rest.now)) }
+        ensures run { (d : ℕ) (x : Begun) (k : Begun → ℕ → Steps) → Gives (λ o. either o (run self.new.end (k x self.new.operators) self.new.rest.now) (λ op. run self.new.end (Level d tier self.new.operators (λ y o. top d (tier + 1) k (begun_binary op x y) o)) self.new.rest.now)) result (run self.old.end (Rest d tier x self.old.operators k) self.old.rest.now) }
+    {
+        let Some((first, rest)) = split(self.rest) else {
+            return Ok(None);
+        };
+        let Some(op) = operator_of_tier(tier, &first.token) else {
+            return Ok(None);
+        };
+        self.count(first.at)?;
+        self.rest = rest;
+        Ok(Some(op))
+    }
+
+    // A name or a literal.
+    fn operand(&mut self, parens: u8) -> Result<Operand, SyntaxError>
+        requires no_negation { IsNot (token.Symbol symbol.Not) self.old.rest.now }
+        requires no_paren { IsNot (token.Symbol symbol.OpenParen) self.old.rest.now }
+        ensures shorter { OnOk result (length self.new.rest.now < length self.old.rest.now) }
+        ensures run { (k : Begun → ℕ → Steps) → Gives (λ x. run self.new.end (k (begun_at x) self.new.operators) self.new.rest.now) result (run self.old.end (Level parens 0 self.old.operators k) self.old.rest.now) }
+    {
+        if let Some(name) = self.takes_name() {
+            let from = name.at;
+            let expr = ExprNode::Name(name);
+            return Ok(Operand { from, expr });
+        }
+        let literal = self.literal()?;
+        let from = literal.at;
+        let expr = ExprNode::Literal(literal);
+        Ok(Operand { from, expr })
+    }
+
+    // An operand, with its negations and parentheses.
+    #[cycle(expression)]
+    fn unary(&mut self, parens: u8) -> Result<Operand, SyntaxError>
+        ensures shorter { OnOk result (length self.new.rest.now < length self.old.rest.now) }
+        ensures run { (k : Begun → ℕ → Steps) → Gives (λ x. run self.new.end (k (begun_at x) self.new.operators) self.new.rest.now) result (run self.old.end (Level parens 0 self.old.operators k) self.old.rest.now) }
+    {
+        if let Some(at) = self.takes_symbol(Symbol::Not) {
+            self.count(at)?;
+            return self.negation(parens, at);
+        }
+        if let Some(at) = self.takes_symbol(Symbol::OpenParen) {
+            if parens >= MAX_PARENS {
+                let kind = FaultKind::TooDeep;
+                return Err(SyntaxError::Fault(Fault { at, kind }));
+            }
+            return self.enclosed(parens + 1, at);
+        }
+        self.operand(parens)
+    }
+
+    // What stands behind the `!` at this place.
+    #[cycle(expression)]
+    fn negation(&mut self, parens: u8, at: usize) -> Result<Operand, SyntaxError>
+        ensures left { OnOk result (length self.new.rest.now ≤ length self.old.rest.now) }
+        ensures run { (k : Begun → ℕ → Steps) → Gives (λ x. run self.new.end (k (begun_at x) self.new.operators) self.new.rest.now) result (run self.old.end (negation_steps at parens self.old.operators k) self.old.rest.now) }
+    {
+        let operand = self.unary(parens)?;
+        let operand = Boxed::new(self.alloc, operand.expr)?;
+        let expr = ExprNode::Not { at, operand };
+        Ok(Operand { from: at, expr })
+    }
+
+    // What stands behind the `(` at this place.
+    #[cycle(expression)]
+    fn enclosed(&mut self, parens: u8, at: usize) -> Result<Operand, SyntaxError>
+        ensures left { OnOk result (length self.new.rest.now ≤ length self.old.rest.now) }
+        ensures run { (k : Begun → ℕ → Steps) → Gives (λ x. run self.new.end (k (begun_at x) self.new.operators) self.new.rest.now) result (run self.old.end (paren_steps at parens self.old.operators k) self.old.rest.now) }
+    {
+        let inner = self.level(parens, EXPRESSION)?;
+        self.symbol(Symbol::CloseParen)?;
+        Ok(Operand {
+            from: at,
+            expr: inner.expr,
+        })
+    }
+
+    // An expression of a level.
+    #[cycle(expression)]
+    fn level(&mut self, parens: u8, level: u8) -> Result<Operand, SyntaxError>
+        ensures shorter { OnOk result (length self.new.rest.now < length self.old.rest.now) }
+        ensures run { (k : Begun → ℕ → Steps) → Gives (λ x. run self.new.end (k (begun_at x) self.new.operators) self.new.rest.now) result (run self.old.end (Level parens level self.old.operators k) self.old.rest.now) }
+    {
+        if level == 0 {
+            return self.unary(parens);
+        }
+        let tier = level - 1;
+        if tier == COMPARISONS {
+            return self.comparison(parens);
+        }
+        self.chain(parens, tier)
+    }
+
+    // A sum, or two and a comparison between them.
+    #[cycle(expression)]
+    fn comparison(&mut self, parens: u8) -> Result<Operand, SyntaxError>
+        ensures shorter { OnOk result (length self.new.rest.now < length self.old.rest.now) }
+        ensures run { (k : Begun → ℕ → Steps) → Gives (λ x. run self.new.end (k (begun_at x) self.new.operators) self.new.rest.now) result (run self.old.end (Level parens 3 self.old.operators k) self.old.rest.now) }
+    {
+        let left = self.level(parens, COMPARISONS)?;
+        let Some(op) = self.operator(COMPARISONS)? else {
+            return Ok(left);
+        };
+        let right = self.level(parens, COMPARISONS)?;
+        let whole = self.joined(op, left, right)?;
+        Ok(whole)
+    }
+
+    // An operand, and as many more as operators of a tier join to it, from the left.
+    #[cycle(expression)]
+    fn chain(&mut self, parens: u8, tier: u8) -> Result<Operand, SyntaxError>
+        requires { tier ≢ 2 }
+        ensures shorter { OnOk result (length self.new.rest.now < length self.old.rest.now) }
+        ensures run { (k : Begun → ℕ → Steps) → Gives (λ x. run self.new.end (k (begun_at x) self.new.operators) self.new.rest.now) result (run self.old.end (Level parens (tier + 1) self.old.operators k) self.old.rest.now) }
+    {
+        let mut left = self.level(parens, tier)?;
+        while let Some(op) = self.operator(tier)? {
+            let right = self.level(parens, tier)?;
+            left = self.joined(op, left, right)?;
+        }
+        Ok(left)
+    }
+
+    fn joined(&self, op: BinOp, left: Operand, right: Operand) -> Result<Operand, SyntaxError>
+        ensures { OkUnlessMemory result (λ x. begun_at x ≡ begun_binary op (begun_at left) (begun_at right)) }
+    {
+        let from = left.from;
+        let left = Boxed::new(self.alloc, left.expr)?;
+        let right = Boxed::new(self.alloc, right.expr)?;
+        let expr = ExprNode::Binary {
+            at: from,
+            op,
+            left,
+            right,
+        };
+        Ok(Operand { from, expr })
+    }
+
+    /// A whole expression.
+    pub fn expression(&mut self) -> Result<ExprNode, SyntaxError>
+        ensures left { OnOk result (length self.new.rest.now ≤ length self.old.rest.now) }
+        ensures run { Goes want_expr self.old self.new result }
+    {
+        self.operators = 0;
+        let whole = self.level(0, EXPRESSION)?;
+        Ok(whole.expr)
+    }
+}

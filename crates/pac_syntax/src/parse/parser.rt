@@ -1,0 +1,307 @@
+// Reads the tree of tokens by recursive descent, and stops at the first token that can't follow.
+ghost use Rattle.std.specs.Prelude.{◌≡◌, ℕ, ◌∷◌, ◌++◌, [], ◌<◌, ◌≤◌, length, List, MatchOption, OnOk, IfOk, IfSome, true};
+ghost use Rattle.pac_base.specs.Refusals.{Gives};
+ghost use Rattle.pac_syntax.specs.Faults.{place};
+ghost use Rattle.pac_syntax.specs.Grammar.{Plain};
+ghost use Rattle.pac_value.specs.declared.values.Ty.{Ty as ATy};
+ghost use Rattle.pac_syntax.specs.Machine.{Steps, Want, WantName, WantType, WantLiteral, WantNegative, is_mark, keyword_code, symbol_code, literal_in, type_of_token, run};
+ghost use Rattle.pac_syntax.specs.Views.{Begins, IsNot, IsNoName, IsType, IsNoType, IsLiteral, IsNoLiteral, IsNoNegative, IsNegative, name_part, name_token, Goes};
+ghost use Rattle.pac_tokens.specs.declared.token.Token.TheVariants as token;
+ghost use Rattle.pac_syntax.specs.declared.tree.LiteralNode.{LiteralNode as ALiteralNode};
+ghost use Rattle.pac_syntax.specs.declared.tree.NameNode.{NameNode as ANameNode};
+ghost use Rattle.pac_base.specs.declared.refusal.Refusal.TheVariants as error;
+
+use crate::tree::{ExprNode, LiteralNode, NameNode};
+use pac_tokens::{Fault, FaultKind, Keyword, Spanned, Symbol, SyntaxError, Token};
+use pac_value::{Name, Ty, Value};
+use std::alloc::Global;
+
+/// An expression, and where it begins, parentheses round it included.
+#[derive(Drop)]
+pub struct Operand {
+    pub from: usize,
+    pub expr: ExprNode,
+}
+
+/// What a list of columns is of: a table or a procedure.
+#[derive(Clone, Copy, Debug, PartialEq, Eq)]
+pub enum ColumnKind {
+    Column,
+    Param,
+}
+
+/// What is left to read.
+#[derive(Drop)]
+pub struct Parser<'a> {
+    pub alloc: Global,
+    pub rest: &'a [Spanned],
+    /// Where the text ends, or where its first fault of a token stands.
+    pub end: usize,
+    /// How many operators of the expression were read.
+    pub operators: u8,
+}
+
+/// The first token, and those behind it.
+pub fn split(tokens: &[Spanned]) -> Option<(Spanned, &[Spanned])>
+    ensures { MatchOption result (tokens.now ≡ []) (λ p. tokens.now ≡ p.0 ∷ p.1.now) }
+{
+    match tokens {
+        [] => None,
+        [first, rest @ ..] => Some((*first, rest)),
+    }
+}
+
+// The name that a token is.
+fn name_of(token: Token) -> Option<Name>
+    ensures { result ≡ name_part token }
+{
+    match token {
+        Token::Name(name) => Some(name),
+        _ => None,
+    }
+}
+
+// The type that a token is.
+fn type_of(token: &Token) -> Option<Ty>
+    ensures { result ≡ type_of_token token.now }
+{
+    let Token::Keyword(word) = token else {
+        return None;
+    };
+    match word {
+        Keyword::Int => Some(Ty::Int),
+        Keyword::Text => Some(Ty::Text),
+        _ => None,
+    }
+}
+
+// The literal that a token is by itself.
+fn literal_of(token: Token, at: usize) -> Option<LiteralNode>
+    ensures { result ≡ literal_in token at }
+{
+    let value = match token {
+        Token::Int(value) => Value::Int(value),
+        Token::Text(text) => Value::Text(text),
+        Token::Keyword(word) => match word {
+            Keyword::True => Value::Bool(true),
+            Keyword::False => Value::Bool(false),
+            _ => return None,
+        },
+        _ => return None,
+    };
+    Some(LiteralNode { at, value })
+}
+
+fn keyword_number(word: Keyword) -> u8
+    ensures { result ≡ keyword_code word }
+{
+    word as u8
+}
+
+fn symbol_number(sign: Symbol) -> u8
+    ensures { result ≡ symbol_code sign }
+{
+    sign as u8
+}
+
+// Whether the two are one word or one sign.
+fn is_same_mark(wanted: &Token, found: &Token) -> bool
+    ensures { result ≡ is_mark wanted.now found.now }
+{
+    match wanted {
+        Token::Keyword(a) => match found {
+            Token::Keyword(b) => keyword_number(*a) == keyword_number(*b),
+            _ => false,
+        },
+        Token::Symbol(a) => match found {
+            Token::Symbol(b) => symbol_number(*a) == symbol_number(*b),
+            _ => false,
+        },
+        _ => false,
+    }
+}
+
+impl<'a> Parser<'a> {
+    // The fault of this kind at the next token, or at the end.
+    pub fn refuse(&self, kind: FaultKind) -> SyntaxError
+        ensures { result ≡ error.Fault (record { at = place self.now.end self.now.rest.now; kind = kind }) }
+    {
+        let at = match split(self.rest) {
+            None => self.end,
+            Some((first, _)) => first.at,
+        };
+        SyntaxError::Fault(Fault { at, kind })
+    }
+
+    // Takes this word or sign and answers its place, where it comes next.
+    fn takes(&mut self, wanted: Token) -> Option<usize>
+        ensures end { self.new.end ≡ self.old.end }
+        ensures operators { self.new.operators ≡ self.old.operators }
+        ensures token { MatchOption result ((self.new.rest ≡ self.old.rest) × IsNot wanted self.old.rest.now) (λ at. Begins wanted at self.old.rest.now self.new.rest.now) }
+    {
+        let Some((first, rest)) = split(self.rest) else {
+            return None;
+        };
+        if !is_same_mark(&wanted, &first.token) {
+            return None;
+        }
+        self.rest = rest;
+        Some(first.at)
+    }
+
+    pub fn takes_keyword(&mut self, word: Keyword) -> Option<usize>
+        ensures end { self.new.end ≡ self.old.end }
+        ensures token { MatchOption result ((self.new.rest ≡ self.old.rest) × IsNot (token.Keyword word) self.old.rest.now) (λ at. Begins (token.Keyword word) at self.old.rest.now self.new.rest.now) }
+    {
+        self.takes(Token::Keyword(word))
+    }
+
+    pub fn takes_symbol(&mut self, sign: Symbol) -> Option<usize>
+        ensures end { self.new.end ≡ self.old.end }
+        ensures operators { self.new.operators ≡ self.old.operators }
+        ensures token { MatchOption result ((self.new.rest ≡ self.old.rest) × IsNot (token.Symbol sign) self.old.rest.now) (λ at. Begins (token.Symbol sign) at self.old.rest.now self.new.rest.now) }
+    {
+        self.takes(Token::Symbol(sign))
+    }
+
+    // Takes this word or sign.
+    fn want(&mut self, wanted: Token) -> Result<(), SyntaxError>
+        ensures left { length self.new.rest.now ≤ length self.old.rest.now }
+        ensures operators { self.new.operators ≡ self.old.operators }
+        ensures run { (k : Steps) → Gives (λ _. run self.new.end k self.new.rest.now) result (run self.old.end (Want wanted k) self.old.rest.now) }
+    {
+        match self.takes(wanted) {
+            None => Err(self.refuse(FaultKind::Expected)),
+            Some(_) => Ok(()),
+        }
+    }
+
+    pub fn keyword(&mut self, word: Keyword) -> Result<(), SyntaxError>
+        ensures left { length self.new.rest.now ≤ length self.old.rest.now }
+        ensures run { (k : Steps) → Gives (λ _. run self.new.end k self.new.rest.now) result (run self.old.end (Want (token.Keyword word) k) self.old.rest.now) }
+    {
+        self.want(Token::Keyword(word))
+    }
+
+    pub fn symbol(&mut self, sign: Symbol) -> Result<(), SyntaxError>
+        ensures left { length self.new.rest.now ≤ length self.old.rest.now }
+        ensures operators { self.new.operators ≡ self.old.operators }
+        ensures run { (k : Steps) → Gives (λ _. run self.new.end k self.new.rest.now) result (run self.old.end (Want (token.Symbol sign) k) self.old.rest.now) }
+    {
+        self.want(Token::Symbol(sign))
+    }
+
+    // Takes the name that comes next.
+    pub fn takes_name(&mut self) -> Option<NameNode>
+        ensures end { self.new.end ≡ self.old.end }
+        ensures operators { self.new.operators ≡ self.old.operators }
+        ensures name { MatchOption result ((self.new.rest ≡ self.old.rest) × IsNoName self.old.rest.now) (λ n. self.old.rest.now ≡ name_token n ∷ self.new.rest.now) }
+    {
+        let Some((first, rest)) = split(self.rest) else {
+            return None;
+        };
+        let at = first.at;
+        let Some(name) = name_of(first.token) else {
+            return None;
+        };
+        self.rest = rest;
+        Some(NameNode { at, name })
+    }
+
+    pub fn name(&mut self) -> Result<NameNode, SyntaxError>
+        ensures left { length self.new.rest.now ≤ length self.old.rest.now }
+        ensures run { Goes (WantName Plain) self.old self.new result }
+    {
+        match self.takes_name() {
+            None => Err(self.refuse(FaultKind::Expected)),
+            Some(name) => Ok(name),
+        }
+    }
+
+    // Takes the type that comes next.
+    fn takes_type(&mut self) -> Option<Ty>
+        ensures end { self.new.end ≡ self.old.end }
+        ensures ty { MatchOption result ((self.new.rest ≡ self.old.rest) × IsNoType self.old.rest.now) (λ y. IsType y self.old.rest.now self.new.rest.now) }
+    {
+        let Some((first, rest)) = split(self.rest) else {
+            return None;
+        };
+        let Some(ty) = type_of(&first.token) else {
+            return None;
+        };
+        self.rest = rest;
+        Some(ty)
+    }
+
+    pub fn ty(&mut self) -> Result<Ty, SyntaxError>
+        ensures left { length self.new.rest.now ≤ length self.old.rest.now }
+        ensures run { Goes WantType self.old self.new result }
+    {
+        match self.takes_type() {
+            None => Err(self.refuse(FaultKind::Expected)),
+            Some(ty) => Ok(ty),
+        }
+    }
+
+    // Takes the literal of one token that comes next.
+    fn takes_literal(&mut self) -> Option<LiteralNode>
+        ensures end { self.new.end ≡ self.old.end }
+        ensures operators { self.new.operators ≡ self.old.operators }
+        ensures literal { MatchOption result ((self.new.rest ≡ self.old.rest) × IsNoLiteral self.old.rest.now) (λ l. IsLiteral l self.old.rest.now self.new.rest.now) }
+    {
+        let Some((first, rest)) = split(self.rest) else {
+            return None;
+        };
+        let Some(literal) = literal_of(first.token, first.at) else {
+            return None;
+        };
+        self.rest = rest;
+        Some(literal)
+    }
+
+    // Takes the int that comes next, where it is that of a literal whose `-` stands at this place.
+    fn takes_negative(&mut self, minus: usize) -> Option<LiteralNode>
+        ensures end { self.new.end ≡ self.old.end }
+        ensures operators { self.new.operators ≡ self.old.operators }
+        ensures int { MatchOption result ((self.new.rest ≡ self.old.rest) × IsNoNegative self.old.rest.now) (λ l. IsNegative minus l self.old.rest.now self.new.rest.now) }
+    {
+        let Some((first, rest)) = split(self.rest) else {
+            return None;
+        };
+        let Token::Negative(value) = first.token else {
+            return None;
+        };
+        self.rest = rest;
+        Some(LiteralNode {
+            at: minus,
+            value: Value::Int(value),
+        })
+    }
+
+    // The int of a literal whose `-` stands at this place.
+    fn negative(&mut self, minus: usize) -> Result<LiteralNode, SyntaxError>
+        ensures left { length self.new.rest.now ≤ length self.old.rest.now }
+        ensures operators { self.new.operators ≡ self.old.operators }
+        ensures run { Goes (WantNegative minus) self.old self.new result }
+    {
+        match self.takes_negative(minus) {
+            None => Err(self.refuse(FaultKind::Expected)),
+            Some(literal) => Ok(literal),
+        }
+    }
+
+    pub fn literal(&mut self) -> Result<LiteralNode, SyntaxError>
+        ensures left { length self.new.rest.now ≤ length self.old.rest.now }
+        ensures shorter { OnOk result (length self.new.rest.now < length self.old.rest.now) }
+        ensures operators { self.new.operators ≡ self.old.operators }
+        ensures run { Goes WantLiteral self.old self.new result }
+    {
+        if let Some(minus) = self.takes_symbol(Symbol::Minus) {
+            return self.negative(minus);
+        }
+        match self.takes_literal() {
+            None => Err(self.refuse(FaultKind::Expected)),
+            Some(literal) => Ok(literal),
+        }
+    }
+}

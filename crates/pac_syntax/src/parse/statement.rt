@@ -1,0 +1,289 @@
+// Reads statements.
+ghost use Rattle.std.specs.Prelude.{◌≡◌, ◌∷◌, ◌++◌, [], ◌<◌, ◌≤◌, ◌+◌, length, false, List, OnOk, IfOk, IfSome};
+ghost use Rattle.pac_base.specs.Refusals.{Gives};
+ghost use Rattle.pac_syntax.specs.Machine.{Steps, MaybeElse, MoreStmts, MoreValues, abort_steps, block_steps, delete_steps, has_steps, if_steps, let_steps, place_steps, put_steps, read_steps, set_steps, stmt_steps, stmt_word, run, either, values_steps};
+ghost use Rattle.pac_syntax.specs.Views.{is_too_deep, Goes, GoesAll};
+ghost use Rattle.pac_syntax.specs.declared.tree.ExprNode.{ExprNode as AnExprNode};
+ghost use Rattle.pac_syntax.specs.declared.tree.NameNode.{NameNode as ANameNode};
+ghost use Rattle.pac_syntax.specs.declared.tree.StmtNode.{StmtNode as AStmtNode};
+
+use super::parser::{Parser, split};
+use crate::tree::{ExprNode, NameNode, StmtNode};
+use pac_base::listed;
+use pac_tokens::{FaultKind, Keyword, Symbol, SyntaxError, Token};
+
+const MAX_NESTED: u8 = 16;
+
+/// The word that begins a statement.
+#[derive(Clone, Copy, Debug, PartialEq, Eq)]
+pub enum StatementWord {
+    Let,
+    Read,
+    Has,
+    Put,
+    Set,
+    Delete,
+    Abort,
+    If,
+}
+
+fn statement_word(token: &Token) -> Option<StatementWord>
+    ensures { result ≡ stmt_word token.now }
+{
+    let Token::Keyword(word) = token else {
+        return None;
+    };
+    match word {
+        Keyword::Let => Some(StatementWord::Let),
+        Keyword::Read => Some(StatementWord::Read),
+        Keyword::Has => Some(StatementWord::Has),
+        Keyword::Put => Some(StatementWord::Put),
+        Keyword::Set => Some(StatementWord::Set),
+        Keyword::Delete => Some(StatementWord::Delete),
+        Keyword::Abort => Some(StatementWord::Abort),
+        Keyword::If => Some(StatementWord::If),
+        _ => None,
+    }
+}
+
+// Whether a statement that begins with this word is a conditional in too many others.
+fn stands_too_deep(nested: u8, word: StatementWord) -> bool
+    ensures { result ≡ is_too_deep nested word }
+{
+    match word {
+        StatementWord::If => nested >= MAX_NESTED,
+        _ => false,
+    }
+}
+
+impl<'a> Parser<'a> {
+    // TABLE "[" KEY "]"
+    fn place(&mut self) -> Result<(NameNode, ExprNode), SyntaxError>
+        ensures left { OnOk result (length self.new.rest.now ≤ length self.old.rest.now) }
+        ensures run { (k : ANameNode → AnExprNode → Steps) → Gives (λ p. run self.new.end (k p.0 p.1) self.new.rest.now) result (run self.old.end (place_steps k) self.old.rest.now) }
+    {
+        let table = self.name()?;
+        self.symbol(Symbol::OpenBracket)?;
+        let key = self.expression()?;
+        self.symbol(Symbol::CloseBracket)?;
+        Ok((table, key))
+    }
+
+    // "(" VALUE { "," VALUE } ")"
+    fn values(&mut self) -> Result<Vec<ExprNode>, SyntaxError>
+        ensures left { OnOk result (length self.new.rest.now ≤ length self.old.rest.now) }
+        ensures run { GoesAll values_steps self.old self.new result }
+    {
+        self.symbol(Symbol::OpenParen)?;
+        let first = self.expression()?;
+        let values = self.more_values(first)?;
+        self.symbol(Symbol::CloseParen)?;
+        Ok(values)
+    }
+
+    // { "," VALUE } behind a first one
+    fn more_values(&mut self, first: ExprNode) -> Result<Vec<ExprNode>, SyntaxError>
+        ensures left { OnOk result (length self.new.rest.now ≤ length self.old.rest.now) }
+        ensures run { GoesAll (MoreValues (first ∷ [])) self.old self.new result }
+    {
+        let mut values = Vec::new(self.alloc);
+        values.push(first)?;
+        while let Some(_) = self.takes_symbol(Symbol::Comma) {
+            let value = self.expression()?;
+            values.push(value)?;
+        }
+        Ok(values)
+    }
+
+    // A `let`, behind its word.
+    fn let_rest(&mut self) -> Result<StmtNode, SyntaxError>
+        ensures left { OnOk result (length self.new.rest.now ≤ length self.old.rest.now) }
+        ensures run { Goes let_steps self.old self.new result }
+    {
+        let name = self.name()?;
+        self.symbol(Symbol::Assign)?;
+        let value = self.expression()?;
+        self.symbol(Symbol::Semicolon)?;
+        Ok(StmtNode::Let { name, value })
+    }
+
+    // A `read`, behind its word.
+    fn read_rest(&mut self) -> Result<StmtNode, SyntaxError>
+        ensures left { OnOk result (length self.new.rest.now ≤ length self.old.rest.now) }
+        ensures run { Goes read_steps self.old self.new result }
+    {
+        let name = self.name()?;
+        self.symbol(Symbol::Assign)?;
+        let (table, key) = self.place()?;
+        self.symbol(Symbol::Dot)?;
+        let column = self.name()?;
+        self.keyword(Keyword::Default)?;
+        let default = self.literal()?;
+        self.symbol(Symbol::Semicolon)?;
+        Ok(StmtNode::Read {
+            name,
+            table,
+            key,
+            column,
+            default,
+        })
+    }
+
+    // A `has`, behind its word.
+    fn has_rest(&mut self) -> Result<StmtNode, SyntaxError>
+        ensures left { OnOk result (length self.new.rest.now ≤ length self.old.rest.now) }
+        ensures run { Goes has_steps self.old self.new result }
+    {
+        let name = self.name()?;
+        self.symbol(Symbol::Assign)?;
+        let (table, key) = self.place()?;
+        self.symbol(Symbol::Semicolon)?;
+        Ok(StmtNode::Has { name, table, key })
+    }
+
+    // A `put`, behind its word.
+    fn put_rest(&mut self) -> Result<StmtNode, SyntaxError>
+        ensures left { OnOk result (length self.new.rest.now ≤ length self.old.rest.now) }
+        ensures run { Goes put_steps self.old self.new result }
+    {
+        let (table, key) = self.place()?;
+        self.symbol(Symbol::Assign)?;
+        let values = listed(self.values()?);
+        self.symbol(Symbol::Semicolon)?;
+        Ok(StmtNode::Put { table, key, values })
+    }
+
+    // A `set`, behind its word.
+    fn set_rest(&mut self) -> Result<StmtNode, SyntaxError>
+        ensures left { OnOk result (length self.new.rest.now ≤ length self.old.rest.now) }
+        ensures run { Goes set_steps self.old self.new result }
+    {
+        let (table, key) = self.place()?;
+        self.symbol(Symbol::Dot)?;
+        let column = self.name()?;
+        self.symbol(Symbol::Assign)?;
+        let value = self.expression()?;
+        self.symbol(Symbol::Semicolon)?;
+        Ok(StmtNode::Set {
+            table,
+            key,
+            column,
+            value,
+        })
+    }
+
+    // A `delete`, behind its word.
+    fn delete_rest(&mut self) -> Result<StmtNode, SyntaxError>
+        ensures left { OnOk result (length self.new.rest.now ≤ length self.old.rest.now) }
+        ensures run { Goes delete_steps self.old self.new result }
+    {
+        let (table, key) = self.place()?;
+        self.symbol(Symbol::Semicolon)?;
+        Ok(StmtNode::Delete { table, key })
+    }
+
+    // An `abort if`, behind its first word.
+    fn abort_rest(&mut self) -> Result<StmtNode, SyntaxError>
+        ensures left { OnOk result (length self.new.rest.now ≤ length self.old.rest.now) }
+        ensures run { Goes abort_steps self.old self.new result }
+    {
+        self.keyword(Keyword::If)?;
+        let test = self.expression()?;
+        self.symbol(Symbol::Semicolon)?;
+        Ok(StmtNode::AbortIf { test })
+    }
+
+    // A conditional in so many others, behind its word.
+    #[cycle(statement)]
+    fn if_rest(&mut self, nested: u8) -> Result<StmtNode, SyntaxError>
+        requires { nested < 16 }
+        ensures left { OnOk result (length self.new.rest.now ≤ length self.old.rest.now) }
+        ensures run { Goes (if_steps nested) self.old self.new result }
+    {
+        let test = self.expression()?;
+        let first = listed(self.block(nested + 1)?);
+        let second = listed(self.otherwise(nested + 1)?);
+        Ok(StmtNode::If {
+            test,
+            first,
+            second,
+        })
+    }
+
+    // [ "else" block ]
+    #[cycle(statement)]
+    fn otherwise(&mut self, nested: u8) -> Result<Vec<StmtNode>, SyntaxError>
+        ensures left { OnOk result (length self.new.rest.now ≤ length self.old.rest.now) }
+        ensures run { GoesAll (MaybeElse nested) self.old self.new result }
+    {
+        match self.takes_keyword(Keyword::Else) {
+            None => Ok(Vec::new(self.alloc)),
+            Some(_) => self.block(nested),
+        }
+    }
+
+    /// Statements in braces, in so many conditionals.
+    #[cycle(statement)]
+    pub fn block(&mut self, nested: u8) -> Result<Vec<StmtNode>, SyntaxError>
+        ensures left { OnOk result (length self.new.rest.now ≤ length self.old.rest.now) }
+        ensures run { GoesAll (block_steps nested) self.old self.new result }
+    {
+        self.symbol(Symbol::OpenBrace)?;
+        let body = self.statements(nested)?;
+        self.symbol(Symbol::CloseBrace)?;
+        Ok(body)
+    }
+
+    // The word that begins the next statement, unless the statement is a conditional in too many others.
+    fn next_statement(&mut self, nested: u8) -> Result<Option<StatementWord>, SyntaxError>
+        ensures left { length self.new.rest.now ≤ length self.old.rest.now }
+        ensures shorter { IfOk result (λ o. IfSome o (λ _. length self.new.rest.now < length self.old.rest.now)) }
+        ensures within { IfOk result (λ o. IfSome o (λ w. is_too_deep nested w ≡ false)) }
+        ensures run { (ss : List AStmtNode) (k : List AStmtNode → Steps) → Gives (λ o. either o (run self.new.end (k ss) self.new.rest.now) (λ w. run self.new.end (stmt_steps nested w (λ s. MoreStmts nested (ss ++ (s ∷ [])) k)) self.new.rest.now)) result (run self.old.end (MoreStmts nested ss k) self.old.rest.now) }
+    {
+        let Some((first, rest)) = split(self.rest) else {
+            return Ok(None);
+        };
+        let Some(word) = statement_word(&first.token) else {
+            return Ok(None);
+        };
+        if stands_too_deep(nested, word) {
+            return Err(self.refuse(FaultKind::TooDeep));
+        }
+        self.rest = rest;
+        Ok(Some(word))
+    }
+
+    // The statement behind its first word, in so many conditionals.
+    #[cycle(statement)]
+    fn statement_rest(&mut self, word: StatementWord, nested: u8) -> Result<StmtNode, SyntaxError>
+        requires { is_too_deep nested word ≡ false }
+        ensures left { OnOk result (length self.new.rest.now ≤ length self.old.rest.now) }
+        ensures run { Goes (stmt_steps nested word) self.old self.new result }
+    {
+        match word {
+            StatementWord::Let => self.let_rest(),
+            StatementWord::Read => self.read_rest(),
+            StatementWord::Has => self.has_rest(),
+            StatementWord::Put => self.put_rest(),
+            StatementWord::Set => self.set_rest(),
+            StatementWord::Delete => self.delete_rest(),
+            StatementWord::Abort => self.abort_rest(),
+            StatementWord::If => self.if_rest(nested),
+        }
+    }
+
+    // Statements in so many conditionals, as many as there are.
+    #[cycle(statement)]
+    fn statements(&mut self, nested: u8) -> Result<Vec<StmtNode>, SyntaxError>
+        ensures left { OnOk result (length self.new.rest.now ≤ length self.old.rest.now) }
+        ensures run { GoesAll (MoreStmts nested []) self.old self.new result }
+    {
+        let mut statements = Vec::new(self.alloc);
+        while let Some(word) = self.next_statement(nested)? {
+            let statement = self.statement_rest(word, nested)?;
+            statements.push(statement)?;
+        }
+        Ok(statements)
+    }
+}

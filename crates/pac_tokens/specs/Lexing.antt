@@ -1,0 +1,95 @@
+-- The next token, found by its first byte.
+use Rattle.std.specs.Prelude.{ℕ, ◌+◌, ◌^◌, suc, pos, neg_ℤ, Bool, true, false, List, [], ◌∷◌, length, take, find, Option, Some, None, Result, Ok, Err, nat_lt, nat_le, nat_eq, if◌then◌else◌, ◌||◌}
+use Rattle.std.specs.Option.{option_map}
+use Rattle.std.specs.List.{take_while}
+use Rattle.std.specs.Cmp.Lexicographic.{pointwise}
+use Rattle.pac_value.specs.Texts.{is_printable}
+use Rattle.pac_tokens.specs.declared.token.Keyword.{Keyword}
+use Rattle.pac_tokens.specs.declared.token.Symbol.{Symbol}
+use Rattle.pac_tokens.specs.declared.token.Symbol.TheVariants as symbol
+use Rattle.pac_tokens.specs.declared.token.Token.{Token}
+use Rattle.pac_tokens.specs.declared.token.Token.TheVariants as token
+use Rattle.pac_tokens.specs.declared.token.TheConstants.{SYMBOLS}
+use Rattle.pac_tokens.specs.declared.lexer.Before.{Before}
+use Rattle.pac_tokens.specs.declared.lexer.Before.TheVariants.{LiteralMinus}
+use Rattle.pac_tokens.specs.declared.fault.FaultKind.{FaultKind}
+use Rattle.pac_tokens.specs.declared.fault.FaultKind.TheVariants as kind
+use Rattle.pac_tokens.specs.Spelling.{symbol_spelling}
+use Rattle.pac_tokens.specs.Tokens.{is_letter, is_digit, is_name, digits_value, keyword_of, is_long_minus, IsNext, IsBad}
+
+-- ---- words and ints
+
+abbrev pub word_token : Option Keyword → List ℕ → Token
+word_token None word = token.Name word
+word_token (Some k) word = token.Keyword k
+
+abbrev pub word_at : List ℕ → Result (Token × ℕ) FaultKind
+word_at word = if nat_lt 32 (length word) then Err kind.TooLong else Ok (word_token (keyword_of word) word, length word)
+
+abbrev pub int_at : Before → List ℕ → Result (Token × ℕ) FaultKind
+int_at LiteralMinus digits = if nat_le (digits_value digits) (2 ^ 63) then Ok (token.Negative (neg_ℤ (pos (digits_value digits))), length digits) else Err kind.TooLong
+int_at _ digits = if nat_lt (digits_value digits) (2 ^ 63) then Ok (token.Int (pos (digits_value digits)), length digits) else Err kind.TooLong
+
+-- ---- texts
+
+-- the place of the closing quote of a text without its opening quote, behind a `\` or not; None where the text is not
+-- well formed
+abbrev pub closing_in : Bool → List ℕ → Option ℕ
+closing_in escape [] = None
+closing_in true (b ∷ bs) = if nat_eq b 34 || nat_eq b 92 then option_map suc (closing_in false bs) else None
+closing_in false (b ∷ bs) =
+    if nat_eq b 34 then Some 0
+    else (if nat_eq b 92 then option_map suc (closing_in true bs) else (if is_printable b then option_map suc (closing_in false bs) else None))
+
+-- the bytes of a text without its escapes, behind a `\` or not
+abbrev pub unescaped : Bool → List ℕ → List ℕ
+unescaped escape [] = []
+unescaped true (b ∷ bs) = b ∷ unescaped false bs
+unescaped false (b ∷ bs) = if nat_eq b 92 then unescaped true bs else b ∷ unescaped false bs
+
+abbrev pub text_of : List ℕ → ℕ → Result (Token × ℕ) FaultKind
+text_of text len = if nat_lt 64 (length text) then Err kind.TooLong else Ok (token.Text text, len)
+
+abbrev pub closed_text : Option ℕ → List ℕ → Result (Token × ℕ) FaultKind
+closed_text None behind = Err kind.Token
+closed_text (Some n) behind = text_of (unescaped false (take n behind)) (n + 2)
+
+abbrev pub text_at : List ℕ → Result (Token × ℕ) FaultKind
+text_at behind = closed_text (closing_in false behind) behind
+
+-- ---- signs
+
+-- the sign that these bytes spell
+unfoldable pub symbol_of : List ℕ → Option Symbol
+symbol_of bytes = find (λ s. pointwise nat_eq (symbol_spelling s) bytes) SYMBOLS
+
+abbrev pub or_first : Option Symbol → Option Symbol → Option Symbol
+or_first None other = other
+or_first (Some s) other = Some s
+
+-- the sign in front: one of two bytes, or of one
+abbrev pub symbol_front : List ℕ → Option Symbol
+symbol_front bytes = or_first (symbol_of (take 2 bytes)) (symbol_of (take 1 bytes))
+
+abbrev pub minus_at : Before → List ℕ → Result (Token × ℕ) FaultKind
+minus_at before behind = if is_long_minus before behind then Err kind.TooLong else Ok (token.Symbol symbol.Minus, 1)
+
+abbrev pub symbol_at : Before → Option Symbol → List ℕ → Result (Token × ℕ) FaultKind
+symbol_at before None behind = Err kind.Token
+symbol_at before (Some symbol.Minus) behind = minus_at before behind
+symbol_at before (Some s) behind = Ok (token.Symbol s, length (symbol_spelling s))
+
+-- ---- any token
+
+-- the token in front of the bytes and how many of them it has, by what stands before it
+abbrev pub token_at : Before → List ℕ → Result (Token × ℕ) FaultKind
+token_at before [] = Err kind.Token
+token_at before (b ∷ bs) =
+    if is_letter b then word_at (take_while is_name (b ∷ bs))
+    else (if is_digit b then int_at before (take_while is_digit (b ∷ bs))
+    else (if nat_eq b 34 then text_at bs else symbol_at before (symbol_front (b ∷ bs)) bs))
+
+-- the result is the next token of the bytes, or the fault in front of them
+abbrev pub IsFront : Before → List ℕ → Result (Token × ℕ) FaultKind → Type 0
+IsFront before bytes (Ok p) = IsNext before bytes p.0 p.1
+IsFront before bytes (Err kind) = IsBad before bytes kind

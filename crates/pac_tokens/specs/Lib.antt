@@ -1,0 +1,4 @@
+pub mod Spelling
+pub mod Kinds
+pub mod Tokens
+pub mod Lexing

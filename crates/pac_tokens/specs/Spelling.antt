@@ -1,0 +1,69 @@
+-- How reserved words, signs and texts are spelled.
+use Rattle.std.specs.Prelude.{ℕ, List, [], ◌∷◌, ◌++◌, codes, nat_eq, ◌||◌, if◌then◌else◌}
+use Rattle.pac_tokens.specs.declared.token.Keyword.{Keyword}
+use Rattle.pac_tokens.specs.declared.token.Keyword.TheVariants as keyword
+use Rattle.pac_tokens.specs.declared.token.Symbol.{Symbol}
+use Rattle.pac_tokens.specs.declared.token.Symbol.TheVariants as symbol
+
+-- the bytes of a reserved word
+abbrev pub keyword_spelling : Keyword → List ℕ
+keyword_spelling keyword.Table = codes "table"
+keyword_spelling keyword.Proc = codes "proc"
+keyword_spelling keyword.Key = codes "key"
+keyword_spelling keyword.Int = codes "int"
+keyword_spelling keyword.Text = codes "text"
+keyword_spelling keyword.Let = codes "let"
+keyword_spelling keyword.Read = codes "read"
+keyword_spelling keyword.Has = codes "has"
+keyword_spelling keyword.Put = codes "put"
+keyword_spelling keyword.Set = codes "set"
+keyword_spelling keyword.Delete = codes "delete"
+keyword_spelling keyword.Abort = codes "abort"
+keyword_spelling keyword.If = codes "if"
+keyword_spelling keyword.Else = codes "else"
+keyword_spelling keyword.Default = codes "default"
+keyword_spelling keyword.True = codes "true"
+keyword_spelling keyword.False = codes "false"
+keyword_spelling keyword.For = codes "for"
+keyword_spelling keyword.In = codes "in"
+
+-- the bytes of a sign
+abbrev pub symbol_spelling : Symbol → List ℕ
+symbol_spelling symbol.OpenParen = codes "("
+symbol_spelling symbol.CloseParen = codes ")"
+symbol_spelling symbol.OpenBrace = codes "{"
+symbol_spelling symbol.CloseBrace = codes "}"
+symbol_spelling symbol.OpenBracket = codes "["
+symbol_spelling symbol.CloseBracket = codes "]"
+symbol_spelling symbol.Comma = codes ","
+symbol_spelling symbol.Semicolon = codes ";"
+symbol_spelling symbol.Dot = codes "."
+symbol_spelling symbol.Assign = codes "="
+symbol_spelling symbol.Plus = codes "+"
+symbol_spelling symbol.Minus = codes "-"
+symbol_spelling symbol.Star = codes "*"
+symbol_spelling symbol.Slash = codes "/"
+symbol_spelling symbol.Percent = codes "%"
+symbol_spelling symbol.Not = codes "!"
+symbol_spelling symbol.Less = codes "<"
+symbol_spelling symbol.Greater = codes ">"
+symbol_spelling symbol.Equal = codes "=="
+symbol_spelling symbol.NotEqual = codes "!="
+symbol_spelling symbol.LessEqual = codes "<="
+symbol_spelling symbol.GreaterEqual = codes ">="
+symbol_spelling symbol.And = codes "&&"
+symbol_spelling symbol.Or = codes "||"
+
+-- ---- texts
+
+-- a byte of a text in its spelling: `"` and `\` have a `\` in front
+abbrev pub escaped_byte : ℕ → List ℕ
+escaped_byte b = if nat_eq b 34 || nat_eq b 92 then 92 ∷ b ∷ [] else b ∷ []
+
+abbrev pub escaped : List ℕ → List ℕ
+escaped [] = []
+escaped (b ∷ bs) = escaped_byte b ++ escaped bs
+
+-- a text between its quotes
+abbrev pub quoted : List ℕ → List ℕ
+quoted text = 34 ∷ (escaped text ++ (34 ∷ []))

@@ -1,0 +1,19 @@
+-- A conditional is itself and the statements in its blocks.
+use Rattle.std.proofs.Common.{◌≡◌, ◌+◌, suc, arith, ap, ◌∙◌}
+use Rattle.pac_syntax.specs.Limits.{size, sizes}
+use Rattle.pac_types.proofs.CheckLemmas.{size_of_if}
+use Rattle.pac_types.specs.Checking.{ScopeState}
+use Rattle.pac_types.proofs.checker.statements.+check.Goals as goal
+
+pub check_stmt-check_block-requires : goal.check_stmt-check_block-requires
+check_stmt-check_block-requires t c =
+    let parts : size c.args.node.now ≡ suc (sizes c.in-If.first + sizes c.in-If.second) = ap size c.in-If.is ∙ size_of_if c.in-If.test c.in-If.first c.in-If.second in
+    let here = ap sizes c.as_slice-in-If.ensures in
+    (omega (arith, c.decreases, parts, here), omega (arith, c.requires.fits, parts, here, ap (λ (s : ScopeState). s.next) c.hide-var.ensures.known))
+
+pub check_stmt-check_block-requires-in-If : goal.check_stmt-check_block-requires-in-If
+check_stmt-check_block-requires-in-If t c =
+    let parts : size c.args.node.now ≡ suc (sizes c.in-If.first + sizes c.in-If.second) = ap size c.in-If.is ∙ size_of_if c.in-If.test c.in-If.first c.in-If.second in
+    let here = ap sizes c.as_slice-in-If.ensures in
+    let there = ap sizes c.as_slice-in-If-2.ensures in
+    (omega (arith, c.decreases, parts, there), omega (arith, c.requires.fits, parts, here, there, c.in_ok-first-in-If.ensures.room, ap (λ (s : ScopeState). s.next) c.hide-var.ensures.known))
