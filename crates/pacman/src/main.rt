@@ -2,7 +2,7 @@
 #![tactic(auto)]
 
 use pac_main::pacman;
-use pac_outside::{Devices, NoDisk, OpenGate, Reading, Writing};
+use pac_outside::{Devices, NoDisk, OpenGate, Stream};
 use std::env;
 use std::process::ExitCode;
 
@@ -20,9 +20,9 @@ fn main(rt: HostRuntime) -> ExitCode {
             return ExitCode::from(NO_MEMORY);
         }
     }
-    let mut input = Reading::new(rt.stdin());
-    let mut output = Writing::new(rt.stdout());
-    let mut errors = Writing::new(rt.stderr());
+    let mut input = Stream::new(rt.stdin());
+    let mut output = Stream::new(rt.stdout());
+    let mut errors = Stream::new(rt.stderr());
     let mut devices = Devices {
         log: NoDisk::new(),
         slot_a: NoDisk::new(),
