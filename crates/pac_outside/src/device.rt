@@ -80,8 +80,9 @@ impl Disk for NoDisk {
         Err(self.faults.fail())
     }
 
-    fn read(&mut self, _at: u64, _buf: &mut [u8]) -> Result<usize, Failed>
+    fn read(&mut self, _at: u64, buf: &mut [u8]) -> Result<usize, Failed>
         ensures failed { IsErr result }
+        ensures buffer { buf.new ≡ buf.old }
         ensures counted { self.new.faults ≡ one_more self.old.faults }
         ensures cause { HasCause self.old.faults self.new.faults result }
     {

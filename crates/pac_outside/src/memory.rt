@@ -14,6 +14,7 @@ use std::marker::Model;
 fn copy_front(buf: &mut [u8], bytes: &[u8]) -> usize
     ensures count { result ≡ min (length bytes.now) (length buf.old) }
     ensures copied { take result buf.new ≡ take result bytes.now }
+    ensures rest { drop result buf.new ≡ drop result buf.old }
 {
     let count = bytes.len().min(buf.len());
     buf[..count].copy_from_slice(&bytes[..count]);
@@ -70,6 +71,7 @@ impl Source for MemSource {
         // It fails exactly where it is to, and else gives all that it can.
         ensures failed { IsErr result ↔ IsTrue (is_next_failing self.old.calls) }
         ensures all { IfOk result (λ count. count ≡ min (length self.old.left) (length buf.old)) }
+        ensures rest { MatchResult result (λ count. drop count buf.new ≡ drop count buf.old) (λ _. buf.new ≡ buf.old) }
         ensures counted { self.new.calls ≡ (if is_ok result then after_passed self.old.calls else after_failed self.old.calls) }
     {
         self.calls.begin()?;
