@@ -13,6 +13,8 @@ use Rattle.pac_main.specs.declared.script_error.ScriptError.{ScriptError}
 use Rattle.pac_main.specs.declared.script_error.ScriptError.TheVariants as script
 use Rattle.pac_main.specs.declared.stop.Stop.{Stop}
 use Rattle.pac_main.specs.declared.stop.Stop.TheVariants.{Usage, Syntax, Typing, Refused, Aborted, InputFault, OutputFault, NoMemory}
+use Rattle.pac_main.specs.declared.tell.WordsError.{WordsError}
+use Rattle.pac_main.specs.declared.tell.WordsError.TheVariants as words
 
 abbrev pub status_of : Stop → ℕ
 status_of Usage = 1
@@ -48,6 +50,10 @@ line_of (Aborted txn op reason) = abort_line txn op reason
 line_of InputFault = codes "input fault\n"
 line_of OutputFault = codes "output fault\n"
 line_of NoMemory = codes "no memory\n"
+
+abbrev pub stop_of_words : WordsError → Stop
+stop_of_words words.Usage = Usage
+stop_of_words words.NoMemory = NoMemory
 
 abbrev pub stop_of_read : ReadError → Stop
 stop_of_read read.Failed = InputFault

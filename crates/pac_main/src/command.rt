@@ -1,21 +1,22 @@
 // The commands, by the words of the command line.
-ghost use Rattle.std.specs.Prelude.{◌≡◌, ◌≢◌, ◌↔◌, ◌∷◌, ℕ, List, [], Option, IfOk, OnOk, OnErr, IfSome, IsErrOf, IsTrue, codes, map, ◌==◌, ◌⊎◌, Ok, Err};
+ghost use Rattle.std.specs.Prelude.{◌≡◌, ◌≢◌, ◌↔◌, ◌∷◌, ℕ, List, [], Option, IfOk, OnOk, OnErr, IfSome, IsErrOf, IsTrue, codes, map, ◌==◌, Ok, Err};
 ghost use Rattle.std.specs.List.{list_any, AllByRecursion};
 ghost use Rattle.std.specs.String.{string_bytes};
 ghost use Rattle.pac_outside.specs.Causes.{Rose};
-ghost use Rattle.pac_outside.specs.Content.{Took, TookFront};
+ghost use Rattle.pac_outside.specs.Content.{Took, TookFront, GaveAtMost};
 ghost use Rattle.pac_types.specs.declared.reason.Reason.{Reason as AReason};
 ghost use Rattle.pac_serial.specs.Calls.{FitsProcs};
-ghost use Rattle.pac_main.specs.Stop.{status_of, line_of, takes_memory, abort_line};
+ghost use Rattle.pac_main.specs.Stop.{status_of, line_of, abort_line};
 ghost use Rattle.pac_main.specs.Replay.{IsReplay, IsScriptOf, IsNoScript, IsRefusedAs, outcome, SaysUnlessFault, IsDumpOf, IsAbortOf, DoesEnd};
 ghost use Rattle.pac_main.specs.declared.script.Script.{Script as AScript};
 ghost use Rattle.pac_main.specs.declared.stop.Stop.{Stop as AStop};
 
 use crate::script::{MAX_SCRIPT, Script, read_script};
-use crate::stop::{Stop, abort_line, catalogue_line};
+use crate::stop::Stop;
+use crate::tell::{WordsError, refuse_words, told};
 use pac_outside::{Devices, Disk, Gate, Sink, Source, read_up_to, write_all};
 use pac_serial::{Rows, SerialError, dump_tables, exec_all};
-use std::alloc::{AllocError, Global};
+use std::alloc::Global;
 use std::sync::Wait;
 use std::thread::Threads;
 
@@ -25,6 +26,7 @@ fn read_input<I: Source>(alloc: Global, input: &mut I) -> Result<Script, Stop>
     ensures fit { IfOk result (λ script. AllByRecursion (FitsProcs script.catalogue.procs) script.calls) }
     ensures refused { (stop : AStop) → IsErrOf result stop → status_of stop ≡ 2 → IsNoScript (I.left input.old) × IsRefusedAs (I.left input.old) stop }
     ensures input_fault { IsErrOf result Stop.InputFault → Rose (I.faults input.old) (I.faults input.new) }
+    ensures taken { GaveAtMost 65537 (I.left input.old) (I.left input.new) }
     ensures no_usage { ¬ IsErrOf result Stop.Usage }
     ensures no_output { ¬ IsErrOf result Stop.OutputFault }
     ensures no_abort { (txn op : ℕ) (reason : AReason) → ¬ IsErrOf result (Stop.Aborted txn op reason) }
@@ -53,7 +55,8 @@ fn replay<I: Source, O: Sink>(alloc: Global, input: &mut I, output: &mut O) -> R
     ensures input_fault { IsErrOf result Stop.InputFault → Rose (I.faults input.old) (I.faults input.new) }
     ensures output_fault { IsErrOf result Stop.OutputFault → Rose (O.faults output.old) (O.faults output.new) }
     ensures front { IsErrOf result Stop.OutputFault → IsDumpOf (I.left input.old) (λ text. TookFront (O.held output.old) text (O.held output.new)) }
-    ensures kept { OnErr result (¬ IsErrOf result Stop.OutputFault → O.held output.new ≡ O.held output.old) }
+    ensures kept { OnErr result (¬ IsErrOf result Stop.OutputFault → output.new ≡ output.old) }
+    ensures taken { GaveAtMost 65537 (I.left input.old) (I.left input.new) }
     ensures no_usage { ¬ IsErrOf result Stop.Usage }
 {
     let script = read_input(alloc, input)?;
@@ -71,72 +74,6 @@ fn is_replay(words: &[String]) -> bool
     }
 }
 
-// Does what the words say.
-fn command<I: Source, O: Sink>(
-    alloc: Global,
-    words: &[String],
-    input: &mut I,
-    output: &mut O,
-) -> Result<(), Stop>
-    ensures usage { IsErrOf result Stop.Usage ↔ ¬ IsReplay words.now }
-    ensures refused { (stop : AStop) → IsErrOf result stop → status_of stop ≡ 2 → IsNoScript (I.left input.old) × IsRefusedAs (I.left input.old) stop }
-    ensures aborted { (txn op : ℕ) (reason : AReason) → IsErrOf result (Stop.Aborted txn op reason) → IsAbortOf (I.left input.old) txn op reason }
-    ensures input_fault { IsErrOf result Stop.InputFault → Rose (I.faults input.old) (I.faults input.new) }
-    ensures output_fault { IsErrOf result Stop.OutputFault → Rose (O.faults output.old) (O.faults output.new) }
-    ensures done { OnOk result (IsDumpOf (I.left input.old) (λ text. Took (O.held output.old) text (O.held output.new))) }
-    ensures front { IsErrOf result Stop.OutputFault → IsDumpOf (I.left input.old) (λ text. TookFront (O.held output.old) text (O.held output.new)) }
-    ensures kept { OnErr result (¬ IsErrOf result Stop.OutputFault → O.held output.new ≡ O.held output.old) }
-{
-    if !is_replay(words) {
-        return Err(Stop::Usage);
-    }
-    replay(alloc, input, output)
-}
-
-// Tells the error sink the line that was made for the stop, and answers that, or that there was no memory for the line.
-fn told_made<E: Sink>(stop: Stop, made: Result<Vec<u8>, AllocError>, errors: &mut E) -> Stop
-    requires { IfOk made (λ line. line.items ≡ line_of stop) }
-    ensures which { (result ≡ stop) ⊎ (result ≡ Stop.NoMemory) }
-    ensures line { SaysUnlessFault (E.held errors.old) (line_of result) (E.held errors.new) (E.faults errors.old) (E.faults errors.new) }
-{
-    match made {
-        Ok(line) => {
-            let _ = write_all(errors, &line);
-            stop
-        }
-        Err(_) => {
-            let _ = write_all(errors, b"no memory\n");
-            Stop::NoMemory
-        }
-    }
-}
-
-// Tells the error sink why the command stopped, and answers that, or that there was no memory for its line.
-fn told<E: Sink>(alloc: Global, stop: Stop, errors: &mut E) -> Stop
-    ensures which { (result ≡ stop) ⊎ ((result ≡ Stop.NoMemory) × IsTrue (takes_memory stop)) }
-    ensures line { SaysUnlessFault (E.held errors.old) (line_of result) (E.held errors.new) (E.faults errors.old) (E.faults errors.new) }
-{
-    match stop {
-        Stop::Syntax(fault) => {
-            let line = catalogue_line(alloc, fault.at, fault.kind.name());
-            told_made(stop, line, errors)
-        }
-        Stop::Typing(fault) => {
-            let line = catalogue_line(alloc, fault.at, fault.kind.name());
-            told_made(stop, line, errors)
-        }
-        Stop::Aborted { txn, op, reason } => {
-            told_made(stop, abort_line(alloc, txn, op, reason), errors)
-        }
-        _ => {
-            if let Some(line) = stop.line() {
-                let _ = write_all(errors, line);
-            }
-            stop
-        }
-    }
-}
-
 /// Does what the words say, and answers the program's exit status. The one command that runs is `replay`: it reads a
 /// script from the input, to its end or to 65,537 bytes, executes its calls one after another from no
 /// rows on, and writes the tables. Time is near linear in the script and in the operations that its calls execute.
@@ -151,7 +88,7 @@ fn told<E: Sink>(alloc: Global, stop: Stop, errors: &mut E) -> Stop
 /// | 7 | only where the output's count of faults rose; the output took a front of the dump | `output fault` |
 /// | 9 | where an allocation was refused | `no memory` |
 ///
-/// A failing error sink changes no status.
+/// A failing error sink changes no status. The call waits for nobody: it calls no gate, and hands the runtime to nothing.
 pub fn pacman<RT: Threads + Wait + Sync, I: Source, O: Sink, E: Sink, D: Disk, G: Gate + Sync>(
     _rt: &RT,
     alloc: Global,
@@ -159,7 +96,7 @@ pub fn pacman<RT: Threads + Wait + Sync, I: Source, O: Sink, E: Sink, D: Disk, G
     input: &mut I,
     output: &mut O,
     errors: &mut E,
-    _devices: &mut Devices<D>,
+    devices: &mut Devices<D>,
     _gate: &G,
 ) -> u8
     ensures status { IsTrue (list_any (λ status. status == result) (0 ∷ 1 ∷ 2 ∷ 4 ∷ 6 ∷ 7 ∷ 9 ∷ [])) }
@@ -177,13 +114,21 @@ pub fn pacman<RT: Threads + Wait + Sync, I: Source, O: Sink, E: Sink, D: Disk, G
     // The output is the dump where the status is 0, a front of it with 7, and else nothing.
     ensures done { result ≡ 0 → IsDumpOf (I.left input.old) (λ text. Took (O.held output.old) text (O.held output.new)) }
     ensures front { result ≡ 7 → IsDumpOf (I.left input.old) (λ text. TookFront (O.held output.old) text (O.held output.new)) }
-    ensures kept { result ≢ 0 → result ≢ 7 → O.held output.new ≡ O.held output.old }
+    ensures kept { result ≢ 0 → result ≢ 7 → output.new ≡ output.old }
 
     // The error sink takes the status's line.
-    ensures quiet { result ≡ 0 → E.held errors.new ≡ E.held errors.old }
+    ensures quiet { result ≡ 0 → errors.new ≡ errors.old }
     ensures told { result ≢ 0 → (stop : AStop) × (result ≡ status_of stop) × SaysUnlessFault (E.held errors.old) (line_of stop) (E.held errors.new) (E.faults errors.old) (E.faults errors.new) }
+
+    // It reads at most one byte more than a script has, nothing where the words are wrong, and calls no device.
+    ensures taken { GaveAtMost 65537 (I.left input.old) (I.left input.new) }
+    ensures unread { ¬ IsReplay words.now → input.new ≡ input.old }
+    ensures devices { devices.new ≡ devices.old }
 {
-    match command(alloc, words, input, output) {
+    if !is_replay(words) {
+        return refuse_words(WordsError::Usage, errors);
+    }
+    match replay(alloc, input, output) {
         Ok(()) => 0,
         Err(stop) => told(alloc, stop, errors).status(),
     }

@@ -1,6 +1,7 @@
 //! The program: its top call, generic over the outside.
 //!
 //! - [`pacman`]: does what the words of the command line say, and answers the exit status.
+//! - [`refuse_words`]: answers the exit status where these words couldn't be read.
 //!
 //! What the call answers stands in `specs/`: `Lines` (the lines of a text, and the line that ends a catalogue), `Calls`
 //! (how a call is written, and when it fits its procedure), `Requests` (what a request line says), `Script` (which texts
@@ -15,8 +16,10 @@ mod script;
 mod script_error;
 mod split;
 mod stop;
+mod tell;
 
 pub use command::pacman;
+pub use tell::{WordsError, refuse_words};
 
 #[cfg(test)]
 mod tests;

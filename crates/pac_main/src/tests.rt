@@ -1,10 +1,11 @@
 // The top call over sources and sinks in memory.
 ghost use Rattle.std.specs.Prelude.{Some};
 
-use crate::pacman;
-use pac_outside::{Devices, Failed, MemSink, MemSource, NoDisk, OpenGate, Sink};
+use crate::{WordsError, pacman, refuse_words};
+use pac_outside::{Devices, Failed, Gate, MemSink, MemSource, NoDisk, OpenGate, Sink, Source};
 use std::alloc::Global;
 use std::sync::Wait;
+use std::sync::atomic::{AtomicU64, Ordering};
 use std::test::Fail;
 use std::thread::Threads;
 
@@ -17,12 +18,44 @@ const ADD: &str =
 const BANK: &str =
     "table Family(key int, spouse int);\ntable Current(key int, value int);\ntable Saving(key int, value int);\ntable Stats(key int, count int);\nproc Transfer(src int, amount int) {\n  read dst = Family[src].spouse default 0;\n  if dst != 0 {\n    read a = Current[src].value default 0;\n    put Current[src] = (a - amount);\n    read b = Current[dst].value default 0;\n    put Current[dst] = (b + amount);\n    read s = Saving[src].value default 0;\n    put Saving[src] = (s + 1);\n  }\n}\nproc Deposit(name int, amount int, nation int) {\n  read v = Current[name].value default 0;\n  put Current[name] = (v + amount);\n  if v + amount > 10000 {\n    read s = Saving[name].value default 0;\n    put Saving[name] = (s + v / 50);\n  }\n  read n = Stats[nation].count default 0;\n  put Stats[nation] = (n + 1);\n}\n---\n";
 
-// What the program answers: its status, and what the output and the error sink took.
+// What the program answers: its status, how often it entered the gate, and what the output and the error sink took.
 #[derive(Drop)]
 struct Answer {
     status: u8,
+    entered: u64,
     output: MemSink,
     errors: MemSink,
+}
+
+/// A gate that counts who enters it.
+#[derive(Drop)]
+struct Counting {
+    entered: AtomicU64,
+}
+
+impl Gate for Counting {
+    fn enter(&self, _worker: u32, _txn: u64, _block: u16) {
+        self.entered.fetch_add(1, Ordering::SeqCst);
+    }
+}
+
+// Runs the word over this outside, and answers the status.
+fn run_over<RT: Threads + Wait + Sync, I: Source, O: Sink, E: Sink, G: Gate + Sync>(
+    rt: &RT,
+    alloc: Global,
+    word: &str,
+    input: &mut I,
+    output: &mut O,
+    errors: &mut E,
+    gate: &G,
+) -> Result<u8, Fail> {
+    let words = [String::from_str(alloc, word)?];
+    let mut devices = Devices {
+        log: NoDisk::new(),
+        slot_a: NoDisk::new(),
+        slot_b: NoDisk::new(),
+    };
+    Ok(pacman(rt, alloc, &words, input, output, errors, &mut devices, gate))
 }
 
 // Runs the word over this input, where these calls of the input and of the output fail.
@@ -34,35 +67,19 @@ fn run_word<RT: Threads + Wait + Sync>(
     bad_reads: Vec<u64>,
     bad_writes: Vec<u64>,
 ) -> Result<Answer, Fail> {
-    let mut words = Vec::new(alloc);
-    words.push(String::from_str(alloc, word)?)?;
     let mut input = MemSource::new(input, bad_reads);
     let mut output = MemSink::new(Vec::new(alloc), bad_writes);
     let mut errors = MemSink::new(Vec::with_capacity(alloc, 4096)?, Vec::new(alloc));
-    let mut devices = no_devices();
-    let status = pacman(
-        rt,
-        alloc,
-        &words,
-        &mut input,
-        &mut output,
-        &mut errors,
-        &mut devices,
-        &OpenGate,
-    );
+    let gate = Counting {
+        entered: AtomicU64::new(0),
+    };
+    let status = run_over(rt, alloc, word, &mut input, &mut output, &mut errors, &gate)?;
     Ok(Answer {
         status,
+        entered: gate.entered.load(Ordering::SeqCst),
         output,
         errors,
     })
-}
-
-fn no_devices() -> Devices<NoDisk> {
-    Devices {
-        log: NoDisk::new(),
-        slot_a: NoDisk::new(),
-        slot_b: NoDisk::new(),
-    }
 }
 
 // A text and another behind it.
@@ -297,6 +314,7 @@ fn answers_scripts(rt: HostRuntime) -> Result<(), Fail> {
             Vec::new(alloc),
         )?;
         assert_eq!(rt; answer.status, status, "status of {catalogue}{lines}");
+        assert_eq!(rt; answer.entered, 0, "the gate is for workers");
         assert_eq!(rt;
             answer.output.bytes(),
             text.as_bytes(),
@@ -315,7 +333,7 @@ fn answers_scripts(rt: HostRuntime) -> Result<(), Fail> {
 fn answers_other_words_and_faults(rt: HostRuntime) -> Result<(), Fail> {
     let rows = [
         ("stress", 0, 0, 1, USAGE),
-        ("run", 0, 0, 1, USAGE),
+        ("run", 1, 1, 1, USAGE), // nothing is read or written
         ("replay", 1, 0, 6, "input fault\n"),
         ("replay", 0, 1, 7, "output fault\n"),
     ];
@@ -331,6 +349,7 @@ fn answers_other_words_and_faults(rt: HostRuntime) -> Result<(), Fail> {
             vec![in alloc; bad_write]?,
         )?;
         assert_eq!(rt; answer.status, status, "status of {word}");
+        assert_eq!(rt; answer.entered, 0, "the gate is for workers");
         assert_eq!(rt; answer.output.bytes(), b"".as_slice(), "output of {word}");
         assert_eq!(rt; answer.errors.bytes(), line.as_bytes(), "errors of {word}");
     }
@@ -410,31 +429,82 @@ fn writes_all_to_sinks_of_one_byte_a_call(rt: HostRuntime) -> Result<(), Fail> {
             "abort 2 1 Overflow\n",
         ),
     ] {
-        let mut words = Vec::new(alloc);
-        words.push(String::from_str(alloc, "replay")?)?;
-        let mut script = ADD.as_bytes().to_vec(alloc)?;
-        script.extend_from_slice(lines.as_bytes())?;
-        let mut input = MemSource::new(script, Vec::new(alloc));
+        let mut input = MemSource::new(joined(alloc, ADD, lines)?, Vec::new(alloc));
         let mut output = OneByte {
             inner: MemSink::new(Vec::new(alloc), Vec::new(alloc)),
         };
         let mut errors = OneByte {
             inner: MemSink::new(Vec::new(alloc), Vec::new(alloc)),
         };
-        let mut devices = no_devices();
-        let answer = pacman(
+        let answer = run_over(
             &rt,
             alloc,
-            &words,
+            "replay",
             &mut input,
             &mut output,
             &mut errors,
-            &mut devices,
             &OpenGate,
-        );
+        )?;
         assert_eq!(rt; answer, status, "status of {lines}");
         assert_eq!(rt; output.inner.bytes(), text.as_bytes(), "output of {lines}");
         assert_eq!(rt; errors.inner.bytes(), line.as_bytes(), "errors of {lines}");
+    }
+    Ok(())
+}
+
+#[test]
+fn a_failing_error_sink_changes_no_status(rt: HostRuntime) -> Result<(), Fail> {
+    let alloc = rt.alloc();
+    let rows = [
+        ("stress", "", 0, 1, "us"),
+        ("replay", "table T(key int);", 0, 2, "ca"),
+        (
+            "replay",
+            "proc P() { abort if true; }\n---\ncall P()",
+            0,
+            4,
+            "ab",
+        ),
+        ("replay", "", 1, 6, "in"),
+    ];
+    for (word, script, bad_read, status, front) in rows {
+        for (bad_write, taken) in [(1, ""), (3, front)] {
+            let script = script.as_bytes().to_vec(alloc)?;
+            let mut input = MemSource::new(script, vec![in alloc; bad_read]?);
+            let mut output = MemSink::new(Vec::new(alloc), Vec::new(alloc));
+            let mut errors = OneByte {
+                inner: MemSink::new(Vec::new(alloc), vec![in alloc; bad_write]?),
+            };
+            let answer = run_over(
+                &rt,
+                alloc,
+                word,
+                &mut input,
+                &mut output,
+                &mut errors,
+                &OpenGate,
+            )?;
+            assert_eq!(rt; answer, status, "status at write {bad_write}");
+            assert_eq!(rt;
+                errors.inner.bytes(),
+                taken.as_bytes(),
+                "errors of {status}"
+            );
+        }
+    }
+    Ok(())
+}
+
+#[test]
+fn words_that_cannot_be_read_are_refused(rt: HostRuntime) -> Result<(), Fail> {
+    let alloc = rt.alloc();
+    for (error, status, line) in [
+        (WordsError::Usage, 1, USAGE),
+        (WordsError::NoMemory, 9, "no memory\n"),
+    ] {
+        let mut errors = MemSink::new(Vec::new(alloc), Vec::new(alloc));
+        assert_eq!(rt; refuse_words(error, &mut errors), status);
+        assert_eq!(rt; errors.bytes(), line.as_bytes());
     }
     Ok(())
 }

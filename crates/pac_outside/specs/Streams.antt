@@ -1,4 +1,4 @@
--- What a source over a reader and a sink over a writer are seen as.
+-- What a stream of the system is seen as.
 use Rattle.std.specs.Prelude.{ℕ}
 
 -- the reader or the writer, and how many calls failed

@@ -37,6 +37,10 @@ impl Calls {
     }
 
     /// Counts a call, and its fault where it is to fail.
+    ///
+    /// # Errors
+    ///
+    /// [`Failed`] exactly where the call is to fail.
     pub fn begin(&mut self) -> Result<(), Failed>
         ensures failed { IsErr result ↔ IsTrue (is_next_failing self.old) }
         ensures counted { self.new ≡ (if is_next_failing self.old then after_failed self.old else after_passed self.old) }
@@ -49,12 +53,11 @@ impl Calls {
         Ok(())
     }
 
-    /// Counts the fault of a call that began.
+    /// Counts the fault of a call that began, and answers it.
     pub fn fail(&mut self) -> Failed
         ensures counted { self.new ≡ record self.old { faults = one_more self.old.faults } }
         ensures later { self.old.faults ≤ self.new.faults }
     {
-        self.faults.add_one();
-        Failed
+        self.faults.fail()
     }
 }

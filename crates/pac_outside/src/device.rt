@@ -4,31 +4,42 @@ ghost use Rattle.pac_outside.specs.Causes.{HasCause, one_more};
 
 use crate::Failed;
 use crate::faults::Faults;
-use std::marker::Model;
 
 /// One device: bytes with places, which stay over a stop once they are synced. Of a device the contracts tell the
 /// count of faults alone so far: which bytes a read gives and what a stop may leave isn't stated yet.
-///
-/// # Errors
-///
-/// Each call answers [`Failed`] only where the device's count of faults rose.
 pub trait Disk {
     // How many calls failed.
     ghost faults: { Self → ℕ };
 
     /// How many bytes the device has.
+    ///
+    /// # Errors
+    ///
+    /// [`Failed`] only where the count of faults rose.
     fn len(&mut self) -> Result<u64, Failed>
         ensures cause { HasCause (faults self.old) (faults self.new) result };
 
     /// Reads the bytes from place `at` on into the front of `buf`, and answers how many.
+    ///
+    /// # Errors
+    ///
+    /// [`Failed`] only where the count of faults rose.
     fn read(&mut self, at: u64, buf: &mut [u8]) -> Result<usize, Failed>
         ensures cause { HasCause (faults self.old) (faults self.new) result };
 
     /// Writes the whole piece from place `at` on.
+    ///
+    /// # Errors
+    ///
+    /// [`Failed`] only where the count of faults rose.
     fn write_at(&mut self, at: u64, piece: &[u8]) -> Result<(), Failed>
         ensures cause { HasCause (faults self.old) (faults self.new) result };
 
     /// Makes what was written stay.
+    ///
+    /// # Errors
+    ///
+    /// [`Failed`] only where the count of faults rose.
     fn sync(&mut self) -> Result<(), Failed>
         ensures cause { HasCause (faults self.old) (faults self.new) result };
 }
@@ -47,65 +58,50 @@ pub struct NoDisk {
     faults: Faults,
 }
 
-impl Model for NoDisk {
-    ghost use Rattle.std.specs.Prelude.{ℕ};
-
-    ghost Value = { ℕ };
-
-    ghost view = { λ disk. disk.faults };
-}
-
 impl NoDisk {
+    /// A disk that isn't there, and was not called yet.
     pub fn new() -> Self
-        ensures { result ≡ 0 }
+        ensures { result.faults ≡ 0 }
     {
         NoDisk {
             faults: Faults::new(),
         }
     }
-
-    // Counts a call.
-    fn fail(&mut self) -> Failed
-        ensures counted { self.new ≡ one_more self.old }
-        ensures later { self.old ≤ self.new }
-    {
-        self.faults.add_one();
-        Failed
-    }
 }
 
 impl Disk for NoDisk {
-    ghost faults = { λ disk. disk };
+    ghost faults = { λ disk. disk.faults };
 
     fn len(&mut self) -> Result<u64, Failed>
         ensures failed { IsErr result }
-        ensures counted { self.new ≡ one_more self.old }
-        ensures cause { HasCause self.old self.new result }
+        ensures counted { self.new.faults ≡ one_more self.old.faults }
+        ensures cause { HasCause self.old.faults self.new.faults result }
     {
-        Err(self.fail())
+        Err(self.faults.fail())
     }
 
-    fn read(&mut self, _at: u64, _buf: &mut [u8]) -> Result<usize, Failed>
+    fn read(&mut self, _at: u64, buf: &mut [u8]) -> Result<usize, Failed>
         ensures failed { IsErr result }
-        ensures counted { self.new ≡ one_more self.old }
-        ensures cause { HasCause self.old self.new result }
+        ensures buffer { buf.new ≡ buf.old }
+        ensures counted { self.new.faults ≡ one_more self.old.faults }
+        ensures cause { HasCause self.old.faults self.new.faults result }
     {
-        Err(self.fail()) // no byte comes
+        Err(self.faults.fail()) // no byte comes
     }
 
     fn write_at(&mut self, _at: u64, _piece: &[u8]) -> Result<(), Failed>
         ensures failed { IsErr result }
-        ensures counted { self.new ≡ one_more self.old }
-        ensures cause { HasCause self.old self.new result }
+        ensures counted { self.new.faults ≡ one_more self.old.faults }
+        ensures cause { HasCause self.old.faults self.new.faults result }
     {
-        Err(self.fail())
+        Err(self.faults.fail())
     }
 
     fn sync(&mut self) -> Result<(), Failed>
         ensures failed { IsErr result }
-        ensures counted { self.new ≡ one_more self.old }
-        ensures cause { HasCause self.old self.new result }
+        ensures counted { self.new.faults ≡ one_more self.old.faults }
+        ensures cause { HasCause self.old.faults self.new.faults result }
     {
-        Err(self.fail())
+        Err(self.faults.fail())
     }
 }

@@ -2,6 +2,7 @@
 ghost use Rattle.std.specs.Prelude.{◌≡◌, ◌≤◌};
 ghost use Rattle.pac_outside.specs.Causes.{one_more};
 
+use crate::Failed;
 use std::marker::Model;
 
 /// How many calls of an object failed. The count stops at the greatest `u64`.
@@ -19,17 +20,19 @@ impl Model for Faults {
 }
 
 impl Faults {
+    /// No fault yet.
     pub fn new() -> Self
         ensures { result ≡ 0 }
     {
         Faults { count: 0 }
     }
 
-    /// Counts a fault.
-    pub fn add_one(&mut self)
+    /// Counts a fault, and answers it.
+    pub fn fail(&mut self) -> Failed
         ensures counted { self.new ≡ one_more self.old }
         ensures later { self.old ≤ self.new }
     {
         self.count = self.count.saturating_add(1);
+        Failed
     }
 }

@@ -10,7 +10,7 @@
 //! - [`Disk`] is one device of bytes with places; [`Devices`] are those of a store. [`NoDisk`] isn't there.
 //! - [`Gate`] is passed by a worker before each piece of work. [`OpenGate`] holds nobody.
 //! - [`MemSource`] and [`MemSink`] are in memory, and fail at the calls that they are told.
-//! - [`Reading`] and [`Writing`] stand over a reader and a writer of std, as the standard streams.
+//! - [`Stream`] stands over a reader or a writer of std, as the standard streams.
 #![tactic(auto)]
 
 mod bytes;
@@ -30,5 +30,5 @@ pub use device::{Devices, Disk, NoDisk};
 pub use failed::{Failed, ReadError};
 pub use gate::{Gate, OpenGate};
 pub use memory::{MemSink, MemSource};
-pub use streams::{Reading, Writing};
+pub use streams::Stream;
 pub use whole::{read_up_to, write_all};

@@ -1,5 +1,5 @@
 // A source and a sink in memory, with calls that fail.
-ghost use Rattle.std.specs.Prelude.{◌≡◌, ◌≤◌, ◌<◌, ◌-◌, ◌↔◌, ◌⊎◌, ◌++◌, Some, IfOk, IsErr, IsTrue, drop, length, min, take, vec_capacity, vec_len, if◌then◌else◌};
+ghost use Rattle.std.specs.Prelude.{◌≡◌, ◌≤◌, ◌<◌, ◌+◌, ◌-◌, ◌↔◌, ◌⊎◌, ◌++◌, Some, IfOk, IsErr, IsTrue, MatchResult, drop, length, min, take, vec_capacity, vec_len, if◌then◌else◌};
 ghost use Rattle.std.specs.Io.{ReadsAtMost};
 ghost use Rattle.std.specs.Result.{is_ok};
 ghost use Rattle.pac_outside.specs.Calls.{after_failed, after_passed, is_next_failing};
@@ -14,6 +14,7 @@ use std::marker::Model;
 fn copy_front(buf: &mut [u8], bytes: &[u8]) -> usize
     ensures count { result ≡ min (length bytes.now) (length buf.old) }
     ensures copied { take result buf.new ≡ take result bytes.now }
+    ensures rest { drop result buf.new ≡ drop result buf.old }
 {
     let count = bytes.len().min(buf.len());
     buf[..count].copy_from_slice(&bytes[..count]);
@@ -70,6 +71,7 @@ impl Source for MemSource {
         // It fails exactly where it is to, and else gives all that it can.
         ensures failed { IsErr result ↔ IsTrue (is_next_failing self.old.calls) }
         ensures all { IfOk result (λ count. count ≡ min (length self.old.left) (length buf.old)) }
+        ensures rest { MatchResult result (λ count. drop count buf.new ≡ drop count buf.old) (λ _. buf.new ≡ buf.old) }
         ensures counted { self.new.calls ≡ (if is_ok result then after_passed self.old.calls else after_failed self.old.calls) }
     {
         self.calls.begin()?;
@@ -134,6 +136,10 @@ impl Sink for MemSink {
         ensures memory { IsErr result → IsTrue (is_next_failing self.old.calls) ⊎ (self.old.room < length piece.now) }
         ensures all { IfOk result (λ count. count ≡ length piece.now) }
         ensures counted { self.new.calls ≡ (if is_ok result then after_passed self.old.calls else after_failed self.old.calls) }
+
+        // Of the room it uses no more than the piece is long, and none where it fails.
+        ensures room { MatchResult result (λ count. self.old.room ≤ self.new.room + count) (λ _. self.old.room ≤ self.new.room) }
+        ensures refused { IsTrue (is_next_failing self.old.calls) → self.new ≡ record self.old { calls = after_failed self.old.calls } }
     {
         self.calls.begin()?;
         if self.bytes.extend_from_slice(piece).is_err() {

@@ -1,4 +1,4 @@
-// Sources and sinks over the streams of the system.
+// A source and a sink over the streams of the system.
 ghost use Rattle.std.specs.Prelude.{◌≡◌, None, if◌then◌else◌};
 ghost use Rattle.std.specs.Io.{ReadsAtMost};
 ghost use Rattle.std.specs.Io.KnownBytes.{ReadConsumes, WriteAppends};
@@ -11,33 +11,35 @@ use crate::{Failed, Sink, Source};
 use std::io::{Read, Write};
 use std::marker::Model;
 
-/// A source over a reader, as standard input. Callers that are generic over sources are told nothing of its content.
+/// A stream of the system and a count of its faults: over a reader, as standard input, it is a source, and over a
+/// writer, as standard output, a sink. Callers that are generic over sources or sinks are told nothing of its content.
 #[derive(Drop)]
-pub struct Reading<R> {
-    reader: R,
+pub struct Stream<S> {
+    stream: S,
     faults: Faults,
 }
 
-impl<R> Model for Reading<R> {
+impl<S> Model for Stream<S> {
     ghost use Rattle.pac_outside.specs.Streams.{StreamState};
 
-    ghost Value = { StreamState R };
+    ghost Value = { StreamState S };
 
-    ghost view = { λ source. record { stream = source.reader; faults = source.faults } };
+    ghost view = { λ stream. record { stream = stream.stream; faults = stream.faults } };
 }
 
-impl<R: Read> Reading<R> {
-    pub fn new(reader: R) -> Self
-        ensures { result ≡ record { stream = reader; faults = 0 } }
+impl<S> Stream<S> {
+    /// The stream, without a fault yet.
+    pub fn new(stream: S) -> Self
+        ensures { result ≡ record { stream = stream; faults = 0 } }
     {
-        Reading {
-            reader,
+        Stream {
+            stream,
             faults: Faults::new(),
         }
     }
 }
 
-impl<R: Read> Source for Reading<R> {
+impl<R: Read> Source for Stream<R> {
     ghost left = { λ _. None };
 
     ghost faults = { λ source. source.faults };
@@ -56,44 +58,15 @@ impl<R: Read> Source for Reading<R> {
         ensures passed { ReadConsumes (R.remaining self.old.stream) (R.remaining self.new.stream) result buf.new }
         ensures counted { self.new.faults ≡ (if is_ok result then self.old.faults else one_more self.old.faults) }
     {
-        match self.reader.read(buf) {
+        match self.stream.read(buf) {
             Ok(count) => Ok(count),
-            Err(_) => {
-                self.faults.add_one();
-                Err(Failed)
-            }
+            Err(_) => Err(self.faults.fail()),
         }
     }
 }
 
-/// A sink over a writer, as standard output and standard error. Callers that are generic over sinks are told nothing of
-/// its content. It doesn't flush.
-#[derive(Drop)]
-pub struct Writing<W> {
-    writer: W,
-    faults: Faults,
-}
-
-impl<W> Model for Writing<W> {
-    ghost use Rattle.pac_outside.specs.Streams.{StreamState};
-
-    ghost Value = { StreamState W };
-
-    ghost view = { λ sink. record { stream = sink.writer; faults = sink.faults } };
-}
-
-impl<W: Write> Writing<W> {
-    pub fn new(writer: W) -> Self
-        ensures { result ≡ record { stream = writer; faults = 0 } }
-    {
-        Writing {
-            writer,
-            faults: Faults::new(),
-        }
-    }
-}
-
-impl<W: Write> Sink for Writing<W> {
+/// It doesn't flush.
+impl<W: Write> Sink for Stream<W> {
     ghost held = { λ _. None };
 
     ghost faults = { λ sink. sink.faults };
@@ -111,12 +84,9 @@ impl<W: Write> Sink for Writing<W> {
         ensures passed { WriteAppends (W.contents self.old.stream) (W.contents self.new.stream) result piece.now }
         ensures counted { self.new.faults ≡ (if is_ok result then self.old.faults else one_more self.old.faults) }
     {
-        match self.writer.write(piece) {
+        match self.stream.write(piece) {
             Ok(count) if count > 0 || piece.is_empty() => Ok(count),
-            _ => {
-                self.faults.add_one();
-                Err(Failed)
-            }
+            _ => Err(self.faults.fail()),
         }
     }
 }

@@ -2,8 +2,8 @@
 ghost use Rattle.std.specs.Prelude.{◌≤◌, IfOk, Some};
 
 use crate::{
-    Disk, Failed, Gate, MemSink, MemSource, NoDisk, OpenGate, ReadError, Reading, Sink, Source,
-    Writing, read_up_to, write_all,
+    Disk, Failed, Gate, MemSink, MemSource, NoDisk, OpenGate, ReadError, Sink, Source, Stream,
+    read_up_to, write_all,
 };
 use std::io;
 use std::io::{Read, Write};
@@ -108,7 +108,7 @@ fn reads_a_whole_input_up_to_its_limit(rt: HostRuntime) -> Result<(), Fail> {
         let read = read_up_to(rt.alloc(), &mut source, limit).map(|text| text.len());
         assert_eq!(rt; read, length, "limit {limit}");
     }
-    let mut pieces = Reading::new(Steps {
+    let mut pieces = Stream::new(Steps {
         steps: [Some(2), Some(9), Some(1)],
         at: 0,
     });
@@ -120,21 +120,21 @@ fn reads_a_whole_input_up_to_its_limit(rt: HostRuntime) -> Result<(), Fail> {
 #[test]
 fn streams_answer_short_counts_and_errors(rt: HostRuntime) -> Result<(), Fail> {
     let mut buf = [0u8; 4];
-    let mut reading = Reading::new(Steps {
+    let mut reading = Stream::new(Steps {
         steps: [Some(3), None, Some(9)],
         at: 0,
     });
     for count in [Ok(3), Err(Failed), Ok(4), Ok(0)] {
         assert_eq!(rt; reading.read(&mut buf), count);
     }
-    let mut writing = Writing::new(Steps {
+    let mut writing = Stream::new(Steps {
         steps: [Some(1), Some(0), None],
         at: 0,
     });
     for count in [Ok(1), Err(Failed), Err(Failed)] {
         assert_eq!(rt; writing.write(b"abc"), count);
     }
-    let mut short = Writing::new(Steps {
+    let mut short = Stream::new(Steps {
         steps: [Some(1), Some(1), Some(5)],
         at: 0,
     });

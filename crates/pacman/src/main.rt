@@ -1,41 +1,47 @@
 //! The program: the real outside, handed to the top call.
 #![tactic(auto)]
 
-use pac_main::pacman;
-use pac_outside::{Devices, NoDisk, OpenGate, Reading, Writing};
-use std::env;
+use pac_main::{WordsError, pacman, refuse_words};
+use pac_outside::{Devices, NoDisk, OpenGate, Stream};
+use std::env::Env;
+use std::io::ErrorKind;
 use std::process::ExitCode;
+use std::{env, io};
 
-const WRONG_WORDS: u8 = 1;
+// The words behind the program's name.
+fn read_words<R: Env + Alloc>(rt: &R) -> io::Result<Vec<String<R::A>, R::A>> {
+    Ok(env::args(rt)?.skip(1).collect(rt.alloc())?)
+}
 
-const NO_MEMORY: u8 = 9;
+// What is wrong with words that can't be read.
+fn words_error(kind: ErrorKind) -> WordsError {
+    match kind {
+        ErrorKind::OutOfMemory => WordsError::NoMemory,
+        _ => WordsError::Usage,
+    }
+}
 
 fn main(rt: HostRuntime) -> ExitCode {
-    let mut words = Vec::new(rt.alloc());
-    let Ok(args) = env::args(&rt) else {
-        return ExitCode::from(WRONG_WORDS);
-    };
-    for word in args.skip(1) {
-        if words.push(word).is_err() {
-            return ExitCode::from(NO_MEMORY);
-        }
-    }
-    let mut input = Reading::new(rt.stdin());
-    let mut output = Writing::new(rt.stdout());
-    let mut errors = Writing::new(rt.stderr());
+    let mut input = Stream::new(rt.stdin());
+    let mut output = Stream::new(rt.stdout());
+    let mut errors = Stream::new(rt.stderr());
     let mut devices = Devices {
         log: NoDisk::new(),
         slot_a: NoDisk::new(),
         slot_b: NoDisk::new(),
     };
-    ExitCode::from(pacman(
-        &rt,
-        rt.alloc(),
-        &words,
-        &mut input,
-        &mut output,
-        &mut errors,
-        &mut devices,
-        &OpenGate,
-    ))
+    let status = match read_words(&rt) {
+        Ok(words) => pacman(
+            &rt,
+            rt.alloc(),
+            &words,
+            &mut input,
+            &mut output,
+            &mut errors,
+            &mut devices,
+            &OpenGate,
+        ),
+        Err(error) => refuse_words(words_error(error.kind()), &mut errors),
+    };
+    ExitCode::from(status)
 }

@@ -1,0 +1,92 @@
+// What the error sink is told, and the status behind it.
+ghost use Rattle.std.specs.Prelude.{◌≡◌, ◌⊎◌, IfOk, IsTrue, false, if◌then◌else◌};
+ghost use Rattle.std.specs.Result.{is_ok};
+ghost use Rattle.pac_main.specs.Replay.{SaysUnlessFault};
+ghost use Rattle.pac_main.specs.Stop.{status_of, line_of, takes_memory, stop_of_words};
+
+use crate::stop::{Stop, abort_line, catalogue_line};
+use pac_outside::{Sink, write_all};
+use std::alloc::{AllocError, Global};
+
+/// Why the words of the command line name no command.
+#[derive(Clone, Copy, Debug, PartialEq, Eq)]
+pub enum WordsError {
+    /// They are not the words of a command that runs, as where one of them is no text.
+    Usage,
+    /// There was no memory to read them.
+    NoMemory,
+}
+
+impl From<WordsError> for Stop {
+    ghost from_gives = { λ error stop. stop ≡ stop_of_words error };
+
+    fn from(error: WordsError) -> Self {
+        match error {
+            WordsError::Usage => Stop::Usage,
+            WordsError::NoMemory => Stop::NoMemory,
+        }
+    }
+}
+
+/// Tells the error sink what is wrong with the words of the command line, and answers the program's exit status. A
+/// failing error sink doesn't change it.
+pub fn refuse_words<E: Sink>(error: WordsError, errors: &mut E) -> u8
+    ensures status { result ≡ status_of (stop_of_words error) }
+    ensures told { SaysUnlessFault (E.held errors.old) (line_of (stop_of_words error)) (E.held errors.new) (E.faults errors.old) (E.faults errors.new) }
+{
+    let stop = Stop::from(error);
+    told_text(stop, errors);
+    stop.status()
+}
+
+// Tells the error sink the stop's line, which is one text.
+fn told_text<E: Sink>(stop: Stop, errors: &mut E)
+    requires { takes_memory stop ≡ false }
+    ensures line { SaysUnlessFault (E.held errors.old) (line_of stop) (E.held errors.new) (E.faults errors.old) (E.faults errors.new) }
+{
+    if let Some(line) = stop.line() {
+        let _ = write_all(errors, line);
+    }
+}
+
+// Tells the error sink the line that was made for the stop, and answers that, or that there was no memory for the line.
+fn told_made<E: Sink>(stop: Stop, made: Result<Vec<u8>, AllocError>, errors: &mut E) -> Stop
+    requires { IfOk made (λ line. line.items ≡ line_of stop) }
+    ensures which { result ≡ (if is_ok made then stop else Stop.NoMemory) }
+    ensures line { SaysUnlessFault (E.held errors.old) (line_of result) (E.held errors.new) (E.faults errors.old) (E.faults errors.new) }
+{
+    match made {
+        Ok(line) => {
+            let _ = write_all(errors, &line);
+            stop
+        }
+        Err(_) => {
+            told_text(Stop::NoMemory, errors);
+            Stop::NoMemory
+        }
+    }
+}
+
+/// Tells the error sink why the command stopped, and answers that, or that there was no memory for its line.
+pub fn told<E: Sink>(alloc: Global, stop: Stop, errors: &mut E) -> Stop
+    ensures which { (result ≡ stop) ⊎ ((result ≡ Stop.NoMemory) × IsTrue (takes_memory stop)) }
+    ensures line { SaysUnlessFault (E.held errors.old) (line_of result) (E.held errors.new) (E.faults errors.old) (E.faults errors.new) }
+{
+    match stop {
+        Stop::Syntax(fault) => {
+            let line = catalogue_line(alloc, fault.at, fault.kind.name());
+            told_made(stop, line, errors)
+        }
+        Stop::Typing(fault) => {
+            let line = catalogue_line(alloc, fault.at, fault.kind.name());
+            told_made(stop, line, errors)
+        }
+        Stop::Aborted { txn, op, reason } => {
+            told_made(stop, abort_line(alloc, txn, op, reason), errors)
+        }
+        _ => {
+            told_text(stop, errors);
+            stop
+        }
+    }
+}
