@@ -117,6 +117,16 @@ a_proc tables node proc limits is =
       counted = omega (arith, limits.short, counted);
     }
 
+name_of : (tables : List Table) (node : ProcNode) (proc : Proc) → IsProcOf tables node proc → proc.name ≡ node.name.name
+name_of tables node proc is = ap (λ (p : Proc). p.name) (sym (body_found tables node proc (body_of tables (variables node) node.body (numbers_from 0 node.params) (length node.params)) is.named).2)
+
+-- the names of nodes are those of their procedures
+pub procs-named : (tables : List Table) (nodes : List ProcNode) (procs : List Proc) → AllZip (IsProcOf tables) nodes procs → map (λ node. node.name.name) nodes ≡ map (λ proc. proc.name) procs
+procs-named tables [] [] all = refl
+procs-named tables [] (p ∷ ps) all = absurd all
+procs-named tables (n ∷ ns) [] all = absurd all
+procs-named tables (n ∷ ns) (p ∷ ps) all = ap (λ names. n.name.name ∷ names) (procs-named tables ns ps all.1) ∙ ap (λ name. name ∷ map (λ proc. proc.name) ps) (sym (name_of tables n p all.0))
+
 pub procs_sound : (catalogue : CatalogueState) → IsCatalogue catalogue → All (IsProc catalogue.tables) catalogue.procs
 procs_sound catalogue is = All-from_recursion (IsProc catalogue.tables) catalogue.procs
     (zip-all (IsProcOf catalogue.tables) IsProcWithinLimits (IsProc catalogue.tables) (a_proc catalogue.tables) is.0.procs catalogue.procs is.2.procs (recursion_from_All IsProcWithinLimits is.0.procs (tree-within is.0 is.1).procs))

@@ -8,3 +8,4 @@ pub mod Faults
 pub mod Checking
 pub mod TablesIndex
 pub mod Typing
+pub mod CatalogueNames

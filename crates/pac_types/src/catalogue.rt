@@ -2,7 +2,9 @@
 ghost use Rattle.std.specs.Prelude.{◌≡◌, ◌≤◌, All, length, map};
 ghost use Rattle.pac_types.specs.Numbering.{number_of};
 ghost use Rattle.pac_types.specs.Typing.{IsProc, IsSoundTable};
+ghost use Rattle.pac_types.specs.CatalogueNames.{IsNamed};
 
+use crate::names::Names;
 use crate::{Proc, Table};
 use pac_base::{Exact, Listed, NoMemory};
 use std::alloc::Global;
@@ -11,12 +13,15 @@ use std::marker::Model;
 /// The tables and procedures of a tree that is typed. It keeps by its type that there is such a tree.
 #[derive(Debug, Drop)]
 pub struct Catalogue {
-    pub(crate) tables: Listed<Table>,
-    pub(crate) procs: Listed<Proc>,
+    tables: Listed<Table>,
+    procs: Listed<Proc>,
+    table_names: Names,
+    proc_names: Names,
 }
 
 impl Model for Catalogue {
-    ghost use Rattle.pac_types.specs.Typing.{CatalogueState, IsCatalogue};
+    ghost use Rattle.pac_types.specs.Typing.{CatalogueState};
+    ghost use Rattle.pac_types.specs.CatalogueNames.{IsNamed};
     ghost use Rattle.std.specs.Coded.{codes};
     ghost use Rattle.pac_types.specs.contracts.statement.Stmt as stmt;
 
@@ -26,10 +31,28 @@ impl Model for Catalogue {
 
     ghost view = { λ catalogue. record { tables = catalogue.tables; procs = catalogue.procs } };
 
-    ghost invariant = { λ catalogue. IsCatalogue (record { tables = catalogue.tables; procs = catalogue.procs }) };
+    ghost invariant = { λ catalogue. IsNamed (record { tables = catalogue.tables; procs = catalogue.procs }) catalogue.table_names catalogue.proc_names };
 }
 
 impl Catalogue {
+    /// The catalogue of these tables and procedures, whose names are numbered.
+    pub(crate) fn of(
+        tables: Listed<Table>,
+        procs: Listed<Proc>,
+        table_names: Names,
+        proc_names: Names,
+    ) -> Catalogue
+        requires { IsNamed (record { tables = tables; procs = procs }) table_names proc_names }
+        ensures { result ≡ record { tables = tables; procs = procs } }
+    {
+        Catalogue {
+            tables,
+            procs,
+            table_names,
+            proc_names,
+        }
+    }
+
     /// The tables, by their numbers.
     pub fn tables(&self) -> &[Table]
         ensures value { result.now ≡ self.now.tables }
@@ -52,26 +75,14 @@ impl Catalogue {
     pub fn table_named(&self, name: &[u8]) -> Option<u16>
         ensures { result ≡ number_of (map (λ table. table.name) self.now.tables) name.now }
     {
-        let tables = self.tables();
-        for i in 0..tables.len() {
-            if name == tables[i].name.bytes() {
-                return Some(i as u16);
-            }
-        }
-        None
+        self.table_names.number_of_bytes(name)
     }
 
     /// The number of the procedure with this name. `None`: none has it.
     pub fn proc_named(&self, name: &[u8]) -> Option<u16>
         ensures { result ≡ number_of (map (λ proc. proc.name) self.now.procs) name.now }
     {
-        let procs = self.procs();
-        for i in 0..procs.len() {
-            if name == procs[i].name.bytes() {
-                return Some(i as u16);
-            }
-        }
-        None
+        self.proc_names.number_of_bytes(name)
     }
 }
 
@@ -79,6 +90,13 @@ impl Exact for Catalogue {
     fn copy(&self, alloc: Global) -> Result<Catalogue, NoMemory> {
         let tables = self.tables.copy(alloc)?;
         let procs = self.procs.copy(alloc)?;
-        Ok(Catalogue { tables, procs })
+        let table_names = self.table_names.copy(alloc)?;
+        let proc_names = self.proc_names.copy(alloc)?;
+        Ok(Catalogue {
+            tables,
+            procs,
+            table_names,
+            proc_names,
+        })
     }
 }

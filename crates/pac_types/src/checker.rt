@@ -1,24 +1,22 @@
 // The checker of trees.
-ghost use Rattle.std.specs.Prelude.{◌≡◌, ◌≤◌, ◌<◌, ◌↔◌, All, IfOk, IsErrOf, List, length, map};
+ghost use Rattle.std.specs.Prelude.{◌≡◌, ◌↔◌, All, IfOk, IsErrOf, map};
 ghost use Rattle.pac_base.specs.Refusals.{Tells};
 ghost use Rattle.pac_base.specs.declared.refusal.Refusal.TheVariants as error;
 ghost use Rattle.pac_types.specs.declared.type_error.TypeFault.{TypeFault as AFault};
 ghost use Rattle.pac_types.specs.Checking.{checked_procs};
-ghost use Rattle.pac_types.specs.Numbering.{number_of};
-ghost use Rattle.pac_types.specs.Typing.{CatalogueState, IsProc, IsSoundTable, IsTyped, Types};
+ghost use Rattle.pac_types.specs.Typing.{CatalogueState, IsTyped, Types};
 ghost use Rattle.pac_types.specs.Faults.{IsFirstTypeFault, Stands};
 ghost use Rattle.pac_syntax.specs.Limits.{IsProcWithinLimits};
 ghost use Rattle.pac_syntax.specs.Reading.{IsTree};
 
 mod expressions;
-mod names;
 mod procedures;
 mod scope;
 mod statements;
 mod tables;
 
+use crate::names::Names;
 use crate::{Catalogue, Proc, TypeError};
-use names::Names;
 use procedures::check_proc;
 use tables::Tables;
 use pac_base::listed;
@@ -37,13 +35,16 @@ fn names_of_procs(alloc: Global, nodes: &[ProcNode]) -> Result<Vec<Name>, AllocE
     Ok(names)
 }
 
-// The procedures of these nodes over the tables.
-fn check_procs(alloc: Global, tables: &Tables, nodes: &[ProcNode]) -> Result<Vec<Proc>, TypeError>
-    requires few { length nodes.now ≤ 64 }
-    requires limits { All IsProcWithinLimits nodes.now }
-    ensures { Tells (λ procs. procs.items) result (checked_procs tables.now (map (λ node. node.name.name) nodes.now) 0 nodes.now) }
+// The procedures of these nodes, which have these names, over the tables.
+fn check_procs(
+    alloc: Global,
+    tables: &Tables,
+    names: &Names,
+    nodes: &[ProcNode],
+) -> Result<Vec<Proc>, TypeError>
+    requires { All IsProcWithinLimits nodes.now }
+    ensures { Tells (λ procs. procs.items) result (checked_procs tables.now names.now 0 nodes.now) }
 {
-    let names = Names::of(alloc, names_of_procs(alloc, nodes)?)?;
     let mut procs = Vec::with_capacity(alloc, nodes.len())?;
     for i in 0..nodes.len() {
         let node = &nodes[i];
@@ -81,9 +82,8 @@ fn check_tree(alloc: Global, tree: Tree) -> Result<Catalogue, TypeError>
     ensures fault { (fault : AFault) → IsErrOf result (error.Fault fault) → IsFirstTypeFault tree fault }
 {
     let tables = Tables::of(alloc, tree.tables.as_slice())?;
-    let procs = check_procs(alloc, &tables, tree.procs.as_slice())?;
-    Ok(Catalogue {
-        tables: listed(tables.into_tables()),
-        procs: listed(procs),
-    })
+    let names = Names::of(alloc, names_of_procs(alloc, tree.procs.as_slice())?)?;
+    let procs = check_procs(alloc, &tables, &names, tree.procs.as_slice())?;
+    let (tables, table_names) = tables.into_parts();
+    Ok(Catalogue::of(listed(tables), listed(procs), table_names, names))
 }

@@ -21,6 +21,7 @@ mod catalogue;
 mod checker;
 #[cfg(test)]
 mod fault_tests;
+mod names;
 mod procedure;
 mod reason;
 mod statement;

@@ -2,7 +2,7 @@
 ghost use Rattle.std.specs.Prelude.{◌≡◌, ◌≤◌, ◌<◌, ◌^◌, IfOk, OnOk, length, []};
 ghost use Rattle.pac_types.specs.Checking.{once, found, defined_in, hidden_in, left_at};
 
-use crate::checker::names::Names;
+use crate::names::Names;
 use crate::type_error::{TypeFault, TypeFaultKind};
 use pac_syntax::NameNode;
 use pac_value::Ty;

@@ -2,11 +2,11 @@
 ghost use Rattle.std.specs.Prelude.{◌≡◌, ◌≤◌, ◌<◌, ◌^◌, All, IfOk, IfSome, length, map, slice_get};
 ghost use Rattle.pac_base.specs.Refusals.{Tells};
 ghost use Rattle.pac_types.specs.Sound.{column_type, column_types, key_type, types};
-ghost use Rattle.pac_types.specs.Numbering.{column_number, column_of, table_number, table_of};
+ghost use Rattle.pac_types.specs.Numbering.{column_number, column_of, table_names, table_number, table_of};
 ghost use Rattle.pac_types.specs.Checking.{all_once, checked_tables, known_at, names_of};
 ghost use Rattle.pac_syntax.specs.Limits.{IsTableWithinLimits};
 
-use crate::checker::names::Names;
+use crate::names::Names;
 use crate::type_error::{TypeFault, TypeFaultKind};
 use crate::{Column, Table, TypeError};
 use pac_base::listed;
@@ -171,15 +171,16 @@ impl Tables {
         Some(self.columns(table).get(usize::from(column))?.ty)
     }
 
-    /// The tables alone.
-    pub fn into_tables(self) -> Vec<Table>
-        ensures { result.items ≡ self }
+    /// The tables, and their names.
+    pub fn into_parts(self) -> (Vec<Table>, Names)
+        ensures tables { result.0.items ≡ self }
+        ensures names { result.1 ≡ table_names self }
     {
         let Tables {
             tables,
-            names: _,
+            names,
             columns: _,
         } = self;
-        tables
+        (tables, names)
     }
 }

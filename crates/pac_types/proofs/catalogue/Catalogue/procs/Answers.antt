@@ -6,7 +6,7 @@ use Rattle.pac_types.proofs.TypingLemmas.{procs_few, procs_sound}
 use Rattle.pac_types.proofs.catalogue.Catalogue.procs.Goals as goal
 
 pub returns-clause-few : goal.returns-clause-few
-returns-clause-few c = subst (λ (catalogue : CatalogueState). length catalogue.procs ≤ 64) c.self.view_is (procs_few _ c.self.invariant)
+returns-clause-few c = subst (λ (catalogue : CatalogueState). length catalogue.procs ≤ 64) c.self.view_is (procs_few _ c.self.invariant.typed)
 
 pub returns-clause-sound : goal.returns-clause-sound
-returns-clause-sound c = subst (λ (catalogue : CatalogueState). All (IsProc catalogue.tables) catalogue.procs) c.self.view_is (procs_sound _ c.self.invariant)
+returns-clause-sound c = subst (λ (catalogue : CatalogueState). All (IsProc catalogue.tables) catalogue.procs) c.self.view_is (procs_sound _ c.self.invariant.typed)

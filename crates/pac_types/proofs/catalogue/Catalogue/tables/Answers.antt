@@ -6,7 +6,7 @@ use Rattle.pac_types.proofs.TypingLemmas.{tables_few, tables_sound}
 use Rattle.pac_types.proofs.catalogue.Catalogue.tables.Goals as goal
 
 pub returns-clause-few : goal.returns-clause-few
-returns-clause-few c = subst (λ (catalogue : CatalogueState). length catalogue.tables ≤ 64) c.self.view_is (tables_few _ c.self.invariant)
+returns-clause-few c = subst (λ (catalogue : CatalogueState). length catalogue.tables ≤ 64) c.self.view_is (tables_few _ c.self.invariant.typed)
 
 pub returns-clause-sound : goal.returns-clause-sound
-returns-clause-sound c = subst (λ (catalogue : CatalogueState). All IsSoundTable catalogue.tables) c.self.view_is (tables_sound _ c.self.invariant)
+returns-clause-sound c = subst (λ (catalogue : CatalogueState). All IsSoundTable catalogue.tables) c.self.view_is (tables_sound _ c.self.invariant.typed)
