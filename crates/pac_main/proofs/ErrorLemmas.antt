@@ -1,6 +1,7 @@
 -- What errors of lower layers become.
 use Rattle.std.proofs.Common.{◌≡◌, Result, Ok, Err, refl, sym, ap, subst, ◌∙◌}
 use Rattle.pac_base.specs.declared.refusal.Refusal.{Refusal}
+use Rattle.pac_tokens.specs.declared.fault.Fault.{Fault}
 use Rattle.pac_base.specs.declared.refusal.Refusal.TheVariants as syntax
 use Rattle.pac_syntax.specs.declared.tree.Tree.{Tree}
 use Rattle.pac_types.specs.declared.type_error.TypeFault.{TypeFault}

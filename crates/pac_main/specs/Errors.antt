@@ -2,6 +2,8 @@
 use Rattle.std.specs.Prelude.{◌≡◌, List, Result, Ok, Err, Vec}
 use Rattle.std.specs.Global.{Global}
 use Rattle.pac_base.specs.declared.refusal.Refusal.{Refusal}
+use Rattle.pac_tokens.specs.declared.fault.Fault.{Fault}
+use Rattle.pac_types.specs.declared.type_error.TypeFault.{TypeFault}
 use Rattle.pac_base.specs.declared.refusal.Refusal.TheVariants as syntax
 use Rattle.pac_base.specs.declared.refusal.Refusal.TheVariants as type
 use Rattle.pac_main.specs.declared.script_error.ScriptError.{ScriptError}

@@ -44,7 +44,7 @@ takes_memory _ = false
 abbrev pub line_of : Stop → List ℕ
 line_of Usage = codes "usage: pacman init, run, recover, explain, replay or stress\n"
 line_of (Syntax fault) = catalogue_line fault.at (syntax.kind_name fault.kind)
-line_of (Typing fault) = catalogue_line fault.at (typing.kind_name fault.kind)
+line_of (Typing fault) = catalogue_line fault.at (typing.type_kind_name fault.kind)
 line_of Refused = codes "script refused\n"
 line_of (Aborted txn op reason) = abort_line txn op reason
 line_of InputFault = codes "input fault\n"

@@ -16,3 +16,4 @@ pub mod FaultLemmas
 pub mod RuleLemmas
 pub mod FirstLemmas
 pub mod TypedLemmas
+pub mod OneCatalogue

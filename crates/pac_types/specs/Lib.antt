@@ -8,4 +8,5 @@ pub mod Faults
 pub mod Checking
 pub mod TablesIndex
 pub mod Typing
+pub mod CatalogueText
 pub mod CatalogueNames

@@ -1,6 +1,7 @@
 //! The typed catalogue: tables and procedures whose names are resolved to numbers, and what they mean.
 //!
-//! - [`check`]: the [`Catalogue`] of a tree, or the first [`TypeFault`] that stands in it, at a place and of a kind.
+//! - [`read_catalogue`]: the [`Catalogue`] of a text, or its first [`CatalogueFault`].
+//! - [`check`]: the catalogue of a tree, or the first [`TypeFault`] that stands in it, at a place and of a kind.
 //! - [`Table`], [`Column`]: a table's name, the type of its key and its columns.
 //! - [`Proc`], [`Stmt`]: a procedure's name, its parameters and its statements.
 //! - [`Reason`]: why a transaction aborts.
@@ -28,6 +29,7 @@ mod statement;
 mod table;
 #[cfg(test)]
 mod tests;
+mod text;
 mod type_error;
 
 pub use catalogue::Catalogue;
@@ -36,4 +38,5 @@ pub use procedure::Proc;
 pub use reason::Reason;
 pub use statement::{Exprs, Stmt, Stmts};
 pub use table::{Column, Columns, Table};
+pub use text::{CatalogueError, CatalogueFault, read_catalogue};
 pub use type_error::{TypeError, TypeFault, TypeFaultKind};
