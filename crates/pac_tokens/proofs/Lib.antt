@@ -1,7 +1,9 @@
 pub mod NumberLemmas
 pub mod Quoted
 pub mod Spelled
+pub mod Candidates
 pub mod Longest
 pub mod SignLemmas
+pub mod Steps
 pub mod LexedOnce
 pub mod LexLemmas

@@ -1,6 +1,6 @@
 -- The token that is found by its first byte is the longest one in front, or the fault is that of the bytes.
 use Rattle.std.proofs.Common.{◌≡◌, ◌≤◌, ◌+◌, ◌^◌, ℕ, zero, suc, pos, neg_ℤ, Bool, true, false, List, [], ◌∷◌, ◌++◌, length, take, drop, Option, Some, None, Result, Ok, Err, cond, refl, sym, ap, subst, ◌∙◌, append_assoc, arith, nat_eq, nat_lt, nat_le, if◌then◌else◌, inl, inr}
-use Rattle.std.specs.Prelude.{IfOk, IfErr}
+use Rattle.std.specs.Prelude.{IfOk}
 use Rattle.std.specs.Cmp.{first_so, second_so}
 use Rattle.std.specs.List.{take_while, list_all}
 use Rattle.std.proofs.lemmas.List.Sums.{take_while-cons}
@@ -17,7 +17,7 @@ use Rattle.pac_tokens.specs.declared.lexer.Before.TheVariants.{Value, Other, Lit
 use Rattle.pac_tokens.specs.declared.fault.FaultKind.{FaultKind}
 use Rattle.pac_tokens.specs.declared.fault.FaultKind.TheVariants as kind
 use Rattle.pac_tokens.specs.Spelling.{symbol_spelling, escaped, quoted}
-use Rattle.pac_tokens.specs.Tokens.{is_letter, is_digit, is_name, digits_value, keyword_of, IsWord, IsDigits, is_literal_minus, Spells, IsLongest, is_long_minus, IsNext, IsBad}
+use Rattle.pac_tokens.specs.Tokens.{is_letter, is_digit, is_name, digits_value, keyword_of, IsWord, IsDigits, is_literal_minus, Spells, IsLongest, is_long_minus, IsNext}
 use Rattle.pac_tokens.specs.Lexing.{word_token, word_at, int_at, closing_in, unescaped, closed_text, text_at, symbol_of, or_first, symbol_front, symbol_at, token_at, IsFront}
 use Rattle.pac_tokens.proofs.Quoted.{Closed, closes, closed, text_of_front}
 use Rattle.pac_tokens.proofs.Spelled.{keyword_is, symbol_is, symbol_found, keyword_short, symbol_some, symbol_short, first, class, class_by, token_class, spells_class, spells_some, spells_names, spells_digits, spells_quoted, spells_sign, some_is}
@@ -264,11 +264,7 @@ front_of before (b ∷ bs) some = by_first (is_letter b) (is_digit b) (nat_eq b 
     by_first false false true is_l is_d is_q = rw (eqb-true b 34 is_q) (text_front before bs)
     by_first false false false is_l is_d is_q = symbol_front_is before b bs (rw (is_l, is_d, is_q) refl)
 
--- the same of a result that is the token or the fault
+-- the same of a result that is the token
 pub front_ok : (before : Before) (bytes : List ℕ) (r : Result (Token × ℕ) FaultKind) → 1 ≤ length bytes → r ≡ token_at before bytes → IfOk r (λ p. IsNext before bytes p.0 p.1)
 front_ok before bytes (Ok p) some is = subst (λ (r : Result (Token × ℕ) FaultKind). IsFront before bytes r) (sym is) (front_of before bytes some)
 front_ok before bytes (Err f) some is = tt
-
-pub front_err : (before : Before) (bytes : List ℕ) (r : Result (Token × ℕ) FaultKind) → 1 ≤ length bytes → r ≡ token_at before bytes → IfErr r (λ kind. IsBad before bytes kind)
-front_err before bytes (Ok p) some is = tt
-front_err before bytes (Err f) some is = subst (λ (r : Result (Token × ℕ) FaultKind). IsFront before bytes r) (sym is) (front_of before bytes some)

@@ -1,7 +1,7 @@
 -- Texts between quotes: where they close, and what they are without their escapes.
 use Rattle.std.proofs.Common.{◌≡◌, ◌<◌, ◌+◌, get_or, ℕ, suc, Bool, true, false, List, [], ◌∷◌, ◌++◌, length, take, drop, Option, Some, None, refl, sym, ap, ◌∙◌, append_assoc, nat_eq, if◌then◌else◌, not, ◌||◌, ◌&&◌}
 use Rattle.std.specs.Cmp.{first_so, second_so}
-use Rattle.std.specs.List.{list_all}
+use Rattle.std.specs.List.{list_all, list_any}
 use Rattle.std.specs.Option.{option_map}
 use Rattle.std.proofs.lemmas.Bool.{eqb-true}
 use Rattle.std.proofs.lemmas.List.{drop_more}
@@ -141,3 +141,12 @@ plain_step e i bytes lt h = ap (unescaped e) (drop_more bytes i 0 lt) ∙ plain_
 
 pub escape_step : (e : Bool) (i : ℕ) (bytes : List ℕ) → i < length bytes → (not e && nat_eq (get_or bytes i 0) 92) ≡ true → unescaped e (drop i bytes) ≡ unescaped true (drop (i + 1) bytes)
 escape_step e i bytes lt h = ap (unescaped e) (drop_more bytes i 0 lt) ∙ escape_next e (get_or bytes i 0) (drop (i + 1) bytes) h
+
+-- bytes without a `\` are a text without escapes
+pub without_escape : (bs : List ℕ) → list_any (λ b. nat_eq b 92) bs ≡ false → unescaped false bs ≡ bs
+without_escape [] h = refl
+without_escape (b ∷ bs) h = by_byte (nat_eq b 92) refl (without_escape bs) h
+  where
+    by_byte : (t : Bool) → nat_eq b 92 ≡ t → (list_any (λ b. nat_eq b 92) bs ≡ false → unescaped false bs ≡ bs) → (t || list_any (λ b. nat_eq b 92) bs) ≡ false → unescaped false (b ∷ bs) ≡ b ∷ bs
+    by_byte true is more h = absurd cc
+    by_byte false is more h = rw is (ap (λ y. b ∷ y) (more h))

@@ -1,23 +1,43 @@
 -- The next token, found by its first byte.
-use Rattle.std.specs.Prelude.{ℕ, ◌+◌, ◌^◌, suc, pos, neg_ℤ, Bool, true, false, List, [], ◌∷◌, length, take, find, Option, Some, None, Result, Ok, Err, nat_lt, nat_le, nat_eq, if◌then◌else◌, ◌||◌}
+use Rattle.std.specs.Prelude.{◌≡◌, ◌≤◌, ◌++◌, ℕ, ◌+◌, ◌^◌, suc, pos, neg_ℤ, Bool, true, false, List, [], ◌∷◌, length, take, find, Option, Some, None, Result, Ok, Err, nat_lt, nat_le, nat_eq, if◌then◌else◌, ◌||◌}
 use Rattle.std.specs.Option.{option_map}
 use Rattle.std.specs.List.{take_while}
 use Rattle.std.specs.Cmp.Lexicographic.{pointwise}
 use Rattle.pac_value.specs.Texts.{is_printable}
 use Rattle.pac_tokens.specs.declared.token.Keyword.{Keyword}
+use Rattle.pac_tokens.specs.declared.token.Keyword.TheVariants as keyword
 use Rattle.pac_tokens.specs.declared.token.Symbol.{Symbol}
 use Rattle.pac_tokens.specs.declared.token.Symbol.TheVariants as symbol
 use Rattle.pac_tokens.specs.declared.token.Token.{Token}
 use Rattle.pac_tokens.specs.declared.token.Token.TheVariants as token
 use Rattle.pac_tokens.specs.declared.token.TheConstants.{SYMBOLS}
+use Rattle.pac_tokens.specs.declared.token.Spanned.{Spanned}
+use Rattle.pac_tokens.specs.declared.lexer.Step.{Step}
+use Rattle.pac_tokens.specs.declared.lexer.Step.TheVariants as step
 use Rattle.pac_tokens.specs.declared.lexer.Before.{Before}
 use Rattle.pac_tokens.specs.declared.lexer.Before.TheVariants.{LiteralMinus}
 use Rattle.pac_tokens.specs.declared.fault.FaultKind.{FaultKind}
 use Rattle.pac_tokens.specs.declared.fault.FaultKind.TheVariants as kind
 use Rattle.pac_tokens.specs.Spelling.{symbol_spelling}
-use Rattle.pac_tokens.specs.Tokens.{is_letter, is_digit, is_name, digits_value, keyword_of, is_long_minus, IsNext, IsBad}
+use Rattle.pac_tokens.specs.Tokens.{is_letter, is_digit, is_name, digits_value, keyword_of, is_long_minus, IsNext, IsBad, after}
 
 -- ---- words and ints
+
+-- the only reserved word that may be spelled by so many bytes of which these are the first two
+abbrev pub candidate : ℕ → ℕ → ℕ → Option Keyword
+candidate first second len =
+    if nat_eq first 97 then Some keyword.Abort
+    else (if nat_eq first 100 then Some (if nat_eq len 6 then keyword.Delete else keyword.Default)
+    else (if nat_eq first 101 then Some keyword.Else
+    else (if nat_eq first 102 then Some (if nat_eq len 3 then keyword.For else keyword.False)
+    else (if nat_eq first 104 then Some keyword.Has
+    else (if nat_eq first 105 then Some (if nat_eq second 102 then keyword.If else (if nat_eq len 2 then keyword.In else keyword.Int))
+    else (if nat_eq first 107 then Some keyword.Key
+    else (if nat_eq first 108 then Some keyword.Let
+    else (if nat_eq first 112 then Some (if nat_eq len 3 then keyword.Put else keyword.Proc)
+    else (if nat_eq first 114 then Some keyword.Read
+    else (if nat_eq first 115 then Some keyword.Set
+    else (if nat_eq first 116 then Some (if nat_eq second 97 then keyword.Table else (if nat_eq second 101 then keyword.Text else keyword.True)) else None)))))))))))
 
 abbrev pub word_token : Option Keyword → List ℕ → Token
 word_token None word = token.Name word
@@ -93,3 +113,21 @@ token_at before (b ∷ bs) =
 abbrev pub IsFront : Before → List ℕ → Result (Token × ℕ) FaultKind → Type 0
 IsFront before bytes (Ok p) = IsNext before bytes p.0 p.1
 IsFront before bytes (Err kind) = IsBad before bytes kind
+
+-- ---- one step
+
+-- the token that was found stands behind those so far, and the step tells its length and what stands before the next one
+abbrev pub IsPushed : Before → ℕ → Result (Token × ℕ) FaultKind → List Spanned → List Spanned → Step → Type 0
+IsPushed before at (Ok p) old new (step.Pushed len next) = (new ≡ old ++ (record { token = p.0; at = at } ∷ [])) × (len ≡ p.1) × (next ≡ after before p.0)
+IsPushed before at (Err kind) old new (step.Refused other) = (new ≡ old) × (other ≡ kind)
+IsPushed before at _ old new _ = ⊥
+
+-- the same of the next token of the bytes, or the fault in front of them
+abbrev pub IsStep : Before → ℕ → List ℕ → List Spanned → List Spanned → Step → Type 0
+IsStep before at bytes old new (step.Pushed len next) = (t : Token) × (new ≡ old ++ (record { token = t; at = at } ∷ [])) × IsNext before bytes t len × (next ≡ after before t)
+IsStep before at bytes old new (step.Refused kind) = (new ≡ old) × IsBad before bytes kind
+
+-- a token has some of so many bytes
+abbrev pub IsWithin : ℕ → Step → Type 0
+IsWithin n (step.Pushed len next) = (1 ≤ len) × (len ≤ n)
+IsWithin n (step.Refused kind) = Unit {0}

@@ -1,12 +1,12 @@
 // Reads the tokens of a text.
-ghost use Rattle.std.specs.Prelude.{◌≡◌, pos, neg_ℤ, ◌≤◌, ◌<◌, ◌^◌, ◌+◌, length, drop, IfOk, IfErr, IfSome, IsTrue, Some, None, false, not, ◌&&◌, nat_eq, nat_le, nat_lt, if◌then◌else◌};
+ghost use Rattle.std.specs.Prelude.{◌≡◌, pos, neg_ℤ, ◌≤◌, ◌<◌, ◌^◌, ◌+◌, [], ◌∷◌, length, drop, IfOk, IfSome, IsTrue, Some, None, false, not, ◌&&◌, nat_eq, nat_le, nat_lt, if◌then◌else◌};
 ghost use Rattle.std.specs.List.{take_while, list_all};
 ghost use Rattle.pac_value.specs.Texts.{is_printable};
-ghost use Rattle.pac_tokens.specs.Tokens.{is_blank, is_letter, is_digit, is_name, gap, digits_value, keyword_of, after, next_digits, is_long_minus, IsNext, IsBad, IsLexed};
-ghost use Rattle.pac_tokens.specs.Lexing.{symbol_of, symbol_front, word_at, int_at, text_at, minus_at, symbol_at, token_at, closing_in, unescaped};
+ghost use Rattle.pac_tokens.specs.Tokens.{is_blank, is_letter, is_digit, is_name, gap, digits_value, keyword_of, after, next_digits, is_long_minus, IsLexed};
+ghost use Rattle.pac_tokens.specs.Lexing.{symbol_of, symbol_front, candidate, word_at, int_at, text_at, minus_at, symbol_at, token_at, closing_in, unescaped, IsPushed, IsStep, IsWithin};
 
 use crate::fault::{Fault, FaultKind};
-use crate::token::{KEYWORDS, Keyword, SYMBOLS, Spanned, Symbol, Token};
+use crate::token::{Keyword, Spanned, Symbol, Token};
 use pac_base::NoMemory;
 use pac_value::{Name, Text};
 use std::alloc::Global;
@@ -25,6 +25,9 @@ pub enum Before {
     Other,
     LiteralMinus,
 }
+
+// The most tokens that room is made for before any is read.
+const ROOM: usize = 32_768;
 
 // One more than the greatest int.
 const LIMIT: u64 = 9_223_372_036_854_775_808;
@@ -62,6 +65,9 @@ fn gap_len(bytes: &[u8]) -> usize
     for (i, byte) in bytes.iter().enumerate() {
         if in_comment {
             in_comment = *byte != b'\n';
+        } else if *byte > b'#' {
+            // Neither white space nor the beginning of a comment is so great.
+            return i;
         } else if *byte == b'#' {
             in_comment = true;
         } else if !is_blank_byte(*byte) {
@@ -88,35 +94,105 @@ fn digits_len(bytes: &[u8]) -> usize
         .count()
 }
 
-#[tactic(auto, unfolding(crate::specs::Tokens::keyword_of))]
+// The only reserved word that so many bytes, which begin with these two, may spell.
+fn keyword_like(first: u8, second: u8, len: usize) -> Option<Keyword>
+    ensures { result ≡ candidate first second len }
+{
+    match first {
+        b'a' => Some(Keyword::Abort),
+        b'd' if len == 6 => Some(Keyword::Delete),
+        b'd' => Some(Keyword::Default),
+        b'e' => Some(Keyword::Else),
+        b'f' if len == 3 => Some(Keyword::For),
+        b'f' => Some(Keyword::False),
+        b'h' => Some(Keyword::Has),
+        b'i' if second == b'f' => Some(Keyword::If),
+        b'i' if len == 2 => Some(Keyword::In),
+        b'i' => Some(Keyword::Int),
+        b'k' => Some(Keyword::Key),
+        b'l' => Some(Keyword::Let),
+        b'p' if len == 3 => Some(Keyword::Put),
+        b'p' => Some(Keyword::Proc),
+        b'r' => Some(Keyword::Read),
+        b's' => Some(Keyword::Set),
+        b't' if second == b'a' => Some(Keyword::Table),
+        b't' if second == b'e' => Some(Keyword::Text),
+        b't' => Some(Keyword::True),
+        _ => None,
+    }
+}
+
+// The reserved word that these bytes spell.
 fn find_keyword(word: &[u8]) -> Option<Keyword>
     ensures { result ≡ keyword_of word.now }
 {
-    KEYWORDS
-        .iter()
-        .copied()
-        .find(|keyword| keyword.spelling() == word)
+    let [first, second, ..] = word else {
+        return None;
+    };
+    let Some(keyword) = keyword_like(*first, *second, word.len()) else {
+        return None;
+    };
+    if keyword.spelling() == word {
+        Some(keyword)
+    } else {
+        None
+    }
 }
 
-// The sign that these bytes spell.
+// The sign of one byte.
 #[tactic(auto, unfolding(crate::specs::Lexing::symbol_of))]
-fn find_symbol(bytes: &[u8]) -> Option<Symbol>
-    ensures { result ≡ symbol_of bytes.now }
+fn short_symbol(byte: u8) -> Option<Symbol>
+    ensures { result ≡ symbol_of (byte ∷ []) }
 {
-    SYMBOLS
-        .iter()
-        .copied()
-        .find(|symbol| symbol.spelling() == bytes)
+    match byte {
+        b'(' => Some(Symbol::OpenParen),
+        b')' => Some(Symbol::CloseParen),
+        b'{' => Some(Symbol::OpenBrace),
+        b'}' => Some(Symbol::CloseBrace),
+        b'[' => Some(Symbol::OpenBracket),
+        b']' => Some(Symbol::CloseBracket),
+        b',' => Some(Symbol::Comma),
+        b';' => Some(Symbol::Semicolon),
+        b'.' => Some(Symbol::Dot),
+        b'=' => Some(Symbol::Assign),
+        b'+' => Some(Symbol::Plus),
+        b'-' => Some(Symbol::Minus),
+        b'*' => Some(Symbol::Star),
+        b'/' => Some(Symbol::Slash),
+        b'%' => Some(Symbol::Percent),
+        b'!' => Some(Symbol::Not),
+        b'<' => Some(Symbol::Less),
+        b'>' => Some(Symbol::Greater),
+        _ => None,
+    }
+}
+
+// The sign of two bytes.
+#[tactic(auto, unfolding(crate::specs::Lexing::symbol_of))]
+fn long_symbol(first: u8, second: u8) -> Option<Symbol>
+    ensures { result ≡ symbol_of (first ∷ second ∷ []) }
+{
+    match first {
+        b'=' if second == b'=' => Some(Symbol::Equal),
+        b'!' if second == b'=' => Some(Symbol::NotEqual),
+        b'<' if second == b'=' => Some(Symbol::LessEqual),
+        b'>' if second == b'=' => Some(Symbol::GreaterEqual),
+        b'&' if second == b'&' => Some(Symbol::And),
+        b'|' if second == b'|' => Some(Symbol::Or),
+        _ => None,
+    }
 }
 
 // The longest sign that stands in front.
-fn front_symbol(bytes: &[u8]) -> Option<Symbol>
-    ensures { result ≡ symbol_front bytes.now }
+fn front_symbol(first: u8, behind: &[u8]) -> Option<Symbol>
+    ensures { result ≡ symbol_front (first ∷ behind.now) }
 {
-    match find_symbol(&bytes[..bytes.len().min(2)]) {
-        Some(symbol) => Some(symbol),
-        None => find_symbol(&bytes[..bytes.len().min(1)]),
+    if let [second, ..] = behind
+        && let Some(symbol) = long_symbol(first, *second)
+    {
+        return Some(symbol);
     }
+    short_symbol(first)
 }
 
 // The value of decimal digits, if it is at most 2 ^ 63.
@@ -125,35 +201,20 @@ fn magnitude(digits: &[u8]) -> Option<u64>
 {
     let mut value: u64 = 0;
     for digit in digits {
-        value = value
-            .saturating_mul(10)
-            .saturating_add(u64::from(digit.saturating_sub(b'0')));
-        if value > LIMIT {
+        if value > LIMIT / 10 {
             return None;
         }
+        value = value * 10 + u64::from(digit.saturating_sub(b'0'));
+    }
+    if value > LIMIT {
+        return None;
     }
     Some(value)
 }
 
-// The reserved word or the name that stands in front.
-fn word(bytes: &[u8]) -> Result<(Token, usize), FaultKind>
-    ensures token { result ≡ word_at (take_while is_name bytes.now) }
-    ensures within { IfOk result (λ p. p.1 ≤ length bytes.now) }
-{
-    let word = &bytes[..word_len(bytes)];
-    let Some(name) = Name::from_bytes(word) else {
-        return Err(FaultKind::TooLong);
-    };
-    match find_keyword(word) {
-        Some(keyword) => Ok((Token::Keyword(keyword), word.len())),
-        None => Ok((Token::Name(name), word.len())),
-    }
-}
-
 // The int of digits.
 fn int(before: Before, bytes: &[u8]) -> Result<(Token, usize), FaultKind>
-    ensures token { result ≡ int_at before (take_while is_digit bytes.now) }
-    ensures within { IfOk result (λ p. p.1 ≤ length bytes.now) }
+    ensures { result ≡ int_at before (take_while is_digit bytes.now) }
 {
     let digits = &bytes[..digits_len(bytes)];
     let Some(value) = magnitude(digits) else {
@@ -182,8 +243,7 @@ fn negated(magnitude: u64) -> i64
 
 // A `-`, and what stands behind it.
 fn minus(before: Before, behind: &[u8]) -> Result<(Token, usize), FaultKind>
-    ensures token { result ≡ minus_at before behind.now }
-    ensures one { IfOk result (λ p. p.1 ≡ 1) }
+    ensures { result ≡ minus_at before behind.now }
 {
     let minus = Token::Symbol(Symbol::Minus);
     if before == Before::Value || fits_behind_minus(behind) {
@@ -240,10 +300,14 @@ fn begins_escape(escaped: bool, byte: u8) -> bool
 }
 
 // The text of these bytes without its escapes, if it has at most 64.
+#[tactic(auto, using(crate::proofs::Quoted::without_escape))]
 fn unescape(bytes: &[u8]) -> Option<Text>
     requires { IsTrue (list_all is_printable (unescaped false bytes.now)) }
     ensures { result ≡ (if nat_lt 64 (length (unescaped false bytes.now)) then None else Some (unescaped false bytes.now)) }
 {
+    if !bytes.contains(&b'\\') {
+        return Text::from_bytes(bytes);
+    }
     let mut room = [0; 64];
     let mut len: usize = 0;
     let mut escaped = false;
@@ -264,9 +328,7 @@ fn unescape(bytes: &[u8]) -> Option<Text>
 
 // A text, behind its opening quote.
 fn text(behind: &[u8]) -> Result<(Token, usize), FaultKind>
-    ensures token { result ≡ text_at behind.now }
-    ensures within { IfOk result (λ p. p.1 ≤ length behind.now + 1) }
-    ensures some { IfOk result (λ p. 1 ≤ p.1) }
+    ensures { result ≡ text_at behind.now }
 {
     let Some(closing) = closing(behind) else {
         return Err(FaultKind::Token);
@@ -277,52 +339,100 @@ fn text(behind: &[u8]) -> Result<(Token, usize), FaultKind>
     }
 }
 
-// A sign, which stands in front of the bytes.
-fn sign(before: Before, bytes: &[u8], behind: &[u8]) -> Result<(Token, usize), FaultKind>
-    requires { 1 ≤ length bytes.now }
-    ensures token { result ≡ symbol_at before (symbol_front bytes.now) behind.now }
-    ensures within { IfOk result (λ p. p.1 ≤ length bytes.now) }
-    ensures some { IfOk result (λ p. 1 ≤ p.1) }
+// What became of the bytes in front: a token was appended, and so much of them is read; or there is a fault.
+#[derive(Clone, Copy)]
+pub enum Step {
+    Pushed(usize, Before),
+    Refused(FaultKind),
+}
+
+// Appends what was found.
+#[inline(always)]
+fn push_found(
+    items: &mut Vec<Spanned>,
+    before: Before,
+    at: usize,
+    found: Result<(Token, usize), FaultKind>,
+) -> Result<Step, NoMemory>
+    ensures { IfOk result (λ step. IsPushed before at found items.old.items items.new.items step) }
 {
-    let Some(symbol) = front_symbol(bytes) else {
-        return Err(FaultKind::Token);
+    match found {
+        Err(kind) => Ok(Step::Refused(kind)),
+        Ok((token, len)) => {
+            let next = before.after(&token);
+            items.push(Spanned { token, at })?;
+            Ok(Step::Pushed(len, next))
+        }
+    }
+}
+
+// Appends the reserved word or the name that stands in front.
+fn push_word(
+    items: &mut Vec<Spanned>,
+    before: Before,
+    at: usize,
+    bytes: &[u8],
+) -> Result<Step, NoMemory>
+    ensures { IfOk result (λ step. IsPushed before at (word_at (take_while is_name bytes.now)) items.old.items items.new.items step) }
+{
+    let word = &bytes[..word_len(bytes)];
+    if let Some(keyword) = find_keyword(word) {
+        let found = Ok((Token::Keyword(keyword), word.len()));
+        return push_found(items, before, at, found);
+    }
+    match Name::from_bytes(word) {
+        Some(name) => push_found(items, before, at, Ok((Token::Name(name), word.len()))),
+        None => push_found(items, before, at, Err(FaultKind::TooLong)),
+    }
+}
+
+// Appends the sign that begins with this byte.
+fn push_sign(
+    items: &mut Vec<Spanned>,
+    before: Before,
+    at: usize,
+    first: u8,
+    behind: &[u8],
+) -> Result<Step, NoMemory>
+    ensures { IfOk result (λ step. IsPushed before at (symbol_at before (symbol_front (first ∷ behind.now)) behind.now) items.old.items items.new.items step) }
+{
+    let Some(symbol) = front_symbol(first, behind) else {
+        return push_found(items, before, at, Err(FaultKind::Token));
     };
     match symbol {
-        Symbol::Minus => minus(before, behind),
-        _ => Ok((Token::Symbol(symbol), symbol.spelling().len())),
+        Symbol::Minus => push_found(items, before, at, minus(before, behind)),
+        _ => {
+            let found = Ok((Token::Symbol(symbol), symbol.spelling().len()));
+            push_found(items, before, at, found)
+        }
     }
 }
 
-// The token that begins at the first byte, and how many bytes it has.
-fn next(before: Before, bytes: &[u8]) -> Result<(Token, usize), FaultKind>
-    ensures token { result ≡ token_at before bytes.now }
-    ensures within { IfOk result (λ p. p.1 ≤ length bytes.now) }
-    ensures some { IfOk result (λ p. 1 ≤ p.1) }
+// Appends the token in front, the longest one, unless it is too long. Each kind of token is appended by itself, so that
+// it is written to its place at once.
+fn push_next(
+    items: &mut Vec<Spanned>,
+    before: Before,
+    at: usize,
+    bytes: &[u8],
+) -> Result<Step, NoMemory>
+    requires { 1 ≤ length bytes.now }
+    ensures step { IfOk result (λ step. IsStep before at bytes.now items.old.items items.new.items step) }
+    ensures within { IfOk result (λ step. IsWithin (length bytes.now) step) }
 {
     let [first, behind @ ..] = bytes else {
-        return Err(FaultKind::Token);
+        return push_found(items, before, at, Err(FaultKind::Token));
     };
     if is_letter_byte(*first) {
-        return word(bytes);
+        return push_word(items, before, at, bytes);
     }
     if is_digit_byte(*first) {
-        return int(before, bytes);
+        return push_found(items, before, at, int(before, bytes));
     }
     if *first == b'"' {
-        return text(behind);
+        return push_found(items, before, at, text(behind));
     }
-    sign(before, bytes, behind)
-}
-
-// The same in the words of the grammar: the longest token in front, unless it is too long.
-fn front(before: Before, bytes: &[u8]) -> Result<(Token, usize), FaultKind>
-    requires { 1 ≤ length bytes.now }
-    ensures token { IfOk result (λ p. IsNext before bytes.now p.0 p.1) }
-    ensures bad { IfErr result (λ kind. IsBad before bytes.now kind) }
-    ensures within { IfOk result (λ p. p.1 ≤ length bytes.now) }
-    ensures some { IfOk result (λ p. 1 ≤ p.1) }
-{
-    next(before, bytes)
+    push_sign(items, before, at, *first, behind)
 }
 
 impl Before {
@@ -348,7 +458,7 @@ pub fn lex(alloc: Global, text: &[u8]) -> Result<Lexed, NoMemory>
     ensures lexed { IfOk result (λ lexed. IsLexed text.now lexed.items.items lexed.fault) }
     ensures few { IfOk result (λ lexed. length lexed.items.items ≤ length text.now) }
 {
-    let mut items = Vec::new(alloc);
+    let mut items = Vec::with_capacity(alloc, (text.len() / 2).min(ROOM))?;
     let mut rest = text;
     let mut at: usize = 0;
     let mut before = Before::Other;
@@ -359,16 +469,15 @@ pub fn lex(alloc: Global, text: &[u8]) -> Result<Lexed, NoMemory>
         if rest.is_empty() {
             return Ok(Lexed { items, fault: None });
         }
-        match front(before, rest) {
-            Err(kind) => {
+        match push_next(&mut items, before, at, rest)? {
+            Step::Refused(kind) => {
                 return Ok(Lexed {
                     items,
                     fault: Some(Fault { at, kind }),
                 });
             }
-            Ok((token, len)) => {
-                before = before.after(&token);
-                items.push(Spanned { token, at })?;
+            Step::Pushed(len, next) => {
+                before = next;
                 rest = &rest[len..];
                 at += len;
             }

@@ -29,7 +29,7 @@ pub enum Keyword {
     In,
 }
 
-/// Every reserved word.
+/// Every reserved word, among which `specs/` says what a word is.
 pub const KEYWORDS: [Keyword; 19] = [
     Keyword::Table,
     Keyword::Proc,
@@ -110,7 +110,7 @@ pub enum Symbol {
     Or,
 }
 
-/// Every sign.
+/// Every sign, among which `specs/` says what bytes spell one.
 pub const SYMBOLS: [Symbol; 24] = [
     Symbol::OpenParen,
     Symbol::CloseParen,

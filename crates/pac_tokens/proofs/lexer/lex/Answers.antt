@@ -9,7 +9,8 @@ returns-then-is_empty-clause-lexed c =
     let h : length (drop c.gap_len-gap.result c.loop-rest.rest.now) ≡ 0 = grind (arith, common_steps, c.is_empty.ensures, c.if-is_empty.true) in
     all_read _ _ _ _ _ _ c.loop-rest.invariant.lexed c.gap_len-gap.ensures.gap (nil_from_length _ h)
 
-pub returns-in-Err-clause-lexed : goal.returns-in-Err-clause-lexed
-returns-in-Err-clause-lexed c =
+pub returns-in-Refused-clause-lexed : goal.returns-in-Refused-clause-lexed
+returns-in-Refused-clause-lexed c =
     let h : 1 ≤ length (drop c.gap_len-gap.result c.loop-rest.rest.now) = grind (arith, common_steps, c.is_empty.ensures, c.if-is_empty.false) in
-    faulty _ _ _ _ _ _ c.in-Err.kind c.loop-rest.invariant.lexed c.gap_len-gap.ensures.gap (simp take_rest at c.in-Err.ensures.bad) h
+    let step = rw c.in-Refused.is at c.in_ok-kind.ensures.step in
+    rw step.0 (faulty _ _ _ _ _ _ c.in-Refused.kind c.loop-rest.invariant.lexed c.gap_len-gap.ensures.gap (simp take_rest at step.1) h)

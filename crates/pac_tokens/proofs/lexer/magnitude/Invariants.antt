@@ -6,5 +6,5 @@ use Rattle.pac_tokens.proofs.lexer.magnitude.Given as goal
 abbrev pub invariant-loop-digit : goal.invariant-loop-digit
 invariant-loop-digit l = record {
   so_far : l.value ≡ digits_value (take l.digit-index l.digits);
-  small : l.value ≤ 9223372036854775808;
+  small : l.value ≤ 9223372036854776007;
 }
