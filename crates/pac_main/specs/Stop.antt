@@ -16,6 +16,7 @@ use Rattle.pac_main.specs.declared.stop.Stop.TheVariants.{Usage, Syntax, Typing,
 use Rattle.pac_main.specs.declared.tell.WordsError.{WordsError}
 use Rattle.pac_main.specs.declared.tell.WordsError.TheVariants as words
 
+-- the exit status of a stop
 abbrev pub status_of : Stop → ℕ
 status_of Usage = 1
 status_of (Syntax fault) = 2
@@ -41,6 +42,7 @@ takes_memory (Typing fault) = true
 takes_memory (Aborted txn op reason) = true
 takes_memory _ = false
 
+-- the line that the error sink is told of a stop
 abbrev pub line_of : Stop → List ℕ
 line_of Usage = codes "usage: pacman init, run, recover, explain, replay or stress\n"
 line_of (Syntax fault) = catalogue_line fault.at (syntax.kind_name fault.kind)
@@ -51,20 +53,24 @@ line_of InputFault = codes "input fault\n"
 line_of OutputFault = codes "output fault\n"
 line_of NoMemory = codes "no memory\n"
 
+-- words that can't be read are no command's, or there was no memory for them
 abbrev pub stop_of_words : WordsError → Stop
 stop_of_words words.Usage = Usage
 stop_of_words words.NoMemory = NoMemory
 
+-- an input that isn't read failed, or there was no memory for it
 abbrev pub stop_of_read : ReadError → Stop
 stop_of_read read.Failed = InputFault
 stop_of_read read.NoMemory = NoMemory
 
+-- a text that isn't read as a script stops with its cause
 abbrev pub stop_of_script : ScriptError → Stop
 stop_of_script (script.Syntax fault) = Syntax fault
 stop_of_script (script.Typing fault) = Typing fault
 stop_of_script script.Refused = Refused
 stop_of_script script.NoMemory = NoMemory
 
+-- an execution that doesn't end with rows stops with its cause
 abbrev pub stop_of_serial : SerialError → Stop
 stop_of_serial (serial.Abort txn op reason) = Aborted txn op reason
 stop_of_serial serial.NoMemory = NoMemory
