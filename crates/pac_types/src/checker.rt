@@ -54,7 +54,8 @@ fn check_procs(
     Ok(procs)
 }
 
-/// The catalogue of a tree. Takes time and memory near linear in the tree's size.
+/// The catalogue of a tree. Takes time and memory near linear in the tree's size, and more time where names were chosen
+/// so that their hashes are equal.
 ///
 /// # Errors
 ///

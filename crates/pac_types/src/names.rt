@@ -97,10 +97,12 @@ impl Names {
     pub fn number_of_bytes(&self, name: &[u8]) -> Option<u16>
         ensures { result ≡ number_of self.now name.now }
     {
-        match Name::from_bytes(name) {
-            Some(name) => self.look_up(&name),
-            None => scan(self.names.as_slice(), name),
+        if self.names.len() > FEW {
+            if let Some(name) = Name::from_bytes(name) {
+                return self.look_up(&name);
+            }
         }
+        scan(self.names.as_slice(), name)
     }
 
     /// That the name at a place among these stands at none before it.
