@@ -1,22 +1,25 @@
 -- What the bytes that were read tell of the input.
-use Rattle.std.proofs.Common.{◌≡◌, ◌≤◌, ℕ, List, [], ◌∷◌, ◌++◌, length, Option, Some, None, Result, Err, refl, sym, ap, subst, ◌∙◌, arith, length-append, inl, inr}
+use Rattle.std.proofs.Common.{◌≡◌, ◌≤◌, ℕ, List, [], ◌∷◌, ◌++◌, length, Option, Some, None, Result, Ok, Err, sym, ap, subst, ◌∙◌, arith, length-append, inl, inr}
 use Rattle.std.specs.List.{AllZip, AllByRecursion, flat_map}
 use Rattle.std.specs.Io.KnownBytes.{prepend_known}
 use Rattle.std.proofs.lemmas.List.{append-nil}
 use Rattle.pac_outside.specs.Content.{Gave, IsAtEnd}
-use Rattle.pac_tokens.specs.declared.fault.Fault.{Fault}
-use Rattle.pac_types.specs.declared.type_error.TypeFault.{TypeFault}
 use Rattle.pac_types.specs.declared.procedure.Proc.{Proc}
 use Rattle.pac_serial.specs.declared.serial.Call.{Call}
 use Rattle.pac_serial.specs.Calls.{FitsProcs}
 use Rattle.pac_main.specs.declared.script.Script.{Script}
-use Rattle.pac_main.specs.declared.script_error.ScriptError.{ScriptError}
-use Rattle.pac_main.specs.declared.script_error.ScriptError.TheVariants as error
-use Rattle.pac_main.specs.declared.stop.Stop.{Stop}
-use Rattle.pac_main.specs.declared.stop.Stop.TheVariants.{Usage, Syntax, Typing, Refused, Aborted, InputFault, OutputFault, NoMemory}
+use Rattle.pac_base.specs.Refusals.{Only}
+use Rattle.pac_base.specs.declared.refusal.Refusal.{Refusal}
+use Rattle.pac_base.specs.declared.refusal.Refusal.TheVariants as error
+use Rattle.pac_main.specs.declared.script_fault.ScriptFault.{ScriptFault}
+use Rattle.pac_main.specs.declared.command.InputError.{InputError}
+use Rattle.pac_main.specs.declared.command.InputError.TheVariants as input
+use Rattle.pac_main.specs.declared.stop.Stop.TheVariants as stop
+use Rattle.pac_main.specs.Inputs.{input_of_script}
+use Rattle.pac_main.specs.Stop.{stop_of_input}
+use Rattle.pac_main.specs.declared.script_fault.ScriptFault.TheVariants.{Catalogue, Refused}
 use Rattle.pac_main.specs.Requests.{IsLine, AreCalls, some_call}
 use Rattle.pac_main.specs.Script.{IsScript, IsRefusal}
-use Rattle.pac_main.specs.Stop.{status_of, stop_of_script}
 use Rattle.pac_main.proofs.OneRefusal.{the_refusal}
 use Rattle.pac_main.specs.Replay.{IsTheScript, IsScriptOf, IsNoScript, IsRefusedAs}
 
@@ -40,47 +43,55 @@ the_script items (Some rest) script at_end is = subst (λ (text : List ℕ). IsT
 pub input-script : (old new : Option (List ℕ)) (items : List ℕ) (script : Script) → Gave old items new → (length items ≤ 65536 → IsAtEnd new) → IsTheScript items script → IsScriptOf script old
 input-script old new items script gave at_end is = subst (λ (o : Option (List ℕ)). IsScriptOf script o) (sym gave) (the_script items new script at_end is)
 
--- a text that is refused is no text of a script, unless memory ran out
-pub refused_of : (e : ScriptError) → status_of (stop_of_script e) ≡ 2 → e ≡ error.NoMemory → ⊥
-refused_of (error.Syntax fault) is other = absurd cc
-refused_of (error.Typing fault) is other = absurd cc
-refused_of error.Refused is other = absurd cc
-refused_of error.NoMemory is other = absurd (omega (arith, is))
-
 -- ---- what is told of a text that is refused
 
-abbrev err_of : ScriptError → Result Script ScriptError
-err_of e = Err e
+abbrev failed : ScriptFault → Result Script (Refusal ScriptFault)
+failed fault = Err (error.Fault fault)
 
--- what reading a text says of its error
-pub refusal_of : (text : List ℕ) (e : ScriptError) → ((fault : Fault) → err_of e ≡ Err (error.Syntax fault) → IsRefusal text (Syntax fault))
-    → ((fault : TypeFault) → err_of e ≡ Err (error.Typing fault) → IsRefusal text (Typing fault)) → (err_of e ≡ Err error.Refused → IsRefusal text Refused)
-    → status_of (stop_of_script e) ≡ 2 → IsRefusal text (stop_of_script e)
-refusal_of text (error.Syntax fault) syntax typing refused is = syntax fault refl
-refusal_of text (error.Typing fault) syntax typing refused is = typing fault refl
-refusal_of text error.Refused syntax typing refused is = refused refl
-refusal_of text error.NoMemory syntax typing refused is = absurd (omega (arith, is))
+-- a fault is no want of memory
+pub no_fault_is_memory : {F : Type 0} (fault : F) → ◌≡◌ {A = Refusal F} (error.Fault fault) error.NoMemory → ⊥
+no_fault_is_memory fault is = absurd cc
 
-pub refusal_same : (a b : List ℕ) (s t : Stop) → a ≡ b → s ≡ t → IsRefusal a s → IsRefusal b t
-refusal_same a b s t same stop h = subst (λ (x : List ℕ). IsRefusal x t) same (subst (λ (x : Stop). IsRefusal a x) stop h)
+-- the fault that is told is that which was found
+pub told_is : (f g : ScriptFault) → failed f ≡ failed g → f ≡ g
+told_is f g h = cc
 
-refusal_longer : (items rest : List ℕ) (stop : Stop) → (length items ≤ 65536 → rest ≡ []) → IsRefusal items stop → IsRefusal (items ++ rest) stop
-refusal_longer items rest (Syntax fault) at_end h = subst (λ (text : List ℕ). IsRefusal text (Syntax fault)) (sym (ap (λ (r : List ℕ). items ++ r) (at_end h.short) ∙ append-nil items)) h
-refusal_longer items rest (Typing fault) at_end h = subst (λ (text : List ℕ). IsRefusal text (Typing fault)) (sym (ap (λ (r : List ℕ). items ++ r) (at_end h.short) ∙ append-nil items)) h
+-- a result holds one error
+pub err_is : {T E : Type 0} (r : Result T E) (x y : E) → r ≡ Err x → r ≡ Err y → x ≡ y
+err_is {T} {E} (Ok t) x y a b = absurd cc
+err_is {T} {E} (Err e) x y a b = sym (error_same e x a) ∙ error_same e y b
+  where
+    error_same : (m n : E) → ◌≡◌ {A = Result T E} (Err m) (Err n) → m ≡ n
+    error_same m n is = cc
+
+-- an input that is no script was read as none
+pub fault_of_script : (e : Refusal ScriptFault) (fault : ScriptFault) → input_of_script e ≡ input.Script fault → e ≡ error.Fault fault
+fault_of_script (error.Fault f) fault is = cc
+fault_of_script error.NoMemory fault is = absurd cc
+
+-- a stop at a script is that of its input
+pub fault_of_input : (e : InputError) (fault : ScriptFault) → stop_of_input e ≡ stop.Script fault → e ≡ input.Script fault
+fault_of_input (input.Script f) fault is = cc
+fault_of_input input.Failed fault is = absurd cc
+fault_of_input input.NoMemory fault is = absurd cc
+
+-- a text that is refused is no text of a script
+pub no_script_of : (text : List ℕ) (r : Result Script (Refusal ScriptFault)) (fault : ScriptFault) → r ≡ failed fault → ((script : Script) → IsScript text script → Only r script) → (script : Script) → IsScript text script → ⊥
+no_script_of text (Ok read) fault is only script h = absurd cc
+no_script_of text (Err (error.Fault f)) fault is only script h = let clash = only script h in absurd cc
+no_script_of text (Err error.NoMemory) fault is only script h = absurd cc
+
+refusal_longer : (items rest : List ℕ) (fault : ScriptFault) → (length items ≤ 65536 → rest ≡ []) → IsRefusal items fault → IsRefusal (items ++ rest) fault
+refusal_longer items rest (Catalogue fault) at_end h = subst (λ (text : List ℕ). IsRefusal text (Catalogue fault)) (sym (ap (λ (r : List ℕ). items ++ r) (at_end h.short) ∙ append-nil items)) h
 refusal_longer items rest Refused at_end (inl long) = inl (omega (arith, length-append items rest, long))
 refusal_longer items rest Refused at_end (inr h) = subst (λ (text : List ℕ). IsRefusal text Refused) (sym (ap (λ (r : List ℕ). items ++ r) (at_end h.short) ∙ append-nil items)) (inr h)
-refusal_longer items rest Usage at_end h = h
-refusal_longer items rest (Aborted txn op reason) at_end h = h
-refusal_longer items rest InputFault at_end h = h
-refusal_longer items rest OutputFault at_end h = h
-refusal_longer items rest NoMemory at_end h = h
 
-refusal_told : (items : List ℕ) (new : Option (List ℕ)) (stop : Stop) → (length items ≤ 65536 → IsAtEnd new) → IsRefusal items stop → IsRefusedAs (prepend_known items new) stop
-refusal_told items None stop at_end h = tt
-refusal_told items (Some rest) stop at_end h = the_refusal (items ++ rest) stop (refusal_longer items rest stop at_end h)
+refusal_told : (items : List ℕ) (new : Option (List ℕ)) (fault : ScriptFault) → (length items ≤ 65536 → IsAtEnd new) → IsRefusal items fault → IsRefusedAs (prepend_known items new) fault
+refusal_told items None fault at_end h = tt
+refusal_told items (Some rest) fault at_end h = the_refusal (items ++ rest) fault (refusal_longer items rest fault at_end h)
 
-pub input-refused : (old new : Option (List ℕ)) (items : List ℕ) (stop : Stop) → Gave old items new → (length items ≤ 65536 → IsAtEnd new) → IsRefusal items stop → IsRefusedAs old stop
-input-refused old new items stop gave at_end h = subst (λ (o : Option (List ℕ)). IsRefusedAs o stop) (sym gave) (refusal_told items new stop at_end h)
+pub input-refused : (old new : Option (List ℕ)) (items : List ℕ) (fault : ScriptFault) → Gave old items new → (length items ≤ 65536 → IsAtEnd new) → IsRefusal items fault → IsRefusedAs old fault
+input-refused old new items fault gave at_end h = subst (λ (o : Option (List ℕ)). IsRefusedAs o fault) (sym gave) (refusal_told items new fault at_end h)
 
 -- ---- the calls of a script fit its procedures
 

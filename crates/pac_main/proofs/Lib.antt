@@ -5,6 +5,5 @@ pub mod CallOnce
 pub mod RequestLemmas
 pub mod ScriptLemmas
 pub mod OneRefusal
-pub mod ErrorLemmas
 pub mod InputLemmas
 pub mod StopLemmas

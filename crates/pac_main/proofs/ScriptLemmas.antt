@@ -1,14 +1,18 @@
 -- A text is one script at most.
 use Rattle.std.proofs.Common.{◌≡◌, ◌<◌, ℕ, true, false, List, Option, Some, None, refl, sym, ap, subst, ◌∙◌}
-use Rattle.std.specs.Prelude.{MatchOption}
-use Rattle.std.proofs.Common.{◌⊎◌, inl, inr}
+use Rattle.std.specs.Prelude.{MatchOption, IfOk}
+use Rattle.std.proofs.Common.{◌⊎◌, ◌≤◌, length, inl, inr, Result, Ok, Err}
 use Rattle.std.proofs.lemmas.Bool.{cases_order}
 use Rattle.pac_types.specs.Typing.{CatalogueState}
 use Rattle.pac_serial.specs.declared.serial.Call.{Call}
 use Rattle.pac_main.specs.declared.script.Script.{Script}
 use Rattle.pac_main.specs.Lines.{IsMark, HasNoMark}
 use Rattle.pac_main.specs.Requests.{AreCalls}
-use Rattle.pac_main.specs.Script.{HasParts, IsScript, lines_behind, text_before, text_behind}
+use Rattle.pac_types.specs.CatalogueText.{HasCatalogue}
+use Rattle.pac_base.specs.declared.refusal.Refusal.{Refusal}
+use Rattle.pac_main.specs.declared.script_fault.ScriptFault.{ScriptFault}
+use Rattle.pac_main.specs.declared.script_fault.ScriptFault.TheVariants.{Catalogue, Refused}
+use Rattle.pac_main.specs.Script.{HasParts, IsScript, IsPartsFault, IsRefusal, lines_behind, text_before, text_behind}
 
 -- the mark, where there is one
 abbrev pub MarkOf : List ℕ → Option ℕ → Type 0
@@ -38,3 +42,14 @@ calls-over behind a b calls same h = subst (λ (c : CatalogueState). AreCalls c.
 
 pub script-same : (catalogue : CatalogueState) (calls : List Call) (script : Script) → catalogue ≡ script.catalogue → calls ≡ script.calls → ◌≡◌ {A = Script} (record { catalogue = catalogue; calls = calls }) script
 script-same catalogue calls script a b = λ i. record { catalogue = a i; calls = b i }
+
+-- a catalogue's text with its calls behind
+pub parts-of : (front behind : List ℕ) (catalogue : CatalogueState) (r : Result Script (Refusal ScriptFault)) → HasCatalogue front catalogue
+    → IfOk r (λ script. (script.catalogue ≡ catalogue) × AreCalls catalogue.procs (lines_behind behind) script.calls) → IfOk r (HasParts front behind)
+parts-of front behind catalogue (Ok script) has h = record { catalogue = subst (λ (c : CatalogueState). HasCatalogue front c) (sym h.0) has; calls = calls-over behind script.catalogue catalogue script.calls h.0 h.1 }
+parts-of front behind catalogue (Err e) has h = tt
+
+-- what is told of the text before the mark is told of the whole text
+pub refusal_at : (text : List ℕ) (mark : Option ℕ) (fault : ScriptFault) → length text ≤ 65536 → MarkOf text mark → IsPartsFault (text_before text mark) fault → IsRefusal text fault
+refusal_at text mark (Catalogue fault) short is first = record { short = short; front = text_before text mark; is_front = (mark, is, refl); first = first }
+refusal_at text mark Refused short is first = inr (record { short = short; front = text_before text mark; is_front = (mark, is, refl); first = first })

@@ -2,8 +2,9 @@
 use Rattle.std.proofs.Common.{◌≡◌, ◌⊎◌, ℕ, inl, inr, refl, sym, ap, ◌∙◌, arith}
 use Rattle.std.specs.Prelude.{IsTrue}
 use Rattle.pac_types.specs.declared.reason.Reason.{Reason}
+use Rattle.pac_main.specs.declared.script_fault.ScriptFault.{ScriptFault}
 use Rattle.pac_main.specs.declared.stop.Stop.{Stop}
-use Rattle.pac_main.specs.declared.stop.Stop.TheVariants.{Usage, Syntax, Typing, Refused, Aborted, InputFault, OutputFault, NoMemory}
+use Rattle.pac_main.specs.declared.stop.Stop.TheVariants.{Usage, Script, Aborted, InputFault, OutputFault, NoMemory}
 use Rattle.pac_main.specs.Stop.{status_of, takes_memory}
 
 -- it is told itself, or there was no memory for its line
@@ -25,9 +26,20 @@ pub record AnAbort (stop : Stop) : Type 0 where
 pub aborted_of : (stop : Stop) → status_of stop ≡ 4 → AnAbort stop
 aborted_of (Aborted txn op reason) four = record { txn = txn; op = op; reason = reason; is = refl }
 aborted_of Usage four = absurd (omega arith)
-aborted_of (Syntax fault) four = absurd (omega arith)
-aborted_of (Typing fault) four = absurd (omega arith)
-aborted_of Refused four = absurd (omega arith)
+aborted_of (Script fault) four = absurd (omega arith)
 aborted_of InputFault four = absurd (omega arith)
 aborted_of OutputFault four = absurd (omega arith)
 aborted_of NoMemory four = absurd (omega arith)
+
+-- a stop with status 2 is that of an input that is no script
+pub record ARefusal (stop : Stop) : Type 0 where
+  pub fault : ScriptFault
+  pub is : stop ≡ Script fault
+
+pub refused_of : (stop : Stop) → status_of stop ≡ 2 → ARefusal stop
+refused_of (Script fault) two = record { fault = fault; is = refl }
+refused_of Usage two = absurd (omega arith)
+refused_of (Aborted txn op reason) two = absurd (omega arith)
+refused_of InputFault two = absurd (omega arith)
+refused_of OutputFault two = absurd (omega arith)
+refused_of NoMemory two = absurd (omega arith)

@@ -12,7 +12,7 @@ use Rattle.pac_serial.specs.declared.serial.SerialError.{SerialError}
 use Rattle.pac_serial.specs.declared.serial.SerialError.TheVariants.{Abort, NoMemory}
 use Rattle.pac_serial.specs.Dump.{tables_text}
 use Rattle.pac_main.specs.declared.script.Script.{Script}
-use Rattle.pac_main.specs.declared.stop.Stop.{Stop}
+use Rattle.pac_main.specs.declared.script_fault.ScriptFault.{ScriptFault}
 use Rattle.pac_main.specs.Script.{IsScript, IsTheRefusal}
 
 -- the words are the one word `replay`
@@ -35,8 +35,8 @@ abbrev pub IsNoScript : Option (List ℕ) → Type 0
 IsNoScript input = IfSome input (λ text. (script : Script) → IsScript text script → ⊥)
 
 -- the input is refused so, and in no other way, where the source tells it
-abbrev pub IsRefusedAs : Option (List ℕ) → Stop → Type 0
-IsRefusedAs input stop = IfSome input (λ text. IsTheRefusal text stop)
+abbrev pub IsRefusedAs : Option (List ℕ) → ScriptFault → Type 0
+IsRefusedAs input fault = IfSome input (λ text. IsTheRefusal text fault)
 
 -- the tables with which serial execution of the calls ends, from no rows on, or its abort
 abbrev pub outcome : Script → Result Tables TxnAbort

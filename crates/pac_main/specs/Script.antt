@@ -1,28 +1,12 @@
 -- What a script is: a catalogue, and behind a line that is exactly `---` the calls.
 use Rattle.std.specs.Prelude.{◌≡◌, ◌⊎◌, ◌≤◌, ◌<◌, ◌+◌, ℕ, List, [], ◌∷◌, take, drop, length, Option, Some, None, MatchOption}
-use Rattle.pac_syntax.specs.declared.tree.Tree.{Tree}
-use Rattle.pac_tokens.specs.declared.fault.Fault.{Fault}
-use Rattle.pac_syntax.specs.Reading.{Reads, IsTextFault}
-use Rattle.pac_types.specs.declared.type_error.TypeFault.{TypeFault}
-use Rattle.pac_types.specs.Typing.{CatalogueState, Types}
-use Rattle.pac_types.specs.Faults.{IsFirstTypeFault}
+use Rattle.pac_types.specs.Typing.{CatalogueState}
+use Rattle.pac_types.specs.CatalogueText.{HasCatalogue, IsCatalogueFault}
 use Rattle.pac_main.specs.declared.script.Script.{Script}
-use Rattle.pac_main.specs.declared.stop.Stop.{Stop}
-use Rattle.pac_main.specs.declared.stop.Stop.TheVariants.{Syntax, Typing, Refused}
+use Rattle.pac_main.specs.declared.script_fault.ScriptFault.{ScriptFault}
+use Rattle.pac_main.specs.declared.script_fault.ScriptFault.TheVariants.{Catalogue, Refused}
 use Rattle.pac_main.specs.Lines.{lines, IsMark, HasNoMark}
 use Rattle.pac_main.specs.Requests.{AreCalls}
-
--- the text is that of a tree with this catalogue
-pub record HasCatalogue (text : List ℕ) (catalogue : CatalogueState) : Type 0 where
-  pub tree : Tree
-  pub reads : Reads text tree
-  pub typed : Types tree catalogue
-
--- the text is that of a tree in which this is the first fault of names and types
-pub record IsTypingFault (text : List ℕ) (fault : TypeFault) : Type 0 where
-  pub tree : Tree
-  pub reads : Reads text tree
-  pub first : IsFirstTypeFault tree fault
 
 -- the lines behind a line feed, where there is one
 abbrev pub lines_behind : List ℕ → List (List ℕ)
@@ -56,37 +40,25 @@ pub record IsScript (text : List ℕ) (script : Script) : Type 0 where
 abbrev pub IsCatalogueText : List ℕ → List ℕ → Type 0
 IsCatalogueText text front = (mark : Option ℕ) × MatchOption mark (HasNoMark text) (λ at. IsMark text at) × (front ≡ text_before text mark)
 
--- the text has at most 65,536 bytes, and this is the first fault of its catalogue's text
-pub record HasSyntaxFault (text : List ℕ) (fault : Fault) : Type 0 where
+-- what is told of the text before the mark: its first fault, where it has no catalogue
+abbrev pub IsPartsFault : List ℕ → ScriptFault → Type 0
+IsPartsFault front (Catalogue fault) = IsCatalogueFault front fault
+IsPartsFault front Refused = (catalogue : CatalogueState) × HasCatalogue front catalogue
+
+-- the text has at most 65,536 bytes, and this is told of its catalogue's text
+pub record HasPartsFault (text : List ℕ) (fault : ScriptFault) : Type 0 where
   pub short : length text ≤ 65536
   pub front : List ℕ
   pub is_front : IsCatalogueText text front
-  pub first : IsTextFault front fault
+  pub first : IsPartsFault front fault
 
--- the text has at most 65,536 bytes, and its catalogue's text is read, with this first fault of names and types
-pub record HasTypingFault (text : List ℕ) (fault : TypeFault) : Type 0 where
-  pub short : length text ≤ 65536
-  pub front : List ℕ
-  pub is_front : IsCatalogueText text front
-  pub first : IsTypingFault front fault
-
--- the text has at most 65,536 bytes, and its catalogue's text has a catalogue
-pub record HasTypedText (text : List ℕ) : Type 0 where
-  pub short : length text ≤ 65536
-  pub front : List ℕ
-  pub is_front : IsCatalogueText text front
-  pub catalogue : CatalogueState
-  pub has : HasCatalogue front catalogue
-
--- What is told of a text that is no script: of a catalogue's text that isn't read, or isn't typed, its first fault; of a
--- text that is too long, or that has a catalogue, just that it is refused.
-abbrev pub IsRefusal : List ℕ → Stop → Type 0
-IsRefusal text (Syntax fault) = HasSyntaxFault text fault
-IsRefusal text (Typing fault) = HasTypingFault text fault
-IsRefusal text Refused = (65536 < length text) ⊎ HasTypedText text
-IsRefusal text _ = ⊥
+-- What is told of a text that is no script: where its catalogue's text has no catalogue, the first fault of that; where
+-- the text is too long, or has a catalogue, just that it is refused.
+abbrev pub IsRefusal : List ℕ → ScriptFault → Type 0
+IsRefusal text (Catalogue fault) = HasPartsFault text (Catalogue fault)
+IsRefusal text Refused = (65536 < length text) ⊎ HasPartsFault text Refused
 
 -- this is what is told of the text, and nothing else is
-pub record IsTheRefusal (text : List ℕ) (stop : Stop) : Type 0 where
-  pub is : IsRefusal text stop
-  pub only : (other : Stop) → IsRefusal text other → other ≡ stop
+pub record IsTheRefusal (text : List ℕ) (fault : ScriptFault) : Type 0 where
+  pub is : IsRefusal text fault
+  pub only : (other : ScriptFault) → IsRefusal text other → other ≡ fault

@@ -9,27 +9,61 @@ ghost use Rattle.pac_serial.specs.Calls.{FitsProcs};
 ghost use Rattle.pac_main.specs.Stop.{status_of, line_of, abort_line};
 ghost use Rattle.pac_main.specs.Replay.{IsReplay, IsScriptOf, IsNoScript, IsRefusedAs, outcome, SaysUnlessFault, IsDumpOf, IsAbortOf, DoesEnd};
 ghost use Rattle.pac_main.specs.declared.script.Script.{Script as AScript};
+ghost use Rattle.pac_main.specs.declared.script_fault.ScriptFault.{ScriptFault as AFault};
 ghost use Rattle.pac_main.specs.declared.stop.Stop.{Stop as AStop};
+ghost use Rattle.pac_main.specs.Inputs.{input_of_read, input_of_script};
 
 use crate::script::{MAX_SCRIPT, Script, read_script};
+use crate::script_fault::{ScriptError, ScriptFault};
 use crate::stop::Stop;
 use crate::tell::{WordsError, refuse_words, told};
-use pac_outside::{Devices, Disk, Gate, Sink, Source, read_up_to, write_all};
+use pac_base::Refusal;
+use pac_outside::{Devices, Disk, Gate, ReadError, Sink, Source, read_up_to, write_all};
 use pac_serial::{Rows, SerialError, dump_tables, exec_all};
 use std::alloc::Global;
 use std::sync::Wait;
 use std::thread::Threads;
 
+/// Why an input holds no script.
+#[derive(Clone, Copy, Debug, PartialEq, Eq)]
+pub enum InputError {
+    /// It could not be read.
+    Failed,
+    /// What was read is no script.
+    Script(ScriptFault),
+    /// An allocation was refused.
+    NoMemory,
+}
+
+impl From<ReadError> for InputError {
+    ghost from_gives = { λ error input. input ≡ input_of_read error };
+
+    fn from(error: ReadError) -> Self {
+        match error {
+            ReadError::Failed => InputError::Failed,
+            ReadError::NoMemory => InputError::NoMemory,
+        }
+    }
+}
+
+impl From<ScriptError> for InputError {
+    ghost from_gives = { λ error input. input ≡ input_of_script error };
+
+    fn from(error: ScriptError) -> Self {
+        match error {
+            Refusal::Fault(fault) => InputError::Script(fault),
+            Refusal::NoMemory => InputError::NoMemory,
+        }
+    }
+}
+
 // The script that the source holds.
-fn read_input<I: Source>(alloc: Global, input: &mut I) -> Result<Script, Stop>
+fn read_input<I: Source>(alloc: Global, input: &mut I) -> Result<Script, InputError>
     ensures ok { IfOk result (λ script. IsScriptOf script (I.left input.old)) }
     ensures fit { IfOk result (λ script. AllByRecursion (FitsProcs script.catalogue.procs) script.calls) }
-    ensures refused { (stop : AStop) → IsErrOf result stop → status_of stop ≡ 2 → IsNoScript (I.left input.old) × IsRefusedAs (I.left input.old) stop }
-    ensures input_fault { IsErrOf result Stop.InputFault → Rose (I.faults input.old) (I.faults input.new) }
+    ensures refused { (fault : AFault) → IsErrOf result (InputError.Script fault) → IsNoScript (I.left input.old) × IsRefusedAs (I.left input.old) fault }
+    ensures input_fault { IsErrOf result InputError.Failed → Rose (I.faults input.old) (I.faults input.new) }
     ensures taken { GaveAtMost 65537 (I.left input.old) (I.left input.new) }
-    ensures no_usage { ¬ IsErrOf result Stop.Usage }
-    ensures no_output { ¬ IsErrOf result Stop.OutputFault }
-    ensures no_abort { (txn op : ℕ) (reason : AReason) → ¬ IsErrOf result (Stop.Aborted txn op reason) }
 {
     let text = read_up_to(alloc, input, MAX_SCRIPT)?;
     Ok(read_script(alloc, &text)?)
@@ -50,7 +84,7 @@ fn execute(alloc: Global, script: &Script) -> Result<Rows, SerialError>
 // Replays the script and writes the dump.
 fn replay<I: Source, O: Sink>(alloc: Global, input: &mut I, output: &mut O) -> Result<(), Stop>
     ensures done { OnOk result (IsDumpOf (I.left input.old) (λ text. Took (O.held output.old) text (O.held output.new))) }
-    ensures refused { (stop : AStop) → IsErrOf result stop → status_of stop ≡ 2 → IsNoScript (I.left input.old) × IsRefusedAs (I.left input.old) stop }
+    ensures refused { (fault : AFault) → IsErrOf result (Stop.Script fault) → IsNoScript (I.left input.old) × IsRefusedAs (I.left input.old) fault }
     ensures aborted { (txn op : ℕ) (reason : AReason) → IsErrOf result (Stop.Aborted txn op reason) → IsAbortOf (I.left input.old) txn op reason }
     ensures input_fault { IsErrOf result Stop.InputFault → Rose (I.faults input.old) (I.faults input.new) }
     ensures output_fault { IsErrOf result Stop.OutputFault → Rose (O.faults output.old) (O.faults output.new) }
@@ -104,8 +138,8 @@ pub fn pacman<RT: Threads + Wait + Sync, I: Source, O: Sink, E: Sink, D: Disk, G
     // Each status comes only where its cause holds.
     ensures usage { (result ≡ 1) ↔ ¬ IsReplay words.now }
     ensures refused { result ≡ 2 → IsNoScript (I.left input.old) }
-    ensures refusal { result ≡ 2 → (stop : AStop) × IsRefusedAs (I.left input.old) stop
-        × SaysUnlessFault (E.held errors.old) (line_of stop) (E.held errors.new) (E.faults errors.old) (E.faults errors.new) }
+    ensures refusal { result ≡ 2 → (fault : AFault) × IsRefusedAs (I.left input.old) fault
+        × SaysUnlessFault (E.held errors.old) (line_of (Stop.Script fault)) (E.held errors.new) (E.faults errors.old) (E.faults errors.new) }
     ensures aborted { result ≡ 4 → (txn op : ℕ) × (reason : AReason) × IsAbortOf (I.left input.old) txn op reason
         × SaysUnlessFault (E.held errors.old) (abort_line txn op reason) (E.held errors.new) (E.faults errors.old) (E.faults errors.new) }
     ensures input_fault { result ≡ 6 → Rose (I.faults input.old) (I.faults input.new) }

@@ -13,7 +13,7 @@ mod command;
 mod lines;
 mod request;
 mod script;
-mod script_error;
+mod script_fault;
 mod split;
 mod stop;
 mod tell;

@@ -1,48 +1,51 @@
 // Reads request lines.
-ghost use Rattle.std.specs.Prelude.{◌≡◌, ◌<◌, ◌++◌, List, Option, IfOk, OnOk, OnErr, IsErrOf, length, Some, None};
+ghost use Rattle.std.specs.Prelude.{◌≡◌, ◌<◌, ◌++◌, List, Option, IfOk, OnOk, length, Some, None};
+ghost use Rattle.pac_base.specs.Refusals.{OkUnlessMemory, Only};
 ghost use Rattle.pac_tokens.specs.Tokens.{IsLexed};
-ghost use Rattle.pac_tokens.specs.declared.fault.Fault.{Fault as AFault};
-ghost use Rattle.pac_types.specs.declared.type_error.TypeFault.{TypeFault as ATypeFault};
 ghost use Rattle.pac_tokens.specs.declared.token.Spanned.{Spanned as ASpanned};
 ghost use Rattle.pac_serial.specs.declared.serial.Call.{Call as ACall};
 ghost use Rattle.pac_main.specs.Lines.{lines};
-ghost use Rattle.pac_main.specs.Errors.{Only, AreOnly};
 ghost use Rattle.pac_main.specs.Requests.{IsLine, AreCalls, some_call};
 
 use crate::call::read_call;
-use crate::script_error::ScriptError;
 use crate::split::first_line;
+use pac_base::{NoMemory, Refusal};
 use pac_serial::Call;
-use pac_syntax::{SyntaxError, Tokens, tokens};
+use pac_syntax::{Tokens, tokens};
 use pac_types::Catalogue;
 use std::alloc::Global;
+use thiserror::Error;
+
+/// A request line is no call.
+#[derive(Clone, Copy, Debug, PartialEq, Eq, Error)]
+#[error("no call")]
+pub struct NoCall;
+
+/// Why a request line isn't read.
+pub type LineError = Refusal<NoCall>;
 
 // The greatest length of a request line.
 const MAX_LINE: usize = 4096;
 
 // The tokens of a line.
-fn line_tokens(alloc: Global, line: &[u8]) -> Result<Tokens, ScriptError>
+fn line_tokens(alloc: Global, line: &[u8]) -> Result<Tokens, LineError>
     ensures ok { IfOk result (λ found. IsLexed line.now found None) }
     ensures only { (ts : List ASpanned) → IsLexed line.now ts None → Only result ts }
-    ensures no_syntax { (fault : AFault) → ¬ IsErrOf result (ScriptError.Syntax fault) }
-    ensures no_typing { (fault : ATypeFault) → ¬ IsErrOf result (ScriptError.Typing fault) }
 {
     match tokens(alloc, line) {
         Ok(found) => Ok(found),
-        Err(SyntaxError::Fault(_)) => Err(ScriptError::Refused),
-        Err(SyntaxError::NoMemory) => Err(ScriptError::NoMemory),
+        Err(Refusal::Fault(_)) => Err(Refusal::Fault(NoCall)),
+        Err(Refusal::NoMemory) => Err(Refusal::NoMemory),
     }
 }
 
 // What a line says: a call, or nothing.
-fn read_line(alloc: Global, catalogue: &Catalogue, line: &[u8]) -> Result<Option<Call>, ScriptError>
+fn read_line(alloc: Global, catalogue: &Catalogue, line: &[u8]) -> Result<Option<Call>, LineError>
     ensures ok { IfOk result (IsLine catalogue.now.procs line.now) }
     ensures only { (said : Option ACall) → IsLine catalogue.now.procs line.now said → Only result said }
-    ensures no_syntax { (fault : AFault) → ¬ IsErrOf result (ScriptError.Syntax fault) }
-    ensures no_typing { (fault : ATypeFault) → ¬ IsErrOf result (ScriptError.Typing fault) }
 {
     if line.len() > MAX_LINE {
-        return Err(ScriptError::Refused);
+        return Err(Refusal::Fault(NoCall));
     }
     let found = line_tokens(alloc, line)?;
     let found = found.as_slice();
@@ -51,14 +54,13 @@ fn read_line(alloc: Global, catalogue: &Catalogue, line: &[u8]) -> Result<Option
     }
     match read_call(alloc, catalogue, found)? {
         Some(call) => Ok(Some(call)),
-        None => Err(ScriptError::Refused),
+        None => Err(Refusal::Fault(NoCall)),
     }
 }
 
 // Adds the call that a line says.
-fn push_said(calls: &mut Vec<Call>, said: Option<Call>) -> Result<(), ScriptError>
-    ensures ok { OnOk result (calls.new.items ≡ calls.old.items ++ some_call said) }
-    ensures memory { OnErr result (IsErrOf result ScriptError.NoMemory) }
+fn push_said(calls: &mut Vec<Call>, said: Option<Call>) -> Result<(), NoMemory>
+    ensures { OnOk result (calls.new.items ≡ calls.old.items ++ some_call said) }
 {
     if let Some(call) = said {
         calls.push(call)?;
@@ -67,15 +69,9 @@ fn push_said(calls: &mut Vec<Call>, said: Option<Call>) -> Result<(), ScriptErro
 }
 
 /// The calls of the lines of a text. Linear in the text.
-pub fn read_calls(
-    alloc: Global,
-    catalogue: &Catalogue,
-    text: &[u8],
-) -> Result<Vec<Call>, ScriptError>
+pub fn read_calls(alloc: Global, catalogue: &Catalogue, text: &[u8]) -> Result<Vec<Call>, LineError>
     ensures ok { IfOk result (λ calls. AreCalls catalogue.now.procs (lines text.now) calls.items) }
-    ensures only { (calls : List ACall) → AreCalls catalogue.now.procs (lines text.now) calls → AreOnly result calls }
-    ensures no_syntax { (fault : AFault) → ¬ IsErrOf result (ScriptError.Syntax fault) }
-    ensures no_typing { (fault : ATypeFault) → ¬ IsErrOf result (ScriptError.Typing fault) }
+    ensures only { (calls : List ACall) → AreCalls catalogue.now.procs (lines text.now) calls → OkUnlessMemory result (λ read. read.items ≡ calls) }
 {
     let mut calls = Vec::new(alloc);
     let mut rest = text;

@@ -1,14 +1,14 @@
 // Why a command stops before its end.
 ghost use Rattle.std.specs.Prelude.{◌≡◌, IfOk, IsTrue, MatchOption};
-ghost use Rattle.pac_main.specs.Stop.{status_of, line_of, takes_memory, catalogue_line, abort_line, stop_of_read, stop_of_script, stop_of_serial};
+ghost use Rattle.pac_main.specs.Stop.{status_of, line_of, takes_memory, catalogue_line, abort_line, stop_of_input, stop_of_serial};
 ghost use Rattle.pac_main.specs.declared.stop.Stop.TheVariants.{OutputFault, NoMemory as WantOfMemory};
 
-use crate::script_error::ScriptError;
+use crate::command::InputError;
+use crate::script_fault::ScriptFault;
 use pac_base::NoMemory;
-use pac_outside::{Failed, ReadError};
+use pac_outside::Failed;
 use pac_serial::SerialError;
-use pac_syntax::Fault;
-use pac_types::{Reason, TypeFault};
+use pac_types::{CatalogueFault, Reason};
 use std::alloc::{AllocError, Global};
 
 /// Why a command stops before its end.
@@ -16,12 +16,8 @@ use std::alloc::{AllocError, Global};
 pub enum Stop {
     /// The words name no command that runs.
     Usage,
-    /// The catalogue's text has this fault, its first.
-    Syntax(Fault),
-    /// The catalogue's text is read, and has this fault of names and types, its first.
-    Typing(TypeFault),
-    /// The input is no script for another reason.
-    Refused,
+    /// The input is no script.
+    Script(ScriptFault),
     /// The operation of the transaction with this number aborts for this reason.
     Aborted { txn: u64, op: u64, reason: Reason },
     /// The input could not be read.
@@ -49,26 +45,14 @@ impl From<Failed> for Stop {
     }
 }
 
-impl From<ReadError> for Stop {
-    ghost from_gives = { λ error stop. stop ≡ stop_of_read error };
+impl From<InputError> for Stop {
+    ghost from_gives = { λ error stop. stop ≡ stop_of_input error };
 
-    fn from(error: ReadError) -> Self {
+    fn from(error: InputError) -> Self {
         match error {
-            ReadError::Failed => Stop::InputFault,
-            ReadError::NoMemory => Stop::NoMemory,
-        }
-    }
-}
-
-impl From<ScriptError> for Stop {
-    ghost from_gives = { λ error stop. stop ≡ stop_of_script error };
-
-    fn from(error: ScriptError) -> Self {
-        match error {
-            ScriptError::Syntax(fault) => Stop::Syntax(fault),
-            ScriptError::Typing(fault) => Stop::Typing(fault),
-            ScriptError::Refused => Stop::Refused,
-            ScriptError::NoMemory => Stop::NoMemory,
+            InputError::Failed => Stop::InputFault,
+            InputError::Script(fault) => Stop::Script(fault),
+            InputError::NoMemory => Stop::NoMemory,
         }
     }
 }
@@ -91,7 +75,7 @@ impl Stop {
     {
         match self {
             Stop::Usage => 1,
-            Stop::Syntax(_) | Stop::Typing(_) | Stop::Refused => 2,
+            Stop::Script(_) => 2,
             Stop::Aborted { .. } => 4,
             Stop::InputFault => 6,
             Stop::OutputFault => 7,
@@ -105,8 +89,8 @@ impl Stop {
     {
         match self {
             Stop::Usage => Some(b"usage: pacman init, run, recover, explain, replay or stress\n"),
-            Stop::Refused => Some(b"script refused\n"),
-            Stop::Syntax(_) | Stop::Typing(_) | Stop::Aborted { .. } => None,
+            Stop::Script(ScriptFault::Refused) => Some(b"script refused\n"),
+            Stop::Script(ScriptFault::Catalogue(_)) | Stop::Aborted { .. } => None,
             Stop::InputFault => Some(b"input fault\n"),
             Stop::OutputFault => Some(b"output fault\n"),
             Stop::NoMemory => Some(b"no memory\n"),
@@ -115,15 +99,15 @@ impl Stop {
 }
 
 /// The line `catalogue AT KIND`.
-pub fn catalogue_line(alloc: Global, at: usize, kind: &str) -> Result<Vec<u8>, AllocError>
-    ensures { IfOk result (λ line. line.items ≡ catalogue_line at kind.now) }
+pub fn catalogue_line(alloc: Global, fault: CatalogueFault) -> Result<Vec<u8>, AllocError>
+    ensures { IfOk result (λ line. line.items ≡ catalogue_line fault) }
 {
-    let at = at.to_string(alloc)?;
+    let at = fault.at().to_string(alloc)?;
     let mut line = Vec::new(alloc);
     line.extend_from_slice(b"catalogue ")?;
     line.extend_from_slice(at.as_bytes())?;
     line.extend_from_slice(b" ")?;
-    line.extend_from_slice(kind.as_bytes())?;
+    line.extend_from_slice(fault.kind_name().as_bytes())?;
     line.extend_from_slice(b"\n")?;
     Ok(line)
 }

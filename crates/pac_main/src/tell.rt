@@ -4,16 +4,20 @@ ghost use Rattle.std.specs.Result.{is_ok};
 ghost use Rattle.pac_main.specs.Replay.{SaysUnlessFault};
 ghost use Rattle.pac_main.specs.Stop.{status_of, line_of, takes_memory, stop_of_words};
 
+use crate::script_fault::ScriptFault;
 use crate::stop::{Stop, abort_line, catalogue_line};
 use pac_outside::{Sink, write_all};
 use std::alloc::{AllocError, Global};
+use thiserror::Error;
 
 /// Why the words of the command line name no command.
-#[derive(Clone, Copy, Debug, PartialEq, Eq)]
+#[derive(Clone, Copy, Debug, PartialEq, Eq, Error)]
 pub enum WordsError {
     /// They are not the words of a command that runs, as where one of them is no text.
+    #[error("no command")]
     Usage,
     /// There was no memory to read them.
+    #[error("out of memory")]
     NoMemory,
 }
 
@@ -73,13 +77,8 @@ pub fn told<E: Sink>(alloc: Global, stop: Stop, errors: &mut E) -> Stop
     ensures line { SaysUnlessFault (E.held errors.old) (line_of result) (E.held errors.new) (E.faults errors.old) (E.faults errors.new) }
 {
     match stop {
-        Stop::Syntax(fault) => {
-            let line = catalogue_line(alloc, fault.at, fault.kind.name());
-            told_made(stop, line, errors)
-        }
-        Stop::Typing(fault) => {
-            let line = catalogue_line(alloc, fault.at, fault.kind.name());
-            told_made(stop, line, errors)
+        Stop::Script(ScriptFault::Catalogue(fault)) => {
+            told_made(stop, catalogue_line(alloc, fault), errors)
         }
         Stop::Aborted { txn, op, reason } => {
             told_made(stop, abort_line(alloc, txn, op, reason), errors)

@@ -5,9 +5,8 @@ ghost use Rattle.pac_tokens.specs.Spelling.{escaped_byte, quoted};
 ghost use Rattle.pac_syntax.specs.Grammar.{tier, left_level};
 ghost use Rattle.pac_print.specs.Canonical.{value_text, spelled, operand_text, expr_text, further_text, exprs_text};
 
-use pac_syntax::{COMPARISONS, sign_of, tier_of};
-use pac_syntax::ExprNode;
 use pac_base::NoMemory;
+use pac_syntax::{COMPARISONS, ExprNode, sign_of, tier_of};
 use pac_value::{BinOp, Text, Value};
 use std::alloc::Global;
 

@@ -3,8 +3,8 @@ ghost use Rattle.std.specs.Prelude.{◌≡◌, ◌++◌, map, OnOk, IfOk};
 ghost use Rattle.pac_print.specs.Canonical.{cell_text, field_text, deeper, else_text, stmt_text, stmts_text};
 
 use crate::expression::{push_expr, push_exprs, push_value};
-use pac_syntax::{ExprNode, LiteralNode, NameNode, StmtNode};
 use pac_base::NoMemory;
+use pac_syntax::{ExprNode, LiteralNode, NameNode, StmtNode};
 use std::alloc::Global;
 
 pub fn push_name(out: &mut Vec<u8>, name: &NameNode) -> Result<(), NoMemory>

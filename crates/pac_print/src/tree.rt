@@ -7,8 +7,8 @@ ghost use Rattle.pac_syntax.specs.Reading.{Reads, IsTree};
 ghost use Rattle.pac_syntax.specs.declared.tree.Tree.{Tree as ATree};
 
 use crate::statement::{deeper, push_name, push_stmts};
-use pac_syntax::{ColumnNode, ProcNode, TableNode, Tree};
 use pac_base::NoMemory;
+use pac_syntax::{ColumnNode, ProcNode, TableNode, Tree};
 use pac_value::Ty;
 use std::alloc::Global;
 

@@ -21,7 +21,9 @@ mod parse;
 mod tree;
 
 pub use operator::{COMPARISONS, sign_of, tier_of};
-pub use pac_tokens::{Fault, FaultKind, Keyword, Spanned, Symbol, SyntaxError, Token, Tokens, tokens};
+pub use pac_tokens::{
+    Fault, FaultKind, Keyword, Spanned, Symbol, SyntaxError, Token, Tokens, tokens,
+};
 pub use parse::parse_catalogue;
 pub use tree::{ColumnNode, ExprNode, LiteralNode, NameNode, ProcNode, StmtNode, TableNode, Tree};
 

@@ -12,8 +12,8 @@ mod expression;
 mod parser;
 mod statement;
 
-use catalogue::parse_tokens;
 use crate::tree::Tree;
+use catalogue::parse_tokens;
 use pac_tokens::{Fault, FaultKind, SyntaxError, lex};
 use std::alloc::Global;
 

@@ -1,12 +1,12 @@
 -- A text has one catalogue, or one first fault.
 use Rattle.std.proofs.Common.{◌≡◌, ℕ, List, Result, Ok, Err, refl, sym, ap, subst, arith}
-use Rattle.std.specs.Prelude.{IfOk, IsErrOf}
+use Rattle.std.specs.Prelude.{IfOk}
 use Rattle.pac_base.specs.declared.refusal.Refusal.{Refusal}
 use Rattle.pac_base.specs.declared.refusal.Refusal.TheVariants as error
 use Rattle.pac_base.specs.Refusals.{Only}
 use Rattle.pac_syntax.specs.declared.tree.Tree.{Tree}
 use Rattle.pac_tokens.specs.declared.fault.Fault.{Fault}
-use Rattle.pac_syntax.specs.Reading.{Reads, IsTextFault}
+use Rattle.pac_syntax.specs.Reading.{Reads}
 use Rattle.pac_syntax.proofs.OneReading.{one_fault, no_fault, reads_once}
 use Rattle.pac_syntax.proofs.Trees.{tree-within, tree-ordered}
 use Rattle.pac_types.specs.declared.type_error.TypeFault.{TypeFault}
@@ -14,7 +14,7 @@ use Rattle.pac_types.specs.declared.text.CatalogueFault.{CatalogueFault}
 use Rattle.pac_types.specs.declared.text.CatalogueFault.TheVariants.{Syntax, Typing}
 use Rattle.pac_types.specs.Typing.{CatalogueState, Types}
 use Rattle.pac_types.specs.Faults.{Stands, IsFirstTypeFault}
-use Rattle.pac_types.specs.CatalogueText.{HasCatalogue, IsTypingFault, IsCatalogueFault}
+use Rattle.pac_types.specs.CatalogueText.{HasCatalogue, IsCatalogueFault}
 use Rattle.pac_types.proofs.TypedLemmas.{typed_both}
 
 -- a tree that has a catalogue has no fault

@@ -1,5 +1,5 @@
 -- Checking from left to right: what the checker does, statement by statement, up to the first fault that it meets.
-use Rattle.std.specs.Prelude.{◌≡◌, ℕ, ◌+◌, ◌-◌, Bool, true, false, nat_eq, not, List, [], ◌∷◌, ◌++◌, length, take, replicate, map, slice_get, Option, Some, None, Result, Ok, Err}
+use Rattle.std.specs.Prelude.{ℕ, ◌+◌, ◌-◌, Bool, true, false, nat_eq, not, List, [], ◌∷◌, ◌++◌, length, take, replicate, map, slice_get, Option, Some, None, Result, Ok, Err}
 use Rattle.pac_value.specs.declared.values.Ty.{Ty}
 use Rattle.pac_value.specs.declared.values.Ty.TheVariants.{Int as IntTy, Bool as BoolTy}
 use Rattle.pac_value.specs.declared.expr.BinOp.{BinOp}

@@ -17,12 +17,12 @@ mod tables;
 
 use crate::names::Names;
 use crate::{Catalogue, Proc, TypeError};
-use procedures::check_proc;
-use tables::Tables;
 use pac_base::listed;
 use pac_syntax::{ProcNode, Tree};
 use pac_value::Name;
+use procedures::check_proc;
 use std::alloc::{AllocError, Global};
+use tables::Tables;
 
 // The names of procedures.
 fn names_of_procs(alloc: Global, nodes: &[ProcNode]) -> Result<Vec<Name>, AllocError>

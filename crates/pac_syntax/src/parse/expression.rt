@@ -9,8 +9,8 @@ ghost use Rattle.pac_tokens.specs.declared.fault.FaultKind.TheVariants.{TooMany}
 ghost use Rattle.pac_base.specs.declared.refusal.Refusal.TheVariants as error;
 ghost use Rattle.pac_syntax.specs.declared.tree.ExprNode.{ExprNode as AnExprNode};
 
-use crate::operator::{COMPARISONS, operator_by, tier_of};
 use super::parser::{Operand, Parser, split};
+use crate::operator::{COMPARISONS, operator_by, tier_of};
 use crate::tree::ExprNode;
 use pac_base::Boxed;
 use pac_tokens::{Fault, FaultKind, Symbol, SyntaxError, Token};

@@ -6,10 +6,10 @@ ghost use Rattle.pac_types.specs.Numbering.{defined, variables};
 ghost use Rattle.pac_types.specs.Checking.{ScopeState, checked_params, checked_proc};
 ghost use Rattle.pac_syntax.specs.Limits.{IsProcWithinLimits};
 
-use crate::names::Names;
 use crate::checker::scope::Scope;
 use crate::checker::statements::check_block;
 use crate::checker::tables::{Tables, columns_of};
+use crate::names::Names;
 use crate::{Proc, TypeError};
 use pac_base::listed;
 use pac_syntax::{ColumnNode, ProcNode, StmtNode};

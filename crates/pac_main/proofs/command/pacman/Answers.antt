@@ -1,5 +1,5 @@
 use Rattle.std.proofs.Common.{Err, ap, sym, ◌∙◌, arith}
-use Rattle.pac_main.proofs.StopLemmas.{aborted_of, told_same}
+use Rattle.pac_main.proofs.StopLemmas.{aborted_of, refused_of, told_same}
 use Rattle.pac_main.proofs.command.pacman.Goals as goal
 
 pub returns-in-Err-clause-aborted : goal.returns-in-Err-clause-aborted
@@ -12,10 +12,12 @@ pub returns-in-Err-clause-refused : goal.returns-in-Err-clause-refused
 returns-in-Err-clause-refused g c = λ two.
     let is = sym c.status.ensures ∙ two in
     let same = told_same c.in-Err.stop c.told.result 2 c.told.ensures.which is (λ e. omega arith) in
-    (c.in-Err.ensures.refused c.told.result (ap (λ s. Err s) (sym same)) is).0
+    let r = refused_of c.told.result is in
+    (c.in-Err.ensures.refused r.fault (ap (λ s. Err s) (sym same ∙ r.is))).0
 
 pub returns-in-Err-clause-refusal : goal.returns-in-Err-clause-refusal
 returns-in-Err-clause-refusal g c = λ two.
     let is = sym c.status.ensures ∙ two in
     let same = told_same c.in-Err.stop c.told.result 2 c.told.ensures.which is (λ e. omega arith) in
-    (c.told.result, (c.in-Err.ensures.refused c.told.result (ap (λ s. Err s) (sym same)) is).1, c.told.ensures.line)
+    let r = refused_of c.told.result is in
+    (r.fault, (c.in-Err.ensures.refused r.fault (ap (λ s. Err s) (sym same ∙ r.is))).1, rw r.is at c.told.ensures.line)

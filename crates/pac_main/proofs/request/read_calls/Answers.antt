@@ -15,14 +15,14 @@ returns-in_err-said-clause-only c =
 pub returns-in-None-clause-ok : goal.returns-in-None-clause-ok
 returns-in-None-clause-ok c =
     let last : lines c.loop-calls.rest.now ≡ c.first_line.result.0.now ∷ [] = rw c.in-None.is at c.first_line.ensures.lines in
-    reading-done _ _ _ (reading-next _ _ _ _ _ _ c.in_ok-said.said (reading-by _ _ _ _ _ last c.loop-calls.invariant) c.in_ok-said.ensures.ok c.in_ok-said.ensures.only c.in_ok-push_said.ensures.ok)
+    reading-done _ _ _ (reading-next _ _ _ _ _ _ c.in_ok-said.said (reading-by _ _ _ _ _ last c.loop-calls.invariant) c.in_ok-said.ensures.ok c.in_ok-said.ensures.only c.in_ok-push_said.ensures)
 
 pub returns-in-None-clause-only : goal.returns-in-None-clause-only
 returns-in-None-clause-only c = λ calls h.
     let last : lines c.loop-calls.rest.now ≡ c.first_line.result.0.now ∷ [] = rw c.in-None.is at c.first_line.ensures.lines in
-    reading-only _ _ _ _ (reading-next _ _ _ _ _ _ c.in_ok-said.said (reading-by _ _ _ _ _ last c.loop-calls.invariant) c.in_ok-said.ensures.ok c.in_ok-said.ensures.only c.in_ok-push_said.ensures.ok) h
+    reading-only _ _ _ _ (reading-next _ _ _ _ _ _ c.in_ok-said.said (reading-by _ _ _ _ _ last c.loop-calls.invariant) c.in_ok-said.ensures.ok c.in_ok-said.ensures.only c.in_ok-push_said.ensures) h
 
 pub loop-calls-preserved : goal.loop-calls-preserved
 loop-calls-preserved c =
     let next : lines c.loop-calls.rest.now ≡ c.first_line.result.0.now ∷ lines c.in-Some.next.now = rw c.in-Some.is at c.first_line.ensures.lines in
-    reading-next _ _ _ _ _ _ c.in_ok-said.said (reading-by _ _ _ _ _ next c.loop-calls.invariant) c.in_ok-said.ensures.ok c.in_ok-said.ensures.only c.in_ok-push_said.ensures.ok
+    reading-next _ _ _ _ _ _ c.in_ok-said.said (reading-by _ _ _ _ _ next c.loop-calls.invariant) c.in_ok-said.ensures.ok c.in_ok-said.ensures.only c.in_ok-push_said.ensures

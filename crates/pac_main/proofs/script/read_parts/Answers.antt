@@ -1,22 +1,29 @@
-use Rattle.std.proofs.Common.{◌≡◌, ◌∙◌}
-use Rattle.std.proofs.lemmas.Result.{err_from_is_err_and}
-use Rattle.pac_main.proofs.ScriptLemmas.{calls-over, script-same}
+-- A text before the mark has one catalogue or one first fault.
+use Rattle.std.proofs.Common.{◌≡◌, ◌∙◌, Err, sym, ap, subst, refl}
+use Rattle.pac_base.specs.Refusals.{Only}
+use Rattle.pac_main.specs.declared.script.Script.{Script}
+use Rattle.pac_main.specs.declared.script_fault.ScriptFault.{ScriptFault}
+use Rattle.pac_main.specs.declared.script_fault.ScriptFault.TheVariants.{Catalogue}
+use Rattle.pac_main.specs.Script.{IsPartsFault}
+use Rattle.pac_main.proofs.InputLemmas.{no_fault_is_memory, told_is}
+use Rattle.pac_main.proofs.ScriptLemmas.{calls-over, script-same, parts-of}
 use Rattle.pac_main.proofs.script.read_parts.Goals as goal
 
-pub returns-in_err-catalogue-clause-only : goal.returns-in_err-catalogue-clause-only
-returns-in_err-catalogue-clause-only c =
-    let p = err_from_is_err_and c.from_residual.result c.from_residual.ensures.1 in
-    λ script h. rw (p.1, p.2) (c.in_err-catalogue.ensures.only script.catalogue h.catalogue)
+pub returns-in-Ok-clause-ok : goal.returns-in-Ok-clause-ok
+returns-in-Ok-clause-ok c = parts-of c.args.front.now c.args.behind.now c.in-Ok.catalogue c.with_calls.result c.in-Ok.ensures.ok c.with_calls.ensures.ok
 
-pub returns-in_err-read_behind-clause-only : goal.returns-in_err-read_behind-clause-only
-returns-in_err-read_behind-clause-only c =
-    let p = err_from_is_err_and c.from_residual-in_err-read_behind.result c.from_residual-in_err-read_behind.ensures.1 in
-    λ script h.
-    let same : c.in_ok-catalogue.catalogue ≡ script.catalogue = c.in_ok-catalogue.ensures.only script.catalogue h.catalogue in
-    rw (p.1, p.2) (c.in_err-read_behind.ensures.only script.calls (calls-over c.args.behind.now c.in_ok-catalogue.catalogue script.catalogue script.calls same h.calls))
+pub returns-in-Ok-clause-only : goal.returns-in-Ok-clause-only
+returns-in-Ok-clause-only c = λ script h.
+    let same : c.in-Ok.catalogue ≡ script.catalogue = c.in-Ok.ensures.only script.catalogue h.catalogue in
+    subst (λ (s : Script). Only c.with_calls.result s) (script-same c.in-Ok.catalogue script.calls script same refl)
+    (c.with_calls.ensures.only script.calls (calls-over c.args.behind.now c.in-Ok.catalogue script.catalogue script.calls same h.calls))
 
-pub returns-clause-only : goal.returns-clause-only
-returns-clause-only c = λ script h.
-    let same : c.in_ok-catalogue.catalogue ≡ script.catalogue = c.in_ok-catalogue.ensures.only script.catalogue h.catalogue in
-    script-same c.in_ok-catalogue.catalogue c.listed-calls.result script same
-    (c.listed-calls.ensures ∙ c.in_ok-read_behind.ensures.only script.calls (calls-over c.args.behind.now c.in_ok-catalogue.catalogue script.catalogue script.calls same h.calls))
+pub returns-in-Ok-clause-fault : goal.returns-in-Ok-clause-fault
+returns-in-Ok-clause-fault c = λ fault is. subst (λ (f : ScriptFault). IsPartsFault c.args.front.now f) (sym (c.with_calls.ensures.fault fault is)) (c.in-Ok.catalogue, c.in-Ok.ensures.ok)
+
+pub returns-in-Err-Fault-clause-only : goal.returns-in-Err-Fault-clause-only
+returns-in-Err-Fault-clause-only c = λ script h. absurd (no_fault_is_memory _ (sym c.in-Err-Fault.field-0-is ∙ c.in-Err-Fault.ensures.only script.catalogue h.catalogue))
+
+pub returns-in-Err-Fault-clause-fault : goal.returns-in-Err-Fault-clause-fault
+returns-in-Err-Fault-clause-fault c = λ fault is.
+    subst (λ (f : ScriptFault). IsPartsFault c.args.front.now f) (ap (λ f. Catalogue f) (sym c.in-Err-Fault.fault-is) ∙ told_is _ fault is) (c.in-Err-Fault.ensures.fault c.in-Err-Fault.fault (ap (λ e. Err e) c.in-Err-Fault.field-0-is))

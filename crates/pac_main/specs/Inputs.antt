@@ -1,0 +1,18 @@
+-- Why an input holds no script.
+use Rattle.pac_base.specs.declared.refusal.Refusal.{Refusal}
+use Rattle.pac_base.specs.declared.refusal.Refusal.TheVariants as refusal
+use Rattle.pac_outside.specs.declared.failed.ReadError.{ReadError}
+use Rattle.pac_outside.specs.declared.failed.ReadError.TheVariants as read
+use Rattle.pac_main.specs.declared.script_fault.ScriptFault.{ScriptFault}
+use Rattle.pac_main.specs.declared.command.InputError.{InputError}
+use Rattle.pac_main.specs.declared.command.InputError.TheVariants.{Failed, Script, NoMemory}
+
+-- an input that isn't read failed, or there was no memory for it
+abbrev pub input_of_read : ReadError → InputError
+input_of_read read.Failed = Failed
+input_of_read read.NoMemory = NoMemory
+
+-- what was read is no script, or there was no memory for it
+abbrev pub input_of_script : Refusal ScriptFault → InputError
+input_of_script (refusal.Fault fault) = Script fault
+input_of_script refusal.NoMemory = NoMemory
