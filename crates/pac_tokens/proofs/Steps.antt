@@ -9,7 +9,7 @@ use Rattle.pac_tokens.specs.declared.lexer.Step.{Step}
 use Rattle.pac_tokens.specs.declared.lexer.Step.TheVariants as step
 use Rattle.pac_tokens.specs.declared.fault.FaultKind.{FaultKind}
 use Rattle.pac_tokens.specs.Tokens.{is_letter, is_digit, is_name, IsNext, IsBad}
-use Rattle.pac_tokens.specs.Lexing.{word_at, int_at, text_at, symbol_at, symbol_front, token_at, IsFront, IsPushed, IsStep, IsWithin}
+use Rattle.pac_tokens.specs.Lexing.{word_at, int_at, text_at, symbol_at, symbol_front, token_at, IsFront, IsPushed, IsStep, StaysWithin}
 use Rattle.pac_tokens.proofs.Longest.{front_of}
 use Rattle.pac_tokens.proofs.Spelled.{spells_some}
 
@@ -53,7 +53,7 @@ next_within : (before : Before) (bytes : List ℕ) (t : Token) (len : ℕ) → I
 next_within before bytes t len h =
     (omega (arith, h.counted, spells_some before t h.front h.longest.spells), omega (arith, h.counted, ap length h.longest.parts, length-append h.front h.rest))
 
-pub step_within : {E : Type 0} (before : Before) (at : ℕ) (bytes : List ℕ) (old new : List Spanned) (r : Result Step E) → IfOk r (λ s. IsStep before at bytes old new s) → IfOk r (λ s. IsWithin (length bytes) s)
+pub step_within : {E : Type 0} (before : Before) (at : ℕ) (bytes : List ℕ) (old new : List Spanned) (r : Result Step E) → IfOk r (λ s. IsStep before at bytes old new s) → IfOk r (λ s. StaysWithin (length bytes) s)
 step_within before at bytes old new (Ok (step.Pushed len next)) h = next_within before bytes h.0 len h.2
 step_within before at bytes old new (Ok (step.Refused kind)) h = tt
 step_within before at bytes old new (Err e) h = tt

@@ -128,6 +128,6 @@ IsStep before at bytes old new (step.Pushed len next) = (t : Token) × (new ≡ 
 IsStep before at bytes old new (step.Refused kind) = (new ≡ old) × IsBad before bytes kind
 
 -- a token has some of so many bytes
-abbrev pub IsWithin : ℕ → Step → Type 0
-IsWithin n (step.Pushed len next) = (1 ≤ len) × (len ≤ n)
-IsWithin n (step.Refused kind) = Unit {0}
+abbrev pub StaysWithin : ℕ → Step → Type 0
+StaysWithin n (step.Pushed len next) = (1 ≤ len) × (len ≤ n)
+StaysWithin n (step.Refused kind) = Unit {0}

@@ -3,7 +3,7 @@ ghost use Rattle.std.specs.Prelude.{◌≡◌, pos, neg_ℤ, ◌≤◌, ◌<◌,
 ghost use Rattle.std.specs.List.{take_while, list_all};
 ghost use Rattle.pac_value.specs.Texts.{is_printable};
 ghost use Rattle.pac_tokens.specs.Tokens.{is_blank, is_letter, is_digit, is_name, gap, digits_value, keyword_of, after, next_digits, is_long_minus, IsLexed};
-ghost use Rattle.pac_tokens.specs.Lexing.{symbol_of, symbol_front, candidate, word_at, int_at, text_at, minus_at, symbol_at, token_at, closing_in, unescaped, IsPushed, IsStep, IsWithin};
+ghost use Rattle.pac_tokens.specs.Lexing.{symbol_of, symbol_front, candidate, word_at, int_at, text_at, minus_at, symbol_at, token_at, closing_in, unescaped, IsPushed, IsStep, StaysWithin};
 
 use crate::fault::{Fault, FaultKind};
 use crate::token::{Keyword, Spanned, Symbol, Token};
@@ -418,7 +418,7 @@ fn push_next(
 ) -> Result<Step, NoMemory>
     requires { 1 ≤ length bytes.now }
     ensures step { IfOk result (λ step. IsStep before at bytes.now items.old.items items.new.items step) }
-    ensures within { IfOk result (λ step. IsWithin (length bytes.now) step) }
+    ensures within { IfOk result (λ step. StaysWithin (length bytes.now) step) }
 {
     let [first, behind @ ..] = bytes else {
         return push_found(items, before, at, Err(FaultKind::Token));

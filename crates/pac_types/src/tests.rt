@@ -1,6 +1,6 @@
 // Outside examples: what is typed and what is refused, by texts.
-use crate::{Catalogue, Stmt, TypeError, check};
-use pac_base::Exact;
+use crate::{Catalogue, Stmt, TypeError, check, read_catalogue};
+use pac_base::{Exact, Refusal};
 use pac_syntax::parse_catalogue;
 use pac_value::{Expr, Value};
 use std::alloc::Global;
@@ -134,5 +134,33 @@ fn names_give_way_to_numbers(rt: HostRuntime) -> Result<(), Fail> {
         _ => false,
     };
     assert!(rt; put);
+    Ok(())
+}
+
+#[test]
+fn a_text_has_a_catalogue_or_a_first_fault(rt: HostRuntime) -> Result<(), Fail> {
+    let text = b"table T(key int, v int); proc P(k int) { put T[k] = (1); }";
+    let catalogue = read_catalogue(rt.alloc(), text)?;
+    assert_eq!(rt; catalogue.table_named(b"T"), Some(0));
+    assert_eq!(rt; catalogue.proc_named(b"P"), Some(0));
+    assert_eq!(rt; catalogue.proc_named(b"T"), None);
+    let cases: [(&[u8], usize, &str); 3] = [
+        (b"table T(key int, v int) ?", 24, "Token"),
+        (b"table T(key int, v int);;", 24, "Expected"),
+        (
+            b"table T(key int, v int); proc P(k int) { delete S[k]; }",
+            48,
+            "UnknownName",
+        ),
+    ];
+    for (text, at, kind) in cases {
+        match read_catalogue(rt.alloc(), text) {
+            Err(Refusal::Fault(fault)) => {
+                assert_eq!(rt; fault.at(), at);
+                assert_eq!(rt; fault.kind_name(), kind);
+            }
+            _ => assert!(rt; false, "no fault"),
+        }
+    }
     Ok(())
 }
