@@ -1,6 +1,7 @@
 -- What one step of the reading does, for the parser's functions.
-use Rattle.std.proofs.Common.{◌≡◌, ◌≢◌, ℕ, zero, suc, ◌+◌, ◌<◌, ◌≤◌, true, false, List, [], ◌∷◌, ◌++◌, length, Some, None, Result, Ok, Err, refl, sym, ap, ◌∙◌, arith, add-one}
-use Rattle.std.proofs.lemmas.Bool.{lt-ltb, le-ltb}
+use Rattle.std.proofs.Common.{◌≡◌, ◌≢◌, ℕ, zero, suc, ◌+◌, ◌<◌, ◌≤◌, Bool, true, false, Option, List, [], ◌∷◌, ◌++◌, length, Some, None, Result, Ok, Err, refl, sym, ap, ◌∙◌, arith, add-one}
+use Rattle.std.specs.Prelude.{nat_eq, nat_le, nat_lt}
+use Rattle.std.proofs.lemmas.Bool.{lt-ltb, le-ltb, eqb-true, le-leb, lt-leb, leb-true, leb-false, eqb-false, ltb-true, eq-eqb}
 use Rattle.std.proofs.lemmas.List.{length-append}
 use Rattle.pac_base.specs.Refusals.{Fails, Gives, OkUnlessMemory}
 use Rattle.pac_value.specs.declared.values.Ty.{Ty}
@@ -27,10 +28,10 @@ use Rattle.pac_syntax.specs.declared.parse.statement.StatementWord.{StatementWor
 use Rattle.pac_syntax.specs.declared.parse.statement.StatementWord.TheVariants as word
 use Rattle.pac_syntax.specs.declared.parse.parser.ColumnKind.{ColumnKind}
 use Rattle.pac_syntax.specs.declared.parse.parser.ColumnKind.TheVariants.{Column, Param}
-use Rattle.pac_syntax.specs.Grammar.{Role, ParamName}
+use Rattle.pac_syntax.specs.Grammar.{Role, ParamName, tier}
 use Rattle.pac_syntax.specs.Faults.{fault_of, over_role, place}
-use Rattle.pac_syntax.specs.Machine.{Begun, Steps, Done, Want, WantName, WantType, WantLiteral, WantNegative, Level, Rest, MoreValues, MoreStmts, MaybeElse, MoreColumns, SomeParams, MoreTables, MoreProcs, want_expr, begun_name, begun_literal, begun_binary, top, negation_steps, paren_steps, stmt_steps, stmt_role, stmt_word, block_steps, column_steps, typed_steps, table_steps, proc_steps, is_mark, literal_begins, negative_in, name_in, operand_begins, operator_at, feed, finish, scan, run}
-use Rattle.pac_syntax.specs.Views.{is_too_deep, Begins, IsNot, IsNoName, IsType, IsNoType, IsLiteral, IsNoLiteral, IsNoNegative, IsNegative, negative_of, name_token, role_of, limit_of}
+use Rattle.pac_syntax.specs.Machine.{Begun, Steps, Done, Want, WantName, WantType, WantLiteral, WantNegative, Level, Rest, MoreValues, MoreStmts, MaybeElse, MoreColumns, SomeParams, MoreTables, MoreProcs, want_expr, begun_name, begun_literal, begun_binary, top, lay, negation_steps, paren_steps, stmt_steps, stmt_role, stmt_word, block_steps, column_steps, typed_steps, table_steps, proc_steps, is_mark, literal_begins, negative_in, name_in, operand_begins, operator_at, operator_in, of_tier, feed, finish, scan, run}
+use Rattle.pac_syntax.specs.Views.{is_too_deep, between, rests, tier_behind, Begins, IsNot, IsNoName, IsType, IsNoType, IsLiteral, IsNoLiteral, IsNoNegative, IsNegative, negative_of, name_token, role_of, limit_of}
 
 abbrev Read : Type 0
 Read = Result Tree Fault
@@ -158,34 +159,146 @@ paren_past end d o at k s ts past b = rw (b.text, lt-ltb 16 (suc d) (omega arith
 
 -- ---- levels and operators
 
-pub level_opens : (end d n m o : ℕ) (k : Begun → ℕ → Steps) (s : List Spanned) → m ≡ suc n → run end (Level d m o k) s ≡ run end (Level d n o (λ x o. Rest d n x o k)) s
+rests_open : (d n m : ℕ) (k : Begun → ℕ → Steps) → n ≤ m → rests d n (suc m) k ≡ rests d n m (λ x o. Rest d m x o k)
+rests_open d n m k h = rw (le-leb n m h) refl
+
+rests_none : (d n m : ℕ) (k : Begun → ℕ → Steps) → m < n → rests d n (suc m) k ≡ k
+rests_none d n m k h = rw (lt-leb n m h) refl
+
+lay_rests : (d n : ℕ) (k : Begun → ℕ → Steps) → lay d n k ≡ rests d 0 n k
+lay_rests d zero k = refl
+lay_rests d (suc n) k = lay_rests d n (λ x o. Rest d n x o k) ∙ sym (rests_open d 0 n k (omega arith))
+
+-- a level begins with an operand
+pub level_begins : (end d n o : ℕ) (k : Begun → ℕ → Steps) (s : List Spanned) → run end (Level d n o k) s ≡ run end (Level d 0 o (rests d 0 n k)) s
 unfolding run scan finish feed
-level_opens end d n m o k [] e = refl
-level_opens end d n m o k (t ∷ ts) e = rw e refl
+level_begins end d n o k [] = refl
+level_begins end d n o k (t ∷ ts) = rw (lay_rests d n k) refl
 
--- behind an operator of a chain more of them may follow
-pub top_rest : (d n m : ℕ) (k : Begun → ℕ → Steps) → n ≢ 2 → m ≡ n + 1 → top d m k ≡ (λ x o. Rest d n x o k)
-top_rest d zero m k other e = rw e refl
-top_rest d (suc zero) m k other e = rw e refl
-top_rest d (suc (suc zero)) m k other e = absurd (other refl)
-top_rest d (suc (suc (suc n))) m k other e = let more : m ≡ suc (suc (suc (suc n))) = omega (arith, e) in rw more refl
+abbrev WhereNo : ℕ → List Spanned → Type 0
+WhereNo n [] = Unit {0}
+WhereNo n (t ∷ ts) = operator_at n t.token ≡ None
 
-pub no_operator : (end d n o : ℕ) (x : Begun) (k : Begun → ℕ → Steps) (s : List Spanned) → s ≡ [] → run end (Rest d n x o k) s ≡ run end (k x o) s
-unfolding run scan finish
-no_operator end d n o x k s e = rw e refl
+no_rest : (end d n o : ℕ) (x : Begun) (k : Begun → ℕ → Steps) (s : List Spanned) → WhereNo n s → run end (Rest d n x o k) s ≡ run end (k x o) s
+unfolding run scan feed finish
+no_rest end d n o x k [] h = refl
+no_rest end d n o x k (t ∷ ts) h = rw h refl
 
-pub other_token : (end d n o : ℕ) (x : Begun) (k : Begun → ℕ → Steps) (s ts : List Spanned) (t : Spanned) → s ≡ t ∷ ts → operator_at n t.token ≡ None → run end (Rest d n x o k) s ≡ run end (k x o) s
+-- where no operator of these tiers comes next all these rests are passed
+rests_passed : (end d n m o : ℕ) (x : Begun) (k : Begun → ℕ → Steps) (s : List Spanned) → ((i : ℕ) → n ≤ i → i < m → WhereNo i s) → run end (rests d n m k x o) s ≡ run end (k x o) s
+rests_passed end d n zero o x k s none = refl
+rests_passed end d n (suc m) o x k s none = go (nat_le n m) refl (rests_passed end d n m o x (λ x o. Rest d m x o k) s (λ i from below. none i from (omega (arith, below)))) where
+  go : (b : Bool) → nat_le n m ≡ b → run end (rests d n m (λ x o. Rest d m x o k) x o) s ≡ run end (Rest d m x o k) s → run end (rests d n (suc m) k x o) s ≡ run end (k x o) s
+  go false is past = rw (rests_none d n m k (leb-false n m is)) refl
+  go true is past =
+      let h : n ≤ m = leb-true n m is in
+      rw (rests_open d n m k h) (past ∙ no_rest end d m o x k s (none m h (omega arith)))
+
+-- the rests from a tier on, where the operators that come next are of no tighter one
+rests_from : (end d n m i o : ℕ) (x : Begun) (k : Begun → ℕ → Steps) (s : List Spanned) → n ≤ i → i < m → ((j : ℕ) → j < i → WhereNo j s) → run end (rests d n m k x o) s ≡ run end (Rest d i x o (rests d (suc i) m k)) s
+rests_from end d n zero i o x k s from below none = absurd (omega (arith, below))
+rests_from end d n (suc m) i o x k s from below none = go (nat_eq i m) refl (rests_from end d n m i o x (λ x o. Rest d m x o k) s from) where
+  go : (b : Bool) → nat_eq i m ≡ b → (i < m → ((j : ℕ) → j < i → WhereNo j s) → run end (rests d n m (λ x o. Rest d m x o k) x o) s ≡ run end (Rest d i x o (rests d (suc i) m (λ x o. Rest d m x o k))) s)
+      → run end (rests d n (suc m) k x o) s ≡ run end (Rest d i x o (rests d (suc i) (suc m) k)) s
+  go true is past =
+      let e : i ≡ m = eqb-true i m is in
+      let none_left : m < suc i = omega (arith, e) in
+      rw (rests_open d n m k (omega (arith, from, below)), rests_none d (suc i) m k none_left, e)
+      (rests_passed end d n m o x (λ x o. Rest d m x o k) s (λ j from below. none j (omega (arith, below, e))))
+  go false is past =
+      let other : i ≢ m = eqb-false i m is in
+      let lower : i < m = omega (arith, below, other) in
+      rw (rests_open d n m k (omega (arith, from, below)), rests_open d (suc i) m k lower) (past lower none)
+
+rests_empty : (d n m : ℕ) (k : Begun → ℕ → Steps) → m ≤ n → rests d n m k ≡ k
+rests_empty d n zero k h = refl
+rests_empty d n (suc m) k h = rests_none d n m k (omega (arith, h))
+
+rests_open_first : (d n m : ℕ) (k : Begun → ℕ → Steps) → n < m → rests d n m k ≡ (λ x o. Rest d n x o (rests d (suc n) m k))
+rests_open_first d n zero k below = absurd (omega (arith, below))
+rests_open_first d n (suc m) k below = go (nat_eq n m) refl (rests_open_first d n m (λ x o. Rest d m x o k)) where
+  go : (b : Bool) → nat_eq n m ≡ b → (n < m → rests d n m (λ x o. Rest d m x o k) ≡ (λ x o. Rest d n x o (rests d (suc n) m (λ x o. Rest d m x o k)))) → rests d n (suc m) k ≡ (λ x o. Rest d n x o (rests d (suc n) (suc m) k))
+  go true is first =
+      let e : n ≡ m = eqb-true n m is in
+      let none_left : m < suc n = omega (arith, e) in
+      rw (rests_open d n m k (omega (arith, below)), rests_none d (suc n) m k none_left, rests_empty d n m (λ x o. Rest d m x o k) (omega (arith, e)), e) refl
+  go false is first =
+      let other : n ≢ m = eqb-false n m is in
+      let lower : n < m = omega (arith, below, other) in
+      rw (rests_open d n m k (omega (arith, below)), rests_open d (suc n) m k lower) (first lower)
+
+-- behind an operator and its right operand come the rests from its tier on, but behind a comparison those of the next one
+rests_behind : (d n m : ℕ) (k : Begun → ℕ → Steps) → n < m → top d (n + 1) (rests d (suc n) m k) ≡ rests d (tier_behind n) m k
+rests_behind d zero m k below = sym (rests_open_first d 0 m k below)
+rests_behind d (suc zero) m k below = sym (rests_open_first d 1 m k below)
+rests_behind d (suc (suc zero)) m k below = refl
+rests_behind d (suc (suc (suc n))) m k below = rw (one_more (suc (suc (suc n)))) (sym (rests_open_first d (suc (suc (suc n))) m k below))
+
+-- an operator of these tiers is this one
+record Within (n m : ℕ) (found : Option BinOp) (op : BinOp) : Type 0 where
+  is : found ≡ Some op
+  from : n ≤ tier op
+  below : tier op < m
+
+is_within : (n m : ℕ) (found : Option BinOp) (op : BinOp) → between n m found ≡ Some op → Within n m found op
+is_within n m None op e = absurd cc
+is_within n m (Some p) op e = go (nat_le n (tier p)) refl (nat_lt (tier p) m) refl where
+  go : (b : Bool) → nat_le n (tier p) ≡ b → (c : Bool) → nat_lt (tier p) m ≡ c → Within n m (Some p) op
+  go false from c below = let none : between n m (Some p) ≡ None = rw from refl in absurd cc
+  go true from false below = let none : between n m (Some p) ≡ None = rw (from, below) refl in absurd cc
+  go true from true below =
+      let some : between n m (Some p) ≡ Some p = rw (from, below) refl in
+      let same : p ≡ op = cc in
+      record { is = ap (λ q. Some q) same; from = omega (arith, leb-true n (tier p) from, ap tier same); below = omega (arith, ltb-true (tier p) m below, ap tier same) }
+
+no_tier : (n m : ℕ) (found : Option BinOp) → between n m found ≡ None → (i : ℕ) → n ≤ i → i < m → of_tier i found ≡ None
+no_tier n m None e i from below = refl
+no_tier n m (Some op) e i from below = go (nat_eq (tier op) i) refl where
+  go : (b : Bool) → nat_eq (tier op) i ≡ b → of_tier i (Some op) ≡ None
+  go false is = rw is refl
+  go true is =
+      let same : tier op ≡ i = eqb-true (tier op) i is in
+      let some : between n m (Some op) ≡ Some op = rw (le-leb n (tier op) (omega (arith, same, from)), lt-ltb (tier op) m (omega (arith, same, below))) refl in
+      absurd cc
+
+other_tier : (op : BinOp) (i : ℕ) → i < tier op → of_tier i (Some op) ≡ None
+other_tier op i h = go (nat_eq (tier op) i) refl where
+  go : (b : Bool) → nat_eq (tier op) i ≡ b → of_tier i (Some op) ≡ None
+  go false is = rw is refl
+  go true is = absurd (omega (arith, h, eqb-true (tier op) i is))
+
+own_tier : (op : BinOp) → of_tier (tier op) (Some op) ≡ Some op
+own_tier op = rw (eq-eqb (tier op) (tier op) refl) refl
+
+pub no_operator : (end d n m o : ℕ) (x : Begun) (k : Begun → ℕ → Steps) (s : List Spanned) → s ≡ [] → run end (rests d n m k x o) s ≡ run end (k x o) s
+no_operator end d n m o x k s e = rests_passed end d n m o x k s (λ i _ _. rw e tt)
+
+pub other_token : (end d n m o : ℕ) (x : Begun) (k : Begun → ℕ → Steps) (s ts : List Spanned) (t : Spanned) → s ≡ t ∷ ts → between n m (operator_in t.token) ≡ None → run end (rests d n m k x o) s ≡ run end (k x o) s
+other_token end d n m o x k s ts t e h = rests_passed end d n m o x k s (λ i from below. rw e (no_tier n m (operator_in t.token) h i from below))
+
+operator_reached : (end d n m o : ℕ) (x : Begun) (k : Begun → ℕ → Steps) (s ts : List Spanned) (t : Spanned) (op : BinOp) → s ≡ t ∷ ts → Within n m (operator_in t.token) op → run end (rests d n m k x o) s ≡ run end (Rest d (tier op) x o (rests d (suc (tier op)) m k)) s
+operator_reached end d n m o x k s ts t op e w = rests_from end d n m (tier op) o x k s w.from w.below (λ j lower. rw (e, w.is) (other_tier op j lower))
+
+past_here : (end d n o : ℕ) (x : Begun) (k : Begun → ℕ → Steps) (s ts : List Spanned) (t : Spanned) (op : BinOp) → s ≡ t ∷ ts → operator_at n t.token ≡ Some op → 64 ≤ o → run end (Rest d n x o k) s ≡ refused t.at TooMany
 unfolding run scan feed
-other_token end d n o x k s ts t e h = rw (e, h) refl
+past_here end d n o x k s ts t op e h past = rw (e, h, lt-ltb 64 (suc o) (omega arith)) refl
 
-pub operator_past : (end d n o : ℕ) (x : Begun) (k : Begun → ℕ → Steps) (s ts : List Spanned) (t : Spanned) (op : BinOp) → s ≡ t ∷ ts → operator_at n t.token ≡ Some op → 64 ≤ o → run end (Rest d n x o k) s ≡ refused t.at TooMany
-unfolding run scan feed
-operator_past end d n o x k s ts t op e h past = rw (e, h, lt-ltb 64 (suc o) (omega arith)) refl
-
-pub operator_next : (end end' d n o o' : ℕ) (x : Begun) (k : Begun → ℕ → Steps) (s ts : List Spanned) (t : Spanned) (op : BinOp) → end' ≡ end → o' ≡ o + 1 → s ≡ t ∷ ts → operator_at n t.token ≡ Some op → o < 64
+next_here : (end end' d n o o' : ℕ) (x : Begun) (k : Begun → ℕ → Steps) (s ts : List Spanned) (t : Spanned) (op : BinOp) → end' ≡ end → o' ≡ o + 1 → s ≡ t ∷ ts → operator_at n t.token ≡ Some op → o < 64
     → run end (Rest d n x o k) s ≡ run end' (Level d n o' (λ y o. top d (n + 1) k (begun_binary op x y) o)) ts
 unfolding run scan feed
-operator_next end end' d n o o' x k s ts t op e more is h within = rw (is, h, e, more, le-ltb 64 (suc o) (omega arith), one_more o, one_more n) refl
+next_here end end' d n o o' x k s ts t op e more is h within = rw (is, h, e, more, le-ltb 64 (suc o) (omega arith), one_more o, one_more n) refl
+
+pub operator_past : (end d n m o : ℕ) (x : Begun) (k : Begun → ℕ → Steps) (s ts : List Spanned) (t : Spanned) (op : BinOp) → s ≡ t ∷ ts → between n m (operator_in t.token) ≡ Some op → 64 ≤ o → run end (rests d n m k x o) s ≡ refused t.at TooMany
+operator_past end d n m o x k s ts t op e h past =
+    let w = is_within n m (operator_in t.token) op h in
+    operator_reached end d n m o x k s ts t op e w ∙ past_here end d (tier op) o x (rests d (suc (tier op)) m k) s ts t op e (rw w.is (own_tier op)) past
+
+pub operator_next : (end end' d n m o o' : ℕ) (x : Begun) (k : Begun → ℕ → Steps) (s ts : List Spanned) (t : Spanned) (op : BinOp) → end' ≡ end → o' ≡ o + 1 → s ≡ t ∷ ts → between n m (operator_in t.token) ≡ Some op → o < 64
+    → run end (rests d n m k x o) s ≡ run end' (Level d (tier op) o' (λ y o. rests d (tier_behind (tier op)) m k (begun_binary op x y) o)) ts
+operator_next end end' d n m o o' x k s ts t op e more is h within =
+    let w = is_within n m (operator_in t.token) op h in
+    operator_reached end d n m o x k s ts t op is w ∙ next_here end end' d (tier op) o o' x (rests d (suc (tier op)) m k) s ts t op e more is (rw w.is (own_tier op)) within
+    ∙ ap (λ f. run end' (Level d (tier op) o' (λ y o. f (begun_binary op x y) o)) ts) (rests_behind d (tier op) m k w.below)
 
 -- ---- repetitions
 

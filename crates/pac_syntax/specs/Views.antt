@@ -1,5 +1,5 @@
 -- What the parser's parts say of the tokens that are left.
-use Rattle.std.specs.Prelude.{◌≡◌, ℕ, ℤ, List, [], ◌∷◌, Bool, true, false, nat_le, Option, Some, None, Result, Vec}
+use Rattle.std.specs.Prelude.{◌≡◌, ℕ, zero, suc, ℤ, List, [], ◌∷◌, Bool, true, false, nat_le, nat_lt, if◌then◌else◌, Option, Some, None, Result, Vec}
 use Rattle.std.specs.Global.{Global}
 use Rattle.pac_base.specs.Refusals.{Gives}
 use Rattle.pac_value.specs.declared.values.Ty.{Ty}
@@ -16,8 +16,9 @@ use Rattle.pac_syntax.specs.declared.parse.parser.Operand.{Operand}
 use Rattle.pac_syntax.specs.declared.parse.parser.Parser.{Parser}
 use Rattle.pac_base.specs.declared.refusal.Refusal.{Refusal}
 use Rattle.pac_tokens.specs.declared.fault.Fault.{Fault}
-use Rattle.pac_syntax.specs.Grammar.{Role, ColumnName, ParamName}
-use Rattle.pac_syntax.specs.Machine.{Steps, run, Begun, is_mark, name_in, type_of_token, literal_in, literal_at}
+use Rattle.pac_value.specs.declared.expr.BinOp.{BinOp}
+use Rattle.pac_syntax.specs.Grammar.{Role, ColumnName, ParamName, tier}
+use Rattle.pac_syntax.specs.Machine.{Steps, Rest, run, Begun, is_mark, name_in, type_of_token, literal_in, literal_at}
 
 -- the tokens begin with this word or sign
 pub record Begins (w : Token) (at : ℕ) (ts rest : List Spanned) : Type 0 where
@@ -94,6 +95,21 @@ limit_of Param = 16
 -- an operand in the reading
 abbrev pub begun_at : Operand → Begun
 begun_at x = record { from = x.from; expr = x.expr }
+
+-- the operator, where its tier is from one on and below a level
+abbrev pub between : ℕ → ℕ → Option BinOp → Option BinOp
+between n m None = None
+between n m (Some op) = if nat_le n (tier op) then (if nat_lt (tier op) m then Some op else None) else None
+
+-- the tightest tier whose operators may follow behind an operator of a tier and its right operand
+abbrev pub tier_behind : ℕ → ℕ
+tier_behind (suc (suc zero)) = 3
+tier_behind n = n
+
+-- the rests of the tiers from one on and below a level, from the tightest on
+abbrev pub rests : ℕ → ℕ → ℕ → (Begun → ℕ → Steps) → Begun → ℕ → Steps
+rests d n zero k = k
+rests d n (suc m) k = if nat_le n m then rests d n m (λ x o. Rest d m x o k) else k
 
 -- whether a statement that begins with this word is a conditional in too many others
 abbrev pub is_too_deep : ℕ → StatementWord → Bool

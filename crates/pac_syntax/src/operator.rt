@@ -2,6 +2,7 @@
 ghost use Rattle.std.specs.Prelude.{◌≡◌};
 ghost use Rattle.pac_syntax.specs.Grammar.{sign_of, tier};
 ghost use Rattle.pac_syntax.specs.Machine.{operator_of};
+ghost use Rattle.pac_syntax.specs.Views.{tier_behind};
 
 use pac_tokens::Symbol;
 use pac_value::BinOp;
@@ -62,5 +63,15 @@ pub fn tier_of(op: BinOp) -> u8
         BinOp::Eq | BinOp::Ne | BinOp::Lt | BinOp::Le | BinOp::Gt | BinOp::Ge => COMPARISONS,
         BinOp::And => 3,
         BinOp::Or => 4,
+    }
+}
+
+/// The tightest tier whose operators may follow behind an operator of a tier and its right operand.
+pub fn tier_behind(tier: u8) -> u8
+    ensures { result ≡ tier_behind tier }
+{
+    match tier {
+        COMPARISONS => COMPARISONS + 1,
+        other => other,
     }
 }

@@ -1,8 +1,9 @@
 // Reads expressions.
 ghost use Rattle.std.specs.Prelude.{◌≡◌, ◌≢◌, ◌<◌, ◌≤◌, ◌+◌, ℕ, zero, length, OnOk, IfOk, IfErr, IfSome};
 ghost use Rattle.pac_base.specs.Refusals.{Gives, OkUnlessMemory};
-ghost use Rattle.pac_syntax.specs.Machine.{Steps, Begun, Level, Rest, begun_binary, top, operator_at, want_expr, negation_steps, paren_steps, run, either};
-ghost use Rattle.pac_syntax.specs.Views.{begun_at, IsNot, Goes};
+ghost use Rattle.pac_syntax.specs.Machine.{Steps, Begun, Level, begun_binary, operator_in, want_expr, negation_steps, paren_steps, run, either};
+ghost use Rattle.pac_syntax.specs.Grammar.{tier as tier_of};
+ghost use Rattle.pac_syntax.specs.Views.{begun_at, between, rests, tier_behind, IsNot, Goes};
 ghost use Rattle.pac_tokens.specs.declared.token.Token.TheVariants as token;
 ghost use Rattle.pac_tokens.specs.declared.token.Symbol.TheVariants as symbol;
 ghost use Rattle.pac_tokens.specs.declared.fault.FaultKind.TheVariants.{TooMany};
@@ -10,7 +11,7 @@ ghost use Rattle.pac_base.specs.declared.refusal.Refusal.TheVariants as error;
 ghost use Rattle.pac_syntax.specs.declared.tree.ExprNode.{ExprNode as AnExprNode};
 
 use super::parser::{Operand, Parser, split};
-use crate::operator::{COMPARISONS, operator_by, tier_of};
+use crate::operator::{operator_by, tier_behind, tier_of};
 use crate::tree::ExprNode;
 use pac_base::Boxed;
 use pac_tokens::{Fault, FaultKind, Symbol, SyntaxError, Token};
@@ -23,16 +24,19 @@ const MAX_PARENS: u8 = 16;
 // The level of any expression.
 const EXPRESSION: u8 = 5;
 
-// The operator of a tier that a token is.
-fn operator_of_tier(tier: u8, token: &Token) -> Option<BinOp>
-    ensures { result ≡ operator_at tier token.now }
+// The operator that a token is, where its tier is from this one on and below a level.
+fn operator_between(tier: u8, level: u8, token: &Token) -> Option<BinOp>
+    ensures { result ≡ between tier level (operator_in token.now) }
 {
     let Token::Symbol(sign) = token else {
         return None;
     };
-    match operator_by(*sign) {
-        Some(op) if tier_of(op) == tier => Some(op),
-        _ => None,
+    let op = operator_by(*sign)?;
+    let own = tier_of(op);
+    if tier <= own && own < level {
+        Some(op)
+    } else {
+        None
     }
 }
 
@@ -52,16 +56,16 @@ impl<'a> Parser<'a> {
         Ok(())
     }
 
-    // The operator of this tier that comes next, which is taken.
-    fn operator(&mut self, tier: u8) -> Result<Option<BinOp>, SyntaxError>
+    // The operator that comes next, where its tier is from this one on and below a level, which is taken.
+    fn operator(&mut self, tier: u8, level: u8) -> Result<Option<BinOp>, SyntaxError>
         ensures left { length self.new.rest.now ≤ length self.old.rest.now }
         ensures shorter { IfOk result (λ o. IfSome o (λ _. length self.new.rest.now < length self.old.rest.now)) }
-        ensures run { (d : ℕ) (x : Begun) (k : Begun → ℕ → Steps) → Gives (λ o. either o (run self.new.end (k x self.new.operators) self.new.rest.now) (λ op. run self.new.end (Level d tier self.new.operators (λ y o. top d (tier + 1) k (begun_binary op x y) o)) self.new.rest.now)) result (run self.old.end (Rest d tier x self.old.operators k) self.old.rest.now) }
+        ensures run { (d : ℕ) (x : Begun) (k : Begun → ℕ → Steps) → Gives (λ o. either o (run self.new.end (k x self.new.operators) self.new.rest.now) (λ op. run self.new.end (Level d (tier_of op) self.new.operators (λ y o. rests d (tier_behind (tier_of op)) level k (begun_binary op x y) o)) self.new.rest.now)) result (run self.old.end (rests d tier level k x self.old.operators) self.old.rest.now) }
     {
         let Some((first, rest)) = split(self.rest) else {
             return Ok(None);
         };
-        let Some(op) = operator_of_tier(tier, &first.token) else {
+        let Some(op) = operator_between(tier, level, &first.token) else {
             return Ok(None);
         };
         self.count(first.at)?;
@@ -133,48 +137,19 @@ impl<'a> Parser<'a> {
         })
     }
 
-    // An expression of a level.
+    // An expression of a level: an operand, and as many more as operators below the level join to it.
     #[cycle(expression)]
     fn level(&mut self, parens: u8, level: u8) -> Result<Operand, SyntaxError>
         ensures shorter { OnOk result (length self.new.rest.now < length self.old.rest.now) }
         ensures run { (k : Begun → ℕ → Steps) → Gives (λ x. run self.new.end (k (begun_at x) self.new.operators) self.new.rest.now) result (run self.old.end (Level parens level self.old.operators k) self.old.rest.now) }
     {
-        if level == 0 {
-            return self.unary(parens);
-        }
-        let tier = level - 1;
-        if tier == COMPARISONS {
-            return self.comparison(parens);
-        }
-        self.chain(parens, tier)
-    }
-
-    // A sum, or two and a comparison between them.
-    #[cycle(expression)]
-    fn comparison(&mut self, parens: u8) -> Result<Operand, SyntaxError>
-        ensures shorter { OnOk result (length self.new.rest.now < length self.old.rest.now) }
-        ensures run { (k : Begun → ℕ → Steps) → Gives (λ x. run self.new.end (k (begun_at x) self.new.operators) self.new.rest.now) result (run self.old.end (Level parens 3 self.old.operators k) self.old.rest.now) }
-    {
-        let left = self.level(parens, COMPARISONS)?;
-        let Some(op) = self.operator(COMPARISONS)? else {
-            return Ok(left);
-        };
-        let right = self.level(parens, COMPARISONS)?;
-        let whole = self.joined(op, left, right)?;
-        Ok(whole)
-    }
-
-    // An operand, and as many more as operators of a tier join to it, from the left.
-    #[cycle(expression)]
-    fn chain(&mut self, parens: u8, tier: u8) -> Result<Operand, SyntaxError>
-        requires { tier ≢ 2 }
-        ensures shorter { OnOk result (length self.new.rest.now < length self.old.rest.now) }
-        ensures run { (k : Begun → ℕ → Steps) → Gives (λ x. run self.new.end (k (begun_at x) self.new.operators) self.new.rest.now) result (run self.old.end (Level parens (tier + 1) self.old.operators k) self.old.rest.now) }
-    {
-        let mut left = self.level(parens, tier)?;
-        while let Some(op) = self.operator(tier)? {
-            let right = self.level(parens, tier)?;
+        let mut left = self.unary(parens)?;
+        let mut tier = 0;
+        while let Some(op) = self.operator(tier, level)? {
+            let own = tier_of(op);
+            let right = self.level(parens, own)?;
             left = self.joined(op, left, right)?;
+            tier = tier_behind(own);
         }
         Ok(left)
     }

@@ -1,8 +1,6 @@
-use Rattle.std.proofs.Common.{◌≡◌, suc, ◌+◌, ◌-◌, ◌∙◌, refl, sym, ap, arith}
+use Rattle.std.proofs.Common.{◌∙◌, ap}
 use Rattle.std.proofs.lemmas.Result.{err_from_is_err_and}
-use Rattle.pac_syntax.specs.Machine.{Level, run}
-use Rattle.pac_syntax.specs.Views.{begun_at}
-use Rattle.pac_syntax.proofs.Stepping.{level_opens, negation_next, negation_past, paren_next, paren_past, fails_along, gives_along}
+use Rattle.pac_syntax.proofs.Stepping.{level_begins, negation_next, negation_past, paren_next, paren_past, fails_along, gives_along}
 use Rattle.pac_syntax.proofs.parse.parser.Parser.+expression.Goals as goal
 
 -- ---- a name, a literal, a negation or parentheses
@@ -36,44 +34,10 @@ unary-returns-in-Some-takes_symbol-clause-run t c = λ k.
 
 -- ---- levels
 
-pub level-returns-clause-run : goal.level-returns-clause-run
-level-returns-clause-run t c =
-    let e : c.args.level ≡ c.args.level - 1 + 1 = omega arith in
-    λ k. gives_along _ c.chain.result _ _ (ap (λ n. run c.args.self.now.end (Level c.args.parens n c.args.self.now.operators k) c.args.self.now.rest.now) e) (c.chain.ensures.run k)
-
-pub comparison-returns-in_err-left-clause-run : goal.comparison-returns-in_err-left-clause-run
-comparison-returns-in_err-left-clause-run t c =
+pub level-returns-in_err-left-clause-run : goal.level-returns-in_err-left-clause-run
+level-returns-in_err-left-clause-run t c =
     let p = err_from_is_err_and c.from_residual.result c.from_residual.ensures.1 in
-    λ k. rw (p.1, p.2) (fails_along _ _ _ (level_opens _ _ 2 3 _ k _ refl) (c.in_err-left.ensures.run _))
+    λ k. rw (p.1, p.2) (fails_along _ _ _ (level_begins _ _ _ _ k _) (c.in_err-left.ensures.run _))
 
-pub comparison-returns-in_err-op-clause-run : goal.comparison-returns-in_err-op-clause-run
-comparison-returns-in_err-op-clause-run t c =
-    let p = err_from_is_err_and c.from_residual-in_err-op.result c.from_residual-in_err-op.ensures.1 in
-    λ k. rw (p.1, p.2) (fails_along _ _ _ (level_opens _ _ 2 3 _ k _ refl ∙ c.in_ok-left.ensures.run _) (c.in_err-op.ensures.run c.args.parens (begun_at c.in_ok-left.left) k))
-
-pub comparison-returns-in_default-clause-run : goal.comparison-returns-in_default-clause-run
-comparison-returns-in_default-clause-run t c = λ k.
-    level_opens _ _ 2 3 _ k _ refl ∙ c.in_ok-left.ensures.run _ ∙ (rw c.in_default.is at c.in_ok-op.ensures.run c.args.parens (begun_at c.in_ok-left.left) k)
-
-pub comparison-returns-in_err-right-clause-run : goal.comparison-returns-in_err-right-clause-run
-comparison-returns-in_err-right-clause-run t c =
-    let p = err_from_is_err_and c.from_residual-in_err-right.result c.from_residual-in_err-right.ensures.1 in
-    λ k. rw (p.1, p.2) (fails_along _ _ _
-    (level_opens _ _ 2 3 _ k _ refl ∙ c.in_ok-left.ensures.run _ ∙ (rw c.in-Some.is at c.in_ok-op.ensures.run c.args.parens (begun_at c.in_ok-left.left) k))
-    (c.in_err-right.ensures.run _))
-
-pub comparison-returns-clause-run : goal.comparison-returns-clause-run
-comparison-returns-clause-run t c = λ k.
-    level_opens _ _ 2 3 _ k _ refl ∙ c.in_ok-left.ensures.run _ ∙ (rw c.in-Some.is at c.in_ok-op.ensures.run c.args.parens (begun_at c.in_ok-left.left) k) ∙ c.in_ok-right.ensures.run _
-    ∙ ap (λ b. run c.level-2.new.self.end (k b c.level-2.new.self.operators) c.level-2.new.self.rest.now) (sym c.in_ok-whole.ensures)
-
-pub chain-returns-in_err-left-clause-run : goal.chain-returns-in_err-left-clause-run
-chain-returns-in_err-left-clause-run t c =
-    let p = err_from_is_err_and c.from_residual.result c.from_residual.ensures.1 in
-    let one : c.args.tier + 1 ≡ suc c.args.tier = omega arith in
-    λ k. rw (p.1, p.2) (fails_along _ _ _ (level_opens _ _ _ _ _ k _ one) (c.in_err-left.ensures.run _))
-
-pub chain-loop-left-init : goal.chain-loop-left-init
-chain-loop-left-init t c =
-    let one : c.args.tier + 1 ≡ suc c.args.tier = omega arith in
-    record { shorter = c.in_ok-left.ensures.shorter; run = λ k. level_opens _ _ _ _ _ k _ one ∙ c.in_ok-left.ensures.run _ }
+pub level-loop-left-init : goal.level-loop-left-init
+level-loop-left-init t c = record { shorter = c.in_ok-left.ensures.shorter; run = λ k. level_begins _ _ _ _ k _ ∙ c.in_ok-left.ensures.run _ }
