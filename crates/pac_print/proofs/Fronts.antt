@@ -15,7 +15,8 @@ use Rattle.pac_tokens.specs.declared.lexer.Before.{Before}
 use Rattle.pac_tokens.specs.declared.lexer.Before.TheVariants.{Value, Other, LiteralMinus}
 use Rattle.pac_tokens.specs.declared.fault.FaultKind.{FaultKind}
 use Rattle.pac_tokens.specs.declared.fault.Fault.{Fault}
-use Rattle.pac_tokens.specs.Spelling.{keyword_spelling, escaped, quoted}
+use Rattle.pac_tokens.specs.Spelling.{keyword_spelling}
+use Rattle.pac_value.specs.Literals.{escaped, quoted}
 use Rattle.pac_tokens.specs.Tokens.{is_blank, is_letter, is_digit, is_name, digits_value, next_digits, keyword_of, IsWord, IsDigits, gap, IsNext, EndsAt, after, Lexed}
 use Rattle.pac_tokens.specs.Lexing.{token_at, word_at, word_token, int_at, text_at, closed_text, closing_in, unescaped, symbol_at, symbol_front}
 use Rattle.pac_print.proofs.Decimals.{decimal_is_digits, decimal_has_value}

@@ -10,10 +10,12 @@ use Rattle.pac_tokens.specs.declared.lexer.Before.TheVariants.{Value, Other}
 use Rattle.pac_syntax.specs.declared.tree.NameNode.{NameNode}
 use Rattle.pac_syntax.specs.declared.tree.LiteralNode.{LiteralNode}
 use Rattle.pac_syntax.specs.declared.tree.ExprNode.{ExprNode, Literal, Binary, Not}
-use Rattle.pac_tokens.specs.Spelling.{symbol_spelling, quoted}
+use Rattle.pac_tokens.specs.Spelling.{symbol_spelling}
+use Rattle.pac_value.specs.Literals.{quoted}
 use Rattle.pac_tokens.specs.Tokens.{is_letter, is_name, IsWord, Lexed}
 use Rattle.pac_syntax.specs.Grammar.{LiteralForm, AnInt, ANegative, AText, ATrue, AFalse, ExprForm, ALiteral, AName, ANot, AParen, ABinary, sign_of, tier, left_level, AtLevel, literal_node, expr_place, expr_node, Plain, Operator, Marked, symbol_mark, counted, literal_before, expr_before, whole_before, tokens_of}
-use Rattle.pac_print.specs.Canonical.{value_text, Spelled, operand_text, binary_text, expr_step, spelled, expr_text}
+use Rattle.pac_print.specs.Canonical.{Spelled, operand_text, binary_text, expr_step, spelled, expr_text}
+use Rattle.pac_value.specs.Literals.{value_text}
 use Rattle.pac_print.specs.Unplaced.{unplaced_literal, unplaced_expr_step, unplaced_expr}
 use Rattle.pac_print.proofs.Decimals.{decimal_is_digits}
 use Rattle.pac_print.proofs.Fronts.{Stops, space_first, keyword_first, name_first, int_first, text_first}

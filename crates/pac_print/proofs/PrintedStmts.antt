@@ -11,7 +11,8 @@ use Rattle.pac_syntax.specs.declared.tree.StmtNode.TheVariants as stmt
 use Rattle.pac_syntax.specs.declared.tree.StmtNode.TheOpen as form
 use Rattle.pac_tokens.specs.Tokens.{is_name}
 use Rattle.pac_syntax.specs.Grammar.{LiteralForm, ExprForm, ValuesForm, NoValue, AValue, StmtsForm, ALet, ARead, AHas, APut, ASet, ADelete, AnAbort, literal_node, expr_node, value_nodes, stmt_nodes, Plain, Marked, keyword_mark, symbol_mark, name_mark, literal_before, whole_before, values_before, stmts_before}
-use Rattle.pac_print.specs.Canonical.{value_text, expr_text, further_text, cell_text, field_text, Indented, stmt_step, stmt_text}
+use Rattle.pac_print.specs.Canonical.{expr_text, further_text, cell_text, field_text, Indented, stmt_step, stmt_text}
+use Rattle.pac_value.specs.Literals.{value_text}
 use Rattle.pac_print.specs.Unplaced.{unplaced_name, unplaced_literal, unplaced_expr, unplaced_stmt_step, unplaced_stmt}
 use Rattle.pac_print.proofs.Fronts.{Stops}
 use Rattle.pac_syntax.proofs.NodeForms.{fold-Let, fold-Read, fold-Has, fold-Put, fold-Set, fold-Delete, fold-AbortIf}

@@ -16,7 +16,8 @@ use Rattle.pac_syntax.specs.declared.tree.StmtNode.TheFolds.{ind-StmtNode, map-S
 use Rattle.pac_syntax.specs.declared.tree.TableNode.{TableNode}
 use Rattle.pac_syntax.specs.declared.tree.ProcNode.{ProcNode}
 use Rattle.pac_syntax.specs.declared.tree.Tree.{Tree}
-use Rattle.pac_print.specs.Canonical.{value_text, Spelled, expr_step, spelled, expr_text, further_text, exprs_text, Indented, deeper, statement_lines, else_text, stmt_step, stmt_text, column_text, further_column_text, params_text, table_text, proc_text, canonical}
+use Rattle.pac_print.specs.Canonical.{Spelled, expr_step, spelled, expr_text, further_text, exprs_text, Indented, deeper, statement_lines, else_text, stmt_step, stmt_text, column_text, further_column_text, params_text, table_text, proc_text, canonical}
+use Rattle.pac_value.specs.Literals.{value_text}
 use Rattle.pac_print.specs.Unplaced.{unplaced_name, unplaced_literal, unplaced_column, unplaced_expr, unplaced_expr_step, unplaced_stmt, unplaced_stmt_step, unplaced_table, unplaced_proc, without_places}
 use Rattle.pac_syntax.proofs.NodeForms.{by_nodes, fold-Literal, fold-Name, fold-Binary, fold-Not, fold-Let, fold-Read, fold-Has, fold-Put, fold-Set, fold-Delete, fold-AbortIf, fold-If}
 

@@ -1,11 +1,8 @@
 -- The canonical text of a tree: a line for each table and each statement, and parentheses only where the levels of the
 -- grammar need them.
-use Rattle.std.specs.Prelude.{ℕ, suc, true, false, List, [], ◌∷◌, ◌++◌, codes, flat_map, map, nat_le, if◌then◌else◌}
-use Rattle.std.specs.Fmt.{signed_decimal}
+use Rattle.std.specs.Prelude.{ℕ, suc, List, [], ◌∷◌, ◌++◌, codes, flat_map, map, nat_le, if◌then◌else◌}
 use Rattle.pac_value.specs.declared.values.Ty.{Ty}
 use Rattle.pac_value.specs.declared.values.Ty.TheVariants as ty
-use Rattle.pac_value.specs.declared.values.Value.{Value}
-use Rattle.pac_value.specs.declared.values.Value.TheVariants as value
 use Rattle.pac_value.specs.declared.expr.BinOp.{BinOp}
 use Rattle.pac_syntax.specs.declared.tree.NameNode.{NameNode}
 use Rattle.pac_syntax.specs.declared.tree.ColumnNode.{ColumnNode}
@@ -18,17 +15,11 @@ use Rattle.pac_syntax.specs.declared.tree.StmtNode.TheFolds.{fold-StmtNode}
 use Rattle.pac_syntax.specs.declared.tree.TableNode.{TableNode}
 use Rattle.pac_syntax.specs.declared.tree.ProcNode.{ProcNode}
 use Rattle.pac_syntax.specs.declared.tree.Tree.{Tree}
-use Rattle.pac_tokens.specs.Spelling.{symbol_spelling, quoted}
+use Rattle.pac_tokens.specs.Spelling.{symbol_spelling}
+use Rattle.pac_value.specs.Literals.{value_text}
 use Rattle.pac_syntax.specs.Grammar.{sign_of, tier, left_level}
 
--- ---- values and types
-
--- a value as a literal: an int in decimal, a text in its quotes, `true` or `false`
-abbrev pub value_text : Value → List ℕ
-value_text (value.Int n) = signed_decimal n
-value_text (value.Text text) = quoted text
-value_text (value.Bool true) = codes "true"
-value_text (value.Bool false) = codes "false"
+-- ---- types
 
 -- no column, key or parameter of a tree that is read is a bool
 abbrev pub type_text : Ty → List ℕ

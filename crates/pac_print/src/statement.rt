@@ -1,46 +1,42 @@
 // Writes statements.
-ghost use Rattle.std.specs.Prelude.{◌≡◌, ◌++◌, map, OnOk, IfOk};
+ghost use Rattle.std.specs.Prelude.{◌≡◌, map, OnOk, IfOk};
+ghost use Rattle.pac_value.specs.Growth.{Grew};
 ghost use Rattle.pac_print.specs.Canonical.{cell_text, field_text, deeper, else_text, stmt_text, stmts_text};
 
-use crate::expression::{push_expr, push_exprs, push_value};
+use crate::expression::{push_expr, push_exprs};
 use pac_base::NoMemory;
 use pac_syntax::{ExprNode, LiteralNode, NameNode, StmtNode};
+use pac_value::push_value;
 use std::alloc::Global;
 
 pub fn push_name(out: &mut Vec<u8>, name: &NameNode) -> Result<(), NoMemory>
-    ensures { OnOk result (out.new.items ≡ out.old.items ++ name.now.name) }
+    ensures { OnOk result (Grew out.old.items out.new.items name.now.name) }
 {
     out.extend_from_slice(name.name.bytes())?;
     Ok(())
 }
 
 // `TABLE[KEY]`
-fn push_row(
-    alloc: Global,
-    out: &mut Vec<u8>,
-    table: &NameNode,
-    key: &ExprNode,
-) -> Result<(), NoMemory>
-    ensures { OnOk result (out.new.items ≡ out.old.items ++ cell_text table.now key.now) }
+fn push_row(out: &mut Vec<u8>, table: &NameNode, key: &ExprNode) -> Result<(), NoMemory>
+    ensures { OnOk result (Grew out.old.items out.new.items (cell_text table.now key.now)) }
 {
     push_name(out, table)?;
     out.extend_from_slice(b"[")?;
-    push_expr(alloc, out, key)?;
+    push_expr(out, key)?;
     out.extend_from_slice(b"]")?;
     Ok(())
 }
 
 // `TABLE[KEY].COLUMN`
 fn push_cell(
-    alloc: Global,
     out: &mut Vec<u8>,
     table: &NameNode,
     key: &ExprNode,
     column: &NameNode,
 ) -> Result<(), NoMemory>
-    ensures { OnOk result (out.new.items ≡ out.old.items ++ field_text table.now key.now column.now) }
+    ensures { OnOk result (Grew out.old.items out.new.items (field_text table.now key.now column.now)) }
 {
-    push_row(alloc, out, table, key)?;
+    push_row(out, table, key)?;
     out.extend_from_slice(b".")?;
     push_name(out, column)
 }
@@ -63,14 +59,14 @@ fn push_stmt(
     indent: &[u8],
     stmt: &StmtNode,
 ) -> Result<(), NoMemory>
-    ensures { OnOk result (out.new.items ≡ out.old.items ++ stmt_text stmt.now indent.now) }
+    ensures { OnOk result (Grew out.old.items out.new.items (stmt_text stmt.now indent.now)) }
 {
     match stmt {
         StmtNode::Let { name, value } => {
             out.extend_from_slice(b"let ")?;
             push_name(out, name)?;
             out.extend_from_slice(b" = ")?;
-            push_expr(alloc, out, value)?;
+            push_expr(out, value)?;
             out.extend_from_slice(b";")?;
         }
         StmtNode::Read {
@@ -83,23 +79,23 @@ fn push_stmt(
             out.extend_from_slice(b"read ")?;
             push_name(out, name)?;
             out.extend_from_slice(b" = ")?;
-            push_cell(alloc, out, table, key, column)?;
+            push_cell(out, table, key, column)?;
             out.extend_from_slice(b" default ")?;
-            push_value(alloc, out, &default.value)?;
+            push_value(out, &default.value)?;
             out.extend_from_slice(b";")?;
         }
         StmtNode::Has { name, table, key } => {
             out.extend_from_slice(b"has ")?;
             push_name(out, name)?;
             out.extend_from_slice(b" = ")?;
-            push_row(alloc, out, table, key)?;
+            push_row(out, table, key)?;
             out.extend_from_slice(b";")?;
         }
         StmtNode::Put { table, key, values } => {
             out.extend_from_slice(b"put ")?;
-            push_row(alloc, out, table, key)?;
+            push_row(out, table, key)?;
             out.extend_from_slice(b" = (")?;
-            push_exprs(alloc, out, values.as_slice())?;
+            push_exprs(out, values.as_slice())?;
             out.extend_from_slice(b");")?;
         }
         StmtNode::Set {
@@ -109,19 +105,19 @@ fn push_stmt(
             value,
         } => {
             out.extend_from_slice(b"set ")?;
-            push_cell(alloc, out, table, key, column)?;
+            push_cell(out, table, key, column)?;
             out.extend_from_slice(b" = ")?;
-            push_expr(alloc, out, value)?;
+            push_expr(out, value)?;
             out.extend_from_slice(b";")?;
         }
         StmtNode::Delete { table, key } => {
             out.extend_from_slice(b"delete ")?;
-            push_row(alloc, out, table, key)?;
+            push_row(out, table, key)?;
             out.extend_from_slice(b";")?;
         }
         StmtNode::AbortIf { test } => {
             out.extend_from_slice(b"abort if ")?;
-            push_expr(alloc, out, test)?;
+            push_expr(out, test)?;
             out.extend_from_slice(b";")?;
         }
         StmtNode::If {
@@ -131,7 +127,7 @@ fn push_stmt(
         } => {
             let inner = deeper(alloc, indent)?;
             out.extend_from_slice(b"if ")?;
-            push_expr(alloc, out, test)?;
+            push_expr(out, test)?;
             out.extend_from_slice(b" {\n")?;
             push_stmts(alloc, out, &inner, first.as_slice())?;
             push_else(alloc, out, indent, &inner, second.as_slice())?;
@@ -152,7 +148,7 @@ fn push_else(
     stmts: &[StmtNode],
 ) -> Result<(), NoMemory>
     requires { inner.now ≡ deeper indent.now }
-    ensures { OnOk result (out.new.items ≡ out.old.items ++ else_text (map stmt_text stmts.now) indent.now) }
+    ensures { OnOk result (Grew out.old.items out.new.items (else_text (map stmt_text stmts.now) indent.now)) }
 {
     if stmts.is_empty() {
         return Ok(());
@@ -170,7 +166,7 @@ pub fn push_stmts(
     indent: &[u8],
     stmts: &[StmtNode],
 ) -> Result<(), NoMemory>
-    ensures { OnOk result (out.new.items ≡ out.old.items ++ stmts_text indent.now stmts.now) }
+    ensures { OnOk result (Grew out.old.items out.new.items (stmts_text indent.now stmts.now)) }
 {
     for stmt in stmts {
         out.extend_from_slice(indent)?;

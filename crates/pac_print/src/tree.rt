@@ -1,5 +1,6 @@
 // Writes trees as their canonical texts.
-ghost use Rattle.std.specs.Prelude.{◌≡◌, ◌≤◌, ◌++◌, length, flat_map, OnOk, IfOk};
+ghost use Rattle.std.specs.Prelude.{◌≡◌, ◌≤◌, length, flat_map, OnOk, IfOk};
+ghost use Rattle.pac_value.specs.Growth.{Grew};
 ghost use Rattle.pac_print.specs.Canonical.{type_text, column_text, further_column_text, params_text, table_text, proc_text, canonical};
 ghost use Rattle.pac_print.specs.Unplaced.{without_places};
 ghost use Rattle.pac_print.specs.Unplaced.{ReadsButForPlaces};
@@ -13,7 +14,7 @@ use pac_value::Ty;
 use std::alloc::Global;
 
 fn push_type(out: &mut Vec<u8>, ty: Ty) -> Result<(), NoMemory>
-    ensures { OnOk result (out.new.items ≡ out.old.items ++ type_text ty) }
+    ensures { OnOk result (Grew out.old.items out.new.items (type_text ty)) }
 {
     match ty {
         Ty::Int => out.extend_from_slice(b"int")?,
@@ -25,7 +26,7 @@ fn push_type(out: &mut Vec<u8>, ty: Ty) -> Result<(), NoMemory>
 
 // A column or a parameter.
 fn push_column(out: &mut Vec<u8>, column: &ColumnNode) -> Result<(), NoMemory>
-    ensures { OnOk result (out.new.items ≡ out.old.items ++ column_text column.now) }
+    ensures { OnOk result (Grew out.old.items out.new.items (column_text column.now)) }
 {
     push_name(out, &column.name)?;
     out.extend_from_slice(b" ")?;
@@ -34,7 +35,7 @@ fn push_column(out: &mut Vec<u8>, column: &ColumnNode) -> Result<(), NoMemory>
 
 // Columns that others stand before.
 fn push_further(out: &mut Vec<u8>, columns: &[ColumnNode]) -> Result<(), NoMemory>
-    ensures { OnOk result (out.new.items ≡ out.old.items ++ flat_map further_column_text columns.now) }
+    ensures { OnOk result (Grew out.old.items out.new.items (flat_map further_column_text columns.now)) }
 {
     for column in columns {
         out.extend_from_slice(b", ")?;
@@ -44,7 +45,7 @@ fn push_further(out: &mut Vec<u8>, columns: &[ColumnNode]) -> Result<(), NoMemor
 }
 
 fn push_table(out: &mut Vec<u8>, table: &TableNode) -> Result<(), NoMemory>
-    ensures { OnOk result (out.new.items ≡ out.old.items ++ table_text table.now) }
+    ensures { OnOk result (Grew out.old.items out.new.items (table_text table.now)) }
 {
     out.extend_from_slice(b"table ")?;
     push_name(out, &table.name)?;
@@ -56,7 +57,7 @@ fn push_table(out: &mut Vec<u8>, table: &TableNode) -> Result<(), NoMemory>
 }
 
 fn push_params(out: &mut Vec<u8>, params: &[ColumnNode]) -> Result<(), NoMemory>
-    ensures { OnOk result (out.new.items ≡ out.old.items ++ params_text params.now) }
+    ensures { OnOk result (Grew out.old.items out.new.items (params_text params.now)) }
 {
     let Some((first, others)) = params.split_first() else {
         return Ok(());
@@ -66,7 +67,7 @@ fn push_params(out: &mut Vec<u8>, params: &[ColumnNode]) -> Result<(), NoMemory>
 }
 
 fn push_proc(alloc: Global, out: &mut Vec<u8>, proc: &ProcNode) -> Result<(), NoMemory>
-    ensures { OnOk result (out.new.items ≡ out.old.items ++ proc_text proc.now) }
+    ensures { OnOk result (Grew out.old.items out.new.items (proc_text proc.now)) }
 {
     let indent = deeper(alloc, b"")?;
     out.extend_from_slice(b"proc ")?;

@@ -16,7 +16,8 @@ use Rattle.pac_tokens.specs.declared.lexer.Before.{Before}
 use Rattle.pac_tokens.specs.declared.lexer.Before.TheVariants.{Value, Other, LiteralMinus}
 use Rattle.pac_tokens.specs.declared.fault.FaultKind.{FaultKind}
 use Rattle.pac_tokens.specs.declared.fault.FaultKind.TheVariants as kind
-use Rattle.pac_tokens.specs.Spelling.{symbol_spelling, escaped, quoted}
+use Rattle.pac_tokens.specs.Spelling.{symbol_spelling}
+use Rattle.pac_value.specs.Literals.{escaped, quoted}
 use Rattle.pac_tokens.specs.Tokens.{is_letter, is_digit, is_name, digits_value, keyword_of, IsWord, IsDigits, is_literal_minus, Spells, IsLongest, is_long_minus, IsNext}
 use Rattle.pac_tokens.specs.Lexing.{word_token, word_at, int_at, closing_in, unescaped, closed_text, text_at, symbol_of, or_first, symbol_front, symbol_at, token_at, IsFront}
 use Rattle.pac_tokens.proofs.Quoted.{Closed, closes, closed, text_of_front}

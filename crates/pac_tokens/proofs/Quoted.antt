@@ -7,7 +7,7 @@ use Rattle.std.proofs.lemmas.Bool.{eqb-true}
 use Rattle.std.proofs.lemmas.List.{drop_more}
 use Rattle.std.proofs.Math.Seq.{take-append_seam}
 use Rattle.pac_value.specs.Texts.{is_printable}
-use Rattle.pac_tokens.specs.Spelling.{escaped, escaped_byte, quoted}
+use Rattle.pac_value.specs.Literals.{escaped, escaped_byte, quoted}
 use Rattle.pac_tokens.specs.Lexing.{closing_in, unescaped}
 
 abbrev some : ℕ → Option ℕ

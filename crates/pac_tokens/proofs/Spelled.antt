@@ -12,7 +12,8 @@ use Rattle.pac_tokens.specs.declared.token.Token.{Token}
 use Rattle.pac_tokens.specs.declared.token.Token.TheVariants as token
 use Rattle.pac_tokens.specs.declared.token.TheConstants.{KEYWORDS, SYMBOLS}
 use Rattle.pac_tokens.specs.declared.lexer.Before.{Before}
-use Rattle.pac_tokens.specs.Spelling.{keyword_spelling, symbol_spelling, quoted}
+use Rattle.pac_tokens.specs.Spelling.{keyword_spelling, symbol_spelling}
+use Rattle.pac_value.specs.Literals.{quoted}
 use Rattle.pac_tokens.specs.Tokens.{is_letter, is_digit, is_name, is_literal_minus, IsWord, IsDigits, keyword_of, Spells}
 use Rattle.pac_tokens.specs.Lexing.{symbol_of}
 use Rattle.pac_tokens.proofs.Quoted.{quoted_once}

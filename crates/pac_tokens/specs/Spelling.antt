@@ -1,5 +1,5 @@
--- How reserved words, signs and texts are spelled.
-use Rattle.std.specs.Prelude.{ℕ, List, [], ◌∷◌, ◌++◌, codes, nat_eq, ◌||◌, if◌then◌else◌}
+-- How reserved words and signs are spelled.
+use Rattle.std.specs.Prelude.{ℕ, List, codes}
 use Rattle.pac_tokens.specs.declared.token.Keyword.{Keyword}
 use Rattle.pac_tokens.specs.declared.token.Keyword.TheVariants as keyword
 use Rattle.pac_tokens.specs.declared.token.Symbol.{Symbol}
@@ -53,17 +53,3 @@ symbol_spelling symbol.LessEqual = codes "<="
 symbol_spelling symbol.GreaterEqual = codes ">="
 symbol_spelling symbol.And = codes "&&"
 symbol_spelling symbol.Or = codes "||"
-
--- ---- texts
-
--- a byte of a text in its spelling: `"` and `\` have a `\` in front
-abbrev pub escaped_byte : ℕ → List ℕ
-escaped_byte b = if nat_eq b 34 || nat_eq b 92 then 92 ∷ b ∷ [] else b ∷ []
-
-abbrev pub escaped : List ℕ → List ℕ
-escaped [] = []
-escaped (b ∷ bs) = escaped_byte b ++ escaped bs
-
--- a text between its quotes
-abbrev pub quoted : List ℕ → List ℕ
-quoted text = 34 ∷ (escaped text ++ (34 ∷ []))

@@ -15,7 +15,8 @@ use Rattle.pac_tokens.specs.declared.lexer.Before.TheVariants.{Value, Other, Lit
 use Rattle.pac_tokens.specs.declared.fault.FaultKind.{FaultKind}
 use Rattle.pac_tokens.specs.declared.fault.FaultKind.TheVariants as kind
 use Rattle.pac_tokens.specs.declared.fault.Fault.{Fault}
-use Rattle.pac_tokens.specs.Spelling.{keyword_spelling, symbol_spelling, quoted}
+use Rattle.pac_tokens.specs.Spelling.{keyword_spelling, symbol_spelling}
+use Rattle.pac_value.specs.Literals.{quoted}
 
 -- ---- bytes
 

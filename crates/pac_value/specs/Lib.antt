@@ -7,3 +7,5 @@ pub mod Values
 pub mod Keys
 pub mod Expressions
 pub mod State
+pub mod Literals
+pub mod Growth

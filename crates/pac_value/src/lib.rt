@@ -1,5 +1,5 @@
 //! The data that every layer speaks of: names, texts, values, keys and rows, expressions and their values, and the
-//! order of cells in tables. Nothing here reads or writes anything, and only copies and maps take memory.
+//! order of cells in tables. Nothing here reads or writes a stream, and only copies, maps and texts that grow take memory.
 //!
 //! - [`Name`]: the name of a table, a column, a procedure or a variable, at most 32 bytes.
 //! - [`Text`]: at most 64 printable bytes.
@@ -7,6 +7,7 @@
 //!   a bool.
 //! - [`Env`]: the values of variables.
 //! - [`Expr`], [`BinOp`]: an expression; [`eval`] gives its value, or the [`Trap`] that stops it.
+//! - [`push_value`], [`push_key`], [`push_values`]: append values as literals to a text (`specs/Literals.antt`).
 //!
 //! What an expression is worth is defined over unbounded whole numbers in `specs/Expressions.antt`: a result that
 //! leaves 64 bits is the trap Overflow, a zero divisor the trap DivZero, `/` rounds toward zero and `a % b` is what `/`
@@ -17,6 +18,7 @@
 mod env;
 mod evaluation;
 mod expr;
+mod literals;
 mod name;
 mod row;
 #[cfg(test)]
@@ -27,6 +29,7 @@ mod values;
 pub use env::Env;
 pub use evaluation::eval;
 pub use expr::{BinOp, Expr, Trap};
+pub use literals::{push_key, push_value, push_values};
 pub use name::Name;
 pub use row::{Row, RowRule};
 pub use text::Text;

@@ -5,7 +5,10 @@ ghost use Rattle.pac_value.specs.declared.values.Ty.TheVariants.{Int as IntTy};
 ghost use Rattle.pac_value.specs.declared.values.Value.TheVariants.{Int as AnInt, Bool as Truth};
 ghost use Rattle.pac_value.specs.declared.expr.Expr.{Lit, Bin};
 
-use crate::{BinOp, Env, Expr, Name, Row, Text, Trap, Value, eval};
+use crate::{
+    BinOp, Env, Expr, Key, Name, Row, Text, Trap, Ty, Value, eval, push_key, push_value,
+    push_values,
+};
 use pac_base::{Boxed, Exact, NoMemory, Same};
 use std::alloc::Global;
 use std::test::Fail;
@@ -136,6 +139,47 @@ fn copies_are_equal(rt: HostRuntime) -> Result<(), Fail> {
     assert!(rt; !expr.same(&int(5)));
     let row = Row::of(vec![in alloc; Value::Int(1), Value::Int(2)]?);
     assert!(rt; row.copy(alloc)?.same(&row));
+    Ok(())
+}
+
+#[test]
+fn copies_of_small_things_are_equal(rt: HostRuntime) -> Result<(), Fail> {
+    let alloc = rt.alloc();
+    let text = Text::from_bytes(b"a text").ok_or("no text")?;
+    assert_eq!(rt; text.copy(alloc)?, text);
+    let name = Name::from_bytes(b"name").ok_or("no name")?;
+    assert_eq!(rt; name.copy(alloc)?, name);
+    assert_eq!(rt; Ty::Text.copy(alloc)?, Ty::Text);
+    assert_eq!(rt; BinOp::Rem.copy(alloc)?, BinOp::Rem);
+    assert_eq!(rt; Trap::DivZero.copy(alloc)?, Trap::DivZero);
+    for value in [Value::Int(-7), Value::Text(text), Value::Bool(true)] {
+        assert_eq!(rt; value.copy(alloc)?, value);
+    }
+    for key in [Key::Int(-7), Key::Text(text)] {
+        assert_eq!(rt; key.copy(alloc)?, key);
+    }
+    Ok(())
+}
+
+#[test]
+fn writes_literals(rt: HostRuntime) -> Result<(), Fail> {
+    let text = Text::from_bytes(b"a\"b\\").ok_or("no text")?;
+    let mut out = Vec::new(rt.alloc());
+    push_key(&mut out, &Key::Int(i64::MIN))?;
+    out.push(b' ')?;
+    push_key(&mut out, &Key::Text(text))?;
+    out.push(b' ')?;
+    push_value(&mut out, &Value::Int(0))?;
+    out.push(b' ')?;
+    push_values(&mut out, &[])?;
+    push_values(
+        &mut out,
+        &[Value::Bool(true), Value::Text(text), Value::Bool(false)],
+    )?;
+    assert_eq!(rt;
+        out.as_slice(),
+        b"-9223372036854775808 \"a\\\"b\\\\\" 0 true, \"a\\\"b\\\\\", false".as_slice()
+    );
     Ok(())
 }
 

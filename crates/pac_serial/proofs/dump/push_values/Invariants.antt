@@ -1,7 +1,0 @@
--- What is written, and what is left.
-use Rattle.std.proofs.Common.{◌≡◌, ◌++◌, drop, flat_map}
-use Rattle.pac_serial.specs.Dump.{further_literal, values_text}
-use Rattle.pac_serial.proofs.dump.push_values.Given as goal
-
-abbrev pub invariant-loop-value : goal.invariant-loop-value
-invariant-loop-value l = l.out.items ++ flat_map further_literal (drop l.value-index l.others) ≡ l.fn.out.items ++ values_text l.fn.values
