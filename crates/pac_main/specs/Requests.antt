@@ -1,6 +1,7 @@
 -- What a request line says.
 use Rattle.std.specs.Prelude.{◌≡◌, ◌≤◌, ℕ, List, [], ◌∷◌, length, Option, Some, None}
 use Rattle.std.specs.List.{AllZip, flat_map}
+use Rattle.pac_main.specs.declared.limits.TheConstants.{MAX_LINE}
 use Rattle.pac_tokens.specs.declared.token.Token.{Token}
 use Rattle.pac_tokens.specs.declared.token.Spanned.{Spanned}
 use Rattle.pac_tokens.specs.Tokens.{IsLexed}
@@ -15,7 +16,7 @@ Says procs ts (Some call) = IsCall procs ts call
 
 -- the line has at most 4,096 bytes; it is empty but for white space and comment, or it is this call
 pub record IsLine (procs : List Proc) (line : List ℕ) (said : Option Call) : Type 0 where
-  pub short : length line ≤ 4096
+  pub short : length line ≤ MAX_LINE
   pub tokens : List Spanned
   pub lexed : IsLexed line tokens None
   pub says : Says procs (kinds tokens) said

@@ -2,6 +2,7 @@
 use Rattle.std.specs.Prelude.{◌≡◌, ◌⊎◌, ◌≤◌, ◌<◌, ◌+◌, ℕ, List, [], ◌∷◌, take, drop, length, Option, Some, None, MatchOption}
 use Rattle.pac_types.specs.Typing.{CatalogueState}
 use Rattle.pac_types.specs.CatalogueText.{HasCatalogue, IsCatalogueFault}
+use Rattle.pac_main.specs.declared.limits.TheConstants.{MAX_SCRIPT}
 use Rattle.pac_main.specs.declared.script.Script.{Script}
 use Rattle.pac_main.specs.declared.script_fault.ScriptFault.{ScriptFault}
 use Rattle.pac_main.specs.declared.script_fault.ScriptFault.TheVariants.{Catalogue, Refused}
@@ -31,7 +32,7 @@ text_behind text (Some at) = drop (at + 3) text
 -- the text is this script: it has at most 65,536 bytes, what stands before the first line `---` is the catalogue's text,
 -- and the lines behind are the calls
 pub record IsScript (text : List ℕ) (script : Script) : Type 0 where
-  pub short : length text ≤ 65536
+  pub short : length text ≤ MAX_SCRIPT
   pub mark : Option ℕ
   pub is_mark : MatchOption mark (HasNoMark text) (λ at. IsMark text at)
   pub parts : HasParts (text_before text mark) (text_behind text mark) script
@@ -47,7 +48,7 @@ IsPartsFault front Refused = (catalogue : CatalogueState) × HasCatalogue front 
 
 -- the text has at most 65,536 bytes, and this is told of its catalogue's text
 pub record HasPartsFault (text : List ℕ) (fault : ScriptFault) : Type 0 where
-  pub short : length text ≤ 65536
+  pub short : length text ≤ MAX_SCRIPT
   pub front : List ℕ
   pub is_front : IsCatalogueText text front
   pub first : IsPartsFault front fault
@@ -56,7 +57,7 @@ pub record HasPartsFault (text : List ℕ) (fault : ScriptFault) : Type 0 where
 -- the text is too long, or has a catalogue, just that it is refused.
 abbrev pub IsRefusal : List ℕ → ScriptFault → Type 0
 IsRefusal text (Catalogue fault) = HasPartsFault text (Catalogue fault)
-IsRefusal text Refused = (65536 < length text) ⊎ HasPartsFault text Refused
+IsRefusal text Refused = (MAX_SCRIPT < length text) ⊎ HasPartsFault text Refused
 
 -- this is what is told of the text, and nothing else is
 pub record IsTheRefusal (text : List ℕ) (fault : ScriptFault) : Type 0 where

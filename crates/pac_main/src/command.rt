@@ -1,5 +1,5 @@
 // The commands, by the words of the command line.
-ghost use Rattle.std.specs.Prelude.{◌≡◌, ◌≢◌, ◌↔◌, ◌∷◌, ℕ, List, [], Option, IfOk, OnOk, OnErr, IfSome, IsErrOf, IsTrue, codes, map, ◌==◌, Ok, Err};
+ghost use Rattle.std.specs.Prelude.{◌≡◌, ◌≢◌, ◌↔◌, ◌∷◌, ℕ, List, [], Option, IfOk, OnOk, OnErr, IfSome, IsErrOf, IsTrue, ◌+◌, codes, map, ◌==◌, Ok, Err};
 ghost use Rattle.std.specs.List.{list_any, AllByRecursion};
 ghost use Rattle.std.specs.String.{string_bytes};
 ghost use Rattle.pac_outside.specs.Causes.{Rose};
@@ -13,7 +13,8 @@ ghost use Rattle.pac_main.specs.declared.script_fault.ScriptFault.{ScriptFault a
 ghost use Rattle.pac_main.specs.declared.stop.Stop.{Stop as AStop};
 ghost use Rattle.pac_main.specs.Inputs.{input_of_read, input_of_script};
 
-use crate::script::{MAX_SCRIPT, Script, read_script};
+use crate::limits::MAX_SCRIPT;
+use crate::script::{Script, read_script};
 use crate::script_fault::{ScriptError, ScriptFault};
 use crate::stop::Stop;
 use crate::tell::{WordsError, refuse_words, told};
@@ -63,7 +64,7 @@ fn read_input<I: Source>(alloc: Global, input: &mut I) -> Result<Script, InputEr
     ensures fit { IfOk result (λ script. AllByRecursion (FitsProcs script.catalogue.procs) script.calls) }
     ensures refused { (fault : AFault) → IsErrOf result (InputError.Script fault) → IsNoScript (I.left input.old) × IsRefusedAs (I.left input.old) fault }
     ensures input_fault { IsErrOf result InputError.Failed → Rose (I.faults input.old) (I.faults input.new) }
-    ensures taken { GaveAtMost 65537 (I.left input.old) (I.left input.new) }
+    ensures taken { GaveAtMost (MAX_SCRIPT + 1) (I.left input.old) (I.left input.new) }
 {
     let text = read_up_to(alloc, input, MAX_SCRIPT)?;
     Ok(read_script(alloc, &text)?)
@@ -90,7 +91,7 @@ fn replay<I: Source, O: Sink>(alloc: Global, input: &mut I, output: &mut O) -> R
     ensures output_fault { IsErrOf result Stop.OutputFault → Rose (O.faults output.old) (O.faults output.new) }
     ensures front { IsErrOf result Stop.OutputFault → IsDumpOf (I.left input.old) (λ text. TookFront (O.held output.old) text (O.held output.new)) }
     ensures kept { OnErr result (¬ IsErrOf result Stop.OutputFault → output.new ≡ output.old) }
-    ensures taken { GaveAtMost 65537 (I.left input.old) (I.left input.new) }
+    ensures taken { GaveAtMost (MAX_SCRIPT + 1) (I.left input.old) (I.left input.new) }
     ensures no_usage { ¬ IsErrOf result Stop.Usage }
 {
     let script = read_input(alloc, input)?;
@@ -155,7 +156,7 @@ pub fn pacman<RT: Threads + Wait + Sync, I: Source, O: Sink, E: Sink, D: Disk, G
     ensures told { result ≢ 0 → (stop : AStop) × (result ≡ status_of stop) × SaysUnlessFault (E.held errors.old) (line_of stop) (E.held errors.new) (E.faults errors.old) (E.faults errors.new) }
 
     // It reads at most one byte more than a script has, nothing where the words are wrong, and calls no device.
-    ensures taken { GaveAtMost 65537 (I.left input.old) (I.left input.new) }
+    ensures taken { GaveAtMost (MAX_SCRIPT + 1) (I.left input.old) (I.left input.new) }
     ensures unread { ¬ IsReplay words.now → input.new ≡ input.old }
     ensures devices { devices.new ≡ devices.old }
 {

@@ -10,6 +10,7 @@
 
 mod call;
 mod command;
+mod limits;
 mod lines;
 mod request;
 mod script;
@@ -19,6 +20,7 @@ mod stop;
 mod tell;
 
 pub use command::pacman;
+pub use limits::{MAX_LINE, MAX_SCRIPT};
 pub use tell::{WordsError, refuse_words};
 
 #[cfg(test)]

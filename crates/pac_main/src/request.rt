@@ -8,6 +8,7 @@ ghost use Rattle.pac_main.specs.Lines.{lines};
 ghost use Rattle.pac_main.specs.Requests.{IsLine, AreCalls, some_call};
 
 use crate::call::read_call;
+use crate::limits::MAX_LINE;
 use crate::split::first_line;
 use pac_base::{NoMemory, Refusal};
 use pac_serial::Call;
@@ -23,9 +24,6 @@ pub struct NoCall;
 
 /// Why a request line isn't read.
 pub type LineError = Refusal<NoCall>;
-
-// The greatest length of a request line.
-const MAX_LINE: usize = 4096;
 
 // The tokens of a line.
 fn line_tokens(alloc: Global, line: &[u8]) -> Result<Tokens, LineError>

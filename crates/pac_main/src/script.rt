@@ -10,6 +10,7 @@ ghost use Rattle.pac_main.specs.Script.{IsScript, HasParts, IsPartsFault, IsRefu
 ghost use Rattle.pac_main.specs.declared.script.Script.{Script as AScript};
 ghost use Rattle.pac_main.specs.declared.script_fault.ScriptFault.{ScriptFault as AFault};
 
+use crate::limits::MAX_SCRIPT;
 use crate::lines::find_mark;
 use crate::request::{LineError, read_calls};
 use crate::script_fault::{ScriptError, ScriptFault};
@@ -17,9 +18,6 @@ use pac_base::{Listed, Refusal, listed};
 use pac_serial::Call;
 use pac_types::{Catalogue, read_catalogue};
 use std::alloc::Global;
-
-/// The greatest length of a script.
-pub const MAX_SCRIPT: usize = 65536;
 
 /// A catalogue, and calls of its procedures.
 #[derive(Drop)]

@@ -75,7 +75,7 @@ cell_text table key = table.name ++ codes "[" ++ expr_text key ++ codes "]"
 abbrev pub field_text : NameNode → ExprNode → NameNode → List ℕ
 field_text table key column = cell_text table key ++ codes "." ++ column.name
 
--- Statements are texts by their indent: what stands in front of each of their statement_lines but the first.
+-- Statements are texts by their indent: what stands in front of each of their lines but the first.
 abbrev pub Indented : Type 0
 Indented = List ℕ → List ℕ
 
@@ -109,7 +109,7 @@ stmt_step (If test first second) indent =
 abbrev pub stmt_text : StmtNode → Indented
 stmt_text = fold-StmtNode Indented stmt_step
 
--- the statement_lines of statements behind this indent
+-- the lines of statements behind this indent
 abbrev pub stmts_text : List ℕ → List StmtNode → List ℕ
 stmts_text indent stmts = statement_lines (map stmt_text stmts) indent
 

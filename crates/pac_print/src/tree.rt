@@ -9,7 +9,7 @@ ghost use Rattle.pac_syntax.specs.declared.tree.Tree.{Tree as ATree};
 
 use crate::statement::{deeper, push_name, push_stmts};
 use pac_base::NoMemory;
-use pac_syntax::{ColumnNode, ProcNode, TableNode, Tree};
+use pac_syntax::{ColumnNode, MAX_CATALOGUE, ProcNode, TableNode, Tree};
 use pac_value::Ty;
 use std::alloc::Global;
 
@@ -88,7 +88,7 @@ fn push_proc(alloc: Global, out: &mut Vec<u8>, proc: &ProcNode) -> Result<(), No
 /// `NoMemory` alone.
 pub fn print(alloc: Global, tree: &Tree) -> Result<Vec<u8>, NoMemory>
     ensures text { IfOk result (λ text. text.items ≡ canonical tree.now) }
-    ensures reads { IsTree tree.now → IfOk result (λ text. length text.items ≤ 65536 → ReadsButForPlaces text.items tree.now) }
+    ensures reads { IsTree tree.now → IfOk result (λ text. length text.items ≤ MAX_CATALOGUE → ReadsButForPlaces text.items tree.now) }
     ensures again { (other : ATree) → IsTree tree.now → IfOk result (λ text. Reads text.items other → text.items ≡ canonical other) }
     ensures places { (other : ATree) → without_places other ≡ without_places tree.now → IfOk result (λ text. text.items ≡ canonical other) }
 {

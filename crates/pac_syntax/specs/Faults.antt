@@ -1,6 +1,8 @@
 -- The limits of the grammar, what is read, and the first fault of what isn't.
 use Rattle.std.specs.Prelude.{◌≡◌, ◌⊎◌, ℕ, ◌≤◌, List, [], ◌∷◌, ◌++◌, length, Option, Some, None, Result, Ok, Err, nat_lt, if◌then◌else◌}
 use Rattle.std.specs.List.{AllByRecursion}
+use Rattle.pac_value.specs.declared.limits.TheConstants.{MAX_COLUMNS, MAX_PARAMS}
+use Rattle.pac_syntax.specs.declared.limits.TheConstants.{MAX_TABLES, MAX_PROCS, MAX_OPERATORS, MAX_PARENS, MAX_NESTED}
 use Rattle.pac_tokens.specs.declared.token.Spanned.{Spanned}
 use Rattle.pac_tokens.specs.declared.fault.FaultKind.{FaultKind}
 use Rattle.pac_tokens.specs.declared.fault.FaultKind.TheVariants.{Token, Expected, TooLong, TooDeep, TooMany}
@@ -21,13 +23,13 @@ past limit n fault = if nat_lt limit n then Some fault else None
 -- settled by a later token than the one it is told at would carry that place.
 abbrev pub over_role : Role → ℕ → Option Fault
 over_role Plain at = None
-over_role (TableWord n) at = past 64 n (fault_of TooMany at)
-over_role (ProcWord n) at = past 64 n (fault_of TooMany at)
-over_role (ColumnName n) at = past 8 n (fault_of TooMany at)
-over_role (ParamName n) at = past 16 n (fault_of TooMany at)
-over_role (Operator n) at = past 64 n (fault_of TooMany at)
-over_role (Paren n) at = past 16 n (fault_of TooDeep at)
-over_role (Nested n) at = past 16 n (fault_of TooDeep at)
+over_role (TableWord n) at = past MAX_TABLES n (fault_of TooMany at)
+over_role (ProcWord n) at = past MAX_PROCS n (fault_of TooMany at)
+over_role (ColumnName n) at = past MAX_COLUMNS n (fault_of TooMany at)
+over_role (ParamName n) at = past MAX_PARAMS n (fault_of TooMany at)
+over_role (Operator n) at = past MAX_OPERATORS n (fault_of TooMany at)
+over_role (Paren n) at = past MAX_PARENS n (fault_of TooDeep at)
+over_role (Nested n) at = past MAX_NESTED n (fault_of TooDeep at)
 
 abbrev pub over : Marked → Option Fault
 over m = over_role m.role m.token.at

@@ -1,5 +1,7 @@
 -- How much a tree may hold.
 use Rattle.std.specs.Prelude.{◌≤◌, ℕ, ◌+◌, suc, Bool, true, false, List, [], ◌∷◌, length, map, All, IsTrue}
+use Rattle.pac_value.specs.declared.limits.TheConstants.{MAX_COLUMNS, MAX_PARAMS}
+use Rattle.pac_syntax.specs.declared.limits.TheConstants.{MAX_TABLES, MAX_PROCS}
 use Rattle.pac_value.specs.declared.values.Ty.{Ty}
 use Rattle.pac_value.specs.declared.values.Ty.TheVariants.{Int, Text, Bool as BoolTy}
 use Rattle.pac_syntax.specs.declared.tree.ColumnNode.{ColumnNode}
@@ -22,7 +24,7 @@ HasStoredType node = IsTrue (is_stored_type node.ty)
 -- 1 to 8 columns, which are ints or texts as the key is
 pub record IsTableWithinLimits (node : TableNode) : Type 0 where
   pub some : 1 ≤ length node.columns
-  pub few : length node.columns ≤ 8
+  pub few : length node.columns ≤ MAX_COLUMNS
   pub key : IsTrue (is_stored_type node.key)
   pub columns : All HasStoredType node.columns
 
@@ -44,13 +46,13 @@ sizes nodes = total (map size nodes)
 -- at most 16 parameters, which are ints or texts, and so few statements, those in blocks included, that all variables
 -- have numbers of 16 bits
 pub record IsProcWithinLimits (node : ProcNode) : Type 0 where
-  pub few : length node.params ≤ 16
+  pub few : length node.params ≤ MAX_PARAMS
   pub params : All HasStoredType node.params
   pub short : length node.params + sizes node.body ≤ 65535
 
 -- at most 64 tables and 64 procedures, each within its limits
 pub record IsWithinLimits (tree : Tree) : Type 0 where
-  pub few_tables : length tree.tables ≤ 64
-  pub few_procs : length tree.procs ≤ 64
+  pub few_tables : length tree.tables ≤ MAX_TABLES
+  pub few_procs : length tree.procs ≤ MAX_PROCS
   pub tables : All IsTableWithinLimits tree.tables
   pub procs : All IsProcWithinLimits tree.procs

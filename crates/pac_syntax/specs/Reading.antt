@@ -6,12 +6,13 @@ use Rattle.pac_tokens.specs.declared.fault.Fault.{Fault}
 use Rattle.pac_base.specs.declared.refusal.Refusal.{Refusal}
 use Rattle.pac_base.specs.declared.refusal.Refusal.TheVariants as error
 use Rattle.pac_syntax.specs.declared.tree.Tree.{Tree}
+use Rattle.pac_syntax.specs.declared.limits.TheConstants.{MAX_CATALOGUE}
 use Rattle.pac_tokens.specs.Tokens.{IsLexed}
 use Rattle.pac_syntax.specs.Faults.{ReadsTokens, IsFirstFault}
 
 -- the text is this catalogue's: it is short enough, and its tokens are the catalogue's within the limits
 pub record Reads (text : List ℕ) (tree : Tree) : Type 0 where
-  pub short : length text ≤ 65536
+  pub short : length text ≤ MAX_CATALOGUE
   pub tokens : List Spanned
   pub lexed : IsLexed text tokens None
   pub parsed : ReadsTokens tokens tree
@@ -31,12 +32,12 @@ IsFirstOf end ts (Some lexical) fault = (IsFirstFault lexical.at ts fault × (fa
 
 -- the fault of a text that is too long: at its first byte too many
 abbrev pub IsLongText : List ℕ → Fault → Type 0
-IsLongText text fault = (65536 < length text) × (fault ≡ record { at = 65536; kind = TooLong })
+IsLongText text fault = (MAX_CATALOGUE < length text) × (fault ≡ record { at = MAX_CATALOGUE; kind = TooLong })
 
 -- the first fault of a text: it is too long, or the first one of its tokens
 abbrev pub IsTextFault : List ℕ → Fault → Type 0
 IsTextFault text fault =
-    IsLongText text fault ⊎ ((length text ≤ 65536) × (ts : List Spanned) × (lexical : Option Fault) × IsLexed text ts lexical × IsFirstOf (length text) ts lexical fault)
+    IsLongText text fault ⊎ ((length text ≤ MAX_CATALOGUE) × (ts : List Spanned) × (lexical : Option Fault) × IsLexed text ts lexical × IsFirstOf (length text) ts lexical fault)
 
 -- what is told where the tokens in front of a fault are read so: the fault that stands first
 abbrev pub told_of : Result Tree (Refusal Fault) → Fault → Refusal Fault

@@ -3,6 +3,8 @@ use Rattle.std.specs.Prelude.{◌≡◌, ℕ, zero, suc, ℤ, List, [], ◌∷�
 use Rattle.std.specs.Global.{Global}
 use Rattle.pac_base.specs.Refusals.{Gives}
 use Rattle.pac_value.specs.declared.values.Ty.{Ty}
+use Rattle.pac_value.specs.declared.limits.TheConstants.{MAX_COLUMNS, MAX_PARAMS}
+use Rattle.pac_syntax.specs.declared.limits.TheConstants.{MAX_NESTED}
 use Rattle.pac_tokens.specs.declared.token.Token.{Token}
 use Rattle.pac_tokens.specs.declared.token.Token.TheVariants as token
 use Rattle.pac_tokens.specs.declared.token.Spanned.{Spanned}
@@ -89,8 +91,8 @@ role_of Param = ParamName
 
 -- how many of them there may be
 abbrev pub limit_of : ColumnKind → ℕ
-limit_of Column = 8
-limit_of Param = 16
+limit_of Column = MAX_COLUMNS
+limit_of Param = MAX_PARAMS
 
 -- an operand in the reading
 abbrev pub begun_at : Operand → Begun
@@ -113,7 +115,7 @@ rests d n (suc m) k = if nat_le n m then rests d n m (λ x o. Rest d m x o k) el
 
 -- whether a statement that begins with this word is a conditional in too many others
 abbrev pub is_too_deep : ℕ → StatementWord → Bool
-is_too_deep d word.If = nat_le 16 d
+is_too_deep d word.If = nat_le MAX_NESTED d
 is_too_deep d _ = false
 
 -- the parser read what these steps want, and gives it: behind it the reading goes on where the parser stands now

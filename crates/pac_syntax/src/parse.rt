@@ -12,13 +12,11 @@ mod expression;
 mod parser;
 mod statement;
 
+use crate::limits::MAX_CATALOGUE;
 use crate::tree::Tree;
 use catalogue::parse_tokens;
 use pac_tokens::{Fault, FaultKind, SyntaxError, lex};
 use std::alloc::Global;
-
-// The greatest length of a catalogue's text.
-const MAX_TEXT: usize = 65536;
 
 /// The tree of a catalogue's text, which has at most 65,536 bytes. Linear in the text.
 ///
@@ -44,8 +42,8 @@ fn parse_text(alloc: Global, text: &[u8]) -> Result<Tree, SyntaxError>
     ensures only { (tree : ATree) → Reads text.now tree → Only result tree }
     ensures fault { (fault : AFault) → IsErrOf result (error.Fault fault) → IsTextFault text.now fault }
 {
-    if text.len() > MAX_TEXT {
-        let at = MAX_TEXT;
+    if text.len() > MAX_CATALOGUE {
+        let at = MAX_CATALOGUE;
         let kind = FaultKind::TooLong;
         return Err(SyntaxError::Fault(Fault { at, kind }));
     }

@@ -3,6 +3,7 @@ use Rattle.std.specs.Prelude.{◌≡◌, ℕ, ◌≤◌, ◌+◌, ◌-◌, ◌*�
 use Rattle.std.specs.List.{take_while, list_all}
 use Rattle.std.specs.Cmp.Lexicographic.{pointwise}
 use Rattle.pac_value.specs.Texts.{is_printable}
+use Rattle.pac_value.specs.declared.limits.TheConstants.{MAX_NAME, MAX_TEXT}
 use Rattle.pac_tokens.specs.declared.token.Keyword.{Keyword}
 use Rattle.pac_tokens.specs.declared.token.Keyword.TheVariants as keyword
 use Rattle.pac_tokens.specs.declared.token.Symbol.TheVariants as symbol
@@ -104,10 +105,10 @@ abbrev pub is_long : Before → Token → List ℕ → List ℕ → Bool
 is_long before (token.Keyword k) w rest = false
 is_long before (token.Symbol symbol.Minus) w rest = is_long_minus before rest
 is_long before (token.Symbol s) w rest = false
-is_long before (token.Name n) w rest = nat_lt 32 (length n)
+is_long before (token.Name n) w rest = nat_lt MAX_NAME (length n)
 is_long before (token.Int z) w rest = nat_le (2 ^ 63) (digits_value w)
 is_long before (token.Negative z) w rest = nat_lt (2 ^ 63) (digits_value w)
-is_long before (token.Text text) w rest = nat_lt 64 (length text)
+is_long before (token.Text text) w rest = nat_lt MAX_TEXT (length text)
 
 -- the next token, and how many bytes it has
 pub record IsNext (before : Before) (bytes : List ℕ) (t : Token) (len : ℕ) : Type 0 where

@@ -45,9 +45,9 @@ abbrev pub unless : {A : Type 0} → Bool → A → ℕ → TypeFaultKind → Re
 unless true x at kind = refuse at kind
 unless false x at kind = Ok x
 
--- the name at a place among these stands at none before it
+-- the name at an index among these stands at none before it
 abbrev pub once : List (List ℕ) → ℕ → NameNode → Result (Unit {0}) TypeFault
-once names place name = unless (is_before (number_of names name.name) place) tt name.at Twice
+once names index name = unless (is_before (number_of names name.name) index) tt name.at Twice
 
 -- the names of a procedure, those that stand before with their variables where these are visible, and the number that
 -- the next variable gets
@@ -62,7 +62,7 @@ seen_at at _ = refuse at OutOfScope
 
 abbrev pub found_at : ℕ → List (Option Variable) → Option ℕ → Result Variable TypeFault
 found_at at known None = refuse at UnknownName
-found_at at known (Some place) = seen_at at (slice_get known place)
+found_at at known (Some index) = seen_at at (slice_get known index)
 
 -- the visible variable with a name
 abbrev pub found : ScopeState → NameNode → Result Variable TypeFault
@@ -75,7 +75,7 @@ abbrev pub hidden_in : ScopeState → ScopeState
 hidden_in scope = record { names = scope.names; known = scope.known; next = scope.next + 1 }
 
 abbrev pub left_at : ℕ → ScopeState → ScopeState
-left_at place scope = record { names = scope.names; known = take place scope.known ++ replicate (length scope.known - place) None; next = scope.next }
+left_at index scope = record { names = scope.names; known = take index scope.known ++ replicate (length scope.known - index) None; next = scope.next }
 
 -- ---- expressions
 
@@ -200,20 +200,20 @@ checked_block tables nodes = block (map (checked_stmt tables) nodes)
 
 -- ---- tables and procedures
 
--- each name from a place on stands at none before it
+-- each name from an index on stands at none before it
 abbrev pub all_once : List (List ℕ) → ℕ → List ColumnNode → Result (Unit {0}) TypeFault
-all_once names place [] = Ok tt
-all_once names place (node ∷ nodes) = once names place node.name >>= λ _. all_once names (place + 1) nodes
+all_once names index [] = Ok tt
+all_once names index (node ∷ nodes) = once names index node.name >>= λ _. all_once names (index + 1) nodes
 
 abbrev pub names_of : List ColumnNode → List (List ℕ)
 names_of nodes = map (λ node. node.name.name) nodes
 
 abbrev pub checked_table : List (List ℕ) → ℕ → TableNode → Result (Unit {0}) TypeFault
-checked_table names place node = once names place node.name >>= λ _. all_once (names_of node.columns) 0 node.columns
+checked_table names index node = once names index node.name >>= λ _. all_once (names_of node.columns) 0 node.columns
 
 abbrev pub checked_tables : List (List ℕ) → ℕ → List TableNode → Result (Unit {0}) TypeFault
-checked_tables names place [] = Ok tt
-checked_tables names place (node ∷ nodes) = checked_table names place node >>= λ _. checked_tables names (place + 1) nodes
+checked_tables names index [] = Ok tt
+checked_tables names index (node ∷ nodes) = checked_table names index node >>= λ _. checked_tables names (index + 1) nodes
 
 -- the parameters, which are visible in the whole procedure
 abbrev pub checked_params : List ColumnNode → ScopeState → Result ScopeState TypeFault
@@ -229,6 +229,6 @@ checked_proc tables node =
     Ok (record { name = node.name.name; params = map column_of node.params; body = b.0 })
 
 abbrev pub checked_procs : List Table → List (List ℕ) → ℕ → List ProcNode → Result (List Proc) TypeFault
-checked_procs tables names place [] = Ok []
-checked_procs tables names place (node ∷ nodes) =
-    once names place node.name >>= λ _. checked_proc tables node >>= λ p. checked_procs tables names (place + 1) nodes >>= λ ps. Ok (p ∷ ps)
+checked_procs tables names index [] = Ok []
+checked_procs tables names index (node ∷ nodes) =
+    once names index node.name >>= λ _. checked_proc tables node >>= λ p. checked_procs tables names (index + 1) nodes >>= λ ps. Ok (p ∷ ps)

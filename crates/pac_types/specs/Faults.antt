@@ -37,12 +37,12 @@ fault_if false at kind = []
 -- ---- names
 
 abbrev pub is_before : Option ℕ → ℕ → Bool
-is_before None place = false
-is_before (Some number) place = nat_lt number place
+is_before None index = false
+is_before (Some number) index = nat_lt number index
 
--- the name at a place among these stands at one before it too
+-- the name at an index among these stands at one before it too
 abbrev pub twice : List (List ℕ) → ℕ → NameNode → List TypeFault
-twice names place name = fault_if (is_before (number_of names name.name) place) name.at Twice
+twice names index name = fault_if (is_before (number_of names name.name) index) name.at Twice
 
 -- what is known of the names of a procedure that stand before: whether the variable is visible, and its type then,
 -- None where it has none
@@ -52,16 +52,16 @@ Known = List (Option (Option Ty))
 abbrev pub out_of_sight : ℕ → Known
 out_of_sight k = replicate k None
 
--- the visible variable at a place among the names
+-- the visible variable at an index among the names
 abbrev pub seen : Known → Option ℕ → Option (Option Ty)
 seen known None = None
-seen known (Some place) = option_and_then (λ v. v) (slice_get known place)
+seen known (Some index) = option_and_then (λ v. v) (slice_get known index)
 
 -- a name that is none of the procedure's is unknown, one whose variable isn't visible is out of scope
 abbrev pub name_faults : ℕ → Option ℕ → Option (Option Ty) → List TypeFault
 name_faults at None ty = fault at UnknownName
-name_faults at (Some place) None = fault at OutOfScope
-name_faults at (Some place) (Some ty) = []
+name_faults at (Some index) None = fault at OutOfScope
+name_faults at (Some index) (Some ty) = []
 
 -- ---- expressions
 
@@ -239,15 +239,15 @@ ruled tables names = fold-StmtNode Ruled (rule_step tables names)
 
 -- ---- tables, procedures and trees
 
--- each of these names from a place on that stands before too
+-- each of these names from an index on that stands before too
 abbrev pub names_faults : List (List ℕ) → ℕ → List ColumnNode → List TypeFault
-names_faults names place [] = []
-names_faults names place (node ∷ nodes) = twice names place node.name ++ names_faults names (place + 1) nodes
+names_faults names index [] = []
+names_faults names index (node ∷ nodes) = twice names index node.name ++ names_faults names (index + 1) nodes
 
 abbrev pub tables_faults : List (List ℕ) → ℕ → List TableNode → List TypeFault
-tables_faults names place [] = []
-tables_faults names place (node ∷ nodes) =
-    (twice names place node.name ++ names_faults (map (λ column. column.name.name) node.columns) 0 node.columns) ++ tables_faults names (place + 1) nodes
+tables_faults names index [] = []
+tables_faults names index (node ∷ nodes) =
+    (twice names index node.name ++ names_faults (map (λ column. column.name.name) node.columns) 0 node.columns) ++ tables_faults names (index + 1) nodes
 
 -- parameters are visible in the whole procedure
 abbrev pub params_known : List ColumnNode → Known
@@ -257,8 +257,8 @@ abbrev pub proc_faults : List Table → ProcNode → List TypeFault
 proc_faults tables node = names_faults (variables node) 0 node.params ++ all_faults (map (ruled tables (variables node)) node.body) (params_known node.params)
 
 abbrev pub procs_faults : List Table → List (List ℕ) → ℕ → List ProcNode → List TypeFault
-procs_faults tables names place [] = []
-procs_faults tables names place (node ∷ nodes) = (twice names place node.name ++ proc_faults tables node) ++ procs_faults tables names (place + 1) nodes
+procs_faults tables names index [] = []
+procs_faults tables names index (node ∷ nodes) = (twice names index node.name ++ proc_faults tables node) ++ procs_faults tables names (index + 1) nodes
 
 -- the faults of a tree
 abbrev pub tree_faults : Tree → List TypeFault

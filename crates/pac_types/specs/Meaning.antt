@@ -115,7 +115,7 @@ abbrev pub counts : List Code → ℕ
 counts [] = 0
 counts (code ∷ codes) = code.count + counts codes
 
--- one after another, at_operation on
+-- one after another, numbered on
 abbrev pub runs : List Code → ℕ → State → Result State Abort
 runs [] n s = Ok s
 runs (code ∷ codes) n s = code.run n s >>= λ t. runs codes (n + code.count) t
@@ -184,7 +184,7 @@ abbrev pub in_txn : {A : Type 0} → ℕ → Result A Abort → Result A TxnAbor
 in_txn txn (Ok x) = Ok x
 in_txn txn (Err abort) = Err (txn, abort.0, abort.1)
 
--- the calls one after another, at_operation from txn, up to the first that aborts
+-- the calls one after another, numbered from txn, up to the first that aborts
 abbrev pub serial : List Proc → ℕ → List Call → Tables → Result Tables TxnAbort
 serial procs txn [] tables = Ok tables
 serial procs txn (call ∷ calls) tables = in_txn txn (called_at (slice_get procs call.0) call.1 tables) >>= λ t. serial procs (txn + 1) calls t

@@ -24,7 +24,7 @@ use Rattle.pac_types.specs.declared.statement.Stmt.{Stmt, Let, Read, Has, Put, S
 abbrev pub AreDistinct : List (List ℕ) → Type 0
 AreDistinct names = AllPairs (λ one other. one ≢ other) names
 
--- the number of a name: its place among the names; None where it is none of them
+-- the number of a name: its index among the names; None where it is none of them
 unfoldable pub number_of : List (List ℕ) → List ℕ → Option ℕ
 number_of names name = position (bytes_eq name) names
 
@@ -80,7 +80,7 @@ number_at None = None
 
 -- the number of the visible variable with a name
 abbrev pub seen_number : List (List ℕ) → Sight → List ℕ → Option ℕ
-seen_number names sight name = option_and_then (λ place. number_at (slice_get sight place)) (number_of names name)
+seen_number names sight name = option_and_then (λ index. number_at (slice_get sight index)) (number_of names name)
 
 -- an expression over the visible variables, from its operands; None where it names another
 abbrev pub resolve_step : List (List ℕ) → Sight → ExprNode-F (Option Expr) → Option Expr

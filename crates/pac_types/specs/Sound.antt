@@ -97,7 +97,7 @@ in_order (c ∷ cs) scope = option_and_then (in_order cs) (c.after scope)
 abbrev pub without : (ℕ → Bool) → Scope → Scope
 without some scope y = if some y then None else scope y
 
--- a sound_conditional: the hidden variable is visible in the blocks and behind them, what a block defines is not
+-- a conditional: the hidden variable is visible in the blocks and behind them, what a block defines is not
 abbrev pub sound_conditional : ℕ → Expr → List Check → List Check → Check
 sound_conditional x e first second = record {
   defines = λ y. y == x || (any_defines first y || any_defines second y);
@@ -147,10 +147,10 @@ type_of_key (Int n) = IntTy
 type_of_key (Text t) = TextTy
 
 -- a row has its table's key and column types
-pub record FitsTable (tables : List Table) (place : Cell) (row : RowValues) : Type 0 where
-  pub key : key_type tables place.0 ≡ Some (type_of_key place.1)
-  pub columns : map type_of row ≡ column_types tables place.0
+pub record FitsTable (tables : List Table) (cell : Cell) (row : RowValues) : Type 0 where
+  pub key : key_type tables cell.0 ≡ Some (type_of_key cell.1)
+  pub columns : map type_of row ≡ column_types tables cell.0
 
 -- each row has its table's key and column types
 abbrev pub FitTables : List Table → Tables → Type 0
-FitTables tables rows = (place : Cell) (row : RowValues) → get rows place ≡ Some row → FitsTable tables place row
+FitTables tables rows = (cell : Cell) (row : RowValues) → get rows cell ≡ Some row → FitsTable tables cell row

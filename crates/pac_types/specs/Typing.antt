@@ -1,6 +1,7 @@
 -- When a tree is typed, and which catalogue it has then.
 use Rattle.std.specs.Prelude.{◌≡◌, ◌≤◌, ◌<◌, ◌^◌, List, length, map, All, IsTrue, Some}
 use Rattle.std.specs.List.{AllZip}
+use Rattle.pac_value.specs.declared.limits.TheConstants.{MAX_COLUMNS, MAX_PARAMS}
 use Rattle.pac_syntax.specs.declared.tree.TableNode.{TableNode}
 use Rattle.pac_syntax.specs.declared.tree.ProcNode.{ProcNode}
 use Rattle.pac_syntax.specs.declared.tree.Tree.{Tree}
@@ -48,14 +49,14 @@ IsCatalogue catalogue = (tree : Tree) × IsTree tree × Types tree catalogue
 -- a table has 1 to 8 columns; its key and they are ints or texts
 pub record IsSoundTable (table : Table) : Type 0 where
   pub some : 1 ≤ length table.columns
-  pub few : length table.columns ≤ 8
+  pub few : length table.columns ≤ MAX_COLUMNS
   pub key : IsTrue (is_stored_type table.key)
   pub columns : All (λ column. IsTrue (is_stored_type column.ty)) table.columns
 
 -- a procedure has at most 16 parameters, which are ints or texts, and sound statements, whose operations have numbers
 -- of 64 bits
 pub record IsProc (tables : List Table) (proc : Proc) : Type 0 where
-  pub few : length proc.params ≤ 16
+  pub few : length proc.params ≤ MAX_PARAMS
   pub params : All (λ column. IsTrue (is_stored_type column.ty)) proc.params
   pub sound : IsSoundProc tables proc
   pub counted : operations proc.body < 2 ^ 64

@@ -7,6 +7,7 @@ ghost use Rattle.pac_types.specs.CatalogueNames.{IsNamed};
 use crate::names::Names;
 use crate::{Proc, Table};
 use pac_base::{Exact, Listed, NoMemory};
+use pac_syntax::{MAX_PROCS, MAX_TABLES};
 use std::alloc::Global;
 use std::marker::Model;
 
@@ -56,7 +57,7 @@ impl Catalogue {
     /// The tables, by their numbers.
     pub fn tables(&self) -> &[Table]
         ensures value { result.now ≡ self.now.tables }
-        ensures few { length self.now.tables ≤ 64 }
+        ensures few { length self.now.tables ≤ MAX_TABLES }
         ensures sound { All IsSoundTable self.now.tables }
     {
         self.tables.as_slice()
@@ -65,7 +66,7 @@ impl Catalogue {
     /// The procedures, by their numbers.
     pub fn procs(&self) -> &[Proc]
         ensures value { result.now ≡ self.now.procs }
-        ensures few { length self.now.procs ≤ 64 }
+        ensures few { length self.now.procs ≤ MAX_PROCS }
         ensures sound { All (IsProc self.now.tables) self.now.procs }
     {
         self.procs.as_slice()

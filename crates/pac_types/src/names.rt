@@ -16,7 +16,7 @@ use std::marker::Model;
 /// So few names are looked at one after another, which is faster than a map that has to be made first.
 const FEW: usize = 8;
 
-/// Names, each with its first place as its number. Where they are more than few, a look-up goes by a map.
+/// Names, each with its first index as its number. Where they are more than few, a look-up goes by a map.
 #[derive(Debug, Drop)]
 pub struct Names {
     names: Vec<Name>,
@@ -48,7 +48,7 @@ fn scan(names: &[Name], name: &[u8]) -> Option<u16>
     None
 }
 
-// The map of the names' numbers. A name that stands again is met later, and gives way to its first place.
+// The map of the names' numbers. A name that stands again is met later, and gives way to its first index.
 fn map_of(alloc: Global, names: &[Name]) -> Result<HashMap<Name, u16>, AllocError>
     requires { length names.now ≤ 2 ^ 16 }
     ensures { IfOk result (λ numbers. (name : List ℕ) → get (pointwise nat_eq) numbers name ≡ number_of names.now name) }
@@ -61,7 +61,7 @@ fn map_of(alloc: Global, names: &[Name]) -> Result<HashMap<Name, u16>, AllocErro
 }
 
 impl Names {
-    /// Numbers the names by their places.
+    /// Numbers the names by their indices.
     pub fn of(alloc: Global, names: Vec<Name>) -> Result<Names, AllocError>
         requires { vec_len names ≤ 2 ^ 16 }
         ensures { IfOk result (λ indexed. indexed ≡ names.items) }
@@ -105,16 +105,16 @@ impl Names {
         scan(self.names.as_slice(), name)
     }
 
-    /// That the name at a place among these stands at none before it.
+    /// That the name at an index among these stands at none before it.
     ///
     /// # Errors
     ///
     /// Twice, where it does.
-    pub fn once(&self, place: usize, node: &NameNode) -> Result<(), TypeFault>
-        ensures { result ≡ once self.now place node.now }
+    pub fn once(&self, index: usize, node: &NameNode) -> Result<(), TypeFault>
+        ensures { result ≡ once self.now index node.now }
     {
         match self.number(&node.name) {
-            Some(number) if usize::from(number) < place => Err(TypeFault {
+            Some(number) if usize::from(number) < index => Err(TypeFault {
                 at: node.at,
                 kind: TypeFaultKind::Twice,
             }),

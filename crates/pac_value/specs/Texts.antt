@@ -1,11 +1,12 @@
 -- The bytes that a text may have.
 use Rattle.std.specs.Prelude.{◌≤◌, ℕ, Bool, ◌&&◌, nat_le, List, length, IsTrue}
 use Rattle.std.specs.List.{list_all}
+use Rattle.pac_value.specs.declared.limits.TheConstants.{MAX_TEXT}
 
 -- a printable ASCII byte, from the space to the tilde
 abbrev pub is_printable : ℕ → Bool
 is_printable byte = nat_le 0x20 byte && nat_le byte 0x7E
 
--- at most 64 bytes, all printable
+-- not too many bytes, all printable
 abbrev pub IsText : List ℕ → Type 0
-IsText bytes = (length bytes ≤ 64) × IsTrue (list_all is_printable bytes)
+IsText bytes = (length bytes ≤ MAX_TEXT) × IsTrue (list_all is_printable bytes)

@@ -6,6 +6,7 @@ use Rattle.std.specs.Cmp.Lexicographic.{slice_cmp, pointwise}
 use Rattle.std.specs.declared.cmp.Ordering.{Ordering}
 use Rattle.std.specs.declared.cmp.Ordering.TheVariants.{Equal}
 use mathlib.Core.Bool.{beq}
+use Rattle.pac_value.specs.declared.limits.TheConstants.{MAX_COLUMNS}
 use Rattle.pac_value.specs.declared.values.Ty.{Ty}
 use Rattle.pac_value.specs.declared.values.Ty.TheVariants.{Int as IntTy, Text as TextTy, Bool as BoolTy}
 use Rattle.pac_value.specs.declared.values.Value.{Value}
@@ -36,6 +37,6 @@ is_stored (Int n) = true
 is_stored (Text t) = true
 is_stored (Truth b) = false
 
--- 1 to 8 values that columns can hold
+-- a value or more, and not too many, that columns can hold
 abbrev pub IsRow : List Value → Type 0
-IsRow values = (1 ≤ length values) × (length values ≤ 8) × IsTrue (list_all is_stored values)
+IsRow values = (1 ≤ length values) × (length values ≤ MAX_COLUMNS) × IsTrue (list_all is_stored values)

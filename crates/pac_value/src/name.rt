@@ -7,6 +7,7 @@ ghost use Rattle.std.specs.Hash as fed;
 ghost use Rattle.std.specs.Ordering.{nat_cmp};
 ghost use Rattle.std.proofs.Common.{rules, refl};
 
+use crate::MAX_NAME;
 use pac_base::{Exact, NoMemory, Same};
 use std::alloc::Global;
 use std::cmp::Ordering;
@@ -38,11 +39,11 @@ impl Model for Name {
 
 impl Name {
     /// The most bytes that a name may have.
-    pub const MAX: usize = 32;
+    pub const MAX: usize = MAX_NAME;
 
     /// The name with these bytes. `None`: there are more than 32.
     pub fn from_bytes(bytes: &[u8]) -> Option<Name>
-        ensures fits { IsSome result ↔ (length bytes.now ≤ 32) }
+        ensures fits { IsSome result ↔ (length bytes.now ≤ MAX_NAME) }
         ensures value { IfSome result (λ name. name ≡ bytes.now) }
     {
         if bytes.len() > Name::MAX {
@@ -59,7 +60,7 @@ impl Name {
     /// The bytes of the name, in order.
     pub fn bytes(&self) -> &[u8]
         ensures bytes { result.now ≡ self.now }
-        ensures short { length self.now ≤ 32 }
+        ensures short { length self.now ≤ MAX_NAME }
     {
         &self.bytes[..self.len]
     }

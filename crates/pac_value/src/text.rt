@@ -9,6 +9,7 @@ ghost use Rattle.std.specs.Ordering.{nat_cmp};
 ghost use Rattle.std.proofs.Common.{rules, refl};
 ghost use Rattle.pac_value.specs.Texts.{IsText, is_printable};
 
+use crate::MAX_TEXT;
 use pac_base::{Exact, NoMemory, Same};
 use std::alloc::Global;
 use std::cmp::Ordering;
@@ -43,7 +44,7 @@ impl Model for Text {
 
 impl Text {
     /// The most bytes that a text may have.
-    pub const MAX: usize = 64;
+    pub const MAX: usize = MAX_TEXT;
 
     /// The text with these bytes. `None`: there are more than 64, or one is below 0x20 or above 0x7E.
     pub fn from_bytes(bytes: &[u8]) -> Option<Text>

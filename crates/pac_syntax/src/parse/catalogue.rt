@@ -12,14 +12,12 @@ ghost use Rattle.pac_syntax.specs.declared.tree.ProcNode.{ProcNode as AProcNode}
 ghost use Rattle.pac_syntax.specs.declared.tree.TableNode.{TableNode as ATableNode};
 
 use super::parser::{ColumnKind, Parser, split};
+use crate::limits::{MAX_PROCS, MAX_TABLES};
 use crate::tree::{ColumnNode, NameNode, ProcNode, TableNode, Tree};
 use pac_base::listed;
 use pac_tokens::{Fault, FaultKind, Keyword, Spanned, Symbol, SyntaxError};
+use pac_value::{MAX_COLUMNS, MAX_PARAMS};
 use std::alloc::Global;
-
-const MAX_TABLES: usize = 64;
-
-const MAX_PROCS: usize = 64;
 
 impl ColumnKind {
     // How many columns or parameters there may be.
@@ -27,8 +25,8 @@ impl ColumnKind {
         ensures { result ≡ limit_of self }
     {
         match self {
-            ColumnKind::Column => 8,
-            ColumnKind::Param => 16,
+            ColumnKind::Column => MAX_COLUMNS,
+            ColumnKind::Param => MAX_PARAMS,
         }
     }
 }

@@ -11,15 +11,12 @@ ghost use Rattle.pac_base.specs.declared.refusal.Refusal.TheVariants as error;
 ghost use Rattle.pac_syntax.specs.declared.tree.ExprNode.{ExprNode as AnExprNode};
 
 use super::parser::{Operand, Parser, split};
+use crate::limits::{MAX_OPERATORS, MAX_PARENS};
 use crate::operator::{operator_by, tier_behind, tier_of};
 use crate::tree::ExprNode;
 use pac_base::Boxed;
 use pac_tokens::{Fault, FaultKind, Symbol, SyntaxError, Token};
 use pac_value::BinOp;
-
-const MAX_OPERATORS: u8 = 64;
-
-const MAX_PARENS: u8 = 16;
 
 // The level of any expression.
 const EXPRESSION: u8 = 5;
@@ -45,8 +42,8 @@ impl<'a> Parser<'a> {
     fn count(&mut self, at: usize) -> Result<(), SyntaxError>
         ensures end { self.new.end ≡ self.old.end }
         ensures rest { self.new.rest ≡ self.old.rest }
-        ensures ok { OnOk result ((self.old.operators < 64) × (self.new.operators ≡ self.old.operators + 1)) }
-        ensures err { IfErr result (λ e. (64 ≤ self.old.operators) × (e ≡ error.Fault (record { at = at; kind = TooMany }))) }
+        ensures ok { OnOk result ((self.old.operators < MAX_OPERATORS) × (self.new.operators ≡ self.old.operators + 1)) }
+        ensures err { IfErr result (λ e. (MAX_OPERATORS ≤ self.old.operators) × (e ≡ error.Fault (record { at = at; kind = TooMany }))) }
     {
         if self.operators >= MAX_OPERATORS {
             let kind = FaultKind::TooMany;

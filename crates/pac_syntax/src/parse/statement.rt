@@ -8,11 +8,10 @@ ghost use Rattle.pac_syntax.specs.declared.tree.NameNode.{NameNode as ANameNode}
 ghost use Rattle.pac_syntax.specs.declared.tree.StmtNode.{StmtNode as AStmtNode};
 
 use super::parser::{Parser, split};
+use crate::limits::MAX_NESTED;
 use crate::tree::{ExprNode, NameNode, StmtNode};
 use pac_base::listed;
 use pac_tokens::{FaultKind, Keyword, Symbol, SyntaxError, Token};
-
-const MAX_NESTED: u8 = 16;
 
 /// The word that begins a statement.
 #[derive(Clone, Copy, Debug, PartialEq, Eq)]
@@ -196,7 +195,7 @@ impl<'a> Parser<'a> {
     // A conditional in so many others, behind its word.
     #[cycle(statement)]
     fn if_rest(&mut self, nested: u8) -> Result<StmtNode, SyntaxError>
-        requires { nested < 16 }
+        requires { nested < MAX_NESTED }
         ensures left { OnOk result (length self.new.rest.now ≤ length self.old.rest.now) }
         ensures run { Goes (if_steps nested) self.old self.new result }
     {

@@ -64,13 +64,13 @@ impl Scope {
         ensures { result ≡ found self.now name.now }
     {
         let at = name.at;
-        let Some(place) = self.names.number(&name.name) else {
+        let Some(index) = self.names.number(&name.name) else {
             let kind = TypeFaultKind::UnknownName;
             return Err(TypeFault { at, kind });
         };
-        let place = usize::from(place);
-        if place < self.known.len() {
-            if let Some(variable) = self.known[place] {
+        let index = usize::from(index);
+        if index < self.known.len() {
+            if let Some(variable) = self.known[index] {
                 return Ok(variable);
             }
         }
@@ -101,11 +101,11 @@ impl Scope {
         number
     }
 
-    /// The names from a place on are not visible any more.
-    pub fn leave(&mut self, place: usize)
-        ensures { self.new ≡ left_at place self.old }
+    /// The names from an index on are not visible any more.
+    pub fn leave(&mut self, index: usize)
+        ensures { self.new ≡ left_at index self.old }
     {
-        for i in place..self.known.len() {
+        for i in index..self.known.len() {
             self.known[i] = None;
         }
     }

@@ -20,12 +20,12 @@ returns-clause-only c = λ tree h. absurd (some_none _ (sym c.in-Some.is ∙ sam
 
 pub returns-in-None-clause-within : goal.returns-in-None-clause-within
 returns-in-None-clause-within c =
-    let short : length c.deref.result.now ≤ 65536 = omega (arith, ap length c.deref.ensures.value, c.in_ok-lexed.ensures.few, c.if-text-gt-MAX_TEXT.false) in
+    let short : length c.deref.result.now ≤ 65536 = omega (arith, ap length c.deref.ensures.value, c.in_ok-lexed.ensures.few, c.if-text-gt-MAX_CATALOGUE.false) in
     IfOk-weaker c.parse_tokens.result _ _ (λ tree reads. reads-within c.deref.result.now tree short reads) c.parse_tokens.ensures.reads
 
 pub returns-clause-fault : goal.returns-clause-fault
 returns-clause-fault c = λ fault e.
-    let short : length c.args.text.now ≤ 65536 = omega (arith, c.if-text-gt-MAX_TEXT.false) in
+    let short : length c.args.text.now ≤ 65536 = omega (arith, c.if-text-gt-MAX_CATALOGUE.false) in
     let lexed : IsLexed c.args.text.now c.in_ok-lexed.lexed.items.items (Some c.in-Some.fault) = subst (λ (f : Option Fault). IsLexed c.args.text.now c.in_ok-lexed.lexed.items.items f) c.in-Some.is c.in_ok-lexed.ensures.lexed in
     let same : IsLexed c.args.text.now c.deref-in-Some.result.now (Some c.in-Some.fault) = subst (λ (ts : List Spanned). IsLexed c.args.text.now ts (Some c.in-Some.fault)) (sym c.deref-in-Some.ensures.value) lexed in
     let first = tells_first (length c.args.text.now) c.deref-in-Some.result.now c.in-Some.fault fault c.parse_tokens-parsed.result c.parse_tokens-parsed.ensures.reads c.parse_tokens-parsed.ensures.fault (sym c.earlier.ensures ∙ error_is c.earlier.result fault e) in

@@ -1,4 +1,4 @@
--- Each name, from the last to the first, gets its place.
+-- Each name, from the last to the first, gets its index.
 use Rattle.std.proofs.Common.{◌≡◌, ◌∙◌, ◌-◌, ◌+◌, ap, sym, arith, drop, cond, Some}
 use Rattle.std.specs.Prelude.{bytes_eq}
 use Rattle.std.specs.List.{position_from}

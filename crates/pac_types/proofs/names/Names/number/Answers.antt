@@ -1,4 +1,4 @@
--- A place among the names is below their number.
+-- A index among the names is below their number.
 use Rattle.std.proofs.Common.{◌<◌, ℕ, Option, length, subst, sym}
 use Rattle.std.specs.Prelude.{IfSome}
 use Rattle.pac_types.proofs.NameLemmas.{number-within}
