@@ -130,9 +130,7 @@ fn keys_in(
     requires { All CanStand (tree.keys rows.now) }
     ensures { IfOk result (λ found. found.items ≡ map_list (λ e. e.0.1) (filter (λ e. e.0.0 == table) rows.now.entries)) }
 {
-    let keys = part_of(rows, table)
-        .map(|(cell, _)| cell.1)
-        .collect(alloc)?;
+    let keys = part_of(rows, table).map(|(cell, _)| cell.1).collect(alloc)?;
     Ok(keys)
 }
 
