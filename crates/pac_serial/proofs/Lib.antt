@@ -1,7 +1,6 @@
 pub mod DraftLemmas
 pub mod FitLemmas
 pub mod RowLemmas
-pub mod StmtForms
 pub mod ExecLemmas
 pub mod OpeningLemmas
 pub mod SerialLemmas

@@ -7,7 +7,8 @@
 //!   a bool.
 //! - [`Env`]: the values of variables.
 //! - [`Expr`], [`BinOp`]: an expression; [`eval`] gives its value, or the [`Trap`] that stops it.
-//! - [`push_value`], [`push_key`], [`push_values`]: append values as literals to a text (`specs/Literals.antt`).
+//! - [`push_value`], [`push_key`], [`push_values`]: append values as literals to a text (`specs/Literals.antt`);
+//!   [`push_count`] appends a count.
 //!
 //! What an expression is worth is defined over unbounded whole numbers in `specs/Expressions.antt`: a result that
 //! leaves 64 bits is the trap Overflow, a zero divisor the trap DivZero, `/` rounds toward zero and `a % b` is what `/`
@@ -31,7 +32,9 @@ pub use env::Env;
 pub use evaluation::eval;
 pub use expr::{BinOp, Expr, Trap};
 pub use limits::{MAX_COLUMNS, MAX_NAME, MAX_PARAMS, MAX_TEXT};
-pub use literals::{push_key, push_value, push_values};
+pub use literals::{
+    push_count, push_key, push_key, push_value, push_value, push_values, push_values,
+};
 pub use name::Name;
 pub use row::{Row, RowRule};
 pub use text::Text;

@@ -1,6 +1,6 @@
-// Writes values, keys and rows.
+// Writes counts, values, keys and rows.
 ghost use Rattle.std.specs.Prelude.{OnOk};
-ghost use Rattle.std.specs.Fmt.{signed_decimal};
+ghost use Rattle.std.specs.Fmt.{decimal, signed_decimal};
 ghost use Rattle.pac_value.specs.Growth.{Grew};
 ghost use Rattle.pac_value.specs.Literals.{escaped_byte, quoted, value_text, key_text, further_value_text, values_text};
 
@@ -37,12 +37,25 @@ fn push_quoted(out: &mut Vec<u8>, text: &Text) -> Result<(), NoMemory>
     Ok(())
 }
 
+/// Appends a count in decimal.
+///
+/// # Errors
+///
+/// `NoMemory` alone, as of [`push_value`].
+pub fn push_count(out: &mut Vec<u8>, count: u64) -> Result<(), NoMemory>
+    ensures { OnOk result (Grew out.old.items out.new.items (decimal count)) }
+{
+    let mut digits = Buffer::new();
+    out.extend_from_slice(digits.format(count).as_bytes())?;
+    Ok(())
+}
+
 /// Appends a value as a literal: an int in decimal, a text between quotes with `\` in front of each `"` and `\`, or `true`
 /// or `false`.
 ///
 /// # Errors
 ///
-/// `NoMemory` alone. Nothing is said then of what is behind the old bytes.
+/// `NoMemory` alone. Nothing is said of `out` then.
 pub fn push_value(out: &mut Vec<u8>, value: &Value) -> Result<(), NoMemory>
     ensures { OnOk result (Grew out.old.items out.new.items (value_text value.now)) }
 {

@@ -165,6 +165,8 @@ fn copies_of_small_things_are_equal(rt: HostRuntime) -> Result<(), Fail> {
 fn writes_literals(rt: HostRuntime) -> Result<(), Fail> {
     let text = Text::from_bytes(b"a\"b\\").ok_or("no text")?;
     let mut out = Vec::new(rt.alloc());
+    push_count(&mut out, u64::MAX)?;
+    out.push(b' ')?;
     push_key(&mut out, &Key::Int(i64::MIN))?;
     out.push(b' ')?;
     push_key(&mut out, &Key::Text(text))?;
@@ -178,7 +180,7 @@ fn writes_literals(rt: HostRuntime) -> Result<(), Fail> {
     )?;
     assert_eq!(rt;
         out.as_slice(),
-        b"-9223372036854775808 \"a\\\"b\\\\\" 0 true, \"a\\\"b\\\\\", false".as_slice()
+        b"18446744073709551615 -9223372036854775808 \"a\\\"b\\\\\" 0 true, \"a\\\"b\\\\\", false".as_slice()
     );
     Ok(())
 }
