@@ -21,6 +21,7 @@ mod evaluation;
 mod expr;
 mod literals;
 mod name;
+mod padded;
 mod row;
 #[cfg(test)]
 mod tests;
