@@ -22,6 +22,7 @@ mod expr;
 mod limits;
 mod literals;
 mod name;
+mod padded;
 mod row;
 #[cfg(test)]
 mod tests;
