@@ -175,6 +175,10 @@ unfolding run scan finish feed
 level_begins end d n o k [] = refl
 level_begins end d n o k (t ∷ ts) = rw (lay_rests d n k) refl
 
+-- the same of a right operand, at the tier of its operator
+pub right_begins : (end d n own o : ℕ) (k : Begun → ℕ → Steps) (s : List Spanned) → own ≡ n → run end (Level d n o k) s ≡ run end (Level d 0 o (rests d 0 own k)) s
+right_begins end d n own o k s e = rw e (level_begins end d n o k s)
+
 abbrev WhereNo : ℕ → List Spanned → Type 0
 WhereNo n [] = Unit {0}
 WhereNo n (t ∷ ts) = operator_at n t.token ≡ None

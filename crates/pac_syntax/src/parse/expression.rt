@@ -1,5 +1,5 @@
 // Reads expressions.
-ghost use Rattle.std.specs.Prelude.{◌≡◌, ◌≢◌, ◌<◌, ◌≤◌, ◌+◌, ℕ, zero, length, OnOk, IfOk, IfErr, IfSome};
+ghost use Rattle.std.specs.Prelude.{◌≡◌, ◌≢◌, ◌<◌, ◌≤◌, ◌+◌, ℕ, false, length, OnOk, IfOk, IfErr, IfSome};
 ghost use Rattle.pac_base.specs.Refusals.{Gives, OkUnlessMemory};
 ghost use Rattle.pac_syntax.specs.Machine.{Steps, Begun, Level, begun_binary, operator_in, want_expr, negation_steps, paren_steps, run, either};
 ghost use Rattle.pac_syntax.specs.Grammar.{tier as tier_of};
@@ -54,6 +54,16 @@ impl<'a> Parser<'a> {
         }
         self.operators += 1;
         Ok(())
+    }
+
+    // Whether an operator below a level comes next.
+    fn sees_operator(&self, level: u8) -> bool
+        ensures { (d : ℕ) (x : Begun) (k : Begun → ℕ → Steps) (o : ℕ) → result ≡ false → run self.now.end (rests d 0 level k x o) self.now.rest.now ≡ run self.now.end (k x o) self.now.rest.now }
+    {
+        let Some((first, _)) = split(self.rest) else {
+            return false;
+        };
+        operator_between(0, level, &first.token).is_some()
     }
 
     // The operator that comes next, where its tier is from this one on and below a level, which is taken.
@@ -137,17 +147,33 @@ impl<'a> Parser<'a> {
         })
     }
 
-    // An expression of a level: an operand, and as many more as operators below the level join to it.
+    // An expression of a level. Mostly it is an operand alone, which is handed on as it is.
     #[cycle(expression)]
     fn level(&mut self, parens: u8, level: u8) -> Result<Operand, SyntaxError>
         ensures shorter { OnOk result (length self.new.rest.now < length self.old.rest.now) }
         ensures run { (k : Begun → ℕ → Steps) → Gives (λ x. run self.new.end (k (begun_at x) self.new.operators) self.new.rest.now) result (run self.old.end (Level parens level self.old.operators k) self.old.rest.now) }
     {
-        let mut left = self.unary(parens)?;
+        let left = self.unary(parens)?;
+        if !self.sees_operator(level) {
+            return Ok(left);
+        }
+        self.chain(parens, level, left)
+    }
+
+    // An operand, and as many more as operators below a level join to it.
+    #[cycle(expression)]
+    fn chain(&mut self, parens: u8, level: u8, first: Operand) -> Result<Operand, SyntaxError>
+        ensures left { OnOk result (length self.new.rest.now ≤ length self.old.rest.now) }
+        ensures run { (k : Begun → ℕ → Steps) → Gives (λ x. run self.new.end (k (begun_at x) self.new.operators) self.new.rest.now) result (run self.old.end (rests parens 0 level k (begun_at first) self.old.operators) self.old.rest.now) }
+    {
+        let mut left = first;
         let mut tier = 0;
         while let Some(op) = self.operator(tier, level)? {
             let own = tier_of(op);
-            let right = self.level(parens, own)?;
+            let mut right = self.unary(parens)?;
+            if self.sees_operator(own) {
+                right = self.chain(parens, own, right)?;
+            }
             left = self.joined(op, left, right)?;
             tier = tier_behind(own);
         }
