@@ -9,27 +9,27 @@ use Rattle.pac_syntax.proofs.parse.parser.Parser.+expression.Goals.{chain-then-s
 
 -- ---- a name, a literal, a negation or parentheses
 
-pub unary-returns-in_err-count-clause-run : goal.unary-returns-in_err-count-clause-run
-unary-returns-in_err-count-clause-run t c =
+pub other_operand-returns-in_err-count-clause-run : goal.other_operand-returns-in_err-count-clause-run
+other_operand-returns-in_err-count-clause-run t c =
     let p = err_from_is_err_and c.from_residual.result c.from_residual.ensures.1 in
     let sign = c.in-Some.ensures in
     λ k. rw (p.1, p.2, c.in_err-count.ensures.err.1) (negation_past _ _ _ _ _ k _ _ sign.operators c.in_err-count.ensures.err.0 sign.token)
 
-pub unary-returns-in-Some-clause-run : goal.unary-returns-in-Some-clause-run
-unary-returns-in-Some-clause-run t c = λ k.
+pub other_operand-returns-in-Some-clause-run : goal.other_operand-returns-in-Some-clause-run
+other_operand-returns-in-Some-clause-run t c = λ k.
     let sign = c.in-Some.ensures in
     let count = c.in_ok-count.ensures in
     gives_along _ c.negation.result _ _
     (negation_next _ _ _ _ _ _ _ k _ _ _ (count.end ∙ sign.end) sign.operators count.ok.1 count.ok.0 (ap (λ r. r.now) count.rest) sign.token)
     (c.negation.ensures.run k)
 
-pub unary-returns-then-parens-ge-MAX_PARENS-clause-run : goal.unary-returns-then-parens-ge-MAX_PARENS-clause-run
-unary-returns-then-parens-ge-MAX_PARENS-clause-run t c = λ k.
+pub other_operand-returns-then-parens-ge-MAX_PARENS-clause-run : goal.other_operand-returns-then-parens-ge-MAX_PARENS-clause-run
+other_operand-returns-then-parens-ge-MAX_PARENS-clause-run t c = λ k.
     let not = c.in_default.ensures in
     paren_past _ _ _ _ k _ _ c.if-parens-ge-MAX_PARENS.true (rw not.token.0 at c.in-Some-takes_symbol.ensures.token)
 
-pub unary-returns-in-Some-takes_symbol-clause-run : goal.unary-returns-in-Some-takes_symbol-clause-run
-unary-returns-in-Some-takes_symbol-clause-run t c = λ k.
+pub other_operand-returns-in-Some-takes_symbol-clause-run : goal.other_operand-returns-in-Some-takes_symbol-clause-run
+other_operand-returns-in-Some-takes_symbol-clause-run t c = λ k.
     let not = c.in_default.ensures in
     let sign = c.in-Some-takes_symbol.ensures in
     gives_along _ c.enclosed.result _ _

@@ -5,20 +5,23 @@ use Rattle.pac_syntax.proofs.parse.parser.Parser.+expression.Given as goal
 
 -- first the tokens that are left, then how far the descent is from an operand
 
+abbrev pub decreases-other_operand : goal.decreases-other_operand
+decreases-other_operand l = 8 * length l.self.now.rest.now
+
 abbrev pub decreases-unary : goal.decreases-unary
-decreases-unary l = 4 * length l.self.now.rest.now
+decreases-unary l = 8 * length l.self.now.rest.now + 1
 
 abbrev pub decreases-negation : goal.decreases-negation
-decreases-negation l = 4 * length l.self.now.rest.now + 1
+decreases-negation l = 8 * length l.self.now.rest.now + 2
 
 abbrev pub decreases-enclosed : goal.decreases-enclosed
-decreases-enclosed l = 4 * length l.self.now.rest.now + 2
+decreases-enclosed l = 8 * length l.self.now.rest.now + 3
 
 abbrev pub decreases-level : goal.decreases-level
-decreases-level l = 4 * length l.self.now.rest.now + 1
+decreases-level l = 8 * length l.self.now.rest.now + 2
 
 abbrev pub decreases-chain : goal.decreases-chain
-decreases-chain l = 4 * length l.self.now.rest.now
+decreases-chain l = 8 * length l.self.now.rest.now
 
 -- to read on behind what was read is to read the whole
 abbrev pub invariant-chain-loop-left : goal.invariant-chain-loop-left
