@@ -28,10 +28,10 @@ use Rattle.pac_syntax.specs.declared.parse.statement.StatementWord.{StatementWor
 use Rattle.pac_syntax.specs.declared.parse.statement.StatementWord.TheVariants as word
 use Rattle.pac_syntax.specs.declared.parse.parser.ColumnKind.{ColumnKind}
 use Rattle.pac_syntax.specs.declared.parse.parser.ColumnKind.TheVariants.{Column, Param}
-use Rattle.pac_syntax.specs.Grammar.{Role, ParamName, tier}
+use Rattle.pac_syntax.specs.Grammar.{Role, Plain, ParamName, tier}
 use Rattle.pac_syntax.specs.Faults.{fault_of, over_role, place}
-use Rattle.pac_syntax.specs.Machine.{Begun, Steps, Done, Want, WantName, WantType, WantLiteral, WantNegative, Level, Rest, MoreValues, MoreStmts, MaybeElse, MoreColumns, SomeParams, MoreTables, MoreProcs, want_expr, begun_name, begun_literal, begun_binary, top, lay, negation_steps, paren_steps, stmt_steps, stmt_role, stmt_word, block_steps, column_steps, typed_steps, table_steps, proc_steps, is_mark, literal_begins, negative_in, name_in, operand_begins, operator_at, operator_in, of_tier, feed, finish, scan, run}
-use Rattle.pac_syntax.specs.Views.{is_too_deep, between, rests, tier_behind, Begins, IsNot, IsNoName, IsType, IsNoType, IsLiteral, IsNoLiteral, IsNoNegative, IsNegative, negative_of, name_token, role_of, limit_of}
+use Rattle.pac_syntax.specs.Machine.{Begun, Steps, Done, Want, WantName, WantType, WantLiteral, WantNegative, Level, Rest, MoreValues, MoreStmts, MaybeElse, MoreColumns, SomeParams, MoreTables, MoreProcs, want_expr, next, literal_at, begun_name, begun_literal, begun_binary, top, lay, negation_steps, paren_steps, stmt_steps, stmt_role, stmt_word, block_steps, column_steps, typed_steps, table_steps, proc_steps, is_mark, literal_begins, negative_in, name_in, operand_begins, operator_at, operator_in, of_tier, feed, finish, scan, run}
+use Rattle.pac_syntax.specs.Views.{is_too_deep, operand_in, between, rests, tier_behind, Begins, IsNot, IsNoName, IsType, IsNoType, IsLiteral, IsNoLiteral, IsNoNegative, IsNegative, negative_of, name_token, role_of, limit_of}
 
 abbrev Read : Type 0
 Read = Result Tree Fault
@@ -124,9 +124,25 @@ no_negative end minus k (t ∷ ts) i = rw (no_negative_in t.token minus k i) ref
 
 -- ---- operands
 
-pub operand_name : (end end' d o o' : ℕ) (k : Begun → ℕ → Steps) (s ts : List Spanned) (n : NameNode) → end' ≡ end → o' ≡ o → s ≡ name_token n ∷ ts → run end (Level d 0 o k) s ≡ run end' (k (begun_name n) o') ts
+operand_is : (t : Token) (at d o : ℕ) (k : Begun → ℕ → Steps) (x : Begun) → operand_in t at ≡ Some x → operand_begins t at d o k ≡ Some (next (k x o) Plain)
+operand_is (token.Name n) at d o k x e =
+    let same : begun_name (record { at = at; name = n }) ≡ x = cc in
+    ap (λ b. Some (next (k b o) Plain)) same
+operand_is (token.Int z) at d o k x e =
+    let same : begun_literal (literal_at at z) ≡ x = cc in
+    ap (λ b. Some (next (k b o) Plain)) same
+operand_is _ at d o k x e = absurd cc
+
+pub operand_next : (end end' d o o' : ℕ) (k : Begun → ℕ → Steps) (s ts : List Spanned) (t : Spanned) (x : Begun) → end' ≡ end → o' ≡ o → s ≡ t ∷ ts → operand_in t.token t.at ≡ Some x → run end (Level d 0 o k) s ≡ run end' (k x o') ts
 unfolding run scan feed
-operand_name end end' d o o' k s ts n e same is = rw (is, e, same) refl
+operand_next end end' d o o' k s ts t x e same is h = rw (is, e, same, operand_is t.token t.at d o k x h) refl
+
+no_name_in : (t : Token) (at : ℕ) → operand_in t at ≡ None → name_in t at ≡ None
+no_name_in (token.Name n) at e = absurd cc
+no_name_in _ at e = refl
+
+pub no_name_next : (s ts : List Spanned) (t : Spanned) → s ≡ t ∷ ts → operand_in t.token t.at ≡ None → IsNoName s
+no_name_next s ts t is h = rw is (no_name_in t.token t.at h)
 
 begins_literal : (t : Token) (at d o : ℕ) (k : Begun → ℕ → Steps) → is_mark (token.Symbol symbol.Not) t ≡ false → is_mark (token.Symbol symbol.OpenParen) t ≡ false → name_in t at ≡ None → operand_begins t at d o k ≡ literal_begins t at (λ l. k (begun_literal l) o)
 begins_literal (token.Name n) at d o k a b c = absurd cc
@@ -174,6 +190,10 @@ pub level_begins : (end d n o : ℕ) (k : Begun → ℕ → Steps) (s : List Spa
 unfolding run scan finish feed
 level_begins end d n o k [] = refl
 level_begins end d n o k (t ∷ ts) = rw (lay_rests d n k) refl
+
+-- the same of a right operand, at the tier of its operator
+pub right_begins : (end d n own o : ℕ) (k : Begun → ℕ → Steps) (s : List Spanned) → own ≡ n → run end (Level d n o k) s ≡ run end (Level d 0 o (rests d 0 own k)) s
+right_begins end d n own o k s e = rw e (level_begins end d n o k s)
 
 abbrev WhereNo : ℕ → List Spanned → Type 0
 WhereNo n [] = Unit {0}

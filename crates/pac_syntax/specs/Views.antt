@@ -20,7 +20,7 @@ use Rattle.pac_base.specs.declared.refusal.Refusal.{Refusal}
 use Rattle.pac_tokens.specs.declared.fault.Fault.{Fault}
 use Rattle.pac_value.specs.declared.expr.BinOp.{BinOp}
 use Rattle.pac_syntax.specs.Grammar.{Role, ColumnName, ParamName, tier}
-use Rattle.pac_syntax.specs.Machine.{Steps, Rest, run, Begun, is_mark, name_in, type_of_token, literal_in, literal_at}
+use Rattle.pac_syntax.specs.Machine.{Steps, Rest, run, Begun, begun_name, begun_literal, is_mark, name_in, type_of_token, literal_in, literal_at}
 
 -- the tokens begin with this word or sign
 pub record Begins (w : Token) (at : ℕ) (ts rest : List Spanned) : Type 0 where
@@ -112,6 +112,12 @@ tier_behind n = n
 abbrev pub rests : ℕ → ℕ → ℕ → (Begun → ℕ → Steps) → Begun → ℕ → Steps
 rests d n zero k = k
 rests d n (suc m) k = if nat_le n m then rests d n m (λ x o. Rest d m x o k) else k
+
+-- the operand that a name or an int is
+abbrev pub operand_in : Token → ℕ → Option Begun
+operand_in (token.Name n) at = Some (begun_name (record { at = at; name = n }))
+operand_in (token.Int z) at = Some (begun_literal (literal_at at z))
+operand_in _ at = None
 
 -- whether a statement that begins with this word is a conditional in too many others
 abbrev pub is_too_deep : ℕ → StatementWord → Bool

@@ -1,9 +1,9 @@
 // Reads expressions.
-ghost use Rattle.std.specs.Prelude.{◌≡◌, ◌≢◌, ◌<◌, ◌≤◌, ◌+◌, ℕ, zero, length, OnOk, IfOk, IfErr, IfSome};
+ghost use Rattle.std.specs.Prelude.{◌≡◌, ◌≢◌, ◌<◌, ◌≤◌, ◌+◌, ℕ, false, length, Some, None, MatchOption, OnOk, IfOk, IfErr, IfSome};
 ghost use Rattle.pac_base.specs.Refusals.{Gives, OkUnlessMemory};
 ghost use Rattle.pac_syntax.specs.Machine.{Steps, Begun, Level, begun_binary, operator_in, want_expr, negation_steps, paren_steps, run, either};
 ghost use Rattle.pac_syntax.specs.Grammar.{tier as tier_of};
-ghost use Rattle.pac_syntax.specs.Views.{begun_at, between, rests, tier_behind, IsNot, Goes};
+ghost use Rattle.pac_syntax.specs.Views.{begun_at, between, rests, tier_behind, operand_in, IsNot, IsNoName, Goes};
 ghost use Rattle.pac_tokens.specs.declared.token.Token.TheVariants as token;
 ghost use Rattle.pac_tokens.specs.declared.token.Symbol.TheVariants as symbol;
 ghost use Rattle.pac_tokens.specs.declared.fault.FaultKind.TheVariants.{TooMany};
@@ -13,10 +13,10 @@ ghost use Rattle.pac_syntax.specs.declared.tree.ExprNode.{ExprNode as AnExprNode
 use super::parser::{Operand, Parser, split};
 use crate::limits::{MAX_OPERATORS, MAX_PARENS};
 use crate::operator::{operator_by, tier_behind, tier_of};
-use crate::tree::ExprNode;
+use crate::tree::{ExprNode, LiteralNode, NameNode};
 use pac_base::Boxed;
 use pac_tokens::{Fault, FaultKind, Symbol, SyntaxError, Token};
-use pac_value::BinOp;
+use pac_value::{BinOp, Value};
 
 // The level of any expression.
 const EXPRESSION: u8 = 5;
@@ -37,6 +37,21 @@ fn operator_between(tier: u8, level: u8, token: &Token) -> Option<BinOp>
     }
 }
 
+// The operand that a name or an int is.
+fn operand_of(token: Token, at: usize) -> Option<Operand>
+    ensures { MatchOption result (operand_in token at ≡ None) (λ x. operand_in token at ≡ Some (begun_at x)) }
+{
+    let expr = match token {
+        Token::Name(name) => ExprNode::Name(NameNode { at, name }),
+        Token::Int(value) => ExprNode::Literal(LiteralNode {
+            at,
+            value: Value::Int(value),
+        }),
+        _ => return None,
+    };
+    Some(Operand { from: at, expr })
+}
+
 impl<'a> Parser<'a> {
     // One more operator, at this place.
     fn count(&mut self, at: usize) -> Result<(), SyntaxError>
@@ -51,6 +66,16 @@ impl<'a> Parser<'a> {
         }
         self.operators += 1;
         Ok(())
+    }
+
+    // Whether an operator below a level comes next.
+    fn sees_operator(&self, level: u8) -> bool
+        ensures { (d : ℕ) (x : Begun) (k : Begun → ℕ → Steps) (o : ℕ) → result ≡ false → run self.now.end (rests d 0 level k x o) self.now.rest.now ≡ run self.now.end (k x o) self.now.rest.now }
+    {
+        let Some((first, _)) = split(self.rest) else {
+            return false;
+        };
+        operator_between(0, level, &first.token).is_some()
     }
 
     // The operator that comes next, where its tier is from this one on and below a level, which is taken.
@@ -70,27 +95,53 @@ impl<'a> Parser<'a> {
         Ok(Some(op))
     }
 
-    // A name or a literal.
+    // Takes the name or the int that comes next.
+    fn takes_operand(&mut self) -> Option<Operand>
+        ensures end { self.new.end ≡ self.old.end }
+        ensures operators { self.new.operators ≡ self.old.operators }
+        ensures shorter { IfSome result (λ _. length self.new.rest.now < length self.old.rest.now) }
+        ensures run { MatchOption result ((self.new.rest ≡ self.old.rest) × IsNoName self.old.rest.now) (λ x. (d : ℕ) (k : Begun → ℕ → Steps) → run self.old.end (Level d 0 self.old.operators k) self.old.rest.now ≡ run self.new.end (k (begun_at x) self.new.operators) self.new.rest.now) }
+    {
+        let Some((first, rest)) = split(self.rest) else {
+            return None;
+        };
+        let Some(operand) = operand_of(first.token, first.at) else {
+            return None;
+        };
+        self.rest = rest;
+        Some(operand)
+    }
+
+    // A literal.
     fn operand(&mut self, parens: u8) -> Result<Operand, SyntaxError>
         requires no_negation { IsNot (token.Symbol symbol.Not) self.old.rest.now }
         requires no_paren { IsNot (token.Symbol symbol.OpenParen) self.old.rest.now }
+        requires no_name { IsNoName self.old.rest.now }
         ensures shorter { OnOk result (length self.new.rest.now < length self.old.rest.now) }
         ensures run { (k : Begun → ℕ → Steps) → Gives (λ x. run self.new.end (k (begun_at x) self.new.operators) self.new.rest.now) result (run self.old.end (Level parens 0 self.old.operators k) self.old.rest.now) }
     {
-        if let Some(name) = self.takes_name() {
-            let from = name.at;
-            let expr = ExprNode::Name(name);
-            return Ok(Operand { from, expr });
-        }
         let literal = self.literal()?;
         let from = literal.at;
         let expr = ExprNode::Literal(literal);
         Ok(Operand { from, expr })
     }
 
-    // An operand, with its negations and parentheses.
+    // An operand, with its negations and parentheses. Mostly it is a name or an int, for which one look is enough.
     #[cycle(expression)]
     fn unary(&mut self, parens: u8) -> Result<Operand, SyntaxError>
+        ensures shorter { OnOk result (length self.new.rest.now < length self.old.rest.now) }
+        ensures run { (k : Begun → ℕ → Steps) → Gives (λ x. run self.new.end (k (begun_at x) self.new.operators) self.new.rest.now) result (run self.old.end (Level parens 0 self.old.operators k) self.old.rest.now) }
+    {
+        if let Some(operand) = self.takes_operand() {
+            return Ok(operand);
+        }
+        self.other_operand(parens)
+    }
+
+    // An operand that is no name.
+    #[cycle(expression)]
+    fn other_operand(&mut self, parens: u8) -> Result<Operand, SyntaxError>
+        requires { IsNoName self.old.rest.now }
         ensures shorter { OnOk result (length self.new.rest.now < length self.old.rest.now) }
         ensures run { (k : Begun → ℕ → Steps) → Gives (λ x. run self.new.end (k (begun_at x) self.new.operators) self.new.rest.now) result (run self.old.end (Level parens 0 self.old.operators k) self.old.rest.now) }
     {
@@ -134,17 +185,33 @@ impl<'a> Parser<'a> {
         })
     }
 
-    // An expression of a level: an operand, and as many more as operators below the level join to it.
+    // An expression of a level. Mostly it is an operand alone, which is handed on as it is.
     #[cycle(expression)]
     fn level(&mut self, parens: u8, level: u8) -> Result<Operand, SyntaxError>
         ensures shorter { OnOk result (length self.new.rest.now < length self.old.rest.now) }
         ensures run { (k : Begun → ℕ → Steps) → Gives (λ x. run self.new.end (k (begun_at x) self.new.operators) self.new.rest.now) result (run self.old.end (Level parens level self.old.operators k) self.old.rest.now) }
     {
-        let mut left = self.unary(parens)?;
+        let left = self.unary(parens)?;
+        if !self.sees_operator(level) {
+            return Ok(left);
+        }
+        self.chain(parens, level, left)
+    }
+
+    // An operand, and as many more as operators below a level join to it.
+    #[cycle(expression)]
+    fn chain(&mut self, parens: u8, level: u8, first: Operand) -> Result<Operand, SyntaxError>
+        ensures left { OnOk result (length self.new.rest.now ≤ length self.old.rest.now) }
+        ensures run { (k : Begun → ℕ → Steps) → Gives (λ x. run self.new.end (k (begun_at x) self.new.operators) self.new.rest.now) result (run self.old.end (rests parens 0 level k (begun_at first) self.old.operators) self.old.rest.now) }
+    {
+        let mut left = first;
         let mut tier = 0;
         while let Some(op) = self.operator(tier, level)? {
             let own = tier_of(op);
-            let right = self.level(parens, own)?;
+            let mut right = self.unary(parens)?;
+            if self.sees_operator(own) {
+                right = self.chain(parens, own, right)?;
+            }
             left = self.joined(op, left, right)?;
             tier = tier_behind(own);
         }
