@@ -6,8 +6,8 @@ ghost use Rattle.pac_value.specs.declared.values.Value.TheVariants.{Int as AnInt
 ghost use Rattle.pac_value.specs.declared.expr.Expr.{Lit, Bin};
 
 use crate::{
-    BinOp, Env, Expr, Key, Name, Row, Text, Trap, Ty, Value, eval, push_key, push_value,
-    push_values,
+    BinOp, Env, Expr, Key, Name, Row, Text, Trap, Ty, Value, eval, push_count, push_key,
+    push_value, push_values,
 };
 use pac_base::{Boxed, Exact, NoMemory, Same};
 use std::alloc::Global;
