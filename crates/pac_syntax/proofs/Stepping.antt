@@ -124,6 +124,7 @@ no_negative end minus k (t ∷ ts) i = rw (no_negative_in t.token minus k i) ref
 
 -- ---- operands
 
+-- a name or an int is an operand by itself
 operand_is : (t : Token) (at d o : ℕ) (k : Begun → ℕ → Steps) (x : Begun) → operand_in t at ≡ Some x → operand_begins t at d o k ≡ Some (next (k x o) Plain)
 operand_is (token.Name n) at d o k x e =
     let same : begun_name (record { at = at; name = n }) ≡ x = cc in
@@ -175,6 +176,7 @@ paren_past end d o at k s ts past b = rw (b.text, lt-ltb 16 (suc d) (omega arith
 
 -- ---- levels and operators
 
+-- the loosest of these tiers comes last
 rests_open : (d n m : ℕ) (k : Begun → ℕ → Steps) → n ≤ m → rests d n (suc m) k ≡ rests d n m (λ x o. Rest d m x o k)
 rests_open d n m k h = rw (le-leb n m h) refl
 
@@ -195,6 +197,7 @@ level_begins end d n o k (t ∷ ts) = rw (lay_rests d n k) refl
 pub right_begins : (end d n own o : ℕ) (k : Begun → ℕ → Steps) (s : List Spanned) → own ≡ n → run end (Level d n o k) s ≡ run end (Level d 0 o (rests d 0 own k)) s
 right_begins end d n own o k s e = rw e (level_begins end d n o k s)
 
+-- the first token is no operator of this tier
 abbrev WhereNo : ℕ → List Spanned → Type 0
 WhereNo n [] = Unit {0}
 WhereNo n (t ∷ ts) = operator_at n t.token ≡ None

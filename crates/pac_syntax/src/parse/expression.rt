@@ -1,5 +1,5 @@
 // Reads expressions.
-ghost use Rattle.std.specs.Prelude.{◌≡◌, ◌≢◌, ◌<◌, ◌≤◌, ◌+◌, ℕ, false, length, Some, None, MatchOption, OnOk, IfOk, IfErr, IfSome};
+ghost use Rattle.std.specs.Prelude.{◌≡◌, ◌<◌, ◌≤◌, ◌+◌, ℕ, false, length, Some, None, MatchOption, OnOk, IfOk, IfErr, IfSome};
 ghost use Rattle.pac_base.specs.Refusals.{Gives, OkUnlessMemory};
 ghost use Rattle.pac_syntax.specs.Machine.{Steps, Begun, Level, begun_binary, operator_in, want_expr, negation_steps, paren_steps, run, either};
 ghost use Rattle.pac_syntax.specs.Grammar.{tier as tier_of};
@@ -112,7 +112,7 @@ impl<'a> Parser<'a> {
         Some(operand)
     }
 
-    // A literal.
+    // A literal as an operand.
     fn operand(&mut self, parens: u8) -> Result<Operand, SyntaxError>
         requires no_negation { IsNot (token.Symbol symbol.Not) self.old.rest.now }
         requires no_paren { IsNot (token.Symbol symbol.OpenParen) self.old.rest.now }
@@ -177,7 +177,7 @@ impl<'a> Parser<'a> {
         ensures left { OnOk result (length self.new.rest.now ≤ length self.old.rest.now) }
         ensures run { (k : Begun → ℕ → Steps) → Gives (λ x. run self.new.end (k (begun_at x) self.new.operators) self.new.rest.now) result (run self.old.end (paren_steps at parens self.old.operators k) self.old.rest.now) }
     {
-        let inner = self.level(parens, EXPRESSION)?;
+        let inner = self.whole(parens)?;
         self.symbol(Symbol::CloseParen)?;
         Ok(Operand {
             from: at,
@@ -185,20 +185,21 @@ impl<'a> Parser<'a> {
         })
     }
 
-    // An expression of a level. Mostly it is an operand alone, which is handed on as it is.
+    // Any expression. Mostly it is an operand alone, which is handed on as it is.
     #[cycle(expression)]
-    fn level(&mut self, parens: u8, level: u8) -> Result<Operand, SyntaxError>
+    fn whole(&mut self, parens: u8) -> Result<Operand, SyntaxError>
         ensures shorter { OnOk result (length self.new.rest.now < length self.old.rest.now) }
-        ensures run { (k : Begun → ℕ → Steps) → Gives (λ x. run self.new.end (k (begun_at x) self.new.operators) self.new.rest.now) result (run self.old.end (Level parens level self.old.operators k) self.old.rest.now) }
+        ensures run { (k : Begun → ℕ → Steps) → Gives (λ x. run self.new.end (k (begun_at x) self.new.operators) self.new.rest.now) result (run self.old.end (Level parens 5 self.old.operators k) self.old.rest.now) }
     {
         let left = self.unary(parens)?;
-        if !self.sees_operator(level) {
+        if !self.sees_operator(EXPRESSION) {
             return Ok(left);
         }
-        self.chain(parens, level, left)
+        self.chain(parens, EXPRESSION, left)
     }
 
-    // An operand, and as many more as operators below a level join to it.
+    // An operand, and as many more as operators below a level join to it. The left operand stays where it is, and a right
+    // one is read further only where an operator that binds tighter stands behind it.
     #[cycle(expression)]
     fn chain(&mut self, parens: u8, level: u8, first: Operand) -> Result<Operand, SyntaxError>
         ensures left { OnOk result (length self.new.rest.now ≤ length self.old.rest.now) }
@@ -239,7 +240,7 @@ impl<'a> Parser<'a> {
         ensures run { Goes want_expr self.old self.new result }
     {
         self.operators = 0;
-        let whole = self.level(0, EXPRESSION)?;
+        let whole = self.whole(0)?;
         Ok(whole.expr)
     }
 }

@@ -36,18 +36,18 @@ other_operand-returns-in-Some-takes_symbol-clause-run t c = λ k.
     (paren_next _ _ _ _ _ _ k _ _ (sign.end ∙ not.end) (sign.operators ∙ not.operators) c.if-parens-ge-MAX_PARENS.false (rw not.token.0 at sign.token))
     (c.enclosed.ensures.run k)
 
--- ---- levels
+-- ---- whole expressions
 
-pub level-returns-in_err-left-clause-run : goal.level-returns-in_err-left-clause-run
-level-returns-in_err-left-clause-run t c =
+pub whole-returns-in_err-left-clause-run : goal.whole-returns-in_err-left-clause-run
+whole-returns-in_err-left-clause-run t c =
     let p = err_from_is_err_and c.from_residual.result c.from_residual.ensures.1 in
-    λ k. rw (p.1, p.2) (fails_along _ _ _ (level_begins _ _ _ _ k _) (c.in_err-left.ensures.run _))
+    λ k. rw (p.1, p.2) (fails_along _ _ _ (level_begins _ _ 5 _ k _) (c.in_err-left.ensures.run _))
 
-pub level-returns-clause-run : goal.level-returns-clause-run
-level-returns-clause-run t c = λ k. gives_along _ c.chain.result _ _ (level_begins _ _ _ _ k _ ∙ c.in_ok-left.ensures.run _) (c.chain.ensures.run k)
+pub whole-returns-clause-run : goal.whole-returns-clause-run
+whole-returns-clause-run t c = λ k. gives_along _ c.chain.result _ _ (level_begins _ _ 5 _ k _ ∙ c.in_ok-left.ensures.run _) (c.chain.ensures.run k)
 
-pub level-returns-then-not-sees_operator-clause-run : goal.level-returns-then-not-sees_operator-clause-run
-level-returns-then-not-sees_operator-clause-run t c = λ k. level_begins _ _ _ _ k _ ∙ c.in_ok-left.ensures.run _ ∙ c.sees_operator.ensures _ _ k _ c.if-not-sees_operator.true
+pub whole-returns-then-not-sees_operator-clause-run : goal.whole-returns-then-not-sees_operator-clause-run
+whole-returns-then-not-sees_operator-clause-run t c = λ k. level_begins _ _ 5 _ k _ ∙ c.in_ok-left.ensures.run _ ∙ c.sees_operator.ensures _ _ k _ c.if-not-sees_operator.true
 
 -- ---- operators and their right operands
 

@@ -17,8 +17,8 @@ decreases-negation l = 8 * length l.self.now.rest.now + 2
 abbrev pub decreases-enclosed : goal.decreases-enclosed
 decreases-enclosed l = 8 * length l.self.now.rest.now + 3
 
-abbrev pub decreases-level : goal.decreases-level
-decreases-level l = 8 * length l.self.now.rest.now + 2
+abbrev pub decreases-whole : goal.decreases-whole
+decreases-whole l = 8 * length l.self.now.rest.now + 2
 
 abbrev pub decreases-chain : goal.decreases-chain
 decreases-chain l = 8 * length l.self.now.rest.now

@@ -1,3 +1,4 @@
+-- A literal is an operand.
 use Rattle.std.proofs.Common.{refl, ◌∙◌, ap, sym}
 use Rattle.pac_syntax.specs.Machine.{begun_literal, run}
 use Rattle.std.proofs.lemmas.Result.{err_from_is_err_and}

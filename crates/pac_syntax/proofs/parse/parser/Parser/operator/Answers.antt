@@ -1,3 +1,4 @@
+-- An operator of these tiers is taken, and where there is none their rests are passed.
 use Rattle.std.proofs.Common.{sym, ◌∙◌}
 use Rattle.std.proofs.lemmas.Result.{err_from_is_err_and}
 use Rattle.pac_syntax.proofs.Stepping.{no_operator, other_token, operator_past, operator_next}
