@@ -53,8 +53,8 @@ abbrev pub dump : Script → Tables → List ℕ
 dump script tables = tables_text tables 0 script.catalogue.tables
 
 -- the sink took the text, or its count of faults rose and it took a front of it
-abbrev pub SaysUnlessFault : Option (List ℕ) → List ℕ → Option (List ℕ) → ℕ → ℕ → Type 0
-SaysUnlessFault old text new before now = Took old text new ⊎ (Rose before now × TookFront old text new)
+abbrev pub TookUnlessFault : {S : Type 0} → (S → Option (List ℕ)) → (S → ℕ) → S → List ℕ → S → Type 0
+TookUnlessFault held faults old text new = Took (held old) text (held new) ⊎ (Rose (faults old) (faults new) × TookFront (held old) text (held new))
 
 -- the input is a script whose calls end with some tables, whose dump has this property
 abbrev pub IsDumpOf : Option (List ℕ) → (List ℕ → Type 0) → Type 0

@@ -7,7 +7,7 @@ ghost use Rattle.pac_outside.specs.Content.{Took, TookFront, GaveAtMost};
 ghost use Rattle.pac_types.specs.declared.reason.Reason.{Reason as AReason};
 ghost use Rattle.pac_serial.specs.Calls.{FitsProcs};
 ghost use Rattle.pac_main.specs.Stop.{status_of, line_of, abort_line};
-ghost use Rattle.pac_main.specs.Replay.{IsReplay, IsScriptOf, IsNoScript, IsRefusedAs, outcome, SaysUnlessFault, IsDumpOf, IsAbortOf, DoesEnd};
+ghost use Rattle.pac_main.specs.Replay.{IsReplay, IsScriptOf, IsNoScript, IsRefusedAs, outcome, TookUnlessFault, IsDumpOf, IsAbortOf, DoesEnd};
 ghost use Rattle.pac_main.specs.declared.script.Script.{Script as AScript};
 ghost use Rattle.pac_main.specs.declared.script_fault.ScriptFault.{ScriptFault as AFault};
 ghost use Rattle.pac_main.specs.declared.stop.Stop.{Stop as AStop};
@@ -140,9 +140,9 @@ pub fn pacman<RT: Threads + Wait + Sync, I: Source, O: Sink, E: Sink, D: Disk, G
     ensures usage { (result ≡ 1) ↔ ¬ IsReplay words.now }
     ensures refused { result ≡ 2 → IsNoScript (I.left input.old) }
     ensures refusal { result ≡ 2 → (fault : AFault) × IsRefusedAs (I.left input.old) fault
-        × SaysUnlessFault (E.held errors.old) (line_of (Stop.Script fault)) (E.held errors.new) (E.faults errors.old) (E.faults errors.new) }
+        × TookUnlessFault E.held E.faults errors.old (line_of (Stop.Script fault)) errors.new }
     ensures aborted { result ≡ 4 → (txn op : ℕ) × (reason : AReason) × IsAbortOf (I.left input.old) txn op reason
-        × SaysUnlessFault (E.held errors.old) (abort_line txn op reason) (E.held errors.new) (E.faults errors.old) (E.faults errors.new) }
+        × TookUnlessFault E.held E.faults errors.old (abort_line txn op reason) errors.new }
     ensures input_fault { result ≡ 6 → Rose (I.faults input.old) (I.faults input.new) }
     ensures output_fault { result ≡ 7 → Rose (O.faults output.old) (O.faults output.new) }
 
@@ -153,7 +153,7 @@ pub fn pacman<RT: Threads + Wait + Sync, I: Source, O: Sink, E: Sink, D: Disk, G
 
     // The error sink takes the status's line.
     ensures quiet { result ≡ 0 → errors.new ≡ errors.old }
-    ensures told { result ≢ 0 → (stop : AStop) × (result ≡ status_of stop) × SaysUnlessFault (E.held errors.old) (line_of stop) (E.held errors.new) (E.faults errors.old) (E.faults errors.new) }
+    ensures told { result ≢ 0 → (stop : AStop) × (result ≡ status_of stop) × TookUnlessFault E.held E.faults errors.old (line_of stop) errors.new }
 
     // It reads at most one byte more than a script has, nothing where the words are wrong, and calls no device.
     ensures taken { GaveAtMost (MAX_SCRIPT + 1) (I.left input.old) (I.left input.new) }

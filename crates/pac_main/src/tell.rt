@@ -1,7 +1,7 @@
 // What the error sink is told, and the status behind it.
 ghost use Rattle.std.specs.Prelude.{◌≡◌, ◌⊎◌, IfOk, IsTrue, false, if◌then◌else◌};
 ghost use Rattle.std.specs.Result.{is_ok};
-ghost use Rattle.pac_main.specs.Replay.{SaysUnlessFault};
+ghost use Rattle.pac_main.specs.Replay.{TookUnlessFault};
 ghost use Rattle.pac_main.specs.Stop.{status_of, line_of, takes_memory, stop_of_words};
 
 use crate::script_fault::ScriptFault;
@@ -36,7 +36,7 @@ impl From<WordsError> for Stop {
 /// failing error sink doesn't change it.
 pub fn refuse_words<E: Sink>(error: WordsError, errors: &mut E) -> u8
     ensures status { result ≡ status_of (stop_of_words error) }
-    ensures told { SaysUnlessFault (E.held errors.old) (line_of (stop_of_words error)) (E.held errors.new) (E.faults errors.old) (E.faults errors.new) }
+    ensures told { TookUnlessFault E.held E.faults errors.old (line_of (stop_of_words error)) errors.new }
 {
     let stop = Stop::from(error);
     told_text(stop, errors);
@@ -46,7 +46,7 @@ pub fn refuse_words<E: Sink>(error: WordsError, errors: &mut E) -> u8
 // Tells the error sink the stop's line, which is one text.
 fn told_text<E: Sink>(stop: Stop, errors: &mut E)
     requires { takes_memory stop ≡ false }
-    ensures line { SaysUnlessFault (E.held errors.old) (line_of stop) (E.held errors.new) (E.faults errors.old) (E.faults errors.new) }
+    ensures line { TookUnlessFault E.held E.faults errors.old (line_of stop) errors.new }
 {
     if let Some(line) = stop.line() {
         let _ = write_all(errors, line);
@@ -57,7 +57,7 @@ fn told_text<E: Sink>(stop: Stop, errors: &mut E)
 fn told_made<E: Sink>(stop: Stop, made: Result<Vec<u8>, AllocError>, errors: &mut E) -> Stop
     requires { IfOk made (λ line. line.items ≡ line_of stop) }
     ensures which { result ≡ (if is_ok made then stop else Stop.NoMemory) }
-    ensures line { SaysUnlessFault (E.held errors.old) (line_of result) (E.held errors.new) (E.faults errors.old) (E.faults errors.new) }
+    ensures line { TookUnlessFault E.held E.faults errors.old (line_of result) errors.new }
 {
     match made {
         Ok(line) => {
@@ -74,7 +74,7 @@ fn told_made<E: Sink>(stop: Stop, made: Result<Vec<u8>, AllocError>, errors: &mu
 /// Tells the error sink why the command stopped, and answers that, or that there was no memory for its line.
 pub fn told<E: Sink>(alloc: Global, stop: Stop, errors: &mut E) -> Stop
     ensures which { (result ≡ stop) ⊎ ((result ≡ Stop.NoMemory) × IsTrue (takes_memory stop)) }
-    ensures line { SaysUnlessFault (E.held errors.old) (line_of result) (E.held errors.new) (E.faults errors.old) (E.faults errors.new) }
+    ensures line { TookUnlessFault E.held E.faults errors.old (line_of result) errors.new }
 {
     match stop {
         Stop::Script(ScriptFault::Catalogue(fault)) => {
