@@ -9,7 +9,8 @@ use pac_base::NoMemory;
 use pac_outside::Failed;
 use pac_serial::SerialError;
 use pac_types::{CatalogueFault, Reason};
-use std::alloc::{AllocError, Global};
+use pac_value::push_count;
+use std::alloc::Global;
 
 /// Why a command stops before its end.
 #[derive(Clone, Copy, Debug, PartialEq, Eq)]
@@ -99,13 +100,16 @@ impl Stop {
 }
 
 /// The line `catalogue AT KIND`.
-pub fn catalogue_line(alloc: Global, fault: CatalogueFault) -> Result<Vec<u8>, AllocError>
+///
+/// # Errors
+///
+/// `NoMemory` alone.
+pub fn catalogue_line(alloc: Global, fault: CatalogueFault) -> Result<Vec<u8>, NoMemory>
     ensures { IfOk result (λ line. line.items ≡ catalogue_line fault) }
 {
-    let at = fault.at().to_string(alloc)?;
     let mut line = Vec::new(alloc);
     line.extend_from_slice(b"catalogue ")?;
-    line.extend_from_slice(at.as_bytes())?;
+    push_count(&mut line, fault.at() as u64)?;
     line.extend_from_slice(b" ")?;
     line.extend_from_slice(fault.kind_name().as_bytes())?;
     line.extend_from_slice(b"\n")?;
@@ -113,16 +117,18 @@ pub fn catalogue_line(alloc: Global, fault: CatalogueFault) -> Result<Vec<u8>, A
 }
 
 /// The line `abort TXN OP REASON`.
-pub fn abort_line(alloc: Global, txn: u64, op: u64, reason: Reason) -> Result<Vec<u8>, AllocError>
+///
+/// # Errors
+///
+/// `NoMemory` alone.
+pub fn abort_line(alloc: Global, txn: u64, op: u64, reason: Reason) -> Result<Vec<u8>, NoMemory>
     ensures { IfOk result (λ line. line.items ≡ abort_line txn op reason) }
 {
-    let txn = txn.to_string(alloc)?;
-    let op = op.to_string(alloc)?;
     let mut line = Vec::new(alloc);
     line.extend_from_slice(b"abort ")?;
-    line.extend_from_slice(txn.as_bytes())?;
+    push_count(&mut line, txn)?;
     line.extend_from_slice(b" ")?;
-    line.extend_from_slice(op.as_bytes())?;
+    push_count(&mut line, op)?;
     line.extend_from_slice(b" ")?;
     line.extend_from_slice(reason.name().as_bytes())?;
     line.extend_from_slice(b"\n")?;

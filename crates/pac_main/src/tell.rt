@@ -6,8 +6,9 @@ ghost use Rattle.pac_main.specs.Stop.{status_of, line_of, takes_memory, stop_of_
 
 use crate::script_fault::ScriptFault;
 use crate::stop::{Stop, abort_line, catalogue_line};
+use pac_base::NoMemory;
 use pac_outside::{Sink, write_all};
-use std::alloc::{AllocError, Global};
+use std::alloc::Global;
 use thiserror::Error;
 
 /// Why the words of the command line name no command.
@@ -54,7 +55,7 @@ fn told_text<E: Sink>(stop: Stop, errors: &mut E)
 }
 
 // Tells the error sink the line that was made for the stop, and answers that, or that there was no memory for the line.
-fn told_made<E: Sink>(stop: Stop, made: Result<Vec<u8>, AllocError>, errors: &mut E) -> Stop
+fn told_made<E: Sink>(stop: Stop, made: Result<Vec<u8>, NoMemory>, errors: &mut E) -> Stop
     requires { IfOk made (λ line. line.items ≡ line_of stop) }
     ensures which { result ≡ (if is_ok made then stop else Stop.NoMemory) }
     ensures line { TookUnlessFault E.held E.faults errors.old (line_of result) errors.new }
