@@ -5,7 +5,7 @@ use Rattle.std.specs.Io.KnownBytes.{prepend_known}
 use Rattle.std.proofs.lemmas.List.{append-nil}
 use Rattle.pac_outside.specs.Content.{Gave, IsAtEnd}
 use Rattle.pac_types.specs.declared.procedure.Proc.{Proc}
-use Rattle.pac_serial.specs.declared.serial.Call.{Call}
+use Rattle.pac_ops.specs.declared.transaction.Call.{Call}
 use Rattle.pac_serial.specs.Calls.{FitsProcs}
 use Rattle.pac_main.specs.declared.script.Script.{Script}
 use Rattle.pac_base.specs.Refusals.{Only}

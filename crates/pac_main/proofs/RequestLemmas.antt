@@ -4,7 +4,7 @@ use Rattle.std.specs.Prelude.{MatchOption}
 use Rattle.std.specs.List.{AllZip, flat_map}
 use Rattle.std.proofs.lemmas.List.{append-nil}
 use Rattle.pac_types.specs.declared.procedure.Proc.{Proc}
-use Rattle.pac_serial.specs.declared.serial.Call.{Call}
+use Rattle.pac_ops.specs.declared.transaction.Call.{Call}
 use Rattle.pac_main.specs.Requests.{IsLine, AreCalls, some_call}
 
 cons_calls : (procs : List Proc) (line : List ℕ) (lines : List (List ℕ)) (o : Option Call) (more : List Call) → IsLine procs line o → AreCalls procs lines more → AreCalls procs (line ∷ lines) (some_call o ++ more)

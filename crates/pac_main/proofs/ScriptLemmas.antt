@@ -4,7 +4,7 @@ use Rattle.std.specs.Prelude.{MatchOption, IfOk}
 use Rattle.std.proofs.Common.{◌⊎◌, ◌≤◌, length, inl, inr, Result, Ok, Err}
 use Rattle.std.proofs.lemmas.Bool.{cases_order}
 use Rattle.pac_types.specs.Typing.{CatalogueState}
-use Rattle.pac_serial.specs.declared.serial.Call.{Call}
+use Rattle.pac_ops.specs.declared.transaction.Call.{Call}
 use Rattle.pac_main.specs.declared.script.Script.{Script}
 use Rattle.pac_main.specs.Lines.{IsMark, HasNoMark}
 use Rattle.pac_main.specs.Requests.{AreCalls}

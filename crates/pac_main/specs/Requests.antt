@@ -6,7 +6,7 @@ use Rattle.pac_tokens.specs.declared.token.Token.{Token}
 use Rattle.pac_tokens.specs.declared.token.Spanned.{Spanned}
 use Rattle.pac_tokens.specs.Tokens.{IsLexed}
 use Rattle.pac_types.specs.declared.procedure.Proc.{Proc}
-use Rattle.pac_serial.specs.declared.serial.Call.{Call}
+use Rattle.pac_ops.specs.declared.transaction.Call.{Call}
 use Rattle.pac_main.specs.Calls.{kinds, IsCall}
 
 -- no tokens, or those of a call

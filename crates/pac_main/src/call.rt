@@ -3,7 +3,7 @@ ghost use Rattle.std.specs.Prelude.{◌≡◌, ◌<◌, length, IfOk, IfSome, Is
 ghost use Rattle.std.specs.Option.{option_map};
 ghost use Rattle.pac_value.specs.Values.{type_of};
 ghost use Rattle.pac_types.specs.Sound.{FitParams};
-ghost use Rattle.pac_serial.specs.declared.serial.Call.{Call as ACall};
+ghost use Rattle.pac_ops.specs.declared.transaction.Call.{Call as ACall};
 ghost use Rattle.pac_main.specs.Calls.{kinds, IsCall, IsFitting};
 ghost use Rattle.pac_main.specs.CallsRead.{argument_in, more_in, args_in, next_in, is_closed, one_value, negative_value, name_of_token, is_call_word, is_open, head_in};
 

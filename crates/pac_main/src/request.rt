@@ -3,7 +3,7 @@ ghost use Rattle.std.specs.Prelude.{◌≡◌, ◌<◌, ◌++◌, List, Option, 
 ghost use Rattle.pac_base.specs.Refusals.{OkUnlessMemory, Only};
 ghost use Rattle.pac_tokens.specs.Tokens.{IsLexed};
 ghost use Rattle.pac_tokens.specs.declared.token.Spanned.{Spanned as ASpanned};
-ghost use Rattle.pac_serial.specs.declared.serial.Call.{Call as ACall};
+ghost use Rattle.pac_ops.specs.declared.transaction.Call.{Call as ACall};
 ghost use Rattle.pac_main.specs.Lines.{lines};
 ghost use Rattle.pac_main.specs.Requests.{IsLine, AreCalls, some_call};
 

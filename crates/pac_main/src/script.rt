@@ -4,7 +4,7 @@ ghost use Rattle.pac_base.specs.Refusals.{OkUnlessMemory, Only};
 ghost use Rattle.pac_base.specs.declared.refusal.Refusal.TheVariants as error;
 ghost use Rattle.pac_types.specs.CatalogueText.{HasCatalogue};
 ghost use Rattle.pac_types.specs.Typing.{CatalogueState};
-ghost use Rattle.pac_serial.specs.declared.serial.Call.{Call as ACall};
+ghost use Rattle.pac_ops.specs.declared.transaction.Call.{Call as ACall};
 ghost use Rattle.pac_main.specs.Requests.{AreCalls};
 ghost use Rattle.pac_main.specs.Script.{IsScript, HasParts, IsPartsFault, IsRefusal, lines_behind};
 ghost use Rattle.pac_main.specs.declared.script.Script.{Script as AScript};

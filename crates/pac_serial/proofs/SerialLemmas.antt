@@ -6,7 +6,7 @@ use Rattle.pac_value.specs.Expressions.{◌>>=◌}
 use Rattle.pac_value.specs.State.{Tables}
 use Rattle.pac_types.specs.declared.procedure.Proc.{Proc}
 use Rattle.pac_types.specs.Meaning.{Call as ACall, TxnAbort, called_at, in_txn, serial}
-use Rattle.pac_serial.specs.declared.serial.Call.{Call}
+use Rattle.pac_ops.specs.declared.transaction.Call.{Call}
 use Rattle.pac_serial.specs.Calls.{call_of}
 
 same : {A E : Type 0} (r : Result A E) → (r >>= λ x. Ok x) ≡ r

@@ -4,7 +4,7 @@ use Rattle.pac_value.specs.State.{Tables}
 use Rattle.pac_types.specs.declared.procedure.Proc.{Proc}
 use Rattle.pac_types.specs.Sound.{FitParams}
 use Rattle.pac_types.specs.Meaning.{Call as ACall, TxnAbort, operations, serial}
-use Rattle.pac_serial.specs.declared.serial.Call.{Call}
+use Rattle.pac_ops.specs.declared.transaction.Call.{Call}
 use Rattle.pac_serial.specs.declared.serial.SerialError.{SerialError}
 use Rattle.pac_serial.specs.declared.serial.SerialError.TheVariants.{Abort, NoMemory}
 

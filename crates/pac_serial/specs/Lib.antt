@@ -1,6 +1,5 @@
 pub mod Drafts
 pub mod Outcomes
-pub mod Arguments
 pub mod Calls
 pub mod Dump
 pub mod Cells

@@ -12,7 +12,7 @@ use crate::Rows;
 use crate::count::count_operations;
 use crate::draft::Draft;
 use crate::operation::{Halt, abort_if, assign, define, delete, has, put, read, set};
-use crate::transaction::{Target, Txn};
+use crate::transaction::{RunningTxn, Target};
 use pac_base::NoMemory;
 use pac_types::{Proc, Reason, Stmt, Table};
 use pac_value::{Env, Expr, Value, eval};
@@ -73,7 +73,7 @@ fn test_of(op: u64, test: &Expr, env: &Env) -> Result<bool, ExecError>
 
 // Executes a statement whose first operation has this number. Gives the number of the operation behind it.
 #[cycle(exec)]
-fn exec_stmt(tables: &[Table], stmt: &Stmt, op: u64, txn: &mut Txn) -> Result<u64, ExecError>
+fn exec_stmt(tables: &[Table], stmt: &Stmt, op: u64, txn: &mut RunningTxn) -> Result<u64, ExecError>
     requires sound { IsSome (scope_after tables.now stmt.now (types_of txn.old.env)) }
     requires fits { FitTables tables.now txn.old.draft.tables }
     requires numbers { op + (code stmt.now).count < 2 ^ 64 }
@@ -139,7 +139,12 @@ fn exec_stmt(tables: &[Table], stmt: &Stmt, op: u64, txn: &mut Txn) -> Result<u6
 
 // Executes statements in order. The first operation has this number.
 #[cycle(exec)]
-fn exec_block(tables: &[Table], stmts: &[Stmt], first: u64, txn: &mut Txn) -> Result<u64, ExecError>
+fn exec_block(
+    tables: &[Table],
+    stmts: &[Stmt],
+    first: u64,
+    txn: &mut RunningTxn,
+) -> Result<u64, ExecError>
     requires sound { IsSome (scope_behind tables.now stmts.now (types_of txn.old.env)) }
     requires fits { FitTables tables.now txn.old.draft.tables }
     requires numbers { first + operations stmts.now < 2 ^ 64 }
@@ -191,9 +196,9 @@ pub fn exec(
 {
     let env = env_of(alloc, args)?;
     let draft = Draft::new(alloc, mem::replace(rows, Rows::new(alloc)));
-    let mut txn = Txn { alloc, env, draft };
+    let mut txn = RunningTxn { alloc, env, draft };
     let ended = exec_block(tables, proc.body.as_slice(), 0, &mut txn);
-    let Txn { draft, .. } = txn;
+    let RunningTxn { draft, .. } = txn;
     match ended {
         Ok(_) => match draft.lay() {
             Ok(laid) => {

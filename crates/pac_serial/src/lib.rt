@@ -23,5 +23,6 @@ mod transaction;
 pub use count::count_operations;
 pub use dump::dump_tables;
 pub use execute::{ExecError, exec};
+pub use pac_ops::{Args, ArgsRule, Call};
 pub use rows::Rows;
-pub use serial::{Args, ArgsRule, Call, SerialError, exec_all};
+pub use serial::{SerialError, exec_all};

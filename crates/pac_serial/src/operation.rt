@@ -11,7 +11,7 @@ ghost use Rattle.pac_serial.specs.Outcomes.{Does, DoesGive};
 ghost use Rattle.pac_serial.specs.Transactions.{state_of};
 ghost use Rattle.pac_value.specs.declared.values.Ty.TheVariants.{Bool as BoolTy};
 
-use crate::transaction::{Target, Txn};
+use crate::transaction::{RunningTxn, Target};
 use pac_base::{NoMemory, copy_of};
 use pac_types::{Reason, Table};
 use pac_value::{Env, Expr, Key, Row, Trap, Value, eval};
@@ -113,7 +113,7 @@ pub(crate) fn read(
     column: u16,
     default: Value,
     var: u16,
-    txn: &mut Txn,
+    txn: &mut RunningTxn,
 ) -> Result<(), Halt>
     requires key { IsTrue (is_wanted (type_in (types_of txn.old.env) target.now.key.now) (key_type tables.now target.now.table)) }
     requires column { IsTrue (is_wanted (Some (type_of default)) (column_type tables.now target.now.table column)) }
@@ -132,7 +132,7 @@ pub(crate) fn has(
     tables: &[Table],
     target: &Target<'_>,
     var: u16,
-    txn: &mut Txn,
+    txn: &mut RunningTxn,
 ) -> Result<(), Halt>
     requires { IsTrue (is_wanted (type_in (types_of txn.old.env) target.now.key.now) (key_type tables.now target.now.table)) }
     ensures does { Does result (do_has var target.now.table target.now.key.now (state_of txn.old)) (state_of txn.new) }
@@ -145,7 +145,11 @@ pub(crate) fn has(
 }
 
 /// `delete`.
-pub(crate) fn delete(tables: &[Table], target: &Target<'_>, txn: &mut Txn) -> Result<(), Halt>
+pub(crate) fn delete(
+    tables: &[Table],
+    target: &Target<'_>,
+    txn: &mut RunningTxn,
+) -> Result<(), Halt>
     requires key { IsTrue (is_wanted (type_in (types_of txn.old.env) target.now.key.now) (key_type tables.now target.now.table)) }
     requires fits { FitTables tables.now txn.old.draft.tables }
     ensures does { Does result (do_delete target.now.table target.now.key.now (state_of txn.old)) (state_of txn.new) }
@@ -183,7 +187,7 @@ pub(crate) fn put(
     tables: &[Table],
     target: &Target<'_>,
     exprs: &[Expr],
-    txn: &mut Txn,
+    txn: &mut RunningTxn,
 ) -> Result<(), Halt>
     requires key { IsTrue (is_wanted (type_in (types_of txn.old.env) target.now.key.now) (key_type tables.now target.now.table)) }
     requires width { IsTrue (is_width (length exprs.now)) }
@@ -217,7 +221,7 @@ pub(crate) fn set(
     target: &Target<'_>,
     column: u16,
     value: &Expr,
-    txn: &mut Txn,
+    txn: &mut RunningTxn,
 ) -> Result<(), Halt>
     requires key { IsTrue (is_wanted (type_in (types_of txn.old.env) target.now.key.now) (key_type tables.now target.now.table)) }
     requires column { IsTrue (is_wanted (type_in (types_of txn.old.env) value.now) (column_type tables.now target.now.table column)) }
@@ -238,7 +242,7 @@ pub(crate) fn set(
 }
 
 /// `let`.
-pub(crate) fn assign(var: u16, value: &Expr, txn: &mut Txn) -> Result<(), Halt>
+pub(crate) fn assign(var: u16, value: &Expr, txn: &mut RunningTxn) -> Result<(), Halt>
     requires { IsSome (type_in (types_of txn.old.env) value.now) }
     ensures does { Does result (do_let var value.now (state_of txn.old)) (state_of txn.new) }
     ensures types { OnOk result (option_map (with_var (types_of txn.old.env) var) (type_in (types_of txn.old.env) value.now) ≡ Some (types_of txn.new.env)) }
@@ -250,7 +254,7 @@ pub(crate) fn assign(var: u16, value: &Expr, txn: &mut Txn) -> Result<(), Halt>
 }
 
 /// `abort if`.
-pub(crate) fn abort_if(test: &Expr, txn: &Txn) -> Result<(), Halt>
+pub(crate) fn abort_if(test: &Expr, txn: &RunningTxn) -> Result<(), Halt>
     requires { IsTrue (is_bool (type_in (types_of txn.now.env) test.now)) }
     ensures { Does result (do_abort_if test.now (state_of txn.now)) (state_of txn.now) }
 {

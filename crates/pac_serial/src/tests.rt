@@ -8,7 +8,7 @@ ghost use Rattle.pac_types.specs.Meaning.{operations};
 ghost use Rattle.pac_types.specs.Sound.{IsSoundProc, types, key_type, column_types};
 
 use crate::{Args, Call, Rows, SerialError, dump_tables, exec_all};
-use pac_base::{Boxed, Exact, NoMemory, Same, listed};
+use pac_base::{Boxed, NoMemory, listed};
 use pac_types::{Column, Proc, Reason, Stmt, Table};
 use pac_value::{BinOp, Expr, Key, Name, Row, Text, Ty, Value};
 use std::alloc::Global;
@@ -127,18 +127,5 @@ fn an_abort_leaves_the_rows(rt: HostRuntime) -> Result<(), Fail> {
     );
     let text = dump_tables(alloc, tables, &rows)?;
     assert_eq!(rt; text.as_slice(), b"table t 1\n-3 (105)\n".as_slice());
-    Ok(())
-}
-
-#[test]
-fn a_copy_of_a_call_is_equal(rt: HostRuntime) -> Result<(), Fail> {
-    let alloc = rt.alloc();
-    let call = Call {
-        proc: 3,
-        args: Args::of(vec![in alloc; Value::Int(-3), Value::Int(5)]?),
-    };
-    let copy = call.copy(alloc)?;
-    assert_eq!(rt; copy.proc, 3);
-    assert!(rt; copy.args.same(&call.args));
     Ok(())
 }

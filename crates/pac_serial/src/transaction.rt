@@ -5,7 +5,7 @@ use std::alloc::Global;
 
 /// A transaction that has not ended: the values of its variables, and the rows as it sees them.
 #[derive(Drop)]
-pub(crate) struct Txn {
+pub(crate) struct RunningTxn {
     pub(crate) alloc: Global,
     pub(crate) env: Env,
     pub(crate) draft: Draft,

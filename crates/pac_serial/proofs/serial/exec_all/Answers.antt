@@ -4,7 +4,7 @@ use Rattle.std.specs.List.{AllByRecursion}
 use Rattle.std.proofs.lemmas.List.{drop_more}
 use Rattle.pac_value.specs.Expressions.{◌>>=◌}
 use Rattle.pac_types.specs.Meaning.{serial, in_txn}
-use Rattle.pac_serial.specs.declared.serial.Call.{Call}
+use Rattle.pac_ops.specs.declared.transaction.Call.{Call}
 use Rattle.pac_serial.specs.Calls.{call_of, FitsProcs}
 use Rattle.pac_serial.proofs.SerialLemmas.{done-more}
 use Rattle.pac_serial.proofs.serial.exec_all.Goals as goal

@@ -1,0 +1,4 @@
+pub mod Arguments
+pub mod Sizes
+pub mod Shapes
+pub mod Pieces
