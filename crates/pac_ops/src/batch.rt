@@ -27,6 +27,7 @@ pub struct Batch {
     pub txns: Txns,
 }
 
+/// Batches in order.
 pub type Batches = Listed<Batch>;
 
 impl Exact for Batch {

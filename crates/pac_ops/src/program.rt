@@ -68,6 +68,7 @@ pub struct FlatOp {
     pub kind: OpKind,
 }
 
+/// Operations in order, numbered from 0.
 pub type Ops = Listed<FlatOp>;
 
 /// A procedure without names and blocks: its operations in the order of its text, the types of its parameters, and the
@@ -79,6 +80,7 @@ pub struct Program {
     pub vars: Types,
 }
 
+/// The programs of all procedures, in the order of their numbers.
 pub type Programs = Listed<Program>;
 
 impl Exact for OpKind {
@@ -140,12 +142,20 @@ impl Exact for OpKind {
 impl Same for OpKind {
     fn same(&self, other: &OpKind) -> bool {
         match (self, other) {
-            (OpKind::Let { var, value }, OpKind::Let { var: v, value: e }) => {
-                *var == *v && value.same(e)
-            }
-            (OpKind::Cond { var, test }, OpKind::Cond { var: v, test: e }) => {
-                *var == *v && test.same(e)
-            }
+            (
+                OpKind::Let { var, value },
+                OpKind::Let {
+                    var: other_var,
+                    value: other_value,
+                },
+            ) => *var == *other_var && value.same(other_value),
+            (
+                OpKind::Cond { var, test },
+                OpKind::Cond {
+                    var: other_var,
+                    test: other_test,
+                },
+            ) => *var == *other_var && test.same(other_test),
             (
                 OpKind::Read {
                     var,
@@ -155,29 +165,35 @@ impl Same for OpKind {
                     default,
                 },
                 OpKind::Read {
-                    var: v,
-                    table: t,
-                    key: k,
-                    column: c,
-                    default: d,
+                    var: other_var,
+                    table: other_table,
+                    key: other_key,
+                    column: other_column,
+                    default: other_default,
                 },
-            ) => *var == *v && *table == *t && key.same(k) && *column == *c && *default == *d,
+            ) => {
+                *var == *other_var
+                    && *table == *other_table
+                    && key.same(other_key)
+                    && *column == *other_column
+                    && *default == *other_default
+            }
             (
                 OpKind::Has { var, table, key },
                 OpKind::Has {
-                    var: v,
-                    table: t,
-                    key: k,
+                    var: other_var,
+                    table: other_table,
+                    key: other_key,
                 },
-            ) => *var == *v && *table == *t && key.same(k),
+            ) => *var == *other_var && *table == *other_table && key.same(other_key),
             (
                 OpKind::Put { table, key, values },
                 OpKind::Put {
-                    table: t,
-                    key: k,
-                    values: es,
+                    table: other_table,
+                    key: other_key,
+                    values: other_values,
                 },
-            ) => *table == *t && key.same(k) && values.same(es),
+            ) => *table == *other_table && key.same(other_key) && values.same(other_values),
             (
                 OpKind::SetCol {
                     table,
@@ -186,16 +202,25 @@ impl Same for OpKind {
                     value,
                 },
                 OpKind::SetCol {
-                    table: t,
-                    key: k,
-                    column: c,
-                    value: e,
+                    table: other_table,
+                    key: other_key,
+                    column: other_column,
+                    value: other_value,
                 },
-            ) => *table == *t && key.same(k) && *column == *c && value.same(e),
-            (OpKind::Delete { table, key }, OpKind::Delete { table: t, key: k }) => {
-                *table == *t && key.same(k)
+            ) => {
+                *table == *other_table
+                    && key.same(other_key)
+                    && *column == *other_column
+                    && value.same(other_value)
             }
-            (OpKind::AbortIf { test }, OpKind::AbortIf { test: e }) => test.same(e),
+            (
+                OpKind::Delete { table, key },
+                OpKind::Delete {
+                    table: other_table,
+                    key: other_key,
+                },
+            ) => *table == *other_table && key.same(other_key),
+            (OpKind::AbortIf { test: a }, OpKind::AbortIf { test: b }) => a.same(b),
             _ => false,
         }
     }
