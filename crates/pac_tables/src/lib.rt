@@ -8,6 +8,8 @@
 mod ordered;
 mod rows;
 mod table;
+mod writes;
 
 pub use ordered::OrderedRows;
 pub use rows::Rows;
+pub use writes::{Write, Writes, WritesRule, apply_all};
