@@ -10,6 +10,9 @@ use std::alloc::Global;
 use std::marker::Model;
 
 /// The rows of tables, each table's in the order of their keys.
+///
+/// A `get`, `put` or `delete` takes time logarithmic in the rows of its table, `count` constant time, and `sorted_keys`
+/// time linear in the rows of its table. A `copy` puts each row into a new table.
 #[derive(Drop)]
 pub struct OrderedRows {
     alloc: Global,

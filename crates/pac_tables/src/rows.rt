@@ -16,7 +16,7 @@ pub trait Rows: Drop {
     // How many tables there are.
     ghost tables: { Self → ℕ };
 
-    /// How many tables there are. Constant time.
+    /// How many tables there are. Takes no memory.
     fn tables(&self) -> u16
         ensures { result ≡ tables self.now };
 

@@ -32,9 +32,13 @@ impl Rule for WritesRule {
     ghost holds = { IsOnce };
 }
 
-/// Makes all of the writes, or none. Room is made first: a row that is put where none stands is put there as a copy, and
-/// the copies are taken out again where one finds no room. From then on nothing takes memory. The cost is that of two
-/// look-ups and a put or a delete for each write, and of a copy of each row that is new; no table is copied.
+/// Makes all of the writes, or none of them.
+///
+/// Room is made first: at each cell that is to have a row and has none, a copy of its row is put. If one finds no room,
+/// those that were put are deleted again, which takes no memory. Then each write is made in place, and none can fail.
+///
+/// A write costs a look-up, a put or a delete, and where its row stands at a cell that had none also a copy of the row
+/// and one more put. No table is copied.
 ///
 /// # Errors
 ///
