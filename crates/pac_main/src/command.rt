@@ -20,7 +20,7 @@ use crate::stop::Stop;
 use crate::tell::{WordsError, refuse_words, told};
 use pac_base::Refusal;
 use pac_outside::{Devices, Disk, Gate, ReadError, Sink, Source, read_up_to, write_all};
-use pac_serial::{Rows, SerialError, dump_tables, exec_all};
+use pac_serial::{AllRows, SerialError, dump_tables, exec_all};
 use std::alloc::Global;
 use std::sync::Wait;
 use std::thread::Threads;
@@ -71,11 +71,11 @@ fn read_input<I: Source>(alloc: Global, input: &mut I) -> Result<Script, InputEr
 }
 
 // The rows with which the calls end, from no rows on.
-fn execute(alloc: Global, script: &Script) -> Result<Rows, SerialError>
+fn execute(alloc: Global, script: &Script) -> Result<AllRows, SerialError>
     requires { AllByRecursion (FitsProcs script.now.catalogue.procs) script.now.calls }
     ensures { DoesEnd result (outcome script.now) }
 {
-    let mut rows = Rows::new(alloc);
+    let mut rows = AllRows::new(alloc);
     let tables = script.catalogue.tables();
     let procs = script.catalogue.procs();
     exec_all(alloc, tables, procs, script.calls.as_slice(), &mut rows)?;

@@ -4,7 +4,7 @@ ghost use Rattle.std.specs.Option.{option_map};
 ghost use Rattle.std.specs.FinMap as map;
 ghost use Rattle.pac_types.specs.Meaning.{set_row};
 
-use crate::Rows;
+use crate::AllRows;
 use pac_base::NoMemory;
 use pac_value::{Key, Row};
 use std::alloc::Global;
@@ -15,7 +15,7 @@ use std::marker::Model;
 /// written, `changes` has the row that stands there from then on, or none.
 #[derive(Drop)]
 pub(crate) struct Draft {
-    rows: Rows,
+    rows: AllRows,
     changes: BTreeMap<(u16, Key), Option<Row>>,
 }
 
@@ -31,7 +31,7 @@ impl Model for Draft {
 
 impl Draft {
     /// Nothing is written yet. Takes no memory.
-    pub(crate) fn new(alloc: Global, rows: Rows) -> Draft
+    pub(crate) fn new(alloc: Global, rows: AllRows) -> Draft
         ensures { result ≡ record { kept = rows; tables = rows } }
     {
         Draft {
@@ -68,7 +68,7 @@ impl Draft {
     }
 
     /// The rows as they were.
-    pub(crate) fn discard(self) -> Rows
+    pub(crate) fn discard(self) -> AllRows
         ensures { result ≡ self.kept }
     {
         let Draft { rows, changes: _ } = self;
@@ -76,7 +76,7 @@ impl Draft {
     }
 
     /// The rows as the transaction left them. An error gives some rows back.
-    pub(crate) fn lay(self) -> Result<Rows, Rows>
+    pub(crate) fn lay(self) -> Result<AllRows, AllRows>
         ensures { IfOk result (λ rows. rows ≡ self.tables) }
     {
         let Draft {
@@ -94,7 +94,7 @@ impl Draft {
 }
 
 // Makes one change.
-fn make(rows: &mut Rows, cell: (u16, Key), row: Option<Row>) -> Result<(), NoMemory>
+fn make(rows: &mut AllRows, cell: (u16, Key), row: Option<Row>) -> Result<(), NoMemory>
     ensures { OnOk result (rows.new ≡ set_row rows.old cell row) }
 {
     let (table, key) = cell;

@@ -3,13 +3,13 @@ ghost use Rattle.std.specs.Prelude.{◌≡◌, ◌≤◌, length, IfOk, OnOk};
 ghost use Rattle.pac_value.specs.Growth.{Grew};
 ghost use Rattle.pac_serial.specs.Dump.{row_line, table_dump, tables_text};
 
-use crate::Rows;
+use crate::AllRows;
 use pac_base::NoMemory;
 use pac_types::Table;
 use pac_value::{Key, Name, push_count, push_key, push_values};
 use std::alloc::Global;
 
-fn push_row(out: &mut Vec<u8>, rows: &Rows, table: u16, key: &Key) -> Result<(), NoMemory>
+fn push_row(out: &mut Vec<u8>, rows: &AllRows, table: u16, key: &Key) -> Result<(), NoMemory>
     ensures { OnOk result (Grew out.old.items out.new.items (row_line rows.now table key.now)) }
 {
     push_key(out, key)?;
@@ -25,7 +25,7 @@ fn push_row(out: &mut Vec<u8>, rows: &Rows, table: u16, key: &Key) -> Result<(),
 fn push_table(
     alloc: Global,
     out: &mut Vec<u8>,
-    rows: &Rows,
+    rows: &AllRows,
     table: u16,
     name: Name,
 ) -> Result<(), NoMemory>
@@ -45,7 +45,7 @@ fn push_table(
 
 /// The tables in the order of the catalogue: for each the line `table NAME COUNT`, and for each of its rows, in ascending
 /// order of the keys, the line `KEY (V1, V2)`. It looks up each table and each of its rows once, each in logarithmic time.
-pub fn dump_tables(alloc: Global, tables: &[Table], rows: &Rows) -> Result<Vec<u8>, NoMemory>
+pub fn dump_tables(alloc: Global, tables: &[Table], rows: &AllRows) -> Result<Vec<u8>, NoMemory>
     requires { length tables.now ≤ 65536 }
     ensures { IfOk result (λ text. text.items ≡ tables_text rows.now 0 tables.now) }
 {

@@ -8,7 +8,7 @@ ghost use Rattle.pac_types.specs.Meaning.{code, operations, meaning, with_values
 ghost use Rattle.pac_serial.specs.Outcomes.{Runs, KeepsOnAbort, Sees, KeepsTypes, Stops, stopped};
 ghost use Rattle.pac_serial.specs.Transactions.{state_of};
 
-use crate::Rows;
+use crate::AllRows;
 use crate::count::count_operations;
 use crate::draft::Draft;
 use crate::operation::{Halt, abort_if, assign, define, delete, has, put, read, set};
@@ -183,7 +183,7 @@ pub fn exec(
     tables: &[Table],
     proc: &Proc,
     args: &[Value],
-    rows: &mut Rows,
+    rows: &mut AllRows,
 ) -> Result<(), ExecError>
     requires sound { IsSoundProc tables.now proc.now }
     requires numbers { operations proc.now.body < 2 ^ 64 }
@@ -195,7 +195,7 @@ pub fn exec(
     ensures kept { KeepsOnAbort result rows.old rows.new }
 {
     let env = env_of(alloc, args)?;
-    let draft = Draft::new(alloc, mem::replace(rows, Rows::new(alloc)));
+    let draft = Draft::new(alloc, mem::replace(rows, AllRows::new(alloc)));
     let mut txn = RunningTxn { alloc, env, draft };
     let ended = exec_block(tables, proc.body.as_slice(), 0, &mut txn);
     let RunningTxn { draft, .. } = txn;

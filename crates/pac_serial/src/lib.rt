@@ -1,7 +1,7 @@
 //! Serial execution: the rows of the tables, and calls that are executed one after another, exactly as the serial meaning
 //! of the typed catalogue says.
 //!
-//! - [`Rows`]: the rows of all tables, a finite map from cells to rows.
+//! - [`AllRows`]: the rows of all tables, a finite map from cells to rows.
 //! - [`exec`]: executes one call of a sound procedure. Its writes stand apart until it ends, so an abort, an
 //!   [`ExecError`], leaves the rows as they were. A read looks up its cell in the writes of its own transaction first.
 //! - [`Call`], [`Args`], [`exec_all`]: calls, and their execution in order up to the first abort, a [`SerialError`].
@@ -24,5 +24,5 @@ pub use count::count_operations;
 pub use dump::dump_tables;
 pub use execute::{ExecError, exec};
 pub use pac_ops::{Args, ArgsRule, Call};
-pub use rows::Rows;
+pub use rows::AllRows;
 pub use serial::{SerialError, exec_all};

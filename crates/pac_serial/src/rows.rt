@@ -21,11 +21,11 @@ use std::ops::Bound;
 
 /// The rows of all tables: a finite map from cells, a table's number and a key, to rows.
 #[derive(Drop)]
-pub struct Rows {
+pub struct AllRows {
     rows: BTreeMap<(u16, Key), Row>,
 }
 
-impl Model for Rows {
+impl Model for AllRows {
     ghost use Rattle.std.specs.FinMap as map;
     ghost use Rattle.std.specs.BTreeMap as tree;
     ghost use Rattle.pac_value.specs.State.{Tables, tables_code};
@@ -41,13 +41,13 @@ impl Model for Rows {
     ghost invariant = { λ rows. All CanStand (tree.keys rows.rows) };
 }
 
-impl Rows {
+impl AllRows {
     /// No rows. Takes no memory.
     pub fn new(alloc: Global) -> Self
         ensures value { result ≡ map.empty }
         ensures fits { (tables : List Table) → FitTables tables result }
     {
-        Rows {
+        AllRows {
             rows: BTreeMap::new(alloc),
         }
     }

@@ -7,7 +7,7 @@ ghost use Rattle.pac_serial.specs.Outcomes.{Runs, KeepsOnAbort};
 ghost use Rattle.pac_serial.specs.Calls.{call_of, FitsProcs, IsCounted, KeepsBefore, RunsAll};
 ghost use Rattle.std.specs.Prelude.{slice_get};
 
-use crate::Rows;
+use crate::AllRows;
 use crate::execute::{ExecError, exec};
 use pac_ops::Call;
 use pac_types::{Proc, Reason, Table};
@@ -28,7 +28,7 @@ fn exec_call(
     tables: &[Table],
     procs: &[Proc],
     call: &Call,
-    rows: &mut Rows,
+    rows: &mut AllRows,
 ) -> Result<(), ExecError>
     requires sound { AllByRecursion (IsSoundProc tables.now) procs.now }
     requires counted { AllByRecursion IsCounted procs.now }
@@ -51,7 +51,7 @@ pub fn exec_all(
     tables: &[Table],
     procs: &[Proc],
     calls: &[Call],
-    rows: &mut Rows,
+    rows: &mut AllRows,
 ) -> Result<(), SerialError>
     requires sound { AllByRecursion (IsSoundProc tables.now) procs.now }
     requires counted { AllByRecursion IsCounted procs.now }

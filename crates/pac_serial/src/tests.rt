@@ -7,7 +7,7 @@ ghost use Rattle.pac_value.specs.declared.expr.BinOp.TheVariants.{Add as Plus, L
 ghost use Rattle.pac_types.specs.Meaning.{operations};
 ghost use Rattle.pac_types.specs.Sound.{IsSoundProc, types, key_type, column_types};
 
-use crate::{Args, Call, Rows, SerialError, dump_tables, exec_all};
+use crate::{AllRows, Args, Call, SerialError, dump_tables, exec_all};
 use pac_base::{Boxed, NoMemory, listed};
 use pac_types::{Column, Proc, Reason, Stmt, Table};
 use pac_value::{BinOp, Expr, Key, Name, Row, Text, Ty, Value};
@@ -42,7 +42,7 @@ fn one_column(alloc: Global, name: Name) -> Result<Table, NoMemory>
 #[test]
 fn keeps_rows(rt: HostRuntime) -> Result<(), Fail> {
     let alloc = rt.alloc();
-    let mut rows = Rows::new(alloc);
+    let mut rows = AllRows::new(alloc);
     let text = Text::from_bytes(b"a\"b").ok_or("no text")?;
     let row = Row::of(vec![in alloc; Value::Int(7), Value::Text(text)]?);
     rows.put(0, Key::Int(3), row)?;
@@ -106,7 +106,7 @@ fn an_abort_leaves_the_rows(rt: HostRuntime) -> Result<(), Fail> {
     let tables = vec![in alloc; one_column(alloc, name)?]?;
     let tables: &[Table] = &tables;
     let procs = vec![in alloc; adding(alloc, name, tables)?]?;
-    let mut rows = Rows::new(alloc);
+    let mut rows = AllRows::new(alloc);
     let first = Call {
         proc: 0,
         args: Args::of(vec![in alloc; Value::Int(-3), Value::Int(5)]?),

@@ -1,0 +1,4 @@
+pub mod JoinedLemmas
+pub mod CopyLemmas
+pub mod WriteLemmas
+pub mod RoomLemmas

@@ -1,0 +1,3 @@
+pub mod Joined
+pub mod Written
+pub mod Room

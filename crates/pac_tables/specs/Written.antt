@@ -1,0 +1,29 @@
+-- Writes, and what they make of the tables.
+use Rattle.std.specs.Prelude.{◌<◌, ℕ, List, [], ◌∷◌, map, Option, Some, None}
+use Rattle.std.specs.List.{All, IsDistinct}
+use Rattle.std.specs.Ordering.{eq_by_cmp}
+use Rattle.std.specs.FinMap.{insert, remove}
+use Rattle.pac_value.specs.State.{Cell, cell_cmp, RowValues, Tables}
+use Rattle.pac_tables.specs.declared.writes.Write.{Write}
+
+-- where a write is made
+abbrev pub cell_written : Write → Cell
+cell_written write = (write.table, write.key)
+
+-- no cell is written twice
+abbrev pub IsOnce : List Write → Type 0
+IsOnce writes = IsDistinct (eq_by_cmp cell_cmp) (map cell_written writes)
+
+-- each is made in one of so many tables
+abbrev pub AreWithin : ℕ → List Write → Type 0
+AreWithin tables writes = All (λ write. write.table < tables) writes
+
+-- a row stands at a cell from now on, or none
+abbrev pub with_row : Tables → Cell → Option RowValues → Tables
+with_row tables cell None = remove tables cell
+with_row tables cell (Some row) = insert tables cell row
+
+-- the tables with all the writes made
+abbrev pub written : Tables → List Write → Tables
+written tables [] = tables
+written tables (write ∷ writes) = with_row (written tables writes) (cell_written write) write.row
