@@ -2,3 +2,4 @@ pub mod JoinedLemmas
 pub mod CopyLemmas
 pub mod WriteLemmas
 pub mod RoomLemmas
+pub mod OnceLemmas

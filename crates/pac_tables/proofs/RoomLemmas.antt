@@ -1,14 +1,14 @@
 -- Room that is made for writes changes nothing of what they leave, and can be taken back.
-use Rattle.std.proofs.Common.{◌≡◌, ℕ, suc, zero, ◌<◌, Bool, true, false, cond, ◌||◌, List, [], ◌∷◌, ◌++◌, map, length, get_or, Option, Some, None, IsSome, is_some, Result, Ok, Err, OnOk, OnErr, refl, sym, ap, subst, ◌∙◌, arith}
-use Rattle.std.specs.List.{AllByRecursion, IsDistinct}
+use Rattle.std.proofs.Common.{◌≡◌, ℕ, suc, zero, ◌<◌, Bool, true, false, cond, ◌||◌, List, [], ◌∷◌, ◌++◌, length, get_or, Option, Some, None, IsSome, is_some, Result, Ok, Err, OnOk, OnErr, refl, sym, ap, subst, ◌∙◌, arith}
+use Rattle.std.specs.List.{AllByRecursion}
 use Rattle.std.specs.Ordering.{eq_by_cmp}
 use Rattle.std.specs.FinMap.{get, insert, get-insert, same_map}
 use Rattle.pac_value.specs.State.{Cell, cell_cmp, RowValues, Tables}
 use Rattle.pac_value.proofs.CellLemmas.{cells_total, cells_antisymmetric}
 use Rattle.pac_base.specs.declared.no_memory.NoMemory.{NoMemory}
 use Rattle.pac_tables.specs.declared.writes.Write.{Write}
-use Rattle.pac_tables.specs.Written.{cell_written, with_row, written, IsOnce}
-use Rattle.pac_tables.specs.Room.{HasRow, without_cells, is_written, Grows, IsReady}
+use Rattle.pac_tables.specs.Written.{cell_written, with_row, written, is_written, IsOnce, HasRow}
+use Rattle.pac_tables.specs.Room.{without_cells, Grows, IsReady}
 use Rattle.pac_tables.proofs.WriteLemmas.{get-set_row, same-cell, remove-absent, remove-inserted, without_cells-last}
 
 pub Grows-none : (ws : List Write) (t : Tables) → Grows ws t t
@@ -80,13 +80,18 @@ ready-after n t v w apart ready = record {
   placed = λ h. subst (λ (o : Option RowValues). IsSome o) (sym (get-set_row t (cell_written w) w.row (cell_written v) ∙ ap (λ b. cond b w.row (get t (cell_written v))) apart)) (ready.placed h);
 }
 
-apart-last : (c : Cell) (vs : List Write) (w : Write) → AllByRecursion (λ y. eq_by_cmp cell_cmp c y ≡ false) (map cell_written (vs ++ w ∷ [])) → AllByRecursion (λ y. eq_by_cmp cell_cmp c y ≡ false) (map cell_written vs) × (eq_by_cmp cell_cmp c (cell_written w) ≡ false)
-apart-last c [] w h = (tt, h.0)
-apart-last c (v ∷ vs) w h = let later = apart-last c vs w h.1 in ((h.0, later.0), later.1)
+none : (a b : Bool) → a ≡ false → b ≡ false → (a || b) ≡ false
+none a b h k = ap (λ x. x || b) h ∙ k
+
+-- where none of several writes is made, neither the last nor another is
+apart-last : (c : Cell) (vs : List Write) (w : Write) → is_written (vs ++ w ∷ []) c ≡ false → (is_written vs c ≡ false) × (eq_by_cmp cell_cmp c (cell_written w) ≡ false)
+apart-last c [] w h = (refl, either _ _ h)
+apart-last c (v ∷ vs) w h =
+    let later = apart-last c vs w (rest _ _ h) in
+    (none _ _ (either _ _ h) later.0, later.1)
 
 -- once the last of several writes is made, the others are still ready
 pub ready-others : (n : ℕ) (t : Tables) (vs : List Write) (w : Write) → AllByRecursion (IsReady n t) (vs ++ w ∷ []) → IsOnce (vs ++ w ∷ []) → IsReady n t w × (AllByRecursion (IsReady n (with_row t (cell_written w) w.row)) vs × IsOnce vs)
-unfolding IsDistinct
 ready-others n t [] w ready once = (ready.0, (tt, tt))
 ready-others n t (v ∷ vs) w ready once =
     let later = ready-others n t vs w ready.1 once.1 in

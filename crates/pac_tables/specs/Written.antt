@@ -1,8 +1,8 @@
 -- Writes, and what they make of the tables.
-use Rattle.std.specs.Prelude.{◌<◌, ℕ, List, [], ◌∷◌, map, Option, Some, None}
-use Rattle.std.specs.List.{All, IsDistinct}
+use Rattle.std.specs.Prelude.{◌≡◌, ◌<◌, ℕ, Bool, false, List, [], ◌∷◌, Option, Some, None, IsSome}
+use Rattle.std.specs.List.{All, list_any}
 use Rattle.std.specs.Ordering.{eq_by_cmp}
-use Rattle.std.specs.FinMap.{insert, remove}
+use Rattle.std.specs.FinMap.{get, insert, remove}
 use Rattle.pac_value.specs.State.{Cell, cell_cmp, RowValues, Tables}
 use Rattle.pac_tables.specs.declared.writes.Write.{Write}
 
@@ -10,13 +10,22 @@ use Rattle.pac_tables.specs.declared.writes.Write.{Write}
 abbrev pub cell_written : Write → Cell
 cell_written write = (write.table, write.key)
 
+-- whether one of the writes is made at the cell
+abbrev pub is_written : List Write → Cell → Bool
+is_written writes cell = list_any (λ write. eq_by_cmp cell_cmp cell (cell_written write)) writes
+
 -- no cell is written twice
 abbrev pub IsOnce : List Write → Type 0
-IsOnce writes = IsDistinct (eq_by_cmp cell_cmp) (map cell_written writes)
+IsOnce [] = Unit {0}
+IsOnce (write ∷ writes) = (is_written writes (cell_written write) ≡ false) × IsOnce writes
 
 -- each is made in one of so many tables
 abbrev pub AreWithin : ℕ → List Write → Type 0
 AreWithin tables writes = All (λ write. write.table < tables) writes
+
+-- where the write puts a row, one stands already, so it takes no memory
+abbrev pub HasRow : Tables → Write → Type 0
+HasRow tables write = IsSome write.row → IsSome (get tables (cell_written write))
 
 -- a row stands at a cell from now on, or none
 abbrev pub with_row : Tables → Cell → Option RowValues → Tables

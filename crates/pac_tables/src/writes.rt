@@ -1,9 +1,9 @@
 // Writes, and applying several of them.
-ghost use Rattle.std.specs.Prelude.{◌≡◌, ◌<◌, ◌∷◌, [], IfErr, IsSome, OnOk, OnErr};
+ghost use Rattle.std.specs.Prelude.{◌≡◌, ◌<◌, ◌∷◌, [], IfErr, IsOk, IsSome, OnOk, OnErr};
 ghost use Rattle.std.specs.List.{All, AllByRecursion};
 ghost use Rattle.std.specs.FinMap as map;
-ghost use Rattle.pac_tables.specs.Written.{AreWithin, IsOnce, written, cell_written, with_row};
-ghost use Rattle.pac_tables.specs.Room.{Grows, HasRow, IsReady, without_cells};
+ghost use Rattle.pac_tables.specs.Written.{AreWithin, HasRow, IsOnce, written, cell_written, with_row};
+ghost use Rattle.pac_tables.specs.Room.{Grows, IsReady, without_cells};
 
 use crate::Rows;
 use pac_base::{Exact, NoMemory, Rule, Ruled};
@@ -42,7 +42,8 @@ impl Rule for WritesRule {
 ///
 /// # Errors
 ///
-/// [`NoMemory`] with the writes, where there is no room for all of them. Then the rows are as they were.
+/// [`NoMemory`] with the writes, only where one of them puts a row at a cell that has none. Then the rows are as they
+/// were.
 pub fn apply_all<R: Rows>(
     alloc: Global,
     rows: &mut R,
@@ -52,6 +53,7 @@ pub fn apply_all<R: Rows>(
     ensures ok { OnOk result (R.held rows.new ≡ written (R.held rows.old) writes) }
     ensures err { OnErr result (R.held rows.new ≡ R.held rows.old) }
     ensures writes { IfErr result (λ refused. refused.0 ≡ writes) }
+    ensures placed { All (HasRow (R.held rows.old)) writes → IsOk result }
     ensures tables { R.tables rows.new ≡ R.tables rows.old }
 {
     match make_room(alloc, rows, writes.items()) {
@@ -69,6 +71,7 @@ fn make_room<R: Rows>(alloc: Global, rows: &mut R, writes: &[Write]) -> Result<(
     ensures ready { OnOk result (All (IsReady (R.tables rows.old) (R.held rows.new)) writes.now) }
     ensures grows { OnOk result (Grows writes.now (R.held rows.old) (R.held rows.new)) }
     ensures err { OnErr result (R.held rows.new ≡ R.held rows.old) }
+    ensures placed { All (HasRow (R.held rows.old)) writes.now → IsOk result }
     ensures tables { R.tables rows.new ≡ R.tables rows.old }
 {
     let mut made = Vec::new(alloc);
@@ -91,6 +94,7 @@ fn make_place<R: Rows>(
     requires within { write.now.table < R.tables rows.old }
     requires made { All (λ cell. cell.0 < R.tables rows.old) made.old.items }
     ensures place { OnOk result (HasRow (R.held rows.new) write.now) }
+    ensures placed { HasRow (R.held rows.old) write.now → IsOk result }
     ensures grows { Grows (write.now ∷ []) (R.held rows.old) (R.held rows.new) }
     ensures back { without_cells (R.held rows.new) made.new.items ≡ without_cells (R.held rows.old) made.old.items }
     ensures made { All (λ cell. cell.0 < R.tables rows.old) made.new.items }

@@ -2,7 +2,8 @@
 use Rattle.std.proofs.Common.{◌≡◌, ◌<◌, ℕ, get_or}
 use Rattle.std.specs.List.{All}
 use Rattle.pac_tables.specs.declared.writes.Write.{Write}
-use Rattle.pac_tables.specs.Room.{HasRow, Grows, without_cells}
+use Rattle.pac_tables.specs.Written.{HasRow}
+use Rattle.pac_tables.specs.Room.{Grows, without_cells}
 use Rattle.pac_tables.proofs.writes.make_room.Given as goal
 
 abbrev pub invariant-loop-write : goal.invariant-loop-write
