@@ -1,7 +1,7 @@
 -- What the stop that is told says of the stop that came.
 use Rattle.std.proofs.Common.{◌≡◌, ◌⊎◌, ℕ, inl, inr, refl, sym, ap, ◌∙◌, arith}
 use Rattle.std.specs.Prelude.{IsTrue}
-use Rattle.pac_types.specs.declared.reason.Reason.{Reason}
+use Rattle.pac_ops.specs.declared.reason.Reason.{Reason}
 use Rattle.pac_main.specs.declared.script_fault.ScriptFault.{ScriptFault}
 use Rattle.pac_main.specs.declared.stop.Stop.{Stop}
 use Rattle.pac_main.specs.declared.stop.Stop.TheVariants.{Usage, Script, Aborted, InputFault, OutputFault, NoMemory}

@@ -5,7 +5,7 @@ use Rattle.std.specs.FinMap.{empty}
 use Rattle.pac_outside.specs.Causes.{Rose}
 use Rattle.pac_outside.specs.Content.{Took, TookFront}
 use Rattle.pac_value.specs.State.{Tables}
-use Rattle.pac_types.specs.declared.reason.Reason.{Reason}
+use Rattle.pac_ops.specs.declared.reason.Reason.{Reason}
 use Rattle.pac_types.specs.Meaning.{TxnAbort, serial}
 use Rattle.pac_serial.specs.Calls.{call_of}
 use Rattle.pac_serial.specs.declared.serial.SerialError.{SerialError}

@@ -3,8 +3,8 @@ use Rattle.std.specs.Prelude.{ℕ, Bool, true, false, List, ◌++◌, codes}
 use Rattle.std.specs.Fmt.{decimal}
 use Rattle.pac_types.specs.declared.text.CatalogueFault.{CatalogueFault}
 use Rattle.pac_types.specs.CatalogueText.{fault_place, fault_kind}
-use Rattle.pac_types.specs.declared.reason.Reason.{Reason}
-use Rattle.pac_types.specs.Reasons.{reason_name}
+use Rattle.pac_ops.specs.declared.reason.Reason.{Reason}
+use Rattle.pac_ops.specs.Reasons.{reason_name}
 use Rattle.pac_serial.specs.declared.serial.SerialError.{SerialError}
 use Rattle.pac_serial.specs.declared.serial.SerialError.TheVariants as serial
 use Rattle.pac_main.specs.declared.script_fault.ScriptFault.TheVariants.{Catalogue, Refused}

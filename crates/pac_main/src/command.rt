@@ -4,7 +4,7 @@ ghost use Rattle.std.specs.List.{list_any, AllByRecursion};
 ghost use Rattle.std.specs.String.{string_bytes};
 ghost use Rattle.pac_outside.specs.Causes.{Rose};
 ghost use Rattle.pac_outside.specs.Content.{Took, TookFront, GaveAtMost};
-ghost use Rattle.pac_types.specs.declared.reason.Reason.{Reason as AReason};
+ghost use Rattle.pac_ops.specs.declared.reason.Reason.{Reason as AReason};
 ghost use Rattle.pac_serial.specs.Calls.{FitsProcs};
 ghost use Rattle.pac_main.specs.Stop.{status_of, line_of, abort_line};
 ghost use Rattle.pac_main.specs.Replay.{IsReplay, IsScriptOf, IsNoScript, IsRefusedAs, outcome, TookUnlessFault, IsDumpOf, IsAbortOf, DoesEnd};

@@ -4,19 +4,11 @@ use Rattle.std.specs.List.{AllByRecursion}
 use Rattle.std.specs.FinMap.{get}
 use Rattle.pac_value.specs.declared.values.Ty.{Ty}
 use Rattle.pac_value.specs.declared.values.Key.{Key}
-use Rattle.pac_value.specs.declared.values.Key.TheVariants.{Int, Text}
-use Rattle.pac_value.specs.declared.values.Value.{Value}
-use Rattle.pac_value.specs.declared.values.Value.TheVariants.{Int as AnInt, Text as AText}
-use Rattle.pac_value.specs.Values.{type_of}
+use Rattle.pac_value.specs.Values.{type_of, key_value}
 use Rattle.pac_value.specs.State.{Cell, RowValues, Tables}
 use Rattle.pac_ops.specs.declared.shapes.TableTypes.{TableTypes}
 use Rattle.pac_ops.specs.declared.transaction.Change.{Change}
 use Rattle.pac_ops.specs.declared.transaction.Change.TheVariants.{Put, Delete}
-
--- the value that a key is
-abbrev pub key_value : Key → Value
-key_value (Int n) = AnInt n
-key_value (Text t) = AText t
 
 -- a key is of the type that the keys of its table have
 abbrev pub KeyFits : Key → TableTypes → Type 0

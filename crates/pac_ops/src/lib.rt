@@ -7,8 +7,12 @@
 //! - [`Program`]: a procedure in flat form: its operations in one list, [`Ops`], without names and blocks. A
 //!   [`FlatOp`] has an [`OpKind`], what it does, and [`Conds`], under which tests of the conditionals round it.
 //! - [`PieceId`]: what one transaction does in one block.
+//! - [`Reason`]: why a transaction aborts. [`Note`]: which operation of which transaction does, and why.
 //! - [`TableTypes`]: the types that the rows of a table have. `specs/Shapes.antt` says which rows and records fit tables
 //!   of such types, whether a catalogue or a plan has them.
+//!
+//! `specs/Operations.antt` says what an operation means, by the cell that it touches and what it does there; every
+//! layer that executes operations is held to it. `specs/Transactions.antt` says what ad hoc records mean.
 //!
 //! Procedures, tables, columns, variables and blocks have numbers from 0 on, transactions from 1 on. Each type is seen
 //! by contracts as what it holds, a list type as its list. A copy is equal to what it was made of, and the test `same`
@@ -17,8 +21,10 @@
 
 mod batch;
 mod limits;
+mod note;
 mod piece;
 mod program;
+mod reason;
 mod shapes;
 #[cfg(test)]
 mod tests;
@@ -26,7 +32,9 @@ mod transaction;
 
 pub use batch::{Batch, Batches, Txns, TxnsRule};
 pub use limits::{MAX_RECORDS, MAX_TXNS};
+pub use note::Note;
 pub use piece::PieceId;
 pub use program::{Conds, FlatOp, OpKind, Ops, Program, Programs};
+pub use reason::Reason;
 pub use shapes::{TableTypes, TableTypesList, Types};
 pub use transaction::{Args, ArgsRule, Call, Change, Records, RecordsRule, Txn};

@@ -13,7 +13,8 @@ use Rattle.pac_value.specs.declared.values.Value.{Value}
 use Rattle.pac_value.specs.declared.expr.Expr.{Expr}
 use Rattle.pac_value.specs.Values.{type_of}
 use Rattle.pac_types.proofs.StmtForms.{at-Let, at-Read, at-Has, at-Put, at-Set, at-If}
-use Rattle.pac_types.specs.Sound.{Scope, with_var, without, if_so, Check, check_step, check, any_defines, in_order, scope_after, scope_behind}
+use Rattle.pac_types.specs.Sound.{without, if_so, Check, check_step, check, any_defines, in_order, scope_after, scope_behind}
+use Rattle.pac_value.specs.Scopes.{Scope, with_var}
 use Rattle.pac_types.proofs.SoundLemmas.{ScopeWithin, scope_behind-within}
 use Rattle.pac_serial.specs.Outcomes.{Sees, KeepsTypes}
 

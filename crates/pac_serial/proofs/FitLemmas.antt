@@ -1,24 +1,30 @@
 -- What keeps the rows fit for their tables, and the variables of their types.
-use Rattle.std.proofs.Common.{◌≡◌, ℕ, zero, suc, ◌<◌, ◌==◌, ◌&&◌, Bool, true, false, cond, List, [], ◌∷◌, map, length, get_or, arith, Option, Some, None, refl, sym, ap, ◌∙◌, subst}
+use Rattle.std.proofs.Common.{◌≡◌, ℕ, zero, suc, ◌<◌, ◌==◌, ◌&&◌, Bool, true, false, cond, List, [], ◌∷◌, map, length, get_or, arith, Option, Some, None, Result, Ok, Err, OnOk, refl, sym, ap, ◌∙◌, subst}
 use Rattle.std.specs.Prelude.{if◌then◌else◌, slice_get, slice_set, unwrap_or}
 use Rattle.std.specs.List.{list_all}
-use Rattle.std.proofs.lemmas.List.{map-set}
+use Rattle.std.proofs.lemmas.List.{map-set, length-map}
 use Rattle.std.proofs.Math.ListN.{length-set}
 use Rattle.std.specs.Option.{option_map}
 use Rattle.std.specs.Ordering.{eq_by_cmp}
 use Rattle.std.specs.Cmp.{nat_cmp_total, unsigned_ties}
 use Rattle.std.specs.FinMap.{get, insert, empty, get-empty, get-insert}
-use Rattle.std.proofs.lemmas.Option.{slice_get-map}
+use Rattle.std.proofs.lemmas.Option.{slice_get-map, slice_get_within}
 use Rattle.pac_value.specs.declared.values.Ty.{Ty}
 use Rattle.pac_value.specs.declared.values.Ty.TheVariants.{Int, Text, Bool as BoolTy}
 use Rattle.pac_value.specs.declared.values.Value.{Value}
 use Rattle.pac_value.specs.Values.{type_of, is_stored, IsRow}
 use Rattle.pac_value.specs.Expressions.{Values, types_of}
-use Rattle.pac_value.specs.State.{Cell, cell_cmp, RowValues, Tables}
+use Rattle.pac_value.specs.State.{Cell, cell_cmp, RowValues, Tables, with_row}
 use Rattle.pac_types.specs.declared.table.Table.{Table}
-use Rattle.pac_types.specs.Sound.{with_var, is_wanted, are_wanted, column_types, FitsTable, FitTables}
-use Rattle.pac_types.specs.Meaning.{set_row, column_or}
-use Rattle.pac_serial.proofs.DraftLemmas.{get-set_row, tied_same}
+use Rattle.pac_ops.specs.Shapes.{RowFits}
+use Rattle.pac_ops.specs.Operations.{column_or}
+use Rattle.pac_types.specs.Sound.{column_types}
+use Rattle.pac_types.specs.Fits.{shape, FitTables}
+use Rattle.pac_types.proofs.ShapeLemmas.{columns-of_fit}
+use Rattle.pac_value.specs.Scopes.{with_var, is_wanted, are_wanted}
+use Rattle.pac_value.proofs.CellLemmas.{get-with_row, tied_same}
+use Rattle.pac_serial.specs.Drafts.{Changes, seen, KnowsTables}
+use Rattle.pac_serial.specs.Transactions.{RunsOver}
 
 and-left : (a b : Bool) → (a && b) ≡ true → a ≡ true
 and-left true b h = refl
@@ -76,15 +82,15 @@ column_or-type tables rows cell c d fits h = go (get rows cell) refl
 
     go : (o : Option RowValues) → get rows cell ≡ o → type_of (column_or o c d) ≡ type_of d
     go None e = refl
-    go (Some row) e = inner row (slice_get row c) refl (fits cell row e).columns
+    go (Some row) e = inner row (slice_get row c) refl (columns-of_fit tables cell row (fits cell row e))
 
 -- a row that fits may stand at its cell, and so may none
-pub FitTables-set_row : (tables : List Table) (rows : Tables) (p : Cell) (row : Option RowValues) → FitTables tables rows
-    → ((r : RowValues) → row ≡ Some r → FitsTable tables p r) → FitTables tables (set_row rows p row)
-FitTables-set_row tables rows p row fits new q r found = go (eq_by_cmp cell_cmp q p) refl (sym (get-set_row rows p row q) ∙ found)
+pub FitTables-with_row : (tables : List Table) (rows : Tables) (p : Cell) (row : Option RowValues) → FitTables tables rows
+    → ((r : RowValues) → row ≡ Some r → RowFits (map shape tables) p r) → FitTables tables (with_row rows p row)
+FitTables-with_row tables rows p row fits new q r found = go (eq_by_cmp cell_cmp q p) refl (sym (get-with_row rows p row q) ∙ found)
   where
-    go : (b : Bool) → eq_by_cmp cell_cmp q p ≡ b → cond b row (get rows q) ≡ Some r → FitsTable tables q r
-    go true e h = subst (λ (z : Cell). FitsTable tables z r) (tied_same q p e) (new r h)
+    go : (b : Bool) → eq_by_cmp cell_cmp q p ≡ b → cond b row (get rows q) ≡ Some r → RowFits (map shape tables) q r
+    go true e h = subst (λ (z : Cell). RowFits (map shape tables) z r) (sym (tied_same q p e)) (new r h)
     go false e h = fits q r h
 
 list_all-set : {A : Type 0} (p : A → Bool) (xs : List A) (i : ℕ) (v : A) → list_all p xs ≡ true → p v ≡ true → list_all p (slice_set xs i v) ≡ true
@@ -107,6 +113,14 @@ pub types-set : (row : RowValues) (tys : List Ty) (i : ℕ) (v : Value) → map 
 types-set row tys i v e h =
     map-set type_of row i v ∙ ap (λ ts. slice_set ts i (type_of v)) e ∙ set-same tys i (type_of v) (wanted_is (Some (type_of v)) (slice_get tys i) (type_of v) refl h)
 
+-- a column whose type is wanted is one of the row
+pub column-within : (row : RowValues) (tys : List Ty) (i : ℕ) (v : Value) → map type_of row ≡ tys → is_wanted (Some (type_of v)) (slice_get tys i) ≡ true → i < length row
+column-within row tys i v e h =
+    let found : slice_get tys i ≡ Some (type_of v) = wanted_is (Some (type_of v)) (slice_get tys i) (type_of v) refl h in
+    let inside : i < length tys = slice_get_within tys i (type_of v) found in
+    let same : length row ≡ length tys = sym (length-map row type_of) ∙ ap (λ (ts : List Ty). length ts) e in
+    omega arith
+
 -- each of the values wants its column's type
 pub wanted_at : (as_ : List (Option Ty)) (tys : List Ty) (i : ℕ) → are_wanted as_ tys ≡ true → i < length as_ → is_wanted (get_or as_ i None) (slice_get tys i) ≡ true
 wanted_at [] tys i h inside = absurd (omega arith)
@@ -126,3 +140,17 @@ FitTables-empty tables rows e cell row found =
     let none : None ≡ Some row = sym (get-empty cell_cmp cell) ∙ ap (λ m. get m cell) (sym e) ∙ found in
     let no_way : ⊥ = cc in
     absurd no_way
+
+-- a transaction that has made one more change still runs over the rows
+pub runs-changed : (tables : List Table) (n : ℕ) (held : Tables) (old new : Changes) (p : Cell) (row : Option RowValues)
+    → RunsOver tables n held old → ((r : RowValues) → row ≡ Some r → RowFits (map shape tables) p r)
+    → seen held new ≡ with_row (seen held old) p row → KnowsTables n held new → RunsOver tables n held new
+runs-changed tables n held old new p row over fits is knows = record {
+  count = over.count;
+  knows = knows;
+  fits = subst (λ (t : Tables). FitTables tables t) (sym is) (FitTables-with_row tables (seen held old) p row over.fits fits);
+}
+
+pub on-ok-both : {A E : Type 0} (r : Result A E) {P Q : Type 0} → OnOk r P → (P → Q) → OnOk r Q
+on-ok-both (Ok x) h f = f h
+on-ok-both (Err e) h f = tt

@@ -1,7 +1,11 @@
 pub mod DraftLemmas
+pub mod BalanceLemmas
+pub mod WriteLemmas
+pub mod LimitLemmas
 pub mod FitLemmas
 pub mod RowLemmas
+pub mod RunLemmas
 pub mod ExecLemmas
 pub mod OpeningLemmas
+pub mod CallLemmas
 pub mod SerialLemmas
-pub mod PartLemmas

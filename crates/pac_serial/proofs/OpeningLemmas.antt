@@ -12,7 +12,8 @@ use Rattle.pac_value.specs.Expressions.{Values, types_of}
 use Rattle.pac_types.specs.declared.table.Column.{Column}
 use Rattle.pac_types.specs.declared.table.Table.{Table}
 use Rattle.pac_types.specs.declared.procedure.Proc.{Proc}
-use Rattle.pac_types.specs.Sound.{scope_of, scope_behind, FitParams, IsSoundProc}
+use Rattle.pac_types.specs.Sound.{scope_of, scope_behind, IsSoundProc}
+use Rattle.pac_types.specs.Fits.{FitParams}
 use Rattle.pac_types.specs.Meaning.{with_values}
 use Rattle.pac_types.proofs.ScopeLemmas.{Within}
 use Rattle.pac_types.proofs.SoundLemmas.{scope_behind-within}

@@ -13,8 +13,8 @@ use Rattle.pac_value.specs.declared.expr.Trap.{Trap}
 use Rattle.pac_value.specs.Values.{type_of, is_stored}
 use Rattle.pac_value.specs.Expressions.{Values, value, type_in, ◌>>=◌}
 use Rattle.pac_value.specs.State.{RowValues}
-use Rattle.pac_types.specs.Sound.{Scope, is_wanted, are_wanted}
-use Rattle.pac_types.specs.Meaning.{values}
+use Rattle.pac_value.specs.Scopes.{Scope, is_wanted, are_wanted}
+use Rattle.pac_ops.specs.Operations.{values}
 use Rattle.pac_serial.proofs.FitLemmas.{wanted_at, wanted-length, wanted_is, and-both}
 
 -- the expression at hand wants its column's type

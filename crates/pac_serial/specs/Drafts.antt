@@ -1,23 +1,47 @@
--- The writes of a transaction that has not ended.
-use Rattle.std.specs.Prelude.{List, [], ◌∷◌, Option, refl}
-use Rattle.std.specs.Coded.{Coded, code_by, coded×}
-use Rattle.pac_value.specs.State.{Cell, RowValues, Tables, tables_code}
-use Rattle.pac_types.specs.Meaning.{set_row}
+-- The changes of a transaction that has not ended, and the tables as it sees them.
+use Rattle.std.specs.Prelude.{◌≡◌, ◌<◌, ◌+◌, ◌==◌, ◌&&◌, not, cond, ℕ, List, [], ◌∷◌, is_some, Some}
+use Rattle.std.specs.FinMap.{FinMap, get, entries}
+use Rattle.pac_value.specs.State.{Cell, cell_cmp, Tables, with_row}
+use Rattle.pac_tables.specs.declared.writes.Write.{Write}
+use Rattle.pac_serial.specs.declared.pending.Pending.{Pending}
 
--- a change: where it is made, and the row that stands there from then on, or none
+-- changes, by their cells
+abbrev pub Changes : Type 0
+Changes = FinMap cell_cmp Pending
+
+-- a change, and where it is made
 abbrev pub Change : Type 0
-Change = Cell × Option RowValues
+Change = Cell × Pending
 
--- the tables with changes made; where two are at one cell, the first counts
+-- the tables with changes made, each at a cell of its own
 abbrev pub laid : Tables → List Change → Tables
 laid tables [] = tables
-laid tables (change ∷ changes) = set_row (laid tables changes) change.0 change.1
+laid tables (change ∷ changes) = with_row (laid tables changes) change.0 change.1.row
 
--- the tables as they were when the transaction began, and as it sees them now
-pub record Drafted : Type 0 where
-  pub kept : Tables
-  pub tables : Tables
+-- the tables as a transaction with these changes sees them
+abbrev pub seen : Tables → Changes → Tables
+seen tables changes = laid tables (entries changes)
 
--- how drafts are told apart
-abbrev pub drafted_code : Coded Drafted
-drafted_code = code_by (Tables × Tables) (coded× tables_code tables_code) (λ d. (d.kept, d.tables)) (λ p. record { kept = p.0; tables = p.1 }) (λ d. refl)
+-- each change is in one of so many tables, and knows whether a row stands at its cell
+abbrev pub KnowsTables : ℕ → Tables → Changes → Type 0
+KnowsTables number tables changes = (cell : Cell) (pending : Pending) → get changes cell ≡ Some pending → (cell.0 < number) × (pending.stands ≡ is_some (get tables cell))
+
+-- a change as a write
+abbrev pub write_of : Change → Write
+write_of change = record { table = change.0.0; key = change.0.1; row = change.1.row }
+
+-- a row more in the table, and one less
+abbrev pub gains : ℕ → Change → ℕ
+gains table change = cond (change.0.0 == table && (is_some change.1.row && not change.1.stands)) 1 0
+
+abbrev pub loses : ℕ → Change → ℕ
+loses table change = cond (change.0.0 == table && (not (is_some change.1.row) && change.1.stands)) 1 0
+
+-- how many rows changes add to the table, and how many they take away
+abbrev pub gained : ℕ → List Change → ℕ
+gained table [] = 0
+gained table (change ∷ changes) = gains table change + gained table changes
+
+abbrev pub lost : ℕ → List Change → ℕ
+lost table [] = 0
+lost table (change ∷ changes) = loses table change + lost table changes

@@ -1,29 +1,31 @@
-// Executes calls.
-ghost use Rattle.std.specs.Prelude.{◌≡◌, ◌+◌, ◌<◌, ◌≤◌, ◌^◌, length, map, IsTrue, IfErr, Ok, Err, OnOk, OnErr, IfOk, IsSome};
-ghost use Rattle.std.specs.FinMap as fin;
-ghost use Rattle.pac_value.specs.Expressions.{types_of, type_in, value};
-ghost use Rattle.pac_value.specs.declared.values.Value.TheVariants.{Bool as Truth};
-ghost use Rattle.pac_types.specs.Sound.{is_bool, check, any_defines, scope_after, scope_behind, FitTables, FitParams, IsSoundProc};
-ghost use Rattle.pac_types.specs.Meaning.{code, operations, meaning, with_values, called};
-ghost use Rattle.pac_serial.specs.Outcomes.{Runs, KeepsOnAbort, Sees, KeepsTypes, Stops, stopped};
-ghost use Rattle.pac_serial.specs.Transactions.{state_of};
+// Executes transactions.
+ghost use Rattle.std.specs.Prelude.{◌≡◌, Ok, None, OnOk, OnErr, map, slice_get};
+ghost use Rattle.pac_ops.specs.Shapes.{ChangeFits, RecordsFit};
+ghost use Rattle.pac_ops.specs.Transactions.{with_change, with_changes};
+ghost use Rattle.pac_types.specs.Execution.{called_at, txn_meaning};
+ghost use Rattle.pac_types.specs.Fits.{shape, FitsCatalogue, FitsCall, TxnFits};
+ghost use Rattle.pac_serial.specs.Drafts.{seen, KnowsTables};
+ghost use Rattle.pac_serial.specs.Outcomes.{Executes, limited};
+ghost use Rattle.pac_serial.specs.Transactions.{RunsOver};
 
-use crate::AllRows;
-use crate::count::count_operations;
-use crate::draft::Draft;
-use crate::operation::{Halt, abort_if, assign, define, delete, has, put, read, set};
-use crate::transaction::{RunningTxn, Target};
-use pac_base::NoMemory;
-use pac_types::{Proc, Reason, Stmt, Table};
-use pac_value::{Env, Expr, Value, eval};
+use crate::limit::over_limit;
+use crate::operation::Halt;
+use crate::statement::exec_block;
+use crate::transaction::RunningTxn;
+use pac_base::{Exact, NoMemory};
+use pac_ops::{Change, Reason, Records, Txn};
+use pac_tables::Rows;
+use pac_types::{Catalogue, Table};
+use pac_value::Value;
 use std::alloc::Global;
-use std::mem;
 
-/// Why a call is not executed.
+/// What refuses a transaction. The tables are then as they were.
 #[derive(Clone, Copy, Debug, PartialEq, Eq)]
 pub enum ExecError {
     /// The operation with this number aborts for this reason.
-    Abort { op: u64, reason: Reason },
+    Abort { op: u16, reason: Reason },
+    /// This table would have more rows than the limit; it is the first of those that would.
+    Full { table: u16 },
     /// An allocation was refused.
     NoMemory,
 }
@@ -39,180 +41,173 @@ impl From<NoMemory> for ExecError {
     }
 }
 
-fn at(op: u64, stop: Halt) -> ExecError
-    ensures { result ≡ stopped op stop }
-{
-    match stop {
-        Halt::Abort(reason) => ExecError::Abort { op, reason },
-        Halt::NoMemory => ExecError::NoMemory,
-    }
-}
+impl From<Halt> for ExecError {
+    ghost use Rattle.std.specs.Prelude.{◌≡◌};
+    ghost use Rattle.pac_serial.specs.Outcomes.{error_of};
 
-// What an operation with this number gives: the number of the next one, or its stop.
-macro_rules! numbered {
-    ($op:expr, $done:expr) => {
-        match $done {
-            Ok(()) => Ok($op + 1),
-            Err(stop) => Err(at($op, stop)),
-        }
-    };
-}
+    ghost from_gives = { λ halt error. error ≡ error_of halt };
 
-// The value of a conditional's test.
-fn test_of(op: u64, test: &Expr, env: &Env) -> Result<bool, ExecError>
-    requires { IsTrue (is_bool (type_in (types_of env.now) test.now)) }
-    ensures ok { IfOk result (λ truth. value test.now env.now ≡ Ok (Truth truth)) }
-    ensures trap { IfErr result (λ error. Stops op (value test.now env.now) error) }
-{
-    match eval(test, env) {
-        Ok(Value::Bool(truth)) => Ok(truth),
-        Ok(_) => unreachable!(),
-        Err(trap) => Err(at(op, trap.into())),
-    }
-}
-
-// Executes a statement whose first operation has this number. Gives the number of the operation behind it.
-#[cycle(exec)]
-fn exec_stmt(tables: &[Table], stmt: &Stmt, op: u64, txn: &mut RunningTxn) -> Result<u64, ExecError>
-    requires sound { IsSome (scope_after tables.now stmt.now (types_of txn.old.env)) }
-    requires fits { FitTables tables.now txn.old.draft.tables }
-    requires numbers { op + (code stmt.now).count < 2 ^ 64 }
-    ensures runs { Runs result ((code stmt.now).run op (state_of txn.old)) (state_of txn.new) }
-    ensures next { IfOk result (λ next. next ≡ op + (code stmt.now).count) }
-    ensures sees { OnOk result (Sees (scope_after tables.now stmt.now (types_of txn.old.env)) txn.new.env) }
-    ensures keeps { OnOk result (KeepsTypes (check tables.now stmt.now).defines txn.old.env txn.new.env) }
-    ensures fits { OnOk result (FitTables tables.now txn.new.draft.tables) }
-    ensures kept { txn.new.draft.kept ≡ txn.old.draft.kept }
-{
-    match stmt {
-        Stmt::Let { var, value } => numbered!(op, assign(*var, value, txn)),
-        Stmt::Read {
-            var,
-            table,
-            key,
-            column,
-            default,
-        } => {
-            let target = Target { table: *table, key };
-            numbered!(op, read(tables, &target, *column, *default, *var, txn))
-        }
-        Stmt::Has { var, table, key } => {
-            let target = Target { table: *table, key };
-            numbered!(op, has(tables, &target, *var, txn))
-        }
-        Stmt::Put { table, key, values } => {
-            let target = Target { table: *table, key };
-            numbered!(op, put(tables, &target, values.as_slice(), txn))
-        }
-        Stmt::Set {
-            table,
-            key,
-            column,
-            value,
-        } => {
-            let target = Target { table: *table, key };
-            numbered!(op, set(tables, &target, *column, value, txn))
-        }
-        Stmt::Delete { table, key } => {
-            let target = Target { table: *table, key };
-            numbered!(op, delete(tables, &target, txn))
-        }
-        Stmt::AbortIf { test } => numbered!(op, abort_if(test, txn)),
-        Stmt::If {
-            var,
-            test,
-            first,
-            second,
-        } => {
-            let truth = test_of(op, test, &txn.env)?;
-            define(&mut txn.env, *var, Value::Bool(truth))?;
-            if truth {
-                let behind = exec_block(tables, first.as_slice(), op + 1, txn)?;
-                Ok(behind + count_operations(second.as_slice()))
-            } else {
-                let behind = op + 1 + count_operations(first.as_slice());
-                exec_block(tables, second.as_slice(), behind, txn)
-            }
+    fn from(halt: Halt) -> Self {
+        match halt {
+            Halt::Abort { op, reason } => ExecError::Abort { op, reason },
+            Halt::NoMemory => ExecError::NoMemory,
         }
     }
 }
 
-// Executes statements in order. The first operation has this number.
-#[cycle(exec)]
-fn exec_block(
-    tables: &[Table],
-    stmts: &[Stmt],
-    first: u64,
+// Makes what the transaction has changed, where no table is over the limit then.
+fn finish<R: Rows>(
+    limit: Option<u64>,
+    rows: &mut R,
     txn: &mut RunningTxn,
-) -> Result<u64, ExecError>
-    requires sound { IsSome (scope_behind tables.now stmts.now (types_of txn.old.env)) }
-    requires fits { FitTables tables.now txn.old.draft.tables }
-    requires numbers { first + operations stmts.now < 2 ^ 64 }
-    ensures runs { Runs result (meaning stmts.now first (state_of txn.old)) (state_of txn.new) }
-    ensures next { IfOk result (λ next. next ≡ first + operations stmts.now) }
-    ensures keeps { OnOk result (KeepsTypes (any_defines (map (check tables.now) stmts.now)) txn.old.env txn.new.env) }
-    ensures fits { OnOk result (FitTables tables.now txn.new.draft.tables) }
-    ensures kept { txn.new.draft.kept ≡ txn.old.draft.kept }
-{
-    let mut op = first;
-    for stmt in stmts {
-        op = exec_stmt(tables, stmt, op, txn)?;
-    }
-    Ok(op)
-}
-
-// The environment in which the parameters alone have values.
-fn env_of(alloc: Global, args: &[Value]) -> Result<Env, NoMemory>
-    requires { length args.now ≤ 65536 }
-    ensures { IfOk result (λ env. env ≡ with_values 0 args.now fin.empty) }
-{
-    let mut env = Env::new(alloc);
-    for (i, value) in args.iter().enumerate() {
-        env.set(i as u16, *value)?;
-    }
-    Ok(env)
-}
-
-/// Executes one call of a sound procedure. It costs what its statements touch: no table is copied, and a cell is looked
-/// up in logarithmic time, in the call's own writes and in the rows.
-///
-/// `Abort`: the operation aborts, and the rows are as before. `NoMemory`: an allocation was refused, and nothing is said
-/// of the rows.
-pub fn exec(
-    alloc: Global,
-    tables: &[Table],
-    proc: &Proc,
-    args: &[Value],
-    rows: &mut AllRows,
 ) -> Result<(), ExecError>
-    requires sound { IsSoundProc tables.now proc.now }
-    requires numbers { operations proc.now.body < 2 ^ 64 }
-    requires args { FitParams proc.now.params args.now }
-    requires few { length args.now ≤ 65536 }
-    requires fits { FitTables tables.now rows.old }
-    ensures runs { Runs result (called proc.now args.now rows.old) rows.new }
-    ensures fits { OnOk result (FitTables tables.now rows.new) }
-    ensures kept { KeepsOnAbort result rows.old rows.new }
+    requires { KnowsTables (R.tables rows.old) (R.held rows.old) txn.old.draft }
+    ensures does { Executes (limited limit (R.tables rows.old) (Ok (seen (R.held rows.old) txn.old.draft))) (R.held rows.old) (R.held rows.new) result }
+    ensures seen { OnOk result (R.held rows.new ≡ seen (R.held rows.old) txn.old.draft) }
+    ensures kept { OnErr result (R.held rows.new ≡ R.held rows.old) }
+    ensures tables { R.tables rows.new ≡ R.tables rows.old }
 {
-    let env = env_of(alloc, args)?;
-    let draft = Draft::new(alloc, mem::replace(rows, AllRows::new(alloc)));
-    let mut txn = RunningTxn { alloc, env, draft };
-    let ended = exec_block(tables, proc.body.as_slice(), 0, &mut txn);
-    let RunningTxn { draft, .. } = txn;
-    match ended {
-        Ok(_) => match draft.lay() {
-            Ok(laid) => {
-                *rows = laid;
-                Ok(())
-            }
-            Err(left) => {
-                *rows = left;
-                Err(ExecError::NoMemory)
-            }
-        },
-        Err(error) => {
-            *rows = draft.discard();
-            Err(error)
+    if let Some(limit) = limit {
+        if let Some(table) = over_limit(rows, &txn.draft, limit) {
+            return Err(ExecError::Full { table });
         }
+    }
+    Ok(txn.draft.commit(txn.alloc, rows)?)
+}
+
+// Executes a call in a transaction that is made already.
+pub(crate) fn exec_call<R: Rows>(
+    cat: &Catalogue,
+    proc: u16,
+    args: &[Value],
+    limit: Option<u64>,
+    rows: &mut R,
+    txn: &mut RunningTxn,
+) -> Result<(), ExecError>
+    requires call { FitsCall cat.now.procs proc args.now }
+    requires fits { FitsCatalogue cat.now (R.tables rows.old) (R.held rows.old) }
+    ensures does { Executes (limited limit (R.tables rows.old) (called_at (slice_get cat.now.procs proc) args.now (R.held rows.old))) (R.held rows.old) (R.held rows.new) result }
+    ensures fits { FitsCatalogue cat.now (R.tables rows.new) (R.held rows.new) }
+    ensures tables { R.tables rows.new ≡ R.tables rows.old }
+{
+    let proc = &cat.procs()[usize::from(proc)];
+    txn.begin(args)?;
+    exec_block(cat.tables(), rows, proc.body.as_slice(), txn)?;
+    finish(limit, rows, txn)
+}
+
+// Makes a change in a transaction.
+fn make<R: Rows>(
+    tables: &[Table],
+    rows: &R,
+    change: &Change,
+    txn: &mut RunningTxn,
+) -> Result<(), NoMemory>
+    requires change { ChangeFits (map shape tables.now) change.now }
+    requires over { RunsOver tables.now (R.tables rows.now) (R.held rows.now) txn.old.draft }
+    ensures seen { OnOk result (seen (R.held rows.now) txn.new.draft ≡ with_change (seen (R.held rows.now) txn.old.draft) change.now) }
+    ensures over { OnOk result (RunsOver tables.now (R.tables rows.now) (R.held rows.now) txn.new.draft) }
+{
+    match change {
+        Change::Put { table, key, row } => {
+            let row = row.copy(txn.alloc)?;
+            txn.draft.change(rows, *table, *key, Some(row))
+        }
+        Change::Delete { table, key } => txn.draft.change(rows, *table, *key, None),
+    }
+}
+
+// Makes the changes of records in a transaction that is made already.
+pub(crate) fn exec_records<R: Rows>(
+    cat: &Catalogue,
+    records: &Records,
+    limit: Option<u64>,
+    rows: &mut R,
+    txn: &mut RunningTxn,
+) -> Result<(), ExecError>
+    requires records { RecordsFit (map shape cat.now.tables) records.now }
+    requires fits { FitsCatalogue cat.now (R.tables rows.old) (R.held rows.old) }
+    ensures does { Executes (limited limit (R.tables rows.old) (Ok (with_changes (R.held rows.old) records.now))) (R.held rows.old) (R.held rows.new) result }
+    ensures fits { FitsCatalogue cat.now (R.tables rows.new) (R.held rows.new) }
+    ensures tables { R.tables rows.new ≡ R.tables rows.old }
+{
+    let tables = cat.tables();
+    let changes = records.items();
+    txn.begin(&[])?;
+    for change in changes {
+        make(tables, rows, change, txn)?;
+    }
+    finish(limit, rows, txn)
+}
+
+/// Executes a call of one of the catalogue's procedures, unless some table would then have more rows than the limit. It
+/// costs what its statements touch: no table is copied, and a cell is looked up among the call's own changes and in the
+/// tables. A limit costs a look at the count of each table.
+///
+/// # Errors
+///
+/// - `Abort` exactly where the call aborts by its meaning.
+/// - `Full` exactly where it ends with a table over the limit: the first of them.
+/// - `NoMemory` where an allocation was refused.
+///
+/// Whatever refuses it, the tables are as they were.
+pub fn exec<R: Rows>(
+    alloc: Global,
+    cat: &Catalogue,
+    proc: u16,
+    args: &[Value],
+    limit: Option<u64>,
+    rows: &mut R,
+) -> Result<(), ExecError>
+    requires call { FitsCall cat.now.procs proc args.now }
+    requires fits { FitsCatalogue cat.now (R.tables rows.old) (R.held rows.old) }
+    ensures does { Executes (limited limit (R.tables rows.old) (called_at (slice_get cat.now.procs proc) args.now (R.held rows.old))) (R.held rows.old) (R.held rows.new) result }
+    ensures fits { FitsCatalogue cat.now (R.tables rows.new) (R.held rows.new) }
+    ensures tables { R.tables rows.new ≡ R.tables rows.old }
+{
+    exec_call(cat, proc, args, limit, rows, &mut RunningTxn::new(alloc))
+}
+
+/// Makes the changes of ad hoc records in their order, unless some table would then have more rows than the limit. The
+/// rows that are put are copies. It costs what [`exec`] costs.
+///
+/// # Errors
+///
+/// - `Full` exactly where the changes leave a table over the limit: the first of them.
+/// - `NoMemory` where an allocation was refused.
+///
+/// `Abort` never comes. Whatever refuses the records, the tables are as they were.
+pub fn exec_adhoc<R: Rows>(
+    alloc: Global,
+    cat: &Catalogue,
+    records: &Records,
+    limit: Option<u64>,
+    rows: &mut R,
+) -> Result<(), ExecError>
+    requires records { RecordsFit (map shape cat.now.tables) records.now }
+    requires fits { FitsCatalogue cat.now (R.tables rows.old) (R.held rows.old) }
+    ensures does { Executes (limited limit (R.tables rows.old) (Ok (with_changes (R.held rows.old) records.now))) (R.held rows.old) (R.held rows.new) result }
+    ensures fits { FitsCatalogue cat.now (R.tables rows.new) (R.held rows.new) }
+    ensures tables { R.tables rows.new ≡ R.tables rows.old }
+{
+    exec_records(cat, records, limit, rows, &mut RunningTxn::new(alloc))
+}
+
+/// Executes a transaction without a limit.
+pub(crate) fn exec_txn<R: Rows>(
+    cat: &Catalogue,
+    txn: &Txn,
+    rows: &mut R,
+    running: &mut RunningTxn,
+) -> Result<(), ExecError>
+    requires txn { TxnFits cat.now txn.now }
+    requires fits { FitsCatalogue cat.now (R.tables rows.old) (R.held rows.old) }
+    ensures does { Executes (limited None (R.tables rows.old) (txn_meaning cat.now.procs txn.now (R.held rows.old))) (R.held rows.old) (R.held rows.new) result }
+    ensures fits { FitsCatalogue cat.now (R.tables rows.new) (R.held rows.new) }
+    ensures tables { R.tables rows.new ≡ R.tables rows.old }
+{
+    match txn {
+        Txn::Call(call) => exec_call(cat, call.proc, call.args.items(), None, rows, running),
+        Txn::AdHoc { records } => exec_records(cat, records, None, rows, running),
     }
 }

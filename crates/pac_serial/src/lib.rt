@@ -1,28 +1,26 @@
-//! Serial execution: the rows of the tables, and calls that are executed one after another, exactly as the serial meaning
-//! of the typed catalogue says.
+//! Serial execution: transactions that are executed one after another over any tables, exactly as the serial meaning of
+//! the typed catalogue says.
 //!
-//! - [`AllRows`]: the rows of all tables, a finite map from cells to rows.
-//! - [`exec`]: executes one call of a sound procedure. Its writes stand apart until it ends, so an abort, an
-//!   [`ExecError`], leaves the rows as they were. A read looks up its cell in the writes of its own transaction first.
-//! - [`Call`], [`Args`], [`exec_all`]: calls, and their execution in order up to the first abort, a [`SerialError`].
-//! - [`count_operations`]: how many operations statements are.
+//! - [`exec`]: executes a call of one of the catalogue's procedures. [`exec_adhoc`]: makes the changes of ad hoc records.
+//!   Both can be given a limit on the rows of each table. What refuses a transaction is an [`ExecError`].
+//! - [`exec_all`]: executes the transactions of a batch in order up to the first that is refused, an [`AllError`].
 //! - [`dump_tables`]: the text of all tables.
+//!
+//! A transaction's changes stand apart in a draft until it ends. Then the limit is tested, by counts that the tables keep,
+//! and the changes are made, all or none; so whatever refuses it, the tables are as they were. A read looks up its cell
+//! in the draft first.
 #![tactic(auto)]
 
-mod count;
 mod draft;
 mod dump;
 mod execute;
+mod limit;
 mod operation;
-mod rows;
+mod pending;
 mod serial;
-#[cfg(test)]
-mod tests;
+mod statement;
 mod transaction;
 
-pub use count::count_operations;
 pub use dump::dump_tables;
-pub use execute::{ExecError, exec};
-pub use pac_ops::{Args, ArgsRule, Call};
-pub use rows::AllRows;
-pub use serial::{SerialError, exec_all};
+pub use execute::{ExecError, exec, exec_adhoc};
+pub use serial::{AllError, exec_all};

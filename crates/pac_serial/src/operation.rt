@@ -2,25 +2,32 @@
 ghost use Rattle.std.specs.Prelude.{◌≡◌, ◌<◌, ℕ, map, length, slice_set, OnOk, IfOk, IfErr, IsSome, IsTrue, Some, Ok, Err};
 ghost use Rattle.std.specs.Option.{option_map};
 ghost use Rattle.std.specs.FinMap as fin;
-ghost use Rattle.pac_value.specs.Values.{type_of, is_stored};
+ghost use Rattle.pac_value.specs.Values.{type_of, key_value, is_stored};
 ghost use Rattle.pac_value.specs.Expressions.{type_in, types_of};
-ghost use Rattle.pac_types.specs.Sound.{with_var, key_type, column_type, column_types, is_bool, is_wanted, are_wanted, is_width, type_of_key, FitTables};
-ghost use Rattle.pac_types.specs.Meaning.{values, touched, column_or, do_read, do_has, do_put, do_set, do_delete, do_let, do_abort_if};
-ghost use Rattle.pac_types.specs.Reasons.{or_abort};
-ghost use Rattle.pac_serial.specs.Outcomes.{Does, DoesGive};
-ghost use Rattle.pac_serial.specs.Transactions.{state_of};
+ghost use Rattle.pac_value.specs.State.{Tables};
+ghost use Rattle.pac_value.specs.Scopes.{with_var, is_bool, is_wanted, are_wanted, is_width};
 ghost use Rattle.pac_value.specs.declared.values.Ty.TheVariants.{Bool as BoolTy};
+ghost use Rattle.pac_ops.specs.Operations.{values, cell_at, column_or, done};
+ghost use Rattle.pac_ops.specs.declared.program.OpKind.TheVariants as kind;
+ghost use Rattle.pac_ops.specs.Reasons.{or_abort};
+ghost use Rattle.pac_types.specs.Sound.{key_type, column_type, column_types};
+ghost use Rattle.pac_serial.specs.Outcomes.{Does, DoesGive};
+ghost use Rattle.pac_serial.specs.Transactions.{state_of, RunsOver};
 
 use crate::transaction::{RunningTxn, Target};
 use pac_base::{NoMemory, copy_of};
-use pac_types::{Reason, Table};
+use pac_ops::Reason;
+use pac_tables::Rows;
+use pac_types::Table;
 use pac_value::{Env, Expr, Key, Row, Trap, Value, eval};
 use std::alloc::{AllocError, AllocFailed, Global};
 
-/// Why an operation is not executed.
+/// Why operations are not executed.
 #[derive(Clone, Copy, Debug, PartialEq, Eq)]
 pub(crate) enum Halt {
-    Abort(Reason),
+    /// One aborts; it has this number, counted from the first of them.
+    Abort { op: u16, reason: Reason },
+    /// An allocation was refused.
     NoMemory,
 }
 
@@ -28,7 +35,7 @@ impl From<NoMemory> for Halt {
     ghost use Rattle.std.specs.Prelude.{◌≡◌};
     ghost use Rattle.pac_serial.specs.declared.operation.Halt.TheVariants.{NoMemory};
 
-    ghost from_gives = { λ _ stop. stop ≡ NoMemory };
+    ghost from_gives = { λ _ halt. halt ≡ NoMemory };
 
     fn from(_: NoMemory) -> Self {
         Halt::NoMemory
@@ -39,7 +46,7 @@ impl From<AllocError> for Halt {
     ghost use Rattle.std.specs.Prelude.{◌≡◌};
     ghost use Rattle.pac_serial.specs.declared.operation.Halt.TheVariants.{NoMemory};
 
-    ghost from_gives = { λ _ stop. stop ≡ NoMemory };
+    ghost from_gives = { λ _ halt. halt ≡ NoMemory };
 
     fn from(_: AllocError) -> Self {
         Halt::NoMemory
@@ -50,22 +57,33 @@ impl<T: Drop> From<AllocFailed<T>> for Halt {
     ghost use Rattle.std.specs.Prelude.{◌≡◌};
     ghost use Rattle.pac_serial.specs.declared.operation.Halt.TheVariants.{NoMemory};
 
-    ghost from_gives = { λ _ stop. stop ≡ NoMemory };
+    ghost from_gives = { λ _ halt. halt ≡ NoMemory };
 
     fn from(_: AllocFailed<T>) -> Self {
         Halt::NoMemory
     }
 }
 
-impl From<Trap> for Halt {
+impl From<Reason> for Halt {
     ghost use Rattle.std.specs.Prelude.{◌≡◌};
-    ghost use Rattle.pac_types.specs.Reasons.{reason_of};
     ghost use Rattle.pac_serial.specs.declared.operation.Halt.TheVariants.{Abort};
 
-    ghost from_gives = { λ trap stop. stop ≡ Abort (reason_of trap) };
+    ghost from_gives = { λ reason halt. halt ≡ Abort 0 reason };
+
+    fn from(reason: Reason) -> Self {
+        Halt::Abort { op: 0, reason }
+    }
+}
+
+impl From<Trap> for Halt {
+    ghost use Rattle.std.specs.Prelude.{◌≡◌};
+    ghost use Rattle.pac_ops.specs.Reasons.{reason_of};
+    ghost use Rattle.pac_serial.specs.declared.operation.Halt.TheVariants.{Abort};
+
+    ghost from_gives = { λ trap halt. halt ≡ Abort 0 (reason_of trap) };
 
     fn from(trap: Trap) -> Self {
-        Halt::Abort(trap.into())
+        Halt::from(Reason::from(trap))
     }
 }
 
@@ -81,9 +99,10 @@ pub(crate) fn define(env: &mut Env, var: u16, value: Value) -> Result<(), NoMemo
 // The key of a table operation.
 fn key_of(tables: &[Table], target: &Target<'_>, env: &Env) -> Result<Key, Trap>
     requires { IsTrue (is_wanted (type_in (types_of env.now) target.now.key.now) (key_type tables.now target.now.table)) }
-    ensures ok { IfOk result (λ k. touched target.now.table target.now.key.now env.now ≡ Ok (target.now.table, k)) }
-    ensures typed { IfOk result (λ k. key_type tables.now target.now.table ≡ Some (type_of_key k)) }
-    ensures trap { IfErr result (λ trap. touched target.now.table target.now.key.now env.now ≡ or_abort (Err trap)) }
+    ensures ok { IfOk result (λ k. cell_at target.now.table target.now.key.now env.now ≡ Ok (Some (target.now.table, k))) }
+    ensures typed { IfOk result (λ k. key_type tables.now target.now.table ≡ Some (type_of (key_value k))) }
+    ensures within { target.now.table < length tables.now }
+    ensures trap { IfErr result (λ trap. cell_at target.now.table target.now.key.now env.now ≡ Err trap) }
 {
     match eval(target.key, env)? {
         Value::Int(number) => Ok(Key::Int(number)),
@@ -107,8 +126,9 @@ fn column_or(row: Option<&Row>, column: u16, default: Value) -> Value
 }
 
 /// `read`.
-pub(crate) fn read(
+pub(crate) fn read<R: Rows>(
     tables: &[Table],
+    rows: &R,
     target: &Target<'_>,
     column: u16,
     default: Value,
@@ -117,48 +137,50 @@ pub(crate) fn read(
 ) -> Result<(), Halt>
     requires key { IsTrue (is_wanted (type_in (types_of txn.old.env) target.now.key.now) (key_type tables.now target.now.table)) }
     requires column { IsTrue (is_wanted (Some (type_of default)) (column_type tables.now target.now.table column)) }
-    requires fits { FitTables tables.now txn.old.draft.tables }
-    ensures does { Does result (do_read var target.now.table target.now.key.now column default (state_of txn.old)) (state_of txn.new) }
+    requires over { RunsOver tables.now (R.tables rows.now) (R.held rows.now) txn.old.draft }
+    ensures does { Does result (done (kind.Read var target.now.table target.now.key.now column default) (state_of (R.held rows.now) txn.old)) (state_of (R.held rows.now) txn.new) }
     ensures types { OnOk result (types_of txn.new.env ≡ with_var (types_of txn.old.env) var (type_of default)) }
     ensures draft { txn.new.draft ≡ txn.old.draft }
 {
     let key = key_of(tables, target, &txn.env)?;
-    let value = column_or(txn.draft.get(target.table, &key), column, default);
+    let value = column_or(txn.draft.get(rows, target.table, &key), column, default);
     Ok(define(&mut txn.env, var, value)?)
 }
 
 /// `has`.
-pub(crate) fn has(
+pub(crate) fn has<R: Rows>(
     tables: &[Table],
+    rows: &R,
     target: &Target<'_>,
     var: u16,
     txn: &mut RunningTxn,
 ) -> Result<(), Halt>
-    requires { IsTrue (is_wanted (type_in (types_of txn.old.env) target.now.key.now) (key_type tables.now target.now.table)) }
-    ensures does { Does result (do_has var target.now.table target.now.key.now (state_of txn.old)) (state_of txn.new) }
+    requires key { IsTrue (is_wanted (type_in (types_of txn.old.env) target.now.key.now) (key_type tables.now target.now.table)) }
+    requires over { RunsOver tables.now (R.tables rows.now) (R.held rows.now) txn.old.draft }
+    ensures does { Does result (done (kind.Has var target.now.table target.now.key.now) (state_of (R.held rows.now) txn.old)) (state_of (R.held rows.now) txn.new) }
     ensures types { OnOk result (types_of txn.new.env ≡ with_var (types_of txn.old.env) var BoolTy) }
     ensures draft { txn.new.draft ≡ txn.old.draft }
 {
     let key = key_of(tables, target, &txn.env)?;
-    let found = txn.draft.get(target.table, &key).is_some();
+    let found = txn.draft.get(rows, target.table, &key).is_some();
     Ok(define(&mut txn.env, var, Value::Bool(found))?)
 }
 
 /// `delete`.
-pub(crate) fn delete(
+pub(crate) fn delete<R: Rows>(
     tables: &[Table],
+    rows: &R,
     target: &Target<'_>,
     txn: &mut RunningTxn,
 ) -> Result<(), Halt>
     requires key { IsTrue (is_wanted (type_in (types_of txn.old.env) target.now.key.now) (key_type tables.now target.now.table)) }
-    requires fits { FitTables tables.now txn.old.draft.tables }
-    ensures does { Does result (do_delete target.now.table target.now.key.now (state_of txn.old)) (state_of txn.new) }
+    requires over { RunsOver tables.now (R.tables rows.now) (R.held rows.now) txn.old.draft }
+    ensures does { Does result (done (kind.Delete target.now.table target.now.key.now) (state_of (R.held rows.now) txn.old)) (state_of (R.held rows.now) txn.new) }
     ensures env { txn.new.env ≡ txn.old.env }
-    ensures fits { OnOk result (FitTables tables.now txn.new.draft.tables) }
-    ensures kept { txn.new.draft.kept ≡ txn.old.draft.kept }
+    ensures over { OnOk result (RunsOver tables.now (R.tables rows.now) (R.held rows.now) txn.new.draft) }
 {
     let key = key_of(tables, target, &txn.env)?;
-    txn.draft.delete(target.table, key)?;
+    txn.draft.change(rows, target.table, key, None)?;
     Ok(())
 }
 
@@ -183,8 +205,9 @@ fn row_of(
 }
 
 /// `put`.
-pub(crate) fn put(
+pub(crate) fn put<R: Rows>(
     tables: &[Table],
+    rows: &R,
     target: &Target<'_>,
     exprs: &[Expr],
     txn: &mut RunningTxn,
@@ -192,15 +215,14 @@ pub(crate) fn put(
     requires key { IsTrue (is_wanted (type_in (types_of txn.old.env) target.now.key.now) (key_type tables.now target.now.table)) }
     requires width { IsTrue (is_width (length exprs.now)) }
     requires typed { IsTrue (are_wanted (map (type_in (types_of txn.old.env)) exprs.now) (column_types tables.now target.now.table)) }
-    requires fits { FitTables tables.now txn.old.draft.tables }
-    ensures does { Does result (do_put target.now.table target.now.key.now exprs.now (state_of txn.old)) (state_of txn.new) }
+    requires over { RunsOver tables.now (R.tables rows.now) (R.held rows.now) txn.old.draft }
+    ensures does { Does result (done (kind.Put target.now.table target.now.key.now exprs.now) (state_of (R.held rows.now) txn.old)) (state_of (R.held rows.now) txn.new) }
     ensures env { txn.new.env ≡ txn.old.env }
-    ensures fits { OnOk result (FitTables tables.now txn.new.draft.tables) }
-    ensures kept { txn.new.draft.kept ≡ txn.old.draft.kept }
+    ensures over { OnOk result (RunsOver tables.now (R.tables rows.now) (R.held rows.now) txn.new.draft) }
 {
     let key = key_of(tables, target, &txn.env)?; // before the values
     let row = row_of(txn.alloc, tables, target.table, exprs, &txn.env)?;
-    txn.draft.put(target.table, key, row)?;
+    txn.draft.change(rows, target.table, key, Some(row))?;
     Ok(())
 }
 
@@ -216,8 +238,9 @@ fn with_column(alloc: Global, row: &Row, column: u16, value: Value) -> Result<Ro
 }
 
 /// `set`.
-pub(crate) fn set(
+pub(crate) fn set<R: Rows>(
     tables: &[Table],
+    rows: &R,
     target: &Target<'_>,
     column: u16,
     value: &Expr,
@@ -225,26 +248,25 @@ pub(crate) fn set(
 ) -> Result<(), Halt>
     requires key { IsTrue (is_wanted (type_in (types_of txn.old.env) target.now.key.now) (key_type tables.now target.now.table)) }
     requires column { IsTrue (is_wanted (type_in (types_of txn.old.env) value.now) (column_type tables.now target.now.table column)) }
-    requires fits { FitTables tables.now txn.old.draft.tables }
-    ensures does { Does result (do_set target.now.table target.now.key.now column value.now (state_of txn.old)) (state_of txn.new) }
+    requires over { RunsOver tables.now (R.tables rows.now) (R.held rows.now) txn.old.draft }
+    ensures does { Does result (done (kind.SetCol target.now.table target.now.key.now column value.now) (state_of (R.held rows.now) txn.old)) (state_of (R.held rows.now) txn.new) }
     ensures env { txn.new.env ≡ txn.old.env }
-    ensures fits { OnOk result (FitTables tables.now txn.new.draft.tables) }
-    ensures kept { txn.new.draft.kept ≡ txn.old.draft.kept }
+    ensures over { OnOk result (RunsOver tables.now (R.tables rows.now) (R.held rows.now) txn.new.draft) }
 {
     let key = key_of(tables, target, &txn.env)?;
     let value = eval(value, &txn.env)?;
-    let Some(row) = txn.draft.get(target.table, &key) else {
-        return Err(Halt::Abort(Reason::Missing));
+    let Some(row) = txn.draft.get(rows, target.table, &key) else {
+        return Err(Halt::from(Reason::Missing));
     };
     let row = with_column(txn.alloc, row, column, value)?;
-    txn.draft.put(target.table, key, row)?;
+    txn.draft.change(rows, target.table, key, Some(row))?;
     Ok(())
 }
 
 /// `let`.
 pub(crate) fn assign(var: u16, value: &Expr, txn: &mut RunningTxn) -> Result<(), Halt>
     requires { IsSome (type_in (types_of txn.old.env) value.now) }
-    ensures does { Does result (do_let var value.now (state_of txn.old)) (state_of txn.new) }
+    ensures does { (held : Tables) → Does result (done (kind.Let var value.now) (state_of held txn.old)) (state_of held txn.new) }
     ensures types { OnOk result (option_map (with_var (types_of txn.old.env) var) (type_in (types_of txn.old.env) value.now) ≡ Some (types_of txn.new.env)) }
     ensures draft { txn.new.draft ≡ txn.old.draft }
 {
@@ -256,10 +278,10 @@ pub(crate) fn assign(var: u16, value: &Expr, txn: &mut RunningTxn) -> Result<(),
 /// `abort if`.
 pub(crate) fn abort_if(test: &Expr, txn: &RunningTxn) -> Result<(), Halt>
     requires { IsTrue (is_bool (type_in (types_of txn.now.env) test.now)) }
-    ensures { Does result (do_abort_if test.now (state_of txn.now)) (state_of txn.now) }
+    ensures { (held : Tables) → Does result (done (kind.AbortIf test.now) (state_of held txn.now)) (state_of held txn.now) }
 {
     match eval(test, &txn.env)? {
-        Value::Bool(true) => Err(Halt::Abort(Reason::Asked)),
+        Value::Bool(true) => Err(Halt::from(Reason::Asked)),
         _ => Ok(()),
     }
 }

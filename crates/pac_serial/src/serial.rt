@@ -1,77 +1,61 @@
-// Executes calls one after another.
-ghost use Rattle.std.specs.Prelude.{◌≡◌, ◌^◌, ◌<◌, map, OnOk};
+// Executes transactions one after another.
+ghost use Rattle.std.specs.Prelude.{◌≡◌, ◌+◌, ◌^◌, ◌<◌, length};
 ghost use Rattle.std.specs.List.{AllByRecursion};
-ghost use Rattle.pac_types.specs.Sound.{IsSoundProc, FitTables};
-ghost use Rattle.pac_types.specs.Meaning.{called_at, serial};
-ghost use Rattle.pac_serial.specs.Outcomes.{Runs, KeepsOnAbort};
-ghost use Rattle.pac_serial.specs.Calls.{call_of, FitsProcs, IsCounted, KeepsBefore, RunsAll};
-ghost use Rattle.std.specs.Prelude.{slice_get};
+ghost use Rattle.pac_types.specs.Fits.{FitsCatalogue, TxnFits};
+ghost use Rattle.pac_types.specs.Execution.{serial};
+ghost use Rattle.pac_serial.specs.Outcomes.{ExecutesAll};
 
-use crate::AllRows;
-use crate::execute::{ExecError, exec};
-use pac_ops::Call;
-use pac_types::{Proc, Reason, Table};
+use crate::execute::{ExecError, exec_txn};
+use crate::transaction::RunningTxn;
+use pac_ops::{Batch, Note};
+use pac_tables::Rows;
+use pac_types::Catalogue;
 use std::alloc::Global;
 
-/// Why calls are not all executed.
+/// Why the transactions of a batch are not all executed.
 #[derive(Clone, Copy, Debug, PartialEq, Eq)]
-pub enum SerialError {
-    /// The operation of the transaction with this number aborts for this reason.
-    Abort { txn: u64, op: u64, reason: Reason },
+pub enum AllError {
+    /// This transaction aborts.
+    Abort(Note),
     /// An allocation was refused.
     NoMemory,
 }
 
-// Executes the call of one of the procedures.
-fn exec_call(
-    alloc: Global,
-    tables: &[Table],
-    procs: &[Proc],
-    call: &Call,
-    rows: &mut AllRows,
-) -> Result<(), ExecError>
-    requires sound { AllByRecursion (IsSoundProc tables.now) procs.now }
-    requires counted { AllByRecursion IsCounted procs.now }
-    requires fit { FitsProcs procs.now call.now }
-    requires fits { FitTables tables.now rows.old }
-    ensures runs { Runs result (called_at (slice_get procs.now call.now.proc) call.now.args rows.old) rows.new }
-    ensures fits { OnOk result (FitTables tables.now rows.new) }
-    ensures kept { KeepsOnAbort result rows.old rows.new }
-{
-    let proc = &procs[usize::from(call.proc)];
-    exec(alloc, tables, proc, call.args.items(), rows)
-}
-
-/// Executes calls in order, numbered from 1, up to the first that aborts.
+/// Executes the transactions of a batch in order, without a limit on rows, up to the first that is refused. What one
+/// transaction needs beside the rows serves them all.
 ///
-/// `Abort`: that transaction aborts there, and those before it stay executed. `NoMemory`: an allocation was refused, and
-/// nothing is said of the rows.
-pub fn exec_all(
+/// # Errors
+///
+/// - `Abort` exactly where serial execution stops, with the transaction that aborts.
+/// - `NoMemory` where an allocation was refused.
+///
+/// The transactions before the one that is refused stay executed, and it changes nothing.
+pub fn exec_all<R: Rows>(
     alloc: Global,
-    tables: &[Table],
-    procs: &[Proc],
-    calls: &[Call],
-    rows: &mut AllRows,
-) -> Result<(), SerialError>
-    requires sound { AllByRecursion (IsSoundProc tables.now) procs.now }
-    requires counted { AllByRecursion IsCounted procs.now }
-    requires fit { AllByRecursion (FitsProcs procs.now) calls.now }
-    requires fits { FitTables tables.now rows.old }
-    ensures runs { RunsAll result (serial procs.now 1 (map call_of calls.now) rows.old) rows.new }
-    ensures fits { OnOk result (FitTables tables.now rows.new) }
-    ensures kept { KeepsBefore result procs.now (map call_of calls.now) rows.old rows.new }
+    cat: &Catalogue,
+    batch: &Batch,
+    rows: &mut R,
+) -> Result<(), AllError>
+    requires fit { AllByRecursion (TxnFits cat.now) batch.now.txns }
+    requires rows { FitsCatalogue cat.now (R.tables rows.old) (R.held rows.old) }
+    requires numbers { batch.now.first + length batch.now.txns < 2 ^ 64 }
+    ensures does { ExecutesAll cat.now.procs batch.now.first batch.now.txns (R.held rows.old) (R.held rows.new) result }
+    ensures fits { FitsCatalogue cat.now (R.tables rows.new) (R.held rows.new) }
+    ensures tables { R.tables rows.new ≡ R.tables rows.old }
 {
-    for (i, call) in calls.iter().enumerate() {
-        match exec_call(alloc, tables, procs, call, rows) {
+    let mut running = RunningTxn::new(alloc);
+    for (i, txn) in batch.txns.items().iter().enumerate() {
+        match exec_txn(cat, txn, rows, &mut running) {
             Ok(()) => {}
             Err(ExecError::Abort { op, reason }) => {
-                return Err(SerialError::Abort {
-                    txn: i as u64 + 1,
+                return Err(AllError::Abort(Note {
+                    txn: batch.first + i as u64,
                     op,
                     reason,
-                });
+                }));
             }
-            Err(ExecError::NoMemory) => return Err(SerialError::NoMemory),
+            Err(ExecError::NoMemory) => return Err(AllError::NoMemory),
+            Err(ExecError::Full { .. }) => unreachable!(),
         }
     }
     Ok(())

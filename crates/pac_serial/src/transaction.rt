@@ -1,9 +1,15 @@
 // Transactions that have not ended.
+ghost use Rattle.std.specs.Prelude.{◌≡◌, ◌≤◌, length, OnOk};
+ghost use Rattle.std.specs.FinMap as map;
+ghost use Rattle.pac_types.specs.Meaning.{with_values};
+
 use crate::draft::Draft;
-use pac_value::{Env, Expr};
+use pac_base::NoMemory;
+use pac_value::{Env, Expr, Value};
 use std::alloc::Global;
 
-/// A transaction that has not ended: the values of its variables, and the rows as it sees them.
+/// A transaction that has not ended: the values of its variables, and its changes. One serves many transactions, one
+/// after another, so that what it holds is made once.
 #[derive(Drop)]
 pub(crate) struct RunningTxn {
     pub(crate) alloc: Global,
@@ -16,4 +22,29 @@ pub(crate) struct RunningTxn {
 pub(crate) struct Target<'a> {
     pub(crate) table: u16,
     pub(crate) key: &'a Expr,
+}
+
+impl RunningTxn {
+    /// Takes no memory.
+    pub(crate) fn new(alloc: Global) -> RunningTxn {
+        RunningTxn {
+            alloc,
+            env: Env::new(alloc),
+            draft: Draft::new(alloc),
+        }
+    }
+
+    /// Begins anew: the parameters alone have values, and nothing is changed.
+    pub(crate) fn begin(&mut self, args: &[Value]) -> Result<(), NoMemory>
+        requires { length args.now ≤ 65536 }
+        ensures env { OnOk result (self.new.env ≡ with_values 0 args.now map.empty) }
+        ensures draft { OnOk result (self.new.draft ≡ map.empty) }
+    {
+        self.draft.clear();
+        self.env.clear();
+        for (i, value) in args.iter().enumerate() {
+            self.env.set(i as u16, *value)?;
+        }
+        Ok(())
+    }
 }

@@ -3,13 +3,13 @@ use Rattle.std.proofs.Common.{◌≡◌, ℕ, suc, zero, ◌<◌, Bool, true, fa
 use Rattle.std.specs.List.{AllByRecursion}
 use Rattle.std.specs.Ordering.{eq_by_cmp}
 use Rattle.std.specs.FinMap.{get, insert, get-insert, same_map}
-use Rattle.pac_value.specs.State.{Cell, cell_cmp, RowValues, Tables}
-use Rattle.pac_value.proofs.CellLemmas.{cells_total, cells_antisymmetric}
+use Rattle.pac_value.specs.State.{Cell, cell_cmp, RowValues, Tables, with_row}
+use Rattle.pac_value.proofs.CellLemmas.{cells_total, cells_antisymmetric, get-with_row, same-cell}
 use Rattle.pac_base.specs.declared.no_memory.NoMemory.{NoMemory}
 use Rattle.pac_tables.specs.declared.writes.Write.{Write}
-use Rattle.pac_tables.specs.Written.{cell_written, with_row, written, is_written, IsOnce, HasRow}
+use Rattle.pac_tables.specs.Written.{cell_written, written, is_written, IsOnce, HasRow}
 use Rattle.pac_tables.specs.Room.{without_cells, Grows, IsReady}
-use Rattle.pac_tables.proofs.WriteLemmas.{get-set_row, same-cell, remove-absent, remove-inserted, without_cells-last}
+use Rattle.pac_tables.proofs.WriteLemmas.{remove-absent, remove-inserted, without_cells-last}
 
 pub Grows-none : (ws : List Write) (t : Tables) → Grows ws t t
 Grows-none ws t = record { kept = λ c h. h; others = λ c h. refl }
@@ -62,9 +62,9 @@ module _ (w : Write) (v : RowValues) (t n : Tables) (absent : get t (cell_writte
 get-applied : (ws : List Write) (s t : Tables) (q : Cell) → (is_written ws q ≡ false → get s q ≡ get t q) → get (written s ws) q ≡ get (written t ws) q
 get-applied [] s t q same = same refl
 get-applied (w ∷ ws) s t q same =
-    get-set_row (written s ws) (cell_written w) w.row q
+    get-with_row (written s ws) (cell_written w) w.row q
     ∙ go (get-applied ws s t q) (eq_by_cmp cell_cmp q (cell_written w)) refl
-    ∙ sym (get-set_row (written t ws) (cell_written w) w.row q)
+    ∙ sym (get-with_row (written t ws) (cell_written w) w.row q)
   where
     go : ((is_written ws q ≡ false → get s q ≡ get t q) → get (written s ws) q ≡ get (written t ws) q) → (b : Bool) → eq_by_cmp cell_cmp q (cell_written w) ≡ b → cond b w.row (get (written s ws) q) ≡ cond b w.row (get (written t ws) q)
     go later true e = refl
@@ -77,7 +77,7 @@ written-grown ws s t grows = same_map cells_total cells_antisymmetric _ _ (λ q.
 ready-after : (n : ℕ) (t : Tables) (v w : Write) → eq_by_cmp cell_cmp (cell_written v) (cell_written w) ≡ false → IsReady n t v → IsReady n (with_row t (cell_written w) w.row) v
 ready-after n t v w apart ready = record {
   within = ready.within;
-  placed = λ h. subst (λ (o : Option RowValues). IsSome o) (sym (get-set_row t (cell_written w) w.row (cell_written v) ∙ ap (λ b. cond b w.row (get t (cell_written v))) apart)) (ready.placed h);
+  placed = λ h. subst (λ (o : Option RowValues). IsSome o) (sym (get-with_row t (cell_written w) w.row (cell_written v) ∙ ap (λ b. cond b w.row (get t (cell_written v))) apart)) (ready.placed h);
 }
 
 none : (a b : Bool) → a ≡ false → b ≡ false → (a || b) ≡ false

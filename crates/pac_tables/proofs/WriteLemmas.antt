@@ -1,24 +1,12 @@
 -- The last of several writes may be made first.
 use Rattle.std.proofs.Common.{◌≡◌, Bool, true, false, cond, List, [], ◌∷◌, ◌++◌, Option, Some, None, refl, sym, ap, ◌∙◌}
-use Rattle.std.specs.Ordering.{is_eq, eq_by_cmp}
-use Rattle.std.specs.Cmp.{Equal-is, tied_itself}
+use Rattle.std.specs.Ordering.{eq_by_cmp}
 use Rattle.std.specs.FinMap.{get, insert, remove, get-insert, get-remove, same_map}
-use Rattle.pac_value.specs.State.{Cell, cell_cmp, RowValues, Tables}
-use Rattle.pac_value.proofs.CellLemmas.{cells_total, cells_antisymmetric}
+use Rattle.pac_value.specs.State.{Cell, cell_cmp, RowValues, Tables, with_row}
+use Rattle.pac_value.proofs.CellLemmas.{cells_total, cells_antisymmetric, tied_same}
 use Rattle.pac_tables.specs.declared.writes.Write.{Write}
-use Rattle.pac_tables.specs.Written.{cell_written, with_row, written}
+use Rattle.pac_tables.specs.Written.{cell_written, written}
 use Rattle.pac_tables.specs.Room.{without_cells}
-
-pub get-set_row : (t : Tables) (p : Cell) (row : Option RowValues) (q : Cell) → get (with_row t p row) q ≡ cond (eq_by_cmp cell_cmp q p) row (get t q)
-get-set_row t p None q = get-remove cells_total t p q
-get-set_row t p (Some row) q = get-insert cells_total t p row q
-
-pub same-cell : (c : Cell) → eq_by_cmp cell_cmp c c ≡ true
-same-cell c = ap is_eq (tied_itself cells_total c)
-
--- cells that tie are one
-pub tied_same : (q p : Cell) → eq_by_cmp cell_cmp q p ≡ true → q ≡ p
-tied_same q p h = cells_antisymmetric q p ((Equal-is (cell_cmp q p)).0 h)
 
 pub written-last : (t : Tables) (ws : List Write) (w : Write) → written t (ws ++ w ∷ []) ≡ written (with_row t (cell_written w) w.row) ws
 written-last t [] w = refl

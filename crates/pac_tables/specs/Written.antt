@@ -2,8 +2,8 @@
 use Rattle.std.specs.Prelude.{◌≡◌, ◌<◌, ℕ, Bool, false, List, [], ◌∷◌, Option, Some, None, IsSome}
 use Rattle.std.specs.List.{All, list_any}
 use Rattle.std.specs.Ordering.{eq_by_cmp}
-use Rattle.std.specs.FinMap.{get, insert, remove}
-use Rattle.pac_value.specs.State.{Cell, cell_cmp, RowValues, Tables}
+use Rattle.std.specs.FinMap.{get}
+use Rattle.pac_value.specs.State.{Cell, cell_cmp, RowValues, Tables, with_row}
 use Rattle.pac_tables.specs.declared.writes.Write.{Write}
 
 -- where a write is made
@@ -26,11 +26,6 @@ AreWithin tables writes = All (λ write. write.table < tables) writes
 -- where the write puts a row, one stands already, so it takes no memory
 abbrev pub HasRow : Tables → Write → Type 0
 HasRow tables write = IsSome write.row → IsSome (get tables (cell_written write))
-
--- a row stands at a cell from now on, or none
-abbrev pub with_row : Tables → Cell → Option RowValues → Tables
-with_row tables cell None = remove tables cell
-with_row tables cell (Some row) = insert tables cell row
 
 -- the tables with all the writes made
 abbrev pub written : Tables → List Write → Tables

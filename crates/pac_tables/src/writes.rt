@@ -2,7 +2,8 @@
 ghost use Rattle.std.specs.Prelude.{◌≡◌, ◌<◌, ◌∷◌, [], IfErr, IsOk, IsSome, OnOk, OnErr};
 ghost use Rattle.std.specs.List.{All, AllByRecursion};
 ghost use Rattle.std.specs.FinMap as map;
-ghost use Rattle.pac_tables.specs.Written.{AreWithin, HasRow, IsOnce, written, cell_written, with_row};
+ghost use Rattle.pac_tables.specs.Written.{AreWithin, HasRow, IsOnce, written, cell_written};
+ghost use Rattle.pac_value.specs.State.{with_row};
 ghost use Rattle.pac_tables.specs.Room.{Grows, IsReady, without_cells};
 
 use crate::Rows;

@@ -14,7 +14,8 @@ use Rattle.pac_types.specs.declared.table.Table.{Table}
 use Rattle.pac_types.specs.declared.statement.Stmt.{Stmt, If}
 use Rattle.pac_types.specs.declared.statement.Stmt.TheOpen as form
 use Rattle.pac_types.specs.Numbering.{AreDistinct, Sight, Numbered, in_a_row, all_names, variables_in, in_turn, unseen, branching}
-use Rattle.pac_types.specs.Sound.{Scope, Check, check, check_step, scope_after, in_order, any_defines, without, with_var, is_bool}
+use Rattle.pac_types.specs.Sound.{Check, check, check_step, scope_after, in_order, any_defines, without}
+use Rattle.pac_value.specs.Scopes.{Scope, with_var, is_bool}
 use Rattle.pac_types.specs.Checking.{ScopeState, Told, left_at, run_all, block}
 use Rattle.pac_types.proofs.StmtForms.{at-If}
 use Rattle.pac_types.proofs.ExprLemmas.{numbers_of, Fit, Passed, some_is, none_is}

@@ -1,7 +1,6 @@
 -- A procedure by numbers has as many operations as its text has statements, and no more variables.
 use Rattle.std.proofs.Common.{◌≡◌, ◌≤◌, ◌+◌, ℕ, List, [], ◌∷◌, ◌++◌, length, map, Some, refl, sym, ap, subst, ◌∙◌, arith, length-append}
 use Rattle.std.specs.List.{flat_map}
-use Rattle.std.specs.Prelude.{Result}
 use Rattle.std.specs.Option.{option_map, option_and_then}
 use Rattle.std.proofs.lemmas.List.{length-map}
 use Rattle.pac_syntax.specs.declared.tree.StmtNode.{StmtNode}
@@ -13,8 +12,9 @@ use Rattle.pac_syntax.specs.declared.tree.ProcNode.{ProcNode}
 use Rattle.pac_syntax.specs.Limits.{size, size_step, sizes, total}
 use Rattle.pac_types.specs.declared.table.Table.{Table}
 use Rattle.pac_types.specs.declared.statement.Stmt.{Stmt, Let, Read, Has, Put, Set, Delete, AbortIf, If}
-use Rattle.pac_types.specs.declared.reason.Reason.{Reason}
-use Rattle.pac_types.specs.Meaning.{State, Code, code, code_step, one, operations, do_let, do_read, do_has, do_put, do_set, do_delete, do_abort_if, conditional}
+use Rattle.pac_ops.specs.declared.program.OpKind.{OpKind}
+use Rattle.pac_ops.specs.declared.program.OpKind.TheVariants as kind
+use Rattle.pac_types.specs.Meaning.{Code, code, code_step, one, operations}
 use Rattle.pac_types.specs.Meaning as meaning
 use Rattle.pac_types.specs.Numbering.{Numbered, Sight, numbered, number_step, in_turn, body_of, variables_in, all_names, defined, defined_step, in_a_row, variables, resolved, resolved_all, table_number, column_number, unseen}
 use Rattle.pac_types.proofs.StmtForms.{at-Let, at-Read, at-Has, at-Put, at-Set, at-Delete, at-AbortIf, at-If}
@@ -23,8 +23,8 @@ use Rattle.pac_types.proofs.BlockLemmas.{turn_is, if_is}
 use Rattle.pac_types.proofs.ExprLemmas.{some_is}
 
 -- the operations of a statement that is one
-one_by : (s t : Stmt) (f : State → Result State Reason) → t ≡ s → code t ≡ one f → (code s).count ≡ 1
-one_by s t f same is = ap (λ z. (code z).count) (sym same) ∙ ap (λ (c : Code). c.count) is
+one_by : (s t : Stmt) (op : OpKind) → t ≡ s → code t ≡ one op → (code s).count ≡ 1
+one_by s t op same is = ap (λ z. (code z).count) (sym same) ∙ ap (λ (c : Code). c.count) is
 
 module _ (tables : List Table) (names : List (List ℕ)) where
   -- by numbers a statement has as many operations as it has statements, and its names are no more
@@ -53,38 +53,38 @@ module _ (tables : List Table) (names : List (List ℕ)) where
   step_counts (form.Let name value) = record {
     few = omega arith;
     operations = λ sight next s h. let p = map_is (λ e. Let next e) (resolved names sight value) s h in
-        one_by s _ (do_let next p.0) p.2 (at-Let Code code_step _ next p.0 refl);
+        one_by s _ (kind.Let next p.0) p.2 (at-Let Code code_step _ next p.0 refl);
   }
   step_counts (form.Read name table key column default) = record {
     few = omega arith;
     operations = λ sight next s h. let p = cell_is (table_number tables table.name) (resolved names sight key) (λ t k. option_map (λ c. Read next t k c default.value) (column_number tables t column.name)) s h in let q = map_is (λ c. Read next p.0 p.1 c default.value) (column_number tables p.0 column.name) s p.4 in
-        one_by s _ (do_read next p.0 p.1 q.0 default.value) q.2 (at-Read Code code_step _ next p.0 p.1 q.0 default.value refl);
+        one_by s _ (kind.Read next p.0 p.1 q.0 default.value) q.2 (at-Read Code code_step _ next p.0 p.1 q.0 default.value refl);
   }
   step_counts (form.Has name table key) = record {
     few = omega arith;
     operations = λ sight next s h. let p = cell_is (table_number tables table.name) (resolved names sight key) (λ t k. Some (Has next t k)) s h in
-        one_by s _ (do_has next p.0 p.1) (some_is p.4) (at-Has Code code_step _ next p.0 p.1 refl);
+        one_by s _ (kind.Has next p.0 p.1) (some_is p.4) (at-Has Code code_step _ next p.0 p.1 refl);
   }
   step_counts (form.Put table key values) = record {
     few = omega arith;
     operations = λ sight next s h. let p = cell_is (table_number tables table.name) (resolved names sight key) (λ t k. option_map (λ es. Put t k es) (resolved_all names sight values)) s h in let q = map_is (λ es. Put p.0 p.1 es) (resolved_all names sight values) s p.4 in
-        one_by s _ (do_put p.0 p.1 q.0) q.2 (at-Put Code code_step _ p.0 p.1 q.0 refl);
+        one_by s _ (kind.Put p.0 p.1 q.0) q.2 (at-Put Code code_step _ p.0 p.1 q.0 refl);
   }
   step_counts (form.Set table key column value) = record {
     few = omega arith;
     operations = λ sight next s h.
         let p = cell_is (table_number tables table.name) (resolved names sight key) (λ t k. option_and_then (λ c. option_map (λ e. Set t k c e) (resolved names sight value)) (column_number tables t column.name)) s h in let q = then_is (λ c. option_map (λ e. Set p.0 p.1 c e) (resolved names sight value)) (column_number tables p.0 column.name) s p.4 in let r = map_is (λ e. Set p.0 p.1 q.0 e) (resolved names sight value) s q.2 in
-        one_by s _ (do_set p.0 p.1 q.0 r.0) r.2 (at-Set Code code_step _ p.0 p.1 q.0 r.0 refl);
+        one_by s _ (kind.SetCol p.0 p.1 q.0 r.0) r.2 (at-Set Code code_step _ p.0 p.1 q.0 r.0 refl);
   }
   step_counts (form.Delete table key) = record {
     few = omega arith;
     operations = λ sight next s h. let p = cell_is (table_number tables table.name) (resolved names sight key) (λ t k. Some (Delete t k)) s h in
-        one_by s _ (do_delete p.0 p.1) (some_is p.4) (at-Delete Code code_step _ p.0 p.1 refl);
+        one_by s _ (kind.Delete p.0 p.1) (some_is p.4) (at-Delete Code code_step _ p.0 p.1 refl);
   }
   step_counts (form.AbortIf test) = record {
     few = omega arith;
     operations = λ sight next s h. let p = map_is (λ e. AbortIf e) (resolved names sight test) s h in
-        one_by s _ (do_abort_if p.0) p.2 (at-AbortIf Code code_step _ p.0 refl);
+        one_by s _ (kind.AbortIf p.0) p.2 (at-AbortIf Code code_step _ p.0 refl);
   }
   step_counts (form.If test first second) = record {
     few = omega (arith, few_joined first, few_joined second, length-append (in_a_row (map defined (nodes_of first))) (in_a_row (map defined (nodes_of second))));

@@ -16,7 +16,7 @@ use Rattle.pac_types.specs.declared.type_error.TypeFault.{TypeFault}
 use Rattle.pac_types.specs.declared.checker.scope.Variable.{Variable}
 use Rattle.pac_types.specs.declared.checker.expressions.Typed.{Typed}
 use Rattle.pac_types.specs.Numbering.{number_of, Sight, number_at, resolved, resolve_step}
-use Rattle.pac_types.specs.Sound.{Scope, is_wanted, is_bool}
+use Rattle.pac_value.specs.Scopes.{Scope, is_wanted, is_bool}
 use Rattle.pac_types.specs.Faults.{same_ty, is_ordered, is_left}
 use Rattle.pac_types.specs.Checking.{ScopeState, found_at, seen_at, taken, is_right, given, operands, checked_expr, checked_step, checked_wanted, checked_test}
 use Rattle.pac_syntax.proofs.NodeForms.{by_nodes}

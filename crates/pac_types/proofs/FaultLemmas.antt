@@ -19,7 +19,8 @@ use Rattle.pac_types.specs.declared.checker.expressions.Typed.{Typed}
 use Rattle.pac_types.specs.declared.table.Column.{Column}
 use Rattle.pac_types.specs.declared.table.Table.{Table}
 use Rattle.pac_types.specs.Numbering.{number_of, table_number, column_number, column_names, table_names}
-use Rattle.pac_types.specs.Sound.{is_wanted, key_type, column_type, column_types_of, types}
+use Rattle.pac_types.specs.Sound.{key_type, column_type, column_types_of, types}
+use Rattle.pac_value.specs.Scopes.{is_wanted}
 use Rattle.pac_types.specs.Faults.{fault_if, is_before, twice, Known, seen, name_faults, same_ty, is_left, wanted_right, is_same, is_fitting, is_test, Judged, wrong_type, placed, judge_step, judged, unknown, key_wanted, values_faults, cell_faults}
 use Rattle.pac_types.specs.Checking.{ScopeState, Cells, once, unless, found_at, seen_at, taken, is_right, given, operands, checked_step, checked_expr, checked_wanted, checked_test, known_at, checked_cell, checked_values}
 use Rattle.pac_syntax.proofs.NodeForms.{by_nodes}

@@ -17,3 +17,4 @@ pub mod RuleLemmas
 pub mod FirstLemmas
 pub mod TypedLemmas
 pub mod OneCatalogue
+pub mod ShapeLemmas

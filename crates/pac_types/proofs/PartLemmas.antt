@@ -8,7 +8,8 @@ use Rattle.pac_value.specs.declared.expr.Expr.{Expr}
 use Rattle.pac_types.specs.declared.checker.scope.Variable.{Variable}
 use Rattle.pac_types.specs.declared.statement.Stmt.{Stmt}
 use Rattle.pac_types.specs.Numbering.{cell_by, unseen}
-use Rattle.pac_types.specs.Sound.{Scope, with_var, if_so}
+use Rattle.pac_types.specs.Sound.{if_so}
+use Rattle.pac_value.specs.Scopes.{Scope, with_var}
 use Rattle.pac_types.proofs.ExprLemmas.{numbers_of, Fit, some_is, none_is}
 
 -- ---- numbers and lists

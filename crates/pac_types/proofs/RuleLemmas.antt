@@ -18,7 +18,8 @@ use Rattle.pac_types.specs.declared.checker.expressions.Typed.{Typed}
 use Rattle.pac_types.specs.declared.table.Table.{Table}
 use Rattle.pac_types.specs.declared.statement.Stmt.{Stmt, Let, Read, Has, Put, Set}
 use Rattle.pac_types.specs.Numbering.{table_number, column_number}
-use Rattle.pac_types.specs.Sound.{is_wanted, key_type, column_type, column_types}
+use Rattle.pac_types.specs.Sound.{key_type, column_type, column_types}
+use Rattle.pac_value.specs.Scopes.{is_wanted}
 use Rattle.pac_types.specs.Faults.{fault_if, twice, Known, out_of_sight, is_fitting, Judged, wrong_type, placed, judged, unknown, key_wanted, column_wanted, column_faults, wrong_count, values_wanted, values_faults, cell_faults, Ruled, ruled_naming, ruled_plain}
 use Rattle.pac_types.specs.Checking.{ScopeState, Told, Cells, Fields, once, unless, taken, known_at, defined_in, checked_expr, checked_wanted, checked_cell, checked_field, checked_read, same_count, checked_values, checked_put}
 use Rattle.pac_types.proofs.PartLemmas.{equal}

@@ -11,7 +11,8 @@ use Rattle.pac_types.specs.declared.statement.Stmt.TheOpen as form
 use Rattle.pac_types.specs.declared.statement.Stmt.TheOpen.{Stmt-F}
 use Rattle.pac_types.specs.declared.statement.Stmt.TheViews.{roll-Stmt}
 use Rattle.pac_types.specs.declared.statement.Stmt.TheFolds.{fold-roll-Stmt, ind-Stmt, map-Stmt}
-use Rattle.pac_types.specs.Sound.{Scope, with_var, key_type, column_type, column_types, if_so, Check, in_order, check_step, check, scope_behind}
+use Rattle.pac_types.specs.Sound.{key_type, column_type, column_types, if_so, Check, in_order, check_step, check, scope_behind}
+use Rattle.pac_value.specs.Scopes.{Scope, with_var}
 use Rattle.pac_types.proofs.ScopeLemmas.{Within, type_in-within, is_wanted-within, is_bool-within, and-implied, are_wanted-within, with_var-within, without-within}
 
 -- where the first is a scope, the second is one that says no less

@@ -20,7 +20,8 @@ use Rattle.pac_types.specs.declared.table.Table.{Table}
 use Rattle.pac_types.specs.declared.statement.Stmt.{Stmt, Let, Read, Has, Put, Set, Delete, AbortIf}
 use Rattle.pac_types.specs.declared.statement.Stmt.TheOpen as form
 use Rattle.pac_types.specs.Numbering.{AreDistinct, number_of, table_number, column_number, Sight, Numbered, naming, plain, cell_by, resolved, resolved_all}
-use Rattle.pac_types.specs.Sound.{Scope, Check, check, check_step, scope_after, with_var, if_so, is_wanted, is_bool, are_wanted, is_width, key_type, column_type, column_types}
+use Rattle.pac_types.specs.Sound.{Check, check, check_step, scope_after, if_so, key_type, column_type, column_types}
+use Rattle.pac_value.specs.Scopes.{Scope, with_var, is_wanted, is_bool, are_wanted, is_width}
 use Rattle.pac_types.specs.Faults.{is_before}
 use Rattle.pac_types.specs.Checking.{ScopeState, Told, Cells, Fields, once, unless, taken, known_at, same_count, defined_in, checked_wanted, checked_cell, checked_field, checked_read, checked_values}
 use Rattle.pac_types.proofs.StmtForms.{at-Let, at-Read, at-Has, at-Put, at-Set, at-Delete, at-AbortIf}

@@ -20,7 +20,8 @@ use Rattle.pac_types.specs.declared.table.Table.{Table}
 use Rattle.pac_types.specs.declared.procedure.Proc.{Proc}
 use Rattle.pac_types.specs.declared.statement.Stmt.{Stmt}
 use Rattle.pac_types.specs.Numbering.{AreDistinct, number_of, table_number, column_number, column_of, Numbered, in_a_row, defined, defined_step, numbered, number_step, branching, in_turn, body_of, numbers_from, variables, resolved}
-use Rattle.pac_types.specs.Sound.{Scope, IsSoundProc, check, in_order, scope_of, types}
+use Rattle.pac_types.specs.Sound.{IsSoundProc, check, in_order, scope_of, types}
+use Rattle.pac_value.specs.Scopes.{Scope}
 use Rattle.pac_types.specs.Typing.{IsProcOf}
 use Rattle.pac_types.specs.Faults.{is_before}
 use Rattle.pac_types.specs.Checking.{ScopeState, Told, once, unless, defined_in, checked_stmt, checked_stmt_step, checked_block, checked_params, checked_proc, opening_scope, block}

@@ -20,7 +20,8 @@ use Rattle.pac_types.specs.declared.table.Column.{Column}
 use Rattle.pac_types.specs.declared.table.Table.{Table}
 use Rattle.pac_types.specs.declared.procedure.Proc.{Proc}
 use Rattle.pac_types.specs.declared.statement.Stmt.{Stmt}
-use Rattle.pac_types.specs.Sound.{is_width, column_types, column_types_of}
+use Rattle.pac_types.specs.Sound.{column_types, column_types_of}
+use Rattle.pac_value.specs.Scopes.{is_width}
 use Rattle.pac_types.specs.Meaning.{operations}
 use Rattle.pac_types.specs.Numbering.{AreDistinct, variables, body_of, numbers_from, column_of, table_of, column_names, table_names}
 use Rattle.pac_types.specs.Typing.{IsProcOf, HasDistinctColumns, Types, CatalogueState, IsCatalogue, IsSoundTable, IsProc, IsTyped}

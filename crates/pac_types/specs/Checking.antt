@@ -4,8 +4,7 @@ use Rattle.pac_value.specs.declared.values.Ty.{Ty}
 use Rattle.pac_value.specs.declared.values.Ty.TheVariants.{Int as IntTy, Bool as BoolTy}
 use Rattle.pac_value.specs.declared.expr.BinOp.{BinOp}
 use Rattle.pac_value.specs.declared.expr.BinOp.TheVariants.{Add, Sub, Mul, Div, Rem, And, Or}
-use Rattle.pac_value.specs.declared.expr.Expr.{Expr}
-use Rattle.pac_value.specs.declared.expr.Expr.{Lit, Var, Bin}
+use Rattle.pac_value.specs.declared.expr.Expr.{Expr, Lit, Var, Bin}
 use Rattle.pac_value.specs.declared.expr.Expr as expr
 use Rattle.pac_value.specs.Values.{type_of}
 use Rattle.pac_value.specs.Expressions.{◌>>=◌}
@@ -34,7 +33,8 @@ use Rattle.pac_types.specs.declared.checker.statements.Cell.{Cell}
 use Rattle.pac_types.specs.declared.checker.statements.Field.{Field}
 use Rattle.pac_types.specs.Numbering.{number_of, variables, table_number, column_number, column_of}
 use Rattle.pac_types.specs.Faults.{is_before, same_ty, is_left}
-use Rattle.pac_types.specs.Sound.{is_wanted, key_type, column_type, column_types}
+use Rattle.pac_types.specs.Sound.{key_type, column_type, column_types}
+use Rattle.pac_value.specs.Scopes.{is_wanted}
 
 abbrev pub refuse : {A : Type 0} → ℕ → TypeFaultKind → Result A TypeFault
 refuse at kind = Err (record { at = at; kind = kind })

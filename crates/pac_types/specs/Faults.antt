@@ -25,7 +25,8 @@ use Rattle.pac_types.specs.declared.type_error.TypeFault.{TypeFault}
 use Rattle.pac_types.specs.declared.type_error.TypeFaultKind.{TypeFaultKind}
 use Rattle.pac_types.specs.declared.type_error.TypeFaultKind.TheVariants.{UnknownName, Twice, WrongType, WrongCount, OutOfScope}
 use Rattle.pac_types.specs.Numbering.{number_of, variables, table_number, column_number, table_of}
-use Rattle.pac_types.specs.Sound.{is_wanted, key_type, column_type, column_types}
+use Rattle.pac_types.specs.Sound.{key_type, column_type, column_types}
+use Rattle.pac_value.specs.Scopes.{is_wanted}
 
 abbrev pub fault : ℕ → TypeFaultKind → List TypeFault
 fault at kind = record { at = at; kind = kind } ∷ []

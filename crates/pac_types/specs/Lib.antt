@@ -1,12 +1,13 @@
 pub mod Kinds
-pub mod Reasons
 pub mod Sound
 pub mod Meaning
+pub mod Execution
 pub mod Numbering
 pub mod NamesIndex
 pub mod Faults
 pub mod Checking
 pub mod TablesIndex
 pub mod Typing
+pub mod Fits
 pub mod CatalogueText
 pub mod CatalogueNames

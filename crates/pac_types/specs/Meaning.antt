@@ -1,96 +1,20 @@
--- The serial meaning of statements, procedures and lists of calls.
-use Rattle.std.specs.Prelude.{◌+◌, ℕ, pos, true, List, [], ◌∷◌, map, is_some, slice_get, slice_set, Option, Some, None, Result, Ok, Err, unwrap_or}
-use Rattle.std.specs.FinMap.{get, insert, remove, empty}
-use Rattle.pac_value.specs.declared.values.Key.{Key}
-use Rattle.pac_value.specs.declared.values.Key.TheVariants.{Int as IntKey, Text as TextKey}
+-- The serial meaning of statements and procedures.
+use Rattle.std.specs.Prelude.{◌+◌, ℕ, true, List, [], ◌∷◌, map, Result, Ok, Err}
+use Rattle.std.specs.FinMap.{insert, empty}
 use Rattle.pac_value.specs.declared.values.Value.{Value}
-use Rattle.pac_value.specs.declared.values.Value.TheVariants.{Int, Text, Bool as Truth}
+use Rattle.pac_value.specs.declared.values.Value.TheVariants.{Bool as Truth}
 use Rattle.pac_value.specs.declared.expr.Expr.{Expr}
-use Rattle.pac_value.specs.declared.expr.Trap.{Trap}
 use Rattle.pac_value.specs.Expressions.{Values, value, ◌>>=◌}
-use Rattle.pac_value.specs.State.{Cell, RowValues, Tables}
-use Rattle.pac_types.specs.declared.reason.Reason.{Reason}
-use Rattle.pac_types.specs.declared.reason.Reason.TheVariants.{Missing, Asked}
+use Rattle.pac_value.specs.State.{Tables}
+use Rattle.pac_ops.specs.declared.program.OpKind.{OpKind}
+use Rattle.pac_ops.specs.declared.program.OpKind.TheVariants as kind
+use Rattle.pac_ops.specs.declared.reason.Reason.{Reason}
+use Rattle.pac_ops.specs.Reasons.{or_abort}
+use Rattle.pac_ops.specs.Operations.{State, define, done}
 use Rattle.pac_types.specs.declared.procedure.Proc.{Proc}
 use Rattle.pac_types.specs.declared.statement.Stmt.{Stmt}
 use Rattle.pac_types.specs.declared.statement.Stmt.TheOpen.{Stmt-F, Let, Read, Has, Put, Set, Delete, AbortIf, If}
 use Rattle.pac_types.specs.declared.statement.Stmt.TheFolds.{fold-Stmt}
-use Rattle.pac_types.specs.Reasons.{or_abort}
-
--- the values of variables, and the tables
-pub record State : Type 0 where
-  pub env : Values
-  pub tables : Tables
-
--- a variable gets a value
-abbrev pub define : ℕ → Value → State → State
-define x v s = record { env = insert s.env x v; tables = s.tables }
-
--- a row stands at a cell from now on, or none
-abbrev pub set_row : Tables → Cell → Option RowValues → Tables
-set_row tables cell None = remove tables cell
-set_row tables cell (Some row) = insert tables cell row
-
-abbrev pub write : Cell → Option RowValues → State → State
-write cell row s = record { env = s.env; tables = set_row s.tables cell row }
-
--- the key with an int's or a text's value; a bool is not well typed there
-abbrev pub as_key : Value → Key
-as_key (Int n) = IntKey n
-as_key (Text t) = TextKey t
-as_key (Truth b) = IntKey (pos 0)
-
--- the cell that a table operation looks at or changes, unless its key traps
-abbrev pub touched : ℕ → Expr → Values → Result Cell Reason
-touched t k env = or_abort (value k env) >>= λ v. Ok (t, as_key v)
-
--- the values of expressions, from left to right
-abbrev pub values : List Expr → Values → Result RowValues Trap
-values [] env = Ok []
-values (e ∷ es) env = value e env >>= λ v. values es env >>= λ vs. Ok (v ∷ vs)
-
--- a column of the row that stands at a cell, or the default
-abbrev pub column_or : Option RowValues → ℕ → Value → Value
-column_or None c default = default
-column_or (Some row) c default = unwrap_or (slice_get row c) default
-
--- the row with another value in a column; there has to be one
-abbrev pub replaced : Option RowValues → ℕ → Value → Result RowValues Reason
-replaced None c v = Err Missing
-replaced (Some row) c v = Ok (slice_set row c v)
-
--- `let x = e`
-abbrev pub do_let : ℕ → Expr → State → Result State Reason
-do_let x e s = or_abort (value e s.env) >>= λ v. Ok (define x v s)
-
--- `read x = t[k].c default d`
-abbrev pub do_read : ℕ → ℕ → Expr → ℕ → Value → State → Result State Reason
-do_read x t k c d s = touched t k s.env >>= λ cell. Ok (define x (column_or (get s.tables cell) c d) s)
-
--- `has x = t[k]`
-abbrev pub do_has : ℕ → ℕ → Expr → State → Result State Reason
-do_has x t k s = touched t k s.env >>= λ cell. Ok (define x (Truth (is_some (get s.tables cell))) s)
-
--- `put t[k] = (es)`
-abbrev pub do_put : ℕ → Expr → List Expr → State → Result State Reason
-do_put t k es s = touched t k s.env >>= λ cell. or_abort (values es s.env) >>= λ row. Ok (write cell (Some row) s)
-
--- `set t[k].c = e`
-abbrev pub do_set : ℕ → Expr → ℕ → Expr → State → Result State Reason
-do_set t k c e s = touched t k s.env >>= λ cell. or_abort (value e s.env) >>= λ v. replaced (get s.tables cell) c v >>= λ row. Ok (write cell (Some row) s)
-
--- `delete t[k]`
-abbrev pub do_delete : ℕ → Expr → State → Result State Reason
-do_delete t k s = touched t k s.env >>= λ cell. Ok (write cell None s)
-
--- an `abort if` aborts where its test is true
-abbrev pub unless_asked : Value → State → Result State Reason
-unless_asked (Truth true) s = Err Asked
-unless_asked v s = Ok s
-
--- `abort if e`
-abbrev pub do_abort_if : Expr → State → Result State Reason
-do_abort_if e s = or_abort (value e s.env) >>= λ v. unless_asked v s
 
 -- an abort: the number of the operation, and the reason
 abbrev pub Abort : Type 0
@@ -107,8 +31,8 @@ pub record Code : Type 0 where
   pub run : ℕ → State → Result State Abort
 
 -- a statement that is one operation
-abbrev pub one : (State → Result State Reason) → Code
-one f = record { count = 1; run = λ n s. at_operation n (f s) }
+abbrev pub one : OpKind → Code
+one kind = record { count = 1; run = λ n s. at_operation n (done kind s) }
 
 -- how many operations
 abbrev pub counts : List Code → ℕ
@@ -133,13 +57,13 @@ conditional x e first second = record {
 }
 
 abbrev pub code_step : Stmt-F Code → Code
-code_step (Let x e) = one (do_let x e)
-code_step (Read x t k c d) = one (do_read x t k c d)
-code_step (Has x t k) = one (do_has x t k)
-code_step (Put t k es) = one (do_put t k es)
-code_step (Set t k c e) = one (do_set t k c e)
-code_step (Delete t k) = one (do_delete t k)
-code_step (AbortIf e) = one (do_abort_if e)
+code_step (Let x e) = one (kind.Let x e)
+code_step (Read x t k c d) = one (kind.Read x t k c d)
+code_step (Has x t k) = one (kind.Has x t k)
+code_step (Put t k es) = one (kind.Put t k es)
+code_step (Set t k c e) = one (kind.SetCol t k c e)
+code_step (Delete t k) = one (kind.Delete t k)
+code_step (AbortIf e) = one (kind.AbortIf e)
 code_step (If x e first second) = conditional x e first second
 
 -- what a statement is
@@ -166,25 +90,3 @@ opening args tables = record { env = with_values 0 args empty; tables = tables }
 -- what a call makes of the tables, or its abort
 abbrev pub called : Proc → List Value → Tables → Result Tables Abort
 called proc args tables = meaning proc.body 0 (opening args tables) >>= λ s. Ok s.tables
-
--- a call: the number of a procedure, and its arguments
-abbrev pub Call : Type 0
-Call = ℕ × List Value
-
--- a call of a procedure that is not there does nothing
-abbrev pub called_at : Option Proc → List Value → Tables → Result Tables Abort
-called_at None args tables = Ok tables
-called_at (Some proc) args tables = called proc args tables
-
--- an abort of a transaction: its number, the operation's number, and the reason
-abbrev pub TxnAbort : Type 0
-TxnAbort = ℕ × ℕ × Reason
-
-abbrev pub in_txn : {A : Type 0} → ℕ → Result A Abort → Result A TxnAbort
-in_txn txn (Ok x) = Ok x
-in_txn txn (Err abort) = Err (txn, abort.0, abort.1)
-
--- the calls one after another, numbered from txn, up to the first that aborts
-abbrev pub serial : List Proc → ℕ → List Call → Tables → Result Tables TxnAbort
-serial procs txn [] tables = Ok tables
-serial procs txn (call ∷ calls) tables = in_txn txn (called_at (slice_get procs call.0) call.1 tables) >>= λ t. serial procs (txn + 1) calls t

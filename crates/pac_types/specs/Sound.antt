@@ -1,30 +1,18 @@
 -- When statements are sound: each expression has the type that its place wants.
-use Rattle.std.specs.Prelude.{◌≡◌, ℕ, Bool, true, false, ◌&&◌, ◌||◌, ◌==◌, nat_le, if◌then◌else◌, List, [], ◌∷◌, map, length, slice_get, Option, Some, None, IsSome, is_some}
+use Rattle.std.specs.Prelude.{ℕ, Bool, true, false, ◌&&◌, ◌||◌, ◌==◌, if◌then◌else◌, List, [], ◌∷◌, map, length, slice_get, Option, Some, None, IsSome, is_some}
 use Rattle.std.specs.Option.{option_map, option_and_then}
-use Rattle.std.specs.FinMap.{get}
 use Rattle.pac_value.specs.declared.values.Ty.{Ty}
-use Rattle.pac_value.specs.declared.values.Ty.TheVariants.{Int as IntTy, Text as TextTy, Bool as BoolTy}
-use Rattle.pac_value.specs.declared.values.Key.{Key}
-use Rattle.pac_value.specs.declared.values.Key.TheVariants.{Int, Text}
-use Rattle.pac_value.specs.declared.values.Value.{Value}
+use Rattle.pac_value.specs.declared.values.Ty.TheVariants.{Bool as BoolTy}
 use Rattle.pac_value.specs.declared.expr.Expr.{Expr}
 use Rattle.pac_value.specs.Values.{type_of}
 use Rattle.pac_value.specs.Expressions.{type_in}
-use Rattle.pac_value.specs.State.{Cell, RowValues, Tables}
+use Rattle.pac_value.specs.Scopes.{Scope, with_var, is_bool, is_wanted, are_wanted, is_width}
 use Rattle.pac_types.specs.declared.table.Column.{Column}
 use Rattle.pac_types.specs.declared.table.Table.{Table}
 use Rattle.pac_types.specs.declared.procedure.Proc.{Proc}
 use Rattle.pac_types.specs.declared.statement.Stmt.{Stmt}
 use Rattle.pac_types.specs.declared.statement.Stmt.TheOpen.{Stmt-F, Let, Read, Has, Put, Set, Delete, AbortIf, If}
 use Rattle.pac_types.specs.declared.statement.Stmt.TheFolds.{fold-Stmt}
-
--- the types of the variables that are visible
-abbrev pub Scope : Type 0
-Scope = ℕ → Option Ty
-
--- one more variable
-abbrev pub with_var : Scope → ℕ → Ty → Scope
-with_var scope x ty y = if y == x then Some ty else scope y
 
 -- the types of columns or parameters
 abbrev pub types : List Column → List Ty
@@ -45,27 +33,6 @@ column_types tables t = column_types_of (slice_get tables t)
 -- the type of a table's column
 abbrev pub column_type : List Table → ℕ → ℕ → Option Ty
 column_type tables t c = slice_get (column_types tables t) c
-
--- a bool
-abbrev pub is_bool : Option Ty → Bool
-is_bool (Some BoolTy) = true
-is_bool _ = false
-
--- the type that a key or a column wants: it is an int or a text
-abbrev pub is_wanted : Option Ty → Option Ty → Bool
-is_wanted (Some IntTy) (Some IntTy) = true
-is_wanted (Some TextTy) (Some TextTy) = true
-is_wanted _ _ = false
-
--- as many values as columns, each of its column's type
-abbrev pub are_wanted : List (Option Ty) → List Ty → Bool
-are_wanted [] [] = true
-are_wanted (a ∷ as_) (ty ∷ tys) = is_wanted a (Some ty) && are_wanted as_ tys
-are_wanted _ _ = false
-
--- a row has 1 to 8 columns
-abbrev pub is_width : ℕ → Bool
-is_width n = nat_le 1 n && nat_le n 8
 
 -- the scope behind a test that has to hold
 abbrev pub if_so : Bool → Scope → Option Scope
@@ -136,21 +103,3 @@ scope_of params x = slice_get (types params) x
 -- the procedure's statements are sound where its parameters are visible
 abbrev pub IsSoundProc : List Table → Proc → Type 0
 IsSoundProc tables proc = IsSome (scope_behind tables proc.body (scope_of proc.params))
-
--- arguments of the parameters' types, in order
-abbrev pub FitParams : List Column → List Value → Type 0
-FitParams params args = map type_of args ≡ types params
-
--- the type of a key
-abbrev pub type_of_key : Key → Ty
-type_of_key (Int n) = IntTy
-type_of_key (Text t) = TextTy
-
--- a row has its table's key and column types
-pub record FitsTable (tables : List Table) (cell : Cell) (row : RowValues) : Type 0 where
-  pub key : key_type tables cell.0 ≡ Some (type_of_key cell.1)
-  pub columns : map type_of row ≡ column_types tables cell.0
-
--- each row has its table's key and column types
-abbrev pub FitTables : List Table → Tables → Type 0
-FitTables tables rows = (cell : Cell) (row : RowValues) → get rows cell ≡ Some row → FitsTable tables cell row

@@ -54,9 +54,9 @@ pub record IsSoundTable (table : Table) : Type 0 where
   pub columns : All (λ column. IsTrue (is_stored_type column.ty)) table.columns
 
 -- a procedure has at most 16 parameters, which are ints or texts, and sound statements, whose operations have numbers
--- of 64 bits
+-- of 16 bits
 pub record IsProc (tables : List Table) (proc : Proc) : Type 0 where
   pub few : length proc.params ≤ MAX_PARAMS
   pub params : All (λ column. IsTrue (is_stored_type column.ty)) proc.params
   pub sound : IsSoundProc tables proc
-  pub counted : operations proc.body < 2 ^ 64
+  pub counted : operations proc.body < 2 ^ 16

@@ -4,6 +4,7 @@ pub mod Texts
 pub mod Values
 pub mod Keys
 pub mod Expressions
+pub mod Scopes
 pub mod State
 pub mod Literals
 pub mod Growth

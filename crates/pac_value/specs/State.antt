@@ -1,9 +1,9 @@
 -- The state of a database: the rows of its tables.
-use Rattle.std.specs.Prelude.{ℕ, List, map, filter, ◌==◌}
+use Rattle.std.specs.Prelude.{ℕ, List, map, filter, ◌==◌, Option, Some, None}
 use Rattle.std.specs.declared.cmp.Ordering.{Ordering}
 use Rattle.std.specs.Ordering.{nat_cmp, ordering_then}
 use Rattle.std.specs.Coded.{Coded, coded×, coded_ℕ, coded_list}
-use Rattle.std.specs.FinMap.{FinMap, code, keys}
+use Rattle.std.specs.FinMap.{FinMap, code, keys, insert, remove}
 use Rattle.pac_value.specs.declared.values.Key.{Key}
 use Rattle.pac_value.specs.declared.values.Value.{Value}
 use Rattle.pac_value.specs.contracts.values.Key as key
@@ -37,3 +37,8 @@ keys_among cells table = map (λ cell. cell.1) (filter (λ cell. cell.0 == table
 -- the keys of a table's rows, ascending
 abbrev pub keys_of : Tables → ℕ → List Key
 keys_of tables table = keys_among (keys tables) table
+
+-- a row stands at a cell from now on, or none
+abbrev pub with_row : Tables → Cell → Option RowValues → Tables
+with_row tables cell None = remove tables cell
+with_row tables cell (Some row) = insert tables cell row

@@ -38,6 +38,13 @@ impl Env {
         }
     }
 
+    /// Takes all values away.
+    pub fn clear(&mut self)
+        ensures { self.new ≡ map.empty }
+    {
+        self.values.clear();
+    }
+
     /// The value of a variable. `None`: it has none.
     pub fn get(&self, var: u16) -> Option<Value>
         ensures { result ≡ map.get self.now var }

@@ -3,7 +3,7 @@ ghost use Rattle.std.specs.Prelude.{◌≡◌};
 ghost use Rattle.pac_base.specs.Refusals.{Tells};
 ghost use Rattle.pac_types.specs.Faults.{is_left};
 ghost use Rattle.pac_types.specs.Checking.{taken, is_right, given, checked_expr, checked_wanted, checked_test};
-ghost use Rattle.pac_types.specs.Sound.{is_wanted, is_bool};
+ghost use Rattle.pac_value.specs.Scopes.{is_wanted, is_bool};
 
 use crate::TypeError;
 use crate::checker::scope::Scope;

@@ -4,4 +4,4 @@ use Rattle.pac_serial.specs.Dump.{row_line, table_dump}
 use Rattle.pac_serial.proofs.dump.push_table.Given as goal
 
 abbrev pub invariant-loop-key : goal.invariant-loop-key
-invariant-loop-key l = l.out.items ++ flat_map (row_line l.rows l.table) (drop l.key-index l.key-items) ≡ l.fn.out.items ++ table_dump l.rows l.table l.fn.name
+invariant-loop-key g l = l.out.items ++ flat_map (row_line (g.R.Rows.held l.rows) l.table) (drop l.key-index l.key-items) ≡ l.fn.out.items ++ table_dump (g.R.Rows.held l.rows) l.table l.fn.name

@@ -1,15 +1,16 @@
 -- The new row has its table's key and column types.
-use Rattle.std.proofs.Common.{◌≡◌, Some, sym, subst}
+use Rattle.std.proofs.Common.{◌≡◌, Some, map, subst}
 use Rattle.pac_value.specs.State.{Cell, RowValues}
-use Rattle.pac_types.specs.Sound.{FitsTable, FitTables}
-use Rattle.pac_serial.specs.Drafts.{Drafted}
-use Rattle.pac_serial.proofs.FitLemmas.{FitTables-set_row}
+use Rattle.pac_ops.specs.Shapes.{RowFits}
+use Rattle.pac_types.specs.Fits.{shape}
+use Rattle.pac_types.proofs.ShapeLemmas.{row-fits}
+use Rattle.pac_serial.proofs.FitLemmas.{runs-changed}
 use Rattle.pac_serial.proofs.operation.put.Goals as goal
 
-pub returns-clause-fits : goal.returns-clause-fits
-returns-clause-fits c =
+pub returns-clause-over : goal.returns-clause-over
+returns-clause-over g c =
+    let tables = c.args.tables.now in
     let cell : Cell = (c.args.target.now.table, c.in_ok-key.key) in
-    let new : FitsTable c.args.tables.now cell c.in_ok-row.row = record { key = c.in_ok-key.ensures.typed; columns = c.in_ok-row.ensures.typed } in
-    subst (λ (d : Drafted). FitTables c.args.tables.now d.tables) (sym c.in_ok-put.ensures.ok)
-    (FitTables-set_row c.args.tables.now c.args.txn.now.draft.tables cell (Some c.in_ok-row.row) c.requires.fits
-    (λ r e. let same : c.in_ok-row.row ≡ r = cc in subst (λ (z : RowValues). FitsTable c.args.tables.now cell z) same new))
+    let new : RowFits (map shape tables) cell c.in_ok-row.row = row-fits tables cell c.in_ok-row.row c.in_ok-key.ensures.typed c.in_ok-row.ensures.typed in
+    runs-changed tables (g.R.Rows.tables c.args.rows.now) (g.R.Rows.held c.args.rows.now) c.args.txn.now.draft c.change.new.self cell (Some c.in_ok-row.row) c.requires.over
+    (λ r e. let same : c.in_ok-row.row ≡ r = cc in subst (λ (z : RowValues). RowFits (map shape tables) cell z) same new) c.in_ok-change.ensures.ok c.in_ok-change.ensures.knows

@@ -1,15 +1,15 @@
--- The first calls gave these rows, and what is left gives what all gives.
-use Rattle.std.proofs.Common.{◌≡◌, ◌+◌, Ok, map, drop, take}
+-- The first transactions gave these tables, and what is left gives what all gives.
+use Rattle.std.proofs.Common.{◌≡◌, ◌+◌, Ok, drop, take}
 use Rattle.std.specs.List.{AllByRecursion}
-use Rattle.pac_types.specs.Sound.{FitTables}
-use Rattle.pac_types.specs.Meaning.{serial}
-use Rattle.pac_serial.specs.Calls.{call_of, FitsProcs}
+use Rattle.pac_types.specs.Execution.{serial}
+use Rattle.pac_types.specs.Fits.{FitsCatalogue, TxnFits}
 use Rattle.pac_serial.proofs.serial.exec_all.Given as goal
 
 abbrev pub invariant-loop-i : goal.invariant-loop-i
-invariant-loop-i l = record {
-  fit : AllByRecursion (FitsProcs l.procs) (drop l.i l.calls);
-  fits : FitTables l.tables l.rows;
-  so_far : serial l.procs (l.i + 1) (map call_of (drop l.i l.calls)) l.rows ≡ serial l.procs 1 (map call_of l.calls) l.fn.rows;
-  done : serial l.procs 1 (take l.i (map call_of l.calls)) l.fn.rows ≡ Ok l.rows;
+invariant-loop-i g l = record {
+  fit : AllByRecursion (TxnFits l.cat) (drop l.i l.batch.txns);
+  rows : FitsCatalogue l.cat (g.R.Rows.tables l.rows) (g.R.Rows.held l.rows);
+  tables : g.R.Rows.tables l.rows ≡ g.R.Rows.tables l.fn.rows;
+  so_far : serial l.cat.procs (l.batch.first + l.i) (drop l.i l.batch.txns) (g.R.Rows.held l.rows) ≡ serial l.cat.procs l.batch.first l.batch.txns (g.R.Rows.held l.fn.rows);
+  done : serial l.cat.procs l.batch.first (take l.i l.batch.txns) (g.R.Rows.held l.fn.rows) ≡ Ok (g.R.Rows.held l.rows);
 }

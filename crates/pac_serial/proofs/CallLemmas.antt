@@ -1,0 +1,74 @@
+-- A transaction from its beginning on.
+use Rattle.std.proofs.Common.{◌≡◌, ℕ, ◌+◌, ◌<◌, List, length, get_or, Option, Some, None, Result, Ok, Err, IsSomeAnd, refl, sym, ap, subst, ◌∙◌, arith}
+use Rattle.std.specs.Prelude.{slice_get}
+use Rattle.std.specs.List.{All}
+use Rattle.std.specs.FinMap.{empty}
+use Rattle.std.proofs.lemmas.Option.{slice_get_within, slice_get-get_or}
+use Rattle.pac_value.specs.declared.values.Value.{Value}
+use Rattle.pac_value.specs.Expressions.{Values, ◌>>=◌}
+use Rattle.pac_value.specs.State.{Tables}
+use Rattle.pac_ops.specs.Operations.{State}
+use Rattle.pac_types.specs.declared.procedure.Proc.{Proc}
+use Rattle.pac_types.specs.declared.table.Table.{Table}
+use Rattle.pac_types.specs.Typing.{IsProc}
+use Rattle.pac_types.specs.Meaning.{Abort as AnAbort, meaning, with_values}
+use Rattle.pac_types.specs.Execution.{called_at}
+use Rattle.pac_types.specs.Fits.{FitTables, FitParams, FitsCall}
+use Rattle.pac_serial.specs.declared.operation.Halt.{Halt}
+use Rattle.pac_serial.specs.declared.operation.Halt.TheVariants.{Abort, NoMemory}
+use Rattle.pac_serial.specs.declared.execute.ExecError.{ExecError}
+use Rattle.pac_serial.specs.declared.execute.ExecError.TheVariants.{Abort as AbortAt}
+use Rattle.pac_serial.specs.Drafts.{Changes, seen}
+use Rattle.pac_serial.specs.Outcomes.{Executes, RunsFrom, error_of, limited}
+use Rattle.pac_serial.specs.Transactions.{RunsOver}
+use Rattle.pac_serial.proofs.DraftLemmas.{seen-none, knows-none}
+
+-- the procedure that a call names, and its arguments
+pub at-call : (procs : List Proc) (n : ℕ) (args : List Value) (i : ℕ) (proc : Proc) → FitsCall procs n args → i ≡ n → proc ≡ get_or procs i proc → (slice_get procs n ≡ Some proc) × FitParams proc.params args
+at-call procs n args i proc fits same is = go (slice_get procs n) refl fits
+  where
+    go : (o : Option Proc) → slice_get procs n ≡ o → IsSomeAnd o (λ p. FitParams p.params args) → (slice_get procs n ≡ Some proc) × FitParams proc.params args
+    go None e h = absurd h
+    go (Some p) e h =
+        let found : slice_get procs n ≡ Some proc = slice_get-get_or procs n proc (slice_get_within procs n p e) ∙ ap (λ k. Some (get_or procs k proc)) (sym same) ∙ ap Some (sym is) in
+        let one : p ≡ proc = let both : Some p ≡ Some proc = sym e ∙ found in cc in
+        (found, subst (λ (q : Proc). FitParams q.params args) one h)
+
+-- which is sound
+pub is-proc : (tables : List Table) (procs : List Proc) (n : ℕ) (proc : Proc) → slice_get procs n ≡ Some proc → All (IsProc tables) procs → IsProc tables proc
+is-proc tables procs n proc found all =
+    let within : n < length procs = slice_get_within procs n proc found in
+    let same : get_or procs n proc ≡ proc = let both : Some (get_or procs n proc) ≡ Some proc = sym (slice_get-get_or procs n proc within) ∙ found in cc in
+    subst (λ (p : Proc). IsProc tables p) same (all n proc within)
+
+-- where it begins, it has changed nothing
+pub runs-begun : (tables : List Table) (n : ℕ) (held : Tables) (draft : Changes) → n ≡ length tables → FitTables tables held → draft ≡ empty → RunsOver tables n held draft
+runs-begun tables n held draft count fits begun = subst (λ (d : Changes). RunsOver tables n held d) (sym begun) (record {
+  count = count;
+  knows = knows-none n held;
+  fits = subst (λ (t : Tables). FitTables tables t) (sym (seen-none held)) fits;
+})
+
+-- what a call means is what its statements mean from there
+pub called-is : (procs : List Proc) (n : ℕ) (proc : Proc) (args : List Value) (held : Tables) (env : Values) (draft : Changes) → slice_get procs n ≡ Some proc → env ≡ with_values 0 args empty → draft ≡ empty
+    → called_at (slice_get procs n) args held ≡ (meaning proc.body 0 (record { env = env; tables = seen held draft }) >>= λ s. Ok s.tables)
+called-is procs n proc args held env draft found opened begun =
+    ap (λ o. called_at o args held) found
+    ∙ ap (λ (s : State). meaning proc.body 0 s >>= λ t. Ok t.tables) (λ i. record { env = sym opened i; tables = (sym (seen-none held) ∙ ap (seen held) (sym begun)) i })
+
+-- operations that halt refuse the transaction
+pub halted : (limit : Option ℕ) (n : ℕ) (m : Result State AnAbort) (halt : Halt) (now : State) (held : Tables) (r : Result (Unit {0}) Halt) (error : Result (Unit {0}) ExecError) → r ≡ Err halt → error ≡ Err (error_of halt) → RunsFrom 0 r m now → Executes (limited limit n (m >>= λ s. Ok s.tables)) held held error
+halted limit n m halt now held r error is told h =
+    subst (λ (e : Result (Unit {0}) ExecError). Executes (limited limit n (m >>= λ s. Ok s.tables)) held held e) (sym told) (go halt (subst (λ (q : Result (Unit {0}) Halt). RunsFrom 0 q m now) is h))
+  where
+    Failed : Halt → Result (Unit {0}) Halt
+    Failed halt = Err halt
+
+    Told : Halt → Result (Unit {0}) ExecError
+    Told halt = Err (error_of halt)
+
+    go : (halt : Halt) → RunsFrom 0 (Failed halt) m now → Executes (limited limit n (m >>= λ s. Ok s.tables)) held held (Told halt)
+    go (Abort op reason) h =
+        let first : 0 + op ≡ op = omega arith in
+        (ap (λ (r : Result State AnAbort). limited limit n (r >>= λ s. Ok s.tables)) h ∙ ap (λ k. Err (AbortAt k reason)) first, refl)
+    go NoMemory h = refl

@@ -1,0 +1,11 @@
+-- The first parameters have values, and nothing is changed.
+use Rattle.std.proofs.Common.{◌≡◌, drop}
+use Rattle.std.specs.FinMap as fin
+use Rattle.pac_types.specs.Meaning.{with_values}
+use Rattle.pac_serial.proofs.transaction.RunningTxn.begin.Given as goal
+
+abbrev pub invariant-loop-i : goal.invariant-loop-i
+invariant-loop-i l = record {
+  env : with_values l.i (drop l.i l.args) l.self.env ≡ with_values 0 l.args fin.empty;
+  draft : l.self.draft ≡ fin.empty;
+}

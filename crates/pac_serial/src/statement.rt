@@ -1,0 +1,140 @@
+// Executes statements.
+ghost use Rattle.std.specs.Prelude.{◌≡◌, ◌+◌, ◌-◌, ◌<◌, ◌^◌, ℕ, length, map, IsTrue, IfErr, Ok, Err, OnOk, IfOk, IsSome};
+ghost use Rattle.pac_value.specs.Expressions.{types_of, type_in, value};
+ghost use Rattle.pac_value.specs.Scopes.{is_bool};
+ghost use Rattle.pac_value.specs.declared.values.Value.TheVariants.{Bool as Truth};
+ghost use Rattle.pac_types.specs.Sound.{check, any_defines, scope_after, scope_behind};
+ghost use Rattle.pac_types.specs.Meaning.{code, operations, meaning};
+ghost use Rattle.pac_serial.specs.Outcomes.{RunsFrom, IsHaltWithin, IsTrapOf, moved, Sees, KeepsTypes};
+ghost use Rattle.pac_serial.specs.Transactions.{state_of, RunsOver};
+
+use crate::operation::{Halt, abort_if, assign, define, delete, has, put, read, set};
+use crate::transaction::{RunningTxn, Target};
+use pac_tables::Rows;
+use pac_types::{Stmt, Table, count_operations};
+use pac_value::{Env, Expr, Value, eval};
+
+// The halt of operations that stand behind so many others.
+fn behind(before: u16, halt: Halt) -> Halt
+    requires { IsHaltWithin (2 ^ 16 - before) halt }
+    ensures { result ≡ moved before halt }
+{
+    match halt {
+        Halt::Abort { op, reason } => Halt::Abort {
+            op: before + op,
+            reason,
+        },
+        Halt::NoMemory => Halt::NoMemory,
+    }
+}
+
+// The value of a conditional's test.
+fn test_of(test: &Expr, env: &Env) -> Result<bool, Halt>
+    requires { IsTrue (is_bool (type_in (types_of env.now) test.now)) }
+    ensures ok { IfOk result (λ truth. value test.now env.now ≡ Ok (Truth truth)) }
+    ensures trap { IfErr result (λ halt. IsTrapOf halt (value test.now env.now)) }
+{
+    match eval(test, env)? {
+        Value::Bool(truth) => Ok(truth),
+        _ => unreachable!(),
+    }
+}
+
+// Executes a statement.
+#[cycle(exec)]
+fn exec_stmt<R: Rows>(
+    tables: &[Table],
+    rows: &R,
+    stmt: &Stmt,
+    txn: &mut RunningTxn,
+) -> Result<(), Halt>
+    requires sound { IsSome (scope_after tables.now stmt.now (types_of txn.old.env)) }
+    requires numbers { (code stmt.now).count < 2 ^ 16 }
+    requires over { RunsOver tables.now (R.tables rows.now) (R.held rows.now) txn.old.draft }
+    ensures runs { (n : ℕ) → RunsFrom n result ((code stmt.now).run n (state_of (R.held rows.now) txn.old)) (state_of (R.held rows.now) txn.new) }
+    ensures within { IfErr result (IsHaltWithin (code stmt.now).count) }
+    ensures sees { OnOk result (Sees (scope_after tables.now stmt.now (types_of txn.old.env)) txn.new.env) }
+    ensures keeps { OnOk result (KeepsTypes (check tables.now stmt.now).defines txn.old.env txn.new.env) }
+    ensures over { OnOk result (RunsOver tables.now (R.tables rows.now) (R.held rows.now) txn.new.draft) }
+{
+    match stmt {
+        Stmt::Let { var, value } => assign(*var, value, txn),
+        Stmt::Read {
+            var,
+            table,
+            key,
+            column,
+            default,
+        } => {
+            let target = Target { table: *table, key };
+            read(tables, rows, &target, *column, *default, *var, txn)
+        }
+        Stmt::Has { var, table, key } => {
+            let target = Target { table: *table, key };
+            has(tables, rows, &target, *var, txn)
+        }
+        Stmt::Put { table, key, values } => {
+            let target = Target { table: *table, key };
+            put(tables, rows, &target, values.as_slice(), txn)
+        }
+        Stmt::Set {
+            table,
+            key,
+            column,
+            value,
+        } => {
+            let target = Target { table: *table, key };
+            set(tables, rows, &target, *column, value, txn)
+        }
+        Stmt::Delete { table, key } => {
+            let target = Target { table: *table, key };
+            delete(tables, rows, &target, txn)
+        }
+        Stmt::AbortIf { test } => abort_if(test, txn),
+        Stmt::If {
+            var,
+            test,
+            first,
+            second,
+        } => {
+            let truth = test_of(test, &txn.env)?;
+            define(&mut txn.env, *var, Value::Bool(truth))?;
+            if truth {
+                match exec_block(tables, rows, first.as_slice(), txn) {
+                    Ok(()) => Ok(()),
+                    Err(halt) => Err(behind(1, halt)),
+                }
+            } else {
+                match exec_block(tables, rows, second.as_slice(), txn) {
+                    Ok(()) => Ok(()),
+                    Err(halt) => Err(behind(1 + count_operations(first.as_slice()), halt)),
+                }
+            }
+        }
+    }
+}
+
+/// Executes statements in order. Operations are counted where one aborts.
+#[cycle(exec)]
+pub(crate) fn exec_block<R: Rows>(
+    tables: &[Table],
+    rows: &R,
+    stmts: &[Stmt],
+    txn: &mut RunningTxn,
+) -> Result<(), Halt>
+    requires sound { IsSome (scope_behind tables.now stmts.now (types_of txn.old.env)) }
+    requires numbers { operations stmts.now < 2 ^ 16 }
+    requires over { RunsOver tables.now (R.tables rows.now) (R.held rows.now) txn.old.draft }
+    ensures runs { (n : ℕ) → RunsFrom n result (meaning stmts.now n (state_of (R.held rows.now) txn.old)) (state_of (R.held rows.now) txn.new) }
+    ensures within { IfErr result (IsHaltWithin (operations stmts.now)) }
+    ensures keeps { OnOk result (KeepsTypes (any_defines (map (check tables.now) stmts.now)) txn.old.env txn.new.env) }
+    ensures over { OnOk result (RunsOver tables.now (R.tables rows.now) (R.held rows.now) txn.new.draft) }
+{
+    for (i, stmt) in stmts.iter().enumerate() {
+        match exec_stmt(tables, rows, stmt, txn) {
+            Ok(()) => {}
+            Err(halt) => return Err(behind(count_operations(&stmts[..i]), halt)),
+        }
+    }
+    Ok(())
+}
