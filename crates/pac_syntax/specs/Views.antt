@@ -1,5 +1,5 @@
 -- What the parser's parts say of the tokens that are left.
-use Rattle.std.specs.Prelude.{◌≡◌, ℕ, zero, suc, ℤ, List, [], ◌∷◌, Bool, true, false, nat_le, nat_lt, if◌then◌else◌, Option, Some, None, Result, Vec}
+use Rattle.std.specs.Prelude.{◌≡◌, ℕ, zero, suc, ℤ, List, [], ◌∷◌, Bool, true, false, nat_le, nat_lt, length, ◌≤◌, ◌<◌, if◌then◌else◌, Option, Some, None, Result, Vec}
 use Rattle.std.specs.Global.{Global}
 use Rattle.pac_base.specs.Refusals.{Gives}
 use Rattle.pac_value.specs.declared.values.Ty.{Ty}
@@ -123,6 +123,14 @@ operand_in _ at = None
 abbrev pub is_too_deep : ℕ → StatementWord → Bool
 is_too_deep d word.If = nat_le MAX_NESTED d
 is_too_deep d _ = false
+
+-- no more tokens are left to the parser than before
+abbrev pub NoLonger : Parser → Parser → Type 0
+NoLonger old new = length new.rest.now ≤ length old.rest.now
+
+-- fewer tokens are left to it than before
+abbrev pub IsShorter : Parser → Parser → Type 0
+IsShorter old new = length new.rest.now < length old.rest.now
 
 -- the parser read what these steps want, and gives it: behind it the reading goes on where the parser stands now
 abbrev pub Goes : {A : Type 0} → ((A → Steps) → Steps) → Parser → Parser → Result A (Refusal Fault) → Type 0

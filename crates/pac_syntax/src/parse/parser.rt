@@ -1,11 +1,11 @@
 // Reads the tree of tokens by recursive descent, and stops at the first token that can't follow.
-ghost use Rattle.std.specs.Prelude.{◌≡◌, ℕ, ◌∷◌, ◌++◌, [], ◌<◌, ◌≤◌, length, List, MatchOption, OnOk, IfOk, IfSome, true};
+ghost use Rattle.std.specs.Prelude.{◌≡◌, ◌∷◌, [], ◌<◌, MatchOption, OnOk, true};
 ghost use Rattle.pac_base.specs.Refusals.{Gives};
 ghost use Rattle.pac_syntax.specs.Faults.{place};
 ghost use Rattle.pac_syntax.specs.Grammar.{Plain};
 ghost use Rattle.pac_value.specs.declared.values.Ty.{Ty as ATy};
 ghost use Rattle.pac_syntax.specs.Machine.{Steps, Want, WantName, WantType, WantLiteral, WantNegative, is_mark, keyword_code, symbol_code, literal_in, type_of_token, run};
-ghost use Rattle.pac_syntax.specs.Views.{Begins, IsNot, IsNoName, IsType, IsNoType, IsLiteral, IsNoLiteral, IsNoNegative, IsNegative, name_part, name_token, Goes};
+ghost use Rattle.pac_syntax.specs.Views.{Begins, IsNot, IsNoName, IsType, IsNoType, IsLiteral, IsNoLiteral, IsNoNegative, IsNegative, name_part, name_token, Goes, NoLonger, IsShorter};
 ghost use Rattle.pac_tokens.specs.declared.token.Token.TheVariants as token;
 ghost use Rattle.pac_syntax.specs.declared.tree.LiteralNode.{LiteralNode as ALiteralNode};
 ghost use Rattle.pac_syntax.specs.declared.tree.NameNode.{NameNode as ANameNode};
@@ -166,7 +166,7 @@ impl<'a> Parser<'a> {
 
     // Takes this word or sign.
     fn want(&mut self, wanted: Token) -> Result<(), SyntaxError>
-        ensures left { length self.new.rest.now ≤ length self.old.rest.now }
+        ensures left { NoLonger self.old self.new }
         ensures operators { self.new.operators ≡ self.old.operators }
         ensures run { (k : Steps) → Gives (λ _. run self.new.end k self.new.rest.now) result (run self.old.end (Want wanted k) self.old.rest.now) }
     {
@@ -177,14 +177,14 @@ impl<'a> Parser<'a> {
     }
 
     pub fn keyword(&mut self, word: Keyword) -> Result<(), SyntaxError>
-        ensures left { length self.new.rest.now ≤ length self.old.rest.now }
+        ensures left { NoLonger self.old self.new }
         ensures run { (k : Steps) → Gives (λ _. run self.new.end k self.new.rest.now) result (run self.old.end (Want (token.Keyword word) k) self.old.rest.now) }
     {
         self.want(Token::Keyword(word))
     }
 
     pub fn symbol(&mut self, sign: Symbol) -> Result<(), SyntaxError>
-        ensures left { length self.new.rest.now ≤ length self.old.rest.now }
+        ensures left { NoLonger self.old self.new }
         ensures operators { self.new.operators ≡ self.old.operators }
         ensures run { (k : Steps) → Gives (λ _. run self.new.end k self.new.rest.now) result (run self.old.end (Want (token.Symbol sign) k) self.old.rest.now) }
     {
@@ -209,7 +209,7 @@ impl<'a> Parser<'a> {
     }
 
     pub fn name(&mut self) -> Result<NameNode, SyntaxError>
-        ensures left { length self.new.rest.now ≤ length self.old.rest.now }
+        ensures left { NoLonger self.old self.new }
         ensures run { Goes (WantName Plain) self.old self.new result }
     {
         match self.takes_name() {
@@ -234,7 +234,7 @@ impl<'a> Parser<'a> {
     }
 
     pub fn ty(&mut self) -> Result<Ty, SyntaxError>
-        ensures left { length self.new.rest.now ≤ length self.old.rest.now }
+        ensures left { NoLonger self.old self.new }
         ensures run { Goes WantType self.old self.new result }
     {
         match self.takes_type() {
@@ -280,7 +280,7 @@ impl<'a> Parser<'a> {
 
     // The int of a literal whose `-` stands at this place.
     fn negative(&mut self, minus: usize) -> Result<LiteralNode, SyntaxError>
-        ensures left { length self.new.rest.now ≤ length self.old.rest.now }
+        ensures left { NoLonger self.old self.new }
         ensures operators { self.new.operators ≡ self.old.operators }
         ensures run { Goes (WantNegative minus) self.old self.new result }
     {
@@ -291,8 +291,8 @@ impl<'a> Parser<'a> {
     }
 
     pub fn literal(&mut self) -> Result<LiteralNode, SyntaxError>
-        ensures left { length self.new.rest.now ≤ length self.old.rest.now }
-        ensures shorter { OnOk result (length self.new.rest.now < length self.old.rest.now) }
+        ensures left { NoLonger self.old self.new }
+        ensures shorter { OnOk result (IsShorter self.old self.new) }
         ensures operators { self.new.operators ≡ self.old.operators }
         ensures run { Goes WantLiteral self.old self.new result }
     {
