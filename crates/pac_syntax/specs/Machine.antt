@@ -1,5 +1,5 @@
 -- Reading tokens one at a time: what is still to come, and what is done with it.
-use Rattle.std.specs.Prelude.{◌≡◌, ℕ, zero, suc, ℤ, List, [], ◌∷◌, ◌++◌, Option, Some, None, Result, Ok, Err, Bool, true, false, nat_eq, if◌then◌else◌}
+use Rattle.std.specs.Prelude.{ℕ, zero, suc, ℤ, List, [], ◌∷◌, ◌++◌, Option, Some, None, Result, Ok, Err, Bool, true, false, nat_eq, if◌then◌else◌}
 use Rattle.pac_value.specs.declared.values.Ty.{Ty}
 use Rattle.pac_value.specs.declared.values.Ty.TheVariants as ty
 use Rattle.pac_value.specs.declared.values.Value.TheVariants as value
@@ -16,8 +16,6 @@ use Rattle.pac_syntax.specs.declared.parse.statement.StatementWord.{StatementWor
 use Rattle.pac_syntax.specs.declared.parse.statement.StatementWord.TheVariants as word
 use Rattle.pac_tokens.specs.declared.fault.FaultKind.TheVariants.{Expected}
 use Rattle.pac_tokens.specs.declared.fault.Fault.{Fault}
-use Rattle.pac_base.specs.declared.refusal.Refusal.{Refusal}
-use Rattle.pac_base.specs.declared.refusal.Refusal.TheVariants as error
 use Rattle.pac_syntax.specs.declared.tree.NameNode.{NameNode}
 use Rattle.pac_syntax.specs.declared.tree.LiteralNode.{LiteralNode}
 use Rattle.pac_syntax.specs.declared.tree.ColumnNode.{ColumnNode}

@@ -1,5 +1,5 @@
 -- What the parser's parts say of the tokens that are left.
-use Rattle.std.specs.Prelude.{◌≡◌, ℕ, zero, suc, ℤ, List, [], ◌∷◌, Bool, true, false, nat_le, nat_lt, length, ◌≤◌, ◌<◌, if◌then◌else◌, Option, Some, None, Result, Vec}
+use Rattle.std.specs.Prelude.{◌≡◌, ℕ, zero, suc, List, [], ◌∷◌, Bool, true, false, nat_le, nat_lt, length, ◌≤◌, ◌<◌, if◌then◌else◌, Option, Some, None, Result, Vec}
 use Rattle.std.specs.Global.{Global}
 use Rattle.pac_base.specs.Refusals.{Gives}
 use Rattle.pac_value.specs.declared.values.Ty.{Ty}
@@ -7,9 +7,9 @@ use Rattle.pac_value.specs.declared.limits.TheConstants.{MAX_COLUMNS, MAX_PARAMS
 use Rattle.pac_syntax.specs.declared.limits.TheConstants.{MAX_NESTED}
 use Rattle.pac_tokens.specs.declared.token.Token.{Token}
 use Rattle.pac_tokens.specs.declared.token.Token.TheVariants as token
+use Rattle.pac_tokens.specs.declared.token.Keyword.TheVariants as keyword
 use Rattle.pac_tokens.specs.declared.token.Spanned.{Spanned}
 use Rattle.pac_syntax.specs.declared.tree.NameNode.{NameNode}
-use Rattle.pac_syntax.specs.declared.tree.LiteralNode.{LiteralNode}
 use Rattle.pac_syntax.specs.declared.parse.statement.StatementWord.{StatementWord}
 use Rattle.pac_syntax.specs.declared.parse.statement.StatementWord.TheVariants as word
 use Rattle.pac_syntax.specs.declared.parse.parser.ColumnKind.{ColumnKind}
@@ -20,7 +20,7 @@ use Rattle.pac_base.specs.declared.refusal.Refusal.{Refusal}
 use Rattle.pac_tokens.specs.declared.fault.Fault.{Fault}
 use Rattle.pac_value.specs.declared.expr.BinOp.{BinOp}
 use Rattle.pac_syntax.specs.Grammar.{Role, ColumnName, ParamName, tier}
-use Rattle.pac_syntax.specs.Machine.{Steps, Rest, run, Begun, begun_name, begun_literal, is_mark, name_in, type_of_token, literal_in, literal_at}
+use Rattle.pac_syntax.specs.Machine.{Steps, Rest, run, Begun, begun_name, begun_literal, is_mark, name_in, type_of_token, literal_at}
 
 -- the tokens begin with this word or sign
 pub record Begins (w : Token) (at : ℕ) (ts rest : List Spanned) : Type 0 where
@@ -48,32 +48,11 @@ abbrev pub IsNoType : List Spanned → Type 0
 IsNoType [] = Unit {0}
 IsNoType (t ∷ ts) = type_of_token t.token ≡ None
 
--- the tokens begin with a literal of one token
-pub record IsLiteral (l : LiteralNode) (ts rest : List Spanned) : Type 0 where
-  pub first : Spanned
-  pub text : ts ≡ first ∷ rest
-  pub is : literal_in first.token first.at ≡ Some l
-
--- the first token is no literal by itself
-abbrev pub IsNoLiteral : List Spanned → Type 0
-IsNoLiteral [] = Unit {0}
-IsNoLiteral (t ∷ ts) = literal_in t.token t.at ≡ None
-
--- the int of a literal below zero, where the token is one
-abbrev pub negative_of : Token → Option ℤ
-negative_of (token.Negative z) = Some z
-negative_of _ = None
-
-abbrev pub IsNoNegative : List Spanned → Type 0
-IsNoNegative [] = Unit {0}
-IsNoNegative (t ∷ ts) = negative_of t.token ≡ None
-
--- the tokens begin with the int of this literal, whose `-` stands at this place
-pub record IsNegative (minus : ℕ) (l : LiteralNode) (ts rest : List Spanned) : Type 0 where
-  pub int : ℤ
-  pub at : ℕ
-  pub text : ts ≡ record { token = token.Negative int; at = at } ∷ rest
-  pub value : l ≡ literal_at minus int
+-- whether a token is `true` or `false`
+abbrev pub bool_in : Token → Option Bool
+bool_in (token.Keyword keyword.True) = Some true
+bool_in (token.Keyword keyword.False) = Some false
+bool_in _ = None
 
 -- the bytes of the name that a token is
 abbrev pub name_part : Token → Option (List ℕ)
