@@ -456,6 +456,10 @@ impl Before {
 }
 
 /// Reads the tokens of a text. Linear in the text.
+///
+/// # Errors
+///
+/// `NoMemory` alone. A fault of a token is no error here: it ends the tokens.
 pub fn lex(alloc: Global, text: &[u8]) -> Result<Lexed, NoMemory>
     ensures lexed { IfOk result (λ lexed. IsLexed text.now lexed.items.items lexed.fault) }
     ensures few { IfOk result (λ lexed. length lexed.items.items ≤ length text.now) }
