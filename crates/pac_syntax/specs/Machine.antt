@@ -220,30 +220,34 @@ lay d zero k = k
 lay d (suc n) k = lay d n (λ x o. Rest d n x o k)
 
 -- TABLE "[" expr "]"
-abbrev pub place_steps : (NameNode → ExprNode → Steps) → Steps
-place_steps k = WantName Plain (λ t. want_symbol symbol.OpenBracket (want_expr (λ e. want_symbol symbol.CloseBracket (k t e))))
+abbrev pub cell_steps : (NameNode → ExprNode → Steps) → Steps
+cell_steps k = WantName Plain (λ t. want_symbol symbol.OpenBracket (want_expr (λ e. want_symbol symbol.CloseBracket (k t e))))
+
+-- TABLE "[" expr "]" "." COLUMN
+abbrev pub field_steps : (NameNode → ExprNode → NameNode → Steps) → Steps
+field_steps k = cell_steps (λ t e. want_symbol symbol.Dot (WantName Plain (λ c. k t e c)))
 
 abbrev pub let_steps : (StmtNode → Steps) → Steps
 let_steps k = WantName Plain (λ x. want_symbol symbol.Assign (want_expr (λ e. want_symbol symbol.Semicolon (k (stmt.Let x e)))))
 
 abbrev pub read_steps : (StmtNode → Steps) → Steps
-read_steps k = WantName Plain (λ x. want_symbol symbol.Assign (place_steps (λ t e. want_symbol symbol.Dot (WantName Plain (λ c.
-    want_keyword keyword.Default (WantLiteral (λ l. want_symbol symbol.Semicolon (k (stmt.Read x t e c l)))))))))
+read_steps k = WantName Plain (λ x. want_symbol symbol.Assign (field_steps (λ t e c.
+    want_keyword keyword.Default (WantLiteral (λ l. want_symbol symbol.Semicolon (k (stmt.Read x t e c l)))))))
 
 abbrev pub has_steps : (StmtNode → Steps) → Steps
-has_steps k = WantName Plain (λ x. want_symbol symbol.Assign (place_steps (λ t e. want_symbol symbol.Semicolon (k (stmt.Has x t e)))))
+has_steps k = WantName Plain (λ x. want_symbol symbol.Assign (cell_steps (λ t e. want_symbol symbol.Semicolon (k (stmt.Has x t e)))))
 
 abbrev pub values_steps : (List ExprNode → Steps) → Steps
 values_steps k = want_symbol symbol.OpenParen (want_expr (λ v. MoreValues (v ∷ []) (λ vs. want_symbol symbol.CloseParen (k vs))))
 
 abbrev pub put_steps : (StmtNode → Steps) → Steps
-put_steps k = place_steps (λ t e. want_symbol symbol.Assign (values_steps (λ vs. want_symbol symbol.Semicolon (k (stmt.Put t e vs)))))
+put_steps k = cell_steps (λ t e. want_symbol symbol.Assign (values_steps (λ vs. want_symbol symbol.Semicolon (k (stmt.Put t e vs)))))
 
 abbrev pub set_steps : (StmtNode → Steps) → Steps
-set_steps k = place_steps (λ t e. want_symbol symbol.Dot (WantName Plain (λ c. want_symbol symbol.Assign (want_expr (λ v. want_symbol symbol.Semicolon (k (stmt.Set t e c v)))))))
+set_steps k = field_steps (λ t e c. want_symbol symbol.Assign (want_expr (λ v. want_symbol symbol.Semicolon (k (stmt.Set t e c v)))))
 
 abbrev pub delete_steps : (StmtNode → Steps) → Steps
-delete_steps k = place_steps (λ t e. want_symbol symbol.Semicolon (k (stmt.Delete t e)))
+delete_steps k = cell_steps (λ t e. want_symbol symbol.Semicolon (k (stmt.Delete t e)))
 
 abbrev pub abort_steps : (StmtNode → Steps) → Steps
 abort_steps k = want_keyword keyword.If (want_expr (λ e. want_symbol symbol.Semicolon (k (stmt.AbortIf e))))

@@ -1,7 +1,7 @@
 // Reads statements.
 ghost use Rattle.std.specs.Prelude.{◌≡◌, ◌∷◌, ◌++◌, [], ◌<◌, ◌+◌, false, List, OnOk, IfOk, IfSome};
 ghost use Rattle.pac_base.specs.Refusals.{Gives};
-ghost use Rattle.pac_syntax.specs.Machine.{Steps, MaybeElse, MoreStmts, MoreValues, abort_steps, block_steps, delete_steps, has_steps, if_steps, let_steps, place_steps, put_steps, read_steps, set_steps, stmt_steps, stmt_word, run, either, values_steps};
+ghost use Rattle.pac_syntax.specs.Machine.{Steps, MaybeElse, MoreStmts, MoreValues, abort_steps, block_steps, delete_steps, has_steps, if_steps, let_steps, cell_steps, field_steps, put_steps, read_steps, set_steps, stmt_steps, stmt_word, run, either, values_steps};
 ghost use Rattle.pac_syntax.specs.Views.{is_too_deep, Goes, GoesAll, NoLonger, IsShorter};
 ghost use Rattle.pac_syntax.specs.declared.tree.ExprNode.{ExprNode as AnExprNode};
 ghost use Rattle.pac_syntax.specs.declared.tree.NameNode.{NameNode as ANameNode};
@@ -57,15 +57,26 @@ fn stands_too_deep(nested: u8, word: StatementWord) -> bool
 
 impl<'a> Parser<'a> {
     // TABLE "[" KEY "]"
-    fn place(&mut self) -> Result<(NameNode, ExprNode), SyntaxError>
+    fn cell(&mut self) -> Result<(NameNode, ExprNode), SyntaxError>
         ensures left { OnOk result (NoLonger self.old self.new) }
-        ensures run { (k : ANameNode → AnExprNode → Steps) → Gives (λ p. run self.new.end (k p.0 p.1) self.new.rest.now) result (run self.old.end (place_steps k) self.old.rest.now) }
+        ensures run { (k : ANameNode → AnExprNode → Steps) → Gives (λ p. run self.new.end (k p.0 p.1) self.new.rest.now) result (run self.old.end (cell_steps k) self.old.rest.now) }
     {
         let table = self.name()?;
         self.symbol(Symbol::OpenBracket)?;
         let key = self.expression()?;
         self.symbol(Symbol::CloseBracket)?;
         Ok((table, key))
+    }
+
+    // TABLE "[" KEY "]" "." COLUMN
+    fn field(&mut self) -> Result<(NameNode, ExprNode, NameNode), SyntaxError>
+        ensures left { OnOk result (NoLonger self.old self.new) }
+        ensures run { (k : ANameNode → AnExprNode → ANameNode → Steps) → Gives (λ p. run self.new.end (k p.0 p.1 p.2) self.new.rest.now) result (run self.old.end (field_steps k) self.old.rest.now) }
+    {
+        let (table, key) = self.cell()?;
+        self.symbol(Symbol::Dot)?;
+        let column = self.name()?;
+        Ok((table, key, column))
     }
 
     // "(" VALUE { "," VALUE } ")"
@@ -113,9 +124,7 @@ impl<'a> Parser<'a> {
     {
         let name = self.name()?;
         self.symbol(Symbol::Assign)?;
-        let (table, key) = self.place()?;
-        self.symbol(Symbol::Dot)?;
-        let column = self.name()?;
+        let (table, key, column) = self.field()?;
         self.keyword(Keyword::Default)?;
         let default = self.literal()?;
         self.symbol(Symbol::Semicolon)?;
@@ -135,7 +144,7 @@ impl<'a> Parser<'a> {
     {
         let name = self.name()?;
         self.symbol(Symbol::Assign)?;
-        let (table, key) = self.place()?;
+        let (table, key) = self.cell()?;
         self.symbol(Symbol::Semicolon)?;
         Ok(StmtNode::Has { name, table, key })
     }
@@ -145,7 +154,7 @@ impl<'a> Parser<'a> {
         ensures left { OnOk result (NoLonger self.old self.new) }
         ensures run { Goes put_steps self.old self.new result }
     {
-        let (table, key) = self.place()?;
+        let (table, key) = self.cell()?;
         self.symbol(Symbol::Assign)?;
         let values = listed(self.values()?);
         self.symbol(Symbol::Semicolon)?;
@@ -157,9 +166,7 @@ impl<'a> Parser<'a> {
         ensures left { OnOk result (NoLonger self.old self.new) }
         ensures run { Goes set_steps self.old self.new result }
     {
-        let (table, key) = self.place()?;
-        self.symbol(Symbol::Dot)?;
-        let column = self.name()?;
+        let (table, key, column) = self.field()?;
         self.symbol(Symbol::Assign)?;
         let value = self.expression()?;
         self.symbol(Symbol::Semicolon)?;
@@ -176,7 +183,7 @@ impl<'a> Parser<'a> {
         ensures left { OnOk result (NoLonger self.old self.new) }
         ensures run { Goes delete_steps self.old self.new result }
     {
-        let (table, key) = self.place()?;
+        let (table, key) = self.cell()?;
         self.symbol(Symbol::Semicolon)?;
         Ok(StmtNode::Delete { table, key })
     }
