@@ -4,7 +4,7 @@ ghost use Rattle.std.specs.Option.{option_map};
 ghost use Rattle.pac_value.specs.Values.{type_of};
 ghost use Rattle.pac_types.specs.Sound.{FitParams};
 ghost use Rattle.pac_ops.specs.declared.transaction.Call.{Call as ACall};
-ghost use Rattle.pac_main.specs.Calls.{kinds, IsCall, IsFitting};
+ghost use Rattle.pac_main.specs.Calls.{tokens_alone, IsCall, IsFitting};
 ghost use Rattle.pac_main.specs.CallsRead.{more_in, args_in, next_in, is_closed, name_of_token, is_call_word, is_open, head_in};
 
 use pac_base::{NoMemory, Ruled};
@@ -16,7 +16,7 @@ use std::alloc::Global;
 
 // The closing parenthesis is all that is left.
 fn is_closed(tokens: &[Spanned]) -> bool
-    ensures { result ≡ is_closed (kinds tokens.now) }
+    ensures { result ≡ is_closed (tokens_alone tokens.now) }
 {
     match tokens {
         [only] => is_symbol(&only.token, Symbol::CloseParen),
@@ -36,7 +36,7 @@ fn is_symbol(token: &Token, sign: Symbol) -> bool
 // The int or text behind a comma, and the tokens behind it.
 fn next_argument(tokens: &[Spanned]) -> Option<(Value, &[Spanned])>
     ensures within { IfSome result (λ p. length p.1.now < length tokens.now) }
-    ensures literal { MatchOption result (next_in (kinds tokens.now) ≡ None) (λ p. next_in (kinds tokens.now) ≡ Some (p.0, kinds p.1.now)) }
+    ensures literal { MatchOption result (next_in (tokens_alone tokens.now) ≡ None) (λ p. next_in (tokens_alone tokens.now) ≡ Some (p.0, tokens_alone p.1.now)) }
 {
     match tokens {
         [comma, behind @ ..] if is_symbol(&comma.token, Symbol::Comma) => int_or_text(behind),
@@ -73,7 +73,7 @@ fn is_open(token: &Token) -> bool
 
 // The name of the procedure that is called, and the tokens behind the opening parenthesis.
 fn head(tokens: &[Spanned]) -> Option<(Name, &[Spanned])>
-    ensures { MatchOption result (head_in (kinds tokens.now) ≡ None) (λ p. head_in (kinds tokens.now) ≡ Some (p.0, kinds p.1.now)) }
+    ensures { MatchOption result (head_in (tokens_alone tokens.now) ≡ None) (λ p. head_in (tokens_alone tokens.now) ≡ Some (p.0, tokens_alone p.1.now)) }
 {
     let [word, name, open, behind @ ..] = tokens else {
         return None;
@@ -89,7 +89,7 @@ fn head(tokens: &[Spanned]) -> Option<(Name, &[Spanned])>
 
 // The arguments of a call, up to its closing parenthesis, where the tokens are that.
 fn arguments(alloc: Global, tokens: &[Spanned]) -> Result<Option<Vec<Value>>, NoMemory>
-    ensures { IfOk result (λ args. option_map (λ vs. vs.items) args ≡ args_in (kinds tokens.now)) }
+    ensures { IfOk result (λ args. option_map (λ vs. vs.items) args ≡ args_in (tokens_alone tokens.now)) }
 {
     let mut values = Vec::new(alloc);
     if is_closed(tokens) {
@@ -150,8 +150,8 @@ pub fn read_call(
     catalogue: &Catalogue,
     tokens: &[Spanned],
 ) -> Result<Option<Call>, NoMemory>
-    ensures call { IfOk result (λ read. IfSome read (IsCall catalogue.now.procs (kinds tokens.now))) }
-    ensures only { (call : ACall) → IsCall catalogue.now.procs (kinds tokens.now) call → IfOk result (λ read. read ≡ Some call) }
+    ensures call { IfOk result (λ read. IfSome read (IsCall catalogue.now.procs (tokens_alone tokens.now))) }
+    ensures only { (call : ACall) → IsCall catalogue.now.procs (tokens_alone tokens.now) call → IfOk result (λ read. read ≡ Some call) }
 {
     let Some(front) = head(tokens) else {
         return Ok(None);

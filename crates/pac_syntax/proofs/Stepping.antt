@@ -29,11 +29,11 @@ use Rattle.pac_syntax.specs.declared.tree.ProcNode.{ProcNode}
 use Rattle.pac_syntax.specs.declared.tree.Tree.{Tree}
 use Rattle.pac_syntax.specs.declared.parse.statement.StatementWord.{StatementWord}
 use Rattle.pac_syntax.specs.declared.parse.statement.StatementWord.TheVariants as word
-use Rattle.pac_syntax.specs.declared.parse.parser.ColumnKind.{ColumnKind}
-use Rattle.pac_syntax.specs.declared.parse.parser.ColumnKind.TheVariants.{Column, Param}
+use Rattle.pac_syntax.specs.declared.parse.parser.Owner.{Owner}
+use Rattle.pac_syntax.specs.declared.parse.parser.Owner.TheVariants as owner
 use Rattle.pac_syntax.specs.Grammar.{Role, Plain, ParamName, tier}
 use Rattle.pac_syntax.specs.Faults.{fault_of, over_role, place}
-use Rattle.pac_syntax.specs.Machine.{Begun, Steps, Done, Want, WantName, WantType, WantLiteral, Level, Rest, MoreValues, MoreStmts, MaybeElse, MoreColumns, SomeParams, MoreTables, MoreProcs, want_expr, next, literal_at, begun_name, begun_literal, begun_binary, top, lay, negation_steps, paren_steps, stmt_steps, stmt_role, stmt_word, block_steps, column_steps, typed_steps, table_steps, proc_steps, is_mark, literal_begins, name_in, operand_begins, operator_at, operator_in, of_tier, feed, finish, scan, run}
+use Rattle.pac_syntax.specs.Machine.{Begun, Steps, Done, Want, WantName, WantType, WantLiteral, Level, Rest, MoreValues, MoreStmts, MaybeElse, MoreColumns, SomeParams, MoreTables, MoreProcs, want_expr, next, literal_at, begun_name, begun_literal, begun_binary, top, lay, negation_steps, paren_steps, stmt_steps, stmt_role, stmt_word, block_steps, column_steps, typed_steps, table_steps, proc_steps, is_same_word_or_sign, literal_begins, name_in, operand_begins, operator_at, operator_in, of_tier, feed, finish, scan, run}
 use Rattle.pac_syntax.specs.Views.{is_too_deep, operand_in, between, rests, tier_behind, Begins, IsNot, IsNoName, IsType, IsNoType, bool_in, name_token, role_of, limit_of}
 
 abbrev Read : Type 0
@@ -138,7 +138,7 @@ pub bool_front : (end end' at : ℕ) (k : LiteralNode → Steps) (s ts : List Sp
 bool_front end end' at k s ts t b e is front place = rw (is, e, place) (bool_from end t.at t.token k ts b front)
 
 -- where there is none, the fault is at the first token, or behind a `-`
-none_from : (end at : ℕ) (t : Token) (k : LiteralNode → Steps) (ts : List Spanned) → is_mark (token.Symbol symbol.Minus) t ≡ false → int_or_text_from t ts ≡ None → bool_in t ≡ None
+none_from : (end at : ℕ) (t : Token) (k : LiteralNode → Steps) (ts : List Spanned) → is_same_word_or_sign (token.Symbol symbol.Minus) t ≡ false → int_or_text_from t ts ≡ None → bool_in t ≡ None
     → run end (WantLiteral k) (record { token = t; at = at } ∷ ts) ≡ refused at Expected
 unfolding run scan feed
 none_from end at (token.Int z) k ts m i b = absurd cc
@@ -192,7 +192,7 @@ no_name_in _ at e = refl
 pub no_name_next : (s ts : List Spanned) (t : Spanned) → s ≡ t ∷ ts → operand_in t.token t.at ≡ None → IsNoName s
 no_name_next s ts t is h = rw is (no_name_in t.token t.at h)
 
-begins_literal : (t : Token) (at d o : ℕ) (k : Begun → ℕ → Steps) → is_mark (token.Symbol symbol.Not) t ≡ false → is_mark (token.Symbol symbol.OpenParen) t ≡ false → name_in t at ≡ None → operand_begins t at d o k ≡ literal_begins t at (λ l. k (begun_literal l) o)
+begins_literal : (t : Token) (at d o : ℕ) (k : Begun → ℕ → Steps) → is_same_word_or_sign (token.Symbol symbol.Not) t ≡ false → is_same_word_or_sign (token.Symbol symbol.OpenParen) t ≡ false → name_in t at ≡ None → operand_begins t at d o k ≡ literal_begins t at (λ l. k (begun_literal l) o)
 begins_literal (token.Name n) at d o k a b c = absurd cc
 begins_literal (token.Symbol symbol.Not) at d o k a b c = absurd cc
 begins_literal (token.Symbol symbol.OpenParen) at d o k a b c = absurd cc
@@ -485,13 +485,13 @@ proc_next end end' i cs k s ts at e within b = rw (b.text, e, le-ltb 64 (suc i) 
 
 -- ---- limits of columns, the end
 
-pub role_within : (kind : ColumnKind) (n at : ℕ) → n ≤ limit_of kind → over_role (role_of kind n) at ≡ None
-role_within Column n at h = rw (le-ltb 8 n h) refl
-role_within Param n at h = rw (le-ltb 16 n h) refl
+pub role_within : (o : Owner) (n at : ℕ) → n ≤ limit_of o → over_role (role_of o n) at ≡ None
+role_within owner.Table n at h = rw (le-ltb 8 n h) refl
+role_within owner.Procedure n at h = rw (le-ltb 16 n h) refl
 
-pub role_past : (kind : ColumnKind) (n at : ℕ) → limit_of kind < n → over_role (role_of kind n) at ≡ Some (fault_of TooMany at)
-role_past Column n at h = rw (lt-ltb 8 n h) refl
-role_past Param n at h = rw (lt-ltb 16 n h) refl
+pub role_past : (o : Owner) (n at : ℕ) → limit_of o < n → over_role (role_of o n) at ≡ Some (fault_of TooMany at)
+role_past owner.Table n at h = rw (lt-ltb 8 n h) refl
+role_past owner.Procedure n at h = rw (lt-ltb 16 n h) refl
 
 pub ended : (end : ℕ) (tree : Tree) (s : List Spanned) → s ≡ [] → run end (Done tree) s ≡ Ok tree
 unfolding run scan finish

@@ -122,10 +122,10 @@ symbol_code symbol.And = 22
 symbol_code symbol.Or = 23
 
 -- the two are one word or one sign
-abbrev pub is_mark : Token → Token → Bool
-is_mark (token.Keyword a) (token.Keyword b) = nat_eq (keyword_code a) (keyword_code b)
-is_mark (token.Symbol a) (token.Symbol b) = nat_eq (symbol_code a) (symbol_code b)
-is_mark _ _ = false
+abbrev pub is_same_word_or_sign : Token → Token → Bool
+is_same_word_or_sign (token.Keyword a) (token.Keyword b) = nat_eq (keyword_code a) (keyword_code b)
+is_same_word_or_sign (token.Symbol a) (token.Symbol b) = nat_eq (symbol_code a) (symbol_code b)
+is_same_word_or_sign _ _ = false
 
 abbrev pub name_in : Token → ℕ → Option NameNode
 name_in (token.Name n) at = Some (record { at = at; name = n })
@@ -301,7 +301,7 @@ where_some None f = None
 where_some (Some x) f = Some (f x)
 
 abbrev pub literal_begins : Token → ℕ → (LiteralNode → Steps) → Option Next
-literal_begins t at k = or_else (where_some (literal_in t at) (λ l. next (k l) Plain)) (where_true (is_mark (token.Symbol symbol.Minus) t) (next (WantNegative at k) Plain))
+literal_begins t at k = or_else (where_some (literal_in t at) (λ l. next (k l) Plain)) (where_true (is_same_word_or_sign (token.Symbol symbol.Minus) t) (next (WantNegative at k) Plain))
 
 abbrev pub negative_in : Token → ℕ → (LiteralNode → Steps) → Option Next
 negative_in (token.Negative z) minus k = Some (next (k (literal_at minus z)) Plain)
@@ -353,7 +353,7 @@ stmt_begins d t k = where_some (stmt_word t) (λ w. next (stmt_steps d w k) (stm
 -- what is to come behind the token, where it can follow
 unfoldable pub feed : Steps → Spanned → Option Next
 feed (Done tree) t = None
-feed (Want w k) t = where_true (is_mark w t.token) (next k Plain)
+feed (Want w k) t = where_true (is_same_word_or_sign w t.token) (next k Plain)
 feed (WantName role k) t = where_some (name_in t.token t.at) (λ n. next (k n) role)
 feed (WantType k) t = where_some (type_of_token t.token) (λ y. next (k y) Plain)
 feed (WantLiteral k) t = literal_begins t.token t.at k
@@ -362,17 +362,17 @@ feed (Level d n o k) t = operand_begins t.token t.at d o (lay d n k)
 feed (Rest d n x o k) t =
     or_else (where_some (operator_at n t.token) (λ op. next (Level d n (suc o) (λ y o. top d (suc n) k (begun_binary op x y) o)) (Operator (suc o)))) (feed (k x o) t)
 feed (MoreValues vs k) t =
-    or_else (where_true (is_mark (token.Symbol symbol.Comma) t.token) (next (want_expr (λ v. MoreValues (vs ++ (v ∷ [])) k)) Plain)) (feed (k vs) t)
+    or_else (where_true (is_same_word_or_sign (token.Symbol symbol.Comma) t.token) (next (want_expr (λ v. MoreValues (vs ++ (v ∷ [])) k)) Plain)) (feed (k vs) t)
 feed (MoreStmts d ss k) t = or_else (stmt_begins d t.token (λ s. MoreStmts d (ss ++ (s ∷ [])) k)) (feed (k ss) t)
-feed (MaybeElse d k) t = or_else (where_true (is_mark (token.Keyword keyword.Else) t.token) (next (block_steps d k) Plain)) (feed (k []) t)
+feed (MaybeElse d k) t = or_else (where_true (is_same_word_or_sign (token.Keyword keyword.Else) t.token) (next (block_steps d k) Plain)) (feed (k []) t)
 feed (MoreColumns role i cs k) t =
-    or_else (where_true (is_mark (token.Symbol symbol.Comma) t.token) (next (column_steps (role (suc i)) (λ c. MoreColumns role (suc i) (cs ++ (c ∷ [])) k)) Plain)) (feed (k cs) t)
+    or_else (where_true (is_same_word_or_sign (token.Symbol symbol.Comma) t.token) (next (column_steps (role (suc i)) (λ c. MoreColumns role (suc i) (cs ++ (c ∷ [])) k)) Plain)) (feed (k cs) t)
 feed (SomeParams k) t =
     or_else (where_some (name_in t.token t.at) (λ n. next (typed_steps n (λ c. MoreColumns ParamName 1 (c ∷ []) k)) (ParamName 1))) (feed (k []) t)
 feed (MoreTables i ts k) t =
-    or_else (where_true (is_mark (token.Keyword keyword.Table) t.token) (next (table_steps (λ table. MoreTables (suc i) (ts ++ (table ∷ [])) k)) (TableWord (suc i)))) (feed (k ts) t)
+    or_else (where_true (is_same_word_or_sign (token.Keyword keyword.Table) t.token) (next (table_steps (λ table. MoreTables (suc i) (ts ++ (table ∷ [])) k)) (TableWord (suc i)))) (feed (k ts) t)
 feed (MoreProcs i ps k) t =
-    or_else (where_true (is_mark (token.Keyword keyword.Proc) t.token) (next (proc_steps (λ proc. MoreProcs (suc i) (ps ++ (proc ∷ [])) k)) (ProcWord (suc i)))) (feed (k ps) t)
+    or_else (where_true (is_same_word_or_sign (token.Keyword keyword.Proc) t.token) (next (proc_steps (λ proc. MoreProcs (suc i) (ps ++ (proc ∷ [])) k)) (ProcWord (suc i)))) (feed (k ps) t)
 
 -- ---- all tokens
 

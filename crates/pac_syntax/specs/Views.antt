@@ -12,25 +12,25 @@ use Rattle.pac_tokens.specs.declared.token.Spanned.{Spanned}
 use Rattle.pac_syntax.specs.declared.tree.NameNode.{NameNode}
 use Rattle.pac_syntax.specs.declared.parse.statement.StatementWord.{StatementWord}
 use Rattle.pac_syntax.specs.declared.parse.statement.StatementWord.TheVariants as word
-use Rattle.pac_syntax.specs.declared.parse.parser.ColumnKind.{ColumnKind}
-use Rattle.pac_syntax.specs.declared.parse.parser.ColumnKind.TheVariants.{Column, Param}
+use Rattle.pac_syntax.specs.declared.parse.parser.Owner.{Owner}
+use Rattle.pac_syntax.specs.declared.parse.parser.Owner.TheVariants as owner
 use Rattle.pac_syntax.specs.declared.parse.parser.Operand.{Operand}
 use Rattle.pac_syntax.specs.declared.parse.parser.Parser.{Parser}
 use Rattle.pac_base.specs.declared.refusal.Refusal.{Refusal}
 use Rattle.pac_tokens.specs.declared.fault.Fault.{Fault}
 use Rattle.pac_value.specs.declared.expr.BinOp.{BinOp}
 use Rattle.pac_syntax.specs.Grammar.{Role, ColumnName, ParamName, tier}
-use Rattle.pac_syntax.specs.Machine.{Steps, Rest, run, Begun, begun_name, begun_literal, is_mark, name_in, type_of_token, literal_at}
+use Rattle.pac_syntax.specs.Machine.{Steps, Rest, run, Begun, begun_name, begun_literal, is_same_word_or_sign, name_in, type_of_token, literal_at}
 
 -- the tokens begin with this word or sign
 pub record Begins (w : Token) (at : ℕ) (ts rest : List Spanned) : Type 0 where
   pub text : ts ≡ record { token = w; at = at } ∷ rest
-  pub mark : is_mark w w ≡ true
+  pub mark : is_same_word_or_sign w w ≡ true
 
 -- the first token isn't this word or sign
 abbrev pub IsNot : Token → List Spanned → Type 0
 IsNot w [] = Unit {0}
-IsNot w (t ∷ ts) = is_mark w t.token ≡ false
+IsNot w (t ∷ ts) = is_same_word_or_sign w t.token ≡ false
 
 -- the first token is no name
 abbrev pub IsNoName : List Spanned → Type 0
@@ -64,14 +64,14 @@ abbrev pub name_token : NameNode → Spanned
 name_token n = record { token = token.Name n.name; at = n.at }
 
 -- the role of the names of columns or of parameters
-abbrev pub role_of : ColumnKind → ℕ → Role
-role_of Column = ColumnName
-role_of Param = ParamName
+abbrev pub role_of : Owner → ℕ → Role
+role_of owner.Table = ColumnName
+role_of owner.Procedure = ParamName
 
 -- how many of them there may be
-abbrev pub limit_of : ColumnKind → ℕ
-limit_of Column = MAX_COLUMNS
-limit_of Param = MAX_PARAMS
+abbrev pub limit_of : Owner → ℕ
+limit_of owner.Table = MAX_COLUMNS
+limit_of owner.Procedure = MAX_PARAMS
 
 -- an operand in the reading
 abbrev pub begun_at : Operand → Begun

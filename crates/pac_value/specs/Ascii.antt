@@ -15,7 +15,7 @@ carriage_return = 13
 abbrev pub space : ℕ
 space = 32
 
--- ---- marks
+-- ---- signs
 
 -- what a text stands between
 abbrev pub quote : ℕ

@@ -46,7 +46,7 @@ pub enum Expr {
 /// Why a well typed expression has no value.
 #[derive(Clone, Copy, Debug, PartialEq, Eq, Error)]
 pub enum Trap {
-    /// The result of an operation is no int of 64 bits.
+    /// The result is no int of 64 bits.
     #[error("the result is no int of 64 bits")]
     Overflow,
     /// The divisor is zero.

@@ -11,7 +11,7 @@ ghost use Rattle.pac_syntax.specs.declared.tree.ColumnNode.{ColumnNode as AColum
 ghost use Rattle.pac_syntax.specs.declared.tree.ProcNode.{ProcNode as AProcNode};
 ghost use Rattle.pac_syntax.specs.declared.tree.TableNode.{TableNode as ATableNode};
 
-use super::parser::{ColumnKind, Parser, split};
+use super::parser::{Owner, Parser, split};
 use crate::limits::{MAX_PROCS, MAX_TABLES};
 use crate::tree::{ColumnNode, NameNode, ProcNode, TableNode, Tree};
 use pac_base::listed;
@@ -19,14 +19,14 @@ use pac_tokens::{Fault, FaultKind, Keyword, Spanned, Symbol, SyntaxError};
 use pac_value::{MAX_COLUMNS, MAX_PARAMS};
 use std::alloc::Global;
 
-impl ColumnKind {
+impl Owner {
     // How many columns or parameters there may be.
     fn limit(self) -> usize
         ensures { result ≡ limit_of self }
     {
         match self {
-            ColumnKind::Column => MAX_COLUMNS,
-            ColumnKind::Param => MAX_PARAMS,
+            Owner::Table => MAX_COLUMNS,
+            Owner::Procedure => MAX_PARAMS,
         }
     }
 }
@@ -42,14 +42,14 @@ impl<'a> Parser<'a> {
     }
 
     // A column behind so many others.
-    fn column(&mut self, kind: ColumnKind, before: usize) -> Result<ColumnNode, SyntaxError>
+    fn column(&mut self, owner: Owner, before: usize) -> Result<ColumnNode, SyntaxError>
         ensures left { OnOk result (NoLonger self.old self.new) }
-        ensures run { Goes (column_steps (role_of kind (before + 1))) self.old self.new result }
+        ensures run { Goes (column_steps (role_of owner (before + 1))) self.old self.new result }
     {
         let Some(name) = self.takes_name() else {
             return Err(self.refuse(FaultKind::Expected));
         };
-        if before >= kind.limit() {
+        if before >= owner.limit() {
             let at = name.at;
             let kind = FaultKind::TooMany;
             return Err(SyntaxError::Fault(Fault { at, kind }));
@@ -60,16 +60,16 @@ impl<'a> Parser<'a> {
     // { "," column } behind a first one.
     fn more_columns(
         &mut self,
-        kind: ColumnKind,
+        owner: Owner,
         first: ColumnNode,
     ) -> Result<Vec<ColumnNode>, SyntaxError>
         ensures left { OnOk result (NoLonger self.old self.new) }
-        ensures run { GoesAll (MoreColumns (role_of kind) 1 (first ∷ [])) self.old self.new result }
+        ensures run { GoesAll (MoreColumns (role_of owner) 1 (first ∷ [])) self.old self.new result }
     {
         let mut columns = Vec::new(self.alloc);
         columns.push(first)?;
         while let Some(_) = self.takes_symbol(Symbol::Comma) {
-            let column = self.column(kind, columns.len())?;
+            let column = self.column(owner, columns.len())?;
             columns.push(column)?;
         }
         Ok(columns)
@@ -80,8 +80,8 @@ impl<'a> Parser<'a> {
         ensures left { OnOk result (NoLonger self.old self.new) }
         ensures run { GoesAll columns_steps self.old self.new result }
     {
-        let first = self.column(ColumnKind::Column, 0)?;
-        self.more_columns(ColumnKind::Column, first)
+        let first = self.column(Owner::Table, 0)?;
+        self.more_columns(Owner::Table, first)
     }
 
     // [ column { "," column } ]
@@ -93,7 +93,7 @@ impl<'a> Parser<'a> {
             return Ok(Vec::new(self.alloc));
         };
         let first = self.typed(name)?;
-        self.more_columns(ColumnKind::Param, first)
+        self.more_columns(Owner::Procedure, first)
     }
 
     // A table, behind its word.

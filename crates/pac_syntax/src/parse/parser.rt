@@ -4,7 +4,7 @@ ghost use Rattle.pac_base.specs.Refusals.{Gives};
 ghost use Rattle.pac_syntax.specs.Faults.{place};
 ghost use Rattle.pac_syntax.specs.Grammar.{Plain};
 ghost use Rattle.pac_value.specs.declared.values.Ty.{Ty as ATy};
-ghost use Rattle.pac_syntax.specs.Machine.{Steps, Want, WantName, WantType, WantLiteral, is_mark, keyword_code, symbol_code, type_of_token, run};
+ghost use Rattle.pac_syntax.specs.Machine.{Steps, Want, WantName, WantType, WantLiteral, is_same_word_or_sign, keyword_code, symbol_code, type_of_token, run};
 ghost use Rattle.pac_syntax.specs.Views.{Begins, IsNot, IsNoName, IsType, IsNoType, bool_in, name_part, name_token, Goes, NoLonger, IsShorter};
 ghost use Rattle.pac_tokens.specs.declared.token.Token.TheVariants as token;
 ghost use Rattle.pac_syntax.specs.declared.tree.NameNode.{NameNode as ANameNode};
@@ -22,11 +22,11 @@ pub struct Operand {
     pub expr: ExprNode,
 }
 
-/// What a list of columns is of: a table or a procedure.
+/// What has a list of columns: a table, or a procedure, whose parameters they are.
 #[derive(Clone, Copy, Debug, PartialEq, Eq)]
-pub enum ColumnKind {
-    Column,
-    Param,
+pub enum Owner {
+    Table,
+    Procedure,
 }
 
 /// What is left to read.
@@ -101,8 +101,8 @@ fn symbol_number(sign: Symbol) -> u8
 }
 
 // Whether the two are one word or one sign.
-fn is_same_mark(wanted: &Token, found: &Token) -> bool
-    ensures { result ≡ is_mark wanted.now found.now }
+fn is_same_word_or_sign(wanted: &Token, found: &Token) -> bool
+    ensures { result ≡ is_same_word_or_sign wanted.now found.now }
 {
     match wanted {
         Token::Keyword(a) => match found {
@@ -138,7 +138,7 @@ impl<'a> Parser<'a> {
         let Some((first, rest)) = split(self.rest) else {
             return None;
         };
-        if !is_same_mark(&wanted, &first.token) {
+        if !is_same_word_or_sign(&wanted, &first.token) {
             return None;
         }
         self.rest = rest;
