@@ -1,12 +1,63 @@
 -- Arguments read from the front are those that are written.
-use Rattle.std.proofs.Common.{◌≡◌, List, [], ◌∷◌, ◌++◌, map, Option, Some, None, refl, sym, ap, ◌∙◌, append_assoc}
+use Rattle.std.proofs.Common.{◌≡◌, ◌≤◌, List, [], ◌∷◌, ◌++◌, length, drop, map, Option, Some, None, refl, sym, ap, ◌∙◌, append_assoc, arith}
+use Rattle.std.specs.Prelude.{MatchOption, slice_index_or}
 use Rattle.pac_value.specs.declared.values.Value.{Value}
 use Rattle.pac_value.specs.declared.values.Value.TheVariants.{Int, Text}
 use Rattle.pac_tokens.specs.declared.token.Token.{Token}
 use Rattle.pac_tokens.specs.declared.token.Token.TheVariants as token
 use Rattle.pac_tokens.specs.declared.token.Symbol.TheVariants as symbol
-use Rattle.pac_main.specs.Calls.{Literal, AnInt, ANegative, AText, literal_value, more_literals, literals}
-use Rattle.pac_main.specs.CallsRead.{next_in, more_in, args_in, with_value, arguments_before}
+use Rattle.pac_tokens.specs.declared.token.Spanned.{Spanned}
+use Rattle.pac_tokens.specs.Literal.{int_of_minus, int_or_text_from, int_or_text_in}
+use Rattle.pac_main.specs.Calls.{Literal, AnInt, ANegative, AText, literal_value, more_literals, literals, tokens_alone}
+use Rattle.pac_main.specs.CallsRead.{argument_in, next_in, more_in, args_in, with_value, arguments_before}
+
+front_so : (p q : Value × List Spanned) → ◌≡◌ {A = Option (Value × List Spanned)} (Some p) (Some q) → p ≡ q
+front_so p q e = cc
+
+-- an int or a text in front is an argument in front
+pub argument-some : (ts us : List Spanned) (v : Value) → int_or_text_in ts ≡ Some (v, us) → argument_in (tokens_alone ts) ≡ Some (v, tokens_alone us)
+argument-some [] us v e = absurd cc
+argument-some (t ∷ ts) us v e = first t.token ts e
+  where
+    second : (u : Token) (ts : List Spanned) → int_of_minus u ts ≡ Some (v, us) → argument_in (token.Symbol symbol.Minus ∷ u ∷ tokens_alone ts) ≡ Some (v, tokens_alone us)
+    second (token.Negative z) ts e = let p = front_so (Int z, ts) (v, us) e in (λ i. Some ((p i).0, tokens_alone ((p i).1)))
+    second _ ts e = absurd cc
+
+    first : (t : Token) (ts : List Spanned) → int_or_text_from t ts ≡ Some (v, us) → argument_in (t ∷ tokens_alone ts) ≡ Some (v, tokens_alone us)
+    first (token.Int z) ts e = let p = front_so (Int z, ts) (v, us) e in (λ i. Some ((p i).0, tokens_alone ((p i).1)))
+    first (token.Text x) ts e = let p = front_so (Text x, ts) (v, us) e in (λ i. Some ((p i).0, tokens_alone ((p i).1)))
+    first (token.Symbol symbol.Minus) [] e = absurd cc
+    first (token.Symbol symbol.Minus) (u ∷ us) e = second u.token us e
+    first _ ts e = absurd cc
+
+pub argument-none : (ts : List Spanned) → int_or_text_in ts ≡ None → argument_in (tokens_alone ts) ≡ None
+argument-none [] e = refl
+argument-none (t ∷ ts) e = first t.token ts e
+  where
+    second : (u : Token) (ts : List Spanned) → int_of_minus u ts ≡ None → argument_in (token.Symbol symbol.Minus ∷ u ∷ tokens_alone ts) ≡ None
+    second (token.Negative z) ts e = absurd cc
+    second _ ts e = refl
+
+    first : (t : Token) (ts : List Spanned) → int_or_text_from t ts ≡ None → argument_in (t ∷ tokens_alone ts) ≡ None
+    first (token.Int z) ts e = absurd cc
+    first (token.Text x) ts e = absurd cc
+    first (token.Symbol symbol.Minus) [] e = refl
+    first (token.Symbol symbol.Minus) (u ∷ us) e = second u.token us e
+    first _ ts e = refl
+
+-- what stands behind a comma is read as an argument
+pub next-front : {A : Type 0} (rest : A → List Spanned) (r : Option (Value × A)) (ts : List Spanned) (t : Spanned) → 1 ≤ length ts → t ≡ slice_index_or ts 0 t → t.token ≡ token.Symbol symbol.Comma
+    → MatchOption r (int_or_text_in (drop 1 ts) ≡ None) (λ p. int_or_text_in (drop 1 ts) ≡ Some (p.0, rest p.1))
+    → MatchOption r (next_in (tokens_alone ts) ≡ None) (λ p. next_in (tokens_alone ts) ≡ Some (p.0, tokens_alone (rest p.1)))
+next-front {A} rest r [] t some is comma front = absurd (omega (arith, some))
+next-front {A} rest r (u ∷ us) t some is comma front = read_on r front
+  where
+    next-is : next_in (tokens_alone (u ∷ us)) ≡ argument_in (tokens_alone us)
+    next-is = ap (λ (x : Token). next_in (x ∷ tokens_alone us)) (sym (ap (λ (s : Spanned). s.token) is) ∙ comma)
+
+    read_on : (r : Option (Value × A)) → MatchOption r (int_or_text_in us ≡ None) (λ p. int_or_text_in us ≡ Some (p.0, rest p.1)) → MatchOption r (next_in (tokens_alone (u ∷ us)) ≡ None) (λ p. next_in (tokens_alone (u ∷ us)) ≡ Some (p.0, tokens_alone (rest p.1)))
+    read_on None h = next-is ∙ argument-none us h
+    read_on (Some p) h = next-is ∙ argument-some us (rest p.1) p.0 h
 
 abbrev read : Value → List Token → Option (Value × List Token)
 read v ts = Some (v, ts)

@@ -42,8 +42,8 @@ literals (l ∷ ls) = argument_before l (more_literals ls)
 abbrev pub call_tokens : List ℕ → List Literal → List Token
 call_tokens name ls = token.Name (codes "call") ∷ token.Name name ∷ token.Symbol symbol.OpenParen ∷ literals ls
 
-abbrev pub kinds : List Spanned → List Token
-kinds ts = map (λ t. t.token) ts
+abbrev pub tokens_alone : List Spanned → List Token
+tokens_alone ts = map (λ t. t.token) ts
 
 -- the tokens are a call of this procedure with these arguments
 pub record IsCallOf (ts : List Token) (name : List ℕ) (args : List Value) : Type 0 where

@@ -10,16 +10,6 @@ abbrev pub with_value : Value → Option (List Value) → Option (List Value)
 with_value v None = None
 with_value v (Some vs) = Some (v ∷ vs)
 
--- the value of a literal of one token, or of the int behind a literal's `-`
-abbrev pub one_value : Token → Option Value
-one_value (token.Int z) = Some (Int z)
-one_value (token.Text text) = Some (Text text)
-one_value _ = None
-
-abbrev pub negative_value : Token → Option Value
-negative_value (token.Negative z) = Some (Int z)
-negative_value _ = None
-
 -- the literal in front, and the tokens behind it
 abbrev pub argument_in : List Token → Option (Value × List Token)
 argument_in (token.Int z ∷ ts) = Some (Int z, ts)

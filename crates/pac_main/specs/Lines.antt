@@ -1,6 +1,7 @@
 -- The lines of a text, and where a script's catalogue ends.
 use Rattle.std.specs.Prelude.{◌≡◌, ◌<◌, ℕ, zero, suc, Bool, true, false, ◌&&◌, nat_eq, List, [], ◌∷◌, take, drop, codes, Option, Some, None, if◌then◌else◌, slice_get}
 use Rattle.std.specs.Cmp.Lexicographic.{pointwise}
+use Rattle.pac_value.specs.Ascii.{line_feed}
 
 -- a byte more at the front of the first line
 abbrev pub with_first : ℕ → List (List ℕ) → List (List ℕ)
@@ -10,12 +11,12 @@ with_first b (line ∷ others) = (b ∷ line) ∷ others
 -- what stands between the line feeds of a text
 abbrev pub lines : List ℕ → List (List ℕ)
 lines [] = [] ∷ []
-lines (b ∷ bs) = if nat_eq b 10 then [] ∷ lines bs else with_first b (lines bs)
+lines (b ∷ bs) = if nat_eq b line_feed then [] ∷ lines bs else with_first b (lines bs)
 
 -- a line ends here: the text does, or a line feed comes
 abbrev pub ends_line : List ℕ → Bool
 ends_line [] = true
-ends_line (b ∷ bs) = nat_eq b 10
+ends_line (b ∷ bs) = nat_eq b line_feed
 
 -- a line that is exactly `---` is in front
 abbrev pub begins_with_mark : List ℕ → Bool
@@ -28,7 +29,7 @@ begins_line text (suc i) = ends_with_feed (slice_get text i)
   where
     ends_with_feed : Option ℕ → Bool
     ends_with_feed None = false
-    ends_with_feed (Some b) = nat_eq b 10
+    ends_with_feed (Some b) = nat_eq b line_feed
 
 -- the line at this place is exactly `---`
 abbrev pub is_mark_at : List ℕ → ℕ → Bool

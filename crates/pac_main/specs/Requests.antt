@@ -7,7 +7,7 @@ use Rattle.pac_tokens.specs.declared.token.Spanned.{Spanned}
 use Rattle.pac_tokens.specs.Tokens.{IsLexed}
 use Rattle.pac_types.specs.declared.procedure.Proc.{Proc}
 use Rattle.pac_ops.specs.declared.transaction.Call.{Call}
-use Rattle.pac_main.specs.Calls.{kinds, IsCall}
+use Rattle.pac_main.specs.Calls.{tokens_alone, IsCall}
 
 -- no tokens, or those of a call
 abbrev pub Says : List Proc → List Token → Option Call → Type 0
@@ -19,7 +19,7 @@ pub record IsLine (procs : List Proc) (line : List ℕ) (said : Option Call) : T
   pub short : length line ≤ MAX_LINE
   pub tokens : List Spanned
   pub lexed : IsLexed line tokens None
-  pub says : Says procs (kinds tokens) said
+  pub says : Says procs (tokens_alone tokens) said
 
 -- a call, or none
 abbrev pub some_call : Option Call → List Call

@@ -4,19 +4,19 @@ ghost use Rattle.std.specs.Option.{option_map};
 ghost use Rattle.pac_value.specs.Values.{type_of};
 ghost use Rattle.pac_types.specs.Sound.{FitParams};
 ghost use Rattle.pac_ops.specs.declared.transaction.Call.{Call as ACall};
-ghost use Rattle.pac_main.specs.Calls.{kinds, IsCall, IsFitting};
-ghost use Rattle.pac_main.specs.CallsRead.{argument_in, more_in, args_in, next_in, is_closed, one_value, negative_value, name_of_token, is_call_word, is_open, head_in};
+ghost use Rattle.pac_main.specs.Calls.{tokens_alone, IsCall, IsFitting};
+ghost use Rattle.pac_main.specs.CallsRead.{more_in, args_in, next_in, is_closed, name_of_token, is_call_word, is_open, head_in};
 
 use pac_base::{NoMemory, Ruled};
 use pac_serial::Call;
-use pac_syntax::{Spanned, Symbol, Token};
+use pac_tokens::{Spanned, Symbol, Token, int_or_text};
 use pac_types::{Catalogue, Column};
 use pac_value::{Name, Ty, Value};
 use std::alloc::Global;
 
 // The closing parenthesis is all that is left.
 fn is_closed(tokens: &[Spanned]) -> bool
-    ensures { result ≡ is_closed (kinds tokens.now) }
+    ensures { result ≡ is_closed (tokens_alone tokens.now) }
 {
     match tokens {
         [only] => is_symbol(&only.token, Symbol::CloseParen),
@@ -33,57 +33,13 @@ fn is_symbol(token: &Token, sign: Symbol) -> bool
     }
 }
 
-// The value of a literal of one token.
-fn value_of(token: &Token) -> Option<Value>
-    ensures { result ≡ one_value token.now }
-{
-    match token {
-        Token::Int(number) => Some(Value::Int(*number)),
-        Token::Text(text) => Some(Value::Text(*text)),
-        _ => None,
-    }
-}
-
-// The value of the int behind a literal's `-`.
-fn negative_of(token: &Token) -> Option<Value>
-    ensures { result ≡ negative_value token.now }
-{
-    match token {
-        Token::Negative(number) => Some(Value::Int(*number)),
-        _ => None,
-    }
-}
-
-// The literal in front, and the tokens behind it.
-fn literal(tokens: &[Spanned]) -> Option<(Value, &[Spanned])>
-    ensures within { IfSome result (λ p. length p.1.now < length tokens.now) }
-    ensures literal { MatchOption result (argument_in (kinds tokens.now) ≡ None) (λ p. argument_in (kinds tokens.now) ≡ Some (p.0, kinds p.1.now)) }
-{
-    let [first, behind @ ..] = tokens else {
-        return None;
-    };
-    if let Some(value) = value_of(&first.token) {
-        return Some((value, behind));
-    }
-    if !is_symbol(&first.token, Symbol::Minus) {
-        return None;
-    }
-    let [second, behind @ ..] = behind else {
-        return None;
-    };
-    match negative_of(&second.token) {
-        Some(value) => Some((value, behind)),
-        None => None,
-    }
-}
-
-// The literal behind a comma, and the tokens behind it.
+// The int or text behind a comma, and the tokens behind it.
 fn next_argument(tokens: &[Spanned]) -> Option<(Value, &[Spanned])>
     ensures within { IfSome result (λ p. length p.1.now < length tokens.now) }
-    ensures literal { MatchOption result (next_in (kinds tokens.now) ≡ None) (λ p. next_in (kinds tokens.now) ≡ Some (p.0, kinds p.1.now)) }
+    ensures literal { MatchOption result (next_in (tokens_alone tokens.now) ≡ None) (λ p. next_in (tokens_alone tokens.now) ≡ Some (p.0, tokens_alone p.1.now)) }
 {
     match tokens {
-        [comma, behind @ ..] if is_symbol(&comma.token, Symbol::Comma) => literal(behind),
+        [comma, behind @ ..] if is_symbol(&comma.token, Symbol::Comma) => int_or_text(behind),
         _ => None,
     }
 }
@@ -117,7 +73,7 @@ fn is_open(token: &Token) -> bool
 
 // The name of the procedure that is called, and the tokens behind the opening parenthesis.
 fn head(tokens: &[Spanned]) -> Option<(Name, &[Spanned])>
-    ensures { MatchOption result (head_in (kinds tokens.now) ≡ None) (λ p. head_in (kinds tokens.now) ≡ Some (p.0, kinds p.1.now)) }
+    ensures { MatchOption result (head_in (tokens_alone tokens.now) ≡ None) (λ p. head_in (tokens_alone tokens.now) ≡ Some (p.0, tokens_alone p.1.now)) }
 {
     let [word, name, open, behind @ ..] = tokens else {
         return None;
@@ -133,13 +89,13 @@ fn head(tokens: &[Spanned]) -> Option<(Name, &[Spanned])>
 
 // The arguments of a call, up to its closing parenthesis, where the tokens are that.
 fn arguments(alloc: Global, tokens: &[Spanned]) -> Result<Option<Vec<Value>>, NoMemory>
-    ensures { IfOk result (λ args. option_map (λ vs. vs.items) args ≡ args_in (kinds tokens.now)) }
+    ensures { IfOk result (λ args. option_map (λ vs. vs.items) args ≡ args_in (tokens_alone tokens.now)) }
 {
     let mut values = Vec::new(alloc);
     if is_closed(tokens) {
         return Ok(Some(values));
     }
-    let Some((first, mut rest)) = literal(tokens) else {
+    let Some((first, mut rest)) = int_or_text(tokens) else {
         return Ok(None);
     };
     values.push(first)?;
@@ -194,8 +150,8 @@ pub fn read_call(
     catalogue: &Catalogue,
     tokens: &[Spanned],
 ) -> Result<Option<Call>, NoMemory>
-    ensures call { IfOk result (λ read. IfSome read (IsCall catalogue.now.procs (kinds tokens.now))) }
-    ensures only { (call : ACall) → IsCall catalogue.now.procs (kinds tokens.now) call → IfOk result (λ read. read ≡ Some call) }
+    ensures call { IfOk result (λ read. IfSome read (IsCall catalogue.now.procs (tokens_alone tokens.now))) }
+    ensures only { (call : ACall) → IsCall catalogue.now.procs (tokens_alone tokens.now) call → IfOk result (λ read. read ≡ Some call) }
 {
     let Some(front) = head(tokens) else {
         return Ok(None);

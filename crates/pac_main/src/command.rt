@@ -24,15 +24,19 @@ use pac_serial::{AllRows, SerialError, dump_tables, exec_all};
 use std::alloc::Global;
 use std::sync::Wait;
 use std::thread::Threads;
+use thiserror::Error;
 
 /// Why an input holds no script.
-#[derive(Clone, Copy, Debug, PartialEq, Eq)]
+#[derive(Clone, Copy, Debug, PartialEq, Eq, Error)]
 pub enum InputError {
     /// It could not be read.
+    #[error("the input failed")]
     Failed,
     /// What was read is no script.
+    #[error("{0}")]
     Script(ScriptFault),
     /// An allocation was refused.
+    #[error("out of memory")]
     NoMemory,
 }
 

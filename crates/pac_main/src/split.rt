@@ -1,10 +1,11 @@
 // The lines of a text, one after another.
 ghost use Rattle.std.specs.Prelude.{◌≡◌, ◌<◌, ◌∷◌, [], length, IfSome, MatchOption, nat_eq, position};
 ghost use Rattle.pac_main.specs.Lines.{lines};
+ghost use Rattle.pac_value.specs.Ascii.{line_feed};
 
 // Where the first line feed stands.
 fn feed_at(text: &[u8]) -> Option<usize>
-    ensures place { result ≡ position (λ b. nat_eq b 10) text.now }
+    ensures place { result ≡ position (λ b. nat_eq b line_feed) text.now }
     ensures within { IfSome result (λ at. at < length text.now) }
 {
     text.iter().position(|byte| *byte == b'\n')

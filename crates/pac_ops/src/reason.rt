@@ -9,7 +9,7 @@ use pac_value::Trap;
 pub enum Reason {
     /// A `set` names a row that is not there.
     Missing,
-    /// The result of an operation is no int of 64 bits.
+    /// The result is no int of 64 bits.
     Overflow,
     /// A divisor is zero.
     DivZero,

@@ -5,8 +5,8 @@ ghost use Rattle.pac_outside.specs.Causes.{HasCause, one_more};
 use crate::Failed;
 use crate::faults::Faults;
 
-/// One device: bytes with places, which stay over a stop once they are synced. Of a device the contracts tell the
-/// count of faults alone so far: which bytes a read gives and what a stop may leave isn't stated yet.
+/// One device: bytes with places, which outlast a crash once they are synced. Of a device the contracts tell the
+/// count of faults alone so far: which bytes a read gives and what a crash may leave isn't stated yet.
 pub trait Disk {
     // How many calls failed.
     ghost faults: { Self → ℕ };

@@ -17,7 +17,7 @@ pub fn push_name(out: &mut Vec<u8>, name: &NameNode) -> Result<(), NoMemory>
 }
 
 // `TABLE[KEY]`
-fn push_row(out: &mut Vec<u8>, table: &NameNode, key: &ExprNode) -> Result<(), NoMemory>
+fn push_cell(out: &mut Vec<u8>, table: &NameNode, key: &ExprNode) -> Result<(), NoMemory>
     ensures { OnOk result (Grew out.old.items out.new.items (cell_text table.now key.now)) }
 {
     push_name(out, table)?;
@@ -28,7 +28,7 @@ fn push_row(out: &mut Vec<u8>, table: &NameNode, key: &ExprNode) -> Result<(), N
 }
 
 // `TABLE[KEY].COLUMN`
-fn push_cell(
+fn push_field(
     out: &mut Vec<u8>,
     table: &NameNode,
     key: &ExprNode,
@@ -36,7 +36,7 @@ fn push_cell(
 ) -> Result<(), NoMemory>
     ensures { OnOk result (Grew out.old.items out.new.items (field_text table.now key.now column.now)) }
 {
-    push_row(out, table, key)?;
+    push_cell(out, table, key)?;
     out.extend_from_slice(b".")?;
     push_name(out, column)
 }
@@ -79,7 +79,7 @@ fn push_stmt(
             out.extend_from_slice(b"read ")?;
             push_name(out, name)?;
             out.extend_from_slice(b" = ")?;
-            push_cell(out, table, key, column)?;
+            push_field(out, table, key, column)?;
             out.extend_from_slice(b" default ")?;
             push_value(out, &default.value)?;
             out.extend_from_slice(b";")?;
@@ -88,12 +88,12 @@ fn push_stmt(
             out.extend_from_slice(b"has ")?;
             push_name(out, name)?;
             out.extend_from_slice(b" = ")?;
-            push_row(out, table, key)?;
+            push_cell(out, table, key)?;
             out.extend_from_slice(b";")?;
         }
         StmtNode::Put { table, key, values } => {
             out.extend_from_slice(b"put ")?;
-            push_row(out, table, key)?;
+            push_cell(out, table, key)?;
             out.extend_from_slice(b" = (")?;
             push_exprs(out, values.as_slice())?;
             out.extend_from_slice(b");")?;
@@ -105,14 +105,14 @@ fn push_stmt(
             value,
         } => {
             out.extend_from_slice(b"set ")?;
-            push_cell(out, table, key, column)?;
+            push_field(out, table, key, column)?;
             out.extend_from_slice(b" = ")?;
             push_expr(out, value)?;
             out.extend_from_slice(b";")?;
         }
         StmtNode::Delete { table, key } => {
             out.extend_from_slice(b"delete ")?;
-            push_row(out, table, key)?;
+            push_cell(out, table, key)?;
             out.extend_from_slice(b";")?;
         }
         StmtNode::AbortIf { test } => {

@@ -23,8 +23,8 @@ use Rattle.pac_syntax.specs.declared.tree.TableNode.{TableNode}
 use Rattle.pac_syntax.specs.declared.tree.ProcNode.{ProcNode}
 use Rattle.pac_syntax.specs.declared.tree.Tree.{Tree}
 use Rattle.pac_syntax.specs.Grammar.{LiteralForm, AnInt, ANegative, AText, ATrue, AFalse, ExprForm, ALiteral, AName, ANot, AParen, ABinary, ValuesForm, NoValue, AValue, StmtsForm, NoStmt, ALet, ARead, AHas, APut, ASet, ADelete, AnAbort, AnIf, AnIfElse, TypeForm, AnIntType, ATextType, ColumnsForm, NoColumn, AColumn, ParamsForm, NoParam, AParam, TablesForm, NoTable, ATable, ProcsForm, NoProc, AProc, sign_of, tier, left_level, AtLevel, AreValues, AreStmts, AreProcs, literal_node, expr_node, value_nodes, stmt_nodes, type_of_form, column_node, column_nodes, param_nodes, table_nodes, proc_nodes, Role, Plain, TableWord, ProcWord, ParamName, Operator, Paren, Nested, Marked, marked, keyword_mark, symbol_mark, name_mark, type_mark, literal_before, counted, expr_before, whole_before, values_before, stmts_before, columns_before, params_before, tables_before, procs_before, Whole}
-use Rattle.pac_syntax.specs.Machine.{Begun, Steps, Done, Want, WantName, WantType, WantLiteral, WantNegative, Level, Rest, MoreValues, MoreStmts, MaybeElse, MoreColumns, SomeParams, MoreTables, MoreProcs, Next, next, want_expr, begun_name, begun_literal, begun_binary, top, lay, negation_steps, paren_steps, stmt_steps, block_steps, if_steps, column_steps, typed_steps, table_steps, proc_steps, start, literal_at, is_mark, name_in, type_of_token, operator_of, operator_in, operator_at, of_tier, or_else, where_true, where_some, literal_begins, negative_in, operand_begins, stmt_begins, feed, finish}
-use Rattle.pac_syntax.proofs.Marks.{is_mark-true}
+use Rattle.pac_syntax.specs.Machine.{Begun, Steps, Done, Want, WantName, WantType, WantLiteral, WantNegative, Level, Rest, MoreValues, MoreStmts, MaybeElse, MoreColumns, SomeParams, MoreTables, MoreProcs, Next, next, want_expr, begun_name, begun_literal, begun_binary, top, lay, negation_steps, paren_steps, stmt_steps, block_steps, if_steps, column_steps, typed_steps, table_steps, proc_steps, start, literal_at, is_same_word_or_sign, name_in, type_of_token, operator_of, operator_in, operator_at, of_tier, or_else, where_true, where_some, literal_begins, negative_in, operand_begins, stmt_begins, feed, finish}
+use Rattle.pac_syntax.proofs.Marks.{is_same_word_or_sign-true}
 use Rattle.pac_syntax.proofs.Running.{Runs}
 use Rattle.pac_syntax.proofs.Words.{begun}
 
@@ -203,9 +203,9 @@ Leads k t at n = (z : List Marked) (r : Tree) → Finishes n.steps z r → Finis
 by_next : (k : Steps) (t : Token) (at : ℕ) (m n : Next) → some m ≡ some n → Leads k t at m → Leads k t at n
 by_next k t at m n e h = subst (λ (n : Next). Leads k t at n) (some_is m n e) h
 
-want_leads : (w t : Token) (at : ℕ) (k : Steps) (n : Next) (b : Bool) → is_mark w t ≡ b → where_true b (next k Plain) ≡ Some n → Leads (Want w k) t at n
+want_leads : (w t : Token) (at : ℕ) (k : Steps) (n : Next) (b : Bool) → is_same_word_or_sign w t ≡ b → where_true b (next k Plain) ≡ Some n → Leads (Want w k) t at n
 want_leads w t at k n false is e = absurd cc
-want_leads w t at k n true is e = by_next (Want w k) t at (next k Plain) n e (λ z r f. rw (is_mark-true w t is) (at, z, refl, f))
+want_leads w t at k n true is e = by_next (Want w k) t at (next k Plain) n e (λ z r f. rw (is_same_word_or_sign-true w t is) (at, z, refl, f))
 
 name_leads : (t : Token) (at : ℕ) (role : Role) (k : NameNode → Steps) (n : Next) → where_some (name_in t at) (λ x. next (k x) role) ≡ Some n → Leads (WantName role k) t at n
 name_leads (token.Name x) at role k n e = by_next (WantName role k) (token.Name x) at (next (k (record { at = at; name = x })) role) n e (λ z r f. (record { at = at; name = x }, z, refl, f))
@@ -334,13 +334,13 @@ rest_leads (Some op) d m x o k t n is e others =
 
 -- ---- values
 
-values_lead : (vs : List ExprNode) (k : List ExprNode → Steps) (t : Spanned) (n : Next) (b : Bool) → is_mark (token.Symbol symbol.Comma) t.token ≡ b
+values_lead : (vs : List ExprNode) (k : List ExprNode → Steps) (t : Spanned) (n : Next) (b : Bool) → is_same_word_or_sign (token.Symbol symbol.Comma) t.token ≡ b
     → or_else (where_true b (next (want_expr (λ v. MoreValues (vs ++ (v ∷ [])) k)) Plain)) (feed (k vs) t) ≡ Some n
     → Others (k vs) t n → Leads (MoreValues vs k) t.token t.at n
 values_lead vs k t n false is e others = λ z r f. (NoValue, marked t.token t.at n.role ∷ z, tt, refl, subst (λ (xs : List ExprNode). Finishes (k xs) (marked t.token t.at n.role ∷ z) r) (sym (append-nil vs)) (others e z r f))
 values_lead vs k t n true is e others =
     by_next (MoreValues vs k) t.token t.at (next (want_expr (λ v. MoreValues (vs ++ (v ∷ [])) k)) Plain) n e
-    (λ z r f. rw (is_mark-true (token.Symbol symbol.Comma) t.token is) (
+    (λ z r f. rw (is_same_word_or_sign-true (token.Symbol symbol.Comma) t.token is) (
     let g = f.4 in (
       AValue t.at f.0 g.0,
       g.1,
@@ -506,13 +506,13 @@ stmts_lead (token.Keyword keyword.Abort) at whole d ss k n e others = by_next (M
 stmts_lead (token.Keyword keyword.If) at whole d ss k n e others = by_next (MoreStmts d ss k) (token.Keyword keyword.If) at (next (if_steps d (λ s. MoreStmts d (ss ++ (s ∷ [])) k)) (Nested (suc d))) n e (if_leads d ss k at)
 stmts_lead t at whole d ss k n e others = λ z r f. (NoStmt, marked t at n.role ∷ z, tt, refl, subst (λ (xs : List StmtNode). Finishes (k xs) (marked t at n.role ∷ z) r) (sym (append-nil ss)) (others e z r f))
 
-else_leads : (d : ℕ) (k : List StmtNode → Steps) (t : Spanned) (n : Next) (b : Bool) → is_mark (token.Keyword keyword.Else) t.token ≡ b
+else_leads : (d : ℕ) (k : List StmtNode → Steps) (t : Spanned) (n : Next) (b : Bool) → is_same_word_or_sign (token.Keyword keyword.Else) t.token ≡ b
     → or_else (where_true b (next (block_steps d k) Plain)) (feed (k []) t) ≡ Some n
     → Others (k []) t n → Leads (MaybeElse d k) t.token t.at n
 else_leads d k t n false is e others = λ z r f. (NoElse, marked t.token t.at n.role ∷ z, tt, refl, others e z r f)
 else_leads d k t n true is e others =
     by_next (MaybeElse d k) t.token t.at (next (block_steps d k) Plain) n e
-    (λ z r f. rw (is_mark-true (token.Keyword keyword.Else) t.token is) (
+    (λ z r f. rw (is_same_word_or_sign-true (token.Keyword keyword.Else) t.token is) (
     let s = f.3 in
     let shut = s.4 in (
       AnElse t.at f.0 s.0 shut.0,
@@ -524,13 +524,13 @@ else_leads d k t n true is e others =
 
 -- ---- columns, tables and procedures
 
-columns_lead : (role : ℕ → Role) (i : ℕ) (cs : List ColumnNode) (k : List ColumnNode → Steps) (t : Spanned) (n : Next) (b : Bool) → is_mark (token.Symbol symbol.Comma) t.token ≡ b
+columns_lead : (role : ℕ → Role) (i : ℕ) (cs : List ColumnNode) (k : List ColumnNode → Steps) (t : Spanned) (n : Next) (b : Bool) → is_same_word_or_sign (token.Symbol symbol.Comma) t.token ≡ b
     → or_else (where_true b (next (column_steps (role (suc i)) (λ c. MoreColumns role (suc i) (cs ++ (c ∷ [])) k)) Plain)) (feed (k cs) t) ≡ Some n
     → Others (k cs) t n → Leads (MoreColumns role i cs k) t.token t.at n
 columns_lead role i cs k t n false is e others = λ z r f. (NoColumn, marked t.token t.at n.role ∷ z, refl, subst (λ (xs : List ColumnNode). Finishes (k xs) (marked t.token t.at n.role ∷ z) r) (sym (append-nil cs)) (others e z r f))
 columns_lead role i cs k t n true is e others =
     by_next (MoreColumns role i cs k) t.token t.at (next (column_steps (role (suc i)) (λ c. MoreColumns role (suc i) (cs ++ (c ∷ [])) k)) Plain) n e
-    (λ z r f. rw (is_mark-true (token.Symbol symbol.Comma) t.token is) (
+    (λ z r f. rw (is_same_word_or_sign-true (token.Symbol symbol.Comma) t.token is) (
     let g = f.3 in
     let h = g.3 in (
       AColumn t.at f.0 g.0 h.0,
@@ -548,13 +548,13 @@ params_lead (token.Name x) at whole k n e others =
     (λ z r f. let g = f.3 in (AParam name f.0 g.0, g.1, ap (λ y. name_mark name (ParamName 1) ∷ y) (f.2 ∙ ap (λ y. type_mark f.0 ∷ y) g.2), g.3))
 params_lead t at whole k n e others = λ z r f. (NoParam, marked t at n.role ∷ z, refl, others e z r f)
 
-tables_lead : (i : ℕ) (ts : List TableNode) (k : List TableNode → Steps) (t : Spanned) (n : Next) (b : Bool) → is_mark (token.Keyword keyword.Table) t.token ≡ b
+tables_lead : (i : ℕ) (ts : List TableNode) (k : List TableNode → Steps) (t : Spanned) (n : Next) (b : Bool) → is_same_word_or_sign (token.Keyword keyword.Table) t.token ≡ b
     → or_else (where_true b (next (table_steps (λ table. MoreTables (suc i) (ts ++ (table ∷ [])) k)) (TableWord (suc i)))) (feed (k ts) t) ≡ Some n
     → Others (k ts) t n → Leads (MoreTables i ts k) t.token t.at n
 tables_lead i ts k t n false is e others = λ z r f. (NoTable, marked t.token t.at n.role ∷ z, refl, subst (λ (xs : List TableNode). Finishes (k xs) (marked t.token t.at n.role ∷ z) r) (sym (append-nil ts)) (others e z r f))
 tables_lead i ts k t n true is e others =
     by_next (MoreTables i ts k) t.token t.at (next (table_steps (λ table. MoreTables (suc i) (ts ++ (table ∷ [])) k)) (TableWord (suc i))) n e
-    (λ z r f. rw (is_mark-true (token.Keyword keyword.Table) t.token is) (
+    (λ z r f. rw (is_same_word_or_sign-true (token.Keyword keyword.Table) t.token is) (
     let paren = f.3 in
     let word = paren.3 in
     let key = word.3 in
@@ -572,13 +572,13 @@ tables_lead i ts k t n true is e others =
       subst (λ (xs : List TableNode). Finishes (k xs) g.1 r) (append_assoc ts (node ∷ []) (table_nodes g.0)) g.3,
     )))
 
-procs_lead : (i : ℕ) (ps : List ProcNode) (k : List ProcNode → Steps) (t : Spanned) (n : Next) (b : Bool) → is_mark (token.Keyword keyword.Proc) t.token ≡ b
+procs_lead : (i : ℕ) (ps : List ProcNode) (k : List ProcNode → Steps) (t : Spanned) (n : Next) (b : Bool) → is_same_word_or_sign (token.Keyword keyword.Proc) t.token ≡ b
     → or_else (where_true b (next (proc_steps (λ proc. MoreProcs (suc i) (ps ++ (proc ∷ [])) k)) (ProcWord (suc i)))) (feed (k ps) t) ≡ Some n
     → Others (k ps) t n → Leads (MoreProcs i ps k) t.token t.at n
 procs_lead i ps k t n false is e others = λ z r f. (NoProc, marked t.token t.at n.role ∷ z, tt, refl, subst (λ (xs : List ProcNode). Finishes (k xs) (marked t.token t.at n.role ∷ z) r) (sym (append-nil ps)) (others e z r f))
 procs_lead i ps k t n true is e others =
     by_next (MoreProcs i ps k) t.token t.at (next (proc_steps (λ proc. MoreProcs (suc i) (ps ++ (proc ∷ [])) k)) (ProcWord (suc i))) n e
-    (λ z r f. rw (is_mark-true (token.Keyword keyword.Proc) t.token is) (
+    (λ z r f. rw (is_same_word_or_sign-true (token.Keyword keyword.Proc) t.token is) (
     let paren = f.3 in
     let params = paren.3 in
     let close = params.3 in
@@ -598,20 +598,20 @@ procs_lead i ps k t n true is e others =
 pub feeds : (k : Steps) (t : Spanned) (n : Next) → feed k t ≡ Some n → Leads k t.token t.at n
 unfolding feed
 feeds (Done tree) t n e = absurd cc
-feeds (Want w k) t n e = want_leads w t.token t.at k n (is_mark w t.token) refl e
+feeds (Want w k) t n e = want_leads w t.token t.at k n (is_same_word_or_sign w t.token) refl e
 feeds (WantName role k) t n e = name_leads t.token t.at role k n e
 feeds (WantType k) t n e = type_leads t.token t.at k n e
 feeds (WantLiteral k) t n e = literal_leads t.token t.at k n e
 feeds (WantNegative minus k) t n e = negative_leads t.token t.at minus k n e
 feeds (Level d m o k) t n e = operand_leads t.token t.at d m k o n e
 feeds (Rest d m x o k) t n e = rest_leads (operator_at m t.token) d m x o k t n refl e (feeds (k x o) t n)
-feeds (MoreValues vs k) t n e = values_lead vs k t n (is_mark (token.Symbol symbol.Comma) t.token) refl e (feeds (k vs) t n)
+feeds (MoreValues vs k) t n e = values_lead vs k t n (is_same_word_or_sign (token.Symbol symbol.Comma) t.token) refl e (feeds (k vs) t n)
 feeds (MoreStmts d ss k) t n e = stmts_lead t.token t.at t d ss k n e (feeds (k ss) t n)
-feeds (MaybeElse d k) t n e = else_leads d k t n (is_mark (token.Keyword keyword.Else) t.token) refl e (feeds (k []) t n)
-feeds (MoreColumns role i cs k) t n e = columns_lead role i cs k t n (is_mark (token.Symbol symbol.Comma) t.token) refl e (feeds (k cs) t n)
+feeds (MaybeElse d k) t n e = else_leads d k t n (is_same_word_or_sign (token.Keyword keyword.Else) t.token) refl e (feeds (k []) t n)
+feeds (MoreColumns role i cs k) t n e = columns_lead role i cs k t n (is_same_word_or_sign (token.Symbol symbol.Comma) t.token) refl e (feeds (k cs) t n)
 feeds (SomeParams k) t n e = params_lead t.token t.at t k n e (feeds (k []) t n)
-feeds (MoreTables i ts k) t n e = tables_lead i ts k t n (is_mark (token.Keyword keyword.Table) t.token) refl e (feeds (k ts) t n)
-feeds (MoreProcs i ps k) t n e = procs_lead i ps k t n (is_mark (token.Keyword keyword.Proc) t.token) refl e (feeds (k ps) t n)
+feeds (MoreTables i ts k) t n e = tables_lead i ts k t n (is_same_word_or_sign (token.Keyword keyword.Table) t.token) refl e (feeds (k ts) t n)
+feeds (MoreProcs i ps k) t n e = procs_lead i ps k t n (is_same_word_or_sign (token.Keyword keyword.Proc) t.token) refl e (feeds (k ps) t n)
 
 -- what ends with the text ends so
 pub finish_ends : (k : Steps) (r : Tree) → finish k ≡ Some r → Finishes k [] r

@@ -1,16 +1,19 @@
 -- What one step of the reading does, for the parser's functions.
 use Rattle.std.proofs.Common.{◌≡◌, ◌≢◌, ℕ, zero, suc, ◌+◌, ◌<◌, ◌≤◌, Bool, true, false, Option, List, [], ◌∷◌, ◌++◌, length, Some, None, Result, Ok, Err, refl, sym, ap, ◌∙◌, arith, add-one}
-use Rattle.std.specs.Prelude.{nat_eq, nat_le, nat_lt}
+use Rattle.std.specs.Prelude.{nat_eq, nat_le, nat_lt, MatchOption}
 use Rattle.std.proofs.lemmas.Bool.{lt-ltb, le-ltb, eqb-true, le-leb, lt-leb, leb-true, leb-false, eqb-false, ltb-true, eq-eqb}
 use Rattle.std.proofs.lemmas.List.{length-append}
 use Rattle.pac_base.specs.Refusals.{Fails, Gives, OkUnlessMemory}
 use Rattle.pac_value.specs.declared.values.Ty.{Ty}
+use Rattle.pac_value.specs.declared.values.Value.{Value}
+use Rattle.pac_value.specs.declared.values.Value.TheVariants as value
 use Rattle.pac_value.specs.declared.expr.BinOp.{BinOp}
 use Rattle.pac_tokens.specs.declared.token.Keyword.TheVariants as keyword
 use Rattle.pac_tokens.specs.declared.token.Symbol.TheVariants as symbol
 use Rattle.pac_tokens.specs.declared.token.Token.{Token}
 use Rattle.pac_tokens.specs.declared.token.Token.TheVariants as token
 use Rattle.pac_tokens.specs.declared.token.Spanned.{Spanned}
+use Rattle.pac_tokens.specs.Literal.{int_of_minus, int_behind_minus, int_or_text_from, int_or_text_in}
 use Rattle.pac_tokens.specs.declared.fault.Fault.{Fault}
 use Rattle.pac_tokens.specs.declared.fault.FaultKind.{FaultKind}
 use Rattle.pac_tokens.specs.declared.fault.FaultKind.TheVariants.{Expected, TooDeep, TooMany}
@@ -26,12 +29,12 @@ use Rattle.pac_syntax.specs.declared.tree.ProcNode.{ProcNode}
 use Rattle.pac_syntax.specs.declared.tree.Tree.{Tree}
 use Rattle.pac_syntax.specs.declared.parse.statement.StatementWord.{StatementWord}
 use Rattle.pac_syntax.specs.declared.parse.statement.StatementWord.TheVariants as word
-use Rattle.pac_syntax.specs.declared.parse.parser.ColumnKind.{ColumnKind}
-use Rattle.pac_syntax.specs.declared.parse.parser.ColumnKind.TheVariants.{Column, Param}
+use Rattle.pac_syntax.specs.declared.parse.parser.Owner.{Owner}
+use Rattle.pac_syntax.specs.declared.parse.parser.Owner.TheVariants as owner
 use Rattle.pac_syntax.specs.Grammar.{Role, Plain, ParamName, tier}
 use Rattle.pac_syntax.specs.Faults.{fault_of, over_role, place}
-use Rattle.pac_syntax.specs.Machine.{Begun, Steps, Done, Want, WantName, WantType, WantLiteral, WantNegative, Level, Rest, MoreValues, MoreStmts, MaybeElse, MoreColumns, SomeParams, MoreTables, MoreProcs, want_expr, next, literal_at, begun_name, begun_literal, begun_binary, top, lay, negation_steps, paren_steps, stmt_steps, stmt_role, stmt_word, block_steps, column_steps, typed_steps, table_steps, proc_steps, is_mark, literal_begins, negative_in, name_in, operand_begins, operator_at, operator_in, of_tier, feed, finish, scan, run}
-use Rattle.pac_syntax.specs.Views.{is_too_deep, operand_in, between, rests, tier_behind, Begins, IsNot, IsNoName, IsType, IsNoType, IsLiteral, IsNoLiteral, IsNoNegative, IsNegative, negative_of, name_token, role_of, limit_of}
+use Rattle.pac_syntax.specs.Machine.{Begun, Steps, Done, Want, WantName, WantType, WantLiteral, Level, Rest, MoreValues, MoreStmts, MaybeElse, MoreColumns, SomeParams, MoreTables, MoreProcs, want_expr, next, literal_at, begun_name, begun_literal, begun_binary, top, lay, negation_steps, paren_steps, stmt_steps, stmt_role, stmt_word, block_steps, column_steps, typed_steps, table_steps, proc_steps, is_same_word_or_sign, literal_begins, name_in, operand_begins, operator_at, operator_in, of_tier, feed, finish, scan, run}
+use Rattle.pac_syntax.specs.Views.{is_too_deep, operand_in, between, rests, tier_behind, Begins, IsNot, IsNoName, IsType, IsNoType, bool_in, name_token, role_of, limit_of}
 
 abbrev Read : Type 0
 Read = Result Tree Fault
@@ -96,31 +99,75 @@ not_typed end k (t ∷ ts) h = rw h refl
 
 -- ---- literals
 
-pub literal_one : (end end' : ℕ) (k : LiteralNode → Steps) (s ts : List Spanned) (l : LiteralNode) → end' ≡ end → IsLiteral l s ts → run end (WantLiteral k) s ≡ run end' (k l) ts
-unfolding run scan feed
-literal_one end end' k s ts l e is = rw (is.text, e, is.is) refl
+-- a pair that is read, out of its option
+read_is : (p q : Value × List Spanned) → ◌≡◌ {A = Option (Value × List Spanned)} (Some p) (Some q) → p ≡ q
+read_is p q e = cc
 
-pub literal_minus : (end end' : ℕ) (k : LiteralNode → Steps) (s ts : List Spanned) (at : ℕ) → end' ≡ end → Begins (token.Symbol symbol.Minus) at s ts → run end (WantLiteral k) s ≡ run end' (WantNegative at k) ts
+-- an int or a text in front is the literal
+literal_from : (end at : ℕ) (t : Token) (k : LiteralNode → Steps) (ts rest : List Spanned) (v : Value) → int_or_text_from t ts ≡ Some (v, rest)
+    → run end (WantLiteral k) (record { token = t; at = at } ∷ ts) ≡ run end (k (record { at = at; value = v })) rest
 unfolding run scan feed
-literal_minus end end' k s ts at e b = rw (b.text, e) refl
+literal_from end at (token.Int z) k ts rest v e =
+    let p = read_is (value.Int z, ts) (v, rest) e in (λ i. run end (k (record { at = at; value = (p i).0 })) ((p i).1))
+literal_from end at (token.Text x) k ts rest v e =
+    let p = read_is (value.Text x, ts) (v, rest) e in (λ i. run end (k (record { at = at; value = (p i).0 })) ((p i).1))
+literal_from end at (token.Symbol symbol.Minus) k [] rest v e = absurd cc
+literal_from end at (token.Symbol symbol.Minus) k (u ∷ us) rest v e = behind u.token u.at e
+  where
+    behind : (t : Token) (place : ℕ) → int_of_minus t us ≡ Some (v, rest)
+        → run end (WantLiteral k) (record { token = token.Symbol symbol.Minus; at = at } ∷ record { token = t; at = place } ∷ us) ≡ run end (k (record { at = at; value = v })) rest
+    behind (token.Negative z) place e =
+        let p = read_is (value.Int z, us) (v, rest) e in (λ i. run end (k (record { at = at; value = (p i).0 })) ((p i).1))
+    behind _ place e = absurd cc
+literal_from end at _ k ts rest v e = absurd cc
 
-pub no_literal : (end : ℕ) (k : LiteralNode → Steps) (s : List Spanned) → IsNot (token.Symbol symbol.Minus) s → IsNoLiteral s → run end (WantLiteral k) s ≡ refused (place end s) Expected
+pub literal_front : (end end' at : ℕ) (k : LiteralNode → Steps) (s ts rest : List Spanned) (t : Spanned) (v : Value) → end' ≡ end → s ≡ t ∷ ts → int_or_text_in s ≡ Some (v, rest) → at ≡ t.at
+    → run end (WantLiteral k) s ≡ run end' (k (record { at = at; value = v })) rest
+literal_front end end' at k s ts rest t v e is front place = rw (is, e, place) (literal_from end t.at t.token k ts rest v (rw is at front))
+
+-- so is `true` or `false`
+bool_from : (end at : ℕ) (t : Token) (k : LiteralNode → Steps) (ts : List Spanned) (b : Bool) → bool_in t ≡ Some b
+    → run end (WantLiteral k) (record { token = t; at = at } ∷ ts) ≡ run end (k (record { at = at; value = value.Bool b })) ts
+unfolding run scan feed
+bool_from end at (token.Keyword keyword.True) k ts b e = let same : true ≡ b = cc in ap (λ c. run end (k (record { at = at; value = value.Bool c })) ts) same
+bool_from end at (token.Keyword keyword.False) k ts b e = let same : false ≡ b = cc in ap (λ c. run end (k (record { at = at; value = value.Bool c })) ts) same
+bool_from end at _ k ts b e = absurd cc
+
+pub bool_front : (end end' at : ℕ) (k : LiteralNode → Steps) (s ts : List Spanned) (t : Spanned) (b : Bool) → end' ≡ end → s ≡ t ∷ ts → bool_in t.token ≡ Some b → at ≡ t.at
+    → run end (WantLiteral k) s ≡ run end' (k (record { at = at; value = value.Bool b })) ts
+bool_front end end' at k s ts t b e is front place = rw (is, e, place) (bool_from end t.at t.token k ts b front)
+
+-- where there is none, the fault is at the first token, or behind a `-`
+none_from : (end at : ℕ) (t : Token) (k : LiteralNode → Steps) (ts : List Spanned) → is_same_word_or_sign (token.Symbol symbol.Minus) t ≡ false → int_or_text_from t ts ≡ None → bool_in t ≡ None
+    → run end (WantLiteral k) (record { token = t; at = at } ∷ ts) ≡ refused at Expected
+unfolding run scan feed
+none_from end at (token.Int z) k ts m i b = absurd cc
+none_from end at (token.Text x) k ts m i b = absurd cc
+none_from end at (token.Keyword keyword.True) k ts m i b = absurd cc
+none_from end at (token.Keyword keyword.False) k ts m i b = absurd cc
+none_from end at (token.Symbol symbol.Minus) k ts m i b = absurd cc
+none_from end at _ k ts m i b = refl
+
+none_behind : (end at : ℕ) (k : LiteralNode → Steps) (ts : List Spanned) → int_behind_minus ts ≡ None
+    → run end (WantLiteral k) (record { token = token.Symbol symbol.Minus; at = at } ∷ ts) ≡ refused (place end ts) Expected
 unfolding run scan feed finish
-no_literal end k [] m i = refl
-no_literal end k (t ∷ ts) m i = rw (i, m) refl
+none_behind end at k [] i = refl
+none_behind end at k (u ∷ us) i = behind u.token u.at i
+  where
+    behind : (t : Token) (place : ℕ) → int_of_minus t us ≡ None
+        → run end (WantLiteral k) (record { token = token.Symbol symbol.Minus; at = at } ∷ record { token = t; at = place } ∷ us) ≡ refused place Expected
+    behind (token.Negative z) place e = absurd cc
+    behind _ place e = refl
 
-pub negative_int : (end end' minus : ℕ) (k : LiteralNode → Steps) (s ts : List Spanned) (l : LiteralNode) → end' ≡ end → IsNegative minus l s ts → run end (WantNegative minus k) s ≡ run end' (k l) ts
-unfolding run scan feed
-negative_int end end' minus k s ts l e is = rw (is.text, e) (ap (λ l. run end (k l) ts) (sym is.value))
+pub nothing_left : (end : ℕ) (k : LiteralNode → Steps) (s : List Spanned) → s ≡ [] → run end (WantLiteral k) s ≡ refused (place end s) Expected
+unfolding run scan finish
+nothing_left end k s e = rw e refl
 
-no_negative_in : (t : Token) (minus : ℕ) (k : LiteralNode → Steps) → negative_of t ≡ None → negative_in t minus k ≡ None
-no_negative_in (token.Negative z) minus k i = absurd cc
-no_negative_in _ minus k i = refl
-
-pub no_negative : (end minus : ℕ) (k : LiteralNode → Steps) (s : List Spanned) → IsNoNegative s → run end (WantNegative minus k) s ≡ refused (place end s) Expected
-unfolding run scan feed finish
-no_negative end minus k [] i = refl
-no_negative end minus k (t ∷ ts) i = rw (no_negative_in t.token minus k i) refl
+pub no_literal : {A : Type 0} (old new : A) (left : A → List Spanned) (end : ℕ) (k : LiteralNode → Steps) (ts : List Spanned) (t : Spanned) (minus : Option ℕ) → left old ≡ t ∷ ts → int_or_text_in (left old) ≡ None → bool_in t.token ≡ None
+    → MatchOption minus ((new ≡ old) × IsNot (token.Symbol symbol.Minus) (left old)) (λ at. Begins (token.Symbol symbol.Minus) at (left old) (left new))
+    → run end (WantLiteral k) (left old) ≡ refused (place end (left new)) Expected
+no_literal old new left end k ts t None is none other m = rw (m.0, is) (none_from end t.at t.token k ts (rw is at m.1) (rw is at none) other)
+no_literal old new left end k ts t (Some at) is none other m = rw m.text (none_behind end at k (left new) (rw m.text at none))
 
 -- ---- operands
 
@@ -145,7 +192,7 @@ no_name_in _ at e = refl
 pub no_name_next : (s ts : List Spanned) (t : Spanned) → s ≡ t ∷ ts → operand_in t.token t.at ≡ None → IsNoName s
 no_name_next s ts t is h = rw is (no_name_in t.token t.at h)
 
-begins_literal : (t : Token) (at d o : ℕ) (k : Begun → ℕ → Steps) → is_mark (token.Symbol symbol.Not) t ≡ false → is_mark (token.Symbol symbol.OpenParen) t ≡ false → name_in t at ≡ None → operand_begins t at d o k ≡ literal_begins t at (λ l. k (begun_literal l) o)
+begins_literal : (t : Token) (at d o : ℕ) (k : Begun → ℕ → Steps) → is_same_word_or_sign (token.Symbol symbol.Not) t ≡ false → is_same_word_or_sign (token.Symbol symbol.OpenParen) t ≡ false → name_in t at ≡ None → operand_begins t at d o k ≡ literal_begins t at (λ l. k (begun_literal l) o)
 begins_literal (token.Name n) at d o k a b c = absurd cc
 begins_literal (token.Symbol symbol.Not) at d o k a b c = absurd cc
 begins_literal (token.Symbol symbol.OpenParen) at d o k a b c = absurd cc
@@ -438,13 +485,13 @@ proc_next end end' i cs k s ts at e within b = rw (b.text, e, le-ltb 64 (suc i) 
 
 -- ---- limits of columns, the end
 
-pub role_within : (kind : ColumnKind) (n at : ℕ) → n ≤ limit_of kind → over_role (role_of kind n) at ≡ None
-role_within Column n at h = rw (le-ltb 8 n h) refl
-role_within Param n at h = rw (le-ltb 16 n h) refl
+pub role_within : (o : Owner) (n at : ℕ) → n ≤ limit_of o → over_role (role_of o n) at ≡ None
+role_within owner.Table n at h = rw (le-ltb 8 n h) refl
+role_within owner.Procedure n at h = rw (le-ltb 16 n h) refl
 
-pub role_past : (kind : ColumnKind) (n at : ℕ) → limit_of kind < n → over_role (role_of kind n) at ≡ Some (fault_of TooMany at)
-role_past Column n at h = rw (lt-ltb 8 n h) refl
-role_past Param n at h = rw (lt-ltb 16 n h) refl
+pub role_past : (o : Owner) (n at : ℕ) → limit_of o < n → over_role (role_of o n) at ≡ Some (fault_of TooMany at)
+role_past owner.Table n at h = rw (lt-ltb 8 n h) refl
+role_past owner.Procedure n at h = rw (lt-ltb 16 n h) refl
 
 pub ended : (end : ℕ) (tree : Tree) (s : List Spanned) → s ≡ [] → run end (Done tree) s ≡ Ok tree
 unfolding run scan finish

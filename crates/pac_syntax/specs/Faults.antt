@@ -1,5 +1,5 @@
 -- The limits of the grammar, what is read, and the first fault of what isn't.
-use Rattle.std.specs.Prelude.{◌≡◌, ◌⊎◌, ℕ, ◌≤◌, List, [], ◌∷◌, ◌++◌, length, Option, Some, None, Result, Ok, Err, nat_lt, if◌then◌else◌}
+use Rattle.std.specs.Prelude.{◌≡◌, ◌⊎◌, ℕ, ◌≤◌, List, [], ◌∷◌, ◌++◌, length, Option, Some, None, nat_lt, if◌then◌else◌}
 use Rattle.std.specs.List.{AllByRecursion}
 use Rattle.pac_value.specs.declared.limits.TheConstants.{MAX_COLUMNS, MAX_PARAMS}
 use Rattle.pac_syntax.specs.declared.limits.TheConstants.{MAX_TABLES, MAX_PROCS, MAX_OPERATORS, MAX_PARENS, MAX_NESTED}
@@ -7,8 +7,6 @@ use Rattle.pac_tokens.specs.declared.token.Spanned.{Spanned}
 use Rattle.pac_tokens.specs.declared.fault.FaultKind.{FaultKind}
 use Rattle.pac_tokens.specs.declared.fault.FaultKind.TheVariants.{Token, Expected, TooLong, TooDeep, TooMany}
 use Rattle.pac_tokens.specs.declared.fault.Fault.{Fault}
-use Rattle.pac_base.specs.declared.refusal.Refusal.{Refusal}
-use Rattle.pac_base.specs.declared.refusal.Refusal.TheVariants as error
 use Rattle.pac_syntax.specs.declared.tree.Tree.{Tree}
 use Rattle.pac_syntax.specs.Grammar.{Role, Plain, TableWord, ProcWord, ColumnName, ParamName, Operator, Paren, Nested, Marked, Whole, tokens_of}
 

@@ -1,5 +1,5 @@
 -- Reading tokens one at a time: what is still to come, and what is done with it.
-use Rattle.std.specs.Prelude.{◌≡◌, ℕ, zero, suc, ℤ, List, [], ◌∷◌, ◌++◌, Option, Some, None, Result, Ok, Err, Bool, true, false, nat_eq, if◌then◌else◌}
+use Rattle.std.specs.Prelude.{ℕ, zero, suc, ℤ, List, [], ◌∷◌, ◌++◌, Option, Some, None, Result, Ok, Err, Bool, true, false, nat_eq, if◌then◌else◌}
 use Rattle.pac_value.specs.declared.values.Ty.{Ty}
 use Rattle.pac_value.specs.declared.values.Ty.TheVariants as ty
 use Rattle.pac_value.specs.declared.values.Value.TheVariants as value
@@ -16,8 +16,6 @@ use Rattle.pac_syntax.specs.declared.parse.statement.StatementWord.{StatementWor
 use Rattle.pac_syntax.specs.declared.parse.statement.StatementWord.TheVariants as word
 use Rattle.pac_tokens.specs.declared.fault.FaultKind.TheVariants.{Expected}
 use Rattle.pac_tokens.specs.declared.fault.Fault.{Fault}
-use Rattle.pac_base.specs.declared.refusal.Refusal.{Refusal}
-use Rattle.pac_base.specs.declared.refusal.Refusal.TheVariants as error
 use Rattle.pac_syntax.specs.declared.tree.NameNode.{NameNode}
 use Rattle.pac_syntax.specs.declared.tree.LiteralNode.{LiteralNode}
 use Rattle.pac_syntax.specs.declared.tree.ColumnNode.{ColumnNode}
@@ -124,10 +122,10 @@ symbol_code symbol.And = 22
 symbol_code symbol.Or = 23
 
 -- the two are one word or one sign
-abbrev pub is_mark : Token → Token → Bool
-is_mark (token.Keyword a) (token.Keyword b) = nat_eq (keyword_code a) (keyword_code b)
-is_mark (token.Symbol a) (token.Symbol b) = nat_eq (symbol_code a) (symbol_code b)
-is_mark _ _ = false
+abbrev pub is_same_word_or_sign : Token → Token → Bool
+is_same_word_or_sign (token.Keyword a) (token.Keyword b) = nat_eq (keyword_code a) (keyword_code b)
+is_same_word_or_sign (token.Symbol a) (token.Symbol b) = nat_eq (symbol_code a) (symbol_code b)
+is_same_word_or_sign _ _ = false
 
 abbrev pub name_in : Token → ℕ → Option NameNode
 name_in (token.Name n) at = Some (record { at = at; name = n })
@@ -222,30 +220,34 @@ lay d zero k = k
 lay d (suc n) k = lay d n (λ x o. Rest d n x o k)
 
 -- TABLE "[" expr "]"
-abbrev pub place_steps : (NameNode → ExprNode → Steps) → Steps
-place_steps k = WantName Plain (λ t. want_symbol symbol.OpenBracket (want_expr (λ e. want_symbol symbol.CloseBracket (k t e))))
+abbrev pub cell_steps : (NameNode → ExprNode → Steps) → Steps
+cell_steps k = WantName Plain (λ t. want_symbol symbol.OpenBracket (want_expr (λ e. want_symbol symbol.CloseBracket (k t e))))
+
+-- TABLE "[" expr "]" "." COLUMN
+abbrev pub field_steps : (NameNode → ExprNode → NameNode → Steps) → Steps
+field_steps k = cell_steps (λ t e. want_symbol symbol.Dot (WantName Plain (λ c. k t e c)))
 
 abbrev pub let_steps : (StmtNode → Steps) → Steps
 let_steps k = WantName Plain (λ x. want_symbol symbol.Assign (want_expr (λ e. want_symbol symbol.Semicolon (k (stmt.Let x e)))))
 
 abbrev pub read_steps : (StmtNode → Steps) → Steps
-read_steps k = WantName Plain (λ x. want_symbol symbol.Assign (place_steps (λ t e. want_symbol symbol.Dot (WantName Plain (λ c.
-    want_keyword keyword.Default (WantLiteral (λ l. want_symbol symbol.Semicolon (k (stmt.Read x t e c l)))))))))
+read_steps k = WantName Plain (λ x. want_symbol symbol.Assign (field_steps (λ t e c.
+    want_keyword keyword.Default (WantLiteral (λ l. want_symbol symbol.Semicolon (k (stmt.Read x t e c l)))))))
 
 abbrev pub has_steps : (StmtNode → Steps) → Steps
-has_steps k = WantName Plain (λ x. want_symbol symbol.Assign (place_steps (λ t e. want_symbol symbol.Semicolon (k (stmt.Has x t e)))))
+has_steps k = WantName Plain (λ x. want_symbol symbol.Assign (cell_steps (λ t e. want_symbol symbol.Semicolon (k (stmt.Has x t e)))))
 
 abbrev pub values_steps : (List ExprNode → Steps) → Steps
 values_steps k = want_symbol symbol.OpenParen (want_expr (λ v. MoreValues (v ∷ []) (λ vs. want_symbol symbol.CloseParen (k vs))))
 
 abbrev pub put_steps : (StmtNode → Steps) → Steps
-put_steps k = place_steps (λ t e. want_symbol symbol.Assign (values_steps (λ vs. want_symbol symbol.Semicolon (k (stmt.Put t e vs)))))
+put_steps k = cell_steps (λ t e. want_symbol symbol.Assign (values_steps (λ vs. want_symbol symbol.Semicolon (k (stmt.Put t e vs)))))
 
 abbrev pub set_steps : (StmtNode → Steps) → Steps
-set_steps k = place_steps (λ t e. want_symbol symbol.Dot (WantName Plain (λ c. want_symbol symbol.Assign (want_expr (λ v. want_symbol symbol.Semicolon (k (stmt.Set t e c v)))))))
+set_steps k = field_steps (λ t e c. want_symbol symbol.Assign (want_expr (λ v. want_symbol symbol.Semicolon (k (stmt.Set t e c v)))))
 
 abbrev pub delete_steps : (StmtNode → Steps) → Steps
-delete_steps k = place_steps (λ t e. want_symbol symbol.Semicolon (k (stmt.Delete t e)))
+delete_steps k = cell_steps (λ t e. want_symbol symbol.Semicolon (k (stmt.Delete t e)))
 
 abbrev pub abort_steps : (StmtNode → Steps) → Steps
 abort_steps k = want_keyword keyword.If (want_expr (λ e. want_symbol symbol.Semicolon (k (stmt.AbortIf e))))
@@ -299,7 +301,7 @@ where_some None f = None
 where_some (Some x) f = Some (f x)
 
 abbrev pub literal_begins : Token → ℕ → (LiteralNode → Steps) → Option Next
-literal_begins t at k = or_else (where_some (literal_in t at) (λ l. next (k l) Plain)) (where_true (is_mark (token.Symbol symbol.Minus) t) (next (WantNegative at k) Plain))
+literal_begins t at k = or_else (where_some (literal_in t at) (λ l. next (k l) Plain)) (where_true (is_same_word_or_sign (token.Symbol symbol.Minus) t) (next (WantNegative at k) Plain))
 
 abbrev pub negative_in : Token → ℕ → (LiteralNode → Steps) → Option Next
 negative_in (token.Negative z) minus k = Some (next (k (literal_at minus z)) Plain)
@@ -351,7 +353,7 @@ stmt_begins d t k = where_some (stmt_word t) (λ w. next (stmt_steps d w k) (stm
 -- what is to come behind the token, where it can follow
 unfoldable pub feed : Steps → Spanned → Option Next
 feed (Done tree) t = None
-feed (Want w k) t = where_true (is_mark w t.token) (next k Plain)
+feed (Want w k) t = where_true (is_same_word_or_sign w t.token) (next k Plain)
 feed (WantName role k) t = where_some (name_in t.token t.at) (λ n. next (k n) role)
 feed (WantType k) t = where_some (type_of_token t.token) (λ y. next (k y) Plain)
 feed (WantLiteral k) t = literal_begins t.token t.at k
@@ -360,17 +362,17 @@ feed (Level d n o k) t = operand_begins t.token t.at d o (lay d n k)
 feed (Rest d n x o k) t =
     or_else (where_some (operator_at n t.token) (λ op. next (Level d n (suc o) (λ y o. top d (suc n) k (begun_binary op x y) o)) (Operator (suc o)))) (feed (k x o) t)
 feed (MoreValues vs k) t =
-    or_else (where_true (is_mark (token.Symbol symbol.Comma) t.token) (next (want_expr (λ v. MoreValues (vs ++ (v ∷ [])) k)) Plain)) (feed (k vs) t)
+    or_else (where_true (is_same_word_or_sign (token.Symbol symbol.Comma) t.token) (next (want_expr (λ v. MoreValues (vs ++ (v ∷ [])) k)) Plain)) (feed (k vs) t)
 feed (MoreStmts d ss k) t = or_else (stmt_begins d t.token (λ s. MoreStmts d (ss ++ (s ∷ [])) k)) (feed (k ss) t)
-feed (MaybeElse d k) t = or_else (where_true (is_mark (token.Keyword keyword.Else) t.token) (next (block_steps d k) Plain)) (feed (k []) t)
+feed (MaybeElse d k) t = or_else (where_true (is_same_word_or_sign (token.Keyword keyword.Else) t.token) (next (block_steps d k) Plain)) (feed (k []) t)
 feed (MoreColumns role i cs k) t =
-    or_else (where_true (is_mark (token.Symbol symbol.Comma) t.token) (next (column_steps (role (suc i)) (λ c. MoreColumns role (suc i) (cs ++ (c ∷ [])) k)) Plain)) (feed (k cs) t)
+    or_else (where_true (is_same_word_or_sign (token.Symbol symbol.Comma) t.token) (next (column_steps (role (suc i)) (λ c. MoreColumns role (suc i) (cs ++ (c ∷ [])) k)) Plain)) (feed (k cs) t)
 feed (SomeParams k) t =
     or_else (where_some (name_in t.token t.at) (λ n. next (typed_steps n (λ c. MoreColumns ParamName 1 (c ∷ []) k)) (ParamName 1))) (feed (k []) t)
 feed (MoreTables i ts k) t =
-    or_else (where_true (is_mark (token.Keyword keyword.Table) t.token) (next (table_steps (λ table. MoreTables (suc i) (ts ++ (table ∷ [])) k)) (TableWord (suc i)))) (feed (k ts) t)
+    or_else (where_true (is_same_word_or_sign (token.Keyword keyword.Table) t.token) (next (table_steps (λ table. MoreTables (suc i) (ts ++ (table ∷ [])) k)) (TableWord (suc i)))) (feed (k ts) t)
 feed (MoreProcs i ps k) t =
-    or_else (where_true (is_mark (token.Keyword keyword.Proc) t.token) (next (proc_steps (λ proc. MoreProcs (suc i) (ps ++ (proc ∷ [])) k)) (ProcWord (suc i)))) (feed (k ps) t)
+    or_else (where_true (is_same_word_or_sign (token.Keyword keyword.Proc) t.token) (next (proc_steps (λ proc. MoreProcs (suc i) (ps ++ (proc ∷ [])) k)) (ProcWord (suc i)))) (feed (k ps) t)
 
 -- ---- all tokens
 

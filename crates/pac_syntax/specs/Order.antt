@@ -17,7 +17,7 @@ pub data NodePlace : Type 0 where
   Own : ℕ → NodePlace
   Shared : ℕ → NodePlace
 
--- an operation stands where its first operand does, parentheses round that included
+-- a binary expression stands where its first operand does, parentheses round that included
 abbrev pub expr_places_step : ExprNode-F (List NodePlace) → List NodePlace
 expr_places_step (Literal literal) = Own literal.at ∷ []
 expr_places_step (Name name) = Own name.at ∷ []

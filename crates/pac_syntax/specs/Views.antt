@@ -1,5 +1,5 @@
 -- What the parser's parts say of the tokens that are left.
-use Rattle.std.specs.Prelude.{◌≡◌, ℕ, zero, suc, ℤ, List, [], ◌∷◌, Bool, true, false, nat_le, nat_lt, if◌then◌else◌, Option, Some, None, Result, Vec}
+use Rattle.std.specs.Prelude.{◌≡◌, ℕ, zero, suc, List, [], ◌∷◌, Bool, true, false, nat_le, nat_lt, length, ◌≤◌, ◌<◌, if◌then◌else◌, Option, Some, None, Result, Vec}
 use Rattle.std.specs.Global.{Global}
 use Rattle.pac_base.specs.Refusals.{Gives}
 use Rattle.pac_value.specs.declared.values.Ty.{Ty}
@@ -7,30 +7,30 @@ use Rattle.pac_value.specs.declared.limits.TheConstants.{MAX_COLUMNS, MAX_PARAMS
 use Rattle.pac_syntax.specs.declared.limits.TheConstants.{MAX_NESTED}
 use Rattle.pac_tokens.specs.declared.token.Token.{Token}
 use Rattle.pac_tokens.specs.declared.token.Token.TheVariants as token
+use Rattle.pac_tokens.specs.declared.token.Keyword.TheVariants as keyword
 use Rattle.pac_tokens.specs.declared.token.Spanned.{Spanned}
 use Rattle.pac_syntax.specs.declared.tree.NameNode.{NameNode}
-use Rattle.pac_syntax.specs.declared.tree.LiteralNode.{LiteralNode}
 use Rattle.pac_syntax.specs.declared.parse.statement.StatementWord.{StatementWord}
 use Rattle.pac_syntax.specs.declared.parse.statement.StatementWord.TheVariants as word
-use Rattle.pac_syntax.specs.declared.parse.parser.ColumnKind.{ColumnKind}
-use Rattle.pac_syntax.specs.declared.parse.parser.ColumnKind.TheVariants.{Column, Param}
+use Rattle.pac_syntax.specs.declared.parse.parser.Owner.{Owner}
+use Rattle.pac_syntax.specs.declared.parse.parser.Owner.TheVariants as owner
 use Rattle.pac_syntax.specs.declared.parse.parser.Operand.{Operand}
 use Rattle.pac_syntax.specs.declared.parse.parser.Parser.{Parser}
 use Rattle.pac_base.specs.declared.refusal.Refusal.{Refusal}
 use Rattle.pac_tokens.specs.declared.fault.Fault.{Fault}
 use Rattle.pac_value.specs.declared.expr.BinOp.{BinOp}
 use Rattle.pac_syntax.specs.Grammar.{Role, ColumnName, ParamName, tier}
-use Rattle.pac_syntax.specs.Machine.{Steps, Rest, run, Begun, begun_name, begun_literal, is_mark, name_in, type_of_token, literal_in, literal_at}
+use Rattle.pac_syntax.specs.Machine.{Steps, Rest, run, Begun, begun_name, begun_literal, is_same_word_or_sign, name_in, type_of_token, literal_at}
 
 -- the tokens begin with this word or sign
 pub record Begins (w : Token) (at : ℕ) (ts rest : List Spanned) : Type 0 where
   pub text : ts ≡ record { token = w; at = at } ∷ rest
-  pub mark : is_mark w w ≡ true
+  pub mark : is_same_word_or_sign w w ≡ true
 
 -- the first token isn't this word or sign
 abbrev pub IsNot : Token → List Spanned → Type 0
 IsNot w [] = Unit {0}
-IsNot w (t ∷ ts) = is_mark w t.token ≡ false
+IsNot w (t ∷ ts) = is_same_word_or_sign w t.token ≡ false
 
 -- the first token is no name
 abbrev pub IsNoName : List Spanned → Type 0
@@ -48,32 +48,11 @@ abbrev pub IsNoType : List Spanned → Type 0
 IsNoType [] = Unit {0}
 IsNoType (t ∷ ts) = type_of_token t.token ≡ None
 
--- the tokens begin with a literal of one token
-pub record IsLiteral (l : LiteralNode) (ts rest : List Spanned) : Type 0 where
-  pub first : Spanned
-  pub text : ts ≡ first ∷ rest
-  pub is : literal_in first.token first.at ≡ Some l
-
--- the first token is no literal by itself
-abbrev pub IsNoLiteral : List Spanned → Type 0
-IsNoLiteral [] = Unit {0}
-IsNoLiteral (t ∷ ts) = literal_in t.token t.at ≡ None
-
--- the int of a literal below zero, where the token is one
-abbrev pub negative_of : Token → Option ℤ
-negative_of (token.Negative z) = Some z
-negative_of _ = None
-
-abbrev pub IsNoNegative : List Spanned → Type 0
-IsNoNegative [] = Unit {0}
-IsNoNegative (t ∷ ts) = negative_of t.token ≡ None
-
--- the tokens begin with the int of this literal, whose `-` stands at this place
-pub record IsNegative (minus : ℕ) (l : LiteralNode) (ts rest : List Spanned) : Type 0 where
-  pub int : ℤ
-  pub at : ℕ
-  pub text : ts ≡ record { token = token.Negative int; at = at } ∷ rest
-  pub value : l ≡ literal_at minus int
+-- whether a token is `true` or `false`
+abbrev pub bool_in : Token → Option Bool
+bool_in (token.Keyword keyword.True) = Some true
+bool_in (token.Keyword keyword.False) = Some false
+bool_in _ = None
 
 -- the bytes of the name that a token is
 abbrev pub name_part : Token → Option (List ℕ)
@@ -85,14 +64,14 @@ abbrev pub name_token : NameNode → Spanned
 name_token n = record { token = token.Name n.name; at = n.at }
 
 -- the role of the names of columns or of parameters
-abbrev pub role_of : ColumnKind → ℕ → Role
-role_of Column = ColumnName
-role_of Param = ParamName
+abbrev pub role_of : Owner → ℕ → Role
+role_of owner.Table = ColumnName
+role_of owner.Procedure = ParamName
 
 -- how many of them there may be
-abbrev pub limit_of : ColumnKind → ℕ
-limit_of Column = MAX_COLUMNS
-limit_of Param = MAX_PARAMS
+abbrev pub limit_of : Owner → ℕ
+limit_of owner.Table = MAX_COLUMNS
+limit_of owner.Procedure = MAX_PARAMS
 
 -- an operand in the reading
 abbrev pub begun_at : Operand → Begun
@@ -123,6 +102,14 @@ operand_in _ at = None
 abbrev pub is_too_deep : ℕ → StatementWord → Bool
 is_too_deep d word.If = nat_le MAX_NESTED d
 is_too_deep d _ = false
+
+-- no more tokens are left to the parser than before
+abbrev pub NoLonger : Parser → Parser → Type 0
+NoLonger old new = length new.rest.now ≤ length old.rest.now
+
+-- fewer tokens are left to it than before
+abbrev pub IsShorter : Parser → Parser → Type 0
+IsShorter old new = length new.rest.now < length old.rest.now
 
 -- the parser read what these steps want, and gives it: behind it the reading goes on where the parser stands now
 abbrev pub Goes : {A : Type 0} → ((A → Steps) → Steps) → Parser → Parser → Result A (Refusal Fault) → Type 0

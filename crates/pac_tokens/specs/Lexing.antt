@@ -3,7 +3,9 @@ use Rattle.std.specs.Prelude.{◌≡◌, ◌≤◌, ◌++◌, ℕ, ◌+◌, ◌^
 use Rattle.std.specs.Option.{option_map}
 use Rattle.std.specs.List.{take_while}
 use Rattle.std.specs.Cmp.Lexicographic.{pointwise}
+use Rattle.pac_value.specs.Ascii.{quote, backslash, lower_a, lower_d, lower_e, lower_f, lower_h, lower_i, lower_k, lower_l, lower_p, lower_r, lower_s, lower_t}
 use Rattle.pac_value.specs.Texts.{is_printable}
+use Rattle.pac_value.specs.declared.limits.TheConstants.{MAX_NAME, MAX_TEXT}
 use Rattle.pac_tokens.specs.declared.token.Keyword.{Keyword}
 use Rattle.pac_tokens.specs.declared.token.Keyword.TheVariants as keyword
 use Rattle.pac_tokens.specs.declared.token.Symbol.{Symbol}
@@ -26,25 +28,25 @@ use Rattle.pac_tokens.specs.Tokens.{is_letter, is_digit, is_name, digits_value, 
 -- the only reserved word that may be spelled by so many bytes of which these are the first two
 abbrev pub candidate : ℕ → ℕ → ℕ → Option Keyword
 candidate first second len =
-    if nat_eq first 97 then Some keyword.Abort
-    else (if nat_eq first 100 then Some (if nat_eq len 6 then keyword.Delete else keyword.Default)
-    else (if nat_eq first 101 then Some keyword.Else
-    else (if nat_eq first 102 then Some (if nat_eq len 3 then keyword.For else keyword.False)
-    else (if nat_eq first 104 then Some keyword.Has
-    else (if nat_eq first 105 then Some (if nat_eq second 102 then keyword.If else (if nat_eq len 2 then keyword.In else keyword.Int))
-    else (if nat_eq first 107 then Some keyword.Key
-    else (if nat_eq first 108 then Some keyword.Let
-    else (if nat_eq first 112 then Some (if nat_eq len 3 then keyword.Put else keyword.Proc)
-    else (if nat_eq first 114 then Some keyword.Read
-    else (if nat_eq first 115 then Some keyword.Set
-    else (if nat_eq first 116 then Some (if nat_eq second 97 then keyword.Table else (if nat_eq second 101 then keyword.Text else keyword.True)) else None)))))))))))
+    if nat_eq first lower_a then Some keyword.Abort
+    else (if nat_eq first lower_d then Some (if nat_eq len 6 then keyword.Delete else keyword.Default)
+    else (if nat_eq first lower_e then Some keyword.Else
+    else (if nat_eq first lower_f then Some (if nat_eq len 3 then keyword.For else keyword.False)
+    else (if nat_eq first lower_h then Some keyword.Has
+    else (if nat_eq first lower_i then Some (if nat_eq second lower_f then keyword.If else (if nat_eq len 2 then keyword.In else keyword.Int))
+    else (if nat_eq first lower_k then Some keyword.Key
+    else (if nat_eq first lower_l then Some keyword.Let
+    else (if nat_eq first lower_p then Some (if nat_eq len 3 then keyword.Put else keyword.Proc)
+    else (if nat_eq first lower_r then Some keyword.Read
+    else (if nat_eq first lower_s then Some keyword.Set
+    else (if nat_eq first lower_t then Some (if nat_eq second lower_a then keyword.Table else (if nat_eq second lower_e then keyword.Text else keyword.True)) else None)))))))))))
 
 abbrev pub word_token : Option Keyword → List ℕ → Token
 word_token None word = token.Name word
 word_token (Some k) word = token.Keyword k
 
 abbrev pub word_at : List ℕ → Result (Token × ℕ) FaultKind
-word_at word = if nat_lt 32 (length word) then Err kind.TooLong else Ok (word_token (keyword_of word) word, length word)
+word_at word = if nat_lt MAX_NAME (length word) then Err kind.TooLong else Ok (word_token (keyword_of word) word, length word)
 
 abbrev pub int_at : Before → List ℕ → Result (Token × ℕ) FaultKind
 int_at LiteralMinus digits = if nat_le (digits_value digits) (2 ^ 63) then Ok (token.Negative (neg_ℤ (pos (digits_value digits))), length digits) else Err kind.TooLong
@@ -56,19 +58,19 @@ int_at _ digits = if nat_lt (digits_value digits) (2 ^ 63) then Ok (token.Int (p
 -- well formed
 abbrev pub closing_in : Bool → List ℕ → Option ℕ
 closing_in escape [] = None
-closing_in true (b ∷ bs) = if nat_eq b 34 || nat_eq b 92 then option_map suc (closing_in false bs) else None
+closing_in true (b ∷ bs) = if nat_eq b quote || nat_eq b backslash then option_map suc (closing_in false bs) else None
 closing_in false (b ∷ bs) =
-    if nat_eq b 34 then Some 0
-    else (if nat_eq b 92 then option_map suc (closing_in true bs) else (if is_printable b then option_map suc (closing_in false bs) else None))
+    if nat_eq b quote then Some 0
+    else (if nat_eq b backslash then option_map suc (closing_in true bs) else (if is_printable b then option_map suc (closing_in false bs) else None))
 
 -- the bytes of a text without its escapes, behind a `\` or not
 abbrev pub unescaped : Bool → List ℕ → List ℕ
 unescaped escape [] = []
 unescaped true (b ∷ bs) = b ∷ unescaped false bs
-unescaped false (b ∷ bs) = if nat_eq b 92 then unescaped true bs else b ∷ unescaped false bs
+unescaped false (b ∷ bs) = if nat_eq b backslash then unescaped true bs else b ∷ unescaped false bs
 
 abbrev pub text_of : List ℕ → ℕ → Result (Token × ℕ) FaultKind
-text_of text len = if nat_lt 64 (length text) then Err kind.TooLong else Ok (token.Text text, len)
+text_of text len = if nat_lt MAX_TEXT (length text) then Err kind.TooLong else Ok (token.Text text, len)
 
 abbrev pub closed_text : Option ℕ → List ℕ → Result (Token × ℕ) FaultKind
 closed_text None behind = Err kind.Token
@@ -107,7 +109,7 @@ token_at before [] = Err kind.Token
 token_at before (b ∷ bs) =
     if is_letter b then word_at (take_while is_name (b ∷ bs))
     else (if is_digit b then int_at before (take_while is_digit (b ∷ bs))
-    else (if nat_eq b 34 then text_at bs else symbol_at before (symbol_front (b ∷ bs)) bs))
+    else (if nat_eq b quote then text_at bs else symbol_at before (symbol_front (b ∷ bs)) bs))
 
 -- the result is the next token of the bytes, or the fault in front of them
 abbrev pub IsFront : Before → List ℕ → Result (Token × ℕ) FaultKind → Type 0

@@ -2,6 +2,7 @@
 use Rattle.std.specs.Prelude.{◌≡◌, ℕ, ◌≤◌, ◌+◌, ◌-◌, ◌*◌, ◌^◌, suc, pos, neg_ℤ, Bool, true, false, List, [], ◌∷◌, ◌++◌, length, drop, fold, find, Option, Some, None, nat_lt, nat_le, nat_eq, if◌then◌else◌, ◌&&◌, ◌||◌, not, IsTrue}
 use Rattle.std.specs.List.{take_while, list_all}
 use Rattle.std.specs.Cmp.Lexicographic.{pointwise}
+use Rattle.pac_value.specs.Ascii.{tab, line_feed, carriage_return, space, hash, underscore, digit_zero, digit_nine, upper_a, upper_z, lower_a, lower_z}
 use Rattle.pac_value.specs.Texts.{is_printable}
 use Rattle.pac_value.specs.declared.limits.TheConstants.{MAX_NAME, MAX_TEXT}
 use Rattle.pac_tokens.specs.declared.token.Keyword.{Keyword}
@@ -23,17 +24,17 @@ use Rattle.pac_value.specs.Literals.{quoted}
 
 -- space, tab, carriage return and line feed
 abbrev pub is_blank : ℕ → Bool
-is_blank b = nat_eq b 32 || nat_eq b 9 || nat_eq b 13 || nat_eq b 10
+is_blank b = nat_eq b space || nat_eq b tab || nat_eq b carriage_return || nat_eq b line_feed
 
 abbrev pub is_in : ℕ → ℕ → ℕ → Bool
 is_in low high b = nat_le low b && nat_le b high
 
 -- an ASCII letter or `_`
 abbrev pub is_letter : ℕ → Bool
-is_letter b = is_in 97 122 b || is_in 65 90 b || nat_eq b 95
+is_letter b = is_in lower_a lower_z b || is_in upper_a upper_z b || nat_eq b underscore
 
 abbrev pub is_digit : ℕ → Bool
-is_digit b = is_in 48 57 b
+is_digit b = is_in digit_zero digit_nine b
 
 -- a byte that a name may have behind its first
 abbrev pub is_name : ℕ → Bool
@@ -42,15 +43,15 @@ is_name b = is_letter b || is_digit b
 -- how many bytes of white space and comments stand in front, inside a comment or not
 abbrev pub gap_in : Bool → List ℕ → ℕ
 gap_in comment [] = 0
-gap_in true (b ∷ bs) = suc (gap_in (not (nat_eq b 10)) bs)
-gap_in false (b ∷ bs) = if nat_eq b 35 then suc (gap_in true bs) else (if is_blank b then suc (gap_in false bs) else 0)
+gap_in true (b ∷ bs) = suc (gap_in (not (nat_eq b line_feed)) bs)
+gap_in false (b ∷ bs) = if nat_eq b hash then suc (gap_in true bs) else (if is_blank b then suc (gap_in false bs) else 0)
 
 abbrev pub gap : List ℕ → ℕ
 gap bytes = gap_in false bytes
 
 -- the number that decimal digits are
 abbrev pub digits_value : List ℕ → ℕ
-digits_value digits = fold (λ n digit. n * 10 + (digit - 48)) 0 digits
+digits_value digits = fold (λ n digit. n * 10 + (digit - digit_zero)) 0 digits
 
 -- ---- what spells a token
 

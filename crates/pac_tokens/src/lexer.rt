@@ -1,7 +1,9 @@
 // Reads the tokens of a text.
 ghost use Rattle.std.specs.Prelude.{◌≡◌, pos, neg_ℤ, ◌≤◌, ◌<◌, ◌^◌, ◌+◌, [], ◌∷◌, length, drop, IfOk, IfSome, IsTrue, Some, None, false, not, ◌&&◌, nat_eq, nat_le, nat_lt, if◌then◌else◌};
 ghost use Rattle.std.specs.List.{take_while, list_all};
+ghost use Rattle.pac_value.specs.Ascii.{backslash};
 ghost use Rattle.pac_value.specs.Texts.{is_printable};
+ghost use Rattle.pac_value.specs.declared.limits.TheConstants.{MAX_TEXT};
 ghost use Rattle.pac_tokens.specs.Tokens.{is_blank, is_letter, is_digit, is_name, gap, digits_value, keyword_of, after, next_digits, is_long_minus, IsLexed};
 ghost use Rattle.pac_tokens.specs.Lexing.{symbol_of, symbol_front, candidate, word_at, int_at, text_at, minus_at, symbol_at, token_at, closing_in, unescaped, IsPushed, IsStep, StaysWithin};
 
@@ -294,7 +296,7 @@ fn closing(bytes: &[u8]) -> Option<usize>
 
 // Whether a byte, behind a `\` or not, is the `\` of an escape.
 fn begins_escape(escaped: bool, byte: u8) -> bool
-    ensures { result ≡ (not escaped && nat_eq byte 92) }
+    ensures { result ≡ (not escaped && nat_eq byte backslash) }
 {
     !escaped && byte == b'\\'
 }
@@ -303,12 +305,12 @@ fn begins_escape(escaped: bool, byte: u8) -> bool
 #[tactic(auto, using(crate::proofs::Quoted::without_escape))]
 fn unescape(bytes: &[u8]) -> Option<Text>
     requires { IsTrue (list_all is_printable (unescaped false bytes.now)) }
-    ensures { result ≡ (if nat_lt 64 (length (unescaped false bytes.now)) then None else Some (unescaped false bytes.now)) }
+    ensures { result ≡ (if nat_lt MAX_TEXT (length (unescaped false bytes.now)) then None else Some (unescaped false bytes.now)) }
 {
     if !bytes.contains(&b'\\') {
         return Text::from_bytes(bytes);
     }
-    let mut room = [0; 64];
+    let mut room = [0; Text::MAX];
     let mut len: usize = 0;
     let mut escaped = false;
     for byte in bytes {
@@ -454,6 +456,10 @@ impl Before {
 }
 
 /// Reads the tokens of a text. Linear in the text.
+///
+/// # Errors
+///
+/// `NoMemory` alone. A fault of a token is no error here: it ends the tokens.
 pub fn lex(alloc: Global, text: &[u8]) -> Result<Lexed, NoMemory>
     ensures lexed { IfOk result (λ lexed. IsLexed text.now lexed.items.items lexed.fault) }
     ensures few { IfOk result (λ lexed. length lexed.items.items ≤ length text.now) }

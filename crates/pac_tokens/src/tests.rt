@@ -1,5 +1,6 @@
 // The tokens of a line, and the names of kinds.
-use crate::{FaultKind, Token, tokens};
+use crate::{FaultKind, Token, int_or_text, tokens};
+use pac_value::{Text, Value};
 use std::test::Fail;
 
 #[test]
@@ -35,5 +36,29 @@ fn gives_the_tokens_of_a_line(rt: HostRuntime) -> Result<(), Fail> {
         matches!(found[8].token, Token::Text(text) if text.bytes() == b"a\"b\\".as_slice())
     );
     assert!(rt; tokens(rt.alloc(), b"call \"").is_err());
+    Ok(())
+}
+
+#[test]
+fn an_int_or_a_text_is_taken_from_the_front(rt: HostRuntime) -> Result<(), Fail> {
+    // A line, the value in front of it, and how many of its tokens are left behind that.
+    let text = Text::from_bytes(b"a").unwrap();
+    let rows = [
+        ("5 - 5", Some((Value::Int(5), 2))),
+        ("- 5, 6", Some((Value::Int(-5), 2))),
+        ("\"a\")", Some((Value::Text(text), 1))),
+        ("true", None),
+        ("- - 5", None),
+        ("-", None),
+        ("", None),
+    ];
+    for (line, wanted) in rows {
+        let found = tokens(rt.alloc(), line.as_bytes())?;
+        let front = match int_or_text(found.as_slice()) {
+            Some((value, behind)) => Some((value, behind.len())),
+            None => None,
+        };
+        assert!(rt; front == wanted, "{line}");
+    }
     Ok(())
 }

@@ -101,7 +101,7 @@ remainder a b = a -ℤ b *ℤ quotient a b
 abbrev pub divided : ℤ → ℤ → Result Value Trap
 divided divisor z = if int_eq divisor (pos 0) then Err DivZero else checked z
 
--- an operation on two ints; other operands are not well typed
+-- what an operator gives for two ints; other operands are not well typed
 abbrev pub of_ints : (ℤ → ℤ → Result Value Trap) → Value → Value → Result Value Trap
 of_ints f (Int a) (Int b) = f a b
 of_ints f a b = Ok b

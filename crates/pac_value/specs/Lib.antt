@@ -1,3 +1,4 @@
+pub mod Ascii
 pub mod Padded
 pub mod PaddedLemmas
 pub mod Texts

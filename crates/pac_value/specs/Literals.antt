@@ -5,10 +5,11 @@ use Rattle.pac_value.specs.declared.values.Value.{Value}
 use Rattle.pac_value.specs.declared.values.Value.TheVariants as value
 use Rattle.pac_value.specs.declared.values.Key.{Key}
 use Rattle.pac_value.specs.declared.values.Key.TheVariants as key
+use Rattle.pac_value.specs.Ascii.{quote, backslash}
 
 -- a byte of a text in its spelling: `"` and `\` have a `\` in front
 abbrev pub escaped_byte : ℕ → List ℕ
-escaped_byte b = if nat_eq b 34 || nat_eq b 92 then 92 ∷ b ∷ [] else b ∷ []
+escaped_byte b = if nat_eq b quote || nat_eq b backslash then backslash ∷ b ∷ [] else b ∷ []
 
 -- the bytes of a text in their spelling
 abbrev pub escaped : List ℕ → List ℕ
@@ -17,7 +18,7 @@ escaped (b ∷ bs) = escaped_byte b ++ escaped bs
 
 -- a text between its quotes
 abbrev pub quoted : List ℕ → List ℕ
-quoted text = 34 ∷ (escaped text ++ (34 ∷ []))
+quoted text = quote ∷ (escaped text ++ (quote ∷ []))
 
 -- a value as a literal: an int in decimal, a text in its quotes, `true` or `false`
 abbrev pub value_text : Value → List ℕ

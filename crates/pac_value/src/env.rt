@@ -52,7 +52,11 @@ impl Env {
         self.values.get(&var).copied()
     }
 
-    /// Gives a variable a value, in place of the one that it may have. `NoMemory`: nothing is changed.
+    /// Gives a variable a value, in place of the one that it may have.
+    ///
+    /// # Errors
+    ///
+    /// `NoMemory` alone. Then nothing is changed.
     pub fn set(&mut self, var: u16, value: Value) -> Result<(), NoMemory>
         ensures ok { OnOk result (self.new ≡ map.insert self.old var value) }
         ensures err { OnErr result (self.new ≡ self.old) }

@@ -13,7 +13,10 @@ use std::cmp::Ordering;
 /// evaluated from left to right; the right one of `&&` and `||` only where the left one does not decide. Takes no
 /// memory, and time that grows with the size of the expression.
 ///
-/// `Overflow`: a result leaves the 64 bits of an int. `DivZero`: a divisor is zero.
+/// # Errors
+///
+/// `Overflow` exactly where a result leaves the 64 bits of an int, `DivZero` exactly where a divisor is zero, before any
+/// other trap.
 pub fn eval(expr: &Expr, env: &Env) -> Result<Value, Trap>
     requires { IsSome (type_in (types_of env.now) expr.now) }
     ensures value { result ≡ value expr.now env.now }

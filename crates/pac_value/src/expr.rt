@@ -5,6 +5,7 @@ ghost use Rattle.pac_value.specs.Expressions.{trap_name};
 use crate::Value;
 use pac_base::{Boxed, Exact, NoMemory, Same};
 use std::alloc::Global;
+use thiserror::Error;
 
 /// An operator of two operands: arithmetic on ints, tests of equality on two values of one type, order on two ints or
 /// two texts, and `&&` and `||` on bools.
@@ -43,11 +44,13 @@ pub enum Expr {
 }
 
 /// Why a well typed expression has no value.
-#[derive(Clone, Copy, Debug, PartialEq, Eq)]
+#[derive(Clone, Copy, Debug, PartialEq, Eq, Error)]
 pub enum Trap {
-    /// The result of an operation is no int of 64 bits.
+    /// The result is no int of 64 bits.
+    #[error("the result is no int of 64 bits")]
     Overflow,
     /// The divisor is zero.
+    #[error("the divisor is zero")]
     DivZero,
 }
 

@@ -1,17 +1,17 @@
 // Reads tables and procedures.
-ghost use Rattle.std.specs.Prelude.{◌≡◌, ◌∷◌, [], ◌≤◌, ◌+◌, length, List, OnOk, IfOk, IsErrOf, Ok};
+ghost use Rattle.std.specs.Prelude.{◌≡◌, ◌∷◌, [], ◌+◌, OnOk, IfOk, IsErrOf, Ok};
 ghost use Rattle.pac_base.specs.Refusals.{Gives, Only};
 ghost use Rattle.pac_base.specs.declared.refusal.Refusal.TheVariants as error;
 ghost use Rattle.pac_syntax.specs.Machine.{Steps, MoreColumns, MoreProcs, MoreTables, SomeParams, column_steps, columns_steps, proc_steps, table_steps, typed_steps, start, run};
 ghost use Rattle.pac_syntax.specs.Faults.{IsFirstFault, ReadsTokens};
-ghost use Rattle.pac_syntax.specs.Views.{role_of, limit_of, Goes, GoesAll};
+ghost use Rattle.pac_syntax.specs.Views.{role_of, limit_of, Goes, GoesAll, NoLonger};
 ghost use Rattle.pac_tokens.specs.declared.fault.Fault.{Fault as AFault};
 ghost use Rattle.pac_syntax.specs.declared.tree.Tree.{Tree as ATree};
 ghost use Rattle.pac_syntax.specs.declared.tree.ColumnNode.{ColumnNode as AColumnNode};
 ghost use Rattle.pac_syntax.specs.declared.tree.ProcNode.{ProcNode as AProcNode};
 ghost use Rattle.pac_syntax.specs.declared.tree.TableNode.{TableNode as ATableNode};
 
-use super::parser::{ColumnKind, Parser, split};
+use super::parser::{Owner, Parser, split};
 use crate::limits::{MAX_PROCS, MAX_TABLES};
 use crate::tree::{ColumnNode, NameNode, ProcNode, TableNode, Tree};
 use pac_base::listed;
@@ -19,14 +19,14 @@ use pac_tokens::{Fault, FaultKind, Keyword, Spanned, Symbol, SyntaxError};
 use pac_value::{MAX_COLUMNS, MAX_PARAMS};
 use std::alloc::Global;
 
-impl ColumnKind {
+impl Owner {
     // How many columns or parameters there may be.
     fn limit(self) -> usize
         ensures { result ≡ limit_of self }
     {
         match self {
-            ColumnKind::Column => MAX_COLUMNS,
-            ColumnKind::Param => MAX_PARAMS,
+            Owner::Table => MAX_COLUMNS,
+            Owner::Procedure => MAX_PARAMS,
         }
     }
 }
@@ -34,7 +34,7 @@ impl ColumnKind {
 impl<'a> Parser<'a> {
     // The type behind a column's name.
     fn typed(&mut self, name: NameNode) -> Result<ColumnNode, SyntaxError>
-        ensures left { OnOk result (length self.new.rest.now ≤ length self.old.rest.now) }
+        ensures left { OnOk result (NoLonger self.old self.new) }
         ensures run { Goes (typed_steps name) self.old self.new result }
     {
         let ty = self.ty()?;
@@ -42,14 +42,14 @@ impl<'a> Parser<'a> {
     }
 
     // A column behind so many others.
-    fn column(&mut self, kind: ColumnKind, before: usize) -> Result<ColumnNode, SyntaxError>
-        ensures left { OnOk result (length self.new.rest.now ≤ length self.old.rest.now) }
-        ensures run { Goes (column_steps (role_of kind (before + 1))) self.old self.new result }
+    fn column(&mut self, owner: Owner, before: usize) -> Result<ColumnNode, SyntaxError>
+        ensures left { OnOk result (NoLonger self.old self.new) }
+        ensures run { Goes (column_steps (role_of owner (before + 1))) self.old self.new result }
     {
         let Some(name) = self.takes_name() else {
             return Err(self.refuse(FaultKind::Expected));
         };
-        if before >= kind.limit() {
+        if before >= owner.limit() {
             let at = name.at;
             let kind = FaultKind::TooMany;
             return Err(SyntaxError::Fault(Fault { at, kind }));
@@ -60,16 +60,16 @@ impl<'a> Parser<'a> {
     // { "," column } behind a first one.
     fn more_columns(
         &mut self,
-        kind: ColumnKind,
+        owner: Owner,
         first: ColumnNode,
     ) -> Result<Vec<ColumnNode>, SyntaxError>
-        ensures left { OnOk result (length self.new.rest.now ≤ length self.old.rest.now) }
-        ensures run { GoesAll (MoreColumns (role_of kind) 1 (first ∷ [])) self.old self.new result }
+        ensures left { OnOk result (NoLonger self.old self.new) }
+        ensures run { GoesAll (MoreColumns (role_of owner) 1 (first ∷ [])) self.old self.new result }
     {
         let mut columns = Vec::new(self.alloc);
         columns.push(first)?;
         while let Some(_) = self.takes_symbol(Symbol::Comma) {
-            let column = self.column(kind, columns.len())?;
+            let column = self.column(owner, columns.len())?;
             columns.push(column)?;
         }
         Ok(columns)
@@ -77,28 +77,28 @@ impl<'a> Parser<'a> {
 
     // column { "," column }
     fn columns(&mut self) -> Result<Vec<ColumnNode>, SyntaxError>
-        ensures left { OnOk result (length self.new.rest.now ≤ length self.old.rest.now) }
+        ensures left { OnOk result (NoLonger self.old self.new) }
         ensures run { GoesAll columns_steps self.old self.new result }
     {
-        let first = self.column(ColumnKind::Column, 0)?;
-        self.more_columns(ColumnKind::Column, first)
+        let first = self.column(Owner::Table, 0)?;
+        self.more_columns(Owner::Table, first)
     }
 
     // [ column { "," column } ]
     fn params(&mut self) -> Result<Vec<ColumnNode>, SyntaxError>
-        ensures left { OnOk result (length self.new.rest.now ≤ length self.old.rest.now) }
+        ensures left { OnOk result (NoLonger self.old self.new) }
         ensures run { GoesAll SomeParams self.old self.new result }
     {
         let Some(name) = self.takes_name() else {
             return Ok(Vec::new(self.alloc));
         };
         let first = self.typed(name)?;
-        self.more_columns(ColumnKind::Param, first)
+        self.more_columns(Owner::Procedure, first)
     }
 
     // A table, behind its word.
     fn table(&mut self) -> Result<TableNode, SyntaxError>
-        ensures left { OnOk result (length self.new.rest.now ≤ length self.old.rest.now) }
+        ensures left { OnOk result (NoLonger self.old self.new) }
         ensures run { Goes table_steps self.old self.new result }
     {
         let name = self.name()?;
@@ -114,7 +114,7 @@ impl<'a> Parser<'a> {
 
     /// Tables, as many as there are.
     pub fn tables(&mut self) -> Result<Vec<TableNode>, SyntaxError>
-        ensures left { OnOk result (length self.new.rest.now ≤ length self.old.rest.now) }
+        ensures left { OnOk result (NoLonger self.old self.new) }
         ensures run { GoesAll (MoreTables 0 []) self.old self.new result }
     {
         let mut tables = Vec::new(self.alloc);
@@ -131,7 +131,7 @@ impl<'a> Parser<'a> {
 
     // A procedure, behind its word.
     fn procedure(&mut self) -> Result<ProcNode, SyntaxError>
-        ensures left { OnOk result (length self.new.rest.now ≤ length self.old.rest.now) }
+        ensures left { OnOk result (NoLonger self.old self.new) }
         ensures run { Goes proc_steps self.old self.new result }
     {
         let name = self.name()?;
@@ -144,7 +144,7 @@ impl<'a> Parser<'a> {
 
     /// Procedures, as many as there are.
     pub fn procedures(&mut self) -> Result<Vec<ProcNode>, SyntaxError>
-        ensures left { OnOk result (length self.new.rest.now ≤ length self.old.rest.now) }
+        ensures left { OnOk result (NoLonger self.old self.new) }
         ensures run { GoesAll (MoreProcs 0 []) self.old self.new result }
     {
         let mut procs = Vec::new(self.alloc);

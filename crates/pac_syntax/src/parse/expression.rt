@@ -1,9 +1,9 @@
 // Reads expressions.
-ghost use Rattle.std.specs.Prelude.{◌≡◌, ◌<◌, ◌≤◌, ◌+◌, ℕ, false, length, Some, None, MatchOption, OnOk, IfOk, IfErr, IfSome};
+ghost use Rattle.std.specs.Prelude.{◌≡◌, ◌<◌, ◌≤◌, ◌+◌, ℕ, false, Some, None, MatchOption, OnOk, IfOk, IfErr, IfSome};
 ghost use Rattle.pac_base.specs.Refusals.{Gives, OkUnlessMemory};
 ghost use Rattle.pac_syntax.specs.Machine.{Steps, Begun, Level, begun_binary, operator_in, want_expr, negation_steps, paren_steps, run, either};
 ghost use Rattle.pac_syntax.specs.Grammar.{tier as tier_of};
-ghost use Rattle.pac_syntax.specs.Views.{begun_at, between, rests, tier_behind, operand_in, IsNot, IsNoName, Goes};
+ghost use Rattle.pac_syntax.specs.Views.{begun_at, between, rests, tier_behind, operand_in, IsNot, IsNoName, Goes, NoLonger, IsShorter};
 ghost use Rattle.pac_tokens.specs.declared.token.Token.TheVariants as token;
 ghost use Rattle.pac_tokens.specs.declared.token.Symbol.TheVariants as symbol;
 ghost use Rattle.pac_tokens.specs.declared.fault.FaultKind.TheVariants.{TooMany};
@@ -80,8 +80,8 @@ impl<'a> Parser<'a> {
 
     // The operator that comes next, where its tier is from this one on and below a level, which is taken.
     fn operator(&mut self, tier: u8, level: u8) -> Result<Option<BinOp>, SyntaxError>
-        ensures left { length self.new.rest.now ≤ length self.old.rest.now }
-        ensures shorter { IfOk result (λ o. IfSome o (λ _. length self.new.rest.now < length self.old.rest.now)) }
+        ensures left { NoLonger self.old self.new }
+        ensures shorter { IfOk result (λ o. IfSome o (λ _. IsShorter self.old self.new)) }
         ensures run { (d : ℕ) (x : Begun) (k : Begun → ℕ → Steps) → Gives (λ o. either o (run self.new.end (k x self.new.operators) self.new.rest.now) (λ op. run self.new.end (Level d (tier_of op) self.new.operators (λ y o. rests d (tier_behind (tier_of op)) level k (begun_binary op x y) o)) self.new.rest.now)) result (run self.old.end (rests d tier level k x self.old.operators) self.old.rest.now) }
     {
         let Some((first, rest)) = split(self.rest) else {
@@ -99,7 +99,7 @@ impl<'a> Parser<'a> {
     fn takes_operand(&mut self) -> Option<Operand>
         ensures end { self.new.end ≡ self.old.end }
         ensures operators { self.new.operators ≡ self.old.operators }
-        ensures shorter { IfSome result (λ _. length self.new.rest.now < length self.old.rest.now) }
+        ensures shorter { IfSome result (λ _. IsShorter self.old self.new) }
         ensures run { MatchOption result ((self.new.rest ≡ self.old.rest) × IsNoName self.old.rest.now) (λ x. (d : ℕ) (k : Begun → ℕ → Steps) → run self.old.end (Level d 0 self.old.operators k) self.old.rest.now ≡ run self.new.end (k (begun_at x) self.new.operators) self.new.rest.now) }
     {
         let Some((first, rest)) = split(self.rest) else {
@@ -117,7 +117,7 @@ impl<'a> Parser<'a> {
         requires no_negation { IsNot (token.Symbol symbol.Not) self.old.rest.now }
         requires no_paren { IsNot (token.Symbol symbol.OpenParen) self.old.rest.now }
         requires no_name { IsNoName self.old.rest.now }
-        ensures shorter { OnOk result (length self.new.rest.now < length self.old.rest.now) }
+        ensures shorter { OnOk result (IsShorter self.old self.new) }
         ensures run { (k : Begun → ℕ → Steps) → Gives (λ x. run self.new.end (k (begun_at x) self.new.operators) self.new.rest.now) result (run self.old.end (Level parens 0 self.old.operators k) self.old.rest.now) }
     {
         let literal = self.literal()?;
@@ -129,7 +129,7 @@ impl<'a> Parser<'a> {
     // An operand, with its negations and parentheses. Mostly it is a name or an int, for which one look is enough.
     #[cycle(expression)]
     fn unary(&mut self, parens: u8) -> Result<Operand, SyntaxError>
-        ensures shorter { OnOk result (length self.new.rest.now < length self.old.rest.now) }
+        ensures shorter { OnOk result (IsShorter self.old self.new) }
         ensures run { (k : Begun → ℕ → Steps) → Gives (λ x. run self.new.end (k (begun_at x) self.new.operators) self.new.rest.now) result (run self.old.end (Level parens 0 self.old.operators k) self.old.rest.now) }
     {
         if let Some(operand) = self.takes_operand() {
@@ -142,7 +142,7 @@ impl<'a> Parser<'a> {
     #[cycle(expression)]
     fn other_operand(&mut self, parens: u8) -> Result<Operand, SyntaxError>
         requires { IsNoName self.old.rest.now }
-        ensures shorter { OnOk result (length self.new.rest.now < length self.old.rest.now) }
+        ensures shorter { OnOk result (IsShorter self.old self.new) }
         ensures run { (k : Begun → ℕ → Steps) → Gives (λ x. run self.new.end (k (begun_at x) self.new.operators) self.new.rest.now) result (run self.old.end (Level parens 0 self.old.operators k) self.old.rest.now) }
     {
         if let Some(at) = self.takes_symbol(Symbol::Not) {
@@ -162,7 +162,7 @@ impl<'a> Parser<'a> {
     // What stands behind the `!` at this place.
     #[cycle(expression)]
     fn negation(&mut self, parens: u8, at: usize) -> Result<Operand, SyntaxError>
-        ensures left { OnOk result (length self.new.rest.now ≤ length self.old.rest.now) }
+        ensures left { OnOk result (NoLonger self.old self.new) }
         ensures run { (k : Begun → ℕ → Steps) → Gives (λ x. run self.new.end (k (begun_at x) self.new.operators) self.new.rest.now) result (run self.old.end (negation_steps at parens self.old.operators k) self.old.rest.now) }
     {
         let operand = self.unary(parens)?;
@@ -174,7 +174,7 @@ impl<'a> Parser<'a> {
     // What stands behind the `(` at this place.
     #[cycle(expression)]
     fn enclosed(&mut self, parens: u8, at: usize) -> Result<Operand, SyntaxError>
-        ensures left { OnOk result (length self.new.rest.now ≤ length self.old.rest.now) }
+        ensures left { OnOk result (NoLonger self.old self.new) }
         ensures run { (k : Begun → ℕ → Steps) → Gives (λ x. run self.new.end (k (begun_at x) self.new.operators) self.new.rest.now) result (run self.old.end (paren_steps at parens self.old.operators k) self.old.rest.now) }
     {
         let inner = self.whole(parens)?;
@@ -188,7 +188,7 @@ impl<'a> Parser<'a> {
     // Any expression. Mostly it is an operand alone, which is handed on as it is.
     #[cycle(expression)]
     fn whole(&mut self, parens: u8) -> Result<Operand, SyntaxError>
-        ensures shorter { OnOk result (length self.new.rest.now < length self.old.rest.now) }
+        ensures shorter { OnOk result (IsShorter self.old self.new) }
         ensures run { (k : Begun → ℕ → Steps) → Gives (λ x. run self.new.end (k (begun_at x) self.new.operators) self.new.rest.now) result (run self.old.end (Level parens 5 self.old.operators k) self.old.rest.now) }
     {
         let left = self.unary(parens)?;
@@ -202,7 +202,7 @@ impl<'a> Parser<'a> {
     // one is read further only where an operator that binds tighter stands behind it.
     #[cycle(expression)]
     fn chain(&mut self, parens: u8, level: u8, first: Operand) -> Result<Operand, SyntaxError>
-        ensures left { OnOk result (length self.new.rest.now ≤ length self.old.rest.now) }
+        ensures left { OnOk result (NoLonger self.old self.new) }
         ensures run { (k : Begun → ℕ → Steps) → Gives (λ x. run self.new.end (k (begun_at x) self.new.operators) self.new.rest.now) result (run self.old.end (rests parens 0 level k (begun_at first) self.old.operators) self.old.rest.now) }
     {
         let mut left = first;
@@ -236,7 +236,7 @@ impl<'a> Parser<'a> {
 
     /// A whole expression.
     pub fn expression(&mut self) -> Result<ExprNode, SyntaxError>
-        ensures left { OnOk result (length self.new.rest.now ≤ length self.old.rest.now) }
+        ensures left { OnOk result (NoLonger self.old self.new) }
         ensures run { Goes want_expr self.old self.new result }
     {
         self.operators = 0;

@@ -1,18 +1,17 @@
 // Reads the tree of tokens by recursive descent, and stops at the first token that can't follow.
-ghost use Rattle.std.specs.Prelude.{◌≡◌, ℕ, ◌∷◌, ◌++◌, [], ◌<◌, ◌≤◌, length, List, MatchOption, OnOk, IfOk, IfSome, true};
+ghost use Rattle.std.specs.Prelude.{◌≡◌, ◌∷◌, [], ◌<◌, MatchOption, OnOk, true};
 ghost use Rattle.pac_base.specs.Refusals.{Gives};
 ghost use Rattle.pac_syntax.specs.Faults.{place};
 ghost use Rattle.pac_syntax.specs.Grammar.{Plain};
 ghost use Rattle.pac_value.specs.declared.values.Ty.{Ty as ATy};
-ghost use Rattle.pac_syntax.specs.Machine.{Steps, Want, WantName, WantType, WantLiteral, WantNegative, is_mark, keyword_code, symbol_code, literal_in, type_of_token, run};
-ghost use Rattle.pac_syntax.specs.Views.{Begins, IsNot, IsNoName, IsType, IsNoType, IsLiteral, IsNoLiteral, IsNoNegative, IsNegative, name_part, name_token, Goes};
+ghost use Rattle.pac_syntax.specs.Machine.{Steps, Want, WantName, WantType, WantLiteral, is_same_word_or_sign, keyword_code, symbol_code, type_of_token, run};
+ghost use Rattle.pac_syntax.specs.Views.{Begins, IsNot, IsNoName, IsType, IsNoType, bool_in, name_part, name_token, Goes, NoLonger, IsShorter};
 ghost use Rattle.pac_tokens.specs.declared.token.Token.TheVariants as token;
-ghost use Rattle.pac_syntax.specs.declared.tree.LiteralNode.{LiteralNode as ALiteralNode};
 ghost use Rattle.pac_syntax.specs.declared.tree.NameNode.{NameNode as ANameNode};
 ghost use Rattle.pac_base.specs.declared.refusal.Refusal.TheVariants as error;
 
 use crate::tree::{ExprNode, LiteralNode, NameNode};
-use pac_tokens::{Fault, FaultKind, Keyword, Spanned, Symbol, SyntaxError, Token};
+use pac_tokens::{Fault, FaultKind, Keyword, Spanned, Symbol, SyntaxError, Token, int_or_text};
 use pac_value::{Name, Ty, Value};
 use std::alloc::Global;
 
@@ -23,11 +22,11 @@ pub struct Operand {
     pub expr: ExprNode,
 }
 
-/// What a list of columns is of: a table or a procedure.
+/// What has a list of columns: a table, or a procedure, whose parameters they are.
 #[derive(Clone, Copy, Debug, PartialEq, Eq)]
-pub enum ColumnKind {
-    Column,
-    Param,
+pub enum Owner {
+    Table,
+    Procedure,
 }
 
 /// What is left to read.
@@ -75,21 +74,18 @@ fn type_of(token: &Token) -> Option<Ty>
     }
 }
 
-// The literal that a token is by itself.
-fn literal_of(token: Token, at: usize) -> Option<LiteralNode>
-    ensures { result ≡ literal_in token at }
+// Whether a token is `true` or `false`.
+fn bool_of(token: &Token) -> Option<bool>
+    ensures { result ≡ bool_in token.now }
 {
-    let value = match token {
-        Token::Int(value) => Value::Int(value),
-        Token::Text(text) => Value::Text(text),
-        Token::Keyword(word) => match word {
-            Keyword::True => Value::Bool(true),
-            Keyword::False => Value::Bool(false),
-            _ => return None,
-        },
-        _ => return None,
+    let Token::Keyword(word) = token else {
+        return None;
     };
-    Some(LiteralNode { at, value })
+    match word {
+        Keyword::True => Some(true),
+        Keyword::False => Some(false),
+        _ => None,
+    }
 }
 
 fn keyword_number(word: Keyword) -> u8
@@ -105,8 +101,8 @@ fn symbol_number(sign: Symbol) -> u8
 }
 
 // Whether the two are one word or one sign.
-fn is_same_mark(wanted: &Token, found: &Token) -> bool
-    ensures { result ≡ is_mark wanted.now found.now }
+fn is_same_word_or_sign(wanted: &Token, found: &Token) -> bool
+    ensures { result ≡ is_same_word_or_sign wanted.now found.now }
 {
     match wanted {
         Token::Keyword(a) => match found {
@@ -142,7 +138,7 @@ impl<'a> Parser<'a> {
         let Some((first, rest)) = split(self.rest) else {
             return None;
         };
-        if !is_same_mark(&wanted, &first.token) {
+        if !is_same_word_or_sign(&wanted, &first.token) {
             return None;
         }
         self.rest = rest;
@@ -166,7 +162,7 @@ impl<'a> Parser<'a> {
 
     // Takes this word or sign.
     fn want(&mut self, wanted: Token) -> Result<(), SyntaxError>
-        ensures left { length self.new.rest.now ≤ length self.old.rest.now }
+        ensures left { NoLonger self.old self.new }
         ensures operators { self.new.operators ≡ self.old.operators }
         ensures run { (k : Steps) → Gives (λ _. run self.new.end k self.new.rest.now) result (run self.old.end (Want wanted k) self.old.rest.now) }
     {
@@ -177,14 +173,14 @@ impl<'a> Parser<'a> {
     }
 
     pub fn keyword(&mut self, word: Keyword) -> Result<(), SyntaxError>
-        ensures left { length self.new.rest.now ≤ length self.old.rest.now }
+        ensures left { NoLonger self.old self.new }
         ensures run { (k : Steps) → Gives (λ _. run self.new.end k self.new.rest.now) result (run self.old.end (Want (token.Keyword word) k) self.old.rest.now) }
     {
         self.want(Token::Keyword(word))
     }
 
     pub fn symbol(&mut self, sign: Symbol) -> Result<(), SyntaxError>
-        ensures left { length self.new.rest.now ≤ length self.old.rest.now }
+        ensures left { NoLonger self.old self.new }
         ensures operators { self.new.operators ≡ self.old.operators }
         ensures run { (k : Steps) → Gives (λ _. run self.new.end k self.new.rest.now) result (run self.old.end (Want (token.Symbol sign) k) self.old.rest.now) }
     {
@@ -209,7 +205,7 @@ impl<'a> Parser<'a> {
     }
 
     pub fn name(&mut self) -> Result<NameNode, SyntaxError>
-        ensures left { length self.new.rest.now ≤ length self.old.rest.now }
+        ensures left { NoLonger self.old self.new }
         ensures run { Goes (WantName Plain) self.old self.new result }
     {
         match self.takes_name() {
@@ -234,7 +230,7 @@ impl<'a> Parser<'a> {
     }
 
     pub fn ty(&mut self) -> Result<Ty, SyntaxError>
-        ensures left { length self.new.rest.now ≤ length self.old.rest.now }
+        ensures left { NoLonger self.old self.new }
         ensures run { Goes WantType self.old self.new result }
     {
         match self.takes_type() {
@@ -243,65 +239,28 @@ impl<'a> Parser<'a> {
         }
     }
 
-    // Takes the literal of one token that comes next.
-    fn takes_literal(&mut self) -> Option<LiteralNode>
-        ensures end { self.new.end ≡ self.old.end }
-        ensures operators { self.new.operators ≡ self.old.operators }
-        ensures literal { MatchOption result ((self.new.rest ≡ self.old.rest) × IsNoLiteral self.old.rest.now) (λ l. IsLiteral l self.old.rest.now self.new.rest.now) }
-    {
-        let Some((first, rest)) = split(self.rest) else {
-            return None;
-        };
-        let Some(literal) = literal_of(first.token, first.at) else {
-            return None;
-        };
-        self.rest = rest;
-        Some(literal)
-    }
-
-    // Takes the int that comes next, where it is that of a literal whose `-` stands at this place.
-    fn takes_negative(&mut self, minus: usize) -> Option<LiteralNode>
-        ensures end { self.new.end ≡ self.old.end }
-        ensures operators { self.new.operators ≡ self.old.operators }
-        ensures int { MatchOption result ((self.new.rest ≡ self.old.rest) × IsNoNegative self.old.rest.now) (λ l. IsNegative minus l self.old.rest.now self.new.rest.now) }
-    {
-        let Some((first, rest)) = split(self.rest) else {
-            return None;
-        };
-        let Token::Negative(value) = first.token else {
-            return None;
-        };
-        self.rest = rest;
-        Some(LiteralNode {
-            at: minus,
-            value: Value::Int(value),
-        })
-    }
-
-    // The int of a literal whose `-` stands at this place.
-    fn negative(&mut self, minus: usize) -> Result<LiteralNode, SyntaxError>
-        ensures left { length self.new.rest.now ≤ length self.old.rest.now }
-        ensures operators { self.new.operators ≡ self.old.operators }
-        ensures run { Goes (WantNegative minus) self.old self.new result }
-    {
-        match self.takes_negative(minus) {
-            None => Err(self.refuse(FaultKind::Expected)),
-            Some(literal) => Ok(literal),
-        }
-    }
-
+    /// The literal that comes next.
     pub fn literal(&mut self) -> Result<LiteralNode, SyntaxError>
-        ensures left { length self.new.rest.now ≤ length self.old.rest.now }
-        ensures shorter { OnOk result (length self.new.rest.now < length self.old.rest.now) }
+        ensures left { NoLonger self.old self.new }
+        ensures shorter { OnOk result (IsShorter self.old self.new) }
         ensures operators { self.new.operators ≡ self.old.operators }
         ensures run { Goes WantLiteral self.old self.new result }
     {
-        if let Some(minus) = self.takes_symbol(Symbol::Minus) {
-            return self.negative(minus);
+        let Some((first, behind)) = split(self.rest) else {
+            return Err(self.refuse(FaultKind::Expected));
+        };
+        let at = first.at;
+        if let Some((value, rest)) = int_or_text(self.rest) {
+            self.rest = rest;
+            return Ok(LiteralNode { at, value });
         }
-        match self.takes_literal() {
-            None => Err(self.refuse(FaultKind::Expected)),
-            Some(literal) => Ok(literal),
+        if let Some(truth) = bool_of(&first.token) {
+            self.rest = behind;
+            let value = Value::Bool(truth);
+            return Ok(LiteralNode { at, value });
         }
+        // Behind a `-` the fault is that of the next token.
+        let _minus = self.takes_symbol(Symbol::Minus);
+        Err(self.refuse(FaultKind::Expected))
     }
 }

@@ -1,8 +1,8 @@
 // Reads statements.
-ghost use Rattle.std.specs.Prelude.{◌≡◌, ◌∷◌, ◌++◌, [], ◌<◌, ◌≤◌, ◌+◌, length, false, List, OnOk, IfOk, IfSome};
+ghost use Rattle.std.specs.Prelude.{◌≡◌, ◌∷◌, ◌++◌, [], ◌<◌, ◌+◌, false, List, OnOk, IfOk, IfSome};
 ghost use Rattle.pac_base.specs.Refusals.{Gives};
-ghost use Rattle.pac_syntax.specs.Machine.{Steps, MaybeElse, MoreStmts, MoreValues, abort_steps, block_steps, delete_steps, has_steps, if_steps, let_steps, place_steps, put_steps, read_steps, set_steps, stmt_steps, stmt_word, run, either, values_steps};
-ghost use Rattle.pac_syntax.specs.Views.{is_too_deep, Goes, GoesAll};
+ghost use Rattle.pac_syntax.specs.Machine.{Steps, MaybeElse, MoreStmts, MoreValues, abort_steps, block_steps, delete_steps, has_steps, if_steps, let_steps, cell_steps, field_steps, put_steps, read_steps, set_steps, stmt_steps, stmt_word, run, either, values_steps};
+ghost use Rattle.pac_syntax.specs.Views.{is_too_deep, Goes, GoesAll, NoLonger, IsShorter};
 ghost use Rattle.pac_syntax.specs.declared.tree.ExprNode.{ExprNode as AnExprNode};
 ghost use Rattle.pac_syntax.specs.declared.tree.NameNode.{NameNode as ANameNode};
 ghost use Rattle.pac_syntax.specs.declared.tree.StmtNode.{StmtNode as AStmtNode};
@@ -57,9 +57,9 @@ fn stands_too_deep(nested: u8, word: StatementWord) -> bool
 
 impl<'a> Parser<'a> {
     // TABLE "[" KEY "]"
-    fn place(&mut self) -> Result<(NameNode, ExprNode), SyntaxError>
-        ensures left { OnOk result (length self.new.rest.now ≤ length self.old.rest.now) }
-        ensures run { (k : ANameNode → AnExprNode → Steps) → Gives (λ p. run self.new.end (k p.0 p.1) self.new.rest.now) result (run self.old.end (place_steps k) self.old.rest.now) }
+    fn cell(&mut self) -> Result<(NameNode, ExprNode), SyntaxError>
+        ensures left { OnOk result (NoLonger self.old self.new) }
+        ensures run { (k : ANameNode → AnExprNode → Steps) → Gives (λ p. run self.new.end (k p.0 p.1) self.new.rest.now) result (run self.old.end (cell_steps k) self.old.rest.now) }
     {
         let table = self.name()?;
         self.symbol(Symbol::OpenBracket)?;
@@ -68,9 +68,20 @@ impl<'a> Parser<'a> {
         Ok((table, key))
     }
 
+    // TABLE "[" KEY "]" "." COLUMN
+    fn field(&mut self) -> Result<(NameNode, ExprNode, NameNode), SyntaxError>
+        ensures left { OnOk result (NoLonger self.old self.new) }
+        ensures run { (k : ANameNode → AnExprNode → ANameNode → Steps) → Gives (λ p. run self.new.end (k p.0 p.1 p.2) self.new.rest.now) result (run self.old.end (field_steps k) self.old.rest.now) }
+    {
+        let (table, key) = self.cell()?;
+        self.symbol(Symbol::Dot)?;
+        let column = self.name()?;
+        Ok((table, key, column))
+    }
+
     // "(" VALUE { "," VALUE } ")"
     fn values(&mut self) -> Result<Vec<ExprNode>, SyntaxError>
-        ensures left { OnOk result (length self.new.rest.now ≤ length self.old.rest.now) }
+        ensures left { OnOk result (NoLonger self.old self.new) }
         ensures run { GoesAll values_steps self.old self.new result }
     {
         self.symbol(Symbol::OpenParen)?;
@@ -82,7 +93,7 @@ impl<'a> Parser<'a> {
 
     // { "," VALUE } behind a first one
     fn more_values(&mut self, first: ExprNode) -> Result<Vec<ExprNode>, SyntaxError>
-        ensures left { OnOk result (length self.new.rest.now ≤ length self.old.rest.now) }
+        ensures left { OnOk result (NoLonger self.old self.new) }
         ensures run { GoesAll (MoreValues (first ∷ [])) self.old self.new result }
     {
         let mut values = Vec::new(self.alloc);
@@ -96,7 +107,7 @@ impl<'a> Parser<'a> {
 
     // A `let`, behind its word.
     fn let_rest(&mut self) -> Result<StmtNode, SyntaxError>
-        ensures left { OnOk result (length self.new.rest.now ≤ length self.old.rest.now) }
+        ensures left { OnOk result (NoLonger self.old self.new) }
         ensures run { Goes let_steps self.old self.new result }
     {
         let name = self.name()?;
@@ -108,14 +119,12 @@ impl<'a> Parser<'a> {
 
     // A `read`, behind its word.
     fn read_rest(&mut self) -> Result<StmtNode, SyntaxError>
-        ensures left { OnOk result (length self.new.rest.now ≤ length self.old.rest.now) }
+        ensures left { OnOk result (NoLonger self.old self.new) }
         ensures run { Goes read_steps self.old self.new result }
     {
         let name = self.name()?;
         self.symbol(Symbol::Assign)?;
-        let (table, key) = self.place()?;
-        self.symbol(Symbol::Dot)?;
-        let column = self.name()?;
+        let (table, key, column) = self.field()?;
         self.keyword(Keyword::Default)?;
         let default = self.literal()?;
         self.symbol(Symbol::Semicolon)?;
@@ -130,22 +139,22 @@ impl<'a> Parser<'a> {
 
     // A `has`, behind its word.
     fn has_rest(&mut self) -> Result<StmtNode, SyntaxError>
-        ensures left { OnOk result (length self.new.rest.now ≤ length self.old.rest.now) }
+        ensures left { OnOk result (NoLonger self.old self.new) }
         ensures run { Goes has_steps self.old self.new result }
     {
         let name = self.name()?;
         self.symbol(Symbol::Assign)?;
-        let (table, key) = self.place()?;
+        let (table, key) = self.cell()?;
         self.symbol(Symbol::Semicolon)?;
         Ok(StmtNode::Has { name, table, key })
     }
 
     // A `put`, behind its word.
     fn put_rest(&mut self) -> Result<StmtNode, SyntaxError>
-        ensures left { OnOk result (length self.new.rest.now ≤ length self.old.rest.now) }
+        ensures left { OnOk result (NoLonger self.old self.new) }
         ensures run { Goes put_steps self.old self.new result }
     {
-        let (table, key) = self.place()?;
+        let (table, key) = self.cell()?;
         self.symbol(Symbol::Assign)?;
         let values = listed(self.values()?);
         self.symbol(Symbol::Semicolon)?;
@@ -154,12 +163,10 @@ impl<'a> Parser<'a> {
 
     // A `set`, behind its word.
     fn set_rest(&mut self) -> Result<StmtNode, SyntaxError>
-        ensures left { OnOk result (length self.new.rest.now ≤ length self.old.rest.now) }
+        ensures left { OnOk result (NoLonger self.old self.new) }
         ensures run { Goes set_steps self.old self.new result }
     {
-        let (table, key) = self.place()?;
-        self.symbol(Symbol::Dot)?;
-        let column = self.name()?;
+        let (table, key, column) = self.field()?;
         self.symbol(Symbol::Assign)?;
         let value = self.expression()?;
         self.symbol(Symbol::Semicolon)?;
@@ -173,17 +180,17 @@ impl<'a> Parser<'a> {
 
     // A `delete`, behind its word.
     fn delete_rest(&mut self) -> Result<StmtNode, SyntaxError>
-        ensures left { OnOk result (length self.new.rest.now ≤ length self.old.rest.now) }
+        ensures left { OnOk result (NoLonger self.old self.new) }
         ensures run { Goes delete_steps self.old self.new result }
     {
-        let (table, key) = self.place()?;
+        let (table, key) = self.cell()?;
         self.symbol(Symbol::Semicolon)?;
         Ok(StmtNode::Delete { table, key })
     }
 
     // An `abort if`, behind its first word.
     fn abort_rest(&mut self) -> Result<StmtNode, SyntaxError>
-        ensures left { OnOk result (length self.new.rest.now ≤ length self.old.rest.now) }
+        ensures left { OnOk result (NoLonger self.old self.new) }
         ensures run { Goes abort_steps self.old self.new result }
     {
         self.keyword(Keyword::If)?;
@@ -196,7 +203,7 @@ impl<'a> Parser<'a> {
     #[cycle(statement)]
     fn if_rest(&mut self, nested: u8) -> Result<StmtNode, SyntaxError>
         requires { nested < MAX_NESTED }
-        ensures left { OnOk result (length self.new.rest.now ≤ length self.old.rest.now) }
+        ensures left { OnOk result (NoLonger self.old self.new) }
         ensures run { Goes (if_steps nested) self.old self.new result }
     {
         let test = self.expression()?;
@@ -212,7 +219,7 @@ impl<'a> Parser<'a> {
     // [ "else" block ]
     #[cycle(statement)]
     fn otherwise(&mut self, nested: u8) -> Result<Vec<StmtNode>, SyntaxError>
-        ensures left { OnOk result (length self.new.rest.now ≤ length self.old.rest.now) }
+        ensures left { OnOk result (NoLonger self.old self.new) }
         ensures run { GoesAll (MaybeElse nested) self.old self.new result }
     {
         match self.takes_keyword(Keyword::Else) {
@@ -224,7 +231,7 @@ impl<'a> Parser<'a> {
     /// Statements in braces, in so many conditionals.
     #[cycle(statement)]
     pub fn block(&mut self, nested: u8) -> Result<Vec<StmtNode>, SyntaxError>
-        ensures left { OnOk result (length self.new.rest.now ≤ length self.old.rest.now) }
+        ensures left { OnOk result (NoLonger self.old self.new) }
         ensures run { GoesAll (block_steps nested) self.old self.new result }
     {
         self.symbol(Symbol::OpenBrace)?;
@@ -235,8 +242,8 @@ impl<'a> Parser<'a> {
 
     // The word that begins the next statement, unless the statement is a conditional in too many others.
     fn next_statement(&mut self, nested: u8) -> Result<Option<StatementWord>, SyntaxError>
-        ensures left { length self.new.rest.now ≤ length self.old.rest.now }
-        ensures shorter { IfOk result (λ o. IfSome o (λ _. length self.new.rest.now < length self.old.rest.now)) }
+        ensures left { NoLonger self.old self.new }
+        ensures shorter { IfOk result (λ o. IfSome o (λ _. IsShorter self.old self.new)) }
         ensures within { IfOk result (λ o. IfSome o (λ w. is_too_deep nested w ≡ false)) }
         ensures run { (ss : List AStmtNode) (k : List AStmtNode → Steps) → Gives (λ o. either o (run self.new.end (k ss) self.new.rest.now) (λ w. run self.new.end (stmt_steps nested w (λ s. MoreStmts nested (ss ++ (s ∷ [])) k)) self.new.rest.now)) result (run self.old.end (MoreStmts nested ss k) self.old.rest.now) }
     {
@@ -257,7 +264,7 @@ impl<'a> Parser<'a> {
     #[cycle(statement)]
     fn statement_rest(&mut self, word: StatementWord, nested: u8) -> Result<StmtNode, SyntaxError>
         requires { is_too_deep nested word ≡ false }
-        ensures left { OnOk result (length self.new.rest.now ≤ length self.old.rest.now) }
+        ensures left { OnOk result (NoLonger self.old self.new) }
         ensures run { Goes (stmt_steps nested word) self.old self.new result }
     {
         match word {
@@ -275,7 +282,7 @@ impl<'a> Parser<'a> {
     // Statements in so many conditionals, as many as there are.
     #[cycle(statement)]
     fn statements(&mut self, nested: u8) -> Result<Vec<StmtNode>, SyntaxError>
-        ensures left { OnOk result (length self.new.rest.now ≤ length self.old.rest.now) }
+        ensures left { OnOk result (NoLonger self.old self.new) }
         ensures run { GoesAll (MoreStmts nested []) self.old self.new result }
     {
         let mut statements = Vec::new(self.alloc);

@@ -1,18 +1,15 @@
-use Rattle.std.proofs.Common.{◌∙◌}
-use Rattle.pac_syntax.proofs.Stepping.{literal_one, literal_minus, no_literal, gives_along}
+use Rattle.std.proofs.Common.{refl, sym}
+use Rattle.pac_syntax.proofs.Stepping.{nothing_left, literal_front, bool_front, no_literal}
 use Rattle.pac_syntax.proofs.parse.parser.Parser.literal.Goals as goal
 
-pub returns-in-Some-clause-run : goal.returns-in-Some-clause-run
-returns-in-Some-clause-run c = λ k. gives_along _ c.negative.result _ _ (literal_minus _ _ k _ _ _ c.takes_symbol.ensures.end c.in-Some.ensures.token) (c.negative.ensures.run k)
+pub returns-in_default-clause-run : goal.returns-in_default-clause-run
+returns-in_default-clause-run c = λ k. rw (c.refuse.ensures) (nothing_left _ k _ c.in_default.ensures)
 
-pub returns-in-None-clause-run : goal.returns-in-None-clause-run
-returns-in-None-clause-run c = λ k.
-    let sign = c.in_default.ensures in
-    let int = c.in-None.ensures in
-    rw (c.refuse.ensures, int.end, sign.end, int.literal.0, sign.token.0) (no_literal _ k _ sign.token.1 (rw sign.token.0 at int.literal.1))
+pub returns-in-Some-int_or_text-clause-run : goal.returns-in-Some-int_or_text-clause-run
+returns-in-Some-int_or_text-clause-run c = λ k. literal_front _ _ _ k _ _ _ _ _ refl c.in-Some.ensures c.in-Some-int_or_text.ensures.front refl
 
-pub returns-in-Some-takes_literal-clause-run : goal.returns-in-Some-takes_literal-clause-run
-returns-in-Some-takes_literal-clause-run c = λ k.
-    let sign = c.in_default.ensures in
-    let int = c.in-Some-takes_literal.ensures in
-    literal_one _ _ k _ _ _ (int.end ∙ sign.end) (rw sign.token.0 at int.literal)
+pub returns-in-Some-bool_of-clause-run : goal.returns-in-Some-bool_of-clause-run
+returns-in-Some-bool_of-clause-run c = λ k. bool_front _ _ _ k _ _ _ _ refl c.in-Some.ensures (sym c.in-Some-bool_of.ensures) refl
+
+pub returns-clause-run : goal.returns-clause-run
+returns-clause-run c = λ k. rw (c.refuse-2.ensures, c.takes_symbol-minus.ensures.end) (no_literal c.args.self.now.rest c.takes_symbol-minus.new.self.rest (λ rest. rest.now) _ k _ _ _ c.in-Some.ensures c.in_default-int_or_text.ensures.front (sym c.in_default-bool_of.ensures) c.takes_symbol-minus.ensures.token)

@@ -11,14 +11,14 @@ returns-in_err-column-clause-run c =
     let p = err_from_is_err_and c.from_residual-in_err-column.result c.from_residual-in_err-column.ensures.1 in
     λ k. rw (p.1, p.2) (fails_along _ _ _
     (c.loop-self.invariant.run k ∙ column_next _ _ _ _ _ _ k _ _ _ c.takes_symbol.ensures.end (omega (arith, c.len.ensures, c.loop-self.columns.ok.0)) c.in-Some.ensures.token)
-    (c.in_err-column.ensures.run (λ x. MoreColumns (role_of c.args.kind) (length c.loop-self.columns.items + 1) (c.loop-self.columns.items ++ (x ∷ [])) k)))
+    (c.in_err-column.ensures.run (λ x. MoreColumns (role_of c.args.owner) (length c.loop-self.columns.items + 1) (c.loop-self.columns.items ++ (x ∷ [])) k)))
 
 pub loop-self-preserved : goal.loop-self-preserved
 loop-self-preserved c = record {
   left = omega (arith, c.loop-self.invariant.left, c.in_ok-column.ensures.left, ap length c.in-Some.ensures.token.text);
   run = λ k. c.loop-self.invariant.run k ∙ column_next _ _ _ _ _ _ k _ _ _ c.takes_symbol.ensures.end (omega (arith, c.len.ensures, c.loop-self.columns.ok.0)) c.in-Some.ensures.token
-      ∙ c.in_ok-column.ensures.run (λ x. MoreColumns (role_of c.args.kind) (length c.loop-self.columns.items + 1) (c.loop-self.columns.items ++ (x ∷ [])) k)
-      ∙ counted (λ (i : ℕ) (xs : List ColumnNode). MoreColumns (role_of c.args.kind) i xs k) _ _ _ _ _ c.in_ok-push-2.ensures.items;
+      ∙ c.in_ok-column.ensures.run (λ x. MoreColumns (role_of c.args.owner) (length c.loop-self.columns.items + 1) (c.loop-self.columns.items ++ (x ∷ [])) k)
+      ∙ counted (λ (i : ℕ) (xs : List ColumnNode). MoreColumns (role_of c.args.owner) i xs k) _ _ _ _ _ c.in_ok-push-2.ensures.items;
 }
 
 pub returns-clause-run : goal.returns-clause-run

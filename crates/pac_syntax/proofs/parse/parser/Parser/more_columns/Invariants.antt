@@ -8,7 +8,7 @@ use Rattle.pac_syntax.proofs.parse.parser.Parser.more_columns.Given as goal
 abbrev pub invariant-loop-self : goal.invariant-loop-self
 invariant-loop-self l = record {
   left : length l.self.rest.now ≤ length l.fn.self.rest.now;
-  run : (k : List ColumnNode → Steps) → run l.fn.self.end (MoreColumns (role_of l.kind) 1 (l.fn.first ∷ []) k) l.fn.self.rest.now ≡ run l.self.end (MoreColumns (role_of l.kind) (length l.columns.items) l.columns.items k) l.self.rest.now;
+  run : (k : List ColumnNode → Steps) → run l.fn.self.end (MoreColumns (role_of l.owner) 1 (l.fn.first ∷ []) k) l.fn.self.rest.now ≡ run l.self.end (MoreColumns (role_of l.owner) (length l.columns.items) l.columns.items k) l.self.rest.now;
 }
 
 abbrev pub decreases-loop-self : goal.decreases-loop-self
