@@ -13,11 +13,11 @@ use Rattle.pac_tokens.specs.declared.token.Symbol.TheVariants as symbol
 use Rattle.pac_types.specs.declared.table.Table.{Table}
 use Rattle.pac_types.specs.declared.procedure.Proc.{Proc}
 use Rattle.pac_types.specs.Numbering.{number_of}
-use Rattle.pac_types.specs.Sound.{FitParams}
+use Rattle.pac_types.specs.Fits.{FitParams}
 use Rattle.pac_types.specs.Typing.{IsProc}
 use Rattle.pac_ops.specs.declared.transaction.Call.{Call}
 use Rattle.pac_ops.specs.Arguments.{IsArgs}
-use Rattle.pac_serial.specs.Calls.{FitsProcs}
+use Rattle.pac_types.specs.Fits.{FitsProcs}
 use Rattle.pac_main.specs.Calls.{literals, IsCall, IsFitting, proc_names}
 use Rattle.pac_main.specs.CallsRead.{args_in, head_in, named, name_of_token, is_call_word, is_open}
 use Rattle.pac_main.proofs.CallLemmas.{args_in-spelled, args-spelled}

@@ -11,7 +11,8 @@ use Rattle.pac_value.specs.declared.values.Value.TheVariants.{Int, Text, Bool as
 use Rattle.pac_value.specs.Values.{type_of, is_stored}
 use Rattle.pac_syntax.specs.Limits.{is_stored_type}
 use Rattle.pac_types.specs.declared.table.Column.{Column}
-use Rattle.pac_types.specs.Sound.{FitParams, types}
+use Rattle.pac_types.specs.Sound.{types}
+use Rattle.pac_types.specs.Fits.{FitParams}
 
 -- two lists that agree so far, and at the next place
 front-next : {A : Type 0} (xs ys : List A) (i : ℕ) (x : A) → take i xs ≡ take i ys → i < length xs → i < length ys → get_or xs i x ≡ get_or ys i x → take (i + 1) xs ≡ take (i + 1) ys

@@ -6,7 +6,7 @@ use Rattle.std.proofs.lemmas.List.{append-nil}
 use Rattle.pac_outside.specs.Content.{Gave, IsAtEnd}
 use Rattle.pac_types.specs.declared.procedure.Proc.{Proc}
 use Rattle.pac_ops.specs.declared.transaction.Call.{Call}
-use Rattle.pac_serial.specs.Calls.{FitsProcs}
+use Rattle.pac_types.specs.Fits.{FitsProcs}
 use Rattle.pac_main.specs.declared.script.Script.{Script}
 use Rattle.pac_base.specs.Refusals.{Only}
 use Rattle.pac_base.specs.declared.refusal.Refusal.{Refusal}

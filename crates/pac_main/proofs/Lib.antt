@@ -7,3 +7,4 @@ pub mod ScriptLemmas
 pub mod OneRefusal
 pub mod InputLemmas
 pub mod StopLemmas
+pub mod BatchLemmas

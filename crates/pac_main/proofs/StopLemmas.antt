@@ -1,7 +1,7 @@
 -- What the stop that is told says of the stop that came.
 use Rattle.std.proofs.Common.{◌≡◌, ◌⊎◌, ℕ, inl, inr, refl, sym, ap, ◌∙◌, arith}
 use Rattle.std.specs.Prelude.{IsTrue}
-use Rattle.pac_ops.specs.declared.reason.Reason.{Reason}
+use Rattle.pac_ops.specs.declared.note.Note.{Note}
 use Rattle.pac_main.specs.declared.script_fault.ScriptFault.{ScriptFault}
 use Rattle.pac_main.specs.declared.stop.Stop.{Stop}
 use Rattle.pac_main.specs.declared.stop.Stop.TheVariants.{Usage, Script, Aborted, InputFault, OutputFault, NoMemory}
@@ -18,13 +18,11 @@ told_same stop told n (inr e) is other = absurd (other (sym is ∙ ap status_of 
 
 -- a stop with status 4 is an abort
 pub record AnAbort (stop : Stop) : Type 0 where
-  pub txn : ℕ
-  pub op : ℕ
-  pub reason : Reason
-  pub is : stop ≡ Aborted txn op reason
+  pub note : Note
+  pub is : stop ≡ Aborted note
 
 pub aborted_of : (stop : Stop) → status_of stop ≡ 4 → AnAbort stop
-aborted_of (Aborted txn op reason) four = record { txn = txn; op = op; reason = reason; is = refl }
+aborted_of (Aborted note) four = record { note = note; is = refl }
 aborted_of Usage four = absurd (omega arith)
 aborted_of (Script fault) four = absurd (omega arith)
 aborted_of InputFault four = absurd (omega arith)
@@ -39,7 +37,7 @@ pub record ARefusal (stop : Stop) : Type 0 where
 pub refused_of : (stop : Stop) → status_of stop ≡ 2 → ARefusal stop
 refused_of (Script fault) two = record { fault = fault; is = refl }
 refused_of Usage two = absurd (omega arith)
-refused_of (Aborted txn op reason) two = absurd (omega arith)
+refused_of (Aborted note) two = absurd (omega arith)
 refused_of InputFault two = absurd (omega arith)
 refused_of OutputFault two = absurd (omega arith)
 refused_of NoMemory two = absurd (omega arith)

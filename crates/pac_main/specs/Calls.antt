@@ -9,7 +9,7 @@ use Rattle.pac_tokens.specs.declared.token.Spanned.{Spanned}
 use Rattle.pac_types.specs.declared.procedure.Proc.{Proc}
 use Rattle.pac_types.specs.Numbering.{number_of}
 use Rattle.pac_ops.specs.declared.transaction.Call.{Call}
-use Rattle.pac_serial.specs.Calls.{FitsProcs}
+use Rattle.pac_types.specs.Fits.{FitsProcs}
 
 -- a literal as it is written: an int, a `-` and an int, or a text
 pub data Literal : Type 0 where

@@ -5,11 +5,12 @@ use Rattle.std.specs.FinMap.{empty}
 use Rattle.pac_outside.specs.Causes.{Rose}
 use Rattle.pac_outside.specs.Content.{Took, TookFront}
 use Rattle.pac_value.specs.State.{Tables}
-use Rattle.pac_ops.specs.declared.reason.Reason.{Reason}
-use Rattle.pac_types.specs.Meaning.{TxnAbort, serial}
-use Rattle.pac_serial.specs.Calls.{call_of}
-use Rattle.pac_serial.specs.declared.serial.SerialError.{SerialError}
-use Rattle.pac_serial.specs.declared.serial.SerialError.TheVariants.{Abort, NoMemory}
+use Rattle.pac_ops.specs.declared.note.Note.{Note}
+use Rattle.pac_tables.specs.Joined.{Held}
+use Rattle.pac_ops.specs.declared.transaction.Txn.TheVariants.{Call}
+use Rattle.pac_types.specs.Execution.{serial}
+use Rattle.pac_serial.specs.declared.serial.AllError.{AllError}
+use Rattle.pac_serial.specs.declared.serial.AllError.TheVariants.{Abort, NoMemory}
 use Rattle.pac_serial.specs.Dump.{tables_text}
 use Rattle.pac_main.specs.declared.script.Script.{Script}
 use Rattle.pac_main.specs.declared.script_fault.ScriptFault.{ScriptFault}
@@ -39,13 +40,13 @@ abbrev pub IsRefusedAs : Option (List ℕ) → ScriptFault → Type 0
 IsRefusedAs input fault = IfSome input (λ text. IsTheRefusal text fault)
 
 -- the tables with which serial execution of the calls ends, from no rows on, or its abort
-abbrev pub outcome : Script → Result Tables TxnAbort
-outcome script = serial script.catalogue.procs 1 (map call_of script.calls) empty
+abbrev pub outcome : Script → Result Tables Note
+outcome script = serial script.catalogue.procs 1 (map Call script.calls) empty
 
 -- the calls end with these tables, abort so, or find no memory
-abbrev pub DoesEnd : Result Tables SerialError → Result Tables TxnAbort → Type 0
-DoesEnd (Ok tables) meaning = meaning ≡ Ok tables
-DoesEnd (Err (Abort txn op reason)) meaning = meaning ≡ Err (txn, op, reason)
+abbrev pub DoesEnd : Result Held AllError → Result Tables Note → Type 0
+DoesEnd (Ok held) meaning = meaning ≡ Ok held.rows
+DoesEnd (Err (Abort note)) meaning = meaning ≡ Err note
 DoesEnd (Err NoMemory) meaning = Unit {0}
 
 -- the text of the tables, in the catalogue's order
@@ -61,5 +62,5 @@ abbrev pub IsDumpOf : Option (List ℕ) → (List ℕ → Type 0) → Type 0
 IsDumpOf input P = (script : Script) × (tables : Tables) × IsScriptOf script input × (outcome script ≡ Ok tables) × P (dump script tables)
 
 -- the input is a script whose calls abort so
-abbrev pub IsAbortOf : Option (List ℕ) → ℕ → ℕ → Reason → Type 0
-IsAbortOf input txn op reason = (script : Script) × IsScriptOf script input × (outcome script ≡ Err (txn, op, reason))
+abbrev pub IsAbortOf : Option (List ℕ) → Note → Type 0
+IsAbortOf input note = (script : Script) × IsScriptOf script input × (outcome script ≡ Err note)

@@ -3,10 +3,10 @@ use Rattle.std.specs.Prelude.{ℕ, Bool, true, false, List, ◌++◌, codes}
 use Rattle.std.specs.Fmt.{decimal}
 use Rattle.pac_types.specs.declared.text.CatalogueFault.{CatalogueFault}
 use Rattle.pac_types.specs.CatalogueText.{fault_place, fault_kind}
-use Rattle.pac_ops.specs.declared.reason.Reason.{Reason}
+use Rattle.pac_ops.specs.declared.note.Note.{Note}
 use Rattle.pac_ops.specs.Reasons.{reason_name}
-use Rattle.pac_serial.specs.declared.serial.SerialError.{SerialError}
-use Rattle.pac_serial.specs.declared.serial.SerialError.TheVariants as serial
+use Rattle.pac_serial.specs.declared.serial.AllError.{AllError}
+use Rattle.pac_serial.specs.declared.serial.AllError.TheVariants as serial
 use Rattle.pac_main.specs.declared.script_fault.ScriptFault.TheVariants.{Catalogue, Refused}
 use Rattle.pac_main.specs.declared.command.InputError.{InputError}
 use Rattle.pac_main.specs.declared.command.InputError.TheVariants as input
@@ -19,14 +19,14 @@ use Rattle.pac_main.specs.declared.tell.WordsError.TheVariants as words
 abbrev pub status_of : Stop → ℕ
 status_of Usage = 1
 status_of (Script fault) = 2
-status_of (Aborted txn op reason) = 4
+status_of (Aborted note) = 4
 status_of InputFault = 6
 status_of OutputFault = 7
 status_of NoMemory = 9
 
 -- the transaction's number, the operation's, and the reason
-abbrev pub abort_line : ℕ → ℕ → Reason → List ℕ
-abort_line txn op reason = codes "abort " ++ decimal txn ++ codes " " ++ decimal op ++ codes " " ++ reason_name reason ++ codes "\n"
+abbrev pub abort_line : Note → List ℕ
+abort_line note = codes "abort " ++ decimal note.txn ++ codes " " ++ decimal note.op ++ codes " " ++ reason_name note.reason ++ codes "\n"
 
 -- the place of a catalogue's fault, and its kind
 abbrev pub catalogue_line : CatalogueFault → List ℕ
@@ -35,7 +35,7 @@ catalogue_line fault = codes "catalogue " ++ decimal (fault_place fault) ++ code
 -- whether a stop's line has numbers, and is made
 abbrev pub takes_memory : Stop → Bool
 takes_memory (Script (Catalogue fault)) = true
-takes_memory (Aborted txn op reason) = true
+takes_memory (Aborted note) = true
 takes_memory _ = false
 
 -- the line that the error sink is told of a stop
@@ -43,7 +43,7 @@ abbrev pub line_of : Stop → List ℕ
 line_of Usage = codes "usage: pacman init, run, recover, explain, replay or stress\n"
 line_of (Script (Catalogue fault)) = catalogue_line fault
 line_of (Script Refused) = codes "script refused\n"
-line_of (Aborted txn op reason) = abort_line txn op reason
+line_of (Aborted note) = abort_line note
 line_of InputFault = codes "input fault\n"
 line_of OutputFault = codes "output fault\n"
 line_of NoMemory = codes "no memory\n"
@@ -60,6 +60,6 @@ stop_of_input (input.Script fault) = Script fault
 stop_of_input input.NoMemory = NoMemory
 
 -- an execution that doesn't end with rows stops with its cause
-abbrev pub stop_of_serial : SerialError → Stop
-stop_of_serial (serial.Abort txn op reason) = Aborted txn op reason
+abbrev pub stop_of_serial : AllError → Stop
+stop_of_serial (serial.Abort note) = Aborted note
 stop_of_serial serial.NoMemory = NoMemory

@@ -2,13 +2,13 @@
 ghost use Rattle.std.specs.Prelude.{◌≡◌, ◌<◌, length, IfOk, IfSome, IsTrue, ◌↔◌, MatchOption, Some, None, map};
 ghost use Rattle.std.specs.Option.{option_map};
 ghost use Rattle.pac_value.specs.Values.{type_of};
-ghost use Rattle.pac_types.specs.Sound.{FitParams};
+ghost use Rattle.pac_types.specs.Fits.{FitParams};
 ghost use Rattle.pac_ops.specs.declared.transaction.Call.{Call as ACall};
 ghost use Rattle.pac_main.specs.Calls.{tokens_alone, IsCall, IsFitting};
 ghost use Rattle.pac_main.specs.CallsRead.{more_in, args_in, next_in, is_closed, name_of_token, is_call_word, is_open, head_in};
 
 use pac_base::{NoMemory, Ruled};
-use pac_serial::Call;
+use pac_ops::Call;
 use pac_tokens::{Spanned, Symbol, Token, int_or_text};
 use pac_types::{Catalogue, Column};
 use pac_value::{Name, Ty, Value};

@@ -4,8 +4,8 @@ ghost use Rattle.std.specs.List.{list_any, AllByRecursion};
 ghost use Rattle.std.specs.String.{string_bytes};
 ghost use Rattle.pac_outside.specs.Causes.{Rose};
 ghost use Rattle.pac_outside.specs.Content.{Took, TookFront, GaveAtMost};
-ghost use Rattle.pac_ops.specs.declared.reason.Reason.{Reason as AReason};
-ghost use Rattle.pac_serial.specs.Calls.{FitsProcs};
+ghost use Rattle.pac_ops.specs.declared.note.Note.{Note as ANote};
+ghost use Rattle.pac_types.specs.Fits.{FitsProcs};
 ghost use Rattle.pac_main.specs.Stop.{status_of, line_of, abort_line};
 ghost use Rattle.pac_main.specs.Replay.{IsReplay, IsScriptOf, IsNoScript, IsRefusedAs, outcome, TookUnlessFault, IsDumpOf, IsAbortOf, DoesEnd};
 ghost use Rattle.pac_main.specs.declared.script.Script.{Script as AScript};
@@ -13,6 +13,7 @@ ghost use Rattle.pac_main.specs.declared.script_fault.ScriptFault.{ScriptFault a
 ghost use Rattle.pac_main.specs.declared.stop.Stop.{Stop as AStop};
 ghost use Rattle.pac_main.specs.Inputs.{input_of_read, input_of_script};
 
+use crate::execution::execute;
 use crate::limits::MAX_SCRIPT;
 use crate::script::{Script, read_script};
 use crate::script_fault::{ScriptError, ScriptFault};
@@ -20,7 +21,7 @@ use crate::stop::Stop;
 use crate::tell::{WordsError, refuse_words, told};
 use pac_base::Refusal;
 use pac_outside::{Devices, Disk, Gate, ReadError, Sink, Source, read_up_to, write_all};
-use pac_serial::{AllRows, SerialError, dump_tables, exec_all};
+use pac_serial::dump_tables;
 use std::alloc::Global;
 use std::sync::Wait;
 use std::thread::Threads;
@@ -74,23 +75,11 @@ fn read_input<I: Source>(alloc: Global, input: &mut I) -> Result<Script, InputEr
     Ok(read_script(alloc, &text)?)
 }
 
-// The rows with which the calls end, from no rows on.
-fn execute(alloc: Global, script: &Script) -> Result<AllRows, SerialError>
-    requires { AllByRecursion (FitsProcs script.now.catalogue.procs) script.now.calls }
-    ensures { DoesEnd result (outcome script.now) }
-{
-    let mut rows = AllRows::new(alloc);
-    let tables = script.catalogue.tables();
-    let procs = script.catalogue.procs();
-    exec_all(alloc, tables, procs, script.calls.as_slice(), &mut rows)?;
-    Ok(rows)
-}
-
 // Replays the script and writes the dump.
 fn replay<I: Source, O: Sink>(alloc: Global, input: &mut I, output: &mut O) -> Result<(), Stop>
     ensures done { OnOk result (IsDumpOf (I.left input.old) (λ text. Took (O.held output.old) text (O.held output.new))) }
     ensures refused { (fault : AFault) → IsErrOf result (Stop.Script fault) → IsNoScript (I.left input.old) × IsRefusedAs (I.left input.old) fault }
-    ensures aborted { (txn op : ℕ) (reason : AReason) → IsErrOf result (Stop.Aborted txn op reason) → IsAbortOf (I.left input.old) txn op reason }
+    ensures aborted { (note : ANote) → IsErrOf result (Stop.Aborted note) → IsAbortOf (I.left input.old) note }
     ensures input_fault { IsErrOf result Stop.InputFault → Rose (I.faults input.old) (I.faults input.new) }
     ensures output_fault { IsErrOf result Stop.OutputFault → Rose (O.faults output.old) (O.faults output.new) }
     ensures front { IsErrOf result Stop.OutputFault → IsDumpOf (I.left input.old) (λ text. TookFront (O.held output.old) text (O.held output.new)) }
@@ -98,9 +87,9 @@ fn replay<I: Source, O: Sink>(alloc: Global, input: &mut I, output: &mut O) -> R
     ensures taken { GaveAtMost (MAX_SCRIPT + 1) (I.left input.old) (I.left input.new) }
     ensures no_usage { ¬ IsErrOf result Stop.Usage }
 {
-    let script = read_input(alloc, input)?;
-    let rows = execute(alloc, &script)?;
-    let text = dump_tables(alloc, script.catalogue.tables(), &rows)?;
+    let Script { catalogue, calls } = read_input(alloc, input)?;
+    let rows = execute(alloc, &catalogue, calls)?;
+    let text = dump_tables(alloc, &catalogue, &rows)?;
     Ok(write_all(output, &text)?)
 }
 
@@ -145,8 +134,8 @@ pub fn pacman<RT: Threads + Wait + Sync, I: Source, O: Sink, E: Sink, D: Disk, G
     ensures refused { result ≡ 2 → IsNoScript (I.left input.old) }
     ensures refusal { result ≡ 2 → (fault : AFault) × IsRefusedAs (I.left input.old) fault
         × TookUnlessFault E.held E.faults errors.old (line_of (Stop.Script fault)) errors.new }
-    ensures aborted { result ≡ 4 → (txn op : ℕ) × (reason : AReason) × IsAbortOf (I.left input.old) txn op reason
-        × TookUnlessFault E.held E.faults errors.old (abort_line txn op reason) errors.new }
+    ensures aborted { result ≡ 4 → (note : ANote) × IsAbortOf (I.left input.old) note
+        × TookUnlessFault E.held E.faults errors.old (abort_line note) errors.new }
     ensures input_fault { result ≡ 6 → Rose (I.faults input.old) (I.faults input.new) }
     ensures output_fault { result ≡ 7 → Rose (O.faults output.old) (O.faults output.new) }
 

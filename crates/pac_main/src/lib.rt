@@ -10,6 +10,7 @@
 
 mod call;
 mod command;
+mod execution;
 mod limits;
 mod lines;
 mod request;

@@ -10,8 +10,8 @@ ghost use Rattle.pac_main.specs.Requests.{IsLine, AreCalls, some_call};
 use crate::call::read_call;
 use crate::limits::MAX_LINE;
 use crate::split::first_line;
-use pac_base::{NoMemory, Refusal};
-use pac_serial::Call;
+use pac_base::{NoMemory, Refusal, Rule, Ruled};
+use pac_ops::Call;
 use pac_syntax::{Tokens, tokens};
 use pac_types::Catalogue;
 use std::alloc::Global;
@@ -24,6 +24,18 @@ pub struct NoCall;
 
 /// Why a request line isn't read.
 pub type LineError = Refusal<NoCall>;
+
+/// The calls of a script, in order.
+pub type Calls = Ruled<CallsRule>;
+
+/// What [`Calls`] keep: nothing.
+pub struct CallsRule;
+
+impl Rule for CallsRule {
+    type Item = Call;
+
+    ghost holds = { λ calls. Unit {0} };
+}
 
 // The tokens of a line.
 fn line_tokens(alloc: Global, line: &[u8]) -> Result<Tokens, LineError>

@@ -6,9 +6,10 @@ ghost use Rattle.pac_main.specs.declared.stop.Stop.TheVariants.{OutputFault, NoM
 use crate::command::InputError;
 use crate::script_fault::ScriptFault;
 use pac_base::NoMemory;
+use pac_ops::Note;
 use pac_outside::Failed;
-use pac_serial::SerialError;
-use pac_types::{CatalogueFault, Reason};
+use pac_serial::AllError;
+use pac_types::CatalogueFault;
 use pac_value::push_count;
 use std::alloc::Global;
 
@@ -19,8 +20,8 @@ pub enum Stop {
     Usage,
     /// The input is no script.
     Script(ScriptFault),
-    /// The operation of the transaction with this number aborts for this reason.
-    Aborted { txn: u64, op: u64, reason: Reason },
+    /// This operation of this transaction aborts.
+    Aborted(Note),
     /// The input could not be read.
     InputFault,
     /// The output could not be written.
@@ -58,13 +59,13 @@ impl From<InputError> for Stop {
     }
 }
 
-impl From<SerialError> for Stop {
+impl From<AllError> for Stop {
     ghost from_gives = { λ error stop. stop ≡ stop_of_serial error };
 
-    fn from(error: SerialError) -> Self {
+    fn from(error: AllError) -> Self {
         match error {
-            SerialError::Abort { txn, op, reason } => Stop::Aborted { txn, op, reason },
-            SerialError::NoMemory => Stop::NoMemory,
+            AllError::Abort(note) => Stop::Aborted(note),
+            AllError::NoMemory => Stop::NoMemory,
         }
     }
 }
@@ -77,7 +78,7 @@ impl Stop {
         match self {
             Stop::Usage => 1,
             Stop::Script(_) => 2,
-            Stop::Aborted { .. } => 4,
+            Stop::Aborted(_) => 4,
             Stop::InputFault => 6,
             Stop::OutputFault => 7,
             Stop::NoMemory => 9,
@@ -91,7 +92,7 @@ impl Stop {
         match self {
             Stop::Usage => Some(b"usage: pacman init, run, recover, explain, replay or stress\n"),
             Stop::Script(ScriptFault::Refused) => Some(b"script refused\n"),
-            Stop::Script(ScriptFault::Catalogue(_)) | Stop::Aborted { .. } => None,
+            Stop::Script(ScriptFault::Catalogue(_)) | Stop::Aborted(_) => None,
             Stop::InputFault => Some(b"input fault\n"),
             Stop::OutputFault => Some(b"output fault\n"),
             Stop::NoMemory => Some(b"no memory\n"),
@@ -121,16 +122,16 @@ pub fn catalogue_line(alloc: Global, fault: CatalogueFault) -> Result<Vec<u8>, N
 /// # Errors
 ///
 /// `NoMemory` alone.
-pub fn abort_line(alloc: Global, txn: u64, op: u64, reason: Reason) -> Result<Vec<u8>, NoMemory>
-    ensures { IfOk result (λ line. line.items ≡ abort_line txn op reason) }
+pub fn abort_line(alloc: Global, note: Note) -> Result<Vec<u8>, NoMemory>
+    ensures { IfOk result (λ line. line.items ≡ abort_line note) }
 {
     let mut line = Vec::new(alloc);
     line.extend_from_slice(b"abort ")?;
-    push_count(&mut line, txn)?;
+    push_count(&mut line, note.txn)?;
     line.extend_from_slice(b" ")?;
-    push_count(&mut line, op)?;
+    push_count(&mut line, u64::from(note.op))?;
     line.extend_from_slice(b" ")?;
-    line.extend_from_slice(reason.name().as_bytes())?;
+    line.extend_from_slice(note.reason.name().as_bytes())?;
     line.extend_from_slice(b"\n")?;
     Ok(line)
 }

@@ -81,9 +81,7 @@ pub fn told<E: Sink>(alloc: Global, stop: Stop, errors: &mut E) -> Stop
         Stop::Script(ScriptFault::Catalogue(fault)) => {
             told_made(stop, catalogue_line(alloc, fault), errors)
         }
-        Stop::Aborted { txn, op, reason } => {
-            told_made(stop, abort_line(alloc, txn, op, reason), errors)
-        }
+        Stop::Aborted(note) => told_made(stop, abort_line(alloc, note), errors),
         _ => {
             told_text(stop, errors);
             stop

@@ -8,6 +8,7 @@ use Rattle.pac_ops.specs.declared.transaction.Txn.{Txn}
 use Rattle.pac_types.specs.declared.procedure.Proc.{Proc}
 use Rattle.pac_types.specs.Meaning.{Abort}
 use Rattle.pac_types.specs.Execution.{txn_meaning, in_txn, serial}
+use Rattle.pac_types.proofs.ExecutionLemmas.{serial-parts}
 use Rattle.pac_serial.specs.Outcomes.{limited}
 
 -- without a limit a transaction gives what it means
@@ -26,14 +27,11 @@ goes-on procs first i txn txns before after h =
     ap (λ n. serial procs n txns after) next ∙ sym (ap (λ (r : Result Tables Abort). in_txn (first + i) r >>= λ t. serial procs (first + i + 1) txns t) h)
 
 serial-append : (procs : List Proc) (n : ℕ) (xs : List Txn) (x : Txn) (t u v : Tables) → serial procs n xs t ≡ Ok u → txn_meaning procs x u ≡ Ok v → serial procs n (xs ++ x ∷ []) t ≡ Ok v
-serial-append procs n [] x t u v done h =
-    let e : t ≡ u = cc in
-    same (in_txn n (txn_meaning procs x t)) ∙ ap (λ w. in_txn n (txn_meaning procs x w)) e ∙ ap (in_txn n) h
-serial-append procs n (y ∷ ys) x t u v done h = go (in_txn n (txn_meaning procs y t)) (λ w e. serial-append procs (n + 1) ys x w u v e h) done
-  where
-    go : (r : Result Tables Note) → ((w : Tables) → serial procs (n + 1) ys w ≡ Ok u → serial procs (n + 1) (ys ++ x ∷ []) w ≡ Ok v) → (r >>= λ w. serial procs (n + 1) ys w) ≡ Ok u → (r >>= λ w. serial procs (n + 1) (ys ++ x ∷ []) w) ≡ Ok v
-    go (Ok w) rest e = rest w e
-    go (Err note) rest e = cc
+serial-append procs n xs x t u v done h =
+    serial-parts procs n xs (x ∷ []) t
+    ∙ ap (λ (r : Result Tables Note). r >>= λ w. serial procs (n + length xs) (x ∷ []) w) done
+    ∙ same (in_txn (n + length xs) (txn_meaning procs x u))
+    ∙ ap (in_txn (n + length xs)) h
 
 pub done-more : (procs : List Proc) (first : ℕ) (txns : List Txn) (i : ℕ) (txn : Txn) (t u v : Tables) → i < length txns → txn ≡ get_or txns i txn
     → serial procs first (take i txns) t ≡ Ok u → txn_meaning procs txn u ≡ Ok v → serial procs first (take (i + 1) txns) t ≡ Ok v

@@ -7,6 +7,7 @@ ghost use Rattle.pac_serial.specs.Outcomes.{ExecutesAll};
 
 use crate::execute::{ExecError, exec_txn};
 use crate::transaction::RunningTxn;
+use pac_base::NoMemory;
 use pac_ops::{Batch, Note};
 use pac_tables::Rows;
 use pac_types::Catalogue;
@@ -19,6 +20,17 @@ pub enum AllError {
     Abort(Note),
     /// An allocation was refused.
     NoMemory,
+}
+
+impl From<NoMemory> for AllError {
+    ghost use Rattle.std.specs.Prelude.{◌≡◌};
+    ghost use Rattle.pac_serial.specs.declared.serial.AllError.TheVariants.{NoMemory};
+
+    ghost from_gives = { λ _ error. error ≡ NoMemory };
+
+    fn from(_: NoMemory) -> Self {
+        AllError::NoMemory
+    }
 }
 
 /// Executes the transactions of a batch in order, without a limit on rows, up to the first that is refused. What one

@@ -18,3 +18,4 @@ pub mod FirstLemmas
 pub mod TypedLemmas
 pub mod OneCatalogue
 pub mod ShapeLemmas
+pub mod ExecutionLemmas

@@ -3,7 +3,7 @@ use Rattle.pac_value.specs.declared.values.Value.{Value}
 use Rattle.pac_types.specs.declared.table.Column.{Column}
 use Rattle.pac_types.specs.declared.procedure.Proc.{Proc}
 use Rattle.pac_types.specs.Numbering.{number_of}
-use Rattle.pac_types.specs.Sound.{FitParams}
+use Rattle.pac_types.specs.Fits.{FitParams}
 use Rattle.pac_main.specs.Calls.{proc_names}
 use Rattle.pac_main.proofs.CallOnce.{proc_within, proc_at, are_args, not_fitting, fits_so, subst2}
 use Rattle.pac_main.proofs.call.call_of.Goals as goal

@@ -6,7 +6,7 @@ pub returns-in-Err-clause-aborted : goal.returns-in-Err-clause-aborted
 returns-in-Err-clause-aborted g c = λ four.
     let same = told_same c.in-Err.stop c.told.result 4 c.told.ensures.which (sym c.status.ensures ∙ four) (λ e. omega arith) in
     let a = aborted_of c.told.result (sym c.status.ensures ∙ four) in
-    (a.txn, a.op, a.reason, c.in-Err.ensures.aborted a.txn a.op a.reason (ap (λ s. Err s) (sym same ∙ a.is)), rw a.is at c.told.ensures.line)
+    (a.note, c.in-Err.ensures.aborted a.note (ap (λ s. Err s) (sym same ∙ a.is)), rw a.is at c.told.ensures.line)
 
 pub returns-in-Err-clause-refused : goal.returns-in-Err-clause-refused
 returns-in-Err-clause-refused g c = λ two.
