@@ -2,5 +2,8 @@ pub mod Calls
 pub mod Causes
 pub mod Content
 pub mod Disk
+pub mod Fills
+pub mod MemDisk
 pub mod Memory
+pub mod Moments
 pub mod Streams

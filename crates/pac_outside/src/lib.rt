@@ -16,10 +16,14 @@
 mod bytes;
 mod calls;
 mod device;
+#[cfg(test)]
+mod disk_tests;
 mod failed;
 mod faults;
 mod gate;
+mod mem_disk;
 mod memory;
+mod moment;
 mod streams;
 #[cfg(test)]
 mod tests;
@@ -29,6 +33,8 @@ pub use bytes::{Sink, Source};
 pub use device::{Devices, Disk, NoDisk};
 pub use failed::{Failed, ReadError};
 pub use gate::{Gate, OpenGate};
+pub use mem_disk::MemDisk;
 pub use memory::{MemSink, MemSource};
+pub use moment::Fill;
 pub use streams::Stream;
 pub use whole::{read_up_to, write_all};
