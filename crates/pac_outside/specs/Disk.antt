@@ -14,15 +14,15 @@ abbrev pub is_within : ℕ × ℕ → ℕ → Bool
 is_within range place = nat_le range.0 place && nat_lt place (range.0 + range.1)
 
 -- the place was written since the last sync
-abbrev pub is_written : DiskState → ℕ → Bool
-is_written state place = list_any (λ range. is_within range place) state.written
+abbrev pub is_unsynced : DiskState → ℕ → Bool
+is_unsynced state place = list_any (λ range. is_within range place) state.written
 
 -- A crash at this moment may leave these bytes. Places that were written since the last sync, and so all behind the
 -- bytes of that sync, may hold anything; the length may be any from the one at the sync to the present one.
 pub record IsImage (state : DiskState) (image : List ℕ) : Type 0 where
   pub no_shorter : length state.synced ≤ length image
   pub no_longer : length image ≤ length state.seen
-  pub stays : (place : ℕ) → place < length state.synced → is_written state place ≡ false → slice_index image place ≡ slice_index state.synced place
+  pub stays : (place : ℕ) → place < length state.synced → is_unsynced state place ≡ false → slice_index image place ≡ slice_index state.synced place
 
 -- a piece from a place on, over what stood there
 abbrev pub spliced : ℕ → List ℕ → List ℕ → List ℕ
@@ -89,6 +89,10 @@ LeavesTorn at piece old = LeavesOnly (IsImage (wrote at piece old.now)) old
 -- a crash leaves what it might have left before
 abbrev pub LeavesAsBefore : History → History → Type 0
 LeavesAsBefore old = LeavesOnly (IsImage old.now) old
+
+-- all is synced, and the piece is written
+abbrev pub IsDurable : ℕ → List ℕ → History → History → Type 0
+IsDurable at piece old new = new.now ≡ settled (spliced at piece old.now.seen)
 
 -- what a read gives is one of the images
 abbrev pub SeenIsImage : History → Type 0

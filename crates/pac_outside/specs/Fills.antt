@@ -1,6 +1,6 @@
 -- The images that a disk in memory gives: each by what fills the written places, and by its length.
 use Rattle.std.specs.Prelude.{◌≡◌, ℕ, ◌<◌, Bool, if◌then◌else◌, List, length, slice_index}
-use Rattle.pac_outside.specs.Disk.{DiskState, is_written}
+use Rattle.pac_outside.specs.Disk.{DiskState, is_unsynced}
 use Rattle.pac_outside.specs.declared.moment.Fill.{Fill}
 use Rattle.pac_outside.specs.declared.moment.Fill.TheVariants.{Old, New, Byte}
 
@@ -16,7 +16,7 @@ filled (Byte byte) state place = byte
 
 -- the byte at a place of the image
 abbrev pub byte_left : Fill → DiskState → ℕ → ℕ
-byte_left fill state place = if is_written state place then filled fill state place else byte_at_sync state place
+byte_left fill state place = if is_unsynced state place then filled fill state place else byte_at_sync state place
 
 -- the image by this fill, of the present length where it has grown and else of that at the sync
 pub record IsFilled (fill : Fill) (grown : Bool) (state : DiskState) (image : List ℕ) : Type 0 where

@@ -2,12 +2,12 @@
 use Rattle.std.specs.Prelude.{◌≡◌, ◌⊎◌, ℕ, Bool, IsTrue, List, map}
 use Rattle.pac_outside.specs.Calls.{CallState}
 use Rattle.pac_outside.specs.Disk.{History, after_write}
-use Rattle.pac_outside.specs.Moments.{state_of}
+use Rattle.pac_outside.specs.Moments.{moment_state}
 use Rattle.pac_outside.specs.declared.mem_disk.MemDisk.{MemDisk}
 
 -- its states, now and before
 abbrev pub history_of : MemDisk → History
-history_of disk = record { past = map state_of disk.past.items; now = state_of disk.present }
+history_of disk = record { past = map moment_state disk.past.items; now = moment_state disk.present }
 
 -- its calls
 abbrev pub calls_of : MemDisk → CallState

@@ -71,14 +71,6 @@ pub trait Disk {
     ghost seen_is_image: { (disk : Self) → WhereTold SeenIsImage (told disk) };
 }
 
-/// The devices of a store: the log, and two slots for checkpoints.
-#[derive(Drop)]
-pub struct Devices<D> {
-    pub log: D,
-    pub slot_a: D,
-    pub slot_b: D,
-}
-
 /// A disk that isn't there: each call fails and is counted. It tells nothing.
 #[derive(Drop)]
 pub struct NoDisk {

@@ -1,6 +1,11 @@
 // What no clause of the disks says: that their calls succeed, and which bytes come.
-use crate::{Disk, Failed, Fill, MemDisk};
+use crate::{Devices, Disk, Failed, Fill, MemDisk, ReadError, open_behind, read_piece};
 use std::test::Fail;
+
+fn disk_of(rt: &HostRuntime, bytes: &[u8], failing: u64) -> Result<MemDisk, Fail> {
+    let failing = [failing].to_vec(rt.alloc())?;
+    Ok(MemDisk::new(bytes.to_vec(rt.alloc())?, failing))
+}
 
 /// A disk of the bytes `abcd` after two writes, each at place 4 at most. The call with this number fails.
 fn written(
@@ -81,5 +86,90 @@ fn disk_in_memory_reads_and_syncs(rt: HostRuntime) -> Result<(), Fail> {
     }
     assert_eq!(rt; disk.read(0, &mut buf), Ok(4));
     assert_eq!(rt; buf.as_slice(), b"aXYZ".as_slice());
+    Ok(())
+}
+
+#[test]
+fn gate_opens_once_the_piece_is_there(rt: HostRuntime) -> Result<(), Fail> {
+    // The calls are the piece's write, its sync, the gate's write and its sync.
+    for (failing, old, new, filled) in [
+        (1, b"0".as_slice(), b"0ab".as_slice(), b"0..".as_slice()),
+        (2, b"0".as_slice(), b"0ab".as_slice(), b"0..".as_slice()),
+        (
+            3,
+            b"0ab".as_slice(),
+            b"\x01ab".as_slice(),
+            b".ab".as_slice(),
+        ),
+        (
+            4,
+            b"0ab".as_slice(),
+            b"\x01ab".as_slice(),
+            b".ab".as_slice(),
+        ),
+        (
+            5,
+            b"\x01ab".as_slice(),
+            b"\x01ab".as_slice(),
+            b"\x01ab".as_slice(),
+        ),
+    ] {
+        let bytes = b"0".to_vec(rt.alloc())?;
+        let mut disk = MemDisk::new(bytes, [failing].to_vec(rt.alloc())?);
+        assert_eq!(rt; open_behind(&mut disk, 0, b"ab").is_ok(), failing == 5);
+        let dots = Fill::Byte(b'.');
+        assert_eq!(rt; disk.image(Fill::Old, false)?.as_slice(), old, "{failing}");
+        assert_eq!(rt; disk.image(Fill::New, true)?.as_slice(), new, "{failing}");
+        assert_eq!(rt; disk.image(dots, true)?.as_slice(), filled, "{failing}");
+    }
+    Ok(())
+}
+
+#[test]
+fn pieces_end_where_the_disk_ends(rt: HostRuntime) -> Result<(), Fail> {
+    let mut disk = disk_of(&rt, b"abcd", 5)?;
+    for (at, count, piece) in [
+        (1, 2, b"bc".as_slice()),
+        (2, 5, b"cd".as_slice()),
+        (4, 5, b"".as_slice()),
+        (u64::MAX, 5, b"".as_slice()),
+    ] {
+        assert_eq!(rt;
+            read_piece(rt.alloc(), &mut disk, at, count)?.as_slice(),
+            piece
+        );
+    }
+    let failed = read_piece(rt.alloc(), &mut disk, 0, 1).map(|piece| piece.len());
+    assert_eq!(rt; failed, Err(ReadError::Failed));
+    Ok(())
+}
+
+#[test]
+fn devices_are_synced_up_to_the_first_that_fails(rt: HostRuntime) -> Result<(), Fail> {
+    for (failing, synced) in [(0, [true, true, true]), (2, [true, false, false])] {
+        let mut devices = Devices {
+            log: disk_of(&rt, b"a", 0)?,
+            slot_a: disk_of(&rt, b"a", failing)?,
+            slot_b: disk_of(&rt, b"a", 0)?,
+        };
+        let Devices {
+            log,
+            slot_a,
+            slot_b,
+        } = &mut devices;
+        for disk in [log, slot_a, slot_b] {
+            assert_eq!(rt; disk.write_at(0, b"b"), Ok(()));
+        }
+        assert_eq!(rt; devices.sync().is_ok(), failing == 0);
+        let Devices {
+            log,
+            slot_a,
+            slot_b,
+        } = &devices;
+        for (disk, synced) in [log, slot_a, slot_b].into_iter().zip(synced) {
+            let old = disk.image(Fill::Old, false)?;
+            assert_eq!(rt; old.as_slice() == b"b".as_slice(), synced);
+        }
+    }
     Ok(())
 }

@@ -16,25 +16,31 @@
 mod bytes;
 mod calls;
 mod device;
+mod devices;
 #[cfg(test)]
 mod disk_tests;
+mod durable;
 mod failed;
 mod faults;
 mod gate;
 mod mem_disk;
 mod memory;
 mod moment;
+mod piece;
 mod streams;
 #[cfg(test)]
 mod tests;
 mod whole;
 
 pub use bytes::{Sink, Source};
-pub use device::{Devices, Disk, NoDisk};
+pub use device::{Disk, NoDisk};
+pub use devices::Devices;
+pub use durable::{open_behind, write_and_sync};
 pub use failed::{Failed, ReadError};
 pub use gate::{Gate, OpenGate};
 pub use mem_disk::MemDisk;
 pub use memory::{MemSink, MemSource};
 pub use moment::Fill;
+pub use piece::read_piece;
 pub use streams::Stream;
 pub use whole::{read_up_to, write_all};

@@ -28,7 +28,7 @@ pub struct MemDisk {
 
 impl MemDisk {
     ghost use Rattle.pac_outside.specs.MemDisk.{calls_of, has_lost, history_of};
-    ghost use Rattle.pac_outside.specs.Moments.{state_of};
+    ghost use Rattle.pac_outside.specs.Moments.{moment_state};
 
     /// A disk with these bytes, all synced. Its calls with the numbers in `failing`, from 1 on, fail.
     pub fn new(bytes: Vec<u8>, failing: Vec<u64>) -> Self
@@ -65,7 +65,7 @@ impl MemDisk {
 
     // A moment later.
     fn becomes(&mut self, next: Moment) -> Result<(), AllocError>
-        ensures ok { OnOk result (history_of self.new ≡ becomes_of (state_of next) (history_of self.old)) }
+        ensures ok { OnOk result (history_of self.new ≡ becomes_of (moment_state next) (history_of self.old)) }
         ensures err { OnErr result (history_of self.new ≡ history_of self.old) }
         ensures calls { calls_of self.new ≡ calls_of self.old }
         ensures lost { has_lost self.new ≡ has_lost self.old }

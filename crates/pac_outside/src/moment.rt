@@ -1,6 +1,6 @@
 // A disk in memory at one moment, and its images.
 ghost use Rattle.std.specs.Prelude.{◌≡◌, ◌<◌, ◌≤◌, IfOk, length, option_map, unwrap_or};
-ghost use Rattle.pac_outside.specs.Disk.{IsImage, is_written, settled, spliced, wrote};
+ghost use Rattle.pac_outside.specs.Disk.{IsImage, is_unsynced, settled, spliced, wrote};
 ghost use Rattle.pac_outside.specs.Fills.{IsFilled, byte_left};
 
 use std::alloc::{AllocError, Global};
@@ -28,11 +28,11 @@ pub struct Moment {
 }
 
 impl Moment {
-    ghost use Rattle.pac_outside.specs.Moments.{state_of};
+    ghost use Rattle.pac_outside.specs.Moments.{moment_state};
 
     /// These bytes, all synced.
     pub fn settled(bytes: Vec<u8>) -> Moment
-        ensures { state_of result ≡ settled bytes.items }
+        ensures { moment_state result ≡ settled bytes.items }
     {
         Moment {
             synced: None,
@@ -43,7 +43,7 @@ impl Moment {
 
     /// What a sync makes of it.
     pub fn after_sync(&self) -> Result<Moment, AllocError>
-        ensures { IfOk result (λ next. state_of next ≡ settled self.now.seen.items) }
+        ensures { IfOk result (λ next. moment_state next ≡ settled self.now.seen.items) }
     {
         Ok(Moment::settled(self.seen.clone()?))
     }
@@ -51,7 +51,7 @@ impl Moment {
     /// What a write makes of it.
     pub fn after_write(&self, at: usize, piece: &[u8]) -> Result<Moment, AllocError>
         requires { at ≤ length self.now.seen.items }
-        ensures { IfOk result (λ next. state_of next ≡ wrote at piece.now (state_of self.now)) }
+        ensures { IfOk result (λ next. moment_state next ≡ wrote at piece.now (moment_state self.now)) }
     {
         let alloc = *self.seen.allocator();
         let mut written = vec![in alloc; (at, piece.len())]?;
@@ -65,13 +65,13 @@ impl Moment {
 
     /// What a read gives.
     pub fn seen(&self) -> &[u8]
-        ensures { result.now ≡ (state_of self.now).seen }
+        ensures { result.now ≡ (moment_state self.now).seen }
     {
         &self.seen
     }
 
     fn synced(&self) -> &[u8]
-        ensures { result.now ≡ (state_of self.now).synced }
+        ensures { result.now ≡ (moment_state self.now).synced }
     {
         match &self.synced {
             Some(bytes) => bytes,
@@ -79,8 +79,8 @@ impl Moment {
         }
     }
 
-    fn is_written(&self, place: usize) -> bool
-        ensures { result ≡ is_written (state_of self.now) place }
+    fn is_unsynced(&self, place: usize) -> bool
+        ensures { result ≡ is_unsynced (moment_state self.now) place }
     {
         self.written
             .iter()
@@ -89,10 +89,10 @@ impl Moment {
 
     fn byte_left(&self, fill: Fill, place: usize) -> u8
         requires { place < length self.now.seen.items }
-        ensures { result ≡ byte_left fill (state_of self.now) place }
+        ensures { result ≡ byte_left fill (moment_state self.now) place }
     {
         let at_sync = self.synced().get(place).copied().unwrap_or(0);
-        if !self.is_written(place) {
+        if !self.is_unsynced(place) {
             return at_sync;
         }
         match fill {
@@ -104,8 +104,8 @@ impl Moment {
 
     /// The image by this fill, of the present length where it has grown, and else of that at the sync.
     pub fn image(&self, fill: Fill, grown: bool) -> Result<Vec<u8>, AllocError>
-        ensures filled { IfOk result (λ image. IsFilled fill grown (state_of self.now) image.items) }
-        ensures image { IfOk result (λ image. IsImage (state_of self.now) image.items) }
+        ensures filled { IfOk result (λ image. IsFilled fill grown (moment_state self.now) image.items) }
+        ensures image { IfOk result (λ image. IsImage (moment_state self.now) image.items) }
     {
         let len = if grown {
             self.seen.len()
