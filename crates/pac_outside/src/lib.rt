@@ -22,6 +22,9 @@ mod disk_tests;
 mod durable;
 mod failed;
 mod faults;
+mod file_disk;
+#[cfg(test)]
+mod file_tests;
 mod gate;
 mod mem_disk;
 mod memory;
@@ -37,6 +40,7 @@ pub use device::{Disk, NoDisk};
 pub use devices::Devices;
 pub use durable::{open_behind, write_and_sync};
 pub use failed::{Failed, ReadError};
+pub use file_disk::FileDisk;
 pub use gate::{Gate, OpenGate};
 pub use mem_disk::MemDisk;
 pub use memory::{MemSink, MemSource};
