@@ -36,7 +36,9 @@ abbrev pub AllLeave : (List (List ℕ) → Type 0) → List History → Type 0
 AllLeave P devices = (images : List (List ℕ)) → AreImages devices images → P images
 
 -- A run of calls, one device after another, while a crash at any moment leaves only images that have P. The moments of
--- each device are exact. No device tells which moments of two devices come first, so it is some order of them that has P.
+-- each device are exact. No device tells which of two devices' moments comes first, so it is some order of them that has
+-- P. A call that says this at each exit says it of each moment: a device may fail from any call on, and be the last that
+-- is called, as `EndsAtOneFault` says; the exit is that moment then.
 pub data RunLeaves (P : List (List ℕ) → Type 0) : List History → List History → Type 0 where
   rests : (devices : List History) → AllLeave P devices → RunLeaves P devices devices
   runs : (front back end : List History) (old next : History)

@@ -7,10 +7,15 @@
 //! goes on telling.
 //!
 //! - [`Source`] gives bytes, [`Sink`] takes bytes. [`read_up_to`] reads a whole input, [`write_all`] writes a whole text.
-//! - [`Disk`] is one device of bytes with places; [`Devices`] are those of a store. [`NoDisk`] isn't there.
+//! - [`Disk`] is one device of bytes with places, which outlast a crash once they are synced; `specs/Disk.antt` says what
+//!   a crash may leave at each moment. [`Devices`] are those of a store, which [`Devices::sync`] syncs.
+//! - [`write_and_sync`] has a piece synced before it answers. [`open_behind`] writes a piece behind a shut gate byte and
+//!   opens the gate: the argument that a crash leaves all of the piece or none stands there, once. [`read_piece`] reads.
 //! - [`Gate`] is passed by a worker before each piece of work. [`OpenGate`] holds nobody.
-//! - [`MemSource`] and [`MemSink`] are in memory, and fail at the calls that they are told.
-//! - [`Stream`] stands over a reader or a writer of std, as the standard streams.
+//! - [`MemSource`], [`MemSink`] and [`MemDisk`] are in memory, and fail at the calls that they are told.
+//!   [`MemDisk::image`] gives what a crash may leave, by a [`Fill`].
+//! - [`Stream`] stands over a reader or a writer of std, as the standard streams, and [`FileDisk`] over a file. Of their
+//!   content no contract tells. [`NoDisk`] isn't there.
 #![tactic(auto)]
 
 mod bytes;
