@@ -42,7 +42,7 @@ pub trait Disk {
         ensures cause { HasCause (faults self.old) (faults self.new) result }
         ensures counted { EndsAtFault (faults self.old) (faults self.new) result };
 
-    /// Writes the whole piece from place `at` on, over what stands there and past the end.
+    /// Writes the whole piece from place `at` on, which is at most the length: over what stands there, and past the end.
     ///
     /// # Errors
     ///

@@ -1,6 +1,5 @@
 // A disk over one file of the system.
 ghost use Rattle.std.specs.Prelude.{◌≡◌, ◌≤◌, IfOk, None, length};
-ghost use Rattle.pac_outside.specs.Causes.{EndsAtFault, HasCause};
 
 use crate::faults::Faults;
 use crate::{Disk, Failed};

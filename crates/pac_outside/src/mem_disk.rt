@@ -4,7 +4,7 @@ ghost use Rattle.std.specs.Io.{ReadsAtMost};
 ghost use Rattle.std.specs.Result.{is_ok};
 ghost use Rattle.pac_outside.specs.Calls.{after_failed, after_passed, is_next_failing};
 ghost use Rattle.pac_outside.specs.Causes.{EndsAtFault, HasCause};
-ghost use Rattle.pac_outside.specs.Disk.{BothTell, IsImage, LeavesAsBefore, LeavesTorn, SeenOutside, after_sync, after_write, becomes as becomes_of, settled};
+ghost use Rattle.pac_outside.specs.Disk.{IsImage, LeavesAsBefore, LeavesTorn, SeenOutside, after_sync, after_write, becomes as becomes_of, settled};
 ghost use Rattle.pac_outside.specs.Fills.{IsFilled};
 
 use crate::calls::Calls;
