@@ -1,5 +1,5 @@
 -- When a fault may be answered.
-use Rattle.std.specs.Prelude.{ℕ, ◌+◌, ◌-◌, ◌^◌, ◌≤◌, min, Result, OnErr}
+use Rattle.std.specs.Prelude.{◌≡◌, ℕ, ◌+◌, ◌-◌, ◌^◌, ◌≤◌, min, Result, OnErr, MatchResult}
 
 -- the count after one more; it stays at the greatest `u64` once it is there
 abbrev pub one_more : ℕ → ℕ
@@ -13,3 +13,8 @@ Rose before now = one_more before ≤ now
 pub record HasCause {T E : Type 0} (before now : ℕ) (result : Result T E) : Type 0 where
   pub later : before ≤ now
   pub failed : OnErr result (Rose before now)
+
+-- Calls of which none comes after one that failed, and no failure is dropped: the count is one higher where the answer
+-- is an error, and else as it was. An object whose calls all fail would count a second call.
+abbrev pub EndsAtFault : {T E : Type 0} → ℕ → ℕ → Result T E → Type 0
+EndsAtFault before now result = MatchResult result (λ _. now ≡ before) (λ _. now ≡ one_more before)

@@ -1,5 +1,11 @@
 pub mod Calls
 pub mod Causes
 pub mod Content
+pub mod Devices
+pub mod Disk
+pub mod Fills
+pub mod GateByte
+pub mod MemDisk
 pub mod Memory
+pub mod Moments
 pub mod Streams

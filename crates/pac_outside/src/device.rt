@@ -1,13 +1,20 @@
 // Devices of bytes.
-ghost use Rattle.std.specs.Prelude.{◌≡◌, ◌≤◌, ℕ, IsErr};
-ghost use Rattle.pac_outside.specs.Causes.{HasCause, one_more};
+ghost use Rattle.std.specs.Prelude.{◌≡◌, ◌≤◌, ℕ, Option, None, IfOk, IsErr, OnOk, drop, length, option_map, take};
+ghost use Rattle.std.specs.Io.{ReadsAtMost};
+ghost use Rattle.pac_outside.specs.Causes.{EndsAtFault, HasCause, one_more};
+ghost use Rattle.pac_outside.specs.Disk.{BothTell, History, LeavesAsBefore, LeavesTorn, SeenIsImage, SeenOutside, WhereTold, after_sync, after_write};
 
 use crate::Failed;
 use crate::faults::Faults;
 
-/// One device: bytes with places, which outlast a crash once they are synced. Of a device the contracts tell the
-/// count of faults alone so far: which bytes a read gives and what a crash may leave isn't stated yet.
+/// One device: bytes with places, which outlast a crash once they are synced.
+///
+/// Where it tells, the contracts say what a read gives, what a crash now may leave, and what a crash at each moment
+/// since an earlier one might have left. A failed call is counted once, and no other.
 pub trait Disk {
+    // What it holds, and what it has held, where it tells that.
+    ghost told: { Self → Option History };
+
     // How many calls failed.
     ghost faults: { Self → ℕ };
 
@@ -17,42 +24,54 @@ pub trait Disk {
     ///
     /// [`Failed`] only where the count of faults rose.
     fn len(&mut self) -> Result<u64, Failed>
-        ensures cause { HasCause (faults self.old) (faults self.new) result };
+        ensures len { IfOk result (λ len. WhereTold (λ old. len ≡ length old.now.seen) (told self.old)) }
+        ensures same { told self.new ≡ told self.old }
+        ensures cause { HasCause (faults self.old) (faults self.new) result }
+        ensures counted { EndsAtFault (faults self.old) (faults self.new) result };
 
-    /// Reads the bytes from place `at` on into the front of `buf`, and answers how many.
+    /// Reads the bytes from place `at` on into the front of `buf`, all that there are and have room, and answers how
+    /// many.
     ///
     /// # Errors
     ///
     /// [`Failed`] only where the count of faults rose.
     fn read(&mut self, at: u64, buf: &mut [u8]) -> Result<usize, Failed>
-        ensures cause { HasCause (faults self.old) (faults self.new) result };
+        ensures bound { ReadsAtMost result buf.new }
+        ensures bytes { IfOk result (λ count. WhereTold (λ old. take count buf.new ≡ take (length buf.old) (drop at old.now.seen)) (told self.old)) }
+        ensures same { told self.new ≡ told self.old }
+        ensures cause { HasCause (faults self.old) (faults self.new) result }
+        ensures counted { EndsAtFault (faults self.old) (faults self.new) result };
 
-    /// Writes the whole piece from place `at` on.
+    /// Writes the whole piece from place `at` on, which is at most the length: over what stands there, and past the end.
     ///
     /// # Errors
     ///
-    /// [`Failed`] only where the count of faults rose.
+    /// [`Failed`] only where the count of faults rose. The write may have been made in part, and a read in its range
+    /// may give any bytes.
     fn write_at(&mut self, at: u64, piece: &[u8]) -> Result<(), Failed>
-        ensures cause { HasCause (faults self.old) (faults self.new) result };
+        requires { WhereTold (λ old. at ≤ length old.now.seen) (told self.old) }
+        ensures written { OnOk result (told self.new ≡ option_map (after_write at piece.now) (told self.old)) }
+        ensures moments { BothTell (LeavesTorn at piece.now) (told self.old) (told self.new) }
+        ensures elsewhere { BothTell (SeenOutside at (length piece.now)) (told self.old) (told self.new) }
+        ensures cause { HasCause (faults self.old) (faults self.new) result }
+        ensures counted { EndsAtFault (faults self.old) (faults self.new) result };
 
-    /// Makes what was written stay.
+    /// Makes what was written outlast a crash.
     ///
     /// # Errors
     ///
-    /// [`Failed`] only where the count of faults rose.
+    /// [`Failed`] only where the count of faults rose. A crash may leave what it might have left before.
     fn sync(&mut self) -> Result<(), Failed>
-        ensures cause { HasCause (faults self.old) (faults self.new) result };
+        ensures durable { OnOk result (told self.new ≡ option_map after_sync (told self.old)) }
+        ensures moments { BothTell LeavesAsBefore (told self.old) (told self.new) }
+        ensures cause { HasCause (faults self.old) (faults self.new) result }
+        ensures counted { EndsAtFault (faults self.old) (faults self.new) result };
+
+    // What a read gives is one of the images that a crash now may leave.
+    ghost seen_is_image: { (disk : Self) → WhereTold SeenIsImage (told disk) };
 }
 
-/// The devices of a store: the log, and two slots for checkpoints.
-#[derive(Drop)]
-pub struct Devices<D> {
-    pub log: D,
-    pub slot_a: D,
-    pub slot_b: D,
-}
-
-/// A disk that isn't there: each call fails and is counted.
+/// A disk that isn't there: each call fails and is counted. It tells nothing.
 #[derive(Drop)]
 pub struct NoDisk {
     faults: Faults,
@@ -70,7 +89,11 @@ impl NoDisk {
 }
 
 impl Disk for NoDisk {
+    ghost told = { λ _. None };
+
     ghost faults = { λ disk. disk.faults };
+
+    ghost seen_is_image = { λ _. tt };
 
     fn len(&mut self) -> Result<u64, Failed>
         ensures failed { IsErr result }

@@ -10,11 +10,11 @@ use thiserror::Error;
 #[error("a read, a write or a device failed")]
 pub struct Failed;
 
-/// Why an input wasn't read.
+/// Why bytes of a source or a disk weren't read.
 #[derive(Clone, Copy, Debug, PartialEq, Eq, Error)]
 pub enum ReadError {
-    /// The source failed.
-    #[error("the input failed")]
+    /// The source or the disk failed.
+    #[error("a read failed")]
     Failed,
     /// There was no memory for the bytes.
     #[error("out of memory")]

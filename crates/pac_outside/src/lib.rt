@@ -7,28 +7,49 @@
 //! goes on telling.
 //!
 //! - [`Source`] gives bytes, [`Sink`] takes bytes. [`read_up_to`] reads a whole input, [`write_all`] writes a whole text.
-//! - [`Disk`] is one device of bytes with places; [`Devices`] are those of a store. [`NoDisk`] isn't there.
+//! - [`Disk`] is one device of bytes with places, which outlast a crash once they are synced; `specs/Disk.antt` says what
+//!   a crash may leave at each moment. [`Devices`] are those of a store, which [`Devices::sync`] syncs.
+//! - [`write_and_sync`] has a piece synced before it answers. [`open_behind`] writes a piece behind a shut gate byte and
+//!   opens the gate: the argument that a crash leaves all of the piece or none stands there, once. [`read_piece`] reads.
 //! - [`Gate`] is passed by a worker before each piece of work. [`OpenGate`] holds nobody.
-//! - [`MemSource`] and [`MemSink`] are in memory, and fail at the calls that they are told.
-//! - [`Stream`] stands over a reader or a writer of std, as the standard streams.
+//! - [`MemSource`], [`MemSink`] and [`MemDisk`] are in memory, and fail at the calls that they are told.
+//!   [`MemDisk::image`] gives what a crash may leave, by a [`Fill`].
+//! - [`Stream`] stands over a reader or a writer of std, as the standard streams, and [`FileDisk`] over a file. Of their
+//!   content no contract tells. [`NoDisk`] isn't there.
 #![tactic(auto)]
 
 mod bytes;
 mod calls;
 mod device;
+mod devices;
+#[cfg(test)]
+mod disk_tests;
+mod durable;
 mod failed;
 mod faults;
+mod file_disk;
+#[cfg(test)]
+mod file_tests;
 mod gate;
+mod mem_disk;
 mod memory;
+mod moment;
+mod piece;
 mod streams;
 #[cfg(test)]
 mod tests;
 mod whole;
 
 pub use bytes::{Sink, Source};
-pub use device::{Devices, Disk, NoDisk};
+pub use device::{Disk, NoDisk};
+pub use devices::Devices;
+pub use durable::{open_behind, write_and_sync};
 pub use failed::{Failed, ReadError};
+pub use file_disk::FileDisk;
 pub use gate::{Gate, OpenGate};
+pub use mem_disk::MemDisk;
 pub use memory::{MemSink, MemSource};
+pub use moment::Fill;
+pub use piece::read_piece;
 pub use streams::Stream;
 pub use whole::{read_up_to, write_all};

@@ -11,7 +11,7 @@ use crate::{Failed, Sink, Source};
 use std::marker::Model;
 
 // Copies as many bytes as there are and have room, and answers their number.
-fn copy_front(buf: &mut [u8], bytes: &[u8]) -> usize
+pub(crate) fn copy_front(buf: &mut [u8], bytes: &[u8]) -> usize
     ensures count { result ≡ min (length bytes.now) (length buf.old) }
     ensures copied { take result buf.new ≡ take result bytes.now }
     ensures rest { drop result buf.new ≡ drop result buf.old }

@@ -1,0 +1,99 @@
+-- What a disk holds from moment to moment, and what a crash at each of them may leave.
+use Rattle.std.specs.Prelude.{◌≡◌, ℕ, ◌+◌, ◌<◌, ◌≤◌, Bool, false, ◌&&◌, List, [], ◌∷◌, ◌++◌, length, take, drop, slice_index, nat_le, nat_lt, Option, Some, None}
+use Rattle.std.specs.List.{list_any, AllByRecursion}
+
+-- a disk at one moment: the bytes at the last sync that succeeded, place and length of each write since then, the
+-- latest first, and what a read gives
+pub record DiskState : Type 0 where
+  pub synced : List ℕ
+  pub written : List (ℕ × ℕ)
+  pub seen : List ℕ
+
+-- the place lies in the range, which is told by its place and its length
+abbrev pub is_within : ℕ × ℕ → ℕ → Bool
+is_within range place = nat_le range.0 place && nat_lt place (range.0 + range.1)
+
+-- the place was written since the last sync
+abbrev pub is_unsynced : DiskState → ℕ → Bool
+is_unsynced state place = list_any (λ range. is_within range place) state.written
+
+-- A crash at this moment may leave these bytes. Places that were written since the last sync, and so all behind the
+-- bytes of that sync, may hold anything; the length may be any from the one at the sync to the present one.
+pub record IsImage (state : DiskState) (image : List ℕ) : Type 0 where
+  pub no_shorter : length state.synced ≤ length image
+  pub no_longer : length image ≤ length state.seen
+  pub stays : (place : ℕ) → place < length state.synced → is_unsynced state place ≡ false → slice_index image place ≡ slice_index state.synced place
+
+-- a piece from a place on, over what stood there
+abbrev pub spliced : ℕ → List ℕ → List ℕ → List ℕ
+spliced at piece bytes = take at bytes ++ (piece ++ drop (at + length piece) bytes)
+
+-- after a write that wasn't synced
+abbrev pub wrote : ℕ → List ℕ → DiskState → DiskState
+wrote at piece state = record { synced = state.synced; written = (at, length piece) ∷ state.written; seen = spliced at piece state.seen }
+
+-- all bytes are synced
+abbrev pub settled : List ℕ → DiskState
+settled bytes = record { synced = bytes; written = []; seen = bytes }
+
+-- what a disk tells: how it is now, and how it was at each moment before, the oldest first
+pub record History : Type 0 where
+  pub past : List DiskState
+  pub now : DiskState
+
+-- a moment later
+abbrev pub becomes : DiskState → History → History
+becomes state history = record { past = history.past ++ history.now ∷ []; now = state }
+
+-- a moment later, when a piece was written
+abbrev pub after_write : ℕ → List ℕ → History → History
+after_write at piece history = becomes (wrote at piece history.now) history
+
+-- a moment later, when all was synced
+abbrev pub after_sync : History → History
+after_sync history = becomes (settled history.now.seen) history
+
+-- a crash at this moment leaves only what has P
+abbrev pub Leaves : (List ℕ → Type 0) → DiskState → Type 0
+Leaves P state = (image : List ℕ) → IsImage state image → P image
+
+-- a crash at any moment from old to new leaves only what has P
+pub record LeavesOnly (P : List ℕ → Type 0) (old new : History) : Type 0 where
+  pub since : List DiskState
+  pub grown : new.past ≡ old.past ++ since
+  pub first : Leaves P old.now
+  pub each : AllByRecursion (Leaves P) since
+  pub last : Leaves P new.now
+
+-- what a read gives stays but for this range, and isn't cut
+pub record SeenOutside (at count : ℕ) (old new : History) : Type 0 where
+  pub no_shorter : length old.now.seen ≤ length new.now.seen
+  pub stays : (place : ℕ) → place < length old.now.seen → is_within (at, count) place ≡ false → slice_index new.now.seen place ≡ slice_index old.now.seen place
+
+-- where the disk tells, its history has P
+abbrev pub WhereTold : (History → Type 0) → Option History → Type 0
+WhereTold P None = Unit {0}
+WhereTold P (Some history) = P history
+
+-- whether the disk tells stays the same, and where it does the histories have R
+abbrev pub BothTell : (History → History → Type 0) → Option History → Option History → Type 0
+BothTell R None None = Unit {0}
+BothTell R (Some old) (Some new) = R old new
+BothTell R None (Some new) = ⊥
+BothTell R (Some old) None = ⊥
+
+-- after a write of this piece, or while it goes on, a crash leaves what it may leave of such a write
+abbrev pub LeavesTorn : ℕ → List ℕ → History → History → Type 0
+LeavesTorn at piece old = LeavesOnly (IsImage (wrote at piece old.now)) old
+
+-- a crash leaves what it might have left before
+abbrev pub LeavesAsBefore : History → History → Type 0
+LeavesAsBefore old = LeavesOnly (IsImage old.now) old
+
+-- all is synced, and the piece is written
+abbrev pub IsDurable : ℕ → List ℕ → History → History → Type 0
+IsDurable at piece old new = new.now ≡ settled (spliced at piece old.now.seen)
+
+-- what a read gives is one of the images
+abbrev pub SeenIsImage : History → Type 0
+SeenIsImage history = IsImage history.now history.now.seen

@@ -1,0 +1,22 @@
+-- What a disk in memory tells.
+use Rattle.std.specs.Prelude.{◌≡◌, ◌⊎◌, ℕ, Bool, IsTrue, List, map}
+use Rattle.pac_outside.specs.Calls.{CallState}
+use Rattle.pac_outside.specs.Disk.{History, after_write}
+use Rattle.pac_outside.specs.Moments.{moment_state}
+use Rattle.pac_outside.specs.declared.mem_disk.MemDisk.{MemDisk}
+
+-- its states, now and before
+abbrev pub history_of : MemDisk → History
+history_of disk = record { past = map moment_state disk.past.items; now = moment_state disk.present }
+
+-- its calls
+abbrev pub calls_of : MemDisk → CallState
+calls_of disk = disk.calls
+
+-- a write found no memory, so that no image is given any more
+abbrev pub has_lost : MemDisk → Bool
+has_lost disk = disk.lost
+
+-- the piece was written, or there was no memory for it
+abbrev pub IsMade : ℕ → List ℕ → MemDisk → MemDisk → Type 0
+IsMade at piece old new = ((history_of new ≡ after_write at piece (history_of old)) × (has_lost new ≡ has_lost old)) ⊎ ((history_of new ≡ history_of old) × IsTrue (has_lost new))

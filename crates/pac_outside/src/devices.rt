@@ -1,0 +1,35 @@
+// The devices of a store.
+ghost use Rattle.std.specs.Prelude.{OnOk};
+
+use crate::{Disk, Failed};
+
+/// The devices of a store: the log, and two slots for checkpoints.
+#[derive(Drop)]
+pub struct Devices<D> {
+    pub log: D,
+    pub slot_a: D,
+    pub slot_b: D,
+}
+
+impl<D: Disk> Devices<D> {
+    ghost use Rattle.pac_outside.specs.Devices.{AreSettled, EndsAtOneFault, RunsAsBefore, WhereAllTold, each};
+
+    /// Syncs each device. After Ok a crash leaves of each what a read gives. At each moment a crash leaves images that it
+    /// might have left before.
+    ///
+    /// # Errors
+    ///
+    /// [`Failed`] where a call of a device failed, so only where the count of faults of one rose; no call of any device
+    /// comes after it.
+    pub fn sync(&mut self) -> Result<(), Failed>
+        ensures settled { OnOk result (WhereAllTold AreSettled (each D.told self.old) (each D.told self.new)) }
+        ensures moments { WhereAllTold RunsAsBefore (each D.told self.old) (each D.told self.new) }
+
+        // No call of a device comes after one that failed.
+        ensures once { EndsAtOneFault (each D.faults self.old) (each D.faults self.new) result }
+    {
+        self.log.sync()?;
+        self.slot_a.sync()?;
+        self.slot_b.sync()
+    }
+}

@@ -1,0 +1,36 @@
+// Reads of a part of a disk.
+ghost use Rattle.std.specs.Prelude.{◌≡◌, ◌≤◌, IfOk, IsErrOf, drop, length, take};
+ghost use Rattle.pac_outside.specs.Causes.{Rose, one_more};
+ghost use Rattle.pac_outside.specs.Disk.{WhereTold};
+
+use crate::{Disk, ReadError};
+use std::alloc::Global;
+
+/// Reads the bytes from place `at` on, at most `count`, and fewer only where the disk ends. It takes the memory for
+/// `count` bytes.
+///
+/// # Errors
+///
+/// [`ReadError::Failed`] where the read failed, so only where the disk's count of faults rose.
+/// [`ReadError::NoMemory`] where there was no memory for the bytes.
+pub fn read_piece<D: Disk>(
+    alloc: Global,
+    disk: &mut D,
+    at: u64,
+    count: usize,
+) -> Result<Vec<u8>, ReadError>
+    ensures bytes { IfOk result (λ piece. WhereTold (λ old. piece.items ≡ take count (drop at old.now.seen)) (D.told disk.old)) }
+    ensures bound { IfOk result (λ piece. length piece.items ≤ count) }
+    ensures same { D.told disk.new ≡ D.told disk.old }
+
+    // The count rose once where the disk is said to have failed, and else stays.
+    ensures later { D.faults disk.old ≤ D.faults disk.new }
+    ensures cause { IsErrOf result ReadError.Failed → Rose (D.faults disk.old) (D.faults disk.new) }
+    ensures counted { IsErrOf result ReadError.Failed → D.faults disk.new ≡ one_more (D.faults disk.old) }
+    ensures kept { ¬ IsErrOf result ReadError.Failed → D.faults disk.new ≡ D.faults disk.old }
+{
+    let mut piece = vec![in alloc; 0u8; count]?;
+    let len = disk.read(at, &mut piece)?;
+    piece.truncate(len);
+    Ok(piece)
+}
