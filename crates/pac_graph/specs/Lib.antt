@@ -1,2 +1,4 @@
 pub mod Graph
 pub mod Matrix
+pub mod Classes
+pub mod Search
