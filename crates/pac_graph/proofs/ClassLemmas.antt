@@ -1,10 +1,10 @@
 -- How many classes there are, and the classes that a search has found once all nodes are done.
-use Rattle.std.proofs.Common.{◌≡◌, ℕ, zero, suc, ◌+◌, ◌*◌, ◌<◌, ◌≤◌, max, List, [], ◌∷◌, length, get_or, sym, ◌∙◌, subst, inl, inr, arith}
+use Rattle.std.proofs.Common.{◌≡◌, ℕ, zero, suc, ◌<◌, ◌≤◌, List, [], ◌∷◌, length, get_or, ◌∙◌, subst, arith}
 use Rattle.pac_graph.specs.declared.search.Mark.{Mark}
-use Rattle.pac_graph.specs.declared.search.Mark.TheVariants.{Fresh, Done}
+use Rattle.pac_graph.specs.declared.search.Mark.TheVariants.{Done}
 use Rattle.pac_graph.specs.Graph.{Graph, HasEdge}
 use Rattle.pac_graph.specs.Classes.{class_count, AreClasses, IsClassCount}
-use Rattle.pac_graph.specs.Search.{mark_of, changes_left, IsSearch, IsSearched}
+use Rattle.pac_graph.specs.Search.{mark_of, IsSearch, IsSearched}
 use Rattle.pac_graph.proofs.GraphLemmas.{falls_along, leads_from}
 use Rattle.pac_graph.proofs.MarkLemmas.{done_within}
 

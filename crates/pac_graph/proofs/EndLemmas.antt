@@ -1,15 +1,13 @@
 -- The end of a visit: its nodes stay on the stack, or they are a class and leave it.
-use Rattle.std.proofs.Common.{◌≡◌, ◌⊎◌, ℕ, ◌+◌, ◌*◌, ◌<◌, ◌≤◌, List, [], ◌∷◌, ◌++◌, length, get_or, set, take, replicate, min, refl, sym, ap, ◌∙◌, subst, inl, inr, arith, length-append}
+use Rattle.std.proofs.Common.{◌≡◌, ◌⊎◌, ℕ, ◌+◌, ◌<◌, ◌≤◌, List, length, get_or, set, take, min, sym, ap, ◌∙◌, subst, inl, inr, arith}
 use Rattle.std.proofs.lemmas.Bool.{cases_eq, cases_lt}
-use Rattle.std.proofs.lemmas.List.{get_or_append_left, get_or-take, get_or-replicate, length-set, length-take, length-replicate}
-use Rattle.std.proofs.Math.ListN.{get_or-eq_default}
-use Rattle.std.proofs.Math.Seq.{get_or-append_seam}
+use Rattle.std.proofs.lemmas.List.{get_or-take, length-take}
 use Rattle.pac_graph.specs.declared.search.Mark.{Mark}
-use Rattle.pac_graph.specs.declared.search.Mark.TheVariants.{Fresh, Open, Done}
-use Rattle.pac_graph.specs.Graph.{Reach, Here, Onward}
-use Rattle.pac_graph.specs.Search.{mark_of, changes_of, changes_left, IsSearch, IsSearched, IsSeenFrom, IsVisited, GaveClass}
-use Rattle.pac_graph.proofs.GraphLemmas.{along, one_edge}
-use Rattle.pac_graph.proofs.MarkLemmas.{open_not_done, fresh_not_done, fresh_not_open, same_place, same_class, mark_set, mark_kept, changes_set, changes_fresh}
+use Rattle.pac_graph.specs.declared.search.Mark.TheVariants.{Open, Done}
+use Rattle.pac_graph.specs.Graph.{Reach}
+use Rattle.pac_graph.specs.Search.{mark_of, changes_left, IsSearch, IsSeenFrom, IsVisited, GaveClass}
+use Rattle.pac_graph.proofs.GraphLemmas.{along}
+use Rattle.pac_graph.proofs.MarkLemmas.{open_not_done, same_place, same_class, mark_set, mark_kept}
 use Rattle.pac_graph.proofs.VisitLemmas.{IsVisit, to_here}
 
 module _ (edge : ℕ → ℕ → Type 0) (nodes : ℕ) (marks_before : List Mark) (stack_before : List ℕ) (marks : List Mark) (stack : List ℕ) (count node low at : ℕ) (visit : IsVisit edge nodes marks_before stack_before marks stack count node low at) where
@@ -146,10 +144,13 @@ close_one marks_before marks stack from to class each le in_marks u = elim (case
   | inl same ↦ inl (to, le, omega arith, sym same, subst (λ x. mark_of after x ≡ Done class) (sym same) (mark_set marks node (Done class) in_marks))
   | inr ne ↦ elim (each u) [
     | inl (p, ge, lt, eu, ed) ↦ inl (p, ge, omega arith, eu, mark_kept marks node u (Done class) ne ∙ ed)
-    | inr (e, untouched) ↦ inr (mark_kept marks node u (Done class) ne ∙ e, λ p ge lt eu. elim (cases_lt p to) [
-      | inl old ↦ untouched p ge old eu
-      | inr new ↦ (let same : p ≡ to = omega arith in ne (sym eu ∙ ap (λ k. get_or stack k 0) same))
-    ])
+    | inr (e, untouched) ↦ inr (
+      mark_kept marks node u (Done class) ne ∙ e,
+      λ p ge lt eu. elim (cases_lt p to) [
+        | inl old ↦ untouched p ge old eu
+        | inr new ↦ (let same : p ≡ to = omega arith in ne (sym eu ∙ ap (λ k. get_or stack k 0) same))
+      ],
+    )
   ]
 ]
   where

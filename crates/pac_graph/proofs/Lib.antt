@@ -5,3 +5,7 @@ pub mod SearchLemmas
 pub mod VisitLemmas
 pub mod EndLemmas
 pub mod ClassLemmas
+pub mod CondensedLemmas
+pub mod TurnLemmas
+pub mod QueueLemmas
+pub mod LawLemmas

@@ -1,5 +1,5 @@
 -- Bits of a matrix as bits of its words, and the graph that a matrix stands for: its edges are its bits.
-use Rattle.std.proofs.Common.{◌≡◌, ◌≢◌, ◌⊎◌, ◌↔◌, ℕ, ◌+◌, ◌*◌, ◌/◌, ◌%◌, ◌^◌, ◌<◌, ◌≤◌, ◌==◌, Bool, true, false, IsTrue, List, [], map, length, get_or, set, sym, ap, ◌∙◌, subst, inl, inr, arith, get_or-set_other, get_or-set_same, w64, bit_or, bit_and, replicate}
+use Rattle.std.proofs.Common.{◌≡◌, ◌≢◌, ◌⊎◌, ◌↔◌, ℕ, ◌+◌, ◌*◌, ◌/◌, ◌%◌, ◌^◌, ◌<◌, ◌≤◌, ◌==◌, Bool, false, IsTrue, List, [], length, get_or, set, sym, ap, ◌∙◌, subst, inl, inr, arith, get_or-set_other, get_or-set_same, w64, bit_or, bit_and, replicate}
 use Rattle.std.proofs.lemmas.Nat.Bits.{bit_at_set_same, bit_at_set_other, bit_at_above, bit_at-zero, shr_and_one}
 use Rattle.std.proofs.lemmas.List.{get_or-replicate}
 use Rattle.std.proofs.lemmas.List.FromFn.{get_or-map-range_with_len}
@@ -8,9 +8,8 @@ use Rattle.std.proofs.lemmas.Nat.{pow_pos}
 use Rattle.std.proofs.lemmas.Grind.{get_or_default_zero}
 use Rattle.std.proofs.Math.Nat.{div-lt_iff_lt-mul}
 use Rattle.std.specs.Int.{bit_at}
-use Rattle.std.specs.List.{range_with_len}
 use Rattle.pac_graph.specs.declared.matrix.Matrix.{Matrix}
-use Rattle.pac_graph.specs.Graph.{Graph, HasEdge}
+use Rattle.pac_graph.specs.Graph.{HasEdge}
 use Rattle.pac_graph.specs.Matrix.{bit_of, HasBit, row_of, rows_of, graph_of}
 
 -- the word of a bit
@@ -82,10 +81,14 @@ set_bit n words from to x y few len inf int ex0 ey a b = (go, back)
     kept : IsBit n words a b → IsBit n (set words i y) a b
     kept (ina, inb, bit) = elim (cases_eq (place a b) i) [
       | inr ne ↦ (ina, inb, subst (λ z. bit_at z (b % 64) ≡ 1) (sym (get_or-set_other words i (place a b) y 0 ne)) bit)
-      | inl e ↦ (ina, inb, (written e).1 (elim (cases_eq (b % 64) at) [
-        | inl f ↦ subst (λ k. bit_at y k ≡ 1) (sym f) same
-        | inr ne ↦ other (b % 64) ne ∙ (ap (λ k. bit_at (get_or words k 0) (b % 64)) (sym e) ∙ bit)
-      ]))
+      | inl e ↦ (
+        ina,
+        inb,
+        (written e).1 (elim (cases_eq (b % 64) at) [
+          | inl f ↦ subst (λ k. bit_at y k ≡ 1) (sym f) same
+          | inr ne ↦ other (b % 64) ne ∙ (ap (λ k. bit_at (get_or words k 0) (b % 64)) (sym e) ∙ bit)
+        ]),
+      )
     ]
 
     back : IsBit n words a b ⊎ ((a ≡ from) × (b ≡ to)) → IsBit n (set words i y) a b

@@ -1,15 +1,12 @@
 -- The search before its first visit, and between visits.
-use Rattle.std.proofs.Common.{◌≡◌, ◌⊎◌, ℕ, ◌+◌, ◌*◌, ◌<◌, ◌≤◌, List, [], ◌∷◌, ◌++◌, length, get_or, set, take, replicate, min, refl, sym, ap, ◌∙◌, subst, inl, inr, arith, length-append}
-use Rattle.std.proofs.lemmas.Bool.{cases_eq, cases_lt}
-use Rattle.std.proofs.lemmas.List.{get_or_append_left, get_or-take, get_or-replicate, length-set, length-take, length-replicate}
+use Rattle.std.proofs.Common.{◌≡◌, ℕ, ◌*◌, ◌<◌, ◌≤◌, List, [], length, replicate, refl, sym, ap, ◌∙◌, inl, inr, arith}
+use Rattle.std.proofs.lemmas.Bool.{cases_lt}
+use Rattle.std.proofs.lemmas.List.{get_or-replicate, length-replicate}
 use Rattle.std.proofs.Math.ListN.{get_or-eq_default}
-use Rattle.std.proofs.Math.Seq.{get_or-append_seam}
 use Rattle.pac_graph.specs.declared.search.Mark.{Mark}
 use Rattle.pac_graph.specs.declared.search.Mark.TheVariants.{Fresh, Open, Done}
-use Rattle.pac_graph.specs.Graph.{Reach, Here, Onward}
-use Rattle.pac_graph.specs.Search.{mark_of, changes_of, changes_left, IsSearch, IsSearched, IsSeenFrom, IsVisited, GaveClass}
-use Rattle.pac_graph.proofs.GraphLemmas.{along, one_edge}
-use Rattle.pac_graph.proofs.MarkLemmas.{open_not_done, fresh_not_done, fresh_not_open, same_place, same_class, mark_set, mark_kept, changes_set, changes_fresh}
+use Rattle.pac_graph.specs.Search.{mark_of, changes_left, IsSearch, IsSeenFrom, IsVisited}
+use Rattle.pac_graph.proofs.MarkLemmas.{fresh_not_done, fresh_not_open, changes_fresh}
 
 -- nothing is visited yet
 pub begun : (edge : ℕ → ℕ → Type 0) (nodes : ℕ) (marks : List Mark) (stack : List ℕ) → nodes ≤ 4160 → marks ≡ replicate nodes Fresh → stack ≡ [] → IsSearch edge nodes marks stack 0

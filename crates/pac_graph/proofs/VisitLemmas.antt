@@ -1,15 +1,14 @@
 -- The steps of a visit: a node is put on the stack, and its edges are looked at one after another.
-use Rattle.std.proofs.Common.{◌≡◌, ◌⊎◌, ℕ, ◌+◌, ◌*◌, ◌<◌, ◌≤◌, List, [], ◌∷◌, ◌++◌, length, get_or, set, take, replicate, min, refl, sym, ap, ◌∙◌, subst, inl, inr, arith, length-append}
+use Rattle.std.proofs.Common.{◌≡◌, ℕ, ◌+◌, ◌<◌, ◌≤◌, List, [], ◌∷◌, ◌++◌, length, get_or, set, min, sym, ap, ◌∙◌, subst, inl, inr, arith, length-append}
 use Rattle.std.proofs.lemmas.Bool.{cases_eq, cases_lt}
-use Rattle.std.proofs.lemmas.List.{get_or_append_left, get_or-take, get_or-replicate, length-set, length-take, length-replicate}
-use Rattle.std.proofs.Math.ListN.{get_or-eq_default}
+use Rattle.std.proofs.lemmas.List.{get_or_append_left, length-set}
 use Rattle.std.proofs.Math.Seq.{get_or-append_seam}
 use Rattle.pac_graph.specs.declared.search.Mark.{Mark}
 use Rattle.pac_graph.specs.declared.search.Mark.TheVariants.{Fresh, Open, Done}
-use Rattle.pac_graph.specs.Graph.{Reach, Here, Onward}
-use Rattle.pac_graph.specs.Search.{mark_of, changes_of, changes_left, IsSearch, IsSearched, IsSeenFrom, IsVisited, GaveClass}
+use Rattle.pac_graph.specs.Graph.{Reach, Here}
+use Rattle.pac_graph.specs.Search.{mark_of, changes_of, changes_left, IsSearch, IsSeenFrom, IsVisited}
 use Rattle.pac_graph.proofs.GraphLemmas.{along, one_edge}
-use Rattle.pac_graph.proofs.MarkLemmas.{open_not_done, fresh_not_done, fresh_not_open, same_place, same_class, mark_set, mark_kept, changes_set, changes_fresh}
+use Rattle.pac_graph.proofs.MarkLemmas.{open_not_done, same_place, mark_set, mark_kept, changes_set}
 
 -- a visit of `node`, whose edges to nodes below `at` are dealt with
 pub record IsVisit (edge : ℕ → ℕ → Type 0) (nodes : ℕ) (marks_before : List Mark) (stack_before : List ℕ) (marks : List Mark) (stack : List ℕ) (count : ℕ) (node low at : ℕ) : Type 0 where
@@ -134,13 +133,25 @@ module _ (edge : ℕ → ℕ → Type 0) (nodes : ℕ) where
 
     -- the next edge leads to a node that is done
     pub met_done : (to c : ℕ) → ((v : ℕ) → at ≤ v → v < to → edge node v → ⊥) → mark_of marks to ≡ Done c → IsVisit edge nodes marks_before stack_before marks stack count node low (to + 1)
-    met_done to c none is = record { search = s; longer = visit.longer; here = visit.here; prefix = visit.prefix; kept = visit.kept; in_low = visit.in_low; reached = visit.reached; back = visit.back; closed = visit.closed; less = visit.less; row = λ v lt e. elim (cases_lt v at) [
-      | inl old ↦ visit.row v old e
-      | inr new ↦ elim (cases_lt v to) [
-        | inl between ↦ absurd (none v new between e)
-        | inr ge ↦ (let same : to ≡ v = omega arith in subst (λ x. IsSeenFrom marks low x) same (inl (c, is)))
-      ]
-    ] }
+    met_done to c none is = record {
+      search = s;
+      longer = visit.longer;
+      here = visit.here;
+      prefix = visit.prefix;
+      kept = visit.kept;
+      in_low = visit.in_low;
+      reached = visit.reached;
+      back = visit.back;
+      closed = visit.closed;
+      less = visit.less;
+      row = λ v lt e. elim (cases_lt v at) [
+        | inl old ↦ visit.row v old e
+        | inr new ↦ elim (cases_lt v to) [
+          | inl between ↦ absurd (none v new between e)
+          | inr ge ↦ (let same : to ≡ v = omega arith in subst (λ x. IsSeenFrom marks low x) same (inl (c, is)))
+        ]
+      ];
+    }
 
     -- it leads to a node on the stack
     pub met_open : (to there : ℕ) → edge node to → ((v : ℕ) → at ≤ v → v < to → edge node v → ⊥) → mark_of marks to ≡ Open there → IsVisit edge nodes marks_before stack_before marks stack count node (min low there) (to + 1)

@@ -1,5 +1,5 @@
 -- What the search has found are the classes.
-use Rattle.std.proofs.Common.{◌≡◌, ℕ, ◌+◌, ◌<◌, length, arith, ap, subst, ◌∙◌}
+use Rattle.std.proofs.Common.{◌≡◌, ◌<◌, length, arith, ap, subst, ◌∙◌}
 use Rattle.pac_graph.specs.declared.search.Mark.TheVariants.{Done}
 use Rattle.pac_graph.specs.Search.{mark_of}
 use Rattle.pac_graph.proofs.ClassLemmas.{found_classes, found_count}

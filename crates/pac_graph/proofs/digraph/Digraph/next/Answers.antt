@@ -1,5 +1,5 @@
 -- The first bit from a place on is the first edge.
-use Rattle.std.proofs.Common.{◌≡◌, ◌↔◌, ℕ, ◌<◌, ◌≤◌, Option, Some, None, MatchOption, subst}
+use Rattle.std.proofs.Common.{◌↔◌, ℕ, ◌<◌, ◌≤◌, Option, Some, None, MatchOption, subst}
 use Rattle.pac_graph.specs.Graph.{Graph, HasEdge}
 use Rattle.pac_graph.specs.Matrix.{HasBit, graph_of}
 use Rattle.pac_graph.proofs.MatrixLemmas.{edge_is_bit}

@@ -33,7 +33,7 @@ loop-to-preserved-in-Fresh t c = let g = c.args.graph.now in
     let new = c.visit.new.self in
     let next = c.in-Some.ensures in
     subst (λ low. IsVisit (HasEdge g) g.nodes old.marks.items old.stack.items new.marks.items new.stack.items new.count c.args.node low (c.in-Some.to + 1)) (sym c.min-low.ensures)
-        (descended (HasEdge g) g.nodes old.marks.items old.stack.items l.self.marks.items l.self.stack.items l.self.count c.args.node l.low l.at l.invariant c.in-Some.to c.in_ok-below-in-Fresh.below new.marks.items new.stack.items new.count next.2 next.3 (c.in_ok-below-in-Fresh.ensures))
+    (descended (HasEdge g) g.nodes old.marks.items old.stack.items l.self.marks.items l.self.stack.items l.self.count c.args.node l.low l.at l.invariant c.in-Some.to c.in_ok-below-in-Fresh.below new.marks.items new.stack.items new.count next.2 next.3 (c.in_ok-below-in-Fresh.ensures))
 
 pub loop-to-preserved-in-Open : goal.loop-to-preserved-in-Open
 loop-to-preserved-in-Open t c = let g = c.args.graph.now in
@@ -42,7 +42,7 @@ loop-to-preserved-in-Open t c = let g = c.args.graph.now in
     let next = c.in-Some.ensures in
     let in_marks : c.in-Some.to < length l.self.marks.items = omega (arith, next.1, l.invariant.search.size) in
     subst (λ low. IsVisit (HasEdge g) g.nodes old.marks.items old.stack.items l.self.marks.items l.self.stack.items l.self.count c.args.node low (c.in-Some.to + 1)) (sym c.min-low-in-Open.ensures)
-        (met_open (HasEdge g) g.nodes old.marks.items old.stack.items l.self.marks.items l.self.stack.items l.self.count c.args.node l.low l.at l.invariant c.in-Some.to c.in-Open.there next.2 next.3 (mark_read l.self.marks.items c.in-Some.to c.index.result.now (Open c.in-Open.there) c.index.ensures c.in-Open.is in_marks))
+    (met_open (HasEdge g) g.nodes old.marks.items old.stack.items l.self.marks.items l.self.stack.items l.self.count c.args.node l.low l.at l.invariant c.in-Some.to c.in-Open.there next.2 next.3 (mark_read l.self.marks.items c.in-Some.to c.index.result.now (Open c.in-Open.there) c.index.ensures c.in-Open.is in_marks))
 
 pub close-requires-clause-count : goal.close-requires-clause-count
 close-requires-clause-count t c = let search = c.loop-to.invariant.search in omega (arith, search.room, search.few)
@@ -55,8 +55,8 @@ returns-then-low-place t c = let g = c.args.graph.now in
     let z = c.close.ensures in
     let e : c.in_ok-place.place ≡ length old.stack.items = c.in_ok-place.ensures.place.0 in
     popped (HasEdge g) g.nodes old.marks.items old.stack.items l.self.marks.items l.self.stack.items l.self.count c.args.node l.low l.at l.invariant c.in_default.ensures new.marks.items new.stack.items new.count (c.if-low-place.true ∙ e)
-        (subst (λ k. GaveClass l.self.marks.items new.marks.items l.self.stack.items k (length l.self.stack.items) l.self.count) e z.marks)
-        (subst (λ k. new.stack.items ≡ take k l.self.stack.items) e z.stack) z.count z.size (omega (arith, z.changes, e))
+    (subst (λ k. GaveClass l.self.marks.items new.marks.items l.self.stack.items k (length l.self.stack.items) l.self.count) e z.marks)
+    (subst (λ k. new.stack.items ≡ take k l.self.stack.items) e z.stack) z.count z.size (omega (arith, z.changes, e))
 
 pub returns-else-low-place : goal.returns-else-low-place
 returns-else-low-place t c = let g = c.args.graph.now in
