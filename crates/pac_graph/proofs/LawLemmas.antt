@@ -4,7 +4,7 @@ use Rattle.std.proofs.lemmas.Bool.{cases_eq, cases_lt}
 use Rattle.std.proofs.lemmas.List.{ext_get_or}
 use Rattle.pac_graph.specs.Graph.{Graph, Reach, Here, Onward}
 use Rattle.pac_graph.specs.Classes.{class_count, AreClasses}
-use Rattle.pac_graph.specs.Numbering.{IsClassEdge, HasLesserNode, IsReady, IsNumbering}
+use Rattle.pac_graph.specs.Numbering.{IsClassEdge, HasLesserNode, IsClassReady, IsNumbering}
 use Rattle.pac_graph.proofs.CondensedLemmas.{class_falls}
 
 -- of two classes not each has a node below all of the other's
@@ -17,8 +17,8 @@ module _ (g : Graph) (classes : List ℕ) (order : List ℕ) where
   same_turn numbers t c d lc ld same = elim (cases_eq c d) [
     | inl e ↦ e
     | inr ne ↦ absurd (not_both classes order c d
-        (t.least c d lc ld (λ e. ne (sym e)) (subst (λ n. IsReady (IsClassEdge g classes) numbers n d) (sym same) (t.ready d ld)))
-        (t.least d c ld lc ne (subst (λ n. IsReady (IsClassEdge g classes) numbers n c) same (t.ready c lc))))
+        (t.least c d lc ld (λ e. ne (sym e)) (subst (λ n. IsClassReady (IsClassEdge g classes) numbers n d) (sym same) (t.ready d ld)))
+        (t.least d c ld lc ne (subst (λ n. IsClassReady (IsClassEdge g classes) numbers n c) same (t.ready c lc))))
   ]
 
 module _ (g : Graph) (classes : List ℕ) (are : AreClasses g classes) where
@@ -34,7 +34,7 @@ module _ (g : Graph) (classes : List ℕ) (are : AreClasses g classes) where
   Agree a b n = (c : ℕ) → c < class_count classes → (get_or a c 0 < n) ↔ (get_or b c 0 < n)
 
   -- a class that is ready by one numbering is by the other
-  ready_too : (a b : List ℕ) (n c : ℕ) → Agree a b n → c < class_count classes → IsReady (IsClassEdge g classes) a n c → IsReady (IsClassEdge g classes) b n c
+  ready_too : (a b : List ℕ) (n c : ℕ) → Agree a b n → c < class_count classes → IsClassReady (IsClassEdge g classes) a n c → IsClassReady (IsClassEdge g classes) b n c
   ready_too a b n c same lt r = (
     elim (cases_lt (get_or b c 0) n) [ inl has ↦ absurd (let h : get_or a c 0 < n = (same c lt).1 has in omega (arith, h, r.0)) | inr ge ↦ ge ],
     λ o e. (same o (class_falls g classes are o c e).1).0 (r.1 o e),
@@ -48,8 +48,8 @@ module _ (g : Graph) (classes : List ℕ) (are : AreClasses g classes) where
         here is = (let d = tb.each n (omega (arith, is, ta.below c lt)) in elim (cases_eq c d.0) [
           | inl eq ↦ (let h : get_or b c 0 ≡ n = ap (λ k. get_or b k 0) eq ∙ d.2 in omega (arith, h))
           | inr ne ↦ absurd (not_both classes order c d.0
-              (ta.least c d.0 lt d.1 (λ e. ne (sym e)) (subst (λ k. IsReady (IsClassEdge g classes) a k d.0) (sym is) (ready_too b a n d.0 back d.1 (subst (λ k. IsReady (IsClassEdge g classes) b k d.0) d.2 (tb.ready d.0 d.1)))))
-              (tb.least d.0 c d.1 lt ne (subst (λ k. IsReady (IsClassEdge g classes) b k c) (sym d.2) (ready_too a b n c same lt (subst (λ k. IsReady (IsClassEdge g classes) a k c) is (ta.ready c lt))))))
+              (ta.least c d.0 lt d.1 (λ e. ne (sym e)) (subst (λ k. IsClassReady (IsClassEdge g classes) a k d.0) (sym is) (ready_too b a n d.0 back d.1 (subst (λ k. IsClassReady (IsClassEdge g classes) b k d.0) d.2 (tb.ready d.0 d.1)))))
+              (tb.least d.0 c d.1 lt ne (subst (λ k. IsClassReady (IsClassEdge g classes) b k c) (sym d.2) (ready_too a b n c same lt (subst (λ k. IsClassReady (IsClassEdge g classes) a k c) is (ta.ready c lt))))))
         ])
 
     agree : (a b : List ℕ) → IsNumbering g classes order a → IsNumbering g classes order b → (n : ℕ) → Agree a b n × Agree b a n

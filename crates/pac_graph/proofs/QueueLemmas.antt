@@ -2,8 +2,8 @@
 use Rattle.std.proofs.Common.{◌≡◌, ◌⊎◌, ◌↔◌, ℕ, ◌+◌, ◌<◌, ◌≤◌, Bool, true, false, IsTrue, List, [], get_or, set, refl, sym, ap, ◌∙◌, subst, inl, inr, arith}
 use Rattle.std.proofs.lemmas.Bool.{cases_eq, cases_lt}
 use Rattle.pac_graph.specs.Graph.{Graph, HasEdge}
-use Rattle.pac_graph.specs.Numbering.{IsReady}
-use Rattle.pac_graph.specs.Turns.{AreTurns, IsQueue, IsOrdered}
+use Rattle.pac_graph.specs.Numbering.{IsClassReady}
+use Rattle.pac_graph.specs.Turns.{AreTurns, IsQueue, IsRankedGraph}
 use Rattle.pac_graph.proofs.GraphLemmas.{leads_from}
 use Rattle.pac_graph.proofs.TurnLemmas.{open_class, this, others, still, in_time}
 
@@ -42,26 +42,26 @@ one_added waits waits' ready missing missing' count ranks class lt apart new kep
 }
 
 -- the same queue, where the numbers and the turn are the same
-pub same_turns : (edge : ℕ → ℕ → Type 0) (waits : ℕ → ℕ → Type 0) (missing : ℕ → Type 0) (count : ℕ) (ranks numbers numbers' : List ℕ) (turn turn' : ℕ) → numbers' ≡ numbers → turn' ≡ turn → IsQueue waits (IsReady edge numbers turn) missing count ranks → IsQueue waits (IsReady edge numbers' turn') missing count ranks
-same_turns edge waits missing count ranks numbers numbers' turn turn' en et q = subst (λ ns. IsQueue waits (IsReady edge ns turn') missing count ranks) (sym en) (subst (λ t. IsQueue waits (IsReady edge numbers t) missing count ranks) (sym et) q)
+pub same_turns : (edge : ℕ → ℕ → Type 0) (waits : ℕ → ℕ → Type 0) (missing : ℕ → Type 0) (count : ℕ) (ranks numbers numbers' : List ℕ) (turn turn' : ℕ) → numbers' ≡ numbers → turn' ≡ turn → IsQueue waits (IsClassReady edge numbers turn) missing count ranks → IsQueue waits (IsClassReady edge numbers' turn') missing count ranks
+same_turns edge waits missing count ranks numbers numbers' turn turn' en et q = subst (λ ns. IsQueue waits (IsClassReady edge ns turn') missing count ranks) (sym en) (subst (λ t. IsQueue waits (IsClassReady edge numbers t) missing count ranks) (sym et) q)
 
-module _ (g : Graph) (before : ℕ → ℕ → Type 0) (numbers passed : List ℕ) (turn : ℕ) (ranks : List ℕ) (ordered : IsOrdered (HasEdge g) g.nodes ranks) (t : AreTurns (HasEdge g) before g.nodes numbers passed turn) (waits : ℕ → ℕ → Type 0) (q : IsQueue waits (IsReady (HasEdge g) numbers turn) (λ _. ⊥) g.nodes ranks) where
-  all_wait : (c : ℕ) → c < g.nodes → IsReady (HasEdge g) numbers turn c → waits (get_or ranks c 0) c
+module _ (g : Graph) (before : ℕ → ℕ → Type 0) (numbers passed : List ℕ) (turn : ℕ) (ranks : List ℕ) (ordered : IsRankedGraph (HasEdge g) g.nodes ranks) (t : AreTurns (HasEdge g) before g.nodes numbers passed turn) (waits : ℕ → ℕ → Type 0) (q : IsQueue waits (IsClassReady (HasEdge g) numbers turn) (λ _. ⊥) g.nodes ranks) where
+  all_wait : (c : ℕ) → c < g.nodes → IsClassReady (HasEdge g) numbers turn c → waits (get_or ranks c 0) c
   all_wait c lt is = elim (q.all c lt is) [ inl old ↦ old | inr miss ↦ absurd miss ]
 
   -- where no class waits, none is ready
-  pub none_ready : ((r c : ℕ) → waits r c → ⊥) → (c : ℕ) → c < g.nodes → IsReady (HasEdge g) numbers turn c → ⊥
+  pub none_ready : ((r c : ℕ) → waits r c → ⊥) → (c : ℕ) → c < g.nodes → IsClassReady (HasEdge g) numbers turn c → ⊥
   none_ready none c lt is = none (get_or ranks c 0) c (all_wait c lt is)
 
   module _ (rank class : ℕ) (had : waits rank class) where
     -- a class that waits with no rank below its own is the least that is ready
-    pub least_ready : ((r c : ℕ) → waits r c → rank ≤ r) → (o : ℕ) → o < g.nodes → IsReady (HasEdge g) numbers turn o → get_or ranks class 0 ≤ get_or ranks o 0
+    pub least_ready : ((r c : ℕ) → waits r c → rank ≤ r) → (o : ℕ) → o < g.nodes → IsClassReady (HasEdge g) numbers turn o → get_or ranks class 0 ≤ get_or ranks o 0
     least_ready least o lt is = let a : rank ≤ get_or ranks o 0 = least (get_or ranks o 0) o (all_wait o lt is) in omega (arith, a, (q.only rank class had).1)
 
     lt : class < g.nodes
     lt = (q.only rank class had).0
 
-    ready : IsReady (HasEdge g) numbers turn class
+    ready : IsClassReady (HasEdge g) numbers turn class
     ready = (q.only rank class had).2
 
     abbrev after : List ℕ
@@ -77,7 +77,7 @@ module _ (g : Graph) (before : ℕ → ℕ → Type 0) (numbers passed : List �
     early = in_time (HasEdge g) before g.nodes numbers passed turn t class lt ready
 
     -- a class that is ready now was ready before, unless an edge leads to it from the one that had its turn
-    was_ready : (c : ℕ) → c < g.nodes → (c ≡ class → ⊥) → (HasEdge g class c → ⊥) → IsReady (HasEdge g) after (turn + 1) c → IsReady (HasEdge g) numbers turn c
+    was_ready : (c : ℕ) → c < g.nodes → (c ≡ class → ⊥) → (HasEdge g class c → ⊥) → IsClassReady (HasEdge g) after (turn + 1) c → IsClassReady (HasEdge g) numbers turn c
     was_ready c lc ne none r = (
       omega (arith, r.0, as_before c ne),
       λ o e. elim (cases_eq o class) [
@@ -90,14 +90,14 @@ module _ (g : Graph) (before : ℕ → ℕ → Type 0) (numbers passed : List �
     )
 
     -- a class that was ready is ready still
-    is_still : (c : ℕ) → c < g.nodes → (c ≡ class → ⊥) → IsReady (HasEdge g) numbers turn c → IsReady (HasEdge g) after (turn + 1) c
+    is_still : (c : ℕ) → c < g.nodes → (c ≡ class → ⊥) → IsClassReady (HasEdge g) numbers turn c → IsClassReady (HasEdge g) after (turn + 1) c
     is_still c lc ne r = (omega (arith, open_class (HasEdge g) before g.nodes numbers passed turn t c lc r.0, as_before c ne, early), λ o e. (let h : get_or after o 0 < turn = (still (HasEdge g) before g.nodes numbers passed turn t class lt ready turn o (omega arith)).0 (r.1 o e) in omega (arith, h)))
 
-    not_now : (c : ℕ) → IsReady (HasEdge g) after (turn + 1) c → c ≡ class → ⊥
+    not_now : (c : ℕ) → IsClassReady (HasEdge g) after (turn + 1) c → c ≡ class → ⊥
     not_now c r e = let a : get_or after c 0 ≡ turn = ap (λ k. get_or after k 0) e ∙ given_turn in omega (arith, r.0, a)
 
     -- the class is out, and had its turn: of the ready ones only those to which its edges lead may be missing
-    pub turn_over : (waits' : ℕ → ℕ → Type 0) → ((r c : ℕ) → waits' r c ↔ ((r ≡ rank → ⊥) × waits r c)) → IsQueue waits' (IsReady (HasEdge g) after (turn + 1)) (HasEdge g class) g.nodes ranks
+    pub turn_over : (waits' : ℕ → ℕ → Type 0) → ((r c : ℕ) → waits' r c ↔ ((r ≡ rank → ⊥) × waits r c)) → IsQueue waits' (IsClassReady (HasEdge g) after (turn + 1)) (HasEdge g class) g.nodes ranks
     turn_over waits' left = record {
       only = λ r c w. (let old = (left r c).0 w in
           let is = q.only r c old.1 in

@@ -5,7 +5,7 @@ use Rattle.std.proofs.lemmas.List.{get_or-replicate, length-set, length-replicat
 use Rattle.std.proofs.lemmas.List.Sums.{sum_by-set, sum_by-cons}
 use Rattle.std.proofs.lemmas.List.Folds.{sum_by-replicate}
 use Rattle.std.specs.List.{sum_by}
-use Rattle.pac_graph.specs.Numbering.{IsReady, IsInTurn}
+use Rattle.pac_graph.specs.Numbering.{IsClassReady, IsInTurn}
 use Rattle.pac_graph.specs.Turns.{unnumbered, AreTurns}
 
 -- 1 for a class with no number
@@ -75,14 +75,14 @@ module _ (edge before : ℕ → ℕ → Type 0) (count : ℕ) (numbers passed : 
   }
 
   -- where no class is ready all have their numbers: edges lead to lower classes
-  all_numbered : ((c : ℕ) → c < count → IsReady edge numbers turn c → ⊥) → ((o c : ℕ) → edge o c → (c < o) × (o < count)) → (k c : ℕ) → count ≤ c + k → c < count → get_or numbers c 0 < turn
+  all_numbered : ((c : ℕ) → c < count → IsClassReady edge numbers turn c → ⊥) → ((o c : ℕ) → edge o c → (c < o) × (o < count)) → (k c : ℕ) → count ≤ c + k → c < count → get_or numbers c 0 < turn
   all_numbered none falls zero c ge lt = absurd (omega (arith, ge, lt))
   all_numbered none falls (suc k) c ge lt = elim (t.numbered c lt) [
     | inl has ↦ has
     | inr no_number ↦ absurd (none c lt (omega (arith, no_number, t.room), λ o e. (let f = falls o c e in all_numbered none falls k o (omega (arith, ge, f.0)) f.1)))
   ]
 
-  pub finished : ((c : ℕ) → c < count → IsReady edge numbers turn c → ⊥) → ((o c : ℕ) → edge o c → (c < o) × (o < count)) → IsInTurn edge before count numbers
+  pub finished : ((c : ℕ) → c < count → IsClassReady edge numbers turn c → ⊥) → ((o c : ℕ) → edge o c → (c < o) × (o < count)) → IsInTurn edge before count numbers
   finished none falls = record {
     size = t.size;
     below = λ c lt. omega (arith, all c lt, t.room);
@@ -97,7 +97,7 @@ module _ (edge before : ℕ → ℕ → Type 0) (count : ℕ) (numbers passed : 
       full : turn ≡ count
       full = let e : unnumbered count numbers ≡ 0 = none_unnumbered count numbers (λ c lt is. (let has : get_or numbers c 0 < turn = all c (omega (arith, lt, t.size)) in omega (arith, has, is, t.room))) in omega (arith, e, t.room)
 
-  module _ (class : ℕ) (lt : class < count) (is_ready : IsReady edge numbers turn class) where
+  module _ (class : ℕ) (lt : class < count) (is_ready : IsClassReady edge numbers turn class) where
     abbrev pub after : List ℕ
     after = set numbers class turn
 
@@ -133,10 +133,10 @@ module _ (edge before : ℕ → ℕ → Type 0) (count : ℕ) (numbers passed : 
       | inr ne ↦ (let e : get_or after c 0 ≡ get_or numbers c 0 = others c ne in ((λ h. omega (arith, h, e)), (λ h. omega (arith, h, e))))
     ]
 
-    ready_before : (n c : ℕ) → n ≤ turn → IsReady edge after n c → IsReady edge numbers n c
+    ready_before : (n c : ℕ) → n ≤ turn → IsClassReady edge after n c → IsClassReady edge numbers n c
     ready_before n c le r = (elim (cases_lt (get_or numbers c 0) n) [ inl has ↦ absurd (let h : get_or after c 0 < n = (still n c le).0 has in omega (arith, h, r.0)) | inr ge ↦ ge ], λ o e. (still n o le).1 (r.1 o e))
 
-    ready_after : (n c : ℕ) → n ≤ turn → IsReady edge numbers n c → IsReady edge after n c
+    ready_after : (n c : ℕ) → n ≤ turn → IsClassReady edge numbers n c → IsClassReady edge after n c
     ready_after n c le r = (elim (cases_lt (get_or after c 0) n) [ inl has ↦ absurd (let h : get_or numbers c 0 < n = (still n c le).1 has in omega (arith, h, r.0)) | inr ge ↦ ge ], λ o e. (still n o le).0 (r.1 o e))
 
     one_less : unnumbered count after + 1 ≡ unnumbered count numbers
@@ -146,7 +146,7 @@ module _ (edge before : ℕ → ℕ → Type 0) (count : ℕ) (numbers passed : 
     earlier c lc has ne = elim (t.numbered c lc) [ inl old ↦ old | inr none ↦ absurd (let e : get_or after c 0 ≡ get_or numbers c 0 = others c ne in omega (arith, e, none, has, in_time)) ]
 
     -- the class gets its number
-    pub given : ((o : ℕ) → o < count → (o ≡ class → ⊥) → IsReady edge numbers turn o → before class o) → AreTurns edge before count after passed (turn + 1)
+    pub given : ((o : ℕ) → o < count → (o ≡ class → ⊥) → IsClassReady edge numbers turn o → before class o) → AreTurns edge before count after passed (turn + 1)
     given is_least = record {
       size = length-set numbers class turn ∙ t.size;
       passed_size = t.passed_size;
@@ -164,12 +164,12 @@ module _ (edge before : ℕ → ℕ → Type 0) (count : ℕ) (numbers passed : 
         | inr new ↦ (let e : turn ≡ n = omega (arith, ln, new) in (class, lt, this ∙ e))
       ];
       ready = λ c lc has. elim (cases_eq c class) [
-        | inl same ↦ (let a : turn ≡ get_or after c 0 = sym (ap (λ k. get_or after k 0) same ∙ this) in subst (λ n. IsReady edge after n c) a (subst (λ k. IsReady edge after turn k) (sym same) (ready_after turn class (omega arith) is_ready)))
-        | inr ne ↦ (let e : get_or numbers c 0 ≡ get_or after c 0 = sym (others c ne) in let old : get_or numbers c 0 < turn = earlier c lc has ne in subst (λ n. IsReady edge after n c) e (ready_after (get_or numbers c 0) c (omega (arith, old)) (t.ready c lc old)))
+        | inl same ↦ (let a : turn ≡ get_or after c 0 = sym (ap (λ k. get_or after k 0) same ∙ this) in subst (λ n. IsClassReady edge after n c) a (subst (λ k. IsClassReady edge after turn k) (sym same) (ready_after turn class (omega arith) is_ready)))
+        | inr ne ↦ (let e : get_or numbers c 0 ≡ get_or after c 0 = sym (others c ne) in let old : get_or numbers c 0 < turn = earlier c lc has ne in subst (λ n. IsClassReady edge after n c) e (ready_after (get_or numbers c 0) c (omega (arith, old)) (t.ready c lc old)))
       ];
       least = λ c o lc has lo nco r. elim (cases_eq c class) [
-        | inl same ↦ (let a : get_or after c 0 ≡ turn = ap (λ k. get_or after k 0) same ∙ this in subst (λ k. before k o) (sym same) (is_least o lo (λ e. nco (e ∙ sym same)) (ready_before turn o (omega arith) (subst (λ n. IsReady edge after n o) a r))))
-        | inr ne ↦ (let e : get_or after c 0 ≡ get_or numbers c 0 = others c ne in let old : get_or numbers c 0 < turn = earlier c lc has ne in t.least c o lc old lo nco (ready_before (get_or numbers c 0) o (omega (arith, old)) (subst (λ n. IsReady edge after n o) e r)))
+        | inl same ↦ (let a : get_or after c 0 ≡ turn = ap (λ k. get_or after k 0) same ∙ this in subst (λ k. before k o) (sym same) (is_least o lo (λ e. nco (e ∙ sym same)) (ready_before turn o (omega arith) (subst (λ n. IsClassReady edge after n o) a r))))
+        | inr ne ↦ (let e : get_or after c 0 ≡ get_or numbers c 0 = others c ne in let old : get_or numbers c 0 < turn = earlier c lc has ne in t.least c o lc old lo nco (ready_before (get_or numbers c 0) o (omega (arith, old)) (subst (λ n. IsClassReady edge after n o) e r)))
       ];
       seen = λ c o lc lo e. (let h : get_or after o 0 < turn = (still turn o (omega arith)).0 (t.seen c o lc lo e) in omega (arith, h));
     }

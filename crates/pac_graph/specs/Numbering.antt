@@ -12,16 +12,16 @@ abbrev pub HasLesserNode : List ℕ → List ℕ → ℕ → ℕ → Type 0
 HasLesserNode classes order c d = (u : ℕ) × (u < length classes) × (slice_index classes u ≡ c) × ((v : ℕ) → v < length classes → slice_index classes v ≡ d → slice_index order u < slice_index order v)
 
 -- at this turn the class is ready: it had no turn before, and each class with an edge into it had
-abbrev pub IsReady : (ℕ → ℕ → Type 0) → List ℕ → ℕ → ℕ → Type 0
-IsReady edge numbers turn class = (turn ≤ slice_index numbers class) × ((other : ℕ) → edge other class → slice_index numbers other < turn)
+abbrev pub IsClassReady : (ℕ → ℕ → Type 0) → List ℕ → ℕ → ℕ → Type 0
+IsClassReady edge numbers turn class = (turn ≤ slice_index numbers class) × ((other : ℕ) → edge other class → slice_index numbers other < turn)
 
 -- a class's number is its turn; at each turn it is the turn of the least class that is ready
 pub record IsInTurn (edge before : ℕ → ℕ → Type 0) (count : ℕ) (numbers : List ℕ) : Type 0 where
   pub size : length numbers ≡ count
   pub below : (class : ℕ) → class < count → slice_index numbers class < count
   pub each : (turn : ℕ) → turn < count → (class : ℕ) × (class < count) × (slice_index numbers class ≡ turn)
-  pub ready : (class : ℕ) → class < count → IsReady edge numbers (slice_index numbers class) class
-  pub least : (class other : ℕ) → class < count → other < count → (other ≡ class → ⊥) → IsReady edge numbers (slice_index numbers class) other → before class other
+  pub ready : (class : ℕ) → class < count → IsClassReady edge numbers (slice_index numbers class) class
+  pub least : (class other : ℕ) → class < count → other < count → (other ≡ class → ⊥) → IsClassReady edge numbers (slice_index numbers class) other → before class other
 
 -- these are the numbers of a graph's classes, one a class
 abbrev pub IsNumbering : Graph → List ℕ → List ℕ → List ℕ → Type 0

@@ -7,7 +7,7 @@ use Rattle.pac_graph.specs.declared.queue.Queue.{Queue}
 use Rattle.pac_graph.specs.declared.condensation.Condensation.{Condensation}
 use Rattle.pac_graph.specs.declared.turns.Turns.{Turns}
 use Rattle.pac_graph.specs.Graph.{HasEdge}
-use Rattle.pac_graph.specs.Numbering.{IsReady}
+use Rattle.pac_graph.specs.Numbering.{IsClassReady}
 
 -- the class waits, at this rank
 abbrev pub Waits : Queue → ℕ → ℕ → Type 0
@@ -29,8 +29,8 @@ pub record AreTurns (edge before : ℕ → ℕ → Type 0) (count : ℕ) (number
   pub room : turn + unnumbered count numbers ≡ count
   pub numbered : (class : ℕ) → class < count → (slice_index numbers class < turn) ⊎ (slice_index numbers class ≡ count)
   pub each : (t : ℕ) → t < turn → (class : ℕ) × (class < count) × (slice_index numbers class ≡ t)
-  pub ready : (class : ℕ) → class < count → slice_index numbers class < turn → IsReady edge numbers (slice_index numbers class) class
-  pub least : (class other : ℕ) → class < count → slice_index numbers class < turn → other < count → (other ≡ class → ⊥) → IsReady edge numbers (slice_index numbers class) other → before class other
+  pub ready : (class : ℕ) → class < count → slice_index numbers class < turn → IsClassReady edge numbers (slice_index numbers class) class
+  pub least : (class other : ℕ) → class < count → slice_index numbers class < turn → other < count → (other ≡ class → ⊥) → IsClassReady edge numbers (slice_index numbers class) other → before class other
   pub seen : (class other : ℕ) → class < count → other < slice_index passed class → edge other class → slice_index numbers other < turn
 
 -- of the classes of a graph
@@ -39,7 +39,7 @@ AreTurnsOf graph turns = AreTurns (HasEdge graph.edges) (RanksUpTo graph.ranks.i
 
 -- the class is ready at the turn that is next
 abbrev pub IsNextReady : Condensation → Turns → ℕ → Type 0
-IsNextReady graph turns class = IsReady (HasEdge graph.edges) turns.numbers.items turns.turn class
+IsNextReady graph turns class = IsClassReady (HasEdge graph.edges) turns.numbers.items turns.turn class
 
 -- only classes that are ready wait, each at its rank, and all of them do but those that are missing
 pub record IsQueue (waits : ℕ → ℕ → Type 0) (ready missing : ℕ → Type 0) (count : ℕ) (ranks : List ℕ) : Type 0 where
@@ -51,7 +51,7 @@ abbrev pub IsQueueOf : Condensation → Turns → Queue → (ℕ → Type 0) →
 IsQueueOf graph turns queue missing = IsQueue (Waits queue) (IsNextReady graph turns) missing graph.edges.nodes graph.ranks.items
 
 -- what the turns rest on: edges lead to lower classes, and no two classes have one rank
-pub record IsOrdered (edge : ℕ → ℕ → Type 0) (count : ℕ) (ranks : List ℕ) : Type 0 where
+pub record IsRankedGraph (edge : ℕ → ℕ → Type 0) (count : ℕ) (ranks : List ℕ) : Type 0 where
   pub size : length ranks ≡ count
   pub falls : (a b : ℕ) → edge a b → b < a
   pub apart : (c d : ℕ) → c < count → d < count → slice_index ranks c ≡ slice_index ranks d → c ≡ d

@@ -2,7 +2,7 @@
 ghost use Rattle.std.specs.Prelude.{◌≡◌, ◌⊎◌, ◌↔◌, ℕ, ◌+◌, ◌<◌, length, slice_index, slice_set, IfOk, OnOk, IsTrue};
 ghost use Rattle.pac_graph.specs.Graph.{HasEdge};
 ghost use Rattle.pac_graph.specs.Numbering.{IsInTurn};
-ghost use Rattle.pac_graph.specs.Turns.{Waits, RanksUpTo, AreTurnsOf, IsNextReady, IsQueueOf, IsOrdered};
+ghost use Rattle.pac_graph.specs.Turns.{Waits, RanksUpTo, AreTurnsOf, IsNextReady, IsQueueOf, IsRankedGraph};
 
 use crate::condensation::Condensation;
 use crate::queue::Queue;
@@ -23,7 +23,7 @@ impl Turns {
     // Gives each class its turn. A class is looked at again when one with an edge into it has had its turn, and then
     // from where it was left on.
     pub(crate) fn run(alloc: Global, graph: &Condensation) -> Result<Turns, NoMemory>
-        requires { IsOrdered (HasEdge graph.now.edges) graph.now.edges.nodes graph.now.ranks.items }
+        requires { IsRankedGraph (HasEdge graph.now.edges) graph.now.edges.nodes graph.now.ranks.items }
         ensures { IfOk result (λ turns. IsInTurn (HasEdge graph.now.edges) (RanksUpTo graph.now.ranks.items) graph.now.edges.nodes turns.numbers.items) }
     {
         let mut turns = Turns::new(alloc, graph)?;
@@ -119,7 +119,7 @@ impl Turns {
     // Lets all classes wait that are ready.
     fn add_all(&mut self, graph: &Condensation, queue: &mut Queue) -> Result<(), NoMemory>
         requires turns { AreTurnsOf graph.now self.old }
-        requires ordered { IsOrdered (HasEdge graph.now.edges) graph.now.edges.nodes graph.now.ranks.items }
+        requires ordered { IsRankedGraph (HasEdge graph.now.edges) graph.now.edges.nodes graph.now.ranks.items }
         requires empty { (r c : ℕ) → Waits queue.old r c → ⊥ }
         ensures turns { AreTurnsOf graph.now self.new }
         ensures queue { OnOk result (IsQueueOf graph.now self.new queue.new (λ _. ⊥)) }
@@ -138,7 +138,7 @@ impl Turns {
         queue: &mut Queue,
     ) -> Result<(), NoMemory>
         requires turns { AreTurnsOf graph.now self.old }
-        requires ordered { IsOrdered (HasEdge graph.now.edges) graph.now.edges.nodes graph.now.ranks.items }
+        requires ordered { IsRankedGraph (HasEdge graph.now.edges) graph.now.edges.nodes graph.now.ranks.items }
         requires class { class < graph.now.edges.nodes }
         requires queue { IsQueueOf graph.now self.old queue.old (HasEdge graph.now.edges class) }
         ensures turns { AreTurnsOf graph.now self.new }
