@@ -49,7 +49,7 @@ module _ (g : Graph) (marks : List Mark) (stack : List ℕ) (count : ℕ) (numbe
   is = is_count numbers count below used
 
   pub found_count : IsClassCount numbers count
-  found_count = record { is = is; few = omega (arith, s.room, size, s.size) }
+  found_count = record { is = is; used = used; few = omega (arith, s.room, size, s.size) }
 
   -- two nodes with one number are done with one class
   both_reach : (u v : ℕ) → u < g.nodes → v < g.nodes → get_or numbers u 0 ≡ get_or numbers v 0 → (c : ℕ) × (mark_of marks u ≡ Done c) × (mark_of marks v ≡ Done c)
@@ -65,6 +65,4 @@ module _ (g : Graph) (marks : List Mark) (stack : List ℕ) (count : ℕ) (numbe
   found_classes = record {
     each = size ∙ s.size;
     same = λ u v ul vl. ((λ e. (let d = both_reach u v ul vl e in (s.same u v d.0 d.1 d.2, s.same v u d.0 d.2 d.1))), (λ r. omega (arith, falls_along numbers falls r.0, falls_along numbers falls r.1)));
-    used = λ c lt. (let r = used c (omega (arith, lt, is)) in (r.0, omega (arith, r.1, size, s.size), r.2));
-    falls = falls;
   }

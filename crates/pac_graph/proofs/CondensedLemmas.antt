@@ -1,20 +1,38 @@
--- The graph of classes: edges lead to lower classes, and least ranks stand for the classes' nodes.
+-- The graph of classes: it has no cycle, and least ranks stand for the classes' nodes.
 use Rattle.std.proofs.Common.{◌≡◌, ◌⊎◌, ◌↔◌, ℕ, ◌+◌, ◌<◌, ◌≤◌, List, length, get_or, set, min, sym, ap, ◌∙◌, subst, inl, inr, arith}
 use Rattle.std.proofs.lemmas.Bool.{cases_eq, cases_lt}
 use Rattle.std.proofs.lemmas.List.{length-set, get_or-set_other, get_or-set_same}
-use Rattle.pac_graph.specs.Graph.{Graph}
+use Rattle.pac_graph.specs.Graph.{Graph, HasEdge, Reach, Here, Onward}
 use Rattle.pac_graph.specs.Classes.{class_count, AreClasses}
 use Rattle.pac_graph.specs.Numbering.{IsClassEdge, HasLesserNode, IsInTurn}
 use Rattle.pac_graph.specs.Condensed.{AreLeastRanks}
-use Rattle.pac_graph.proofs.GraphLemmas.{leads_from}
+use Rattle.pac_graph.proofs.GraphLemmas.{along, one_edge, leads_from, leads_to}
 use Rattle.pac_graph.proofs.ClassLemmas.{below_count}
 
--- an edge leads from a higher class to a lower one
-pub class_falls : (g : Graph) (classes : List ℕ) → AreClasses g classes → (a b : ℕ) → IsClassEdge g classes a b → (b < a) × (a < class_count classes)
-class_falls g classes are a b (ne, (u, v, e, eu, ev)) = (
-  let f : get_or classes v 0 ≤ get_or classes u 0 = are.falls u v e in omega (arith, f, eu, ev, ne),
-  let below : get_or classes u 0 < class_count classes = below_count classes u (omega (arith, leads_from g u v e, are.each)) in omega (arith, below, eu),
+-- an edge leads from one of the classes to one of them
+pub class_within : (g : Graph) (classes : List ℕ) → AreClasses g classes → (a b : ℕ) → IsClassEdge g classes a b → (a < class_count classes) × (b < class_count classes)
+class_within g classes are a b (ne, (u, v, e, eu, ev)) = (
+  let from : get_or classes u 0 < class_count classes = below_count classes u (omega (arith, leads_from g u v e, are.each)) in omega (arith, from, eu),
+  let to : get_or classes v 0 < class_count classes = below_count classes v (omega (arith, leads_to g u v e, are.each)) in omega (arith, to, ev),
 )
+
+module _ (g : Graph) (classes : List ℕ) (are : AreClasses g classes) where
+  -- from each node of a class a way leads to some node of each class that is reached
+  node_way : {a b : ℕ} → Reach (IsClassEdge g classes) a b → (u : ℕ) → u < g.nodes → get_or classes u 0 ≡ a → (v : ℕ) × (v < g.nodes) × (get_or classes v 0 ≡ b) × Reach (HasEdge g) u v
+  node_way (Here a) u lu eu = (u, lu, eu, Here u)
+  node_way (Onward a b c (ne, (x, y, xy, ex, ey)) rest) u lu eu =
+      let on = node_way rest y (leads_to g x y xy) ey in
+      let there : Reach (HasEdge g) u x = ((are.same u x lu (leads_from g x y xy)).0 (eu ∙ sym ex)).0 in
+      (on.0, on.1, on.2, along there (Onward x y on.0 xy on.3))
+
+  -- no way leads back along an edge between classes: its ends were of one class
+  pub cycle_free : (a b : ℕ) → IsClassEdge g classes a b → Reach (IsClassEdge g classes) b a → ⊥
+  cycle_free a b (ne, (x, y, xy, ex, ey)) back =
+      let lx = leads_from g x y xy in
+      let ly = leads_to g x y xy in
+      let on = node_way back y ly ey in
+      let home : Reach (HasEdge g) on.0 x = ((are.same on.0 x on.1 lx).0 (on.2 ∙ sym ex)).0 in
+      ne (sym ex ∙ ((are.same x y lx ly).1 (one_edge x y xy, along on.3 home) ∙ ey))
 
 module _ (classes order ranks : List ℕ) (nodes : ℕ) (each : length classes ≡ nodes) (different : (u v : ℕ) → u < nodes → v < nodes → get_or order u 0 ≡ get_or order v 0 → u ≡ v) (least : AreLeastRanks classes order ranks) where
   -- no two classes have one least rank

@@ -1,11 +1,11 @@
--- What follows from classes and their numbering: no cycle, different numbers, and one numbering.
-use Rattle.std.proofs.Common.{◌≡◌, ◌↔◌, ℕ, zero, suc, ◌<◌, ◌≤◌, List, get_or, sym, ap, ◌∙◌, subst, inl, inr, arith}
+-- What follows from a numbering: no two classes have one number, and there is one numbering.
+use Rattle.std.proofs.Common.{◌≡◌, ◌↔◌, ℕ, zero, suc, ◌<◌, List, get_or, sym, ap, ◌∙◌, subst, inl, inr, arith}
 use Rattle.std.proofs.lemmas.Bool.{cases_eq, cases_lt}
 use Rattle.std.proofs.lemmas.List.{ext_get_or}
-use Rattle.pac_graph.specs.Graph.{Graph, Reach, Here, Onward}
+use Rattle.pac_graph.specs.Graph.{Graph}
 use Rattle.pac_graph.specs.Classes.{class_count, AreClasses}
 use Rattle.pac_graph.specs.Numbering.{IsClassEdge, HasLesserNode, IsClassReady, IsNumbering}
-use Rattle.pac_graph.proofs.CondensedLemmas.{class_falls}
+use Rattle.pac_graph.proofs.CondensedLemmas.{class_within}
 
 -- of two classes not each has a node below all of the other's
 not_both : (classes order : List ℕ) (c d : ℕ) → HasLesserNode classes order c d → HasLesserNode classes order d c → ⊥
@@ -22,13 +22,6 @@ module _ (g : Graph) (classes : List ℕ) (order : List ℕ) where
   ]
 
 module _ (g : Graph) (classes : List ℕ) (are : AreClasses g classes) where
-  goes_down : {c d : ℕ} → Reach (IsClassEdge g classes) c d → d ≤ c
-  goes_down (Here c) = omega arith
-  goes_down (Onward c d e first rest) = omega (arith, (class_falls g classes are c d first).0, goes_down rest)
-
-  pub cycle_free : (c d : ℕ) → IsClassEdge g classes c d → Reach (IsClassEdge g classes) d c → ⊥
-  cycle_free c d e back = omega (arith, (class_falls g classes are c d e).0, goes_down back)
-
   -- the classes that had a turn by the one numbering had one by the other
   abbrev Agree : List ℕ → List ℕ → ℕ → Type 0
   Agree a b n = (c : ℕ) → c < class_count classes → (get_or a c 0 < n) ↔ (get_or b c 0 < n)
@@ -37,7 +30,7 @@ module _ (g : Graph) (classes : List ℕ) (are : AreClasses g classes) where
   ready_too : (a b : List ℕ) (n c : ℕ) → Agree a b n → c < class_count classes → IsClassReady (IsClassEdge g classes) a n c → IsClassReady (IsClassEdge g classes) b n c
   ready_too a b n c same lt r = (
     elim (cases_lt (get_or b c 0) n) [ inl has ↦ absurd (let h : get_or a c 0 < n = (same c lt).1 has in omega (arith, h, r.0)) | inr ge ↦ ge ],
-    λ o e. (same o (class_falls g classes are o c e).1).0 (r.1 o e),
+    λ o e. (same o (class_within g classes are o c e).0).0 (r.1 o e),
   )
 
   module _ (order : List ℕ) where

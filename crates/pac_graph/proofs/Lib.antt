@@ -8,4 +8,5 @@ pub mod ClassLemmas
 pub mod CondensedLemmas
 pub mod TurnLemmas
 pub mod QueueLemmas
+pub mod DescentLemmas
 pub mod LawLemmas

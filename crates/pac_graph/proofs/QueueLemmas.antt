@@ -1,26 +1,11 @@
 -- The queue: which classes wait before and after a class is added, is taken out, and has had its turn.
-use Rattle.std.proofs.Common.{◌≡◌, ◌⊎◌, ◌↔◌, ℕ, ◌+◌, ◌<◌, ◌≤◌, Bool, true, false, IsTrue, List, [], get_or, set, refl, sym, ap, ◌∙◌, subst, inl, inr, arith}
-use Rattle.std.proofs.lemmas.Bool.{cases_eq, cases_lt}
+use Rattle.std.proofs.Common.{◌≡◌, ◌⊎◌, ◌↔◌, ℕ, ◌+◌, ◌<◌, ◌≤◌, List, get_or, set, sym, ap, ◌∙◌, subst, inl, inr, arith}
+use Rattle.std.proofs.lemmas.Bool.{cases_eq}
 use Rattle.pac_graph.specs.Graph.{Graph, HasEdge}
 use Rattle.pac_graph.specs.Numbering.{IsClassReady}
 use Rattle.pac_graph.specs.Turns.{AreTurns, IsQueue, IsRankedGraph}
-use Rattle.pac_graph.proofs.GraphLemmas.{leads_from}
+use Rattle.pac_graph.proofs.GraphLemmas.{edge_or_none, leads_from}
 use Rattle.pac_graph.proofs.TurnLemmas.{open_class, this, others, still, in_time}
-
-is_or_not : (b : Bool) → IsTrue b ⊎ (IsTrue b → ⊥)
-is_or_not true = inl refl
-is_or_not false = inr (λ e. cc)
-
--- an edge is there or not
-pub edge_or_none : (g : Graph) (a b : ℕ) → HasEdge g a b ⊎ (HasEdge g a b → ⊥)
-unfolding HasEdge
-edge_or_none g a b = elim (cases_lt a g.nodes) [
-  | inr far ↦ inr (λ e. omega (arith, e.0, far))
-  | inl ina ↦ elim (cases_lt b g.nodes) [
-    | inr far ↦ inr (λ e. omega (arith, e.1, far))
-    | inl inb ↦ elim (is_or_not (get_or (get_or g.edges a []) b false)) [ inl is ↦ inl (ina, inb, is) | inr none ↦ inr (λ e. none e.2) ]
-  ]
-]
 
 -- one class, if it is ready, is no more missing
 pub one_added : (waits waits' : ℕ → ℕ → Type 0) (ready missing missing' : ℕ → Type 0) (count : ℕ) (ranks : List ℕ) (class : ℕ)

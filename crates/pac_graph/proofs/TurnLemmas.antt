@@ -1,5 +1,5 @@
--- The turns: they begin with no number, each turn gives one, and they end when no class is ready.
-use Rattle.std.proofs.Common.{◌≡◌, ◌↔◌, ℕ, zero, suc, ◌+◌, ◌*◌, ◌<◌, ◌≤◌, ◌==◌, if◌then◌else◌, List, [], ◌∷◌, length, get_or, set, replicate, refl, sym, ap, ◌∙◌, subst, inl, inr, arith}
+-- The turns: they begin with no number, each turn gives one, and in the end they are a numbering.
+use Rattle.std.proofs.Common.{◌≡◌, ◌↔◌, ℕ, suc, ◌+◌, ◌*◌, ◌<◌, ◌≤◌, ◌==◌, if◌then◌else◌, List, [], ◌∷◌, length, get_or, set, replicate, refl, sym, ap, ◌∙◌, subst, inl, inr, arith}
 use Rattle.std.proofs.lemmas.Bool.{cases_eq, cases_lt}
 use Rattle.std.proofs.lemmas.List.{get_or-replicate, length-set, length-replicate, get_or-set_other, get_or-set_same}
 use Rattle.std.proofs.lemmas.List.Sums.{sum_by-set, sum_by-cons}
@@ -74,16 +74,9 @@ module _ (edge before : ℕ → ℕ → Type 0) (count : ℕ) (numbers passed : 
     ];
   }
 
-  -- where no class is ready all have their numbers: edges lead to lower classes
-  all_numbered : ((c : ℕ) → c < count → IsClassReady edge numbers turn c → ⊥) → ((o c : ℕ) → edge o c → (c < o) × (o < count)) → (k c : ℕ) → count ≤ c + k → c < count → get_or numbers c 0 < turn
-  all_numbered none falls zero c ge lt = absurd (omega (arith, ge, lt))
-  all_numbered none falls (suc k) c ge lt = elim (t.numbered c lt) [
-    | inl has ↦ has
-    | inr no_number ↦ absurd (none c lt (omega (arith, no_number, t.room), λ o e. (let f = falls o c e in all_numbered none falls k o (omega (arith, ge, f.0)) f.1)))
-  ]
-
-  pub finished : ((c : ℕ) → c < count → IsClassReady edge numbers turn c → ⊥) → ((o c : ℕ) → edge o c → (c < o) × (o < count)) → IsInTurn edge before count numbers
-  finished none falls = record {
+  -- all had their turns
+  pub finished : ((c : ℕ) → c < count → get_or numbers c 0 < turn) → IsInTurn edge before count numbers
+  finished all = record {
     size = t.size;
     below = λ c lt. omega (arith, all c lt, t.room);
     each = λ n lt. t.each n (omega (arith, lt, full));
@@ -91,9 +84,6 @@ module _ (edge before : ℕ → ℕ → Type 0) (count : ℕ) (numbers passed : 
     least = λ c o lc lo ne. t.least c o lc (all c lc) lo ne;
   }
     where
-      all : (c : ℕ) → c < count → get_or numbers c 0 < turn
-      all c lt = all_numbered none falls count c (omega arith) lt
-
       full : turn ≡ count
       full = let e : unnumbered count numbers ≡ 0 = none_unnumbered count numbers (λ c lt is. (let has : get_or numbers c 0 < turn = all c (omega (arith, lt, t.size)) in omega (arith, has, is, t.room))) in omega (arith, e, t.room)
 

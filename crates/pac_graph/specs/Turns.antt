@@ -6,7 +6,7 @@ use Rattle.pac_graph.specs.declared.limits.TheConstants.{MAX_NODES}
 use Rattle.pac_graph.specs.declared.queue.Queue.{Queue}
 use Rattle.pac_graph.specs.declared.condensation.Condensation.{Condensation}
 use Rattle.pac_graph.specs.declared.turns.Turns.{Turns}
-use Rattle.pac_graph.specs.Graph.{HasEdge}
+use Rattle.pac_graph.specs.Graph.{HasEdge, Reach}
 use Rattle.pac_graph.specs.Numbering.{IsClassReady}
 
 -- the class waits, at this rank
@@ -50,8 +50,8 @@ pub record IsQueue (waits : ℕ → ℕ → Type 0) (ready missing : ℕ → Typ
 abbrev pub IsQueueOf : Condensation → Turns → Queue → (ℕ → Type 0) → Type 0
 IsQueueOf graph turns queue missing = IsQueue (Waits queue) (IsNextReady graph turns) missing graph.edges.nodes graph.ranks.items
 
--- what the turns rest on: edges lead to lower classes, and no two classes have one rank
+-- what the turns rest on: there is no cycle, and no two classes have one rank
 pub record IsRankedGraph (edge : ℕ → ℕ → Type 0) (count : ℕ) (ranks : List ℕ) : Type 0 where
   pub size : length ranks ≡ count
-  pub falls : (a b : ℕ) → edge a b → b < a
+  pub acyclic : (a b : ℕ) → edge a b → Reach edge b a → ⊥
   pub apart : (c d : ℕ) → c < count → d < count → slice_index ranks c ≡ slice_index ranks d → c ≡ d

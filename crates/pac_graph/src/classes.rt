@@ -28,7 +28,7 @@ impl Model for Classes {
 }
 
 impl Classes {
-    ghost use Rattle.pac_graph.specs.Classes.{class_count};
+    ghost use Rattle.pac_graph.specs.Classes.{class_count, HaveNodes};
 
     /// The class of each node.
     pub fn items(&self) -> &[u16]
@@ -37,9 +37,10 @@ impl Classes {
         &self.numbers
     }
 
-    /// How many classes there are, which is no more than there are nodes.
+    /// How many classes there are, which is no more than there are nodes. Each has a node.
     pub fn count(&self) -> usize
         ensures count { result ≡ class_count self.now }
+        ensures used { HaveNodes self.now (class_count self.now) }
         ensures few { class_count self.now ≤ length self.now }
     {
         self.count
@@ -49,8 +50,7 @@ impl Classes {
 impl Digraph {
     ghost use Rattle.pac_graph.specs.Classes.{AreClasses};
 
-    /// The classes of the nodes: two nodes are of one class exactly where each is reached from the other. No class
-    /// without a node is numbered, and no edge leads to a class with a higher number.
+    /// The classes of the nodes: two nodes are of one class exactly where each is reached from the other.
     ///
     /// It takes time linear in the nodes' rows and in the edges.
     ///

@@ -73,8 +73,7 @@ fn add_edges_from(graph: &Digraph, classes: &Classes, from: usize, edges: &mut T
 
 // The least rank in each class.
 fn least_ranks(alloc: Global, classes: &Classes, order: &[u64]) -> Result<Vec<u64>, NoMemory>
-    requires order { length order.now ≡ length classes.now }
-    requires used { (class : ℕ) → class < class_count classes.now → (u : ℕ) × (u < length classes.now) × (slice_index classes.now u ≡ class) }
+    requires { length order.now ≡ length classes.now }
     ensures { IfOk result (λ ranks. AreLeastRanks classes.now order.now ranks.items) }
 {
     let numbers = classes.items();

@@ -45,7 +45,7 @@ returns c = let cs = c.args.classes.now in
       least = λ u lt. l.least u (reached u lt);
       node = λ k lt. elim (l.node k lt) [
         | inr (u, before, eu, er) ↦ (u, omega (arith, before, c.loop-node.auto.node-end, ap length c.items-numbers.ensures), eu, er)
-        | inl most ↦ (let v = c.requires.used k lt in
+        | inl most ↦ (let v = c.count.ensures.used k lt in
             let low : get_or ranks k 0 ≤ get_or order v.0 0 = subst (λ x. get_or ranks x 0 ≤ get_or order v.0 0) v.2 (l.least v.0 (reached v.0 v.1)) in
             let high : get_or order v.0 0 < 18446744073709551616 = omega (arith, c.type_inv.order v.0) in
             (v.0, v.1, v.2, omega (arith, low, high, most)))

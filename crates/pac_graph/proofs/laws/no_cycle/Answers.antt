@@ -1,5 +1,5 @@
--- Edges between classes lead down.
-use Rattle.pac_graph.proofs.LawLemmas.{cycle_free}
+-- A way back would make one class of the two.
+use Rattle.pac_graph.proofs.CondensedLemmas.{cycle_free}
 use Rattle.pac_graph.proofs.laws.no_cycle.Goals as goal
 
 pub returns : goal.returns

@@ -4,7 +4,8 @@ use Rattle.pac_graph.specs.Graph.{HasEdge}
 use Rattle.pac_graph.specs.Classes.{class_count}
 use Rattle.pac_graph.specs.Numbering.{IsClassEdge, HasLesserNode, IsInTurn}
 use Rattle.pac_graph.specs.Turns.{RanksUpTo}
-use Rattle.pac_graph.proofs.CondensedLemmas.{class_falls, ranks_apart, by_ranks, in_other_words}
+use Rattle.pac_graph.proofs.GraphLemmas.{by_edges}
+use Rattle.pac_graph.proofs.CondensedLemmas.{cycle_free, ranks_apart, by_ranks, in_other_words}
 use Rattle.pac_graph.proofs.digraph.Digraph.number.Goals as goal
 
 pub run-requires : goal.run-requires
@@ -13,7 +14,7 @@ run-requires c = let g = c.args.self.now in
     let e = c.in_ok-graph.ensures in
     record {
       size = e.ranks.size ∙ omega (arith, e.nodes);
-      falls = λ a b edge. (class_falls g cs c.requires.classes a b ((e.edges a b).0 edge)).0;
+      acyclic = λ a b edge back. cycle_free g cs c.requires.classes a b ((e.edges a b).0 edge) (by_edges (λ x y. (e.edges x y).0) back);
       apart = λ k o lk lo same. ranks_apart cs c.args.order.now c.in_ok-graph.graph.ranks.items g.nodes c.requires.classes.each c.requires.different e.ranks k o (omega (arith, lk, e.nodes)) (omega (arith, lo, e.nodes)) same;
     }
 

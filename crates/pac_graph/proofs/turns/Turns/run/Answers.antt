@@ -2,7 +2,7 @@
 use Rattle.std.proofs.Common.{◌+◌, set}
 use Rattle.pac_graph.specs.Graph.{HasEdge}
 use Rattle.pac_graph.specs.Turns.{RanksUpTo, Waits}
-use Rattle.pac_graph.proofs.GraphLemmas.{leads_from}
+use Rattle.pac_graph.proofs.DescentLemmas.{all_had_turns}
 use Rattle.pac_graph.proofs.TurnLemmas.{finished}
 use Rattle.pac_graph.proofs.QueueLemmas.{none_ready, least_ready, turn_over, same_turns}
 use Rattle.pac_graph.proofs.turns.Turns.run.Goals as goal
@@ -28,6 +28,5 @@ add_targets-requires-clause-queue c = let g = c.args.graph.now in
 pub returns : goal.returns
 returns c = let g = c.args.graph.now in
     let t = c.loop-class.turns in
-    finished (HasEdge g.edges) (RanksUpTo g.ranks.items) g.edges.nodes t.numbers.items t.passed.items t.turn c.loop-class.invariant.turns
-    (none_ready g.edges (RanksUpTo g.ranks.items) t.numbers.items t.passed.items t.turn g.ranks.items c.requires c.loop-class.invariant.turns (Waits c.loop-class.queue) c.loop-class.invariant.queue c.in_default.ensures.least)
-    (λ a b e. (c.requires.falls a b e, leads_from g.edges a b e))
+    let none = none_ready g.edges (RanksUpTo g.ranks.items) t.numbers.items t.passed.items t.turn g.ranks.items c.requires c.loop-class.invariant.turns (Waits c.loop-class.queue) c.loop-class.invariant.queue c.in_default.ensures.least in
+    finished (HasEdge g.edges) (RanksUpTo g.ranks.items) g.edges.nodes t.numbers.items t.passed.items t.turn c.loop-class.invariant.turns (all_had_turns g.edges c.requires.acyclic t.numbers.items t.turn none)
