@@ -1,13 +1,13 @@
 -- Bits of a matrix as bits of its words, and the graph that a matrix stands for: its edges are its bits.
-use Rattle.std.proofs.Common.{◌≡◌, ◌≢◌, ◌⊎◌, ◌↔◌, ℕ, ◌+◌, ◌*◌, ◌/◌, ◌%◌, ◌^◌, ◌<◌, ◌≤◌, ◌==◌, Bool, false, IsTrue, List, [], length, get_or, set, sym, ap, ◌∙◌, subst, inl, inr, arith, get_or-set_other, get_or-set_same, w64, bit_or, bit_and, replicate}
-use Rattle.std.proofs.lemmas.Nat.Bits.{bit_at_set_same, bit_at_set_other, bit_at_above, bit_at-zero, shr_and_one}
+use Rattle.std.proofs.Common.{◌≡◌, ◌≢◌, ◌⊎◌, ◌↔◌, ℕ, ◌+◌, ◌*◌, ◌/◌, ◌%◌, ◌^◌, ◌<◌, ◌≤◌, ◌==◌, Bool, false, IsTrue, List, [], length, get_or, set, sym, ap, ◌∙◌, subst, inl, inr, arith, get_or-set_other, get_or-set_same, w64, bit_or, replicate, ◌-◌}
+use Rattle.std.proofs.lemmas.Nat.Bits.{bit_at_set_same, bit_at_set_other, bit_at_above, bit_at-zero, bit_at-trailing_zeros}
 use Rattle.std.proofs.lemmas.List.{get_or-replicate}
 use Rattle.std.proofs.lemmas.List.FromFn.{get_or-map-range_with_len}
-use Rattle.std.proofs.lemmas.Bool.{cases_eq}
-use Rattle.std.proofs.lemmas.Nat.{pow_pos}
+use Rattle.std.proofs.lemmas.Bool.{cases_eq, cases_lt}
+use Rattle.std.proofs.lemmas.Nat.{pow_pos, pow-add, shr_le}
 use Rattle.std.proofs.lemmas.Grind.{get_or_default_zero}
-use Rattle.std.proofs.Math.Nat.{div-lt_iff_lt-mul}
-use Rattle.std.specs.Int.{bit_at}
+use Rattle.std.proofs.Math.Nat.{div-lt_iff_lt-mul, div-div-eq-div-mul}
+use Rattle.std.specs.Int.{bit_at, trailing_zeros}
 use Rattle.pac_graph.specs.declared.matrix.Matrix.{Matrix}
 use Rattle.pac_graph.specs.Graph.{HasEdge}
 use Rattle.pac_graph.specs.Matrix.{bit_of, HasBit, row_of, rows_of, graph_of}
@@ -98,37 +98,57 @@ set_bit n words from to x y few len inf int ex0 ey a b = (go, back)
         let f : to % 64 ≡ b % 64 = omega (arith, eb) in
         (omega arith, omega arith, (written e).1 (subst (λ k. bit_at y k ≡ 1) f same))
 
--- a word whose bits from one on are all clear
-pub no_more : (n : ℕ) (words : List ℕ) (from to w : ℕ) → n ≤ 4160 → length words ≡ 65 * n → from < n → to < n → w ≡ get_or words (place from to) w → w / 2 ^ (to % 64) ≡ 0 → (b : ℕ) → to ≤ b → b < 64 * (to / 64) + 64 → IsBit n words from b → ⊥
-no_more n words from to w few len hf ht ew none0 b ge lt (inf, inb, bit) = omega (arith, one, clear)
+-- a bit of a shifted word
+shifted : (w s k : ℕ) → bit_at (w / 2 ^ s) k ≡ bit_at w (s + k)
+shifted w s k = ap (λ x. x % 2) (div-div-eq-div-mul w (2 ^ s) (2 ^ k) ∙ ap (λ d. w / d) (sym (pow-add 2 s k)))
+
+-- a word that is 0 from a place on has no bit there
+pub none_from : (w s : ℕ) → w / 2 ^ s ≡ 0 → (j : ℕ) → s ≤ j → bit_at w j ≡ 0
+none_from w s none j le = bit_at_above w s j small le
   where
-    x : ℕ
-    x = get_or words (place from to) 0
+    small : w < 2 ^ s
+    small = let lt : w < 1 * 2 ^ s = (div-lt_iff_lt-mul {k = 2 ^ s} {x = w} {y = 1} (pow_pos s)).0 (omega (arith, none)) in omega arith
 
-    word : w ≡ x
-    word = ew ∙ get_or_default_zero words (place from to) w (omega (arith, place_in n from to few hf ht))
-
-    none : x / 2 ^ (to % 64) ≡ 0
-    none = subst (λ z. z / 2 ^ (to % 64) ≡ 0) word none0
-
-    row : b / 64 ≡ to / 64
-    row = omega arith
-
-    one : bit_at x (b % 64) ≡ 1
-    one = subst (λ k. bit_at (get_or words (65 * from + k) 0) (b % 64) ≡ 1) row bit
-
-    small : x < 2 ^ (to % 64)
-    small = let lt : x < 1 * 2 ^ (to % 64) = (div-lt_iff_lt-mul {k = 2 ^ (to % 64)} {x = x} {y = 1} (pow_pos (to % 64))).0 (omega (arith, none)) in omega arith
-
-    clear : bit_at x (b % 64) ≡ 0
-    clear = bit_at_above x (to % 64) (b % 64) small (omega arith)
-
--- the lowest bit of a shifted word
-pub this_bit : (n : ℕ) (words : List ℕ) (from to w : ℕ) → n ≤ 4160 → length words ≡ 65 * n → from < n → to < n → w ≡ get_or words (place from to) w → (bit_and (w / 2 ^ (to % 64)) 1 ≡ 1) ↔ IsBit n words from to
-this_bit n words from to w few len hf ht ew = ((λ e. (hf, ht, subst (λ z. bit_at z (to % 64) ≡ 1) word (sym (shr_and_one w (to % 64)) ∙ e))), (λ h. shr_and_one w (to % 64) ∙ subst (λ z. bit_at z (to % 64) ≡ 1) (sym word) h.2))
+-- the lowest bit from a place on, by that of the shifted word
+pub lowest_bit : (w s : ℕ) → w < 2 ^ 64 → (w / 2 ^ s ≡ 0 → ⊥) → (s + trailing_zeros w64 (w / 2 ^ s) < 64) × (bit_at w (s + trailing_zeros w64 (w / 2 ^ s)) ≡ 1) × ((j : ℕ) → s ≤ j → j < s + trailing_zeros w64 (w / 2 ^ s) → bit_at w j ≡ 0)
+lowest_bit w s fits some = (within, one, clear)
   where
-    word : w ≡ get_or words (place from to) 0
-    word = ew ∙ get_or_default_zero words (place from to) w (omega (arith, place_in n from to few hf ht))
+    z : ℕ
+    z = trailing_zeros w64 (w / 2 ^ s)
+
+    lowest : (z < 64) × (bit_at (w / 2 ^ s) z ≡ 1) × ((i : ℕ) → i < z → bit_at (w / 2 ^ s) i ≡ 0)
+    lowest = bit_at-trailing_zeros w64 (w / 2 ^ s) (omega (arith, some)) (omega (arith, shr_le w s, fits))
+
+    one : bit_at w (s + z) ≡ 1
+    one = sym (shifted w s z) ∙ lowest.1
+
+    within : s + z < 64
+    within = elim (cases_lt (s + z) 64) [
+      | inl lt ↦ lt
+      | inr ge ↦ absurd (omega (arith, one, bit_at_above w 64 (s + z) fits ge))
+    ]
+
+    clear : (j : ℕ) → s ≤ j → j < s + z → bit_at w j ≡ 0
+    clear j ge lt = let e : s + (j - s) ≡ j = omega arith in ap (λ k. bit_at w k) (sym e) ∙ (sym (shifted w s (j - s)) ∙ lowest.2 (j - s) (omega arith))
+
+-- a bit of the row, in the word of another
+pub row_bit : (n : ℕ) (words : List ℕ) (from to b w : ℕ) → n ≤ 4160 → length words ≡ 65 * n → from < n → to < n → w ≡ get_or words (place from to) w → b / 64 ≡ to / 64 → bit_of words from b ≡ bit_at w (b % 64)
+row_bit n words from to b w few len hf ht ew row = ap (λ k. bit_at (get_or words (65 * from + k) 0) (b % 64)) row ∙ ap (λ x. bit_at x (b % 64)) (sym (ew ∙ get_or_default_zero words (place from to) w (omega (arith, place_in n from to few hf ht))))
+
+-- no bit of the row is set before a place in the word of `to`, if none was before `to` and none is in the word
+pub clear_until : (n : ℕ) (words : List ℕ) (from at to w p : ℕ) → n ≤ 4160 → length words ≡ 65 * n → from < n → to < n → w ≡ get_or words (place from to) w → p ≤ 64 → ((j : ℕ) → to % 64 ≤ j → j < p → bit_at w j ≡ 0) → ((b : ℕ) → at ≤ b → b < to → IsBit n words from b → ⊥) → (b : ℕ) → at ≤ b → b < 64 * (to / 64) + p → IsBit n words from b → ⊥
+clear_until n words from at to w p few len hf ht ew in_word clear before b ge lt h = elim (cases_lt b to) [
+  | inl early ↦ before b ge early h
+  | inr late ↦ (let e : bit_of words from b ≡ bit_at w (b % 64) = row_bit n words from to b w few len hf ht ew (omega (arith, late, lt, in_word)) in
+      let none : bit_at w (b % 64) ≡ 0 = clear (b % 64) (omega (arith, late, lt, in_word)) (omega (arith, late, lt, in_word)) in
+      omega (arith, h.2, e, none))
+]
+
+-- a bit of the word of `to` is one of the row
+pub set_in_row : (n : ℕ) (words : List ℕ) (from to w p : ℕ) → n ≤ 4160 → length words ≡ 65 * n → from < n → to < n → w ≡ get_or words (place from to) w → p < 64 → bit_at w p ≡ 1 → 64 * (to / 64) + p < n → IsBit n words from (64 * (to / 64) + p)
+set_in_row n words from to w p few len hf ht ew in_word one lt =
+    let column : (64 * (to / 64) + p) % 64 ≡ p = omega (arith, in_word) in
+    (hf, lt, row_bit n words from to (64 * (to / 64) + p) w few len hf ht ew (omega (arith, in_word)) ∙ (ap (λ k. bit_at w k) column ∙ one))
 
 -- what the graph of some words says of a pair of nodes
 looked_up : (n : ℕ) (words : List ℕ) (a b : ℕ) → a < n → b < n → get_or (get_or (rows_of n words) a []) b false ≡ (bit_of words a b == 1)

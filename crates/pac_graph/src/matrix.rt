@@ -1,5 +1,6 @@
 // A square matrix of bits.
 ghost use Rattle.std.specs.Prelude.{◌≡◌, ◌⊎◌, ◌↔◌, ℕ, ◌*◌, ◌<◌, ◌≤◌, vec_len, IfOk, MatchOption};
+ghost use Rattle.std.specs.Int.{bit_at};
 
 use pac_base::NoMemory;
 use std::alloc::Global;
@@ -54,15 +55,29 @@ impl Matrix {
     {
         let mut to = at;
         while to < self.nodes {
-            let rest = self.words[ROW * from + to / 64] >> (to % 64);
-            if rest == 0 {
-                to = 64 * (to / 64) + 64;
-            } else if rest & 1 == 1 {
-                return Some(to);
-            } else {
-                to += 1;
+            let word = 64 * (to / 64);
+            if let Some(place) = lowest_from(self.words[ROW * from + to / 64], to % 64) {
+                let first = word + place;
+                return if first < self.nodes {
+                    Some(first)
+                } else {
+                    None
+                };
             }
+            to = word + 64;
         }
         None
     }
+}
+
+// The lowest bit of a word that is set, from a place on.
+fn lowest_from(word: u64, place: usize) -> Option<usize>
+    requires { place < 64 }
+    ensures { MatchOption result ((j : ℕ) → place ≤ j → bit_at word j ≡ 0) (λ k. (place ≤ k) × (k < 64) × (bit_at word k ≡ 1) × ((j : ℕ) → place ≤ j → j < k → bit_at word j ≡ 0)) }
+{
+    let rest = word >> place;
+    if rest == 0 {
+        return None;
+    }
+    Some(place + rest.trailing_zeros() as usize)
 }
