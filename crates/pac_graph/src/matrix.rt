@@ -70,12 +70,15 @@ impl Matrix {
     }
 }
 
-// The lowest bit of a word that is set, from a place on.
+// The lowest bit of a word that is set, from a place on. Where bits are dense it is mostly that place itself.
 fn lowest_from(word: u64, place: usize) -> Option<usize>
     requires { place < 64 }
     ensures { MatchOption result ((j : ℕ) → place ≤ j → bit_at word j ≡ 0) (λ k. (place ≤ k) × (k < 64) × (bit_at word k ≡ 1) × ((j : ℕ) → place ≤ j → j < k → bit_at word j ≡ 0)) }
 {
     let rest = word >> place;
+    if rest & 1 == 1 {
+        return Some(place);
+    }
     if rest == 0 {
         return None;
     }
