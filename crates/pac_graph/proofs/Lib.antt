@@ -1,0 +1,12 @@
+pub mod GraphLemmas
+pub mod MatrixLemmas
+pub mod MarkLemmas
+pub mod SearchLemmas
+pub mod VisitLemmas
+pub mod EndLemmas
+pub mod ClassLemmas
+pub mod CondensedLemmas
+pub mod TurnLemmas
+pub mod QueueLemmas
+pub mod DescentLemmas
+pub mod LawLemmas
