@@ -1,10 +1,9 @@
 -- Calls that are executed batch by batch.
-use Rattle.std.proofs.Common.{◌≡◌, ℕ, ◌+◌, List, [], ◌∷◌, ◌++◌, map, length, length-append, Option, Some, None, Result, Ok, Err, refl, sym, ap, subst, ◌∙◌, arith}
+use Rattle.std.proofs.Common.{◌≡◌, ℕ, ◌+◌, List, [], ◌∷◌, ◌++◌, map, length, length-append, Result, Ok, Err, refl, sym, ap, subst, ◌∙◌, arith}
 use Rattle.std.specs.List.{AllByRecursion}
-use Rattle.std.specs.FinMap.{empty, get-empty}
 use Rattle.std.proofs.lemmas.List.{length-map}
 use Rattle.pac_value.specs.Expressions.{◌>>=◌}
-use Rattle.pac_value.specs.State.{cell_cmp, RowValues, Tables}
+use Rattle.pac_value.specs.State.{Tables}
 use Rattle.pac_ops.specs.declared.note.Note.{Note}
 use Rattle.pac_ops.specs.declared.transaction.Call.{Call}
 use Rattle.pac_ops.specs.declared.transaction.Txn.{Txn}
@@ -13,8 +12,7 @@ use Rattle.pac_tables.specs.Joined.{Held}
 use Rattle.pac_types.specs.declared.procedure.Proc.{Proc}
 use Rattle.pac_types.specs.Typing.{CatalogueState}
 use Rattle.pac_types.specs.Execution.{serial}
-use Rattle.pac_types.specs.declared.table.Table.{Table}
-use Rattle.pac_types.specs.Fits.{FitsProcs, TxnFits, FitTables}
+use Rattle.pac_types.specs.Fits.{FitsProcs, TxnFits}
 use Rattle.pac_types.proofs.ExecutionLemmas.{serial-parts}
 use Rattle.pac_serial.specs.declared.serial.AllError.{AllError}
 use Rattle.pac_serial.specs.declared.serial.AllError.TheVariants.{Abort, NoMemory}
@@ -67,10 +65,3 @@ module _ (cat : CatalogueState) where
 -- what is to be answered is the answer
 pub ends-as : (r : Result Held AllError) (error : AllError) (m n : Result Tables Note) → r ≡ Err error → m ≡ n → DoesEnd (Err error) m → DoesEnd r n
 ends-as r error m n is same h = subst (λ (q : Result Held AllError). DoesEnd q n) (sym is) (subst (λ (x : Result Tables Note). DoesEnd (Err error) x) same h)
-
--- no row is unfit where there is none
-pub no-rows-fit : (tables : List Table) → FitTables tables empty
-no-rows-fit tables cell row found =
-    let none : ◌≡◌ {A = Option RowValues} None (Some row) = sym (get-empty cell_cmp cell) ∙ found in
-    let no_way : ⊥ = cc in
-    absurd no_way

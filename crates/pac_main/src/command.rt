@@ -87,7 +87,8 @@ fn replay<I: Source, O: Sink>(alloc: Global, input: &mut I, output: &mut O) -> R
     ensures taken { GaveAtMost (MAX_SCRIPT + 1) (I.left input.old) (I.left input.new) }
     ensures no_usage { ¬ IsErrOf result Stop.Usage }
 {
-    let Script { catalogue, calls } = read_input(alloc, input)?;
+    let script = read_input(alloc, input)?;
+    let Script { catalogue, calls } = script;
     let rows = execute(alloc, &catalogue, calls)?;
     let text = dump_tables(alloc, &catalogue, &rows)?;
     Ok(write_all(output, &text)?)

@@ -12,7 +12,7 @@ ghost use Rattle.pac_main.specs.Replay.{DoesEnd};
 use crate::request::Calls;
 use pac_base::NoMemory;
 use pac_ops::{Batch, Call, MAX_TXNS, Txn, Txns};
-use pac_serial::{AllError, exec_all};
+use pac_serial::{AllError, exec_all, no_rows};
 use pac_tables::OrderedRows;
 use pac_types::Catalogue;
 use std::alloc::Global;
@@ -41,7 +41,7 @@ pub fn execute(alloc: Global, catalogue: &Catalogue, calls: Calls) -> Result<Ord
     ensures ends { DoesEnd result (serial catalogue.now.procs 1 (map ACall calls) empty) }
     ensures tables { IfOk result (λ rows. rows.tables ≡ length catalogue.now.tables) }
 {
-    let mut rows = OrderedRows::new(alloc, catalogue.tables().len() as u16)?;
+    let mut rows = no_rows(alloc, catalogue)?;
     let mut left = calls.into_items().into_iter();
     let mut first = 1;
     loop {

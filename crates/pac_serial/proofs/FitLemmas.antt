@@ -19,7 +19,9 @@ use Rattle.pac_types.specs.declared.table.Table.{Table}
 use Rattle.pac_ops.specs.Shapes.{RowFits}
 use Rattle.pac_ops.specs.Operations.{column_or}
 use Rattle.pac_types.specs.Sound.{column_types}
-use Rattle.pac_types.specs.Fits.{shape, FitTables}
+use Rattle.pac_tables.specs.Joined.{Held}
+use Rattle.pac_types.specs.Typing.{CatalogueState}
+use Rattle.pac_types.specs.Fits.{shape, FitTables, FitsCatalogue}
 use Rattle.pac_types.proofs.ShapeLemmas.{columns-of_fit}
 use Rattle.pac_value.specs.Scopes.{with_var, is_wanted, are_wanted}
 use Rattle.pac_value.proofs.CellLemmas.{get-with_row, tied_same}
@@ -154,3 +156,10 @@ runs-changed tables n held old new p row over fits is knows = record {
 pub on-ok-both : {A E : Type 0} (r : Result A E) {P Q : Type 0} → OnOk r P → (P → Q) → OnOk r Q
 on-ok-both (Ok x) h f = f h
 on-ok-both (Err e) h f = tt
+
+-- so the tables of a catalogue fit it where they have no rows
+pub fits-none : (cat : CatalogueState) (n : ℕ) (held : Held) → held ≡ record { tables = n; rows = empty } → n ≡ length cat.tables → FitsCatalogue cat held.tables held.rows
+fits-none cat n held is count = record {
+  count = ap (λ (h : Held). h.tables) is ∙ count;
+  rows = FitTables-empty cat.tables held.rows (ap (λ (h : Held). h.rows) is);
+}

@@ -10,20 +10,20 @@ use Rattle.pac_main.proofs.command.replay.Goals as goal
 
 pub returns-in_err-write_all-clause-front : goal.returns-in_err-write_all-clause-front
 returns-in_err-write_all-clause-front g c = λ is.
-    let text : c.deref.result.now ≡ dump c.in_ok-read_input.field-0 c.in_ok-rows.rows.rows = c.deref.ensures.value ∙ c.in_ok-text.ensures in (
-      c.in_ok-read_input.field-0,
+    let text : c.deref.result.now ≡ dump c.in_ok-script.script c.in_ok-rows.rows.rows = c.deref.ensures.value ∙ c.in_ok-text.ensures in (
+      c.in_ok-script.script,
       c.in_ok-rows.rows.rows,
-      c.in_ok-read_input.ensures.ok,
+      c.in_ok-script.ensures.ok,
       c.in_ok-rows.ensures.ends,
       subst (λ (t : List ℕ). TookFront (g.O.Sink.held c.args.output.now) t (g.O.Sink.held c.write_all.new.sink)) text c.write_all.ensures.front,
     )
 
 pub returns-clause-done : goal.returns-clause-done
 returns-clause-done g c =
-    let text : c.deref.result.now ≡ dump c.in_ok-read_input.field-0 c.in_ok-rows.rows.rows = c.deref.ensures.value ∙ c.in_ok-text.ensures in (
-      c.in_ok-read_input.field-0,
+    let text : c.deref.result.now ≡ dump c.in_ok-script.script c.in_ok-rows.rows.rows = c.deref.ensures.value ∙ c.in_ok-text.ensures in (
+      c.in_ok-script.script,
       c.in_ok-rows.rows.rows,
-      c.in_ok-read_input.ensures.ok,
+      c.in_ok-script.ensures.ok,
       c.in_ok-rows.ensures.ends,
       subst (λ (t : List ℕ). Took (g.O.Sink.held c.args.output.now) t (g.O.Sink.held c.write_all.new.sink)) text c.in_ok-write_all.ensures.ok,
     )

@@ -1,37 +1,30 @@
 -- Batch after batch, what is left gives what all gives.
-use Rattle.std.proofs.Common.{◌≡◌, ◌+◌, Err, List, Result, map, length, refl, sym, ap, subst, ◌∙◌, arith}
+use Rattle.std.proofs.Common.{◌≡◌, ◌+◌, Err, List, Result, map, length, sym, ap, subst, ◌∙◌, arith}
 use Rattle.std.specs.List.{AllByRecursion}
-use Rattle.std.specs.FinMap.{empty}
 use Rattle.std.specs.Vec.Iter.{into_iter_items}
+use Rattle.std.proofs.lemmas.Bool.Decides.{nat_tests}
 use Rattle.std.proofs.lemmas.Result.{err_from_is_err_and}
-use Rattle.pac_value.specs.State.{Tables}
 use Rattle.pac_ops.specs.declared.transaction.Call.{Call}
 use Rattle.pac_ops.specs.declared.transaction.Txn.{Txn}
 use Rattle.pac_ops.specs.declared.transaction.Txn.TheVariants.{Call as ACall}
 use Rattle.pac_tables.specs.Joined.{Held}
-use Rattle.pac_types.specs.declared.table.Table.{Table}
 use Rattle.pac_types.specs.Execution.{serial}
-use Rattle.pac_types.specs.Fits.{FitsProcs, FitsCatalogue, TxnFits, FitTables}
+use Rattle.pac_types.specs.Fits.{FitsProcs, TxnFits}
 use Rattle.pac_serial.specs.declared.serial.AllError.{AllError}
 use Rattle.pac_serial.specs.Outcomes.{ExecutesAll}
-use Rattle.pac_main.proofs.BatchLemmas.{batch-fits, rest-fits, parts-length, batch-done, batch-stops, ends-as, no-rows-fit}
+use Rattle.pac_main.proofs.BatchLemmas.{batch-fits, rest-fits, parts-length, batch-done, batch-stops, ends-as}
 use Rattle.pac_main.proofs.execution.execute.Goals as goal
 
 pub loop-left-init : goal.loop-left-init
 loop-left-init c =
     let calls : into_iter_items c.into_iter-left.result ≡ c.args.calls = c.into_iter-left.ensures.rest ∙ c.into_items.ensures.value in
     let cat = c.args.catalogue.now in
-    let none = ap (λ (h : Held). h.rows) c.in_ok-rows.ensures in
-    let count = ap (λ (h : Held). h.tables) c.in_ok-rows.ensures in
     let number = ap (λ (cs : List Call). length cs) calls in
     record {
       fit = subst (λ (cs : List Call). AllByRecursion (FitsProcs cat.procs) cs) (sym calls) c.requires;
-      rows = record {
-        count = omega (arith, count, c.tables.ensures.few, c.tables.ensures.value, ap (λ (ts : List Table). length ts) c.tables.ensures.value);
-        rows = subst (λ (t : Tables). FitTables cat.tables t) (sym none) (no-rows-fit cat.tables);
-      };
+      rows = c.in_ok-rows.ensures.fits;
       numbers = omega (arith, number);
-      so_far = ap (λ (cs : List Call). serial cat.procs 1 (map ACall cs) c.in_ok-rows.rows.rows) calls ∙ ap (λ (t : Tables). serial cat.procs 1 (map ACall c.args.calls) t) none;
+      so_far = ap (λ (cs : List Call). serial cat.procs 1 (map ACall cs) c.in_ok-rows.rows.rows) calls ∙ ap (λ (h : Held). serial cat.procs 1 (map ACall c.args.calls) h.rows) c.in_ok-rows.ensures.rows;
     }
 
 pub exec_all-requires-clause-fit : goal.exec_all-requires-clause-fit
@@ -52,7 +45,7 @@ returns-in_err-exec_all-clause-ends c =
 pub loop-left-smaller : goal.loop-left-smaller
 loop-left-smaller c =
     let parts = parts-length c.args.catalogue.now (into_iter_items c.loop-left.left) (into_iter_items c.next_txns.new.left) c.in_ok-txns.txns.items c.in_ok-txns.ensures.parts in
-    omega (arith, parts, c.in_ok-txns.txns.ok, c.if-is_empty.ensures)
+    grind (arith, nat_tests, parts, c.in_ok-txns.txns.ok, c.is_empty.ensures, c.if-is_empty.false)
 
 pub loop-left-preserved : goal.loop-left-preserved
 loop-left-preserved c =

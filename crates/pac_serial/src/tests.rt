@@ -1,0 +1,140 @@
+// Examples, each run once.
+ghost use Rattle.std.specs.Prelude.{◌≡◌, [], ◌∷◌, Some, map, IfOk, IsTrue};
+ghost use Rattle.pac_value.specs.declared.values.Ty.TheVariants.{Int as IntTy};
+ghost use Rattle.pac_value.specs.declared.values.Key.TheVariants.{Int as IntKey};
+ghost use Rattle.pac_value.specs.declared.values.Value.TheVariants.{Int as AnInt};
+ghost use Rattle.pac_ops.specs.Shapes.{ChangeFits};
+ghost use Rattle.pac_ops.specs.declared.transaction.Change.TheVariants.{Put};
+ghost use Rattle.pac_types.specs.Sound.{key_type, column_types};
+ghost use Rattle.pac_types.specs.Fits.{shape, FitsCall, FitsProcs};
+
+use crate::{AllError, ExecError, dump_tables, exec, exec_adhoc, exec_all, no_rows};
+use pac_base::NoMemory;
+use pac_ops::{Args, Batch, Call, Change, Note, Reason, Records, Txn, Txns};
+use pac_types::{Catalogue, Column, read_catalogue};
+use pac_value::{Key, Row, Ty, Value};
+use std::alloc::Global;
+use std::test::Fail;
+
+fn catalogue(alloc: Global, text: &str) -> Result<Catalogue, Fail> {
+    match read_catalogue(alloc, text.as_bytes()) {
+        Ok(catalogue) => Ok(catalogue),
+        Err(_) => Err(Fail::from("no catalogue")),
+    }
+}
+
+// Whether the procedure is there and takes no arguments.
+fn takes_nothing(catalogue: &Catalogue, proc: u16) -> bool
+    ensures { IsTrue result → FitsCall catalogue.now.procs proc [] }
+{
+    match catalogue.procs().get(usize::from(proc)) {
+        Some(proc) => proc.params.as_slice().is_empty(),
+        None => false,
+    }
+}
+
+// Whether the first table has an int key and one int column.
+fn is_int_table(catalogue: &Catalogue) -> bool
+    ensures { IsTrue result → (key_type catalogue.now.tables 0 ≡ Some IntTy) × (column_types catalogue.now.tables 0 ≡ IntTy ∷ []) }
+{
+    match catalogue.tables() {
+        [table, ..] => match table.columns.as_slice() {
+            [Column { ty: Ty::Int, .. }] => table.key == Ty::Int,
+            _ => false,
+        },
+        [] => false,
+    }
+}
+
+fn put(alloc: Global, key: i64, value: i64) -> Result<Change, NoMemory>
+    ensures { IfOk result (λ change. change ≡ Put 0 (IntKey key) (AnInt value ∷ [])) }
+{
+    let row = Row::of(vec![in alloc; Value::Int(value)]?);
+    Ok(Change::Put {
+        table: 0,
+        key: Key::Int(key),
+        row,
+    })
+}
+
+const TABLE: &str = "table T(key int, v int); \
+    proc One() { put T[1] = (5); } \
+    proc Two() { put T[2] = (6); } \
+    proc Bad() { put T[1] = (7); if true { delete T[1]; } else { } abort if true; }";
+
+#[test]
+fn a_table_over_the_limit_stays_as_it_was(rt: HostRuntime) -> Result<(), Fail> {
+    let alloc = rt.alloc();
+    let catalogue = catalogue(alloc, TABLE)?;
+    let mut rows = no_rows(alloc, &catalogue)?;
+    if !takes_nothing(&catalogue, 0) || !takes_nothing(&catalogue, 1) || !is_int_table(&catalogue) {
+        return Err(Fail::from("another catalogue"));
+    }
+    assert_eq!(rt; exec(alloc, &catalogue, 0, &[], Some(1), &mut rows), Ok(()));
+    assert_eq!(rt;
+        exec(alloc, &catalogue, 1, &[], Some(1), &mut rows),
+        Err(ExecError::Full { table: 0 })
+    );
+    let text = dump_tables(alloc, &catalogue, &rows)?;
+    assert_eq!(rt; text.as_slice(), b"table T 1\n1 (5)\n".as_slice());
+    let delete = Change::Delete {
+        table: 0,
+        key: Key::Int(1),
+    };
+    let records = Records::of(vec![in alloc; put(alloc, 2, 8)?, put(alloc, 2, 9)?, delete]?);
+    assert_eq!(rt; exec_adhoc(alloc, &catalogue, &records, Some(1), &mut rows), Ok(()));
+    let text = dump_tables(alloc, &catalogue, &rows)?;
+    assert_eq!(rt; text.as_slice(), b"table T 1\n2 (9)\n".as_slice());
+    Ok(())
+}
+
+#[test]
+fn the_first_table_over_the_limit_is_named(rt: HostRuntime) -> Result<(), Fail> {
+    let alloc = rt.alloc();
+    let catalogue = catalogue(
+        alloc,
+        "table A(key int, v int); table B(key int, v int); proc P() { put B[1] = (1); put A[1] = (1); }",
+    )?;
+    let mut rows = no_rows(alloc, &catalogue)?;
+    if !takes_nothing(&catalogue, 0) {
+        return Err(Fail::from("another catalogue"));
+    }
+    assert_eq!(rt;
+        exec(alloc, &catalogue, 0, &[], Some(0), &mut rows),
+        Err(ExecError::Full { table: 0 })
+    );
+    assert_eq!(rt; exec(alloc, &catalogue, 0, &[], Some(1), &mut rows), Ok(()));
+    Ok(())
+}
+
+fn call(alloc: Global, proc: u16) -> Txn {
+    Txn::Call(Call {
+        proc,
+        args: Args::of(Vec::new(alloc)),
+    })
+}
+
+#[test]
+fn an_abort_leaves_the_transactions_before_it(rt: HostRuntime) -> Result<(), Fail> {
+    let alloc = rt.alloc();
+    let catalogue = catalogue(alloc, TABLE)?;
+    let mut rows = no_rows(alloc, &catalogue)?;
+    if !takes_nothing(&catalogue, 0) || !takes_nothing(&catalogue, 1) || !takes_nothing(&catalogue, 2) {
+        return Err(Fail::from("another catalogue"));
+    }
+    let batch = Batch {
+        first: 7,
+        txns: Txns::of(vec![in alloc; call(alloc, 0), call(alloc, 2), call(alloc, 1)]?),
+    };
+    assert_eq!(rt;
+        exec_all(alloc, &catalogue, &batch, &mut rows),
+        Err(AllError::Abort(Note {
+            txn: 8,
+            op: 3,
+            reason: Reason::Asked
+        }))
+    );
+    let text = dump_tables(alloc, &catalogue, &rows)?;
+    assert_eq!(rt; text.as_slice(), b"table T 1\n1 (5)\n".as_slice());
+    Ok(())
+}
