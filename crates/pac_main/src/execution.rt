@@ -9,7 +9,7 @@ ghost use Rattle.pac_types.specs.Execution.{serial};
 ghost use Rattle.pac_types.specs.Fits.{FitsProcs};
 ghost use Rattle.pac_main.specs.Replay.{DoesEnd};
 
-use crate::request::Calls;
+use crate::request::ScriptCalls;
 use pac_base::NoMemory;
 use pac_ops::{Batch, Call, MAX_TXNS, Txn, Txns};
 use pac_serial::{AllError, exec_all, no_rows};
@@ -36,7 +36,7 @@ fn next_txns(alloc: Global, left: &mut IntoIter<Call>) -> Result<Vec<Txn>, NoMem
 
 /// The tables with which the calls end, from no rows on. They are executed in batches, each of which is made when its
 /// turn comes.
-pub fn execute(alloc: Global, catalogue: &Catalogue, calls: Calls) -> Result<OrderedRows, AllError>
+pub fn execute(alloc: Global, catalogue: &Catalogue, calls: ScriptCalls) -> Result<OrderedRows, AllError>
     requires { AllByRecursion (FitsProcs catalogue.now.procs) calls }
     ensures ends { DoesEnd result (serial catalogue.now.procs 1 (map ACall calls) empty) }
     ensures tables { IfOk result (λ rows. rows.tables ≡ length catalogue.now.tables) }

@@ -26,12 +26,12 @@ pub struct NoCall;
 pub type LineError = Refusal<NoCall>;
 
 /// The calls of a script, in order.
-pub type Calls = Ruled<CallsRule>;
+pub type ScriptCalls = Ruled<ScriptCallsRule>;
 
-/// What [`Calls`] keep: nothing.
-pub struct CallsRule;
+/// What [`ScriptCalls`] keep: nothing.
+pub struct ScriptCallsRule;
 
-impl Rule for CallsRule {
+impl Rule for ScriptCallsRule {
     type Item = Call;
 
     ghost holds = { λ calls. Unit {0} };

@@ -12,7 +12,7 @@ ghost use Rattle.pac_main.specs.declared.script_fault.ScriptFault.{ScriptFault a
 
 use crate::limits::MAX_SCRIPT;
 use crate::lines::find_mark;
-use crate::request::{Calls, LineError, read_calls};
+use crate::request::{LineError, ScriptCalls, read_calls};
 use crate::script_fault::{ScriptError, ScriptFault};
 use pac_base::Refusal;
 use pac_ops::Call;
@@ -23,7 +23,7 @@ use std::alloc::Global;
 #[derive(Drop)]
 pub struct Script {
     pub catalogue: Catalogue,
-    pub calls: Calls,
+    pub calls: ScriptCalls,
 }
 
 // The calls of the lines behind the mark's line feed, where there is one.
@@ -46,7 +46,7 @@ fn with_calls(alloc: Global, catalogue: Catalogue, behind: &[u8]) -> Result<Scri
     match read_behind(alloc, &catalogue, behind) {
         Ok(calls) => Ok(Script {
             catalogue,
-            calls: Calls::of(calls),
+            calls: ScriptCalls::of(calls),
         }),
         Err(Refusal::Fault(_)) => Err(Refusal::Fault(ScriptFault::Refused)),
         Err(Refusal::NoMemory) => Err(Refusal::NoMemory),

@@ -19,8 +19,8 @@ laid tables [] = tables
 laid tables (change ∷ changes) = with_row (laid tables changes) change.0 change.1.row
 
 -- the tables as a transaction with these changes sees them
-abbrev pub seen : Tables → Changes → Tables
-seen tables changes = laid tables (entries changes)
+abbrev pub drafted : Tables → Changes → Tables
+drafted tables changes = laid tables (entries changes)
 
 -- each change is in one of so many tables, and knows whether a row stands at its cell
 abbrev pub KnowsTables : ℕ → Tables → Changes → Type 0

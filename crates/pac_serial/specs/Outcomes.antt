@@ -10,7 +10,7 @@ use Rattle.pac_ops.specs.declared.transaction.Txn.{Txn}
 use Rattle.pac_ops.specs.Reasons.{reason_of}
 use Rattle.pac_types.specs.declared.procedure.Proc.{Proc}
 use Rattle.pac_types.specs.Meaning.{Abort as AnAbort}
-use Rattle.pac_types.specs.Execution.{over, serial}
+use Rattle.pac_types.specs.Execution.{first_over, serial}
 use Rattle.pac_serial.specs.declared.operation.Halt.{Halt}
 use Rattle.pac_serial.specs.declared.operation.Halt.TheVariants.{Abort, NoMemory}
 use Rattle.pac_serial.specs.declared.execute.ExecError.{ExecError}
@@ -27,7 +27,7 @@ unless_over (Some found) tables = Err (Full found.0)
 abbrev pub limited : Option ℕ → ℕ → Result Tables AnAbort → Result Tables ExecError
 limited limit number (Err abort) = Err (AbortAt abort.0 abort.1)
 limited None number (Ok tables) = Ok tables
-limited (Some limit) number (Ok tables) = unless_over (over limit number tables) tables
+limited (Some limit) number (Ok tables) = unless_over (first_over limit number tables) tables
 
 -- the tables are those that a transaction was to give; or it is refused as it was to be, or finds no memory, and they
 -- are as before

@@ -3,7 +3,7 @@ ghost use Rattle.std.specs.Prelude.{◌≡◌, ◌<◌, ◌≤◌, is_some, IfOk
 ghost use Rattle.std.specs.Option.{option_map};
 ghost use Rattle.std.specs.FinMap as map;
 ghost use Rattle.pac_value.specs.State.{with_row};
-ghost use Rattle.pac_serial.specs.Drafts.{seen, KnowsTables, write_of, gains, loses, gained, lost};
+ghost use Rattle.pac_serial.specs.Drafts.{drafted, KnowsTables, write_of, gains, loses, gained, lost};
 
 use crate::pending::Pending;
 use pac_base::NoMemory;
@@ -53,7 +53,7 @@ impl Draft {
     /// The row at a cell, as the transaction sees it. It looks up the cell among the changes, and then in the tables.
     pub(crate) fn get<'a, R: Rows>(&'a self, rows: &'a R, table: u16, key: &Key) -> Option<&'a Row>
         requires { table < R.tables rows.now }
-        ensures { option_map (λ row. row.now) result ≡ map.get (seen (R.held rows.now) self.now) (table, key.now) }
+        ensures { option_map (λ row. row.now) result ≡ map.get (drafted (R.held rows.now) self.now) (table, key.now) }
     {
         match self.changes.get(&(table, *key)) {
             Some(pending) => pending.row.as_ref(),
@@ -83,7 +83,7 @@ impl Draft {
     ) -> Result<(), NoMemory>
         requires within { table < R.tables rows.now }
         requires knows { KnowsTables (R.tables rows.now) (R.held rows.now) self.old }
-        ensures ok { OnOk result (seen (R.held rows.now) self.new ≡ with_row (seen (R.held rows.now) self.old) (table, key) row) }
+        ensures ok { OnOk result (drafted (R.held rows.now) self.new ≡ with_row (drafted (R.held rows.now) self.old) (table, key) row) }
         ensures err { OnErr result (self.new ≡ self.old) }
         ensures knows { KnowsTables (R.tables rows.now) (R.held rows.now) self.new }
     {
@@ -125,7 +125,7 @@ impl Draft {
     /// Makes the changes, or none where a row finds no room.
     pub(crate) fn commit<R: Rows>(&mut self, alloc: Global, rows: &mut R) -> Result<(), NoMemory>
         requires { KnowsTables (R.tables rows.old) (R.held rows.old) self.old }
-        ensures ok { OnOk result (R.held rows.new ≡ seen (R.held rows.old) self.old) }
+        ensures ok { OnOk result (R.held rows.new ≡ drafted (R.held rows.old) self.old) }
         ensures err { OnErr result (R.held rows.new ≡ R.held rows.old) }
         ensures tables { R.tables rows.new ≡ R.tables rows.old }
     {

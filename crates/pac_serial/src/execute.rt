@@ -4,7 +4,7 @@ ghost use Rattle.pac_ops.specs.Shapes.{ChangeFits, RecordsFit};
 ghost use Rattle.pac_ops.specs.Transactions.{with_change, with_changes};
 ghost use Rattle.pac_types.specs.Execution.{called_at, txn_meaning};
 ghost use Rattle.pac_types.specs.Fits.{shape, FitsCatalogue, FitsCall, TxnFits};
-ghost use Rattle.pac_serial.specs.Drafts.{seen, KnowsTables};
+ghost use Rattle.pac_serial.specs.Drafts.{drafted, KnowsTables};
 ghost use Rattle.pac_serial.specs.Outcomes.{Executes, limited};
 ghost use Rattle.pac_serial.specs.Transactions.{RunsOver};
 
@@ -62,8 +62,8 @@ fn finish<R: Rows>(
     txn: &mut RunningTxn,
 ) -> Result<(), ExecError>
     requires { KnowsTables (R.tables rows.old) (R.held rows.old) txn.old.draft }
-    ensures does { Executes (limited limit (R.tables rows.old) (Ok (seen (R.held rows.old) txn.old.draft))) (R.held rows.old) (R.held rows.new) result }
-    ensures seen { OnOk result (R.held rows.new ≡ seen (R.held rows.old) txn.old.draft) }
+    ensures does { Executes (limited limit (R.tables rows.old) (Ok (drafted (R.held rows.old) txn.old.draft))) (R.held rows.old) (R.held rows.new) result }
+    ensures made { OnOk result (R.held rows.new ≡ drafted (R.held rows.old) txn.old.draft) }
     ensures kept { OnErr result (R.held rows.new ≡ R.held rows.old) }
     ensures tables { R.tables rows.new ≡ R.tables rows.old }
 {
@@ -105,7 +105,7 @@ fn make<R: Rows>(
 ) -> Result<(), NoMemory>
     requires change { ChangeFits (map shape tables.now) change.now }
     requires over { RunsOver tables.now (R.tables rows.now) (R.held rows.now) txn.old.draft }
-    ensures seen { OnOk result (seen (R.held rows.now) txn.new.draft ≡ with_change (seen (R.held rows.now) txn.old.draft) change.now) }
+    ensures made { OnOk result (drafted (R.held rows.now) txn.new.draft ≡ with_change (drafted (R.held rows.now) txn.old.draft) change.now) }
     ensures over { OnOk result (RunsOver tables.now (R.tables rows.now) (R.held rows.now) txn.new.draft) }
 {
     match change {

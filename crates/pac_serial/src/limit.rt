@@ -2,8 +2,8 @@
 ghost use Rattle.std.specs.Prelude.{◌≡◌, ◌<◌, length, nat_lt};
 ghost use Rattle.std.specs.Option.{option_map};
 ghost use Rattle.pac_value.specs.State.{keys_of};
-ghost use Rattle.pac_types.specs.Execution.{over};
-ghost use Rattle.pac_serial.specs.Drafts.{seen, KnowsTables};
+ghost use Rattle.pac_types.specs.Execution.{first_over};
+ghost use Rattle.pac_serial.specs.Drafts.{drafted, KnowsTables};
 
 use crate::draft::Draft;
 use pac_tables::Rows;
@@ -12,7 +12,7 @@ use pac_tables::Rows;
 fn is_over<R: Rows>(rows: &R, draft: &Draft, limit: u64, table: u16) -> bool
     requires within { table < R.tables rows.now }
     requires knows { KnowsTables (R.tables rows.now) (R.held rows.now) draft.now }
-    ensures { result ≡ nat_lt limit (length (keys_of (seen (R.held rows.now) draft.now) table)) }
+    ensures { result ≡ nat_lt limit (length (keys_of (drafted (R.held rows.now) draft.now) table)) }
 {
     let (gained, lost) = draft.balance(table);
     u128::from(limit) + u128::from(lost) < u128::from(rows.count(table)) + u128::from(gained)
@@ -22,7 +22,7 @@ fn is_over<R: Rows>(rows: &R, draft: &Draft, limit: u64, table: u16) -> bool
 /// and looks at each change once a table, and at no row.
 pub(crate) fn over_limit<R: Rows>(rows: &R, draft: &Draft, limit: u64) -> Option<u16>
     requires { KnowsTables (R.tables rows.now) (R.held rows.now) draft.now }
-    ensures { result ≡ option_map (λ found. found.0) (over limit (R.tables rows.now) (seen (R.held rows.now) draft.now)) }
+    ensures { result ≡ option_map (λ found. found.0) (first_over limit (R.tables rows.now) (drafted (R.held rows.now) draft.now)) }
 {
     for table in 0..rows.tables() {
         if is_over(rows, draft, limit, table) {

@@ -1,8 +1,8 @@
 -- None of the first tables is over the limit.
 use Rattle.std.proofs.Common.{◌≡◌, None}
-use Rattle.pac_types.specs.Execution.{over}
-use Rattle.pac_serial.specs.Drafts.{seen}
+use Rattle.pac_types.specs.Execution.{first_over}
+use Rattle.pac_serial.specs.Drafts.{drafted}
 use Rattle.pac_serial.proofs.limit.over_limit.Given as goal
 
 abbrev pub invariant-loop-table : goal.invariant-loop-table
-invariant-loop-table g l = over l.limit l.table (seen (g.R.Rows.held l.rows) l.draft) ≡ None
+invariant-loop-table g l = over l.limit l.table (drafted (g.R.Rows.held l.rows) l.draft) ≡ None

@@ -5,7 +5,7 @@ use Rattle.pac_value.specs.State.{Cell}
 use Rattle.pac_value.proofs.CellLemmas.{cells_total, cells_antisymmetric}
 use Rattle.pac_value.proofs.MapLemmas.{insert-entries_of}
 use Rattle.pac_serial.specs.declared.pending.Pending.{Pending}
-use Rattle.pac_serial.specs.Drafts.{Changes, seen, KnowsTables}
+use Rattle.pac_serial.specs.Drafts.{Changes, drafted, KnowsTables}
 use Rattle.pac_serial.proofs.DraftLemmas.{seen-insert, knows-insert}
 use Rattle.pac_serial.proofs.draft.Draft.change.Goals as goal
 
@@ -13,7 +13,7 @@ pub returns-clause-ok : goal.returns-clause-ok
 returns-clause-ok g c =
     let cell : Cell = (c.args.table, c.args.key) in
     let pending : Pending = record { row = c.args.row; stands = c.stands-stands.result } in
-    ap (seen (g.R.Rows.held c.args.rows.now)) (insert-entries_of cells_total cells_antisymmetric c.self.inside.changes.entries c.insert.new.self.entries cell pending c.in_ok-insert.ensures.updates.0
+    ap (drafted (g.R.Rows.held c.args.rows.now)) (insert-entries_of cells_total cells_antisymmetric c.self.inside.changes.entries c.insert.new.self.entries cell pending c.in_ok-insert.ensures.updates.0
     ∙ ap (λ m. map.insert m cell pending) c.self.view_is)
     ∙ seen-insert (g.R.Rows.held c.args.rows.now) c.args.self.now cell pending
 
