@@ -55,29 +55,29 @@ module _ (tables : List Table) (names : List (List ℕ)) where
   step_numbers : (y : StmtNode-F TakesNumbers-node) → TakesNumbers (number_step tables names (map-StmtNode StmtNode Numbered (numbered tables names) (map-StmtNode TakesNumbers-node StmtNode (λ q. q.0) y)))
   step_numbers (form.Let name value) sight next s h =
       let p = map_is (λ e. Let next e) (resolved names sight value) s h in
-      known_by s _ _ p.2 (at-Let (List ℕ) variables_step _ next p.0 refl)
+      known_by s (Let next p.0) (next ∷ []) p.2 (at-Let (List ℕ) variables_step (Let next p.0) next p.0 refl)
   step_numbers (form.Read name table key column default) sight next s h =
       let p = cell_is (table_number tables table.name) (resolved names sight key) (λ t k. option_map (λ c. Read next t k c default.value) (column_number tables t column.name)) s h in
       let q = map_is (λ c. Read next p.0 p.1 c default.value) (column_number tables p.0 column.name) s p.4 in
-      known_by s _ _ q.2 (at-Read (List ℕ) variables_step _ next p.0 p.1 q.0 default.value refl)
+      known_by s (Read next p.0 p.1 q.0 default.value) (next ∷ []) q.2 (at-Read (List ℕ) variables_step (Read next p.0 p.1 q.0 default.value) next p.0 p.1 q.0 default.value refl)
   step_numbers (form.Has name table key) sight next s h =
       let p = cell_is (table_number tables table.name) (resolved names sight key) (λ t k. Some (Has next t k)) s h in
-      known_by s _ _ (some_is p.4) (at-Has (List ℕ) variables_step _ next p.0 p.1 refl)
+      known_by s (Has next p.0 p.1) (next ∷ []) (some_is p.4) (at-Has (List ℕ) variables_step (Has next p.0 p.1) next p.0 p.1 refl)
   step_numbers (form.Put table key values) sight next s h =
       let p = cell_is (table_number tables table.name) (resolved names sight key) (λ t k. option_map (λ es. Put t k es) (resolved_all names sight values)) s h in
       let q = map_is (λ es. Put p.0 p.1 es) (resolved_all names sight values) s p.4 in
-      known_by s _ _ q.2 (at-Put (List ℕ) variables_step _ p.0 p.1 q.0 refl)
+      known_by s (Put p.0 p.1 q.0) [] q.2 (at-Put (List ℕ) variables_step (Put p.0 p.1 q.0) p.0 p.1 q.0 refl)
   step_numbers (form.Set table key column value) sight next s h =
       let p = cell_is (table_number tables table.name) (resolved names sight key) (λ t k. option_and_then (λ c. option_map (λ e. Set t k c e) (resolved names sight value)) (column_number tables t column.name)) s h in
       let q = then_is (λ c. option_map (λ e. Set p.0 p.1 c e) (resolved names sight value)) (column_number tables p.0 column.name) s p.4 in
       let r = map_is (λ e. Set p.0 p.1 q.0 e) (resolved names sight value) s q.2 in
-      known_by s _ _ r.2 (at-Set (List ℕ) variables_step _ p.0 p.1 q.0 r.0 refl)
+      known_by s (Set p.0 p.1 q.0 r.0) [] r.2 (at-Set (List ℕ) variables_step (Set p.0 p.1 q.0 r.0) p.0 p.1 q.0 r.0 refl)
   step_numbers (form.Delete table key) sight next s h =
       let p = cell_is (table_number tables table.name) (resolved names sight key) (λ t k. Some (Delete t k)) s h in
-      known_by s _ _ (some_is p.4) (at-Delete (List ℕ) variables_step _ p.0 p.1 refl)
+      known_by s (Delete p.0 p.1) [] (some_is p.4) (at-Delete (List ℕ) variables_step (Delete p.0 p.1) p.0 p.1 refl)
   step_numbers (form.AbortIf test) sight next s h =
       let p = map_is (λ e. AbortIf e) (resolved names sight test) s h in
-      known_by s _ _ p.2 (at-AbortIf (List ℕ) variables_step _ p.0 refl)
+      known_by s (AbortIf p.0) [] p.2 (at-AbortIf (List ℕ) variables_step (AbortIf p.0) p.0 refl)
   step_numbers (form.If test first second) sight next s h =
       let ns = numbering_of first in
       let ms = numbering_of second in
