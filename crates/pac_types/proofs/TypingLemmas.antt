@@ -1,7 +1,7 @@
 -- Tables, procedures and catalogues.
 use Rattle.std.proofs.Common.{◌≡◌, ◌<◌, ◌≤◌, ℕ, ◌+◌, suc, true, List, [], ◌∷◌, ◌++◌, length, take, drop, map, get_or, Option, Some, None, Result, Ok, Err, refl, sym, ap, ◌∙◌, subst, arith, take-append-drop}
 use Rattle.std.specs.Prelude.{All, IfSome, IsTrue, bytes_eq}
-use Rattle.std.specs.List.{AllZip, AllByRecursion, IsDistinct}
+use Rattle.std.specs.List.{AllZip, AllByRecursion, IsDistinct, range_with_len}
 use Rattle.std.specs.Option.{option_map}
 use Rattle.std.proofs.lemmas.List.{length-map, append-nil}
 use Rattle.std.proofs.lemmas.List.Elements.{All-map, All-from_recursion, recursion_from_All}
@@ -23,6 +23,7 @@ use Rattle.pac_types.specs.declared.statement.Stmt.{Stmt}
 use Rattle.pac_types.specs.Sound.{column_types, column_types_of}
 use Rattle.pac_value.specs.Scopes.{is_width}
 use Rattle.pac_types.specs.Meaning.{operations}
+use Rattle.pac_types.specs.Variables.{defined_variables}
 use Rattle.pac_types.specs.Numbering.{AreDistinct, variables, body_of, numbers_from, column_of, table_of, column_names, table_names}
 use Rattle.pac_types.specs.Typing.{IsProcOf, HasDistinctColumns, Types, CatalogueState, IsCatalogue, IsSoundTable, IsProc, IsTyped}
 use Rattle.pac_base.specs.declared.refusal.Refusal.{Refusal}
@@ -30,6 +31,7 @@ use Rattle.pac_base.specs.declared.refusal.Refusal.TheVariants as error
 use Rattle.pac_types.specs.Checking.{once, all_once, names_of, checked_tables, checked_proc, checked_procs}
 use Rattle.pac_types.proofs.NameLemmas.{are_distinct, distinct-nil, number-within}
 use Rattle.pac_types.proofs.CountLemmas.{body_size}
+use Rattle.pac_types.proofs.NumberLemmas.{body_numbers}
 use Rattle.pac_types.proofs.ExprLemmas.{some_is, none_is}
 use Rattle.pac_types.proofs.StmtLemmas.{Wide}
 use Rattle.pac_types.proofs.TreeLemmas.{OnceTold, once_told, ProcTold, proc_told}
@@ -110,12 +112,17 @@ a_proc : (tables : List Table) (node : ProcNode) (proc : Proc) → IsProcWithinL
 a_proc tables node proc limits is =
     let b = body_found tables node proc (body_of tables (variables node) node.body (numbers_from 0 node.params) (length node.params)) is.named in
     let params : proc.params ≡ map column_of node.params = ap (λ (p : Proc). p.params) (sym b.2) in
+    let body : b.0 ≡ proc.body = ap (λ (p : Proc). p.body) b.2 in
+    let many : length node.params ≡ length proc.params = sym (ap length params ∙ length-map node.params column_of) in
     let counted : operations proc.body ≡ sizes node.body = ap (λ (p : Proc). operations p.body) (sym b.2) ∙ body_size tables (variables node) node.body (numbers_from 0 node.params) (length node.params) b.0 b.1 in
     record {
       few = subst (λ n. n ≤ 16) (sym (ap length params ∙ length-map node.params column_of)) limits.few;
       params = subst (All (λ column. IsTrue (is_stored_type column.ty))) (sym params) (stored-columns node.params limits.params);
       sound = is.sound;
       counted = omega (arith, limits.short, counted);
+      numbered = subst (λ (ss : List Stmt). defined_variables ss ≡ range_with_len (length proc.params) (length (defined_variables ss))) body
+          (subst (λ n. defined_variables b.0 ≡ range_with_len n (length (defined_variables b.0))) many
+          (body_numbers tables (variables node) node.body (numbers_from 0 node.params) (length node.params) b.0 b.1));
     }
 
 name_of : (tables : List Table) (node : ProcNode) (proc : Proc) → IsProcOf tables node proc → proc.name ≡ node.name.name

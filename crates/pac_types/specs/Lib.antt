@@ -3,6 +3,7 @@ pub mod Sound
 pub mod Meaning
 pub mod Execution
 pub mod Numbering
+pub mod Variables
 pub mod NamesIndex
 pub mod Faults
 pub mod Checking

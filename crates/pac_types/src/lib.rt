@@ -9,7 +9,9 @@
 //! `specs/Faults.antt` says which faults stand in a tree, each at its place, by the rules of scope and type and without
 //! any order of looking for them. `specs/Typing.antt` says which catalogue a tree has, by the numbers of
 //! `specs/Numbering.antt` and the types of `specs/Sound.antt`: sound statements can be executed without any test of
-//! types. A tree has a catalogue exactly where no fault stands in it, and a [`Catalogue`] is sound by its type.
+//! types. A tree has a catalogue exactly where no fault stands in it, and a [`Catalogue`] is sound by its type. It
+//! keeps by its type too that each procedure defines its variables once, numbered in the order of the text behind the
+//! parameters (`specs/Variables.antt`).
 //! `specs/Meaning.antt` says what statements and procedures mean, by recursion on the tree: the serial meaning. Its
 //! operations are those of `pac_ops`. `specs/Execution.antt` says what transactions mean, one after another, and which
 //! table is over a limit; `specs/Fits.antt` which rows and transactions fit a catalogue. Every execution is held to these.
