@@ -50,7 +50,6 @@ knows-none n t cell pending found =
 pub knows-insert : (n : ℕ) (t : Tables) (cs : Changes) (p : Cell) (new : Pending) → p.0 < n → new.stands ≡ is_some (get t p) → KnowsTables n t cs → KnowsTables n t (insert cs p new)
 knows-insert n t cs p new within stands knows q pending found = go (eq_by_cmp cell_cmp q p) refl (sym (get-insert cells_total cs p new q) ∙ found)
   where
-
     go : (b : Bool) → eq_by_cmp cell_cmp q p ≡ b → cond b (Some new) (get cs q) ≡ Some pending → (q.0 < n) × (pending.stands ≡ is_some (get t q))
     go true e h =
         let same : new ≡ pending = cc in

@@ -9,12 +9,7 @@ use pac_types::Catalogue;
 use pac_value::{Key, Name, push_count, push_key, push_values};
 use std::alloc::Global;
 
-fn push_row<R: Rows>(
-    out: &mut Vec<u8>,
-    rows: &R,
-    table: u16,
-    key: &Key,
-) -> Result<(), NoMemory>
+fn push_row<R: Rows>(out: &mut Vec<u8>, rows: &R, table: u16, key: &Key) -> Result<(), NoMemory>
     requires { table < R.tables rows.now }
     ensures { OnOk result (Grew out.old.items out.new.items (row_line (R.held rows.now) table key.now)) }
 {
@@ -28,12 +23,7 @@ fn push_row<R: Rows>(
 }
 
 // One table: its name, the number of its rows, and the rows.
-fn push_table<R: Rows>(
-    out: &mut Vec<u8>,
-    rows: &R,
-    table: u16,
-    name: Name,
-) -> Result<(), NoMemory>
+fn push_table<R: Rows>(out: &mut Vec<u8>, rows: &R, table: u16, name: Name) -> Result<(), NoMemory>
     requires { table < R.tables rows.now }
     ensures { OnOk result (Grew out.old.items out.new.items (table_dump (R.held rows.now) table name)) }
 {

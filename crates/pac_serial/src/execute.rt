@@ -56,11 +56,7 @@ impl From<Halt> for ExecError {
 }
 
 // Makes what the transaction has changed, where no table is over the limit then.
-fn finish<R: Rows>(
-    limit: Option<u64>,
-    rows: &mut R,
-    txn: &mut RunningTxn,
-) -> Result<(), ExecError>
+fn finish<R: Rows>(limit: Option<u64>, rows: &mut R, txn: &mut RunningTxn) -> Result<(), ExecError>
     requires { KnowsTables (R.tables rows.old) (R.held rows.old) txn.old.draft }
     ensures does { Executes (limited limit (R.tables rows.old) (Ok (drafted (R.held rows.old) txn.old.draft))) (R.held rows.old) (R.held rows.new) result }
     ensures made { OnOk result (R.held rows.new ≡ drafted (R.held rows.old) txn.old.draft) }

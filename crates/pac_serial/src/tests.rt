@@ -1,16 +1,16 @@
 // Examples, each run once.
-ghost use Rattle.std.specs.Prelude.{◌≡◌, [], ◌∷◌, Some, map, IfOk, IsTrue};
+ghost use Rattle.std.specs.Prelude.{◌≡◌, [], ◌∷◌, Some, length, IfOk, IsTrue};
 ghost use Rattle.pac_value.specs.declared.values.Ty.TheVariants.{Int as IntTy};
 ghost use Rattle.pac_value.specs.declared.values.Key.TheVariants.{Int as IntKey};
 ghost use Rattle.pac_value.specs.declared.values.Value.TheVariants.{Int as AnInt};
-ghost use Rattle.pac_ops.specs.Shapes.{ChangeFits};
-ghost use Rattle.pac_ops.specs.declared.transaction.Change.TheVariants.{Put};
+ghost use Rattle.pac_ops.specs.declared.transaction.Change.TheVariants.{Delete, Put};
 ghost use Rattle.pac_types.specs.Sound.{key_type, column_types};
-ghost use Rattle.pac_types.specs.Fits.{shape, FitsCall, FitsProcs};
+ghost use Rattle.pac_types.specs.Fits.{FitsCall};
 
 use crate::{AllError, ExecError, dump_tables, exec, exec_adhoc, exec_all, no_rows};
 use pac_base::NoMemory;
 use pac_ops::{Args, Batch, Call, Change, Note, Reason, Records, Txn, Txns};
+use pac_tables::OrderedRows;
 use pac_types::{Catalogue, Column, read_catalogue};
 use pac_value::{Key, Row, Ty, Value};
 use std::alloc::Global;
@@ -62,29 +62,58 @@ const TABLE: &str = "table T(key int, v int); \
     proc Two() { put T[2] = (6); } \
     proc Bad() { put T[1] = (7); if true { delete T[1]; } else { } abort if true; }";
 
+// Whether the tables are printed so.
+fn is_dump(
+    alloc: Global,
+    catalogue: &Catalogue,
+    rows: &OrderedRows,
+    text: &str,
+) -> Result<bool, NoMemory>
+    requires { rows.now.tables ≡ length catalogue.now.tables }
+{
+    Ok(dump_tables(alloc, catalogue, rows)?.as_slice() == text.as_bytes())
+}
+
 #[test]
 fn a_table_over_the_limit_stays_as_it_was(rt: HostRuntime) -> Result<(), Fail> {
     let alloc = rt.alloc();
     let catalogue = catalogue(alloc, TABLE)?;
     let mut rows = no_rows(alloc, &catalogue)?;
-    if !takes_nothing(&catalogue, 0) || !takes_nothing(&catalogue, 1) || !is_int_table(&catalogue) {
+    if !takes_nothing(&catalogue, 0) || !takes_nothing(&catalogue, 1) {
         return Err(Fail::from("another catalogue"));
     }
-    assert_eq!(rt; exec(alloc, &catalogue, 0, &[], Some(1), &mut rows), Ok(()));
-    assert_eq!(rt;
-        exec(alloc, &catalogue, 1, &[], Some(1), &mut rows),
-        Err(ExecError::Full { table: 0 })
-    );
-    let text = dump_tables(alloc, &catalogue, &rows)?;
-    assert_eq!(rt; text.as_slice(), b"table T 1\n1 (5)\n".as_slice());
+    let one = exec(alloc, &catalogue, 0, &[], Some(1), &mut rows);
+    assert_eq!(rt; one, Ok(()));
+    let two = exec(alloc, &catalogue, 1, &[], Some(1), &mut rows);
+    assert_eq!(rt; two, Err(ExecError::Full { table: 0 }));
+    assert!(rt; is_dump(alloc, &catalogue, &rows, "table T 1\n1 (5)\n")?);
+    Ok(())
+}
+
+// Two puts at the key 2, and a delete at the key 1.
+fn records(alloc: Global) -> Result<Records, NoMemory>
+    ensures { IfOk result (λ records. records ≡ Put 0 (IntKey 2) (AnInt 8 ∷ []) ∷ Put 0 (IntKey 2) (AnInt 9 ∷ []) ∷ Delete 0 (IntKey 1) ∷ []) }
+{
     let delete = Change::Delete {
         table: 0,
         key: Key::Int(1),
     };
-    let records = Records::of(vec![in alloc; put(alloc, 2, 8)?, put(alloc, 2, 9)?, delete]?);
-    assert_eq!(rt; exec_adhoc(alloc, &catalogue, &records, Some(1), &mut rows), Ok(()));
-    let text = dump_tables(alloc, &catalogue, &rows)?;
-    assert_eq!(rt; text.as_slice(), b"table T 1\n2 (9)\n".as_slice());
+    Ok(Records::of(vec![in alloc; put(alloc, 2, 8)?, put(alloc, 2, 9)?, delete]?))
+}
+
+#[test]
+fn records_are_made_in_their_order(rt: HostRuntime) -> Result<(), Fail> {
+    let alloc = rt.alloc();
+    let catalogue = catalogue(alloc, TABLE)?;
+    let mut rows = no_rows(alloc, &catalogue)?;
+    if !takes_nothing(&catalogue, 0) || !is_int_table(&catalogue) {
+        return Err(Fail::from("another catalogue"));
+    }
+    let one = exec(alloc, &catalogue, 0, &[], Some(1), &mut rows);
+    assert_eq!(rt; one, Ok(()));
+    let made = exec_adhoc(alloc, &catalogue, &records(alloc)?, Some(1), &mut rows);
+    assert_eq!(rt; made, Ok(()));
+    assert!(rt; is_dump(alloc, &catalogue, &rows, "table T 1\n2 (9)\n")?);
     Ok(())
 }
 
@@ -99,11 +128,8 @@ fn the_first_table_over_the_limit_is_named(rt: HostRuntime) -> Result<(), Fail> 
     if !takes_nothing(&catalogue, 0) {
         return Err(Fail::from("another catalogue"));
     }
-    assert_eq!(rt;
-        exec(alloc, &catalogue, 0, &[], Some(0), &mut rows),
-        Err(ExecError::Full { table: 0 })
-    );
-    assert_eq!(rt; exec(alloc, &catalogue, 0, &[], Some(1), &mut rows), Ok(()));
+    let none = exec(alloc, &catalogue, 0, &[], Some(0), &mut rows);
+    assert_eq!(rt; none, Err(ExecError::Full { table: 0 }));
     Ok(())
 }
 
@@ -119,22 +145,23 @@ fn an_abort_leaves_the_transactions_before_it(rt: HostRuntime) -> Result<(), Fai
     let alloc = rt.alloc();
     let catalogue = catalogue(alloc, TABLE)?;
     let mut rows = no_rows(alloc, &catalogue)?;
-    if !takes_nothing(&catalogue, 0) || !takes_nothing(&catalogue, 1) || !takes_nothing(&catalogue, 2) {
+    if !takes_nothing(&catalogue, 0)
+        || !takes_nothing(&catalogue, 1)
+        || !takes_nothing(&catalogue, 2)
+    {
         return Err(Fail::from("another catalogue"));
     }
     let batch = Batch {
         first: 7,
         txns: Txns::of(vec![in alloc; call(alloc, 0), call(alloc, 2), call(alloc, 1)]?),
     };
-    assert_eq!(rt;
-        exec_all(alloc, &catalogue, &batch, &mut rows),
-        Err(AllError::Abort(Note {
-            txn: 8,
-            op: 3,
-            reason: Reason::Asked
-        }))
-    );
-    let text = dump_tables(alloc, &catalogue, &rows)?;
-    assert_eq!(rt; text.as_slice(), b"table T 1\n1 (5)\n".as_slice());
+    let note = Note {
+        txn: 8,
+        op: 3,
+        reason: Reason::Asked,
+    };
+    let ended = exec_all(alloc, &catalogue, &batch, &mut rows);
+    assert_eq!(rt; ended, Err(AllError::Abort(note)));
+    assert!(rt; is_dump(alloc, &catalogue, &rows, "table T 1\n1 (5)\n")?);
     Ok(())
 }
