@@ -92,7 +92,7 @@ fn a_table_over_the_limit_stays_as_it_was(rt: HostRuntime) -> Result<(), Fail> {
 
 // Two puts at the key 2, and a delete at the key 1.
 fn records(alloc: Global) -> Result<Records, NoMemory>
-    ensures { IfOk result (λ records. records ≡ Put 0 (IntKey 2) (AnInt 8 ∷ []) ∷ Put 0 (IntKey 2) (AnInt 9 ∷ []) ∷ Delete 0 (IntKey 1) ∷ []) }
+    ensures { IfOk result (λ records. records ≡ Put 0 (IntKey (pos 2)) (AnInt (pos 8) ∷ []) ∷ Put 0 (IntKey (pos 2)) (AnInt (pos 9) ∷ []) ∷ Delete 0 (IntKey (pos 1)) ∷ []) }
 {
     let delete = Change::Delete {
         table: 0,
