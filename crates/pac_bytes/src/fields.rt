@@ -2,7 +2,7 @@
 ghost use Rattle.std.specs.Prelude.{◌≡◌, ◌<◌, ◌≤◌, ◌+◌, ◌^◌, ◌++◌, ◌∷◌, [], List, ℕ, drop, length, IfOk, OnOk, Ok};
 ghost use Rattle.std.specs.Int.{w16, w32, w64, to_le_bytes};
 ghost use Rattle.pac_value.specs.Growth.{Grew};
-ghost use Rattle.pac_bytes.specs.Reading.{from, Answers, IsInFront, next_byte, next_bytes, next_uint, short_at};
+ghost use Rattle.pac_bytes.specs.Reading.{from, Answers, Finds, FindsSpelled, next_byte, next_bytes, next_uint, short_at};
 
 use crate::Short;
 use pac_base::NoMemory;
@@ -28,6 +28,8 @@ fn bytes_at<const N: usize>(bytes: &[u8], at: usize) -> Result<([u8; N], usize),
 /// [`Short`]: the bytes end before the place or at it.
 pub fn u8_at(bytes: &[u8], at: usize) -> Result<(u8, usize), Short>
     ensures exact { Answers bytes.now result (next_byte (from bytes.now at)) }
+    ensures found { Finds (λ b. b < 256) (λ b. b ∷ []) bytes.now at result }
+    ensures again { FindsSpelled (λ b. b < 256) (λ b. b ∷ []) bytes.now at result }
     ensures inside { IfOk result (λ found. found.1 ≤ length bytes.now) }
 {
     match bytes.get(at) {
@@ -43,6 +45,8 @@ pub fn u8_at(bytes: &[u8], at: usize) -> Result<(u8, usize), Short>
 /// [`Short`]: fewer than two bytes are left at the place.
 pub fn u16_at(bytes: &[u8], at: usize) -> Result<(u16, usize), Short>
     ensures exact { Answers bytes.now result (next_uint w16 (from bytes.now at)) }
+    ensures found { Finds (λ n. n < 2 ^ 16) (to_le_bytes w16) bytes.now at result }
+    ensures again { FindsSpelled (λ n. n < 2 ^ 16) (to_le_bytes w16) bytes.now at result }
 {
     let (field, end) = bytes_at(bytes, at)?;
     Ok((u16::from_le_bytes(field), end))
@@ -55,6 +59,8 @@ pub fn u16_at(bytes: &[u8], at: usize) -> Result<(u16, usize), Short>
 /// [`Short`]: fewer than four bytes are left at the place.
 pub fn u32_at(bytes: &[u8], at: usize) -> Result<(u32, usize), Short>
     ensures exact { Answers bytes.now result (next_uint w32 (from bytes.now at)) }
+    ensures found { Finds (λ n. n < 2 ^ 32) (to_le_bytes w32) bytes.now at result }
+    ensures again { FindsSpelled (λ n. n < 2 ^ 32) (to_le_bytes w32) bytes.now at result }
 {
     let (field, end) = bytes_at(bytes, at)?;
     Ok((u32::from_le_bytes(field), end))
@@ -67,6 +73,8 @@ pub fn u32_at(bytes: &[u8], at: usize) -> Result<(u32, usize), Short>
 /// [`Short`]: fewer than eight bytes are left at the place.
 pub fn u64_at(bytes: &[u8], at: usize) -> Result<(u64, usize), Short>
     ensures exact { Answers bytes.now result (next_uint w64 (from bytes.now at)) }
+    ensures found { Finds (λ n. n < 2 ^ 64) (to_le_bytes w64) bytes.now at result }
+    ensures again { FindsSpelled (λ n. n < 2 ^ 64) (to_le_bytes w64) bytes.now at result }
 {
     let (field, end) = bytes_at(bytes, at)?;
     Ok((u64::from_le_bytes(field), end))

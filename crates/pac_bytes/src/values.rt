@@ -3,7 +3,7 @@ ghost use Rattle.std.specs.Prelude.{◌≡◌, ◌≤◌, ◌+◌, ◌++◌, Lis
 ghost use Rattle.pac_value.specs.declared.values.Value.{Value as AValue};
 ghost use Rattle.pac_value.specs.Growth.{Grew};
 ghost use Rattle.pac_value.specs.Values.{is_stored, type_of};
-ghost use Rattle.pac_bytes.specs.Reading.{from, Answers, IsInFront};
+ghost use Rattle.pac_bytes.specs.Reading.{from, Answers, Finds, FindsSpelled};
 ghost use Rattle.pac_bytes.specs.Values.{int_body, text_of_length, text_body, next_type, next_value, value_bytes, HasBytes};
 
 use crate::{ValueFault, put_u8, put_u64, u8_at, u64_at};
@@ -22,6 +22,7 @@ const TEXT: u8 = 2;
 /// [`ValueFault::Short`] where the bytes end before the place or at it, and [`ValueFault::Tag`] where its byte is no tag.
 pub fn type_at(bytes: &[u8], at: usize) -> Result<Ty, ValueFault>
     ensures exact { result ≡ next_type (from bytes.now at) }
+    ensures again { (v : AValue) (more : List ℕ) → HasBytes v → drop at bytes.now ≡ value_bytes v ++ more → result ≡ Ok (type_of v) }
 {
     let (tag, _) = u8_at(bytes, at)?;
     match tag {
@@ -93,6 +94,8 @@ fn read_value(bytes: &[u8], at: usize) -> Result<(Value, usize), ValueFault>
 /// byte below 0x20 or above 0x7E.
 pub fn value_at(bytes: &[u8], at: usize) -> Result<(Value, usize), ValueFault>
     ensures exact { Answers bytes.now result (next_value (from bytes.now at)) }
+    ensures found { Finds HasBytes value_bytes bytes.now at result }
+    ensures again { FindsSpelled HasBytes value_bytes bytes.now at result }
 {
     read_value(bytes, at)
 }
