@@ -4,5 +4,6 @@ pub mod Codec
 pub mod Numbers
 pub mod Lists
 pub mod Filling
+pub mod Loops
 pub mod ValueLemmas
 pub mod Laws

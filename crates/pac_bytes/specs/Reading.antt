@@ -1,6 +1,8 @@
 -- Reading bytes from the left, up to the first fault.
 use Rattle.std.specs.Prelude.{◌≡◌, ◌+◌, ℕ, suc, zero, List, [], ◌∷◌, ◌++◌, length, take, drop, Result, Ok, Err, IfOk, nat_lt, nat_eq, if◌then◌else◌}
 use Rattle.std.specs.Int.{Width, byte_len, from_le_bytes}
+use Rattle.pac_base.specs.declared.refusal.Refusal.{Refusal}
+use Rattle.pac_base.specs.Refusals.{Tells, Only}
 use Rattle.pac_value.specs.Expressions.{◌>>=◌}
 use Rattle.pac_bytes.specs.declared.fault.Short.{Short}
 
@@ -36,7 +38,15 @@ abbrev pub Answers : {A F : Type 0} → List ℕ → Result (A × ℕ) F → Res
 Answers bytes (Ok found) read = read ≡ Ok (found.0, from bytes found.1)
 Answers bytes (Err fault) read = read ≡ Err fault
 
--- the same, with each fault told so
+-- the same, unless there was no memory
+abbrev pub AnswersUnlessMemory : {A F : Type 0} → List ℕ → Result (A × ℕ) (Refusal F) → Result (A × Rest) F → Type 0
+AnswersUnlessMemory bytes result read = Tells (λ found. (found.0, from bytes found.1)) result read
+
+-- what is spelled in these bytes from this place on, whatever follows, is what a function found there, unless there was no memory
+abbrev pub FindsSpelledUnlessMemory : {A F : Type 0} → (A → Type 0) → (A → List ℕ) → List ℕ → ℕ → Result (A × ℕ) (Refusal F) → Type 0
+FindsSpelledUnlessMemory {A} has_form spell bytes at result = (meant : A) (more : List ℕ) → has_form meant → drop at bytes ≡ spell meant ++ more → Only result (meant, at + length (spell meant))
+
+-- a result with each fault told so
 abbrev pub told_as : {F G A : Type 0} → (F → G) → Result A F → Result A G
 told_as tell (Ok x) = Ok x
 told_as tell (Err fault) = Err (tell fault)
