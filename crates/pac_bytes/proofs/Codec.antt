@@ -7,7 +7,8 @@
 use Rattle.std.proofs.Common.{◌≡◌, ◌∙◌, ℕ, ◌+◌, Bool, true, false, cond, List, [], ◌++◌, length, Result, Ok, Err, refl, sym, ap, subst, append_assoc, arith, add-zero}
 use Rattle.std.proofs.lemmas.List.{length-append}
 use Rattle.pac_value.specs.Expressions.{◌>>=◌}
-use Rattle.pac_bytes.specs.Reading.{Rest, IsInFront, told_as}
+use Rattle.pac_bytes.specs.Reading.{Rest, told_as}
+use Rattle.pac_bytes.specs.Readers.{IsInFront}
 use Rattle.pac_bytes.proofs.Results.{bind_ok, told_as_ok, ok_same}
 use Rattle.pac_bytes.proofs.Bytes.{IsBytes, IsBytes-behind}
 

@@ -3,7 +3,8 @@ use Rattle.std.proofs.Common.{◌≡◌, ◌∙◌, ℕ, ◌≤◌, ◌+◌, fal
 use Rattle.std.proofs.lemmas.Bool.{eqb-true, ltb-false, le-ltb}
 use Rattle.std.proofs.lemmas.List.{take_at, drop_at, take-append-drop, length-append, length-take, append-nil, nil_from_length}
 use Rattle.pac_value.specs.Expressions.{◌>>=◌}
-use Rattle.pac_bytes.specs.Reading.{Rest, IsInFront, behind, all_read, within}
+use Rattle.pac_bytes.specs.Reading.{Rest, behind, all_read, within}
+use Rattle.pac_bytes.specs.Readers.{IsInFront}
 use Rattle.pac_bytes.proofs.Results.{bind_ok, ok_same, false_ok, true_ok}
 use Rattle.pac_bytes.proofs.Bytes.{IsBytes, IsBytes-take}
 use Rattle.pac_bytes.proofs.Codec.{IsCodec}

@@ -4,7 +4,8 @@ use Rattle.std.proofs.Common.{◌≡◌, ◌∙◌, ℕ, ◌+◌, List, length, 
 use Rattle.pac_base.specs.declared.refusal.Refusal.{Refusal}
 use Rattle.pac_base.specs.declared.refusal.Refusal.TheVariants.{Fault, NoMemory}
 use Rattle.pac_base.specs.Refusals.{Only}
-use Rattle.pac_bytes.specs.Reading.{Rest, from, Answers, AnswersUnlessMemory, Finds, FindsSpelled, FindsSpelledUnlessMemory}
+use Rattle.pac_bytes.specs.Reading.{Rest, from}
+use Rattle.pac_bytes.specs.Readers.{Answers, AnswersUnlessMemory, Finds, FindsSpelled, FindsSpelledUnlessMemory}
 use Rattle.pac_bytes.proofs.Results.{ok_same}
 use Rattle.pac_bytes.proofs.Bytes.{IsBytes, IsBytes-drop}
 use Rattle.pac_bytes.proofs.Codec.{IsCodec}

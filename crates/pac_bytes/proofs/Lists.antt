@@ -4,7 +4,8 @@ use Rattle.std.specs.List.{flat_map, AllZip}
 use Rattle.std.proofs.lemmas.List.{length-append}
 use Rattle.std.proofs.lemmas.List.Concat.{flat_map-cons}
 use Rattle.pac_value.specs.Expressions.{◌>>=◌}
-use Rattle.pac_bytes.specs.Reading.{Rest, IsInFront, times, along}
+use Rattle.pac_bytes.specs.Reading.{Rest, times, along}
+use Rattle.pac_bytes.specs.Readers.{IsInFront}
 use Rattle.pac_bytes.proofs.Results.{bind_ok, bind_of_ok, ok_same}
 use Rattle.pac_bytes.proofs.Bytes.{IsBytes-behind}
 use Rattle.pac_bytes.proofs.Codec.{IsCodec, ended, same}

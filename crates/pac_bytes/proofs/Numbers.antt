@@ -5,7 +5,8 @@ use Rattle.std.proofs.lemmas.Bool.{ltb-false, le-ltb}
 use Rattle.std.proofs.lemmas.List.{take_at, drop_at, take-append-drop, length-append, length-take, append-nil}
 use Rattle.std.proofs.lemmas.Nat.{le_bytes_2, le_bytes_4, le_bytes_8, from_le_bytes-to_le_bytes_2, from_le_bytes-to_le_bytes_4, from_le_bytes-to_le_bytes_8}
 use Rattle.pac_bytes.specs.declared.fault.Short.{Short}
-use Rattle.pac_bytes.specs.Reading.{Rest, IsInFront, behind, short_at, byte_in_front, next_byte, next_bytes, next_uint}
+use Rattle.pac_bytes.specs.Reading.{Rest, behind, short_at, byte_in_front, next_byte, next_bytes, next_uint}
+use Rattle.pac_bytes.specs.Readers.{IsInFront}
 use Rattle.pac_bytes.proofs.Results.{ok_same, false_ok}
 use Rattle.pac_bytes.proofs.Bytes.{IsBytes, AreBytes, IsBytes-nil, IsBytes-cons, IsBytes-take}
 use Rattle.pac_bytes.proofs.Codec.{IsCodec, ended, seq, same}

@@ -1,8 +1,6 @@
 -- Reading bytes from the left, up to the first fault.
-use Rattle.std.specs.Prelude.{◌≡◌, ◌+◌, ℕ, suc, zero, List, [], ◌∷◌, ◌++◌, length, take, drop, Result, Ok, Err, IfOk, nat_lt, nat_eq, if◌then◌else◌}
+use Rattle.std.specs.Prelude.{◌+◌, ℕ, suc, zero, List, [], ◌∷◌, length, take, drop, Result, Ok, Err, nat_lt, nat_eq, if◌then◌else◌}
 use Rattle.std.specs.Int.{Width, byte_len, from_le_bytes}
-use Rattle.pac_base.specs.declared.refusal.Refusal.{Refusal}
-use Rattle.pac_base.specs.Refusals.{Tells, Only}
 use Rattle.pac_value.specs.Expressions.{◌>>=◌}
 use Rattle.pac_bytes.specs.declared.fault.Short.{Short}
 
@@ -18,33 +16,6 @@ from bytes at = record { at = at; bytes = drop at bytes }
 -- what is left behind the next n bytes
 abbrev pub behind : ℕ → Rest → Rest
 behind n s = record { at = s.at + n; bytes = drop n s.bytes }
-
--- what is meant, as a form has it, is spelled by the bytes in front of s, and t is what is left behind them
-pub record IsInFront {A : Type 0} (has_form : A → Type 0) (spell : A → List ℕ) (s : Rest) (meant : A) (t : Rest) : Type 0 where
-  pub bytes : s.bytes ≡ spell meant ++ t.bytes
-  pub place : t.at ≡ s.at + length (spell meant)
-  pub form : has_form meant
-
--- what a function found in these bytes from this place on is spelled there
-abbrev pub Finds : {A F : Type 0} → (A → Type 0) → (A → List ℕ) → List ℕ → ℕ → Result (A × ℕ) F → Type 0
-Finds has_form spell bytes at result = IfOk result (λ found. IsInFront has_form spell (from bytes at) found.0 (from bytes found.1))
-
--- what is spelled in these bytes from this place on, whatever follows, is what a function found there
-abbrev pub FindsSpelled : {A F : Type 0} → (A → Type 0) → (A → List ℕ) → List ℕ → ℕ → Result (A × ℕ) F → Type 0
-FindsSpelled {A} has_form spell bytes at result = (meant : A) (more : List ℕ) → has_form meant → drop at bytes ≡ spell meant ++ more → result ≡ Ok (meant, at + length (spell meant))
-
--- A function that was lent these bytes answered what reading gives: what is meant and the place behind it, or the fault.
-abbrev pub Answers : {A F : Type 0} → List ℕ → Result (A × ℕ) F → Result (A × Rest) F → Type 0
-Answers bytes (Ok found) read = read ≡ Ok (found.0, from bytes found.1)
-Answers bytes (Err fault) read = read ≡ Err fault
-
--- the same, unless there was no memory
-abbrev pub AnswersUnlessMemory : {A F : Type 0} → List ℕ → Result (A × ℕ) (Refusal F) → Result (A × Rest) F → Type 0
-AnswersUnlessMemory bytes result read = Tells (λ found. (found.0, from bytes found.1)) result read
-
--- what is spelled in these bytes from this place on, whatever follows, is what a function found there, unless there was no memory
-abbrev pub FindsSpelledUnlessMemory : {A F : Type 0} → (A → Type 0) → (A → List ℕ) → List ℕ → ℕ → Result (A × ℕ) (Refusal F) → Type 0
-FindsSpelledUnlessMemory {A} has_form spell bytes at result = (meant : A) (more : List ℕ) → has_form meant → drop at bytes ≡ spell meant ++ more → Only result (meant, at + length (spell meant))
 
 -- a result with each fault told so
 abbrev pub told_as : {F G A : Type 0} → (F → G) → Result A F → Result A G

@@ -8,10 +8,11 @@ use thiserror::Error;
 #[derive(Clone, Copy, Debug, PartialEq, Eq, Error)]
 #[error("bytes end inside the field at {at}")]
 pub struct Short {
+    /// The place of the field's first byte, an offset from 0.
     pub at: usize,
 }
 
-/// Why no value stands at a place: the first fault from the left. A place is a byte offset from 0.
+/// Why no value stands at a place: the first fault from the left, with its place, an offset from 0.
 #[derive(Clone, Copy, Debug, PartialEq, Eq, Error)]
 pub enum ValueFault {
     /// Too few bytes are left for the field at this place. A text's length and its bytes are one field.

@@ -2,7 +2,8 @@
 ghost use Rattle.std.specs.Prelude.{◌≡◌, ◌<◌, ◌≤◌, ◌+◌, ◌^◌, ◌++◌, ◌∷◌, [], List, ℕ, drop, length, IfOk, OnOk, Ok};
 ghost use Rattle.std.specs.Int.{w16, w32, w64, to_le_bytes};
 ghost use Rattle.pac_value.specs.Growth.{Grew};
-ghost use Rattle.pac_bytes.specs.Reading.{from, Answers, Finds, FindsSpelled, next_byte, next_bytes, next_uint, short_at};
+ghost use Rattle.pac_bytes.specs.Reading.{from, next_byte, next_bytes, next_uint, short_at};
+ghost use Rattle.pac_bytes.specs.Readers.{Answers, Finds, FindsSpelled};
 
 use crate::Short;
 use pac_base::NoMemory;
@@ -10,7 +11,8 @@ use pac_base::NoMemory;
 // The `N` bytes at a place, and the place behind them.
 fn bytes_at<const N: usize>(bytes: &[u8], at: usize) -> Result<([u8; N], usize), Short>
     requires { 1 ≤ N }
-    ensures { Answers bytes.now result (next_bytes (short_at at) N (from bytes.now at)) }
+    ensures exact { Answers bytes.now result (next_bytes (short_at at) N (from bytes.now at)) }
+    ensures inside { IfOk result (λ found. found.1 ≤ length bytes.now) }
 {
     let Some(rest) = bytes.get(at..) else {
         return Err(Short { at });
@@ -47,6 +49,7 @@ pub fn u16_at(bytes: &[u8], at: usize) -> Result<(u16, usize), Short>
     ensures exact { Answers bytes.now result (next_uint w16 (from bytes.now at)) }
     ensures found { Finds (λ n. n < 2 ^ 16) (to_le_bytes w16) bytes.now at result }
     ensures again { FindsSpelled (λ n. n < 2 ^ 16) (to_le_bytes w16) bytes.now at result }
+    ensures inside { IfOk result (λ found. found.1 ≤ length bytes.now) }
 {
     let (field, end) = bytes_at(bytes, at)?;
     Ok((u16::from_le_bytes(field), end))
@@ -61,6 +64,7 @@ pub fn u32_at(bytes: &[u8], at: usize) -> Result<(u32, usize), Short>
     ensures exact { Answers bytes.now result (next_uint w32 (from bytes.now at)) }
     ensures found { Finds (λ n. n < 2 ^ 32) (to_le_bytes w32) bytes.now at result }
     ensures again { FindsSpelled (λ n. n < 2 ^ 32) (to_le_bytes w32) bytes.now at result }
+    ensures inside { IfOk result (λ found. found.1 ≤ length bytes.now) }
 {
     let (field, end) = bytes_at(bytes, at)?;
     Ok((u32::from_le_bytes(field), end))
@@ -75,6 +79,7 @@ pub fn u64_at(bytes: &[u8], at: usize) -> Result<(u64, usize), Short>
     ensures exact { Answers bytes.now result (next_uint w64 (from bytes.now at)) }
     ensures found { Finds (λ n. n < 2 ^ 64) (to_le_bytes w64) bytes.now at result }
     ensures again { FindsSpelled (λ n. n < 2 ^ 64) (to_le_bytes w64) bytes.now at result }
+    ensures inside { IfOk result (λ found. found.1 ≤ length bytes.now) }
 {
     let (field, end) = bytes_at(bytes, at)?;
     Ok((u64::from_le_bytes(field), end))
