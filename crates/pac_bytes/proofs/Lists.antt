@@ -1,6 +1,6 @@
 -- Lists of codecs, one behind the other, are codecs.
 use Rattle.std.proofs.Common.{◌≡◌, ◌∙◌, ℕ, zero, suc, ◌+◌, List, [], ◌∷◌, ◌++◌, length, Result, Ok, refl, sym, ap, subst, append_assoc, arith}
-use Rattle.std.specs.List.{flat_map, AllZip}
+use Rattle.std.specs.List.{flat_map, AllZip, AllByRecursion}
 use Rattle.std.proofs.lemmas.List.{length-append}
 use Rattle.std.proofs.lemmas.List.Concat.{flat_map-cons}
 use Rattle.pac_value.specs.Expressions.{◌>>=◌}
@@ -68,15 +68,34 @@ unfolding along
 along_codec form spell read each [] = nil_codec _ spell tt (λ x xs h. h)
 along_codec form spell read each (k ∷ ks) = cons_codec (form k) (λ xs. AllZip form ks xs) spell (read k) (along read ks) (each k) (along_codec form spell read each ks) _ (λ x xs h. h) (λ x xs h. h) (λ h. h)
 
--- so many, each of this form
-abbrev pub AreMany : {A : Type 0} → (A → Type 0) → ℕ → List A → Type 0
+abbrev AreMany : {A : Type 0} → (A → Type 0) → ℕ → List A → Type 0
 AreMany form zero [] = Unit {0}
 AreMany form zero (x ∷ xs) = ⊥
 AreMany form (suc n) [] = ⊥
 AreMany form (suc n) (x ∷ xs) = form x × AreMany form n xs
 
-pub times_codec : {A F : Type 0} (form : A → Type 0) (spell : A → List ℕ) (read : Rest → Result (A × Rest) F) → IsCodec form spell read
-    → (n : ℕ) → IsCodec (λ xs. AreMany form n xs) (λ xs. flat_map spell xs) (times read n)
+-- so many, each of this form
+abbrev AllOf : {A : Type 0} → (A → Type 0) → ℕ → List A → Type 0
+AllOf form n xs = AllByRecursion form xs × (length xs ≡ n)
+
+are_many : {A : Type 0} (form : A → Type 0) (n : ℕ) (xs : List A) → AllOf form n xs → AreMany form n xs
+are_many form zero [] h = tt
+are_many form zero (x ∷ xs) h = absurd (omega (arith, h.1))
+are_many form (suc n) [] h = absurd (omega (arith, h.1))
+are_many form (suc n) (x ∷ xs) h = (h.0.0, are_many form n xs (h.0.1, omega (arith, h.1)))
+
+all_of_many : {A : Type 0} (form : A → Type 0) (n : ℕ) (xs : List A) → AreMany form n xs → AllOf form n xs
+all_of_many form zero [] h = (tt, refl)
+all_of_many form zero (x ∷ xs) h = absurd h
+all_of_many form (suc n) [] h = absurd h
+all_of_many form (suc n) (x ∷ xs) h = let others = all_of_many form n xs h.1 in ((h.0, others.0), omega (arith, others.1))
+
+many_codec : {A F : Type 0} (form : A → Type 0) (spell : A → List ℕ) (read : Rest → Result (A × Rest) F) → IsCodec form spell read
+    → (n : ℕ) → IsCodec (AreMany form n) (λ xs. flat_map spell xs) (times read n)
 unfolding times
-times_codec form spell read one zero = nil_codec _ spell tt (λ x xs h. h)
-times_codec form spell read one (suc n) = cons_codec form (λ xs. AreMany form n xs) spell read (times read n) one (times_codec form spell read one n) _ (λ x xs h. h) (λ x xs h. h) (λ h. h)
+many_codec form spell read one zero = nil_codec _ spell tt (λ x xs h. h)
+many_codec form spell read one (suc n) = cons_codec form (AreMany form n) spell read (times read n) one (many_codec form spell read one n) _ (λ x xs h. h) (λ x xs h. h) (λ h. h)
+
+pub times_codec : {A F : Type 0} (form : A → Type 0) (spell : A → List ℕ) (read : Rest → Result (A × Rest) F) → IsCodec form spell read
+    → (n : ℕ) → IsCodec (λ xs. AllByRecursion form xs × (length xs ≡ n)) (λ xs. flat_map spell xs) (times read n)
+times_codec form spell read one n = same _ _ _ _ (times read n) (are_many form n) (all_of_many form n) (λ xs h. refl) (many_codec form spell read one n)
