@@ -1,0 +1,9 @@
+pub mod Results
+pub mod Bytes
+pub mod Codec
+pub mod Numbers
+pub mod Lists
+pub mod Filling
+pub mod Loops
+pub mod ValueLemmas
+pub mod Laws

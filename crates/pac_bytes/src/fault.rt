@@ -1,0 +1,35 @@
+// What is wrong with the bytes of a field.
+ghost use Rattle.std.specs.Prelude.{◌≡◌};
+ghost use Rattle.pac_bytes.specs.Values.{as_value_fault};
+
+use thiserror::Error;
+
+/// Too few bytes are left for the field at this place.
+#[derive(Clone, Copy, Debug, PartialEq, Eq, Error)]
+#[error("bytes end inside the field at {at}")]
+pub struct Short {
+    /// The place of the field's first byte, an offset from 0.
+    pub at: usize,
+}
+
+/// Why no value stands at a place: the first fault from the left, with its place, an offset from 0.
+#[derive(Clone, Copy, Debug, PartialEq, Eq, Error)]
+pub enum ValueFault {
+    /// Too few bytes are left for the field at this place. A text's length and its bytes are one field.
+    #[error("bytes end inside the field at {at}")]
+    Short { at: usize },
+    /// The byte at this place is no tag of a value.
+    #[error("no value has the tag at {at}")]
+    Tag { at: usize },
+    /// The value whose tag stands at this place is a text that is too long or has a byte that isn't printable.
+    #[error("no text is what stands at {at}")]
+    Bad { at: usize },
+}
+
+impl From<Short> for ValueFault {
+    ghost from_gives = { λ short fault. fault ≡ as_value_fault short };
+
+    fn from(short: Short) -> ValueFault {
+        ValueFault::Short { at: short.at }
+    }
+}

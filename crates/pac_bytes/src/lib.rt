@@ -1,0 +1,33 @@
+//! The fields of files and of what is sent: numbers of a fixed width, the lowest byte first, and values.
+//!
+//! - [`u8_at`], [`u16_at`], [`u32_at`], [`u64_at`]: the number at a place of some bytes, and the place behind it, or that
+//!   the bytes are too [`Short`] for it.
+//! - [`value_at`]: the value at a place and the place behind it, or its first fault from the left, a [`ValueFault`].
+//!   [`type_at`]: the type that the tag of a value tells, without a look at the bytes behind.
+//! - [`put_u8`], [`put_u16`], [`put_u32`], [`put_u64`], [`put_value`]: append a field.
+//!
+//! An int is the byte 1 and eight bytes in two's complement. A text is the byte 2, a byte with its length, and its bytes.
+//! A bool has no bytes. No reader takes memory.
+//!
+//! A form of bytes is said in two ways, in `specs/`. Its *spelling*, a function from what is meant to its bytes, is the
+//! meaning, and what is appended. Its *reading*, a function on the bytes from a place on, answers what is meant and what
+//! is left behind it, or the first fault: it is the table of the form's faults. Each reader has three clauses:
+//!
+//! - `exact`: it answers what reading gives.
+//! - `found`: what it answers is spelled at the place.
+//! - `again`: what is spelled at the place is what it answers, whatever follows.
+//!
+//! The last two hold of every form that is a codec. What is made of codecs, one behind the other, by a test, for each of
+//! several types, so many times, or within so many bytes, is one too: `proofs/Codec.antt`, `Lists.antt` and
+//! `Filling.antt` show it once, for this crate and those above.
+#![tactic(auto)]
+
+mod fault;
+mod fields;
+#[cfg(test)]
+mod tests;
+mod values;
+
+pub use fault::{Short, ValueFault};
+pub use fields::{put_u8, put_u16, put_u32, put_u64, u8_at, u16_at, u32_at, u64_at};
+pub use values::{put_value, type_at, value_at};
