@@ -1,11 +1,13 @@
 // Examples, each run once.
-ghost use Rattle.std.specs.Prelude.{◌≡◌, [], ◌∷◌, Some, length, IfOk, IsTrue};
+ghost use Rattle.std.specs.Prelude.{◌≡◌, [], ◌∷◌, Some, pos, map, length, IfOk, IsTrue};
 ghost use Rattle.pac_value.specs.declared.values.Ty.TheVariants.{Int as IntTy};
 ghost use Rattle.pac_value.specs.declared.values.Key.TheVariants.{Int as IntKey};
 ghost use Rattle.pac_value.specs.declared.values.Value.TheVariants.{Int as AnInt};
 ghost use Rattle.pac_ops.specs.declared.transaction.Change.TheVariants.{Delete, Put};
+ghost use Rattle.pac_ops.specs.declared.transaction.Txn.TheVariants.{Call as ACall};
+ghost use Rattle.pac_ops.specs.Shapes.{RecordsFit};
 ghost use Rattle.pac_types.specs.Sound.{key_type, column_types};
-ghost use Rattle.pac_types.specs.Fits.{FitsCall};
+ghost use Rattle.pac_types.specs.Fits.{shape, FitsCall};
 
 use crate::{AllError, ExecError, dump_tables, exec, exec_adhoc, exec_all, no_rows};
 use pac_base::NoMemory;
@@ -101,6 +103,15 @@ fn records(alloc: Global) -> Result<Records, NoMemory>
     Ok(Records::of(vec![in alloc; put(alloc, 2, 8)?, put(alloc, 2, 9)?, delete]?))
 }
 
+// They fit a catalogue whose first table has an int key and one int column.
+fn fitting_records(alloc: Global, catalogue: &Catalogue) -> Result<Records, NoMemory>
+    requires key { key_type catalogue.now.tables 0 ≡ Some IntTy }
+    requires columns { column_types catalogue.now.tables 0 ≡ IntTy ∷ [] }
+    ensures { IfOk result (λ records. RecordsFit (map shape catalogue.now.tables) records) }
+{
+    records(alloc)
+}
+
 #[test]
 fn records_are_made_in_their_order(rt: HostRuntime) -> Result<(), Fail> {
     let alloc = rt.alloc();
@@ -111,7 +122,8 @@ fn records_are_made_in_their_order(rt: HostRuntime) -> Result<(), Fail> {
     }
     let one = exec(alloc, &catalogue, 0, &[], Some(1), &mut rows);
     assert_eq!(rt; one, Ok(()));
-    let made = exec_adhoc(alloc, &catalogue, &records(alloc)?, Some(1), &mut rows);
+    let records = fitting_records(alloc, &catalogue)?;
+    let made = exec_adhoc(alloc, &catalogue, &records, Some(1), &mut rows);
     assert_eq!(rt; made, Ok(()));
     assert!(rt; is_dump(alloc, &catalogue, &rows, "table T 1\n2 (9)\n")?);
     Ok(())
@@ -133,7 +145,9 @@ fn the_first_table_over_the_limit_is_named(rt: HostRuntime) -> Result<(), Fail> 
     Ok(())
 }
 
-fn call(alloc: Global, proc: u16) -> Txn {
+fn call(alloc: Global, proc: u16) -> Txn
+    ensures { result ≡ ACall (record { proc = proc; args = [] }) }
+{
     Txn::Call(Call {
         proc,
         args: Args::of(Vec::new(alloc)),

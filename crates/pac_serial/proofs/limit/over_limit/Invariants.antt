@@ -5,4 +5,4 @@ use Rattle.pac_serial.specs.Drafts.{drafted}
 use Rattle.pac_serial.proofs.limit.over_limit.Given as goal
 
 abbrev pub invariant-loop-table : goal.invariant-loop-table
-invariant-loop-table g l = over l.limit l.table (drafted (g.R.Rows.held l.rows) l.draft) ≡ None
+invariant-loop-table g l = first_over l.limit l.table (drafted (g.R.Rows.held l.rows) l.draft) ≡ None
