@@ -36,7 +36,11 @@ fn next_txns(alloc: Global, left: &mut IntoIter<Call>) -> Result<Vec<Txn>, NoMem
 
 /// The tables with which the calls end, from no rows on. They are executed in batches, each of which is made when its
 /// turn comes.
-pub fn execute(alloc: Global, catalogue: &Catalogue, calls: ScriptCalls) -> Result<OrderedRows, AllError>
+pub fn execute(
+    alloc: Global,
+    catalogue: &Catalogue,
+    calls: ScriptCalls,
+) -> Result<OrderedRows, AllError>
     requires { AllByRecursion (FitsProcs catalogue.now.procs) calls }
     ensures ends { DoesEnd result (serial catalogue.now.procs 1 (map ACall calls) empty) }
     ensures tables { IfOk result (λ rows. rows.tables ≡ length catalogue.now.tables) }

@@ -12,7 +12,10 @@ use Rattle.pac_serial.proofs.tests.fitting_records.Goals as goal
 pub returns : goal.returns
 returns c =
     let tables = c.args.catalogue.now.tables in
-    IfOk-weaker c.records.result _ _ (λ records is. subst (λ (cs : List Change). RecordsFit (map shape tables) cs) (sym is)
-    (row-fits tables (0, IntKey (pos 2)) (AnInt (pos 8) ∷ []) c.requires.key (sym c.requires.columns),
-    (row-fits tables (0, IntKey (pos 2)) (AnInt (pos 9) ∷ []) c.requires.key (sym c.requires.columns),
-    (key-fits tables 0 (IntKey (pos 1)) c.requires.key, tt)))) c.records.ensures
+    IfOk-weaker c.records.result _ _ (λ records is. subst (λ (cs : List Change). RecordsFit (map shape tables) cs) (sym is) (
+      row-fits tables (0, IntKey (pos 2)) (AnInt (pos 8) ∷ []) c.requires.key (sym c.requires.columns),
+      (
+        row-fits tables (0, IntKey (pos 2)) (AnInt (pos 9) ∷ []) c.requires.key (sym c.requires.columns),
+        (key-fits tables 0 (IntKey (pos 1)) c.requires.key, tt),
+      ),
+    )) c.records.ensures
