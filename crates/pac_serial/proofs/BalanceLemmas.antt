@@ -1,6 +1,6 @@
 -- How many rows a table has once changes are made: as many as before, with those that are added, without those that are
 -- taken away.
-use Rattle.std.proofs.Common.{◌≡◌, ℕ, ◌+◌, ◌-◌, ◌==◌, ◌&&◌, Bool, true, false, not, cond, T, List, [], ◌∷◌, map, length, Option, Some, None, is_some, refl, sym, ap, subst, ◌∙◌, arith}
+use Rattle.std.proofs.Common.{◌≡◌, ℕ, ◌+◌, ◌-◌, ◌==◌, ◌&&◌, Bool, true, false, not, cond, T, List, [], ◌∷◌, ◌++◌, map, length, Option, Some, None, is_some, refl, sym, ap, subst, ◌∙◌, arith}
 use Rattle.std.specs.Prelude.{filter}
 use Rattle.std.specs.declared.cmp.Ordering.{Ordering}
 use Rattle.std.specs.declared.cmp.Ordering.TheVariants.{Less, Equal, Greater}
@@ -164,3 +164,12 @@ module _ (x : ℕ) (t : Tables) where
 pub seen-count : (n : ℕ) (x : ℕ) (t : Tables) (cs : Changes) → KnowsTables n t cs → length (keys_of (drafted t cs) x) + lost x (entries cs) ≡ length (keys_of t x) + gained x (entries cs)
 unfolding AreKnown
 seen-count n x t cs knows = balanced x t (entries cs) (entries_sorted cs) (λ q pending found. (knows q pending (get-entries cs q ∙ found)).1)
+
+-- one change more
+pub gained-more : (x : ℕ) (cs : List Change) (c : Change) → gained x (cs ++ c ∷ []) ≡ gained x cs + gains x c
+gained-more x [] c = omega arith
+gained-more x (d ∷ cs) c = omega (arith, gained-more x cs c)
+
+pub lost-more : (x : ℕ) (cs : List Change) (c : Change) → lost x (cs ++ c ∷ []) ≡ lost x cs + loses x c
+lost-more x [] c = omega arith
+lost-more x (d ∷ cs) c = omega (arith, lost-more x cs c)

@@ -1,7 +1,7 @@
 -- The tables as a transaction sees them.
 use Rattle.std.proofs.Common.{◌≡◌, ℕ, ◌<◌, Bool, true, false, cond, List, [], ◌∷◌, Option, Some, None, is_some, refl, sym, ap, subst, ◌∙◌}
 use Rattle.std.specs.Ordering.{eq_by_cmp}
-use Rattle.std.specs.FinMap.{get, find, entries, insert, empty, get-entries, get-empty, get-insert, same_map}
+use Rattle.std.specs.FinMap.{get, find, entries, insert, empty, get-entries, get-empty, get-insert, get-from_sorted, from_sorted, same_map}
 use Rattle.pac_value.specs.State.{Cell, cell_cmp, RowValues, Tables, with_row}
 use Rattle.pac_value.proofs.CellLemmas.{cells_total, cells_antisymmetric, tied_same, get-with_row}
 use Rattle.pac_serial.specs.declared.pending.Pending.{Pending}
@@ -23,6 +23,9 @@ get-laid t (c ∷ cs) q =
 
 pub get-seen : (t : Tables) (cs : Changes) (q : Cell) → get (drafted t cs) q ≡ row_or (get cs q) (get t q)
 get-seen t cs q = get-laid t (entries cs) q ∙ ap (λ o. row_or o (get t q)) (sym (get-entries cs q))
+
+pub no-changes : ◌≡◌ {A = Changes} (from_sorted []) empty
+no-changes = same_map cells_total cells_antisymmetric _ _ (λ q. get-from_sorted cell_cmp [] q tt ∙ sym (get-empty cell_cmp q))
 
 -- where nothing is changed, the tables are seen as they are
 pub seen-none : (t : Tables) → drafted t empty ≡ t

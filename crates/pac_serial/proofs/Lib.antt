@@ -1,6 +1,8 @@
 pub mod DraftLemmas
 pub mod BalanceLemmas
-pub mod WriteLemmas
+pub mod PlaceLemmas
+pub mod ChangeLemmas
+pub mod CommitLemmas
 pub mod LimitLemmas
 pub mod FitLemmas
 pub mod RowLemmas

@@ -1,8 +1,8 @@
 -- The changes of a transaction that has not ended, and the tables as it sees them.
-use Rattle.std.specs.Prelude.{◌≡◌, ◌<◌, ◌+◌, ◌==◌, ◌&&◌, not, cond, ℕ, List, [], ◌∷◌, is_some, Some}
-use Rattle.std.specs.FinMap.{FinMap, get, entries}
+use Rattle.std.specs.Prelude.{◌≡◌, ◌<◌, ◌≤◌, length, slice_index_or, ◌+◌, ◌==◌, ◌&&◌, not, cond, ℕ, List, [], ◌∷◌, is_some, Some}
+use Rattle.std.specs.declared.cmp.Ordering.TheVariants.{Less, Greater}
+use Rattle.std.specs.FinMap.{FinMap, get, find, entries}
 use Rattle.pac_value.specs.State.{Cell, cell_cmp, Tables, with_row}
-use Rattle.pac_tables.specs.declared.writes.Write.{Write}
 use Rattle.pac_serial.specs.declared.pending.Pending.{Pending}
 
 -- changes, by their cells
@@ -22,13 +22,27 @@ laid tables (change ∷ changes) = with_row (laid tables changes) change.0 chang
 abbrev pub drafted : Tables → Changes → Tables
 drafted tables changes = laid tables (entries changes)
 
--- each change is in one of so many tables, and knows whether a row stands at its cell
-abbrev pub KnowsTables : ℕ → Tables → Changes → Type 0
-KnowsTables number tables changes = (cell : Cell) (pending : Pending) → get changes cell ≡ Some pending → (cell.0 < number) × (pending.stands ≡ is_some (get tables cell))
+-- the change is in one of so many tables, and knows whether a row stands at its cell
+abbrev pub KnowsTable : ℕ → Tables → Cell → Pending → Type 0
+KnowsTable number tables cell pending = (cell.0 < number) × (pending.stands ≡ is_some (get tables cell))
 
--- a change as a write
-abbrev pub write_of : Change → Write
-write_of change = record { table = change.0.0; key = change.0.1; row = change.1.row }
+-- each change is, and does
+abbrev pub KnowsTables : ℕ → Tables → Changes → Type 0
+KnowsTables number tables changes = (cell : Cell) (pending : Pending) → get changes cell ≡ Some pending → KnowsTable number tables cell pending
+
+abbrev pub KnowsAll : ℕ → Tables → List Change → Type 0
+KnowsAll number tables changes = (cell : Cell) (pending : Pending) → find cell_cmp cell changes ≡ Some pending → KnowsTable number tables cell pending
+
+-- the change at this place is of the cell
+pub record IsPlaceOf (changes : List Change) (cell : Cell) (at : ℕ) : Type 0 where
+  pub within : at < length changes
+  pub same : (d : Change) → (slice_index_or changes at d).0 ≡ cell
+
+-- the changes before this place are of lesser cells, and those from it on of greater ones
+pub record IsGapFor (changes : List Change) (cell : Cell) (at : ℕ) : Type 0 where
+  pub within : at ≤ length changes
+  pub lesser : (j : ℕ) (d : Change) → j < at → cell_cmp (slice_index_or changes j d).0 cell ≡ Less
+  pub greater : (j : ℕ) (d : Change) → at ≤ j → j < length changes → cell_cmp (slice_index_or changes j d).0 cell ≡ Greater
 
 -- a row more in the table, and one less
 abbrev pub gains : ℕ → Change → ℕ

@@ -1,27 +1,34 @@
 // The changes of a transaction that has not ended.
-ghost use Rattle.std.specs.Prelude.{◌≡◌, ◌<◌, ◌≤◌, is_some, IfOk, OnOk, OnErr, map as map_list};
+ghost use Rattle.std.specs.Prelude.{◌≡◌, ◌<◌, ◌≤◌, T, is_some, IfOk, IfErr, OnOk, OnErr};
 ghost use Rattle.std.specs.Option.{option_map};
 ghost use Rattle.std.specs.FinMap as map;
-ghost use Rattle.pac_value.specs.State.{with_row};
-ghost use Rattle.pac_serial.specs.Drafts.{drafted, KnowsTables, write_of, gains, loses, gained, lost};
+ghost use Rattle.std.specs.FinMap.{is_sorted};
+ghost use Rattle.pac_value.specs.State.{cell_cmp, with_row};
+ghost use Rattle.pac_serial.specs.Drafts.{drafted, KnowsTables, IsPlaceOf, IsGapFor, gains, loses, gained, lost};
 
+use crate::commit::{make_rest, move_new};
 use crate::pending::Pending;
 use pac_base::NoMemory;
-use pac_tables::{Rows, Write, Writes, apply_all};
+use pac_tables::Rows;
 use pac_value::{Key, Row};
 use std::alloc::Global;
-use std::collections::BTreeMap;
 use std::marker::Model;
 
-/// The changes of a transaction, by their cells: the tables stay as they are until it ends.
+/// A change, and the cell that is changed.
+pub(crate) type Change = ((u16, Key), Pending);
+
+/// The changes of a transaction, in the order of their cells: the tables stay as they are until it ends.
 #[derive(Drop)]
 pub(crate) struct Draft {
-    changes: BTreeMap<(u16, Key), Pending>,
+    changes: Vec<Change>,
 }
 
 impl Model for Draft {
+    ghost use Rattle.std.specs.Prelude.{T};
     ghost use Rattle.std.specs.FinMap as map;
+    ghost use Rattle.std.specs.FinMap.{is_sorted};
     ghost use Rattle.std.specs.Coded.{coded×, coded_ℕ};
+    ghost use Rattle.pac_value.specs.State.{cell_cmp};
     ghost use Rattle.pac_value.specs.contracts.values.Key as key_type;
     ghost use Rattle.pac_serial.specs.contracts.pending.Pending as pending_type;
     ghost use Rattle.pac_serial.specs.Drafts.{Changes};
@@ -30,7 +37,18 @@ impl Model for Draft {
 
     ghost coded = { map.code (coded× coded_ℕ key_type.the_row.coded) pending_type.the_row.coded };
 
-    ghost view = { λ draft. map.from_entries draft.changes.entries };
+    ghost view = { λ draft. map.from_sorted draft.changes.items };
+
+    ghost invariant = { λ draft. T (is_sorted cell_cmp draft.changes.items) };
+}
+
+// Where a cell is changed, or else where its change would stand.
+fn search(changes: &[Change], table: u16, key: &Key) -> Result<usize, usize>
+    requires { T (is_sorted cell_cmp changes.now) }
+    ensures found { IfOk result (IsPlaceOf changes.now (table, key.now)) }
+    ensures absent { IfErr result (IsGapFor changes.now (table, key.now)) }
+{
+    changes.binary_search_by_key(&(table, *key), |change| change.0)
 }
 
 impl Draft {
@@ -39,11 +57,11 @@ impl Draft {
         ensures { result ≡ map.empty }
     {
         Draft {
-            changes: BTreeMap::new(alloc),
+            changes: Vec::new(alloc),
         }
     }
 
-    /// Forgets all changes.
+    /// Forgets all changes, and keeps their room.
     pub(crate) fn clear(&mut self)
         ensures { self.new ≡ map.empty }
     {
@@ -55,21 +73,9 @@ impl Draft {
         requires { table < R.tables rows.now }
         ensures { option_map (λ row. row.now) result ≡ map.get (drafted (R.held rows.now) self.now) (table, key.now) }
     {
-        match self.changes.get(&(table, *key)) {
-            Some(pending) => pending.row.as_ref(),
-            None => rows.get(table, key),
-        }
-    }
-
-    // Whether the tables have a row at the cell. They are looked up where it isn't changed yet.
-    fn stands<R: Rows>(&self, rows: &R, table: u16, key: &Key) -> bool
-        requires within { table < R.tables rows.now }
-        requires knows { KnowsTables (R.tables rows.now) (R.held rows.now) self.now }
-        ensures { result ≡ is_some (map.get (R.held rows.now) (table, key.now)) }
-    {
-        match self.changes.get(&(table, *key)) {
-            Some(pending) => pending.stands,
-            None => rows.get(table, key).is_some(),
+        match search(&self.changes, table, key) {
+            Ok(at) => self.changes[at].1.row.as_ref(),
+            Err(_) => rows.get(table, key),
         }
     }
 
@@ -87,8 +93,14 @@ impl Draft {
         ensures err { OnErr result (self.new ≡ self.old) }
         ensures knows { KnowsTables (R.tables rows.now) (R.held rows.now) self.new }
     {
-        let stands = self.stands(rows, table, &key);
-        self.changes.insert((table, key), Pending { row, stands })?;
+        match search(&self.changes, table, &key) {
+            Ok(at) => self.changes[at].1.replace(row),
+            Err(at) => {
+                let stands = stands(rows, table, &key);
+                self.changes
+                    .insert(at, ((table, key), Pending { row, stands }))?;
+            }
+        }
         Ok(())
     }
 
@@ -97,61 +109,50 @@ impl Draft {
         ensures gained { result.0 ≡ gained table (map.entries self.now) }
         ensures lost { result.1 ≡ lost table (map.entries self.now) }
     {
-        let _ordered = self.changes.len();
         let mut gained = 0;
         let mut lost = 0;
-        for (cell, pending) in self.changes.iter() {
-            gained += gain(table, *cell, pending);
-            lost += loss(table, *cell, pending);
+        for change in &self.changes {
+            gained += gain(table, change);
+            lost += loss(table, change);
         }
         (gained, lost)
     }
 
-    // The changes as writes.
-    fn take_writes(&mut self, alloc: Global) -> Result<Writes, NoMemory>
-        ensures { IfOk result (λ writes. writes ≡ map_list write_of (map.entries self.old)) }
-    {
-        let mut writes = Vec::with_capacity(alloc, self.changes.len())?;
-        while let Some(((table, key), pending)) = self.changes.pop_first() {
-            writes.push(Write {
-                table,
-                key,
-                row: pending.row,
-            })?;
-        }
-        Ok(Writes::of(writes))
-    }
-
-    /// Makes the changes, or none where a row finds no room.
-    pub(crate) fn commit<R: Rows>(&mut self, alloc: Global, rows: &mut R) -> Result<(), NoMemory>
+    /// Makes the changes, or none where a row finds no room. Rows are moved, and none is copied.
+    pub(crate) fn commit<R: Rows>(&mut self, rows: &mut R) -> Result<(), NoMemory>
         requires { KnowsTables (R.tables rows.old) (R.held rows.old) self.old }
         ensures ok { OnOk result (R.held rows.new ≡ drafted (R.held rows.old) self.old) }
         ensures err { OnErr result (R.held rows.new ≡ R.held rows.old) }
         ensures tables { R.tables rows.new ≡ R.tables rows.old }
     {
-        let writes = self.take_writes(alloc)?;
-        match apply_all(alloc, rows, writes) {
-            Ok(()) => {}
-            Err((_, refusal)) => return Err(refusal),
-        }
+        move_new(rows, &mut self.changes)?;
+        make_rest(rows, &mut self.changes);
         Ok(())
     }
 }
 
+// Whether the tables have a row at the cell.
+fn stands<R: Rows>(rows: &R, table: u16, key: &Key) -> bool
+    requires { table < R.tables rows.now }
+    ensures { result ≡ is_some (map.get (R.held rows.now) (table, key.now)) }
+{
+    rows.get(table, key).is_some()
+}
+
 // One where the change adds a row to the table.
-fn gain(table: u16, cell: (u16, Key), pending: &Pending) -> u64
-    ensures value { result ≡ gains table (cell, pending.now) }
+fn gain(table: u16, change: &Change) -> u64
+    ensures value { result ≡ gains table change.now }
     ensures few { result ≤ 1 }
 {
-    let (changed, _) = cell;
-    u64::from(changed == table && (pending.row.is_some() && !pending.stands))
+    let ((changed, _), pending) = change;
+    u64::from(*changed == table && (pending.row.is_some() && !pending.stands))
 }
 
 // One where the change takes a row away from the table.
-fn loss(table: u16, cell: (u16, Key), pending: &Pending) -> u64
-    ensures value { result ≡ loses table (cell, pending.now) }
+fn loss(table: u16, change: &Change) -> u64
+    ensures value { result ≡ loses table change.now }
     ensures few { result ≤ 1 }
 {
-    let (changed, _) = cell;
-    u64::from(changed == table && (pending.row.is_none() && pending.stands))
+    let ((changed, _), pending) = change;
+    u64::from(*changed == table && (pending.row.is_none() && pending.stands))
 }

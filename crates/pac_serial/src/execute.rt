@@ -68,7 +68,7 @@ fn finish<R: Rows>(limit: Option<u64>, rows: &mut R, txn: &mut RunningTxn) -> Re
             return Err(ExecError::Full { table });
         }
     }
-    Ok(txn.draft.commit(txn.alloc, rows)?)
+    Ok(txn.draft.commit(rows)?)
 }
 
 // Executes a call in a transaction that is made already.

@@ -11,6 +11,7 @@
 //! in the draft first.
 #![tactic(auto)]
 
+mod commit;
 mod draft;
 mod dump;
 mod execute;

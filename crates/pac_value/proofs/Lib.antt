@@ -4,3 +4,4 @@ pub mod ValueLemmas
 pub mod RemainderLemmas
 pub mod CellLemmas
 pub mod ByForms
+pub mod PlacedLemmas

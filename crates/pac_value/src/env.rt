@@ -1,23 +1,27 @@
 // The values of variables.
-ghost use Rattle.std.specs.Prelude.{◌≡◌, OnOk, OnErr};
+ghost use Rattle.std.specs.Prelude.{◌≡◌, ◌<◌, ◌^◌, ◌↔◌, ℕ, length, IsTrue, OnOk, OnErr};
 ghost use Rattle.std.specs.FinMap as map;
+ghost use Rattle.pac_value.specs.Placed.{placed};
 
 use crate::Value;
 use pac_base::{Exact, NoMemory, Same};
 use std::alloc::Global;
-use std::collections::BTreeMap;
 use std::marker::Model;
 
 /// The values of variables, which have numbers.
+///
+/// They stand in a list, each at the place that is its variable's number, so a value is found in constant time. What the
+/// list takes grows with the greatest number.
 #[derive(Debug, Drop)]
 pub struct Env {
-    values: BTreeMap<u16, Value>,
+    values: Vec<Option<Value>>,
 }
 
 impl Model for Env {
     ghost use Rattle.std.specs.Ordering.{nat_cmp};
     ghost use Rattle.std.specs.FinMap as map;
     ghost use Rattle.pac_value.specs.declared.values.Value.{Value as AValue};
+    ghost use Rattle.pac_value.specs.Placed.{values_from};
     ghost use Rattle.std.specs.Coded.{coded_ℕ};
     ghost use Rattle.pac_value.specs.contracts.values.Value as value_type;
 
@@ -25,7 +29,7 @@ impl Model for Env {
 
     ghost coded = { map.code coded_ℕ value_type.the_row.coded };
 
-    ghost view = { λ env. map.from_entries env.values.entries };
+    ghost view = { λ env. values_from 0 env.values.items };
 }
 
 impl Env {
@@ -34,7 +38,7 @@ impl Env {
         ensures { result ≡ map.empty }
     {
         Env {
-            values: BTreeMap::new(alloc),
+            values: Vec::new(alloc),
         }
     }
 
@@ -49,7 +53,7 @@ impl Env {
     pub fn get(&self, var: u16) -> Option<Value>
         ensures { result ≡ map.get self.now var }
     {
-        self.values.get(&var).copied()
+        at(&self.values, usize::from(var))
     }
 
     /// Gives a variable a value, in place of the one that it may have.
@@ -61,7 +65,9 @@ impl Env {
         ensures ok { OnOk result (self.new ≡ map.insert self.old var value) }
         ensures err { OnErr result (self.new ≡ self.old) }
     {
-        self.values.insert(var, value)?;
+        let place = usize::from(var);
+        make_place(&mut self.values, place)?;
+        self.values[place] = Some(value);
         Ok(())
     }
 }
@@ -75,7 +81,46 @@ impl Exact for Env {
 
 impl Same for Env {
     fn same(&self, other: &Env) -> bool {
-        let _ordered = (self.values.len(), other.values.len());
-        self.values == other.values
+        let places = self.values.len().max(other.values.len());
+        for place in 0..places {
+            if !are_same(at(&self.values, place), at(&other.values, place)) {
+                return false;
+            }
+        }
+        true
     }
+}
+
+// The value at a place, where there is one.
+fn at(values: &[Option<Value>], place: usize) -> Option<Value>
+    ensures { result ≡ placed values.now place }
+{
+    match values.get(place) {
+        Some(value) => *value,
+        None => None,
+    }
+}
+
+// Whether two variables have the same value, or both none.
+#[tactic(auto, using(crate::proofs::ValueLemmas::value_decides))]
+fn are_same(one: Option<Value>, other: Option<Value>) -> bool
+    ensures { IsTrue result ↔ (one ≡ other) }
+{
+    match (one, other) {
+        (Some(one), Some(other)) => one == other,
+        (None, None) => true,
+        _ => false,
+    }
+}
+
+// Sees that there is such a place. Where it is new, it has no value.
+fn make_place(values: &mut Vec<Option<Value>>, place: usize) -> Result<(), NoMemory>
+    requires { place < 2 ^ 16 }
+    ensures there { OnOk result (place < length values.new.items) }
+    ensures same { (x : ℕ) → placed values.new.items x ≡ placed values.old.items x }
+{
+    if values.len() <= place {
+        values.resize(place + 1, None)?;
+    }
+    Ok(())
 }

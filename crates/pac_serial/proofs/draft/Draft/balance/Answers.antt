@@ -1,46 +1,37 @@
--- Each change adds a row or takes one away, or neither.
-use Rattle.std.proofs.Common.{◌≡◌, ◌∷◌, List, length, ap, sym, ◌∙◌, arith, rules}
+-- One more change, and all changes.
+use Rattle.std.proofs.Common.{◌≡◌, ◌+◌, ◌<◌, length, take, get_or, sym, ap, ◌∙◌, arith}
+use Rattle.std.proofs.lemmas.List.{take_more, take_all}
 use Rattle.std.specs.FinMap as map
-use Rattle.pac_value.proofs.CellLemmas.{cells_total}
-use Rattle.pac_value.proofs.EntryLemmas.{entries-from_entries}
-use Rattle.pac_serial.specs.Drafts.{Change, gained, lost}
+use Rattle.std.specs.FinMap.{entries-from_sorted}
+use Rattle.pac_value.specs.State.{cell_cmp}
+use Rattle.pac_serial.specs.Drafts.{gains, loses, gained, lost}
+use Rattle.pac_serial.proofs.BalanceLemmas.{gained-more, lost-more}
 use Rattle.pac_serial.proofs.draft.Draft.balance.Goals as goal
 
-pub loop-cell-init : goal.loop-cell-init
-loop-cell-init c =
-    let whole : c.into_iter-cell-iterator.result ≡ c.iter-cell-items.result = search rules in
-    let all : c.into_iter-cell-iterator.result ≡ map.entries c.args.self.now =
-    whole ∙ c.iter-cell-items.ensures.rest ∙ sym (entries-from_entries cells_total c.self.inside.changes.entries c.len-ordered.ensures.ordered) ∙ ap map.entries c.self.view_is in
-    let few = ap (λ (es : List Change). length es) (whole ∙ c.iter-cell-items.ensures.rest) in
-    let gain = ap (gained c.args.table) all in
-    let loss = ap (lost c.args.table) all in
+pub loop-change-preserved : goal.loop-change-preserved
+loop-change-preserved c =
+    let all = c.deref-change-items.result.now in
+    let at = c.loop-change.change-index in
+    let next = take_more all at c.change-item.result (omega arith) in
+    let more = ap (gained c.args.table) next ∙ gained-more c.args.table (take at all) (get_or all at c.change-item.result) in
+    let less = ap (lost c.args.table) next ∙ lost-more c.args.table (take at all) (get_or all at c.change-item.result) in
+    let gain = c.gain-gained.ensures.value ∙ ap (gains c.args.table) c.change-item.is in
+    let loss = c.loss-lost.ensures.value ∙ ap (loses c.args.table) c.change-item.is in
     record {
-      gained = omega (arith, gain);
-      lost = omega (arith, loss);
-      few_gained = omega (arith, few, c.len-ordered.ensures.len, c.len-ordered.ensures.small);
-      few_lost = omega (arith, few, c.len-ordered.ensures.len, c.len-ordered.ensures.small);
-    }
-
-pub overflow_add-gained : goal.overflow_add-gained
-overflow_add-gained c = let n = ap (λ (es : List Change). length es) c.in-Some.ensures.steps in omega (arith, n, c.gain-gained.ensures.few, c.loop-cell.invariant.few_gained)
-
-pub overflow_add-lost : goal.overflow_add-lost
-overflow_add-lost c = let n = ap (λ (es : List Change). length es) c.in-Some.ensures.steps in omega (arith, n, c.loss-lost.ensures.few, c.loop-cell.invariant.few_lost)
-
-pub loop-cell-preserved : goal.loop-cell-preserved
-loop-cell-preserved c =
-    let n = ap (λ (es : List Change). length es) c.in-Some.ensures.steps in
-    let more = ap (gained c.args.table) c.in-Some.ensures.steps in
-    let less = ap (lost c.args.table) c.in-Some.ensures.steps in
-    record {
-      gained = omega (arith, more, c.gain-gained.ensures.value, c.loop-cell.invariant.gained);
-      lost = omega (arith, less, c.loss-lost.ensures.value, c.loop-cell.invariant.lost);
-      few_gained = omega (arith, n, c.gain-gained.ensures.few, c.loop-cell.invariant.few_gained);
-      few_lost = omega (arith, n, c.loss-lost.ensures.few, c.loop-cell.invariant.few_lost);
+      gained = omega (arith, more, gain, c.loop-change.invariant.gained);
+      lost = omega (arith, less, loss, c.loop-change.invariant.lost);
+      few_gained = omega (arith, c.gain-gained.ensures.few, c.loop-change.invariant.few_gained);
+      few_lost = omega (arith, c.loss-lost.ensures.few, c.loop-change.invariant.few_lost);
     }
 
 pub returns-clause-gained : goal.returns-clause-gained
-returns-clause-gained c = let none = ap (gained c.args.table) c.in-None.ensures.steps.0 in omega (arith, none, c.loop-cell.invariant.gained)
+returns-clause-gained c =
+    c.loop-change.invariant.gained
+    ∙ ap (gained c.args.table) (take_all c.loop-change.change-index c.deref-change-items.result.now c.loop-change-test.false ∙ c.deref-change-items.ensures.value
+    ∙ sym (entries-from_sorted cell_cmp c.self.inside.changes.items c.self.invariant) ∙ ap map.entries c.self.view_is)
 
 pub returns-clause-lost : goal.returns-clause-lost
-returns-clause-lost c = let none = ap (lost c.args.table) c.in-None.ensures.steps.0 in omega (arith, none, c.loop-cell.invariant.lost)
+returns-clause-lost c =
+    c.loop-change.invariant.lost
+    ∙ ap (lost c.args.table) (take_all c.loop-change.change-index c.deref-change-items.result.now c.loop-change-test.false ∙ c.deref-change-items.ensures.value
+    ∙ sym (entries-from_sorted cell_cmp c.self.inside.changes.items c.self.invariant) ∙ ap map.entries c.self.view_is)

@@ -1,13 +1,12 @@
--- What the first changes add and take away, and what is left.
-use Rattle.std.proofs.Common.{◌≡◌, ◌+◌, ◌<◌, ◌^◌, length}
-use Rattle.std.specs.FinMap as map
+-- What the first changes add and take away.
+use Rattle.std.proofs.Common.{◌≡◌, ◌≤◌, take}
 use Rattle.pac_serial.specs.Drafts.{gained, lost}
 use Rattle.pac_serial.proofs.draft.Draft.balance.Given as goal
 
-abbrev pub invariant-loop-cell : goal.invariant-loop-cell
-invariant-loop-cell l = record {
-  gained : l.gained + gained l.table l.cell-iterator ≡ gained l.table (map.entries l.fn.self);
-  lost : l.lost + lost l.table l.cell-iterator ≡ lost l.table (map.entries l.fn.self);
-  few_gained : l.gained + length l.cell-iterator < 2 ^ 63;
-  few_lost : l.lost + length l.cell-iterator < 2 ^ 63;
+abbrev pub invariant-loop-change : goal.invariant-loop-change
+invariant-loop-change l = record {
+  gained : l.gained ≡ gained l.table (take l.change-index l.change-items);
+  lost : l.lost ≡ lost l.table (take l.change-index l.change-items);
+  few_gained : l.gained ≤ l.change-index;
+  few_lost : l.lost ≤ l.change-index;
 }

@@ -1,7 +1,8 @@
--- A map with no entries is empty.
+-- A list with no values is a map with none.
 use Rattle.std.proofs.Common.{ap, ◌∙◌}
-use Rattle.std.specs.FinMap as map
+use Rattle.pac_value.specs.Placed.{values_from}
+use Rattle.pac_value.proofs.PlacedLemmas.{no-values}
 use Rattle.pac_value.proofs.env.Env.clear.Goals as goal
 
 pub returns : goal.returns
-returns c = ap map.from_entries c.clear.ensures.empty
+returns c = ap (values_from 0) c.clear.ensures.items ∙ no-values

@@ -1,8 +1,12 @@
-use Rattle.std.proofs.Common.{ap, sym, ◌∙◌}
-use Rattle.std.specs.Cmp.{nat_cmp_total}
+-- The map has what stands at the place.
+use Rattle.std.proofs.Common.{◌≡◌, ap, sym, ◌∙◌, arith}
+use Rattle.std.proofs.lemmas.Grind.{common_steps}
 use Rattle.std.specs.FinMap as map
-use Rattle.pac_value.proofs.MapLemmas.{get-entries_of}
+use Rattle.pac_value.specs.Placed.{placed}
+use Rattle.pac_value.proofs.PlacedLemmas.{get-values_from}
 use Rattle.pac_value.proofs.env.Env.get.Goals as goal
 
 pub returns : goal.returns
-returns c = c.copied.ensures ∙ c.get.ensures.value ∙ sym (get-entries_of nat_cmp_total c.self.inside.values.entries c.args.var) ∙ ap (λ m. map.get m c.args.var) c.self.view_is
+returns c =
+    let stands : c.at.result ≡ placed c.self.inside.values.items c.args.var = grind (arith, common_steps, c.at.ensures, c.deref.ensures.value, c.from.ensures) in
+    stands ∙ sym (get-values_from c.self.inside.values.items c.args.var) ∙ ap (λ m. map.get m c.args.var) c.self.view_is

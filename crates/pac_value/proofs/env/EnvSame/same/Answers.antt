@@ -1,13 +1,35 @@
-use Rattle.std.proofs.Common.{sym, ◌∙◌}
-use Rattle.std.specs.Cmp.{nat_cmp_total}
-use Rattle.std.proofs.lemmas.Bool.Decides.{Decides-eqb}
-use Rattle.std.proofs.lemmas.Map.Lookups.{btree_map_eq-Decides}
-use Rattle.pac_value.proofs.EntryLemmas.{maps_decide}
-use Rattle.pac_value.proofs.ValueLemmas.{value_decides}
+-- Two lists have the same at each place exactly where the maps are equal.
+use Rattle.std.proofs.Common.{◌≡◌, ◌<◌, ◌≤◌, ℕ, length, None, inl, inr, IsTrue, false, refl, ap, sym, ◌∙◌, arith}
+use Rattle.std.proofs.lemmas.Bool.{cases_lt}
+use Rattle.std.proofs.lemmas.Grind.{common_steps}
+use Rattle.std.proofs.lemmas.List.{get_or_past}
+use Rattle.std.specs.FinMap as map
+use Rattle.pac_value.specs.Placed.{placed}
+use Rattle.pac_value.proofs.PlacedLemmas.{get-values_from, same_values}
 use Rattle.pac_value.proofs.env.EnvSame.same.Goals as goal
+
+pub returns-then-not-are_same : goal.returns-then-not-are_same
+returns-then-not-are_same c =
+    let place = c.loop-place.place in
+    let one : c.at.result ≡ placed c.self.inside.values.items place = grind (arith, common_steps, c.at.ensures, c.deref.ensures.value) in
+    let other : c.at-in-loop-place.result ≡ placed c.other.inside.values.items place = grind (arith, common_steps, c.at-in-loop-place.ensures, c.deref-in-loop-place.ensures.value) in (
+      λ (h : IsTrue false). cc,
+      λ (e : c.args.self.now ≡ c.args.other.now).
+          let same : c.at.result ≡ c.at-in-loop-place.result =
+          one ∙ sym (get-values_from c.self.inside.values.items place) ∙ ap (λ m. map.get m place) (c.self.view_is ∙ e ∙ sym c.other.view_is)
+          ∙ get-values_from c.other.inside.values.items place ∙ sym other in
+          c.if-not-are_same.ensures.1 same,
+    )
 
 pub returns : goal.returns
 returns c =
-    let d = btree_map_eq-Decides Decides-eqb value_decides c.self.inside.values c.other.inside.values c.eq.result c.eq.ensures in
-    let m = maps_decide nat_cmp_total _ _ c.len.ensures.ordered c.len-2.ensures.ordered c.eq.result d in
-    (λ h. sym c.self.view_is ∙ m.0 h ∙ c.other.view_is, λ e. m.1 (c.self.view_is ∙ e ∙ sym c.other.view_is))
+    let one = c.self.inside.values.items in
+    let other = c.other.inside.values.items in
+    let same : (x : ℕ) → placed one x ≡ placed other x = λ x. elim (cases_lt x c.loop-place.place) [
+      | inl below ↦ c.loop-place.invariant x below
+      | inr past ↦
+          let ends_before : length one ≤ x = omega (arith, c.self.inside.values.ok) in
+          let other_ends : length other ≤ x = omega (arith, c.other.inside.values.ok) in
+          get_or_past one x None ends_before ∙ sym (get_or_past other x None other_ends)
+    ] in
+    (λ h. sym c.self.view_is ∙ same_values one other same ∙ c.other.view_is, λ e. refl)
