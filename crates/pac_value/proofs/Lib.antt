@@ -5,3 +5,4 @@ pub mod RemainderLemmas
 pub mod CellLemmas
 pub mod ByForms
 pub mod PlacedLemmas
+pub mod ArithmeticLemmas

@@ -1,5 +1,5 @@
 -- The types and the values of expressions.
-use Rattle.std.specs.Prelude.{◌^◌, ℕ, ℤ, pos, negsuc, ◌+ℤ◌, ◌-ℤ◌, ◌*ℤ◌, int_div, Bool, false, not, nat_lt, if◌then◌else◌, Option, Some, None, Result, Ok, Err, unwrap_or, codes, List}
+use Rattle.std.specs.Prelude.{◌^◌, ℕ, ℤ, pos, negsuc, ◌+ℤ◌, ◌-ℤ◌, ◌*ℤ◌, int_div, Bool, true, false, not, nat_lt, if◌then◌else◌, Option, Some, None, Result, Ok, Err, unwrap_or, codes, List}
 use Rattle.std.specs.Option.{option_map, option_and_then}
 use Rattle.std.specs.Ordering.{nat_cmp, int_eq, is_lt, is_le, is_gt, is_ge}
 use Rattle.std.specs.FinMap.{FinMap, get}
@@ -100,6 +100,20 @@ remainder a b = a -ℤ b *ℤ quotient a b
 -- nothing is divided by zero
 abbrev pub divided : ℤ → ℤ → Result Value Trap
 divided divisor z = if int_eq divisor (pos 0) then Err DivZero else checked z
+
+-- an operator that gives an int for two ints
+abbrev pub is_arithmetic : BinOp → Bool
+is_arithmetic Add = true
+is_arithmetic Sub = true
+is_arithmetic Mul = true
+is_arithmetic Div = true
+is_arithmetic Rem = true
+is_arithmetic _ = false
+
+-- an int, as a value
+abbrev pub as_value : Result ℤ Trap → Result Value Trap
+as_value (Ok z) = Ok (Int z)
+as_value (Err trap) = Err trap
 
 -- what an operator gives for two ints; other operands are not well typed
 abbrev pub of_ints : (ℤ → ℤ → Result Value Trap) → Value → Value → Result Value Trap

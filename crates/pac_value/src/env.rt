@@ -1,5 +1,6 @@
 // The values of variables.
 ghost use Rattle.std.specs.Prelude.{◌≡◌, ◌<◌, ◌^◌, ◌↔◌, ℕ, length, IsTrue, OnOk, OnErr};
+ghost use Rattle.std.specs.Option.{option_map};
 ghost use Rattle.std.specs.FinMap as map;
 ghost use Rattle.pac_value.specs.Placed.{placed};
 
@@ -54,6 +55,16 @@ impl Env {
         ensures { result ≡ map.get self.now var }
     {
         at(&self.values, usize::from(var))
+    }
+
+    /// The same value, where it stands.
+    pub(crate) fn value_of(&self, var: u16) -> Option<&Value>
+        ensures { option_map (λ value. value.now) result ≡ map.get self.now var }
+    {
+        match self.values.get(usize::from(var)) {
+            Some(value) => value.as_ref(),
+            None => None,
+        }
     }
 
     /// Gives a variable a value, in place of the one that it may have.

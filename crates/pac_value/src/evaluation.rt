@@ -1,7 +1,7 @@
 // The values of expressions.
-ghost use Rattle.std.specs.Prelude.{◌≡◌, ◌+ℤ◌, ◌-ℤ◌, ◌*ℤ◌, Some, IsSome, IfOk};
+ghost use Rattle.std.specs.Prelude.{◌≡◌, true, false, Some, IsSome, IfOk};
 ghost use Rattle.pac_value.specs.Values.{type_of, value_cmp};
-ghost use Rattle.pac_value.specs.Expressions.{value, type_in, types_of, decides, operator_type, applied, checked, divided, quotient, remainder};
+ghost use Rattle.pac_value.specs.Expressions.{value, type_in, types_of, decides, is_arithmetic, as_value, operator_type, applied, divided, quotient, remainder};
 ghost use Rattle.pac_value.specs.declared.values.Ty.TheVariants.{Int as IntTy, Text as TextTy};
 ghost use Rattle.pac_value.specs.declared.values.Value.TheVariants.{Int as AnInt};
 ghost use Rattle.pac_value.specs.declared.expr.BinOp.TheVariants.{Lt};
@@ -26,6 +26,9 @@ pub fn eval(expr: &Expr, env: &Env) -> Result<Value, Trap>
         Expr::Lit(value) => Ok(*value),
         Expr::Var(var) => Ok(env.get(*var).unwrap()),
         Expr::Bin { op, left, right } => {
+            if is_arithmetic(*op) {
+                return Ok(Value::Int(eval_int(expr, env)?));
+            }
             let first = eval(left.get(), env)?;
             if decides(*op, first) {
                 Ok(first)
@@ -40,18 +43,58 @@ pub fn eval(expr: &Expr, env: &Env) -> Result<Value, Trap>
     }
 }
 
-// What an operator gives for operands of its types.
+// The value of an expression that is an int. A value is large, so that it pays to hand on the number alone.
+fn eval_int(expr: &Expr, env: &Env) -> Result<i64, Trap>
+    requires { type_in (types_of env.now) expr.now ≡ Some IntTy }
+    ensures { as_value result ≡ value expr.now env.now }
+{
+    match expr {
+        Expr::Lit(value) => Ok(int_of(value)),
+        Expr::Var(var) => Ok(int_of(env.value_of(*var).unwrap())),
+        Expr::Bin { op, left, right } => {
+            let first = eval_int(left.get(), env)?;
+            match eval_int(right.get(), env) {
+                Ok(second) => calculate(*op, first, second),
+                Err(trap) => Err(trap),
+            }
+        }
+        Expr::Not(_) => unreachable!(),
+    }
+}
+
+// Whether an operator gives an int for two ints.
+fn is_arithmetic(op: BinOp) -> bool
+    ensures { result ≡ is_arithmetic op }
+{
+    matches!(
+        op,
+        BinOp::Add | BinOp::Sub | BinOp::Mul | BinOp::Div | BinOp::Rem
+    )
+}
+
+// What arithmetic gives for two ints.
+fn calculate(op: BinOp, left: i64, right: i64) -> Result<i64, Trap>
+    requires { is_arithmetic op ≡ true }
+    ensures { as_value result ≡ applied op (AnInt left) (AnInt right) }
+{
+    match op {
+        BinOp::Add => left.checked_add(right).ok_or(Trap::Overflow),
+        BinOp::Sub => left.checked_sub(right).ok_or(Trap::Overflow),
+        BinOp::Mul => left.checked_mul(right).ok_or(Trap::Overflow),
+        BinOp::Div => divide(left, right),
+        BinOp::Rem => remainder(left, right),
+        _ => unreachable!(),
+    }
+}
+
+// What an operator that is none of arithmetic gives for operands of its types.
 fn apply(op: BinOp, left: Value, right: Value) -> Result<Value, Trap>
-    requires { IsSome (operator_type op (type_of left) (type_of right)) }
+    requires typed { IsSome (operator_type op (type_of left) (type_of right)) }
+    requires other { is_arithmetic op ≡ false }
     ensures value { result ≡ applied op left right }
     ensures typed { IfOk result (λ v. operator_type op (type_of left) (type_of right) ≡ Some (type_of v)) }
 {
     match op {
-        BinOp::Add => add(int_of(left), int_of(right)),
-        BinOp::Sub => subtract(int_of(left), int_of(right)),
-        BinOp::Mul => multiply(int_of(left), int_of(right)),
-        BinOp::Div => divide(int_of(left), int_of(right)),
-        BinOp::Rem => remainder(int_of(left), int_of(right)),
         BinOp::Eq => Ok(Value::Bool(left == right)),
         BinOp::Ne => Ok(Value::Bool(left != right)),
         BinOp::Lt => Ok(Value::Bool(compare(left, right).is_lt())),
@@ -59,69 +102,40 @@ fn apply(op: BinOp, left: Value, right: Value) -> Result<Value, Trap>
         BinOp::Gt => Ok(Value::Bool(compare(left, right).is_gt())),
         BinOp::Ge => Ok(Value::Bool(compare(left, right).is_ge())),
         BinOp::And | BinOp::Or => Ok(right),
+        BinOp::Add | BinOp::Sub | BinOp::Mul | BinOp::Div | BinOp::Rem => unreachable!(),
     }
 }
 
-fn int_of(value: Value) -> i64
-    requires { type_of value ≡ IntTy }
-    ensures { value ≡ AnInt result }
+fn int_of(value: &Value) -> i64
+    requires { type_of value.now ≡ IntTy }
+    ensures { value.now ≡ AnInt result }
 {
     match value {
-        Value::Int(number) => number,
+        Value::Int(number) => *number,
         _ => unreachable!(),
     }
 }
 
-fn add(left: i64, right: i64) -> Result<Value, Trap>
-    ensures { result ≡ checked (left +ℤ right) }
-{
-    match left.checked_add(right) {
-        Some(sum) => Ok(Value::Int(sum)),
-        None => Err(Trap::Overflow),
-    }
-}
-
-fn subtract(left: i64, right: i64) -> Result<Value, Trap>
-    ensures { result ≡ checked (left -ℤ right) }
-{
-    match left.checked_sub(right) {
-        Some(difference) => Ok(Value::Int(difference)),
-        None => Err(Trap::Overflow),
-    }
-}
-
-fn multiply(left: i64, right: i64) -> Result<Value, Trap>
-    ensures { result ≡ checked (left *ℤ right) }
-{
-    match left.checked_mul(right) {
-        Some(product) => Ok(Value::Int(product)),
-        None => Err(Trap::Overflow),
-    }
-}
-
-fn divide(left: i64, right: i64) -> Result<Value, Trap>
-    ensures { result ≡ divided right (quotient left right) }
+fn divide(left: i64, right: i64) -> Result<i64, Trap>
+    ensures { as_value result ≡ divided right (quotient left right) }
 {
     if right == 0 {
         return Err(Trap::DivZero);
     }
-    match left.checked_div(right) {
-        Some(quotient) => Ok(Value::Int(quotient)),
-        None => Err(Trap::Overflow),
-    }
+    left.checked_div(right).ok_or(Trap::Overflow)
 }
 
-fn remainder(left: i64, right: i64) -> Result<Value, Trap>
-    ensures { result ≡ divided right (remainder left right) }
+fn remainder(left: i64, right: i64) -> Result<i64, Trap>
+    ensures { as_value result ≡ divided right (remainder left right) }
 {
     if right == 0 {
         return Err(Trap::DivZero);
     }
     // The least int has no quotient by -1, and the remainder 0.
     if right == -1 {
-        return Ok(Value::Int(0));
+        return Ok(0);
     }
-    Ok(Value::Int(left % right))
+    Ok(left % right)
 }
 
 // The order of two ints or two texts.
@@ -130,7 +144,7 @@ fn compare(left: Value, right: Value) -> Ordering
     ensures { result ≡ value_cmp left right }
 {
     match left {
-        Value::Int(left) => left.cmp(&int_of(right)),
+        Value::Int(left) => left.cmp(&int_of(&right)),
         Value::Text(left) => {
             let Value::Text(right) = right else {
                 unreachable!()
