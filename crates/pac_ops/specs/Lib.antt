@@ -5,3 +5,6 @@ pub mod Pieces
 pub mod Reasons
 pub mod Operations
 pub mod Transactions
+pub mod Uses
+pub mod Programs
+pub mod Dependencies

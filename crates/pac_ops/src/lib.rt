@@ -8,8 +8,13 @@
 //!   [`FlatOp`] has an [`OpKind`], what it does, and [`Conds`], under which tests of the conditionals round it.
 //! - [`PieceId`]: what one transaction does in one block.
 //! - [`Reason`]: why a transaction aborts. [`Note`]: which operation of which transaction does, and why.
+//! - [`Numbers`] and [`Pairs`]: lists of numbers of operations, slices or blocks.
 //! - [`TableTypes`]: the types that the rows of a table have. `specs/Shapes.antt` says which rows and records fit tables
 //!   of such types, whether a catalogue or a plan has them.
+//!
+//! `specs/Uses.antt` says which variables an operation uses and defines and which table it accesses,
+//! `specs/Dependencies.antt` what depends on what, and `specs/Programs.antt` when a program is sound over tables of
+//! given types: each operation finds what it uses.
 //!
 //! `specs/Operations.antt` says what an operation means, by the cell that it touches and what it does there; every
 //! layer that executes operations is held to it. `specs/Transactions.antt` says what ad hoc records mean.
@@ -22,6 +27,7 @@
 mod batch;
 mod limits;
 mod note;
+mod numbers;
 mod piece;
 mod program;
 mod reason;
@@ -31,8 +37,9 @@ mod tests;
 mod transaction;
 
 pub use batch::{Batch, Batches, Txns, TxnsRule};
-pub use limits::{MAX_RECORDS, MAX_TXNS};
+pub use limits::{MAX_ALL_OPS, MAX_OPS, MAX_RECORDS, MAX_TXNS};
 pub use note::Note;
+pub use numbers::{Numbers, Pairs};
 pub use piece::PieceId;
 pub use program::{Conds, FlatOp, OpKind, Ops, Program, Programs};
 pub use reason::Reason;
