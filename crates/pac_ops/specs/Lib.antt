@@ -8,3 +8,5 @@ pub mod Transactions
 pub mod Uses
 pub mod Programs
 pub mod Dependencies
+pub mod Notes
+pub mod Flat
