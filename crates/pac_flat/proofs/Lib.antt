@@ -5,3 +5,6 @@ pub mod MeetsLemmas
 pub mod NoteLemmas
 pub mod LawLemmas
 pub mod ExcessLemmas
+pub mod TypeLemmas
+pub mod FrontLemmas
+pub mod SoundProgram
