@@ -1,11 +1,11 @@
 -- The flat form of a sound procedure is a sound program.
-use Rattle.std.proofs.Common.{◌≡◌, ℕ, zero, suc, ◌+◌, ◌<◌, ◌≤◌, Bool, true, false, ◌&&◌, ◌||◌, ◌==◌, List, [], ◌∷◌, ◌++◌, length, map, Option, Some, None, is_some, ◌⊎◌, inl, inr, refl, sym, ap, subst, ◌∙◌, arith, append_assoc, append-nil, length-append}
+use Rattle.std.proofs.Common.{◌≡◌, ℕ, zero, suc, ◌+◌, ◌<◌, ◌≤◌, Bool, true, false, ◌&&◌, ◌||◌, ◌==◌, List, [], ◌∷◌, ◌++◌, length, map, Option, Some, None, is_some, ◌⊎◌, inl, inr, refl, sym, ap, subst, ◌∙◌, arith, append_assoc, append-nil, length-append, get_or, All}
 use Rattle.std.specs.Prelude.{slice_get, IsSomeAnd, IsTrue, if◌then◌else◌, Contains}
 use Rattle.std.specs.List.{AllByRecursion}
 use Rattle.std.specs.Option.{option_map, option_and_then}
 use Rattle.std.proofs.lemmas.Bool.Decides.{nat_tests}
 use Rattle.std.proofs.lemmas.List.{length-map}
-use Rattle.std.proofs.lemmas.Option.{slice_get_within}
+use Rattle.std.proofs.lemmas.Option.{slice_get_within, slice_get-get_or, slice_get-map}
 use Rattle.pac_value.specs.declared.values.Ty.{Ty}
 use Rattle.pac_value.specs.declared.values.Ty.TheVariants.{Bool as BoolTy}
 use Rattle.pac_value.specs.declared.expr.Expr.{Expr}
@@ -17,12 +17,14 @@ use Rattle.pac_ops.specs.declared.program.OpKind.{OpKind}
 use Rattle.pac_ops.specs.declared.program.OpKind.TheVariants.{Let, Cond, Read, Has, Put, SetCol, Delete, AbortIf}
 use Rattle.pac_ops.specs.declared.program.Program.{Program}
 use Rattle.pac_ops.specs.declared.shapes.TableTypes.{TableTypes}
-use Rattle.pac_ops.specs.Programs.{IsFrontOf, IsWellTyped, given_type, scope_in, IsDefinedBefore, IsCondition, IsSoundProgram}
+use Rattle.pac_ops.specs.Programs.{IsFrontOf, IsWellTyped, given_type, scope_in, IsDefinedBefore, IsCondition, IsSoundProgram, AreSoundPrograms}
 use Rattle.pac_ops.specs.Uses.{kind_uses, conds_use, op_uses, defined_variable, Defines}
 use Rattle.pac_types.specs.declared.procedure.Proc.{Proc}
 use Rattle.pac_types.specs.declared.statement.Stmt.{Stmt}
 use Rattle.pac_types.specs.declared.table.Table.{Table}
 use Rattle.pac_types.specs.Meaning.{operations}
+use Rattle.pac_types.specs.OperationLimits.{IsWithinLimits}
+use Rattle.pac_types.specs.Typing.{IsProc}
 use Rattle.pac_types.specs.Sound.{types, if_so, Check, check, in_order, any_defines, without, scope_behind, scope_of, IsSoundProc}
 use Rattle.pac_types.specs.Variables.{stmt_variables, defined_variables}
 use Rattle.pac_types.proofs.PartLemmas.{equal}
@@ -32,7 +34,7 @@ use Rattle.pac_flat.proofs.StmtShapes.{variable_list, IsOne, IsBranching, single
 use Rattle.pac_flat.proofs.FormLemmas.{length-line, defined_in, defined_in-line}
 use Rattle.pac_flat.proofs.FrontLemmas.{at-front, at-end, some-front, some-end, some-within, some-mapped, of-contained, front-itself, front-more, front-trans, types_behind-append, front-types_behind, within-front}
 use Rattle.pac_flat.proofs.KeptLemmas.{RunsOn, runs_on-parts}
-use Rattle.pac_flat.proofs.LawLemmas.{IsNumbered}
+use Rattle.pac_flat.proofs.LawLemmas.{IsNumbered, numbered-proc}
 use Rattle.pac_flat.proofs.TypeLemmas.{both, either, from_either, shapes, Adds, adds_one, so_is, single_sound, well_typed-within, visible-kind, SameThere, gives_there}
 
 module _ (tables : List Table) (params : List Ty) where
@@ -457,3 +459,17 @@ module _ (tables : List Table) (proc : Proc) (sound : IsSoundProc tables proc) (
     conditions = condition_at;
     typed = λ i op is. well_typed-within (shapes tables) (scope_in (types_behind params (at i op is).mid)) (scope_in vars) (within-front (types_behind params (at i op is).mid) vars (so_far i op is)) op.kind (at i op is).fine.typed;
   }
+
+-- the programs of a catalogue's procedures
+pub sound_programs : (tables : List Table) (procs : List Proc) → All (IsProc tables) procs → IsWithinLimits procs → AreSoundPrograms (shapes tables) (map program_of procs)
+sound_programs tables procs all within n program is = go (slice_get procs n) refl (sym (slice_get-map program_of procs n) ∙ is)
+  where
+    go : (o : Option Proc) → slice_get procs n ≡ o → option_map program_of o ≡ Some program → IsSoundProgram (shapes tables) program
+    go None found h = absurd cc
+    go (Some proc) found h =
+        let inside_it : n < length procs = slice_get_within procs n proc found in
+        let one : get_or procs n proc ≡ proc = let both_ : Some (get_or procs n proc) ≡ Some proc = sym (slice_get-get_or procs n proc inside_it) ∙ found in cc in
+        let proper : IsProc tables proc = subst (IsProc tables) one (all n proc inside_it) in
+        let few : operations proc.body ≤ MAX_OPS = subst (λ (p : Proc). operations p.body ≤ MAX_OPS) one (within.each n proc inside_it) in
+        let same : program_of proc ≡ program = cc in
+        subst (IsSoundProgram (shapes tables)) same (sound_program tables proc proper.sound (numbered-proc tables proc proper) few)

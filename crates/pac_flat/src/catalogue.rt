@@ -2,6 +2,8 @@
 ghost use Rattle.std.specs.Prelude.{◌≡◌, ◌<◌, ◌^◌, All, map, length, IfOk, IsErrOf, MatchResult};
 ghost use Rattle.std.specs.List.{AllZip};
 ghost use Rattle.pac_base.specs.declared.refusal.Refusal.TheVariants.{Fault as AFault};
+ghost use Rattle.pac_ops.specs.Programs.{AreSoundPrograms};
+ghost use Rattle.pac_types.specs.Fits.{shape};
 ghost use Rattle.pac_types.specs.Meaning.{operations};
 ghost use Rattle.pac_types.specs.OperationLimits.{IsWithinLimits, IsFirstExcess};
 ghost use Rattle.pac_flat.specs.Agreement.{MeansTheSame, ReplaysTheSame};
@@ -48,6 +50,7 @@ pub fn flatten(alloc: Global, cat: &Catalogue) -> Result<Vec<Program>, FlatError
     ensures means { IfOk result (λ programs. AllZip MeansTheSame cat.now.procs programs.items) }
     ensures replays { IfOk result (λ programs. ReplaysTheSame cat.now.procs programs.items) }
 
+    ensures sound { IfOk result (λ programs. AreSoundPrograms (map shape cat.now.tables) programs.items) }
     ensures few { IfOk result (λ _. IsWithinLimits cat.now.procs) }
     ensures fault { (fault : Excess) → IsErrOf result (AFault fault) → IsFirstExcess cat.now.procs fault.proc fault.count }
 {

@@ -2,9 +2,14 @@
 use Rattle.std.proofs.Common.{◌≡◌, ap, map, sym, subst, List, ◌∙◌}
 use Rattle.std.specs.List.{AllZip}
 use Rattle.pac_ops.specs.declared.program.Program.{Program}
+use Rattle.pac_ops.specs.Programs.{AreSoundPrograms}
+use Rattle.pac_types.specs.declared.procedure.Proc.{Proc}
+use Rattle.pac_types.specs.Fits.{shape}
+use Rattle.pac_types.specs.OperationLimits.{IsWithinLimits}
 use Rattle.pac_flat.specs.Agreement.{MeansTheSame, ReplaysTheSame}
 use Rattle.pac_flat.specs.FlatForm.{program_of}
 use Rattle.pac_flat.proofs.LawLemmas.{numbered-at, each-numbered, all_mean_the_same, replays_the_same}
+use Rattle.pac_flat.proofs.SoundProgram.{sound_programs}
 use Rattle.pac_flat.proofs.catalogue.flatten.Goals as goal
 use Rattle.pac_flat.proofs.catalogue.flatten.Goals.{In_ok-flat_programs}
 
@@ -18,3 +23,7 @@ returns-clause-means c = subst (λ (programs : List Program). AllZip MeansTheSam
 pub returns-clause-replays : goal.returns-clause-replays
 returns-clause-replays c = subst (λ (programs : List Program). ReplaysTheSame c.args.cat.now.procs programs) (sym (programs_are c))
     (replays_the_same c.args.cat.now.procs (numbered-at c.args.cat.now.tables c.args.cat.now.procs c.procs-procs.ensures.sound))
+
+pub returns-clause-sound : goal.returns-clause-sound
+returns-clause-sound c = subst (λ (programs : List Program). AreSoundPrograms (map shape c.args.cat.now.tables) programs) (sym (programs_are c))
+    (sound_programs c.args.cat.now.tables c.args.cat.now.procs c.procs-procs.ensures.sound (subst (λ (procs : List Proc). IsWithinLimits procs) c.procs-procs.ensures.value c.in_ok-test_counts.ensures))
