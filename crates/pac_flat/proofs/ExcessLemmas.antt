@@ -4,11 +4,12 @@ use Rattle.std.specs.Prelude.{slice_get, nat_lt, sum_by}
 use Rattle.std.specs.Option.{option_and_then}
 use Rattle.std.proofs.lemmas.Bool.Decides.{nat_tests}
 use Rattle.std.proofs.lemmas.List.Elements.{All-from_get_or}
-use Rattle.std.proofs.lemmas.Option.{slice_get-get_or}
+use Rattle.std.proofs.lemmas.Option.{slice_get-get_or, slice_get_within}
+use Rattle.std.proofs.lemmas.List.Sums.{sum_by-take-le}
 use Rattle.pac_ops.specs.declared.limits.TheConstants.{MAX_OPS, MAX_ALL_OPS}
 use Rattle.pac_types.specs.declared.procedure.Proc.{Proc}
 use Rattle.pac_types.specs.Meaning.{operations}
-use Rattle.pac_types.specs.OperationLimits.{all_operations, IsWithinLimits, excess, excess_at}
+use Rattle.pac_types.specs.OperationLimits.{all_operations, HasFewOperations, excess, excess_at}
 
 less : (a b : ℕ) → a < b → nat_lt a b ≡ true
 less a b h = grind (arith, nat_tests)
@@ -52,8 +53,22 @@ module _ (procs : List Proc) (n : ℕ) (proc : Proc) (within : n < length procs)
   few-at h = none-few (operations proc.body) (all_operations (take (n + 1) procs)) (sym at_proc ∙ h)
 
 -- where there is no excess, the procedures are within the limits
-pub within_limits : (procs : List Proc) → ((n : ℕ) → n < length procs → excess_at procs n ≡ None) → all_operations procs ≤ MAX_ALL_OPS → IsWithinLimits procs
+pub within_limits : (procs : List Proc) → ((n : ℕ) → n < length procs → excess_at procs n ≡ None) → all_operations procs ≤ MAX_ALL_OPS → HasFewOperations procs
 within_limits procs none all = record { each = λ n proc within. few-at procs n (get_or procs n proc) within (again n proc within) (none n within); all = all }
   where
     again : (n : ℕ) (proc : Proc) → n < length procs → get_or procs n (get_or procs n proc) ≡ get_or procs n proc
     again n proc within = let a : Some (get_or procs n (get_or procs n proc)) ≡ Some (get_or procs n proc) = sym (slice_get-get_or procs n (get_or procs n proc) within) ∙ slice_get-get_or procs n proc within in cc
+
+-- within the limits there is none
+pub within-none : (procs : List Proc) (n count : ℕ) → HasFewOperations procs → excess_at procs n ≡ Some count → ⊥
+within-none procs n count within h = go (slice_get procs n) refl
+  where
+    go : (o : Option Proc) → slice_get procs n ≡ o → ⊥
+    go None e = let wrong : None ≡ Some count = ap (option_and_then (λ (p : Proc). excess (operations p.body) (all_operations (take (n + 1) procs)))) (sym e) ∙ h in cc
+    go (Some proc) e =
+        let inside : n < length procs = slice_get_within procs n proc e in
+        let is : get_or procs n proc ≡ proc = let both : Some (get_or procs n proc) ≡ Some proc = sym (slice_get-get_or procs n proc inside) ∙ e in cc in
+        let few : operations proc.body ≤ MAX_OPS = subst (λ (p : Proc). operations p.body ≤ MAX_OPS) is (within.each n proc inside) in
+        let none : excess_at procs n ≡ None = no-excess procs n proc inside is (all_operations (take (n + 1) procs)) refl few (omega (arith, sum_by-take-le (λ (p : Proc). operations p.body) procs (n + 1), within.all)) in
+        let wrong : None ≡ Some count = sym none ∙ h in
+        cc

@@ -17,7 +17,7 @@ use Rattle.pac_ops.specs.declared.program.OpKind.TheVariants.{Let, Cond, Read, H
 use Rattle.pac_ops.specs.declared.reason.Reason.{Reason}
 use Rattle.pac_ops.specs.Reasons.{or_abort}
 use Rattle.pac_ops.specs.Operations.{State, define, touched, Effect, Nothing, Gives, Leaves, values, replaced, unless_asked, effect, row_at, with_effect, done}
-use Rattle.pac_ops.specs.Flat.{is_as_asked, all_hold, default_of, given_default, with_default, settled, flat_done, flat_meaning}
+use Rattle.pac_ops.specs.Flat.{is_as_asked, all_hold, default_of, given_default, with_default, done_or_default, flat_done, flat_meaning}
 use Rattle.pac_ops.specs.Uses.{defined_variable}
 use Rattle.pac_flat.specs.FlatForm.{Conditions, inside}
 use Rattle.pac_flat.proofs.StmtShapes.{variable_list}
@@ -100,14 +100,14 @@ module _ (y : ℕ) where
       go None = refl
       go (Some ty) = get-others s x (default_of ty) y h.0
 
-  settled_keeps : (vars : List Ty) (kind : OpKind) (s : State) (r : Result State Reason) → Differs (variable_list (defined_variable kind)) → Of (Keeps s) r → Keeps s (settled vars kind s r)
+  settled_keeps : (vars : List Ty) (kind : OpKind) (s : State) (r : Result State Reason) → Differs (variable_list (defined_variable kind)) → Of (Keeps s) r → Keeps s (done_or_default vars kind s r)
   settled_keeps vars kind s (Ok t) h k = k
   settled_keeps vars kind s (Err reason) h k = default_keeps vars (defined_variable kind) s h
 
   op_keeps : (vars : List Ty) (op : FlatOp) (s : State) → Differs (variable_list (defined_variable op.kind)) → Keeps s (flat_done vars op s)
   op_keeps vars op s h = go (all_hold s.env op.conds)
     where
-      go : (b : Bool) → Keeps s (cond b (settled vars op.kind s (done op.kind s)) s)
+      go : (b : Bool) → Keeps s (cond b (done_or_default vars op.kind s (done op.kind s)) s)
       go true = settled_keeps vars op.kind s (done op.kind s) h (done_keeps op.kind s h)
       go false = refl
 

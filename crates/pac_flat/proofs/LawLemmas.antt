@@ -14,14 +14,14 @@ use Rattle.pac_ops.specs.declared.transaction.Txn.TheVariants.{Call as ACall, Ad
 use Rattle.pac_ops.specs.Flat.{flat_meaning, notes_of}
 use Rattle.pac_ops.specs.Notes.{first_note}
 use Rattle.pac_ops.specs.Operations.{State, opening}
-use Rattle.pac_ops.specs.Transactions.{with_changes, call_state, call_notes, txn_state, txn_notes, Replayed, behind, replayed}
+use Rattle.pac_ops.specs.Transactions.{with_changes, call_state, call_notes, txn_state, txn_notes, Replayed, after_txn, replayed}
 use Rattle.pac_types.specs.declared.procedure.Proc.{Proc}
 use Rattle.pac_types.specs.declared.table.Table.{Table}
 use Rattle.pac_types.specs.Meaning.{Abort, meaning, called}
 use Rattle.pac_types.specs.Execution.{called_at, txn_meaning, in_txn, serial}
 use Rattle.pac_types.specs.Typing.{IsProc}
 use Rattle.pac_types.specs.Variables.{defined_variables}
-use Rattle.pac_flat.specs.Agreement.{Answers, MeansTheSame, AnswersAll, ReplaysTheSame}
+use Rattle.pac_flat.specs.Agreement.{Agrees, MeansTheSame, AllAgree, ReplaysTheSame}
 use Rattle.pac_flat.specs.FlatForm.{flat_form, program_of}
 use Rattle.pac_flat.proofs.KeptLemmas.{RunsOn, runs_on-range}
 use Rattle.pac_flat.proofs.MeetsLemmas.{BeginWith, Meets, meets}
@@ -43,7 +43,7 @@ first-begins txn abort notes begins rises =
 meets-called : (proc : Proc) → IsNumbered proc → (txn : ℕ) (args : List Value) (tables : Tables) → Meets (program_of proc).vars txn 0 (flat_form proc.body) (opening args tables) (meaning proc.body 0 (opening args tables))
 meets-called proc numbered txn args tables = meets (program_of proc).vars txn proc.body [] (length proc.params) 0 (opening args tables) numbered tt refl
 
-answers-meets : (program : Program) (txn : ℕ) (s : State) (m : Result State Abort) → Meets program.vars txn 0 program.ops s m → Answers (in_txn txn m) (flat_meaning program.vars program.ops s) (notes_of program.vars txn 0 program.ops s)
+answers-meets : (program : Program) (txn : ℕ) (s : State) (m : Result State Abort) → Meets program.vars txn 0 program.ops s m → Agrees (in_txn txn m) (flat_meaning program.vars program.ops s) (notes_of program.vars txn 0 program.ops s)
 answers-meets program txn s (Ok t) h = h
 answers-meets program txn s (Err abort) h = first-begins txn abort (notes_of program.vars txn 0 program.ops s) h (rises-notes program.vars txn 0 program.ops s)
 
@@ -89,12 +89,12 @@ module _ (procs : List Proc) (numbered : (n : ℕ) (proc : Proc) → slice_get p
   -- one transaction, and then the others
   meets_more : (first : ℕ) (txns : List Txn) (m : Result Tables Abort) (s : State) (notes : List Note) → MeetsTables first m s notes
       → ((tables : Tables) → MeetsAll (serial procs (first + 1) txns tables) (replayed (map program_of procs) (first + 1) txns tables))
-      → MeetsAll (in_txn first m >>= λ t. serial procs (first + 1) txns t) (behind s notes (replayed (map program_of procs) (first + 1) txns s.tables))
+      → MeetsAll (in_txn first m >>= λ t. serial procs (first + 1) txns t) (after_txn s notes (replayed (map program_of procs) (first + 1) txns s.tables))
   meets_more first txns (Ok tables) s notes h rest =
-      subst (λ (p : Tables × List Note). MeetsAll (serial procs (first + 1) txns tables) (behind s p.1 (replayed (map program_of procs) (first + 1) txns p.0))) (λ i. (sym h.0 i, sym h.1 i))
+      subst (λ (p : Tables × List Note). MeetsAll (serial procs (first + 1) txns tables) (after_txn s p.1 (replayed (map program_of procs) (first + 1) txns p.0))) (λ i. (sym h.0 i, sym h.1 i))
       (go (serial procs (first + 1) txns tables) (replayed (map program_of procs) (first + 1) txns tables) (rest tables))
     where
-      go : (r : Result Tables Note) (all : Replayed) → MeetsAll r all → MeetsAll r (behind s [] all)
+      go : (r : Result Tables Note) (all : Replayed) → MeetsAll r all → MeetsAll r (after_txn s [] all)
       go (Ok t) all k = k
       go (Err note) all k = k
   meets_more first txns (Err abort) s notes h rest =
@@ -105,7 +105,7 @@ module _ (procs : List Proc) (numbered : (n : ℕ) (proc : Proc) → slice_get p
   meets_all (txn ∷ txns) first tables = meets_more first txns (txn_meaning procs txn tables) (txn_state (map program_of procs) txn tables) (txn_notes (map program_of procs) first txn tables)
       (meets_txn first txn tables) (meets_all txns (first + 1))
 
-  answers-all : (r : Result Tables Note) (all : Replayed) → MeetsAll r all → Rises all.notes → AnswersAll r all
+  answers-all : (r : Result Tables Note) (all : Replayed) → MeetsAll r all → Rises all.notes → AllAgree r all
   answers-all (Ok tables) all h rises = h
   answers-all (Err note) all h rises = ap first_note h.1 ∙ first-rises note h.0 (subst Rises h.1 rises)
 

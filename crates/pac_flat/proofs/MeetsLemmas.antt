@@ -16,7 +16,7 @@ use Rattle.pac_ops.specs.declared.reason.Reason.{Reason}
 use Rattle.pac_ops.specs.Reasons.{or_abort, reason_of}
 use Rattle.pac_ops.specs.Notes.{note_at}
 use Rattle.pac_ops.specs.Operations.{State, Gives, define, done, with_effect}
-use Rattle.pac_ops.specs.Flat.{is_true, is_as_asked, all_hold, settled, reason_in, flat_done, flat_reason, flat_meaning, notes_of}
+use Rattle.pac_ops.specs.Flat.{is_true, is_as_asked, all_hold, done_or_default, reason_in, flat_done, flat_reason, flat_meaning, notes_of}
 use Rattle.pac_types.specs.declared.statement.Stmt.{Stmt}
 use Rattle.pac_types.specs.Meaning.{Abort, at_operation, Code, code, one, counts, runs, branch, conditional, operations}
 use Rattle.pac_types.specs.Variables.{stmt_variables, defined_variables}
@@ -65,7 +65,7 @@ module _ (vars : List Ty) (txn : ℕ) where
 
   -- an operation of which some condition does not hold does nothing
   idle_op : (op : FlatOp) (s : State) → all_hold s.env op.conds ≡ false → (flat_done vars op s ≡ s) × (flat_reason op s ≡ None)
-  idle_op op s h = (ap (λ b. cond b (settled vars op.kind s (done op.kind s)) s) h, ap (λ b. cond b (reason_in (done op.kind s)) None) h)
+  idle_op op s h = (ap (λ b. cond b (done_or_default vars op.kind s (done op.kind s)) s) h, ap (λ b. cond b (reason_in (done op.kind s)) None) h)
 
   -- nor do several
   idle : (ops : List FlatOp) (n : ℕ) (s : State) → AllShut s.env ops → Meets n ops s (Ok s)
@@ -90,14 +90,14 @@ module _ (vars : List Ty) (txn : ℕ) where
   meets_one : (conds : Conditions) (kind : OpKind) (n : ℕ) (s : State) → all_hold s.env conds ≡ true → Meets n (under conds kind ∷ []) s (at_operation n (done kind s))
   meets_one conds kind n s h = go (done kind s) refl
     where
-      state_is : flat_done vars (under conds kind) s ≡ settled vars kind s (done kind s)
-      state_is = ap (λ b. cond b (settled vars kind s (done kind s)) s) h
+      state_is : flat_done vars (under conds kind) s ≡ done_or_default vars kind s (done kind s)
+      state_is = ap (λ b. cond b (done_or_default vars kind s (done kind s)) s) h
 
       reason_is : flat_reason (under conds kind) s ≡ reason_in (done kind s)
       reason_is = ap (λ b. cond b (reason_in (done kind s)) None) h
 
       go : (r : Result State Reason) → done kind s ≡ r → Meets n (under conds kind ∷ []) s (at_operation n r)
-      go (Ok t) is = (state_is ∙ ap (settled vars kind s) is, ap (λ o. note_at txn n o ++ []) (reason_is ∙ ap reason_in is))
+      go (Ok t) is = (state_is ∙ ap (done_or_default vars kind s) is, ap (λ o. note_at txn n o ++ []) (reason_is ∙ ap reason_in is))
       go (Err reason) is = ([], ap (λ o. note_at txn n o ++ []) (reason_is ∙ ap reason_in is))
 
   -- ---- statements

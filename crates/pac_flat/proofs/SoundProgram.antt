@@ -23,7 +23,7 @@ use Rattle.pac_types.specs.declared.procedure.Proc.{Proc}
 use Rattle.pac_types.specs.declared.statement.Stmt.{Stmt}
 use Rattle.pac_types.specs.declared.table.Table.{Table}
 use Rattle.pac_types.specs.Meaning.{operations}
-use Rattle.pac_types.specs.OperationLimits.{IsWithinLimits}
+use Rattle.pac_types.specs.OperationLimits.{HasFewOperations}
 use Rattle.pac_types.specs.Typing.{IsProc}
 use Rattle.pac_types.specs.Sound.{types, if_so, Check, check, in_order, any_defines, without, scope_behind, scope_of, IsSoundProc}
 use Rattle.pac_types.specs.Variables.{stmt_variables, defined_variables}
@@ -461,7 +461,7 @@ module _ (tables : List Table) (proc : Proc) (sound : IsSoundProc tables proc) (
   }
 
 -- the programs of a catalogue's procedures
-pub sound_programs : (tables : List Table) (procs : List Proc) → All (IsProc tables) procs → IsWithinLimits procs → AreSoundPrograms (shapes tables) (map program_of procs)
+pub sound_programs : (tables : List Table) (procs : List Proc) → All (IsProc tables) procs → HasFewOperations procs → AreSoundPrograms (shapes tables) (map program_of procs)
 sound_programs tables procs all within n program is = go (slice_get procs n) refl (sym (slice_get-map program_of procs n) ∙ is)
   where
     go : (o : Option Proc) → slice_get procs n ≡ o → option_map program_of o ≡ Some program → IsSoundProgram (shapes tables) program

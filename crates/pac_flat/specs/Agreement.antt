@@ -15,22 +15,22 @@ use Rattle.pac_types.specs.Execution.{in_txn, serial}
 
 -- a state and notes are what is meant: where that is a state, it is this very state, hidden variables too, and no note is
 -- left; where it is an abort, the first note tells it
-abbrev pub Answers : Result State Note → State → List Note → Type 0
-Answers (Ok t) s notes = (s ≡ t) × (notes ≡ [])
-Answers (Err note) s notes = first_note notes ≡ Some note
+abbrev pub Agrees : Result State Note → State → List Note → Type 0
+Agrees (Ok t) s notes = (s ≡ t) × (notes ≡ [])
+Agrees (Err note) s notes = first_note notes ≡ Some note
 
 -- a program means what a procedure means, in a transaction of any number, for all arguments and all tables
 pub record MeansTheSame (proc : Proc) (program : Program) : Type 0 where
   pub called : (txn : ℕ) (args : List Value) (tables : Tables)
-      → Answers (in_txn txn (meaning proc.body 0 (opening args tables))) (flat_meaning program.vars program.ops (opening args tables)) (notes_of program.vars txn 0 program.ops (opening args tables))
+      → Agrees (in_txn txn (meaning proc.body 0 (opening args tables))) (flat_meaning program.vars program.ops (opening args tables)) (notes_of program.vars txn 0 program.ops (opening args tables))
 
 -- what is replayed is what serial execution gives: where that ends, the tables are the same and no note is left; where it
 -- stops, the first note tells where and why
-abbrev pub AnswersAll : Result Tables Note → Replayed → Type 0
-AnswersAll (Ok tables) all = (all.tables ≡ tables) × (all.notes ≡ [])
-AnswersAll (Err note) all = first_note all.notes ≡ Some note
+abbrev pub AllAgree : Result Tables Note → Replayed → Type 0
+AllAgree (Ok tables) all = (all.tables ≡ tables) × (all.notes ≡ [])
+AllAgree (Err note) all = first_note all.notes ≡ Some note
 
 -- replays of programs are serial executions of procedures, from any number and over all tables; ad-hoc transactions may
 -- stand among the calls
 pub record ReplaysTheSame (procs : List Proc) (programs : List Program) : Type 0 where
-  pub executed : (first : ℕ) (txns : List Txn) (tables : Tables) → AnswersAll (serial procs first txns tables) (replayed programs first txns tables)
+  pub executed : (first : ℕ) (txns : List Txn) (tables : Tables) → AllAgree (serial procs first txns tables) (replayed programs first txns tables)

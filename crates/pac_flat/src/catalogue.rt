@@ -1,11 +1,12 @@
 // The flat form of a catalogue.
 ghost use Rattle.std.specs.Prelude.{◌≡◌, ◌<◌, ◌^◌, All, map, length, IfOk, IsErrOf, MatchResult};
 ghost use Rattle.std.specs.List.{AllZip};
+ghost use Rattle.pac_base.specs.Refusals.{OkUnlessMemory};
 ghost use Rattle.pac_base.specs.declared.refusal.Refusal.TheVariants.{Fault as AFault};
 ghost use Rattle.pac_ops.specs.Programs.{AreSoundPrograms};
 ghost use Rattle.pac_types.specs.Fits.{shape};
 ghost use Rattle.pac_types.specs.Meaning.{operations};
-ghost use Rattle.pac_types.specs.OperationLimits.{IsWithinLimits, IsFirstExcess};
+ghost use Rattle.pac_types.specs.OperationLimits.{HasFewOperations, IsFirstExcess};
 ghost use Rattle.pac_flat.specs.Agreement.{MeansTheSame, ReplaysTheSame};
 ghost use Rattle.pac_flat.specs.FlatForm.{program_of};
 ghost use Rattle.pac_flat.specs.declared.catalogue.TooManyOps.{TooManyOps as Excess};
@@ -51,8 +52,10 @@ pub fn flatten(alloc: Global, cat: &Catalogue) -> Result<Vec<Program>, FlatError
     ensures replays { IfOk result (λ programs. ReplaysTheSame cat.now.procs programs.items) }
 
     ensures sound { IfOk result (λ programs. AreSoundPrograms (map shape cat.now.tables) programs.items) }
-    ensures few { IfOk result (λ _. IsWithinLimits cat.now.procs) }
+    ensures few { IfOk result (λ _. HasFewOperations cat.now.procs) }
+    ensures only { HasFewOperations cat.now.procs → OkUnlessMemory result (λ programs. programs.items ≡ map program_of cat.now.procs) }
     ensures fault { (fault : Excess) → IsErrOf result (AFault fault) → IsFirstExcess cat.now.procs fault.proc fault.count }
+    ensures one { (fault other : Excess) → IsErrOf result (AFault fault) → IsFirstExcess cat.now.procs other.proc other.count → other ≡ fault }
 {
     let procs = cat.procs();
     test_counts(procs)?;
@@ -74,7 +77,7 @@ fn flat_programs(alloc: Global, procs: &[Proc]) -> Result<Vec<Program>, NoMemory
 fn test_counts(procs: &[Proc]) -> Result<(), TooManyOps>
     requires few { length procs.now < 2 ^ 16 }
     requires counted { All (λ proc. operations proc.body < 2 ^ 16) procs.now }
-    ensures { MatchResult result (λ _. IsWithinLimits procs.now) (λ fault. IsFirstExcess procs.now fault.proc fault.count) }
+    ensures { MatchResult result (λ _. HasFewOperations procs.now) (λ fault. IsFirstExcess procs.now fault.proc fault.count) }
 {
     let mut up_to = 0;
     for number in 0..procs.len() {

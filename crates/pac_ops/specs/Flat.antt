@@ -20,7 +20,7 @@ abbrev pub is_true : Value → Bool
 is_true (Truth b) = b
 is_true v = false
 
--- a variable's value is true where that is asked, and is not where that is asked; without a value it is neither
+-- where true is asked a variable's value is true, where false is asked it is not; without a value it is neither
 abbrev pub is_as_asked : Bool → Option Value → Bool
 is_as_asked asked None = false
 is_as_asked true (Some v) = is_true v
@@ -47,19 +47,19 @@ abbrev pub with_default : List Ty → Option ℕ → State → State
 with_default vars None s = s
 with_default vars (Some x) s = given_default x (slice_get vars x) s
 
--- the state behind an operation that does what it means, or would abort: then its variable alone changes
-abbrev pub settled : List Ty → OpKind → State → Result State Reason → State
-settled vars kind s (Ok t) = t
-settled vars kind s (Err reason) = with_default vars (defined_variable kind) s
+-- the state behind an operation: the one that it means, or where it would abort, one in which its variable alone changes
+abbrev pub done_or_default : List Ty → OpKind → State → Result State Reason → State
+done_or_default vars kind s (Ok t) = t
+done_or_default vars kind s (Err reason) = with_default vars (defined_variable kind) s
 
--- why a result is an abort
+-- why an operation aborts, if it does
 abbrev pub reason_in : Result State Reason → Option Reason
 reason_in (Ok t) = None
 reason_in (Err reason) = Some reason
 
--- the state behind a flat operation: one of whose conditions does not hold changes nothing
+-- the state behind a flat operation; where some condition does not hold, nothing changes
 abbrev pub flat_done : List Ty → FlatOp → State → State
-flat_done vars op s = if all_hold s.env op.conds then settled vars op.kind s (done op.kind s) else s
+flat_done vars op s = if all_hold s.env op.conds then done_or_default vars op.kind s (done op.kind s) else s
 
 -- why a flat operation would abort, if it would
 abbrev pub flat_reason : FlatOp → State → Option Reason

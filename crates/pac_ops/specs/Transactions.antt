@@ -48,11 +48,11 @@ pub record Replayed : Type 0 where
   pub notes : List Note
 
 -- behind a transaction that left this state and these notes
-abbrev pub behind : State → List Note → Replayed → Replayed
-behind s notes rest = record { tables = rest.tables; envs = s.env ∷ rest.envs; notes = notes ++ rest.notes }
+abbrev pub after_txn : State → List Note → Replayed → Replayed
+after_txn s notes rest = record { tables = rest.tables; envs = s.env ∷ rest.envs; notes = notes ++ rest.notes }
 
 -- all operations of each transaction in their order, the transactions one after another, numbered from the first
 abbrev pub replayed : List Program → ℕ → List Txn → Tables → Replayed
 replayed programs first [] tables = record { tables = tables; envs = []; notes = [] }
 replayed programs first (txn ∷ txns) tables =
-    behind (txn_state programs txn tables) (txn_notes programs first txn tables) (replayed programs (first + 1) txns (txn_state programs txn tables).tables)
+    after_txn (txn_state programs txn tables) (txn_notes programs first txn tables) (replayed programs (first + 1) txns (txn_state programs txn tables).tables)

@@ -17,7 +17,9 @@
 //! given types: each operation finds what it uses.
 //!
 //! `specs/Operations.antt` says what an operation means, by the cell that it touches and what it does there; every
-//! layer that executes operations is held to it. `specs/Transactions.antt` says what ad hoc records mean.
+//! layer that executes operations is held to it. `specs/Flat.antt` says what operations in flat form mean, where one that
+//! would abort leaves a note and stops nothing, `specs/Notes.antt` which note is the first. `specs/Transactions.antt` says
+//! what ad hoc records mean, and what transactions leave that are replayed.
 //!
 //! Procedures, tables, columns, variables and blocks have numbers from 0 on, transactions from 1 on. Each type is seen
 //! by contracts as what it holds, a list type as its list. A copy is equal to what it was made of, and the test `same`

@@ -10,7 +10,7 @@ abbrev pub all_operations : List Proc → ℕ
 all_operations procs = sum_by (λ proc. operations proc.body) procs
 
 -- no procedure has too many operations, and neither have all together
-pub record IsWithinLimits (procs : List Proc) : Type 0 where
+pub record HasFewOperations (procs : List Proc) : Type 0 where
   pub each : All (λ proc. operations proc.body ≤ MAX_OPS) procs
   pub all : all_operations procs ≤ MAX_ALL_OPS
 

@@ -5,9 +5,10 @@ use Rattle.pac_ops.specs.declared.program.Program.{Program}
 use Rattle.pac_ops.specs.Programs.{AreSoundPrograms}
 use Rattle.pac_types.specs.declared.procedure.Proc.{Proc}
 use Rattle.pac_types.specs.Fits.{shape}
-use Rattle.pac_types.specs.OperationLimits.{IsWithinLimits}
+use Rattle.pac_types.specs.OperationLimits.{HasFewOperations, IsFirstExcess}
 use Rattle.pac_flat.specs.Agreement.{MeansTheSame, ReplaysTheSame}
 use Rattle.pac_flat.specs.FlatForm.{program_of}
+use Rattle.pac_flat.proofs.ExcessLemmas.{within-none}
 use Rattle.pac_flat.proofs.LawLemmas.{numbered-at, each-numbered, all_mean_the_same, replays_the_same}
 use Rattle.pac_flat.proofs.SoundProgram.{sound_programs}
 use Rattle.pac_flat.proofs.catalogue.flatten.Goals as goal
@@ -26,4 +27,10 @@ returns-clause-replays c = subst (λ (programs : List Program). ReplaysTheSame c
 
 pub returns-clause-sound : goal.returns-clause-sound
 returns-clause-sound c = subst (λ (programs : List Program). AreSoundPrograms (map shape c.args.cat.now.tables) programs) (sym (programs_are c))
-    (sound_programs c.args.cat.now.tables c.args.cat.now.procs c.procs-procs.ensures.sound (subst (λ (procs : List Proc). IsWithinLimits procs) c.procs-procs.ensures.value c.in_ok-test_counts.ensures))
+    (sound_programs c.args.cat.now.tables c.args.cat.now.procs c.procs-procs.ensures.sound (subst (λ (procs : List Proc). HasFewOperations procs) c.procs-procs.ensures.value c.in_ok-test_counts.ensures))
+
+pub returns-in_err-test_counts-clause-only : goal.returns-in_err-test_counts-clause-only
+returns-in_err-test_counts-clause-only c = λ within.
+    let first : IsFirstExcess c.args.cat.now.procs c.in_err-test_counts.field-0.0.proc c.in_err-test_counts.field-0.0.count
+    = subst (λ (procs : List Proc). IsFirstExcess procs c.in_err-test_counts.field-0.0.proc c.in_err-test_counts.field-0.0.count) c.procs-procs.ensures.value c.in_err-test_counts.ensures in
+    absurd (within-none c.args.cat.now.procs c.in_err-test_counts.field-0.0.proc c.in_err-test_counts.field-0.0.count within first.here)
