@@ -1,6 +1,6 @@
 -- What a flat form is made of: as many operations as the statements, which define the same variables, under conditions
 -- that begin with those round it.
-use Rattle.std.proofs.Common.{◌≡◌, ℕ, ◌+◌, Bool, true, false, ◌&&◌, List, [], ◌∷◌, ◌++◌, length, map, Option, Some, None, refl, sym, ap, subst, ◌∙◌, arith, append_assoc, append-nil, length-append}
+use Rattle.std.proofs.Common.{◌≡◌, ℕ, Bool, true, false, ◌&&◌, List, [], ◌∷◌, ◌++◌, length, map, refl, sym, ap, subst, ◌∙◌, arith, append_assoc, append-nil, length-append}
 use Rattle.std.specs.FinMap.{get}
 use Rattle.std.specs.List.{AllByRecursion}
 use Rattle.pac_value.specs.Expressions.{Values}
@@ -10,9 +10,9 @@ use Rattle.pac_ops.specs.declared.program.OpKind.{OpKind}
 use Rattle.pac_ops.specs.Flat.{is_as_asked, all_hold}
 use Rattle.pac_ops.specs.Uses.{defined_variable}
 use Rattle.pac_types.specs.declared.statement.Stmt.{Stmt}
-use Rattle.pac_types.specs.Meaning.{Code, code, counts, operations}
+use Rattle.pac_types.specs.Meaning.{Code, code, operations}
 use Rattle.pac_types.specs.Variables.{stmt_variables, defined_variables}
-use Rattle.pac_flat.specs.FlatForm.{Conditions, Flat, flat, flat_form, in_line, inside, under}
+use Rattle.pac_flat.specs.FlatForm.{Conditions, Flat, flat, in_line, inside}
 use Rattle.pac_flat.proofs.StmtShapes.{variable_list, IsOne, IsBranching, by_shape, all_by_shape}
 
 -- ---- how many

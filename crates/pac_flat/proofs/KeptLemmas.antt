@@ -8,7 +8,6 @@ use Rattle.std.proofs.lemmas.Bool.Decides.{nat_tests}
 use Rattle.pac_value.specs.declared.values.Ty.{Ty}
 use Rattle.pac_value.specs.declared.values.Value.{Value}
 use Rattle.pac_value.specs.declared.values.Value.TheVariants.{Int, Text, Bool as Truth}
-use Rattle.pac_value.specs.declared.expr.Trap.{Trap}
 use Rattle.pac_value.specs.Expressions.{Values, value, ◌>>=◌}
 use Rattle.pac_value.specs.State.{Cell, RowValues}
 use Rattle.pac_ops.specs.declared.program.FlatOp.{FlatOp}

@@ -1,7 +1,7 @@
 -- Replays of flat forms are serial executions: of one procedure, and of transactions one after another.
-use Rattle.std.proofs.Common.{◌≡◌, ℕ, suc, ◌+◌, ◌<◌, List, [], ◌∷◌, ◌++◌, length, map, Option, Some, None, Result, Ok, Err, refl, sym, ap, subst, ◌∙◌, arith, get_or, All}
+use Rattle.std.proofs.Common.{◌≡◌, ℕ, suc, ◌+◌, ◌<◌, List, [], ◌∷◌, ◌++◌, length, map, Option, Some, None, Result, Ok, Err, refl, sym, ap, subst, ◌∙◌, get_or, All}
 use Rattle.std.specs.Prelude.{slice_get}
-use Rattle.std.specs.List.{AllByRecursion, AllZip, range_with_len}
+use Rattle.std.specs.List.{AllByRecursion, AllZip}
 use Rattle.std.specs.Option.{option_map}
 use Rattle.std.proofs.lemmas.Option.{slice_get-map, slice_get_within, slice_get-get_or}
 use Rattle.pac_value.specs.declared.values.Value.{Value}
@@ -14,10 +14,10 @@ use Rattle.pac_ops.specs.declared.transaction.Txn.TheVariants.{Call as ACall, Ad
 use Rattle.pac_ops.specs.Flat.{flat_meaning, notes_of}
 use Rattle.pac_ops.specs.Notes.{first_note}
 use Rattle.pac_ops.specs.Operations.{State, opening}
-use Rattle.pac_ops.specs.Transactions.{with_changes, call_state, call_notes, txn_state, txn_notes, Replayed, after_txn, replayed}
+use Rattle.pac_ops.specs.Transactions.{call_state, call_notes, txn_state, txn_notes, Replayed, after_txn, replayed}
 use Rattle.pac_types.specs.declared.procedure.Proc.{Proc}
 use Rattle.pac_types.specs.declared.table.Table.{Table}
-use Rattle.pac_types.specs.Meaning.{Abort, meaning, called}
+use Rattle.pac_types.specs.Meaning.{Abort, meaning}
 use Rattle.pac_types.specs.Execution.{called_at, txn_meaning, in_txn, serial}
 use Rattle.pac_types.specs.Typing.{IsProc}
 use Rattle.pac_types.specs.Variables.{defined_variables}

@@ -1,5 +1,5 @@
 -- The flat form does what the statements mean, up to the first abort.
-use Rattle.std.proofs.Common.{◌≡◌, ℕ, ◌+◌, ◌<◌, ◌≤◌, Bool, true, false, not, ◌&&◌, cond, List, [], ◌∷◌, ◌++◌, length, map, Option, Some, None, Result, Ok, Err, refl, sym, ap, subst, ◌∙◌, arith, append_assoc}
+use Rattle.std.proofs.Common.{◌≡◌, ℕ, ◌+◌, ◌<◌, Bool, true, false, not, ◌&&◌, cond, List, [], ◌∷◌, ◌++◌, length, map, Some, None, Result, Ok, Err, refl, sym, ap, subst, ◌∙◌, arith, append_assoc}
 use Rattle.std.specs.FinMap.{get}
 use Rattle.std.specs.List.{AllByRecursion}
 use Rattle.pac_value.specs.declared.values.Ty.{Ty}
@@ -18,11 +18,11 @@ use Rattle.pac_ops.specs.Notes.{note_at}
 use Rattle.pac_ops.specs.Operations.{State, Gives, define, done, with_effect}
 use Rattle.pac_ops.specs.Flat.{is_true, is_as_asked, all_hold, done_or_default, reason_in, flat_done, flat_reason, flat_meaning, notes_of}
 use Rattle.pac_types.specs.declared.statement.Stmt.{Stmt}
-use Rattle.pac_types.specs.Meaning.{Abort, at_operation, Code, code, one, counts, runs, branch, conditional, operations}
+use Rattle.pac_types.specs.Meaning.{Abort, at_operation, Code, code, runs, branch, operations}
 use Rattle.pac_types.specs.Variables.{stmt_variables, defined_variables}
-use Rattle.pac_flat.specs.FlatForm.{Conditions, Flat, flat, in_line, inside, under, single}
-use Rattle.pac_flat.proofs.StmtShapes.{IsOne, IsBranching, by_shape, all_by_shape}
-use Rattle.pac_flat.proofs.FormLemmas.{length-flat, length-line, defined_in, defined_in-flat, defined_in-line, all_hold-inside, shut_inside, AllShut, shut_line}
+use Rattle.pac_flat.specs.FlatForm.{Conditions, Flat, flat, in_line, inside, under}
+use Rattle.pac_flat.proofs.StmtShapes.{IsOne, IsBranching, all_by_shape}
+use Rattle.pac_flat.proofs.FormLemmas.{length-flat, length-line, defined_in, defined_in-flat, defined_in-line, all_hold-inside, AllShut, shut_line}
 use Rattle.pac_flat.proofs.KeptLemmas.{get-defined, get-others, Differs, kept, RunsOn, runs_on-parts, lower-differs, Below, below-more, below-inside, all_hold-kept}
 
 module _ (vars : List Ty) (txn : ℕ) where

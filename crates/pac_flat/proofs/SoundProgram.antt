@@ -1,6 +1,6 @@
 -- The flat form of a sound procedure is a sound program.
 use Rattle.std.proofs.Common.{◌≡◌, ℕ, zero, suc, ◌+◌, ◌<◌, ◌≤◌, Bool, true, false, ◌&&◌, ◌||◌, ◌==◌, List, [], ◌∷◌, ◌++◌, length, map, Option, Some, None, is_some, ◌⊎◌, inl, inr, refl, sym, ap, subst, ◌∙◌, arith, append_assoc, append-nil, length-append, get_or, All}
-use Rattle.std.specs.Prelude.{slice_get, IsSomeAnd, IsTrue, if◌then◌else◌, Contains}
+use Rattle.std.specs.Prelude.{slice_get, IsSomeAnd, if◌then◌else◌, Contains}
 use Rattle.std.specs.List.{AllByRecursion}
 use Rattle.std.specs.Option.{option_map, option_and_then}
 use Rattle.std.proofs.lemmas.Bool.Decides.{nat_tests}
@@ -15,8 +15,6 @@ use Rattle.pac_ops.specs.declared.limits.TheConstants.{MAX_OPS}
 use Rattle.pac_ops.specs.declared.program.FlatOp.{FlatOp}
 use Rattle.pac_ops.specs.declared.program.OpKind.{OpKind}
 use Rattle.pac_ops.specs.declared.program.OpKind.TheVariants.{Let, Cond, Read, Has, Put, SetCol, Delete, AbortIf}
-use Rattle.pac_ops.specs.declared.program.Program.{Program}
-use Rattle.pac_ops.specs.declared.shapes.TableTypes.{TableTypes}
 use Rattle.pac_ops.specs.Programs.{IsFrontOf, IsWellTyped, given_type, scope_in, IsDefinedBefore, IsCondition, IsSoundProgram, AreSoundPrograms}
 use Rattle.pac_ops.specs.Uses.{kind_uses, conds_use, op_uses, defined_variable, Defines}
 use Rattle.pac_types.specs.declared.procedure.Proc.{Proc}
@@ -25,14 +23,14 @@ use Rattle.pac_types.specs.declared.table.Table.{Table}
 use Rattle.pac_types.specs.Meaning.{operations}
 use Rattle.pac_types.specs.OperationLimits.{HasFewOperations}
 use Rattle.pac_types.specs.Typing.{IsProc}
-use Rattle.pac_types.specs.Sound.{types, if_so, Check, check, in_order, any_defines, without, scope_behind, scope_of, IsSoundProc}
+use Rattle.pac_types.specs.Sound.{types, Check, check, in_order, any_defines, without, scope_behind, scope_of, IsSoundProc}
 use Rattle.pac_types.specs.Variables.{stmt_variables, defined_variables}
 use Rattle.pac_types.proofs.PartLemmas.{equal}
 use Rattle.pac_types.proofs.ScopeLemmas.{Within, type_in-within}
 use Rattle.pac_flat.specs.FlatForm.{Conditions, Flat, flat, flat_form, in_line, inside, under, with_type, types_behind, program_of}
-use Rattle.pac_flat.proofs.StmtShapes.{variable_list, IsOne, IsBranching, single_check, by_shape, all_by_shape}
+use Rattle.pac_flat.proofs.StmtShapes.{variable_list, IsOne, IsBranching, all_by_shape}
 use Rattle.pac_flat.proofs.FormLemmas.{length-line, defined_in, defined_in-line}
-use Rattle.pac_flat.proofs.FrontLemmas.{at-front, at-end, some-front, some-end, some-within, some-mapped, of-contained, front-itself, front-more, front-trans, types_behind-append, front-types_behind, within-front}
+use Rattle.pac_flat.proofs.FrontLemmas.{at-end, some-front, some-end, some-within, some-mapped, of-contained, front-itself, front-more, types_behind-append, front-types_behind, within-front}
 use Rattle.pac_flat.proofs.KeptLemmas.{RunsOn, runs_on-parts}
 use Rattle.pac_flat.proofs.LawLemmas.{IsNumbered, numbered-proc}
 use Rattle.pac_flat.proofs.TypeLemmas.{both, either, from_either, shapes, Adds, adds_one, so_is, single_sound, well_typed-within, visible-kind, SameThere, gives_there}

@@ -1,12 +1,12 @@
 -- What a check of a statement that is one operation says of the operation.
-use Rattle.std.proofs.Common.{◌≡◌, ℕ, Bool, true, false, cond, ◌&&◌, ◌||◌, ◌==◌, List, [], ◌∷◌, length, map, Option, Some, None, is_some, ◌⊎◌, inl, inr, refl, sym, ap, subst, ◌∙◌}
-use Rattle.std.specs.Prelude.{slice_get, if◌then◌else◌, IsSomeAnd, nat_le}
+use Rattle.std.proofs.Common.{◌≡◌, ℕ, Bool, true, false, ◌&&◌, ◌||◌, ◌==◌, List, [], ◌∷◌, length, map, Option, Some, None, is_some, ◌⊎◌, inl, inr, refl, sym, ap, subst, ◌∙◌}
+use Rattle.std.specs.Prelude.{slice_get, if◌then◌else◌}
 use Rattle.std.specs.Option.{option_map, option_and_then}
 use Rattle.std.proofs.lemmas.List.{length-map}
 use Rattle.std.proofs.lemmas.Option.{slice_get-map}
 use Rattle.pac_value.specs.declared.values.Ty.{Ty}
-use Rattle.pac_value.specs.declared.values.Ty.TheVariants.{Int as IntTy, Text as TextTy, Bool as BoolTy}
-use Rattle.pac_value.specs.declared.expr.Expr.{Expr, Lit, Var, Bin, Not}
+use Rattle.pac_value.specs.declared.values.Ty.TheVariants.{Bool as BoolTy}
+use Rattle.pac_value.specs.declared.expr.Expr.{Expr}
 use Rattle.pac_value.specs.Expressions.{type_in, type_step, operator_type, negated_type}
 use Rattle.pac_value.specs.Scopes.{Scope, with_var, is_bool, is_wanted, are_wanted, is_width}
 use Rattle.pac_value.specs.Values.{type_of}
@@ -18,7 +18,7 @@ use Rattle.pac_ops.specs.Programs.{key_type_in, row_type_in, column_type_in, IsR
 use Rattle.pac_ops.specs.Uses.{use_step, expr_uses, exprs_use, kind_uses, defined_variable}
 use Rattle.pac_types.specs.declared.table.Table.{Table}
 use Rattle.pac_types.specs.Fits.{shape}
-use Rattle.pac_types.specs.Sound.{types, key_type, column_types_of, column_types, column_type, if_so}
+use Rattle.pac_types.specs.Sound.{key_type, column_types_of, column_types, column_type, if_so}
 use Rattle.pac_types.proofs.PartLemmas.{equal}
 use Rattle.pac_types.proofs.ScopeLemmas.{Within, TypeWithin, type_in-within, is_wanted-within, is_bool-within, are_wanted-within}
 use Rattle.pac_flat.proofs.StmtShapes.{single_check}

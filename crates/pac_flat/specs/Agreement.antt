@@ -10,7 +10,7 @@ use Rattle.pac_ops.specs.Notes.{first_note}
 use Rattle.pac_ops.specs.Operations.{State, opening}
 use Rattle.pac_ops.specs.Transactions.{Replayed, replayed}
 use Rattle.pac_types.specs.declared.procedure.Proc.{Proc}
-use Rattle.pac_types.specs.Meaning.{Abort, meaning}
+use Rattle.pac_types.specs.Meaning.{meaning}
 use Rattle.pac_types.specs.Execution.{in_txn, serial}
 
 -- a state and notes are what is meant: where that is a state, it is this very state, hidden variables too, and no note is

@@ -1,11 +1,11 @@
 -- The sum grows by each procedure's own count.
-use Rattle.std.proofs.Common.{◌≡◌, ℕ, ◌+◌, ◌<◌, ◌≤◌, length, take, get_or, below_more, None, List, sym, subst, ap, ◌∙◌, arith, take_all}
+use Rattle.std.proofs.Common.{◌≡◌, ◌+◌, take, get_or, below_more, None, sym, subst, ap, ◌∙◌, arith, take_all}
 use Rattle.std.proofs.lemmas.List.Sums.{sum_by_more}
 use Rattle.pac_types.specs.declared.procedure.Proc.{Proc}
 use Rattle.pac_types.specs.Meaning.{operations}
 use Rattle.pac_types.specs.OperationLimits.{all_operations, excess_at, IsFirstExcess}
 use Rattle.pac_flat.specs.declared.catalogue.TooManyOps.{TooManyOps}
-use Rattle.pac_flat.proofs.ExcessLemmas.{own-excess, sum-excess, no-excess, within_limits}
+use Rattle.pac_flat.proofs.ExcessLemmas.{sum-excess, no-excess, within_limits}
 use Rattle.pac_flat.proofs.catalogue.test_counts.Goals as goal
 use Rattle.pac_flat.proofs.catalogue.test_counts.Goals.{After-count_operations}
 
