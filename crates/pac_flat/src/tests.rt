@@ -60,25 +60,31 @@ fn bin(alloc: Global, op: BinOp, left: Expr, right: Expr) -> Result<Expr, NoMemo
     })
 }
 
-fn op(alloc: Global, conds: &[(u16, bool)], kind: OpKind) -> Result<FlatOp, NoMemory> {
+// One more operation under conditions.
+fn push(
+    alloc: Global,
+    ops: &mut Vec<FlatOp>,
+    conds: &[(u16, bool)],
+    kind: OpKind,
+) -> Result<(), NoMemory> {
     let mut list = Vec::new(alloc);
     for cond in conds {
         list.push(*cond)?;
     }
-    Ok(FlatOp {
-        conds: listed(list),
-        kind,
-    })
+    let conds = listed(list);
+    ops.push(FlatOp { conds, kind })?;
+    Ok(())
 }
 
 // Reads the first column at a variable, or 0.
 fn read(
     alloc: Global,
+    ops: &mut Vec<FlatOp>,
     conds: &[(u16, bool)],
     var: u16,
     table: u16,
     key: u16,
-) -> Result<FlatOp, NoMemory> {
+) -> Result<(), NoMemory> {
     let kind = OpKind::Read {
         var,
         table,
@@ -86,23 +92,24 @@ fn read(
         column: 0,
         default: Value::Int(0),
     };
-    op(alloc, conds, kind)
+    push(alloc, ops, conds, kind)
 }
 
 // Puts a row of one value at a variable.
 fn put(
     alloc: Global,
+    ops: &mut Vec<FlatOp>,
     conds: &[(u16, bool)],
     table: u16,
     key: u16,
     value: Expr,
-) -> Result<FlatOp, NoMemory> {
+) -> Result<(), NoMemory> {
     let kind = OpKind::Put {
         table,
         key: Expr::Var(key),
         values: listed(vec![in alloc; value]?),
     };
-    op(alloc, conds, kind)
+    push(alloc, ops, conds, kind)
 }
 
 fn types(alloc: Global, tys: &[Ty]) -> Result<Types, NoMemory> {
@@ -113,116 +120,96 @@ fn types(alloc: Global, tys: &[Ty]) -> Result<Types, NoMemory> {
     Ok(listed(list))
 }
 
-fn transfer(alloc: Global) -> Result<Program, NoMemory> {
-    let taken: [(u16, bool); 1] = [(3, true)];
-    let test = bin(alloc, BinOp::Ne, Expr::Var(2), int(0))?;
-    let less = bin(alloc, BinOp::Sub, Expr::Var(4), Expr::Var(1))?;
-    let more = bin(alloc, BinOp::Add, Expr::Var(5), Expr::Var(1))?;
-    let one_more = bin(alloc, BinOp::Add, Expr::Var(6), int(1))?;
-    let ops = vec![in alloc;
-        read(alloc, &[], 2, 0, 0)?,
-        op(alloc, &[], OpKind::Cond { var: 3, test })?,
-        read(alloc, &taken, 4, 1, 0)?,
-        put(alloc, &taken, 1, 0, less)?,
-        read(alloc, &taken, 5, 1, 2)?,
-        put(alloc, &taken, 1, 2, more)?,
-        read(alloc, &taken, 6, 2, 0)?,
-        put(alloc, &taken, 2, 0, one_more)?,
-    ]?;
+fn program(
+    alloc: Global,
+    ops: Vec<FlatOp>,
+    params: &[Ty],
+    vars: &[Ty],
+) -> Result<Program, NoMemory> {
+    let params = types(alloc, params)?;
+    let vars = types(alloc, vars)?;
     Ok(Program {
         ops: listed(ops),
-        params: types(alloc, &[Ty::Int, Ty::Int])?,
-        vars: types(
-            alloc,
-            &[
-                Ty::Int,
-                Ty::Int,
-                Ty::Int,
-                Ty::Bool,
-                Ty::Int,
-                Ty::Int,
-                Ty::Int,
-            ],
-        )?,
+        params,
+        vars,
     })
 }
 
-fn deposit(alloc: Global) -> Result<Program, NoMemory> {
+fn transfer(alloc: Global) -> Result<Vec<FlatOp>, NoMemory> {
+    let taken: [(u16, bool); 1] = [(3, true)];
+    let mut ops = Vec::new(alloc);
+    read(alloc, &mut ops, &[], 2, 0, 0)?;
+    let test = bin(alloc, BinOp::Ne, Expr::Var(2), int(0))?;
+    push(alloc, &mut ops, &[], OpKind::Cond { var: 3, test })?;
+    read(alloc, &mut ops, &taken, 4, 1, 0)?;
+    let less = bin(alloc, BinOp::Sub, Expr::Var(4), Expr::Var(1))?;
+    put(alloc, &mut ops, &taken, 1, 0, less)?;
+    read(alloc, &mut ops, &taken, 5, 1, 2)?;
+    let more = bin(alloc, BinOp::Add, Expr::Var(5), Expr::Var(1))?;
+    put(alloc, &mut ops, &taken, 1, 2, more)?;
+    read(alloc, &mut ops, &taken, 6, 2, 0)?;
+    let one_more = bin(alloc, BinOp::Add, Expr::Var(6), int(1))?;
+    put(alloc, &mut ops, &taken, 2, 0, one_more)?;
+    Ok(ops)
+}
+
+fn deposit(alloc: Global) -> Result<Vec<FlatOp>, NoMemory> {
     let rich: [(u16, bool); 1] = [(4, true)];
+    let mut ops = Vec::new(alloc);
+    read(alloc, &mut ops, &[], 3, 1, 0)?;
     let sum = bin(alloc, BinOp::Add, Expr::Var(3), Expr::Var(1))?;
+    put(alloc, &mut ops, &[], 1, 0, sum)?;
     let total = bin(alloc, BinOp::Add, Expr::Var(3), Expr::Var(1))?;
     let test = bin(alloc, BinOp::Gt, total, int(10000))?;
+    push(alloc, &mut ops, &[], OpKind::Cond { var: 4, test })?;
+    read(alloc, &mut ops, &rich, 5, 2, 0)?;
     let share = bin(alloc, BinOp::Div, Expr::Var(3), int(50))?;
     let saved = bin(alloc, BinOp::Add, Expr::Var(5), share)?;
+    put(alloc, &mut ops, &rich, 2, 0, saved)?;
+    read(alloc, &mut ops, &[], 6, 3, 2)?;
     let one_more = bin(alloc, BinOp::Add, Expr::Var(6), int(1))?;
-    let ops = vec![in alloc;
-        read(alloc, &[], 3, 1, 0)?,
-        put(alloc, &[], 1, 0, sum)?,
-        op(alloc, &[], OpKind::Cond { var: 4, test })?,
-        read(alloc, &rich, 5, 2, 0)?,
-        put(alloc, &rich, 2, 0, saved)?,
-        read(alloc, &[], 6, 3, 2)?,
-        put(alloc, &[], 3, 2, one_more)?,
-    ]?;
-    Ok(Program {
-        ops: listed(ops),
-        params: types(alloc, &[Ty::Int, Ty::Int, Ty::Int])?,
-        vars: types(
-            alloc,
-            &[
-                Ty::Int,
-                Ty::Int,
-                Ty::Int,
-                Ty::Int,
-                Ty::Bool,
-                Ty::Int,
-                Ty::Int,
-            ],
-        )?,
-    })
+    put(alloc, &mut ops, &[], 3, 2, one_more)?;
+    Ok(ops)
 }
 
 // The variables are k, h, the two hidden ones, and t.
-fn nested(alloc: Global, text: Value) -> Result<Program, NoMemory> {
+fn nested(alloc: Global, text: Value) -> Result<Vec<FlatOp>, NoMemory> {
+    let mut ops = Vec::new(alloc);
     let has = OpKind::Has {
         var: 1,
         table: 0,
         key: Expr::Var(0),
     };
+    push(alloc, &mut ops, &[], has)?;
     let outer = OpKind::Cond {
         var: 2,
         test: Expr::Var(1),
     };
+    push(alloc, &mut ops, &[], outer)?;
     let test = bin(alloc, BinOp::Gt, Expr::Var(0), int(0))?;
+    push(alloc, &mut ops, &[(2, true)], OpKind::Cond { var: 3, test })?;
     let set = OpKind::SetCol {
         table: 0,
         key: Expr::Var(0),
         column: 0,
         value: Expr::Var(0),
     };
+    push(alloc, &mut ops, &[(2, true), (3, true)], set)?;
     let abort = OpKind::AbortIf { test: Expr::Var(1) };
-    let let_text = OpKind::Let {
-        var: 4,
-        value: Expr::Lit(text),
-    };
+    push(alloc, &mut ops, &[(2, true), (3, false)], abort)?;
+    let value = Expr::Lit(text);
+    push(
+        alloc,
+        &mut ops,
+        &[(2, false)],
+        OpKind::Let { var: 4, value },
+    )?;
     let delete = OpKind::Delete {
         table: 0,
         key: Expr::Var(0),
     };
-    let ops = vec![in alloc;
-        op(alloc, &[], has)?,
-        op(alloc, &[], outer)?,
-        op(alloc, &[(2, true)], OpKind::Cond { var: 3, test })?,
-        op(alloc, &[(2, true), (3, true)], set)?,
-        op(alloc, &[(2, true), (3, false)], abort)?,
-        op(alloc, &[(2, false)], let_text)?,
-        op(alloc, &[(2, false)], delete)?,
-    ]?;
-    Ok(Program {
-        ops: listed(ops),
-        params: types(alloc, &[Ty::Int])?,
-        vars: types(alloc, &[Ty::Int, Ty::Bool, Ty::Bool, Ty::Bool, Ty::Text])?,
-    })
+    push(alloc, &mut ops, &[(2, false)], delete)?;
+    Ok(ops)
 }
 
 #[test]
@@ -232,8 +219,13 @@ fn the_bank_is_flat_as_by_hand(rt: HostRuntime) -> Result<(), Fail> {
     let [first, second] = programs.as_slice() else {
         return Err(Fail::from("not two programs"));
     };
-    assert!(rt; first.same(&transfer(alloc)?));
-    assert!(rt; second.same(&deposit(alloc)?));
+    let int = Ty::Int;
+    let types: [Ty; 7] = [int, int, int, Ty::Bool, int, int, int];
+    let by_hand = program(alloc, transfer(alloc)?, &[int, int], &types)?;
+    assert!(rt; first.same(&by_hand));
+    let types: [Ty; 7] = [int, int, int, int, Ty::Bool, int, int];
+    let by_hand = program(alloc, deposit(alloc)?, &[int, int, int], &types)?;
+    assert!(rt; second.same(&by_hand));
     Ok(())
 }
 
@@ -241,11 +233,13 @@ fn the_bank_is_flat_as_by_hand(rt: HostRuntime) -> Result<(), Fail> {
 fn conditions_stand_in_conditions(rt: HostRuntime) -> Result<(), Fail> {
     let alloc = rt.alloc();
     let programs = flatten(alloc, &catalogue(alloc, NESTED.as_bytes())?)?;
-    let [program] = programs.as_slice() else {
+    let [one] = programs.as_slice() else {
         return Err(Fail::from("not one program"));
     };
     let text = Text::from_bytes(b"x").ok_or("no text")?;
-    assert!(rt; program.same(&nested(alloc, Value::Text(text))?));
+    let types: [Ty; 5] = [Ty::Int, Ty::Bool, Ty::Bool, Ty::Bool, Ty::Text];
+    let by_hand = program(alloc, nested(alloc, Value::Text(text))?, &[Ty::Int], &types)?;
+    assert!(rt; one.same(&by_hand));
     Ok(())
 }
 
