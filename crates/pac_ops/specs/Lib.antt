@@ -5,3 +5,8 @@ pub mod Pieces
 pub mod Reasons
 pub mod Operations
 pub mod Transactions
+pub mod Uses
+pub mod Programs
+pub mod Dependencies
+pub mod Notes
+pub mod Flat

@@ -1,7 +1,7 @@
 -- What single operations mean: the cell that one touches, and what it does.
-use Rattle.std.specs.Prelude.{ℕ, Bool, true, List, [], ◌∷◌, is_some, slice_get, slice_set, Option, Some, None, Result, Ok, Err, unwrap_or}
+use Rattle.std.specs.Prelude.{◌+◌, ℕ, true, List, [], ◌∷◌, is_some, slice_get, slice_set, Option, Some, None, Result, Ok, Err, unwrap_or}
 use Rattle.std.specs.Option.{option_and_then}
-use Rattle.std.specs.FinMap.{get, insert}
+use Rattle.std.specs.FinMap.{get, insert, empty}
 use Rattle.pac_value.specs.declared.values.Value.{Value}
 use Rattle.pac_value.specs.declared.values.Value.TheVariants.{Bool as Truth}
 use Rattle.pac_value.specs.declared.expr.Expr.{Expr}
@@ -19,6 +19,15 @@ use Rattle.pac_ops.specs.Reasons.{or_abort}
 pub record State : Type 0 where
   pub env : Values
   pub tables : Tables
+
+-- the variables from number n on have these values
+abbrev pub with_values : ℕ → List Value → Values → Values
+with_values n [] env = env
+with_values n (v ∷ vs) env = with_values (n + 1) vs (insert env n v)
+
+-- the state in which a call begins: the parameters alone have values
+abbrev pub opening : List Value → Tables → State
+opening args tables = record { env = with_values 0 args empty; tables = tables }
 
 -- a variable gets a value
 abbrev pub define : ℕ → Value → State → State

@@ -8,11 +8,18 @@
 //!   [`FlatOp`] has an [`OpKind`], what it does, and [`Conds`], under which tests of the conditionals round it.
 //! - [`PieceId`]: what one transaction does in one block.
 //! - [`Reason`]: why a transaction aborts. [`Note`]: which operation of which transaction does, and why.
+//! - [`Numbers`] and [`Pairs`]: lists of numbers of operations, slices or blocks.
 //! - [`TableTypes`]: the types that the rows of a table have. `specs/Shapes.antt` says which rows and records fit tables
 //!   of such types, whether a catalogue or a plan has them.
 //!
+//! `specs/Uses.antt` says which variables an operation uses and defines and which table it accesses,
+//! `specs/Dependencies.antt` what depends on what, and `specs/Programs.antt` when a program is sound over tables of
+//! given types: each operation finds what it uses.
+//!
 //! `specs/Operations.antt` says what an operation means, by the cell that it touches and what it does there; every
-//! layer that executes operations is held to it. `specs/Transactions.antt` says what ad hoc records mean.
+//! layer that executes operations is held to it. `specs/Flat.antt` says what operations in flat form mean, where one that
+//! would abort leaves a note and stops nothing, `specs/Notes.antt` which note is the first. `specs/Transactions.antt` says
+//! what ad hoc records mean, and what transactions leave that are replayed.
 //!
 //! Procedures, tables, columns, variables and blocks have numbers from 0 on, transactions from 1 on. Each type is seen
 //! by contracts as what it holds, a list type as its list. A copy is equal to what it was made of, and the test `same`
@@ -22,6 +29,7 @@
 mod batch;
 mod limits;
 mod note;
+mod numbers;
 mod piece;
 mod program;
 mod reason;
@@ -31,8 +39,9 @@ mod tests;
 mod transaction;
 
 pub use batch::{Batch, Batches, Txns, TxnsRule};
-pub use limits::{MAX_RECORDS, MAX_TXNS};
+pub use limits::{MAX_ALL_OPS, MAX_OPS, MAX_RECORDS, MAX_TXNS};
 pub use note::Note;
+pub use numbers::{Numbers, Pairs};
 pub use piece::PieceId;
 pub use program::{Conds, FlatOp, OpKind, Ops, Program, Programs};
 pub use reason::Reason;

@@ -4,8 +4,8 @@ ghost use Rattle.pac_ops.specs.Reasons.{reason_name};
 
 use pac_value::Trap;
 
-/// Why a transaction aborts.
-#[derive(Clone, Copy, Debug, PartialEq, Eq)]
+/// Why a transaction aborts. Reasons are ordered as they stand here.
+#[derive(Clone, Copy, Debug, PartialEq, Eq, PartialOrd, Ord)]
 pub enum Reason {
     /// A `set` names a row that is not there.
     Missing,

@@ -7,11 +7,11 @@ use Rattle.std.proofs.lemmas.Option.{slice_get_within, slice_get-get_or}
 use Rattle.pac_value.specs.declared.values.Value.{Value}
 use Rattle.pac_value.specs.Expressions.{Values, ◌>>=◌}
 use Rattle.pac_value.specs.State.{Tables}
-use Rattle.pac_ops.specs.Operations.{State}
+use Rattle.pac_ops.specs.Operations.{State, with_values}
 use Rattle.pac_types.specs.declared.procedure.Proc.{Proc}
 use Rattle.pac_types.specs.declared.table.Table.{Table}
 use Rattle.pac_types.specs.Typing.{IsProc}
-use Rattle.pac_types.specs.Meaning.{Abort as AnAbort, meaning, with_values}
+use Rattle.pac_types.specs.Meaning.{Abort as AnAbort, meaning}
 use Rattle.pac_types.specs.Execution.{called_at}
 use Rattle.pac_types.specs.Fits.{FitTables, FitParams, FitsCall}
 use Rattle.pac_serial.specs.declared.operation.Halt.{Halt}

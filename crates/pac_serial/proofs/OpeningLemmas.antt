@@ -14,7 +14,7 @@ use Rattle.pac_types.specs.declared.table.Table.{Table}
 use Rattle.pac_types.specs.declared.procedure.Proc.{Proc}
 use Rattle.pac_types.specs.Sound.{scope_of, scope_behind, IsSoundProc}
 use Rattle.pac_types.specs.Fits.{FitParams}
-use Rattle.pac_types.specs.Meaning.{with_values}
+use Rattle.pac_ops.specs.Operations.{with_values}
 use Rattle.pac_types.proofs.ScopeLemmas.{Within}
 use Rattle.pac_types.proofs.SoundLemmas.{scope_behind-within}
 use Rattle.pac_serial.proofs.ExecLemmas.{some-within}

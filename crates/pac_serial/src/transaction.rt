@@ -1,7 +1,7 @@
 // Transactions that have not ended.
 ghost use Rattle.std.specs.Prelude.{◌≡◌, ◌≤◌, length, OnOk};
 ghost use Rattle.std.specs.FinMap as map;
-ghost use Rattle.pac_types.specs.Meaning.{with_values};
+ghost use Rattle.pac_ops.specs.Operations.{with_values};
 
 use crate::draft::Draft;
 use pac_base::NoMemory;

@@ -12,3 +12,4 @@ pub mod Typing
 pub mod Fits
 pub mod CatalogueText
 pub mod CatalogueNames
+pub mod OperationLimits

@@ -1,16 +1,15 @@
 -- The serial meaning of statements and procedures.
 use Rattle.std.specs.Prelude.{◌+◌, ℕ, true, List, [], ◌∷◌, map, Result, Ok, Err}
-use Rattle.std.specs.FinMap.{insert, empty}
 use Rattle.pac_value.specs.declared.values.Value.{Value}
 use Rattle.pac_value.specs.declared.values.Value.TheVariants.{Bool as Truth}
 use Rattle.pac_value.specs.declared.expr.Expr.{Expr}
-use Rattle.pac_value.specs.Expressions.{Values, value, ◌>>=◌}
+use Rattle.pac_value.specs.Expressions.{value, ◌>>=◌}
 use Rattle.pac_value.specs.State.{Tables}
 use Rattle.pac_ops.specs.declared.program.OpKind.{OpKind}
 use Rattle.pac_ops.specs.declared.program.OpKind.TheVariants as kind
 use Rattle.pac_ops.specs.declared.reason.Reason.{Reason}
 use Rattle.pac_ops.specs.Reasons.{or_abort}
-use Rattle.pac_ops.specs.Operations.{State, define, done}
+use Rattle.pac_ops.specs.Operations.{State, define, done, opening}
 use Rattle.pac_types.specs.declared.procedure.Proc.{Proc}
 use Rattle.pac_types.specs.declared.statement.Stmt.{Stmt}
 use Rattle.pac_types.specs.declared.statement.Stmt.TheOpen.{Stmt-F, Let, Read, Has, Put, Set, Delete, AbortIf, If}
@@ -77,15 +76,6 @@ operations stmts = counts (map code stmts)
 -- what statements do, where the first operation has the number n
 abbrev pub meaning : List Stmt → ℕ → State → Result State Abort
 meaning stmts = runs (map code stmts)
-
--- the variables from number n on have these values
-abbrev pub with_values : ℕ → List Value → Values → Values
-with_values n [] env = env
-with_values n (v ∷ vs) env = with_values (n + 1) vs (insert env n v)
-
--- the state in which a call begins: the parameters alone have values
-abbrev pub opening : List Value → Tables → State
-opening args tables = record { env = with_values 0 args empty; tables = tables }
 
 -- what a call makes of the tables, or its abort
 abbrev pub called : Proc → List Value → Tables → Result Tables Abort

@@ -15,6 +15,7 @@
 //! `specs/Meaning.antt` says what statements and procedures mean, by recursion on the tree: the serial meaning. Its
 //! operations are those of `pac_ops`. `specs/Execution.antt` says what transactions mean, one after another, and which
 //! table is over a limit; `specs/Fits.antt` which rows and transactions fit a catalogue. Every execution is held to these.
+//! `specs/OperationLimits.antt` says how many operations procedures may have; no call of this crate asks it.
 //!
 //! `specs/Checking.antt` is the checker as a function, from left to right up to the first fault that it meets; the code
 //! is held to it. `proofs/FirstLemmas.antt` shows that it meets the first fault of the definition,

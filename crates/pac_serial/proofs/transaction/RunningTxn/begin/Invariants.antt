@@ -1,7 +1,7 @@
 -- The first parameters have values, and nothing is changed.
 use Rattle.std.proofs.Common.{◌≡◌, drop}
 use Rattle.std.specs.FinMap as fin
-use Rattle.pac_types.specs.Meaning.{with_values}
+use Rattle.pac_ops.specs.Operations.{with_values}
 use Rattle.pac_serial.proofs.transaction.RunningTxn.begin.Given as goal
 
 abbrev pub invariant-loop-i : goal.invariant-loop-i

@@ -1,0 +1,10 @@
+pub mod StmtShapes
+pub mod FormLemmas
+pub mod KeptLemmas
+pub mod MeetsLemmas
+pub mod NoteLemmas
+pub mod LawLemmas
+pub mod ExcessLemmas
+pub mod TypeLemmas
+pub mod FrontLemmas
+pub mod SoundProgram

@@ -1,0 +1,105 @@
+// The flat form of a catalogue.
+ghost use Rattle.std.specs.Prelude.{◌≡◌, ◌<◌, ◌^◌, All, map, length, IfOk, IsErrOf, MatchResult};
+ghost use Rattle.std.specs.List.{AllZip};
+ghost use Rattle.pac_base.specs.Refusals.{OkUnlessMemory};
+ghost use Rattle.pac_base.specs.declared.refusal.Refusal.TheVariants.{Fault as AFault};
+ghost use Rattle.pac_ops.specs.Programs.{AreSoundPrograms};
+ghost use Rattle.pac_types.specs.Fits.{shape};
+ghost use Rattle.pac_types.specs.Meaning.{operations};
+ghost use Rattle.pac_types.specs.OperationLimits.{HasFewOperations, IsFirstExcess};
+ghost use Rattle.pac_flat.specs.Agreement.{MeansTheSame, ReplaysTheSame};
+ghost use Rattle.pac_flat.specs.FlatForm.{program_of};
+ghost use Rattle.pac_flat.specs.declared.catalogue.TooManyOps.{TooManyOps as Excess};
+
+use crate::program::flat_program;
+use pac_base::{NoMemory, Refusal};
+use pac_ops::{MAX_ALL_OPS, MAX_OPS, Program};
+use pac_types::{Catalogue, Proc, count_operations};
+use std::alloc::Global;
+use thiserror::Error;
+
+/// The first procedure at which operations are too many, by its number, and how many: its own, where these are more than
+/// 256, or else those up to its end, where these are more than 4,096.
+#[derive(Clone, Copy, Debug, PartialEq, Eq, Error)]
+#[error("{count} operations at procedure {proc}")]
+pub struct TooManyOps {
+    pub proc: u16,
+    pub count: u32,
+}
+
+/// Why a catalogue has no flat form, or want of memory.
+pub type FlatError = Refusal<TooManyOps>;
+
+impl From<TooManyOps> for FlatError {
+    ghost from_gives = { λ fault error. error ≡ AFault fault };
+
+    fn from(fault: TooManyOps) -> Self {
+        Refusal::Fault(fault)
+    }
+}
+
+/// The programs of a catalogue's procedures, in the order of their numbers. Linear in the operations and their
+/// conditions.
+///
+/// # Errors
+///
+/// `Fault` exactly where a procedure has more than 256 operations, or all together have more than 4,096.
+pub fn flatten(alloc: Global, cat: &Catalogue) -> Result<Vec<Program>, FlatError>
+    ensures programs { IfOk result (λ programs. programs.items ≡ map program_of cat.now.procs) }
+
+    // Nothing is lost by it.
+    ensures means { IfOk result (λ programs. AllZip MeansTheSame cat.now.procs programs.items) }
+    ensures replays { IfOk result (λ programs. ReplaysTheSame cat.now.procs programs.items) }
+
+    ensures sound { IfOk result (λ programs. AreSoundPrograms (map shape cat.now.tables) programs.items) }
+    ensures few { IfOk result (λ _. HasFewOperations cat.now.procs) }
+    ensures only { HasFewOperations cat.now.procs → OkUnlessMemory result (λ programs. programs.items ≡ map program_of cat.now.procs) }
+    ensures fault { (fault : Excess) → IsErrOf result (AFault fault) → IsFirstExcess cat.now.procs fault.proc fault.count }
+    ensures one { (fault other : Excess) → IsErrOf result (AFault fault) → IsFirstExcess cat.now.procs other.proc other.count → other ≡ fault }
+{
+    let procs = cat.procs();
+    test_counts(procs)?;
+    Ok(flat_programs(alloc, procs)?)
+}
+
+// The program of each procedure.
+fn flat_programs(alloc: Global, procs: &[Proc]) -> Result<Vec<Program>, NoMemory>
+    ensures { IfOk result (λ programs. programs.items ≡ map program_of procs.now) }
+{
+    let mut programs = Vec::with_capacity(alloc, procs.len())?;
+    for proc in procs {
+        programs.push(flat_program(alloc, proc)?)?;
+    }
+    Ok(programs)
+}
+
+// That operations are not too many.
+fn test_counts(procs: &[Proc]) -> Result<(), TooManyOps>
+    requires few { length procs.now < 2 ^ 16 }
+    requires counted { All (λ proc. operations proc.body < 2 ^ 16) procs.now }
+    ensures { MatchResult result (λ _. HasFewOperations procs.now) (λ fault. IsFirstExcess procs.now fault.proc fault.count) }
+{
+    let mut up_to = 0;
+    for number in 0..procs.len() {
+        let own = usize::from(count_operations(procs[number].body.as_slice()));
+        up_to += own;
+        if own > MAX_OPS {
+            return Err(too_many(number, own));
+        }
+        if up_to > MAX_ALL_OPS {
+            return Err(too_many(number, up_to));
+        }
+    }
+    Ok(())
+}
+
+fn too_many(number: usize, count: usize) -> TooManyOps
+    requires number { number < 2 ^ 16 }
+    requires count { count < 2 ^ 32 }
+    ensures { result ≡ record { proc = number; count = count } }
+{
+    TooManyOps {
+        proc: number as u16,
+        count: count as u32,
+    }
+}

@@ -1,0 +1,37 @@
+// The program of a procedure.
+ghost use Rattle.std.specs.Prelude.{◌≡◌, IfOk};
+ghost use Rattle.pac_types.specs.Sound.{types};
+ghost use Rattle.pac_flat.specs.FlatForm.{program_of};
+
+use crate::block::flat_operations;
+use crate::variables::variable_types;
+use pac_base::{NoMemory, listed};
+use pac_ops::Program;
+use pac_types::{Column, Proc};
+use pac_value::Ty;
+use std::alloc::Global;
+
+/// A procedure in flat form. Linear in its operations and their conditions.
+pub fn flat_program(alloc: Global, proc: &Proc) -> Result<Program, NoMemory>
+    ensures { IfOk result (λ program. program ≡ program_of proc.now) }
+{
+    let params = types(alloc, proc.params.as_slice())?;
+    let ops = flat_operations(alloc, proc.body.as_slice())?;
+    let vars = variable_types(alloc, params.as_slice(), ops.as_slice())?;
+    Ok(Program {
+        ops: listed(ops),
+        params: listed(params),
+        vars: listed(vars),
+    })
+}
+
+// The types of columns.
+fn types(alloc: Global, columns: &[Column]) -> Result<Vec<Ty>, NoMemory>
+    ensures { IfOk result (λ tys. tys.items ≡ types columns.now) }
+{
+    let mut tys = Vec::with_capacity(alloc, columns.len())?;
+    for column in columns {
+        tys.push(column.ty)?;
+    }
+    Ok(tys)
+}
