@@ -1,5 +1,5 @@
 -- What single operations mean: the cell that one touches, and what it does.
-use Rattle.std.specs.Prelude.{ℕ, Bool, true, List, [], ◌∷◌, is_some, slice_get, slice_set, Option, Some, None, Result, Ok, Err, unwrap_or}
+use Rattle.std.specs.Prelude.{ℕ, true, List, [], ◌∷◌, is_some, slice_get, slice_set, Option, Some, None, Result, Ok, Err, unwrap_or}
 use Rattle.std.specs.Option.{option_and_then}
 use Rattle.std.specs.FinMap.{get, insert}
 use Rattle.pac_value.specs.declared.values.Value.{Value}

@@ -1,5 +1,5 @@
 -- When a program is sound over the tables that it accesses.
-use Rattle.std.specs.Prelude.{◌≡◌, ◌⊎◌, ℕ, ◌<◌, ◌≤◌, Bool, ◌&&◌, IsTrue, List, ◌++◌, map, length, slice_get, Option, Some, None, is_some, IsSomeAnd, Contains}
+use Rattle.std.specs.Prelude.{◌≡◌, ◌⊎◌, ℕ, ◌<◌, ◌≤◌, Bool, IsTrue, List, ◌++◌, map, length, slice_get, Option, Some, None, is_some, IsSomeAnd, Contains}
 use Rattle.std.specs.Option.{option_map, option_and_then}
 use Rattle.pac_value.specs.declared.limits.TheConstants.{MAX_COLUMNS}
 use Rattle.pac_value.specs.declared.values.Ty.{Ty}
@@ -81,10 +81,10 @@ pub record IsSoundProgram (tables : List TableTypes) (program : Program) : Type 
   pub behind : (i x : ℕ) → Defines program.ops i x → length program.params ≤ x
   -- a variable has the type that its operation gives it
   pub given : (i x : ℕ) (op : FlatOp) → slice_get program.ops i ≡ Some op → defined_variable op.kind ≡ Some x
-    → IsSomeAnd (slice_get program.vars x) (λ ty. given_type (scope_in program.vars) op.kind ≡ Some ty)
+      → IsSomeAnd (slice_get program.vars x) (λ ty. given_type (scope_in program.vars) op.kind ≡ Some ty)
   -- what an operation uses is a parameter or was defined before, under conditions that are among its own
   pub used : (j x : ℕ) (op : FlatOp) → slice_get program.ops j ≡ Some op → IsTrue (op_uses x op)
-    → (x < length program.params) ⊎ IsDefinedBefore program.ops j op x
+      → (x < length program.params) ⊎ IsDefinedBefore program.ops j op x
   pub conditions : (i : ℕ) (op : FlatOp) (c : ℕ × Bool) → slice_get program.ops i ≡ Some op → Contains op.conds c → IsCondition program.ops c.0
   pub typed : (i : ℕ) (op : FlatOp) → slice_get program.ops i ≡ Some op → IsWellTyped tables (scope_in program.vars) op.kind
 

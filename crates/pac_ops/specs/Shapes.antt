@@ -1,8 +1,7 @@
 -- Rows that fit the types of their tables.
-use Rattle.std.specs.Prelude.{◌≡◌, ℕ, List, map, slice_get, Some, IsSomeAnd}
+use Rattle.std.specs.Prelude.{◌≡◌, List, map, slice_get, Some, IsSomeAnd}
 use Rattle.std.specs.List.{AllByRecursion}
 use Rattle.std.specs.FinMap.{get}
-use Rattle.pac_value.specs.declared.values.Ty.{Ty}
 use Rattle.pac_value.specs.declared.values.Key.{Key}
 use Rattle.pac_value.specs.Values.{type_of, key_value}
 use Rattle.pac_value.specs.State.{Cell, RowValues, Tables}
