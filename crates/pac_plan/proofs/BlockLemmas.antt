@@ -9,7 +9,8 @@ use Rattle.pac_plan.specs.declared.parts.PlanParts.{PlanParts}
 use Rattle.pac_plan.specs.Nodes.{Operation, IsNode}
 use Rattle.pac_plan.specs.Analysis.{IsAnalysis}
 
-mapped_some : {A B : Type 0} (f : A → B) (o : Option A) (y : B) → option_map f o ≡ Some y → (x : A) × (o ≡ Some x) × (f x ≡ y)
+-- what a function gave for an item that is there
+pub mapped_some : {A B : Type 0} (f : A → B) (o : Option A) (y : B) → option_map f o ≡ Some y → (x : A) × (o ≡ Some x) × (f x ≡ y)
 mapped_some f None y h = cc
 mapped_some f (Some x) y h = (x, refl, same_Some (f x) y h)
 

@@ -24,6 +24,7 @@ use Rattle.pac_plan.specs.declared.parts.PlanParts.{PlanParts}
 use Rattle.pac_plan.specs.Nodes.{Node, Operation, VirtualWrite, IsNode, ComesBefore, Flows, NodeAccesses, Clashes, IsNodeLink}
 use Rattle.pac_plan.specs.Analysis.{IsPlan, block_in, HasBlockEdge}
 use Rattle.pac_plan.specs.Sound.{KeepsOrder}
+use Rattle.pac_plan.proofs.BlockLemmas.{mapped_some}
 
 -- what is wanted is a type
 wanted_some : (a b : Option Ty) → is_wanted a b ≡ true → (ty : Ty) × (b ≡ Some ty)
@@ -35,10 +36,6 @@ wanted_some (Some IntTy) None h = cc
 wanted_some (Some TextTy) None h = cc
 wanted_some (Some BoolTy) None h = cc
 wanted_some None None h = cc
-
-mapped_some : {A B : Type 0} (f : A → B) (o : Option A) (y : B) → option_map f o ≡ Some y → (x : A) × (o ≡ Some x)
-mapped_some f None y h = cc
-mapped_some f (Some x) y h = (x, refl)
 
 key_there : (tables : List TableTypes) (t : ℕ) (a : Option Ty) → is_wanted a (key_type_in tables t) ≡ true → t < length tables
 key_there tables t a h =
