@@ -14,7 +14,8 @@ use Rattle.pac_graph.proofs.DrawingLemmas.{IsDrawing}
 use Rattle.pac_slice.specs.Dependent.{IsFlowAt}
 use Rattle.pac_slice.proofs.SliceLemmas.{flow_inside}
 use Rattle.pac_plan.specs.Nodes.{Node, Operation, VirtualWrite, IsNode, ComesBefore, Flows, NodeAccesses, NodeModifies, Clashes, IsNodeLink}
-use Rattle.pac_global.specs.Drawing.{count_ops, first_of, number_in, IsBothWays, IsHomeEdge, HasHomeEdge, HasEdgeOf}
+use Rattle.pac_ops.specs.Programs.{count_ops}
+use Rattle.pac_global.specs.Drawing.{first_of, number_in, IsBothWays, IsHomeEdge, HasHomeEdge, HasEdgeOf}
 use Rattle.pac_global.proofs.PlaceLemmas.{first_within, first_later, placed}
 
 module _ (programs : List Program) (tables : ℕ) (in_range : (p i t : ℕ) (program : Program) → slice_get programs p ≡ Some program → Accesses program.ops i t → t < tables) (g : Graph) (nodes : g.nodes ≡ count_ops programs + tables) (edges : (u v : ℕ) → HasEdge g u v ↔ ((p : ℕ) × HasEdgeOf programs p u v)) where

@@ -9,7 +9,8 @@ use Rattle.pac_ops.specs.Dependencies.{Accesses}
 use Rattle.pac_graph.specs.Adding.{IsUpTo}
 use Rattle.pac_graph.proofs.ItemLemmas.{there, so, inside}
 use Rattle.pac_slice.specs.Dependent.{IsFlowAt}
-use Rattle.pac_global.specs.Drawing.{count_ops, first_of, IsBothWays, IsHomeEdge, HasHomeEdge, HasEdgeOf}
+use Rattle.pac_ops.specs.Programs.{count_ops}
+use Rattle.pac_global.specs.Drawing.{first_of, IsBothWays, IsHomeEdge, HasHomeEdge, HasEdgeOf}
 
 module _ (ops : List FlatOp) (first total : ℕ) where
   module _ (i : ℕ) (op : FlatOp) (at : slice_get ops i ≡ Some op) where

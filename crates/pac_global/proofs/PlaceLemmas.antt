@@ -4,7 +4,8 @@ use Rattle.std.specs.Prelude.{slice_get}
 use Rattle.std.proofs.lemmas.Bool.{cases_lt}
 use Rattle.std.proofs.lemmas.Option.{same_Some, none-some}
 use Rattle.pac_ops.specs.declared.program.Program.{Program}
-use Rattle.pac_global.specs.Drawing.{count_ops, first_of}
+use Rattle.pac_ops.specs.Programs.{count_ops}
+use Rattle.pac_global.specs.Drawing.{first_of}
 
 pub first_next : (programs : List Program) (p : ℕ) (program : Program) → slice_get programs p ≡ Some program → first_of programs (suc p) ≡ first_of programs p + length program.ops
 first_next [] p program at = absurd (none-some program at)

@@ -22,7 +22,8 @@ use Rattle.pac_plan.specs.declared.parts.PlanParts.{PlanParts}
 use Rattle.pac_plan.specs.Nodes.{Node, Operation, VirtualWrite, IsNode, ComesBefore, Flows, IsNodeLink}
 use Rattle.pac_plan.specs.Analysis.{IsAnalysis, IsPlan, block_in, HasBlockEdge}
 use Rattle.pac_plan.proofs.OrderLemmas.{accessed_there}
-use Rattle.pac_global.specs.Drawing.{count_ops, first_of, number_in, HasEdgeOf, AreBlocksOf}
+use Rattle.pac_ops.specs.Programs.{count_ops}
+use Rattle.pac_global.specs.Drawing.{first_of, number_in, HasEdgeOf, AreBlocksOf}
 use Rattle.pac_global.proofs.DrawnLemmas.{drawing}
 
 stored : (ty : Ty) → is_stored_type ty ≡ true → IsStoredType ty

@@ -3,16 +3,12 @@
 use Rattle.std.specs.Prelude.{◌≡◌, ◌⊎◌, ℕ, zero, suc, ◌+◌, ◌<◌, List, [], ◌∷◌, length, slice_get, slice_index, slice_index_or, IsSomeAnd, map}
 use Rattle.pac_ops.specs.declared.program.FlatOp.{FlatOp}
 use Rattle.pac_ops.specs.declared.program.Program.{Program}
+use Rattle.pac_ops.specs.Programs.{count_ops}
 use Rattle.pac_ops.specs.Dependencies.{Accesses}
 use Rattle.pac_slice.specs.Dependent.{IsFlowAt}
 use Rattle.pac_plan.specs.Nodes.{Node, Operation, VirtualWrite}
 
--- how many operations programs have
-abbrev pub count_ops : List Program → ℕ
-count_ops [] = 0
-count_ops (program ∷ programs) = length program.ops + count_ops programs
-
--- how many the first ones have
+-- how many operations the first programs have
 abbrev pub first_of : List Program → ℕ → ℕ
 first_of programs zero = 0
 first_of [] (suc p) = 0

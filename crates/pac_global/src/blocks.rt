@@ -1,7 +1,8 @@
 // The blocks of operations, out of the groups of all nodes.
 ghost use Rattle.std.specs.Prelude.{◌≡◌, ℕ, ◌+◌, ◌<◌, ◌≤◌, length, slice_index, IfOk, map};
 ghost use Rattle.pac_types.specs.Fits.{shape};
-ghost use Rattle.pac_global.specs.Drawing.{count_ops, AreBlocksOf};
+ghost use Rattle.pac_ops.specs.Programs.{count_ops};
+ghost use Rattle.pac_global.specs.Drawing.{AreBlocksOf};
 
 use pac_base::{NoMemory, listed};
 use pac_ops::{Numbers, Program, TableTypes};

@@ -4,7 +4,8 @@ ghost use Rattle.pac_graph.specs.declared.limits.TheConstants.{MAX_NODES};
 ghost use Rattle.pac_graph.specs.Adding.{Adds};
 ghost use Rattle.pac_ops.specs.declared.program.Program.{Program as AProgram};
 ghost use Rattle.pac_ops.specs.Dependencies.{Accesses};
-ghost use Rattle.pac_global.specs.Drawing.{count_ops, IsBothWays, HasHomeEdge, HasEdgeOf};
+ghost use Rattle.pac_ops.specs.Programs.{count_ops};
+ghost use Rattle.pac_global.specs.Drawing.{IsBothWays, HasHomeEdge, HasEdgeOf};
 
 use pac_graph::Digraph;
 use pac_ops::{FlatOp, Program};

@@ -6,7 +6,7 @@ ghost use Rattle.pac_ops.specs.Programs.{AreSoundPrograms};
 ghost use Rattle.pac_plan.specs.declared.limits.TheConstants.{MAX_PROGRAMS};
 ghost use Rattle.pac_plan.specs.Analysis.{IsAnalysis, IsPlan, HasBlockEdge};
 ghost use Rattle.pac_types.specs.Fits.{shape};
-ghost use Rattle.pac_global.specs.Drawing.{count_ops};
+ghost use Rattle.pac_ops.specs.Programs.{count_ops};
 
 use crate::blocks::{blocks_of, row, table_types};
 use crate::draw::{add_programs, op_count};

@@ -6,7 +6,8 @@ use Rattle.pac_ops.specs.Dependencies.{Accesses}
 use Rattle.pac_graph.specs.Adding.{Adds, IsUpTo}
 use Rattle.pac_graph.proofs.AddLemmas.{adds_alike, adds_then, upto_more}
 use Rattle.pac_slice.specs.Dependent.{IsFlowAt}
-use Rattle.pac_global.specs.Drawing.{first_of, count_ops, HasHomeEdge, HasEdgeOf}
+use Rattle.pac_ops.specs.Programs.{count_ops}
+use Rattle.pac_global.specs.Drawing.{first_of, HasHomeEdge, HasEdgeOf}
 use Rattle.pac_global.proofs.PlaceLemmas.{first_next, first_within}
 use Rattle.pac_global.proofs.HomeLemmas.{program_edges, programs_all}
 use Rattle.pac_global.proofs.draw.add_programs.Goals as goal

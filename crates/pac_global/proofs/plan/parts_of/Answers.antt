@@ -10,7 +10,8 @@ use Rattle.pac_plan.specs.declared.parts.PlanParts.{PlanParts}
 use Rattle.pac_plan.specs.Analysis.{IsPlan}
 use Rattle.pac_plan.proofs.OrderLemmas.{accessed_there}
 use Rattle.pac_types.specs.Fits.{shape}
-use Rattle.pac_global.specs.Drawing.{count_ops, HasEdgeOf, AreBlocksOf}
+use Rattle.pac_ops.specs.Programs.{count_ops}
+use Rattle.pac_global.specs.Drawing.{HasEdgeOf, AreBlocksOf}
 use Rattle.pac_global.proofs.PlanLemmas.{is_analysis, sound_tables}
 use Rattle.pac_global.proofs.plan.parts_of.Goals as goal
 
