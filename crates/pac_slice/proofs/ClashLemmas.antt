@@ -1,10 +1,9 @@
 -- The clashes of a procedure's operations as edges of a graph, one operation after another.
-use Rattle.std.proofs.Common.{◌≡◌, ◌⊎◌, ◌↔◌, ℕ, ◌+◌, ◌<◌, ◌≤◌, List, length, Some, IsTrue, refl, sym, inl, inr, ⊎_elim, subst, arith}
-use Rattle.std.specs.Prelude.{slice_get, IsSomeAnd}
-use Rattle.pac_ops.specs.declared.program.OpKind.{OpKind}
+use Rattle.std.proofs.Common.{◌≡◌, ◌↔◌, ℕ, ◌+◌, ◌<◌, ◌≤◌, List, length, Some, IsTrue, refl, sym, inl, inr, ⊎_elim, subst, arith}
+use Rattle.std.specs.Prelude.{slice_get}
 use Rattle.pac_ops.specs.declared.program.FlatOp.{FlatOp}
 use Rattle.pac_ops.specs.Uses.{accessed_table, modifies}
-use Rattle.pac_ops.specs.Dependencies.{Accesses, Modifies, IsClash}
+use Rattle.pac_ops.specs.Dependencies.{IsClash}
 use Rattle.pac_graph.specs.Adding.{IsTheEdge, IsUpTo}
 use Rattle.pac_slice.specs.Dependent.{AreClashing, IsClashPair, IsClashFrom}
 use Rattle.pac_graph.proofs.ItemLemmas.{there, so, inside}

@@ -1,10 +1,10 @@
 -- The flow of a procedure's operations as edges of a graph, one operation after another.
-use Rattle.std.proofs.Common.{◌≡◌, ◌↔◌, ℕ, ◌+◌, ◌<◌, ◌≤◌, Bool, true, false, List, length, Option, Some, None, refl, sym, ap, ◌∙◌, subst, arith, true≢false}
-use Rattle.std.specs.Prelude.{slice_get, IsSomeAnd}
+use Rattle.std.proofs.Common.{◌≡◌, ◌↔◌, ℕ, ◌+◌, ◌<◌, ◌≤◌, true, false, List, length, Some, None, sym, ◌∙◌, subst, arith, true≢false}
+use Rattle.std.specs.Prelude.{slice_get}
 use Rattle.std.proofs.lemmas.Option.{same_Some, none-some}
 use Rattle.pac_ops.specs.declared.program.FlatOp.{FlatOp}
-use Rattle.pac_ops.specs.Uses.{op_uses, defined_variable, Defines}
-use Rattle.pac_ops.specs.Dependencies.{Uses, IsFlow}
+use Rattle.pac_ops.specs.Uses.{op_uses, defined_variable}
+use Rattle.pac_ops.specs.Dependencies.{IsFlow}
 use Rattle.pac_graph.proofs.ItemLemmas.{there, so, inside}
 use Rattle.pac_graph.specs.Adding.{IsTheEdge, IsUpTo}
 use Rattle.pac_slice.specs.Dependent.{IsFlowAt, IsFlowFrom}

@@ -1,5 +1,5 @@
 -- The edges that were added to a graph without edges are the pairs of a relation.
-use Rattle.std.proofs.Common.{◌↔◌, ℕ, List, inl, inr, ⊎_elim}
+use Rattle.std.proofs.Common.{◌↔◌, ℕ, List, inr, ⊎_elim}
 use Rattle.std.specs.Prelude.{Contains}
 use Rattle.pac_graph.specs.Graph.{Graph, HasEdge}
 use Rattle.pac_graph.specs.Groups.{ArePairsAscending}

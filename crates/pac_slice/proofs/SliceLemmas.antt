@@ -1,11 +1,11 @@
 -- The groups of the graph of a procedure's links are its slices.
-use Rattle.std.proofs.Common.{◌≡◌, ◌⊎◌, ◌↔◌, ℕ, ◌<◌, ◌≤◌, List, length, get_or, Some, true, refl, sym, ◌∙◌, subst, inl, inr, ⊎_elim, arith}
+use Rattle.std.proofs.Common.{◌≡◌, ◌⊎◌, ◌↔◌, ℕ, ◌<◌, ◌≤◌, List, length, Some, true, refl, subst, inl, inr, ⊎_elim, arith}
 use Rattle.std.specs.Prelude.{slice_index}
 use Rattle.std.proofs.lemmas.Bool.{cases_eq, cases_lt}
 use Rattle.pac_ops.specs.declared.program.FlatOp.{FlatOp}
 use Rattle.pac_ops.specs.Uses.{op_uses, defined_variable}
 use Rattle.pac_ops.specs.Dependencies.{IsFlow, IsClash}
-use Rattle.pac_graph.specs.Graph.{Graph, HasEdge, Reach, Here, Onward, ReachEachOther}
+use Rattle.pac_graph.specs.Graph.{Graph, HasEdge}
 use Rattle.pac_graph.specs.Classes.{class_count}
 use Rattle.pac_graph.specs.Groups.{AreGroups}
 use Rattle.pac_graph.specs.Adding.{Adds, IsUpTo}
@@ -18,7 +18,7 @@ use Rattle.pac_slice.specs.Slices.{IsLink}
 use Rattle.pac_slice.proofs.FlowLemmas.{flow_zero}
 use Rattle.pac_slice.proofs.PairLemmas.{only_added}
 use Rattle.pac_graph.proofs.ItemLemmas.{inside}
-use Rattle.pac_slice.proofs.ClashLemmas.{clash_inside, clash_all}
+use Rattle.pac_slice.proofs.ClashLemmas.{clash_all}
 
 module _ (ops : List FlatOp) where
   pub flow_inside : (i j : ℕ) → IsFlow ops i j → (i < length ops) × (j < length ops)

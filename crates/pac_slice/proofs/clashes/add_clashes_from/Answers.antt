@@ -1,5 +1,5 @@
 -- One operation more clashes or does not; in the end all were looked at.
-use Rattle.std.proofs.Common.{◌≡◌, ◌+◌, ◌<◌, ◌≤◌, Some, get_or, length, refl, sym, ◌∙◌, subst, arith, true≢false}
+use Rattle.std.proofs.Common.{◌≡◌, ◌+◌, ◌≤◌, Some, get_or, sym, ◌∙◌, subst, arith, true≢false}
 use Rattle.std.specs.Prelude.{slice_get}
 use Rattle.std.proofs.lemmas.Option.{slice_get-get_or}
 use Rattle.pac_graph.specs.Adding.{Adds, IsUpTo}
@@ -22,9 +22,9 @@ loop-to-preserved c = let ops = c.args.ops.now in
     let ge : at ≤ l.to = omega arith in
     elim c.if-do_clash.branch [
       | then-do_clash w ↦ subst (λ g. Adds old (IsUpTo (ClashTo ops at from) (l.to + 1)) g) (sym w.graph-is)
-        (upto_one (ClashTo ops at from) old l.graph w.edge.new.self l.to from l.to (clash_there ops at from l.to a b is_a is_b ge (c.do_clash.ensures.0 w.if-do_clash.true)) l.invariant w.edge.ensures.nodes w.edge.ensures.edges)
+          (upto_one (ClashTo ops at from) old l.graph w.edge.new.self l.to from l.to (clash_there ops at from l.to a b is_a is_b ge (c.do_clash.ensures.0 w.if-do_clash.true)) l.invariant w.edge.ensures.nodes w.edge.ensures.edges)
       | else-do_clash w ↦ subst (λ g. Adds old (IsUpTo (ClashTo ops at from) (l.to + 1)) g) (sym w.graph-is)
-        (upto_skip (ClashTo ops at from) old l.graph l.to (clash_none ops at from l.to a b is_a is_b (λ clash. true≢false (sym (c.do_clash.ensures.1 clash) ∙ w.if-do_clash.false))) l.invariant)
+          (upto_skip (ClashTo ops at from) old l.graph l.to (clash_none ops at from l.to a b is_a is_b (λ clash. true≢false (sym (c.do_clash.ensures.1 clash) ∙ w.if-do_clash.false))) l.invariant)
     ]
 
 pub returns : goal.returns

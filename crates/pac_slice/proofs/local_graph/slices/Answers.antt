@@ -1,7 +1,7 @@
 -- The edges that were added are the links, and their groups the slices.
-use Rattle.std.proofs.Common.{◌≡◌, ◌+◌, length, ap, ◌∙◌, subst, arith}
-use Rattle.pac_graph.specs.Adding.{Adds, IsUpTo}
-use Rattle.pac_graph.proofs.AddLemmas.{adds_then, upto_more}
+use Rattle.std.proofs.Common.{◌≡◌, length, ap, ◌∙◌, subst, arith}
+use Rattle.pac_graph.specs.Adding.{Adds}
+use Rattle.pac_graph.proofs.AddLemmas.{upto_more}
 use Rattle.pac_slice.specs.Dependent.{IsFlowAt, IsClashFrom}
 use Rattle.pac_slice.proofs.SliceLemmas.{linked, slice_groups}
 use Rattle.pac_slice.proofs.local_graph.slices.Goals as goal
