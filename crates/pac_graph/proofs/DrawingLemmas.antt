@@ -3,7 +3,7 @@ use Rattle.std.proofs.Common.{◌≡◌, ◌⊎◌, ◌↔◌, ℕ, ◌<◌, Lis
 use Rattle.std.specs.Prelude.{Contains, slice_index}
 use Rattle.pac_graph.specs.Graph.{Graph, HasEdge, Reach, Here, Onward, ReachEachOther}
 use Rattle.pac_graph.specs.Groups.{IsEdgeBetween, HasFirstNode, AreGroups}
-use Rattle.pac_graph.proofs.GraphLemmas.{along, one_edge, leads_from, leads_to}
+use Rattle.pac_graph.proofs.GraphLemmas.{along, one_edge}
 
 -- a graph stands for nodes: they have numbers in their order, a link is a way in the graph, and an edge is flow or leads
 -- between two nodes that links lead between both ways

@@ -1,5 +1,5 @@
 -- The classes of a graph's nodes, as they are numbered, are the groups of the nodes.
-use Rattle.std.proofs.Common.{◌≡◌, ◌⊎◌, ◌↔◌, ℕ, ◌+◌, ◌<◌, ◌≤◌, List, length, get_or, refl, sym, ap, ◌∙◌, subst, inl, inr, arith}
+use Rattle.std.proofs.Common.{◌≡◌, ◌↔◌, ℕ, ◌<◌, List, length, get_or, refl, sym, ap, ◌∙◌, subst, arith}
 use Rattle.std.specs.Prelude.{Contains, slice_index}
 use Rattle.pac_graph.specs.Graph.{Graph, HasEdge, ReachEachOther}
 use Rattle.pac_graph.specs.Classes.{class_count, AreClasses, HaveNodes}
