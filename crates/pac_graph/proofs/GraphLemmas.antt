@@ -3,11 +3,11 @@ use Rattle.std.proofs.Common.{◌⊎◌, ℕ, ◌<◌, ◌≤◌, Bool, true, fa
 use Rattle.std.proofs.lemmas.Bool.{cases_lt}
 use Rattle.pac_graph.specs.Graph.{Graph, HasEdge, Reach, Here, Onward}
 
-pub along : {edge : ℕ → ℕ → Type 0} {a b c : ℕ} → Reach edge a b → Reach edge b c → Reach edge a c
+pub along : {N : Type 0} {edge : N → N → Type 0} {a b c : N} → Reach edge a b → Reach edge b c → Reach edge a c
 along (Here a) s = s
 along (Onward a b c e r) s = Onward a b _ e (along r s)
 
-pub one_edge : {edge : ℕ → ℕ → Type 0} (a b : ℕ) → edge a b → Reach edge a b
+pub one_edge : {N : Type 0} {edge : N → N → Type 0} (a b : N) → edge a b → Reach edge a b
 one_edge a b e = Onward a b b e (Here b)
 
 pub falls_along : {edge : ℕ → ℕ → Type 0} (numbers : List ℕ) → ((u v : ℕ) → edge u v → get_or numbers v 0 ≤ get_or numbers u 0) → {u v : ℕ} → Reach edge u v → get_or numbers v 0 ≤ get_or numbers u 0
@@ -15,7 +15,7 @@ falls_along numbers falls (Here u) = omega arith
 falls_along numbers falls (Onward a b c e r) = omega (arith, falls a b e, falls_along numbers falls r)
 
 -- a way of edges is one of any edges that these are
-pub by_edges : {edge edge' : ℕ → ℕ → Type 0} → ((a b : ℕ) → edge a b → edge' a b) → {a b : ℕ} → Reach edge a b → Reach edge' a b
+pub by_edges : {N : Type 0} {edge edge' : N → N → Type 0} → ((a b : N) → edge a b → edge' a b) → {a b : N} → Reach edge a b → Reach edge' a b
 by_edges same (Here a) = Here a
 by_edges same (Onward a b c e r) = Onward a b c (same a b e) (by_edges same r)
 

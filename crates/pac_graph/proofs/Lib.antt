@@ -10,3 +10,8 @@ pub mod TurnLemmas
 pub mod QueueLemmas
 pub mod DescentLemmas
 pub mod LawLemmas
+pub mod ListingLemmas
+pub mod GroupLemmas
+pub mod AddLemmas
+pub mod DrawingLemmas
+pub mod ItemLemmas

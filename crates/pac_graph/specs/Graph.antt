@@ -15,11 +15,11 @@ graph_code = code_by (ℕ × List (List Bool)) (coded× coded_ℕ (coded_list (c
 unfoldable pub HasEdge : Graph → ℕ → ℕ → Type 0
 HasEdge g a b = (a < g.nodes) × (b < g.nodes) × IsTrue (slice_index_or (slice_index_or g.edges a []) b false)
 
--- b is reached from a by edges, by none at all if b is a
-pub data Reach (edge : ℕ → ℕ → Type 0) : ℕ → ℕ → Type 0 where
-  Here : (a : ℕ) → Reach edge a a
-  Onward : (a b c : ℕ) → edge a b → Reach edge b c → Reach edge a c
+-- b is reached from a by edges, by none at all if b is a; nodes are of any kind
+pub data Reach {N : Type 0} (edge : N → N → Type 0) : N → N → Type 0 where
+  Here : (a : N) → Reach edge a a
+  Onward : (a b c : N) → edge a b → Reach edge b c → Reach edge a c
 
 -- each of the two is reached from the other
-abbrev pub ReachEachOther : Graph → ℕ → ℕ → Type 0
-ReachEachOther g a b = Reach (HasEdge g) a b × Reach (HasEdge g) b a
+abbrev pub ReachEachOther : {N : Type 0} → (N → N → Type 0) → N → N → Type 0
+ReachEachOther edge a b = Reach edge a b × Reach edge b a

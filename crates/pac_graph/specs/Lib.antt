@@ -1,7 +1,10 @@
 pub mod Graph
+pub mod Adding
 pub mod Matrix
 pub mod Classes
 pub mod Search
+pub mod Groups
+pub mod Listing
 pub mod Numbering
 pub mod Condensed
 pub mod Turns

@@ -2,10 +2,11 @@
 use Rattle.std.specs.Prelude.{◌≡◌, ℕ, ◌<◌, ◌≤◌, List, length, slice_index}
 use Rattle.pac_graph.specs.Graph.{Graph, HasEdge}
 use Rattle.pac_graph.specs.Classes.{class_count}
+use Rattle.pac_graph.specs.Groups.{IsEdgeBetween}
 
 -- an edge leads from the class c into another class d; `classes` is the class of each node
 abbrev pub IsClassEdge : Graph → List ℕ → ℕ → ℕ → Type 0
-IsClassEdge graph classes c d = (c ≡ d → ⊥) × ((u : ℕ) × (v : ℕ) × HasEdge graph u v × (slice_index classes u ≡ c) × (slice_index classes v ≡ d))
+IsClassEdge graph classes c d = IsEdgeBetween (HasEdge graph) (slice_index classes) c d
 
 -- the class c has a node whose rank is below that of each node of the class d; `order` is the rank of each node
 abbrev pub HasLesserNode : List ℕ → List ℕ → ℕ → ℕ → Type 0

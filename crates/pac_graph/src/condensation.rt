@@ -29,37 +29,42 @@ impl Condensation {
         ensures edges { IfOk result (λ c. (a b : ℕ) → HasEdge c.edges a b ↔ IsClassEdge graph.now classes.now a b) }
         ensures ranks { IfOk result (λ c. AreLeastRanks classes.now order.now c.ranks.items) }
     {
-        let edges = class_edges(graph, classes)?;
+        let edges = edges_between(graph, classes.items(), classes.count())?;
         let ranks = least_ranks(graph.alloc(), classes, order)?;
         Ok(Condensation { edges, ranks })
     }
 }
 
-// The edges from class to class.
-fn class_edges(graph: &Digraph, classes: &Classes) -> Result<TwoWay, NoMemory>
-    requires { AreClasses graph.now classes.now }
-    ensures nodes { IfOk result (λ edges. edges.nodes ≡ class_count classes.now) }
-    ensures edges { IfOk result (λ edges. (a b : ℕ) → HasEdge edges a b ↔ IsClassEdge graph.now classes.now a b) }
+// The edges between the classes of the nodes, however these are numbered.
+pub(crate) fn edges_between(
+    graph: &Digraph,
+    numbers: &[u16],
+    count: usize,
+) -> Result<TwoWay, NoMemory>
+    requires each { length numbers.now ≡ graph.now.nodes }
+    requires below { (u : ℕ) → u < length numbers.now → slice_index numbers.now u < count }
+    requires few { count ≤ graph.now.nodes }
+    ensures nodes { IfOk result (λ edges. edges.nodes ≡ count) }
+    ensures edges { IfOk result (λ edges. (a b : ℕ) → HasEdge edges a b ↔ IsClassEdge graph.now numbers.now a b) }
 {
     let nodes = graph.nodes();
-    let mut edges = TwoWay::new(graph.alloc(), classes.count())?;
+    let mut edges = TwoWay::new(graph.alloc(), count)?;
     for from in 0..nodes {
-        add_edges_from(graph, classes, from, &mut edges);
+        add_edges_from(graph, numbers, from, &mut edges);
     }
     Ok(edges)
 }
 
 // Adds the edges of a node, as edges from its class.
-fn add_edges_from(graph: &Digraph, classes: &Classes, from: usize, edges: &mut TwoWay)
-    requires classes { AreClasses graph.now classes.now }
+fn add_edges_from(graph: &Digraph, numbers: &[u16], from: usize, edges: &mut TwoWay)
+    requires each { length numbers.now ≡ graph.now.nodes }
+    requires below { (u : ℕ) → u < length numbers.now → slice_index numbers.now u < edges.old.nodes }
     requires from { from < graph.now.nodes }
-    requires nodes { edges.old.nodes ≡ class_count classes.now }
     ensures nodes { edges.new.nodes ≡ edges.old.nodes }
     ensures kept { (a b : ℕ) → HasEdge edges.old a b → HasEdge edges.new a b }
-    ensures sound { (a b : ℕ) → HasEdge edges.new a b → HasEdge edges.old a b ⊎ IsClassEdge graph.now classes.now a b }
-    ensures complete { (v : ℕ) → HasEdge graph.now from v → (slice_index classes.now from ≡ slice_index classes.now v → ⊥) → HasEdge edges.new (slice_index classes.now from) (slice_index classes.now v) }
+    ensures sound { (a b : ℕ) → HasEdge edges.new a b → HasEdge edges.old a b ⊎ IsClassEdge graph.now numbers.now a b }
+    ensures complete { (v : ℕ) → HasEdge graph.now from v → (slice_index numbers.now from ≡ slice_index numbers.now v → ⊥) → HasEdge edges.new (slice_index numbers.now from) (slice_index numbers.now v) }
 {
-    let numbers = classes.items();
     let source = usize::from(numbers[from]);
     let mut at = 0;
     while let Some(to) = graph.next(from, at) {

@@ -1,9 +1,10 @@
 // Graphs whose edges are followed both ways.
-ghost use Rattle.std.specs.Prelude.{◌≡◌, ◌⊎◌, ◌↔◌, ℕ, ◌<◌, ◌≤◌, IfOk, MatchOption};
+ghost use Rattle.std.specs.Prelude.{◌≡◌, ◌⊎◌, ◌↔◌, ℕ, ◌<◌, ◌≤◌, Contains, IfOk, MatchOption};
 ghost use Rattle.pac_graph.specs.Graph.{HasEdge};
+ghost use Rattle.pac_graph.specs.Groups.{ArePairsAscending};
 
 use crate::Digraph;
-use pac_base::NoMemory;
+use pac_base::{Listed, NoMemory};
 use std::alloc::Global;
 use std::marker::Model;
 
@@ -58,6 +59,14 @@ impl TwoWay {
         ensures few { self.now.nodes ≤ MAX_NODES }
     {
         self.forward.nodes()
+    }
+
+    // The edges, each once, ascending.
+    pub(crate) fn edges(&self) -> Result<Listed<(u16, u16)>, NoMemory>
+        ensures each { IfOk result (λ pairs. (a b : ℕ) → Contains pairs (a, b) ↔ HasEdge self.now a b) }
+        ensures ascending { IfOk result (λ pairs. ArePairsAscending pairs) }
+    {
+        self.forward.edges()
     }
 
     // The first node from `at` on to which an edge leads.

@@ -1,6 +1,5 @@
 -- What depends on what: flow and clash of operations.
-use Rattle.std.specs.Prelude.{◌≡◌, ◌⊎◌, ℕ, ◌<◌, Bool, ◌||◌, IsTrue, List, slice_get, Some, IsSomeAnd}
-use Rattle.pac_ops.specs.declared.program.OpKind.{OpKind}
+use Rattle.std.specs.Prelude.{◌≡◌, ◌⊎◌, ℕ, ◌<◌, IsTrue, List, slice_get, Some, IsSomeAnd}
 use Rattle.pac_ops.specs.declared.program.FlatOp.{FlatOp}
 use Rattle.pac_ops.specs.Uses.{op_uses, Defines, accessed_table, modifies}
 

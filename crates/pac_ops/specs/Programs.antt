@@ -1,5 +1,5 @@
 -- When a program is sound over the tables that it accesses.
-use Rattle.std.specs.Prelude.{◌≡◌, ◌⊎◌, ℕ, ◌<◌, ◌≤◌, Bool, ◌&&◌, IsTrue, List, ◌++◌, map, length, slice_get, Option, Some, None, is_some, IsSomeAnd, Contains}
+use Rattle.std.specs.Prelude.{◌≡◌, ◌⊎◌, ℕ, ◌+◌, ◌<◌, ◌≤◌, Bool, IsTrue, List, [], ◌∷◌, ◌++◌, map, length, slice_get, Option, Some, None, is_some, IsSomeAnd, Contains}
 use Rattle.std.specs.Option.{option_map, option_and_then}
 use Rattle.pac_value.specs.declared.limits.TheConstants.{MAX_COLUMNS}
 use Rattle.pac_value.specs.declared.values.Ty.{Ty}
@@ -91,6 +91,11 @@ pub record IsSoundProgram (tables : List TableTypes) (program : Program) : Type 
 -- each program is sound
 abbrev pub AreSoundPrograms : List TableTypes → List Program → Type 0
 AreSoundPrograms tables programs = (p : ℕ) (program : Program) → slice_get programs p ≡ Some program → IsSoundProgram tables program
+
+-- how many operations programs have
+abbrev pub count_ops : List Program → ℕ
+count_ops [] = 0
+count_ops (program ∷ programs) = length program.ops + count_ops programs
 
 -- a key or a column is an int or a text
 abbrev pub IsStoredType : Ty → Type 0

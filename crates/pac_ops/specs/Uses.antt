@@ -1,5 +1,6 @@
 -- Which variables operations use and define, and which tables they look at or change.
-use Rattle.std.specs.Prelude.{◌≡◌, ℕ, Bool, true, false, ◌||◌, ◌==◌, List, [], ◌∷◌, slice_get, Option, Some, None, IsSomeAnd}
+use Rattle.std.specs.Prelude.{◌≡◌, ℕ, Bool, true, false, ◌||◌, ◌==◌, List, slice_get, Option, Some, None, IsSomeAnd}
+use Rattle.std.specs.List.{list_any}
 use Rattle.pac_value.specs.declared.expr.Expr.{Expr}
 use Rattle.pac_value.specs.declared.expr.Expr.TheOpen.{Expr-F, Lit, Var, Bin, Not}
 use Rattle.pac_value.specs.declared.expr.Expr.TheFolds.{fold-Expr}
@@ -20,8 +21,7 @@ expr_uses x = fold-Expr Bool (use_step x)
 
 -- one of several expressions uses the variable
 abbrev pub exprs_use : ℕ → List Expr → Bool
-exprs_use x [] = false
-exprs_use x (e ∷ es) = expr_uses x e || exprs_use x es
+exprs_use x es = list_any (expr_uses x) es
 
 -- the key, a value or the test of an operation uses the variable
 abbrev pub kind_uses : ℕ → OpKind → Bool
@@ -36,8 +36,7 @@ kind_uses x (AbortIf e) = expr_uses x e
 
 -- a condition is on the variable
 abbrev pub conds_use : ℕ → List (ℕ × Bool) → Bool
-conds_use x [] = false
-conds_use x (c ∷ cs) = c.0 == x || conds_use x cs
+conds_use x conds = list_any (λ c. c.0 == x) conds
 
 -- an operation uses the variable: in its conditions, its key, its values or its test
 abbrev pub op_uses : ℕ → FlatOp → Bool

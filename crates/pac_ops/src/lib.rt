@@ -37,6 +37,7 @@ mod shapes;
 #[cfg(test)]
 mod tests;
 mod transaction;
+mod uses;
 
 pub use batch::{Batch, Batches, Txns, TxnsRule};
 pub use limits::{MAX_ALL_OPS, MAX_OPS, MAX_RECORDS, MAX_TXNS};

@@ -2,14 +2,14 @@
 use Rattle.std.proofs.Common.{◌<◌, get_or, arith, subst, sym, ◌∙◌}
 use Rattle.pac_graph.specs.Graph.{HasEdge}
 use Rattle.pac_graph.proofs.GraphLemmas.{leads_from}
-use Rattle.pac_graph.proofs.condensation.class_edges.Goals as goal
+use Rattle.pac_graph.proofs.condensation.edges_between.Goals as goal
 
 pub new-requires : goal.new-requires
-new-requires c = omega (arith, c.count.ensures.count, c.count.ensures.few, c.requires.each, c.nodes-nodes.ensures.few)
+new-requires c = omega (arith, c.requires.few, c.nodes-nodes.ensures.few)
 
 pub returns-clause-edges : goal.returns-clause-edges
 returns-clause-edges c = let g = c.args.graph.now in
-    let cs = c.args.classes.now in
+    let cs = c.args.numbers.now in
     let edges = c.loop-from.edges in
     λ a b. (
       c.loop-from.invariant.sound a b,

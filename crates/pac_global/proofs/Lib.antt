@@ -1,0 +1,5 @@
+pub mod PlaceLemmas
+pub mod HomeLemmas
+pub mod BlockLemmas
+pub mod DrawnLemmas
+pub mod PlanLemmas

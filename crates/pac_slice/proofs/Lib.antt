@@ -1,0 +1,4 @@
+pub mod FlowLemmas
+pub mod ClashLemmas
+pub mod SliceLemmas
+pub mod PairLemmas
