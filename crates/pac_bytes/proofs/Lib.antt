@@ -6,4 +6,5 @@ pub mod Lists
 pub mod Filling
 pub mod Loops
 pub mod ValueLemmas
+pub mod TypedLemmas
 pub mod Laws

@@ -1,7 +1,10 @@
 // What is wrong with the bytes of a field.
 ghost use Rattle.std.specs.Prelude.{◌≡◌};
+ghost use Rattle.pac_base.specs.declared.refusal.Refusal.TheVariants.{Fault as AFault};
 ghost use Rattle.pac_bytes.specs.Values.{as_value_fault};
+ghost use Rattle.pac_bytes.specs.Typed.{as_typed_fault};
 
+use pac_base::Refusal;
 use thiserror::Error;
 
 /// Too few bytes are left for the field at this place.
@@ -31,5 +34,41 @@ impl From<Short> for ValueFault {
 
     fn from(short: Short) -> ValueFault {
         ValueFault::Short { at: short.at }
+    }
+}
+
+/// Why no value of the type that is wanted stands at a place: the first fault from the left, with its place, an offset
+/// from 0.
+#[derive(Clone, Copy, Debug, PartialEq, Eq, Error)]
+pub enum TypedFault {
+    /// Too few bytes are left for the field at this place. A text's length and its bytes are one field.
+    #[error("bytes end inside the field at {at}")]
+    Short { at: usize },
+    /// The byte at this place is no tag of a value.
+    #[error("no value has the tag at {at}")]
+    Tag { at: usize },
+    /// The value whose tag stands at this place is of another type, or a text that is too long or has a byte that isn't
+    /// printable.
+    #[error("another value is wanted at {at}")]
+    Wrong { at: usize },
+}
+
+impl From<ValueFault> for TypedFault {
+    ghost from_gives = { λ value fault. fault ≡ as_typed_fault value };
+
+    fn from(fault: ValueFault) -> TypedFault {
+        match fault {
+            ValueFault::Short { at } => TypedFault::Short { at },
+            ValueFault::Tag { at } => TypedFault::Tag { at },
+            ValueFault::Bad { at } => TypedFault::Wrong { at },
+        }
+    }
+}
+
+impl From<TypedFault> for Refusal<TypedFault> {
+    ghost from_gives = { λ fault refusal. refusal ≡ AFault fault };
+
+    fn from(fault: TypedFault) -> Self {
+        Refusal::Fault(fault)
     }
 }

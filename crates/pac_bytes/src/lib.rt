@@ -4,7 +4,9 @@
 //!   the bytes are too [`Short`] for it.
 //! - [`value_at`]: the value at a place and the place behind it, or its first fault from the left, a [`ValueFault`].
 //!   [`type_at`]: the type that the tag of a value tells, without a look at the bytes behind.
-//! - [`put_u8`], [`put_u16`], [`put_u32`], [`put_u64`], [`put_value`]: append a field.
+//! - [`typed_at`], [`key_at`]: the value and the key at a place that has to be of one type, or its first [`TypedFault`].
+//! - [`put_u8`], [`put_u16`], [`put_u32`], [`put_u64`], [`put_value`], [`put_key`]: append a field. [`value_len`],
+//!   [`key_len`]: how many bytes that takes.
 //!
 //! An int is the byte 1 and eight bytes in two's complement. A text is the byte 2, a byte with its length, and its bytes.
 //! A bool has no bytes. No reader takes memory.
@@ -24,10 +26,14 @@
 
 mod fault;
 mod fields;
+mod keys;
 #[cfg(test)]
 mod tests;
+mod typed;
 mod values;
 
-pub use fault::{Short, ValueFault};
+pub use fault::{Short, TypedFault, ValueFault};
 pub use fields::{put_u8, put_u16, put_u32, put_u64, u8_at, u16_at, u32_at, u64_at};
-pub use values::{put_value, type_at, value_at};
+pub use keys::{key_at, key_len, put_key};
+pub use typed::typed_at;
+pub use values::{MAX_VALUE_LEN, put_value, type_at, value_at, value_len};

@@ -1,9 +1,9 @@
 // Worked bytes, written and read, and the fault of bytes that are cut or changed.
 use crate::{
-    Short, ValueFault, put_u8, put_u16, put_u32, put_u64, put_value, type_at, u8_at, u16_at,
-    u32_at, u64_at, value_at,
+    Short, TypedFault, ValueFault, key_at, key_len, put_key, put_u8, put_u16, put_u32, put_u64,
+    put_value, type_at, typed_at, u8_at, u16_at, u32_at, u64_at, value_at, value_len,
 };
-use pac_value::{Text, Ty, Value};
+use pac_value::{Key, Text, Ty, Value};
 use std::test::Fail;
 
 #[test]
@@ -156,6 +156,43 @@ fn a_text_has_at_most_64_bytes(rt: HostRuntime) -> Result<(), Fail> {
 }
 
 #[test]
+fn keys_and_typed_values_have_one_type(rt: HostRuntime) -> Result<(), Fail> {
+    let k = Text::from_bytes(b"k").ok_or("no text")?;
+    for (key, value, other, spelled) in [
+        (
+            Key::Int(1),
+            Value::Int(1),
+            Ty::Text,
+            b"\x01\x01\0\0\0\0\0\0\0".as_slice(),
+        ),
+        (
+            Key::Text(k),
+            Value::Text(k),
+            Ty::Int,
+            b"\x02\x01k".as_slice(),
+        ),
+    ] {
+        let len = spelled.len();
+        let mut out = Vec::new(rt.alloc());
+        put_key(&mut out, &key)?;
+        assert_eq!(rt; out.as_slice(), spelled);
+        assert_eq!(rt; (key_len(&key), value_len(&value)), (len, len));
+        assert_eq!(rt; key_at(&out, 0, value.ty()), Ok((key, len)));
+        assert_eq!(rt; typed_at(&out, 0, value.ty()), Ok((value, len)));
+        // The type is compared right behind the tag.
+        assert_eq!(rt;
+            typed_at(&out[..1], 0, other),
+            Err(TypedFault::Wrong { at: 0 })
+        );
+        assert_eq!(rt;
+            typed_at(&out[..1], 0, value.ty()),
+            Err(TypedFault::Short { at: 1 })
+        );
+    }
+    Ok(())
+}
+
+#[test]
 fn faults_are_printed_with_their_place(rt: HostRuntime) -> Result<(), Fail> {
     let alloc = rt.alloc();
     for (fault, text) in [
@@ -165,6 +202,16 @@ fn faults_are_printed_with_their_place(rt: HostRuntime) -> Result<(), Fail> {
         ),
         (ValueFault::Tag { at: 4 }, "no value has the tag at 4"),
         (ValueFault::Bad { at: 5 }, "no text is what stands at 5"),
+    ] {
+        assert_eq!(rt; format!(in alloc; "{fault}")?.as_str(), text);
+    }
+    for (fault, text) in [
+        (
+            TypedFault::Short { at: 3 },
+            "bytes end inside the field at 3",
+        ),
+        (TypedFault::Tag { at: 4 }, "no value has the tag at 4"),
+        (TypedFault::Wrong { at: 5 }, "another value is wanted at 5"),
     ] {
         assert_eq!(rt; format!(in alloc; "{fault}")?.as_str(), text);
     }

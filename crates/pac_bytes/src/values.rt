@@ -1,8 +1,10 @@
 // Values as bytes.
 ghost use Rattle.std.specs.Prelude.{◌≡◌, ◌≤◌, ◌+◌, ◌++◌, List, ℕ, drop, length, IsTrue, IfOk, OnOk, Ok};
 ghost use Rattle.pac_value.specs.declared.values.Value.{Value as AValue};
+ghost use Rattle.pac_value.specs.declared.values.Value.TheVariants.{Int as AnInt, Text as AText};
 ghost use Rattle.pac_value.specs.Growth.{Grew};
 ghost use Rattle.pac_value.specs.Values.{is_stored, type_of};
+ghost use Rattle.pac_bytes.specs.declared.values.TheConstants.{MAX_VALUE_LEN};
 ghost use Rattle.pac_bytes.specs.Reading.{from};
 ghost use Rattle.pac_bytes.specs.Readers.{Answers, Finds, FindsSpelled};
 ghost use Rattle.pac_bytes.specs.Values.{int_body, text_of_length, text_body, next_type, next_value, value_bytes, HasBytes};
@@ -15,6 +17,12 @@ use pac_value::{Text, Ty, Value};
 const INT: u8 = 1;
 
 const TEXT: u8 = 2;
+
+// How many bytes an int has.
+pub(crate) const INT_LEN: usize = 9;
+
+/// The most bytes that a value has, those of the longest text.
+pub const MAX_VALUE_LEN: usize = 2 + Text::MAX;
 
 /// The type of the value at a place, by its tag alone.
 ///
@@ -114,6 +122,26 @@ pub fn value_at(bytes: &[u8], at: usize) -> Result<(Value, usize), ValueFault>
     read_value(bytes, at)
 }
 
+/// How many bytes a value has, which is no bool.
+pub fn value_len(value: &Value) -> usize
+    requires { IsTrue (is_stored value.now) }
+    ensures exact { result ≡ length (value_bytes value.now) }
+    ensures few { result ≤ MAX_VALUE_LEN }
+{
+    match value {
+        Value::Int(_) => INT_LEN,
+        Value::Text(text) => text_len(text),
+        Value::Bool(_) => unreachable!(),
+    }
+}
+
+pub(crate) fn text_len(text: &Text) -> usize
+    ensures exact { result ≡ length (value_bytes (AText text.now)) }
+    ensures few { result ≤ MAX_VALUE_LEN }
+{
+    2 + text.bytes().len()
+}
+
 /// Appends a value, which is no bool.
 ///
 /// # Errors
@@ -121,19 +149,29 @@ pub fn value_at(bytes: &[u8], at: usize) -> Result<(Value, usize), ValueFault>
 /// `NoMemory` alone.
 pub fn put_value(out: &mut Vec<u8>, value: &Value) -> Result<(), NoMemory>
     requires { IsTrue (is_stored value.now) }
-    ensures { OnOk result (Grew out.old.items out.new.items (value_bytes value.now)) }
+    ensures bytes { OnOk result (Grew out.old.items out.new.items (value_bytes value.now)) }
+    ensures form { HasBytes value.now }
 {
     match value {
-        Value::Int(number) => {
-            put_u8(out, INT)?;
-            put_u64(out, number.cast_unsigned())
-        }
-        Value::Text(text) => {
-            let bytes = text.bytes();
-            put_u8(out, TEXT)?;
-            put_u8(out, bytes.len() as u8)?;
-            Ok(out.extend_from_slice(bytes)?)
-        }
+        Value::Int(number) => put_int(out, *number),
+        Value::Text(text) => put_text(out, text),
         Value::Bool(_) => unreachable!(),
     }
+}
+
+pub(crate) fn put_int(out: &mut Vec<u8>, number: i64) -> Result<(), NoMemory>
+    ensures { OnOk result (Grew out.old.items out.new.items (value_bytes (AnInt number))) }
+{
+    put_u8(out, INT)?;
+    put_u64(out, number.cast_unsigned())
+}
+
+pub(crate) fn put_text(out: &mut Vec<u8>, text: &Text) -> Result<(), NoMemory>
+    ensures bytes { OnOk result (Grew out.old.items out.new.items (value_bytes (AText text.now))) }
+    ensures form { HasBytes (AText text.now) }
+{
+    let bytes = text.bytes();
+    put_u8(out, TEXT)?;
+    put_u8(out, bytes.len() as u8)?;
+    Ok(out.extend_from_slice(bytes)?)
 }

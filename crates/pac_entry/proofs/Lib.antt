@@ -1,0 +1,5 @@
+pub mod WrittenLemmas
+pub mod RowLemmas
+pub mod ChangeLemmas
+pub mod EntryLemmas
+pub mod ReadingLemmas
