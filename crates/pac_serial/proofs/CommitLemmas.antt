@@ -9,7 +9,7 @@ use Rattle.pac_value.specs.State.{Cell, cell_cmp, RowValues, Tables, with_row}
 use Rattle.pac_value.proofs.CellLemmas.{cells_total, cells_antisymmetric, tied_same, same-cell, get-with_row}
 use Rattle.pac_serial.specs.declared.pending.Pending.{Pending}
 use Rattle.pac_serial.specs.Drafts.{Change, laid, KnowsTable, KnowsAll}
-use Rattle.pac_serial.specs.Commits.{cells, AreIn, AreThere, IsThere, with_new_row, with_moved, without_row, moved, with_new, without_new, with_made, with_rest}
+use Rattle.pac_serial.specs.Commits.{cells, AreIn, AreThere, IsThere, with_new_row, with_moved, without_row, emptied, with_new, without_new, with_made, with_rest}
 use Rattle.pac_serial.proofs.DraftLemmas.{row_or, get-laid}
 use Rattle.pac_serial.proofs.PlaceLemmas.{below_at, flipped-Less}
 use Rattle.pac_serial.proofs.BalanceLemmas.{find-first, find-behind, none-behind, sorted-behind}
@@ -126,24 +126,24 @@ taken-back n t cs sorted knows = same_map cells_total cells_antisymmetric _ _ (�
 
 -- ---- changes that have lost their rows
 
-stands-moved : (c : Change) → (moved c).1.stands ≡ c.1.stands
+stands-moved : (c : Change) → (emptied c).1.stands ≡ c.1.stands
 stands-moved c = go c.1.stands refl
   where
     go : (s : Bool) → c.1.stands ≡ s → (cond s c.1 (record { row = None; stands = false })).stands ≡ s
     go true e = e
     go false e = refl
 
-pub rest-moved : (t : Tables) (cs : List Change) → with_rest t (map moved cs) ≡ with_rest t cs
+pub rest-moved : (t : Tables) (cs : List Change) → with_rest t (map emptied cs) ≡ with_rest t cs
 rest-moved t [] = refl
-rest-moved t (c ∷ cs) = ap (λ m. with_rest m (map moved cs)) (go c.1.stands refl) ∙ rest-moved (with_made t c) cs
+rest-moved t (c ∷ cs) = ap (λ m. with_rest m (map emptied cs)) (go c.1.stands refl) ∙ rest-moved (with_made t c) cs
   where
     go : (s : Bool) → c.1.stands ≡ s → with_made t (c.0, cond s c.1 (record { row = None; stands = false })) ≡ cond s (with_row t c.0 c.1.row) t
     go true e = ap (λ b. cond b (with_row t c.0 c.1.row) t) e
     go false e = refl
 
-pub without-moved : (t : Tables) (cs : List Change) → without_new t (map moved cs) ≡ without_new t cs
+pub without-moved : (t : Tables) (cs : List Change) → without_new t (map emptied cs) ≡ without_new t cs
 without-moved t [] = refl
-without-moved t (c ∷ cs) = ap (λ b. without_new (cond b t (remove t c.0)) (map moved cs)) (stands-moved c) ∙ without-moved (cond c.1.stands t (remove t c.0)) cs
+without-moved t (c ∷ cs) = ap (λ b. without_new (cond b t (remove t c.0)) (map emptied cs)) (stands-moved c) ∙ without-moved (cond c.1.stands t (remove t c.0)) cs
 
 -- ---- the order is that of the cells
 
@@ -165,7 +165,7 @@ sorted-cells (c ∷ cs) (d ∷ ds) e =
     let rest : cells cs ≡ cells ds = cc in
     ap (λ b. b && is_sorted cell_cmp cs) (below_cells c.0 cs ds rest ∙ ap (λ x. below_all cell_cmp x ds) here) ∙ ap (λ b. below_all cell_cmp d.0 ds && b) (sorted-cells cs ds rest)
 
-pub cells-moved : (cs : List Change) → cells (map moved cs) ≡ cells cs
+pub cells-moved : (cs : List Change) → cells (map emptied cs) ≡ cells cs
 cells-moved [] = refl
 cells-moved (c ∷ cs) = ap (λ ps. c.0 ∷ ps) (cells-moved cs)
 
@@ -179,19 +179,19 @@ all_known P (c ∷ cs) sorted known =
 pub are_in : (n : ℕ) (t : Tables) (cs : List Change) → T (is_sorted cell_cmp cs) → KnowsAll n t cs → AreIn n cs
 are_in n t cs sorted knows = all_known (λ c. c.0.0 < n) cs sorted (λ q pending found. (knows q pending found).0)
 
-in-moved : (n : ℕ) (cs : List Change) → AreIn n cs → AreIn n (map moved cs)
+in-moved : (n : ℕ) (cs : List Change) → AreIn n cs → AreIn n (map emptied cs)
 in-moved n [] h = All-nil (λ (c : Change). c.0.0 < n)
-in-moved n (c ∷ cs) h = All-cons (λ (c : Change). c.0.0 < n) (moved c) (map moved cs) (All-get_or (λ (c : Change). c.0.0 < n) (c ∷ cs) 0 c (omega arith) h) (in-moved n cs (All-tail (λ (c : Change). c.0.0 < n) c cs h))
+in-moved n (c ∷ cs) h = All-cons (λ (c : Change). c.0.0 < n) (emptied c) (map emptied cs) (All-get_or (λ (c : Change). c.0.0 < n) (c ∷ cs) 0 c (omega arith) h) (in-moved n cs (All-tail (λ (c : Change). c.0.0 < n) c cs h))
 
-there-moved : (t : Tables) (cs : List Change) → AreThere t cs → AreThere t (map moved cs)
+there-moved : (t : Tables) (cs : List Change) → AreThere t cs → AreThere t (map emptied cs)
 there-moved t [] h = All-nil (IsThere t)
-there-moved t (c ∷ cs) h = All-cons (IsThere t) (moved c) (map moved cs) (λ e. All-get_or (IsThere t) (c ∷ cs) 0 c (omega arith) h (sym (stands-moved c) ∙ e)) (there-moved t cs (All-tail (IsThere t) c cs h))
+there-moved t (c ∷ cs) h = All-cons (IsThere t) (emptied c) (map emptied cs) (λ e. All-get_or (IsThere t) (c ∷ cs) 0 c (omega arith) h (sym (stands-moved c) ∙ e)) (there-moved t cs (All-tail (IsThere t) c cs h))
 
-pub moved_in : (n : ℕ) (t : Tables) (cs : List Change) → T (is_sorted cell_cmp cs) → KnowsAll n t cs → AreIn n (map moved cs)
+pub moved_in : (n : ℕ) (t : Tables) (cs : List Change) → T (is_sorted cell_cmp cs) → KnowsAll n t cs → AreIn n (map emptied cs)
 moved_in n t cs sorted knows = in-moved n cs (are_in n t cs sorted knows)
 
 -- what stands still stands once the new rows are there
-pub moved_there : (n : ℕ) (t : Tables) (cs : List Change) → T (is_sorted cell_cmp cs) → KnowsAll n t cs → AreThere (with_new t cs) (map moved cs)
+pub moved_there : (n : ℕ) (t : Tables) (cs : List Change) → T (is_sorted cell_cmp cs) → KnowsAll n t cs → AreThere (with_new t cs) (map emptied cs)
 moved_there n t cs sorted knows = there-moved (with_new t cs) cs (all_known (IsThere (with_new t cs)) cs sorted (λ q pending found stands.
     let same : get (with_new t cs) q ≡ get t q =
     get-with_new t cs q sorted ∙ ap (λ o. after_new o (get t q)) found ∙ ap (λ b. cond b (get t q) (new_or pending.row (get t q))) stands in
@@ -253,32 +253,32 @@ there-behind t c cs sorted there = All-from_get_or (IsThere (with_made t c)) cs 
 -- ---- changes of which the first have lost their rows
 
 abbrev pub partly : ℕ → List Change → List Change
-partly n cs = map moved (take n cs) ++ drop n cs
+partly n cs = map emptied (take n cs) ++ drop n cs
 
 pub partly-at : (n : ℕ) (cs : List Change) (d : Change) → n < length cs → get_or (partly n cs) n d ≡ get_or cs n d
 partly-at zero cs d lt = refl
 partly-at (suc n) [] d lt = absurd (omega arith)
 partly-at (suc n) (c ∷ cs) d lt = partly-at n cs d (omega arith)
 
-pub partly-set : (n : ℕ) (cs : List Change) (d : Change) → n < length cs → set (partly n cs) n (moved (get_or cs n d)) ≡ partly (suc n) cs
+pub partly-set : (n : ℕ) (cs : List Change) (d : Change) → n < length cs → set (partly n cs) n (emptied (get_or cs n d)) ≡ partly (suc n) cs
 partly-set zero [] d lt = absurd (omega arith)
 partly-set zero (c ∷ cs) d lt = refl
 partly-set (suc n) [] d lt = absurd (omega arith)
-partly-set (suc n) (c ∷ cs) d lt = ap (λ (es : List Change). moved c ∷ es) (partly-set n cs d (omega arith))
+partly-set (suc n) (c ∷ cs) d lt = ap (λ (es : List Change). emptied c ∷ es) (partly-set n cs d (omega arith))
 
 pub partly-cells : (n : ℕ) (cs : List Change) → cells (partly n cs) ≡ cells cs
 partly-cells zero cs = refl
 partly-cells (suc n) [] = refl
 partly-cells (suc n) (c ∷ cs) = ap (λ ps. c.0 ∷ ps) (partly-cells n cs)
 
-pub partly-take : (n : ℕ) (cs : List Change) (x : Change) → n ≤ length cs → take n (set (partly n cs) n x) ≡ map moved (take n cs)
+pub partly-take : (n : ℕ) (cs : List Change) (x : Change) → n ≤ length cs → take n (set (partly n cs) n x) ≡ map emptied (take n cs)
 partly-take zero cs x le = refl
 partly-take (suc n) [] x le = absurd (omega arith)
-partly-take (suc n) (c ∷ cs) x le = ap (λ (es : List Change). moved c ∷ es) (partly-take n cs x (omega arith))
+partly-take (suc n) (c ∷ cs) x le = ap (λ (es : List Change). emptied c ∷ es) (partly-take n cs x (omega arith))
 
-pub partly-all : (cs : List Change) → partly (length cs) cs ≡ map moved cs
+pub partly-all : (cs : List Change) → partly (length cs) cs ≡ map emptied cs
 partly-all [] = refl
-partly-all (c ∷ cs) = ap (λ (es : List Change). moved c ∷ es) (partly-all cs)
+partly-all (c ∷ cs) = ap (λ (es : List Change). emptied c ∷ es) (partly-all cs)
 
 pub cells-set : (n : ℕ) (cs : List Change) (x d : Change) → n < length cs → x.0 ≡ (get_or cs n d).0 → cells (set cs n x) ≡ cells cs
 cells-set n [] x d lt e = absurd (omega arith)

@@ -34,8 +34,8 @@ with_moved tables change = cond change.1.stands tables (with_new_row tables chan
 abbrev pub without_row : Pending → Pending
 without_row pending = cond pending.stands pending (record { row = None; stands = false })
 
-abbrev pub moved : Change → Change
-moved change = (change.0, without_row change.1)
+abbrev pub emptied : Change → Change
+emptied change = (change.0, without_row change.1)
 
 -- the tables with the rows of all changes that are new
 abbrev pub with_new : Tables → List Change → Tables

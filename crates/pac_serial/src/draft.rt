@@ -15,12 +15,12 @@ use std::alloc::Global;
 use std::marker::Model;
 
 /// A change, and the cell that is changed.
-pub(crate) type Change = ((u16, Key), Pending);
+pub(crate) type CellChange = ((u16, Key), Pending);
 
 /// The changes of a transaction, in the order of their cells: the tables stay as they are until it ends.
 #[derive(Drop)]
 pub(crate) struct Draft {
-    changes: Vec<Change>,
+    changes: Vec<CellChange>,
 }
 
 impl Model for Draft {
@@ -43,7 +43,7 @@ impl Model for Draft {
 }
 
 // Where a cell is changed, or else where its change would stand.
-fn search(changes: &[Change], table: u16, key: &Key) -> Result<usize, usize>
+fn search(changes: &[CellChange], table: u16, key: &Key) -> Result<usize, usize>
     requires { T (is_sorted cell_cmp changes.now) }
     ensures found { IfOk result (IsPlaceOf changes.now (table, key.now)) }
     ensures absent { IfErr result (IsGapFor changes.now (table, key.now)) }
@@ -140,7 +140,7 @@ fn stands<R: Rows>(rows: &R, table: u16, key: &Key) -> bool
 }
 
 // One where the change adds a row to the table.
-fn gain(table: u16, change: &Change) -> u64
+fn gain(table: u16, change: &CellChange) -> u64
     ensures value { result ≡ gains table change.now }
     ensures few { result ≤ 1 }
 {
@@ -149,7 +149,7 @@ fn gain(table: u16, change: &Change) -> u64
 }
 
 // One where the change takes a row away from the table.
-fn loss(table: u16, change: &Change) -> u64
+fn loss(table: u16, change: &CellChange) -> u64
     ensures value { result ≡ loses table change.now }
     ensures few { result ≤ 1 }
 {

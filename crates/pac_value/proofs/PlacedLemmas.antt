@@ -5,7 +5,7 @@ use Rattle.std.specs.Ordering.{nat_cmp, eq_by_cmp}
 use Rattle.std.specs.FinMap.{get, insert, empty, get-empty, get-insert, same_map, nat_cmp-IsAntisymmetric}
 use Rattle.std.proofs.lemmas.Bool.Decides.{nat_tests}
 use Rattle.pac_value.specs.declared.values.Value.{Value}
-use Rattle.pac_value.specs.Placed.{placed, values_from}
+use Rattle.pac_value.specs.Placed.{at_place, values_from}
 
 tied : (x : ℕ) → eq_by_cmp nat_cmp x x ≡ true
 tied x = grind (arith, nat_tests)
@@ -29,7 +29,7 @@ before n (Some v ∷ vs) x lt =
     ∙ ap (λ b. cond b (Some v) (get (values_from (n + 1) vs) x)) (apart x n (omega arith))
     ∙ before (n + 1) vs x (omega arith)
 
-from_place : (n : ℕ) (vs : List (Option Value)) (k x : ℕ) → x ≡ n + k → get (values_from n vs) x ≡ placed vs k
+from_place : (n : ℕ) (vs : List (Option Value)) (k x : ℕ) → x ≡ n + k → get (values_from n vs) x ≡ at_place vs k
 unfolding values_from
 from_place n [] k x e = get-empty nat_cmp x
 from_place n (None ∷ vs) zero x e = before (n + 1) vs x (omega arith)
@@ -43,7 +43,7 @@ from_place n (Some v ∷ vs) (suc k) x e =
     ∙ ap (λ b. cond b (Some v) (get (values_from (n + 1) vs) x)) (apart x n (omega arith))
     ∙ from_place (n + 1) vs k x (omega arith)
 
-pub get-values_from : (vs : List (Option Value)) (x : ℕ) → get (values_from 0 vs) x ≡ placed vs x
+pub get-values_from : (vs : List (Option Value)) (x : ℕ) → get (values_from 0 vs) x ≡ at_place vs x
 get-values_from vs x = from_place 0 vs x x (omega arith)
 
 pub no-values : values_from 0 [] ≡ empty
@@ -51,14 +51,14 @@ unfolding values_from
 no-values = refl
 
 -- lists that have the same at each place are one map
-pub same_values : (vs ws : List (Option Value)) → ((x : ℕ) → placed vs x ≡ placed ws x) → values_from 0 vs ≡ values_from 0 ws
+pub same_values : (vs ws : List (Option Value)) → ((x : ℕ) → at_place vs x ≡ at_place ws x) → values_from 0 vs ≡ values_from 0 ws
 same_values vs ws h = same_map nat_cmp_total nat_cmp-IsAntisymmetric _ _ (λ x. get-values_from vs x ∙ h x ∙ sym (get-values_from ws x))
 
 -- a value that is new at one place
-pub insert-values : (vs ws : List (Option Value)) (x : ℕ) (v : Value) → placed ws x ≡ Some v → ((y : ℕ) → y ≢ x → placed ws y ≡ placed vs y) → values_from 0 ws ≡ insert (values_from 0 vs) x v
+pub insert-values : (vs ws : List (Option Value)) (x : ℕ) (v : Value) → at_place ws x ≡ Some v → ((y : ℕ) → y ≢ x → at_place ws y ≡ at_place vs y) → values_from 0 ws ≡ insert (values_from 0 vs) x v
 insert-values vs ws x v here others = same_map nat_cmp_total nat_cmp-IsAntisymmetric _ _ (λ y.
     get-values_from ws y ∙ go y (eq_by_cmp nat_cmp y x) refl ∙ sym (get-insert nat_cmp_total (values_from 0 vs) x v y ∙ ap (cond (eq_by_cmp nat_cmp y x) (Some v)) (get-values_from vs y)))
   where
-    go : (y : ℕ) (b : Bool) → eq_by_cmp nat_cmp y x ≡ b → placed ws y ≡ cond b (Some v) (placed vs y)
-    go y true e = let same : y ≡ x = is_tied y x e in ap (placed ws) same ∙ here
+    go : (y : ℕ) (b : Bool) → eq_by_cmp nat_cmp y x ≡ b → at_place ws y ≡ cond b (Some v) (at_place vs y)
+    go y true e = let same : y ≡ x = is_tied y x e in ap (at_place ws) same ∙ here
     go y false e = others y (λ same. is_apart y x e same)

@@ -5,8 +5,8 @@ use Rattle.pac_value.specs.declared.values.Value.{Value}
 use Rattle.pac_value.specs.Expressions.{Values}
 
 -- the value at a place, where there is one
-abbrev pub placed : List (Option Value) → ℕ → Option Value
-placed values place = slice_index_or values place None
+abbrev pub at_place : List (Option Value) → ℕ → Option Value
+at_place values place = slice_index_or values place None
 
 -- the values at their places, the first of which has this number
 unfoldable pub values_from : ℕ → List (Option Value) → Values

@@ -2,7 +2,7 @@
 ghost use Rattle.std.specs.Prelude.{◌≡◌, ◌<◌, ◌^◌, ◌↔◌, ℕ, length, IsTrue, OnOk, OnErr};
 ghost use Rattle.std.specs.Option.{option_map};
 ghost use Rattle.std.specs.FinMap as map;
-ghost use Rattle.pac_value.specs.Placed.{placed};
+ghost use Rattle.pac_value.specs.Placed.{at_place};
 
 use crate::Value;
 use pac_base::{Exact, NoMemory, Same};
@@ -104,7 +104,7 @@ impl Same for Env {
 
 // The value at a place, where there is one.
 fn at(values: &[Option<Value>], place: usize) -> Option<Value>
-    ensures { result ≡ placed values.now place }
+    ensures { result ≡ at_place values.now place }
 {
     match values.get(place) {
         Some(value) => *value,
@@ -128,7 +128,7 @@ fn are_same(one: Option<Value>, other: Option<Value>) -> bool
 fn make_place(values: &mut Vec<Option<Value>>, place: usize) -> Result<(), NoMemory>
     requires { place < 2 ^ 16 }
     ensures there { OnOk result (place < length values.new.items) }
-    ensures same { (x : ℕ) → placed values.new.items x ≡ placed values.old.items x }
+    ensures same { (x : ℕ) → at_place values.new.items x ≡ at_place values.old.items x }
 {
     if values.len() <= place {
         values.resize(place + 1, None)?;

@@ -6,7 +6,7 @@ use Rattle.std.specs.FinMap.{find}
 use Rattle.pac_value.specs.State.{Cell, cell_cmp, Tables}
 use Rattle.pac_serial.specs.declared.pending.Pending.{Pending}
 use Rattle.pac_serial.specs.Drafts.{Change}
-use Rattle.pac_serial.specs.Commits.{AreIn, cells, moved, with_moved, with_new, without_new}
+use Rattle.pac_serial.specs.Commits.{AreIn, cells, emptied, with_moved, with_new, without_new}
 use Rattle.pac_serial.proofs.CommitLemmas.{are_in, moved_in, partly, partly-at, partly-set, partly-take, partly-cells, partly-all, cells-set, cells-moved, without-moved, taken-back, sorted-take, find-take, with_new-more}
 use Rattle.pac_serial.proofs.commit.move_new.Goals as goal
 
@@ -26,11 +26,11 @@ take_back-requires g c =
     let at = c.loop-at.at in
     let lost = c.move_row.new.change in
     let front : take at (set c.loop-at.changes at lost) ≡ take at (set (partly at all) at lost) = ap (λ (es : List Change). take at (set es at lost)) c.loop-at.invariant.changes in
-    let moved_front : take at (set c.loop-at.changes at lost) ≡ map moved (take at all) = front ∙ partly-take at all lost (omega arith) in
+    let moved_front : take at (set c.loop-at.changes at lost) ≡ map emptied (take at all) = front ∙ partly-take at all lost (omega arith) in
     let within = moved_in (g.R.Rows.tables c.args.rows.now) (g.R.Rows.held c.args.rows.now) (take at all) (sorted-take at all c.requires.sorted)
     (λ q pending found. c.requires.knows q pending (find-take at all q pending found)) in
     subst (λ (es : List Change). AreIn (g.R.Rows.tables c.move_row.new.rows) es) (sym moved_front)
-    (subst (λ n. AreIn n (map moved (take at all))) (sym (c.move_row.ensures.tables ∙ c.loop-at.invariant.tables)) within)
+    (subst (λ n. AreIn n (map emptied (take at all))) (sym (c.move_row.ensures.tables ∙ c.loop-at.invariant.tables)) within)
 
 pub returns-in-Err-clause-cells : goal.returns-in-Err-clause-cells
 returns-in-Err-clause-cells g c =
@@ -43,7 +43,7 @@ returns-in-Err-clause-err g c =
     let at = c.loop-at.at in
     let lost = c.move_row.new.change in
     let held = g.R.Rows.held c.args.rows.now in
-    let moved_front : take at (set c.loop-at.changes at lost) ≡ map moved (take at all) =
+    let moved_front : take at (set c.loop-at.changes at lost) ≡ map emptied (take at all) =
     ap (λ (es : List Change). take at (set es at lost)) c.loop-at.invariant.changes ∙ partly-take at all lost (omega arith) in
     c.take_back.ensures.rows
     ∙ ap (λ (m : Tables). without_new m (take at (set c.loop-at.changes at lost))) (c.in-Err.ensures.err ∙ c.loop-at.invariant.rows)
@@ -65,7 +65,7 @@ loop-at-preserved g c =
           c.in-Ok.ensures.rows ∙ ap (with_moved (g.R.Rows.held c.loop-at.rows)) here ∙ ap (λ (m : Tables). with_moved m (get_or all at d)) c.loop-at.invariant.rows
           ∙ sym (with_new-more held (take at all) (get_or all at d)) ∙ ap (with_new held) (sym (take_more all at d lt));
       changes =
-          ap (λ (x : Change). set c.loop-at.changes at x) (c.in-Ok.ensures.change ∙ ap moved here) ∙ ap (λ (es : List Change). set es at (moved (get_or all at d))) c.loop-at.invariant.changes
+          ap (λ (x : Change). set c.loop-at.changes at x) (c.in-Ok.ensures.change ∙ ap emptied here) ∙ ap (λ (es : List Change). set es at (emptied (get_or all at d))) c.loop-at.invariant.changes
           ∙ partly-set at all d lt ∙ ap (λ n. partly n all) next;
       tables = c.move_row.ensures.tables ∙ c.loop-at.invariant.tables;
     }

@@ -7,7 +7,7 @@ use Rattle.std.specs.FinMap.{is_sorted, find, get-from_sorted, entries-from_sort
 use Rattle.pac_value.specs.State.{Cell, cell_cmp, Tables}
 use Rattle.pac_serial.specs.declared.pending.Pending.{Pending}
 use Rattle.pac_serial.specs.Drafts.{Change, Changes, KnowsTable, KnowsAll, laid, drafted}
-use Rattle.pac_serial.specs.Commits.{AreIn, AreThere, moved, with_new, with_rest}
+use Rattle.pac_serial.specs.Commits.{AreIn, AreThere, emptied, with_new, with_rest}
 use Rattle.pac_serial.proofs.CommitLemmas.{moved_in, moved_there, both-parts, rest-moved, sorted-cells}
 use Rattle.pac_serial.proofs.draft.Draft.commit.Goals as goal
 
@@ -38,9 +38,9 @@ make_rest-requires-clause-within g c =
     let held = g.R.Rows.held c.args.rows.now in
     let all = c.self.inside.changes.items in
     let kept = whole c.move_new.new.changes all c.self.inside.changes.len (omega arith) (omega (arith, c.self.inside.changes.ok)) in
-    let list : c.deref_mut-2.result.now ≡ map moved all = c.deref_mut-2.ensures.value ∙ kept ∙ c.in_ok-move_new.ensures.changes ∙ ap (map moved) c.deref_mut.ensures.value in
+    let list : c.deref_mut-2.result.now ≡ map emptied all = c.deref_mut-2.ensures.value ∙ kept ∙ c.in_ok-move_new.ensures.changes ∙ ap (map emptied) c.deref_mut.ensures.value in
     subst (λ (es : List Change). AreIn (g.R.Rows.tables c.move_new.new.rows) es) (sym list)
-    (subst (λ k. AreIn k (map moved all)) (sym c.move_new.ensures.tables) (moved_in n held all c.self.invariant (know n held all c.args.self.now c.self.invariant c.self.view_is c.requires)))
+    (subst (λ k. AreIn k (map emptied all)) (sym c.move_new.ensures.tables) (moved_in n held all c.self.invariant (know n held all c.args.self.now c.self.invariant c.self.view_is c.requires)))
 
 pub make_rest-requires-clause-sorted : goal.make_rest-requires-clause-sorted
 make_rest-requires-clause-sorted g c =
@@ -54,10 +54,10 @@ make_rest-requires-clause-there g c =
     let held = g.R.Rows.held c.args.rows.now in
     let all = c.self.inside.changes.items in
     let kept = whole c.move_new.new.changes all c.self.inside.changes.len (omega arith) (omega (arith, c.self.inside.changes.ok)) in
-    let list : c.deref_mut-2.result.now ≡ map moved all = c.deref_mut-2.ensures.value ∙ kept ∙ c.in_ok-move_new.ensures.changes ∙ ap (map moved) c.deref_mut.ensures.value in
+    let list : c.deref_mut-2.result.now ≡ map emptied all = c.deref_mut-2.ensures.value ∙ kept ∙ c.in_ok-move_new.ensures.changes ∙ ap (map emptied) c.deref_mut.ensures.value in
     let rows : g.R.Rows.held c.move_new.new.rows ≡ with_new held all = c.in_ok-move_new.ensures.rows ∙ ap (with_new held) c.deref_mut.ensures.value in
     subst (λ (es : List Change). AreThere (g.R.Rows.held c.move_new.new.rows) es) (sym list)
-    (subst (λ (t : Tables). AreThere t (map moved all)) (sym rows) (moved_there n held all c.self.invariant (know n held all c.args.self.now c.self.invariant c.self.view_is c.requires)))
+    (subst (λ (t : Tables). AreThere t (map emptied all)) (sym rows) (moved_there n held all c.self.invariant (know n held all c.args.self.now c.self.invariant c.self.view_is c.requires)))
 
 pub invariant_of-self-2 : goal.invariant_of-self-2
 invariant_of-self-2 g c =
@@ -77,7 +77,7 @@ returns-clause-ok g c =
     let held = g.R.Rows.held c.args.rows.now in
     let all = c.self.inside.changes.items in
     let kept = whole c.move_new.new.changes all c.self.inside.changes.len (omega arith) (omega (arith, c.self.inside.changes.ok)) in
-    let list : c.deref_mut-2.result.now ≡ map moved all = c.deref_mut-2.ensures.value ∙ kept ∙ c.in_ok-move_new.ensures.changes ∙ ap (map moved) c.deref_mut.ensures.value in
+    let list : c.deref_mut-2.result.now ≡ map emptied all = c.deref_mut-2.ensures.value ∙ kept ∙ c.in_ok-move_new.ensures.changes ∙ ap (map emptied) c.deref_mut.ensures.value in
     let rows : g.R.Rows.held c.move_new.new.rows ≡ with_new held all = c.in_ok-move_new.ensures.rows ∙ ap (with_new held) c.deref_mut.ensures.value in
     c.make_rest.ensures.rows ∙ ap (λ (t : Tables). with_rest t c.deref_mut-2.result.now) rows ∙ ap (with_rest (with_new held all)) list
     ∙ rest-moved (with_new held all) all ∙ both-parts n held all c.self.invariant (know n held all c.args.self.now c.self.invariant c.self.view_is c.requires)

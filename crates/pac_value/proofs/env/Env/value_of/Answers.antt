@@ -2,7 +2,7 @@
 use Rattle.std.proofs.Common.{◌≡◌, None, ap, sym, ◌∙◌, arith}
 use Rattle.std.proofs.lemmas.Grind.{common_steps}
 use Rattle.std.specs.FinMap as map
-use Rattle.pac_value.specs.Placed.{placed}
+use Rattle.pac_value.specs.Placed.{at_place}
 use Rattle.pac_value.proofs.PlacedLemmas.{get-values_from}
 use Rattle.pac_value.proofs.env.Env.value_of.Goals as goal
 

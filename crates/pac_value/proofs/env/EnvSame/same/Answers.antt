@@ -4,15 +4,15 @@ use Rattle.std.proofs.lemmas.Bool.{cases_lt}
 use Rattle.std.proofs.lemmas.Grind.{common_steps}
 use Rattle.std.proofs.lemmas.List.{get_or_past}
 use Rattle.std.specs.FinMap as map
-use Rattle.pac_value.specs.Placed.{placed}
+use Rattle.pac_value.specs.Placed.{at_place}
 use Rattle.pac_value.proofs.PlacedLemmas.{get-values_from, same_values}
 use Rattle.pac_value.proofs.env.EnvSame.same.Goals as goal
 
 pub returns-then-not-are_same : goal.returns-then-not-are_same
 returns-then-not-are_same c =
     let place = c.loop-place.place in
-    let one : c.at.result ≡ placed c.self.inside.values.items place = grind (arith, common_steps, c.at.ensures, c.deref.ensures.value) in
-    let other : c.at-in-loop-place.result ≡ placed c.other.inside.values.items place = grind (arith, common_steps, c.at-in-loop-place.ensures, c.deref-in-loop-place.ensures.value) in (
+    let one : c.at.result ≡ at_place c.self.inside.values.items place = grind (arith, common_steps, c.at.ensures, c.deref.ensures.value) in
+    let other : c.at-in-loop-place.result ≡ at_place c.other.inside.values.items place = grind (arith, common_steps, c.at-in-loop-place.ensures, c.deref-in-loop-place.ensures.value) in (
       λ (h : IsTrue false). cc,
       λ (e : c.args.self.now ≡ c.args.other.now).
           let same : c.at.result ≡ c.at-in-loop-place.result =
@@ -25,7 +25,7 @@ pub returns : goal.returns
 returns c =
     let one = c.self.inside.values.items in
     let other = c.other.inside.values.items in
-    let same : (x : ℕ) → placed one x ≡ placed other x = λ x. elim (cases_lt x c.loop-place.place) [
+    let same : (x : ℕ) → at_place one x ≡ at_place other x = λ x. elim (cases_lt x c.loop-place.place) [
       | inl below ↦ c.loop-place.invariant x below
       | inr past ↦
           let ends_before : length one ≤ x = omega (arith, c.self.inside.values.ok) in
