@@ -1,21 +1,20 @@
 -- The graph that is searched stands for all operations and virtual writes.
-use Rattle.std.proofs.Common.{◌≡◌, ◌⊎◌, ◌↔◌, ℕ, ◌+◌, ◌-◌, ◌<◌, ◌≤◌, List, length, Some, IsTrue, refl, sym, ap, ◌∙◌, subst, inl, inr, ⊎_elim, arith}
-use Rattle.std.specs.Prelude.{slice_get, IsSomeAnd}
+use Rattle.std.proofs.Common.{◌≡◌, ◌⊎◌, ◌↔◌, ℕ, ◌+◌, ◌-◌, ◌<◌, List, length, Some, refl, sym, ap, subst, inl, inr, ⊎_elim, arith}
+use Rattle.std.specs.Prelude.{slice_get}
 use Rattle.std.proofs.lemmas.Bool.{cases_eq, cases_lt}
-use Rattle.std.proofs.lemmas.Option.{same_Some}
 use Rattle.pac_ops.specs.declared.program.FlatOp.{FlatOp}
 use Rattle.pac_ops.specs.declared.program.Program.{Program}
-use Rattle.pac_ops.specs.Uses.{op_uses, defined_variable, accessed_table}
-use Rattle.pac_ops.specs.Dependencies.{IsFlow, Accesses, Modifies}
-use Rattle.pac_graph.specs.Graph.{Graph, HasEdge, Reach, Here, Onward, ReachEachOther}
+use Rattle.pac_ops.specs.Uses.{accessed_table}
+use Rattle.pac_ops.specs.Dependencies.{IsFlow, Accesses}
+use Rattle.pac_graph.specs.Graph.{Graph, HasEdge, Reach, Here, ReachEachOther}
 use Rattle.pac_graph.proofs.GraphLemmas.{along, one_edge}
-use Rattle.pac_graph.proofs.ItemLemmas.{there, so, item, inside}
+use Rattle.pac_graph.proofs.ItemLemmas.{there, item, inside}
 use Rattle.pac_graph.proofs.DrawingLemmas.{IsDrawing}
 use Rattle.pac_slice.specs.Dependent.{IsFlowAt}
 use Rattle.pac_slice.proofs.SliceLemmas.{flow_inside}
-use Rattle.pac_plan.specs.Nodes.{Node, Operation, VirtualWrite, IsNode, ComesBefore, Flows, NodeAccesses, NodeModifies, Clashes, IsNodeLink}
+use Rattle.pac_plan.specs.Nodes.{Node, Operation, VirtualWrite, IsNode, ComesBefore, Flows, NodeAccesses, Clashes, IsNodeLink}
 use Rattle.pac_ops.specs.Programs.{count_ops}
-use Rattle.pac_global.specs.Drawing.{first_of, number_in, IsBothWays, IsHomeEdge, HasHomeEdge, HasEdgeOf}
+use Rattle.pac_global.specs.Drawing.{first_of, number_in, IsBothWays, HasHomeEdge, HasEdgeOf}
 use Rattle.pac_global.proofs.PlaceLemmas.{first_within, first_later, placed}
 
 module _ (programs : List Program) (tables : ℕ) (in_range : (p i t : ℕ) (program : Program) → slice_get programs p ≡ Some program → Accesses program.ops i t → t < tables) (g : Graph) (nodes : g.nodes ≡ count_ops programs + tables) (edges : (u v : ℕ) → HasEdge g u v ↔ ((p : ℕ) × HasEdgeOf programs p u v)) where

@@ -1,11 +1,10 @@
 -- The edges between operations and the virtual writes of their tables, and all edges of a procedure.
 use Rattle.std.proofs.Common.{◌≡◌, ◌⊎◌, ◌↔◌, ℕ, ◌+◌, ◌<◌, ◌≤◌, List, length, Some, sym, ◌∙◌, subst, arith}
-use Rattle.std.specs.Prelude.{slice_get, IsSomeAnd}
+use Rattle.std.specs.Prelude.{slice_get}
 use Rattle.std.proofs.lemmas.Option.{same_Some}
 use Rattle.pac_ops.specs.declared.program.FlatOp.{FlatOp}
 use Rattle.pac_ops.specs.declared.program.Program.{Program}
 use Rattle.pac_ops.specs.Uses.{accessed_table}
-use Rattle.pac_ops.specs.Dependencies.{Accesses}
 use Rattle.pac_graph.specs.Adding.{IsUpTo}
 use Rattle.pac_graph.proofs.ItemLemmas.{there, so, inside}
 use Rattle.pac_slice.specs.Dependent.{IsFlowAt}

@@ -1,9 +1,8 @@
 -- The parts that are found are those of the analysis, and edges between blocks make no cycle.
-use Rattle.std.proofs.Common.{◌≡◌, ◌↔◌, ℕ, ◌+◌, ◌<◌, ◌≤◌, List, [], map, length, get_or, Some, refl, sym, ap, ◌∙◌, subst, true, arith}
-use Rattle.std.specs.Prelude.{slice_get, slice_index, slice_index_or, All}
+use Rattle.std.proofs.Common.{◌≡◌, ◌↔◌, ℕ, ◌+◌, ◌<◌, ◌≤◌, List, map, length, get_or, Some, sym, ◌∙◌, subst, true, arith}
+use Rattle.std.specs.Prelude.{slice_get, slice_index, All}
 use Rattle.std.proofs.lemmas.List.{length-map}
 use Rattle.std.proofs.lemmas.Option.{slice_get-map, slice_get_within, get_or_from_slice_get}
-use Rattle.pac_ops.specs.declared.shapes.TableTypes.{TableTypes}
 use Rattle.pac_ops.specs.declared.program.Program.{Program}
 use Rattle.pac_ops.specs.Dependencies.{Accesses}
 use Rattle.pac_ops.specs.Programs.{AreSoundPrograms, AreSoundTables, IsSoundTableTypes, IsStoredType}
@@ -20,10 +19,10 @@ use Rattle.pac_graph.specs.Groups.{AreGroups}
 use Rattle.pac_graph.proofs.DrawingLemmas.{drawn_groups}
 use Rattle.pac_plan.specs.declared.parts.PlanParts.{PlanParts}
 use Rattle.pac_plan.specs.Nodes.{Node, Operation, VirtualWrite, IsNode, ComesBefore, Flows, IsNodeLink}
-use Rattle.pac_plan.specs.Analysis.{IsAnalysis, IsPlan, block_in, HasBlockEdge}
+use Rattle.pac_plan.specs.Analysis.{IsAnalysis, block_in, HasBlockEdge}
 use Rattle.pac_plan.proofs.OrderLemmas.{accessed_there}
 use Rattle.pac_ops.specs.Programs.{count_ops}
-use Rattle.pac_global.specs.Drawing.{first_of, number_in, HasEdgeOf, AreBlocksOf}
+use Rattle.pac_global.specs.Drawing.{number_in, HasEdgeOf, AreBlocksOf}
 use Rattle.pac_global.proofs.DrawnLemmas.{drawing}
 
 stored : (ty : Ty) → is_stored_type ty ≡ true → IsStoredType ty

@@ -12,5 +12,7 @@
 mod blocks;
 mod draw;
 mod plan;
+#[cfg(test)]
+mod tests;
 
 pub use plan::global;

@@ -1,9 +1,8 @@
 -- The blocks of a plan keep what has to be kept in order.
-use Rattle.std.proofs.Common.{◌≡◌, ◌⊎◌, ℕ, ◌<◌, ◌≤◌, true, false, IsTrue, List, length, Option, Some, None, refl, sym, ap, ◌∙◌, subst, inl, inr, ⊎_elim, arith}
-use Rattle.std.specs.Prelude.{slice_get, IsSomeAnd}
+use Rattle.std.proofs.Common.{◌≡◌, ◌⊎◌, ℕ, ◌<◌, ◌≤◌, true, List, length, Option, Some, None, refl, subst, inl, inr, arith}
+use Rattle.std.specs.Prelude.{slice_get}
 use Rattle.std.proofs.lemmas.Bool.{cases_eq}
-use Rattle.std.proofs.lemmas.Option.{slice_get_within, same_Some, none-some}
-use Rattle.std.specs.Option.{option_map}
+use Rattle.std.proofs.lemmas.Option.{slice_get_within, same_Some}
 use Rattle.pac_value.specs.declared.values.Ty.{Ty}
 use Rattle.pac_value.specs.declared.values.Ty.TheVariants.{Int as IntTy, Text as TextTy, Bool as BoolTy}
 use Rattle.pac_value.specs.Scopes.{Scope, is_wanted}
@@ -15,11 +14,10 @@ use Rattle.pac_ops.specs.declared.program.FlatOp.{FlatOp}
 use Rattle.pac_ops.specs.declared.program.Program.{Program}
 use Rattle.pac_ops.specs.Uses.{op_uses, defined_variable, accessed_table, Defines}
 use Rattle.pac_ops.specs.Dependencies.{Uses, Accesses, IsFlow}
-use Rattle.pac_ops.specs.Programs.{IsSoundProgram, IsWellTyped, IsDefinedBefore, IsFrontOf, key_type_in, scope_in, AreSoundPrograms}
-use Rattle.pac_graph.specs.Graph.{Reach}
+use Rattle.pac_ops.specs.Programs.{IsSoundProgram, IsWellTyped, IsDefinedBefore, IsFrontOf, key_type_in, scope_in}
 use Rattle.pac_graph.specs.Groups.{AreGroups}
 use Rattle.pac_graph.proofs.GraphLemmas.{one_edge}
-use Rattle.pac_graph.proofs.ItemLemmas.{there, so, item, inside}
+use Rattle.pac_graph.proofs.ItemLemmas.{there, item, inside}
 use Rattle.pac_plan.specs.declared.parts.PlanParts.{PlanParts}
 use Rattle.pac_plan.specs.Nodes.{Node, Operation, VirtualWrite, IsNode, ComesBefore, Flows, NodeAccesses, Clashes, IsNodeLink}
 use Rattle.pac_plan.specs.Analysis.{IsPlan, block_in, HasBlockEdge}

@@ -1,5 +1,5 @@
 -- The blocks of all procedures, and what a plan is.
-use Rattle.std.specs.Prelude.{◌≡◌, ◌⊎◌, ℕ, ◌<◌, ◌≤◌, List, [], length, map, slice_index, slice_index_or, Contains}
+use Rattle.std.specs.Prelude.{◌≡◌, ℕ, ◌≤◌, [], length, map, slice_index, slice_index_or, Contains}
 use Rattle.pac_graph.specs.Groups.{AreGroups}
 use Rattle.pac_ops.specs.Programs.{AreSoundPrograms, AreSoundTables}
 use Rattle.pac_plan.specs.declared.limits.TheConstants.{MAX_PROGRAMS, MAX_HOMES}

@@ -1,12 +1,11 @@
 -- The edges of one program more are added: its flow, and those with the virtual writes.
-use Rattle.std.proofs.Common.{◌≡◌, ◌⊎◌, ℕ, ◌+◌, ◌≤◌, ◌<◌, Some, length, refl, sym, ap, ◌∙◌, subst, arith, add-one}
+use Rattle.std.proofs.Common.{◌≡◌, ◌⊎◌, ℕ, ◌+◌, ◌<◌, Some, length, refl, ap, subst, arith, add-one}
 use Rattle.std.specs.Prelude.{slice_get}
 use Rattle.std.proofs.lemmas.Option.{slice_get_read}
 use Rattle.pac_ops.specs.Dependencies.{Accesses}
-use Rattle.pac_graph.specs.Adding.{Adds, IsUpTo}
+use Rattle.pac_graph.specs.Adding.{IsUpTo}
 use Rattle.pac_graph.proofs.AddLemmas.{adds_alike, adds_then, upto_more}
 use Rattle.pac_slice.specs.Dependent.{IsFlowAt}
-use Rattle.pac_ops.specs.Programs.{count_ops}
 use Rattle.pac_global.specs.Drawing.{first_of, HasHomeEdge, HasEdgeOf}
 use Rattle.pac_global.proofs.PlaceLemmas.{first_next, first_within}
 use Rattle.pac_global.proofs.HomeLemmas.{program_edges, programs_all}
