@@ -1,14 +1,15 @@
 -- Where operations are too many, and where they are not.
-use Rattle.std.proofs.Common.{◌≡◌, ℕ, ◌+◌, ◌<◌, ◌≤◌, Bool, true, false, cond, List, length, take, get_or, Option, Some, None, refl, sym, ap, subst, ◌∙◌, arith}
+use Rattle.std.proofs.Common.{◌≡◌, ◌⊎◌, inl, inr, ℕ, ◌+◌, ◌<◌, ◌≤◌, Bool, true, false, cond, List, length, take, get_or, Option, Some, None, refl, sym, ap, subst, ◌∙◌, arith}
 use Rattle.std.specs.Prelude.{slice_get, nat_lt}
 use Rattle.std.specs.Option.{option_and_then}
+use Rattle.std.proofs.lemmas.Bool.{cases_order}
 use Rattle.std.proofs.lemmas.Bool.Decides.{nat_tests}
 use Rattle.std.proofs.lemmas.Option.{slice_get-get_or, slice_get_within}
 use Rattle.std.proofs.lemmas.List.Sums.{sum_by-take-le}
 use Rattle.pac_ops.specs.declared.limits.TheConstants.{MAX_OPS, MAX_ALL_OPS}
 use Rattle.pac_types.specs.declared.procedure.Proc.{Proc}
 use Rattle.pac_types.specs.Meaning.{operations}
-use Rattle.pac_types.specs.OperationLimits.{all_operations, HasFewOperations, excess, excess_at}
+use Rattle.pac_types.specs.OperationLimits.{all_operations, HasFewOperations, excess, excess_at, IsFirstExcess}
 
 less : (a b : ℕ) → a < b → nat_lt a b ≡ true
 less a b h = grind (arith, nat_tests)
@@ -71,3 +72,23 @@ within-none procs n count within h = go (slice_get procs n) refl
         let none : excess_at procs n ≡ None = no-excess procs n proc inside is (all_operations (take (n + 1) procs)) refl few (omega (arith, sum_by-take-le (λ (p : Proc). operations p.body) procs (n + 1), within.all)) in
         let wrong : None ≡ Some count = sym none ∙ h in
         cc
+
+-- where there is an excess, there is a procedure
+pub excess_within : (procs : List Proc) (n count : ℕ) → excess_at procs n ≡ Some count → n < length procs
+excess_within procs n count h = go (slice_get procs n) refl
+  where
+    go : (o : Option Proc) → slice_get procs n ≡ o → n < length procs
+    go None e = let wrong : None ≡ Some count = ap (option_and_then (λ (p : Proc). excess (operations p.body) (all_operations (take (n + 1) procs)))) (sym e) ∙ h in absurd cc
+    go (Some proc) e = slice_get_within procs n proc e
+
+not_earlier : (procs : List Proc) (m n a b : ℕ) → IsFirstExcess procs m a → IsFirstExcess procs n b → m < n → ⊥
+not_earlier procs m n a b h k less = let wrong : Some a ≡ None = sym h.here ∙ k.before m less in cc
+
+-- procedures have one first excess
+pub first_once : (procs : List Proc) (m n a b : ℕ) → IsFirstExcess procs m a → IsFirstExcess procs n b → m ≡ n
+first_once procs m n a b h k = by_order (cases_order m n)
+  where
+    by_order : (m ≡ n) ⊎ ((m < n) ⊎ (n < m)) → m ≡ n
+    by_order (inl same) = same
+    by_order (inr (inl less)) = absurd (not_earlier procs m n a b h k less)
+    by_order (inr (inr more)) = absurd (not_earlier procs n m b a k h more)

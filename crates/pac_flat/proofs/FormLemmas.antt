@@ -1,6 +1,7 @@
 -- What a flat form is made of: as many operations as the statements, which define the same variables, under conditions
 -- that begin with those round it.
 use Rattle.std.proofs.Common.{◌≡◌, ℕ, Bool, true, false, ◌&&◌, List, [], ◌∷◌, ◌++◌, length, map, refl, sym, ap, subst, ◌∙◌, arith, append_assoc, append-nil, length-append}
+use Rattle.std.proofs.lemmas.List.Sums.{sum_by-cons}
 use Rattle.std.specs.FinMap.{get}
 use Rattle.std.specs.List.{AllByRecursion}
 use Rattle.pac_value.specs.Expressions.{Values}
@@ -8,11 +9,14 @@ use Rattle.pac_value.specs.declared.expr.Expr.{Expr}
 use Rattle.pac_ops.specs.declared.program.FlatOp.{FlatOp}
 use Rattle.pac_ops.specs.declared.program.OpKind.{OpKind}
 use Rattle.pac_ops.specs.Flat.{is_as_asked, all_hold}
+use Rattle.pac_ops.specs.Programs.{count_ops}
 use Rattle.pac_ops.specs.Uses.{defined_variable}
+use Rattle.pac_types.specs.declared.procedure.Proc.{Proc}
+use Rattle.pac_types.specs.OperationLimits.{all_operations}
 use Rattle.pac_types.specs.declared.statement.Stmt.{Stmt}
 use Rattle.pac_types.specs.Meaning.{Code, code, operations}
 use Rattle.pac_types.specs.Variables.{stmt_variables, defined_variables}
-use Rattle.pac_flat.specs.FlatForm.{Conditions, Flat, flat, in_line, inside}
+use Rattle.pac_flat.specs.FlatForm.{Conditions, Flat, flat, in_line, inside, program_of}
 use Rattle.pac_flat.proofs.StmtShapes.{variable_list, IsOne, IsBranching, by_shape, all_by_shape}
 
 -- ---- how many
@@ -35,6 +39,11 @@ length-flat = by_shape Counted
 pub length-line : (ss : List Stmt) (conds : Conditions) → length (in_line (map flat ss) conds) ≡ operations ss
 length-line [] conds = refl
 length-line (s ∷ ss) conds = omega (arith, length-append (flat s conds) (in_line (map flat ss) conds), length-flat s conds, length-line ss conds)
+
+-- the programs of procedures have as many operations as these
+pub count_all : (procs : List Proc) → count_ops (map program_of procs) ≡ all_operations procs
+count_all [] = refl
+count_all (proc ∷ procs) = omega (arith, length-line proc.body [], count_all procs, sum_by-cons (λ (p : Proc). operations p.body) proc procs)
 
 -- ---- variables
 

@@ -1,9 +1,10 @@
 // The flat form of a catalogue.
-ghost use Rattle.std.specs.Prelude.{◌≡◌, ◌<◌, ◌^◌, All, map, length, IfOk, IsErrOf, MatchResult};
+ghost use Rattle.std.specs.Prelude.{◌≡◌, ◌<◌, ◌≤◌, ◌^◌, All, map, length, IfOk, IsOk, IsErrOf, MatchResult};
 ghost use Rattle.std.specs.List.{AllZip};
 ghost use Rattle.pac_base.specs.Refusals.{OkUnlessMemory};
 ghost use Rattle.pac_base.specs.declared.refusal.Refusal.TheVariants.{Fault as AFault};
-ghost use Rattle.pac_ops.specs.Programs.{AreSoundPrograms};
+ghost use Rattle.pac_ops.specs.Programs.{AreSoundPrograms, count_ops};
+ghost use Rattle.pac_ops.specs.declared.limits.TheConstants.{MAX_ALL_OPS};
 ghost use Rattle.pac_types.specs.Fits.{shape};
 ghost use Rattle.pac_types.specs.Meaning.{operations};
 ghost use Rattle.pac_types.specs.OperationLimits.{HasFewOperations, IsFirstExcess};
@@ -53,13 +54,28 @@ pub fn flatten(alloc: Global, cat: &Catalogue) -> Result<Vec<Program>, FlatError
 
     ensures sound { IfOk result (λ programs. AreSoundPrograms (map shape cat.now.tables) programs.items) }
     ensures few { IfOk result (λ _. HasFewOperations cat.now.procs) }
+    ensures counted { IfOk result (λ programs. count_ops programs.items ≤ MAX_ALL_OPS) }
     ensures only { HasFewOperations cat.now.procs → OkUnlessMemory result (λ programs. programs.items ≡ map program_of cat.now.procs) }
     ensures fault { (fault : Excess) → IsErrOf result (AFault fault) → IsFirstExcess cat.now.procs fault.proc fault.count }
     ensures one { (fault other : Excess) → IsErrOf result (AFault fault) → IsFirstExcess cat.now.procs other.proc other.count → other ≡ fault }
 {
-    let procs = cat.procs();
-    test_counts(procs)?;
-    Ok(flat_programs(alloc, procs)?)
+    test_operations(cat)?;
+    Ok(flat_programs(alloc, cat.procs())?)
+}
+
+/// That a catalogue's procedures have few operations enough: at most 256 each, and 4,096 in all. Takes no memory. Linear
+/// in the statements.
+///
+/// # Errors
+///
+/// [`TooManyOps`] exactly where a procedure has more than 256 operations, or all together have more than 4,096.
+pub fn test_operations(cat: &Catalogue) -> Result<(), TooManyOps>
+    ensures few { IfOk result (λ _. HasFewOperations cat.now.procs) }
+    ensures only { HasFewOperations cat.now.procs → IsOk result }
+    ensures fault { (fault : Excess) → IsErrOf result fault → IsFirstExcess cat.now.procs fault.proc fault.count }
+    ensures one { (fault other : Excess) → IsErrOf result fault → IsFirstExcess cat.now.procs other.proc other.count → other ≡ fault }
+{
+    test_counts(cat.procs())
 }
 
 // The program of each procedure.

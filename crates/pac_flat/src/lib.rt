@@ -3,6 +3,8 @@
 //!
 //! - [`flatten`]: the [`Program`](pac_ops::Program) of each procedure of a catalogue, or the first procedure at which
 //!   operations are [too many](TooManyOps).
+//! - [`test_operations`]: whether a catalogue's operations are few enough for that, or the first procedure at which they
+//!   are too many. It takes no memory.
 //!
 //! `specs/FlatForm.antt` says which operations these are, by recursion on statements. `specs/Agreement.antt` says that
 //! nothing is lost by it: a call of a program ends in the state that the procedure means, hidden variables too, and
@@ -20,4 +22,4 @@ mod program;
 mod tests;
 mod variables;
 
-pub use catalogue::{FlatError, TooManyOps, flatten};
+pub use catalogue::{FlatError, TooManyOps, flatten, test_operations};

@@ -17,7 +17,7 @@ use Rattle.pac_main.specs.declared.command.InputError.TheVariants as input
 use Rattle.pac_main.specs.declared.stop.Stop.TheVariants as stop
 use Rattle.pac_main.specs.Inputs.{input_of_script}
 use Rattle.pac_main.specs.Stop.{stop_of_input}
-use Rattle.pac_main.specs.declared.script_fault.ScriptFault.TheVariants.{Catalogue, Refused}
+use Rattle.pac_main.specs.declared.script_fault.ScriptFault.TheVariants.{Catalogue, Operations, Refused}
 use Rattle.pac_main.specs.Requests.{IsLine, AreCalls, some_call}
 use Rattle.pac_main.specs.Script.{IsScript, IsRefusal}
 use Rattle.pac_main.proofs.OneRefusal.{the_refusal}
@@ -83,6 +83,7 @@ no_script_of text (Err error.NoMemory) fault is only script h = absurd cc
 
 refusal_longer : (items rest : List ℕ) (fault : ScriptFault) → (length items ≤ 65536 → rest ≡ []) → IsRefusal items fault → IsRefusal (items ++ rest) fault
 refusal_longer items rest (Catalogue fault) at_end h = subst (λ (text : List ℕ). IsRefusal text (Catalogue fault)) (sym (ap (λ (r : List ℕ). items ++ r) (at_end h.short) ∙ append-nil items)) h
+refusal_longer items rest (Operations name count) at_end h = subst (λ (text : List ℕ). IsRefusal text (Operations name count)) (sym (ap (λ (r : List ℕ). items ++ r) (at_end h.short) ∙ append-nil items)) h
 refusal_longer items rest Refused at_end (inl long) = inl (omega (arith, length-append items rest, long))
 refusal_longer items rest Refused at_end (inr h) = subst (λ (text : List ℕ). IsRefusal text Refused) (sym (ap (λ (r : List ℕ). items ++ r) (at_end h.short) ∙ append-nil items)) (inr h)
 

@@ -9,9 +9,10 @@ use Rattle.pac_main.specs.declared.script.Script.{Script}
 use Rattle.pac_main.specs.Lines.{IsMark, HasNoMark}
 use Rattle.pac_main.specs.Requests.{AreCalls}
 use Rattle.pac_types.specs.CatalogueText.{HasCatalogue}
+use Rattle.pac_types.specs.OperationLimits.{HasFewOperations}
 use Rattle.pac_base.specs.declared.refusal.Refusal.{Refusal}
 use Rattle.pac_main.specs.declared.script_fault.ScriptFault.{ScriptFault}
-use Rattle.pac_main.specs.declared.script_fault.ScriptFault.TheVariants.{Catalogue, Refused}
+use Rattle.pac_main.specs.declared.script_fault.ScriptFault.TheVariants.{Catalogue, Operations, Refused}
 use Rattle.pac_main.specs.Script.{HasParts, IsScript, IsPartsFault, IsRefusal, lines_behind, text_before, text_behind}
 
 -- the mark, where there is one
@@ -44,12 +45,13 @@ pub script-same : (catalogue : CatalogueState) (calls : List Call) (script : Scr
 script-same catalogue calls script a b = λ i. record { catalogue = a i; calls = b i }
 
 -- a catalogue's text with its calls behind
-pub parts-of : (front behind : List ℕ) (catalogue : CatalogueState) (r : Result Script (Refusal ScriptFault)) → HasCatalogue front catalogue
+pub parts-of : (front behind : List ℕ) (catalogue : CatalogueState) (r : Result Script (Refusal ScriptFault)) → HasCatalogue front catalogue → HasFewOperations catalogue.procs
     → IfOk r (λ script. (script.catalogue ≡ catalogue) × AreCalls catalogue.procs (lines_behind behind) script.calls) → IfOk r (HasParts front behind)
-parts-of front behind catalogue (Ok script) has h = record { catalogue = subst (λ (c : CatalogueState). HasCatalogue front c) (sym h.0) has; calls = calls-over behind script.catalogue catalogue script.calls h.0 h.1 }
-parts-of front behind catalogue (Err e) has h = tt
+parts-of front behind catalogue (Ok script) has few h = record { catalogue = subst (λ (c : CatalogueState). HasCatalogue front c) (sym h.0) has; few = subst (λ (c : CatalogueState). HasFewOperations c.procs) (sym h.0) few; calls = calls-over behind script.catalogue catalogue script.calls h.0 h.1 }
+parts-of front behind catalogue (Err e) has few h = tt
 
 -- what is told of the text before the mark is told of the whole text
 pub refusal_at : (text : List ℕ) (mark : Option ℕ) (fault : ScriptFault) → length text ≤ 65536 → MarkOf text mark → IsPartsFault (text_before text mark) fault → IsRefusal text fault
 refusal_at text mark (Catalogue fault) short is first = record { short = short; front = text_before text mark; is_front = (mark, is, refl); first = first }
+refusal_at text mark (Operations name count) short is first = record { short = short; front = text_before text mark; is_front = (mark, is, refl); first = first }
 refusal_at text mark Refused short is first = inr (record { short = short; front = text_before text mark; is_front = (mark, is, refl); first = first })

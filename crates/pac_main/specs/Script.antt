@@ -1,11 +1,14 @@
--- What a script is: a catalogue, and behind a line that is exactly `---` the calls.
-use Rattle.std.specs.Prelude.{◌≡◌, ◌⊎◌, ◌≤◌, ◌<◌, ◌+◌, ℕ, List, [], ◌∷◌, take, drop, length, Option, Some, None, MatchOption}
+-- What a script is: a catalogue of few operations, and behind a line that is exactly `---` the calls.
+use Rattle.std.specs.Prelude.{◌≡◌, ◌⊎◌, ◌≤◌, ◌<◌, ◌+◌, ℕ, List, [], ◌∷◌, take, drop, length, slice_get, Option, Some, None, MatchOption}
+use Rattle.std.specs.Option.{option_map}
 use Rattle.pac_types.specs.Typing.{CatalogueState}
 use Rattle.pac_types.specs.CatalogueText.{HasCatalogue, IsCatalogueFault}
+use Rattle.pac_types.specs.declared.procedure.Proc.{Proc}
+use Rattle.pac_types.specs.OperationLimits.{HasFewOperations, IsFirstExcess}
 use Rattle.pac_main.specs.declared.limits.TheConstants.{MAX_SCRIPT}
 use Rattle.pac_main.specs.declared.script.Script.{Script}
 use Rattle.pac_main.specs.declared.script_fault.ScriptFault.{ScriptFault}
-use Rattle.pac_main.specs.declared.script_fault.ScriptFault.TheVariants.{Catalogue, Refused}
+use Rattle.pac_main.specs.declared.script_fault.ScriptFault.TheVariants.{Catalogue, Operations, Refused}
 use Rattle.pac_main.specs.Lines.{lines, IsMark, HasNoMark}
 use Rattle.pac_main.specs.Requests.{AreCalls}
 
@@ -14,9 +17,10 @@ abbrev pub lines_behind : List ℕ → List (List ℕ)
 lines_behind [] = []
 lines_behind (feed ∷ text) = lines text
 
--- the text in front is the catalogue's, and the lines behind are the calls
+-- the text in front is the catalogue's, whose procedures have few operations, and the lines behind are the calls
 pub record HasParts (front behind : List ℕ) (script : Script) : Type 0 where
   pub catalogue : HasCatalogue front script.catalogue
+  pub few : HasFewOperations script.catalogue.procs
   pub calls : AreCalls script.catalogue.procs (lines_behind behind) script.calls
 
 -- the text before the mark, or all where there is none
@@ -41,10 +45,18 @@ pub record IsScript (text : List ℕ) (script : Script) : Type 0 where
 abbrev pub IsCatalogueText : List ℕ → List ℕ → Type 0
 IsCatalogueText text front = (mark : Option ℕ) × MatchOption mark (HasNoMark text) (λ at. IsMark text at) × (front ≡ text_before text mark)
 
--- what is told of the text before the mark: its first fault, where it has no catalogue
+-- the procedure with this name is the first at which operations are too many, and so many are
+pub record IsExcess (procs : List Proc) (name : List ℕ) (count : ℕ) : Type 0 where
+  pub number : ℕ
+  pub first : IsFirstExcess procs number count
+  pub named : option_map (λ proc. proc.name) (slice_get procs number) ≡ Some name
+
+-- what is told of the text before the mark: its first fault, where it has no catalogue; where operations are too many in its
+-- catalogue, the first procedure at which they are
 abbrev pub IsPartsFault : List ℕ → ScriptFault → Type 0
 IsPartsFault front (Catalogue fault) = IsCatalogueFault front fault
-IsPartsFault front Refused = (catalogue : CatalogueState) × HasCatalogue front catalogue
+IsPartsFault front (Operations name count) = (catalogue : CatalogueState) × HasCatalogue front catalogue × IsExcess catalogue.procs name count
+IsPartsFault front Refused = (catalogue : CatalogueState) × HasCatalogue front catalogue × HasFewOperations catalogue.procs
 
 -- the text has at most 65,536 bytes, and this is told of its catalogue's text
 pub record HasPartsFault (text : List ℕ) (fault : ScriptFault) : Type 0 where
@@ -53,10 +65,12 @@ pub record HasPartsFault (text : List ℕ) (fault : ScriptFault) : Type 0 where
   pub is_front : IsCatalogueText text front
   pub first : IsPartsFault front fault
 
--- What is told of a text that is no script: where its catalogue's text has no catalogue, the first fault of that; where
--- the text is too long, or has a catalogue, just that it is refused.
+-- What is told of a text that is no script: where its catalogue's text has no catalogue, the first fault of that; where the
+-- catalogue has too many operations, the first procedure at which it has; where the text is too long, or has a catalogue of
+-- few operations, just that it is refused.
 abbrev pub IsRefusal : List ℕ → ScriptFault → Type 0
 IsRefusal text (Catalogue fault) = HasPartsFault text (Catalogue fault)
+IsRefusal text (Operations name count) = HasPartsFault text (Operations name count)
 IsRefusal text Refused = (MAX_SCRIPT < length text) ⊎ HasPartsFault text Refused
 
 -- this is what is told of the text, and nothing else is

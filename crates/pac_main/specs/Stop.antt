@@ -7,7 +7,7 @@ use Rattle.pac_ops.specs.declared.note.Note.{Note}
 use Rattle.pac_ops.specs.Reasons.{reason_name}
 use Rattle.pac_serial.specs.declared.serial.AllError.{AllError}
 use Rattle.pac_serial.specs.declared.serial.AllError.TheVariants as serial
-use Rattle.pac_main.specs.declared.script_fault.ScriptFault.TheVariants.{Catalogue, Refused}
+use Rattle.pac_main.specs.declared.script_fault.ScriptFault.TheVariants.{Catalogue, Operations, Refused}
 use Rattle.pac_main.specs.declared.command.InputError.{InputError}
 use Rattle.pac_main.specs.declared.command.InputError.TheVariants as input
 use Rattle.pac_main.specs.declared.stop.Stop.{Stop}
@@ -32,9 +32,14 @@ abort_line note = codes "abort " ++ decimal note.txn ++ codes " " ++ decimal not
 abbrev pub catalogue_line : CatalogueFault → List ℕ
 catalogue_line fault = codes "catalogue " ++ decimal (fault_place fault) ++ codes " " ++ fault_kind fault ++ codes "\n"
 
+-- the name of a procedure, and how many operations are too many there
+abbrev pub operations_line : List ℕ → ℕ → List ℕ
+operations_line name count = codes "operations " ++ name ++ codes " " ++ decimal count ++ codes "\n"
+
 -- whether a stop's line has numbers, and is made
 abbrev pub takes_memory : Stop → Bool
 takes_memory (Script (Catalogue fault)) = true
+takes_memory (Script (Operations name count)) = true
 takes_memory (Aborted note) = true
 takes_memory _ = false
 
@@ -42,6 +47,7 @@ takes_memory _ = false
 abbrev pub line_of : Stop → List ℕ
 line_of Usage = codes "usage: pacman init, run, recover, explain, replay or stress\n"
 line_of (Script (Catalogue fault)) = catalogue_line fault
+line_of (Script (Operations name count)) = operations_line name count
 line_of (Script Refused) = codes "script refused\n"
 line_of (Aborted note) = abort_line note
 line_of InputFault = codes "input fault\n"

@@ -111,7 +111,7 @@ fn is_replay(words: &[String]) -> bool
 /// |---|---|---|
 /// | 0 | else: the output took the dump | nothing |
 /// | 1 | exactly where the words are not the one word `replay` | `usage: pacman init, run, recover, explain, replay or stress` |
-/// | 2 | only where the input is no script | `catalogue AT KIND` where the catalogue's text isn't read, or isn't typed: its first fault; else `script refused` |
+/// | 2 | only where the input is no script | `catalogue AT KIND` where the catalogue's text isn't read, or isn't typed: its first fault; `operations PROC COUNT` where its operations are too many: the first procedure at which they are, and how many; else `script refused` |
 /// | 4 | only where serial execution of the calls aborts | `abort TXN OP REASON` |
 /// | 6 | only where the input's count of faults rose | `input fault` |
 /// | 7 | only where the output's count of faults rose; the output took a front of the dump | `output fault` |

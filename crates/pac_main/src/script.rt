@@ -1,8 +1,9 @@
 // The script of a replay.
-ghost use Rattle.std.specs.Prelude.{◌≡◌, List, Option, IfOk, IsErrOf, MatchOption, Some, None};
+ghost use Rattle.std.specs.Prelude.{◌≡◌, ℕ, List, Option, IfOk, IsOk, IsErrOf, MatchOption, Some, None};
 ghost use Rattle.pac_base.specs.Refusals.{OkUnlessMemory, Only};
 ghost use Rattle.pac_base.specs.declared.refusal.Refusal.TheVariants as error;
 ghost use Rattle.pac_types.specs.CatalogueText.{HasCatalogue};
+ghost use Rattle.pac_types.specs.OperationLimits.{HasFewOperations};
 ghost use Rattle.pac_types.specs.Typing.{CatalogueState};
 ghost use Rattle.pac_ops.specs.declared.transaction.Call.{Call as ACall};
 ghost use Rattle.pac_main.specs.Requests.{AreCalls};
@@ -15,6 +16,7 @@ use crate::lines::find_mark;
 use crate::request::{LineError, ScriptCalls, read_calls};
 use crate::script_fault::{ScriptError, ScriptFault};
 use pac_base::Refusal;
+use pac_flat::test_operations;
 use pac_ops::Call;
 use pac_types::{Catalogue, read_catalogue};
 use std::alloc::Global;
@@ -53,6 +55,21 @@ fn with_calls(alloc: Global, catalogue: Catalogue, behind: &[u8]) -> Result<Scri
     }
 }
 
+// That the catalogue has few operations, or the name of the first procedure at which it has too many.
+fn test_limits(catalogue: &Catalogue) -> Result<(), ScriptFault>
+    ensures few { IfOk result (λ _. HasFewOperations catalogue.now.procs) }
+    ensures only { HasFewOperations catalogue.now.procs → IsOk result }
+    ensures fault { (front : List ℕ) → HasCatalogue front catalogue.now → (fault : AFault) → IsErrOf result fault → IsPartsFault front fault }
+{
+    match test_operations(catalogue) {
+        Ok(()) => Ok(()),
+        Err(excess) => Err(ScriptFault::Operations {
+            proc: catalogue.procs()[usize::from(excess.proc)].name,
+            count: excess.count,
+        }),
+    }
+}
+
 // The script of the catalogue's text, and of the text behind the mark.
 fn read_parts(alloc: Global, front: &[u8], behind: &[u8]) -> Result<Script, ScriptError>
     ensures ok { IfOk result (HasParts front.now behind.now) }
@@ -60,7 +77,10 @@ fn read_parts(alloc: Global, front: &[u8], behind: &[u8]) -> Result<Script, Scri
     ensures fault { (fault : AFault) → IsErrOf result (error.Fault fault) → IsPartsFault front.now fault }
 {
     match read_catalogue(alloc, front) {
-        Ok(catalogue) => with_calls(alloc, catalogue, behind),
+        Ok(catalogue) => match test_limits(&catalogue) {
+            Ok(()) => with_calls(alloc, catalogue, behind),
+            Err(fault) => Err(Refusal::Fault(fault)),
+        },
         Err(Refusal::Fault(fault)) => Err(Refusal::Fault(ScriptFault::Catalogue(fault))),
         Err(Refusal::NoMemory) => Err(Refusal::NoMemory),
     }

@@ -1,6 +1,7 @@
 // Why a text is no script.
 use pac_base::Refusal;
 use pac_types::CatalogueFault;
+use pac_value::Name;
 use thiserror::Error;
 
 /// Why a text is no script.
@@ -9,6 +10,10 @@ pub enum ScriptFault {
     /// Its catalogue's text has no catalogue: the first fault of that.
     #[error("{0}")]
     Catalogue(CatalogueFault),
+    /// Its catalogue has too many operations: the first procedure at which these are more than 256, and how many it has; or
+    /// else at which all up to its end are more than 4,096, and how many these are.
+    #[error("{count} operations")]
+    Operations { proc: Name, count: u32 },
     /// It is too long, or a line behind the mark is no call.
     #[error("no script")]
     Refused,

@@ -1,6 +1,6 @@
 // Why a command stops before its end.
 ghost use Rattle.std.specs.Prelude.{◌≡◌, IfOk, IsTrue, MatchOption};
-ghost use Rattle.pac_main.specs.Stop.{status_of, line_of, takes_memory, catalogue_line, abort_line, stop_of_input, stop_of_serial};
+ghost use Rattle.pac_main.specs.Stop.{status_of, line_of, takes_memory, catalogue_line, operations_line, abort_line, stop_of_input, stop_of_serial};
 ghost use Rattle.pac_main.specs.declared.stop.Stop.TheVariants.{OutputFault, NoMemory as WantOfMemory};
 
 use crate::command::InputError;
@@ -10,7 +10,7 @@ use pac_ops::Note;
 use pac_outside::Failed;
 use pac_serial::AllError;
 use pac_types::CatalogueFault;
-use pac_value::push_count;
+use pac_value::{Name, push_count};
 use std::alloc::Global;
 
 /// Why a command stops before its end.
@@ -85,14 +85,16 @@ impl Stop {
         }
     }
 
-    /// What the error sink is told, where that is one text. `None`: it is made by [`catalogue_line`] or [`abort_line`].
+    /// What the error sink is told, where that is one text. `None`: it is made by [`catalogue_line`],
+    /// [`operations_line`] or [`abort_line`].
     pub fn line(self) -> Option<&'static [u8]>
         ensures { MatchOption result (IsTrue (takes_memory self)) (λ line. line.now ≡ line_of self) }
     {
         match self {
             Stop::Usage => Some(b"usage: pacman init, run, recover, explain, replay or stress\n"),
             Stop::Script(ScriptFault::Refused) => Some(b"script refused\n"),
-            Stop::Script(ScriptFault::Catalogue(_)) | Stop::Aborted(_) => None,
+            Stop::Script(ScriptFault::Catalogue(_) | ScriptFault::Operations { .. })
+            | Stop::Aborted(_) => None,
             Stop::InputFault => Some(b"input fault\n"),
             Stop::OutputFault => Some(b"output fault\n"),
             Stop::NoMemory => Some(b"no memory\n"),
@@ -113,6 +115,23 @@ pub fn catalogue_line(alloc: Global, fault: CatalogueFault) -> Result<Vec<u8>, N
     push_count(&mut line, fault.at() as u64)?;
     line.extend_from_slice(b" ")?;
     line.extend_from_slice(fault.kind_name().as_bytes())?;
+    line.extend_from_slice(b"\n")?;
+    Ok(line)
+}
+
+/// The line `operations PROC COUNT`.
+///
+/// # Errors
+///
+/// `NoMemory` alone.
+pub fn operations_line(alloc: Global, proc: Name, count: u32) -> Result<Vec<u8>, NoMemory>
+    ensures { IfOk result (λ line. line.items ≡ operations_line proc count) }
+{
+    let mut line = Vec::new(alloc);
+    line.extend_from_slice(b"operations ")?;
+    line.extend_from_slice(proc.bytes())?;
+    line.extend_from_slice(b" ")?;
+    push_count(&mut line, u64::from(count))?;
     line.extend_from_slice(b"\n")?;
     Ok(line)
 }

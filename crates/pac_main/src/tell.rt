@@ -1,11 +1,11 @@
 // What the error sink is told, and the status behind it.
-ghost use Rattle.std.specs.Prelude.{◌≡◌, ◌⊎◌, IfOk, IsTrue, false, if◌then◌else◌};
+ghost use Rattle.std.specs.Prelude.{◌≡◌, ◌⊎◌, IfOk, MatchOption, IsTrue, false, if◌then◌else◌};
 ghost use Rattle.std.specs.Result.{is_ok};
 ghost use Rattle.pac_main.specs.Replay.{TookUnlessFault};
 ghost use Rattle.pac_main.specs.Stop.{status_of, line_of, takes_memory, stop_of_words};
 
 use crate::script_fault::ScriptFault;
-use crate::stop::{Stop, abort_line, catalogue_line};
+use crate::stop::{Stop, abort_line, catalogue_line, operations_line};
 use pac_base::NoMemory;
 use pac_outside::{Sink, write_all};
 use std::alloc::Global;
@@ -39,15 +39,14 @@ pub fn refuse_words<E: Sink>(error: WordsError, errors: &mut E) -> u8
     ensures status { result ≡ status_of (stop_of_words error) }
     ensures told { TookUnlessFault E.held E.faults errors.old (line_of (stop_of_words error)) errors.new }
 {
-    let stop = Stop::from(error);
-    told_text(stop, errors);
-    stop.status()
+    told_text(&Stop::from(error), errors);
+    Stop::from(error).status()
 }
 
 // Tells the error sink the stop's line, which is one text.
-fn told_text<E: Sink>(stop: Stop, errors: &mut E)
-    requires { takes_memory stop ≡ false }
-    ensures line { TookUnlessFault E.held E.faults errors.old (line_of stop) errors.new }
+fn told_text<E: Sink>(stop: &Stop, errors: &mut E)
+    requires { takes_memory stop.now ≡ false }
+    ensures line { TookUnlessFault E.held E.faults errors.old (line_of stop.now) errors.new }
 {
     if let Some(line) = stop.line() {
         let _ = write_all(errors, line);
@@ -66,9 +65,23 @@ fn told_made<E: Sink>(stop: Stop, made: Result<Vec<u8>, NoMemory>, errors: &mut 
             stop
         }
         Err(_) => {
-            told_text(Stop::NoMemory, errors);
+            told_text(&Stop::NoMemory, errors);
             Stop::NoMemory
         }
+    }
+}
+
+// The line that is made for the stop. `None`: its line is one text.
+fn made_line(alloc: Global, stop: &Stop) -> Option<Result<Vec<u8>, NoMemory>>
+    ensures { MatchOption result (takes_memory stop.now ≡ false) (λ made. IsTrue (takes_memory stop.now) × IfOk made (λ line. line.items ≡ line_of stop.now)) }
+{
+    match *stop {
+        Stop::Script(ScriptFault::Catalogue(fault)) => Some(catalogue_line(alloc, fault)),
+        Stop::Script(ScriptFault::Operations { proc, count }) => {
+            Some(operations_line(alloc, proc, count))
+        }
+        Stop::Aborted(note) => Some(abort_line(alloc, note)),
+        _ => None,
     }
 }
 
@@ -77,13 +90,10 @@ pub fn told<E: Sink>(alloc: Global, stop: Stop, errors: &mut E) -> Stop
     ensures which { (result ≡ stop) ⊎ ((result ≡ Stop.NoMemory) × IsTrue (takes_memory stop)) }
     ensures line { TookUnlessFault E.held E.faults errors.old (line_of result) errors.new }
 {
-    match stop {
-        Stop::Script(ScriptFault::Catalogue(fault)) => {
-            told_made(stop, catalogue_line(alloc, fault), errors)
-        }
-        Stop::Aborted(note) => told_made(stop, abort_line(alloc, note), errors),
-        _ => {
-            told_text(stop, errors);
+    match made_line(alloc, &stop) {
+        Some(made) => told_made(stop, made, errors),
+        None => {
+            told_text(&stop, errors);
             stop
         }
     }
