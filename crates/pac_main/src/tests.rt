@@ -380,6 +380,30 @@ fn a_longer_input_is_refused_before_its_catalogue(rt: HostRuntime) -> Result<(),
 }
 
 #[test]
+fn too_many_operations_are_refused_before_the_lines(rt: HostRuntime) -> Result<(), Fail> {
+    let alloc = rt.alloc();
+    let mut script = b"proc P(k int) {".to_vec(alloc)?;
+    for number in 0..257u32 {
+        script.extend_from_slice(b" let v")?;
+        script.extend_from_slice(number.to_string(alloc)?.as_bytes())?;
+        script.extend_from_slice(b" = k;")?;
+    }
+    script.extend_from_slice(b" }\n---\nno call\n")?;
+    let answer = run_word(
+        &rt,
+        alloc,
+        "replay",
+        script,
+        Vec::new(alloc),
+        Vec::new(alloc),
+    )?;
+    assert_eq!(rt; answer.status, 2);
+    assert_eq!(rt; answer.output.bytes(), b"".as_slice());
+    assert_eq!(rt; answer.errors.bytes(), b"operations P 257\n".as_slice());
+    Ok(())
+}
+
+#[test]
 fn executes_a_thousand_calls_of_one_key_and_of_many(rt: HostRuntime) -> Result<(), Fail> {
     let alloc = rt.alloc();
     let mut one = ADD.as_bytes().to_vec(alloc)?;
