@@ -20,10 +20,12 @@ row_there parts is p i node = (row.0, row.1, omega (arith, row.2, program.2))
   where
     program : (program : Program) × (slice_get parts.programs p ≡ Some program) × (i < length program.ops)
     program = item parts.programs p (λ (q : Program). i < length q.ops) node
+
     count : option_map (λ (row : List ℕ). length row) (slice_get parts.block_of p) ≡ Some (length program.0.ops)
     count = sym (slice_get-map (λ (row : List ℕ). length row) parts.block_of p)
         ∙ (ap (λ (ns : List ℕ). slice_get ns p) is.each
         ∙ (slice_get-map (λ (q : Program). length q.ops) parts.programs p
         ∙ ap (option_map (λ (q : Program). length q.ops)) program.1))
+
     row : (row : List ℕ) × (slice_get parts.block_of p ≡ Some row) × (length row ≡ length program.0.ops)
     row = mapped_some (λ (row : List ℕ). length row) (slice_get parts.block_of p) (length program.0.ops) count
