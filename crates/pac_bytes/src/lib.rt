@@ -27,8 +27,6 @@
 mod fault;
 mod fields;
 mod keys;
-#[cfg(test)]
-mod tests;
 mod typed;
 mod values;
 

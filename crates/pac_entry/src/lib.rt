@@ -19,8 +19,6 @@ mod fault;
 mod length;
 mod reading;
 mod row;
-#[cfg(test)]
-mod tests;
 mod writing;
 
 pub use fault::{EntryError, EntryFault, EntryFaultKind};

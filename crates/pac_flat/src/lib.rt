@@ -18,8 +18,6 @@
 mod block;
 mod catalogue;
 mod program;
-#[cfg(test)]
-mod tests;
 mod variables;
 
 pub use catalogue::{FlatError, TooManyOps, flatten, test_operations};

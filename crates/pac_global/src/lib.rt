@@ -12,7 +12,5 @@
 mod blocks;
 mod draw;
 mod plan;
-#[cfg(test)]
-mod tests;
 
 pub use plan::global;

@@ -60,8 +60,8 @@ impl Digraph {
         self.alloc
     }
 
-    // How many nodes there are.
-    pub(crate) fn nodes(&self) -> usize
+    /// How many nodes there are.
+    pub fn nodes(&self) -> usize
         ensures nodes { result ≡ self.now.nodes }
         ensures few { self.now.nodes ≤ MAX_NODES }
     {

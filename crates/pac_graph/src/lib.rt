@@ -33,8 +33,6 @@ mod matrix;
 mod numbering;
 mod queue;
 mod search;
-#[cfg(test)]
-mod tests;
 mod turns;
 mod two_way;
 

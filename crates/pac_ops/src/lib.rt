@@ -34,8 +34,6 @@ mod piece;
 mod program;
 mod reason;
 mod shapes;
-#[cfg(test)]
-mod tests;
 mod transaction;
 mod uses;
 

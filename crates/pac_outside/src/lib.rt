@@ -22,22 +22,16 @@ mod bytes;
 mod calls;
 mod device;
 mod devices;
-#[cfg(test)]
-mod disk_tests;
 mod durable;
 mod failed;
 mod faults;
 mod file_disk;
-#[cfg(test)]
-mod file_tests;
 mod gate;
 mod mem_disk;
 mod memory;
 mod moment;
 mod piece;
 mod streams;
-#[cfg(test)]
-mod tests;
 mod whole;
 
 pub use bytes::{Sink, Source};

@@ -9,8 +9,6 @@
 
 mod expression;
 mod statement;
-#[cfg(test)]
-mod tests;
 mod tree;
 
 pub use tree::print;

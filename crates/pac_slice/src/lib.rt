@@ -18,8 +18,6 @@
 mod clashes;
 mod deps;
 mod local_graph;
-#[cfg(test)]
-mod tests;
 
 pub use deps::{Deps, add_flow, dependencies};
 pub use local_graph::{LocalGraph, slices};

@@ -28,6 +28,3 @@ pub use pac_tokens::{
 };
 pub use parse::parse_catalogue;
 pub use tree::{ColumnNode, ExprNode, LiteralNode, NameNode, ProcNode, StmtNode, TableNode, Tree};
-
-#[cfg(test)]
-mod tests;

@@ -16,8 +16,6 @@
 mod ordered;
 mod rows;
 mod table;
-#[cfg(test)]
-mod tests;
 mod writes;
 
 pub use ordered::OrderedRows;

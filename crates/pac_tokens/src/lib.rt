@@ -17,8 +17,6 @@ mod fault;
 mod lexer;
 mod literal;
 mod reading;
-#[cfg(test)]
-mod tests;
 mod token;
 
 pub use fault::{Fault, FaultKind, SyntaxError};

@@ -25,14 +25,10 @@
 mod catalogue;
 mod checker;
 mod count;
-#[cfg(test)]
-mod fault_tests;
 mod names;
 mod procedure;
 mod statement;
 mod table;
-#[cfg(test)]
-mod tests;
 mod text;
 mod type_error;
 

@@ -24,8 +24,6 @@ mod literals;
 mod name;
 mod padded;
 mod row;
-#[cfg(test)]
-mod tests;
 mod text;
 mod values;
 

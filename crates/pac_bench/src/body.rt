@@ -1,0 +1,114 @@
+// A body of calls as bytes.
+use pac_base::NoMemory;
+use pac_entry::{EntryError, read_entry, write_entry};
+use pac_ops::{Args, Call, Txn};
+use pac_types::{Catalogue, CatalogueError, read_catalogue};
+use pac_value::Value;
+use std::alloc::Global;
+use thiserror::Error;
+
+const CALLS: u16 = 1024;
+
+const CATALOGUE: &[u8] = b"proc Deposit(name int, amount int, nation int) { }";
+
+/// Why a part could not be run to its end.
+#[derive(Clone, Copy, Debug, PartialEq, Eq, Error)]
+pub enum BodyError {
+    #[error("no memory")]
+    NoMemory,
+    #[error("the body is not read")]
+    NotRead,
+}
+
+impl From<NoMemory> for BodyError {
+    fn from(_: NoMemory) -> BodyError {
+        BodyError::NoMemory
+    }
+}
+
+impl From<EntryError> for BodyError {
+    fn from(_: EntryError) -> BodyError {
+        BodyError::NotRead
+    }
+}
+
+impl From<CatalogueError> for BodyError {
+    fn from(_: CatalogueError) -> BodyError {
+        BodyError::NotRead
+    }
+}
+
+// The calls: a deposit of 10,500 to each of 1,024 names, all of one nation.
+fn calls(alloc: Global) -> Result<Vec<Txn>, NoMemory> {
+    let mut txns = Vec::with_capacity(alloc, usize::from(CALLS))?;
+    for name in 0..CALLS {
+        let args = vec![in alloc;
+            Value::Int(i64::from(name)),
+            Value::Int(10_500),
+            Value::Int(7),
+        ]?;
+        txns.push(Txn::Call(Call {
+            proc: 0,
+            args: Args::of(args),
+        }))?;
+    }
+    Ok(txns)
+}
+
+// Writes the body into a list that is empty.
+fn write_body(txns: &[Txn], out: &mut Vec<u8>) -> Result<(), NoMemory> {
+    for txn in txns {
+        write_entry(txn, out)?;
+    }
+    Ok(())
+}
+
+// Reads the body; the place behind it.
+fn read_body(alloc: Global, cat: &Catalogue, bytes: &[u8]) -> Result<usize, EntryError> {
+    let mut at = 0;
+    for _ in 0..CALLS {
+        let (_, behind) = read_entry(alloc, cat, bytes, at)?;
+        at = behind;
+    }
+    Ok(at)
+}
+
+/// Writes the body so often, into one list that is cleared; the bytes that were written.
+pub fn write(alloc: Global, rounds: u32) -> Result<u64, BodyError> {
+    let txns = calls(alloc)?;
+    let mut out = Vec::new(alloc);
+    let mut total: u64 = 0;
+    for _ in 0..rounds {
+        out.clear();
+        write_body(&txns, &mut out)?;
+        total = total.saturating_add(out.len() as u64);
+    }
+    Ok(total)
+}
+
+/// Reads the body so often; the bytes that were read.
+pub fn read(alloc: Global, rounds: u32) -> Result<u64, BodyError> {
+    let cat = read_catalogue(alloc, CATALOGUE)?;
+    let mut bytes = Vec::new(alloc);
+    write_body(&calls(alloc)?, &mut bytes)?;
+    let mut total: u64 = 0;
+    for _ in 0..rounds {
+        let behind = read_body(alloc, &cat, &bytes)?;
+        total = total.saturating_add(behind as u64);
+    }
+    Ok(total)
+}
+
+/// Copies the body so often, into one list that is cleared; the bytes that were copied.
+pub fn copy(alloc: Global, rounds: u32) -> Result<u64, BodyError> {
+    let mut bytes = Vec::new(alloc);
+    write_body(&calls(alloc)?, &mut bytes)?;
+    let mut out = Vec::new(alloc);
+    let mut total: u64 = 0;
+    for _ in 0..rounds {
+        out.clear();
+        out.extend_from_slice(&bytes).map_err(|_| NoMemory)?;
+        total = total.saturating_add(out.len() as u64);
+    }
+    Ok(total)
+}

@@ -1,0 +1,64 @@
+// The tokens of a line, and the names of kinds.
+use pac_tokens::{FaultKind, Token, int_or_text, tokens};
+use pac_value::{Text, Value};
+use std::test::Fail;
+
+#[test]
+fn kinds_are_printed_by_their_names(rt: HostRuntime) -> Result<(), Fail> {
+    let rows = [
+        (FaultKind::Token, "Token"),
+        (FaultKind::Expected, "Expected"),
+        (FaultKind::TooLong, "TooLong"),
+        (FaultKind::TooDeep, "TooDeep"),
+        (FaultKind::TooMany, "TooMany"),
+    ];
+    for (kind, name) in rows {
+        assert_eq!(rt; kind.name(), name);
+    }
+    Ok(())
+}
+
+#[test]
+fn gives_the_tokens_of_a_line(rt: HostRuntime) -> Result<(), Fail> {
+    let found = tokens(
+        rt.alloc(),
+        b"call Add(1, - 5, \"a\\\"b\\\\\", true) <= < = == # behind",
+    )?;
+    let found = found.as_slice();
+    let places = [0, 5, 8, 9, 10, 12, 14, 15, 17, 25, 27, 31, 33, 36, 38, 40];
+    assert_eq!(rt; found.len(), places.len());
+    for i in 0..16 {
+        assert_eq!(rt; found[i].at, places[i]);
+    }
+    assert!(rt; matches!(found[3].token, Token::Int(1)));
+    assert!(rt; matches!(found[6].token, Token::Negative(-5)));
+    assert!(rt;
+        matches!(found[8].token, Token::Text(text) if text.bytes() == b"a\"b\\".as_slice())
+    );
+    assert!(rt; tokens(rt.alloc(), b"call \"").is_err());
+    Ok(())
+}
+
+#[test]
+fn an_int_or_a_text_is_taken_from_the_front(rt: HostRuntime) -> Result<(), Fail> {
+    // A line, the value in front of it, and how many of its tokens are left behind that.
+    let text = Text::from_bytes(b"a").unwrap();
+    let rows = [
+        ("5 - 5", Some((Value::Int(5), 2))),
+        ("- 5, 6", Some((Value::Int(-5), 2))),
+        ("\"a\")", Some((Value::Text(text), 1))),
+        ("true", None),
+        ("- - 5", None),
+        ("-", None),
+        ("", None),
+    ];
+    for (line, wanted) in rows {
+        let found = tokens(rt.alloc(), line.as_bytes())?;
+        let front = match int_or_text(found.as_slice()) {
+            Some((value, behind)) => Some((value, behind.len())),
+            None => None,
+        };
+        assert!(rt; front == wanted, "{line}");
+    }
+    Ok(())
+}
