@@ -1,42 +1,15 @@
 // A body of calls as bytes.
+use crate::part::PartError;
 use pac_base::NoMemory;
 use pac_entry::{EntryError, read_entry, write_entry};
 use pac_ops::{Args, Call, Txn};
-use pac_types::{Catalogue, CatalogueError, read_catalogue};
+use pac_types::{Catalogue, read_catalogue};
 use pac_value::Value;
 use std::alloc::Global;
-use thiserror::Error;
 
 const CALLS: u16 = 1024;
 
 const CATALOGUE: &[u8] = b"proc Deposit(name int, amount int, nation int) { }";
-
-/// Why a part could not be run to its end.
-#[derive(Clone, Copy, Debug, PartialEq, Eq, Error)]
-pub enum BodyError {
-    #[error("no memory")]
-    NoMemory,
-    #[error("the body is not read")]
-    NotRead,
-}
-
-impl From<NoMemory> for BodyError {
-    fn from(_: NoMemory) -> BodyError {
-        BodyError::NoMemory
-    }
-}
-
-impl From<EntryError> for BodyError {
-    fn from(_: EntryError) -> BodyError {
-        BodyError::NotRead
-    }
-}
-
-impl From<CatalogueError> for BodyError {
-    fn from(_: CatalogueError) -> BodyError {
-        BodyError::NotRead
-    }
-}
 
 // The calls: a deposit of 10,500 to each of 1,024 names, all of one nation.
 fn calls(alloc: Global) -> Result<Vec<Txn>, NoMemory> {
@@ -74,7 +47,7 @@ fn read_body(alloc: Global, cat: &Catalogue, bytes: &[u8]) -> Result<usize, Entr
 }
 
 /// Writes the body so often, into one list that is cleared; the bytes that were written.
-pub fn write(alloc: Global, rounds: u32) -> Result<u64, BodyError> {
+pub fn write(alloc: Global, rounds: u32) -> Result<u64, PartError> {
     let txns = calls(alloc)?;
     let mut out = Vec::new(alloc);
     let mut total: u64 = 0;
@@ -87,7 +60,7 @@ pub fn write(alloc: Global, rounds: u32) -> Result<u64, BodyError> {
 }
 
 /// Reads the body so often; the bytes that were read.
-pub fn read(alloc: Global, rounds: u32) -> Result<u64, BodyError> {
+pub fn read(alloc: Global, rounds: u32) -> Result<u64, PartError> {
     let cat = read_catalogue(alloc, CATALOGUE)?;
     let mut bytes = Vec::new(alloc);
     write_body(&calls(alloc)?, &mut bytes)?;
@@ -100,7 +73,7 @@ pub fn read(alloc: Global, rounds: u32) -> Result<u64, BodyError> {
 }
 
 /// Copies the body so often, into one list that is cleared; the bytes that were copied.
-pub fn copy(alloc: Global, rounds: u32) -> Result<u64, BodyError> {
+pub fn copy(alloc: Global, rounds: u32) -> Result<u64, PartError> {
     let mut bytes = Vec::new(alloc);
     write_body(&calls(alloc)?, &mut bytes)?;
     let mut out = Vec::new(alloc);

@@ -1,42 +1,55 @@
 //! What the README's figures are measured with: some part of the database, made so often that it can be timed from
-//! outside. It prints how many bytes went through.
+//! outside. It prints how much was made.
 //!
-//! The words are a part and a number of rounds. A round is a body of 1,024 calls in bytes, `write` from its transactions,
-//! `read` into them, or `copy` as it stands, which is what the other two are compared with.
+//! The words are a part and a number of rounds. In a round of `write`, `read` and `copy` a body of 1,024 calls is made of
+//! its transactions, read into them, or copied as it stands, which is what the other two are compared with. In one of
+//! `table`, `tables` and `chain` the graph is made of a catalogue with 4,096 operations: all on one table, on 64 tables,
+//! or each with the value of the one before it.
 #![tactic(auto)]
 
 mod body;
+mod graph;
+mod part;
 
+use part::{Part, PartError};
 use std::alloc::Global;
 use std::env::Env;
 use std::process::ExitCode;
 use std::{env, io};
 
-const USAGE: &str = "usage: pac_bench write|read|copy ROUNDS";
+const USAGE: &str = "usage: pac_bench write|read|copy|table|tables|chain ROUNDS";
 
-// What the words ask for, made so often; the bytes that went through.
-fn run(alloc: Global, words: &[String]) -> Option<u64> {
+// The part and the rounds that the words ask for.
+fn asked(words: &[String]) -> Option<(Part, u32)> {
     let [part, rounds] = words else {
         return None;
     };
-    let rounds = rounds.parse::<u32>().ok()?;
-    match part.as_str() {
-        "write" => body::write(alloc, rounds).ok(),
-        "read" => body::read(alloc, rounds).ok(),
-        "copy" => body::copy(alloc, rounds).ok(),
-        _ => None,
+    Some((Part::named(part.as_str())?, rounds.parse::<u32>().ok()?))
+}
+
+// Makes a part so often; how much was made.
+fn make(alloc: Global, part: Part, rounds: u32) -> Result<u64, PartError> {
+    match part {
+        Part::Write => body::write(alloc, rounds),
+        Part::Read => body::read(alloc, rounds),
+        Part::Copy => body::copy(alloc, rounds),
+        Part::Graph(shape) => graph::make(alloc, shape, rounds),
     }
 }
 
 fn main(rt: HostRuntime) -> io::Result<ExitCode> {
     let words: Vec<String> = env::args(&rt)?.skip(1).collect(rt.alloc())?;
-    match run(rt.alloc(), &words) {
-        Some(bytes) => {
-            println!(rt; "{bytes} bytes")?;
+    let Some((part, rounds)) = asked(&words) else {
+        eprintln!(rt; "{USAGE}")?;
+        return Ok(ExitCode::FAILURE);
+    };
+    match make(rt.alloc(), part, rounds) {
+        Ok(count) => {
+            println!(rt; "{count} {}", part.unit())?;
             Ok(ExitCode::SUCCESS)
         }
-        None => {
-            eprintln!(rt; "{USAGE}")?;
+        Err(error) => {
+            eprintln!(rt; "{error}")?;
             Ok(ExitCode::FAILURE)
         }
     }
