@@ -1,0 +1,3 @@
+pub mod Damages
+pub mod Bodies
+pub mod BodyReading
