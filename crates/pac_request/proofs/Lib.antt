@@ -1,0 +1,4 @@
+pub mod LineStepping
+pub mod LineMeaning
+pub mod LineRuns
+pub mod LineMeets

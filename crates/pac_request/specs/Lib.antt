@@ -1,0 +1,5 @@
+pub mod LineKinds
+pub mod LineForms
+pub mod LineFaults
+pub mod LineSteps
+pub mod RequestMeaning
