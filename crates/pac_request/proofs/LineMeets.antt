@@ -1,6 +1,8 @@
 -- The reading of a line's tokens meets the grammar: what it reads, and the first fault of what it doesn't.
-use Rattle.std.proofs.Common.{◌≡◌, ℕ, List, [], ◌∷◌, ◌++◌, ◌⊎◌, inl, inr, Option, Some, None, Result, Ok, Err, refl, sym, ap, subst, ◌∙◌, append_assoc}
-use Rattle.std.specs.Prelude.{ok_or}
+use Rattle.std.proofs.Common.{◌≡◌, ℕ, List, [], ◌∷◌, ◌++◌, ◌⊎◌, inl, inr, Option, Some, None, Result, Ok, Err, refl, sym, ap, subst, ◌∙◌, append_assoc, suc, length, arith}
+use Rattle.std.specs.Prelude.{ok_or, IfOk}
+use Rattle.pac_base.specs.Refusals.{Tells}
+use Rattle.pac_base.specs.declared.refusal.Refusal.{Refusal}
 use Rattle.std.proofs.lemmas.List.{append-nil}
 use Rattle.pac_tokens.specs.declared.token.Spanned.{Spanned}
 use Rattle.pac_tokens.specs.declared.fault.Fault.{Fault}
@@ -8,7 +10,8 @@ use Rattle.pac_request.specs.declared.fault.LineFault.{LineFault}
 use Rattle.pac_request.specs.declared.fault.LineFaultKind.TheVariants.{Expected}
 use Rattle.pac_request.specs.declared.node.LineNode.{LineNode}
 use Rattle.pac_request.specs.LineKinds.{line_fault, as_line_fault}
-use Rattle.pac_request.specs.LineForms.{IsWritten, line_node}
+use Rattle.pac_request.specs.LineForms.{LineForm, EmptyForm, CallForm, AdHocForm, ShowForm, FlushForm, SaveForm, StopForm, RecordsForm, NoRecord, OneRecord, records_nodes, records_count, HasFewRecords, IsWritten, line_node}
+use Rattle.pac_request.specs.RequestMeaning.{HoldsRecords}
 use Rattle.pac_request.specs.LineFaults.{BeginsLine, IsUnexpectedToken, IsNoLine, IsToldBehind, TokensRead}
 use Rattle.pac_request.specs.LineSteps.{LineSteps, AnyLine, steps_behind, said_at_end, led, line_run, told_at_end, unless_cut, tokens_read}
 use Rattle.pac_request.proofs.LineMeaning.{Wants, Wanted, leads, ends_here, something}
@@ -175,3 +178,25 @@ tokens_once end ts (Some f) (Err fault) (inr (b, is)) = by (begun_run (as_line_f
     by : ((said : LineNode) × (line_run (as_line_fault f) AnyLine ts ≡ Ok said)) ⊎ (line_run (as_line_fault f) AnyLine ts ≡ Err (as_line_fault f)) → Err fault ≡ unless_cut (Some f) (line_run (as_line_fault f) AnyLine ts)
     by (inl (said, e)) = rw (is, e) refl
     by (inr e) = rw (is, e) refl
+
+-- ---- the records of what is read
+
+holds : (form : LineForm) → HasFewRecords form → HoldsRecords (line_node form)
+holds EmptyForm few = tt
+holds (CallForm p0 name p1 args p2) few = tt
+holds (AdHocForm p0 r rs) few = (omega arith, omega (arith, few, counted rs))
+  where
+    counted : (rs : RecordsForm) → length (records_nodes rs) ≡ records_count rs
+    counted NoRecord = refl
+    counted (OneRecord semicolon r rs) = ap (λ (n : ℕ). suc n) (counted rs)
+holds (ShowForm p0 name p1 key p2) few = tt
+holds (FlushForm p0) few = tt
+holds (SaveForm p0) few = tt
+holds (StopForm p0) few = tt
+
+read_holds : (end : ℕ) (ts : List Spanned) (lexical : Option Fault) (node : LineNode) → TokensRead end ts lexical (Ok node) → HoldsRecords node
+read_holds end ts lexical node (none, w) = subst HoldsRecords w.says (holds w.form w.few)
+
+pub records_held : (end : ℕ) (ts : List Spanned) (lexical : Option Fault) (result : Result LineNode (Refusal LineFault)) → Tells (λ node. node) result (tokens_read end ts lexical) → IfOk result HoldsRecords
+records_held end ts lexical (Ok node) e = read_holds end ts lexical node (subst (λ (r : Answer). TokensRead end ts lexical r) e (tokens_told end ts lexical))
+records_held end ts lexical (Err refusal) e = tt

@@ -3,3 +3,4 @@ pub mod LineForms
 pub mod LineFaults
 pub mod LineSteps
 pub mod RequestMeaning
+pub mod LineReading

@@ -1,5 +1,5 @@
 -- What a line asks of a catalogue's procedures and tables, or its first fault from the left.
-use Rattle.std.specs.Prelude.{◌≡◌, ℕ, List, [], ◌∷◌, map, length, slice_get, Option, Some, None, Result, Ok, Err, ok_or, nat_eq, if◌then◌else◌, IsSomeAnd, IfSome}
+use Rattle.std.specs.Prelude.{◌≡◌, ℕ, List, [], ◌∷◌, map, length, slice_get, Option, Some, None, Result, Ok, Err, ok_or, nat_eq, if◌then◌else◌}
 use Rattle.pac_value.specs.declared.values.Ty.{Ty}
 use Rattle.pac_value.specs.declared.values.Ty.TheVariants as ty
 use Rattle.pac_value.specs.declared.values.Value.{Value}
@@ -9,12 +9,12 @@ use Rattle.pac_value.specs.declared.values.Key.TheVariants as key
 use Rattle.pac_value.specs.Expressions.{◌>>=◌}
 use Rattle.pac_ops.specs.declared.transaction.Change.{Change}
 use Rattle.pac_ops.specs.declared.transaction.Change.TheVariants.{Put, Delete}
-use Rattle.pac_ops.specs.Shapes.{RecordsFit, KeyFits}
+use Rattle.pac_ops.specs.Sizes.{HasOneTo}
+use Rattle.pac_ops.specs.declared.limits.TheConstants.{MAX_RECORDS}
 use Rattle.pac_types.specs.declared.table.Table.{Table}
 use Rattle.pac_types.specs.declared.procedure.Proc.{Proc}
 use Rattle.pac_types.specs.Sound.{types}
-use Rattle.pac_types.specs.Numbering.{number_of, table_number}
-use Rattle.pac_types.specs.Fits.{shape, FitsCall}
+use Rattle.pac_types.specs.Numbering.{number_of}
 use Rattle.pac_types.specs.Typing.{CatalogueState}
 use Rattle.pac_syntax.specs.declared.tree.NameNode.{NameNode}
 use Rattle.pac_request.specs.declared.node.PlacedLiteral.{PlacedLiteral}
@@ -62,29 +62,33 @@ named_proc procs name = ok_or (number_of (map (λ proc. proc.name) procs) name.n
 abbrev pub named_table : List Table → NameNode → Result ℕ LineFault
 named_table tables name = ok_or (number_of (map (λ table. table.name) tables) name.name) (line_fault UnknownName name.at)
 
+-- the procedure with this name
+abbrev pub proc_at : List Proc → NameNode → Result (ℕ × Proc) LineFault
+proc_at procs name = named_proc procs name >>= λ number. ok_or (slice_get procs number) (line_fault UnknownName name.at) >>= λ proc. Ok (number, proc)
+
+abbrev pub table_at : List Table → NameNode → Result (ℕ × Table) LineFault
+table_at tables name = named_table tables name >>= λ number. ok_or (slice_get tables number) (line_fault UnknownName name.at) >>= λ table. Ok (number, table)
+
 -- a call: its procedure, the number of the arguments, and then each of its parameter's type
 unfoldable pub asked_call : List Proc → NameNode → List PlacedLiteral → Result Request LineFault
-asked_call procs name ls = named_proc procs name
-    >>= λ number. ok_or (slice_get procs number) (line_fault UnknownName name.at)
-    >>= λ proc. counted_literals name (types proc.params) ls
-    >>= λ counted. asked_values (types proc.params) counted
-    >>= λ args. Ok (request.Call number args)
+asked_call procs name ls = proc_at procs name
+    >>= λ p. counted_literals name (types p.1.params) ls
+    >>= λ counted. asked_values (types p.1.params) counted
+    >>= λ args. Ok (request.Call p.0 args)
 
 -- a put: its table, the number of values, the key, and then each value of its column's type
 unfoldable pub asked_put : List Table → NameNode → PlacedLiteral → List PlacedLiteral → Result Change LineFault
-asked_put tables name k ls = named_table tables name
-    >>= λ number. ok_or (slice_get tables number) (line_fault UnknownName name.at)
-    >>= λ table. counted_literals name (types table.columns) ls
-    >>= λ counted. asked_key table.key k
-    >>= λ found. asked_values (types table.columns) counted
-    >>= λ row. Ok (Put number found row)
+asked_put tables name k ls = table_at tables name
+    >>= λ t. counted_literals name (types t.1.columns) ls
+    >>= λ counted. asked_key t.1.key k
+    >>= λ found. asked_values (types t.1.columns) counted
+    >>= λ row. Ok (Put t.0 found row)
 
 -- a table and a key of it
 unfoldable pub asked_cell : List Table → NameNode → PlacedLiteral → Result (ℕ × Key) LineFault
-asked_cell tables name k = named_table tables name
-    >>= λ number. ok_or (slice_get tables number) (line_fault UnknownName name.at)
-    >>= λ table. asked_key table.key k
-    >>= λ found. Ok (number, found)
+asked_cell tables name k = table_at tables name
+    >>= λ t. asked_key t.1.key k
+    >>= λ found. Ok (t.0, found)
 
 abbrev pub asked_change : List Table → RecordNode → Result Change LineFault
 asked_change tables (record_.Put name k ls) = asked_put tables name k ls
@@ -104,3 +108,12 @@ asked catalogue (line.Show name k) = asked_cell catalogue.tables name k >>= λ c
 asked catalogue line.Flush = Ok (Some request.Flush)
 asked catalogue line.Save = Ok (Some request.Save)
 asked catalogue line.Stop = Ok (Some request.Stop)
+
+-- an ad-hoc line has 1 to 64 records
+abbrev pub HoldsRecords : LineNode → Type 0
+HoldsRecords (line.AdHoc rs) = HasOneTo MAX_RECORDS rs
+HoldsRecords _ = Unit {0}
+
+-- the same of a line, or its fault where it is none
+abbrev pub asked_by : CatalogueState → Result LineNode LineFault → Result (Option Request) LineFault
+asked_by catalogue said = said >>= λ node. asked catalogue node

@@ -1,8 +1,10 @@
 // Why a request line is refused.
 ghost use Rattle.std.specs.Prelude.{◌≡◌};
-ghost use Rattle.pac_request.specs.LineKinds.{line_kind_name, as_line_kind};
+ghost use Rattle.pac_base.specs.declared.refusal.Refusal.TheVariants.{Fault as AFault};
+ghost use Rattle.pac_request.specs.LineKinds.{line_kind_name, as_line_kind, as_line_fault};
 
-use pac_tokens::FaultKind;
+use pac_base::Refusal;
+use pac_tokens::{Fault, FaultKind};
 use std::fmt;
 use thiserror::Error;
 
@@ -61,13 +63,31 @@ pub struct LineFault {
     pub kind: LineFaultKind,
 }
 
-/// A kind of fault of a token as one of its line.
-pub(crate) fn line_kind(kind: FaultKind) -> LineFaultKind
+impl From<LineFault> for Refusal<LineFault> {
+    ghost from_gives = { λ fault error. error ≡ AFault fault };
+
+    fn from(fault: LineFault) -> Self {
+        Refusal::Fault(fault)
+    }
+}
+
+// A kind of fault of a token as one of its line.
+fn line_kind(kind: FaultKind) -> LineFaultKind
     ensures { result ≡ as_line_kind kind }
 {
     match kind {
         FaultKind::Token => LineFaultKind::Token,
         FaultKind::TooLong => LineFaultKind::TooLong,
         _ => LineFaultKind::Expected,
+    }
+}
+
+/// A fault of a token as one of its line.
+pub(crate) fn line_fault(fault: Fault) -> LineFault
+    ensures { result ≡ as_line_fault fault }
+{
+    LineFault {
+        at: fault.at,
+        kind: line_kind(fault.kind),
     }
 }

@@ -3,6 +3,7 @@
 
 mod fault;
 mod limits;
+mod line;
 mod meaning;
 mod node;
 mod parser;
@@ -10,4 +11,5 @@ mod request;
 
 pub use fault::{LineFault, LineFaultKind};
 pub use limits::MAX_LINE;
+pub use line::read_line;
 pub use request::{Replies, RepliesRule, Reply, Request};

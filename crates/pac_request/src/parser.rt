@@ -1,6 +1,6 @@
 // Reads the tokens of a request line from left to right, and stops at the first that can't follow.
-ghost use Rattle.std.specs.Prelude.{◌≡◌, ◌∷◌, [], MatchOption, OnOk, Ok};
-ghost use Rattle.pac_base.specs.Refusals.{Gives};
+ghost use Rattle.std.specs.Prelude.{◌≡◌, ◌∷◌, [], MatchOption, OnOk, IfOk, Ok};
+ghost use Rattle.pac_base.specs.Refusals.{Gives, Tells};
 ghost use Rattle.pac_base.specs.declared.refusal.Refusal.TheVariants as error;
 ghost use Rattle.pac_tokens.specs.declared.token.Token.TheVariants as token;
 ghost use Rattle.pac_syntax.specs.Machine.{is_same_word_or_sign, symbol_code};
@@ -9,14 +9,15 @@ ghost use Rattle.pac_request.specs.declared.node.LineNode.TheVariants as said;
 ghost use Rattle.pac_request.specs.declared.node.Verb.TheVariants as verb;
 ghost use Rattle.pac_syntax.specs.declared.tree.NameNode.{NameNode as ANameNode};
 ghost use Rattle.pac_request.specs.declared.node.PlacedLiteral.{PlacedLiteral as APlacedLiteral};
-ghost use Rattle.pac_request.specs.LineSteps.{LineSteps, LineEnds, ThisSign, SomeName, SomeLiteral, MoreLiterals, AllArguments, SomeRecord, AnyLine, verb_in, verb_steps, record_word, cell_steps, row_steps, put_record_steps, delete_record_steps, fault_here, line_run, LeavesNoMore, ReadsOn, ReadsAllOn};
+ghost use Rattle.pac_request.specs.RequestMeaning.{HoldsRecords};
+ghost use Rattle.pac_request.specs.LineSteps.{LineSteps, LineEnds, ThisSign, SomeName, SomeLiteral, MoreLiterals, AllArguments, SomeRecord, AnyLine, verb_in, verb_steps, record_word, cell_steps, row_steps, put_record_steps, delete_record_steps, fault_here, line_run, tokens_read, LeavesNoMore, ReadsOn, ReadsAllOn};
 
-use crate::fault::{LineFault, LineFaultKind};
+use crate::fault::{LineFault, LineFaultKind, line_fault};
 use crate::node::{LineNode, PlacedLiteral, RecordNode, Verb};
 use pac_base::{Refusal, listed};
 use pac_ops::MAX_RECORDS;
 use pac_syntax::NameNode;
-use pac_tokens::{Keyword, Spanned, Symbol, Token, int_or_text};
+use pac_tokens::{Keyword, Lexed, Spanned, Symbol, Token, int_or_text};
 use pac_value::{Name, Value};
 use std::alloc::Global;
 
@@ -361,4 +362,53 @@ impl<'a> LineParser<'a> {
             Some(_) => Err(self.refuse()),
         }
     }
+}
+
+// What the tokens of a line with so many bytes say.
+fn said_by(alloc: Global, lexed: &Lexed, end: usize) -> Result<LineNode, Refusal<LineFault>>
+    ensures { Tells (λ node. node) result (tokens_read end lexed.now.items.items lexed.now.fault) }
+{
+    match lexed.fault {
+        None => {
+            let kind = LineFaultKind::Expected;
+            let end = LineFault { at: end, kind };
+            run_parser(alloc, &lexed.items, end)
+        }
+        Some(fault) => {
+            let end = line_fault(fault);
+            let _node = run_parser(alloc, &lexed.items, end)?;
+            Err(Refusal::Fault(end))
+        }
+    }
+}
+
+fn run_parser(
+    alloc: Global,
+    tokens: &[Spanned],
+    end: LineFault,
+) -> Result<LineNode, Refusal<LineFault>>
+    ensures { Tells (λ node. node) result (line_run end AnyLine tokens.now) }
+{
+    let mut parser = LineParser {
+        alloc,
+        rest: tokens,
+        end,
+    };
+    parser.line()
+}
+
+/// What the tokens of a line with so many bytes say.
+///
+/// # Errors
+///
+/// The first of them that can't follow, or the fault of a token that ends them; or `NoMemory`.
+pub fn parse_line(
+    alloc: Global,
+    lexed: &Lexed,
+    end: usize,
+) -> Result<LineNode, Refusal<LineFault>>
+    ensures read { Tells (λ node. node) result (tokens_read end lexed.now.items.items lexed.now.fault) }
+    ensures records { IfOk result HoldsRecords }
+{
+    said_by(alloc, lexed, end)
 }
