@@ -1,0 +1,4 @@
+// How long a request line may be.
+
+/// The most bytes of a request line.
+pub const MAX_LINE: usize = 4_096;
