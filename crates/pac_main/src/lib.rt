@@ -23,6 +23,3 @@ mod tell;
 pub use command::pacman;
 pub use limits::{MAX_LINE, MAX_SCRIPT};
 pub use tell::{WordsError, refuse_words};
-
-#[cfg(test)]
-mod tests;

@@ -1,7 +1,7 @@
 // The top call over sources and sinks in memory.
 ghost use Rattle.std.specs.Prelude.{Some};
 
-use crate::{WordsError, pacman, refuse_words};
+use pac_main::{WordsError, pacman, refuse_words};
 use pac_outside::{Devices, Failed, Gate, MemSink, MemSource, NoDisk, OpenGate, Sink, Source};
 use std::alloc::Global;
 use std::sync::Wait;

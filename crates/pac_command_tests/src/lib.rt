@@ -1,0 +1,7 @@
+//! Tests of the commands, by the top call over streams in memory. It has no calls of its own.
+//!
+//! They stand here and not beside what they test, so that it is proved once.
+#![tactic(auto)]
+
+#[cfg(test)]
+mod commands;
