@@ -21,8 +21,6 @@ mod operation;
 mod pending;
 mod serial;
 mod statement;
-#[cfg(test)]
-mod tests;
 mod transaction;
 
 pub use dump::dump_tables;

@@ -19,6 +19,8 @@ mod notes;
 #[cfg(test)]
 mod plans;
 #[cfg(test)]
+mod serial;
+#[cfg(test)]
 mod slices;
 #[cfg(test)]
 mod syntax;

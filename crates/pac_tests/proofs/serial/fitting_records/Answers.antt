@@ -7,7 +7,7 @@ use Rattle.pac_ops.specs.declared.transaction.Change.{Change}
 use Rattle.pac_ops.specs.Shapes.{RecordsFit}
 use Rattle.pac_types.specs.Fits.{shape}
 use Rattle.pac_types.proofs.ShapeLemmas.{key-fits, row-fits}
-use Rattle.pac_serial.proofs.tests.fitting_records.Goals as goal
+use Rattle.pac_tests.proofs.serial.fitting_records.Goals as goal
 
 pub returns : goal.returns
 returns c =

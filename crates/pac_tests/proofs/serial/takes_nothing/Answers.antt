@@ -8,7 +8,7 @@ use Rattle.pac_types.specs.declared.procedure.Proc.{Proc}
 use Rattle.pac_types.specs.declared.table.Column.{Column}
 use Rattle.pac_types.specs.Sound.{types}
 use Rattle.pac_types.specs.Fits.{FitParams, FitsCall}
-use Rattle.pac_serial.proofs.tests.takes_nothing.Goals as goal
+use Rattle.pac_tests.proofs.serial.takes_nothing.Goals as goal
 
 takes : (procs ps : List Proc) (n i : ℕ) (proc : Proc) → ps ≡ procs → i ≡ n → true ≡ nat_lt i (length ps) → proc ≡ get_or ps i proc → proc.params ≡ [] → FitsCall procs n []
 takes procs ps n i proc same at inside is none =
