@@ -1,2 +1,5 @@
 pub mod LinkLemmas
 pub mod FillingLemmas
+pub mod LogLemmas
+pub mod HeaderLemmas
+pub mod CreateLemmas

@@ -1,3 +1,8 @@
 pub mod Damages
+pub mod LogErrors
 pub mod Bodies
 pub mod BodyReading
+pub mod Logs
+pub mod Gates
+pub mod Places
+pub mod Reading

@@ -18,11 +18,11 @@ const BODY: &[u8] = b"\x03\0\0\0\x4D\0\0\0\
     \x01\x01\0\x03\x01\x01\0\0\0\0\0\0\0\x01\x04\x29\0\0\0\0\0\0\x01\x07\0\0\0\0\0\0\0\
     \x01\0\0\x02\x01\x01\0\0\0\0\0\0\0\x01\xF4\x01\0\0\0\0\0\0";
 
-const ONE_TABLE: &[u8] = b"table T(key int, v int);";
+pub(crate) const ONE_TABLE: &[u8] = b"table T(key int, v int);";
 
 // The log of one table with `adhoc put T[1] = (2)`: the header, the open gate at 36, the numbers at 37 and 41, the entry
 // from 45 on, and the closed gate at 69.
-const LOG: &[u8] = b"PACMLOG1\x18\0\0\0table T(key int, v int);\
+pub(crate) const LOG: &[u8] = b"PACMLOG1\x18\0\0\0table T(key int, v int);\
     \x01\x01\0\0\0\x18\0\0\0\x02\x01\x01\0\0\x01\x01\0\0\0\0\0\0\0\x01\x01\x02\0\0\0\0\0\0\0\0";
 
 fn catalogue(alloc: Global, text: &[u8]) -> Result<Catalogue, Fail> {
@@ -32,7 +32,7 @@ fn catalogue(alloc: Global, text: &[u8]) -> Result<Catalogue, Fail> {
     }
 }
 
-fn put(alloc: Global, key: i64, value: i64) -> Result<Txn, NoMemory> {
+pub(crate) fn put(alloc: Global, key: i64, value: i64) -> Result<Txn, NoMemory> {
     let change = Change::Put {
         table: 0,
         key: Key::Int(key),
@@ -91,7 +91,12 @@ fn fault_of<'a>(alloc: Global, cat: &Catalogue, bytes: &[u8]) -> Option<(usize, 
 }
 
 // The log with this byte at a place, so long; longer than it is, with bytes 0.
-fn changed(alloc: Global, place: usize, byte: u8, len: usize) -> Result<Vec<u8>, AllocError> {
+pub(crate) fn changed(
+    alloc: Global,
+    place: usize,
+    byte: u8,
+    len: usize,
+) -> Result<Vec<u8>, AllocError> {
     let mut bytes = LOG.to_vec(alloc)?;
     if let Some(old) = bytes.get_mut(place) {
         *old = byte;

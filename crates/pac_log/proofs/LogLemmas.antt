@@ -1,0 +1,123 @@
+-- A log whose next gate is opened.
+use Rattle.std.proofs.Common.{◌≡◌, ◌∙◌, ◌⊎◌, inl, inr, ⊎_elim, ℕ, ◌+◌, ◌*◌, ◌≤◌, List, [], ◌∷◌, ◌++◌, length, Option, sym, ap, subst, arith, append_assoc}
+use Rattle.std.proofs.lemmas.List.Concat.{flat_map-cons}
+use Rattle.std.proofs.lemmas.List.{append-nil, length-append}
+use Rattle.std.proofs.lemmas.List.Elements.{All-append, All-cons, All-nil}
+use Rattle.std.specs.Int.{w32, to_le_bytes}
+use Rattle.pac_ops.specs.declared.transaction.Txn.{Txn}
+use Rattle.pac_ops.specs.declared.transaction.Txn.TheVariants.{Call, AdHoc}
+use Rattle.pac_bytes.proofs.Numbers.{width32}
+use Rattle.pac_entry.specs.Entries.{txn_bytes}
+use Rattle.pac_types.specs.Typing.{CatalogueState}
+use Rattle.pac_outside.specs.Disk.{History, BothTell}
+use Rattle.pac_outside.specs.GateByte.{IsShut, IsOpen, ShutOrOpen, Opens}
+use Rattle.pac_outside.proofs.Histories.{both, weaken}
+use Rattle.pac_log.specs.declared.position.NextGate.{NextGate}
+use Rattle.pac_log.specs.declared.log.Stage.{Stage}
+use Rattle.pac_log.specs.declared.log.Stage.TheVariants.{Ready}
+use Rattle.pac_log.specs.Bodies.{entries_bytes, body_bytes, IsBody}
+use Rattle.pac_log.specs.Logs.{header_bytes, open_bodies, log_front, count_txns, AreBatches, HoldsLog, KeepsOrAdds, AddsBatch}
+use Rattle.pac_log.specs.Gates.{gate_behind}
+use Rattle.pac_log.specs.Places.{IsBehind}
+
+-- with one batch more, its open gate and its body stand behind the others
+pub pushed : (batches : List (List Txn)) (txns : List Txn) (rest : List ℕ) → open_bodies (batches ++ txns ∷ []) ++ rest ≡ open_bodies batches ++ (1 ∷ (body_bytes txns ++ rest))
+pushed [] txns rest = ap (λ (l : List ℕ). 1 ∷ (l ++ rest)) (append-nil (body_bytes txns))
+pushed (b ∷ batches) txns rest =
+    let more = 1 ∷ (body_bytes txns ++ rest) in
+    let inner : (body_bytes b ++ open_bodies (batches ++ txns ∷ [])) ++ rest ≡ (body_bytes b ++ open_bodies batches) ++ more =
+    append_assoc (body_bytes b) (open_bodies (batches ++ txns ∷ [])) rest ∙ ap (λ (l : List ℕ). body_bytes b ++ l) (pushed batches txns rest) ∙ sym (append_assoc (body_bytes b) (open_bodies batches) more) in
+    ap (λ (l : List ℕ). 1 ∷ l) inner
+
+pub front_pushed : (text : List ℕ) (batches : List (List Txn)) (txns : List Txn) (rest : List ℕ) → log_front text (batches ++ txns ∷ []) ++ rest ≡ log_front text batches ++ (1 ∷ (body_bytes txns ++ rest))
+front_pushed text batches txns rest =
+    append_assoc (header_bytes text) (open_bodies (batches ++ txns ∷ [])) rest ∙ ap (λ (l : List ℕ). header_bytes text ++ l) (pushed batches txns rest)
+    ∙ sym (append_assoc (header_bytes text) (open_bodies batches) (1 ∷ (body_bytes txns ++ rest)))
+
+counted_more : (batches : List (List Txn)) (txns : List Txn) → count_txns (batches ++ txns ∷ []) ≡ count_txns batches + length txns
+counted_more [] txns = omega arith
+counted_more (b ∷ batches) txns = ap (λ (n : ℕ). length b + n) (counted_more batches txns) ∙ omega arith
+
+pub with_batch : (text : List ℕ) (catalogue : CatalogueState) (batches : List (List Txn)) (txns : List Txn) → AreBatches text catalogue batches → IsBody catalogue txns → AreBatches text catalogue (batches ++ txns ∷ [])
+with_batch text catalogue batches txns are is = record {
+  accepted = are.accepted;
+  each = All-append (IsBody catalogue) batches (txns ∷ []) are.each (All-cons (IsBody catalogue) txns [] is (All-nil (IsBody catalogue)));
+}
+
+-- the gate that comes behind one batch more
+pub behind_more : (text : List ℕ) (batches : List (List Txn)) (txns : List Txn) (gate : NextGate) → IsBehind text batches gate
+    → IsBehind text (batches ++ txns ∷ []) (gate_behind (length txns) (1 + length (body_bytes txns)) gate)
+behind_more text batches txns gate is =
+    let lens : length (log_front text (batches ++ txns ∷ [])) ≡ length (log_front text batches ++ (1 ∷ (body_bytes txns ++ [])))
+    = ap (λ (l : List ℕ). length l) (sym (append-nil (log_front text (batches ++ txns ∷ []))) ∙ front_pushed text batches txns []) in
+    record {
+      place = omega (arith, is.place, lens, length-append (log_front text batches) (1 ∷ (body_bytes txns ++ [])), length-append (body_bytes txns) []);
+      txns = omega (arith, is.txns, counted_more batches txns);
+    }
+
+module _ (text : List ℕ) (catalogue : CatalogueState) (batches : List (List Txn)) (txns : List Txn) (piece : List ℕ) (framed : piece ≡ body_bytes txns ++ (0 ∷ [])) (body : IsBody catalogue txns) where
+  -- an open gate with the body and a shut gate behind it is one batch more
+  one_more : (image : List ℕ) → AreBatches text catalogue batches → IsOpen (log_front text batches) piece image → HoldsLog text catalogue (batches ++ txns ∷ []) image
+  one_more image are is = record {
+    log = with_batch text catalogue batches txns are body;
+    shut = record {
+      gate = 0;
+      rest = is.rest;
+      split = is.split ∙ ap (λ (p : List ℕ). log_front text batches ++ (1 ∷ (p ++ is.rest))) framed ∙ ap (λ (l : List ℕ). log_front text batches ++ (1 ∷ l)) (append_assoc (body_bytes txns) (0 ∷ []) is.rest) ∙ sym (front_pushed text batches txns (0 ∷ is.rest));
+      shut = omega arith;
+    };
+  }
+
+  keeps : (a b : History) → ShutOrOpen (log_front text batches) piece a b → KeepsOrAdds text catalogue batches txns a b
+  keeps a b run alone = weaken (λ image. IsShut (log_front text batches) image ⊎ IsOpen (log_front text batches) piece image) (λ image. HoldsLog text catalogue batches image ⊎ HoldsLog text catalogue (batches ++ txns ∷ []) image) a b
+      (λ image is. ⊎_elim (λ shut. inl (record { log = alone.has.log; shut = shut })) (λ opened. inr (one_more image alone.has.log opened)) is)
+      (run (record { one = alone.one; has = alone.has.shut }))
+
+  adds : (a b : History) → Opens (log_front text batches) piece a b → AddsBatch text catalogue batches txns a b
+  adds a b run alone = let opened = run (record { one = alone.one; has = alone.has.shut }) in record { one = opened.one; has = one_more b.now.seen alone.has.log opened.has }
+
+  pub keeps_or_adds : (a b : Option History) → BothTell (ShutOrOpen (log_front text batches) piece) a b → BothTell (KeepsOrAdds text catalogue batches txns) a b
+  keeps_or_adds = both (ShutOrOpen (log_front text batches) piece) (KeepsOrAdds text catalogue batches txns) keeps
+
+  pub adds_batch : (a b : Option History) → BothTell (Opens (log_front text batches) piece) a b → BothTell (AddsBatch text catalogue batches txns) a b
+  adds_batch = both (Opens (log_front text batches) piece) (AddsBatch text catalogue batches txns) adds
+
+-- ---- what stands ready
+
+entry_long : (txn : Txn) → 2 ≤ length (txn_bytes txn)
+entry_long (Call call) = omega arith
+entry_long (AdHoc records) = omega arith
+
+entries_long : (txns : List Txn) → 2 * length txns ≤ length (entries_bytes txns)
+entries_long [] = omega arith
+entries_long (txn ∷ txns) =
+    let parts : length (entries_bytes (txn ∷ txns)) ≡ length (txn_bytes txn ++ entries_bytes txns) = ap (λ (x : List ℕ). length x) (flat_map-cons txn_bytes txn txns) in
+    omega (arith, parts, length-append (txn_bytes txn) (entries_bytes txns), entry_long txn, entries_long txns)
+
+-- each transaction takes two bytes or more of a body
+pub body_long : (txns : List Txn) → 2 * length txns + 8 ≤ length (body_bytes txns)
+body_long txns =
+    let count = to_le_bytes w32 (length txns) in
+    let len = to_le_bytes w32 (length (entries_bytes txns)) in
+    omega (arith, length-append count (len ++ entries_bytes txns), length-append len (entries_bytes txns), width32.len (length txns), width32.len (length (entries_bytes txns)), entries_long txns)
+
+ready_same : (a b : List ℕ) (m n : ℕ) → Ready a m ≡ Ready b n → (a ≡ b) × (m ≡ n)
+ready_same a b m n e = (ready_piece e, ready_count e)
+  where
+    ready_piece : Ready a m ≡ Ready b n → a ≡ b
+    ready_piece h = cc
+
+    ready_count : Ready a m ≡ Ready b n → m ≡ n
+    ready_count h = cc
+
+-- what is ready is the body and a closed gate
+pub ready_parts : (stage other : Stage) (piece body : List ℕ) (m n : ℕ) → stage ≡ Ready piece m → stage ≡ other → other ≡ Ready body n → (piece ≡ body) × (m ≡ n)
+ready_parts stage other piece body m n is view there = ready_same piece body m n (sym is ∙ view ∙ there)
+
+pub behind_so : (text : List ℕ) (batches : List (List Txn)) (txns : List Txn) (gate new : NextGate) (count len : ℕ) → count ≡ length txns → len ≡ 1 + length (body_bytes txns) → new ≡ gate_behind count len gate
+    → IsBehind text batches gate → IsBehind text (batches ++ txns ∷ []) new
+behind_so text batches txns gate new count len counted long e is =
+    let there : IsBehind text (batches ++ txns ∷ []) (gate_behind (length txns) (1 + length (body_bytes txns)) gate) = behind_more text batches txns gate is in
+    let with_count : IsBehind text (batches ++ txns ∷ []) (gate_behind count (1 + length (body_bytes txns)) gate) = subst (λ (n : ℕ). IsBehind text (batches ++ txns ∷ []) (gate_behind n (1 + length (body_bytes txns)) gate)) (sym counted) there in
+    let with_len : IsBehind text (batches ++ txns ∷ []) (gate_behind count len gate) = subst (λ (n : ℕ). IsBehind text (batches ++ txns ∷ []) (gate_behind count n gate)) (sym long) with_count in
+    subst (λ (g : NextGate). IsBehind text (batches ++ txns ∷ []) g) (sym e) with_len

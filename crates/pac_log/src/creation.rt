@@ -1,0 +1,43 @@
+// Makes a log.
+ghost use Rattle.std.specs.Prelude.{◌≡◌, ◌<◌, ◌≤◌, ℕ, [], length, OnOk, IsErrOf, MatchResult};
+ghost use Rattle.pac_outside.specs.Causes.{EndsAtFault, Rose, one_more};
+ghost use Rattle.pac_outside.specs.Disk.{BothTell, WhereTold};
+ghost use Rattle.pac_types.specs.Typing.{CatalogueState};
+ghost use Rattle.pac_log.specs.Logs.{HoldsLog, IsAccepted};
+ghost use Rattle.pac_outside.specs.GateByte.{OneImage};
+
+use crate::CreateError;
+use crate::header::{HEADER_LEN, put_header};
+use pac_outside::{Disk, write_and_sync};
+use std::alloc::Global;
+
+/// Makes the log of a catalogue's text on an empty device, with no batch in it: the header and a closed gate, which it
+/// syncs.
+///
+/// # Errors
+///
+/// - [`CreateError::NotEmpty`] exactly where the device has a byte. Nothing is written.
+/// - [`CreateError::DiskFault`] where a call of the device failed, so only where its count of faults rose. Nothing is
+///   promised of the device then; no call comes after the one that failed.
+/// - [`CreateError::NoMemory`] where there was no memory for the header. Nothing is written.
+pub fn create<D: Disk>(alloc: Global, disk: &mut D, text: &[u8]) -> Result<(), CreateError>
+    requires { (catalogue : CatalogueState) × IsAccepted text.now catalogue }
+
+    // From Ok on each crash leaves the log of this text, without a batch.
+    ensures made { OnOk result ((catalogue : CatalogueState) → IsAccepted text.now catalogue → BothTell (λ old new. OneImage (HoldsLog text.now catalogue []) new.now) (D.told disk.old) (D.told disk.new)) }
+    ensures empty { OnOk result (WhereTold (λ old. length old.now.seen ≡ 0) (D.told disk.old)) }
+    ensures not_empty { (len : ℕ) → IsErrOf result (CreateError.NotEmpty len) → (0 < len) × WhereTold (λ old. len ≡ length old.now.seen) (D.told disk.old) }
+    ensures kept { (len : ℕ) → IsErrOf result (CreateError.NotEmpty len) → D.told disk.new ≡ D.told disk.old }
+    ensures cause { IsErrOf result CreateError.DiskFault → Rose (D.faults disk.old) (D.faults disk.new) }
+    ensures counted { IsErrOf result CreateError.DiskFault → D.faults disk.new ≡ one_more (D.faults disk.old) }
+    ensures quiet { ¬ IsErrOf result CreateError.DiskFault → D.faults disk.new ≡ D.faults disk.old }
+{
+    let length = disk.len()?;
+    if length > 0 {
+        return Err(CreateError::NotEmpty { length });
+    }
+    let mut bytes = Vec::with_capacity(alloc, HEADER_LEN + text.len() + 1)?;
+    put_header(&mut bytes, text)?;
+    bytes.push(0)?; // the closed gate
+    Ok(write_and_sync(disk, 0, &bytes)?)
+}

@@ -1,0 +1,191 @@
+// Writes a log.
+ghost use Rattle.std.specs.Prelude.{◌≡◌, ◌↔◌, ◌<◌, ◌≤◌, ◌+◌, ◌-◌, ◌^◌, ◌∷◌, ◌++◌, [], ℕ, List, length, min, All, OnOk, OnErr, IsErrOf, true};
+ghost use Rattle.pac_outside.specs.Causes.{EndsAtFault, HasCause};
+ghost use Rattle.pac_outside.specs.Disk.{BothTell, WhereTold};
+ghost use Rattle.pac_ops.specs.declared.transaction.Txn.{Txn as ATxn};
+ghost use Rattle.pac_types.specs.Fits.{TxnFits};
+ghost use Rattle.pac_types.specs.OperationLimits.{HasFewOperations};
+ghost use Rattle.pac_log.specs.declared.limits.TheConstants.{MAX_BODY_LEN, MAX_LOG_LEN};
+ghost use Rattle.pac_log.specs.Bodies.{body_bytes};
+ghost use Rattle.pac_log.specs.Logs.{AddsBatch, KeepsOrAdds};
+ghost use Rattle.pac_log.specs.Gates.{gate_behind};
+ghost use Rattle.pac_log.specs.Places.{LogEndsAt, HasFailed, IsBehind, IsPrepared, HasReady, need_of};
+
+use crate::position::Position;
+use crate::{LogReader, MAX_LOG_LEN, PrepareError, body_len, write_body};
+use pac_base::{Listed, listed};
+use pac_ops::Batch;
+use pac_outside::{Disk, Failed, open_behind};
+use pac_types::Catalogue;
+use std::alloc::Global;
+use std::marker::Model;
+
+/// What a log is about to do.
+#[derive(Drop)]
+pub enum Stage {
+    /// It waits for a batch.
+    Waiting,
+    /// The body of a batch of so many transactions, and the closed gate behind it, are ready to be written.
+    Ready { piece: Listed<u8>, txns: u64 },
+    /// A commit failed. Nothing is written any more.
+    Failed,
+}
+
+/// What a log is.
+#[derive(Drop)]
+pub struct LogParts {
+    pub gate: Position,
+    pub stage: Stage,
+}
+
+/// A log to whose end batches are committed.
+#[derive(Drop)]
+pub struct Log {
+    alloc: Global,
+    parts: LogParts,
+}
+
+impl Model for Log {
+    ghost use Rattle.pac_log.specs.declared.log.LogParts.{LogParts};
+    ghost use Rattle.pac_log.specs.contracts.log.LogParts as coding;
+    ghost use Rattle.pac_log.specs.Places.{HasRoom};
+
+    ghost Value = { LogParts };
+
+    ghost coded = { coding.the_row.coded };
+
+    ghost view = { λ log. log.parts };
+
+    ghost invariant = { λ log. HasRoom log.parts.gate.place log.parts.stage };
+}
+
+impl Log {
+    /// The log that a reader has read to its end. Takes no memory.
+    pub fn resume(reader: LogReader) -> Log
+        requires { reader.is_at_end ≡ true }
+        ensures { result ≡ record { gate = reader.gate; stage = Stage.Waiting } }
+    {
+        let LogReader { alloc, parts } = reader;
+        Log {
+            alloc,
+            parts: LogParts {
+                gate: parts.gate,
+                stage: Stage::Waiting,
+            },
+        }
+    }
+
+    /// The place of the gate that comes next, an offset from 0.
+    pub fn place(&self) -> u64
+        ensures { result ≡ self.now.gate.place }
+    {
+        self.parts.gate.place()
+    }
+
+    /// How many transactions stand in front of it, at most 2^63.
+    pub fn txns(&self) -> u64
+        ensures value { result ≡ self.now.gate.txns }
+        ensures few { result ≤ 2 ^ 63 }
+    {
+        self.parts.gate.txns()
+    }
+
+    /// The log's catalogue, which is within the limits on operations.
+    pub fn catalogue(&self) -> &Catalogue
+        ensures value { result.now ≡ self.now.gate.catalogue }
+        ensures few { HasFewOperations self.now.gate.catalogue.procs }
+    {
+        self.parts.gate.catalogue()
+    }
+
+    /// Makes a batch ready to be committed. It writes the batch's body into memory, once.
+    ///
+    /// # Errors
+    ///
+    /// The log is left as it was.
+    ///
+    /// - [`PrepareError::Failed`] exactly where an earlier commit failed.
+    /// - [`PrepareError::LogFull`] exactly where none did, and the log would have more than 268,435,456 bytes.
+    /// - [`PrepareError::NoMemory`] where there was no memory for the body.
+    pub fn prepare(&mut self, batch: &Batch) -> Result<(), PrepareError>
+        requires fits { All (TxnFits self.old.gate.catalogue) batch.now.txns }
+        requires short { length (body_bytes batch.now.txns) ≤ MAX_BODY_LEN }
+
+        // It stands ready, and the log stands where it stood.
+        ensures prepared { OnOk result (IsPrepared self.new batch.now.txns) }
+        ensures gate { self.new.gate ≡ self.old.gate }
+        ensures refused { OnErr result (self.new ≡ self.old) }
+
+        // When each refusal comes.
+        ensures failed { IsErrOf result PrepareError.Failed ↔ HasFailed self.old.stage }
+        ensures full { (need : ℕ) → IsErrOf result (PrepareError.LogFull need) → (MAX_LOG_LEN < need_of self.old.gate.place batch.now.txns) × (need ≡ min (need_of self.old.gate.place batch.now.txns) (2 ^ 64 - 1)) }
+        ensures room { OnOk result (need_of self.old.gate.place batch.now.txns ≤ MAX_LOG_LEN) }
+    {
+        if matches!(self.parts.stage, Stage::Failed) {
+            return Err(PrepareError::Failed);
+        }
+        let len = body_len(batch);
+        let need = self.place().saturating_add(len + 2);
+        if need > MAX_LOG_LEN {
+            return Err(PrepareError::LogFull { need });
+        }
+        let mut piece = Vec::with_capacity(self.alloc, len as usize + 1)?;
+        write_body(batch, &mut piece)?;
+        piece.push(CLOSED)?;
+        let txns = batch.txns.items().len() as u64;
+        self.parts.stage = Stage::Ready {
+            piece: listed(piece),
+            txns,
+        };
+        Ok(())
+    }
+
+    /// Puts the batch that is ready behind the others. It makes four device calls: it writes the body and the closed gate
+    /// behind it, syncs, opens the gate in front of it, and syncs. From Ok on each crash leaves the batch; at each moment
+    /// before, a crash leaves the batches before it, with the new one or without. Takes no memory.
+    ///
+    /// # Errors
+    ///
+    /// [`Failed`] where a call of the device failed, so only where its count of faults rose; no call comes after it, and the
+    /// log has failed.
+    pub fn commit<D: Disk>(&mut self, disk: &mut D) -> Result<(), Failed>
+        requires ready { HasReady self.old.stage }
+        requires ends { WhereTold (λ old. LogEndsAt self.old.gate old.now) (D.told disk.old) }
+
+        // At each moment a crash leaves the batches before, or these and the new one.
+        ensures any_moment { (text : List ℕ) (batches : List (List ATxn)) (txns : List ATxn) → IsBehind text batches self.old.gate → IsPrepared self.old txns
+            → BothTell (KeepsOrAdds text self.old.gate.catalogue batches txns) (D.told disk.old) (D.told disk.new) }
+
+        // Afterwards it leaves the new one too, and the log stands behind it.
+        ensures committed { OnOk result ((text : List ℕ) (batches : List (List ATxn)) (txns : List ATxn) → IsBehind text batches self.old.gate → IsPrepared self.old txns
+            → BothTell (AddsBatch text self.old.gate.catalogue batches txns) (D.told disk.old) (D.told disk.new)) }
+        ensures behind { OnOk result ((text : List ℕ) (batches : List (List ATxn)) (txns : List ATxn) → IsBehind text batches self.old.gate → IsPrepared self.old txns
+            → IsBehind text (batches ++ txns ∷ []) self.new.gate) }
+        ensures catalogue { self.new.gate.catalogue ≡ self.old.gate.catalogue }
+        ensures waits { OnOk result (self.new.stage ≡ Stage.Waiting) }
+        ensures failed { OnErr result (self.new ≡ record { gate = self.old.gate; stage = Stage.Failed }) }
+
+        // No call of the device comes after one that failed.
+        ensures cause { HasCause (D.faults disk.old) (D.faults disk.new) result }
+        ensures once { EndsAtFault (D.faults disk.old) (D.faults disk.new) result }
+    {
+        let Stage::Ready { piece, txns } = &self.parts.stage else {
+            unreachable!();
+        };
+        let (len, txns) = (piece.as_slice().len() as u64, *txns);
+        match open_behind(disk, self.parts.gate.place(), piece.as_slice()) {
+            Ok(()) => {
+                self.parts.stage = Stage::Waiting;
+                self.parts.gate.advance(txns, len);
+                Ok(())
+            }
+            Err(failed) => {
+                self.parts.stage = Stage::Failed;
+                Err(failed)
+            }
+        }
+    }
+}
+
+// The gate byte at which a log ends.
+const CLOSED: u8 = 0;
