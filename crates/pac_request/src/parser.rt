@@ -402,11 +402,7 @@ fn run_parser(
 /// # Errors
 ///
 /// The first of them that can't follow, or the fault of a token that ends them; or `NoMemory`.
-pub fn parse_line(
-    alloc: Global,
-    lexed: &Lexed,
-    end: usize,
-) -> Result<LineNode, Refusal<LineFault>>
+pub fn parse_line(alloc: Global, lexed: &Lexed, end: usize) -> Result<LineNode, Refusal<LineFault>>
     ensures read { Tells (λ node. node) result (tokens_read end lexed.now.items.items lexed.now.fault) }
     ensures records { IfOk result HoldsRecords }
 {
