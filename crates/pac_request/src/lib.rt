@@ -21,6 +21,8 @@ mod meaning;
 mod node;
 mod parser;
 mod request;
+#[cfg(test)]
+mod tests;
 
 pub use fault::{LineFault, LineFaultKind};
 pub use limits::MAX_LINE;
