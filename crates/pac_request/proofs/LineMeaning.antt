@@ -94,9 +94,13 @@ negative_leads _ minus at k next q said e m = absurd cc
 -- a literal behind a comma, in front of the others
 comma_wants : (ls : List PlacedLiteral) (k : List PlacedLiteral → LineSteps) (at : ℕ) (q : List Spanned) (said : LineNode)
     → Wants (SomeLiteral (λ l. MoreLiterals (ls ++ (l ∷ [])) k)) q said → Wants (MoreLiterals ls k) (sign_token symbol.Comma at ∷ q) said
-comma_wants ls k at q said m =
-    (OneLiteral at m.0 m.3.0, m.3.1, m.3.2, ap (λ (x : List Spanned). sign_token symbol.Comma at ∷ x) (m.2 ∙ ap (literal_front m.0) m.3.3),
-    subst (λ (x : List PlacedLiteral). Wants (k x) m.3.2 said) (append_assoc ls (placed_literal m.0 ∷ []) (literals_nodes m.3.0)) m.3.4)
+comma_wants ls k at q said m = (
+  OneLiteral at m.0 m.3.0,
+  m.3.1,
+  m.3.2,
+  ap (λ (x : List Spanned). sign_token symbol.Comma at ∷ x) (m.2 ∙ ap (literal_front m.0) m.3.3),
+  subst (λ (x : List PlacedLiteral). Wants (k x) m.3.2 said) (append_assoc ls (placed_literal m.0 ∷ []) (literals_nodes m.3.0)) m.3.4,
+)
 
 close_wants : (ls : List PlacedLiteral) (k : List PlacedLiteral → LineSteps) (at : ℕ) (q : List Spanned) (said : LineNode)
     → Wants (k ls) q said → Wants (MoreLiterals ls k) (sign_token symbol.CloseParen at ∷ q) said
@@ -143,10 +147,12 @@ records_lead : (rs : List RecordNode) (t : Token) (at : ℕ) (next : LineSteps) 
     → Wants next q said → Wants (MoreRecords rs) (record { token = t; at = at } ∷ q) said
 records_lead rs t at next q said true true few is e m =
     let w = wants_along (SomeRecord (λ r. MoreRecords (rs ++ (r ∷ [])))) next q said e m in
-    let one_more : length (rs ++ (record_node w.0 ∷ [])) ≡ suc (length rs) = length-append rs (record_node w.0 ∷ []) ∙ omega arith in
-    (OneRecord at w.0 w.3.0, (ltb-true _ _ few, subst (λ (n : ℕ). HasRoom n w.3.0) one_more w.3.1),
-    ap (λ (x : Token). record { token = x; at = at } ∷ q) (is_same_word_or_sign-true (token.Symbol symbol.Semicolon) t is) ∙ ap (λ (x : List Spanned). sign_token symbol.Semicolon at ∷ x) (w.2 ∙ ap (record_front w.0) w.3.2),
-    w.3.3 ∙ ap (λ (x : List RecordNode). line.AdHoc x) (append_assoc rs (record_node w.0 ∷ []) (records_nodes w.3.0)))
+    let one_more : length (rs ++ (record_node w.0 ∷ [])) ≡ suc (length rs) = length-append rs (record_node w.0 ∷ []) ∙ omega arith in (
+      OneRecord at w.0 w.3.0,
+      (ltb-true _ _ few, subst (λ (n : ℕ). HasRoom n w.3.0) one_more w.3.1),
+      ap (λ (x : Token). record { token = x; at = at } ∷ q) (is_same_word_or_sign-true (token.Symbol symbol.Semicolon) t is) ∙ ap (λ (x : List Spanned). sign_token symbol.Semicolon at ∷ x) (w.2 ∙ ap (record_front w.0) w.3.2),
+      w.3.3 ∙ ap (λ (x : List RecordNode). line.AdHoc x) (append_assoc rs (record_node w.0 ∷ []) (records_nodes w.3.0)),
+    )
 records_lead rs t at next q said true false few is e m = absurd cc
 records_lead rs t at next q said false c few is e m = absurd cc
 

@@ -100,7 +100,11 @@ stopped end p (t ∷ ts) k fault b e = by (steps_behind k t) refl (λ next c h. 
     by : (o : Option LineSteps) → steps_behind k t ≡ o → ((next : LineSteps) → Behind (p ++ (t ∷ [])) next → line_run end next ts ≡ Err fault → Stopped end ((p ++ (t ∷ [])) ++ ts) fault) → Stopped end (p ++ (t ∷ ts)) fault
     by (Some next) is more = subst (λ (x : List Spanned). Stopped end x fault) (append_assoc p (t ∷ []) ts) (more next (one_behind p k next t b is) (sym (next_run end k next t ts is) ∙ e))
     by None is more = inl (record {
-      before = p; token = t; rest = ts; parts = refl; begins = begins p k b;
+      before = p;
+      token = t;
+      rest = ts;
+      parts = refl;
+      begins = begins p k b;
       ends = λ g. no_both (line_node g.form) (line_fault Expected t.at) (sym (written_runs end _ _ (begun_written _ g)) ∙ ap (line_run end AnyLine) (append_assoc p (t ∷ []) g.more) ∙ b.goes end (t ∷ g.more) ∙ none_run end k t g.more is);
       told = err_is fault (line_fault Expected t.at) (sym e ∙ none_run end k t ts is);
     })
@@ -127,6 +131,7 @@ unexpected_run end ts fault u = ap (line_run end AnyLine) u.parts ∙ a.behind.g
   where
     a : Alive u.before
     a = begun_alive u.before u.begins
+
     by : (o : Option LineSteps) → steps_behind a.steps u.token ≡ o → line_run end a.steps (u.token ∷ u.rest) ≡ Err (line_fault Expected u.token.at)
     by None is = none_run end a.steps u.token u.rest is
     by (Some next) is = absurd (u.ends (begins _ next (one_behind u.before a.steps next u.token a.behind is)))
@@ -137,8 +142,10 @@ begun_run end ts b = by (said_at_end a.steps) refl
   where
     a : Alive ts
     a = begun_alive ts b
+
     all : line_run end AnyLine ts ≡ line_run end a.steps []
     all = ap (line_run end AnyLine) (sym (append-nil ts)) ∙ a.behind.goes end []
+
     by : (o : Option LineNode) → said_at_end a.steps ≡ o → ((said : LineNode) × (line_run end AnyLine ts ≡ Ok said)) ⊎ (line_run end AnyLine ts ≡ Err end)
     by None is = inr (all ∙ end_run end a.steps None is)
     by (Some node) is = inl (node, all ∙ end_run end a.steps (Some node) is)

@@ -33,9 +33,13 @@ answered catalogue line answer (Err error.NoMemory) says e = tt
 pub short_says : (catalogue : CatalogueState) (line : List ℕ) (ts : List Spanned) (lexical : Option Fault) (result : Answered) → length line ≤ 4096 → IsLexed line ts lexical
     → Tells (λ said. said) result (tokens_ask catalogue (length line) ts lexical) → TellsLine catalogue line result
 short_says catalogue line ts lexical result short lexed e = answered catalogue line (tokens_ask catalogue (length line) ts lexical) result (inr (record {
-  tokens = ts; lexical = lexical; are = record { short = short; lexed = lexed };
-  said = tokens_read (length line) ts lexical; read = tokens_told (length line) ts lexical; answers = refl;
-  })) e
+  tokens = ts;
+  lexical = lexical;
+  are = record { short = short; lexed = lexed };
+  said = tokens_read (length line) ts lexical;
+  read = tokens_told (length line) ts lexical;
+  answers = refl;
+})) e
 
 -- what the tokens of a line ask is what the reading gives
 asked_once : (catalogue : CatalogueState) (line : List ℕ) (ts : List Spanned) (lexical : Option Fault) (answer : LineAnswer) → IsLexed line ts lexical → TokensAsk catalogue line answer

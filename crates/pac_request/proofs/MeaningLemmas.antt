@@ -107,6 +107,7 @@ values_fit (t ∷ tys) (l ∷ ls) vs same e = by (λ ws is. values_fit tys ls ws
         let h = has_type t l.value v head in
         let more = inner ws is in
         subst (HaveAll (t ∷ tys)) (values_are (v ∷ ws) vs e) (record { are = rw (h.is, more.are) refl; stored = rw (h.stored, more.stored) refl })
+
     by : ((ws : List Value) → asked_values tys ls ≡ Ok ws → HaveAll tys ws) → (o : Option Value) → value_of t l.value ≡ o → (ok_or o (line_fault WrongType l.at) >>= λ v. asked_values tys ls >>= λ ws. Ok (v ∷ ws)) ≡ Ok vs → HaveAll (t ∷ tys) vs
     by inner None is e = absurd cc
     by inner (Some v) is e = rest inner v (asked_values tys ls) refl is e

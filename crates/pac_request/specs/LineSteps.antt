@@ -80,18 +80,18 @@ negative_steps (token.Negative z) minus k = Some (k (placed_int minus z))
 negative_steps _ minus k = None
 
 -- NAME "[" lit "]"
-abbrev pub cell_steps : (NameNode → PlacedLiteral → LineSteps) → LineSteps
-cell_steps k = SomeName (λ name. ThisSign symbol.OpenBracket (SomeLiteral (λ key. ThisSign symbol.CloseBracket (k name key))))
+abbrev pub named_cell_steps : (NameNode → PlacedLiteral → LineSteps) → LineSteps
+named_cell_steps k = SomeName (λ name. ThisSign symbol.OpenBracket (SomeLiteral (λ key. ThisSign symbol.CloseBracket (k name key))))
 
 -- "=" "(" lit { "," lit } ")"
 abbrev pub row_steps : (List PlacedLiteral → LineSteps) → LineSteps
 row_steps k = ThisSign symbol.Assign (ThisSign symbol.OpenParen (SomeLiteral (λ l. MoreLiterals (l ∷ []) k)))
 
 abbrev pub put_record_steps : (RecordNode → LineSteps) → LineSteps
-put_record_steps k = cell_steps (λ name key. row_steps (λ values. k (record_.Put name key values)))
+put_record_steps k = named_cell_steps (λ name key. row_steps (λ values. k (record_.Put name key values)))
 
 abbrev pub delete_record_steps : (RecordNode → LineSteps) → LineSteps
-delete_record_steps k = cell_steps (λ name key. k (record_.Delete name key))
+delete_record_steps k = named_cell_steps (λ name key. k (record_.Delete name key))
 
 -- the word that a record begins with
 abbrev pub record_word : Token → Option RecordWord
@@ -119,7 +119,7 @@ verb_in _ = None
 abbrev pub verb_steps : Verb → LineSteps
 verb_steps verb.Call = SomeName (λ name. ThisSign symbol.OpenParen (AllArguments (λ args. LineEnds (line.Call name args))))
 verb_steps verb.AdHoc = SomeRecord (λ r. MoreRecords (r ∷ []))
-verb_steps verb.Show = cell_steps (λ name key. LineEnds (line.Show name key))
+verb_steps verb.Show = named_cell_steps (λ name key. LineEnds (line.Show name key))
 verb_steps verb.Flush = LineEnds line.Flush
 verb_steps verb.Save = LineEnds line.Save
 verb_steps verb.Stop = LineEnds line.Stop

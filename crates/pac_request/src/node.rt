@@ -50,7 +50,10 @@ pub enum RecordNode {
         values: Listed<PlacedLiteral>,
     },
     /// `delete TABLE[KEY]`
-    Delete { table: NameNode, key: PlacedLiteral },
+    Delete {
+        table: NameNode,
+        key: PlacedLiteral,
+    },
 }
 
 /// A request line.
@@ -64,9 +67,14 @@ pub enum LineNode {
         args: Listed<PlacedLiteral>,
     },
     /// `adhoc RECORD; RECORD`
-    AdHoc { records: Listed<RecordNode> },
+    AdHoc {
+        records: Listed<RecordNode>,
+    },
     /// `show TABLE[KEY]`
-    Show { table: NameNode, key: PlacedLiteral },
+    Show {
+        table: NameNode,
+        key: PlacedLiteral,
+    },
     /// `flush`
     Flush,
     /// `save`

@@ -10,7 +10,7 @@ ghost use Rattle.pac_request.specs.declared.node.Verb.TheVariants as verb;
 ghost use Rattle.pac_syntax.specs.declared.tree.NameNode.{NameNode as ANameNode};
 ghost use Rattle.pac_request.specs.declared.node.PlacedLiteral.{PlacedLiteral as APlacedLiteral};
 ghost use Rattle.pac_request.specs.RequestMeaning.{HoldsRecords};
-ghost use Rattle.pac_request.specs.LineSteps.{LineSteps, LineEnds, ThisSign, SomeName, SomeLiteral, MoreLiterals, AllArguments, SomeRecord, AnyLine, verb_in, verb_steps, record_word, cell_steps, row_steps, put_record_steps, delete_record_steps, fault_here, line_run, tokens_read, LeavesNoMore, ReadsOn, ReadsAllOn};
+ghost use Rattle.pac_request.specs.LineSteps.{LineSteps, LineEnds, ThisSign, SomeName, SomeLiteral, MoreLiterals, AllArguments, SomeRecord, AnyLine, verb_in, verb_steps, record_word, named_cell_steps, row_steps, put_record_steps, delete_record_steps, fault_here, line_run, tokens_read, LeavesNoMore, ReadsOn, ReadsAllOn};
 
 use crate::fault::{LineFault, LineFaultKind, line_fault};
 use crate::node::{LineNode, PlacedLiteral, RecordNode, Verb};
@@ -243,7 +243,7 @@ impl<'a> LineParser<'a> {
     // NAME "[" lit "]"
     fn cell(&mut self) -> Result<(NameNode, PlacedLiteral), Refusal<LineFault>>
         ensures left { OnOk result (LeavesNoMore self.old self.new) }
-        ensures run { (k : ANameNode → APlacedLiteral → LineSteps) → Gives (λ read. line_run self.new.end (k read.0 read.1) self.new.rest.now) result (line_run self.old.end (cell_steps k) self.old.rest.now) }
+        ensures run { (k : ANameNode → APlacedLiteral → LineSteps) → Gives (λ read. line_run self.new.end (k read.0 read.1) self.new.rest.now) result (line_run self.old.end (named_cell_steps k) self.old.rest.now) }
     {
         let name = self.name()?;
         self.sign(Symbol::OpenBracket)?;
@@ -402,11 +402,7 @@ fn run_parser(
 /// # Errors
 ///
 /// The first of them that can't follow, or the fault of a token that ends them; or `NoMemory`.
-pub fn parse_line(
-    alloc: Global,
-    lexed: &Lexed,
-    end: usize,
-) -> Result<LineNode, Refusal<LineFault>>
+pub fn parse_line(alloc: Global, lexed: &Lexed, end: usize) -> Result<LineNode, Refusal<LineFault>>
     ensures read { Tells (λ node. node) result (tokens_read end lexed.now.items.items lexed.now.fault) }
     ensures records { IfOk result HoldsRecords }
 {

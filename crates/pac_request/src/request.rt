@@ -27,11 +27,18 @@ pub enum Request {
 #[derive(Drop)]
 pub enum Reply {
     /// The transaction with this number was committed.
-    Committed { txn: u64 },
+    Committed {
+        txn: u64,
+    },
     /// The transaction was aborted at this operation.
-    Aborted { op: u16, reason: Reason },
+    Aborted {
+        op: u16,
+        reason: Reason,
+    },
     /// The transaction was aborted, since the table with this number would hold too many rows.
-    AbortedFull { table: u16 },
+    AbortedFull {
+        table: u16,
+    },
     /// The row of a table with this key, if there is one.
     Shown {
         table: u16,
@@ -41,7 +48,9 @@ pub enum Reply {
     /// The line was refused.
     Refused(LineFault),
     /// A checkpoint of so many transactions was saved.
-    Saved { txns: u64 },
+    Saved {
+        txns: u64,
+    },
 }
 
 /// Replies, in the order of their requests.

@@ -14,4 +14,3 @@ returns-in_err-at c =
 
 pub returns : goal.returns
 returns c = record { run = λ k. gives_along _ c.more_literals.result _ _ (rest_arguments _ _ k _ _ c.takes.ensures.end c.in_default.ensures.token ∙ c.in_ok-at.ensures.run (λ l. MoreLiterals (l ∷ []) k)) (c.more_literals.ensures.run k) }
-

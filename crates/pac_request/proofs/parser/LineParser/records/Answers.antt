@@ -14,9 +14,11 @@ returns-in_default c = record { run = c.loop-records.invariant ∙ rw c.in_defau
 pub returns-in_err-record : goal.returns-in_err-record
 returns-in_err-record c =
     let p = err_from_is_err_and c.from_residual-in_err-record.result c.from_residual-in_err-record.ensures.1 in
-    record { run = rw (p.1, p.2) (fails_along _ _ _
-    (c.loop-records.invariant ∙ semicolon_read _ _ _ _ _ _ c.takes.ensures.end (omega (arith, c.len.ensures, c.loop-records.records.ok.0, c.if-len-ge-MAX_RECORDS.false)) c.in-Some.ensures.token)
-    (c.in_err-record.ensures.run (λ x. MoreRecords (c.loop-records.records.items ++ (x ∷ []))))) }
+    record {
+      run = rw (p.1, p.2) (fails_along _ _ _
+          (c.loop-records.invariant ∙ semicolon_read _ _ _ _ _ _ c.takes.ensures.end (omega (arith, c.len.ensures, c.loop-records.records.ok.0, c.if-len-ge-MAX_RECORDS.false)) c.in-Some.ensures.token)
+          (c.in_err-record.ensures.run (λ x. MoreRecords (c.loop-records.records.items ++ (x ∷ [])))));
+    }
 
 pub loop-records-preserved : goal.loop-records-preserved
 loop-records-preserved c = c.loop-records.invariant ∙ semicolon_read _ _ _ _ _ _ c.takes.ensures.end (omega (arith, c.len.ensures, c.loop-records.records.ok.0, c.if-len-ge-MAX_RECORDS.false)) c.in-Some.ensures.token
