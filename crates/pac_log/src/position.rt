@@ -50,6 +50,7 @@ impl Position {
         Position { gate }
     }
 
+    /// The log's catalogue.
     pub fn catalogue(&self) -> &Catalogue
         ensures value { result.now ≡ self.now.catalogue }
         ensures few { HasFewOperations self.now.catalogue.procs }
@@ -57,12 +58,14 @@ impl Position {
         &self.gate.catalogue
     }
 
+    /// The gate's place, an offset from 0.
     pub fn place(&self) -> u64
         ensures { result ≡ self.now.place }
     {
         self.gate.place
     }
 
+    /// How many transactions stand in front of the gate, at most 2^63.
     pub fn txns(&self) -> u64
         ensures value { result ≡ self.now.txns }
         ensures few { result ≤ 2 ^ 63 }
