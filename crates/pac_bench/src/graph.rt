@@ -63,6 +63,7 @@ fn plan_of(alloc: Global, cat: &Catalogue) -> Result<Plan, PartError> {
             slices(alloc, program)?;
         }
     }
+    let _procs = cat.procs(); // so few that they can be planned
     Ok(global(alloc, cat, programs)?)
 }
 

@@ -72,8 +72,8 @@ fn text_of(alloc: Global, text: &str) -> Result<Vec<u8>, Fail> {
             graphs.push(slices(alloc, program)?)?;
         }
     }
+    let procs = cat.procs().len(); // so few that they can be planned
     let plan = global(alloc, &cat, programs)?;
-    let procs = cat.procs().len();
     if graphs.len() != procs
         || usize::from(plan.procs()) != procs
         || usize::from(plan.tables()) != cat.tables().len()

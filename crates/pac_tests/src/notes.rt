@@ -148,12 +148,14 @@ fn first_note(
 ) -> Result<Option<(u16, Reason)>, NoMemory> {
     let mut running = Running::new(alloc, program, argument)?;
     let mut first = None;
-    for (number, op) in program.ops.as_slice().iter().enumerate() {
+    let mut number: u16 = 0;
+    for op in program.ops.as_slice() {
         if let Err(reason) = running.step(op)? {
             if first.is_none() {
-                first = Some((number as u16, reason));
+                first = Some((number, reason));
             }
         }
+        number = number.saturating_add(1);
     }
     Ok(first)
 }

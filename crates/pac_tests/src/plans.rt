@@ -16,6 +16,7 @@ const TOGETHER: &[u8] = b"table A(key int, v int); table B(key text, v int);
 fn plan_of(alloc: Global, text: &[u8]) -> Result<Plan, Fail> {
     let cat = catalogue(alloc, text)?;
     let programs = flatten(alloc, &cat)?;
+    let _procs = cat.procs(); // so few that they can be planned
     Ok(global(alloc, &cat, programs)?)
 }
 
@@ -25,7 +26,9 @@ fn blocks_of(alloc: Global, plan: &Plan, proc: u16) -> Result<Vec<u16>, NoMemory
     if proc < plan.procs() {
         let count = plan.program(proc).ops.as_slice().len();
         for op in 0..count {
-            blocks.push(plan.block_of(proc, op as u16))?;
+            if let Ok(op) = u16::try_from(op) {
+                blocks.push(plan.block_of(proc, op))?;
+            }
         }
     }
     Ok(blocks)
