@@ -1,32 +1,68 @@
-// Logs on disks in memory: what is written, what a crash leaves, and what is read.
-use crate::tests::{LOG, ONE_TABLE, changed, put};
-use crate::{CreateError, Log, LogError, LogReader, PrepareError, create};
-use pac_base::NoMemory;
+// Logs: how they are made and found, and the bytes of a commit.
+ghost use Rattle.std.specs.Prelude.{◌≤◌, ◌≡◌, length, true, All, IfOk};
+ghost use Rattle.pac_types.specs.Fits.{TxnFits};
+ghost use Rattle.pac_log.specs.declared.limits.TheConstants.{MAX_BODY_LEN};
+ghost use Rattle.pac_log.specs.Bodies.{body_bytes};
+
+use crate::header::accepted;
+use crate::tests::{LOG, ONE_TABLE, changed};
+use crate::{CreateError, Log, LogError, LogReader, MAX_BODY_LEN, PrepareError, body_len, create};
+use pac_entry::read_entry;
 use pac_ops::{Batch, Txns};
-use pac_outside::{Disk, Fill, MemDisk};
+use pac_outside::{Disk, Failed, FileDisk, Fill, MemDisk, NoDisk, read_piece};
+use pac_types::Catalogue;
 use std::alloc::Global;
+use std::fs;
 use std::test::Fail;
 
 // The log of one table, without a batch.
 const MADE: &[u8] = b"PACMLOG1\x18\0\0\0table T(key int, v int);\0";
 
-fn batch(alloc: Global, first: u64) -> Result<Batch, NoMemory> {
-    Ok(Batch {
-        first,
-        txns: Txns::of(vec![in alloc; put(alloc, 1, 2)?]?),
-    })
-}
+const FOLDER: &str = "log_test";
 
-// An empty disk whose calls with these numbers fail.
-fn empty(alloc: Global, failing: &[u64]) -> Result<MemDisk, Fail> {
-    Ok(MemDisk::new(Vec::new(alloc), failing.to_vec(alloc)?))
-}
-
-// A log of one table that was made on the disk, by five calls.
-fn made(alloc: Global, disk: &mut MemDisk) -> Result<Log, Fail> {
-    if create(alloc, disk, ONE_TABLE).is_err() {
-        return Err(Fail::from("no log was made"));
+// Makes the log of one table.
+fn make<D: Disk>(alloc: Global, disk: &mut D) -> Result<Result<(), CreateError>, Fail> {
+    match accepted(alloc, ONE_TABLE) {
+        Ok(_) => Ok(create(alloc, disk, ONE_TABLE)),
+        Err(_) => Err(Fail::from("no catalogue")),
     }
+}
+
+#[test]
+fn a_log_is_made_on_an_empty_disk_alone(rt: HostRuntime) -> Result<(), Fail> {
+    let alloc = rt.alloc();
+    let mut disk = MemDisk::new(Vec::new(alloc), Vec::new(alloc));
+    assert_eq!(rt; make(alloc, &mut disk)?, Ok(()));
+    assert_eq!(rt; disk.image(Fill::Old, false)?.as_slice(), MADE);
+    assert_eq!(rt;
+        make(alloc, &mut disk)?,
+        Err(CreateError::NotEmpty { length: 37 })
+    );
+    let mut failing = MemDisk::new(Vec::new(alloc), [2].to_vec(alloc)?);
+    assert_eq!(rt; make(alloc, &mut failing)?, Err(CreateError::DiskFault));
+    Ok(())
+}
+
+// The batch of `adhoc put T[1] = (2)`, which is the entry of the worked log.
+fn batch(alloc: Global, cat: &Catalogue) -> Result<Batch, Fail>
+    ensures fits { IfOk result (λ batch. All (TxnFits cat.now) batch.txns) }
+    ensures short { IfOk result (λ batch. length (body_bytes batch.txns) ≤ MAX_BODY_LEN) }
+{
+    let Ok((txn, _)) = read_entry(alloc, cat, LOG, 45) else {
+        return Err(Fail::from("no entry"));
+    };
+    let batch = Batch {
+        first: 1,
+        txns: Txns::of(vec![in alloc; txn]?),
+    };
+    if body_len(&batch) > MAX_BODY_LEN {
+        return Err(Fail::from("too long"));
+    }
+    Ok(batch)
+}
+
+// The log on a disk, without a look at its batches, of which there are none.
+fn log_on<D: Disk>(alloc: Global, disk: &mut D) -> Result<Log, Fail> {
     let Ok(mut reader) = LogReader::attach(alloc, disk) else {
         return Err(Fail::from("no log"));
     };
@@ -35,64 +71,36 @@ fn made(alloc: Global, disk: &mut MemDisk) -> Result<Log, Fail> {
 }
 
 #[test]
-fn a_batch_is_committed_by_four_calls(rt: HostRuntime) -> Result<(), Fail> {
+fn a_batch_is_committed_behind_its_gate(rt: HostRuntime) -> Result<(), Fail> {
     let alloc = rt.alloc();
-    let mut disk = empty(alloc, &[10])?;
-    let mut log = made(alloc, &mut disk)?;
+    let _ = fs::remove_dir_all(&rt, FOLDER);
+    fs::create_dir(&rt, FOLDER)?;
+    let mut disk = FileDisk::new(&rt, "log_test/log");
+    assert_eq!(rt; make(alloc, &mut disk)?, Ok(()));
+    let mut log = log_on(alloc, &mut disk)?;
     assert_eq!(rt; (log.place(), log.txns()), (36, 0));
-    assert_eq!(rt; disk.image(Fill::Old, false)?.as_slice(), MADE);
-    assert!(rt; log.prepare(&batch(alloc, 1)?).is_ok());
-    assert!(rt; log.commit(&mut disk).is_ok()); // calls 6 to 9
-    assert_eq!(rt; disk.image(Fill::Old, false)?.as_slice(), LOG);
-    assert_eq!(rt; (log.place(), log.txns()), (69, 1));
-    assert!(rt; disk.len().is_err()); // call 10
-    Ok(())
-}
-
-#[test]
-fn a_log_is_made_on_an_empty_disk_alone(rt: HostRuntime) -> Result<(), Fail> {
-    let alloc = rt.alloc();
-    let mut disk = MemDisk::new(b"x".to_vec(alloc)?, Vec::new(alloc));
-    assert_eq!(rt;
-        create(alloc, &mut disk, ONE_TABLE),
-        Err(CreateError::NotEmpty { length: 1 })
-    );
-    assert_eq!(rt;
-        create(alloc, &mut empty(alloc, &[2])?, ONE_TABLE),
-        Err(CreateError::DiskFault)
-    );
-    Ok(())
-}
-
-// Whether these bytes hold no batch, or the one that is committed and that whole.
-fn is_all_or_nothing(bytes: &[u8]) -> bool {
-    let Some(gate) = bytes.get(36) else {
-        return false;
-    };
-    *gate != 1 || bytes.get(37..69) == LOG.get(37..69)
-}
-
-#[test]
-fn a_commit_that_fails_leaves_all_or_nothing(rt: HostRuntime) -> Result<(), Fail> {
-    let alloc = rt.alloc();
-    for call in 6..10 {
-        let mut disk = empty(alloc, &[call])?;
-        let mut log = made(alloc, &mut disk)?;
-        assert!(rt; log.prepare(&batch(alloc, 1)?).is_ok());
-        assert!(rt; log.commit(&mut disk).is_err());
-        for fill in [
-            Fill::Old,
-            Fill::New,
-            Fill::Byte(0),
-            Fill::Byte(1),
-            Fill::Byte(7),
-        ] {
-            for grown in [false, true] {
-                assert!(rt; is_all_or_nothing(&disk.image(fill, grown)?));
-            }
-        }
-        assert_eq!(rt; log.prepare(&batch(alloc, 1)?), Err(PrepareError::Failed));
+    let batch = batch(alloc, log.catalogue())?;
+    if log.prepare(&batch).is_err() || log.commit(&mut disk).is_err() {
+        return Err(Fail::from("no commit"));
     }
+    assert_eq!(rt; (log.place(), log.txns()), (69, 1));
+    assert_eq!(rt; read_piece(alloc, &mut disk, 0, 99)?.as_slice(), LOG);
+    fs::remove_dir_all(&rt, FOLDER)?;
+    Ok(())
+}
+
+#[test]
+fn a_log_that_failed_is_not_written_on(rt: HostRuntime) -> Result<(), Fail> {
+    let alloc = rt.alloc();
+    let made = changed(alloc, 36, 0, 37)?;
+    let mut log = log_on(alloc, &mut MemDisk::new(made, Vec::new(alloc)))?;
+    let batch = batch(alloc, log.catalogue())?;
+    if log.prepare(&batch).is_err() {
+        return Err(Fail::from("not prepared"));
+    }
+    assert_eq!(rt; log.commit(&mut NoDisk::new()), Err(Failed));
+    assert_eq!(rt; log.prepare(&batch), Err(PrepareError::Failed));
+    assert_eq!(rt; (log.place(), log.txns()), (36, 0));
     Ok(())
 }
 

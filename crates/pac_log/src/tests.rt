@@ -43,21 +43,26 @@ pub(crate) fn put(alloc: Global, key: i64, value: i64) -> Result<Txn, NoMemory> 
     })
 }
 
-fn call(alloc: Global, proc: u16, args: &[i64]) -> Result<Txn, NoMemory> {
-    let mut values = Vec::new(alloc);
-    for arg in args.iter().take(16) {
-        values.push(Value::Int(*arg))?;
-    }
+fn deposit(alloc: Global) -> Result<Txn, NoMemory> {
+    let args = vec![in alloc; Value::Int(1), Value::Int(10500), Value::Int(7)]?;
     Ok(Txn::Call(Call {
-        proc,
-        args: Args::of(values),
+        proc: 1,
+        args: Args::of(args),
+    }))
+}
+
+fn transfer(alloc: Global) -> Result<Txn, NoMemory> {
+    let args = vec![in alloc; Value::Int(1), Value::Int(500)]?;
+    Ok(Txn::Call(Call {
+        proc: 0,
+        args: Args::of(args),
     }))
 }
 
 fn bank_batch(alloc: Global) -> Result<Batch, NoMemory> {
     let first = put(alloc, 1, 2)?;
-    let second = call(alloc, 1, &[1, 10500, 7])?;
-    let third = call(alloc, 0, &[1, 500])?;
+    let second = deposit(alloc)?;
+    let third = transfer(alloc)?;
     Ok(Batch {
         first: 1,
         txns: Txns::of(vec![in alloc; first, second, third]?),
@@ -101,10 +106,7 @@ pub(crate) fn changed(
     if let Some(old) = bytes.get_mut(place) {
         *old = byte;
     }
-    while bytes.len() < len {
-        bytes.push(0)?;
-    }
-    bytes.truncate(len);
+    bytes.resize(len, 0)?;
     Ok(bytes)
 }
 
