@@ -4,3 +4,8 @@ pub mod LineRuns
 pub mod LineMeets
 pub mod MeaningLemmas
 pub mod LineOnce
+pub mod RequestFitLemmas
+pub mod LineDivision
+pub mod CutLemmas
+pub mod ReadingLemmas
+pub mod OneScript

@@ -1,11 +1,10 @@
 -- What steps of the reading want, said by derivations; where a token leads to, what is wanted behind it is wanted.
-use Rattle.std.proofs.Common.{◌≡◌, ◌≤◌, ◌<◌, ◌+◌, ℕ, zero, suc, ℤ, Bool, true, false, cond, ◌⊎◌, inl, inr, Option, List, [], ◌∷◌, ◌++◌, length, codes, Some, None, refl, sym, ap, subst, ◌∙◌, append_assoc, arith, ltb}
+use Rattle.std.proofs.Common.{◌≡◌, ◌≤◌, ◌<◌, ◌+◌, ℕ, suc, ℤ, Bool, true, false, cond, Option, List, [], ◌∷◌, ◌++◌, length, Some, None, refl, sym, ap, subst, ◌∙◌, append_assoc, arith, ltb}
 use Rattle.std.specs.Prelude.{bytes_eq}
 use Rattle.std.specs.Option.{option_map}
 use Rattle.std.proofs.lemmas.Bool.{ltb-true}
 use Rattle.std.proofs.lemmas.List.{append-nil, length-append}
 use Rattle.std.proofs.lemmas.Slice.Eq.{bytes_eq-Decides}
-use Rattle.pac_value.specs.declared.values.Value.TheVariants as value
 use Rattle.pac_tokens.specs.declared.token.Keyword.TheVariants as keyword
 use Rattle.pac_tokens.specs.declared.token.Symbol.{Symbol}
 use Rattle.pac_tokens.specs.declared.token.Symbol.TheVariants as symbol
@@ -19,15 +18,12 @@ use Rattle.pac_syntax.specs.Machine.{is_same_word_or_sign, name_in}
 use Rattle.pac_syntax.specs.Views.{name_token}
 use Rattle.pac_syntax.proofs.Marks.{is_same_word_or_sign-true}
 use Rattle.pac_request.specs.declared.node.RecordNode.{RecordNode}
-use Rattle.pac_request.specs.declared.node.RecordNode.TheVariants as record_
 use Rattle.pac_request.specs.declared.node.LineNode.{LineNode}
 use Rattle.pac_request.specs.declared.node.LineNode.TheVariants as line
 use Rattle.pac_request.specs.declared.node.Verb.{Verb}
 use Rattle.pac_request.specs.declared.node.Verb.TheVariants as verb
-use Rattle.pac_request.specs.declared.parser.RecordWord.{RecordWord}
-use Rattle.pac_request.specs.declared.parser.RecordWord.TheVariants as word
-use Rattle.pac_request.specs.LineForms.{LiteralsForm, NoLiteral, OneLiteral, ArgumentsForm, NoArgument, SomeArguments, RecordForm, PutForm, DeleteForm, RecordsForm, NoRecord, OneRecord, LineForm, EmptyForm, CallForm, AdHocForm, ShowForm, FlushForm, SaveForm, StopForm, verb_word, verb_token, keyword_token, sign_token, literal_front, literals_front, arguments_front, record_front, records_tokens, line_tokens, literals_nodes, arguments_nodes, record_node, records_nodes, line_node, placed_literal, records_count, HasFewRecords, IsWritten}
-use Rattle.pac_request.specs.LineSteps.{LineSteps, LineEnds, ThisSign, SomeName, SomeLiteral, SomeNegative, MoreLiterals, AllArguments, SomeRecord, MoreRecords, AnyLine, where_sign, first_some, literal_steps, placed_int, negative_steps, put_record_steps, delete_record_steps, verb_named, verb_in, verb_steps, record_word, record_steps, steps_behind, said_at_end}
+use Rattle.pac_request.specs.LineForms.{LiteralsForm, NoLiteral, OneLiteral, ArgumentsForm, NoArgument, SomeArguments, RecordForm, PutForm, DeleteForm, RecordsForm, NoRecord, OneRecord, EmptyForm, CallForm, AdHocForm, ShowForm, FlushForm, SaveForm, StopForm, verb_word, verb_token, keyword_token, sign_token, literal_front, literals_front, arguments_front, record_front, records_tokens, literals_nodes, arguments_nodes, record_node, records_nodes, placed_literal, records_count, IsWritten}
+use Rattle.pac_request.specs.LineSteps.{LineSteps, LineEnds, ThisSign, SomeName, SomeLiteral, SomeNegative, MoreLiterals, AllArguments, SomeRecord, MoreRecords, AnyLine, first_some, literal_steps, placed_int, negative_steps, put_record_steps, delete_record_steps, verb_named, verb_in, verb_steps, record_word, record_steps, steps_behind, said_at_end}
 
 -- so many records and these are no more than 64
 abbrev pub HasRoom : ℕ → RecordsForm → Type 0

@@ -12,9 +12,9 @@ use Rattle.pac_request.specs.declared.node.LineNode.{LineNode}
 use Rattle.pac_request.specs.LineKinds.{line_fault, as_line_fault}
 use Rattle.pac_request.specs.LineForms.{LineForm, EmptyForm, CallForm, AdHocForm, ShowForm, FlushForm, SaveForm, StopForm, RecordsForm, NoRecord, OneRecord, records_nodes, records_count, HasFewRecords, IsWritten, line_node}
 use Rattle.pac_request.specs.RequestMeaning.{HoldsRecords}
-use Rattle.pac_request.specs.LineFaults.{BeginsLine, IsUnexpectedToken, IsNoLine, IsToldBehind, TokensRead}
-use Rattle.pac_request.specs.LineSteps.{LineSteps, AnyLine, steps_behind, said_at_end, led, line_run, told_at_end, unless_cut, tokens_read}
-use Rattle.pac_request.proofs.LineMeaning.{Wants, Wanted, leads, ends_here, something}
+use Rattle.pac_request.specs.LineFaults.{BeginsLine, IsUnexpectedToken, IsNoLine, TokensRead}
+use Rattle.pac_request.specs.LineSteps.{LineSteps, AnyLine, steps_behind, said_at_end, line_run, told_at_end, unless_cut, tokens_read}
+use Rattle.pac_request.proofs.LineMeaning.{Wants, leads, ends_here, something}
 use Rattle.pac_request.proofs.LineRuns.{written_runs}
 
 abbrev Answer : Type 0

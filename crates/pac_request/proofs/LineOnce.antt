@@ -1,5 +1,5 @@
--- A line says one thing: what its tokens are read as, and what that asks.
-use Rattle.std.proofs.Common.{◌≡◌, ◌≤◌, ◌<◌, ℕ, List, length, inl, inr, Option, Result, Ok, Err, refl, sym, ap, subst, ◌∙◌, arith}
+-- A line says one thing, and so it does in a script: what its tokens are read as, and what that asks.
+use Rattle.std.proofs.Common.{◌≡◌, ◌≤◌, ℕ, List, length, inl, inr, Option, Some, None, Result, Ok, Err, refl, sym, ap, subst, ◌∙◌, arith}
 use Rattle.pac_base.specs.Refusals.{Tells}
 use Rattle.pac_base.specs.declared.refusal.Refusal.{Refusal}
 use Rattle.pac_base.specs.declared.refusal.Refusal.TheVariants as error
@@ -9,14 +9,33 @@ use Rattle.pac_tokens.specs.Tokens.{IsLexed}
 use Rattle.pac_tokens.proofs.LexedOnce.{same_tokens, same_fault}
 use Rattle.pac_types.specs.Typing.{CatalogueState}
 use Rattle.pac_request.specs.declared.fault.LineFault.{LineFault}
-use Rattle.pac_request.specs.declared.fault.LineFaultKind.TheVariants.{TooLong}
+use Rattle.pac_request.specs.declared.fault.LineFaultKind.TheVariants.{NotHere}
 use Rattle.pac_request.specs.declared.node.LineNode.{LineNode}
 use Rattle.pac_request.specs.declared.request.Request.{Request}
+use Rattle.pac_request.specs.Answers.{AnswersBy}
 use Rattle.pac_request.specs.LineKinds.{line_fault}
-use Rattle.pac_request.specs.LineReading.{LineAnswer, TokensAsk, LineSays, TellsLine}
+use Rattle.pac_request.specs.LineReading.{LineAnswer, TokensAsk, LineSays}
 use Rattle.pac_request.specs.LineSteps.{tokens_read}
 use Rattle.pac_request.specs.RequestMeaning.{asked_by}
+use Rattle.pac_request.specs.ScriptLines.{out_of_place, IsOutOfPlace, IsInPlace, ScriptLineSays}
 use Rattle.pac_request.proofs.LineMeets.{tokens_told, tokens_once}
+
+-- ---- answers
+
+-- what is meant is told, unless there was no memory
+answered : {X F : Type 0} (P : Result X F → Type 0) (meant : Result X F) (result : Result X (Refusal F)) → P meant → Tells (λ said. said) result meant → AnswersBy P result
+answered P meant (Ok said) h e = subst P e h
+answered P meant (Err (error.Fault fault)) h e = subst P e h
+answered P meant (Err error.NoMemory) h e = tt
+
+-- where one thing is meant, it is what is told
+pub only_answer : {X F : Type 0} (P : Result X F → Type 0) (meant : Result X F) (result : Result X (Refusal F)) → ((a b : Result X F) → P a → P b → a ≡ b) → AnswersBy P result → P meant
+    → Tells (λ said. said) result meant
+only_answer P meant (Ok said) one h is = one meant (Ok said) is h
+only_answer P meant (Err (error.Fault fault)) one h is = one meant (Err fault) is h
+only_answer P meant (Err error.NoMemory) one h is = tt
+
+-- ---- what tokens ask
 
 abbrev Answered : Type 0
 Answered = Result (Option Request) (Refusal LineFault)
@@ -25,21 +44,15 @@ Answered = Result (Option Request) (Refusal LineFault)
 abbrev tokens_ask : CatalogueState → ℕ → List Spanned → Option Fault → LineAnswer
 tokens_ask catalogue end ts lexical = asked_by catalogue (tokens_read end ts lexical)
 
-answered : (catalogue : CatalogueState) (line : List ℕ) (answer : LineAnswer) (result : Answered) → LineSays catalogue line answer → Tells (λ said. said) result answer → TellsLine catalogue line result
-answered catalogue line answer (Ok said) says e = subst (λ (a : LineAnswer). LineSays catalogue line a) e says
-answered catalogue line answer (Err (error.Fault fault)) says e = subst (λ (a : LineAnswer). LineSays catalogue line a) e says
-answered catalogue line answer (Err error.NoMemory) says e = tt
-
-pub short_says : (catalogue : CatalogueState) (line : List ℕ) (ts : List Spanned) (lexical : Option Fault) (result : Answered) → length line ≤ 4096 → IsLexed line ts lexical
-    → Tells (λ said. said) result (tokens_ask catalogue (length line) ts lexical) → TellsLine catalogue line result
-short_says catalogue line ts lexical result short lexed e = answered catalogue line (tokens_ask catalogue (length line) ts lexical) result (inr (record {
+tokens_say : (catalogue : CatalogueState) (line : List ℕ) (ts : List Spanned) (lexical : Option Fault) → length line ≤ 4096 → IsLexed line ts lexical → TokensAsk catalogue line (tokens_ask catalogue (length line) ts lexical)
+tokens_say catalogue line ts lexical short lexed = record {
   tokens = ts;
   lexical = lexical;
   are = record { short = short; lexed = lexed };
   said = tokens_read (length line) ts lexical;
   read = tokens_told (length line) ts lexical;
   answers = refl;
-})) e
+}
 
 -- what the tokens of a line ask is what the reading gives
 asked_once : (catalogue : CatalogueState) (line : List ℕ) (ts : List Spanned) (lexical : Option Fault) (answer : LineAnswer) → IsLexed line ts lexical → TokensAsk catalogue line answer
@@ -50,11 +63,58 @@ asked_once catalogue line ts lexical answer lexed a =
     a.answers ∙ ap (λ (r : Result LineNode LineFault). asked_by catalogue r) (tokens_once (length line) a.tokens a.lexical a.said a.read)
     ∙ rw (same, ended) refl
 
-pub short_only : (catalogue : CatalogueState) (line : List ℕ) (ts : List Spanned) (lexical : Option Fault) (result : Answered) (answer : LineAnswer) → length line ≤ 4096 → IsLexed line ts lexical
-    → Tells (λ said. said) result (tokens_ask catalogue (length line) ts lexical) → LineSays catalogue line answer → Tells (λ said. said) result answer
-short_only catalogue line ts lexical result answer short lexed e (inl long) = absurd (omega (arith, short, long.0))
-short_only catalogue line ts lexical result answer short lexed e (inr a) = subst (λ (x : LineAnswer). Tells (λ said. said) result x) (sym (asked_once catalogue line ts lexical answer lexed a)) e
+tokens_ask_once : (catalogue : CatalogueState) (line : List ℕ) (a b : LineAnswer) → TokensAsk catalogue line a → TokensAsk catalogue line b → a ≡ b
+tokens_ask_once catalogue line a b h k = asked_once catalogue line k.tokens k.lexical a k.are.lexed h ∙ sym (asked_once catalogue line k.tokens k.lexical b k.are.lexed k)
 
-pub long_only : (catalogue : CatalogueState) (line : List ℕ) (answer : LineAnswer) → 4096 < length line → LineSays catalogue line answer → answer ≡ Err (line_fault TooLong 4096)
-long_only catalogue line answer long (inl is) = is.1
-long_only catalogue line answer long (inr a) = absurd (omega (arith, long, a.are.short))
+-- ---- lines
+
+pub line_once : (catalogue : CatalogueState) (line : List ℕ) (a b : LineAnswer) → LineSays catalogue line a → LineSays catalogue line b → a ≡ b
+line_once catalogue line a b (inl h) (inl k) = h.1 ∙ sym k.1
+line_once catalogue line a b (inl h) (inr k) = absurd (omega (arith, h.0, k.are.short))
+line_once catalogue line a b (inr h) (inl k) = absurd (omega (arith, k.0, h.are.short))
+line_once catalogue line a b (inr h) (inr k) = tokens_ask_once catalogue line a b h k
+
+pub short_says : (catalogue : CatalogueState) (line : List ℕ) (ts : List Spanned) (lexical : Option Fault) (result : Answered) → length line ≤ 4096 → IsLexed line ts lexical
+    → Tells (λ said. said) result (tokens_ask catalogue (length line) ts lexical) → AnswersBy (LineSays catalogue line) result
+short_says catalogue line ts lexical result short lexed e =
+    answered (LineSays catalogue line) (tokens_ask catalogue (length line) ts lexical) result (inr (tokens_say catalogue line ts lexical short lexed)) e
+
+-- ---- lines of a script
+
+abbrev not_here : ℕ → LineAnswer
+not_here at = Err (line_fault NotHere at)
+
+abbrev place : List Spanned → Option ℕ
+place ts = out_of_place ts
+
+place_once : (line : List ℕ) (i j : ℕ) → IsOutOfPlace line i → IsOutOfPlace line j → i ≡ j
+place_once line i j a b =
+    let same : a.tokens ≡ b.tokens = same_tokens line a.tokens b.tokens a.lexical b.lexical a.are.lexed b.are.lexed in
+    let both : ◌≡◌ {A = Option ℕ} (Some i) (Some j) = sym a.first ∙ ap place same ∙ b.first in
+    cc
+
+in_place : (line : List ℕ) (ts : List Spanned) (lexical : Option Fault) → IsLexed line ts lexical → None ≡ out_of_place ts → IsInPlace line
+in_place line ts lexical lexed none at out =
+    let same : out.tokens ≡ ts = same_tokens line out.tokens ts out.lexical lexical out.are.lexed lexed in
+    let both : ◌≡◌ {A = Option ℕ} (Some at) None = sym out.first ∙ ap place same ∙ sym none in
+    absurd cc
+
+pub script_line_once : (catalogue : CatalogueState) (line : List ℕ) (a b : LineAnswer) → ScriptLineSays catalogue line a → ScriptLineSays catalogue line b → a ≡ b
+script_line_once catalogue line a b (inl h) (inl k) = h.1 ∙ sym k.1
+script_line_once catalogue line a b (inl h) (inr (inl k)) = absurd (omega (arith, h.0, k.1.are.short))
+script_line_once catalogue line a b (inl h) (inr (inr k)) = absurd (omega (arith, h.0, k.1.are.short))
+script_line_once catalogue line a b (inr (inl h)) (inl k) = absurd (omega (arith, k.0, h.1.are.short))
+script_line_once catalogue line a b (inr (inl h)) (inr (inl k)) = h.2 ∙ ap not_here (place_once line h.0 k.0 h.1 k.1) ∙ sym k.2
+script_line_once catalogue line a b (inr (inl h)) (inr (inr k)) = absurd (k.0 h.0 h.1)
+script_line_once catalogue line a b (inr (inr h)) (inl k) = absurd (omega (arith, k.0, h.1.are.short))
+script_line_once catalogue line a b (inr (inr h)) (inr (inl k)) = absurd (h.0 k.0 k.1)
+script_line_once catalogue line a b (inr (inr h)) (inr (inr k)) = tokens_ask_once catalogue line a b h.1 k.1
+
+pub out_of_place_says : (catalogue : CatalogueState) (line : List ℕ) (ts : List Spanned) (lexical : Option Fault) (at : ℕ) → length line ≤ 4096 → IsLexed line ts lexical → Some at ≡ out_of_place ts
+    → ScriptLineSays catalogue line (Err (line_fault NotHere at))
+out_of_place_says catalogue line ts lexical at short lexed first = inr (inl (at, record { tokens = ts; lexical = lexical; are = record { short = short; lexed = lexed }; first = sym first }, refl))
+
+pub in_place_says : (catalogue : CatalogueState) (line : List ℕ) (ts : List Spanned) (lexical : Option Fault) (result : Answered) → length line ≤ 4096 → IsLexed line ts lexical → None ≡ out_of_place ts
+    → Tells (λ said. said) result (tokens_ask catalogue (length line) ts lexical) → AnswersBy (ScriptLineSays catalogue line) result
+in_place_says catalogue line ts lexical result short lexed none e =
+    answered (ScriptLineSays catalogue line) (tokens_ask catalogue (length line) ts lexical) result (inr (inr (in_place line ts lexical lexed none, tokens_say catalogue line ts lexical short lexed))) e

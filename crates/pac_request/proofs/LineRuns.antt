@@ -1,21 +1,18 @@
 -- What a derivation spells is read as what it says.
-use Rattle.std.proofs.Common.{◌≡◌, ◌<◌, ℕ, suc, Bool, true, List, [], ◌∷◌, ◌++◌, length, Option, Some, None, Result, Ok, Err, refl, sym, ap, subst, ◌∙◌, append_assoc, arith}
-use Rattle.std.proofs.lemmas.Bool.{lt-ltb, eq-eqb}
+use Rattle.std.proofs.Common.{◌≡◌, ℕ, suc, List, [], ◌∷◌, ◌++◌, length, Ok, refl, sym, ap, subst, ◌∙◌, append_assoc, arith}
+use Rattle.std.proofs.lemmas.Bool.{lt-ltb}
 use Rattle.std.proofs.lemmas.List.{append-nil, length-append}
-use Rattle.pac_tokens.specs.declared.token.Symbol.{Symbol}
 use Rattle.pac_tokens.specs.declared.token.Symbol.TheVariants as symbol
-use Rattle.pac_tokens.specs.declared.token.Token.TheVariants as token
 use Rattle.pac_tokens.specs.declared.token.Spanned.{Spanned}
 use Rattle.pac_request.specs.declared.node.PlacedLiteral.{PlacedLiteral}
 use Rattle.pac_syntax.specs.Grammar.{LiteralForm, AnInt, ANegative, AText, ATrue, AFalse}
-use Rattle.pac_syntax.specs.Machine.{is_same_word_or_sign, symbol_code}
 use Rattle.pac_request.specs.declared.fault.LineFault.{LineFault}
 use Rattle.pac_request.specs.declared.node.RecordNode.{RecordNode}
 use Rattle.pac_request.specs.declared.node.LineNode.{LineNode}
 use Rattle.pac_request.specs.declared.node.LineNode.TheVariants as line
 use Rattle.pac_request.specs.LineForms.{LiteralsForm, NoLiteral, OneLiteral, ArgumentsForm, NoArgument, SomeArguments, RecordForm, PutForm, DeleteForm, RecordsForm, NoRecord, OneRecord, LineForm, EmptyForm, CallForm, AdHocForm, ShowForm, FlushForm, SaveForm, StopForm, sign_token, literal_front, literals_front, arguments_front, record_front, records_tokens, line_tokens, literals_nodes, arguments_nodes, record_node, records_nodes, line_node, placed_literal, HasFewRecords, IsWritten}
-use Rattle.pac_request.specs.LineSteps.{LineSteps, LineEnds, ThisSign, SomeName, SomeLiteral, SomeNegative, MoreLiterals, AllArguments, SomeRecord, MoreRecords, AnyLine, steps_behind, said_at_end, line_run}
-use Rattle.pac_request.proofs.LineMeaning.{Wants, HasRoom, few_room}
+use Rattle.pac_request.specs.LineSteps.{LineSteps, LineEnds, SomeLiteral, MoreLiterals, AllArguments, SomeRecord, MoreRecords, AnyLine, steps_behind, said_at_end, line_run}
+use Rattle.pac_request.proofs.LineMeaning.{HasRoom, few_room}
 
 literal_runs : (end : LineFault) (k : PlacedLiteral → LineSteps) (l : LiteralForm) (rest : List Spanned) → line_run end (SomeLiteral k) (literal_front l rest) ≡ line_run end (k (placed_literal l)) rest
 unfolding line_run steps_behind

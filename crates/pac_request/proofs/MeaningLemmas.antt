@@ -1,5 +1,5 @@
 -- The values of literals, one after another.
-use Rattle.std.proofs.Common.{◌≡◌, ℕ, Bool, true, false, List, [], ◌∷◌, ◌++◌, length, map, Option, Some, None, Result, Ok, Err, refl, sym, ap, ◌∙◌, append_assoc, subst, suc, ◌<◌, arith}
+use Rattle.std.proofs.Common.{◌≡◌, true, List, [], ◌∷◌, ◌++◌, length, map, Option, Some, None, Result, Ok, Err, refl, sym, ap, ◌∙◌, append_assoc, subst, ◌<◌, arith}
 use Rattle.std.specs.Prelude.{IfOk, IsTrue, ok_or}
 use Rattle.std.specs.List.{list_all}
 use Rattle.std.proofs.lemmas.List.{append-nil, length-map}
@@ -91,11 +91,11 @@ has_type ty.Int (value.Int z) v e = subst (HasType ty.Int) (value_is (value.Int 
 has_type ty.Text (value.Text x) v e = subst (HasType ty.Text) (value_is (value.Text x) v e) (record { is = refl; stored = refl })
 has_type _ _ v e = absurd cc
 
-record HaveAll (tys : List Ty) (vs : List Value) : Type 0 where
-  are : map type_of vs ≡ tys
-  stored : list_all is_stored vs ≡ true
+pub record HaveAll (tys : List Ty) (vs : List Value) : Type 0 where
+  pub are : map type_of vs ≡ tys
+  pub stored : list_all is_stored vs ≡ true
 
-values_fit : (tys : List Ty) (ls : List PlacedLiteral) (vs : List Value) → length tys ≡ length ls → asked_values tys ls ≡ Ok vs → HaveAll tys vs
+pub values_fit : (tys : List Ty) (ls : List PlacedLiteral) (vs : List Value) → length tys ≡ length ls → asked_values tys ls ≡ Ok vs → HaveAll tys vs
 unfolding asked_values
 values_fit [] ls vs same e = subst (HaveAll []) (values_are [] vs e) (record { are = refl; stored = refl })
 values_fit (t ∷ tys) [] vs same e = absurd (omega (arith, same))

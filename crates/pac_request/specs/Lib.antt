@@ -1,6 +1,15 @@
+pub mod Answers
 pub mod LineKinds
 pub mod LineForms
 pub mod LineFaults
 pub mod LineSteps
 pub mod RequestMeaning
 pub mod LineReading
+pub mod RequestFits
+pub mod ScriptLines
+pub mod Lines
+pub mod Batches
+pub mod Cutting
+pub mod Script
+pub mod ScriptReading
+pub mod Stress

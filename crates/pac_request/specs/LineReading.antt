@@ -1,7 +1,5 @@
 -- What a request line says, or its first fault.
-use Rattle.std.specs.Prelude.{◌≡◌, ◌⊎◌, ◌≤◌, ◌<◌, ℕ, List, length, Option, Result, Ok, Err}
-use Rattle.pac_base.specs.declared.refusal.Refusal.{Refusal}
-use Rattle.pac_base.specs.declared.refusal.Refusal.TheVariants as error
+use Rattle.std.specs.Prelude.{◌≡◌, ◌⊎◌, ◌≤◌, ◌<◌, ℕ, List, length, Option, Result, Err}
 use Rattle.pac_tokens.specs.declared.token.Spanned.{Spanned}
 use Rattle.pac_tokens.specs.declared.fault.Fault.{Fault}
 use Rattle.pac_tokens.specs.Tokens.{IsLexed}
@@ -33,12 +31,10 @@ pub record TokensAsk (catalogue : CatalogueState) (line : List ℕ) (answer : Li
   pub read : TokensRead (length line) tokens lexical said
   pub answers : answer ≡ asked_by catalogue said
 
+-- the line has more than 4,096 bytes: that is its first fault, whatever else is wrong
+abbrev pub IsLongLine : List ℕ → LineAnswer → Type 0
+IsLongLine line answer = (MAX_LINE < length line) × (answer ≡ Err (line_fault TooLong MAX_LINE))
+
 -- what a line asks, or its first fault: its length comes first
 abbrev pub LineSays : CatalogueState → List ℕ → LineAnswer → Type 0
-LineSays catalogue line answer = ((MAX_LINE < length line) × (answer ≡ Err (line_fault TooLong MAX_LINE))) ⊎ TokensAsk catalogue line answer
-
--- what a call that may find no memory answers is what the line says
-abbrev pub TellsLine : CatalogueState → List ℕ → Result (Option Request) (Refusal LineFault) → Type 0
-TellsLine catalogue line (Ok said) = LineSays catalogue line (Ok said)
-TellsLine catalogue line (Err (error.Fault fault)) = LineSays catalogue line (Err fault)
-TellsLine catalogue line (Err error.NoMemory) = Unit {0}
+LineSays catalogue line answer = IsLongLine line answer ⊎ TokensAsk catalogue line answer

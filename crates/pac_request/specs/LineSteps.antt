@@ -1,5 +1,5 @@
 -- Reading the tokens of a line one at a time: what is still to come, and what is done with it.
-use Rattle.std.specs.Prelude.{◌≡◌, ◌≤◌, ℕ, ℤ, List, [], ◌∷◌, ◌++◌, length, Option, Some, None, Result, Ok, Err, Bool, true, false, bytes_eq, nat_lt, if◌then◌else◌, ok_or, Vec}
+use Rattle.std.specs.Prelude.{◌≤◌, ℕ, ℤ, List, [], ◌∷◌, ◌++◌, length, Option, Some, None, Result, Ok, Err, true, false, bytes_eq, nat_lt, if◌then◌else◌, ok_or, Vec}
 use Rattle.std.specs.Global.{Global}
 use Rattle.std.specs.Option.{option_map}
 use Rattle.pac_base.specs.declared.refusal.Refusal.{Refusal}

@@ -1,5 +1,5 @@
 -- What a line asks of a catalogue's procedures and tables, or its first fault from the left.
-use Rattle.std.specs.Prelude.{◌≡◌, ℕ, List, [], ◌∷◌, map, length, slice_get, Option, Some, None, Result, Ok, Err, ok_or, nat_eq, if◌then◌else◌}
+use Rattle.std.specs.Prelude.{ℕ, List, [], ◌∷◌, map, length, slice_get, Option, Some, None, Result, Ok, Err, ok_or, nat_eq, if◌then◌else◌}
 use Rattle.pac_value.specs.declared.values.Ty.{Ty}
 use Rattle.pac_value.specs.declared.values.Ty.TheVariants as ty
 use Rattle.pac_value.specs.declared.values.Value.{Value}

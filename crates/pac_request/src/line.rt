@@ -1,19 +1,31 @@
 // Reads request lines.
-ghost use Rattle.std.specs.Prelude.{◌≡◌, length, Err};
+ghost use Rattle.std.specs.Prelude.{◌≡◌, length, Err, IfOk};
 ghost use Rattle.pac_base.specs.Refusals.{Tells};
+ghost use Rattle.pac_base.specs.declared.refusal.Refusal.TheVariants as error;
+ghost use Rattle.pac_request.specs.Answers.{AnswersBy};
+ghost use Rattle.pac_request.specs.LineKinds.{line_fault};
 ghost use Rattle.pac_request.specs.LineSteps.{tokens_read};
-ghost use Rattle.pac_request.specs.LineReading.{LineAnswer, LineSays, TellsLine};
+ghost use Rattle.pac_request.specs.LineReading.{LineAnswer, LineSays};
 ghost use Rattle.pac_request.specs.RequestMeaning.{asked_by};
+ghost use Rattle.pac_request.specs.RequestFits.{AskedFits};
+ghost use Rattle.pac_request.specs.ScriptLines.{ScriptLineSays, is_out_of_place, out_of_place};
 
 use crate::fault::{LineFault, LineFaultKind};
 use crate::limits::MAX_LINE;
 use crate::meaning::request_of;
+use crate::node::Verb;
 use crate::parser::parse_line;
 use crate::request::Request;
 use pac_base::Refusal;
-use pac_tokens::{Lexed, lex};
+use pac_tokens::{Lexed, Spanned, Token, lex};
 use pac_types::Catalogue;
 use std::alloc::Global;
+
+fn refused(at: usize, kind: LineFaultKind) -> Refusal<LineFault>
+    ensures { result ≡ error.Fault (line_fault kind at) }
+{
+    Refusal::Fault(LineFault { at, kind })
+}
 
 // What the tokens of a line with so many bytes ask.
 fn answer_of(
@@ -22,7 +34,8 @@ fn answer_of(
     lexed: &Lexed,
     end: usize,
 ) -> Result<Option<Request>, Refusal<LineFault>>
-    ensures { Tells (λ said. said) result (asked_by catalogue.now (tokens_read end lexed.now.items.items lexed.now.fault)) }
+    ensures exact { Tells (λ said. said) result (asked_by catalogue.now (tokens_read end lexed.now.items.items lexed.now.fault)) }
+    ensures fits { IfOk result (AskedFits catalogue.now) }
 {
     let node = parse_line(alloc, lexed, end)?;
     request_of(alloc, catalogue, &node)
@@ -48,16 +61,66 @@ pub fn read_line(
     line: &[u8],
 ) -> Result<Option<Request>, Refusal<LineFault>>
     // What is answered is what the line says.
-    ensures says { TellsLine catalogue.now line.now result }
+    ensures says { AnswersBy (LineSays catalogue.now line.now) result }
     // What the line says is answered, and nothing else.
     ensures only { (answer : LineAnswer) → LineSays catalogue.now line.now answer → Tells (λ said. said) result answer }
+    // What is asked fits the catalogue.
+    ensures fits { IfOk result (AskedFits catalogue.now) }
 {
     if line.len() > MAX_LINE {
-        return Err(Refusal::Fault(LineFault {
-            at: MAX_LINE,
-            kind: LineFaultKind::TooLong,
-        }));
+        return Err(refused(MAX_LINE, LineFaultKind::TooLong));
     }
     let lexed = lex(alloc, line)?;
+    answer_of(alloc, catalogue, &lexed, line.len())
+}
+
+// Whether a script has no place for a word.
+fn is_out_of_place(token: &Token) -> bool
+    ensures { result ≡ is_out_of_place token.now }
+{
+    let Token::Name(name) = token else {
+        return false;
+    };
+    let word = name.bytes();
+    word == Verb::Show.word() || word == Verb::Save.word() || word == Verb::Stop.word()
+}
+
+// Where such a word stands, if it is the first token.
+fn out_of_place(tokens: &[Spanned]) -> Option<usize>
+    ensures { result ≡ out_of_place tokens.now }
+{
+    match tokens {
+        [first, ..] if is_out_of_place(&first.token) => Some(first.at),
+        _ => None,
+    }
+}
+
+/// What a line of a script asks of a catalogue, as [`read_line`] tells it of any line. But a script shows no rows, saves no
+/// checkpoint and isn't stopped.
+///
+/// # Errors
+///
+/// The first fault, or `NoMemory`: [`LineFaultKind::TooLong`] at 4,096 where the line has more bytes, then
+/// [`LineFaultKind::NotHere`] at `show`, `save` or `stop` where that is the first token, whatever follows it, and then those
+/// of [`read_line`].
+pub fn read_script_line(
+    alloc: Global,
+    catalogue: &Catalogue,
+    line: &[u8],
+) -> Result<Option<Request>, Refusal<LineFault>>
+    // What is answered is what the line says in a script.
+    ensures says { AnswersBy (ScriptLineSays catalogue.now line.now) result }
+    // What the line says there is answered, and nothing else.
+    ensures only { (answer : LineAnswer) → ScriptLineSays catalogue.now line.now answer → Tells (λ said. said) result answer }
+    // What is asked fits the catalogue.
+    ensures fits { IfOk result (AskedFits catalogue.now) }
+{
+    if line.len() > MAX_LINE {
+        return Err(refused(MAX_LINE, LineFaultKind::TooLong));
+    }
+    let lexed = lex(alloc, line)?;
+    if let Some(at) = out_of_place(&lexed.items) {
+        return Err(refused(at, LineFaultKind::NotHere));
+    }
     answer_of(alloc, catalogue, &lexed, line.len())
 }

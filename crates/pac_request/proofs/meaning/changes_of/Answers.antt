@@ -1,6 +1,6 @@
-use Rattle.std.proofs.Common.{◌+◌, length, ap, arith}
+use Rattle.std.proofs.Common.{length, ap, arith}
 use Rattle.std.proofs.lemmas.Result.{err_from_is_err_and}
-use Rattle.pac_request.proofs.MeaningLemmas.{changes_start, changes_on, changes_fail, changes_done}
+use Rattle.pac_request.proofs.MeaningLemmas.{changes_on, changes_fail, changes_done}
 use Rattle.pac_request.proofs.meaning.changes_of.Goals as goal
 
 pub returns-in_err-change-clause-exact : goal.returns-in_err-change-clause-exact

@@ -1,4 +1,4 @@
-use Rattle.std.proofs.Common.{◌≡◌, ◌≤◌, List, length}
+use Rattle.std.proofs.Common.{◌≡◌, length}
 use Rattle.pac_request.specs.declared.node.Verb.TheVariants as verb
 use Rattle.pac_request.specs.LineSteps.{MoreRecords, verb_steps, line_run}
 use Rattle.pac_request.proofs.parser.LineParser.records.Given as goal

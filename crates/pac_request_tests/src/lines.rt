@@ -1,6 +1,6 @@
 // Request lines: what they ask, and their first faults.
-use crate::{Request, read_line};
 use pac_base::Refusal;
+use pac_request::{Request, read_line};
 use pac_types::{Catalogue, read_catalogue};
 use std::alloc::{AllocError, Global};
 use std::test::Fail;

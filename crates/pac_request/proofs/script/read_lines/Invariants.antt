@@ -1,0 +1,16 @@
+use Rattle.std.proofs.Common.{◌≤◌, ◌+◌, length}
+use Rattle.pac_request.specs.Cutting.{next_txn}
+use Rattle.pac_request.specs.Lines.{lines}
+use Rattle.pac_request.proofs.ReadingLemmas.{Reading}
+use Rattle.pac_request.proofs.script.read_lines.Given as goal
+
+-- the lines before are read, and each of them took a byte and a number at most
+abbrev pub invariant-loop-cutter : goal.invariant-loop-cutter
+invariant-loop-cutter l = record {
+  reading : Reading l.catalogue (lines l.text) (lines l.rest) l.number l.cutter;
+  few : l.number + length l.rest ≤ length l.text + 1;
+  numbers : next_txn l.cutter ≤ l.number;
+}
+
+abbrev pub decreases-loop-cutter : goal.decreases-loop-cutter
+decreases-loop-cutter l = length l.rest

@@ -1,0 +1,25 @@
+// What a line of a script is to the batches.
+ghost use Rattle.std.specs.Prelude.{◌≡◌};
+ghost use Rattle.pac_request.specs.Batches.{step_of};
+
+use crate::request::Request;
+use pac_ops::{Call, Txn};
+
+/// A transaction, or the end of the batch that is open.
+#[derive(Drop)]
+pub enum ScriptStep {
+    Add(Txn),
+    Flush,
+}
+
+/// What a request is to the batches, if it is anything to them.
+pub fn step_of(request: Request) -> Option<ScriptStep>
+    ensures { result ≡ step_of request }
+{
+    match request {
+        Request::Call { proc, args } => Some(ScriptStep::Add(Txn::Call(Call { proc, args }))),
+        Request::AdHoc { records } => Some(ScriptStep::Add(Txn::AdHoc { records })),
+        Request::Flush => Some(ScriptStep::Flush),
+        Request::Show { .. } | Request::Save | Request::Stop | Request::Refused(_) => None,
+    }
+}
