@@ -11,14 +11,14 @@ use Rattle.pac_request.specs.declared.step.ScriptStep.TheVariants.{Add, Flush}
 use Rattle.pac_request.specs.Batches.{body_len, fits, first_run, other_runs, HasSome, AreLongest, as_batches, AreCutInto}
 use Rattle.pac_request.specs.Cutting.{Cut, closed_with, flushed, with_last, added, cut_all, nothing_cut, IsSmall}
 
-abbrev Parts : Type 0
+abbrev pub Parts : Type 0
 Parts = List (List Txn)
 
 -- the parts of all runs
-abbrev all_of : List Parts → Parts
+abbrev pub all_of : List Parts → Parts
 all_of parts = flat_map (λ run. run) parts
 
-one_part : (part : Parts) (parts : List Parts) → all_of (part ∷ parts) ≡ part ++ all_of parts
+pub one_part : (part : Parts) (parts : List Parts) → all_of (part ∷ parts) ≡ part ++ all_of parts
 one_part part parts = flat_map-cons (λ (p : Parts). p) part parts
 
 -- a batch can hold each transaction alone

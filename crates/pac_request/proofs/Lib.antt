@@ -9,3 +9,4 @@ pub mod LineDivision
 pub mod CutLemmas
 pub mod ReadingLemmas
 pub mod OneScript
+pub mod BatchFitLemmas

@@ -153,7 +153,7 @@ changes_fit tables (r ∷ rs) cs e =
     let more = bind_ok (asked_changes tables rs) (λ changes. Ok (c.0 ∷ changes)) cs c.2 in
     subst (RecordsFit (map shape tables)) (ok_is (c.0 ∷ more.0) cs more.2) (change_fits tables r c.0 c.1, changes_fit tables rs more.0 more.1)
 
-asked_fits : (catalogue : CatalogueState) (node : LineNode) (said : Option Request) → asked catalogue node ≡ Ok said → AskedFits catalogue said
+pub asked_fits : (catalogue : CatalogueState) (node : LineNode) (said : Option Request) → asked catalogue node ≡ Ok said → AskedFits catalogue said
 asked_fits catalogue line.Empty said e = subst (AskedFits catalogue) (ok_is None said e) tt
 asked_fits catalogue (line.Call name ls) said e =
     let call = bind_ok (asked_call catalogue.procs name ls) (λ call. Ok (Some call)) said e in

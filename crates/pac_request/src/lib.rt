@@ -3,7 +3,7 @@
 //! - [`read_line`]: what a line asks of a catalogue, a [`Request`] that fits it; nothing, for white space and comment; or its
 //!   first [`LineFault`], at a place (a byte offset in the line) and of one of seven [`LineFaultKind`]s.
 //! - [`read_script_line`]: the same of a line of a script, which has no place for `show`, `save` and `stop`.
-//! - [`read_script`]: the [`Script`] that a text is, a catalogue and its transactions in batches; or its first
+//! - [`read_script`]: the [`Script`] that a text is, a catalogue and batches of transactions that fit it; or its first
 //!   [`ScriptFault`].
 //! - [`stress_txn`]: the transactions of the stress test.
 //! - [`Reply`], [`Replies`]: what requests are answered.

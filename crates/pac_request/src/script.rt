@@ -5,6 +5,7 @@ ghost use Rattle.pac_base.specs.declared.refusal.Refusal.TheVariants as error;
 ghost use Rattle.pac_types.specs.OperationLimits.{HasFewOperations};
 ghost use Rattle.pac_request.specs.Answers.{AnswersBy};
 ghost use Rattle.pac_request.specs.Lines.{lines};
+ghost use Rattle.pac_request.specs.RequestFits.{BatchesFit, BatchesHaveNumbers};
 ghost use Rattle.pac_request.specs.Script.{HasBatches, PartsSay, ScriptSays, lines_behind};
 ghost use Rattle.pac_request.specs.ScriptLines.{ScriptLineSays};
 ghost use Rattle.pac_request.specs.declared.script.Script.{Script as AScript};
@@ -141,6 +142,9 @@ pub fn read_script(alloc: Global, text: &[u8]) -> Result<Script, ScriptError>
     ensures says { AnswersBy (ScriptSays text.now) result }
     // What the text is read as is answered, and nothing else.
     ensures only { (answer : Result AScript AFault) → ScriptSays text.now answer → Tells (λ said. said) result answer }
+    // The transactions fit the catalogue, and have numbers of 64 bits.
+    ensures fits { IfOk result (λ script. BatchesFit script.catalogue script.batches) }
+    ensures numbers { IfOk result (λ script. BatchesHaveNumbers script.batches) }
 {
     read_text(alloc, text)
 }

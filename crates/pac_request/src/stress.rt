@@ -64,7 +64,7 @@ fn deposit(alloc: Global, mixed: u64) -> Result<Txn, NoMemory>
 }
 
 /// The transaction with this number that the stress test makes, over the catalogue of the bank: a call of `Transfer` or
-/// `Deposit`, its first and its second procedure, or a put of `Family`, its first table. A call in constant time.
+/// `Deposit`, its first and its second procedure, or a put of `Family`, its first table.
 ///
 /// # Errors
 ///
