@@ -81,7 +81,8 @@ first_stands text gate image len is lens placed none = record {
     place = omega (arith, placed, lens, length-append (header_bytes text) [], ap (λ (x : List ℕ). length x) (sym (append-nil (header_bytes text)) ∙ header_parts text []), length-append (head_bytes (length text)) (text ++ []), length-append text [], head_long (length text));
     txns = none;
   };
-  rest = is.gate ∷ is.rest;
+  byte = is.gate;
+  rest = is.rest;
   split = is.split ∙ ap (λ (x : List ℕ). x ++ (is.gate ∷ is.rest)) (sym (append-nil (header_bytes text)));
 }
 

@@ -3,3 +3,11 @@ pub mod FillingLemmas
 pub mod LogLemmas
 pub mod HeaderLemmas
 pub mod CreateLemmas
+pub mod ReachLemmas
+pub mod GateLemmas
+pub mod StepLemmas
+pub mod OneLog
+pub mod PlaceLemmas
+pub mod PieceLemmas
+pub mod OneGate
+pub mod FoundLemmas

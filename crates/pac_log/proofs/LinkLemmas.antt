@@ -14,7 +14,7 @@ use Rattle.pac_bytes.specs.Reading.{told_as, next_byte, next_uint, times, within
 use Rattle.pac_bytes.proofs.Codec.{IsCodec, ended, seq, either, never, same, retold}
 use Rattle.pac_bytes.proofs.Filling.{within_codec}
 use Rattle.pac_bytes.proofs.Lists.{times_codec}
-use Rattle.pac_bytes.proofs.Numbers.{IsByte, one_byte, byte_codec, uint_codec, width32}
+use Rattle.pac_bytes.proofs.Numbers.{one_byte, byte_codec, uint_codec, width32}
 use Rattle.pac_entry.specs.Entries.{txn_bytes, IsEntry}
 use Rattle.pac_entry.specs.EntryReading.{next_entry}
 use Rattle.pac_log.specs.declared.limits.TheConstants.{MAX_ENTRIES_LEN}
@@ -34,8 +34,15 @@ each_of P (x ∷ xs) h = (All-head P x xs h, each_of P xs (All-tail P x xs h))
 pub number_codec : IsCodec (λ n. n < 2 ^ 32) (to_le_bytes w32) link_number
 number_codec = retold _ _ (next_uint w32) as_link_fault (uint_codec w32 (2 ^ 32) width32)
 
-gate_codec : IsCodec IsByte one_byte (λ s. told_as as_link_fault (next_byte s))
-gate_codec = retold _ _ next_byte as_link_fault byte_codec
+-- any number is read as a gate, and what is read as one is a byte where only bytes are there
+abbrev IsGate : ℕ → Type 0
+IsGate gate = Unit {0}
+
+gate_codec : IsCodec IsGate one_byte (λ s. told_as as_link_fault (next_byte s))
+gate_codec = record {
+  again = λ gate at more fits. refl;
+  found = λ s gate t are e. let is = (retold _ _ next_byte as_link_fault byte_codec).found s gate t are e in record { bytes = is.bytes; place = is.place; form = tt };
+}
 
 link_is : (txns : List Txn) (gate : ℕ) (link : Link) → link.txns ≡ txns → link.gate ≡ gate → link ≡ record { txns = txns; gate = gate }
 link_is txns gate link t g = ap₂ (λ (ts : List Txn) (n : ℕ). the_link ts n) t g
@@ -54,21 +61,21 @@ module _ (catalogue : CatalogueState) (entry_codec : IsCodec (IsEntry catalogue)
 
   -- the same in a link, and its gate
   abbrev HasEntries : ℕ → ℕ → Link → Type 0
-  HasEntries count len link = (link.gate < 256) × AreEntries count len link.txns
+  HasEntries count len link = IsGate link.gate × AreEntries count len link.txns
 
   abbrev entries_gate : Link → List ℕ
   entries_gate link = entries_bytes link.txns ++ (link.gate ∷ [])
 
   entries_and_gate_codec : (count len : ℕ) → IsCodec (HasEntries count len) entries_gate (entries_and_gate catalogue count len)
   entries_and_gate_codec count len =
-      seq (λ link. link.txns) (AreEntries count len) entries_bytes (next_entries catalogue count len) (λ link. link.gate < 256) (λ link. link.gate ∷ [])
+      seq (λ link. link.txns) (AreEntries count len) entries_bytes (next_entries catalogue count len) (λ link. IsGate link.gate) (λ link. link.gate ∷ [])
       (λ at txns s. told_as as_link_fault (next_byte s) >>= λ gate. Ok (record { txns = txns; gate = gate.0 }, gate.1))
       (entries_codec count len)
       (λ at txns are. same _ _ _ _ _
       (λ link h. (h.1, h.0))
       (λ link h. (h.1, h.0))
       (λ link h. refl)
-      (seq (λ link. link.gate) IsByte one_byte (λ s. told_as as_link_fault (next_byte s)) (λ link. link.txns ≡ txns) (λ link. []) (λ at2 gate s. Ok (record { txns = txns; gate = gate }, s))
+      (seq (λ link. link.gate) IsGate one_byte (λ s. told_as as_link_fault (next_byte s)) (λ link. link.txns ≡ txns) (λ link. []) (λ at2 gate s. Ok (record { txns = txns; gate = gate }, s))
       gate_codec
       (λ at2 gate lt. same _ _ _ _ _
       (λ link h. link_is txns gate link h.0 h.1)
@@ -78,7 +85,7 @@ module _ (catalogue : CatalogueState) (entry_codec : IsCodec (IsEntry catalogue)
 
   -- so many entries, which are not too long, and a gate
   abbrev IsCounted : ℕ → Link → Type 0
-  IsCounted count link = ((link.gate < 256) × (AllByRecursion (IsEntry catalogue) link.txns × (length link.txns ≡ count))) × (length (entries_bytes link.txns) ≤ MAX_ENTRIES_LEN)
+  IsCounted count link = (IsGate link.gate × (AllByRecursion (IsEntry catalogue) link.txns × (length link.txns ≡ count))) × (length (entries_bytes link.txns) ≤ MAX_ENTRIES_LEN)
 
   abbrev counted_bytes : Link → List ℕ
   counted_bytes link = to_le_bytes w32 (length (entries_bytes link.txns)) ++ entries_gate link
@@ -132,8 +139,8 @@ module _ (catalogue : CatalogueState) (entry_codec : IsCodec (IsEntry catalogue)
   pub link_codec : IsCodec (IsLogLink catalogue) link_bytes (next_link catalogue)
   unfolding next_link
   link_codec = same _ _ _ _ _
-      (λ link h. ((((h.1, (each_of (IsEntry catalogue) link.txns h.0.each, refl)), h.0.short), h.0.count), omega (arith, h.0.count.1)))
-      (λ link h. (record { count = h.0.1; short = h.0.0.1; each = all_of (IsEntry catalogue) link.txns h.0.0.0.1.0 }, h.0.0.0.0))
+      (λ link h. ((((tt, (each_of (IsEntry catalogue) link.txns h.each, refl)), h.short), h.count), omega (arith, h.count.1)))
+      (λ link h. record { count = h.0.1; short = h.0.0.1; each = all_of (IsEntry catalogue) link.txns h.0.0.0.1.0 })
       (λ link h. link_words link)
       (seq (λ link. length link.txns) (λ n. n < 2 ^ 32) (to_le_bytes w32) link_number IsCountedLink counted_bytes
       (λ at n s. cond (eqb n 0 || ltb MAX_TXNS n) (Err (out_of_range at)) (counted_link catalogue n s))

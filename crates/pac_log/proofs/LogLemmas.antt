@@ -1,5 +1,5 @@
 -- A log whose next gate is opened.
-use Rattle.std.proofs.Common.{◌≡◌, ◌∙◌, ◌⊎◌, inl, inr, ⊎_elim, ℕ, ◌+◌, ◌*◌, ◌≤◌, List, [], ◌∷◌, ◌++◌, length, Option, sym, ap, subst, arith, append_assoc}
+use Rattle.std.proofs.Common.{◌≡◌, ◌∙◌, ◌⊎◌, inl, inr, ⊎_elim, ℕ, ◌+◌, ◌*◌, ◌≤◌, List, [], ◌∷◌, ◌++◌, length, Option, Some, None, refl, sym, ap, subst, arith, append_assoc}
 use Rattle.std.proofs.lemmas.List.Concat.{flat_map-cons}
 use Rattle.std.proofs.lemmas.List.{append-nil, length-append}
 use Rattle.std.proofs.lemmas.List.Elements.{All-append, All-cons, All-nil}
@@ -9,34 +9,36 @@ use Rattle.pac_ops.specs.declared.transaction.Txn.TheVariants.{Call, AdHoc}
 use Rattle.pac_bytes.proofs.Numbers.{width32}
 use Rattle.pac_entry.specs.Entries.{txn_bytes}
 use Rattle.pac_types.specs.Typing.{CatalogueState}
-use Rattle.pac_outside.specs.Disk.{History, BothTell}
-use Rattle.pac_outside.specs.GateByte.{IsShut, IsOpen, ShutOrOpen, Opens}
+use Rattle.pac_outside.specs.Disk.{History, WhereTold, BothTell}
+use Rattle.pac_outside.specs.GateByte.{IsShut, IsOpen, OneImage, ShutOrOpen, Opens}
 use Rattle.pac_outside.proofs.Histories.{both, weaken}
 use Rattle.pac_log.specs.declared.position.NextGate.{NextGate}
 use Rattle.pac_log.specs.declared.log.Stage.{Stage}
 use Rattle.pac_log.specs.declared.log.Stage.TheVariants.{Ready}
 use Rattle.pac_log.specs.Bodies.{entries_bytes, body_bytes, IsBody}
-use Rattle.pac_log.specs.Logs.{header_bytes, open_bodies, log_front, count_txns, AreBatches, HoldsLog, KeepsOrAdds, AddsBatch}
+use Rattle.pac_log.specs.Logs.{header_bytes, open_bodies, log_front, all_txns, AreBatches, HoldsLog, KeepsOrAdds, AddsBatch}
 use Rattle.pac_log.specs.Gates.{gate_behind}
-use Rattle.pac_log.specs.Places.{IsBehind}
+use Rattle.pac_log.specs.Places.{IsBehind, LogEndsAt}
+
+open_bodies-append : (a b : List (List Txn)) → open_bodies (a ++ b) ≡ open_bodies a ++ open_bodies b
+open_bodies-append [] b = refl
+open_bodies-append (txns ∷ a) b = ap (λ (l : List ℕ). 1 ∷ l) (ap (λ (l : List ℕ). body_bytes txns ++ l) (open_bodies-append a b) ∙ sym (append_assoc (body_bytes txns) (open_bodies a) (open_bodies b)))
+
+pub log_front-append : (text : List ℕ) (a b : List (List Txn)) → log_front text (a ++ b) ≡ log_front text a ++ open_bodies b
+log_front-append text a b = ap (λ (l : List ℕ). header_bytes text ++ l) (open_bodies-append a b) ∙ sym (append_assoc (header_bytes text) (open_bodies a) (open_bodies b))
 
 -- with one batch more, its open gate and its body stand behind the others
-pub pushed : (batches : List (List Txn)) (txns : List Txn) (rest : List ℕ) → open_bodies (batches ++ txns ∷ []) ++ rest ≡ open_bodies batches ++ (1 ∷ (body_bytes txns ++ rest))
-pushed [] txns rest = ap (λ (l : List ℕ). 1 ∷ (l ++ rest)) (append-nil (body_bytes txns))
-pushed (b ∷ batches) txns rest =
-    let more = 1 ∷ (body_bytes txns ++ rest) in
-    let inner : (body_bytes b ++ open_bodies (batches ++ txns ∷ [])) ++ rest ≡ (body_bytes b ++ open_bodies batches) ++ more =
-    append_assoc (body_bytes b) (open_bodies (batches ++ txns ∷ [])) rest ∙ ap (λ (l : List ℕ). body_bytes b ++ l) (pushed batches txns rest) ∙ sym (append_assoc (body_bytes b) (open_bodies batches) more) in
-    ap (λ (l : List ℕ). 1 ∷ l) inner
-
 pub front_pushed : (text : List ℕ) (batches : List (List Txn)) (txns : List Txn) (rest : List ℕ) → log_front text (batches ++ txns ∷ []) ++ rest ≡ log_front text batches ++ (1 ∷ (body_bytes txns ++ rest))
 front_pushed text batches txns rest =
-    append_assoc (header_bytes text) (open_bodies (batches ++ txns ∷ [])) rest ∙ ap (λ (l : List ℕ). header_bytes text ++ l) (pushed batches txns rest)
-    ∙ sym (append_assoc (header_bytes text) (open_bodies batches) (1 ∷ (body_bytes txns ++ rest)))
+    ap (λ (l : List ℕ). l ++ rest) (log_front-append text batches (txns ∷ [])) ∙ append_assoc (log_front text batches) (1 ∷ (body_bytes txns ++ [])) rest
+    ∙ ap (λ (l : List ℕ). log_front text batches ++ (1 ∷ (l ++ rest))) (append-nil (body_bytes txns))
 
-counted_more : (batches : List (List Txn)) (txns : List Txn) → count_txns (batches ++ txns ∷ []) ≡ count_txns batches + length txns
-counted_more [] txns = omega arith
-counted_more (b ∷ batches) txns = ap (λ (n : ℕ). length b + n) (counted_more batches txns) ∙ omega arith
+pub all_txns-append : (a b : List (List Txn)) → all_txns (a ++ b) ≡ all_txns a ++ all_txns b
+all_txns-append [] b = refl
+all_txns-append (x ∷ a) b = ap (λ (l : List Txn). x ++ l) (all_txns-append a b) ∙ sym (append_assoc x (all_txns a) (all_txns b))
+
+counted_more : (batches : List (List Txn)) (txns : List Txn) → length (all_txns (batches ++ txns ∷ [])) ≡ length (all_txns batches) + length txns
+counted_more batches txns = omega (arith, ap (λ (l : List Txn). length l) (all_txns-append batches (txns ∷ [])), length-append (all_txns batches) (txns ++ []), length-append txns [])
 
 pub with_batch : (text : List ℕ) (catalogue : CatalogueState) (batches : List (List Txn)) (txns : List Txn) → AreBatches text catalogue batches → IsBody catalogue txns → AreBatches text catalogue (batches ++ txns ∷ [])
 with_batch text catalogue batches txns are is = record {
@@ -121,3 +123,17 @@ behind_so text batches txns gate new count len counted long e is =
     let with_count : IsBehind text (batches ++ txns ∷ []) (gate_behind count (1 + length (body_bytes txns)) gate) = subst (λ (n : ℕ). IsBehind text (batches ++ txns ∷ []) (gate_behind n (1 + length (body_bytes txns)) gate)) (sym counted) there in
     let with_len : IsBehind text (batches ++ txns ∷ []) (gate_behind count len gate) = subst (λ (n : ℕ). IsBehind text (batches ++ txns ∷ []) (gate_behind count n gate)) (sym long) with_count in
     subst (λ (g : NextGate). IsBehind text (batches ++ txns ∷ []) g) (sym e) with_len
+
+-- a log that ended at its gate ends at the next one, when a batch was added
+pub ends_again : (R : History → History → Type 0) (old new : NextGate) (before after : Option History) (txns : List Txn) → BothTell R before after → WhereTold (λ h. LogEndsAt old h.now) before
+    → ((text : List ℕ) (batches : List (List Txn)) → IsBehind text batches old → BothTell (AddsBatch text old.catalogue batches txns) before after)
+    → ((text : List ℕ) (batches : List (List Txn)) → IsBehind text batches old → IsBehind text (batches ++ txns ∷ []) new) → new.catalogue ≡ old.catalogue → WhereTold (λ h. LogEndsAt new h.now) after
+ends_again R old new None None txns both ends adds behind same = tt
+ends_again R old new None (Some b) txns both ends adds behind same = absurd both
+ends_again R old new (Some a) None txns both ends adds behind same = absurd both
+ends_again R old new (Some a) (Some b) txns both ends adds behind same = record {
+  text = ends.text;
+  batches = ends.batches ++ txns ∷ [];
+  holds = subst (λ (c : CatalogueState). OneImage (HoldsLog ends.text c (ends.batches ++ txns ∷ [])) b.now) (sym same) (adds ends.text ends.batches ends.behind ends.holds);
+  behind = behind ends.text ends.batches ends.behind;
+}

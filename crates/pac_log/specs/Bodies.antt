@@ -1,5 +1,5 @@
 -- The bytes of the transactions of a batch, as they stand behind an open gate.
-use Rattle.std.specs.Prelude.{◌≤◌, ◌<◌, ℕ, List, [], ◌∷◌, ◌++◌, length}
+use Rattle.std.specs.Prelude.{◌≤◌, ℕ, List, [], ◌∷◌, ◌++◌, length}
 use Rattle.std.specs.Int.{w32, to_le_bytes}
 use Rattle.std.specs.List.{flat_map, All}
 use Rattle.pac_ops.specs.declared.limits.TheConstants.{MAX_TXNS}
@@ -28,6 +28,6 @@ pub record IsBody (catalogue : CatalogueState) (txns : List Txn) : Type 0 where
 abbrev pub link_bytes : Link → List ℕ
 link_bytes link = body_bytes link.txns ++ (link.gate ∷ [])
 
--- a body of the catalogue, and a byte
+-- a body of the catalogue, whatever gate stands behind it
 abbrev pub IsLogLink : CatalogueState → Link → Type 0
-IsLogLink catalogue link = IsBody catalogue link.txns × (link.gate < 256)
+IsLogLink catalogue link = IsBody catalogue link.txns

@@ -6,3 +6,4 @@ pub mod Logs
 pub mod Gates
 pub mod Places
 pub mod Reading
+pub mod Looked

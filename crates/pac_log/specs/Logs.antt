@@ -1,5 +1,5 @@
 -- The bytes of a log, and which batches stand in an image of it.
-use Rattle.std.specs.Prelude.{◌⊎◌, ℕ, List, [], ◌∷◌, ◌++◌, length, codes, ◌+◌}
+use Rattle.std.specs.Prelude.{◌≡◌, ◌⊎◌, ℕ, List, [], ◌∷◌, ◌++◌, length, codes}
 use Rattle.std.specs.Int.{w32, to_le_bytes}
 use Rattle.std.specs.List.{All}
 use Rattle.pac_ops.specs.declared.transaction.Txn.{Txn}
@@ -32,10 +32,10 @@ open_bodies (txns ∷ batches) = 1 ∷ (body_bytes txns ++ open_bodies batches)
 abbrev pub log_front : List ℕ → List (List Txn) → List ℕ
 log_front text batches = header_bytes text ++ open_bodies batches
 
--- how many transactions these batches have
-abbrev pub count_txns : List (List Txn) → ℕ
-count_txns [] = 0
-count_txns (txns ∷ batches) = length txns + count_txns batches
+-- the transactions of these batches, one after another
+abbrev pub all_txns : List (List Txn) → List Txn
+all_txns [] = []
+all_txns (txns ∷ batches) = txns ++ all_txns batches
 
 -- the text has the catalogue, and each of the batches is one of it
 pub record AreBatches (text : List ℕ) (catalogue : CatalogueState) (batches : List (List Txn)) : Type 0 where
@@ -46,6 +46,14 @@ pub record AreBatches (text : List ℕ) (catalogue : CatalogueState) (batches : 
 pub record HoldsLog (text : List ℕ) (catalogue : CatalogueState) (batches : List (List Txn)) (image : List ℕ) : Type 0 where
   pub log : AreBatches text catalogue batches
   pub shut : IsShut (log_front text batches) image
+
+-- behind some of these batches, which have so many transactions, stands the gate at this place
+pub record HasGate (text : List ℕ) (batches : List (List Txn)) (place count : ℕ) : Type 0 where
+  pub before : List (List Txn)
+  pub after : List (List Txn)
+  pub split : batches ≡ before ++ after
+  pub there : place ≡ length (log_front text before)
+  pub counted : count ≡ length (all_txns before)
 
 -- at each moment a crash leaves these batches, or these and the new one
 abbrev pub KeepsOrAdds : List ℕ → CatalogueState → List (List Txn) → List Txn → History → History → Type 0

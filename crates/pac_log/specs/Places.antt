@@ -9,12 +9,12 @@ use Rattle.pac_log.specs.declared.log.Stage.{Stage}
 use Rattle.pac_log.specs.declared.log.Stage.TheVariants.{Waiting, Ready, Failed}
 use Rattle.pac_log.specs.declared.log.LogParts.{LogParts}
 use Rattle.pac_log.specs.Bodies.{body_bytes, IsBody}
-use Rattle.pac_log.specs.Logs.{log_front, count_txns, HoldsLog}
+use Rattle.pac_log.specs.Logs.{log_front, all_txns, HoldsLog}
 
 -- the gate that comes behind these batches
 pub record IsBehind (text : List ℕ) (batches : List (List Txn)) (gate : NextGate) : Type 0 where
   pub place : gate.place ≡ length (log_front text batches)
-  pub txns : gate.txns ≡ count_txns batches
+  pub txns : gate.txns ≡ length (all_txns batches)
 
 -- these transactions are a body of the log's catalogue, and it stands ready, with a closed gate behind it
 pub record IsPrepared (log : LogParts) (txns : List Txn) : Type 0 where

@@ -23,21 +23,20 @@ mod body;
 mod creation;
 mod damage;
 mod errors;
+mod gate_bytes;
 mod header;
+mod laws;
 mod limits;
 mod link;
 mod log;
-#[cfg(test)]
-mod log_tests;
 mod position;
 mod reader;
-#[cfg(test)]
-mod tests;
 
 pub use body::{body_len, write_body};
 pub use creation::create;
 pub use damage::{DamageKind, LinkError, LinkFault};
 pub use errors::{CreateError, LogError, PrepareError};
+pub use laws::{one_gate, one_log};
 pub use limits::{MAX_BODY_LEN, MAX_ENTRIES_LEN, MAX_LOG_LEN};
 pub use link::{Link, read_link};
 pub use log::{Log, LogParts, Stage};

@@ -1,12 +1,13 @@
 // Reads what stands behind an open gate.
-ghost use Rattle.std.specs.Prelude.{◌≡◌, ◌≤◌, ◌+◌, length, IfOk};
+ghost use Rattle.std.specs.Prelude.{◌≡◌, ◌≤◌, ◌+◌, length, All, IfOk};
 ghost use Rattle.pac_base.specs.Refusals.{Tells};
 ghost use Rattle.pac_ops.specs.declared.limits.TheConstants.{MAX_TXNS};
 ghost use Rattle.pac_bytes.specs.Reading.{from, next_byte, told_as, times};
 ghost use Rattle.pac_bytes.specs.Readers.{Answers, AnswersUnlessMemory, Finds, FindsSpelledUnlessMemory};
 ghost use Rattle.pac_entry.specs.EntryReading.{next_entry};
-ghost use Rattle.pac_log.specs.declared.limits.TheConstants.{MAX_ENTRIES_LEN};
-ghost use Rattle.pac_log.specs.Bodies.{link_bytes, IsLogLink};
+ghost use Rattle.pac_types.specs.Fits.{TxnFits};
+ghost use Rattle.pac_log.specs.declared.limits.TheConstants.{MAX_BODY_LEN, MAX_ENTRIES_LEN};
+ghost use Rattle.pac_log.specs.Bodies.{body_bytes, link_bytes, IsLogLink};
 ghost use Rattle.pac_log.specs.BodyReading.{link_number, entries_and_gate, next_entries, counted_link, next_link};
 ghost use Rattle.pac_log.specs.Damages.{as_link_fault, out_of_range, short_from};
 
@@ -50,6 +51,9 @@ pub fn read_link(
     ensures found { Finds (IsLogLink cat.now) link_bytes bytes.now at result }
     // What fits the catalogue and is written so is found, whatever follows.
     ensures again { FindsSpelledUnlessMemory (IsLogLink cat.now) link_bytes bytes.now at result }
+    // So its transactions fit the catalogue, and are not too long.
+    ensures fits { IfOk result (λ found. All (TxnFits cat.now) found.0.txns) }
+    ensures short { IfOk result (λ found. length (body_bytes found.0.txns) ≤ MAX_BODY_LEN) }
 {
     let _tables = cat.tables(); // so few that their numbers fit the fields
     let _procs = cat.procs();

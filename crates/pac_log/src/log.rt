@@ -4,7 +4,6 @@ ghost use Rattle.pac_outside.specs.Causes.{EndsAtFault, HasCause};
 ghost use Rattle.pac_outside.specs.Disk.{BothTell, WhereTold};
 ghost use Rattle.pac_ops.specs.declared.transaction.Txn.{Txn as ATxn};
 ghost use Rattle.pac_types.specs.Fits.{TxnFits};
-ghost use Rattle.pac_types.specs.OperationLimits.{HasFewOperations};
 ghost use Rattle.pac_log.specs.declared.limits.TheConstants.{MAX_BODY_LEN, MAX_LOG_LEN};
 ghost use Rattle.pac_log.specs.Bodies.{body_bytes};
 ghost use Rattle.pac_log.specs.Logs.{AddsBatch, KeepsOrAdds};
@@ -16,7 +15,6 @@ use crate::{LogReader, MAX_LOG_LEN, PrepareError, body_len, write_body};
 use pac_base::{Listed, listed};
 use pac_ops::Batch;
 use pac_outside::{Disk, Failed, open_behind};
-use pac_types::Catalogue;
 use std::alloc::Global;
 use std::marker::Model;
 
@@ -75,27 +73,11 @@ impl Log {
         }
     }
 
-    /// The place of the gate that comes next, an offset from 0.
-    pub fn place(&self) -> u64
-        ensures { result ≡ self.now.gate.place }
+    /// The gate that comes next.
+    pub fn gate(&self) -> &Position
+        ensures { result.now ≡ self.now.gate }
     {
-        self.parts.gate.place()
-    }
-
-    /// How many transactions stand in front of it, at most 2^63.
-    pub fn txns(&self) -> u64
-        ensures value { result ≡ self.now.gate.txns }
-        ensures few { result ≤ 2 ^ 63 }
-    {
-        self.parts.gate.txns()
-    }
-
-    /// The log's catalogue, which is within the limits on operations.
-    pub fn catalogue(&self) -> &Catalogue
-        ensures value { result.now ≡ self.now.gate.catalogue }
-        ensures few { HasFewOperations self.now.gate.catalogue.procs }
-    {
-        self.parts.gate.catalogue()
+        &self.parts.gate
     }
 
     /// Makes a batch ready to be committed. It writes the batch's body into memory, once.
@@ -125,7 +107,7 @@ impl Log {
             return Err(PrepareError::Failed);
         }
         let len = body_len(batch);
-        let need = self.place().saturating_add(len + 2);
+        let need = self.parts.gate.place().saturating_add(len + 2);
         if need > MAX_LOG_LEN {
             return Err(PrepareError::LogFull { need });
         }
@@ -161,6 +143,7 @@ impl Log {
             → BothTell (AddsBatch text self.old.gate.catalogue batches txns) (D.told disk.old) (D.told disk.new)) }
         ensures behind { OnOk result ((text : List ℕ) (batches : List (List ATxn)) (txns : List ATxn) → IsBehind text batches self.old.gate → IsPrepared self.old txns
             → IsBehind text (batches ++ txns ∷ []) self.new.gate) }
+        ensures still_ends { OnOk result ((txns : List ATxn) → IsPrepared self.old txns → WhereTold (λ new. LogEndsAt self.new.gate new.now) (D.told disk.new)) }
         ensures catalogue { self.new.gate.catalogue ≡ self.old.gate.catalogue }
         ensures waits { OnOk result (self.new.stage ≡ Stage.Waiting) }
         ensures failed { OnErr result (self.new ≡ record { gate = self.old.gate; stage = Stage.Failed }) }

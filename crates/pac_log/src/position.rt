@@ -38,7 +38,7 @@ impl Model for Position {
 
 impl Position {
     /// The first gate of a log, at this place.
-    pub fn first(catalogue: Catalogue, place: u64) -> Position
+    pub(crate) fn first(catalogue: Catalogue, place: u64) -> Position
         requires { HasFewOperations catalogue.procs }
         ensures { result ≡ record { catalogue = catalogue; place = place; txns = 0 } }
     {
@@ -74,7 +74,7 @@ impl Position {
     }
 
     /// The gate behind so many transactions, so many bytes on.
-    pub fn advance(&mut self, txns: u64, len: u64)
+    pub(crate) fn advance(&mut self, txns: u64, len: u64)
         requires few { 2 * txns ≤ len }
         requires inside { self.old.place + len < 2 ^ 64 }
         ensures { self.new ≡ gate_behind txns len self.old }

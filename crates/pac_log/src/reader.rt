@@ -1,14 +1,24 @@
-// Reads the front of a log.
-ghost use Rattle.std.specs.Prelude.{◌≡◌, ◌≤◌, ◌^◌, [], ℕ, List, false, IfOk, IsErrOf};
-ghost use Rattle.pac_outside.specs.Causes.{Rose};
+// Reads a log.
+ghost use Rattle.std.specs.Prelude.{◌≡◌, ◌≢◌, ◌≤◌, ◌<◌, ◌+◌, ◌^◌, ◌∷◌, ◌++◌, [], ℕ, List, All, None, Ok, false, true, drop, length, IfOk, IfSome, IsErrOf, OnErr};
+ghost use Rattle.pac_outside.specs.Causes.{Rose, one_more};
 ghost use Rattle.pac_outside.specs.Disk.{WhereTold};
+ghost use Rattle.pac_ops.specs.declared.transaction.Txn.{Txn as ATxn};
+ghost use Rattle.pac_types.specs.Fits.{TxnFits};
 ghost use Rattle.pac_types.specs.OperationLimits.{HasFewOperations};
 ghost use Rattle.pac_types.specs.Typing.{CatalogueState};
-ghost use Rattle.pac_log.specs.Reading.{IsStore, StandsBehind};
+ghost use Rattle.pac_bytes.specs.Reading.{told_as};
+ghost use Rattle.pac_log.specs.Logs.{HoldsLog};
+ghost use Rattle.pac_log.specs.Places.{IsBehind};
+ghost use Rattle.pac_log.specs.Looked.{IsSpelled};
+ghost use Rattle.pac_log.specs.Reading.{IsNextBatch, IsStore, TellsOfImage, StandsBehind, TellsHeld, after_gate, at_gate, first_batch, further};
 
-use crate::LogError;
+use crate::damage::short_at;
+use crate::gate_bytes::{OPEN, bytes_from};
 use crate::header::{HEADER_LEN, accepted, text_len};
 use crate::position::Position;
+use crate::{Link, LinkFault, LogError, read_link};
+use pac_base::Refusal;
+use pac_ops::Batch;
 use pac_outside::{Disk, read_piece};
 use pac_types::Catalogue;
 use std::alloc::Global;
@@ -55,10 +65,12 @@ impl LogReader {
         ensures first { IfOk result (λ reader. reader.gate.txns ≡ 0) }
         ensures no_store { IsErrOf result LogError.NoStore → WhereTold (λ old. (text : List ℕ) (catalogue : CatalogueState) → ¬ IsStore text catalogue old.now.seen) (D.told disk.old) }
 
-        // The disk is only read.
+        // The device is only read, and no call of it comes after one that failed.
         ensures same { D.told disk.new ≡ D.told disk.old }
         ensures later { D.faults disk.old ≤ D.faults disk.new }
         ensures cause { IsErrOf result LogError.DiskFault → Rose (D.faults disk.old) (D.faults disk.new) }
+        ensures counted { IsErrOf result LogError.DiskFault → D.faults disk.new ≡ one_more (D.faults disk.old) }
+        ensures kept { ¬ IsErrOf result LogError.DiskFault → D.faults disk.new ≡ D.faults disk.old }
     {
         let head = read_piece(alloc, disk, 0, HEADER_LEN)?;
         let Some(len) = text_len(&head) else {
@@ -79,26 +91,112 @@ impl LogReader {
         })
     }
 
-    /// The place of the gate that comes next, an offset from 0.
-    pub fn place(&self) -> u64
-        ensures { result ≡ self.now.gate.place }
+    /// The gate that comes next.
+    pub fn gate(&self) -> &Position
+        ensures { result.now ≡ self.now.gate }
     {
-        self.parts.gate.place()
+        &self.parts.gate
     }
 
-    /// How many transactions stand in front of it, at most 2^63.
-    pub fn txns(&self) -> u64
-        ensures value { result ≡ self.now.gate.txns }
-        ensures few { result ≤ 2 ^ 63 }
+    /// The batch behind the gate that comes next, or `None` where that is shut. Each byte is read once, by three calls of
+    /// the device for a batch. It takes memory for one body and its transactions.
+    ///
+    /// # Errors
+    ///
+    /// The reader stands where it stood.
+    ///
+    /// - [`LogError::Damaged`] exactly where the gate is open and no batch and no gate stands behind it: the first fault, as
+    ///   [`read_link`] tells it; and where the device ends in front of the gate, at the gate, as `Short`.
+    /// - [`LogError::DiskFault`] where a call of the device failed, so only where its count of faults rose; no call comes
+    ///   after it.
+    /// - [`LogError::NoMemory`] where there was no memory for the batch.
+    pub fn next_batch<D: Disk>(&mut self, disk: &mut D) -> Result<Option<Batch>, LogError>
+        // It is what the device holds at the gate, or the first damage.
+        ensures exact { WhereTold (λ old. TellsHeld result (at_gate self.old.gate.catalogue old.now.seen self.old.gate.place)) (D.told disk.old) }
+
+        // Behind batches that stand in the image it is the next one, or these are all, or the image is damaged there.
+        ensures reads_on { (text : List ℕ) (batches : List (List ATxn)) → WhereTold (λ old. StandsBehind text batches self.old.gate old.now.seen → TellsOfImage text batches self.old.gate self.new.gate old.now.seen result) (D.told disk.old) }
+
+        // The batches that the image holds are read again.
+        ensures again { (text : List ℕ) (before after : List (List ATxn)) → WhereTold (λ old. HoldsLog text self.old.gate.catalogue (before ++ after) old.now.seen → IsBehind text before self.old.gate → TellsHeld result (Ok (first_batch after))) (D.told disk.old) }
+
+        // On every device the batch runs on and fits the catalogue, and the reader stands behind it.
+        ensures batch { IfOk result (λ found. IfSome found (IsNextBatch self.old.gate self.new.gate)) }
+        ensures fits { IfOk result (λ found. IfSome found (λ batch. All (TxnFits self.old.gate.catalogue) batch.txns)) }
+        ensures end { result ≡ Ok None → self.new ≡ record { gate = self.old.gate; is_at_end = true } }
+        ensures refused { OnErr result (self.new ≡ record { gate = self.old.gate; is_at_end = false }) }
+        ensures known { ¬ IsErrOf result LogError.NoStore }
+
+        // The device is only read, and no call of it comes after one that failed.
+        ensures same { D.told disk.new ≡ D.told disk.old }
+        ensures later { D.faults disk.old ≤ D.faults disk.new }
+        ensures cause { IsErrOf result LogError.DiskFault → Rose (D.faults disk.old) (D.faults disk.new) }
+        ensures counted { IsErrOf result LogError.DiskFault → D.faults disk.new ≡ one_more (D.faults disk.old) }
+        ensures kept { ¬ IsErrOf result LogError.DiskFault → D.faults disk.new ≡ D.faults disk.old }
     {
-        self.parts.gate.txns()
+        self.batch_at_gate(disk)
     }
 
-    /// The log's catalogue, which is within the limits on operations.
-    pub fn catalogue(&self) -> &Catalogue
-        ensures value { result.now ≡ self.now.gate.catalogue }
-        ensures few { HasFewOperations self.now.gate.catalogue.procs }
+    // The same, without what it tells of the batches in an image.
+    fn batch_at_gate<D: Disk>(&mut self, disk: &mut D) -> Result<Option<Batch>, LogError>
+        ensures exact { WhereTold (λ old. TellsHeld result (at_gate self.old.gate.catalogue old.now.seen self.old.gate.place)) (D.told disk.old) }
+        ensures spelled { IfOk result (λ found. IfSome found (λ batch. WhereTold (λ old. IsSpelled batch.txns (drop self.old.gate.place old.now.seen)) (D.told disk.old))) }
+        ensures batch { IfOk result (λ found. IfSome found (IsNextBatch self.old.gate self.new.gate)) }
+        ensures fits { IfOk result (λ found. IfSome found (λ batch. All (TxnFits self.old.gate.catalogue) batch.txns)) }
+        ensures end { result ≡ Ok None → self.new ≡ record { gate = self.old.gate; is_at_end = true } }
+        ensures refused { OnErr result (self.new ≡ record { gate = self.old.gate; is_at_end = false }) }
+        ensures known { ¬ IsErrOf result LogError.NoStore }
+        ensures same { D.told disk.new ≡ D.told disk.old }
+        ensures later { D.faults disk.old ≤ D.faults disk.new }
+        ensures cause { IsErrOf result LogError.DiskFault → Rose (D.faults disk.old) (D.faults disk.new) }
+        ensures counted { IsErrOf result LogError.DiskFault → D.faults disk.new ≡ one_more (D.faults disk.old) }
+        ensures kept { ¬ IsErrOf result LogError.DiskFault → D.faults disk.new ≡ D.faults disk.old }
     {
-        self.parts.gate.catalogue()
+        self.parts.is_at_end = false;
+        let place = self.parts.gate.place();
+        let bytes = bytes_from(self.alloc, disk, place)?;
+        let Some(gate) = bytes.first() else {
+            return Err(damaged(place, short_at(0)));
+        };
+        if *gate != OPEN {
+            self.parts.is_at_end = true;
+            return Ok(None);
+        }
+        self.take_batch(&bytes)
+    }
+
+    // The batch behind the open gate that these bytes begin with.
+    fn take_batch(&mut self, bytes: &[u8]) -> Result<Option<Batch>, LogError>
+        requires open { (rest : List ℕ) × (bytes.now ≡ 1 ∷ rest) }
+        requires inside { self.old.gate.place + length bytes.now < 2 ^ 64 }
+        ensures exact { TellsHeld result (told_as (further self.old.gate.place) (after_gate self.old.gate.catalogue bytes.now)) }
+        ensures spelled { IfOk result (λ found. IfSome found (λ batch. IsSpelled batch.txns bytes.now)) }
+        ensures batch { IfOk result (λ found. IfSome found (IsNextBatch self.old.gate self.new.gate)) }
+        ensures fits { IfOk result (λ found. IfSome found (λ batch. All (TxnFits self.old.gate.catalogue) batch.txns)) }
+        ensures some { IfOk result (λ found. found ≢ None) }
+        ensures refused { OnErr result (self.new ≡ self.old) }
+        ensures known { ¬ IsErrOf result LogError.DiskFault }
+    {
+        match read_link(self.alloc, self.parts.gate.catalogue(), bytes, 1) {
+            Ok((Link { txns, gate: _ }, end)) => {
+                let first = self.parts.gate.txns() + 1;
+                let count = txns.items().len() as u64;
+                self.parts.gate.advance(count, (end - 1) as u64);
+                Ok(Some(Batch { first, txns }))
+            }
+            Err(Refusal::Fault(fault)) => Err(damaged(self.parts.gate.place(), fault)),
+            Err(Refusal::NoMemory) => Err(LogError::NoMemory),
+        }
+    }
+}
+
+// A fault of what stands from a gate on, at its place on the device.
+fn damaged(gate: u64, fault: LinkFault) -> LogError
+    requires { gate + fault.at < 2 ^ 64 }
+    ensures { result ≡ LogError.Damaged (gate + fault.at) fault.kind }
+{
+    LogError::Damaged {
+        at: gate + fault.at as u64,
+        kind: fault.kind,
     }
 }

@@ -1,10 +1,12 @@
 -- The body is behind an open gate at no moment but whole.
 use Rattle.std.proofs.Common.{◌∙◌, ℕ, ◌∷◌, [], List, length, sym, ap, subst, arith, length-append}
+use Rattle.pac_outside.specs.Disk.{IsDurable}
 use Rattle.pac_log.specs.declared.log.LogParts.{LogParts}
+use Rattle.pac_log.specs.declared.position.NextGate.{NextGate}
 use Rattle.pac_log.specs.Bodies.{body_bytes}
 use Rattle.pac_log.specs.Logs.{log_front}
 use Rattle.pac_log.specs.Places.{IsBehind}
-use Rattle.pac_log.proofs.LogLemmas.{keeps_or_adds, adds_batch, ready_parts, behind_so}
+use Rattle.pac_log.proofs.LogLemmas.{keeps_or_adds, adds_batch, ready_parts, behind_so, ends_again}
 use Rattle.pac_log.proofs.log.Log.commit.Goals as goal
 
 pub returns-in-Ok-clause-any_moment : goal.returns-in-Ok-clause-any_moment
@@ -27,3 +29,8 @@ returns-in-Ok-clause-behind g c = λ text batches txns behind prepared.
     let parts = ready_parts _ _ _ _ _ _ c.in-Ready.is (ap (λ (p : LogParts). p.stage) c.self.view_is) prepared.ready in
     let long = ap (λ (l : List ℕ). length l) (c.as_slice.ensures ∙ parts.0) in
     behind_so text batches txns c.self.inside.parts.gate _ _ _ parts.1 (omega (arith, long, length-append (body_bytes txns) (0 ∷ []))) c.advance.ensures (subst (λ (p : LogParts). IsBehind text batches p.gate) (sym c.self.view_is) behind)
+
+pub returns-in-Ok-clause-still_ends : goal.returns-in-Ok-clause-still_ends
+returns-in-Ok-clause-still_ends g c = λ txns prepared.
+    ends_again (IsDurable c.place.result (1 ∷ c.as_slice-2.result.now)) _ _ _ _ txns c.in-Ok.ensures.durable c.requires.ends (λ text batches behind. returns-in-Ok-clause-committed g c text batches txns behind prepared) (λ text batches behind. returns-in-Ok-clause-behind g c text batches txns behind prepared)
+    (ap (λ (gate : NextGate). gate.catalogue) c.advance.ensures ∙ ap (λ (p : LogParts). p.gate.catalogue) c.self.view_is)

@@ -1,0 +1,60 @@
+-- A place in a log is that of one gate, and that has one number of transactions in front of it.
+use Rattle.std.proofs.Common.{◌≡◌, ◌∙◌, ℕ, ◌≤◌, List, [], ◌∷◌, ◌++◌, length, take, drop, refl, sym, ap, ap₂, arith, append_assoc}
+use Rattle.std.proofs.lemmas.List.{length-append, take_at, drop_at}
+use Rattle.pac_ops.specs.declared.transaction.Txn.{Txn}
+use Rattle.pac_log.specs.declared.position.NextGate.{NextGate}
+use Rattle.pac_log.specs.Bodies.{body_bytes}
+use Rattle.pac_log.specs.Logs.{header_bytes, open_bodies, all_txns, HasGate}
+use Rattle.pac_log.specs.Places.{IsBehind}
+use Rattle.pac_log.proofs.LogLemmas.{all_txns-append}
+
+others_of : (x y : List Txn) (a b : List (List Txn)) → x ∷ a ≡ y ∷ b → (x ≡ y) × (a ≡ b)
+others_of x y a b e = (first e, rest e)
+  where
+    first : x ∷ a ≡ y ∷ b → x ≡ y
+    first h = cc
+
+    rest : x ∷ a ≡ y ∷ b → a ≡ b
+    rest h = cc
+
+-- fronts of one list that are as long are one
+same_front : (a b c d : List (List Txn)) → a ++ c ≡ b ++ d → length (open_bodies a) ≡ length (open_bodies b) → a ≡ b
+same_front [] [] c d e long = refl
+same_front [] (y ∷ b) c d e long = absurd (omega (arith, long))
+same_front (x ∷ a) [] c d e long = absurd (omega (arith, long))
+same_front (x ∷ a) (y ∷ b) c d e long =
+    let parts = others_of x y (a ++ c) (b ++ d) e in
+    let one : length (body_bytes x) ≡ length (body_bytes y) = ap (λ (t : List Txn). length (body_bytes t)) parts.0 in
+    ap₂ (λ (t : List Txn) (ts : List (List Txn)). t ∷ ts) parts.0 (same_front a b c d parts.1 (omega (arith, long, one, length-append (body_bytes x) (open_bodies a), length-append (body_bytes y) (open_bodies b))))
+
+pub one_number : (text : List ℕ) (batches : List (List Txn)) (place m n : ℕ) → HasGate text batches place m → HasGate text batches place n → m ≡ n
+one_number text batches place m n is other =
+    let long : length (open_bodies is.before) ≡ length (open_bodies other.before) = omega (arith, is.there, other.there, length-append (header_bytes text) (open_bodies is.before), length-append (header_bytes text) (open_bodies other.before)) in
+    let same : is.before ≡ other.before = same_front is.before other.before is.after other.after (sym is.split ∙ other.split) long in
+    is.counted ∙ ap (λ (b : List (List Txn)). length (all_txns b)) same ∙ sym other.counted
+
+-- the transactions in front of a gate, and those behind it
+txns_of_gate : (text : List ℕ) (batches : List (List Txn)) (place n : ℕ) → (is : HasGate text batches place n) → all_txns batches ≡ all_txns is.before ++ all_txns is.after
+txns_of_gate text batches place n is = ap (λ (b : List (List Txn)). all_txns b) is.split ∙ all_txns-append is.before is.after
+
+pub few : (text : List ℕ) (batches : List (List Txn)) (place n : ℕ) → HasGate text batches place n → n ≤ length (all_txns batches)
+few text batches place n is = omega (arith, is.counted, ap (λ (l : List Txn). length l) (txns_of_gate text batches place n is), length-append (all_txns is.before) (all_txns is.after))
+
+pub before_gate : (text : List ℕ) (batches : List (List Txn)) (place n : ℕ) → (is : HasGate text batches place n) → take n (all_txns batches) ≡ all_txns is.before
+before_gate text batches place n is = ap (λ (l : List Txn). take n l) (txns_of_gate text batches place n is) ∙ take_at (all_txns is.before) (all_txns is.after) n (sym is.counted)
+
+pub after_gate : (text : List ℕ) (batches : List (List Txn)) (place n : ℕ) → (is : HasGate text batches place n) → drop n (all_txns batches) ≡ all_txns is.after
+after_gate text batches place n is = ap (λ (l : List Txn). drop n l) (txns_of_gate text batches place n is) ∙ drop_at (all_txns is.before) (all_txns is.after) n (sym is.counted)
+
+pub stays : (text : List ℕ) (batches more : List (List Txn)) (place n : ℕ) → HasGate text batches place n → HasGate text (batches ++ more) place n
+stays text batches more place n is = record {
+  before = is.before;
+  after = is.after ++ more;
+  split = ap (λ (b : List (List Txn)). b ++ more) is.split ∙ append_assoc is.before is.after more;
+  there = is.there;
+  counted = is.counted;
+}
+
+-- the gate that comes next is one of the log's, whatever stands behind it
+pub next_is_gate : (text : List ℕ) (before after : List (List Txn)) (gate : NextGate) → IsBehind text before gate → HasGate text (before ++ after) gate.place gate.txns
+next_is_gate text before after gate is = record { before = before; after = after; split = refl; there = is.place; counted = is.txns }

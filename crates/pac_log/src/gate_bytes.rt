@@ -1,0 +1,83 @@
+// Reads the bytes from a gate of a log on.
+ghost use Rattle.std.specs.Prelude.{◌≡◌, ◌<◌, ◌≤◌, ◌+◌, ◌^◌, ◌++◌, ℕ, List, IfOk, OnOk, IsErrOf, drop, length, take};
+ghost use Rattle.pac_outside.specs.Causes.{Rose, one_more};
+ghost use Rattle.pac_outside.specs.Disk.{WhereTold};
+ghost use Rattle.pac_types.specs.Typing.{CatalogueState};
+ghost use Rattle.pac_log.specs.declared.limits.TheConstants.{MAX_ENTRIES_LEN};
+ghost use Rattle.pac_log.specs.Looked.{IsLookedAt};
+ghost use Rattle.pac_log.specs.Reading.{after_gate};
+
+use crate::MAX_ENTRIES_LEN;
+use pac_bytes::u32_at;
+use pac_outside::{Disk, ReadError, read_piece};
+use std::alloc::Global;
+
+/// The gate byte behind which a batch stands.
+pub(crate) const OPEN: u8 = 1;
+
+// How many bytes a gate and the two numbers behind it have.
+const FRONT_LEN: usize = 9;
+
+/// The bytes from a gate on, as far as they are looked at: up to the next gate where the gate is open, and else no more
+/// than the two numbers. Each is read once, by two calls of the device.
+pub(crate) fn bytes_from<D: Disk>(
+    alloc: Global,
+    disk: &mut D,
+    place: u64,
+) -> Result<Vec<u8>, ReadError>
+    ensures looked { IfOk result (λ bytes. WhereTold (λ old. IsLookedAt bytes.items (drop place old.now.seen)) (D.told disk.old)) }
+    ensures inside { IfOk result (λ bytes. place + length bytes.items < 2 ^ 64) }
+    ensures same { D.told disk.new ≡ D.told disk.old }
+    ensures later { D.faults disk.old ≤ D.faults disk.new }
+    ensures cause { IsErrOf result ReadError.Failed → Rose (D.faults disk.old) (D.faults disk.new) }
+    ensures counted { IsErrOf result ReadError.Failed → D.faults disk.new ≡ one_more (D.faults disk.old) }
+    ensures kept { ¬ IsErrOf result ReadError.Failed → D.faults disk.new ≡ D.faults disk.old }
+{
+    let left = disk.len()?.saturating_sub(place);
+    let mut bytes = read_piece(alloc, disk, place, left.min(FRONT_LEN as u64) as usize)?;
+    let reach = reach_behind(&bytes) as u64;
+    if reach > 0 {
+        let behind = left - FRONT_LEN as u64;
+        let count = behind.min(reach) as usize;
+        append(disk, place + FRONT_LEN as u64, count, &mut bytes)?;
+    }
+    Ok(bytes)
+}
+
+// Appends the bytes from a place on, so many, or fewer where the device ends.
+fn append<D: Disk>(
+    disk: &mut D,
+    at: u64,
+    count: usize,
+    bytes: &mut Vec<u8>,
+) -> Result<(), ReadError>
+    requires { length bytes.old.items + count < 2 ^ 64 }
+    ensures bytes { OnOk result (WhereTold (λ old. bytes.new.items ≡ bytes.old.items ++ take count (drop at old.now.seen)) (D.told disk.old)) }
+    ensures bound { OnOk result (length bytes.new.items ≤ length bytes.old.items + count) }
+    ensures same { D.told disk.new ≡ D.told disk.old }
+    ensures later { D.faults disk.old ≤ D.faults disk.new }
+    ensures cause { IsErrOf result ReadError.Failed → Rose (D.faults disk.old) (D.faults disk.new) }
+    ensures counted { IsErrOf result ReadError.Failed → D.faults disk.new ≡ one_more (D.faults disk.old) }
+    ensures kept { ¬ IsErrOf result ReadError.Failed → D.faults disk.new ≡ D.faults disk.old }
+{
+    let old = bytes.len();
+    bytes.resize(old + count, 0)?;
+    let len = disk.read(at, &mut bytes[old..])?;
+    bytes.truncate(old + len);
+    Ok(())
+}
+
+// How many bytes are looked at behind a gate and the two numbers, by these.
+fn reach_behind(front: &[u8]) -> usize
+    ensures enough { (catalogue : CatalogueState) (all : List ℕ) → front.now ≡ take FRONT_LEN all → after_gate catalogue (take (FRONT_LEN + result) all) ≡ after_gate catalogue all }
+    ensures whole { 0 < result → FRONT_LEN ≤ length front.now }
+    ensures few { result ≤ 1 + MAX_ENTRIES_LEN }
+{
+    if front.first() != Some(&OPEN) {
+        return 0;
+    }
+    match u32_at(front, 5) {
+        Ok((len, _)) if len as usize <= MAX_ENTRIES_LEN => len as usize + 1,
+        _ => 0,
+    }
+}
