@@ -105,12 +105,7 @@ impl Slots {
         ensures { result ≡ spare_of self.now }
     {
         match self.newest() {
-            Some(
-                SlotInfo {
-                    slot: SlotName::A,
-                    ..
-                },
-            ) => SlotName::B,
+            Some(info) if info.slot == SlotName::A => SlotName::B,
             _ => SlotName::A,
         }
     }
@@ -149,18 +144,10 @@ impl Slots {
     {
         match self.newest() {
             None => Ok(()),
-            Some(
-                SlotInfo {
-                    slot: SlotName::A,
-                    ..
-                },
-            ) => load_slot(alloc, cat, SlotName::A, a, rows),
-            Some(
-                SlotInfo {
-                    slot: SlotName::B,
-                    ..
-                },
-            ) => load_slot(alloc, cat, SlotName::B, b, rows),
+            Some(info) => match info.slot {
+                SlotName::A => load_slot(alloc, cat, SlotName::A, a, rows),
+                SlotName::B => load_slot(alloc, cat, SlotName::B, b, rows),
+            },
         }
     }
 
