@@ -1,0 +1,84 @@
+-- The rows of tables as they are written.
+use Rattle.std.proofs.Common.{◌≡◌, ◌∙◌, ℕ, zero, suc, ◌+◌, ◌<◌, ◌≤◌, List, [], ◌∷◌, ◌++◌, length, take, get_or, Some, None, refl, sym, ap, subst, arith, add-one}
+use Rattle.std.specs.Prelude.{slice_get}
+use Rattle.std.specs.Option.{option_map}
+use Rattle.std.specs.List.{flat_map, AllByRecursion, AllZip}
+use Rattle.std.proofs.lemmas.List.{length-append}
+use Rattle.pac_value.specs.declared.values.Key.{Key}
+use Rattle.pac_value.specs.Values.{type_of, key_value}
+use Rattle.pac_value.specs.State.{Tables, keys_of}
+use Rattle.pac_types.specs.declared.table.Table.{Table}
+use Rattle.pac_types.specs.Sound.{column_types_of}
+use Rattle.pac_types.specs.Fits.{FitTables}
+use Rattle.pac_types.proofs.ShapeLemmas.{key-of_fit, columns-of_fit}
+use Rattle.pac_entry.proofs.WrittenLemmas.{one_more}
+use Rattle.pac_check.specs.declared.limits.TheConstants.{MAX_SAVED_ROWS}
+use Rattle.pac_check.specs.declared.head.Head.{Head}
+use Rattle.pac_check.specs.Checkpoints.{KeyedRow, checkpoint_bytes, head_bytes, rows_bytes, RowHasBytes, IsKeyedRow, AreRowsOf, IsHead, IsCheckpoint}
+use Rattle.pac_check.specs.Saved.{rows_of, rows_of_tables, checkpoint_of}
+use Rattle.pac_check.proofs.RowsLemmas.{ascending-rows, as-many, each-row, all-at, tables-counted, rows_from, tables-from}
+
+pub none_some : {A : Type 0} {x : A} → None ≡ Some x → ⊥
+none_some e = cc
+
+-- with one more item, the bytes of the items so far are longer by its own
+pub len-more : {X : Type 0} (spell : X → List ℕ) (xs : List X) (i : ℕ) (x : X) → i < length xs → x ≡ get_or xs i x → length (flat_map spell (take (i + 1) xs)) ≡ length (flat_map spell (take i xs)) + length (spell x)
+len-more spell xs i x lt is =
+    ap length (sym (one_more spell [] (flat_map spell (take i xs)) (flat_map spell (take i xs) ++ spell x) xs i x lt is refl refl)) ∙ length-append (flat_map spell (take i xs)) (spell x)
+
+all-more : {X : Type 0} (P : X → Type 0) (xs : List X) (i : ℕ) (x : X) → i < length xs → x ≡ get_or xs i x → P x → AllByRecursion P (take i xs) → AllByRecursion P (take (suc i) xs)
+all-more P [] i x lt is has all = absurd (omega arith)
+all-more P (y ∷ xs) zero x lt is has all = (subst P is has, tt)
+all-more P (y ∷ xs) (suc i) x lt is has all = (all.0, all-more P xs i x (omega (arith, lt)) is has all.1)
+
+pub all-taken : {X : Type 0} (P : X → Type 0) (xs : List X) (i : ℕ) (x : X) → i < length xs → x ≡ get_or xs i x → P x → AllByRecursion P (take i xs) → AllByRecursion P (take (i + 1) xs)
+all-taken P xs i x lt is has all = rw add-one (all-more P xs i x lt is has all)
+
+-- the same key among keys that are known otherwise
+pub same-place : (xs ys : List Key) (i : ℕ) (key : Key) → xs ≡ ys → i < length xs → key ≡ get_or xs i key → (i < length ys) × (key ≡ get_or ys i key)
+same-place xs ys i key same lt is = (subst (λ (l : List Key). i < length l) same lt, subst (λ (l : List Key). key ≡ get_or l i key) same is)
+
+-- ---- what is written is a checkpoint
+
+module _ (tables : List Table) (held : Tables) (fits : FitTables tables held) where
+  keyed-rows : (t : ℕ) (table : Table) → slice_get tables t ≡ Some table → AllByRecursion RowHasBytes (rows_of held t) → AllByRecursion (IsKeyedRow table) (rows_of held t)
+  keyed-rows t table is bytes = each-row (IsKeyedRow table) held t (λ row i lt placed found.
+      let fit = fits (t, row.0) row.1 found in
+      let has = all-at RowHasBytes (rows_of held t) i row bytes lt placed in
+      let typed : Some (type_of (key_value row.0)) ≡ Some table.key = sym (key-of_fit tables (t, row.0) row.1 fit) ∙ ap (option_map (λ (x : Table). x.key)) is in
+      ((has.0, some_same typed), (columns-of_fit tables (t, row.0) row.1 fit ∙ ap column_types_of is, has.1)))
+    where
+      some_same : {A : Type 0} {x y : A} → Some x ≡ Some y → x ≡ y
+      some_same e = cc
+
+  rows-of-table : (t : ℕ) (table : Table) → slice_get tables t ≡ Some table → AllByRecursion RowHasBytes (rows_of held t) → length (keys_of held t) ≤ MAX_SAVED_ROWS → AreRowsOf table (rows_of held t)
+  rows-of-table t table is bytes few = record { each = keyed-rows t table is bytes; ascending = ascending-rows held t; few = omega (arith, few, as-many held t) }
+
+zipped : (P : Table → List KeyedRow → Type 0) (held : Tables) (tables : List Table) (s : ℕ) → ((i : ℕ) (table : Table) → slice_get tables i ≡ Some table → P table (rows_of held (s + i))) → AllZip P tables (rows_from held s (length tables))
+zipped P held [] s each = tt
+zipped P held (table ∷ tables) s each = (
+  subst (λ (n : ℕ). P table (rows_of held n)) (omega arith) (each 0 table refl),
+  zipped P held tables (suc s) (λ i t is. subst (λ (n : ℕ). P t (rows_of held n)) (omega arith) (each (suc i) t is)),
+)
+
+within : (tables : List Table) (i : ℕ) (table : Table) → slice_get tables i ≡ Some table → i < length tables
+within [] i table is = absurd (none_some is)
+within (x ∷ tables) zero table is = omega arith
+within (x ∷ tables) (suc i) table is = let rest = within tables i table is in omega arith
+
+pub written-checkpoint : (tables : List Table) (head : Head) (held : Tables) → IsHead head → FitTables tables held → ((t : ℕ) → t < length tables → AllByRecursion RowHasBytes (rows_of held t)) → ((t : ℕ) → t < length tables → length (keys_of held t) ≤ MAX_SAVED_ROWS)
+    → IsCheckpoint tables (checkpoint_of (length tables) head held)
+written-checkpoint tables head held is fits bytes few = record {
+  head = is;
+  rows = subst (λ (rows : List (List KeyedRow)). AllZip AreRowsOf tables rows) (sym (tables-from held (length tables)))
+      (zipped AreRowsOf held tables 0 (λ i table at. subst (λ (n : ℕ). AreRowsOf table (rows_of held n)) (omega arith) (rows-of-table tables held fits i table at (bytes i (within tables i table at)) (few i (within tables i table at)))));
+}
+
+-- the head, and the tables behind it
+pub head-and-tables : (count tables : ℕ) (head : Head) (held : Tables) (a b c : List ℕ) → count ≡ tables → a ≡ [] → b ≡ a ++ head_bytes count head → c ≡ b ++ flat_map rows_bytes (rows_of_tables held count) → c ≡ checkpoint_bytes (checkpoint_of tables head held)
+head-and-tables count tables head held a b c same none first second =
+    let counted : length (rows_of_tables held tables) ≡ tables = tables-counted held tables in
+    second
+    ∙ ap (λ (x : List ℕ). x ++ flat_map rows_bytes (rows_of_tables held count)) (first ∙ ap (λ (x : List ℕ). x ++ head_bytes count head) none)
+    ∙ ap (λ (n : ℕ). head_bytes n head ++ flat_map rows_bytes (rows_of_tables held n)) same
+    ∙ ap (λ (n : ℕ). head_bytes n head ++ flat_map rows_bytes (rows_of_tables held tables)) (sym counted)

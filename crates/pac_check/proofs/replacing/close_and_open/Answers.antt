@@ -1,0 +1,10 @@
+-- The gate is shut before the text is written.
+use Rattle.std.proofs.Common.{[], refl}
+use Rattle.pac_check.proofs.ReplacingLemmas.{shutting_both, opening_both}
+use Rattle.pac_check.proofs.replacing.close_and_open.Goals as goal
+
+pub returns-in_err-write_and_sync-clause-any_moment : goal.returns-in_err-write_and_sync-clause-any_moment
+returns-in_err-write_and_sync-clause-any_moment g c = λ some. shutting_both c.args.text.now c.args.state c.requires.not_closed some _ _ c.write_and_sync.ensures.moments
+
+pub returns-clause-any_moment : goal.returns-clause-any_moment
+returns-clause-any_moment g c = λ some. opening_both c.args.text.now c.args.state c.requires.not_closed some _ _ _ c.write_and_sync.ensures.moments c.in_ok-write_and_sync.ensures.durable (c.open_behind.ensures.any_moment [] refl)

@@ -1,0 +1,82 @@
+-- The bytes of a checkpoint, as they stand behind the open gate of a slot.
+use Rattle.std.specs.Prelude.{◌<◌, ◌^◌, ℕ, Bool, true, IsTrue, List, [], ◌∷◌, ◌++◌, length, codes, Option, Some, None}
+use Rattle.std.specs.Int.{w16, w64, to_le_bytes}
+use Rattle.std.specs.List.{flat_map, All, AllByRecursion, AllZip}
+use Rattle.std.specs.Ordering.{is_lt}
+use Rattle.pac_value.specs.declared.values.Key.{Key}
+use Rattle.pac_value.specs.Keys.{key_cmp}
+use Rattle.pac_value.specs.Values.{key_value}
+use Rattle.pac_bytes.specs.Values.{HasBytes}
+use Rattle.pac_value.specs.State.{RowValues}
+use Rattle.pac_bytes.specs.Typed.{key_bytes, values_bytes, KeyHasType, HaveTypes}
+use Rattle.pac_types.specs.declared.table.Table.{Table}
+use Rattle.pac_types.specs.Sound.{types}
+use Rattle.pac_check.specs.declared.head.Head.{Head}
+
+-- a row with its key
+abbrev pub KeyedRow : Type 0
+KeyedRow = Key × RowValues
+
+-- how many transactions are in it, at which place the log's gate stands behind these, and the rows of each table in the
+-- order of their keys
+pub record Checkpoint : Type 0 where
+  pub head : Head
+  pub tables : List (List KeyedRow)
+
+-- the head with these numbers
+abbrev pub head_with : ℕ → ℕ → Head
+head_with txns place = record { txns = txns; place = place }
+
+-- the name that a checkpoint begins with
+abbrev pub checkpoint_name : List ℕ
+checkpoint_name = codes "PACMSLT1"
+
+-- the name, the number of transactions, the place, and the number of tables
+abbrev pub head_bytes : ℕ → Head → List ℕ
+head_bytes tables head = checkpoint_name ++ (to_le_bytes w64 head.txns ++ (to_le_bytes w64 head.place ++ to_le_bytes w16 tables))
+
+-- a key, and then the values of the columns
+abbrev pub keyed_bytes : KeyedRow → List ℕ
+keyed_bytes row = key_bytes row.0 ++ values_bytes row.1
+
+-- how many rows a table has, and they
+abbrev pub rows_bytes : List KeyedRow → List ℕ
+rows_bytes rows = to_le_bytes w64 (length rows) ++ flat_map keyed_bytes rows
+
+-- the head, and each table
+abbrev pub checkpoint_bytes : Checkpoint → List ℕ
+checkpoint_bytes checkpoint = head_bytes (length checkpoint.tables) checkpoint.head ++ flat_map rows_bytes checkpoint.tables
+
+-- the key is above the one before, where there is one
+abbrev pub is_above : Option Key → Key → Bool
+is_above None key = true
+is_above (Some before) key = is_lt (key_cmp before key)
+
+-- each key is above the one before
+abbrev pub AreAscending : Option Key → List KeyedRow → Type 0
+AreAscending before [] = Unit {0}
+AreAscending before (row ∷ rows) = IsTrue (is_above before row.0) × AreAscending (Some row.0) rows
+
+-- the key and each value have bytes
+abbrev pub RowHasBytes : KeyedRow → Type 0
+RowHasBytes row = HasBytes (key_value row.0) × All HasBytes row.1
+
+-- the key and the values have the types of the table, and bytes
+abbrev pub IsKeyedRow : Table → KeyedRow → Type 0
+IsKeyedRow table row = KeyHasType table.key row.0 × HaveTypes (types table.columns) row.1
+
+-- rows of the table, by ascending keys, so many that 64 bits hold their number
+pub record AreRowsOf (table : Table) (rows : List KeyedRow) : Type 0 where
+  pub each : AllByRecursion (IsKeyedRow table) rows
+  pub ascending : AreAscending None rows
+  pub few : length rows < 2 ^ 64
+
+-- numbers of 64 bits
+pub record IsHead (head : Head) : Type 0 where
+  pub txns : head.txns < 2 ^ 64
+  pub place : head.place < 2 ^ 64
+
+-- a checkpoint of these tables
+pub record IsCheckpoint (tables : List Table) (checkpoint : Checkpoint) : Type 0 where
+  pub head : IsHead checkpoint.head
+  pub rows : AllZip AreRowsOf tables checkpoint.tables

@@ -1,0 +1,125 @@
+// Why bytes are no checkpoint.
+ghost use Rattle.std.specs.Prelude.{◌≡◌};
+ghost use Rattle.pac_base.specs.declared.refusal.Refusal.TheVariants.{Fault as AFault};
+ghost use Rattle.pac_check.specs.Kinds.{as_slot_fault, of_typed, of_values, slot_damage_name, slot_fault};
+
+use pac_base::Refusal;
+use pac_bytes::{Short, TypedFault};
+use std::fmt;
+use thiserror::Error;
+
+/// What is wrong at a place of an open slot.
+#[derive(Clone, Copy, Debug, PartialEq, Eq)]
+pub enum SlotDamageKind {
+    /// The eight bytes at this place aren't the name of a checkpoint, or are fewer.
+    Magic,
+    /// The bytes end inside the field at this place.
+    Short,
+    /// The number of tables at this place isn't that of the catalogue.
+    Range,
+    /// The byte at this place is no tag of a value.
+    Tag,
+    /// The key or the value at this place has another type, or is a text that is too long or not printable.
+    Row,
+    /// The key at this place isn't above the one before.
+    Order,
+    /// The number of transactions at this place and the place of the gate behind it don't fit the log. Told where the log
+    /// is known too.
+    Place,
+}
+
+impl SlotDamageKind {
+    /// The kind as it is printed.
+    pub fn name(&self) -> &'static str
+        ensures { result.now ≡ slot_damage_name self.now }
+    {
+        match self {
+            SlotDamageKind::Magic => "Magic",
+            SlotDamageKind::Short => "Short",
+            SlotDamageKind::Range => "Range",
+            SlotDamageKind::Tag => "Tag",
+            SlotDamageKind::Row => "Row",
+            SlotDamageKind::Order => "Order",
+            SlotDamageKind::Place => "Place",
+        }
+    }
+}
+
+impl fmt::Display for SlotDamageKind {
+    ghost use Rattle.std.specs.Prelude.{Some};
+    ghost use Rattle.pac_check.specs.Kinds.{slot_damage_name};
+
+    ghost output = { λ kind. Some (slot_damage_name kind) };
+
+    fn fmt<W: fmt::Write>(&self, f: &mut fmt::Formatter<W>) -> fmt::Result {
+        f.write_str(self.name())
+    }
+}
+
+/// The first fault of what stands behind an open gate, at a place, an offset from 0.
+#[derive(Clone, Copy, Debug, PartialEq, Eq, Error)]
+#[error("{kind} at byte {at}")]
+pub struct SlotFault {
+    pub at: usize,
+    pub kind: SlotDamageKind,
+}
+
+/// Why no checkpoint is read: the first fault of the bytes, or want of memory.
+pub(crate) type CheckpointError = Refusal<SlotFault>;
+
+impl From<Short> for SlotFault {
+    ghost from_gives = { λ short fault. fault ≡ as_slot_fault short };
+
+    fn from(short: Short) -> Self {
+        SlotFault {
+            at: short.at,
+            kind: SlotDamageKind::Short,
+        }
+    }
+}
+
+impl From<TypedFault> for SlotFault {
+    ghost from_gives = { λ typed fault. fault ≡ of_typed typed };
+
+    fn from(fault: TypedFault) -> Self {
+        match fault {
+            TypedFault::Short { at } => SlotFault {
+                at,
+                kind: SlotDamageKind::Short,
+            },
+            TypedFault::Tag { at } => SlotFault {
+                at,
+                kind: SlotDamageKind::Tag,
+            },
+            TypedFault::Wrong { at } => SlotFault {
+                at,
+                kind: SlotDamageKind::Row,
+            },
+        }
+    }
+}
+
+impl From<SlotFault> for CheckpointError {
+    ghost from_gives = { λ fault error. error ≡ AFault fault };
+
+    fn from(fault: SlotFault) -> Self {
+        Refusal::Fault(fault)
+    }
+}
+
+/// A fault of values, or their want of memory, as one of a slot.
+pub(crate) fn error_of(refusal: Refusal<TypedFault>) -> CheckpointError
+    ensures { result ≡ of_values refusal }
+{
+    match refusal {
+        Refusal::Fault(fault) => Refusal::Fault(SlotFault::from(fault)),
+        Refusal::NoMemory => Refusal::NoMemory,
+    }
+}
+
+/// A fault of this kind at this place.
+pub(crate) fn fault_at(kind: SlotDamageKind, at: usize) -> SlotFault
+    ensures { result ≡ slot_fault kind at }
+{
+    SlotFault { at, kind }
+}

@@ -1,0 +1,17 @@
+// What is known of slots.
+
+/// One of the two slots.
+#[derive(Clone, Copy, Debug, PartialEq, Eq)]
+pub enum SlotName {
+    A,
+    B,
+}
+
+/// What is known of an open slot: how many transactions are in its tables, and at which place, an offset from 0, the log's
+/// gate stands behind these.
+#[derive(Clone, Copy, Debug, PartialEq, Eq)]
+pub struct SlotInfo {
+    pub slot: SlotName,
+    pub txns: u64,
+    pub place: u64,
+}

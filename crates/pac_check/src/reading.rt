@@ -1,0 +1,99 @@
+// Reads one slot from its device.
+ghost use Rattle.std.specs.Prelude.{◌≡◌, ℕ, length, IfOk, IsErrOf, OnOk, Err};
+ghost use Rattle.std.specs.FinMap as map;
+ghost use Rattle.pac_outside.specs.Causes.{one_more};
+ghost use Rattle.pac_outside.specs.Disk.{WhereTold};
+ghost use Rattle.pac_types.specs.Fits.{FitsCatalogue};
+ghost use Rattle.pac_check.specs.declared.damage.SlotDamageKind.{SlotDamageKind as ADamageKind};
+ghost use Rattle.pac_check.specs.declared.head.Head.{Head as AHead};
+ghost use Rattle.pac_check.specs.declared.info.SlotName.{SlotName as ASlotName};
+ghost use Rattle.pac_check.specs.Kinds.{in_slot, slot_fault};
+ghost use Rattle.pac_check.specs.SlotStates.{HoldsRows, IsSlot, OpensExactly, slot_read};
+
+use crate::damage::CheckpointError;
+use crate::loading::load_checkpoint;
+use crate::scanning::scan_slot;
+use crate::{SlotError, SlotName, SlotState};
+use pac_base::Refusal;
+use pac_outside::{Disk, read_piece};
+use pac_tables::Rows;
+use pac_types::Catalogue;
+use std::alloc::Global;
+
+/// What stands in a slot.
+///
+/// # Errors
+///
+/// A fault of the device, the first damage of this slot, or `NoMemory`.
+pub(crate) fn look_at<D: Disk>(
+    alloc: Global,
+    cat: &Catalogue,
+    slot: SlotName,
+    disk: &mut D,
+) -> Result<SlotState, SlotError>
+    ensures state { IfOk result (λ state. WhereTold (λ old. IsSlot cat.now.tables state old.now.seen × OpensExactly cat.now.tables state old.now.seen) (D.told disk.old)) }
+    ensures damaged { (name : ASlotName) (at : ℕ) (kind : ADamageKind) → IsErrOf result (SlotError.Damaged name at kind) → (name ≡ slot) × WhereTold (λ old. slot_read cat.now.tables old.now.seen ≡ Err (slot_fault kind at)) (D.told disk.old) }
+    ensures same { D.told disk.new ≡ D.told disk.old }
+    ensures counted { IsErrOf result SlotError.DiskFault → D.faults disk.new ≡ one_more (D.faults disk.old) }
+    ensures quiet { ¬ IsErrOf result SlotError.DiskFault → D.faults disk.new ≡ D.faults disk.old }
+{
+    let bytes = read_all(alloc, disk)?;
+    match scan_slot(alloc, cat.tables(), &bytes) {
+        Ok(state) => Ok(state),
+        Err(refusal) => Err(damage_in(slot, refusal)),
+    }
+}
+
+/// Reads the tables of an open slot into tables without rows.
+///
+/// # Errors
+///
+/// Those of [`look_at`].
+pub(crate) fn load_slot<D: Disk, R: Rows>(
+    alloc: Global,
+    cat: &Catalogue,
+    slot: SlotName,
+    disk: &mut D,
+    rows: &mut R,
+) -> Result<(), SlotError>
+    requires empty { R.held rows.old ≡ map.empty }
+    requires count { R.tables rows.old ≡ length cat.now.tables }
+    ensures fits { OnOk result (FitsCatalogue cat.now (R.tables rows.new) (R.held rows.new)) }
+    ensures loaded { OnOk result (WhereTold (λ old. (head : AHead) → IsSlot cat.now.tables (SlotState.Open head) old.now.seen → HoldsRows cat.now.tables head (R.held rows.new) old.now.seen) (D.told disk.old)) }
+    ensures damaged { (name : ASlotName) (at : ℕ) (kind : ADamageKind) → IsErrOf result (SlotError.Damaged name at kind) → (name ≡ slot) × WhereTold (λ old. (head : AHead) → ¬ IsSlot cat.now.tables (SlotState.Open head) old.now.seen) (D.told disk.old) }
+    ensures same { D.told disk.new ≡ D.told disk.old }
+    ensures counted { IsErrOf result SlotError.DiskFault → D.faults disk.new ≡ one_more (D.faults disk.old) }
+    ensures quiet { ¬ IsErrOf result SlotError.DiskFault → D.faults disk.new ≡ D.faults disk.old }
+{
+    let bytes = read_all(alloc, disk)?;
+    match load_checkpoint(alloc, cat.tables(), &bytes, 1, rows) {
+        Ok(_) => Ok(()),
+        Err(refusal) => Err(damage_in(slot, refusal)),
+    }
+}
+
+// All bytes of a device.
+fn read_all<D: Disk>(alloc: Global, disk: &mut D) -> Result<Vec<u8>, SlotError>
+    ensures bytes { IfOk result (λ bytes. WhereTold (λ old. bytes.items ≡ old.now.seen) (D.told disk.old)) }
+    ensures only { (name : ASlotName) (at : ℕ) (kind : ADamageKind) → ¬ IsErrOf result (SlotError.Damaged name at kind) }
+    ensures same { D.told disk.new ≡ D.told disk.old }
+    ensures counted { IsErrOf result SlotError.DiskFault → D.faults disk.new ≡ one_more (D.faults disk.old) }
+    ensures quiet { ¬ IsErrOf result SlotError.DiskFault → D.faults disk.new ≡ D.faults disk.old }
+{
+    let len = disk.len()?;
+    Ok(read_piece(alloc, disk, 0, len as usize)?)
+}
+
+// A fault of a checkpoint, or want of memory, as one of this slot.
+fn damage_in(slot: SlotName, refusal: CheckpointError) -> SlotError
+    ensures { result ≡ in_slot slot refusal }
+{
+    match refusal {
+        Refusal::Fault(fault) => SlotError::Damaged {
+            slot,
+            at: fault.at as u64,
+            kind: fault.kind,
+        },
+        Refusal::NoMemory => SlotError::NoMemory,
+    }
+}

@@ -1,0 +1,63 @@
+// Reads the rows of a checkpoint.
+ghost use Rattle.std.specs.Prelude.{◌≡◌};
+ghost use Rattle.std.specs.Option.{option_map};
+ghost use Rattle.pac_base.specs.declared.refusal.Refusal.TheVariants.{Fault as AFault};
+ghost use Rattle.pac_bytes.specs.Reading.{from, told_as};
+ghost use Rattle.pac_bytes.specs.Readers.{Answers, AnswersUnlessMemory};
+ghost use Rattle.pac_bytes.specs.Typed.{next_key};
+ghost use Rattle.pac_types.specs.Typing.{IsSoundTable};
+ghost use Rattle.pac_check.specs.Checkpoints.{is_above};
+ghost use Rattle.pac_check.specs.CheckpointReading.{next_row};
+ghost use Rattle.pac_check.specs.Kinds.{of_typed};
+
+use crate::damage::{CheckpointError, error_of, fault_at};
+use crate::{SlotDamageKind, SlotFault};
+use pac_base::Refusal;
+use pac_bytes::key_at;
+use pac_entry::row_at;
+use pac_types::Table;
+use pac_value::{Key, Row, Ty};
+use std::alloc::Global;
+
+/// The row of a table at a place, with its key, and the place behind it. It takes memory for the row alone.
+///
+/// # Errors
+///
+/// The first fault from the left, or `NoMemory`: `Short` and `Tag` as of a value, `Row` at a value of another type or a text
+/// that isn't right, and `Order` at a key that isn't above the one before.
+#[tactic(auto, unfolding(crate::specs::CheckpointReading::next_row))]
+pub(crate) fn keyed_row_at(
+    alloc: Global,
+    table: &Table,
+    before: Option<&Key>,
+    bytes: &[u8],
+    at: usize,
+) -> Result<((Key, Row), usize), CheckpointError>
+    requires { IsSoundTable table.now }
+    ensures { AnswersUnlessMemory bytes.now result (next_row table.now (option_map (λ key. key.now) before.entry) (from bytes.now at)) }
+{
+    let (key, behind) = typed_key_at(table.key, bytes, at)?;
+    if !comes_behind(before, &key) {
+        return Err(Refusal::Fault(fault_at(SlotDamageKind::Order, at)));
+    }
+    match row_at(alloc, table.columns.as_slice(), bytes, behind) {
+        Ok((row, end)) => Ok(((key, row), end)),
+        Err(refusal) => Err(error_of(refusal)),
+    }
+}
+
+fn typed_key_at(ty: Ty, bytes: &[u8], at: usize) -> Result<(Key, usize), SlotFault>
+    ensures { Answers bytes.now result (told_as of_typed (next_key ty (from bytes.now at))) }
+{
+    Ok(key_at(bytes, at, ty)?)
+}
+
+// Whether a key is above the one before, where there is one.
+fn comes_behind(before: Option<&Key>, key: &Key) -> bool
+    ensures { result ≡ is_above (option_map (λ key. key.now) before.entry) key.now }
+{
+    match before {
+        Some(before) => *before < *key,
+        None => true,
+    }
+}

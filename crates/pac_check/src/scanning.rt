@@ -1,0 +1,119 @@
+// Goes through a slot and keeps nothing of it but the head.
+ghost use Rattle.std.specs.Prelude.{◌≡◌, ◌<◌, ◌^◌, length, All, IfOk, None as NoKey};
+ghost use Rattle.pac_base.specs.Refusals.{Tells};
+ghost use Rattle.pac_bytes.specs.Reading.{from, along};
+ghost use Rattle.pac_types.specs.Typing.{IsSoundTable};
+ghost use Rattle.pac_check.specs.CheckpointReading.{head_alone, left_behind, next_checkpoint, next_rows, next_table};
+ghost use Rattle.pac_check.specs.SlotStates.{OpensExactly, slot_read};
+
+use crate::damage::CheckpointError;
+use crate::head::{head_at, number_at};
+use crate::rows::keyed_row_at;
+use crate::{Head, SlotState};
+use pac_types::Table;
+use pac_value::Key;
+use std::alloc::Global;
+
+/// What stands in a slot of these bytes. Linear in what is read; it holds one row at a time.
+///
+/// # Errors
+///
+/// The first fault of what stands behind an open gate, or `NoMemory`.
+pub(crate) fn scan_slot(
+    alloc: Global,
+    tables: &[Table],
+    bytes: &[u8],
+) -> Result<SlotState, CheckpointError>
+    requires sound { All IsSoundTable tables.now }
+    requires few { length tables.now < 2 ^ 16 }
+    // It is what reading gives, or the first fault.
+    ensures exact { Tells (λ state. state) result (slot_read tables.now bytes.now) }
+    // It is open where a checkpoint stands there, and nowhere else.
+    ensures opens { IfOk result (λ state. OpensExactly tables.now state bytes.now) }
+{
+    read_slot(alloc, tables, bytes)
+}
+
+// What stands in a slot, as reading gives it.
+fn read_slot(alloc: Global, tables: &[Table], bytes: &[u8]) -> Result<SlotState, CheckpointError>
+    requires { All IsSoundTable tables.now }
+    ensures { Tells (λ state. state) result (slot_read tables.now bytes.now) }
+{
+    match bytes.first() {
+        None => Ok(SlotState::Empty),
+        Some(&OPEN) => Ok(SlotState::Open(scan_checkpoint(alloc, tables, bytes, 1)?)),
+        Some(_) => Ok(SlotState::Closed),
+    }
+}
+
+// The gate byte in front of a checkpoint.
+const OPEN: u8 = 1;
+
+// The head of the checkpoint at a place, which is read to its end.
+#[tactic(auto, unfolding(crate::specs::CheckpointReading::next_checkpoint))]
+fn scan_checkpoint(
+    alloc: Global,
+    tables: &[Table],
+    bytes: &[u8],
+    at: usize,
+) -> Result<Head, CheckpointError>
+    requires { All IsSoundTable tables.now }
+    ensures { Tells (λ head. head) result (head_alone (next_checkpoint tables.now (from bytes.now at))) }
+{
+    let (head, behind) = head_at(tables.len(), bytes, at)?;
+    scan_tables(alloc, tables, bytes, behind)?;
+    Ok(head)
+}
+
+// The place behind the rows of all tables.
+fn scan_tables(
+    alloc: Global,
+    tables: &[Table],
+    bytes: &[u8],
+    at: usize,
+) -> Result<usize, CheckpointError>
+    requires { All IsSoundTable tables.now }
+    ensures { Tells (λ end. from bytes.now end) result (left_behind (along next_table tables.now (from bytes.now at))) }
+{
+    let mut place = at;
+    for table in tables {
+        place = scan_table(alloc, table, bytes, place)?;
+    }
+    Ok(place)
+}
+
+// The place behind the rows of one table and their number.
+#[tactic(auto, unfolding(crate::specs::CheckpointReading::next_table))]
+fn scan_table(
+    alloc: Global,
+    table: &Table,
+    bytes: &[u8],
+    at: usize,
+) -> Result<usize, CheckpointError>
+    requires { IsSoundTable table.now }
+    ensures { Tells (λ end. from bytes.now end) result (left_behind (next_table table.now (from bytes.now at))) }
+{
+    let (count, first) = number_at(bytes, at)?;
+    scan_rows(alloc, table, count, bytes, first)
+}
+
+// The place behind so many rows.
+fn scan_rows(
+    alloc: Global,
+    table: &Table,
+    count: u64,
+    bytes: &[u8],
+    at: usize,
+) -> Result<usize, CheckpointError>
+    requires { IsSoundTable table.now }
+    ensures { Tells (λ end. from bytes.now end) result (left_behind (next_rows table.now count NoKey (from bytes.now at))) }
+{
+    let mut place = at;
+    let mut before: Option<Key> = None;
+    for _ in 0..count {
+        let ((key, _row), end) = keyed_row_at(alloc, table, before.as_ref(), bytes, place)?;
+        before = Some(key);
+        place = end;
+    }
+    Ok(place)
+}

@@ -1,0 +1,212 @@
+// Two slots.
+ghost use Rattle.std.specs.Prelude.{◌≡◌, ◌<◌, ◌≤◌, ◌+◌, ◌∷◌, [], ℕ, length, IfOk, IsErrOf, OnOk, None as NoInfo, Some as HasInfo, true, false, Err};
+ghost use Rattle.std.specs.FinMap as map;
+ghost use Rattle.pac_outside.specs.Devices.{OneRose};
+ghost use Rattle.pac_outside.specs.Disk.{BothTell, LeavesOnly, WhereTold};
+ghost use Rattle.pac_outside.specs.GateByte.{OneImage};
+ghost use Rattle.pac_value.specs.State.{keys_of};
+ghost use Rattle.pac_types.specs.Fits.{FitsCatalogue};
+ghost use Rattle.pac_check.specs.declared.damage.SlotDamageKind.{SlotDamageKind as ADamageKind};
+ghost use Rattle.pac_check.specs.declared.info.SlotName.{SlotName as ASlotName};
+ghost use Rattle.pac_check.specs.declared.info.SlotInfo.{SlotInfo as ASlotInfo};
+ghost use Rattle.pac_check.specs.declared.state.SlotState.{SlotState as AState};
+ghost use Rattle.pac_check.specs.declared.errors.SaveError.{SaveError as ASaveError};
+ghost use Rattle.pac_check.specs.declared.limits.TheConstants.{MAX_SAVED_ROWS, MAX_SLOT_LEN};
+ghost use Rattle.pac_check.specs.Checkpoints.{checkpoint_bytes, head_with};
+ghost use Rattle.pac_check.specs.Kinds.{slot_fault};
+ghost use Rattle.pac_check.specs.Replacing.{HasByte, IsOldShutOrNew};
+ghost use Rattle.pac_check.specs.Saved.{checkpoint_of};
+ghost use Rattle.pac_check.specs.SlotStates.{HoldsRows, IsSlot, OpensExactly, by_slot, info_of, newest_of, saved_slots, slot_read, spare_of};
+
+use crate::reading::{load_slot, look_at};
+use crate::replacing::fill;
+use crate::text::checkpoint_text;
+use crate::{Head, SaveError, SlotError, SlotInfo, SlotName, SlotState};
+use pac_outside::Disk;
+use pac_tables::Rows;
+use pac_types::Catalogue;
+use std::alloc::Global;
+
+/// Two slots, by what stands in each.
+#[derive(Clone, Copy, Debug, PartialEq, Eq)]
+pub struct Slots {
+    pub(crate) a: SlotState,
+    pub(crate) b: SlotState,
+    /// Whether a save failed. Nothing is written any more.
+    pub(crate) has_failed: bool,
+}
+
+impl Slots {
+    /// What stands in two slots, which are read to the ends of their checkpoints. It holds the bytes of one device at a time,
+    /// and one row besides.
+    ///
+    /// # Errors
+    ///
+    /// - [`SlotError::DiskFault`] where a call of a device failed, so only where its count of faults rose; no call comes after
+    ///   it.
+    /// - [`SlotError::Damaged`] exactly where an open gate isn't followed by a checkpoint of the catalogue: the first fault,
+    ///   and slot a before slot b.
+    /// - [`SlotError::NoMemory`] where there was no memory for what is read.
+    pub fn attach<D: Disk>(
+        alloc: Global,
+        cat: &Catalogue,
+        a: &mut D,
+        b: &mut D,
+    ) -> Result<Slots, SlotError>
+        // What stands in each: it is open where a checkpoint stands there, and nowhere else.
+        ensures a { IfOk result (λ slots. WhereTold (λ old. IsSlot cat.now.tables slots.a old.now.seen × OpensExactly cat.now.tables slots.a old.now.seen) (D.told a.old)) }
+        ensures b { IfOk result (λ slots. WhereTold (λ old. IsSlot cat.now.tables slots.b old.now.seen × OpensExactly cat.now.tables slots.b old.now.seen) (D.told b.old)) }
+        ensures works { IfOk result (λ slots. slots.has_failed ≡ false) }
+
+        // The first fault, of slot a before slot b.
+        ensures damaged { (slot : ASlotName) (at : ℕ) (kind : ADamageKind) → IsErrOf result (SlotError.Damaged slot at kind) → WhereTold (λ old. slot_read cat.now.tables old.now.seen ≡ Err (slot_fault kind at)) (by_slot slot (D.told a.old) (D.told b.old)) }
+        ensures first { (at : ℕ) (kind : ADamageKind) → IsErrOf result (SlotError.Damaged SlotName.B at kind) → WhereTold (λ old. (state : AState) × IsSlot cat.now.tables state old.now.seen) (D.told a.old) }
+
+        // Both are only read.
+        ensures same_a { D.told a.new ≡ D.told a.old }
+        ensures same_b { D.told b.new ≡ D.told b.old }
+        ensures disk_fault { IsErrOf result SlotError.DiskFault → OneRose (D.faults a.old ∷ D.faults b.old ∷ []) (D.faults a.new ∷ D.faults b.new ∷ []) }
+        ensures quiet_a { ¬ IsErrOf result SlotError.DiskFault → D.faults a.new ≡ D.faults a.old }
+        ensures quiet_b { ¬ IsErrOf result SlotError.DiskFault → D.faults b.new ≡ D.faults b.old }
+    {
+        let a = look_at(alloc, cat, SlotName::A, a)?;
+        let b = look_at(alloc, cat, SlotName::B, b)?;
+        Ok(Slots {
+            a,
+            b,
+            has_failed: false,
+        })
+    }
+
+    /// What is known of a slot, where it is open. Takes no memory.
+    pub fn info(&self, slot: SlotName) -> Option<SlotInfo>
+        ensures { result ≡ info_of slot (by_slot slot self.now.a self.now.b) }
+    {
+        match slot {
+            SlotName::A => self.a.info(slot),
+            SlotName::B => self.b.info(slot),
+        }
+    }
+
+    /// The open slot with the greater number of transactions, slot a where they are equal. `None`: none is open. Takes no
+    /// memory.
+    pub fn newest(&self) -> Option<SlotInfo>
+        ensures { result ≡ newest_of self.now }
+    {
+        match (self.info(SlotName::A), self.info(SlotName::B)) {
+            (None, b) => b,
+            (Some(a), None) => Some(a),
+            (Some(a), Some(b)) => Some(if a.txns < b.txns { b } else { a }),
+        }
+    }
+
+    // The slot that is written next: the one that isn't the newest, slot a where none is open.
+    fn spare(&self) -> SlotName
+        ensures { result ≡ spare_of self.now }
+    {
+        match self.newest() {
+            Some(info) if info.slot == SlotName::A => SlotName::B,
+            _ => SlotName::A,
+        }
+    }
+
+    /// Reads the tables of the newest slot into tables without rows; where no slot is open they stay so. It holds the bytes
+    /// of the device besides the rows. After an error what the tables hold isn't said.
+    ///
+    /// # Errors
+    ///
+    /// Those of [`Slots::attach`]; where the devices tell what they hold, no damage is found.
+    pub fn load_newest<D: Disk, R: Rows>(
+        &self,
+        alloc: Global,
+        cat: &Catalogue,
+        a: &mut D,
+        b: &mut D,
+        rows: &mut R,
+    ) -> Result<(), SlotError>
+        requires empty { R.held rows.old ≡ map.empty }
+        requires count { R.tables rows.old ≡ length cat.now.tables }
+        requires holds_a { WhereTold (λ old. IsSlot cat.now.tables self.now.a old.now.seen) (D.told a.old) }
+        requires holds_b { WhereTold (λ old. IsSlot cat.now.tables self.now.b old.now.seen) (D.told b.old) }
+
+        // The tables are those of the checkpoint that stands in the newest slot.
+        ensures fits { OnOk result (FitsCatalogue cat.now (R.tables rows.new) (R.held rows.new)) }
+        ensures none { newest_of self.now ≡ NoInfo → OnOk result (R.held rows.new ≡ map.empty) }
+        ensures loaded { (info : ASlotInfo) → newest_of self.now ≡ HasInfo info → OnOk result (WhereTold (λ old. HoldsRows cat.now.tables (head_with info.txns info.place) (R.held rows.new) old.now.seen) (by_slot info.slot (D.told a.old) (D.told b.old))) }
+        ensures whole { (slot : ASlotName) (at : ℕ) (kind : ADamageKind) → IsErrOf result (SlotError.Damaged slot at kind) → WhereTold (λ old. ⊥) (by_slot slot (D.told a.old) (D.told b.old)) }
+
+        // Both are only read.
+        ensures same_a { D.told a.new ≡ D.told a.old }
+        ensures same_b { D.told b.new ≡ D.told b.old }
+        ensures disk_fault { IsErrOf result SlotError.DiskFault → OneRose (D.faults a.old ∷ D.faults b.old ∷ []) (D.faults a.new ∷ D.faults b.new ∷ []) }
+        ensures quiet_a { ¬ IsErrOf result SlotError.DiskFault → D.faults a.new ≡ D.faults a.old }
+        ensures quiet_b { ¬ IsErrOf result SlotError.DiskFault → D.faults b.new ≡ D.faults b.old }
+    {
+        match self.newest() {
+            None => Ok(()),
+            Some(info) => match info.slot {
+                SlotName::A => load_slot(alloc, cat, SlotName::A, a, rows),
+                SlotName::B => load_slot(alloc, cat, SlotName::B, b, rows),
+            },
+        }
+    }
+
+    /// Puts the checkpoint of tables into the slot that isn't the newest, slot a where none is open: the tables after so
+    /// many transactions, behind which the log's gate stands at this place. Its text is made before the first device call.
+    /// Where the slot's gate is open, or its device has no byte, the gate is closed first, and synced; then the text is
+    /// written, synced, the gate opened, and synced. At each moment a crash leaves the other slot, and this one as it was,
+    /// closed, or with the whole checkpoint.
+    ///
+    /// # Errors
+    ///
+    /// - [`SaveError::TooLarge`] exactly where the slot would have more than 268,435,456 bytes; no device is called.
+    /// - [`SaveError::NoMemory`] where there was no memory for the text; no device is called.
+    /// - [`SaveError::DiskFault`] where a call of a device failed, so only where its count of faults rose; no call comes
+    ///   after it, and the slots have failed.
+    pub fn save<D: Disk, R: Rows>(
+        &mut self,
+        alloc: Global,
+        cat: &Catalogue,
+        rows: &R,
+        txns: u64,
+        place: u64,
+        a: &mut D,
+        b: &mut D,
+    ) -> Result<(), SaveError>
+        requires fits { FitsCatalogue cat.now (R.tables rows.now) (R.held rows.now) }
+        requires few { (table : ℕ) → table < R.tables rows.now → length (keys_of (R.held rows.now) table) ≤ MAX_SAVED_ROWS }
+        requires works { self.old.has_failed ≡ false }
+        requires holds_a { WhereTold (λ old. OneImage (IsSlot cat.now.tables self.old.a) old.now) (D.told a.old) }
+        requires holds_b { WhereTold (λ old. OneImage (IsSlot cat.now.tables self.old.b) old.now) (D.told b.old) }
+
+        // At each moment the slot is as it was, closed, or has the whole checkpoint; of one that had no byte nothing is said.
+        ensures any_moment { HasByte (by_slot (spare_of self.old) self.old.a self.old.b)
+            → BothTell (λ old new. LeavesOnly (IsOldShutOrNew old.now.seen (checkpoint_bytes (checkpoint_of (length cat.now.tables) (head_with txns place) (R.held rows.now)))) old new)
+            (by_slot (spare_of self.old) (D.told a.old) (D.told b.old)) (by_slot (spare_of self.old) (D.told a.new) (D.told b.new)) }
+        ensures other { by_slot (spare_of self.old) (D.told b.new) (D.told a.new) ≡ by_slot (spare_of self.old) (D.told b.old) (D.told a.old) }
+
+        // Afterwards it has the checkpoint, and the slots are known again.
+        ensures saved { OnOk result (BothTell (λ old new. OneImage (HoldsRows cat.now.tables (head_with txns place) (R.held rows.now)) new.now) (by_slot (spare_of self.old) (D.told a.old) (D.told b.old)) (by_slot (spare_of self.old) (D.told a.new) (D.told b.new))) }
+        ensures slots { OnOk result (self.new ≡ saved_slots (head_with txns place) self.old) }
+        ensures known_a { OnOk result (WhereTold (λ new. OneImage (IsSlot cat.now.tables self.new.a) new.now) (D.told a.new)) }
+        ensures known_b { OnOk result (WhereTold (λ new. OneImage (IsSlot cat.now.tables self.new.b) new.now) (D.told b.new)) }
+
+        // When each refusal comes.
+        ensures too_large { (bytes : ℕ) → IsErrOf result (SaveError.TooLarge bytes) → (MAX_SLOT_LEN < bytes) × (bytes ≡ 1 + length (checkpoint_bytes (checkpoint_of (length cat.now.tables) (head_with txns place) (R.held rows.now)))) }
+        ensures room { OnOk result (1 + length (checkpoint_bytes (checkpoint_of (length cat.now.tables) (head_with txns place) (R.held rows.now))) ≤ MAX_SLOT_LEN) }
+        ensures failed { IsErrOf result SaveError.DiskFault → self.new ≡ record { a = self.old.a; b = self.old.b; has_failed = true } }
+        ensures refused { (cause : ASaveError) → IsErrOf result cause → ¬ (cause ≡ SaveError.DiskFault) → (self.new ≡ self.old) × (D.told a.new ≡ D.told a.old) × (D.told b.new ≡ D.told b.old) }
+
+        // No call of a device comes after one that failed.
+        ensures disk_fault { IsErrOf result SaveError.DiskFault → OneRose (D.faults a.old ∷ D.faults b.old ∷ []) (D.faults a.new ∷ D.faults b.new ∷ []) }
+        ensures quiet_a { ¬ IsErrOf result SaveError.DiskFault → D.faults a.new ≡ D.faults a.old }
+        ensures quiet_b { ¬ IsErrOf result SaveError.DiskFault → D.faults b.new ≡ D.faults b.old }
+    {
+        let head = Head { txns, place };
+        let text = checkpoint_text(alloc, cat, rows, head)?;
+        match self.spare() {
+            SlotName::A => fill(a, &mut self.a, &mut self.has_failed, head, &text),
+            SlotName::B => fill(b, &mut self.b, &mut self.has_failed, head, &text),
+        }
+    }
+}

@@ -1,0 +1,163 @@
+// Writes the text of a checkpoint.
+ghost use Rattle.std.specs.Prelude.{◌≡◌, ◌<◌, ◌≤◌, ◌+◌, ◌*◌, ◌^◌, ◌++◌, ℕ, Some as HasIt, length, All, IfOk, IsErrOf, OnOk, flat_map};
+ghost use Rattle.std.specs.List.{AllByRecursion};
+ghost use Rattle.std.specs.FinMap as map;
+ghost use Rattle.pac_value.specs.Growth.{Grew};
+ghost use Rattle.pac_value.specs.State.{keys_of};
+ghost use Rattle.pac_value.specs.Values.{key_value};
+ghost use Rattle.pac_bytes.specs.Values.{HasBytes};
+ghost use Rattle.pac_bytes.specs.Typed.{values_bytes};
+ghost use Rattle.pac_bytes.specs.declared.values.TheConstants.{MAX_VALUE_LEN};
+ghost use Rattle.pac_value.specs.declared.limits.TheConstants.{MAX_COLUMNS};
+ghost use Rattle.pac_types.specs.Fits.{FitsCatalogue};
+ghost use Rattle.pac_check.specs.declared.limits.TheConstants.{MAX_SAVED_ROWS, MAX_SLOT_LEN};
+ghost use Rattle.pac_check.specs.declared.text.TheConstants.{MAX_ROW_LEN, MAX_TABLE_LEN};
+ghost use Rattle.pac_check.specs.Checkpoints.{IsCheckpoint, RowHasBytes, checkpoint_bytes, keyed_bytes, rows_bytes};
+ghost use Rattle.pac_check.specs.Saved.{checkpoint_of, rows_of, rows_of_tables};
+
+use crate::head::{HEAD_LEN, put_head};
+use crate::{Head, MAX_SAVED_ROWS, MAX_SLOT_LEN, SaveError};
+use pac_base::NoMemory;
+use pac_bytes::{MAX_VALUE_LEN, key_len, put_key, put_u64, put_value, value_len};
+use pac_tables::Rows;
+use pac_types::Catalogue;
+use pac_value::{Key, MAX_COLUMNS, Row};
+use std::alloc::Global;
+
+// The most bytes of a row with its key, and of a table.
+const MAX_ROW_LEN: u64 = (1 + MAX_COLUMNS as u64) * MAX_VALUE_LEN as u64;
+
+const MAX_TABLE_LEN: u64 = 8 + MAX_SAVED_ROWS * MAX_ROW_LEN;
+
+/// The text of the checkpoint of the rows of tables. It takes memory once, for the whole text, and besides for the keys of
+/// one table at a time; it looks up each row twice, for its length and for its bytes.
+///
+/// # Errors
+///
+/// - [`SaveError::TooLarge`] exactly where the text and a gate byte are more than 268,435,456 bytes.
+/// - [`SaveError::NoMemory`] where the text or a list of keys finds no room.
+pub(crate) fn checkpoint_text<R: Rows>(
+    alloc: Global,
+    cat: &Catalogue,
+    rows: &R,
+    head: Head,
+) -> Result<Vec<u8>, SaveError>
+    requires fits { FitsCatalogue cat.now (R.tables rows.now) (R.held rows.now) }
+    requires few { (table : ℕ) → table < R.tables rows.now → length (keys_of (R.held rows.now) table) ≤ MAX_SAVED_ROWS }
+    ensures text { IfOk result (λ text. text.items ≡ checkpoint_bytes (checkpoint_of (length cat.now.tables) head (R.held rows.now))) }
+    ensures form { IfOk result (λ _. IsCheckpoint cat.now.tables (checkpoint_of (length cat.now.tables) head (R.held rows.now))) }
+    ensures count { IfOk result (λ _. length cat.now.tables < 2 ^ 16) }
+    ensures room { IfOk result (λ text. 1 + length text.items ≤ MAX_SLOT_LEN) }
+    ensures too_large { (bytes : ℕ) → IsErrOf result (SaveError.TooLarge bytes) → (MAX_SLOT_LEN < bytes) × (bytes ≡ 1 + length (checkpoint_bytes (checkpoint_of (length cat.now.tables) head (R.held rows.now)))) }
+    ensures only { ¬ IsErrOf result SaveError.DiskFault }
+{
+    let tables = cat.tables();
+    let count = tables.len() as u16;
+    let len = HEAD_LEN + tables_len(count, rows)?;
+    if len >= MAX_SLOT_LEN {
+        return Err(SaveError::TooLarge { bytes: len + 1 });
+    }
+    let mut text = Vec::with_capacity(alloc, len as usize)?;
+    put_head(&mut text, head, count)?;
+    put_tables(&mut text, count, rows)?;
+    Ok(text)
+}
+
+// How many bytes the first so many tables have.
+fn tables_len<R: Rows>(count: u16, rows: &R) -> Result<u64, NoMemory>
+    requires within { count ≤ R.tables rows.now }
+    requires few { (table : ℕ) → table < R.tables rows.now → length (keys_of (R.held rows.now) table) ≤ MAX_SAVED_ROWS }
+    ensures exact { IfOk result (λ len. len ≡ length (flat_map rows_bytes (rows_of_tables (R.held rows.now) count))) }
+    ensures few { IfOk result (λ len. len ≤ MAX_TABLE_LEN * count) }
+{
+    let mut len = 0;
+    for table in 0..count {
+        len += table_len(table, rows)?;
+    }
+    Ok(len)
+}
+
+// How many bytes the rows of a table have, and their number.
+fn table_len<R: Rows>(table: u16, rows: &R) -> Result<u64, NoMemory>
+    requires within { table < R.tables rows.now }
+    requires few { length (keys_of (R.held rows.now) table) ≤ MAX_SAVED_ROWS }
+    ensures exact { IfOk result (λ len. len ≡ length (rows_bytes (rows_of (R.held rows.now) table))) }
+    ensures few { IfOk result (λ len. len ≤ MAX_TABLE_LEN) }
+{
+    let keys = rows.sorted_keys(table)?;
+    let mut len = 8;
+    for key in &keys {
+        let Some(row) = rows.get(table, key) else {
+            unreachable!();
+        };
+        len += keyed_row_len(key, row);
+    }
+    Ok(len)
+}
+
+// How many bytes a row has, with its key.
+fn keyed_row_len(key: &Key, row: &Row) -> u64
+    ensures exact { result ≡ length (keyed_bytes (key.now, row.now)) }
+    ensures few { result ≤ MAX_ROW_LEN }
+{
+    key_len(key) as u64 + values_len(row)
+}
+
+fn values_len(row: &Row) -> u64
+    ensures exact { result ≡ length (values_bytes row.now) }
+    ensures few { result ≤ MAX_COLUMNS * MAX_VALUE_LEN }
+{
+    let mut len = 0;
+    for value in row.items() {
+        len += value_len(value) as u64;
+    }
+    len
+}
+
+// Appends the first so many tables.
+fn put_tables<R: Rows>(out: &mut Vec<u8>, count: u16, rows: &R) -> Result<(), NoMemory>
+    requires { count ≤ R.tables rows.now }
+    ensures bytes { OnOk result (Grew out.old.items out.new.items (flat_map rows_bytes (rows_of_tables (R.held rows.now) count))) }
+    ensures form { OnOk result ((table : ℕ) → table < count → AllByRecursion RowHasBytes (rows_of (R.held rows.now) table)) }
+{
+    for table in 0..count {
+        put_table(out, table, rows)?;
+    }
+    Ok(())
+}
+
+// Appends the number of a table's rows, and they by ascending keys.
+fn put_table<R: Rows>(out: &mut Vec<u8>, table: u16, rows: &R) -> Result<(), NoMemory>
+    requires { table < R.tables rows.now }
+    ensures bytes { OnOk result (Grew out.old.items out.new.items (rows_bytes (rows_of (R.held rows.now) table))) }
+    ensures form { OnOk result (AllByRecursion RowHasBytes (rows_of (R.held rows.now) table)) }
+{
+    let keys = rows.sorted_keys(table)?;
+    put_u64(out, keys.len() as u64)?;
+    for key in &keys {
+        let Some(row) = rows.get(table, key) else {
+            unreachable!();
+        };
+        put_keyed_row(out, key, row)?;
+    }
+    Ok(())
+}
+
+// Appends a key and the values of its row.
+fn put_keyed_row(out: &mut Vec<u8>, key: &Key, row: &Row) -> Result<(), NoMemory>
+    ensures bytes { OnOk result (Grew out.old.items out.new.items (keyed_bytes (key.now, row.now))) }
+    ensures form { OnOk result (RowHasBytes (key.now, row.now)) }
+{
+    put_key(out, key)?;
+    put_values(out, row)
+}
+
+fn put_values(out: &mut Vec<u8>, row: &Row) -> Result<(), NoMemory>
+    ensures bytes { OnOk result (Grew out.old.items out.new.items (values_bytes row.now)) }
+    ensures form { OnOk result (All HasBytes row.now) }
+{
+    for value in row.items() {
+        put_value(out, value)?;
+    }
+    Ok(())
+}
