@@ -11,7 +11,7 @@ use Rattle.pac_ops.specs.declared.transaction.Txn.TheVariants.{Call}
 use Rattle.pac_types.specs.Execution.{serial}
 use Rattle.pac_serial.specs.declared.serial.AllError.{AllError}
 use Rattle.pac_serial.specs.declared.serial.AllError.TheVariants.{Abort, NoMemory}
-use Rattle.pac_serial.specs.Dump.{tables_text}
+use Rattle.pac_report.specs.Dump.{tables_text}
 use Rattle.pac_main.specs.declared.script.Script.{Script}
 use Rattle.pac_main.specs.declared.script_fault.ScriptFault.{ScriptFault}
 use Rattle.pac_main.specs.Script.{IsScript, IsTheRefusal}

@@ -21,7 +21,7 @@ use crate::stop::Stop;
 use crate::tell::{WordsError, refuse_words, told};
 use pac_base::Refusal;
 use pac_outside::{Devices, Disk, Gate, ReadError, Sink, Source, read_up_to, write_all};
-use pac_serial::dump_tables;
+use pac_report::dump;
 use std::alloc::Global;
 use std::sync::Wait;
 use std::thread::Threads;
@@ -90,7 +90,7 @@ fn replay<I: Source, O: Sink>(alloc: Global, input: &mut I, output: &mut O) -> R
     let script = read_input(alloc, input)?;
     let Script { catalogue, calls } = script;
     let rows = execute(alloc, &catalogue, calls)?;
-    let text = dump_tables(alloc, &catalogue, &rows)?;
+    let text = dump(alloc, &catalogue, &rows)?;
     Ok(write_all(output, &text)?)
 }
 

@@ -4,7 +4,7 @@
 //! - [`exec`]: executes a call of one of the catalogue's procedures. [`exec_adhoc`]: makes the changes of ad hoc records.
 //!   Both can be given a limit on the rows of each table. What refuses a transaction is an [`ExecError`].
 //! - [`exec_all`]: executes the transactions of a batch in order up to the first that is refused, an [`AllError`].
-//! - [`no_rows`]: the tables of a catalogue, with no rows. [`dump_tables`]: the text of all tables.
+//! - [`no_rows`]: the tables of a catalogue, with no rows.
 //!
 //! A transaction's changes stand apart in a draft until it ends. Then the limit is tested, by counts that the tables keep,
 //! and the changes are made, all or none; so whatever refuses it, the tables are as they were. A read looks up its cell
@@ -13,7 +13,6 @@
 
 mod commit;
 mod draft;
-mod dump;
 mod execute;
 mod limit;
 mod opening;
@@ -23,7 +22,6 @@ mod serial;
 mod statement;
 mod transaction;
 
-pub use dump::dump_tables;
 pub use execute::{ExecError, exec, exec_adhoc};
 pub use opening::no_rows;
 pub use serial::{AllError, exec_all};

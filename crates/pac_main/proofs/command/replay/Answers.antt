@@ -4,7 +4,7 @@ use Rattle.pac_main.specs.declared.stop.Stop.TheVariants.{Script}
 use Rattle.pac_main.proofs.InputLemmas.{fault_of_input, err_is}
 use Rattle.pac_outside.specs.Content.{Took, TookFront}
 use Rattle.pac_types.specs.declared.table.Table.{Table}
-use Rattle.pac_serial.specs.Dump.{tables_text}
+use Rattle.pac_report.specs.Dump.{tables_text}
 use Rattle.pac_main.specs.Replay.{dump}
 use Rattle.pac_main.proofs.command.replay.Goals as goal
 

@@ -1,7 +1,7 @@
 // The text of tables.
 ghost use Rattle.std.specs.Prelude.{◌≡◌, ◌<◌, length, IfOk, OnOk};
 ghost use Rattle.pac_value.specs.Growth.{Grew};
-ghost use Rattle.pac_serial.specs.Dump.{row_line, table_dump, tables_text};
+ghost use Rattle.pac_report.specs.Dump.{row_line, table_dump, tables_text};
 
 use pac_base::NoMemory;
 use pac_tables::Rows;
@@ -45,7 +45,7 @@ fn push_table<R: Rows>(out: &mut Vec<u8>, rows: &R, table: u16, name: Name) -> R
 /// # Errors
 ///
 /// [`NoMemory`] where the text or a list of keys finds no room.
-pub fn dump_tables<R: Rows>(alloc: Global, cat: &Catalogue, rows: &R) -> Result<Vec<u8>, NoMemory>
+pub fn dump<R: Rows>(alloc: Global, cat: &Catalogue, rows: &R) -> Result<Vec<u8>, NoMemory>
     requires { R.tables rows.now ≡ length cat.now.tables }
     ensures { IfOk result (λ text. text.items ≡ tables_text (R.held rows.now) 0 cat.now.tables) }
 {
