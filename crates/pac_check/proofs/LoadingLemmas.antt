@@ -20,7 +20,7 @@ use Rattle.pac_bytes.proofs.Loops.{in_front_of}
 use Rattle.pac_check.specs.declared.damage.SlotFault.{SlotFault}
 use Rattle.pac_check.specs.Checkpoints.{KeyedRow, IsKeyedRow}
 use Rattle.pac_check.specs.CheckpointReading.{next_row, next_rows}
-use Rattle.pac_check.specs.Saved.{rows_of, rows_of_tables}
+use Rattle.pac_check.specs.Saved.{table_rows, rows_of_tables}
 use Rattle.pac_check.proofs.CheckpointLemmas.{IsRowBehind, row_codec}
 use Rattle.pac_check.proofs.RowsLemmas.{AreUpTo, all-below, up-to-last, rows-inserted, others-inserted, tables-same, rows-empty}
 use Rattle.pac_check.proofs.LoopLemmas.{rows-on}
@@ -51,23 +51,23 @@ module _ (table : Table) (before : Option Key) (bytes : List ℕ) (place end : �
   pub row-form : IsRowBehind table before (key, row)
   row-form = ((row_codec table before).found (from bytes place) (key, row) (from bytes end) (IsBytes-drop place bytes are) read).form
 
-  module _ (held new : Tables) (t : ℕ) (up : AreUpTo before (rows_of held t)) (put : new ≡ insert held (t, key) row) where
-    pub rows-put : rows_of new t ≡ rows_of held t ++ (key, row) ∷ []
-    rows-put = ap (λ (h : Tables). rows_of h t) put ∙ rows-inserted held t key row (all-below before key (rows_of held t) up row-form.1)
+  module _ (held new : Tables) (t : ℕ) (up : AreUpTo before (table_rows held t)) (put : new ≡ insert held (t, key) row) where
+    pub rows-put : table_rows new t ≡ table_rows held t ++ (key, row) ∷ []
+    rows-put = ap (λ (h : Tables). table_rows h t) put ∙ rows-inserted held t key row (all-below before key (table_rows held t) up row-form.1)
 
-    pub up-to-put : AreUpTo (Some key) (rows_of new t)
-    up-to-put = subst (AreUpTo (Some key)) (sym rows-put) (up-to-last key row (rows_of held t) (all-below before key (rows_of held t) up row-form.1))
+    pub up-to-put : AreUpTo (Some key) (table_rows new t)
+    up-to-put = subst (AreUpTo (Some key)) (sym rows-put) (up-to-last key row (table_rows held t) (all-below before key (table_rows held t) up row-form.1))
 
-    pub others-put : (other : ℕ) → other ≢ t → rows_of new other ≡ rows_of held other
-    others-put other apart = ap (λ (h : Tables). rows_of h other) put ∙ others-inserted held t key row other (other-number other t apart)
+    pub others-put : (other : ℕ) → other ≢ t → table_rows new other ≡ table_rows held other
+    others-put other apart = ap (λ (h : Tables). table_rows h other) put ∙ others-inserted held t key row other (other-number other t apart)
 
     pub fits-put : (all : List Table) → slice_get all t ≡ Some table → FitTables all held → FitTables all new
     fits-put all is fits = subst (λ (h : Tables). FitTables all h) (sym put) (inserted-fits all held t table (key, row) is row-form.0 fits)
 
-    pub so-far-put : (count i : ℕ) (total : Result (List KeyedRow × Rest) SlotFault) → i < count → in_front_of (rows_of held t) (next_rows table (count - i) before (from bytes place)) ≡ total
-        → in_front_of (rows_of new t) (next_rows table (count - (i + 1)) (Some key) (from bytes end)) ≡ total
+    pub so-far-put : (count i : ℕ) (total : Result (List KeyedRow × Rest) SlotFault) → i < count → in_front_of (table_rows held t) (next_rows table (count - i) before (from bytes place)) ≡ total
+        → in_front_of (table_rows new t) (next_rows table (count - (i + 1)) (Some key) (from bytes end)) ≡ total
     so-far-put count i total lt so_far = subst (λ (rows : List KeyedRow). in_front_of rows (next_rows table (count - (i + 1)) (Some key) (from bytes end)) ≡ total) (sym rows-put)
-        (rows-on table (rows_of held t) count i before (from bytes place) total so_far (key, row) (from bytes end) lt read)
+        (rows-on table (table_rows held t) count i before (from bytes place) total so_far (key, row) (from bytes end) lt read)
 
 -- ---- several tables
 
@@ -81,14 +81,14 @@ empty-fits all held is = λ cell row found. absurd (no_row (sym (get-empty cell_
     no_row : {A : Type 0} {x : A} → None ≡ Some x → ⊥
     no_row e = cc
 
-pub empty-rows : (held : Tables) → held ≡ empty → (t : ℕ) → rows_of held t ≡ []
-empty-rows held is t = ap (λ (h : Tables). rows_of h t) is ∙ rows-empty t
+pub empty-rows : (held : Tables) → held ≡ empty → (t : ℕ) → table_rows held t ≡ []
+empty-rows held is t = ap (λ (h : Tables). table_rows h t) is ∙ rows-empty t
 
 -- with the rows of one table more
-pub one-more-table : (a b : Tables) (i : ℕ) → ((other : ℕ) → other ≢ i → rows_of b other ≡ rows_of a other) → rows_of_tables b (i + 1) ≡ rows_of_tables a i ++ rows_of b i ∷ []
+pub one-more-table : (a b : Tables) (i : ℕ) → ((other : ℕ) → other ≢ i → table_rows b other ≡ table_rows a other) → rows_of_tables b (i + 1) ≡ rows_of_tables a i ++ table_rows b i ∷ []
 one-more-table a b i same =
     (let e : i + 1 ≡ suc i = omega arith in ap (rows_of_tables b) e)
-    ∙ ap (λ (xs : List (List KeyedRow)). xs ++ rows_of b i ∷ []) (tables-same b a i (λ t lt. same t (λ e. omega (arith, lt, e))))
+    ∙ ap (λ (xs : List (List KeyedRow)). xs ++ table_rows b i ∷ []) (tables-same b a i (λ t lt. same t (λ e. omega (arith, lt, e))))
 
 pub at-place : (all : List Table) (i : ℕ) (table : Table) → i < length all → table ≡ get_or all i table → slice_get all i ≡ Some table
 at-place all i table lt is = slice_get_read all (length all) i table refl lt is

@@ -15,7 +15,7 @@ use Rattle.pac_types.specs.Fits.{FitTables, shape}
 use Rattle.pac_check.specs.declared.damage.SlotFault.{SlotFault}
 use Rattle.pac_check.specs.Checkpoints.{Checkpoint, checkpoint_bytes}
 use Rattle.pac_check.specs.CheckpointReading.{next_checkpoint}
-use Rattle.pac_check.specs.Saved.{rows_of, rows_of_tables}
+use Rattle.pac_check.specs.Saved.{table_rows, rows_of_tables}
 use Rattle.pac_check.specs.SlotStates.{HoldsCheckpoint}
 use Rattle.pac_check.proofs.CheckpointLemmas.{checkpoint_codec}
 use Rattle.pac_check.proofs.RowsLemmas.{find-among, rows_from, tables-from}
@@ -33,15 +33,15 @@ one-checkpoint tables few image c d first second =
     let bytes : 1 ∷ (checkpoint_bytes c ++ first.opens.rest) ≡ 1 ∷ (checkpoint_bytes d ++ second.opens.rest) = sym first.opens.split ∙ second.opens.split in
     same-read c d _ _ (sym a ∙ ap (λ (l : List ℕ). next_checkpoint tables (record { at = 1; bytes = drop 1 l })) bytes ∙ b)
 
-rows-at : (a b : Tables) (s n i : ℕ) → rows_from a s n ≡ rows_from b s n → i < n → rows_of a (s + i) ≡ rows_of b (s + i)
+rows-at : (a b : Tables) (s n i : ℕ) → rows_from a s n ≡ rows_from b s n → i < n → table_rows a (s + i) ≡ table_rows b (s + i)
 rows-at a b s zero i same lt = absurd (omega arith)
-rows-at a b s (suc n) zero same lt = (let e : s + 0 ≡ s = omega arith in ap (rows_of a) e) ∙ head same ∙ sym (let e : s + 0 ≡ s = omega arith in ap (rows_of b) e)
+rows-at a b s (suc n) zero same lt = (let e : s + 0 ≡ s = omega arith in ap (table_rows a) e) ∙ head same ∙ sym (let e : s + 0 ≡ s = omega arith in ap (table_rows b) e)
   where
     head : {A : Type 0} {x y : A} {xs ys : List A} → x ∷ xs ≡ y ∷ ys → x ≡ y
     head e = cc
 rows-at a b s (suc n) (suc i) same lt =
     let e : s + suc i ≡ suc s + i = omega arith in
-    ap (rows_of a) e ∙ rows-at a b (suc s) n i (tail same) (omega (arith, lt)) ∙ sym (ap (rows_of b) e)
+    ap (table_rows a) e ∙ rows-at a b (suc s) n i (tail same) (omega (arith, lt)) ∙ sym (ap (table_rows b) e)
   where
     tail : {A : Type 0} {x y : A} {xs ys : List A} → x ∷ xs ≡ y ∷ ys → xs ≡ ys
     tail e = cc
@@ -67,8 +67,8 @@ one-state tables a b fits_a fits_b same = same_map cells_total cells_antisymmetr
     rows : rows_from a 0 (length tables) ≡ rows_from b 0 (length tables)
     rows = sym (tables-from a (length tables)) ∙ same ∙ tables-from b (length tables)
 
-    rows-here : (t : ℕ) → t < length tables → rows_of a t ≡ rows_of b t
-    rows-here t lt = (let e : t ≡ 0 + t = omega arith in ap (rows_of a) e) ∙ rows-at a b 0 (length tables) t rows lt ∙ sym (let e : t ≡ 0 + t = omega arith in ap (rows_of b) e)
+    rows-here : (t : ℕ) → t < length tables → table_rows a t ≡ table_rows b t
+    rows-here t lt = (let e : t ≡ 0 + t = omega arith in ap (table_rows a) e) ∙ rows-at a b 0 (length tables) t rows lt ∙ sym (let e : t ≡ 0 + t = omega arith in ap (table_rows b) e)
 
     at : (cell : Cell) → get a cell ≡ get b cell
     at cell = elim (cases_lt cell.0 (length tables)) [

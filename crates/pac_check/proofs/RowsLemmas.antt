@@ -15,7 +15,7 @@ use Rattle.pac_value.specs.Keys.{key_cmp, keys_total}
 use Rattle.pac_value.specs.State.{Cell, cell_cmp, RowValues, Tables, keys_of}
 use Rattle.pac_value.proofs.CellLemmas.{cells_total, cells_antisymmetric}
 use Rattle.pac_check.specs.Checkpoints.{KeyedRow, AreAscending, is_above}
-use Rattle.pac_check.specs.Saved.{rows_among, rows_of, rows_of_tables}
+use Rattle.pac_check.specs.Saved.{rows_among, table_rows, rows_of_tables}
 
 abbrev Entry : Type 0
 Entry = Cell × RowValues
@@ -101,7 +101,7 @@ ascending-among t before (e ∷ es) sorted behind =
     go with_it without_it true is = (behind-first t before e es is behind, with_it (subst (λ (cell : Cell). T (below_all cell_cmp cell es)) (here t e.0 is) (first _ _ sorted)))
     go with_it without_it false is = without_it
 
-pub ascending-rows : (held : Tables) (t : ℕ) → AreAscending None (rows_of held t)
+pub ascending-rows : (held : Tables) (t : ℕ) → AreAscending None (table_rows held t)
 ascending-rows held t = ascending-among t None (entries held) (entries_sorted held) tt
 
 -- ---- they are found
@@ -151,8 +151,8 @@ all-at P [] i x all lt is = absurd (omega arith)
 all-at P (y ∷ xs) zero x all lt is = subst P (sym is) all.0
 all-at P (y ∷ xs) (suc i) x all lt is = all-at P xs i x all.1 (omega (arith, lt)) is
 
-row-found : (held : Tables) (t i : ℕ) (row : KeyedRow) → i < length (rows_of held t) → row ≡ get_or (rows_of held t) i row → get held (t, row.0) ≡ Some row.1
-row-found held t i row lt is = get-entries held (t, row.0) ∙ find-among t row.0 (entries held) ∙ find-at None (rows_of held t) (ascending-rows held t) i row lt is
+row-found : (held : Tables) (t i : ℕ) (row : KeyedRow) → i < length (table_rows held t) → row ≡ get_or (table_rows held t) i row → get held (t, row.0) ≡ Some row.1
+row-found held t i row lt is = get-entries held (t, row.0) ∙ find-among t row.0 (entries held) ∙ find-at None (table_rows held t) (ascending-rows held t) i row lt is
 
 keys-among : (t : ℕ) (es : List Entry) → map (λ (cell : Cell). cell.1) (filter (λ cell. cell.0 == t) (map (λ (e : Entry). e.0) es)) ≡ map (λ (row : KeyedRow). row.0) (rows_among es t)
 keys-among t [] = refl
@@ -164,11 +164,11 @@ keys-among t (e ∷ es) = go (keys-among t es) (e.0.0 == t)
     go rest true = ap (λ ks. e.0.1 ∷ ks) rest
     go rest false = rest
 
-pub keys-rows : (held : Tables) (t : ℕ) → keys_of held t ≡ map (λ (row : KeyedRow). row.0) (rows_of held t)
+pub keys-rows : (held : Tables) (t : ℕ) → keys_of held t ≡ map (λ (row : KeyedRow). row.0) (table_rows held t)
 keys-rows held t = keys-among t (entries held)
 
-pub as-many : (held : Tables) (t : ℕ) → length (keys_of held t) ≡ length (rows_of held t)
-as-many held t = ap length (keys-rows held t) ∙ length-map (rows_of held t) (λ row. row.0)
+pub as-many : (held : Tables) (t : ℕ) → length (keys_of held t) ≡ length (table_rows held t)
+as-many held t = ap length (keys-rows held t) ∙ length-map (table_rows held t) (λ row. row.0)
 
 any-default : {A : Type 0} (xs : List A) (i : ℕ) (c d : A) → i < length xs → get_or xs i c ≡ get_or xs i d
 any-default [] i c d lt = absurd (omega arith)
@@ -177,34 +177,34 @@ any-default (x ∷ xs) (suc i) c d lt = any-default xs i c d (omega (arith, lt))
 
 -- the row of the key that is next
 pub key-found : (held : Tables) (t i : ℕ) (key : Key) → i < length (keys_of held t) → key ≡ get_or (keys_of held t) i key
-    → (row : RowValues) × (get held (t, key) ≡ Some row) × ((key, row) ≡ get_or (rows_of held t) i (key, row))
+    → (row : RowValues) × (get held (t, key) ≡ Some row) × ((key, row) ≡ get_or (table_rows held t) i (key, row))
 key-found held t i key lt is =
-    let within : i < length (rows_of held t) = omega (arith, lt, as-many held t) in
-    let row : KeyedRow = get_or (rows_of held t) i (key, []) in
-    let same : row ≡ get_or (rows_of held t) i row = any-default (rows_of held t) i (key, []) (get_or (rows_of held t) i (key, [])) within in
-    let key_is : row.0 ≡ key = sym (get_or-map (λ (r : KeyedRow). r.0) (rows_of held t) i (key, []) key within) ∙ ap (λ ks. get_or ks i key) (sym (keys-rows held t)) ∙ sym is in
+    let within : i < length (table_rows held t) = omega (arith, lt, as-many held t) in
+    let row : KeyedRow = get_or (table_rows held t) i (key, []) in
+    let same : row ≡ get_or (table_rows held t) i row = any-default (table_rows held t) i (key, []) (get_or (table_rows held t) i (key, [])) within in
+    let key_is : row.0 ≡ key = sym (get_or-map (λ (r : KeyedRow). r.0) (table_rows held t) i (key, []) key within) ∙ ap (λ ks. get_or ks i key) (sym (keys-rows held t)) ∙ sym is in
     let pair : (key, row.1) ≡ row = ap (λ (k : Key). (k, row.1)) (sym key_is) in (
       row.1,
       ap (λ (k : Key). get held (t, k)) (sym key_is) ∙ row-found held t i row within same,
-      pair ∙ same ∙ any-default (rows_of held t) i row (key, row.1) within,
+      pair ∙ same ∙ any-default (table_rows held t) i row (key, row.1) within,
     )
 
 -- where the row of the key that is next stands
 pub key-placed : (held : Tables) (t i : ℕ) (key : Key) (row : RowValues) → i < length (keys_of held t) → key ≡ get_or (keys_of held t) i key → get held (t, key) ≡ Some row
-    → (i < length (rows_of held t)) × ((key, row) ≡ get_or (rows_of held t) i (key, row))
+    → (i < length (table_rows held t)) × ((key, row) ≡ get_or (table_rows held t) i (key, row))
 key-placed held t i key row lt is found =
     let there = key-found held t i key lt is in
     let same : there.0 ≡ row = some_same (sym there.1 ∙ found) in (
       omega (arith, lt, as-many held t),
-      subst (λ (r : RowValues). (key, r) ≡ get_or (rows_of held t) i (key, r)) same there.2,
+      subst (λ (r : RowValues). (key, r) ≡ get_or (table_rows held t) i (key, r)) same there.2,
     )
   where
     some_same : {A : Type 0} {x y : A} → Some x ≡ Some y → x ≡ y
     some_same e = cc
 
 -- each row of a table is found by its key
-pub each-row : (P : KeyedRow → Type 0) (held : Tables) (t : ℕ) → ((row : KeyedRow) (i : ℕ) → i < length (rows_of held t) → row ≡ get_or (rows_of held t) i row → get held (t, row.0) ≡ Some row.1 → P row) → AllByRecursion P (rows_of held t)
-each-row P held t each = all-by-place P (rows_of held t) (λ row i lt is. each row i lt is (row-found held t i row lt is))
+pub each-row : (P : KeyedRow → Type 0) (held : Tables) (t : ℕ) → ((row : KeyedRow) (i : ℕ) → i < length (table_rows held t) → row ≡ get_or (table_rows held t) i row → get held (t, row.0) ≡ Some row.1 → P row) → AllByRecursion P (table_rows held t)
+each-row P held t each = all-by-place P (table_rows held t) (λ row i lt is. each row i lt is (row-found held t i row lt is))
 
 -- ---- one more behind them
 
@@ -282,10 +282,10 @@ put-other u t key row (e ∷ es) apart = go (put-other u t key row es apart) (ce
     go rest Greater is = joined (e.0.0 == u) rest
 
 module _ (held : Tables) (t : ℕ) (key : Key) (row : RowValues) where
-  pub rows-inserted : AreBelow key (rows_of held t) → rows_of (insert held (t, key) row) t ≡ rows_of held t ++ (key, row) ∷ []
+  pub rows-inserted : AreBelow key (table_rows held t) → table_rows (insert held (t, key) row) t ≡ table_rows held t ++ (key, row) ∷ []
   rows-inserted below = ap (λ es. rows_among es t) (entries-insert cells_total held (t, key) row) ∙ put-last t key row (entries held) (entries_sorted held) below
 
-  pub others-inserted : (u : ℕ) → (t == u) ≡ false → rows_of (insert held (t, key) row) u ≡ rows_of held u
+  pub others-inserted : (u : ℕ) → (t == u) ≡ false → table_rows (insert held (t, key) row) u ≡ table_rows held u
   others-inserted u apart = ap (λ es. rows_among es u) (entries-insert cells_total held (t, key) row) ∙ put-other u t key row (entries held) apart
 
 -- ---- the key before
@@ -313,27 +313,27 @@ up-to-last key row (x ∷ rows) below = (inl below.0, up-to-last key row rows be
 
 -- ---- several tables
 
-pub rows-empty : (t : ℕ) → rows_of empty t ≡ []
+pub rows-empty : (t : ℕ) → table_rows empty t ≡ []
 rows-empty t = ap (λ es. rows_among es t) (nil_from_length (entries (empty {X = RowValues} {R = cell_cmp})) (sym (len-entries empty) ∙ len-empty cell_cmp RowValues))
 
-pub tables-same : (a b : Tables) (n : ℕ) → ((t : ℕ) → t < n → rows_of a t ≡ rows_of b t) → rows_of_tables a n ≡ rows_of_tables b n
+pub tables-same : (a b : Tables) (n : ℕ) → ((t : ℕ) → t < n → table_rows a t ≡ table_rows b t) → rows_of_tables a n ≡ rows_of_tables b n
 tables-same a b zero same = refl
-tables-same a b (suc n) same = ap (λ xs. xs ++ rows_of a n ∷ []) (tables-same a b n (λ t lt. same t (omega (arith, lt)))) ∙ ap (λ (rows : List KeyedRow). rows_of_tables b n ++ rows ∷ []) (same n (omega arith))
+tables-same a b (suc n) same = ap (λ xs. xs ++ table_rows a n ∷ []) (tables-same a b n (λ t lt. same t (omega (arith, lt)))) ∙ ap (λ (rows : List KeyedRow). rows_of_tables b n ++ rows ∷ []) (same n (omega arith))
 
 pub tables-counted : (held : Tables) (n : ℕ) → length (rows_of_tables held n) ≡ n
 tables-counted held zero = refl
-tables-counted held (suc n) = omega (arith, tables-counted held n, length-append (rows_of_tables held n) (rows_of held n ∷ []))
+tables-counted held (suc n) = omega (arith, tables-counted held n, length-append (rows_of_tables held n) (table_rows held n ∷ []))
 
 -- the rows of so many tables from one on
 abbrev pub rows_from : Tables → ℕ → ℕ → List (List KeyedRow)
 rows_from held s zero = []
-rows_from held s (suc n) = rows_of held s ∷ rows_from held (suc s) n
+rows_from held s (suc n) = table_rows held s ∷ rows_from held (suc s) n
 
 tables-split : (held : Tables) (s n : ℕ) → rows_of_tables held (s + n) ≡ rows_of_tables held s ++ rows_from held s n
 tables-split held s zero = (let same : s + 0 ≡ s = omega arith in ap (rows_of_tables held) same) ∙ sym (append-nil (rows_of_tables held s))
 tables-split held s (suc n) =
     (let same : s + suc n ≡ suc s + n = omega arith in ap (rows_of_tables held) same)
-    ∙ tables-split held (suc s) n ∙ append_assoc (rows_of_tables held s) (rows_of held s ∷ []) (rows_from held (suc s) n)
+    ∙ tables-split held (suc s) n ∙ append_assoc (rows_of_tables held s) (table_rows held s ∷ []) (rows_from held (suc s) n)
 
 pub tables-from : (held : Tables) (n : ℕ) → rows_of_tables held n ≡ rows_from held 0 n
 tables-from held n = (let same : n ≡ 0 + n = omega arith in ap (rows_of_tables held) same) ∙ tables-split held 0 n

@@ -15,7 +15,7 @@ use Rattle.pac_entry.proofs.WrittenLemmas.{one_more}
 use Rattle.pac_check.specs.declared.limits.TheConstants.{MAX_SAVED_ROWS}
 use Rattle.pac_check.specs.declared.head.Head.{Head}
 use Rattle.pac_check.specs.Checkpoints.{KeyedRow, checkpoint_bytes, head_bytes, rows_bytes, RowHasBytes, IsKeyedRow, AreRowsOf, IsHead, IsCheckpoint}
-use Rattle.pac_check.specs.Saved.{rows_of, rows_of_tables, checkpoint_of}
+use Rattle.pac_check.specs.Saved.{table_rows, rows_of_tables, checkpoint_of}
 use Rattle.pac_check.proofs.RowsLemmas.{ascending-rows, as-many, each-row, all-at, tables-counted, rows_from, tables-from}
 
 pub none_some : {A : Type 0} {x : A} → None ≡ Some x → ⊥
@@ -41,24 +41,24 @@ same-place xs ys i key same lt is = (subst (λ (l : List Key). i < length l) sam
 -- ---- what is written is a checkpoint
 
 module _ (tables : List Table) (held : Tables) (fits : FitTables tables held) where
-  keyed-rows : (t : ℕ) (table : Table) → slice_get tables t ≡ Some table → AllByRecursion RowHasBytes (rows_of held t) → AllByRecursion (IsKeyedRow table) (rows_of held t)
+  keyed-rows : (t : ℕ) (table : Table) → slice_get tables t ≡ Some table → AllByRecursion RowHasBytes (table_rows held t) → AllByRecursion (IsKeyedRow table) (table_rows held t)
   keyed-rows t table is bytes = each-row (IsKeyedRow table) held t (λ row i lt placed found.
       let fit = fits (t, row.0) row.1 found in
-      let has = all-at RowHasBytes (rows_of held t) i row bytes lt placed in
+      let has = all-at RowHasBytes (table_rows held t) i row bytes lt placed in
       let typed : Some (type_of (key_value row.0)) ≡ Some table.key = sym (key-of_fit tables (t, row.0) row.1 fit) ∙ ap (option_map (λ (x : Table). x.key)) is in
       ((has.0, some_same typed), (columns-of_fit tables (t, row.0) row.1 fit ∙ ap column_types_of is, has.1)))
     where
       some_same : {A : Type 0} {x y : A} → Some x ≡ Some y → x ≡ y
       some_same e = cc
 
-  rows-of-table : (t : ℕ) (table : Table) → slice_get tables t ≡ Some table → AllByRecursion RowHasBytes (rows_of held t) → length (keys_of held t) ≤ MAX_SAVED_ROWS → AreRowsOf table (rows_of held t)
+  rows-of-table : (t : ℕ) (table : Table) → slice_get tables t ≡ Some table → AllByRecursion RowHasBytes (table_rows held t) → length (keys_of held t) ≤ MAX_SAVED_ROWS → AreRowsOf table (table_rows held t)
   rows-of-table t table is bytes few = record { each = keyed-rows t table is bytes; ascending = ascending-rows held t; few = omega (arith, few, as-many held t) }
 
-zipped : (P : Table → List KeyedRow → Type 0) (held : Tables) (tables : List Table) (s : ℕ) → ((i : ℕ) (table : Table) → slice_get tables i ≡ Some table → P table (rows_of held (s + i))) → AllZip P tables (rows_from held s (length tables))
+zipped : (P : Table → List KeyedRow → Type 0) (held : Tables) (tables : List Table) (s : ℕ) → ((i : ℕ) (table : Table) → slice_get tables i ≡ Some table → P table (table_rows held (s + i))) → AllZip P tables (rows_from held s (length tables))
 zipped P held [] s each = tt
 zipped P held (table ∷ tables) s each = (
-  subst (λ (n : ℕ). P table (rows_of held n)) (omega arith) (each 0 table refl),
-  zipped P held tables (suc s) (λ i t is. subst (λ (n : ℕ). P t (rows_of held n)) (omega arith) (each (suc i) t is)),
+  subst (λ (n : ℕ). P table (table_rows held n)) (omega arith) (each 0 table refl),
+  zipped P held tables (suc s) (λ i t is. subst (λ (n : ℕ). P t (table_rows held n)) (omega arith) (each (suc i) t is)),
 )
 
 within : (tables : List Table) (i : ℕ) (table : Table) → slice_get tables i ≡ Some table → i < length tables
@@ -66,12 +66,12 @@ within [] i table is = absurd (none_some is)
 within (x ∷ tables) zero table is = omega arith
 within (x ∷ tables) (suc i) table is = let rest = within tables i table is in omega arith
 
-pub written-checkpoint : (tables : List Table) (head : Head) (held : Tables) → IsHead head → FitTables tables held → ((t : ℕ) → t < length tables → AllByRecursion RowHasBytes (rows_of held t)) → ((t : ℕ) → t < length tables → length (keys_of held t) ≤ MAX_SAVED_ROWS)
+pub written-checkpoint : (tables : List Table) (head : Head) (held : Tables) → IsHead head → FitTables tables held → ((t : ℕ) → t < length tables → AllByRecursion RowHasBytes (table_rows held t)) → ((t : ℕ) → t < length tables → length (keys_of held t) ≤ MAX_SAVED_ROWS)
     → IsCheckpoint tables (checkpoint_of (length tables) head held)
 written-checkpoint tables head held is fits bytes few = record {
   head = is;
   rows = subst (λ (rows : List (List KeyedRow)). AllZip AreRowsOf tables rows) (sym (tables-from held (length tables)))
-      (zipped AreRowsOf held tables 0 (λ i table at. subst (λ (n : ℕ). AreRowsOf table (rows_of held n)) (omega arith) (rows-of-table tables held fits i table at (bytes i (within tables i table at)) (few i (within tables i table at)))));
+      (zipped AreRowsOf held tables 0 (λ i table at. subst (λ (n : ℕ). AreRowsOf table (table_rows held n)) (omega arith) (rows-of-table tables held fits i table at (bytes i (within tables i table at)) (few i (within tables i table at)))));
 }
 
 -- the head, and the tables behind it

@@ -10,13 +10,13 @@ abbrev pub rows_among : List (Cell × RowValues) → ℕ → List KeyedRow
 rows_among cells table = map (λ entry. (entry.0.1, entry.1)) (filter (λ entry. entry.0.0 == table) cells)
 
 -- the rows of a table, by ascending keys
-abbrev pub rows_of : Tables → ℕ → List KeyedRow
-rows_of held table = rows_among (entries held) table
+abbrev pub table_rows : Tables → ℕ → List KeyedRow
+table_rows held table = rows_among (entries held) table
 
 -- the rows of each of the first so many tables
 abbrev pub rows_of_tables : Tables → ℕ → List (List KeyedRow)
 rows_of_tables held zero = []
-rows_of_tables held (suc table) = rows_of_tables held table ++ rows_of held table ∷ []
+rows_of_tables held (suc table) = rows_of_tables held table ++ table_rows held table ∷ []
 
 -- the checkpoint of so many tables, with this head
 abbrev pub checkpoint_of : ℕ → Head → Tables → Checkpoint

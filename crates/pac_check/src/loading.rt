@@ -9,7 +9,7 @@ ghost use Rattle.pac_types.specs.Fits.{FitTables};
 ghost use Rattle.pac_types.specs.Typing.{IsSoundTable};
 ghost use Rattle.pac_check.specs.Checkpoints.{IsCheckpoint, checkpoint_bytes};
 ghost use Rattle.pac_check.specs.CheckpointReading.{found_alone, next_checkpoint, next_rows, next_table};
-ghost use Rattle.pac_check.specs.Saved.{checkpoint_of, rows_of, rows_of_tables};
+ghost use Rattle.pac_check.specs.Saved.{checkpoint_of, table_rows, rows_of_tables};
 
 use crate::Head;
 use crate::damage::CheckpointError;
@@ -102,9 +102,9 @@ fn load_table<R: Rows>(
 ) -> Result<usize, CheckpointError>
     requires sound { IsSoundTable table.now }
     requires within { number < R.tables rows.old }
-    requires none { rows_of (R.held rows.old) number ≡ [] }
-    ensures exact { Tells (λ end. (rows_of (R.held rows.new) number, from bytes.now end)) result (next_table table.now (from bytes.now at)) }
-    ensures others { (other : ℕ) → other ≢ number → rows_of (R.held rows.new) other ≡ rows_of (R.held rows.old) other }
+    requires none { table_rows (R.held rows.old) number ≡ [] }
+    ensures exact { Tells (λ end. (table_rows (R.held rows.new) number, from bytes.now end)) result (next_table table.now (from bytes.now at)) }
+    ensures others { (other : ℕ) → other ≢ number → table_rows (R.held rows.new) other ≡ table_rows (R.held rows.old) other }
     ensures fits { (all : List ATable) → slice_get all number ≡ HasIt table.now → FitTables all (R.held rows.old) → FitTables all (R.held rows.new) }
     ensures tables { R.tables rows.new ≡ R.tables rows.old }
 {
@@ -124,9 +124,9 @@ fn load_rows<R: Rows>(
 ) -> Result<usize, CheckpointError>
     requires sound { IsSoundTable table.now }
     requires within { number < R.tables rows.old }
-    requires none { rows_of (R.held rows.old) number ≡ [] }
-    ensures exact { Tells (λ end. (rows_of (R.held rows.new) number, from bytes.now end)) result (next_rows table.now count NoKey (from bytes.now at)) }
-    ensures others { (other : ℕ) → other ≢ number → rows_of (R.held rows.new) other ≡ rows_of (R.held rows.old) other }
+    requires none { table_rows (R.held rows.old) number ≡ [] }
+    ensures exact { Tells (λ end. (table_rows (R.held rows.new) number, from bytes.now end)) result (next_rows table.now count NoKey (from bytes.now at)) }
+    ensures others { (other : ℕ) → other ≢ number → table_rows (R.held rows.new) other ≡ table_rows (R.held rows.old) other }
     ensures fits { (all : List ATable) → slice_get all number ≡ HasIt table.now → FitTables all (R.held rows.old) → FitTables all (R.held rows.new) }
     ensures tables { R.tables rows.new ≡ R.tables rows.old }
 {

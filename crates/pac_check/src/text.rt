@@ -13,7 +13,7 @@ ghost use Rattle.pac_types.specs.Fits.{FitsCatalogue};
 ghost use Rattle.pac_check.specs.declared.limits.TheConstants.{MAX_SAVED_ROWS, MAX_SLOT_LEN};
 ghost use Rattle.pac_check.specs.declared.text.TheConstants.{MAX_ROW_LEN, MAX_TABLE_LEN};
 ghost use Rattle.pac_check.specs.Checkpoints.{IsCheckpoint, RowHasBytes, checkpoint_bytes, keyed_bytes, rows_bytes};
-ghost use Rattle.pac_check.specs.Saved.{checkpoint_of, rows_of, rows_of_tables};
+ghost use Rattle.pac_check.specs.Saved.{checkpoint_of, table_rows, rows_of_tables};
 
 use crate::head::{HEAD_LEN, put_head};
 use crate::{Head, MAX_SAVED_ROWS, MAX_SLOT_LEN, SaveError};
@@ -81,7 +81,7 @@ fn tables_len<R: Rows>(count: u16, rows: &R) -> Result<u64, NoMemory>
 fn table_len<R: Rows>(table: u16, rows: &R) -> Result<u64, NoMemory>
     requires within { table < R.tables rows.now }
     requires few { length (keys_of (R.held rows.now) table) ≤ MAX_SAVED_ROWS }
-    ensures exact { IfOk result (λ len. len ≡ length (rows_bytes (rows_of (R.held rows.now) table))) }
+    ensures exact { IfOk result (λ len. len ≡ length (rows_bytes (table_rows (R.held rows.now) table))) }
     ensures few { IfOk result (λ len. len ≤ MAX_TABLE_LEN) }
 {
     let keys = rows.sorted_keys(table)?;
@@ -118,7 +118,7 @@ fn values_len(row: &Row) -> u64
 fn put_tables<R: Rows>(out: &mut Vec<u8>, count: u16, rows: &R) -> Result<(), NoMemory>
     requires { count ≤ R.tables rows.now }
     ensures bytes { OnOk result (Grew out.old.items out.new.items (flat_map rows_bytes (rows_of_tables (R.held rows.now) count))) }
-    ensures form { OnOk result ((table : ℕ) → table < count → AllByRecursion RowHasBytes (rows_of (R.held rows.now) table)) }
+    ensures form { OnOk result ((table : ℕ) → table < count → AllByRecursion RowHasBytes (table_rows (R.held rows.now) table)) }
 {
     for table in 0..count {
         put_table(out, table, rows)?;
@@ -129,8 +129,8 @@ fn put_tables<R: Rows>(out: &mut Vec<u8>, count: u16, rows: &R) -> Result<(), No
 // Appends the number of a table's rows, and they by ascending keys.
 fn put_table<R: Rows>(out: &mut Vec<u8>, table: u16, rows: &R) -> Result<(), NoMemory>
     requires { table < R.tables rows.now }
-    ensures bytes { OnOk result (Grew out.old.items out.new.items (rows_bytes (rows_of (R.held rows.now) table))) }
-    ensures form { OnOk result (AllByRecursion RowHasBytes (rows_of (R.held rows.now) table)) }
+    ensures bytes { OnOk result (Grew out.old.items out.new.items (rows_bytes (table_rows (R.held rows.now) table))) }
+    ensures form { OnOk result (AllByRecursion RowHasBytes (table_rows (R.held rows.now) table)) }
 {
     let keys = rows.sorted_keys(table)?;
     put_u64(out, keys.len() as u64)?;

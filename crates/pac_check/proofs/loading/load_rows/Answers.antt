@@ -7,7 +7,7 @@ use Rattle.pac_bytes.specs.Reading.{from}
 use Rattle.pac_bytes.proofs.Bytes.{IsBytes}
 use Rattle.pac_check.specs.CheckpointReading.{next_row, next_rows}
 use Rattle.pac_bytes.proofs.Loops.{in_front_of}
-use Rattle.pac_check.specs.Saved.{rows_of}
+use Rattle.pac_check.specs.Saved.{table_rows}
 use Rattle.pac_check.proofs.RowsLemmas.{AreUpTo}
 use Rattle.pac_check.proofs.LoopLemmas.{rows-fail, rows-done}
 use Rattle.pac_check.proofs.LoadingLemmas.{up-to-put, others-put, fits-put, so-far-put}
@@ -28,8 +28,8 @@ read g c = subst (λ (before : Option Key). next_row c.args.table.now before (fr
 
 pub loop-preserved : goal.loop-preserved
 loop-preserved g c = record {
-  up_to = subst (λ (key : Key). AreUpTo (Some key) (rows_of (g.R.Rows.held c.put.new.self) c.args.number)) (sym c.copied.ensures) (up-to-put c.args.table.now c.loop.before c.args.bytes.now c.loop.place c.in_ok-key.end c.in_ok-key.key c.in_ok-key.row (are g c) (read g c) (g.R.Rows.held c.loop.rows) (g.R.Rows.held c.put.new.self) c.args.number c.loop.invariant.up_to c.in_ok-put.ensures.ok);
-  so_far = subst (λ (key : Key). in_front_of (rows_of (g.R.Rows.held c.put.new.self) c.args.number) (next_rows c.args.table.now (c.args.count - (c.loop.counter + 1)) (Some key) (from c.args.bytes.now c.in_ok-key.end)) ≡ next_rows c.args.table.now c.args.count None (from c.args.bytes.now c.args.at)) (sym c.copied.ensures) (so-far-put c.args.table.now c.loop.before c.args.bytes.now c.loop.place c.in_ok-key.end c.in_ok-key.key c.in_ok-key.row (are g c) (read g c) (g.R.Rows.held c.loop.rows) (g.R.Rows.held c.put.new.self) c.args.number c.loop.invariant.up_to c.in_ok-put.ensures.ok c.args.count c.loop.counter _ c.loop-test.true c.loop.invariant.so_far);
+  up_to = subst (λ (key : Key). AreUpTo (Some key) (table_rows (g.R.Rows.held c.put.new.self) c.args.number)) (sym c.copied.ensures) (up-to-put c.args.table.now c.loop.before c.args.bytes.now c.loop.place c.in_ok-key.end c.in_ok-key.key c.in_ok-key.row (are g c) (read g c) (g.R.Rows.held c.loop.rows) (g.R.Rows.held c.put.new.self) c.args.number c.loop.invariant.up_to c.in_ok-put.ensures.ok);
+  so_far = subst (λ (key : Key). in_front_of (table_rows (g.R.Rows.held c.put.new.self) c.args.number) (next_rows c.args.table.now (c.args.count - (c.loop.counter + 1)) (Some key) (from c.args.bytes.now c.in_ok-key.end)) ≡ next_rows c.args.table.now c.args.count None (from c.args.bytes.now c.args.at)) (sym c.copied.ensures) (so-far-put c.args.table.now c.loop.before c.args.bytes.now c.loop.place c.in_ok-key.end c.in_ok-key.key c.in_ok-key.row (are g c) (read g c) (g.R.Rows.held c.loop.rows) (g.R.Rows.held c.put.new.self) c.args.number c.loop.invariant.up_to c.in_ok-put.ensures.ok c.args.count c.loop.counter _ c.loop-test.true c.loop.invariant.so_far);
   others = λ other apart. others-put c.args.table.now c.loop.before c.args.bytes.now c.loop.place c.in_ok-key.end c.in_ok-key.key c.in_ok-key.row (are g c) (read g c) (g.R.Rows.held c.loop.rows) (g.R.Rows.held c.put.new.self) c.args.number c.loop.invariant.up_to c.in_ok-put.ensures.ok other apart ∙ c.loop.invariant.others other apart;
   fits = λ all is old. fits-put c.args.table.now c.loop.before c.args.bytes.now c.loop.place c.in_ok-key.end c.in_ok-key.key c.in_ok-key.row (are g c) (read g c) (g.R.Rows.held c.loop.rows) (g.R.Rows.held c.put.new.self) c.args.number c.loop.invariant.up_to c.in_ok-put.ensures.ok all is (c.loop.invariant.fits all is old);
   tables = c.in_ok-put.ensures.tables ∙ c.loop.invariant.tables;

@@ -6,15 +6,15 @@ use Rattle.pac_types.specs.Fits.{FitTables}
 use Rattle.pac_bytes.specs.Reading.{from}
 use Rattle.pac_bytes.proofs.Loops.{in_front_of}
 use Rattle.pac_check.specs.CheckpointReading.{next_rows}
-use Rattle.pac_check.specs.Saved.{rows_of}
+use Rattle.pac_check.specs.Saved.{table_rows}
 use Rattle.pac_check.proofs.RowsLemmas.{AreUpTo}
 use Rattle.pac_check.proofs.loading.load_rows.Given as goal
 
 abbrev pub invariant-loop : goal.invariant-loop
 invariant-loop g l = record {
-  up_to : AreUpTo l.before (rows_of (g.R.Rows.held l.rows) l.number);
-  so_far : in_front_of (rows_of (g.R.Rows.held l.rows) l.number) (next_rows l.table (l.count - l.counter) l.before (from l.bytes l.place)) ≡ next_rows l.table l.count None (from l.bytes l.at);
-  others : (other : ℕ) → other ≢ l.number → rows_of (g.R.Rows.held l.rows) other ≡ rows_of (g.R.Rows.held l.fn.rows) other;
+  up_to : AreUpTo l.before (table_rows (g.R.Rows.held l.rows) l.number);
+  so_far : in_front_of (table_rows (g.R.Rows.held l.rows) l.number) (next_rows l.table (l.count - l.counter) l.before (from l.bytes l.place)) ≡ next_rows l.table l.count None (from l.bytes l.at);
+  others : (other : ℕ) → other ≢ l.number → table_rows (g.R.Rows.held l.rows) other ≡ table_rows (g.R.Rows.held l.fn.rows) other;
   fits : (all : List Table) → slice_get all l.number ≡ Some l.table → FitTables all (g.R.Rows.held l.fn.rows) → FitTables all (g.R.Rows.held l.rows);
   tables : g.R.Rows.tables l.rows ≡ g.R.Rows.tables l.fn.rows;
 }

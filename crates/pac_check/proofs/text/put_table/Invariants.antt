@@ -3,11 +3,11 @@ use Rattle.std.proofs.Common.{◌≡◌, ◌++◌, length, take, flat_map}
 use Rattle.std.specs.Int.{w64, to_le_bytes}
 use Rattle.std.specs.List.{AllByRecursion}
 use Rattle.pac_check.specs.Checkpoints.{RowHasBytes, keyed_bytes}
-use Rattle.pac_check.specs.Saved.{rows_of}
+use Rattle.pac_check.specs.Saved.{table_rows}
 use Rattle.pac_check.proofs.text.put_table.Given as goal
 
 abbrev pub invariant-loop-key : goal.invariant-loop-key
 invariant-loop-key g l = record {
-  bytes : l.out.items ≡ (l.fn.out.items ++ to_le_bytes w64 (length (rows_of (g.R.Rows.held l.rows) l.table))) ++ flat_map keyed_bytes (take l.key-index (rows_of (g.R.Rows.held l.rows) l.table));
-  form : AllByRecursion RowHasBytes (take l.key-index (rows_of (g.R.Rows.held l.rows) l.table));
+  bytes : l.out.items ≡ (l.fn.out.items ++ to_le_bytes w64 (length (table_rows (g.R.Rows.held l.rows) l.table))) ++ flat_map keyed_bytes (take l.key-index (table_rows (g.R.Rows.held l.rows) l.table));
+  form : AllByRecursion RowHasBytes (take l.key-index (table_rows (g.R.Rows.held l.rows) l.table));
 }

@@ -2,11 +2,11 @@
 use Rattle.std.proofs.Common.{◌≡◌, ◌≤◌, ◌+◌, ◌*◌, length, take, flat_map}
 use Rattle.pac_check.specs.declared.text.TheConstants.{MAX_ROW_LEN}
 use Rattle.pac_check.specs.Checkpoints.{keyed_bytes}
-use Rattle.pac_check.specs.Saved.{rows_of}
+use Rattle.pac_check.specs.Saved.{table_rows}
 use Rattle.pac_check.proofs.text.table_len.Given as goal
 
 abbrev pub invariant-loop-key : goal.invariant-loop-key
 invariant-loop-key g l = record {
-  exact : l.len ≡ 8 + length (flat_map keyed_bytes (take l.key-index (rows_of (g.R.Rows.held l.rows) l.table)));
+  exact : l.len ≡ 8 + length (flat_map keyed_bytes (take l.key-index (table_rows (g.R.Rows.held l.rows) l.table)));
   few : l.len ≤ 8 + MAX_ROW_LEN * l.key-index;
 }

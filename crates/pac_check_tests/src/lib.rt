@@ -1,0 +1,6 @@
+//! Tests of the slots of checkpoints, by their public calls: worked bytes, damaged ones, and what a crash leaves of a save.
+//! It has no calls of its own.
+#![tactic(auto)]
+
+#[cfg(test)]
+mod slots;
