@@ -1,86 +1,14 @@
-// The top call over sources and sinks in memory.
+// `replay`, and words that name no command.
 ghost use Rattle.std.specs.Prelude.{Some};
 
-use pac_main::{WordsError, pacman, refuse_words};
-use pac_outside::{Devices, Failed, Gate, MemSink, MemSource, NoDisk, OpenGate, Sink, Source};
+use crate::running::{BANK, USAGE, of_operations, run_over, run_word};
+use pac_main::{WordsError, refuse_words};
+use pac_outside::{Failed, MemSink, MemSource, OpenGate, Sink};
 use std::alloc::Global;
-use std::sync::Wait;
-use std::sync::atomic::{AtomicU64, Ordering};
 use std::test::Fail;
-use std::thread::Threads;
-
-const USAGE: &str = "usage: pacman init, run, recover, explain, replay or stress\n";
 
 const ADD: &str =
     "table T(key int, v int);\nproc Add(k int, n int) { read a = T[k].v default 0; let b = a + n; put T[k] = (b); }\n---\n";
-
-// Accounts: a transfer to a spouse, and a deposit, of which a fiftieth goes to the savings where the account gets large.
-const BANK: &str =
-    "table Family(key int, spouse int);\ntable Current(key int, value int);\ntable Saving(key int, value int);\ntable Stats(key int, count int);\nproc Transfer(src int, amount int) {\n  read dst = Family[src].spouse default 0;\n  if dst != 0 {\n    read a = Current[src].value default 0;\n    put Current[src] = (a - amount);\n    read b = Current[dst].value default 0;\n    put Current[dst] = (b + amount);\n    read s = Saving[src].value default 0;\n    put Saving[src] = (s + 1);\n  }\n}\nproc Deposit(name int, amount int, nation int) {\n  read v = Current[name].value default 0;\n  put Current[name] = (v + amount);\n  if v + amount > 10000 {\n    read s = Saving[name].value default 0;\n    put Saving[name] = (s + v / 50);\n  }\n  read n = Stats[nation].count default 0;\n  put Stats[nation] = (n + 1);\n}\n---\n";
-
-// What the program answers: its status, how often it entered the gate, and what the output and the error sink took.
-#[derive(Drop)]
-struct Answer {
-    status: u8,
-    entered: u64,
-    output: MemSink,
-    errors: MemSink,
-}
-
-/// A gate that counts who enters it.
-#[derive(Drop)]
-struct Counting {
-    entered: AtomicU64,
-}
-
-impl Gate for Counting {
-    fn enter(&self, _worker: u32, _txn: u64, _block: u16) {
-        self.entered.fetch_add(1, Ordering::SeqCst);
-    }
-}
-
-// Runs the word over this outside, and answers the status.
-fn run_over<RT: Threads + Wait + Sync, I: Source, O: Sink, E: Sink, G: Gate + Sync>(
-    rt: &RT,
-    alloc: Global,
-    word: &str,
-    input: &mut I,
-    output: &mut O,
-    errors: &mut E,
-    gate: &G,
-) -> Result<u8, Fail> {
-    let words = [String::from_str(alloc, word)?];
-    let mut devices = Devices {
-        log: NoDisk::new(),
-        slot_a: NoDisk::new(),
-        slot_b: NoDisk::new(),
-    };
-    Ok(pacman(rt, alloc, &words, input, output, errors, &mut devices, gate))
-}
-
-// Runs the word over this input, where these calls of the input and of the output fail.
-fn run_word<RT: Threads + Wait + Sync>(
-    rt: &RT,
-    alloc: Global,
-    word: &str,
-    input: Vec<u8>,
-    bad_reads: Vec<u64>,
-    bad_writes: Vec<u64>,
-) -> Result<Answer, Fail> {
-    let mut input = MemSource::new(input, bad_reads);
-    let mut output = MemSink::new(Vec::new(alloc), bad_writes);
-    let mut errors = MemSink::new(Vec::with_capacity(alloc, 4096)?, Vec::new(alloc));
-    let gate = Counting {
-        entered: AtomicU64::new(0),
-    };
-    let status = run_over(rt, alloc, word, &mut input, &mut output, &mut errors, &gate)?;
-    Ok(Answer {
-        status,
-        entered: gate.entered.load(Ordering::SeqCst),
-        output,
-        errors,
-    })
-}
 
 // A text and another behind it.
 fn joined(alloc: Global, front: &str, behind: &str) -> Result<Vec<u8>, Fail> {
@@ -202,14 +130,14 @@ const ROWS: [Row; 37] = [
     ),
     (
         BANK,
-        "call Deposit(1, 10000, 7)",
+        "---\ncall Deposit(1, 10000, 7)",
         0,
         "table Family 0\ntable Current 1\n1 (10000)\ntable Saving 0\ntable Stats 1\n7 (1)\n",
         "",
     ),
     (
         BANK,
-        "call Deposit(1, 10500, 7)",
+        "---\ncall Deposit(1, 10500, 7)",
         0,
         "table Family 0\ntable Current 1\n1 (10500)\ntable Saving 1\n1 (0)\ntable Stats 1\n7 (1)\n",
         "",
@@ -382,13 +310,8 @@ fn a_longer_input_is_refused_before_its_catalogue(rt: HostRuntime) -> Result<(),
 #[test]
 fn too_many_operations_are_refused_before_the_lines(rt: HostRuntime) -> Result<(), Fail> {
     let alloc = rt.alloc();
-    let mut script = b"proc P(k int) {".to_vec(alloc)?;
-    for number in 0..257u32 {
-        script.extend_from_slice(b" let v")?;
-        script.extend_from_slice(number.to_string(alloc)?.as_bytes())?;
-        script.extend_from_slice(b" = k;")?;
-    }
-    script.extend_from_slice(b" }\n---\nno call\n")?;
+    let mut script = of_operations(alloc, 257)?;
+    script.extend_from_slice(b"\n---\nno call\n")?;
     let answer = run_word(
         &rt,
         alloc,
@@ -463,7 +386,7 @@ fn writes_all_to_sinks_of_one_byte_a_call(rt: HostRuntime) -> Result<(), Fail> {
         let answer = run_over(
             &rt,
             alloc,
-            "replay",
+            &["replay"],
             &mut input,
             &mut output,
             &mut errors,
@@ -502,7 +425,7 @@ fn a_failing_error_sink_changes_no_status(rt: HostRuntime) -> Result<(), Fail> {
             let answer = run_over(
                 &rt,
                 alloc,
-                word,
+                &[word],
                 &mut input,
                 &mut output,
                 &mut errors,

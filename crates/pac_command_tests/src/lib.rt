@@ -5,3 +5,7 @@
 
 #[cfg(test)]
 mod commands;
+#[cfg(test)]
+mod explain;
+#[cfg(test)]
+mod running;

@@ -122,7 +122,7 @@ fits_there procs call i proc args fits is_proc is_args found =
 pub fits_so : (procs : List Proc) (i : ℕ) (proc : Proc) (args : List Value) → slice_get procs i ≡ Some proc → FitParams proc.params args → IsSomeAnd (slice_get procs i) (λ (p : Proc). FitParams p.params args)
 fits_so procs i proc args found fit = subst (λ (o : Option Proc). IsSomeAnd o (λ (p : Proc). FitParams p.params args)) (sym found) fit
 
--- ---- what an option that is seen otherwise tells
+-- ---- what an option that is observed otherwise tells
 
 pub seen_none : {A B : Type 0} (f : A → B) (o : Option A) (r : Option B) (x : B) → option_map f o ≡ r → o ≡ None → r ≡ Some x → ⊥
 seen_none f None r x e none some = let clash = e ∙ some in absurd cc

@@ -12,8 +12,8 @@ use Rattle.pac_base.specs.Refusals.{Only}
 use Rattle.pac_base.specs.declared.refusal.Refusal.{Refusal}
 use Rattle.pac_base.specs.declared.refusal.Refusal.TheVariants as error
 use Rattle.pac_main.specs.declared.script_fault.ScriptFault.{ScriptFault}
-use Rattle.pac_main.specs.declared.command.InputError.{InputError}
-use Rattle.pac_main.specs.declared.command.InputError.TheVariants as input
+use Rattle.pac_main.specs.declared.input.InputError.{InputError}
+use Rattle.pac_main.specs.declared.input.InputError.TheVariants as input
 use Rattle.pac_main.specs.declared.stop.Stop.TheVariants as stop
 use Rattle.pac_main.specs.Inputs.{input_of_script}
 use Rattle.pac_main.specs.Stop.{stop_of_input}

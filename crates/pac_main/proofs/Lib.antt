@@ -7,4 +7,5 @@ pub mod ScriptLemmas
 pub mod OneRefusal
 pub mod InputLemmas
 pub mod StopLemmas
+pub mod ExplainLemmas
 pub mod BatchLemmas

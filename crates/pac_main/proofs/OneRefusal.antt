@@ -39,11 +39,11 @@ one_excess procs f g a b h k =
     λ i. Operations (names i) (counts i)
 
 -- an excess is none of the same catalogue where operations are few
-few_or_excess : (front : List ℕ) (c d : CatalogueState) (f : List ℕ) (a : ℕ) → HasCatalogue front c → HasCatalogue front d → HasFewOperations c.procs → IsExcess d.procs f a → ⊥
+pub few_or_excess : (front : List ℕ) (c d : CatalogueState) (f : List ℕ) (a : ℕ) → HasCatalogue front c → HasCatalogue front d → HasFewOperations c.procs → IsExcess d.procs f a → ⊥
 few_or_excess front c d f a h k few e = within-none d.procs e.number a (subst (λ (x : CatalogueState). HasFewOperations x.procs) (one_catalogue front c d h k) few) e.first.here
 
 -- what is told of a catalogue's text is one thing
-parts_once : (front : List ℕ) (f g : ScriptFault) → IsPartsFault front f → IsPartsFault front g → f ≡ g
+pub parts_once : (front : List ℕ) (f g : ScriptFault) → IsPartsFault front f → IsPartsFault front g → f ≡ g
 parts_once front (Catalogue f) (Catalogue g) h k = ap (λ (x : CatalogueFault). Catalogue x) (one_catalogue_fault front f g h k)
 parts_once front (Catalogue f) (Operations g b) h k = absurd (catalogue_or_fault front k.0 f k.1 h)
 parts_once front (Catalogue f) Refused h k = absurd (catalogue_or_fault front k.0 f k.1 h)

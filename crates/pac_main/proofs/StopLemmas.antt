@@ -41,3 +41,30 @@ refused_of (Aborted note) two = absurd (omega arith)
 refused_of InputFault two = absurd (omega arith)
 refused_of OutputFault two = absurd (omega arith)
 refused_of NoMemory two = absurd (omega arith)
+
+-- no stop has the status of a command that was done
+pub never_done : (stop : Stop) → status_of stop ≡ 0 → ⊥
+never_done Usage zero = omega (arith, zero)
+never_done (Script fault) zero = omega (arith, zero)
+never_done (Aborted note) zero = omega (arith, zero)
+never_done InputFault zero = omega (arith, zero)
+never_done OutputFault zero = omega (arith, zero)
+never_done NoMemory zero = omega (arith, zero)
+
+-- a stop with status 7 is that of the output
+pub output_of : (stop : Stop) → status_of stop ≡ 7 → stop ≡ OutputFault
+output_of OutputFault seven = refl
+output_of Usage seven = absurd (omega (arith, seven))
+output_of (Script fault) seven = absurd (omega (arith, seven))
+output_of (Aborted note) seven = absurd (omega (arith, seven))
+output_of InputFault seven = absurd (omega (arith, seven))
+output_of NoMemory seven = absurd (omega (arith, seven))
+
+-- a stop with status 6 is that of the input
+pub input_of : (stop : Stop) → status_of stop ≡ 6 → stop ≡ InputFault
+input_of InputFault six = refl
+input_of Usage six = absurd (omega (arith, six))
+input_of (Script fault) six = absurd (omega (arith, six))
+input_of (Aborted note) six = absurd (omega (arith, six))
+input_of OutputFault six = absurd (omega (arith, six))
+input_of NoMemory six = absurd (omega (arith, six))

@@ -4,8 +4,8 @@ use Rattle.pac_base.specs.declared.refusal.Refusal.TheVariants as refusal
 use Rattle.pac_outside.specs.declared.failed.ReadError.{ReadError}
 use Rattle.pac_outside.specs.declared.failed.ReadError.TheVariants as read
 use Rattle.pac_main.specs.declared.script_fault.ScriptFault.{ScriptFault}
-use Rattle.pac_main.specs.declared.command.InputError.{InputError}
-use Rattle.pac_main.specs.declared.command.InputError.TheVariants.{Failed, Script, NoMemory}
+use Rattle.pac_main.specs.declared.input.InputError.{InputError}
+use Rattle.pac_main.specs.declared.input.InputError.TheVariants.{Failed, Script, NoMemory}
 
 -- an input that isn't read failed, or there was no memory for it
 abbrev pub input_of_read : ReadError → InputError

@@ -4,5 +4,8 @@ pub mod CallsRead
 pub mod Requests
 pub mod Script
 pub mod Inputs
+pub mod Streams
 pub mod Stop
 pub mod Replay
+pub mod Explained
+pub mod Commands

@@ -1,9 +1,7 @@
--- What a replay of a script answers.
-use Rattle.std.specs.Prelude.{◌≡◌, ℕ, List, [], ◌∷◌, Option, IfSome, map, codes, String, string_bytes, ◌⊎◌, Result, Ok, Err}
+-- How `replay` ends.
+use Rattle.std.specs.Prelude.{◌≡◌, ℕ, List, [], ◌∷◌, Option, IfSome, map, codes, String, string_bytes, Result, Ok, Err}
 use Rattle.std.specs.Global.{Global}
 use Rattle.std.specs.FinMap.{empty}
-use Rattle.pac_outside.specs.Causes.{Rose}
-use Rattle.pac_outside.specs.Content.{Took, TookFront}
 use Rattle.pac_value.specs.State.{Tables}
 use Rattle.pac_ops.specs.declared.note.Note.{Note}
 use Rattle.pac_tables.specs.Joined.{Held}
@@ -14,6 +12,9 @@ use Rattle.pac_serial.specs.declared.serial.AllError.TheVariants.{Abort, NoMemor
 use Rattle.pac_report.specs.Dump.{tables_text}
 use Rattle.pac_main.specs.declared.script.Script.{Script}
 use Rattle.pac_main.specs.declared.script_fault.ScriptFault.{ScriptFault}
+use Rattle.pac_main.specs.declared.stop.Stop.TheVariants as stop
+use Rattle.pac_main.specs.Streams.{Observed, FaultsRose, IsTaken, IsFrontTaken, IsTold}
+use Rattle.pac_main.specs.Stop.{line_of, abort_line}
 use Rattle.pac_main.specs.Script.{IsScript, IsTheRefusal}
 
 -- the words are the one word `replay`
@@ -53,10 +54,6 @@ DoesEnd (Err NoMemory) meaning = Unit {0}
 abbrev pub dump : Script → Tables → List ℕ
 dump script tables = tables_text tables 0 script.catalogue.tables
 
--- the sink took the text, or its count of faults rose and it took a front of it
-abbrev pub TookUnlessFault : {S : Type 0} → (S → Option (List ℕ)) → (S → ℕ) → S → List ℕ → S → Type 0
-TookUnlessFault held faults old text new = Took (held old) text (held new) ⊎ (Rose (faults old) (faults new) × TookFront (held old) text (held new))
-
 -- the input is a script whose calls end with some tables, whose dump has this property
 abbrev pub IsDumpOf : Option (List ℕ) → (List ℕ → Type 0) → Type 0
 IsDumpOf input P = (script : Script) × (tables : Tables) × IsScriptOf script input × (outcome script ≡ Ok tables) × P (dump script tables)
@@ -64,3 +61,11 @@ IsDumpOf input P = (script : Script) × (tables : Tables) × IsScriptOf script i
 -- the input is a script whose calls abort so
 abbrev pub IsAbortOf : Option (List ℕ) → Note → Type 0
 IsAbortOf input note = (script : Script) × IsScriptOf script input × (outcome script ≡ Err note)
+
+-- how `replay` ends: a line for each status that it may have
+pub record ReplayEnds (status : ℕ) (input output errors : Observed) : Type 0 where
+  pub done : status ≡ 0 → IsDumpOf input.before (IsTaken output)
+  pub refused : status ≡ 2 → IsNoScript input.before × (fault : ScriptFault) × IsRefusedAs input.before fault × IsTold errors (line_of (stop.Script fault))
+  pub aborted : status ≡ 4 → (note : Note) × IsAbortOf input.before note × IsTold errors (abort_line note)
+  pub input_fault : status ≡ 6 → FaultsRose input
+  pub output_fault : status ≡ 7 → FaultsRose output × IsDumpOf input.before (IsFrontTaken output)

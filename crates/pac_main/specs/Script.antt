@@ -51,6 +51,12 @@ pub record IsExcess (procs : List Proc) (name : List ℕ) (count : ℕ) : Type 0
   pub first : IsFirstExcess procs number count
   pub named : option_map (λ proc. proc.name) (slice_get procs number) ≡ Some name
 
+-- the fault tells the first procedure at which operations are too many
+abbrev pub IsExcessFault : List Proc → ScriptFault → Type 0
+IsExcessFault procs (Catalogue fault) = ⊥
+IsExcessFault procs (Operations name count) = IsExcess procs name count
+IsExcessFault procs Refused = ⊥
+
 -- what is told of the text before the mark: its first fault, where it has no catalogue; where operations are too many in its
 -- catalogue, the first procedure at which they are
 abbrev pub IsPartsFault : List ℕ → ScriptFault → Type 0

@@ -8,8 +8,8 @@ use Rattle.pac_ops.specs.Reasons.{reason_name}
 use Rattle.pac_serial.specs.declared.serial.AllError.{AllError}
 use Rattle.pac_serial.specs.declared.serial.AllError.TheVariants as serial
 use Rattle.pac_main.specs.declared.script_fault.ScriptFault.TheVariants.{Catalogue, Operations, Refused}
-use Rattle.pac_main.specs.declared.command.InputError.{InputError}
-use Rattle.pac_main.specs.declared.command.InputError.TheVariants as input
+use Rattle.pac_main.specs.declared.input.InputError.{InputError}
+use Rattle.pac_main.specs.declared.input.InputError.TheVariants as input
 use Rattle.pac_main.specs.declared.stop.Stop.{Stop}
 use Rattle.pac_main.specs.declared.stop.Stop.TheVariants.{Usage, Script, Aborted, InputFault, OutputFault, NoMemory}
 use Rattle.pac_main.specs.declared.tell.WordsError.{WordsError}

@@ -3,11 +3,11 @@ ghost use Rattle.std.specs.Prelude.{◌≡◌, ℕ, List, Option, IfOk, IsOk, Is
 ghost use Rattle.pac_base.specs.Refusals.{OkUnlessMemory, Only};
 ghost use Rattle.pac_base.specs.declared.refusal.Refusal.TheVariants as error;
 ghost use Rattle.pac_types.specs.CatalogueText.{HasCatalogue};
-ghost use Rattle.pac_types.specs.OperationLimits.{HasFewOperations};
+ghost use Rattle.pac_types.specs.OperationLimits.{HasFewOperations, IsFirstExcess};
 ghost use Rattle.pac_types.specs.Typing.{CatalogueState};
 ghost use Rattle.pac_ops.specs.declared.transaction.Call.{Call as ACall};
 ghost use Rattle.pac_main.specs.Requests.{AreCalls};
-ghost use Rattle.pac_main.specs.Script.{IsScript, HasParts, IsPartsFault, IsRefusal, lines_behind};
+ghost use Rattle.pac_main.specs.Script.{IsScript, HasParts, IsExcessFault, IsPartsFault, IsRefusal, lines_behind};
 ghost use Rattle.pac_main.specs.declared.script.Script.{Script as AScript};
 ghost use Rattle.pac_main.specs.declared.script_fault.ScriptFault.{ScriptFault as AFault};
 
@@ -16,7 +16,7 @@ use crate::lines::find_mark;
 use crate::request::{LineError, ScriptCalls, read_calls};
 use crate::script_fault::{ScriptError, ScriptFault};
 use pac_base::Refusal;
-use pac_flat::test_operations;
+use pac_flat::{TooManyOps, test_operations};
 use pac_ops::Call;
 use pac_types::{Catalogue, read_catalogue};
 use std::alloc::Global;
@@ -55,7 +55,18 @@ fn with_calls(alloc: Global, catalogue: Catalogue, behind: &[u8]) -> Result<Scri
     }
 }
 
-// That the catalogue has few operations, or the name of the first procedure at which it has too many.
+// The name of the first procedure at which operations are too many, and how many they are.
+pub(crate) fn excess_fault(catalogue: &Catalogue, excess: TooManyOps) -> ScriptFault
+    requires { IsFirstExcess catalogue.now.procs excess.proc excess.count }
+    ensures { IsExcessFault catalogue.now.procs result }
+{
+    ScriptFault::Operations {
+        proc: catalogue.procs()[usize::from(excess.proc)].name,
+        count: excess.count,
+    }
+}
+
+// That the catalogue has few operations.
 fn test_limits(catalogue: &Catalogue) -> Result<(), ScriptFault>
     ensures few { IfOk result (λ _. HasFewOperations catalogue.now.procs) }
     ensures only { HasFewOperations catalogue.now.procs → IsOk result }
@@ -63,10 +74,7 @@ fn test_limits(catalogue: &Catalogue) -> Result<(), ScriptFault>
 {
     match test_operations(catalogue) {
         Ok(()) => Ok(()),
-        Err(excess) => Err(ScriptFault::Operations {
-            proc: catalogue.procs()[usize::from(excess.proc)].name,
-            count: excess.count,
-        }),
+        Err(excess) => Err(excess_fault(catalogue, excess)),
     }
 }
 

@@ -3,7 +3,7 @@ ghost use Rattle.std.specs.Prelude.{◌≡◌, IfOk, IsTrue, MatchOption};
 ghost use Rattle.pac_main.specs.Stop.{status_of, line_of, takes_memory, catalogue_line, operations_line, abort_line, stop_of_input, stop_of_serial};
 ghost use Rattle.pac_main.specs.declared.stop.Stop.TheVariants.{OutputFault, NoMemory as WantOfMemory};
 
-use crate::command::InputError;
+use crate::input::InputError;
 use crate::script_fault::ScriptFault;
 use pac_base::NoMemory;
 use pac_ops::Note;
@@ -18,7 +18,7 @@ use std::alloc::Global;
 pub enum Stop {
     /// The words name no command that runs.
     Usage,
-    /// The input is no script.
+    /// The input is no script, or its catalogue isn't explained.
     Script(ScriptFault),
     /// This operation of this transaction aborts.
     Aborted(Note),

@@ -1,7 +1,7 @@
 // What the error sink is told, and the status behind it.
 ghost use Rattle.std.specs.Prelude.{◌≡◌, ◌⊎◌, IfOk, MatchOption, IsTrue, false, if◌then◌else◌};
 ghost use Rattle.std.specs.Result.{is_ok};
-ghost use Rattle.pac_main.specs.Replay.{TookUnlessFault};
+ghost use Rattle.pac_main.specs.Streams.{observed, IsTold};
 ghost use Rattle.pac_main.specs.Stop.{status_of, line_of, takes_memory, stop_of_words};
 
 use crate::script_fault::ScriptFault;
@@ -37,7 +37,7 @@ impl From<WordsError> for Stop {
 /// failing error sink doesn't change it.
 pub fn refuse_words<E: Sink>(error: WordsError, errors: &mut E) -> u8
     ensures status { result ≡ status_of (stop_of_words error) }
-    ensures told { TookUnlessFault E.held E.faults errors.old (line_of (stop_of_words error)) errors.new }
+    ensures told { IsTold (observed E.held E.faults errors.old errors.new) (line_of (stop_of_words error)) }
 {
     told_text(&Stop::from(error), errors);
     Stop::from(error).status()
@@ -46,7 +46,7 @@ pub fn refuse_words<E: Sink>(error: WordsError, errors: &mut E) -> u8
 // Tells the error sink the stop's line, which is one text.
 fn told_text<E: Sink>(stop: &Stop, errors: &mut E)
     requires { takes_memory stop.now ≡ false }
-    ensures line { TookUnlessFault E.held E.faults errors.old (line_of stop.now) errors.new }
+    ensures line { IsTold (observed E.held E.faults errors.old errors.new) (line_of stop.now) }
 {
     if let Some(line) = stop.line() {
         let _ = write_all(errors, line);
@@ -57,7 +57,7 @@ fn told_text<E: Sink>(stop: &Stop, errors: &mut E)
 fn told_made<E: Sink>(stop: Stop, made: Result<Vec<u8>, NoMemory>, errors: &mut E) -> Stop
     requires { IfOk made (λ line. line.items ≡ line_of stop) }
     ensures which { result ≡ (if is_ok made then stop else Stop.NoMemory) }
-    ensures line { TookUnlessFault E.held E.faults errors.old (line_of result) errors.new }
+    ensures line { IsTold (observed E.held E.faults errors.old errors.new) (line_of result) }
 {
     match made {
         Ok(line) => {
@@ -88,7 +88,7 @@ fn made_line(alloc: Global, stop: &Stop) -> Option<Result<Vec<u8>, NoMemory>>
 /// Tells the error sink why the command stopped, and answers that, or that there was no memory for its line.
 pub fn told<E: Sink>(alloc: Global, stop: Stop, errors: &mut E) -> Stop
     ensures which { (result ≡ stop) ⊎ ((result ≡ Stop.NoMemory) × IsTrue (takes_memory stop)) }
-    ensures line { TookUnlessFault E.held E.faults errors.old (line_of result) errors.new }
+    ensures line { IsTold (observed E.held E.faults errors.old errors.new) (line_of result) }
 {
     match made_line(alloc, &stop) {
         Some(made) => told_made(stop, made, errors),

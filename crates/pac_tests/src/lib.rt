@@ -15,8 +15,6 @@ mod entries;
 #[cfg(test)]
 mod flat;
 #[cfg(test)]
-mod graph_texts;
-#[cfg(test)]
 mod notes;
 #[cfg(test)]
 mod plans;

@@ -1,6 +1,7 @@
 // A procedure of which each kind of operation aborts once: the abort of its calls, and the first note that its flat form
 // leaves.
-ghost use Rattle.std.specs.Prelude.{IfOk};
+ghost use Rattle.std.specs.Prelude.{◌≡◌, IfOk, length};
+ghost use Rattle.std.specs.List.{AllByRecursion};
 ghost use Rattle.pac_types.specs.Fits.{TxnFits};
 
 use crate::bank::catalogue;
@@ -26,26 +27,20 @@ const EACH_KIND: &[u8] = b"table T(key int, v int);
         delete T[9223372036854775800 + k];
     }";
 
-// A transaction that runs in flat form: bools are 0 and 1, and of the one table it keeps the keys, since no note of this
-// procedure depends on a column.
+// A transaction that runs in flat form. Bools are 0 and 1. Of the one table it keeps the key that is put, since no note of
+// this procedure depends on a column, and each call begins with no rows.
 #[derive(Drop)]
 struct Running {
-    values: Vec<Option<i64>>,
-    keys: Vec<i64>,
+    values: [Option<i64>; 16],
+    put: Option<i64>,
 }
 
 impl Running {
     // Before the first operation of a call with one argument.
-    fn new(alloc: Global, program: &Program, argument: i64) -> Result<Running, NoMemory> {
-        let mut values = Vec::new(alloc);
-        values.push(Some(argument))?;
-        for _ in 1..program.vars.as_slice().len() {
-            values.push(None)?;
-        }
-        Ok(Running {
-            values,
-            keys: Vec::new(alloc),
-        })
+    fn new(argument: i64) -> Running {
+        let mut values = [None; 16];
+        values[0] = Some(argument);
+        Running { values, put: None }
     }
 
     fn get(&self, var: u16) -> Option<i64> {
@@ -59,19 +54,28 @@ impl Running {
             Expr::Lit(Value::Bool(truth)) => Ok(i64::from(*truth)),
             Expr::Var(var) => Ok(self.get(*var).unwrap_or(0)),
             Expr::Bin { op, left, right } => {
-                let first = self.value(left.get())?;
-                let second = self.value(right.get())?;
-                match op {
-                    BinOp::Add => first.checked_add(second).ok_or(Reason::Overflow),
-                    BinOp::Sub => first.checked_sub(second).ok_or(Reason::Overflow),
-                    BinOp::Div if second == 0 => Err(Reason::DivZero),
-                    BinOp::Div => first.checked_div(second).ok_or(Reason::Overflow),
-                    BinOp::Ne => Ok(i64::from(first != second)),
-                    _ => Ok(i64::from(first == second)),
-                }
+                let left = self.value(left.get())?;
+                combined(*op, left, self.value(right.get())?)
             }
             _ => Ok(0),
         }
+    }
+
+    // The variable that an operation defines, and its value.
+    fn defined(&self, kind: &OpKind) -> Option<(u16, Result<i64, Reason>)> {
+        match kind {
+            OpKind::Let { var, value } | OpKind::Cond { var, test: value } => {
+                Some((*var, self.value(value)))
+            }
+            OpKind::Read { var, key, .. } => Some((*var, self.value(key).map(|_| 0))),
+            OpKind::Has { var, key, .. } => Some((*var, self.has(key))),
+            _ => None,
+        }
+    }
+
+    fn has(&self, key: &Expr) -> Result<i64, Reason> {
+        let key = self.value(key)?;
+        Ok(i64::from(self.put == Some(key)))
     }
 
     // Gives a variable its value, or the default of its type.
@@ -82,82 +86,86 @@ impl Running {
         value.map(|_| ())
     }
 
-    // What an operation does whose conditions hold.
-    fn make(&mut self, kind: &OpKind) -> Result<Result<(), Reason>, NoMemory> {
-        Ok(match kind {
-            OpKind::Let { var, value } | OpKind::Cond { var, test: value } => {
-                let value = self.value(value);
-                self.give(*var, value)
-            }
-            OpKind::Read { var, key, .. } => {
-                let value = self.value(key).map(|_| 0);
-                self.give(*var, value)
-            }
-            OpKind::Has { var, key, .. } => {
-                let value = self
-                    .value(key)
-                    .map(|key| i64::from(self.keys.contains(&key)));
-                self.give(*var, value)
-            }
-            OpKind::Put { key, values, .. } => return self.put(key, values.as_slice()),
-            OpKind::SetCol { key, value, .. } => match self.value(key) {
-                Err(reason) => Err(reason),
-                Ok(key) if !self.keys.contains(&key) => Err(Reason::Missing),
-                Ok(_) => self.value(value).map(|_| ()),
-            },
-            OpKind::Delete { key, .. } => self
-                .value(key)
-                .map(|key| self.keys.retain(|k| *k != key)),
-            OpKind::AbortIf { test } => match self.value(test) {
-                Err(reason) => Err(reason),
-                Ok(0) => Ok(()),
-                Ok(_) => Err(Reason::Asked),
-            },
-        })
-    }
-
-    fn put(&mut self, key: &Expr, values: &[Expr]) -> Result<Result<(), Reason>, NoMemory> {
-        let key = match self.value(key) {
-            Ok(key) => key,
-            Err(reason) => return Ok(Err(reason)),
-        };
+    fn put(&mut self, key: &Expr, values: &[Expr]) -> Result<(), Reason> {
+        let key = self.value(key)?;
         for value in values {
-            if let Err(reason) = self.value(value) {
-                return Ok(Err(reason));
-            }
+            self.value(value)?;
         }
-        self.keys.push(key)?;
-        Ok(Ok(()))
+        self.put = Some(key);
+        Ok(())
     }
 
-    fn step(&mut self, op: &FlatOp) -> Result<Result<(), Reason>, NoMemory> {
-        for (var, truth) in op.conds.as_slice() {
+    fn set(&self, key: &Expr, value: &Expr) -> Result<(), Reason> {
+        let key = self.value(key)?;
+        if self.put != Some(key) {
+            return Err(Reason::Missing);
+        }
+        self.value(value).map(|_| ())
+    }
+
+    fn abort_if(&self, test: &Expr) -> Result<(), Reason> {
+        match self.value(test)? {
+            0 => Ok(()),
+            _ => Err(Reason::Asked),
+        }
+    }
+
+    // What an operation does that defines no variable. A delete is the last one here, and no row is looked for behind it.
+    fn change(&mut self, kind: &OpKind) -> Result<(), Reason> {
+        match kind {
+            OpKind::Put { key, values, .. } => self.put(key, values.as_slice()),
+            OpKind::SetCol { key, value, .. } => self.set(key, value),
+            OpKind::Delete { key, .. } => self.value(key).map(|_| ()),
+            OpKind::AbortIf { test } => self.abort_if(test),
+            _ => Ok(()),
+        }
+    }
+
+    // Whether the conditions hold.
+    fn meets(&self, conds: &[(u16, bool)]) -> bool {
+        for (var, truth) in conds {
             if self.get(*var) != Some(i64::from(*truth)) {
-                return Ok(Ok(()));
+                return false;
             }
         }
-        self.make(&op.kind)
+        true
+    }
+
+    fn step(&mut self, op: &FlatOp) -> Result<(), Reason> {
+        if !self.meets(op.conds.as_slice()) {
+            return Ok(());
+        }
+        match self.defined(&op.kind) {
+            Some((var, value)) => self.give(var, value),
+            None => self.change(&op.kind),
+        }
+    }
+}
+
+// What an operator gives.
+fn combined(op: BinOp, left: i64, right: i64) -> Result<i64, Reason> {
+    match op {
+        BinOp::Add => left.checked_add(right).ok_or(Reason::Overflow),
+        BinOp::Sub => left.checked_sub(right).ok_or(Reason::Overflow),
+        BinOp::Div if right == 0 => Err(Reason::DivZero),
+        BinOp::Div => left.checked_div(right).ok_or(Reason::Overflow),
+        BinOp::Ne => Ok(i64::from(left != right)),
+        _ => Ok(i64::from(left == right)),
     }
 }
 
 // The first note of a call with one argument: all operations are run, and none stops those behind it.
-fn first_note(
-    alloc: Global,
-    program: &Program,
-    argument: i64,
-) -> Result<Option<(u16, Reason)>, NoMemory> {
-    let mut running = Running::new(alloc, program, argument)?;
+fn first_note(program: &Program, argument: i64) -> Option<(u16, Reason)> {
+    let mut running = Running::new(argument);
     let mut first = None;
     let mut number: u16 = 0;
     for op in program.ops.as_slice() {
-        if let Err(reason) = running.step(op)? {
-            if first.is_none() {
-                first = Some((number, reason));
-            }
+        if let Err(reason) = running.step(op) {
+            first = first.or(Some((number, reason)));
         }
         number = number.saturating_add(1);
     }
-    Ok(first)
+    first
 }
 
 // A call of the first procedure with one int, by its entry.
@@ -176,18 +184,32 @@ fn call(alloc: Global, cat: &Catalogue, argument: i64) -> Result<Txn, Fail>
     }
 }
 
-// How the interpreter ends such a call.
-fn abort(alloc: Global, cat: &Catalogue, argument: i64) -> Result<Option<(u16, Reason)>, Fail> {
-    let mut rows = no_rows(alloc, cat)?;
-    let batch = Batch {
+// A batch of one such call.
+fn batch(alloc: Global, cat: &Catalogue, argument: i64) -> Result<Batch, Fail>
+    ensures fit { IfOk result (λ batch. AllByRecursion (TxnFits cat.now) batch.txns) }
+    ensures numbers { IfOk result (λ batch. (batch.first ≡ 1) × (length batch.txns ≡ 1)) }
+{
+    let txn = call(alloc, cat, argument)?;
+    Ok(Batch {
         first: 1,
-        txns: Txns::of(vec![in alloc; call(alloc, cat, argument)?]?),
-    };
-    match exec_all(alloc, cat, &batch, &mut rows) {
+        txns: Txns::of(vec![in alloc; txn]?),
+    })
+}
+
+// The operation and the reason of an abort.
+fn note_of(ended: Result<(), AllError>) -> Result<Option<(u16, Reason)>, Fail> {
+    match ended {
         Ok(()) => Ok(None),
         Err(AllError::Abort(note)) => Ok(Some((note.op, note.reason))),
         Err(AllError::NoMemory) => Err(Fail::from(NoMemory)),
     }
+}
+
+// How the interpreter ends such a call.
+fn abort(alloc: Global, cat: &Catalogue, argument: i64) -> Result<Option<(u16, Reason)>, Fail> {
+    let mut rows = no_rows(alloc, cat)?;
+    let batch = batch(alloc, cat, argument)?;
+    note_of(exec_all(alloc, cat, &batch, &mut rows))
 }
 
 #[test]
@@ -211,7 +233,7 @@ fn each_kind_of_operation_leaves_its_note(rt: HostRuntime) -> Result<(), Fail> {
     ];
     for (argument, note) in rows {
         assert_eq!(rt; abort(alloc, &cat, argument)?, note);
-        assert_eq!(rt; first_note(alloc, program, argument)?, note);
+        assert_eq!(rt; first_note(program, argument), note);
     }
     Ok(())
 }

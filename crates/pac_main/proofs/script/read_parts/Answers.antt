@@ -9,7 +9,7 @@ use Rattle.pac_main.proofs.InputLemmas.{no_fault_is_memory, told_is}
 use Rattle.pac_main.proofs.ScriptLemmas.{calls-over, script-same, parts-of}
 use Rattle.pac_types.specs.Typing.{CatalogueState}
 use Rattle.pac_types.specs.OperationLimits.{HasFewOperations}
-use Rattle.std.specs.Prelude.{IsOk, Result}
+use Rattle.std.specs.Prelude.{IsOk}
 use Rattle.pac_main.proofs.script.read_parts.Goals as goal
 
 not_ok : (T : Type 0) (f : ScriptFault) → IsOk {T = T} {E = ScriptFault} (Err f) → ⊥

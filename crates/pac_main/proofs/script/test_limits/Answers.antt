@@ -1,39 +1,23 @@
--- The first procedure at which operations are too many is one of the catalogue's.
-use Rattle.std.proofs.Common.{◌≡◌, ℕ, ◌<◌, List, length, get_or, Some, Result, Err, refl, sym, ap, subst, ◌∙◌, arith}
-use Rattle.std.specs.Prelude.{slice_get}
-use Rattle.std.specs.Option.{option_map}
-use Rattle.std.proofs.lemmas.Option.{slice_get-get_or}
-use Rattle.pac_types.specs.declared.procedure.Proc.{Proc}
-use Rattle.pac_types.specs.OperationLimits.{IsFirstExcess}
-use Rattle.pac_flat.proofs.ExcessLemmas.{excess_within}
+-- A fault that tells an excess is that of each text that has the catalogue.
+use Rattle.std.proofs.Common.{◌≡◌, List, ℕ, Result, Err, refl, subst}
+use Rattle.pac_types.specs.Typing.{CatalogueState}
+use Rattle.pac_types.specs.CatalogueText.{HasCatalogue}
 use Rattle.pac_main.specs.declared.script_fault.ScriptFault.{ScriptFault}
-use Rattle.pac_main.specs.Script.{IsExcess, IsPartsFault}
+use Rattle.pac_main.specs.declared.script_fault.ScriptFault.TheVariants.{Catalogue, Operations, Refused}
+use Rattle.pac_main.specs.Script.{IsExcessFault, IsPartsFault}
 use Rattle.pac_main.proofs.script.test_limits.Goals as goal
-
-within : (procs shown : List Proc) (n k count : ℕ) → shown ≡ procs → k ≡ n → IsFirstExcess procs n count → k < length shown
-within procs shown n k count same at first =
-    let lt : n < length procs = excess_within procs n count first.here in
-    let long : length shown ≡ length procs = ap length same in
-    omega (arith, lt, at, long)
-
-named : (procs shown : List Proc) (n k count : ℕ) (proc : Proc) → shown ≡ procs → k ≡ n → IsFirstExcess procs n count → IsExcess procs (get_or shown k proc).name count
-named procs shown n k count proc same at first = record {
-  number = n;
-  first = first;
-  named = ap (option_map (λ (p : Proc). p.name)) (slice_get-get_or procs n proc (excess_within procs n count first.here))
-      ∙ sym (ap (λ (xs : List Proc). Some (get_or xs k proc).name) same ∙ ap (λ (i : ℕ). Some (get_or procs i proc).name) at);
-}
 
 told : {T : Type 0} (f g : ScriptFault) → ◌≡◌ {A = Result T ScriptFault} (Err f) (Err g) → f ≡ g
 told f g h = cc
 
-pub bounds-procs-from : goal.bounds-procs-from
-bounds-procs-from c = within c.args.catalogue.now.procs _ _ _ _ c.procs.ensures.value c.from.ensures (c.in-Err.ensures.fault c.in-Err.excess refl)
+of_text : (front : List ℕ) (catalogue : CatalogueState) (fault : ScriptFault) → HasCatalogue front catalogue → IsExcessFault catalogue.procs fault → IsPartsFault front fault
+of_text front catalogue (Operations name count) has is = (catalogue, has, is)
+of_text front catalogue (Catalogue fault) has is = absurd is
+of_text front catalogue Refused has is = absurd is
 
-pub bounds-procs-from-in-Err : goal.bounds-procs-from-in-Err
-bounds-procs-from-in-Err c = within c.args.catalogue.now.procs _ _ _ _ c.procs.ensures.value c.from.ensures (c.in-Err.ensures.fault c.in-Err.excess refl)
+pub excess_fault-requires : goal.excess_fault-requires
+excess_fault-requires c = c.in-Err.ensures.fault c.in-Err.excess refl
 
 pub returns-in-Err-clause-fault : goal.returns-in-Err-clause-fault
 returns-in-Err-clause-fault c = λ front has fault is.
-    subst (λ (f : ScriptFault). IsPartsFault front f) (told _ fault is)
-    (c.args.catalogue.now, has, named c.args.catalogue.now.procs c.procs.result.now c.in-Err.excess.proc c.from.result c.in-Err.excess.count c.index-procs-from.result c.procs.ensures.value c.from.ensures (c.in-Err.ensures.fault c.in-Err.excess refl))
+    subst (λ (f : ScriptFault). IsPartsFault front f) (told _ fault is) (of_text front c.args.catalogue.now c.excess_fault.result has c.excess_fault.ensures)

@@ -2,10 +2,10 @@
 use Rattle.std.proofs.Common.{◌∙◌, sym, ap, subst, List, ℕ}
 use Rattle.std.proofs.Common.{Err}
 use Rattle.std.proofs.lemmas.Result.{err_from_is_err_and}
-use Rattle.pac_main.specs.declared.command.InputError.TheVariants.{Script}
+use Rattle.pac_main.specs.declared.input.InputError.TheVariants.{Script}
 use Rattle.pac_main.specs.Script.{IsScript, IsRefusal}
 use Rattle.pac_main.proofs.InputLemmas.{input-none, input-script, input-refused, no_script_of, fault_of_script, err_is, calls-fit}
-use Rattle.pac_main.proofs.command.read_input.Goals as goal
+use Rattle.pac_main.proofs.replay.read_input.Goals as goal
 
 pub returns-in_err-read_script-clause-refused : goal.returns-in_err-read_script-clause-refused
 returns-in_err-read_script-clause-refused g c =

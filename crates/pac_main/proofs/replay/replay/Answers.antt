@@ -3,10 +3,8 @@ use Rattle.std.proofs.lemmas.Result.{err_from_is_err_and}
 use Rattle.pac_main.specs.declared.stop.Stop.TheVariants.{Script}
 use Rattle.pac_main.proofs.InputLemmas.{fault_of_input, err_is}
 use Rattle.pac_outside.specs.Content.{Took, TookFront}
-use Rattle.pac_types.specs.declared.table.Table.{Table}
-use Rattle.pac_report.specs.Dump.{tables_text}
 use Rattle.pac_main.specs.Replay.{dump}
-use Rattle.pac_main.proofs.command.replay.Goals as goal
+use Rattle.pac_main.proofs.replay.replay.Goals as goal
 
 pub returns-in_err-write_all-clause-front : goal.returns-in_err-write_all-clause-front
 returns-in_err-write_all-clause-front g c = λ is.

@@ -1,0 +1,114 @@
+// Runs the top call over streams in memory.
+use pac_main::pacman;
+use pac_outside::{Devices, Gate, MemSink, MemSource, NoDisk, Sink, Source};
+use std::alloc::Global;
+use std::sync::Wait;
+use std::sync::atomic::{AtomicU64, Ordering};
+use std::test::Fail;
+use std::thread::Threads;
+
+pub const USAGE: &str = "usage: pacman init, run, recover, explain, replay or stress\n";
+
+// Accounts: a transfer to a spouse, and a deposit, of which a fiftieth goes to the savings where the account gets large. The
+// text is canonical.
+pub const BANK: &str =
+    "table Family(key int, spouse int);\ntable Current(key int, value int);\ntable Saving(key int, value int);\ntable Stats(key int, count int);\nproc Transfer(src int, amount int) {\n  read dst = Family[src].spouse default 0;\n  if dst != 0 {\n    read a = Current[src].value default 0;\n    put Current[src] = (a - amount);\n    read b = Current[dst].value default 0;\n    put Current[dst] = (b + amount);\n    read s = Saving[src].value default 0;\n    put Saving[src] = (s + 1);\n  }\n}\nproc Deposit(name int, amount int, nation int) {\n  read v = Current[name].value default 0;\n  put Current[name] = (v + amount);\n  if v + amount > 10000 {\n    read s = Saving[name].value default 0;\n    put Saving[name] = (s + v / 50);\n  }\n  read n = Stats[nation].count default 0;\n  put Stats[nation] = (n + 1);\n}\n";
+
+// What the program answers: its status, how often it entered the gate, and what the output and the error sink took.
+#[derive(Drop)]
+pub struct Answer {
+    pub status: u8,
+    pub entered: u64,
+    pub output: MemSink,
+    pub errors: MemSink,
+}
+
+/// A gate that counts who enters it.
+#[derive(Drop)]
+struct Counting {
+    entered: AtomicU64,
+}
+
+impl Gate for Counting {
+    fn enter(&self, _worker: u32, _txn: u64, _block: u16) {
+        self.entered.fetch_add(1, Ordering::SeqCst);
+    }
+}
+
+// Runs the words over this outside, and answers the status.
+pub fn run_over<RT: Threads + Wait + Sync, I: Source, O: Sink, E: Sink, G: Gate + Sync>(
+    rt: &RT,
+    alloc: Global,
+    words: &[&str],
+    input: &mut I,
+    output: &mut O,
+    errors: &mut E,
+    gate: &G,
+) -> Result<u8, Fail> {
+    let mut list = Vec::with_capacity(alloc, words.len())?;
+    for word in words {
+        list.push(String::from_str(alloc, word)?)?;
+    }
+    let mut devices = Devices {
+        log: NoDisk::new(),
+        slot_a: NoDisk::new(),
+        slot_b: NoDisk::new(),
+    };
+    Ok(pacman(rt, alloc, &list, input, output, errors, &mut devices, gate))
+}
+
+// Runs the word over this input, where these calls of the input and of the output fail.
+pub fn run_word<RT: Threads + Wait + Sync>(
+    rt: &RT,
+    alloc: Global,
+    word: &str,
+    input: Vec<u8>,
+    bad_reads: Vec<u64>,
+    bad_writes: Vec<u64>,
+) -> Result<Answer, Fail> {
+    run_words(rt, alloc, &[word], input, bad_reads, bad_writes)
+}
+
+// The same for any words.
+pub fn run_words<RT: Threads + Wait + Sync>(
+    rt: &RT,
+    alloc: Global,
+    words: &[&str],
+    input: Vec<u8>,
+    bad_reads: Vec<u64>,
+    bad_writes: Vec<u64>,
+) -> Result<Answer, Fail> {
+    let mut input = MemSource::new(input, bad_reads);
+    let mut output = MemSink::new(Vec::new(alloc), bad_writes);
+    let mut errors = MemSink::new(Vec::with_capacity(alloc, 4096)?, Vec::new(alloc));
+    let gate = Counting {
+        entered: AtomicU64::new(0),
+    };
+    let status = run_over(
+        rt,
+        alloc,
+        words,
+        &mut input,
+        &mut output,
+        &mut errors,
+        &gate,
+    )?;
+    Ok(Answer {
+        status,
+        entered: gate.entered.load(Ordering::SeqCst),
+        output,
+        errors,
+    })
+}
+
+// The text of a catalogue of one procedure, of so many operations.
+pub fn of_operations(alloc: Global, count: u32) -> Result<Vec<u8>, Fail> {
+    let mut text = b"proc P(k int) {".to_vec(alloc)?;
+    for number in 0..count {
+        text.extend_from_slice(b" let v")?;
+        text.extend_from_slice(number.to_string(alloc)?.as_bytes())?;
+        text.extend_from_slice(b" = k;")?;
+    }
+    text.extend_from_slice(b" }")?;
+    Ok(text)
+}

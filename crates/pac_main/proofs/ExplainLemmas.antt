@@ -1,0 +1,105 @@
+-- What is said of a tree, and of the bytes that were read, is said of the text and of the input.
+use Rattle.std.proofs.Common.{◌≡◌, ◌≤◌, ◌<◌, ◌+◌, ℕ, add-one, take, get_or, Bool, List, [], ◌∷◌, ◌++◌, length, Option, Some, None, Result, Ok, Err, Vec, Global, IfOk, IfSome, sym, ap, subst, ◌∙◌, arith, length-append, append-nil, inl, inr}
+use Rattle.std.specs.List.{AllZip}
+use Rattle.std.proofs.Math.Seq.{take-suc}
+use Rattle.std.specs.Io.KnownBytes.{prepend_known}
+use Rattle.pac_outside.specs.Content.{Gave, IsAtEnd}
+use Rattle.pac_ops.specs.declared.program.Program.{Program}
+use Rattle.pac_slice.specs.declared.local_graph.LocalGraph.{LocalGraph}
+use Rattle.pac_slice.specs.Slices.{AreSlices}
+use Rattle.pac_syntax.specs.declared.tree.Tree.{Tree}
+use Rattle.pac_syntax.specs.Reading.{Reads}
+use Rattle.pac_types.specs.declared.text.CatalogueFault.TheVariants.{Syntax, Typing}
+use Rattle.pac_types.specs.Typing.{CatalogueState, Types}
+use Rattle.pac_types.specs.CatalogueText.{HasCatalogue}
+use Rattle.pac_types.proofs.OneCatalogue.{catalogue_or_fault}
+use Rattle.pac_main.specs.declared.script_fault.ScriptFault.{ScriptFault}
+use Rattle.pac_main.specs.declared.script_fault.ScriptFault.TheVariants.{Catalogue, Operations, Refused}
+use Rattle.pac_main.specs.Script.{IsExcessFault, IsPartsFault}
+use Rattle.pac_main.specs.Explained.{AreSlicesOf, IsTreeExplanation, IsExplanation, IsUnexplainedTree, IsUnexplained, IsTheCause, IsUnexplainedAs}
+use Rattle.pac_main.proofs.OneRefusal.{parts_once, few_or_excess}
+
+-- ---- a tree and its text
+
+pub explained_text : {F : Type 0} (with_text : Bool) (text : List ℕ) (tree : Tree) (r : Result (Vec ℕ Global) F) → Reads text tree → IfOk r (λ written. IsTreeExplanation with_text tree written.items) → IfOk r (λ written. IsExplanation with_text text written.items)
+explained_text {F} with_text text tree (Ok written) reads is = (tree, reads, is)
+explained_text {F} with_text text tree (Err e) reads is = tt
+
+pub unexplained_text : (text : List ℕ) (tree : Tree) (fault : ScriptFault) → Reads text tree → IsUnexplainedTree tree fault → IsUnexplained text fault
+unexplained_text text tree (Catalogue (Syntax f)) reads is = absurd is
+unexplained_text text tree (Catalogue (Typing f)) reads is = record { tree = tree; reads = reads; first = is }
+unexplained_text text tree (Operations name count) reads is = (is.0, record { tree = tree; reads = reads; typed = is.1 }, is.2)
+unexplained_text text tree Refused reads is = absurd is
+
+-- ---- what was read and the input
+
+explained_known : (with_text : Bool) (items written : List ℕ) (new : Option (List ℕ)) → (length items ≤ 65536 → IsAtEnd new) → IsExplanation with_text items written → IfSome (prepend_known items new) (λ text. IsExplanation with_text text written)
+explained_known with_text items written None at_end is = tt
+explained_known with_text items written (Some rest) at_end is =
+    subst (λ (text : List ℕ). IsExplanation with_text text written) (sym (ap (λ (r : List ℕ). items ++ r) (at_end is.1.short) ∙ append-nil items)) is
+
+pub input-explained : (with_text : Bool) (old new : Option (List ℕ)) (items written : List ℕ) → Gave old items new → (length items ≤ 65536 → IsAtEnd new) → IsExplanation with_text items written → IfSome old (λ text. IsExplanation with_text text written)
+input-explained with_text old new items written gave at_end is =
+    subst (λ (o : Option (List ℕ)). IfSome o (λ text. IsExplanation with_text text written)) (sym gave) (explained_known with_text items written new at_end is)
+
+same_text : (items rest : List ℕ) (fault : ScriptFault) → rest ≡ [] → IsUnexplained items fault → IsUnexplained (items ++ rest) fault
+same_text items rest fault end is = subst (λ (text : List ℕ). IsUnexplained text fault) (sym (ap (λ (r : List ℕ). items ++ r) end ∙ append-nil items)) is
+
+unexplained_longer : (items rest : List ℕ) (fault : ScriptFault) → (length items ≤ 65536 → rest ≡ []) → IsUnexplained items fault → IsUnexplained (items ++ rest) fault
+unexplained_longer items rest (Catalogue (Syntax f)) at_end (inl long) = inl (omega (arith, length-append items rest, long.0), long.1)
+unexplained_longer items rest (Catalogue (Syntax f)) at_end (inr h) = same_text items rest (Catalogue (Syntax f)) (at_end h.0) (inr h)
+unexplained_longer items rest (Catalogue (Typing f)) at_end h = same_text items rest (Catalogue (Typing f)) (at_end h.reads.short) h
+unexplained_longer items rest (Operations name count) at_end h = same_text items rest (Operations name count) (at_end h.1.reads.short) h
+unexplained_longer items rest Refused at_end h = absurd h
+
+-- ---- one cause
+
+as_parts_fault : (text : List ℕ) (fault : ScriptFault) → IsUnexplained text fault → IsPartsFault text fault
+as_parts_fault text (Catalogue fault) h = h
+as_parts_fault text (Operations name count) h = h
+as_parts_fault text Refused h = absurd h
+
+has_catalogue : (with_text : Bool) (text written : List ℕ) (e : IsExplanation with_text text written) → HasCatalogue text e.2.catalogue
+has_catalogue with_text text written e = record { tree = e.0; reads = e.1; typed = e.2.typed }
+
+not_explained : (text : List ℕ) (fault : ScriptFault) (with_text : Bool) (written : List ℕ) → IsUnexplained text fault → IsExplanation with_text text written → ⊥
+not_explained text (Catalogue fault) with_text written h e = catalogue_or_fault text e.2.catalogue fault (has_catalogue with_text text written e) h
+not_explained text (Operations name count) with_text written h e = few_or_excess text e.2.catalogue h.0 name count (has_catalogue with_text text written e) h.1 e.2.is_graph.2.few h.2
+not_explained text Refused with_text written h e = h
+
+pub the_cause : (text : List ℕ) (fault : ScriptFault) → IsUnexplained text fault → IsTheCause text fault
+the_cause text fault h = record {
+  is = h;
+  only = λ other k. parts_once text other fault (as_parts_fault text other k) (as_parts_fault text fault h);
+  none = λ with_text written e. not_explained text fault with_text written h e;
+}
+
+unexplained_known : (items : List ℕ) (new : Option (List ℕ)) (fault : ScriptFault) → (length items ≤ 65536 → IsAtEnd new) → IsUnexplained items fault → IsUnexplainedAs (prepend_known items new) fault
+unexplained_known items None fault at_end is = tt
+unexplained_known items (Some rest) fault at_end is = the_cause (items ++ rest) fault (unexplained_longer items rest fault at_end is)
+
+pub input-unexplained : (old new : Option (List ℕ)) (items : List ℕ) (fault : ScriptFault) → Gave old items new → (length items ≤ 65536 → IsAtEnd new) → IsUnexplained items fault → IsUnexplainedAs old fault
+input-unexplained old new items fault gave at_end is = subst (λ (o : Option (List ℕ)). IsUnexplainedAs o fault) (sym gave) (unexplained_known items new fault at_end is)
+
+-- ---- the slices of programs, one program more at the end
+
+zip_push : {A B : Type 0} (R : A → B → Type 0) (xs : List A) (ys : List B) (x : A) (y : B) → AllZip R xs ys → R x y → AllZip R (xs ++ x ∷ []) (ys ++ y ∷ [])
+zip_push R [] [] x y all r = (r, tt)
+zip_push R [] (b ∷ bs) x y all r = absurd all
+zip_push R (a ∷ others) [] x y all r = absurd all
+zip_push R (a ∷ others) (b ∷ bs) x y all r = (all.0, zip_push R others bs x y all.1 r)
+
+one_more : (programs : List Program) (i : ℕ) (program : Program) → i < length programs → program ≡ get_or programs i program → take (i + 1) programs ≡ take i programs ++ program ∷ []
+one_more programs i program within at = rw add-one (take-suc programs i program within ∙ ap (λ (p : Program). take i programs ++ p ∷ []) (sym at))
+
+pub slices_push : (programs : List Program) (graphs : List LocalGraph) (i : ℕ) (program : Program) (graph : LocalGraph) → i < length programs → program ≡ get_or programs i program → AreSlicesOf (take i programs) graphs → AreSlices program.ops graph → AreSlicesOf (take (i + 1) programs) (graphs ++ graph ∷ [])
+slices_push programs graphs i program graph within at so_far slices =
+    subst (λ (front : List Program). AreSlicesOf front (graphs ++ graph ∷ [])) (sym (one_more programs i program within at))
+    (zip_push (λ (p : Program) (g : LocalGraph). AreSlices p.ops g) (take i programs) graphs program graph so_far slices)
+
+-- ---- too many operations
+
+pub tree_excess : (tree : Tree) (catalogue : CatalogueState) (fault : ScriptFault) → Types tree catalogue → IsExcessFault catalogue.procs fault → IsUnexplainedTree tree fault
+tree_excess tree catalogue (Operations name count) typed is = (catalogue, typed, is)
+tree_excess tree catalogue (Catalogue fault) typed is = absurd is
+tree_excess tree catalogue Refused typed is = absurd is

@@ -1,0 +1,108 @@
+-- How `explain` ends.
+use Rattle.std.specs.Prelude.{◌≡◌, ◌≢◌, ℕ, Bool, true, false, List, [], ◌∷◌, ◌++◌, Option, IfSome, map, codes, String, string_bytes, if◌then◌else◌}
+use Rattle.std.specs.Global.{Global}
+use Rattle.std.specs.List.{AllZip}
+use Rattle.pac_syntax.specs.declared.tree.Tree.{Tree}
+use Rattle.pac_syntax.specs.Reading.{Reads}
+use Rattle.pac_print.specs.Canonical.{canonical}
+use Rattle.pac_types.specs.Typing.{CatalogueState, Types}
+use Rattle.pac_types.specs.CatalogueText.{HasCatalogue, IsCatalogueFault}
+use Rattle.pac_types.specs.Faults.{IsFirstTypeFault}
+use Rattle.pac_types.specs.declared.text.CatalogueFault.TheVariants.{Syntax, Typing}
+use Rattle.pac_types.specs.OperationLimits.{HasFewOperations}
+use Rattle.pac_types.specs.Fits.{shape}
+use Rattle.pac_flat.specs.FlatForm.{program_of}
+use Rattle.pac_ops.specs.declared.program.Program.{Program}
+use Rattle.pac_slice.specs.declared.local_graph.LocalGraph.{LocalGraph}
+use Rattle.pac_slice.specs.Slices.{AreSlices}
+use Rattle.pac_plan.specs.declared.parts.PlanParts.{PlanParts}
+use Rattle.pac_plan.specs.Analysis.{IsPlan}
+use Rattle.pac_report.specs.Explain.{explain_text}
+use Rattle.pac_main.specs.declared.script_fault.ScriptFault.{ScriptFault}
+use Rattle.pac_main.specs.declared.script_fault.ScriptFault.TheVariants.{Catalogue, Operations, Refused}
+use Rattle.pac_main.specs.declared.stop.Stop.TheVariants as stop
+use Rattle.pac_main.specs.Streams.{Observed, FaultsRose, IsTaken, IsFrontTaken, IsTold}
+use Rattle.pac_main.specs.Stop.{line_of}
+use Rattle.pac_main.specs.Script.{IsExcess}
+
+-- ---- the words
+
+-- the words are `explain`, and behind it `--text` where the canonical text is wanted
+abbrev pub IsExplain : List (String Global) → Bool → Type 0
+IsExplain [] with_text = ⊥
+IsExplain (word ∷ []) with_text = (string_bytes word ≡ codes "explain") × (with_text ≡ false)
+IsExplain (word ∷ option ∷ []) with_text = (string_bytes word ≡ codes "explain") × (string_bytes option ≡ codes "--text") × (with_text ≡ true)
+IsExplain (word ∷ option ∷ other ∷ others) with_text = ⊥
+
+-- the words ask for an explanation
+abbrev pub AsksExplain : List (String Global) → Type 0
+AsksExplain words = (with_text : Bool) × IsExplain words with_text
+
+-- ---- what explains a catalogue
+
+-- these are the slices of programs, one after another
+abbrev pub AreSlicesOf : List Program → List LocalGraph → Type 0
+AreSlicesOf programs graphs = AllZip (λ program graph. AreSlices program.ops graph) programs graphs
+
+-- the graph of a catalogue: the slices of its procedures in flat form, and their plan
+pub record IsGraph (catalogue : CatalogueState) (graphs : List LocalGraph) (plan : PlanParts) : Type 0 where
+  pub few : HasFewOperations catalogue.procs
+  pub programs : plan.programs ≡ map program_of catalogue.procs
+  pub tables : plan.tables ≡ map shape catalogue.tables
+  pub slices : AreSlicesOf plan.programs graphs
+  pub is_plan : IsPlan plan
+
+-- the text of the graph of a catalogue
+abbrev pub IsGraphText : CatalogueState → List ℕ → Type 0
+IsGraphText catalogue text = (graphs : List LocalGraph) × (plan : PlanParts) × IsGraph catalogue graphs plan × (text ≡ explain_text catalogue graphs plan)
+
+-- the text of the graph of a tree's catalogue, behind the tree's canonical text where that is wanted
+pub record IsTreeExplanation (with_text : Bool) (tree : Tree) (written : List ℕ) : Type 0 where
+  pub catalogue : CatalogueState
+  pub typed : Types tree catalogue
+  pub graph : List ℕ
+  pub is_graph : IsGraphText catalogue graph
+  pub is : written ≡ (if with_text then canonical tree else []) ++ graph
+
+-- the same for a catalogue's text
+abbrev pub IsExplanation : Bool → List ℕ → List ℕ → Type 0
+IsExplanation with_text text written = (tree : Tree) × Reads text tree × IsTreeExplanation with_text tree written
+
+-- the input is explained by a text with this property, where the source tells it
+abbrev pub IsExplanationOf : Bool → Option (List ℕ) → (List ℕ → Type 0) → Type 0
+IsExplanationOf with_text input P = (written : List ℕ) × IfSome input (λ text. IsExplanation with_text text written) × P written
+
+-- ---- why a catalogue isn't explained
+
+-- for its first fault of names and types, or for the first procedure at which operations are too many
+abbrev pub IsUnexplainedTree : Tree → ScriptFault → Type 0
+IsUnexplainedTree tree (Catalogue (Syntax fault)) = ⊥
+IsUnexplainedTree tree (Catalogue (Typing fault)) = IsFirstTypeFault tree fault
+IsUnexplainedTree tree (Operations name count) = (catalogue : CatalogueState) × Types tree catalogue × IsExcess catalogue.procs name count
+IsUnexplainedTree tree Refused = ⊥
+
+-- a text, for the first fault where it has no catalogue, or for the first procedure at which operations are too many
+abbrev pub IsUnexplained : List ℕ → ScriptFault → Type 0
+IsUnexplained text (Catalogue fault) = IsCatalogueFault text fault
+IsUnexplained text (Operations name count) = (catalogue : CatalogueState) × HasCatalogue text catalogue × IsExcess catalogue.procs name count
+IsUnexplained text Refused = ⊥
+
+-- the text isn't explained for this cause and for no other, and nothing explains it
+pub record IsTheCause (text : List ℕ) (fault : ScriptFault) : Type 0 where
+  pub is : IsUnexplained text fault
+  pub only : (other : ScriptFault) → IsUnexplained text other → other ≡ fault
+  pub none : (with_text : Bool) (written : List ℕ) → IsExplanation with_text text written → ⊥
+
+-- the input isn't explained for this cause, where the source tells it
+abbrev pub IsUnexplainedAs : Option (List ℕ) → ScriptFault → Type 0
+IsUnexplainedAs input fault = IfSome input (λ text. IsTheCause text fault)
+
+-- ---- the statuses
+
+-- how `explain` ends: a line for each status that it may have
+pub record ExplainEnds (with_text : Bool) (status : ℕ) (input output errors : Observed) : Type 0 where
+  pub done : status ≡ 0 → IsExplanationOf with_text input.before (IsTaken output)
+  pub refused : status ≡ 2 → (fault : ScriptFault) × IsUnexplainedAs input.before fault × IsTold errors (line_of (stop.Script fault))
+  pub aborted : status ≢ 4
+  pub input_fault : status ≡ 6 → FaultsRose input
+  pub output_fault : status ≡ 7 → FaultsRose output × IsExplanationOf with_text input.before (IsFrontTaken output)

@@ -1,0 +1,32 @@
+-- What is observed of a stream that a command was given.
+use Rattle.std.specs.Prelude.{◌⊎◌, ℕ, List, Option}
+use Rattle.pac_outside.specs.Causes.{Rose}
+use Rattle.pac_outside.specs.Content.{Took, TookFront}
+
+-- a stream before and behind a command: the bytes that a source has left or that a sink holds, where it tells them, and its
+-- count of faults
+pub record Observed : Type 0 where
+  pub before : Option (List ℕ)
+  pub behind : Option (List ℕ)
+  pub faults_before : ℕ
+  pub faults_behind : ℕ
+
+-- a stream as it tells its bytes and counts its faults, observed as it was and as it is
+abbrev pub observed : {S : Type 0} → (S → Option (List ℕ)) → (S → ℕ) → S → S → Observed
+observed bytes faults old new = record { before = bytes old; behind = bytes new; faults_before = faults old; faults_behind = faults new }
+
+-- its count of faults rose
+abbrev pub FaultsRose : Observed → Type 0
+FaultsRose stream = Rose stream.faults_before stream.faults_behind
+
+-- the sink took the text
+abbrev pub IsTaken : Observed → List ℕ → Type 0
+IsTaken sink text = Took sink.before text sink.behind
+
+-- the sink took a front of the text
+abbrev pub IsFrontTaken : Observed → List ℕ → Type 0
+IsFrontTaken sink text = TookFront sink.before text sink.behind
+
+-- the sink took the line, or its count of faults rose and it took a front of it
+abbrev pub IsTold : Observed → List ℕ → Type 0
+IsTold sink line = IsTaken sink line ⊎ (FaultsRose sink × IsFrontTaken sink line)
