@@ -9,7 +9,7 @@ use std::marker::Model;
 /// Nodes, numbered from 0, and edges that lead from node to node. A contract sees how many nodes there are and where an
 /// edge leads: two graphs are equal exactly where they have the same of both.
 ///
-/// It takes 520 bytes a node, however many edges there are.
+/// It takes a bit for each pair of nodes, however many edges there are.
 #[derive(Drop)]
 pub struct Digraph {
     alloc: Global,

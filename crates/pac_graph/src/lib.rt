@@ -18,7 +18,7 @@
 //! `specs/Numbering.antt` how they are numbered. `specs/Groups.antt` says the same of nodes of any kind, so that a caller
 //! whose nodes are not numbers can say what its groups are.
 //!
-//! A graph of n nodes is kept as n rows of bits, 65 words each. Finding the classes goes through each row once, and so
+//! A graph of n nodes is kept as n rows of n bits. Finding the classes goes through each row once, and so
 //! does numbering them. The search calls itself, no deeper than there are nodes.
 #![tactic(auto)]
 

@@ -1,20 +1,20 @@
 // A square matrix of bits.
-ghost use Rattle.std.specs.Prelude.{◌≡◌, ◌⊎◌, ◌↔◌, ℕ, ◌*◌, ◌<◌, ◌≤◌, vec_len, IfOk, MatchOption};
+ghost use Rattle.std.specs.Prelude.{◌≡◌, ◌⊎◌, ◌↔◌, ℕ, ◌+◌, ◌*◌, ◌/◌, ◌<◌, ◌≤◌, vec_len, IfOk, MatchOption};
 ghost use Rattle.std.specs.Int.{bit_at};
 
 use pac_base::NoMemory;
 use std::alloc::Global;
 
-// The words of a row: enough for the most nodes.
-const ROW: usize = 65;
-
-// A row of words for each node. Bit b of the row of a is that of the pair (a, b).
+// A row of words for each node, so wide that it has a bit for each. Bit b of the row of a is that of the pair (a, b).
 #[derive(Drop)]
 pub(crate) struct Matrix {
     nodes: usize,
+    width: usize,
     words: Vec<u64>,
     ghost few: { nodes ≤ 4160 },
-    ghost rows: { vec_len words ≡ 65 * nodes },
+    ghost wide: { nodes ≤ 64 * width },
+    ghost narrow: { width ≤ 65 },
+    ghost rows: { vec_len words ≡ nodes * width },
 }
 
 impl Matrix {
@@ -26,8 +26,13 @@ impl Matrix {
         ensures nodes { IfOk result (λ matrix. matrix.nodes ≡ nodes) }
         ensures empty { IfOk result (λ matrix. (a b : ℕ) → HasBit matrix a b → ⊥) }
     {
-        let words = vec![in alloc; 0; ROW * nodes]?;
-        Ok(Matrix { nodes, words })
+        let width = nodes.div_ceil(64);
+        let words = vec![in alloc; 0; nodes * width]?;
+        Ok(Matrix {
+            nodes,
+            width,
+            words,
+        })
     }
 
     pub(crate) fn nodes(&self) -> usize
@@ -37,6 +42,16 @@ impl Matrix {
         self.nodes
     }
 
+    // The place of the word that has a bit.
+    fn word_of(&self, from: usize, to: usize) -> usize
+        requires from { from < self.now.nodes }
+        requires to { to < self.now.nodes }
+        ensures place { result ≡ from * self.now.width + to / 64 }
+        ensures within { result < vec_len self.now.words }
+    {
+        from * self.width + to / 64
+    }
+
     // Sets a bit, if it isn't set.
     pub(crate) fn set(&mut self, from: usize, to: usize)
         requires from { from < self.old.nodes }
@@ -44,7 +59,7 @@ impl Matrix {
         ensures nodes { self.new.nodes ≡ self.old.nodes }
         ensures bits { (a b : ℕ) → HasBit self.new a b ↔ (HasBit self.old a b ⊎ ((a ≡ from) × (b ≡ to))) }
     {
-        let word = ROW * from + to / 64;
+        let word = self.word_of(from, to);
         self.words[word] |= 1 << (to % 64);
     }
 
@@ -56,7 +71,7 @@ impl Matrix {
         let mut to = at;
         while to < self.nodes {
             let word = 64 * (to / 64);
-            if let Some(place) = lowest_from(self.words[ROW * from + to / 64], to % 64) {
+            if let Some(place) = lowest_from(self.words[self.word_of(from, to)], to % 64) {
                 let first = word + place;
                 return if first < self.nodes {
                     Some(first)

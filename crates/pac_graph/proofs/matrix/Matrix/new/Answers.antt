@@ -7,5 +7,7 @@ use Rattle.pac_graph.proofs.matrix.Matrix.new.Goals as goal
 
 pub returns-clause-empty : goal.returns-clause-empty
 unfolding HasBit
-returns-clause-empty c = let e : c.in_ok-words.words.items ≡ replicate (65 * c.args.nodes) 0 = grind (arith, common_steps) in
-    λ a b h. no_bit c.args.nodes (65 * c.args.nodes) a b c.requires refl (let P : List ℕ → Type 0 = λ words. IsBit c.args.nodes words a b in subst P e h)
+returns-clause-empty c = let n : ℕ = c.args.nodes in
+    let width : ℕ = c.div_ceil-width.result in
+    let e : c.in_ok-words.words.items ≡ replicate (n * width) 0 = grind (arith, common_steps) in
+    λ a b h. no_bit n width (n * width) a b (omega (arith, c.div_ceil-width.ensures)) refl (let P : List ℕ → Type 0 = λ words. IsBit n width words a b in subst P e h)
