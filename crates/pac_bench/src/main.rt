@@ -5,19 +5,25 @@
 //! its transactions, read into them, or copied as it stands, which is what the other two are compared with. In one of
 //! `table`, `tables` and `chain` the graph is made of a catalogue with 4,096 operations: all on one table, on 64 tables,
 //! or each with the value of the one before it.
+//!
+//! `commit`, `commits` and `fill` make a log in the file `pac_bench.log`, which must not be there, and a round commits a
+//! batch of one, of 64, or of as many transactions and records as there may be. `scan` reads up to so many batches of it. `save`
+//! saves a checkpoint of so many rows of eight texts of 64 bytes to the file `pac_bench.a`.
 #![tactic(auto)]
 
 mod body;
 mod graph;
+mod log;
 mod part;
+mod slot;
 
 use part::{Part, PartError};
-use std::alloc::Global;
+use pac_outside::FileDisk;
 use std::env::Env;
 use std::process::ExitCode;
 use std::{env, io};
 
-const USAGE: &str = "usage: pac_bench write|read|copy|table|tables|chain ROUNDS";
+const USAGE: &str = "usage: pac_bench write|read|copy|table|tables|chain|commit|commits|fill|scan|save ROUNDS";
 
 // The part and the rounds that the words ask for.
 fn asked(words: &[String]) -> Option<(Part, u32)> {
@@ -28,12 +34,22 @@ fn asked(words: &[String]) -> Option<(Part, u32)> {
 }
 
 // Makes a part so often; how much was made.
-fn make(alloc: Global, part: Part, rounds: u32) -> Result<u64, PartError> {
+fn make(rt: &HostRuntime, part: Part, rounds: u32) -> Result<u64, PartError> {
+    let alloc = rt.alloc();
+    let mut disk = FileDisk::new(rt, "pac_bench.log"); // nothing is opened yet
     match part {
         Part::Write => body::write(alloc, rounds),
         Part::Read => body::read(alloc, rounds),
         Part::Copy => body::copy(alloc, rounds),
         Part::Graph(shape) => graph::make(alloc, shape, rounds),
+        Part::Commit(load) => log::commit(alloc, &mut disk, load, rounds),
+        Part::Scan => log::scan(alloc, &mut disk, rounds),
+        Part::Save => slot::save(
+            alloc,
+            &mut FileDisk::new(rt, "pac_bench.a"),
+            &mut FileDisk::new(rt, "pac_bench.b"),
+            rounds,
+        ),
     }
 }
 
@@ -43,7 +59,7 @@ fn main(rt: HostRuntime) -> io::Result<ExitCode> {
         eprintln!(rt; "{USAGE}")?;
         return Ok(ExitCode::FAILURE);
     };
-    match make(rt.alloc(), part, rounds) {
+    match make(&rt, part, rounds) {
         Ok(count) => {
             println!(rt; "{count} {}", part.unit())?;
             Ok(ExitCode::SUCCESS)

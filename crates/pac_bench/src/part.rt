@@ -1,8 +1,14 @@
 // What can be made, and why it may not be.
+use crate::log::Load;
 use pac_base::NoMemory;
+use pac_check::{SaveError, SlotError};
 use pac_entry::EntryError;
 use pac_flat::FlatError;
+use pac_log::{CreateError, LogError, PrepareError};
+use pac_outside::Failed;
+use pac_serial::ExecError;
 use pac_types::CatalogueError;
+use std::alloc::AllocFailed;
 use thiserror::Error;
 
 /// Where the operations of a catalogue stand.
@@ -20,6 +26,9 @@ pub enum Part {
     Read,
     Copy,
     Graph(Shape),
+    Commit(Load),
+    Scan,
+    Save,
 }
 
 impl Part {
@@ -32,6 +41,20 @@ impl Part {
             "table" => Some(Part::Graph(Shape::OneTable)),
             "tables" => Some(Part::Graph(Shape::ManyTables)),
             "chain" => Some(Part::Graph(Shape::Chain)),
+            "commit" => Some(Part::Commit(Load {
+                txns: 1,
+                records: 1,
+            })),
+            "commits" => Some(Part::Commit(Load {
+                txns: 64,
+                records: 1,
+            })),
+            "fill" => Some(Part::Commit(Load {
+                txns: 1024,
+                records: 64,
+            })),
+            "scan" => Some(Part::Scan),
+            "save" => Some(Part::Save),
             _ => None,
         }
     }
@@ -39,8 +62,10 @@ impl Part {
     /// What is counted.
     pub fn unit(self) -> &'static str {
         match self {
-            Part::Write | Part::Read | Part::Copy => "bytes",
+            Part::Write | Part::Read | Part::Copy | Part::Scan => "bytes",
             Part::Graph(_) => "blocks",
+            Part::Commit(_) => "transactions",
+            Part::Save => "rows",
         }
     }
 }
@@ -52,10 +77,24 @@ pub enum PartError {
     NoMemory,
     #[error("what was written is refused")]
     Refused,
+    #[error("the file has bytes already")]
+    NotEmpty,
+    #[error("the file failed")]
+    Failed,
+    #[error("log full {need}")]
+    LogFull { need: u64 },
+    #[error("checkpoint too large {bytes}")]
+    TooLarge { bytes: u64 },
 }
 
 impl From<NoMemory> for PartError {
     fn from(_: NoMemory) -> PartError {
+        PartError::NoMemory
+    }
+}
+
+impl<T: Drop> From<AllocFailed<T>> for PartError {
+    fn from(_: AllocFailed<T>) -> PartError {
         PartError::NoMemory
     }
 }
@@ -75,5 +114,70 @@ impl From<CatalogueError> for PartError {
 impl From<FlatError> for PartError {
     fn from(_: FlatError) -> PartError {
         PartError::Refused
+    }
+}
+
+impl From<Failed> for PartError {
+    fn from(_: Failed) -> PartError {
+        PartError::Failed
+    }
+}
+
+impl From<CreateError> for PartError {
+    fn from(error: CreateError) -> PartError {
+        match error {
+            CreateError::NotEmpty { .. } => PartError::NotEmpty,
+            CreateError::DiskFault => PartError::Failed,
+            CreateError::NoMemory => PartError::NoMemory,
+        }
+    }
+}
+
+impl From<LogError> for PartError {
+    fn from(error: LogError) -> PartError {
+        match error {
+            LogError::DiskFault => PartError::Failed,
+            LogError::NoStore | LogError::Damaged { .. } => PartError::Refused,
+            LogError::NoMemory => PartError::NoMemory,
+        }
+    }
+}
+
+impl From<PrepareError> for PartError {
+    fn from(error: PrepareError) -> PartError {
+        match error {
+            PrepareError::LogFull { need } => PartError::LogFull { need },
+            PrepareError::Failed => PartError::Failed,
+            PrepareError::NoMemory => PartError::NoMemory,
+        }
+    }
+}
+
+impl From<SlotError> for PartError {
+    fn from(error: SlotError) -> PartError {
+        match error {
+            SlotError::DiskFault => PartError::Failed,
+            SlotError::Damaged { .. } => PartError::Refused,
+            SlotError::NoMemory => PartError::NoMemory,
+        }
+    }
+}
+
+impl From<SaveError> for PartError {
+    fn from(error: SaveError) -> PartError {
+        match error {
+            SaveError::TooLarge { bytes } => PartError::TooLarge { bytes },
+            SaveError::DiskFault => PartError::Failed,
+            SaveError::NoMemory => PartError::NoMemory,
+        }
+    }
+}
+
+impl From<ExecError> for PartError {
+    fn from(error: ExecError) -> PartError {
+        match error {
+            ExecError::Abort { .. } | ExecError::Full { .. } => PartError::Refused,
+            ExecError::NoMemory => PartError::NoMemory,
+        }
     }
 }

@@ -7,24 +7,32 @@ use Rattle.pac_outside.specs.Disk.{DiskState, History, WhereTold, BothTell, IsDu
 use Rattle.pac_outside.specs.GateByte.{OneImage}
 use Rattle.pac_log.specs.Logs.{IsAccepted, header_bytes, HoldsLog}
 
-module _ (text : List ℕ) (catalogue : CatalogueState) (accepted : IsAccepted text catalogue) (piece : List ℕ) (framed : piece ≡ header_bytes text ++ (0 ∷ [])) where
-  holds : HoldsLog text catalogue [] piece
-  holds = record {
-    log = record { accepted = accepted; each = All-nil _ };
-    shut = record { gate = 0; rest = []; split = framed ∙ ap (λ (x : List ℕ). x ++ (0 ∷ [])) (sym (append-nil (header_bytes text))); shut = omega arith };
-  }
-
-  one : (state : DiskState) (seen : List ℕ) → length seen ≡ 0 → state ≡ settled (spliced 0 piece seen) → OneImage (HoldsLog text catalogue []) state
-  one state seen none e =
+module _ (text piece : List ℕ) (framed : piece ≡ header_bytes text ++ (0 ∷ [])) where
+  -- on an empty device the piece is all there is
+  alone : (state : DiskState) (seen : List ℕ) → length seen ≡ 0 → state ≡ settled (spliced 0 piece seen) → state ≡ settled (header_bytes text ++ (0 ∷ []))
+  alone state seen none e =
       let bytes : spliced 0 piece seen ≡ piece = ap (λ (x : List ℕ). spliced 0 piece x) (nil_from_length seen none) ∙ ap (λ (x : List ℕ). piece ++ x) (drop_all (0 + length piece) [] (omega arith)) ∙ append-nil piece in
-      let is : state ≡ settled piece = e ∙ ap settled bytes in
-      subst (λ (s : DiskState). OneImage (HoldsLog text catalogue []) s) (sym is) (record { one = refl; has = holds })
+      e ∙ ap settled (bytes ∙ framed)
 
-  pub made : (a b : Option History) → WhereTold (λ old. length old.now.seen ≡ 0) a → BothTell (IsDurable 0 piece) a b → BothTell (λ old new. OneImage (HoldsLog text catalogue []) new.now) a b
-  made None None empty run = tt
-  made None (Some b) empty run = absurd run
-  made (Some a) None empty run = absurd run
-  made (Some a) (Some b) empty run = one b.now a.now.seen empty run
+  pub written : (a b : Option History) → WhereTold (λ old. length old.now.seen ≡ 0) a → BothTell (IsDurable 0 piece) a b → BothTell (λ old new. new.now ≡ settled (header_bytes text ++ (0 ∷ []))) a b
+  written None None empty run = tt
+  written None (Some b) empty run = absurd run
+  written (Some a) None empty run = absurd run
+  written (Some a) (Some b) empty run = alone b.now a.now.seen empty run
+
+-- these bytes are a log without a batch
+holds : (text : List ℕ) (catalogue : CatalogueState) → IsAccepted text catalogue → HoldsLog text catalogue [] (header_bytes text ++ (0 ∷ []))
+holds text catalogue accepted = record {
+  log = record { accepted = accepted; each = All-nil _ };
+  shut = record { gate = 0; rest = []; split = ap (λ (x : List ℕ). x ++ (0 ∷ [])) (sym (append-nil (header_bytes text))); shut = omega arith };
+}
+
+pub made : (text : List ℕ) (catalogue : CatalogueState) → IsAccepted text catalogue → (a b : Option History) → BothTell (λ old new. new.now ≡ settled (header_bytes text ++ (0 ∷ []))) a b
+    → BothTell (λ old new. OneImage (HoldsLog text catalogue []) new.now) a b
+made text catalogue accepted None None is = tt
+made text catalogue accepted None (Some b) is = absurd is
+made text catalogue accepted (Some a) None is = absurd is
+made text catalogue accepted (Some a) (Some b) is = subst (λ (s : DiskState). OneImage (HoldsLog text catalogue []) s) (sym is) (record { one = refl; has = holds text catalogue accepted })
 
 pub where_told : (P Q : History → Type 0) → ((h : History) → P h → Q h) → (told : Option History) → WhereTold P told → WhereTold Q told
 where_told P Q step None here = tt
