@@ -1,0 +1,284 @@
+-- What the devices stand for: a history is told by its front, and what is stored goes on in it.
+use Rattle.std.proofs.Common.{◌≡◌, ◌∙◌, inl, inr, ◌⊎◌, ℕ, ◌≤◌, ◌<◌, ◌+◌, List, [], ◌∷◌, ◌++◌, length, take, drop, Option, Some, None, Result, Ok, Err, refl, sym, ap, ap₂, subst, arith, append_assoc}
+use Rattle.std.specs.Prelude.{Bool, true, false, nat_lt, if◌then◌else◌, eqb}
+use Rattle.std.specs.FinMap.{empty}
+use Rattle.std.proofs.lemmas.Bool.{eqb-true}
+use Rattle.std.proofs.lemmas.List.{length-append, length-drop, length-take-le, take_all, take_at, take-append-le, take-append-drop}
+use Rattle.pac_value.specs.Expressions.{◌>>=◌}
+use Rattle.pac_value.specs.State.{Tables}
+use Rattle.pac_ops.specs.declared.note.Note.{Note}
+use Rattle.pac_ops.specs.declared.transaction.Txn.{Txn}
+use Rattle.pac_outside.specs.GateByte.{IsShut, IsOpen}
+use Rattle.pac_types.specs.declared.procedure.Proc.{Proc}
+use Rattle.pac_types.specs.declared.table.Table.{Table}
+use Rattle.pac_types.specs.Execution.{serial}
+use Rattle.pac_types.specs.Fits.{FitTables}
+use Rattle.pac_types.specs.Typing.{CatalogueState}
+use Rattle.pac_types.specs.CatalogueText.{HasCatalogue}
+use Rattle.pac_types.proofs.ExecutionLemmas.{serial-parts}
+use Rattle.pac_types.proofs.TypingLemmas.{tables_few}
+use Rattle.pac_log.specs.Logs.{HasGate, all_txns}
+use Rattle.pac_log.proofs.OneGate.{few}
+use Rattle.pac_log.proofs.OneLog.{one_log}
+use Rattle.pac_check.specs.declared.head.Head.{Head}
+use Rattle.pac_check.specs.declared.info.SlotInfo.{SlotInfo}
+use Rattle.pac_check.specs.declared.info.SlotName.{SlotName}
+use Rattle.pac_check.specs.declared.info.SlotName.TheVariants.{A, B}
+use Rattle.pac_check.specs.declared.state.SlotState.{SlotState}
+use Rattle.pac_check.specs.declared.state.SlotState.TheVariants.{Empty, Closed, Open}
+use Rattle.pac_check.specs.Checkpoints.{Checkpoint, head_with}
+use Rattle.pac_check.specs.Saved.{checkpoint_of}
+use Rattle.pac_check.specs.SlotStates.{by_slot, info_of, slot_read, with_more, HoldsRows, IsSlot}
+use Rattle.pac_check.proofs.OnceLemmas.{one-checkpoint, one-state}
+use Rattle.pac_check.proofs.SlotLemmas.{read_held}
+use Rattle.pac_store.specs.Images.{Images}
+use Rattle.pac_store.specs.Stored.{Stored, IsStored, AreNewest, newest_among}
+use Rattle.pac_store.specs.Stands.{EndsWith, IsHistory, HasSaved, HoldsSaved, IsShutOrFront, Stands}
+use Rattle.pac_store.specs.Fronts.{GoesOn}
+
+-- ---- more and fewer
+
+pub fewer : (text : List ℕ) (catalogue : CatalogueState) (history : List Txn) (least lesser : ℕ) (images : Images) → lesser ≤ least → Stands text catalogue history least images → Stands text catalogue history lesser images
+fewer text catalogue history least lesser images le is = record {
+  executes = is.executes;
+  batches = is.batches;
+  log = is.log;
+  later = is.later;
+  front = is.front;
+  enough = omega (arith, le, is.enough);
+  slot_a = is.slot_a;
+  slot_b = is.slot_b;
+}
+
+fewer-here : (catalogue : CatalogueState) (saved lesser : ℕ) (image : List ℕ) → lesser ≤ saved → HasSaved catalogue saved image → HasSaved catalogue lesser image
+fewer-here catalogue saved lesser image le has = record { checkpoint = has.checkpoint; holds = has.holds; enough = omega (arith, le, has.enough) }
+
+pub fewer-saved : (catalogue : CatalogueState) (saved lesser : ℕ) (images : Images) → lesser ≤ saved → HoldsSaved catalogue saved images → HoldsSaved catalogue lesser images
+fewer-saved catalogue saved lesser images le (inl none) = inl (omega (arith, le, none))
+fewer-saved catalogue saved lesser images le (inr (inl a)) = inr (inl (fewer-here catalogue saved lesser images.slot_a le a))
+fewer-saved catalogue saved lesser images le (inr (inr b)) = inr (inr (fewer-here catalogue saved lesser images.slot_b le b))
+
+pub longer : (text : List ℕ) (catalogue : CatalogueState) (history more : List Txn) (least : ℕ) (images : Images) → IsHistory catalogue (history ++ more) → Stands text catalogue history least images → Stands text catalogue (history ++ more) least images
+longer text catalogue history more least images executes is = record {
+  executes = executes;
+  batches = is.batches;
+  log = is.log;
+  later = is.later ++ more;
+  front = ap (λ (h : List Txn). h ++ more) is.front ∙ append_assoc (all_txns is.batches) is.later more;
+  enough = is.enough;
+  slot_a = is.slot_a;
+  slot_b = is.slot_b;
+}
+
+-- ---- one history
+
+-- the first so many of the history are those of the log
+told-front : (text : List ℕ) (catalogue : CatalogueState) (history : List Txn) (least : ℕ) (images : Images) → (is : Stands text catalogue history least images) → take least history ≡ take least (all_txns is.batches)
+told-front text catalogue history least images is = ap (λ (h : List Txn). take least h) is.front ∙ take-append-le least (all_txns is.batches) is.later is.enough
+
+pub one-front : (s t : List ℕ) (c d : CatalogueState) (h g : List Txn) (least : ℕ) (images : Images) → Stands s c h least images → Stands t d g least images → (s ≡ t) × (c ≡ d) × (take least h ≡ take least g)
+one-front s t c d h g least images is other =
+    let one = one_log s t c d is.batches other.batches images.log is.log other.log in
+    (one.0, one.1, told-front s c h least images is ∙ ap (λ (b : List (List Txn)). take least (all_txns b)) one.2 ∙ sym (told-front t d g least images other))
+
+pub one-whole : (s t : List ℕ) (c d : CatalogueState) (h g : List Txn) (images : Images) → length h ≡ length g → Stands s c h (length h) images → Stands t d g (length g) images → h ≡ g
+one-whole s t c d h g images long is other =
+    let same = one-front s t c d h g (length h) images is (subst (λ (n : ℕ). Stands t d g n images) (sym long) other) in
+    sym (take_all (length h) h (omega arith)) ∙ same.2 ∙ take_all (length h) g (omega (arith, long))
+
+-- ---- one checkpoint
+
+-- so few tables that their number fits its field
+pub few-tables : (text : List ℕ) (catalogue : CatalogueState) → HasCatalogue text catalogue → length catalogue.tables < 65536
+few-tables text catalogue has = omega (arith, tables_few catalogue (has.tree, (text, has.reads), has.typed))
+
+-- a slot holds rows of one state of the tables
+one-saved : (tables : List Table) → length tables < 65536 → (image : List ℕ) (c d : Head) (s t : Tables) → FitTables tables s → FitTables tables t → HoldsRows tables c s image → HoldsRows tables d t image → (c ≡ d) × (s ≡ t)
+one-saved tables few image c d s t fits_s fits_t first second =
+    let same = one-checkpoint tables few image (checkpoint_of (length tables) c s) (checkpoint_of (length tables) d t) first second in
+    (ap (λ (x : Checkpoint). x.head) same, one-state tables s t fits_s fits_t (ap (λ (x : Checkpoint). x.tables) same))
+
+-- a gate that is open isn't shut
+open-shut : (piece image : List ℕ) → IsOpen [] piece image → IsShut [] image → ⊥
+open-shut piece image opens shut = shut.shut (heads (sym shut.split ∙ opens.split))
+  where
+    heads : {x y : ℕ} {xs ys : List ℕ} → x ∷ xs ≡ y ∷ ys → x ≡ y
+    heads e = cc
+
+-- the tables of an open slot are those of the front that it is of
+record IsFrontTables (text : List ℕ) (catalogue : CatalogueState) (batches : List (List Txn)) (number : ℕ) (base : Tables) : Type 0 where
+  within : number ≤ length (all_txns batches)
+  ends : EndsWith catalogue (take number (all_txns batches)) base
+
+open-front : (text : List ℕ) (catalogue : CatalogueState) → length catalogue.tables < 65536 → (batches : List (List Txn)) (image : List ℕ) (head : Head) (base : Tables)
+    → IsShutOrFront text catalogue batches image → FitTables catalogue.tables base → HoldsRows catalogue.tables head base image → IsFrontTables text catalogue batches head.txns base
+open-front text catalogue few_tables batches image head base (inl shut) fits rows = absurd (open-shut _ image rows.opens shut)
+open-front text catalogue few_tables batches image head base (inr front) fits rows =
+    let same = one-saved catalogue.tables few_tables image front.head head front.held base front.fit fits front.rows rows in
+    let number : front.head.txns ≡ head.txns = ap (λ (h : Head). h.txns) same.0 in
+    record {
+      within = subst (λ (n : ℕ). n ≤ length (all_txns batches)) number (few text batches front.head.place front.head.txns front.gate);
+      ends = subst (λ (t : Tables). EndsWith catalogue (take head.txns (all_txns batches)) t) same.1 (subst (λ (n : ℕ). EndsWith catalogue (take n (all_txns batches)) front.held) number front.ends);
+    }
+
+newest-front : (text : List ℕ) (catalogue : CatalogueState) → length catalogue.tables < 65536 → (batches : List (List Txn)) (images : Images)
+    → IsShutOrFront text catalogue batches images.slot_a → IsShutOrFront text catalogue batches images.slot_b
+    → (newest : Option SlotInfo) (base : Tables) (number : ℕ) → AreNewest catalogue images.slot_a images.slot_b newest base number → IsFrontTables text catalogue batches number base
+newest-front text catalogue few_tables batches images a b None base number are = record {
+  within = omega (arith, are.1);
+  ends = subst (λ (n : ℕ). EndsWith catalogue (take n (all_txns batches)) base) (sym are.1) (ap (λ (t : Tables). the_end t) (sym are.0));
+}
+  where
+    the_end : Tables → Result Tables Note
+    the_end t = Ok t
+newest-front text catalogue few_tables batches images a b (Some info) base number are = subst (λ (n : ℕ). IsFrontTables text catalogue batches n base) (sym are.2) (go info.slot are.1)
+  where
+    go : (slot : SlotName) → HoldsRows catalogue.tables (head_with info.txns info.place) base (by_slot slot images.slot_a images.slot_b) → IsFrontTables text catalogue batches info.txns base
+    go A rows = open-front text catalogue few_tables batches images.slot_a (head_with info.txns info.place) base a are.0 rows
+    go B rows = open-front text catalogue few_tables batches images.slot_b (head_with info.txns info.place) base b are.0 rows
+
+-- ---- what is stored goes on
+
+-- where the whole ends, its front does
+front-ends : (procs : List Proc) (n : ℕ) (xs ys : List Txn) (t u : Tables) → serial procs n (xs ++ ys) t ≡ Ok u → (v : Tables) × (serial procs n xs t ≡ Ok v)
+front-ends procs n xs ys t u e = go (serial procs n xs t) refl
+  where
+    go : (r : Result Tables Note) → serial procs n xs t ≡ r → (v : Tables) × (serial procs n xs t ≡ Ok v)
+    go (Ok v) is = (v, is)
+    go (Err note) is =
+        let no : ◌≡◌ {A = Result Tables Note} (Err note) (Ok u) = ap (λ (r : Result Tables Note). r >>= λ w. serial procs (n + length xs) ys w) (sym is) ∙ sym (serial-parts procs n xs ys t) ∙ e in
+        absurd cc
+
+-- behind a front goes on what is behind it
+behind-front : (procs : List Proc) (k : ℕ) (txns : List Txn) (base end : Tables) → k ≤ length txns → serial procs 1 (take k txns) empty ≡ Ok base → serial procs 1 txns empty ≡ Ok end → serial procs (k + 1) (drop k txns) base ≡ Ok end
+behind-front procs k txns base end le front whole =
+    let counted : 1 + length (take k txns) ≡ k + 1 = omega (arith, length-take-le k txns le) in
+    ap (λ (n : ℕ). serial procs n (drop k txns) base) (sym counted)
+    ∙ sym (ap (λ (r : Result Tables Note). r >>= λ u. serial procs (1 + length (take k txns)) (drop k txns) u) front)
+    ∙ sym (serial-parts procs 1 (take k txns) (drop k txns) empty)
+    ∙ ap (λ (l : List Txn). serial procs 1 l empty) (take-append-drop k txns)
+    ∙ whole
+
+-- what is stored on devices that stand for a history, of one text, one catalogue and one list of batches
+goes-on-here : (text : List ℕ) (catalogue : CatalogueState) → length catalogue.tables < 65536 → (history : List Txn) (least : ℕ) (images : Images) → (is : Stands text catalogue history least images)
+    → (stored : Stored) → stored.catalogue ≡ catalogue → (newest : Option SlotInfo) → AreNewest catalogue images.slot_a images.slot_b newest stored.base stored.number → stored.rest ≡ drop stored.number (all_txns is.batches) → GoesOn catalogue history least stored
+goes-on-here text catalogue few_tables history least images is stored same newest are behind =
+    let txns = all_txns is.batches in
+    let front = newest-front text catalogue few_tables is.batches images is.slot_a is.slot_b newest stored.base stored.number are in
+    let all : stored.number + length stored.rest ≡ length txns = omega (arith, ap (λ (l : List Txn). length l) behind, length-drop stored.number txns, front.within) in
+    let whole = front-ends catalogue.procs 1 txns is.later empty is.executes.held (ap (λ (h : List Txn). serial catalogue.procs 1 h empty) (sym is.front) ∙ is.executes.ends) in
+    let first : take (stored.number + length stored.rest) history ≡ txns = ap₂ (λ (n : ℕ) (h : List Txn). take n h) all is.front ∙ take_at txns is.later (length txns) refl in
+    record {
+      same = same;
+      held = whole.0;
+      enough = subst (λ (n : ℕ). least ≤ n) (sym all) is.enough;
+      within = omega (arith, all, ap (λ (h : List Txn). length h) is.front, length-append txns is.later);
+      ends = ap (λ (h : List Txn). serial catalogue.procs 1 h empty) first ∙ whole.1;
+      from_base = ap (λ (l : List Txn). serial catalogue.procs (stored.number + 1) l stored.base) behind ∙ behind-front catalogue.procs stored.number txns stored.base whole.0 front.within front.ends whole.1;
+    }
+
+pub goes-on : (text : List ℕ) (catalogue : CatalogueState) (history : List Txn) (least : ℕ) (images : Images) (stored : Stored) → Stands text catalogue history least images → IsStored images stored → GoesOn catalogue history least stored
+goes-on text catalogue history least images stored is there =
+    let few_tables = few-tables text catalogue is.log.log.accepted.has in
+    let one = one_log text there.text catalogue stored.catalogue is.batches there.batches images.log is.log there.log in
+    goes-on-here text catalogue few_tables history least images is stored (sym one.1) (newest_among there.a there.b)
+    (subst (λ (c : CatalogueState). AreNewest c images.slot_a images.slot_b (newest_among there.a there.b) stored.base stored.number) (sym one.1) there.newest)
+    (there.behind ∙ ap (λ (b : List (List Txn)). drop stored.number (all_txns b)) (sym one.2))
+
+-- ---- what stands is stored
+
+-- the newest of two is one of them
+pub newest-one : (x y : Option SlotInfo) (info : SlotInfo) → with_more x y ≡ Some info → (x ≡ Some info) ⊎ (y ≡ Some info)
+newest-one None y info e = inr e
+newest-one (Some a) None info e = inl e
+newest-one (Some a) (Some b) info e = go (nat_lt a.txns b.txns) e
+  where
+    go : (t : Bool) → (if t then Some b else Some a) ≡ Some info → (Some a ≡ Some info) ⊎ (Some b ≡ Some info)
+    go true h = inr h
+    go false h = inl h
+
+-- a slot that is shut, or open with a front, is read as such
+pub record IsReadable (text : List ℕ) (catalogue : CatalogueState) (batches : List (List Txn)) (image : List ℕ) : Type 0 where
+  pub state : SlotState
+  pub is : IsSlot catalogue.tables state image
+  pub front : (head : Head) → state ≡ Open head → (held : Tables) × FitTables catalogue.tables held × HoldsRows catalogue.tables head held image × HasGate text batches head.place head.txns
+
+shut-read : (tables : List Table) (image : List ℕ) → IsShut [] image → slot_read tables image ≡ Ok Closed
+shut-read tables image shut = ap (slot_read tables) shut.split ∙ go (eqb shut.gate 1) refl
+  where
+    go : (t : Bool) → eqb shut.gate 1 ≡ t → slot_read tables (shut.gate ∷ shut.rest) ≡ Ok Closed
+    go true e = absurd (shut.shut (eqb-true shut.gate 1 e))
+    go false e = rw e refl
+
+same-head : (a b : Head) → Open a ≡ Open b → a ≡ b
+same-head a b e = cc
+
+no-open : (head : Head) → Closed ≡ Open head → ⊥
+no-open head e = cc
+
+pub readable : (text : List ℕ) (catalogue : CatalogueState) → length catalogue.tables < 65536 → (batches : List (List Txn)) (image : List ℕ) → IsShutOrFront text catalogue batches image → IsReadable text catalogue batches image
+readable text catalogue few_tables batches image (inl shut) = record {
+  state = Closed;
+  is = shut-read catalogue.tables image shut;
+  front = λ head e. absurd (no-open head e);
+}
+readable text catalogue few_tables batches image (inr front) = record {
+  state = Open front.head;
+  is = read_held catalogue.tables few_tables image (checkpoint_of (length catalogue.tables) front.head front.held) front.rows;
+  front = λ head e.
+      let same = same-head front.head head e in
+      (front.held, front.fit, subst (λ (h : Head). HoldsRows catalogue.tables h front.held image) same front.rows, subst (λ (h : Head). HasGate text batches h.place h.txns) same front.gate);
+}
+
+-- an open slot by its name
+same-info : (slot : SlotName) (state : SlotState) (info : SlotInfo) → info_of slot state ≡ Some info → (head : Head) × (state ≡ Open head) × (info ≡ record { slot = slot; txns = head.txns; place = head.place })
+same-info slot Empty info e = absurd cc
+same-info slot Closed info e = absurd cc
+same-info slot (Open head) info e = (head, refl, cc)
+
+abbrev IsTablesOf : CatalogueState → List ℕ → List ℕ → SlotInfo → Type 0
+IsTablesOf catalogue a b info = (held : Tables) × FitTables catalogue.tables held × HoldsRows catalogue.tables (head_with info.txns info.place) held (by_slot info.slot a b)
+
+module _ (text : List ℕ) (catalogue : CatalogueState) (batches : List (List Txn)) (a b : List ℕ) (ra : IsReadable text catalogue batches a) (rb : IsReadable text catalogue batches b) where
+  tables-a : (info : SlotInfo) → info_of A ra.state ≡ Some info → IsTablesOf catalogue a b info
+  tables-a info e =
+      let found = same-info A ra.state info e in
+      let front = ra.front found.0 found.1 in
+      subst (λ (i : SlotInfo). IsTablesOf catalogue a b i) (sym found.2) (front.0, front.1, front.2)
+
+  tables-b : (info : SlotInfo) → info_of B rb.state ≡ Some info → IsTablesOf catalogue a b info
+  tables-b info e =
+      let found = same-info B rb.state info e in
+      let front = rb.front found.0 found.1 in
+      subst (λ (i : SlotInfo). IsTablesOf catalogue a b i) (sym found.2) (front.0, front.1, front.2)
+
+  newest-tables : (newest : Option SlotInfo) → newest_among ra.state rb.state ≡ newest → (base : Tables) × (number : ℕ) × AreNewest catalogue a b newest base number
+  newest-tables None e = (empty, 0, (refl, refl))
+  newest-tables (Some info) e = go (newest-one (info_of A ra.state) (info_of B rb.state) info e)
+    where
+      out : IsTablesOf catalogue a b info → (base : Tables) × (number : ℕ) × AreNewest catalogue a b (Some info) base number
+      out tables = (tables.0, info.txns, (tables.1, tables.2, refl))
+
+      go : (info_of A ra.state ≡ Some info) ⊎ (info_of B rb.state ≡ Some info) → (base : Tables) × (number : ℕ) × AreNewest catalogue a b (Some info) base number
+      go (inl h) = out (tables-a info h)
+      go (inr h) = out (tables-b info h)
+
+pub is-stored : (text : List ℕ) (catalogue : CatalogueState) (history : List Txn) (least : ℕ) (images : Images) → Stands text catalogue history least images → (stored : Stored) × IsStored images stored
+is-stored text catalogue history least images is =
+    let few_tables = few-tables text catalogue is.log.log.accepted.has in
+    let ra = readable text catalogue few_tables is.batches images.slot_a is.slot_a in
+    let rb = readable text catalogue few_tables is.batches images.slot_b is.slot_b in
+    let found = newest-tables text catalogue is.batches images.slot_a images.slot_b ra rb (newest_among ra.state rb.state) refl in (
+      record { catalogue = catalogue; base = found.0; number = found.1; rest = drop found.1 (all_txns is.batches) },
+      record {
+        text = text;
+        batches = is.batches;
+        log = is.log;
+        a = ra.state;
+        b = rb.state;
+        is_a = ra.is;
+        is_b = rb.is;
+        newest = found.2;
+        behind = refl;
+      },
+    )

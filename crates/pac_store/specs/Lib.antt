@@ -1,0 +1,4 @@
+pub mod Images
+pub mod Stored
+pub mod Stands
+pub mod Fronts

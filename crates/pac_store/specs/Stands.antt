@@ -1,0 +1,62 @@
+-- Which history of transactions the devices stand for.
+use Rattle.std.specs.Prelude.{◌≡◌, ◌≤◌, ◌⊎◌, ℕ, List, [], ◌++◌, length, take, Ok}
+use Rattle.std.specs.FinMap.{empty}
+use Rattle.std.specs.List.{All}
+use Rattle.pac_value.specs.State.{Tables}
+use Rattle.pac_ops.specs.declared.transaction.Txn.{Txn}
+use Rattle.pac_outside.specs.GateByte.{IsShut}
+use Rattle.pac_types.specs.Execution.{serial}
+use Rattle.pac_types.specs.Fits.{FitTables, TxnFits}
+use Rattle.pac_types.specs.Typing.{CatalogueState}
+use Rattle.pac_log.specs.Logs.{HoldsLog, HasGate, all_txns}
+use Rattle.pac_check.specs.declared.head.Head.{Head}
+use Rattle.pac_check.specs.Checkpoints.{Checkpoint}
+use Rattle.pac_check.specs.SlotStates.{HoldsCheckpoint, HoldsRows}
+use Rattle.pac_store.specs.Images.{Images}
+
+-- serial execution of the transactions, from no rows on, ends with these tables
+abbrev pub EndsWith : CatalogueState → List Txn → Tables → Type 0
+EndsWith catalogue txns held = serial catalogue.procs 1 txns empty ≡ Ok held
+
+-- the transactions fit the catalogue, and serial execution of all of them, from no rows on, stops nowhere
+pub record IsHistory (catalogue : CatalogueState) (history : List Txn) : Type 0 where
+  pub fit : All (TxnFits catalogue) history
+  pub held : Tables
+  pub ends : EndsWith catalogue history held
+
+-- a slot is open with a checkpoint of a log's front: at the place of a gate, with the number of the transactions in front
+-- of it, and the tables with which serial execution of these ends
+pub record HoldsFront (text : List ℕ) (catalogue : CatalogueState) (batches : List (List Txn)) (image : List ℕ) : Type 0 where
+  pub head : Head
+  pub held : Tables
+  pub fit : FitTables catalogue.tables held
+  pub rows : HoldsRows catalogue.tables head held image
+  pub gate : HasGate text batches head.place head.txns
+  pub ends : EndsWith catalogue (take head.txns (all_txns batches)) held
+
+-- a slot's device has a byte; the slot is shut, or open with a checkpoint of the log's front
+abbrev pub IsShutOrFront : List ℕ → CatalogueState → List (List Txn) → List ℕ → Type 0
+IsShutOrFront text catalogue batches image = IsShut [] image ⊎ HoldsFront text catalogue batches image
+
+-- The devices stand for a history of at least so many transactions: the log is one of this catalogue's text and has no
+-- damage, its transactions are the first of the history, at least so many, and each slot is shut, or open with a
+-- checkpoint of the log's front.
+pub record Stands (text : List ℕ) (catalogue : CatalogueState) (history : List Txn) (least : ℕ) (images : Images) : Type 0 where
+  pub executes : IsHistory catalogue history
+  pub batches : List (List Txn)
+  pub log : HoldsLog text catalogue batches images.log
+  pub later : List Txn
+  pub front : history ≡ all_txns batches ++ later
+  pub enough : least ≤ length (all_txns batches)
+  pub slot_a : IsShutOrFront text catalogue batches images.slot_a
+  pub slot_b : IsShutOrFront text catalogue batches images.slot_b
+
+-- a slot is open with a checkpoint of at least so many transactions
+pub record HasSaved (catalogue : CatalogueState) (saved : ℕ) (image : List ℕ) : Type 0 where
+  pub checkpoint : Checkpoint
+  pub holds : HoldsCheckpoint catalogue.tables checkpoint image
+  pub enough : saved ≤ checkpoint.head.txns
+
+-- some slot is; of 0 transactions nothing is said
+abbrev pub HoldsSaved : CatalogueState → ℕ → Images → Type 0
+HoldsSaved catalogue saved images = (saved ≡ 0) ⊎ (HasSaved catalogue saved images.slot_a ⊎ HasSaved catalogue saved images.slot_b)
