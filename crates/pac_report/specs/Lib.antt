@@ -1,3 +1,5 @@
 pub mod Dump
 pub mod Explain
 pub mod GroupTexts
+pub mod Replies
+pub mod Status
