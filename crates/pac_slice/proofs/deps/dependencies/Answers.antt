@@ -1,12 +1,19 @@
 -- The edges that were added are the dependencies.
 use Rattle.std.proofs.Common.{◌+◌, length, ap, subst, arith}
 use Rattle.pac_graph.specs.Adding.{Adds, IsUpTo}
+use Rattle.pac_graph.proofs.AddLemmas.{upto_more}
 use Rattle.pac_ops.specs.Dependencies.{IsFlow}
 use Rattle.pac_slice.specs.Dependent.{IsFlowAt, IsClashFrom, IsClashPair}
 use Rattle.pac_slice.proofs.FlowLemmas.{flow_zero}
 use Rattle.pac_slice.proofs.ClashLemmas.{clash_pairs}
 use Rattle.pac_slice.proofs.PairLemmas.{pairs_added}
 use Rattle.pac_slice.proofs.deps.dependencies.Goals as goal
+
+pub loop-from-preserved : goal.loop-from-preserved
+loop-from-preserved c = let ops = c.args.program.now.ops in
+    let l = c.loop-from in
+    let new = c.add_clashes_from.new.graph in
+    upto_more (λ i. IsClashFrom ops (i + 1) i) c.in_ok-clash.clash l.clash new l.from l.invariant (subst (λ os. Adds l.clash (IsClashFrom os (l.from + 1) l.from) new) c.as_slice-ops.ensures c.add_clashes_from.ensures)
 
 pub returns-clause-flow : goal.returns-clause-flow
 returns-clause-flow c = let ops = c.args.program.now.ops in
