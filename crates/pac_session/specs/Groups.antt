@@ -1,0 +1,97 @@
+-- Where requests are cut into groups. The transactions of a group are committed together, and the replies of a group are
+-- held until then. The end of the input is a stop behind the requests.
+use Rattle.std.specs.Prelude.{ℕ, ◌+◌, Bool, true, false, List, [], ◌∷◌, ◌++◌, length, nat_le, nat_lt, ◌||◌, if◌then◌else◌, Option, Some, None}
+use Rattle.std.specs.List.{fold}
+use Rattle.pac_ops.specs.declared.transaction.Txn.{Txn}
+use Rattle.pac_request.specs.declared.limits.TheConstants.{MAX_BODY}
+use Rattle.pac_request.specs.Batches.{body_len}
+use Rattle.pac_request.specs.declared.request.Request.{Request}
+use Rattle.pac_request.specs.declared.request.Request.TheVariants as request
+use Rattle.pac_request.specs.declared.request.Reply.{Reply}
+use Rattle.pac_session.specs.Session.{Rules, State, txn_of, ends, replies, committed, up_to_stop}
+
+-- all requests of groups, in their order
+abbrev pub joined : List (List Request) → List Request
+joined [] = []
+joined (group ∷ groups) = group ++ joined groups
+
+-- groups that were closed, and the requests behind them
+pub record Cut : Type 0 where
+  pub closed : List (List Request)
+  pub rest : List Request
+
+-- a flush, a save and a stop close the group that they are in
+abbrev pub is_closing : Request → Bool
+is_closing (request.Call proc args) = false
+is_closing (request.AdHoc records) = false
+is_closing request.Flush = true
+is_closing (request.Show table key) = false
+is_closing request.Save = true
+is_closing request.Stop = true
+is_closing (request.Refused fault) = false
+
+-- the body of these transactions has no room for an entry more
+abbrev pub lacks_room : List Txn → Option Txn → Bool
+lacks_room txns None = false
+lacks_room txns (Some txn) = nat_lt MAX_BODY (body_len (txns ++ txn ∷ []))
+
+-- before a request the group is closed where its body has no room for the request's entry
+abbrev pub room_made : Rules → State → List Request → Request → Cut
+room_made rules start group asked =
+    if lacks_room (committed rules start group) (txn_of asked) then record { closed = group ∷ []; rest = [] } else record { closed = []; rest = group }
+
+-- the request goes behind these, which began at this state, and ends their group where it closes it, or where the group
+-- has as many replies as it may hold
+abbrev pub taken : Rules → State → List Request → Request → Cut
+taken rules start group asked =
+    let all = group ++ asked ∷ [] in
+    if is_closing asked || nat_le rules.most (length (replies rules start all)) then record { closed = all ∷ []; rest = [] } else record { closed = []; rest = all }
+
+-- one cut behind another
+abbrev pub behind : Cut → Cut → Cut
+behind one two = record { closed = one.closed ++ two.closed; rest = two.rest }
+
+-- one request more, behind a group that began at this state
+abbrev pub cut_one : Rules → State → List Request → Request → Cut
+cut_one rules start group asked =
+    let room = room_made rules start group asked in
+    behind room (taken rules (ends rules start (joined room.closed)) room.rest asked)
+
+-- one request more, behind a cut of requests that began at this state
+abbrev pub cut_more : Rules → State → Cut → Request → Cut
+cut_more rules start whole asked = behind whole (cut_one rules (ends rules start (joined whole.closed)) whole.rest asked)
+
+-- the groups that closings cut off these requests
+abbrev pub cut : Rules → State → List Request → Cut
+cut rules start requests = fold (cut_more rules start) (record { closed = []; rest = [] }) requests
+
+-- ---- what groups are
+
+-- a group: its requests, the transactions that it commits, its replies, and the place of the log's gate in front of it
+pub record Group : Type 0 where
+  pub requests : List Request
+  pub txns : List Txn
+  pub replies : List Reply
+  pub place : ℕ
+
+-- the place of the log's gate behind transactions that are committed together; where there are none nothing is written
+abbrev pub place_behind : ℕ → List Txn → ℕ
+place_behind place [] = place
+place_behind place (txn ∷ txns) = place + (1 + body_len (txn ∷ txns))
+
+-- lists of requests as groups, one behind the other, where the first begins at this place and this state
+abbrev pub described : Rules → ℕ → State → List (List Request) → List Group
+described rules place start [] = []
+described rules place start (group ∷ more) =
+    let txns = committed rules start group in
+    record { requests = group; txns = txns; replies = replies rules start group; place = place }
+    ∷ described rules (place_behind place txns) (ends rules start group) more
+
+-- the groups that closings cut off requests, up to the first stop; what the end of the requests alone would cut off is none
+abbrev pub groups : Rules → ℕ → State → List Request → List Group
+groups rules place start requests = described rules place start (cut rules start (up_to_stop requests)).closed
+
+-- the replies of groups, in their order
+abbrev pub all_replies : List Group → List Reply
+all_replies [] = []
+all_replies (group ∷ more) = group.replies ++ all_replies more
