@@ -182,7 +182,7 @@ made_once c ls a b h k = batches_one (steps h.said) a b h.cut (subst (λ (s : Li
 
 -- ---- the catalogue
 
-one_catalogue : (text : List ℕ) (a b : CatalogueState) → HasCatalogue text a → HasCatalogue text b → a ≡ b
+pub one_catalogue : (text : List ℕ) (a b : CatalogueState) → HasCatalogue text a → HasCatalogue text b → a ≡ b
 one_catalogue text a b h k = one_typed h.tree a b h.typed (same_tree h.tree k.tree b (reads_once text h.tree k.tree h.reads k.reads) k.typed)
 
 same_name : (procs : List Proc) (m n : ℕ) (f g : List ℕ) → m ≡ n → option_map (λ (p : Proc). p.name) (slice_get procs m) ≡ Some f → option_map (λ (p : Proc). p.name) (slice_get procs n) ≡ Some g → f ≡ g
@@ -200,7 +200,7 @@ one_excess procs f g a b h k =
     λ i. TooManyOps (names i) (counts i)
 
 -- an excess is none of the same catalogue where operations are few
-few_or_excess : (front : List ℕ) (c d : CatalogueState) (f : List ℕ) (a : ℕ) → HasCatalogue front c → HasFewOperations c.procs → HasCatalogue front d → IsExcess d.procs f a → ⊥
+pub few_or_excess : (front : List ℕ) (c d : CatalogueState) (f : List ℕ) (a : ℕ) → HasCatalogue front c → HasFewOperations c.procs → HasCatalogue front d → IsExcess d.procs f a → ⊥
 few_or_excess front c d f a h few k e = within-none d.procs e.number a (subst (λ (x : CatalogueState). HasFewOperations x.procs) (one_catalogue front c d h k) few) e.first.here
 
 -- ---- the parts of a text
@@ -232,7 +232,7 @@ script_or_fault front behind s (Line number f) h k =
 line_faults_once : (behind : List ℕ) (c : CatalogueState) (m n : ℕ) (f g : LineFault) → IsFirstRefused c (lines_behind behind) m f → IsFirstRefused c (lines_behind behind) n g → ◌≡◌ {A = ScriptFault} (Line m f) (Line n g)
 line_faults_once behind c m n f g h k = let same = refused_once c (lines_behind behind) m n f g h k in λ i. Line (same.0 i) (same.1 i)
 
-faults_once : (front behind : List ℕ) (f g : ScriptFault) → IsPartsFault front behind f → IsPartsFault front behind g → f ≡ g
+pub faults_once : (front behind : List ℕ) (f g : ScriptFault) → IsPartsFault front behind f → IsPartsFault front behind g → f ≡ g
 faults_once front behind (Catalogue f) (Catalogue g) h k = ap (λ (x : CatalogueFault). Catalogue x) (one_catalogue_fault front f g h k)
 faults_once front behind (Catalogue f) (TooManyOps name count) h k = absurd (catalogue_or_fault front k.0 f k.1 h)
 faults_once front behind (Catalogue f) (Line number g) h k = absurd (catalogue_or_fault front k.0 f k.1.has h)

@@ -1,0 +1,7 @@
+-- None of the first tables is over the limit.
+use Rattle.std.proofs.Common.{◌≡◌, None}
+use Rattle.pac_types.specs.Execution.{first_over}
+use Rattle.pac_serial.proofs.over.first_over.Given as goal
+
+abbrev pub invariant-loop-table : goal.invariant-loop-table
+invariant-loop-table g l = first_over l.limit l.table (g.R.Rows.held l.rows) ≡ None
