@@ -4,8 +4,14 @@
 #![tactic(auto)]
 
 #[cfg(test)]
-mod commands;
-#[cfg(test)]
 mod explain;
 #[cfg(test)]
+mod options;
+#[cfg(test)]
+mod refusals;
+#[cfg(test)]
 mod running;
+#[cfg(test)]
+mod scripts;
+#[cfg(test)]
+mod streams;

@@ -14,6 +14,10 @@ pub const USAGE: &str = "usage: pacman init, run, recover, explain, replay or st
 pub const BANK: &str =
     "table Family(key int, spouse int);\ntable Current(key int, value int);\ntable Saving(key int, value int);\ntable Stats(key int, count int);\nproc Transfer(src int, amount int) {\n  read dst = Family[src].spouse default 0;\n  if dst != 0 {\n    read a = Current[src].value default 0;\n    put Current[src] = (a - amount);\n    read b = Current[dst].value default 0;\n    put Current[dst] = (b + amount);\n    read s = Saving[src].value default 0;\n    put Saving[src] = (s + 1);\n  }\n}\nproc Deposit(name int, amount int, nation int) {\n  read v = Current[name].value default 0;\n  put Current[name] = (v + amount);\n  if v + amount > 10000 {\n    read s = Saving[name].value default 0;\n    put Saving[name] = (s + v / 50);\n  }\n  read n = Stats[nation].count default 0;\n  put Stats[nation] = (n + 1);\n}\n";
 
+// Adds to a column of a table.
+pub const ADD: &str =
+    "table T(key int, v int);\nproc Add(k int, n int) { read a = T[k].v default 0; let b = a + n; put T[k] = (b); }\n---\n";
+
 // What the program answers: its status, how often it entered the gate, and what the output and the error sink took.
 #[derive(Drop)]
 pub struct Answer {
@@ -55,6 +59,30 @@ pub fn run_over<RT: Threads + Wait + Sync, I: Source, O: Sink, E: Sink, G: Gate 
         slot_b: NoDisk::new(),
     };
     Ok(pacman(rt, alloc, &list, input, output, errors, &mut devices, gate))
+}
+
+// Runs the words over these texts one behind the other, and answers whether it ends with this status, output and line, and
+// enters no gate.
+pub fn ends_so<RT: Threads + Wait + Sync>(
+    rt: &RT,
+    alloc: Global,
+    words: &[&str],
+    input: [&str; 2],
+    end: (u8, &str, &str),
+) -> Result<bool, Fail> {
+    let input = joined(alloc, input[0], input[1])?;
+    let answer = run_words(rt, alloc, words, input, Vec::new(alloc), Vec::new(alloc))?;
+    Ok(answer.status == end.0
+        && answer.entered == 0
+        && answer.output.bytes() == end.1.as_bytes()
+        && answer.errors.bytes() == end.2.as_bytes())
+}
+
+// A text and another behind it.
+pub fn joined(alloc: Global, front: &str, behind: &str) -> Result<Vec<u8>, Fail> {
+    let mut text = front.as_bytes().to_vec(alloc)?;
+    text.extend_from_slice(behind.as_bytes())?;
+    Ok(text)
 }
 
 // Runs the word over this input, where these calls of the input and of the output fail.

@@ -1,5 +1,5 @@
 -- What is said of a tree, and of the bytes that were read, is said of the text and of the input.
-use Rattle.std.proofs.Common.{◌≡◌, ◌≤◌, ◌<◌, ◌+◌, ℕ, add-one, take, get_or, Bool, List, [], ◌∷◌, ◌++◌, length, Option, Some, None, Result, Ok, Err, Vec, Global, IfOk, IfSome, sym, ap, subst, ◌∙◌, arith, length-append, append-nil, inl, inr}
+use Rattle.std.proofs.Common.{◌≡◌, ◌≤◌, ◌<◌, ◌+◌, ℕ, add-one, take, get_or, Bool, List, [], ◌∷◌, ◌++◌, length, Option, Some, None, Result, Ok, Err, Vec, Global, IfOk, IfSome, refl, sym, ap, subst, ◌∙◌, arith, length-append, append-nil, inl, inr}
 use Rattle.std.specs.List.{AllZip}
 use Rattle.std.proofs.Math.Seq.{take-suc}
 use Rattle.std.specs.Io.KnownBytes.{prepend_known}
@@ -13,11 +13,19 @@ use Rattle.pac_types.specs.declared.text.CatalogueFault.TheVariants.{Syntax, Typ
 use Rattle.pac_types.specs.Typing.{CatalogueState, Types}
 use Rattle.pac_types.specs.CatalogueText.{HasCatalogue}
 use Rattle.pac_types.proofs.OneCatalogue.{catalogue_or_fault}
-use Rattle.pac_main.specs.declared.script_fault.ScriptFault.{ScriptFault}
-use Rattle.pac_main.specs.declared.script_fault.ScriptFault.TheVariants.{Catalogue, Operations, Refused}
-use Rattle.pac_main.specs.Script.{IsExcessFault, IsPartsFault}
+use Rattle.pac_base.specs.declared.refusal.Refusal.{Refusal}
+use Rattle.pac_base.specs.declared.refusal.Refusal.TheVariants as refusal
+use Rattle.pac_outside.specs.declared.failed.ReadError.{ReadError}
+use Rattle.pac_outside.specs.declared.failed.ReadError.TheVariants as read
+use Rattle.pac_request.specs.declared.script_fault.ScriptFault.{ScriptFault}
+use Rattle.pac_request.specs.declared.script_fault.ScriptFault.TheVariants.{Catalogue, TooManyOps, Line}
+use Rattle.pac_request.specs.Script.{IsPartsFault}
+use Rattle.pac_request.specs.ScriptReading.{IsExcessFault}
+use Rattle.pac_request.proofs.OneScript.{faults_once, few_or_excess}
+use Rattle.pac_main.specs.Causes.{GivesNoExplanation}
+use Rattle.pac_main.specs.Inputs.{input_of_read, input_of_script}
+use Rattle.pac_main.specs.Streams.{Observed, FaultsRose}
 use Rattle.pac_main.specs.Explained.{AreSlicesOf, IsTreeExplanation, IsExplanation, IsUnexplainedTree, IsUnexplained, IsTheCause, IsUnexplainedAs}
-use Rattle.pac_main.proofs.OneRefusal.{parts_once, few_or_excess}
 
 -- ---- a tree and its text
 
@@ -28,8 +36,8 @@ explained_text {F} with_text text tree (Err e) reads is = tt
 pub unexplained_text : (text : List ℕ) (tree : Tree) (fault : ScriptFault) → Reads text tree → IsUnexplainedTree tree fault → IsUnexplained text fault
 unexplained_text text tree (Catalogue (Syntax f)) reads is = absurd is
 unexplained_text text tree (Catalogue (Typing f)) reads is = record { tree = tree; reads = reads; first = is }
-unexplained_text text tree (Operations name count) reads is = (is.0, record { tree = tree; reads = reads; typed = is.1 }, is.2)
-unexplained_text text tree Refused reads is = absurd is
+unexplained_text text tree (TooManyOps name count) reads is = (is.0, record { tree = tree; reads = reads; typed = is.1 }, is.2)
+unexplained_text text tree (Line number f) reads is = absurd is
 
 -- ---- what was read and the input
 
@@ -49,28 +57,28 @@ unexplained_longer : (items rest : List ℕ) (fault : ScriptFault) → (length i
 unexplained_longer items rest (Catalogue (Syntax f)) at_end (inl long) = inl (omega (arith, length-append items rest, long.0), long.1)
 unexplained_longer items rest (Catalogue (Syntax f)) at_end (inr h) = same_text items rest (Catalogue (Syntax f)) (at_end h.0) (inr h)
 unexplained_longer items rest (Catalogue (Typing f)) at_end h = same_text items rest (Catalogue (Typing f)) (at_end h.reads.short) h
-unexplained_longer items rest (Operations name count) at_end h = same_text items rest (Operations name count) (at_end h.1.reads.short) h
-unexplained_longer items rest Refused at_end h = absurd h
+unexplained_longer items rest (TooManyOps name count) at_end h = same_text items rest (TooManyOps name count) (at_end h.1.reads.short) h
+unexplained_longer items rest (Line number f) at_end h = absurd h
 
 -- ---- one cause
 
-as_parts_fault : (text : List ℕ) (fault : ScriptFault) → IsUnexplained text fault → IsPartsFault text fault
+as_parts_fault : (text : List ℕ) (fault : ScriptFault) → IsUnexplained text fault → IsPartsFault text [] fault
 as_parts_fault text (Catalogue fault) h = h
-as_parts_fault text (Operations name count) h = h
-as_parts_fault text Refused h = absurd h
+as_parts_fault text (TooManyOps name count) h = h
+as_parts_fault text (Line number f) h = absurd h
 
 has_catalogue : (with_text : Bool) (text written : List ℕ) (e : IsExplanation with_text text written) → HasCatalogue text e.2.catalogue
 has_catalogue with_text text written e = record { tree = e.0; reads = e.1; typed = e.2.typed }
 
 not_explained : (text : List ℕ) (fault : ScriptFault) (with_text : Bool) (written : List ℕ) → IsUnexplained text fault → IsExplanation with_text text written → ⊥
 not_explained text (Catalogue fault) with_text written h e = catalogue_or_fault text e.2.catalogue fault (has_catalogue with_text text written e) h
-not_explained text (Operations name count) with_text written h e = few_or_excess text e.2.catalogue h.0 name count (has_catalogue with_text text written e) h.1 e.2.is_graph.2.few h.2
-not_explained text Refused with_text written h e = h
+not_explained text (TooManyOps name count) with_text written h e = few_or_excess text e.2.catalogue h.0 name count (has_catalogue with_text text written e) e.2.is_graph.2.few h.1 h.2
+not_explained text (Line number f) with_text written h e = h
 
 pub the_cause : (text : List ℕ) (fault : ScriptFault) → IsUnexplained text fault → IsTheCause text fault
 the_cause text fault h = record {
   is = h;
-  only = λ other k. parts_once text other fault (as_parts_fault text other k) (as_parts_fault text fault h);
+  only = λ other k. faults_once text [] other fault (as_parts_fault text other k) (as_parts_fault text fault h);
   none = λ with_text written e. not_explained text fault with_text written h e;
 }
 
@@ -78,8 +86,19 @@ unexplained_known : (items : List ℕ) (new : Option (List ℕ)) (fault : Script
 unexplained_known items None fault at_end is = tt
 unexplained_known items (Some rest) fault at_end is = the_cause (items ++ rest) fault (unexplained_longer items rest fault at_end is)
 
-pub input-unexplained : (old new : Option (List ℕ)) (items : List ℕ) (fault : ScriptFault) → Gave old items new → (length items ≤ 65536 → IsAtEnd new) → IsUnexplained items fault → IsUnexplainedAs old fault
+input-unexplained : (old new : Option (List ℕ)) (items : List ℕ) (fault : ScriptFault) → Gave old items new → (length items ≤ 65536 → IsAtEnd new) → IsUnexplained items fault → IsUnexplainedAs old fault
 input-unexplained old new items fault gave at_end is = subst (λ (o : Option (List ℕ)). IsUnexplainedAs o fault) (sym gave) (unexplained_known items new fault at_end is)
+
+-- ---- why nothing is explained
+
+pub catalogue-unread : {T : Type 0} (source : Observed) (error : ReadError) → (◌≡◌ {A = Result T ReadError} (Err error) (Err read.Failed) → FaultsRose source) → GivesNoExplanation source (input_of_read error)
+catalogue-unread source read.Failed rose = rose refl
+catalogue-unread source read.NoMemory rose = tt
+
+pub no-explanation : {T : Type 0} (source : Observed) (new : Option (List ℕ)) (items : List ℕ) (error : Refusal ScriptFault) → Gave source.before items new → (length items ≤ 65536 → IsAtEnd new)
+    → ((fault : ScriptFault) → ◌≡◌ {A = Result T (Refusal ScriptFault)} (Err error) (Err (refusal.Fault fault)) → IsUnexplained items fault) → GivesNoExplanation source (input_of_script error)
+no-explanation source new items (refusal.Fault fault) gave at_end is = input-unexplained source.before new items fault gave at_end (is fault refl)
+no-explanation source new items refusal.NoMemory gave at_end is = tt
 
 -- ---- the slices of programs, one program more at the end
 
@@ -99,7 +118,7 @@ slices_push programs graphs i program graph within at so_far slices =
 
 -- ---- too many operations
 
-pub tree_excess : (tree : Tree) (catalogue : CatalogueState) (fault : ScriptFault) → Types tree catalogue → IsExcessFault catalogue.procs fault → IsUnexplainedTree tree fault
-tree_excess tree catalogue (Operations name count) typed is = (catalogue, typed, is)
+pub tree_excess : (tree : Tree) (catalogue : CatalogueState) (fault : ScriptFault) → Types tree catalogue → IsExcessFault catalogue fault → IsUnexplainedTree tree fault
+tree_excess tree catalogue (TooManyOps name count) typed is = (catalogue, typed, is)
 tree_excess tree catalogue (Catalogue fault) typed is = absurd is
-tree_excess tree catalogue Refused typed is = absurd is
+tree_excess tree catalogue (Line number f) typed is = absurd is

@@ -1,11 +1,6 @@
-pub mod CallLemmas
-pub mod LineLemmas
-pub mod FitLemmas
-pub mod CallOnce
-pub mod RequestLemmas
-pub mod ScriptLemmas
-pub mod OneRefusal
+pub mod OverLemmas
+pub mod BatchLemmas
 pub mod InputLemmas
 pub mod StopLemmas
 pub mod ExplainLemmas
-pub mod BatchLemmas
+pub mod CommandLemmas

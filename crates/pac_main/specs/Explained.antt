@@ -1,6 +1,5 @@
 -- How `explain` ends.
-use Rattle.std.specs.Prelude.{◌≡◌, ◌≢◌, ℕ, Bool, true, false, List, [], ◌∷◌, ◌++◌, Option, IfSome, map, codes, String, string_bytes, if◌then◌else◌}
-use Rattle.std.specs.Global.{Global}
+use Rattle.std.specs.Prelude.{◌≡◌, ℕ, Bool, List, [], ◌∷◌, ◌++◌, Option, IfSome, map, if◌then◌else◌}
 use Rattle.std.specs.List.{AllZip}
 use Rattle.pac_syntax.specs.declared.tree.Tree.{Tree}
 use Rattle.pac_syntax.specs.Reading.{Reads}
@@ -18,25 +17,12 @@ use Rattle.pac_slice.specs.Slices.{AreSlices}
 use Rattle.pac_plan.specs.declared.parts.PlanParts.{PlanParts}
 use Rattle.pac_plan.specs.Analysis.{IsPlan}
 use Rattle.pac_report.specs.Explain.{explain_text}
-use Rattle.pac_main.specs.declared.script_fault.ScriptFault.{ScriptFault}
-use Rattle.pac_main.specs.declared.script_fault.ScriptFault.TheVariants.{Catalogue, Operations, Refused}
+use Rattle.pac_request.specs.declared.script_fault.ScriptFault.{ScriptFault}
+use Rattle.pac_request.specs.declared.script_fault.ScriptFault.TheVariants.{Catalogue, TooManyOps, Line}
+use Rattle.pac_request.specs.Script.{IsExcess}
 use Rattle.pac_main.specs.declared.stop.Stop.TheVariants as stop
-use Rattle.pac_main.specs.Streams.{Observed, FaultsRose, IsTaken, IsFrontTaken, IsTold}
+use Rattle.pac_main.specs.Streams.{Observed, FaultsRose, IsTaken, IsFrontTaken, IsTold, IsOneOf}
 use Rattle.pac_main.specs.Stop.{line_of}
-use Rattle.pac_main.specs.Script.{IsExcess}
-
--- ---- the words
-
--- the words are `explain`, and behind it `--text` where the canonical text is wanted
-abbrev pub IsExplain : List (String Global) → Bool → Type 0
-IsExplain [] with_text = ⊥
-IsExplain (word ∷ []) with_text = (string_bytes word ≡ codes "explain") × (with_text ≡ false)
-IsExplain (word ∷ option ∷ []) with_text = (string_bytes word ≡ codes "explain") × (string_bytes option ≡ codes "--text") × (with_text ≡ true)
-IsExplain (word ∷ option ∷ other ∷ others) with_text = ⊥
-
--- the words ask for an explanation
-abbrev pub AsksExplain : List (String Global) → Type 0
-AsksExplain words = (with_text : Bool) × IsExplain words with_text
 
 -- ---- what explains a catalogue
 
@@ -78,14 +64,14 @@ IsExplanationOf with_text input P = (written : List ℕ) × IfSome input (λ tex
 abbrev pub IsUnexplainedTree : Tree → ScriptFault → Type 0
 IsUnexplainedTree tree (Catalogue (Syntax fault)) = ⊥
 IsUnexplainedTree tree (Catalogue (Typing fault)) = IsFirstTypeFault tree fault
-IsUnexplainedTree tree (Operations name count) = (catalogue : CatalogueState) × Types tree catalogue × IsExcess catalogue.procs name count
-IsUnexplainedTree tree Refused = ⊥
+IsUnexplainedTree tree (TooManyOps name count) = (catalogue : CatalogueState) × Types tree catalogue × IsExcess catalogue.procs name count
+IsUnexplainedTree tree (Line number fault) = ⊥
 
 -- a text, for the first fault where it has no catalogue, or for the first procedure at which operations are too many
 abbrev pub IsUnexplained : List ℕ → ScriptFault → Type 0
 IsUnexplained text (Catalogue fault) = IsCatalogueFault text fault
-IsUnexplained text (Operations name count) = (catalogue : CatalogueState) × HasCatalogue text catalogue × IsExcess catalogue.procs name count
-IsUnexplained text Refused = ⊥
+IsUnexplained text (TooManyOps name count) = (catalogue : CatalogueState) × HasCatalogue text catalogue × IsExcess catalogue.procs name count
+IsUnexplained text (Line number fault) = ⊥
 
 -- the text isn't explained for this cause and for no other, and nothing explains it
 pub record IsTheCause (text : List ℕ) (fault : ScriptFault) : Type 0 where
@@ -99,10 +85,10 @@ IsUnexplainedAs input fault = IfSome input (λ text. IsTheCause text fault)
 
 -- ---- the statuses
 
--- how `explain` ends: a line for each status that it may have
+-- how `explain` ends: the statuses that it may have, and a line for each that has a cause
 pub record ExplainEnds (with_text : Bool) (status : ℕ) (input output errors : Observed) : Type 0 where
+  pub statuses : IsOneOf status (0 ∷ 2 ∷ 6 ∷ 7 ∷ 9 ∷ [])
   pub done : status ≡ 0 → IsExplanationOf with_text input.before (IsTaken output)
   pub refused : status ≡ 2 → (fault : ScriptFault) × IsUnexplainedAs input.before fault × IsTold errors (line_of (stop.Script fault))
-  pub aborted : status ≢ 4
   pub input_fault : status ≡ 6 → FaultsRose input
   pub output_fault : status ≡ 7 → FaultsRose output × IsExplanationOf with_text input.before (IsFrontTaken output)

@@ -1,11 +1,7 @@
-pub mod Lines
-pub mod Calls
-pub mod CallsRead
-pub mod Requests
-pub mod Script
 pub mod Inputs
 pub mod Streams
 pub mod Stop
+pub mod Commands
 pub mod Replay
 pub mod Explained
-pub mod Commands
+pub mod Causes

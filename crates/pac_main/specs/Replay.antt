@@ -1,71 +1,106 @@
 -- How `replay` ends.
-use Rattle.std.specs.Prelude.{◌≡◌, ℕ, List, [], ◌∷◌, Option, IfSome, map, codes, String, string_bytes, Result, Ok, Err}
-use Rattle.std.specs.Global.{Global}
+use Rattle.std.specs.Prelude.{◌≡◌, ◌≢◌, ◌≤◌, ◌<◌, ◌+◌, ℕ, List, [], ◌∷◌, length, slice_get, Option, Some, None, IfSome, Result, Ok, Err}
+use Rattle.std.specs.Option.{option_map}
+use Rattle.std.specs.List.{flat_map}
 use Rattle.std.specs.FinMap.{empty}
 use Rattle.pac_value.specs.State.{Tables}
+use Rattle.pac_ops.specs.declared.batch.Batch.{Batch}
 use Rattle.pac_ops.specs.declared.note.Note.{Note}
+use Rattle.pac_ops.specs.declared.transaction.Txn.{Txn}
 use Rattle.pac_tables.specs.Joined.{Held}
-use Rattle.pac_ops.specs.declared.transaction.Txn.TheVariants.{Call}
-use Rattle.pac_types.specs.Execution.{serial}
+use Rattle.pac_types.specs.Execution.{serial, first_over}
 use Rattle.pac_serial.specs.declared.serial.AllError.{AllError}
 use Rattle.pac_serial.specs.declared.serial.AllError.TheVariants.{Abort, NoMemory}
 use Rattle.pac_report.specs.Dump.{tables_text}
-use Rattle.pac_main.specs.declared.script.Script.{Script}
-use Rattle.pac_main.specs.declared.script_fault.ScriptFault.{ScriptFault}
+use Rattle.pac_request.specs.declared.script.Script.{Script}
+use Rattle.pac_request.specs.declared.script_fault.ScriptFault.{ScriptFault}
+use Rattle.pac_request.specs.Script.{ScriptSays}
+use Rattle.pac_main.specs.declared.limits.TheConstants.{MAX_INPUT}
 use Rattle.pac_main.specs.declared.stop.Stop.TheVariants as stop
-use Rattle.pac_main.specs.Streams.{Observed, FaultsRose, IsTaken, IsFrontTaken, IsTold}
-use Rattle.pac_main.specs.Stop.{line_of, abort_line}
-use Rattle.pac_main.specs.Script.{IsScript, IsTheRefusal}
+use Rattle.pac_main.specs.Streams.{Observed, FaultsRose, IsTaken, IsFrontTaken, IsTold, IsOneOf}
+use Rattle.pac_main.specs.Stop.{line_of, abort_line, rows_line}
 
--- the words are the one word `replay`
-abbrev pub IsReplay : List (String Global) → Type 0
-IsReplay [] = ⊥
-IsReplay (word ∷ []) = string_bytes word ≡ codes "replay"
-IsReplay (word ∷ other ∷ others) = ⊥
+-- ---- what the input is
 
--- the text is this script, and no other
-pub record IsTheScript (text : List ℕ) (script : Script) : Type 0 where
-  pub is : IsScript text script
-  pub only : (other : Script) → IsScript text other → script ≡ other
+-- the text has at most 67,108,864 bytes, and is read as this and as nothing else: a script, or its first fault
+pub record IsReadAs (text : List ℕ) (answer : Result Script ScriptFault) : Type 0 where
+  pub short : length text ≤ MAX_INPUT
+  pub says : ScriptSays text answer
+  pub only : (other : Result Script ScriptFault) → ScriptSays text other → other ≡ answer
 
 -- the input is this script, where the source tells it
 abbrev pub IsScriptOf : Script → Option (List ℕ) → Type 0
-IsScriptOf script input = IfSome input (λ text. IsTheScript text script)
+IsScriptOf script input = IfSome input (λ text. IsReadAs text (Ok script))
 
--- the input is no script, where the source tells it
-abbrev pub IsNoScript : Option (List ℕ) → Type 0
-IsNoScript input = IfSome input (λ text. (script : Script) → IsScript text script → ⊥)
-
--- the input is refused so, and in no other way, where the source tells it
+-- the input is no script, and this is its first fault, where the source tells it
 abbrev pub IsRefusedAs : Option (List ℕ) → ScriptFault → Type 0
-IsRefusedAs input fault = IfSome input (λ text. IsTheRefusal text fault)
+IsRefusedAs input fault = IfSome input (λ text. IsReadAs text (Err fault))
 
--- the tables with which serial execution of the calls ends, from no rows on, or its abort
+-- the input has more than 67,108,864 bytes, where the source tells it
+abbrev pub IsTooLong : Option (List ℕ) → Type 0
+IsTooLong input = IfSome input (λ text. MAX_INPUT < length text)
+
+-- ---- what its transactions give
+
+-- all transactions of batches, in their order
+abbrev pub txns_of : List Batch → List Txn
+txns_of batches = flat_map (λ batch. batch.txns) batches
+
+-- the transactions of the batches are numbered one behind another, from this number on
+abbrev pub AreNumberedFrom : ℕ → List Batch → Type 0
+AreNumberedFrom first [] = Unit {0}
+AreNumberedFrom first (batch ∷ batches) = (batch.first ≡ first) × AreNumberedFrom (first + length batch.txns) batches
+
+-- the tables with which serial execution of a script's transactions ends, from no rows on, or its abort
 abbrev pub outcome : Script → Result Tables Note
-outcome script = serial script.catalogue.procs 1 (map Call script.calls) empty
+outcome script = serial script.catalogue.procs 1 (txns_of script.batches) empty
 
--- the calls end with these tables, abort so, or find no memory
+-- the transactions end with these tables, abort so, or find no memory
 abbrev pub DoesEnd : Result Held AllError → Result Tables Note → Type 0
 DoesEnd (Ok held) meaning = meaning ≡ Ok held.rows
 DoesEnd (Err (Abort note)) meaning = meaning ≡ Err note
 DoesEnd (Err NoMemory) meaning = Unit {0}
 
+-- the number of the first of a script's tables that has more rows than the limit, and how many it has
+abbrev pub over : ℕ → Script → Tables → Option (ℕ × ℕ)
+over limit script tables = first_over limit (length script.catalogue.tables) tables
+
 -- the text of the tables, in the catalogue's order
 abbrev pub dump : Script → Tables → List ℕ
 dump script tables = tables_text tables 0 script.catalogue.tables
 
--- the input is a script whose calls end with some tables, whose dump has this property
-abbrev pub IsDumpOf : Option (List ℕ) → (List ℕ → Type 0) → Type 0
-IsDumpOf input P = (script : Script) × (tables : Tables) × IsScriptOf script input × (outcome script ≡ Ok tables) × P (dump script tables)
+-- ---- the causes of the statuses
 
--- the input is a script whose calls abort so
+-- the input is a script whose transactions end with tables within the limit, and their dump has this property
+pub record IsDumpOf (limit : ℕ) (input : Option (List ℕ)) (P : List ℕ → Type 0) : Type 0 where
+  pub script : Script
+  pub tables : Tables
+  pub is : IsScriptOf script input
+  pub ends : outcome script ≡ Ok tables
+  pub within : over limit script tables ≡ None
+  pub has : P (dump script tables)
+
+-- the input is a script whose transactions abort so
 abbrev pub IsAbortOf : Option (List ℕ) → Note → Type 0
 IsAbortOf input note = (script : Script) × IsScriptOf script input × (outcome script ≡ Err note)
 
--- how `replay` ends: a line for each status that it may have
-pub record ReplayEnds (status : ℕ) (input output errors : Observed) : Type 0 where
-  pub done : status ≡ 0 → IsDumpOf input.before (IsTaken output)
-  pub refused : status ≡ 2 → IsNoScript input.before × (fault : ScriptFault) × IsRefusedAs input.before fault × IsTold errors (line_of (stop.Script fault))
+-- the input is a script whose transactions end with tables of which the first over the limit has this name and so many rows
+pub record IsOverOf (limit : ℕ) (input : Option (List ℕ)) (name : List ℕ) (rows : ℕ) : Type 0 where
+  pub script : Script
+  pub tables : Tables
+  pub is : IsScriptOf script input
+  pub ends : outcome script ≡ Ok tables
+  pub number : ℕ
+  pub first : over limit script tables ≡ Some (number, rows)
+  pub named : option_map (λ table. table.name) (slice_get script.catalogue.tables number) ≡ Some name
+
+-- how `replay` ends under a limit of rows: the statuses that it may have, and a line for each that has a cause
+pub record ReplayEnds (limit status : ℕ) (input output errors : Observed) : Type 0 where
+  pub statuses : IsOneOf status (0 ∷ 2 ∷ 4 ∷ 5 ∷ 6 ∷ 7 ∷ 9 ∷ 11 ∷ [])
+  pub done : status ≡ 0 → IsDumpOf limit input.before (IsTaken output)
+  pub refused : status ≡ 2 → (fault : ScriptFault) × IsRefusedAs input.before fault × IsTold errors (line_of (stop.Script fault))
   pub aborted : status ≡ 4 → (note : Note) × IsAbortOf input.before note × IsTold errors (abort_line note)
+  pub over_limit : status ≡ 5 → (name : List ℕ) × (rows : ℕ) × IsOverOf limit input.before name rows × IsTold errors (rows_line name rows limit)
   pub input_fault : status ≡ 6 → FaultsRose input
-  pub output_fault : status ≡ 7 → FaultsRose output × IsDumpOf input.before (IsFrontTaken output)
+  pub output_fault : status ≡ 7 → FaultsRose output × IsDumpOf limit input.before (IsFrontTaken output)
+  pub too_long : status ≡ 11 → IsTooLong input.before

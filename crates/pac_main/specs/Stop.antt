@@ -7,11 +7,13 @@ use Rattle.pac_ops.specs.declared.note.Note.{Note}
 use Rattle.pac_ops.specs.Reasons.{reason_name}
 use Rattle.pac_serial.specs.declared.serial.AllError.{AllError}
 use Rattle.pac_serial.specs.declared.serial.AllError.TheVariants as serial
-use Rattle.pac_main.specs.declared.script_fault.ScriptFault.TheVariants.{Catalogue, Operations, Refused}
+use Rattle.pac_request.specs.declared.fault.LineFault.{LineFault}
+use Rattle.pac_request.specs.declared.script_fault.ScriptFault.TheVariants.{Catalogue, TooManyOps, Line}
+use Rattle.pac_request.specs.LineKinds.{line_kind_name}
 use Rattle.pac_main.specs.declared.input.InputError.{InputError}
 use Rattle.pac_main.specs.declared.input.InputError.TheVariants as input
 use Rattle.pac_main.specs.declared.stop.Stop.{Stop}
-use Rattle.pac_main.specs.declared.stop.Stop.TheVariants.{Usage, Script, Aborted, InputFault, OutputFault, NoMemory}
+use Rattle.pac_main.specs.declared.stop.Stop.TheVariants.{Usage, Script, Aborted, RowsOver, InputFault, OutputFault, NoMemory, TooLong}
 use Rattle.pac_main.specs.declared.tell.WordsError.{WordsError}
 use Rattle.pac_main.specs.declared.tell.WordsError.TheVariants as words
 
@@ -20,9 +22,11 @@ abbrev pub status_of : Stop → ℕ
 status_of Usage = 1
 status_of (Script fault) = 2
 status_of (Aborted note) = 4
+status_of (RowsOver name rows limit) = 5
 status_of InputFault = 6
 status_of OutputFault = 7
 status_of NoMemory = 9
+status_of TooLong = 11
 
 -- the transaction's number, the operation's, and the reason
 abbrev pub abort_line : Note → List ℕ
@@ -36,23 +40,33 @@ catalogue_line fault = codes "catalogue " ++ decimal (fault_place fault) ++ code
 abbrev pub operations_line : List ℕ → ℕ → List ℕ
 operations_line name count = codes "operations " ++ name ++ codes " " ++ decimal count ++ codes "\n"
 
+-- the number of a refused line, the place of its fault in it, and the kind
+abbrev pub script_line : ℕ → LineFault → List ℕ
+script_line number fault = codes "script " ++ decimal number ++ codes " " ++ decimal fault.at ++ codes " " ++ line_kind_name fault.kind ++ codes "\n"
+
+-- the name of a table over the limit, its rows, and the limit
+abbrev pub rows_line : List ℕ → ℕ → ℕ → List ℕ
+rows_line name rows limit = codes "rows " ++ name ++ codes " " ++ decimal rows ++ codes " " ++ decimal limit ++ codes "\n"
+
 -- whether a stop's line has numbers, and is made
 abbrev pub takes_memory : Stop → Bool
-takes_memory (Script (Catalogue fault)) = true
-takes_memory (Script (Operations name count)) = true
+takes_memory (Script fault) = true
 takes_memory (Aborted note) = true
+takes_memory (RowsOver name rows limit) = true
 takes_memory _ = false
 
 -- the line that the error sink is told of a stop
 abbrev pub line_of : Stop → List ℕ
 line_of Usage = codes "usage: pacman init, run, recover, explain, replay or stress\n"
 line_of (Script (Catalogue fault)) = catalogue_line fault
-line_of (Script (Operations name count)) = operations_line name count
-line_of (Script Refused) = codes "script refused\n"
+line_of (Script (TooManyOps name count)) = operations_line name count
+line_of (Script (Line number fault)) = script_line number fault
 line_of (Aborted note) = abort_line note
+line_of (RowsOver name rows limit) = rows_line name rows limit
 line_of InputFault = codes "input fault\n"
 line_of OutputFault = codes "output fault\n"
 line_of NoMemory = codes "no memory\n"
+line_of TooLong = codes "input too long\n"
 
 -- words that can't be read are no command's, or there was no memory for them
 abbrev pub stop_of_words : WordsError → Stop
@@ -62,6 +76,7 @@ stop_of_words words.NoMemory = NoMemory
 -- an input that holds no script stops with its cause
 abbrev pub stop_of_input : InputError → Stop
 stop_of_input input.Failed = InputFault
+stop_of_input input.TooLong = TooLong
 stop_of_input (input.Script fault) = Script fault
 stop_of_input input.NoMemory = NoMemory
 

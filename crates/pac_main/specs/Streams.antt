@@ -1,5 +1,6 @@
 -- What is observed of a stream that a command was given.
-use Rattle.std.specs.Prelude.{◌⊎◌, ℕ, List, Option}
+use Rattle.std.specs.Prelude.{◌⊎◌, ◌==◌, ℕ, List, Option, IsTrue}
+use Rattle.std.specs.List.{list_any}
 use Rattle.pac_outside.specs.Causes.{Rose}
 use Rattle.pac_outside.specs.Content.{Took, TookFront}
 
@@ -30,3 +31,7 @@ IsFrontTaken sink text = TookFront sink.before text sink.behind
 -- the sink took the line, or its count of faults rose and it took a front of it
 abbrev pub IsTold : Observed → List ℕ → Type 0
 IsTold sink line = IsTaken sink line ⊎ (FaultsRose sink × IsFrontTaken sink line)
+
+-- a command has one of these statuses
+abbrev pub IsOneOf : ℕ → List ℕ → Type 0
+IsOneOf status statuses = IsTrue (list_any (λ s. s == status) statuses)

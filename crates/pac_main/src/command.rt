@@ -1,49 +1,44 @@
 // The commands, by the words of the command line.
-ghost use Rattle.std.specs.Prelude.{◌≡◌, ◌≢◌, ◌↔◌, ◌∷◌, [], Bool, IsTrue, ◌+◌, ◌==◌};
-ghost use Rattle.std.specs.List.{list_any};
+ghost use Rattle.std.specs.Prelude.{◌≡◌, ◌≢◌, ◌↔◌, ◌∷◌, ℕ, [], Bool, ◌+◌};
 ghost use Rattle.pac_outside.specs.Content.{GaveAtMost};
-ghost use Rattle.pac_main.specs.Streams.{observed, IsTold};
+ghost use Rattle.pac_main.specs.Commands.{IsExplain, IsReplay, NamesCommand};
+ghost use Rattle.pac_main.specs.Explained.{ExplainEnds};
+ghost use Rattle.pac_main.specs.Replay.{ReplayEnds};
 ghost use Rattle.pac_main.specs.Stop.{status_of, line_of};
-ghost use Rattle.pac_main.specs.Commands.{NamesCommand};
-ghost use Rattle.pac_main.specs.Replay.{IsReplay, ReplayEnds};
-ghost use Rattle.pac_main.specs.Explained.{IsExplain, AsksExplain, ExplainEnds};
+ghost use Rattle.pac_main.specs.Streams.{IsOneOf, IsTold, observed};
 ghost use Rattle.pac_main.specs.declared.stop.Stop.{Stop as AStop};
 
-use crate::explain::explain_command;
-use crate::limits::MAX_SCRIPT;
-use crate::replay::{is_replay, replay_command};
+use crate::explain::explain_input;
+use crate::limits::MAX_INPUT;
+use crate::replay::replay_input;
 use crate::tell::{WordsError, refuse_words};
+use pac_base::NoMemory;
 use pac_outside::{Devices, Disk, Gate, Sink, Source};
+use pac_words::{Order, order_of};
 use std::alloc::Global;
 use std::sync::Wait;
 use std::thread::Threads;
 
-// Whether the first word is `explain`.
-fn begins_with_explain(words: &[String]) -> bool
-    ensures asks { AsksExplain words.now → IsTrue result }
-    ensures other { IsTrue result → ¬ IsReplay words.now }
-{
-    match words {
-        [word, ..] => word.as_str() == "explain",
-        [] => false,
-    }
-}
-
 /// Does what the words say, and answers the program's exit status.
 ///
-/// - `replay` reads a script from the input, to its end or to 65,537 bytes, executes its calls one after another from no
-///   rows on, and writes the tables. Time is near linear in the script and in the operations that its calls execute.
-/// - `explain` and `explain --text` do what [`explain_command`] says.
+/// - `replay [--workers N] [--rows N]` reads a script from the input, to its end or to 67,108,865 bytes, executes its
+///   transactions one after another from no rows on, and writes the tables where none has more rows than `--rows` says, or
+///   1,000,000. The number of workers, from 1 to 64, changes nothing. Time is near linear in the script and in the operations
+///   that its transactions execute.
+/// - `explain` and `explain --text` do what [`crate::explain_command`] says.
+/// - `init`, `run`, `recover` and `stress` are read, and answered as words that are no command: they don't run yet.
 ///
 /// | status | comes | the error sink takes |
 /// |---|---|---|
 /// | 0 | else: the output took the dump, or the explanation | nothing |
-/// | 1 | exactly where the words name no command | `usage: pacman init, run, recover, explain, replay or stress` |
-/// | 2 | only where the input is no script, or its catalogue isn't explained | `catalogue AT KIND` where the catalogue's text isn't read, or isn't typed: its first fault; `operations PROC COUNT` where its operations are too many: the first procedure at which they are, and how many; else, of `replay` alone, `script refused` |
-/// | 4 | only where serial execution of the calls of a replay aborts | `abort TXN OP REASON` |
+/// | 1 | exactly where the words name no command that runs, unless there was no memory to read them | `usage: pacman init, run, recover, explain, replay or stress` |
+/// | 2 | only where the input is no script, or its catalogue isn't explained | its first fault: `catalogue AT KIND` where the catalogue's text isn't read, or isn't typed; `operations PROC COUNT` where its operations are too many: the first procedure at which they are, and how many; else, of `replay` alone, `script LINE AT KIND`: the first line that is refused, from 1 on, and its fault |
+/// | 4 | only where serial execution of the transactions of a replay aborts | `abort TXN OP REASON` |
+/// | 5 | only where they end with a table that has more rows than the limit; the first | `rows TABLE ROWS LIMIT` |
 /// | 6 | only where the input's count of faults rose | `input fault` |
 /// | 7 | only where the output's count of faults rose; the output took a front of its text | `output fault` |
 /// | 9 | where an allocation was refused | `no memory` |
+/// | 11 | only where the input of a replay has more than 67,108,864 bytes | `input too long` |
 ///
 /// A failing error sink changes no status. The call waits for nobody: it calls no gate, and hands the runtime to nothing.
 pub fn pacman<RT: Threads + Wait + Sync, I: Source, O: Sink, E: Sink, D: Disk, G: Gate + Sync>(
@@ -56,11 +51,11 @@ pub fn pacman<RT: Threads + Wait + Sync, I: Source, O: Sink, E: Sink, D: Disk, G
     devices: &mut Devices<D>,
     _gate: &G,
 ) -> u8
-    ensures status { IsTrue (list_any (λ status. status == result) (0 ∷ 1 ∷ 2 ∷ 4 ∷ 6 ∷ 7 ∷ 9 ∷ [])) }
+    ensures status { IsOneOf result (0 ∷ 1 ∷ 2 ∷ 4 ∷ 5 ∷ 6 ∷ 7 ∷ 9 ∷ 11 ∷ []) }
 
-    // Each command ends so, by its status; where the words name none, it is 1.
-    ensures usage { (result ≡ 1) ↔ ¬ NamesCommand words.now }
-    ensures replay { IsReplay words.now → ReplayEnds result
+    // Each command ends so, by its status; where the words name none that runs, it is 1.
+    ensures usage { result ≢ 9 → (result ≡ 1) ↔ ¬ NamesCommand words.now }
+    ensures replay { (limit : ℕ) → IsReplay words.now limit → ReplayEnds limit result
         (observed I.left I.faults input.old input.new) (observed O.held O.faults output.old output.new) (observed E.held E.faults errors.old errors.new) }
     ensures explain { (with_text : Bool) → IsExplain words.now with_text → ExplainEnds with_text result
         (observed I.left I.faults input.old input.new) (observed O.held O.faults output.old output.new) (observed E.held E.faults errors.old errors.new) }
@@ -72,16 +67,15 @@ pub fn pacman<RT: Threads + Wait + Sync, I: Source, O: Sink, E: Sink, D: Disk, G
     ensures quiet { result ≡ 0 → errors.new ≡ errors.old }
     ensures told { result ≢ 0 → (stop : AStop) × (result ≡ status_of stop) × IsTold (observed E.held E.faults errors.old errors.new) (line_of stop) }
 
-    // It reads at most one byte more than a script has, nothing where the words are wrong, and calls no device.
-    ensures taken { GaveAtMost (MAX_SCRIPT + 1) (I.left input.old) (I.left input.new) }
+    // It reads at most one byte more than an input may have, nothing where the words are wrong, and calls no device.
+    ensures taken { GaveAtMost (MAX_INPUT + 1) (I.left input.old) (I.left input.new) }
     ensures unread { ¬ NamesCommand words.now → input.new ≡ input.old }
     ensures devices { devices.new ≡ devices.old }
 {
-    if begins_with_explain(words) {
-        return explain_command(alloc, words, input, output, errors);
+    match order_of(alloc, words) {
+        Ok(Some(Order::Explain { text })) => explain_input(alloc, text, input, output, errors),
+        Ok(Some(Order::Replay { rows, .. })) => replay_input(alloc, rows, input, output, errors),
+        Ok(_) => refuse_words(WordsError::Usage, errors),
+        Err(NoMemory) => refuse_words(WordsError::NoMemory, errors),
     }
-    if is_replay(words) {
-        return replay_command(alloc, input, output, errors);
-    }
-    refuse_words(WordsError::Usage, errors)
 }

@@ -1,22 +1,22 @@
 // The command `explain`.
-ghost use Rattle.std.specs.Prelude.{◌≡◌, ◌≢◌, ◌↔◌, ◌∷◌, ℕ, List, [], Bool, Option, IfOk, OnOk, OnErr, IfSome, MatchOption, IsErrOf, IsTrue, ◌+◌, ◌==◌};
-ghost use Rattle.std.specs.List.{list_any};
-ghost use Rattle.pac_outside.specs.Causes.{Rose};
-ghost use Rattle.pac_outside.specs.Content.{Took, TookFront, GaveAtMost};
-ghost use Rattle.pac_ops.specs.declared.note.Note.{Note as ANote};
+ghost use Rattle.std.specs.Prelude.{◌≡◌, ◌≢◌, ◌↔◌, ◌∷◌, [], Bool, IfOk, IfErr, IfSome, OnOk, OnErr, ◌+◌};
+ghost use Rattle.pac_outside.specs.Content.{GaveAtMost};
 ghost use Rattle.pac_syntax.specs.declared.limits.TheConstants.{MAX_CATALOGUE};
+ghost use Rattle.pac_main.specs.Causes.{ExplainStops, GivesNoExplanation};
+ghost use Rattle.pac_main.specs.Commands.{AsksExplain, IsExplain};
+ghost use Rattle.pac_main.specs.Explained.{ExplainEnds, IsExplanation, IsExplanationOf};
 ghost use Rattle.pac_main.specs.Stop.{status_of, line_of};
-ghost use Rattle.pac_main.specs.Streams.{observed, IsTold};
-ghost use Rattle.pac_main.specs.Explained.{IsExplain, AsksExplain, IsExplanation, IsExplanationOf, IsUnexplainedAs, ExplainEnds};
-ghost use Rattle.pac_main.specs.declared.script_fault.ScriptFault.{ScriptFault as AFault};
+ghost use Rattle.pac_main.specs.Streams.{IsOneOf, IsTaken, IsTold, observed};
 ghost use Rattle.pac_main.specs.declared.stop.Stop.{Stop as AStop};
 
 use crate::explanation::explain;
 use crate::input::InputError;
 use crate::stop::Stop;
 use crate::tell::{WordsError, refuse_words, told};
+use pac_base::NoMemory;
 use pac_outside::{Sink, Source, read_up_to, write_all};
 use pac_syntax::MAX_CATALOGUE;
+use pac_words::{Order, order_of};
 use std::alloc::Global;
 
 // What is written of the catalogue that the source holds.
@@ -26,8 +26,7 @@ fn read_explanation<I: Source>(
     input: &mut I,
 ) -> Result<Vec<u8>, InputError>
     ensures ok { IfOk result (λ written. IfSome (I.left input.old) (λ text. IsExplanation with_text text written.items)) }
-    ensures refused { (fault : AFault) → IsErrOf result (InputError.Script fault) → IsUnexplainedAs (I.left input.old) fault }
-    ensures input_fault { IsErrOf result InputError.Failed → Rose (I.faults input.old) (I.faults input.new) }
+    ensures stops { IfErr result (GivesNoExplanation (observed I.left I.faults input.old input.new)) }
     ensures taken { GaveAtMost (MAX_CATALOGUE + 1) (I.left input.old) (I.left input.new) }
 {
     let text = read_up_to(alloc, input, MAX_CATALOGUE)?;
@@ -41,29 +40,13 @@ fn write_explanation<I: Source, O: Sink>(
     input: &mut I,
     output: &mut O,
 ) -> Result<(), Stop>
-    ensures done { OnOk result (IsExplanationOf with_text (I.left input.old) (λ text. Took (O.held output.old) text (O.held output.new))) }
-    ensures refused { (fault : AFault) → IsErrOf result (Stop.Script fault) → IsUnexplainedAs (I.left input.old) fault }
-    ensures aborted { (note : ANote) → ¬ IsErrOf result (Stop.Aborted note) }
-    ensures input_fault { IsErrOf result Stop.InputFault → Rose (I.faults input.old) (I.faults input.new) }
-    ensures output_fault { IsErrOf result Stop.OutputFault → Rose (O.faults output.old) (O.faults output.new) }
-    ensures front { IsErrOf result Stop.OutputFault → IsExplanationOf with_text (I.left input.old) (λ text. TookFront (O.held output.old) text (O.held output.new)) }
-    ensures kept { OnErr result (¬ IsErrOf result Stop.OutputFault → output.new ≡ output.old) }
+    ensures done { OnOk result (IsExplanationOf with_text (I.left input.old) (IsTaken (observed O.held O.faults output.old output.new))) }
+    ensures stops { IfErr result (ExplainStops with_text (observed I.left I.faults input.old input.new) (observed O.held O.faults output.old output.new)) }
+    ensures kept { IfErr result (λ stop. stop ≢ Stop.OutputFault → output.new ≡ output.old) }
     ensures taken { GaveAtMost (MAX_CATALOGUE + 1) (I.left input.old) (I.left input.new) }
-    ensures no_usage { ¬ IsErrOf result Stop.Usage }
 {
     let text = read_explanation(alloc, with_text, input)?;
     Ok(write_all(output, &text)?)
-}
-
-// Whether the canonical text is wanted. `None`: the words don't ask for an explanation.
-fn with_text_of(words: &[String]) -> Option<bool>
-    ensures { MatchOption result (¬ AsksExplain words.now) (IsExplain words.now) }
-{
-    match words {
-        [word] if word.as_str() == "explain" => Some(false),
-        [word, option] if word.as_str() == "explain" && option.as_str() == "--text" => Some(true),
-        _ => None,
-    }
 }
 
 /// Does what the words `explain` or `explain --text` say, and answers the program's exit status: reads a catalogue's text
@@ -73,7 +56,7 @@ fn with_text_of(words: &[String]) -> Option<bool>
 /// | status | comes | the error sink takes |
 /// |---|---|---|
 /// | 0 | else: the output took the text | nothing |
-/// | 1 | exactly where the words are neither `explain` nor `explain --text` | the usage |
+/// | 1 | exactly where the words are neither `explain` nor `explain --text`, unless there was no memory to read them | the usage |
 /// | 2 | only where the catalogue is refused: its first fault, or the first procedure at which operations are too many | `catalogue AT KIND` or `operations PROC COUNT` |
 /// | 6 | only where the input's count of faults rose | `input fault` |
 /// | 7 | only where the output's count of faults rose; the output took a front of the text | `output fault` |
@@ -87,8 +70,8 @@ pub fn explain_command<I: Source, O: Sink, E: Sink>(
     output: &mut O,
     errors: &mut E,
 ) -> u8
-    ensures status { IsTrue (list_any (λ status. status == result) (0 ∷ 1 ∷ 2 ∷ 6 ∷ 7 ∷ 9 ∷ [])) }
-    ensures usage { (result ≡ 1) ↔ ¬ AsksExplain words.now }
+    ensures status { IsOneOf result (0 ∷ 1 ∷ 2 ∷ 6 ∷ 7 ∷ 9 ∷ []) }
+    ensures usage { result ≢ 9 → (result ≡ 1) ↔ ¬ AsksExplain words.now }
     ensures ends { (with_text : Bool) → IsExplain words.now with_text → ExplainEnds with_text result
         (observed I.left I.faults input.old input.new) (observed O.held O.faults output.old output.new) (observed E.held E.faults errors.old errors.new) }
     ensures kept { result ≢ 0 → result ≢ 7 → output.new ≡ output.old }
@@ -97,21 +80,22 @@ pub fn explain_command<I: Source, O: Sink, E: Sink>(
     ensures taken { GaveAtMost (MAX_CATALOGUE + 1) (I.left input.old) (I.left input.new) }
     ensures unread { ¬ AsksExplain words.now → input.new ≡ input.old }
 {
-    match with_text_of(words) {
-        Some(with_text) => explain_input(alloc, with_text, input, output, errors),
-        None => refuse_words(WordsError::Usage, errors),
+    match order_of(alloc, words) {
+        Ok(Some(Order::Explain { text })) => explain_input(alloc, text, input, output, errors),
+        Ok(_) => refuse_words(WordsError::Usage, errors),
+        Err(NoMemory) => refuse_words(WordsError::NoMemory, errors),
     }
 }
 
-// The same, where the words are right.
-fn explain_input<I: Source, O: Sink, E: Sink>(
+/// Writes what explains the catalogue whose text the input holds, behind its canonical text where that is wanted, and tells
+/// why where that stops before its end.
+pub(crate) fn explain_input<I: Source, O: Sink, E: Sink>(
     alloc: Global,
     with_text: bool,
     input: &mut I,
     output: &mut O,
     errors: &mut E,
 ) -> u8
-    ensures status { IsTrue (list_any (λ status. status == result) (0 ∷ 2 ∷ 6 ∷ 7 ∷ 9 ∷ [])) }
     ensures ends { ExplainEnds with_text result
         (observed I.left I.faults input.old input.new) (observed O.held O.faults output.old output.new) (observed E.held E.faults errors.old errors.new) }
     ensures kept { result ≢ 0 → result ≢ 7 → output.new ≡ output.old }

@@ -8,20 +8,19 @@ ghost use Rattle.pac_flat.specs.FlatForm.{program_of};
 ghost use Rattle.pac_print.specs.Canonical.{canonical};
 ghost use Rattle.pac_syntax.specs.Reading.{IsTree};
 ghost use Rattle.pac_types.specs.Fits.{shape};
-ghost use Rattle.pac_types.specs.OperationLimits.{HasFewOperations};
+ghost use Rattle.pac_types.specs.OperationLimits.{HasFewOperations, IsFirstExcess};
 ghost use Rattle.pac_main.specs.Explained.{AreSlicesOf, IsExplanation, IsGraphText, IsTreeExplanation, IsUnexplained, IsUnexplainedTree};
-ghost use Rattle.pac_main.specs.Script.{IsExcessFault};
-ghost use Rattle.pac_main.specs.declared.script_fault.ScriptFault.{ScriptFault as AFault};
+ghost use Rattle.pac_request.specs.ScriptReading.{IsExcessFault};
+ghost use Rattle.pac_request.specs.declared.script_fault.ScriptFault.{ScriptFault as AFault};
 
-use crate::script::excess_fault;
-use crate::script_fault::{ScriptError, ScriptFault};
 use pac_base::{NoMemory, Refusal};
-use pac_flat::flatten;
+use pac_flat::{TooManyOps, flatten};
 use pac_global::global;
 use pac_ops::Program;
 use pac_plan::is_plan;
 use pac_print::print;
 use pac_report::explain_text;
+use pac_request::{ScriptError, ScriptFault};
 use pac_slice::{LocalGraph, slices};
 use pac_syntax::{Tree, parse_catalogue};
 use pac_types::{Catalogue, CatalogueFault, check};
@@ -31,7 +30,7 @@ use std::alloc::Global;
 ///
 /// # Errors
 ///
-/// `Fault` where the text has no catalogue, or one with too many operations; it is never `Refused`.
+/// `Fault` where the text has no catalogue, or one with too many operations; it is never `Line`.
 pub fn explain(alloc: Global, with_text: bool, text: &[u8]) -> Result<Vec<u8>, ScriptError>
     ensures ok { IfOk result (λ written. IsExplanation with_text text.now written.items) }
     ensures fault { (fault : AFault) → IsErrOf result (error.Fault fault) → IsUnexplained text.now fault }
@@ -79,12 +78,23 @@ fn front_text(alloc: Global, with_text: bool, tree: &Tree) -> Result<Vec<u8>, No
 // The text of the graph, where operations are few enough for one.
 fn graph_text(alloc: Global, catalogue: &Catalogue) -> Result<Vec<u8>, ScriptError>
     ensures ok { IfOk result (λ text. IsGraphText catalogue.now text.items) }
-    ensures fault { (fault : AFault) → IsErrOf result (error.Fault fault) → IsExcessFault catalogue.now.procs fault }
+    ensures fault { (fault : AFault) → IsErrOf result (error.Fault fault) → IsExcessFault catalogue.now fault }
 {
     match flatten(alloc, catalogue) {
         Ok(programs) => Ok(planned_text(alloc, catalogue, programs)?),
         Err(Refusal::Fault(excess)) => Err(Refusal::Fault(excess_fault(catalogue, excess))),
         Err(Refusal::NoMemory) => Err(Refusal::NoMemory),
+    }
+}
+
+// The name of the first procedure at which operations are too many, and how many they are.
+fn excess_fault(catalogue: &Catalogue, excess: TooManyOps) -> ScriptFault
+    requires { IsFirstExcess catalogue.now.procs excess.proc excess.count }
+    ensures { IsExcessFault catalogue.now result }
+{
+    ScriptFault::TooManyOps {
+        proc: catalogue.procs()[usize::from(excess.proc)].name,
+        count: excess.count,
     }
 }
 

@@ -2,9 +2,9 @@
 ghost use Rattle.std.specs.Prelude.{◌≡◌};
 ghost use Rattle.pac_main.specs.Inputs.{input_of_read, input_of_script};
 
-use crate::script_fault::{ScriptError, ScriptFault};
 use pac_base::Refusal;
 use pac_outside::ReadError;
+use pac_request::{ScriptError, ScriptFault};
 use thiserror::Error;
 
 /// Why a command gets nothing from its input.
@@ -13,6 +13,9 @@ pub enum InputError {
     /// It could not be read.
     #[error("the input failed")]
     Failed,
+    /// It has more than 67,108,864 bytes, where a script is wanted.
+    #[error("the input is too long")]
+    TooLong,
     /// What was read is no script, or has no catalogue that is explained.
     #[error("{0}")]
     Script(ScriptFault),

@@ -4,29 +4,23 @@
 //! - [`explain_command`]: what it does where the words ask for an explanation.
 //! - [`refuse_words`]: answers the exit status where these words couldn't be read.
 //!
-//! What the call answers stands in `specs/`: `Lines` (the lines of a text, and the line that ends a catalogue), `Calls`
-//! (how a call is written, and when it fits its procedure), `Requests` (what a request line says), `Script` (which texts
-//! are scripts), `Replay` and `Explained` (how each command ends, by its status), `Streams` (what is observed of a stream) and
+//! Each command is a file of its own. What the calls answer stands in `specs/`: `Commands` (what the words say, and which
+//! commands run), `Replay` and `Explained` (how each command ends, by its status), `Streams` (what is observed of a stream) and
 //! `Stop` (the exit statuses and their lines).
 #![tactic(auto)]
 
-mod call;
 mod command;
 mod execution;
 mod explain;
 mod explanation;
 mod input;
 mod limits;
-mod lines;
+mod line;
 mod replay;
-mod request;
-mod script;
-mod script_fault;
-mod split;
 mod stop;
 mod tell;
 
 pub use command::pacman;
 pub use explain::explain_command;
-pub use limits::{MAX_LINE, MAX_SCRIPT};
+pub use limits::MAX_INPUT;
 pub use tell::{WordsError, refuse_words};

@@ -1,7 +1,4 @@
-// How long a script and its lines may be.
+// How long an input may be.
 
-/// The most bytes of a script.
-pub const MAX_SCRIPT: usize = 65_536;
-
-/// The most bytes of a request line.
-pub const MAX_LINE: usize = 4_096;
+/// The most bytes of an input of request lines or of a script.
+pub const MAX_INPUT: usize = 67_108_864;

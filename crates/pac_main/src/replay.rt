@@ -1,82 +1,119 @@
 // The command `replay`.
-ghost use Rattle.std.specs.Prelude.{◌≡◌, ◌≢◌, ◌↔◌, ◌∷◌, ℕ, List, [], Option, IfOk, OnOk, OnErr, IsErrOf, IsTrue, ◌+◌, ◌==◌};
-ghost use Rattle.std.specs.List.{list_any, AllByRecursion};
-ghost use Rattle.pac_outside.specs.Causes.{Rose};
-ghost use Rattle.pac_outside.specs.Content.{Took, TookFront, GaveAtMost};
-ghost use Rattle.pac_ops.specs.declared.note.Note.{Note as ANote};
-ghost use Rattle.pac_types.specs.Fits.{FitsProcs};
-ghost use Rattle.pac_main.specs.Streams.{observed, IsTold};
-ghost use Rattle.pac_main.specs.Stop.{status_of, line_of};
-ghost use Rattle.pac_main.specs.Replay.{IsReplay, IsScriptOf, IsNoScript, IsRefusedAs, outcome, IsDumpOf, IsAbortOf, DoesEnd, ReplayEnds};
-ghost use Rattle.pac_main.specs.declared.script_fault.ScriptFault.{ScriptFault as AFault};
+ghost use Rattle.std.specs.Prelude.{◌≡◌, ◌≢◌, ◌≤◌, ◌+◌, None, IfOk, IfErr, IfSome, OnOk, OnErr, Ok, length};
+ghost use Rattle.pac_outside.specs.Content.{GaveAtMost};
+ghost use Rattle.pac_types.specs.Execution.{first_over};
+ghost use Rattle.pac_request.specs.RequestFits.{BatchesFit, BatchesHaveNumbers};
+ghost use Rattle.pac_main.specs.Causes.{AreOver, GivesNoScript, ReplayStops, ScriptStops};
+ghost use Rattle.pac_main.specs.Replay.{AreNumberedFrom, IsDumpOf, IsScriptOf, IsTooLong, ReplayEnds, outcome, over};
+ghost use Rattle.pac_main.specs.Stop.{line_of, status_of};
+ghost use Rattle.pac_main.specs.Streams.{IsTaken, IsTold, observed};
 ghost use Rattle.pac_main.specs.declared.stop.Stop.{Stop as AStop};
 
 use crate::execution::execute;
 use crate::input::InputError;
-use crate::limits::MAX_SCRIPT;
-use crate::script::{Script, read_script};
+use crate::limits::MAX_INPUT;
 use crate::stop::Stop;
 use crate::tell::told;
 use pac_outside::{Sink, Source, read_up_to, write_all};
 use pac_report::dump;
+use pac_request::{Script, read_script};
+use pac_serial::first_over;
+use pac_tables::OrderedRows;
+use pac_types::Catalogue;
 use std::alloc::Global;
+
+// All that the source holds.
+fn read_whole<I: Source>(alloc: Global, input: &mut I) -> Result<Vec<u8>, InputError>
+    ensures whole { IfOk result (λ text. IfSome (I.left input.old) (λ all. all ≡ text.items)) }
+    ensures short { IfOk result (λ text. length text.items ≤ MAX_INPUT) }
+    ensures stops { IfErr result (GivesNoScript (observed I.left I.faults input.old input.new)) }
+    ensures taken { GaveAtMost (MAX_INPUT + 1) (I.left input.old) (I.left input.new) }
+{
+    let text = read_up_to(alloc, input, MAX_INPUT)?;
+    if text.len() > MAX_INPUT {
+        return Err(InputError::TooLong);
+    }
+    Ok(text)
+}
 
 // The script that the source holds.
 fn read_input<I: Source>(alloc: Global, input: &mut I) -> Result<Script, InputError>
     ensures ok { IfOk result (λ script. IsScriptOf script (I.left input.old)) }
-    ensures fit { IfOk result (λ script. AllByRecursion (FitsProcs script.catalogue.procs) script.calls) }
-    ensures refused { (fault : AFault) → IsErrOf result (InputError.Script fault) → IsNoScript (I.left input.old) × IsRefusedAs (I.left input.old) fault }
-    ensures input_fault { IsErrOf result InputError.Failed → Rose (I.faults input.old) (I.faults input.new) }
-    ensures taken { GaveAtMost (MAX_SCRIPT + 1) (I.left input.old) (I.left input.new) }
+    ensures fit { IfOk result (λ script. BatchesFit script.catalogue script.batches) }
+    ensures small { IfOk result (λ script. BatchesHaveNumbers script.batches) }
+    ensures numbered { IfOk result (λ script. AreNumberedFrom 1 script.batches) }
+    ensures stops { IfErr result (GivesNoScript (observed I.left I.faults input.old input.new)) }
+    ensures taken { GaveAtMost (MAX_INPUT + 1) (I.left input.old) (I.left input.new) }
 {
-    let text = read_up_to(alloc, input, MAX_SCRIPT)?;
+    let text = read_whole(alloc, input)?;
     Ok(read_script(alloc, &text)?)
 }
 
-// Replays the script and writes the dump.
-fn replay<I: Source, O: Sink>(alloc: Global, input: &mut I, output: &mut O) -> Result<(), Stop>
-    ensures done { OnOk result (IsDumpOf (I.left input.old) (λ text. Took (O.held output.old) text (O.held output.new))) }
-    ensures refused { (fault : AFault) → IsErrOf result (Stop.Script fault) → IsNoScript (I.left input.old) × IsRefusedAs (I.left input.old) fault }
-    ensures aborted { (note : ANote) → IsErrOf result (Stop.Aborted note) → IsAbortOf (I.left input.old) note }
-    ensures input_fault { IsErrOf result Stop.InputFault → Rose (I.faults input.old) (I.faults input.new) }
-    ensures output_fault { IsErrOf result Stop.OutputFault → Rose (O.faults output.old) (O.faults output.new) }
-    ensures front { IsErrOf result Stop.OutputFault → IsDumpOf (I.left input.old) (λ text. TookFront (O.held output.old) text (O.held output.new)) }
-    ensures kept { OnErr result (¬ IsErrOf result Stop.OutputFault → output.new ≡ output.old) }
-    ensures taken { GaveAtMost (MAX_SCRIPT + 1) (I.left input.old) (I.left input.new) }
-    ensures no_usage { ¬ IsErrOf result Stop.Usage }
+// That no table has more rows than the limit.
+fn test_rows(limit: u32, catalogue: &Catalogue, rows: &OrderedRows) -> Result<(), Stop>
+    requires { rows.now.tables ≡ length catalogue.now.tables }
+    ensures within { OnOk result (first_over limit (length catalogue.now.tables) rows.now.rows ≡ None) }
+    ensures stops { IfErr result (AreOver limit catalogue.now.tables rows.now.rows) }
 {
-    let script = read_input(alloc, input)?;
-    let Script { catalogue, calls } = script;
-    let rows = execute(alloc, &catalogue, calls)?;
-    let text = dump(alloc, &catalogue, &rows)?;
-    Ok(write_all(output, &text)?)
-}
-
-// Whether the words are those of `replay`.
-pub fn is_replay(words: &[String]) -> bool
-    ensures { IsTrue result ↔ IsReplay words.now }
-{
-    match words {
-        [word] => word.as_str() == "replay",
-        _ => false,
+    match first_over(rows, u64::from(limit)) {
+        None => Ok(()),
+        Some((table, rows)) => Err(Stop::RowsOver {
+            name: catalogue.tables()[usize::from(table)].name,
+            rows,
+            limit,
+        }),
     }
 }
 
-// Replays the script that the input holds, and tells why where that stops before its end.
-pub fn replay_command<I: Source, O: Sink, E: Sink>(
+// The tables with which a script's transactions end, where these are within the limit.
+fn finished(alloc: Global, limit: u32, script: &Script) -> Result<OrderedRows, Stop>
+    requires fit { BatchesFit script.now.catalogue script.now.batches }
+    requires small { BatchesHaveNumbers script.now.batches }
+    requires numbered { AreNumberedFrom 1 script.now.batches }
+    ensures ends { IfOk result (λ rows. outcome script.now ≡ Ok rows.rows) }
+    ensures within { IfOk result (λ rows. over limit script.now rows.rows ≡ None) }
+    ensures tables { IfOk result (λ rows. rows.tables ≡ length script.now.catalogue.tables) }
+    ensures stops { IfErr result (ScriptStops limit script.now) }
+{
+    let rows = execute(alloc, &script.catalogue, script.batches.as_slice())?;
+    test_rows(limit, &script.catalogue, &rows)?;
+    Ok(rows)
+}
+
+// Replays the script that the source holds and writes the dump.
+fn replay<I: Source, O: Sink>(
     alloc: Global,
+    limit: u32,
+    input: &mut I,
+    output: &mut O,
+) -> Result<(), Stop>
+    ensures done { OnOk result (IsDumpOf limit (I.left input.old) (IsTaken (observed O.held O.faults output.old output.new))) }
+    ensures stops { IfErr result (ReplayStops limit (observed I.left I.faults input.old input.new) (observed O.held O.faults output.old output.new)) }
+    ensures kept { IfErr result (λ stop. stop ≢ Stop.OutputFault → output.new ≡ output.old) }
+    ensures taken { GaveAtMost (MAX_INPUT + 1) (I.left input.old) (I.left input.new) }
+{
+    let script = read_input(alloc, input)?;
+    let rows = finished(alloc, limit, &script)?;
+    let text = dump(alloc, &script.catalogue, &rows)?;
+    Ok(write_all(output, &text)?)
+}
+
+/// Replays the script that the input holds, and tells why where that stops before its end.
+pub fn replay_input<I: Source, O: Sink, E: Sink>(
+    alloc: Global,
+    limit: u32,
     input: &mut I,
     output: &mut O,
     errors: &mut E,
 ) -> u8
-    ensures status { IsTrue (list_any (λ status. status == result) (0 ∷ 2 ∷ 4 ∷ 6 ∷ 7 ∷ 9 ∷ [])) }
-    ensures ends { ReplayEnds result (observed I.left I.faults input.old input.new) (observed O.held O.faults output.old output.new) (observed E.held E.faults errors.old errors.new) }
+    ensures ends { ReplayEnds limit result
+        (observed I.left I.faults input.old input.new) (observed O.held O.faults output.old output.new) (observed E.held E.faults errors.old errors.new) }
     ensures kept { result ≢ 0 → result ≢ 7 → output.new ≡ output.old }
     ensures quiet { result ≡ 0 → errors.new ≡ errors.old }
     ensures told { result ≢ 0 → (stop : AStop) × (result ≡ status_of stop) × IsTold (observed E.held E.faults errors.old errors.new) (line_of stop) }
-    ensures taken { GaveAtMost (MAX_SCRIPT + 1) (I.left input.old) (I.left input.new) }
+    ensures taken { GaveAtMost (MAX_INPUT + 1) (I.left input.old) (I.left input.new) }
 {
-    match replay(alloc, input, output) {
+    match replay(alloc, limit, input, output) {
         Ok(()) => 0,
         Err(stop) => told(alloc, stop, errors).status(),
     }

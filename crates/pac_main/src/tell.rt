@@ -1,11 +1,11 @@
 // What the error sink is told, and the status behind it.
-ghost use Rattle.std.specs.Prelude.{◌≡◌, ◌⊎◌, IfOk, MatchOption, IsTrue, false, if◌then◌else◌};
+ghost use Rattle.std.specs.Prelude.{◌≡◌, ◌⊎◌, IfOk, IsTrue, false, if◌then◌else◌};
 ghost use Rattle.std.specs.Result.{is_ok};
 ghost use Rattle.pac_main.specs.Streams.{observed, IsTold};
 ghost use Rattle.pac_main.specs.Stop.{status_of, line_of, takes_memory, stop_of_words};
 
-use crate::script_fault::ScriptFault;
-use crate::stop::{Stop, abort_line, catalogue_line, operations_line};
+use crate::line::made_line;
+use crate::stop::Stop;
 use pac_base::NoMemory;
 use pac_outside::{Sink, write_all};
 use std::alloc::Global;
@@ -68,20 +68,6 @@ fn told_made<E: Sink>(stop: Stop, made: Result<Vec<u8>, NoMemory>, errors: &mut 
             told_text(&Stop::NoMemory, errors);
             Stop::NoMemory
         }
-    }
-}
-
-// The line that is made for the stop. `None`: its line is one text.
-fn made_line(alloc: Global, stop: &Stop) -> Option<Result<Vec<u8>, NoMemory>>
-    ensures { MatchOption result (takes_memory stop.now ≡ false) (λ made. IsTrue (takes_memory stop.now) × IfOk made (λ line. line.items ≡ line_of stop.now)) }
-{
-    match *stop {
-        Stop::Script(ScriptFault::Catalogue(fault)) => Some(catalogue_line(alloc, fault)),
-        Stop::Script(ScriptFault::Operations { proc, count }) => {
-            Some(operations_line(alloc, proc, count))
-        }
-        Stop::Aborted(note) => Some(abort_line(alloc, note)),
-        _ => None,
     }
 }
 

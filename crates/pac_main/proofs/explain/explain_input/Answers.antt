@@ -1,37 +1,20 @@
 -- What is told is the stop that came, unless there was no memory for its line.
-use Rattle.std.proofs.Common.{Err, ap, sym, ◌∙◌, arith}
-use Rattle.pac_main.proofs.StopLemmas.{aborted_of, refused_of, told_same, never_done, input_of, output_of}
+use Rattle.std.proofs.Common.{refl, arith}
+use Rattle.pac_main.specs.Streams.{observed}
+use Rattle.pac_main.proofs.StopLemmas.{explain-ends}
 use Rattle.pac_main.proofs.explain.explain_input.Goals as goal
 
 pub returns-in-Ok-clause-ends : goal.returns-in-Ok-clause-ends
 returns-in-Ok-clause-ends g c = record {
+  statuses = refl;
   done = λ zero. c.in-Ok.ensures.done;
   refused = λ two. absurd (omega (arith, two));
-  aborted = λ four. omega (arith, four);
   input_fault = λ six. absurd (omega (arith, six));
   output_fault = λ seven. absurd (omega (arith, seven));
 }
 
 pub returns-in-Err-clause-ends : goal.returns-in-Err-clause-ends
-returns-in-Err-clause-ends g c = record {
-  done = λ zero. absurd (never_done c.told.result (sym c.status.ensures ∙ zero));
-  refused = λ two.
-      let is = sym c.status.ensures ∙ two in
-      let same = told_same c.in-Err.stop c.told.result 2 c.told.ensures.which is (λ e. omega arith) in
-      let r = refused_of c.told.result is in
-      (r.fault, c.in-Err.ensures.refused r.fault (ap (λ s. Err s) (sym same ∙ r.is)), rw r.is at c.told.ensures.line);
-  aborted = λ four.
-      let is = sym c.status.ensures ∙ four in
-      let same = told_same c.in-Err.stop c.told.result 4 c.told.ensures.which is (λ e. omega arith) in
-      let a = aborted_of c.told.result is in
-      c.in-Err.ensures.aborted a.note (ap (λ s. Err s) (sym same ∙ a.is));
-  input_fault = λ six.
-      let is = sym c.status.ensures ∙ six in
-      let same = told_same c.in-Err.stop c.told.result 6 c.told.ensures.which is (λ e. omega arith) in
-      c.in-Err.ensures.input_fault (ap (λ s. Err s) (sym same ∙ input_of c.told.result is));
-  output_fault = λ seven.
-      let is = sym c.status.ensures ∙ seven in
-      let same = told_same c.in-Err.stop c.told.result 7 c.told.ensures.which is (λ e. omega arith) in
-      let came = ap (λ s. Err s) (sym same ∙ output_of c.told.result is) in
-      (c.in-Err.ensures.output_fault came, c.in-Err.ensures.front came);
-}
+returns-in-Err-clause-ends g c = explain-ends c.args.with_text
+    (observed g.I.Source.left g.I.Source.faults c.args.input.now c.write_explanation.new.input) (observed g.O.Sink.held g.O.Sink.faults c.args.output.now c.write_explanation.new.output)
+    (observed g.E.Sink.held g.E.Sink.faults c.args.errors.now c.told.new.errors)
+    c.in-Err.stop c.told.result c.status.result c.status.ensures c.told.ensures.which c.in-Err.ensures.stops c.told.ensures.line

@@ -1,0 +1,72 @@
+// The words of `replay`, and words that name no command.
+use crate::running::{ADD, USAGE, ends_so};
+use pac_main::{WordsError, refuse_words};
+use pac_outside::MemSink;
+use std::test::Fail;
+
+const DUMP: &str = "table T 1\n1 (5)\n";
+
+#[test]
+fn options_of_replay_are_read(rt: HostRuntime) -> Result<(), Fail> {
+    for line in [
+        "replay",
+        "replay --rows 1",
+        "replay --rows=00000001",
+        "replay --rows 10000000",
+        "replay --workers=64",
+        "replay --workers 1 --rows 2",
+        "replay --rows=2 --workers=16",
+    ] {
+        let words: Vec<&str> = line.split_whitespace().collect(rt.alloc())?;
+        let right = ends_so(&rt, rt.alloc(), &words, [ADD, "call Add(1, 5)"], (0, DUMP, ""))?;
+        assert!(rt; right, "the words {line}");
+    }
+    Ok(())
+}
+
+#[test]
+fn other_words_are_refused(rt: HostRuntime) -> Result<(), Fail> {
+    for line in [
+        "",
+        "replays",
+        "--rows=1 replay",
+        "replay --rows 0",
+        "replay --rows 123456789",
+        "replay --rows 10000001",
+        "replay --rows +4",
+        "replay --rows=",
+        "replay --rows",
+        "replay --rows 4 --rows 4",
+        "replay --workers 65",
+        "replay --workers 0",
+        "replay --batch 4",
+        "replay --help",
+        "replay more",
+        // These don't run yet.
+        "init",
+        "run",
+        "run --batch=1 --rows=1",
+        "recover",
+        "stress",
+        "stress 8",
+    ] {
+        let words: Vec<&str> = line.split_whitespace().collect(rt.alloc())?;
+        let right = ends_so(&rt, rt.alloc(), &words, [ADD, "call Add(1, 5)"], (1, "", USAGE))?;
+        assert!(rt; right, "the words {line}");
+    }
+    Ok(())
+}
+
+#[test]
+fn words_that_cannot_be_read_are_refused(rt: HostRuntime) -> Result<(), Fail> {
+    let alloc = rt.alloc();
+    for (error, status, line) in [
+        (WordsError::Usage, 1, USAGE),
+        (WordsError::NoMemory, 9, "no memory\n"),
+    ] {
+        let mut errors = MemSink::new(Vec::new(alloc), Vec::new(alloc));
+        assert_eq!(rt; refuse_words(error, &mut errors), status);
+        assert_eq!(rt; errors.bytes(), line.as_bytes());
+    }
+    Ok(())
+}

@@ -1,0 +1,75 @@
+-- What the words say decides which command ends, and whether the status is that of words that name none.
+use Rattle.std.proofs.Common.{◌≡◌, ◌≢◌, ◌↔◌, ℕ, Bool, true, false, List, [], ◌∷◌, Option, Some, None, refl, sym, ap, subst, ◌∙◌, arith}
+use Rattle.std.specs.Prelude.{IsSomeAnd, String}
+use Rattle.std.specs.Global.{Global}
+use Rattle.pac_words.specs.declared.order.Order.{Order}
+use Rattle.pac_words.specs.declared.order.Order.TheVariants.{Explain, Replay}
+use Rattle.pac_main.specs.Commands.{order_in, AsksExplain, IsExplain, IsReplay, NamesCommand, Runs}
+use Rattle.pac_main.specs.Explained.{ExplainEnds}
+use Rattle.pac_main.specs.Replay.{ReplayEnds}
+use Rattle.pac_main.specs.Streams.{IsOneOf, Observed}
+
+-- a status that a command has
+pub not-usage : (n : ℕ) → IsOneOf n (0 ∷ 2 ∷ 4 ∷ 5 ∷ 6 ∷ 7 ∷ 9 ∷ 11 ∷ []) → n ≡ 1 → ⊥
+not-usage n h one = let no : ◌≡◌ {A = Bool} false true = subst (λ (k : ℕ). IsOneOf k (0 ∷ 2 ∷ 4 ∷ 5 ∷ 6 ∷ 7 ∷ 9 ∷ 11 ∷ [])) one h in absurd cc
+
+pub not-usage-of-explain : (n : ℕ) → IsOneOf n (0 ∷ 2 ∷ 6 ∷ 7 ∷ 9 ∷ []) → n ≡ 1 → ⊥
+not-usage-of-explain n h one = let no : ◌≡◌ {A = Bool} false true = subst (λ (k : ℕ). IsOneOf k (0 ∷ 2 ∷ 6 ∷ 7 ∷ 9 ∷ [])) one h in absurd cc
+
+module _ (words : List (String Global)) where
+  -- words that name a command that runs, with a status that isn't 1
+  pub named : (order : Order) (n : ℕ) → Some order ≡ order_in words → Runs order → (n ≡ 1 → ⊥) → (n ≡ 1) ↔ ¬ NamesCommand words
+  named order n is runs other = (λ one. absurd (other one), λ none. absurd (none (subst (λ (o : Option Order). IsSomeAnd o Runs) is runs)))
+
+  -- words that name none, with the status 1
+  pub unnamed : (said : Option Order) → said ≡ order_in words → (IsSomeAnd said Runs → ⊥) → ¬ NamesCommand words
+  unnamed said is none = λ h. none (subst (λ (o : Option Order). IsSomeAnd o Runs) (sym is) h)
+
+  limit_is : (workers most limit : ℕ) (said : Option Order) → Some (Replay workers most) ≡ said → (w : ℕ) → said ≡ Some (Replay w limit) → most ≡ limit
+  limit_is workers most limit said is w h = let both : Some (Replay workers most) ≡ Some (Replay w limit) = is ∙ h in cc
+
+  pub replay-is : (workers most limit status : ℕ) (input output errors : Observed) → Some (Replay workers most) ≡ order_in words → IsReplay words limit → ReplayEnds most status input output errors → ReplayEnds limit status input output errors
+  replay-is workers most limit status input output errors is asks = subst (λ (n : ℕ). ReplayEnds n status input output errors) (limit_is workers most limit (order_in words) is asks.0 asks.1)
+
+  text_is : (a b : Bool) (said : Option Order) → Some (Explain a) ≡ said → said ≡ Some (Explain b) → a ≡ b
+  text_is a b said is h = let both : Some (Explain a) ≡ Some (Explain b) = is ∙ h in cc
+
+  pub explain-is : (a b : Bool) (status : ℕ) (input output errors : Observed) → Some (Explain a) ≡ order_in words → IsExplain words b → ExplainEnds a status input output errors → ExplainEnds b status input output errors
+  explain-is a b status input output errors is asks = subst (λ (t : Bool). ExplainEnds t status input output errors) (text_is a b (order_in words) is asks)
+
+  differ : (a : Bool) (workers limit : ℕ) (said : Option Order) → Some (Explain a) ≡ said → said ≡ Some (Replay workers limit) → ⊥
+  differ a workers limit said is h = let both : Some (Explain a) ≡ Some (Replay workers limit) = is ∙ h in absurd cc
+
+  pub no-replay : (a : Bool) (limit : ℕ) → Some (Explain a) ≡ order_in words → IsReplay words limit → ⊥
+  no-replay a limit is asks = differ a asks.0 limit (order_in words) is asks.1
+
+  pub no-explain : (a : Bool) (workers limit : ℕ) → Some (Replay workers limit) ≡ order_in words → IsExplain words a → ⊥
+  no-explain a workers limit is asks = differ a workers limit (order_in words) (sym asks) (sym is)
+
+  pub replay-names : (limit : ℕ) → IsReplay words limit → NamesCommand words
+  replay-names limit asks = subst (λ (o : Option Order). IsSomeAnd o Runs) (sym asks.1) tt
+
+  pub explain-names : (a : Bool) → IsExplain words a → NamesCommand words
+  explain-names a asks = subst (λ (o : Option Order). IsSomeAnd o Runs) (sym asks) tt
+
+-- want of memory has no cause
+pub replay-memory : (limit status : ℕ) (input output errors : Observed) → status ≡ 9 → ReplayEnds limit status input output errors
+replay-memory limit status input output errors is = record {
+  statuses = subst (λ (n : ℕ). IsOneOf n (0 ∷ 2 ∷ 4 ∷ 5 ∷ 6 ∷ 7 ∷ 9 ∷ 11 ∷ [])) (sym is) refl;
+  done = λ n. absurd (omega (arith, is, n));
+  refused = λ n. absurd (omega (arith, is, n));
+  aborted = λ n. absurd (omega (arith, is, n));
+  over_limit = λ n. absurd (omega (arith, is, n));
+  input_fault = λ n. absurd (omega (arith, is, n));
+  output_fault = λ n. absurd (omega (arith, is, n));
+  too_long = λ n. absurd (omega (arith, is, n));
+}
+
+pub explain-memory : (with_text : Bool) (status : ℕ) (input output errors : Observed) → status ≡ 9 → ExplainEnds with_text status input output errors
+explain-memory with_text status input output errors is = record {
+  statuses = subst (λ (n : ℕ). IsOneOf n (0 ∷ 2 ∷ 6 ∷ 7 ∷ 9 ∷ [])) (sym is) refl;
+  done = λ n. absurd (omega (arith, is, n));
+  refused = λ n. absurd (omega (arith, is, n));
+  input_fault = λ n. absurd (omega (arith, is, n));
+  output_fault = λ n. absurd (omega (arith, is, n));
+}

@@ -1,0 +1,63 @@
+-- Why a command stops, by its stop. The clauses of public calls don't name these: they say the same by the status.
+use Rattle.std.specs.Prelude.{◌≡◌, ℕ, Bool, List, slice_get, length, Option, Some, Ok, Err}
+use Rattle.std.specs.Option.{option_map}
+use Rattle.pac_value.specs.State.{Tables}
+use Rattle.pac_types.specs.Execution.{first_over}
+use Rattle.pac_types.specs.declared.table.Table.{Table}
+use Rattle.pac_request.specs.declared.script.Script.{Script}
+use Rattle.pac_main.specs.declared.input.InputError.{InputError}
+use Rattle.pac_main.specs.declared.input.InputError.TheVariants as input
+use Rattle.pac_main.specs.declared.stop.Stop.{Stop}
+use Rattle.pac_main.specs.declared.stop.Stop.TheVariants as stop
+use Rattle.pac_main.specs.Streams.{Observed, FaultsRose, IsFrontTaken}
+use Rattle.pac_main.specs.Replay.{IsRefusedAs, IsTooLong, outcome, IsDumpOf, IsAbortOf, IsOverOf}
+use Rattle.pac_main.specs.Explained.{IsExplanationOf, IsUnexplainedAs}
+
+-- ---- `replay`
+
+-- an input that gives no script
+abbrev pub GivesNoScript : Observed → InputError → Type 0
+GivesNoScript source input.Failed = FaultsRose source
+GivesNoScript source input.TooLong = IsTooLong source.before
+GivesNoScript source (input.Script fault) = IsRefusedAs source.before fault
+GivesNoScript source input.NoMemory = Unit {0}
+
+-- the first of the tables that is over the limit
+abbrev pub AreOver : ℕ → List Table → Tables → Stop → Type 0
+AreOver limit tables held (stop.RowsOver name rows most) = (number : ℕ) × (first_over limit (length tables) held ≡ Some (number, rows)) × (option_map (λ table. table.name) (slice_get tables number) ≡ Some name) × (most ≡ limit)
+AreOver limit tables held _ = ⊥
+
+-- a script whose transactions abort, end with tables over the limit, or find no memory
+abbrev pub ScriptStops : ℕ → Script → Stop → Type 0
+ScriptStops limit script (stop.Aborted note) = outcome script ≡ Err note
+ScriptStops limit script (stop.RowsOver name rows most) = (tables : Tables) × (outcome script ≡ Ok tables) × AreOver limit script.catalogue.tables tables (stop.RowsOver name rows most)
+ScriptStops limit script stop.NoMemory = Unit {0}
+ScriptStops limit script _ = ⊥
+
+-- the whole command
+abbrev pub ReplayStops : ℕ → Observed → Observed → Stop → Type 0
+ReplayStops limit source sink stop.Usage = ⊥
+ReplayStops limit source sink (stop.Script fault) = IsRefusedAs source.before fault
+ReplayStops limit source sink (stop.Aborted note) = IsAbortOf source.before note
+ReplayStops limit source sink (stop.RowsOver name rows most) = IsOverOf limit source.before name rows × (most ≡ limit)
+ReplayStops limit source sink stop.InputFault = FaultsRose source
+ReplayStops limit source sink stop.OutputFault = FaultsRose sink × IsDumpOf limit source.before (IsFrontTaken sink)
+ReplayStops limit source sink stop.NoMemory = Unit {0}
+ReplayStops limit source sink stop.TooLong = IsTooLong source.before
+
+-- ---- `explain`
+
+-- an input whose catalogue isn't explained
+abbrev pub GivesNoExplanation : Observed → InputError → Type 0
+GivesNoExplanation source input.Failed = FaultsRose source
+GivesNoExplanation source input.TooLong = ⊥
+GivesNoExplanation source (input.Script fault) = IsUnexplainedAs source.before fault
+GivesNoExplanation source input.NoMemory = Unit {0}
+
+-- the whole command
+abbrev pub ExplainStops : Bool → Observed → Observed → Stop → Type 0
+ExplainStops with_text source sink (stop.Script fault) = IsUnexplainedAs source.before fault
+ExplainStops with_text source sink stop.InputFault = FaultsRose source
+ExplainStops with_text source sink stop.OutputFault = FaultsRose sink × IsExplanationOf with_text source.before (IsFrontTaken sink)
+ExplainStops with_text source sink stop.NoMemory = Unit {0}
+ExplainStops with_text source sink _ = ⊥

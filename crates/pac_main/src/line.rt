@@ -1,0 +1,98 @@
+// The lines that have numbers, and so take memory.
+ghost use Rattle.std.specs.Prelude.{◌≡◌, IfOk, IsTrue, MatchOption, false};
+ghost use Rattle.pac_main.specs.Stop.{abort_line, catalogue_line, line_of, operations_line, rows_line, script_line, takes_memory};
+
+use crate::stop::Stop;
+use pac_base::NoMemory;
+use pac_ops::Note;
+use pac_request::{LineFault, ScriptFault};
+use pac_types::CatalogueFault;
+use pac_value::{Name, push_count};
+use std::alloc::Global;
+
+// The line `catalogue AT KIND`.
+fn catalogue_line(alloc: Global, fault: CatalogueFault) -> Result<Vec<u8>, NoMemory>
+    ensures { IfOk result (λ line. line.items ≡ catalogue_line fault) }
+{
+    let mut line = Vec::new(alloc);
+    line.extend_from_slice(b"catalogue ")?;
+    push_count(&mut line, fault.at() as u64)?;
+    line.extend_from_slice(b" ")?;
+    line.extend_from_slice(fault.kind_name().as_bytes())?;
+    line.extend_from_slice(b"\n")?;
+    Ok(line)
+}
+
+// The line `operations PROC COUNT`.
+fn operations_line(alloc: Global, proc: Name, count: u32) -> Result<Vec<u8>, NoMemory>
+    ensures { IfOk result (λ line. line.items ≡ operations_line proc count) }
+{
+    let mut line = Vec::new(alloc);
+    line.extend_from_slice(b"operations ")?;
+    line.extend_from_slice(proc.bytes())?;
+    line.extend_from_slice(b" ")?;
+    push_count(&mut line, u64::from(count))?;
+    line.extend_from_slice(b"\n")?;
+    Ok(line)
+}
+
+// The line `abort TXN OP REASON`.
+fn abort_line(alloc: Global, note: Note) -> Result<Vec<u8>, NoMemory>
+    ensures { IfOk result (λ line. line.items ≡ abort_line note) }
+{
+    let mut line = Vec::new(alloc);
+    line.extend_from_slice(b"abort ")?;
+    push_count(&mut line, note.txn)?;
+    line.extend_from_slice(b" ")?;
+    push_count(&mut line, u64::from(note.op))?;
+    line.extend_from_slice(b" ")?;
+    line.extend_from_slice(note.reason.name().as_bytes())?;
+    line.extend_from_slice(b"\n")?;
+    Ok(line)
+}
+
+// The line `script LINE AT KIND`.
+fn script_line(alloc: Global, number: usize, fault: LineFault) -> Result<Vec<u8>, NoMemory>
+    ensures { IfOk result (λ line. line.items ≡ script_line number fault) }
+{
+    let mut line = Vec::new(alloc);
+    line.extend_from_slice(b"script ")?;
+    push_count(&mut line, number as u64)?;
+    line.extend_from_slice(b" ")?;
+    push_count(&mut line, fault.at as u64)?;
+    line.extend_from_slice(b" ")?;
+    line.extend_from_slice(fault.kind.name().as_bytes())?;
+    line.extend_from_slice(b"\n")?;
+    Ok(line)
+}
+
+// The line `rows TABLE ROWS LIMIT`.
+fn rows_line(alloc: Global, name: Name, rows: u64, limit: u32) -> Result<Vec<u8>, NoMemory>
+    ensures { IfOk result (λ line. line.items ≡ rows_line name rows limit) }
+{
+    let mut line = Vec::new(alloc);
+    line.extend_from_slice(b"rows ")?;
+    line.extend_from_slice(name.bytes())?;
+    line.extend_from_slice(b" ")?;
+    push_count(&mut line, rows)?;
+    line.extend_from_slice(b" ")?;
+    push_count(&mut line, u64::from(limit))?;
+    line.extend_from_slice(b"\n")?;
+    Ok(line)
+}
+
+/// The line of a stop, where it has numbers. `None`: its line is one text.
+pub fn made_line(alloc: Global, stop: &Stop) -> Option<Result<Vec<u8>, NoMemory>>
+    ensures { MatchOption result (takes_memory stop.now ≡ false) (λ made. IsTrue (takes_memory stop.now) × IfOk made (λ line. line.items ≡ line_of stop.now)) }
+{
+    match *stop {
+        Stop::Script(ScriptFault::Catalogue(fault)) => Some(catalogue_line(alloc, fault)),
+        Stop::Script(ScriptFault::TooManyOps { proc, count }) => {
+            Some(operations_line(alloc, proc, count))
+        }
+        Stop::Script(ScriptFault::Line { line, fault }) => Some(script_line(alloc, line, fault)),
+        Stop::Aborted(note) => Some(abort_line(alloc, note)),
+        Stop::RowsOver { name, rows, limit } => Some(rows_line(alloc, name, rows, limit)),
+        _ => None,
+    }
+}
