@@ -6,6 +6,8 @@
 #[cfg(test)]
 mod explain;
 #[cfg(test)]
+mod init;
+#[cfg(test)]
 mod options;
 #[cfg(test)]
 mod refusals;

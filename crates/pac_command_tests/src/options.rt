@@ -42,8 +42,9 @@ fn other_words_are_refused(rt: HostRuntime) -> Result<(), Fail> {
         "replay --batch 4",
         "replay --help",
         "replay more",
+        "init more",
+        "init --text",
         // These don't run yet.
-        "init",
         "run",
         "run --batch=1 --rows=1",
         "recover",

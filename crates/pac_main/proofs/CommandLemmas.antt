@@ -1,13 +1,14 @@
 -- What the words say decides which command ends, and whether the status is that of words that name none.
-use Rattle.std.proofs.Common.{◌≡◌, ◌≢◌, ◌↔◌, ℕ, Bool, true, false, List, [], ◌∷◌, Option, Some, None, refl, sym, ap, subst, ◌∙◌, arith}
+use Rattle.std.proofs.Common.{◌≡◌, ◌↔◌, ℕ, Bool, true, false, List, [], ◌∷◌, Option, Some, refl, sym, subst, ◌∙◌, arith}
 use Rattle.std.specs.Prelude.{IsSomeAnd, String}
 use Rattle.std.specs.Global.{Global}
 use Rattle.pac_words.specs.declared.order.Order.{Order}
-use Rattle.pac_words.specs.declared.order.Order.TheVariants.{Explain, Replay}
-use Rattle.pac_main.specs.Commands.{order_in, AsksExplain, IsExplain, IsReplay, NamesCommand, Runs}
+use Rattle.pac_words.specs.declared.order.Order.TheVariants.{Init, Explain, Replay}
+use Rattle.pac_main.specs.Commands.{order_in, IsExplain, IsInit, IsReplay, NamesCommand, Runs}
 use Rattle.pac_main.specs.Explained.{ExplainEnds}
+use Rattle.pac_main.specs.Init.{AreUntouched, InitEnds}
 use Rattle.pac_main.specs.Replay.{ReplayEnds}
-use Rattle.pac_main.specs.Streams.{IsOneOf, Observed}
+use Rattle.pac_main.specs.Streams.{IsOneOf, Observed, ObservedDevices}
 
 -- a status that a command has
 pub not-usage : (n : ℕ) → IsOneOf n (0 ∷ 2 ∷ 4 ∷ 5 ∷ 6 ∷ 7 ∷ 9 ∷ 11 ∷ []) → n ≡ 1 → ⊥
@@ -15,6 +16,9 @@ not-usage n h one = let no : ◌≡◌ {A = Bool} false true = subst (λ (k : �
 
 pub not-usage-of-explain : (n : ℕ) → IsOneOf n (0 ∷ 2 ∷ 6 ∷ 7 ∷ 9 ∷ []) → n ≡ 1 → ⊥
 not-usage-of-explain n h one = let no : ◌≡◌ {A = Bool} false true = subst (λ (k : ℕ). IsOneOf k (0 ∷ 2 ∷ 6 ∷ 7 ∷ 9 ∷ [])) one h in absurd cc
+
+pub not-usage-of-init : (n : ℕ) → IsOneOf n (0 ∷ 2 ∷ 3 ∷ 6 ∷ 8 ∷ 9 ∷ []) → n ≡ 1 → ⊥
+not-usage-of-init n h one = let no : ◌≡◌ {A = Bool} false true = subst (λ (k : ℕ). IsOneOf k (0 ∷ 2 ∷ 3 ∷ 6 ∷ 8 ∷ 9 ∷ [])) one h in absurd cc
 
 module _ (words : List (String Global)) where
   -- words that name a command that runs, with a status that isn't 1
@@ -46,6 +50,27 @@ module _ (words : List (String Global)) where
   pub no-explain : (a : Bool) (workers limit : ℕ) → Some (Replay workers limit) ≡ order_in words → IsExplain words a → ⊥
   no-explain a workers limit is asks = differ a workers limit (order_in words) (sym asks) (sym is)
 
+  no_init : (said : Option Order) → said ≡ Some Init → (a : Bool) → Some (Explain a) ≡ said → ⊥
+  no_init said h a is = let both : Some (Explain a) ≡ Some Init = is ∙ h in absurd cc
+
+  no_init_replay : (said : Option Order) → said ≡ Some Init → (workers limit : ℕ) → Some (Replay workers limit) ≡ said → ⊥
+  no_init_replay said h workers limit is = let both : Some (Replay workers limit) ≡ Some Init = is ∙ h in absurd cc
+
+  pub no-init-in-explain : (a : Bool) → Some (Explain a) ≡ order_in words → IsInit words → ⊥
+  no-init-in-explain a is asks = no_init (order_in words) asks a is
+
+  pub no-init-in-replay : (workers limit : ℕ) → Some (Replay workers limit) ≡ order_in words → IsInit words → ⊥
+  no-init-in-replay workers limit is asks = no_init_replay (order_in words) asks workers limit is
+
+  pub no-explain-in-init : (a : Bool) → Some Init ≡ order_in words → IsExplain words a → ⊥
+  no-explain-in-init a is asks = no_init (order_in words) (sym is) a (sym asks)
+
+  pub no-replay-in-init : (limit : ℕ) → Some Init ≡ order_in words → IsReplay words limit → ⊥
+  no-replay-in-init limit is asks = no_init_replay (order_in words) (sym is) asks.0 limit (sym asks.1)
+
+  pub init-names : IsInit words → NamesCommand words
+  init-names asks = subst (λ (o : Option Order). IsSomeAnd o Runs) (sym asks) tt
+
   pub replay-names : (limit : ℕ) → IsReplay words limit → NamesCommand words
   replay-names limit asks = subst (λ (o : Option Order). IsSomeAnd o Runs) (sym asks.1) tt
 
@@ -72,4 +97,16 @@ explain-memory with_text status input output errors is = record {
   refused = λ n. absurd (omega (arith, is, n));
   input_fault = λ n. absurd (omega (arith, is, n));
   output_fault = λ n. absurd (omega (arith, is, n));
+}
+
+pub init-memory : (status : ℕ) (input errors : Observed) (devices : ObservedDevices) → status ≡ 9 → AreUntouched devices → InitEnds status input errors devices
+init-memory status input errors devices is none = record {
+  statuses = subst (λ (n : ℕ). IsOneOf n (0 ∷ 2 ∷ 3 ∷ 6 ∷ 8 ∷ 9 ∷ [])) (sym is) refl;
+  done = λ n. absurd (omega (arith, is, n));
+  refused = λ n. absurd (omega (arith, is, n));
+  not_empty = λ n. absurd (omega (arith, is, n));
+  input_fault = λ n. absurd (omega (arith, is, n));
+  disk_fault = λ n. absurd (omega (arith, is, n));
+  untouched = λ zero eight. none;
+  quiet = λ n. absurd (omega (arith, is, n));
 }

@@ -53,7 +53,7 @@ input-explained with_text old new items written gave at_end is =
 same_text : (items rest : List ℕ) (fault : ScriptFault) → rest ≡ [] → IsUnexplained items fault → IsUnexplained (items ++ rest) fault
 same_text items rest fault end is = subst (λ (text : List ℕ). IsUnexplained text fault) (sym (ap (λ (r : List ℕ). items ++ r) end ∙ append-nil items)) is
 
-unexplained_longer : (items rest : List ℕ) (fault : ScriptFault) → (length items ≤ 65536 → rest ≡ []) → IsUnexplained items fault → IsUnexplained (items ++ rest) fault
+pub unexplained_longer : (items rest : List ℕ) (fault : ScriptFault) → (length items ≤ 65536 → rest ≡ []) → IsUnexplained items fault → IsUnexplained (items ++ rest) fault
 unexplained_longer items rest (Catalogue (Syntax f)) at_end (inl long) = inl (omega (arith, length-append items rest, long.0), long.1)
 unexplained_longer items rest (Catalogue (Syntax f)) at_end (inr h) = same_text items rest (Catalogue (Syntax f)) (at_end h.0) (inr h)
 unexplained_longer items rest (Catalogue (Typing f)) at_end h = same_text items rest (Catalogue (Typing f)) (at_end h.reads.short) h

@@ -4,3 +4,4 @@ pub mod InputLemmas
 pub mod StopLemmas
 pub mod ExplainLemmas
 pub mod CommandLemmas
+pub mod InitLemmas

@@ -1,7 +1,9 @@
 -- Why a command stops, by its stop. The clauses of public calls don't name these: they say the same by the status.
-use Rattle.std.specs.Prelude.{◌≡◌, ℕ, Bool, List, slice_get, length, Option, Some, Ok, Err}
+use Rattle.std.specs.Prelude.{◌≡◌, ℕ, Bool, List, slice_get, length, Some, Ok, Err}
 use Rattle.std.specs.Option.{option_map}
 use Rattle.pac_value.specs.State.{Tables}
+use Rattle.pac_outside.specs.Devices.{OneRose, WhereAllTold}
+use Rattle.pac_init.specs.Made.{IsInUse}
 use Rattle.pac_types.specs.Execution.{first_over}
 use Rattle.pac_types.specs.declared.table.Table.{Table}
 use Rattle.pac_request.specs.declared.script.Script.{Script}
@@ -9,7 +11,8 @@ use Rattle.pac_main.specs.declared.input.InputError.{InputError}
 use Rattle.pac_main.specs.declared.input.InputError.TheVariants as input
 use Rattle.pac_main.specs.declared.stop.Stop.{Stop}
 use Rattle.pac_main.specs.declared.stop.Stop.TheVariants as stop
-use Rattle.pac_main.specs.Streams.{Observed, FaultsRose, IsFrontTaken}
+use Rattle.pac_main.specs.Streams.{Observed, ObservedDevices, FaultsRose, IsFrontTaken}
+use Rattle.pac_main.specs.Init.{AreUntouched, IsNoStoreFor}
 use Rattle.pac_main.specs.Replay.{IsRefusedAs, IsTooLong, outcome, IsDumpOf, IsAbortOf, IsOverOf}
 use Rattle.pac_main.specs.Explained.{IsExplanationOf, IsUnexplainedAs}
 
@@ -38,10 +41,12 @@ ScriptStops limit script _ = ⊥
 abbrev pub ReplayStops : ℕ → Observed → Observed → Stop → Type 0
 ReplayStops limit source sink stop.Usage = ⊥
 ReplayStops limit source sink (stop.Script fault) = IsRefusedAs source.before fault
+ReplayStops limit source sink (stop.NotEmpty device length) = ⊥
 ReplayStops limit source sink (stop.Aborted note) = IsAbortOf source.before note
 ReplayStops limit source sink (stop.RowsOver name rows most) = IsOverOf limit source.before name rows × (most ≡ limit)
 ReplayStops limit source sink stop.InputFault = FaultsRose source
 ReplayStops limit source sink stop.OutputFault = FaultsRose sink × IsDumpOf limit source.before (IsFrontTaken sink)
+ReplayStops limit source sink stop.DiskFault = ⊥
 ReplayStops limit source sink stop.NoMemory = Unit {0}
 ReplayStops limit source sink stop.TooLong = IsTooLong source.before
 
@@ -61,3 +66,21 @@ ExplainStops with_text source sink stop.InputFault = FaultsRose source
 ExplainStops with_text source sink stop.OutputFault = FaultsRose sink × IsExplanationOf with_text source.before (IsFrontTaken sink)
 ExplainStops with_text source sink stop.NoMemory = Unit {0}
 ExplainStops with_text source sink _ = ⊥
+
+-- ---- `init`
+
+-- an input that no store can be made of
+abbrev pub GivesNoText : Observed → InputError → Type 0
+GivesNoText source input.Failed = FaultsRose source
+GivesNoText source input.TooLong = ⊥
+GivesNoText source (input.Script fault) = IsNoStoreFor source.before fault
+GivesNoText source input.NoMemory = Unit {0}
+
+-- the whole command
+abbrev pub InitStops : Observed → ObservedDevices → Stop → Type 0
+InitStops source devices (stop.Script fault) = AreUntouched devices × IsNoStoreFor source.before fault
+InitStops source devices (stop.NotEmpty device length) = AreUntouched devices × WhereAllTold (IsInUse device length) devices.before devices.behind
+InitStops source devices stop.InputFault = AreUntouched devices × FaultsRose source
+InitStops source devices stop.DiskFault = OneRose devices.faults_before devices.faults_behind
+InitStops source devices stop.NoMemory = AreUntouched devices
+InitStops source devices _ = ⊥

@@ -4,4 +4,5 @@ pub mod Stop
 pub mod Commands
 pub mod Replay
 pub mod Explained
+pub mod Init
 pub mod Causes

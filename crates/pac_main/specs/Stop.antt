@@ -10,10 +10,14 @@ use Rattle.pac_serial.specs.declared.serial.AllError.TheVariants as serial
 use Rattle.pac_request.specs.declared.fault.LineFault.{LineFault}
 use Rattle.pac_request.specs.declared.script_fault.ScriptFault.TheVariants.{Catalogue, TooManyOps, Line}
 use Rattle.pac_request.specs.LineKinds.{line_kind_name}
+use Rattle.pac_init.specs.Made.{device_name}
+use Rattle.pac_init.specs.declared.device.DeviceName.{DeviceName}
+use Rattle.pac_init.specs.declared.errors.MakeError.{MakeError}
+use Rattle.pac_init.specs.declared.errors.MakeError.TheVariants as make
 use Rattle.pac_main.specs.declared.input.InputError.{InputError}
 use Rattle.pac_main.specs.declared.input.InputError.TheVariants as input
 use Rattle.pac_main.specs.declared.stop.Stop.{Stop}
-use Rattle.pac_main.specs.declared.stop.Stop.TheVariants.{Usage, Script, Aborted, RowsOver, InputFault, OutputFault, NoMemory, TooLong}
+use Rattle.pac_main.specs.declared.stop.Stop.TheVariants.{Usage, Script, NotEmpty, Aborted, RowsOver, InputFault, OutputFault, DiskFault, NoMemory, TooLong}
 use Rattle.pac_main.specs.declared.tell.WordsError.{WordsError}
 use Rattle.pac_main.specs.declared.tell.WordsError.TheVariants as words
 
@@ -21,10 +25,12 @@ use Rattle.pac_main.specs.declared.tell.WordsError.TheVariants as words
 abbrev pub status_of : Stop → ℕ
 status_of Usage = 1
 status_of (Script fault) = 2
+status_of (NotEmpty device length) = 3
 status_of (Aborted note) = 4
 status_of (RowsOver name rows limit) = 5
 status_of InputFault = 6
 status_of OutputFault = 7
+status_of DiskFault = 8
 status_of NoMemory = 9
 status_of TooLong = 11
 
@@ -48,9 +54,14 @@ script_line number fault = codes "script " ++ decimal number ++ codes " " ++ dec
 abbrev pub rows_line : List ℕ → ℕ → ℕ → List ℕ
 rows_line name rows limit = codes "rows " ++ name ++ codes " " ++ decimal rows ++ codes " " ++ decimal limit ++ codes "\n"
 
+-- the name of a device that isn't empty, and how many bytes it has
+abbrev pub not_empty_line : DeviceName → ℕ → List ℕ
+not_empty_line device length = codes "not empty " ++ device_name device ++ codes " " ++ decimal length ++ codes "\n"
+
 -- whether a stop's line has numbers, and is made
 abbrev pub takes_memory : Stop → Bool
 takes_memory (Script fault) = true
+takes_memory (NotEmpty device length) = true
 takes_memory (Aborted note) = true
 takes_memory (RowsOver name rows limit) = true
 takes_memory _ = false
@@ -61,10 +72,12 @@ line_of Usage = codes "usage: pacman init, run, recover, explain, replay or stre
 line_of (Script (Catalogue fault)) = catalogue_line fault
 line_of (Script (TooManyOps name count)) = operations_line name count
 line_of (Script (Line number fault)) = script_line number fault
+line_of (NotEmpty device length) = not_empty_line device length
 line_of (Aborted note) = abort_line note
 line_of (RowsOver name rows limit) = rows_line name rows limit
 line_of InputFault = codes "input fault\n"
 line_of OutputFault = codes "output fault\n"
+line_of DiskFault = codes "disk fault\n"
 line_of NoMemory = codes "no memory\n"
 line_of TooLong = codes "input too long\n"
 
@@ -84,3 +97,9 @@ stop_of_input input.NoMemory = NoMemory
 abbrev pub stop_of_serial : AllError → Stop
 stop_of_serial (serial.Abort note) = Aborted note
 stop_of_serial serial.NoMemory = NoMemory
+
+-- a store that isn't made stops with its cause
+abbrev pub stop_of_make : MakeError → Stop
+stop_of_make (make.NotEmpty device length) = NotEmpty device length
+stop_of_make make.DiskFault = DiskFault
+stop_of_make make.NoMemory = NoMemory

@@ -1,8 +1,11 @@
--- What is observed of a stream that a command was given.
+-- What is observed of the streams and devices that a command was given.
 use Rattle.std.specs.Prelude.{◌⊎◌, ◌==◌, ℕ, List, Option, IsTrue}
 use Rattle.std.specs.List.{list_any}
 use Rattle.pac_outside.specs.Causes.{Rose}
 use Rattle.pac_outside.specs.Content.{Took, TookFront}
+use Rattle.pac_outside.specs.Devices.{each}
+use Rattle.pac_outside.specs.Disk.{History}
+use Rattle.pac_outside.specs.declared.devices.Devices.{Devices}
 
 -- a stream before and behind a command: the bytes that a source has left or that a sink holds, where it tells them, and its
 -- count of faults
@@ -35,3 +38,14 @@ IsTold sink line = IsTaken sink line ⊎ (FaultsRose sink × IsFrontTaken sink l
 -- a command has one of these statuses
 abbrev pub IsOneOf : ℕ → List ℕ → Type 0
 IsOneOf status statuses = IsTrue (list_any (λ s. s == status) statuses)
+
+-- the devices of a store before and behind a command: what each tells, and its count of faults
+pub record ObservedDevices : Type 0 where
+  pub before : List (Option History)
+  pub behind : List (Option History)
+  pub faults_before : List ℕ
+  pub faults_behind : List ℕ
+
+-- devices as they tell what they hold and count their faults, observed as they were and as they are
+abbrev pub observed_devices : {D : Type 0} → (D → Option History) → (D → ℕ) → Devices D → Devices D → ObservedDevices
+observed_devices told faults old new = record { before = each told old; behind = each told new; faults_before = each faults old; faults_behind = each faults new }

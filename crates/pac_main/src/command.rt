@@ -1,14 +1,16 @@
 // The commands, by the words of the command line.
 ghost use Rattle.std.specs.Prelude.{◌≡◌, ◌≢◌, ◌↔◌, ◌∷◌, ℕ, [], Bool, ◌+◌};
 ghost use Rattle.pac_outside.specs.Content.{GaveAtMost};
-ghost use Rattle.pac_main.specs.Commands.{IsExplain, IsReplay, NamesCommand};
+ghost use Rattle.pac_main.specs.Commands.{IsExplain, IsInit, IsReplay, NamesCommand};
 ghost use Rattle.pac_main.specs.Explained.{ExplainEnds};
+ghost use Rattle.pac_main.specs.Init.{InitEnds};
 ghost use Rattle.pac_main.specs.Replay.{ReplayEnds};
 ghost use Rattle.pac_main.specs.Stop.{status_of, line_of};
-ghost use Rattle.pac_main.specs.Streams.{IsOneOf, IsTold, observed};
+ghost use Rattle.pac_main.specs.Streams.{IsOneOf, IsTold, observed, observed_devices};
 ghost use Rattle.pac_main.specs.declared.stop.Stop.{Stop as AStop};
 
 use crate::explain::explain_input;
+use crate::init::init_input;
 use crate::limits::MAX_INPUT;
 use crate::replay::replay_input;
 use crate::tell::{WordsError, refuse_words};
@@ -26,17 +28,20 @@ use std::thread::Threads;
 ///   1,000,000. The number of workers, from 1 to 64, changes nothing. Time is near linear in the script and in the operations
 ///   that its transactions execute.
 /// - `explain` and `explain --text` do what [`crate::explain_command`] says.
-/// - `init`, `run`, `recover` and `stress` are read, and answered as words that are no command: they don't run yet.
+/// - `init` does what [`crate::init_command`] says.
+/// - `run`, `recover` and `stress` are read, and answered as words that are no command: they don't run yet.
 ///
 /// | status | comes | the error sink takes |
 /// |---|---|---|
-/// | 0 | else: the output took the dump, or the explanation | nothing |
+/// | 0 | else: the output took the dump, or the explanation; or the store is there | nothing |
 /// | 1 | exactly where the words name no command that runs, unless there was no memory to read them | `usage: pacman init, run, recover, explain, replay or stress` |
-/// | 2 | only where the input is no script, or its catalogue isn't explained | its first fault: `catalogue AT KIND` where the catalogue's text isn't read, or isn't typed; `operations PROC COUNT` where its operations are too many: the first procedure at which they are, and how many; else, of `replay` alone, `script LINE AT KIND`: the first line that is refused, from 1 on, and its fault |
+/// | 2 | only where the input is no script, or its catalogue is refused | its first fault: `catalogue AT KIND` where the catalogue's text isn't read, or isn't typed; `operations PROC COUNT` where its operations are too many: the first procedure at which they are, and how many; else, of `replay` alone, `script LINE AT KIND`: the first line that is refused, from 1 on, and its fault |
+/// | 3 | only where a device of a store that is to be made has a byte; the first of the log, slot a and slot b | `not empty DEVICE LENGTH` |
 /// | 4 | only where serial execution of the transactions of a replay aborts | `abort TXN OP REASON` |
 /// | 5 | only where they end with a table that has more rows than the limit; the first | `rows TABLE ROWS LIMIT` |
 /// | 6 | only where the input's count of faults rose | `input fault` |
 /// | 7 | only where the output's count of faults rose; the output took a front of its text | `output fault` |
+/// | 8 | only where a device's count of faults rose | `disk fault` |
 /// | 9 | where an allocation was refused | `no memory` |
 /// | 11 | only where the input of a replay has more than 67,108,864 bytes | `input too long` |
 ///
@@ -51,28 +56,33 @@ pub fn pacman<RT: Threads + Wait + Sync, I: Source, O: Sink, E: Sink, D: Disk, G
     devices: &mut Devices<D>,
     _gate: &G,
 ) -> u8
-    ensures status { IsOneOf result (0 ∷ 1 ∷ 2 ∷ 4 ∷ 5 ∷ 6 ∷ 7 ∷ 9 ∷ 11 ∷ []) }
+    ensures status { IsOneOf result (0 ∷ 1 ∷ 2 ∷ 3 ∷ 4 ∷ 5 ∷ 6 ∷ 7 ∷ 8 ∷ 9 ∷ 11 ∷ []) }
 
     // Each command ends so, by its status; where the words name none that runs, it is 1.
     ensures usage { result ≢ 9 → (result ≡ 1) ↔ ¬ NamesCommand words.now }
+    ensures init { IsInit words.now → InitEnds result
+        (observed I.left I.faults input.old input.new) (observed E.held E.faults errors.old errors.new) (observed_devices D.told D.faults devices.old devices.new) }
     ensures replay { (limit : ℕ) → IsReplay words.now limit → ReplayEnds limit result
         (observed I.left I.faults input.old input.new) (observed O.held O.faults output.old output.new) (observed E.held E.faults errors.old errors.new) }
     ensures explain { (with_text : Bool) → IsExplain words.now with_text → ExplainEnds with_text result
         (observed I.left I.faults input.old input.new) (observed O.held O.faults output.old output.new) (observed E.held E.faults errors.old errors.new) }
 
-    // The output takes something with the statuses 0 and 7 alone.
+    // The output takes something with the statuses 0 and 7 alone, and nothing from `init`.
     ensures kept { result ≢ 0 → result ≢ 7 → output.new ≡ output.old }
+    ensures silent { IsInit words.now → output.new ≡ output.old }
 
     // The error sink takes the status's line.
     ensures quiet { result ≡ 0 → errors.new ≡ errors.old }
     ensures told { result ≢ 0 → (stop : AStop) × (result ≡ status_of stop) × IsTold (observed E.held E.faults errors.old errors.new) (line_of stop) }
 
-    // It reads at most one byte more than an input may have, nothing where the words are wrong, and calls no device.
+    // It reads at most one byte more than an input may have, nothing where the words are wrong, and no other command calls a
+    // device.
     ensures taken { GaveAtMost (MAX_INPUT + 1) (I.left input.old) (I.left input.new) }
     ensures unread { ¬ NamesCommand words.now → input.new ≡ input.old }
-    ensures devices { devices.new ≡ devices.old }
+    ensures devices { ¬ IsInit words.now → devices.new ≡ devices.old }
 {
     match order_of(alloc, words) {
+        Ok(Some(Order::Init)) => init_input(alloc, input, errors, devices),
         Ok(Some(Order::Explain { text })) => explain_input(alloc, text, input, output, errors),
         Ok(Some(Order::Replay { rows, .. })) => replay_input(alloc, rows, input, output, errors),
         Ok(_) => refuse_words(WordsError::Usage, errors),

@@ -87,8 +87,8 @@ fn graph_text(alloc: Global, catalogue: &Catalogue) -> Result<Vec<u8>, ScriptErr
     }
 }
 
-// The name of the first procedure at which operations are too many, and how many they are.
-fn excess_fault(catalogue: &Catalogue, excess: TooManyOps) -> ScriptFault
+/// The name of the first procedure at which operations are too many, and how many they are.
+pub(crate) fn excess_fault(catalogue: &Catalogue, excess: TooManyOps) -> ScriptFault
     requires { IsFirstExcess catalogue.now.procs excess.proc excess.count }
     ensures { IsExcessFault catalogue.now result }
 {

@@ -1,18 +1,20 @@
 //! The program: its top call, generic over the outside.
 //!
 //! - [`pacman`]: does what the words of the command line say, and answers the exit status.
+//! - [`init_command`]: what it does where the words ask for a new store.
 //! - [`explain_command`]: what it does where the words ask for an explanation.
 //! - [`refuse_words`]: answers the exit status where these words couldn't be read.
 //!
 //! Each command is a file of its own. What the calls answer stands in `specs/`: `Commands` (what the words say, and which
-//! commands run), `Replay` and `Explained` (how each command ends, by its status), `Streams` (what is observed of a stream) and
-//! `Stop` (the exit statuses and their lines).
+//! commands run), `Init`, `Replay` and `Explained` (how each command ends, by its status), `Streams` (what is observed of streams
+//! and devices) and `Stop` (the exit statuses and their lines).
 #![tactic(auto)]
 
 mod command;
 mod execution;
 mod explain;
 mod explanation;
+mod init;
 mod input;
 mod limits;
 mod line;
@@ -22,5 +24,6 @@ mod tell;
 
 pub use command::pacman;
 pub use explain::explain_command;
+pub use init::init_command;
 pub use limits::MAX_INPUT;
 pub use tell::{WordsError, refuse_words};

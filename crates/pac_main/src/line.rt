@@ -1,9 +1,10 @@
 // The lines that have numbers, and so take memory.
 ghost use Rattle.std.specs.Prelude.{◌≡◌, IfOk, IsTrue, MatchOption, false};
-ghost use Rattle.pac_main.specs.Stop.{abort_line, catalogue_line, line_of, operations_line, rows_line, script_line, takes_memory};
+ghost use Rattle.pac_main.specs.Stop.{abort_line, catalogue_line, line_of, not_empty_line, operations_line, rows_line, script_line, takes_memory};
 
 use crate::stop::Stop;
 use pac_base::NoMemory;
+use pac_init::DeviceName;
 use pac_ops::Note;
 use pac_request::{LineFault, ScriptFault};
 use pac_types::CatalogueFault;
@@ -81,6 +82,19 @@ fn rows_line(alloc: Global, name: Name, rows: u64, limit: u32) -> Result<Vec<u8>
     Ok(line)
 }
 
+// The line `not empty DEVICE LENGTH`.
+fn not_empty_line(alloc: Global, device: DeviceName, length: u64) -> Result<Vec<u8>, NoMemory>
+    ensures { IfOk result (λ line. line.items ≡ not_empty_line device length) }
+{
+    let mut line = Vec::new(alloc);
+    line.extend_from_slice(b"not empty ")?;
+    line.extend_from_slice(device.name().as_bytes())?;
+    line.extend_from_slice(b" ")?;
+    push_count(&mut line, length)?;
+    line.extend_from_slice(b"\n")?;
+    Ok(line)
+}
+
 /// The line of a stop, where it has numbers. `None`: its line is one text.
 pub fn made_line(alloc: Global, stop: &Stop) -> Option<Result<Vec<u8>, NoMemory>>
     ensures { MatchOption result (takes_memory stop.now ≡ false) (λ made. IsTrue (takes_memory stop.now) × IfOk made (λ line. line.items ≡ line_of stop.now)) }
@@ -91,6 +105,7 @@ pub fn made_line(alloc: Global, stop: &Stop) -> Option<Result<Vec<u8>, NoMemory>
             Some(operations_line(alloc, proc, count))
         }
         Stop::Script(ScriptFault::Line { line, fault }) => Some(script_line(alloc, line, fault)),
+        Stop::NotEmpty { device, length } => Some(not_empty_line(alloc, device, length)),
         Stop::Aborted(note) => Some(abort_line(alloc, note)),
         Stop::RowsOver { name, rows, limit } => Some(rows_line(alloc, name, rows, limit)),
         _ => None,

@@ -1,10 +1,11 @@
 // Why a command stops before its end.
 ghost use Rattle.std.specs.Prelude.{◌≡◌, IsTrue, MatchOption};
-ghost use Rattle.pac_main.specs.Stop.{status_of, line_of, takes_memory, stop_of_input, stop_of_serial};
+ghost use Rattle.pac_main.specs.Stop.{status_of, line_of, takes_memory, stop_of_input, stop_of_make, stop_of_serial};
 ghost use Rattle.pac_main.specs.declared.stop.Stop.TheVariants.{OutputFault, NoMemory as WantOfMemory};
 
 use crate::input::InputError;
 use pac_base::NoMemory;
+use pac_init::{DeviceName, MakeError};
 use pac_ops::Note;
 use pac_outside::Failed;
 use pac_request::ScriptFault;
@@ -18,6 +19,8 @@ pub enum Stop {
     Usage,
     /// The input is no script, or its catalogue isn't explained.
     Script(ScriptFault),
+    /// This device of a store that is to be made has so many bytes already.
+    NotEmpty { device: DeviceName, length: u64 },
     /// This operation of this transaction aborts.
     Aborted(Note),
     /// This table is the first that has more rows than the limit.
@@ -26,6 +29,8 @@ pub enum Stop {
     InputFault,
     /// The output could not be written.
     OutputFault,
+    /// A call of a device failed.
+    DiskFault,
     /// An allocation was refused.
     NoMemory,
     /// The input has more bytes than it may.
@@ -73,6 +78,18 @@ impl From<AllError> for Stop {
     }
 }
 
+impl From<MakeError> for Stop {
+    ghost from_gives = { λ error stop. stop ≡ stop_of_make error };
+
+    fn from(error: MakeError) -> Self {
+        match error {
+            MakeError::NotEmpty { device, length } => Stop::NotEmpty { device, length },
+            MakeError::DiskFault => Stop::DiskFault,
+            MakeError::NoMemory => Stop::NoMemory,
+        }
+    }
+}
+
 impl Stop {
     /// The program's exit status.
     pub fn status(self) -> u8
@@ -81,10 +98,12 @@ impl Stop {
         match self {
             Stop::Usage => 1,
             Stop::Script(_) => 2,
+            Stop::NotEmpty { .. } => 3,
             Stop::Aborted(_) => 4,
             Stop::RowsOver { .. } => 5,
             Stop::InputFault => 6,
             Stop::OutputFault => 7,
+            Stop::DiskFault => 8,
             Stop::NoMemory => 9,
             Stop::TooLong => 11,
         }
@@ -96,9 +115,11 @@ impl Stop {
     {
         match self {
             Stop::Usage => Some(b"usage: pacman init, run, recover, explain, replay or stress\n"),
-            Stop::Script(_) | Stop::Aborted(_) | Stop::RowsOver { .. } => None,
+            Stop::Script(_) | Stop::NotEmpty { .. } | Stop::Aborted(_) | Stop::RowsOver { .. } =>
+                None,
             Stop::InputFault => Some(b"input fault\n"),
             Stop::OutputFault => Some(b"output fault\n"),
+            Stop::DiskFault => Some(b"disk fault\n"),
             Stop::NoMemory => Some(b"no memory\n"),
             Stop::TooLong => Some(b"input too long\n"),
         }

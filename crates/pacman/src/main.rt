@@ -2,7 +2,7 @@
 #![tactic(auto)]
 
 use pac_main::{WordsError, pacman, refuse_words};
-use pac_outside::{Devices, NoDisk, OpenGate, Stream};
+use pac_outside::{Devices, FileDisk, OpenGate, Stream};
 use std::env::Env;
 use std::io::ErrorKind;
 use std::process::ExitCode;
@@ -26,9 +26,9 @@ fn main(rt: HostRuntime) -> ExitCode {
     let mut output = Stream::new(rt.stdout());
     let mut errors = Stream::new(rt.stderr());
     let mut devices = Devices {
-        log: NoDisk::new(),
-        slot_a: NoDisk::new(),
-        slot_b: NoDisk::new(),
+        log: FileDisk::new(&rt, "pacman.log"),
+        slot_a: FileDisk::new(&rt, "pacman.a"),
+        slot_b: FileDisk::new(&rt, "pacman.b"),
     };
     let status = match read_words(&rt) {
         Ok(words) => pacman(

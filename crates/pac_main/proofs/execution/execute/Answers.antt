@@ -1,13 +1,12 @@
 -- Batch after batch, what is left gives what all gives.
-use Rattle.std.proofs.Common.{◌≡◌, ◌+◌, ◌∷◌, Err, Result, drop, refl, sym, ap, subst, ◌∙◌, arith}
+use Rattle.std.proofs.Common.{◌+◌, Err, Result, drop, sym, ap, subst}
 use Rattle.std.specs.FinMap.{empty}
 use Rattle.std.proofs.lemmas.Result.{err_from_is_err_and}
 use Rattle.pac_tables.specs.Joined.{Held}
 use Rattle.pac_types.specs.Execution.{serial}
 use Rattle.pac_serial.specs.declared.serial.AllError.{AllError}
-use Rattle.pac_serial.specs.Outcomes.{ExecutesAll}
 use Rattle.pac_main.specs.Replay.{DoesEnd, txns_of}
-use Rattle.pac_main.proofs.BatchLemmas.{Left, next, left-on, left-stops, ends-as}
+use Rattle.pac_main.proofs.BatchLemmas.{next, left-on, left-stops, ends-as}
 use Rattle.pac_main.proofs.execution.execute.Goals as goal
 
 pub loop-batch-init : goal.loop-batch-init

@@ -1,5 +1,5 @@
 -- The batches that are left give what all give.
-use Rattle.std.proofs.Common.{◌≡◌, drop}
+use Rattle.std.proofs.Common.{drop}
 use Rattle.std.specs.FinMap.{empty}
 use Rattle.pac_types.specs.Execution.{serial}
 use Rattle.pac_types.specs.Fits.{FitsCatalogue}

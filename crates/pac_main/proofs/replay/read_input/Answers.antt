@@ -1,5 +1,5 @@
 -- A script is what the whole input is read as.
-use Rattle.std.proofs.Common.{Ok, Err, ap, sym, subst, List, ℕ, ◌≤◌, length}
+use Rattle.std.proofs.Common.{Ok, Err, sym, subst, List, ℕ}
 use Rattle.std.proofs.lemmas.Result.{err_from_is_err_and}
 use Rattle.pac_request.specs.Answers.{AnswersBy}
 use Rattle.pac_request.specs.Script.{ScriptSays}

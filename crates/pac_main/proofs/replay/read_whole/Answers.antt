@@ -1,9 +1,9 @@
 -- The bytes that were read are the whole input, or more than it may have.
-use Rattle.std.proofs.Common.{sym, subst, arith}
+use Rattle.std.proofs.Common.{sym, subst}
 use Rattle.std.proofs.lemmas.Result.{err_from_is_err_and}
 use Rattle.pac_main.specs.Causes.{GivesNoScript}
 use Rattle.pac_main.specs.Streams.{observed}
-use Rattle.pac_main.proofs.InputLemmas.{if_err, not-read, whole-input, long-input}
+use Rattle.pac_main.proofs.InputLemmas.{if_err, not-read}
 use Rattle.pac_main.proofs.replay.read_whole.Goals as goal
 
 pub returns-in_err-text-clause-stops : goal.returns-in_err-text-clause-stops

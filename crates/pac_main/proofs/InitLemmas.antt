@@ -1,0 +1,85 @@
+-- What is said of the bytes that were read is said of the input that a store is made of, and of the devices.
+use Rattle.std.proofs.Common.{◌≡◌, ◌≤◌, ℕ, List, ◌++◌, length, Option, Some, None, Result, Err, IfSome, refl, sym, subst}
+use Rattle.std.specs.Io.KnownBytes.{prepend_known}
+use Rattle.pac_base.specs.declared.refusal.Refusal.{Refusal}
+use Rattle.pac_base.specs.declared.refusal.Refusal.TheVariants as refusal
+use Rattle.pac_outside.specs.Content.{Gave, IsAtEnd}
+use Rattle.pac_outside.specs.Devices.{OneRose, TellsOn, WhereAllTold, all_told}
+use Rattle.pac_outside.specs.Disk.{History}
+use Rattle.pac_outside.specs.declared.failed.ReadError.{ReadError}
+use Rattle.pac_outside.specs.declared.failed.ReadError.TheVariants as read
+use Rattle.pac_types.specs.Typing.{CatalogueState}
+use Rattle.pac_types.proofs.OneCatalogue.{catalogue_or_fault}
+use Rattle.pac_log.specs.Logs.{IsAccepted}
+use Rattle.pac_init.specs.Made.{IsInUse}
+use Rattle.pac_init.specs.declared.device.DeviceName.{DeviceName}
+use Rattle.pac_init.specs.declared.errors.MakeError.{MakeError}
+use Rattle.pac_init.specs.declared.errors.MakeError.TheVariants.{NotEmpty, DiskFault, NoMemory}
+use Rattle.pac_request.specs.declared.script_fault.ScriptFault.{ScriptFault}
+use Rattle.pac_request.specs.declared.script_fault.ScriptFault.TheVariants.{Catalogue, TooManyOps, Line}
+use Rattle.pac_request.proofs.OneScript.{few_or_excess}
+use Rattle.pac_main.specs.Causes.{GivesNoText, InitStops}
+use Rattle.pac_main.specs.Explained.{IsUnexplained}
+use Rattle.pac_main.specs.Init.{AreUntouched, IsNoStoreFor, IsNoStoreText, IsStoreText}
+use Rattle.pac_main.specs.Inputs.{input_of_read, input_of_script}
+use Rattle.pac_main.specs.Stop.{stop_of_make}
+use Rattle.pac_main.specs.Streams.{Observed, ObservedDevices, FaultsRose}
+use Rattle.pac_main.proofs.ExplainLemmas.{the_cause, unexplained_longer}
+use Rattle.pac_main.proofs.InputLemmas.{whole-input}
+
+-- ---- the text
+
+-- some catalogue is accepted as that of the text
+abbrev pub HasStore : List ℕ → Type 0
+HasStore text = (catalogue : CatalogueState) × IsAccepted text catalogue
+
+with_store : (old : Option (List ℕ)) (items : List ℕ) → IfSome old (λ all. all ≡ items) → HasStore items → IsStoreText items old
+with_store None items whole has = tt
+with_store (Some all) items whole has = (whole, has)
+
+-- a text that a store can be made of is all of the input
+pub store-text : (old new : Option (List ℕ)) (items : List ℕ) → Gave old items new → (length items ≤ 65536 → IsAtEnd new) → HasStore items → IsStoreText items old
+store-text old new items gave at_end has = with_store old items (whole-input old new items gave (at_end has.1.has.reads.short)) has
+
+not_accepted : (text : List ℕ) (fault : ScriptFault) (catalogue : CatalogueState) → IsUnexplained text fault → IsAccepted text catalogue → ⊥
+not_accepted text (Catalogue fault) catalogue h is = catalogue_or_fault text catalogue fault is.has h
+not_accepted text (TooManyOps name count) catalogue h is = few_or_excess text catalogue h.0 name count is.has is.few h.1 h.2
+not_accepted text (Line number f) catalogue h is = h
+
+no_store : (text : List ℕ) (fault : ScriptFault) → IsUnexplained text fault → IsNoStoreText text fault
+no_store text fault h = let cause = the_cause text fault h in record { is = cause.is; only = cause.only; none = λ catalogue is. not_accepted text fault catalogue h is }
+
+no_store_known : (items : List ℕ) (new : Option (List ℕ)) (fault : ScriptFault) → (length items ≤ 65536 → IsAtEnd new) → IsUnexplained items fault → IsNoStoreFor (prepend_known items new) fault
+no_store_known items None fault at_end is = tt
+no_store_known items (Some rest) fault at_end is = no_store (items ++ rest) fault (unexplained_longer items rest fault at_end is)
+
+-- an input that wasn't read has failed, or there was no memory for it
+pub text-unread : {T : Type 0} (source : Observed) (error : ReadError) → (◌≡◌ {A = Result T ReadError} (Err error) (Err read.Failed) → FaultsRose source) → GivesNoText source (input_of_read error)
+text-unread source read.Failed rose = rose refl
+text-unread source read.NoMemory rose = tt
+
+-- a text that is refused, is refused of the input
+pub text-refused : {T : Type 0} (source : Observed) (new : Option (List ℕ)) (items : List ℕ) (error : Refusal ScriptFault) → Gave source.before items new → (length items ≤ 65536 → IsAtEnd new)
+    → ((fault : ScriptFault) → ◌≡◌ {A = Result T (Refusal ScriptFault)} (Err error) (Err (refusal.Fault fault)) → IsUnexplained items fault) → GivesNoText source (input_of_script error)
+text-refused source new items (refusal.Fault fault) gave at_end is = subst (λ (o : Option (List ℕ)). IsNoStoreFor o fault) (sym gave) (no_store_known items new fault at_end (is fault refl))
+text-refused source new items refusal.NoMemory gave at_end is = tt
+
+-- ---- the devices
+
+same_told : (told : Option (List History)) → TellsOn (λ old new. new ≡ old) told told
+same_told None = tt
+same_told (Some histories) = refl
+
+-- devices that are not called are untouched
+pub not-called : (tolds : List (Option History)) (faults : List ℕ) → AreUntouched (record { before = tolds; behind = tolds; faults_before = faults; faults_behind = faults })
+not-called tolds faults = record { kept = same_told (all_told tolds); quiet = refl }
+
+-- why a store isn't made
+pub not-made : {T : Type 0} (source : Observed) (devices : ObservedDevices) (error : MakeError)
+    → ((device : DeviceName) (length : ℕ) → ◌≡◌ {A = Result T MakeError} (Err error) (Err (NotEmpty device length)) → WhereAllTold (IsInUse device length) devices.before devices.behind)
+    → ((◌≡◌ {A = Result T MakeError} (Err error) (Err DiskFault) → ⊥) → WhereAllTold (λ old new. new ≡ old) devices.before devices.behind)
+    → (◌≡◌ {A = Result T MakeError} (Err error) (Err DiskFault) → OneRose devices.faults_before devices.faults_behind)
+    → ((◌≡◌ {A = Result T MakeError} (Err error) (Err DiskFault) → ⊥) → devices.faults_behind ≡ devices.faults_before) → InitStops source devices (stop_of_make error)
+not-made source devices (NotEmpty device length) in_use kept counted quiet = (record { kept = kept (λ is. absurd cc); quiet = quiet (λ is. absurd cc) }, in_use device length refl)
+not-made source devices DiskFault in_use kept counted quiet = counted refl
+not-made source devices NoMemory in_use kept counted quiet = record { kept = kept (λ is. absurd cc); quiet = quiet (λ is. absurd cc) }

@@ -1,0 +1,24 @@
+-- What is told is the stop that came, unless there was no memory for its line.
+use Rattle.std.proofs.Common.{refl, arith}
+use Rattle.pac_main.specs.Streams.{observed, observed_devices}
+use Rattle.pac_main.proofs.StopLemmas.{init-ends}
+use Rattle.pac_main.proofs.init.init_input.Goals as goal
+
+pub returns-in-Ok-clause-ends : goal.returns-in-Ok-clause-ends
+returns-in-Ok-clause-ends g c = record {
+  statuses = refl;
+  done = λ zero. c.in-Ok.ensures.done;
+  refused = λ two. absurd (omega (arith, two));
+  not_empty = λ three. absurd (omega (arith, three));
+  input_fault = λ six. absurd (omega (arith, six));
+  disk_fault = λ eight. absurd (omega (arith, eight));
+  untouched = λ zero eight. absurd (zero refl);
+  quiet = λ zero. c.in-Ok.ensures.quiet;
+}
+
+pub returns-in-Err-clause-ends : goal.returns-in-Err-clause-ends
+returns-in-Err-clause-ends g c = init-ends
+    (observed g.I.Source.left g.I.Source.faults c.args.input.now c.init.new.input)
+    (observed_devices g.D.Disk.told g.D.Disk.faults c.args.devices.now c.init.new.devices)
+    (observed g.E.Sink.held g.E.Sink.faults c.args.errors.now c.told.new.errors)
+    c.in-Err.stop c.told.result c.status.result c.status.ensures c.told.ensures.which c.in-Err.ensures.stops c.told.ensures.line
