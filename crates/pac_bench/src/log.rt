@@ -10,7 +10,7 @@ use pac_base::NoMemory;
 use pac_entry::read_entry;
 use pac_flat::test_operations;
 use pac_log::{Log, LogReader, MAX_BODY_LEN, body_len, create};
-use pac_ops::{Batch, Txns};
+use pac_ops::{Batch, MAX_TXNS, Txns};
 use pac_outside::{Disk, FileDisk};
 use pac_types::{Catalogue, read_catalogue};
 use std::alloc::Global;
@@ -56,9 +56,12 @@ fn batch_of(alloc: Global, cat: &Catalogue, load: Load) -> Result<Batch, PartErr
     let entry = entry(alloc, load.records)?;
     let (first, _) = read_entry(alloc, cat, &entry, 0)?;
     let mut txns = vec![in alloc; first]?;
-    for _ in 1..load.txns.min(1024) {
+    for _ in 1..load.txns {
         let (txn, _) = read_entry(alloc, cat, &entry, 0)?;
         txns.push(txn)?;
+    }
+    if txns.len() > MAX_TXNS {
+        return Err(PartError::Refused);
     }
     let batch = Batch {
         first: 1,
@@ -71,7 +74,10 @@ fn batch_of(alloc: Global, cat: &Catalogue, load: Load) -> Result<Batch, PartErr
 }
 
 // Makes the log on an empty device, and opens it.
-fn made<R: Files<File = File>>(alloc: Global, disk: &mut FileDisk<'_, R>) -> Result<Log, PartError> {
+fn made<R: Files<File = File>>(
+    alloc: Global,
+    disk: &mut FileDisk<'_, R>,
+) -> Result<Log, PartError> {
     let _ = catalogue(alloc, CATALOGUE)?;
     create(alloc, disk, CATALOGUE)?;
     disk.sync()?;

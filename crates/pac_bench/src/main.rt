@@ -17,13 +17,14 @@ mod log;
 mod part;
 mod slot;
 
-use part::{Part, PartError};
 use pac_outside::FileDisk;
+use part::{Part, PartError};
 use std::env::Env;
 use std::process::ExitCode;
 use std::{env, io};
 
-const USAGE: &str = "usage: pac_bench write|read|copy|table|tables|chain|commit|commits|fill|scan|save ROUNDS";
+const USAGE: &str =
+    "usage: pac_bench write|read|copy|table|tables|chain|commit|commits|fill|scan|save ROUNDS";
 
 // The part and the rounds that the words ask for.
 fn asked(words: &[String]) -> Option<(Part, u32)> {

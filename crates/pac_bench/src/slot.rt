@@ -73,5 +73,5 @@ pub fn save<'a, R: Files<File = File>>(
     }
     let mut slots = Slots::attach(alloc, &cat, a, b)?;
     slots.save(alloc, &cat, &rows, 0, 0, a, b)?;
-    Ok(rows.count(0))
+    Ok(u64::from(count))
 }

@@ -14,10 +14,7 @@ const MADE: &[u8] = b"PACMLOG1\x18\0\0\0table T(key int, v int);\0";
 
 // A disk of these bytes, of which the call with this number fails.
 fn disk(alloc: Global, bytes: &[u8], failing: u64) -> Result<MemDisk, Fail> {
-    Ok(MemDisk::new(
-        bytes.to_vec(alloc)?,
-        [failing].to_vec(alloc)?,
-    ))
+    Ok(MemDisk::new(bytes.to_vec(alloc)?, [failing].to_vec(alloc)?))
 }
 
 // Devices of these bytes.
@@ -73,7 +70,10 @@ fn a_store_is_made_once(rt: HostRuntime) -> Result<(), Fail> {
     assert_eq!(rt; (status, errors.bytes()), (0, b"".as_slice()));
     assert!(rt; hold(&devices, [MADE, b"\0", b"\0"])?);
     let (status, errors) = made(&rt, alloc, ONE_TABLE, 0, &mut devices)?;
-    assert_eq!(rt; (status, errors.bytes()), (3, b"not empty log 37\n".as_slice()));
+    assert_eq!(rt;
+        (status, errors.bytes()),
+        (3, b"not empty log 37\n".as_slice())
+    );
     assert!(rt; hold(&devices, [MADE, b"\0", b"\0"])?);
     Ok(())
 }
@@ -102,8 +102,18 @@ fn other_texts_make_no_store(rt: HostRuntime) -> Result<(), Fail> {
     let alloc = rt.alloc();
     let long = vec![in alloc; b' '; 65_537]?;
     for (text, failing, status, line) in [
-        (b"table T(key int);".as_slice(), 0, 2, "catalogue 15 Expected\n"),
-        (b"table T(key int, v int);\n---\n", 0, 2, "catalogue 25 Expected\n"),
+        (
+            b"table T(key int);".as_slice(),
+            0,
+            2,
+            "catalogue 15 Expected\n",
+        ),
+        (
+            b"table T(key int, v int);\n---\n",
+            0,
+            2,
+            "catalogue 25 Expected\n",
+        ),
         (&long, 0, 2, "catalogue 65536 TooLong\n"),
         (ONE_TABLE, 1, 6, "input fault\n"),
     ] {

@@ -18,7 +18,13 @@ fn options_of_replay_are_read(rt: HostRuntime) -> Result<(), Fail> {
         "replay --rows=2 --workers=16",
     ] {
         let words: Vec<&str> = line.split_whitespace().collect(rt.alloc())?;
-        let right = ends_so(&rt, rt.alloc(), &words, [ADD, "call Add(1, 5)"], (0, DUMP, ""))?;
+        let right = ends_so(
+            &rt,
+            rt.alloc(),
+            &words,
+            [ADD, "call Add(1, 5)"],
+            (0, DUMP, ""),
+        )?;
         assert!(rt; right, "the words {line}");
     }
     Ok(())
@@ -52,7 +58,13 @@ fn other_words_are_refused(rt: HostRuntime) -> Result<(), Fail> {
         "stress 8",
     ] {
         let words: Vec<&str> = line.split_whitespace().collect(rt.alloc())?;
-        let right = ends_so(&rt, rt.alloc(), &words, [ADD, "call Add(1, 5)"], (1, "", USAGE))?;
+        let right = ends_so(
+            &rt,
+            rt.alloc(),
+            &words,
+            [ADD, "call Add(1, 5)"],
+            (1, "", USAGE),
+        )?;
         assert!(rt; right, "the words {line}");
     }
     Ok(())

@@ -12,9 +12,19 @@ const ROWS: [Row; 25] = [
     (ADD, "call Add(1, 2", 2, "script 1 13 Expected\n"),
     (ADD, "call Add(1, \"2\")", 2, "script 1 12 WrongType\n"),
     (ADD, "call Add(1, true)", 2, "script 1 12 WrongType\n"),
-    (ADD, "call Add(1, 9223372036854775808)", 2, "script 1 12 TooLong\n"),
+    (
+        ADD,
+        "call Add(1, 9223372036854775808)",
+        2,
+        "script 1 12 TooLong\n",
+    ),
     (ADD, "dump", 2, "script 1 0 Expected\n"),
-    (ADD, "call Add(1, 2)\n\nadhoc put U[1] = (2)\ndump", 2, "script 3 10 UnknownName\n"),
+    (
+        ADD,
+        "call Add(1, 2)\n\nadhoc put U[1] = (2)\ndump",
+        2,
+        "script 3 10 UnknownName\n",
+    ),
     (
         "table T(key int, v int);\n---\n",
         "\nshow T[1]",
@@ -30,12 +40,7 @@ const ROWS: [Row; 25] = [
         "script 3 0 NotHere\n",
     ),
     // The catalogue's faults come before those of the lines.
-    (
-        "table T(key int, v int); ?",
-        "",
-        2,
-        "catalogue 25 Token\n",
-    ),
+    ("table T(key int, v int); ?", "", 2, "catalogue 25 Token\n"),
     (
         "proc P() { let x = k - 9223372036854775808; }\n---\ncall",
         "",
@@ -115,18 +120,33 @@ const ROWS: [Row; 25] = [
 #[test]
 fn the_first_fault_or_abort_is_told(rt: HostRuntime) -> Result<(), Fail> {
     for (catalogue, lines, status, line) in ROWS {
-        let right = ends_so(&rt, rt.alloc(), &["replay"], [catalogue, lines], (status, "", line))?;
+        let right = ends_so(
+            &rt,
+            rt.alloc(),
+            &["replay"],
+            [catalogue, lines],
+            (status, "", line),
+        )?;
         assert!(rt; right, "the end of {catalogue}{lines}");
     }
     Ok(())
 }
 
-const DEPOSITED: &str = "---\nadhoc put Family[1] = (2)\ncall Deposit(1, 10500, 7)\ncall Transfer(1, 500)";
+const DEPOSITED: &str =
+    "---\nadhoc put Family[1] = (2)\ncall Deposit(1, 10500, 7)\ncall Transfer(1, 500)";
+
 const DEPOSITS: &str =
     "table Family 1\n1 (2)\ntable Current 2\n1 (10000)\n2 (500)\ntable Saving 1\n1 (1)\ntable Stats 1\n7 (1)\n";
 
 // The option, the catalogue with the mark, the lines behind it; the status, the output and the line of the error sink.
-type Limited = (&'static str, &'static str, &'static str, u8, &'static str, &'static str);
+type Limited = (
+    &'static str,
+    &'static str,
+    &'static str,
+    u8,
+    &'static str,
+    &'static str,
+);
 
 const LIMITED: [Limited; 6] = [
     ("--rows=1", BANK, DEPOSITED, 5, "", "rows Current 2 1\n"),
@@ -172,7 +192,13 @@ const LIMITED: [Limited; 6] = [
 fn rows_are_limited_at_the_end(rt: HostRuntime) -> Result<(), Fail> {
     for (option, catalogue, lines, status, text, line) in LIMITED {
         let words = ["replay", option];
-        let right = ends_so(&rt, rt.alloc(), &words, [catalogue, lines], (status, text, line))?;
+        let right = ends_so(
+            &rt,
+            rt.alloc(),
+            &words,
+            [catalogue, lines],
+            (status, text, line),
+        )?;
         assert!(rt; right, "the end of {catalogue}{lines}");
     }
     Ok(())

@@ -72,10 +72,12 @@ pub fn ends_so<RT: Threads + Wait + Sync>(
 ) -> Result<bool, Fail> {
     let input = joined(alloc, input[0], input[1])?;
     let answer = run_words(rt, alloc, words, input, Vec::new(alloc), Vec::new(alloc))?;
-    Ok(answer.status == end.0
-        && answer.entered == 0
-        && answer.output.bytes() == end.1.as_bytes()
-        && answer.errors.bytes() == end.2.as_bytes())
+    Ok(
+        answer.status == end.0
+            && answer.entered == 0
+            && answer.output.bytes() == end.1.as_bytes()
+            && answer.errors.bytes() == end.2.as_bytes(),
+    )
 }
 
 // A text and another behind it.

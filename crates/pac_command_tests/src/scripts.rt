@@ -22,7 +22,11 @@ const ROWS: [Row; 22] = [
         "\n  # nothing\n\tcall Add ( 1 , 1 ) # one\r\n",
         "table T 1\n1 (1)\n",
     ),
-    (ADD, "flush\nflush\ncall Add(1, 1)\nflush # twice\ncall Add(1, 1)", "table T 1\n1 (2)\n"),
+    (
+        ADD,
+        "flush\nflush\ncall Add(1, 1)\nflush # twice\ncall Add(1, 1)",
+        "table T 1\n1 (2)\n",
+    ),
     (
         "table B(key int, v int); table A(key int, v int, w int);",
         "",
@@ -119,7 +123,13 @@ const ROWS: [Row; 22] = [
 #[test]
 fn the_tables_are_those_of_the_transactions_in_order(rt: HostRuntime) -> Result<(), Fail> {
     for (catalogue, lines, text) in ROWS {
-        let right = ends_so(&rt, rt.alloc(), &["replay"], [catalogue, lines], (0, text, ""))?;
+        let right = ends_so(
+            &rt,
+            rt.alloc(),
+            &["replay"],
+            [catalogue, lines],
+            (0, text, ""),
+        )?;
         assert!(rt; right, "the end of {catalogue}{lines}");
     }
     Ok(())

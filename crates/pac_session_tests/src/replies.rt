@@ -77,8 +77,10 @@ const ADD: &[u8] = b"table T(key int, v int); proc Add(k int, n int) { read a = 
 fn an_abort_takes_no_number(rt: HostRuntime) -> Result<(), Fail> {
     let alloc = rt.alloc();
     let mut session = session(alloc, ADD, 64, 1_000_000)?;
-    let lines = "adhoc put T[1] = (9223372036854775807)\ncall Add(1, 1)\nshow T[1]\nshow T[2]\n\ncall Nobody()";
-    let replied = "committed 1\naborted 2 Overflow\nT[1] = (9223372036854775807)\nT[2] absent\nrefused 5 UnknownName\n";
+    let lines =
+        "adhoc put T[1] = (9223372036854775807)\ncall Add(1, 1)\nshow T[1]\nshow T[2]\n\ncall Nobody()";
+    let replied =
+        "committed 1\naborted 2 Overflow\nT[1] = (9223372036854775807)\nT[2] absent\nrefused 5 UnknownName\n";
     assert!(rt; told(alloc, &mut session, lines)?.as_slice() == replied.as_bytes());
     let second = told(alloc, &mut session, "call Add(2, 5)")?;
     assert!(rt; second.as_slice() == b"committed 2\n".as_slice());
