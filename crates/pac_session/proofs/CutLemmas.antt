@@ -5,59 +5,59 @@ use Rattle.std.specs.List.{fold}
 use Rattle.std.proofs.lemmas.List.{append-nil}
 use Rattle.pac_request.specs.declared.request.Request.{Request}
 use Rattle.pac_request.specs.declared.request.Reply.{Reply}
-use Rattle.pac_session.specs.Session.{Rules, State, txn_of, ends, replies, committed}
-use Rattle.pac_session.specs.Groups.{Cut, joined, is_closing, lacks_room, room_made, taken, behind, cut_one, cut_more, cut, place_behind, described, all_replies}
+use Rattle.pac_session.specs.Session.{Rules, SessionState, txn_of, ends, replies, committed}
+use Rattle.pac_session.specs.Groups.{GroupCut, all_requests, is_closing, lacks_room, room_made, cut_with, cut_behind, cut_one, cut_on, cut, place_behind, described, all_replies}
 use Rattle.pac_session.proofs.SessionLemmas.{replies-append}
 
-pub joined-append : (xs ys : List (List Request)) → joined (xs ++ ys) ≡ joined xs ++ joined ys
+pub joined-append : (xs ys : List (List Request)) → all_requests (xs ++ ys) ≡ all_requests xs ++ all_requests ys
 joined-append [] ys = refl
-joined-append (x ∷ xs) ys = ap (λ (l : List Request). x ++ l) (joined-append xs ys) ∙ sym (append_assoc x (joined xs) (joined ys))
+joined-append (x ∷ xs) ys = ap (λ (l : List Request). x ++ l) (joined-append xs ys) ∙ sym (append_assoc x (all_requests xs) (all_requests ys))
 
 -- all requests of a cut
-abbrev pub whole : Cut → List Request
-whole one = joined one.closed ++ one.rest
+abbrev pub whole : GroupCut → List Request
+whole one = all_requests one.closed ++ one.rest
 
 -- what is closed, or left open, is the group
 choice : (b : Bool) (group : List Request) → whole (if b then record { closed = group ∷ []; rest = [] } else record { closed = []; rest = group }) ≡ group
 choice true group = append-nil (group ++ []) ∙ append-nil group
 choice false group = refl
 
-whole-room : (rules : Rules) (start : State) (group : List Request) (asked : Request) → whole (room_made rules start group asked) ≡ group
+whole-room : (rules : Rules) (start : SessionState) (group : List Request) (asked : Request) → whole (room_made rules start group asked) ≡ group
 whole-room rules start group asked = choice (lacks_room (committed rules start group) (txn_of asked)) group
 
-whole-taken : (rules : Rules) (start : State) (group : List Request) (asked : Request) → whole (taken rules start group asked) ≡ group ++ asked ∷ []
+whole-taken : (rules : Rules) (start : SessionState) (group : List Request) (asked : Request) → whole (cut_with rules start group asked) ≡ group ++ asked ∷ []
 whole-taken rules start group asked = choice (is_closing asked || nat_le rules.most (length (replies rules start (group ++ asked ∷ [])))) (group ++ asked ∷ [])
 
 -- a cut whose rest is cut further
-whole-behind : (one two : Cut) (more : List Request) → whole two ≡ one.rest ++ more → whole (behind one two) ≡ whole one ++ more
+whole-behind : (one two : GroupCut) (more : List Request) → whole two ≡ one.rest ++ more → whole (cut_behind one two) ≡ whole one ++ more
 whole-behind one two more is =
     ap (λ (l : List Request). l ++ two.rest) (joined-append one.closed two.closed)
-    ∙ append_assoc (joined one.closed) (joined two.closed) two.rest
-    ∙ ap (λ (l : List Request). joined one.closed ++ l) is
-    ∙ sym (append_assoc (joined one.closed) one.rest more)
+    ∙ append_assoc (all_requests one.closed) (all_requests two.closed) two.rest
+    ∙ ap (λ (l : List Request). all_requests one.closed ++ l) is
+    ∙ sym (append_assoc (all_requests one.closed) one.rest more)
 
-whole-one : (rules : Rules) (start : State) (group : List Request) (asked : Request) → whole (cut_one rules start group asked) ≡ group ++ asked ∷ []
+whole-one : (rules : Rules) (start : SessionState) (group : List Request) (asked : Request) → whole (cut_one rules start group asked) ≡ group ++ asked ∷ []
 whole-one rules start group asked =
     let room = room_made rules start group asked in
-    whole-behind room (taken rules (ends rules start (joined room.closed)) room.rest asked) (asked ∷ []) (whole-taken rules (ends rules start (joined room.closed)) room.rest asked)
+    whole-behind room (cut_with rules (ends rules start (all_requests room.closed)) room.rest asked) (asked ∷ []) (whole-taken rules (ends rules start (all_requests room.closed)) room.rest asked)
     ∙ ap (λ (l : List Request). l ++ asked ∷ []) (whole-room rules start group asked)
 
-whole-more : (rules : Rules) (start : State) (so_far : Cut) (asked : Request) → whole (cut_more rules start so_far asked) ≡ whole so_far ++ asked ∷ []
+whole-more : (rules : Rules) (start : SessionState) (so_far : GroupCut) (asked : Request) → whole (cut_on rules start so_far asked) ≡ whole so_far ++ asked ∷ []
 whole-more rules start so_far asked =
-    whole-behind so_far (cut_one rules (ends rules start (joined so_far.closed)) so_far.rest asked) (asked ∷ []) (whole-one rules (ends rules start (joined so_far.closed)) so_far.rest asked)
+    whole-behind so_far (cut_one rules (ends rules start (all_requests so_far.closed)) so_far.rest asked) (asked ∷ []) (whole-one rules (ends rules start (all_requests so_far.closed)) so_far.rest asked)
 
-whole-fold : (rules : Rules) (start : State) (so_far : Cut) (requests : List Request) → whole (fold (cut_more rules start) so_far requests) ≡ whole so_far ++ requests
+whole-fold : (rules : Rules) (start : SessionState) (so_far : GroupCut) (requests : List Request) → whole (fold (cut_on rules start) so_far requests) ≡ whole so_far ++ requests
 whole-fold rules start so_far [] = sym (append-nil (whole so_far))
 whole-fold rules start so_far (asked ∷ more) =
-    whole-fold rules start (cut_more rules start so_far asked) more
+    whole-fold rules start (cut_on rules start so_far asked) more
     ∙ ap (λ (l : List Request). l ++ more) (whole-more rules start so_far asked)
     ∙ append_assoc (whole so_far) (asked ∷ []) more
 
-pub whole-cut : (rules : Rules) (start : State) (requests : List Request) → whole (cut rules start requests) ≡ requests
+pub whole-cut : (rules : Rules) (start : SessionState) (requests : List Request) → whole (cut rules start requests) ≡ requests
 whole-cut rules start requests = whole-fold rules start (record { closed = []; rest = [] }) requests
 
-pub described-replies : (rules : Rules) (place : ℕ) (start : State) (groups : List (List Request)) → all_replies (described rules place start groups) ≡ replies rules start (joined groups)
+pub described-replies : (rules : Rules) (place : ℕ) (start : SessionState) (groups : List (List Request)) → all_replies (described rules place start groups) ≡ replies rules start (all_requests groups)
 described-replies rules place start [] = refl
 described-replies rules place start (group ∷ more) =
     ap (λ (l : List Reply). replies rules start group ++ l) (described-replies rules (place_behind place (committed rules start group)) (ends rules start group) more)
-    ∙ sym (replies-append rules start group (joined more))
+    ∙ sym (replies-append rules start group (all_requests more))

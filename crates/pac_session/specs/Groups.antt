@@ -8,15 +8,15 @@ use Rattle.pac_request.specs.Batches.{body_len}
 use Rattle.pac_request.specs.declared.request.Request.{Request}
 use Rattle.pac_request.specs.declared.request.Request.TheVariants as request
 use Rattle.pac_request.specs.declared.request.Reply.{Reply}
-use Rattle.pac_session.specs.Session.{Rules, State, txn_of, ends, replies, committed, up_to_stop}
+use Rattle.pac_session.specs.Session.{Rules, SessionState, txn_of, ends, replies, committed, up_to_stop}
 
 -- all requests of groups, in their order
-abbrev pub joined : List (List Request) → List Request
-joined [] = []
-joined (group ∷ groups) = group ++ joined groups
+abbrev pub all_requests : List (List Request) → List Request
+all_requests [] = []
+all_requests (group ∷ groups) = group ++ all_requests groups
 
 -- groups that were closed, and the requests behind them
-pub record Cut : Type 0 where
+pub record GroupCut : Type 0 where
   pub closed : List (List Request)
   pub rest : List Request
 
@@ -36,34 +36,34 @@ lacks_room txns None = false
 lacks_room txns (Some txn) = nat_lt MAX_BODY (body_len (txns ++ txn ∷ []))
 
 -- before a request the group is closed where its body has no room for the request's entry
-abbrev pub room_made : Rules → State → List Request → Request → Cut
+abbrev pub room_made : Rules → SessionState → List Request → Request → GroupCut
 room_made rules start group asked =
     if lacks_room (committed rules start group) (txn_of asked) then record { closed = group ∷ []; rest = [] } else record { closed = []; rest = group }
 
 -- the request goes behind these, which began at this state, and ends their group where it closes it, or where the group
 -- has as many replies as it may hold
-abbrev pub taken : Rules → State → List Request → Request → Cut
-taken rules start group asked =
+abbrev pub cut_with : Rules → SessionState → List Request → Request → GroupCut
+cut_with rules start group asked =
     let all = group ++ asked ∷ [] in
     if is_closing asked || nat_le rules.most (length (replies rules start all)) then record { closed = all ∷ []; rest = [] } else record { closed = []; rest = all }
 
 -- one cut behind another
-abbrev pub behind : Cut → Cut → Cut
-behind one two = record { closed = one.closed ++ two.closed; rest = two.rest }
+abbrev pub cut_behind : GroupCut → GroupCut → GroupCut
+cut_behind one two = record { closed = one.closed ++ two.closed; rest = two.rest }
 
 -- one request more, behind a group that began at this state
-abbrev pub cut_one : Rules → State → List Request → Request → Cut
+abbrev pub cut_one : Rules → SessionState → List Request → Request → GroupCut
 cut_one rules start group asked =
     let room = room_made rules start group asked in
-    behind room (taken rules (ends rules start (joined room.closed)) room.rest asked)
+    cut_behind room (cut_with rules (ends rules start (all_requests room.closed)) room.rest asked)
 
 -- one request more, behind a cut of requests that began at this state
-abbrev pub cut_more : Rules → State → Cut → Request → Cut
-cut_more rules start whole asked = behind whole (cut_one rules (ends rules start (joined whole.closed)) whole.rest asked)
+abbrev pub cut_on : Rules → SessionState → GroupCut → Request → GroupCut
+cut_on rules start whole asked = cut_behind whole (cut_one rules (ends rules start (all_requests whole.closed)) whole.rest asked)
 
 -- the groups that closings cut off these requests
-abbrev pub cut : Rules → State → List Request → Cut
-cut rules start requests = fold (cut_more rules start) (record { closed = []; rest = [] }) requests
+abbrev pub cut : Rules → SessionState → List Request → GroupCut
+cut rules start requests = fold (cut_on rules start) (record { closed = []; rest = [] }) requests
 
 -- ---- what groups are
 
@@ -80,7 +80,7 @@ place_behind place [] = place
 place_behind place (txn ∷ txns) = place + (1 + body_len (txn ∷ txns))
 
 -- lists of requests as groups, one behind the other, where the first begins at this place and this state
-abbrev pub described : Rules → ℕ → State → List (List Request) → List Group
+abbrev pub described : Rules → ℕ → SessionState → List (List Request) → List Group
 described rules place start [] = []
 described rules place start (group ∷ more) =
     let txns = committed rules start group in
@@ -88,7 +88,7 @@ described rules place start (group ∷ more) =
     ∷ described rules (place_behind place txns) (ends rules start group) more
 
 -- the groups that closings cut off requests, up to the first stop; what the end of the requests alone would cut off is none
-abbrev pub groups : Rules → ℕ → State → List Request → List Group
+abbrev pub groups : Rules → ℕ → SessionState → List Request → List Group
 groups rules place start requests = described rules place start (cut rules start (up_to_stop requests)).closed
 
 -- the replies of groups, in their order

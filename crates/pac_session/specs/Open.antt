@@ -15,7 +15,7 @@ use Rattle.pac_request.specs.Batches.{body_len}
 use Rattle.pac_request.specs.declared.request.Request.{Request}
 use Rattle.pac_request.specs.declared.request.Reply.{Reply}
 use Rattle.pac_request.specs.contracts.request.Reply as reply_type
-use Rattle.pac_session.specs.Session.{Rules, State, outcome, commits_asked, after_asked, reply_by, commits, after, answer, ends, replies, committed}
+use Rattle.pac_session.specs.Session.{Rules, SessionState, txn_outcome, commits_asked, after_asked, reply_by, commits, state_after, answer, ends, replies, committed}
 
 -- a session: what it goes by, the tables now, how many transactions were committed before the open group, and the group's
 -- transactions and replies
@@ -41,23 +41,23 @@ abbrev pub rules_of : Open → Rules
 rules_of now = record { catalogue = now.catalogue; limit = now.limit; most = now.most }
 
 -- the state that the next request meets
-abbrev pub state_of : Open → State
-state_of now = record { tables = now.tables; number = now.before + length now.txns }
+abbrev pub state_now : Open → SessionState
+state_now now = record { tables = now.tables; number = now.before + length now.txns }
 
 -- a request goes behind those of the group: its transaction, where that is committed, and its reply
 abbrev pub with_asked : Request → Open → Open
 with_asked asked now = record now {
-  tables = (after (rules_of now) (state_of now) asked).tables;
-  txns = now.txns ++ commits (rules_of now) (state_of now) asked;
-  held = now.held ++ answer (rules_of now) (state_of now) asked;
+  tables = (state_after (rules_of now) (state_now now) asked).tables;
+  txns = now.txns ++ commits (rules_of now) (state_now now) asked;
+  held = now.held ++ answer (rules_of now) (state_now now) asked;
 }
 
 -- the same of a transaction
 abbrev pub with_run : Txn → Open → Open
 with_run txn now = record now {
-  tables = (after_asked (rules_of now) (state_of now) (Some txn)).tables;
-  txns = now.txns ++ commits_asked (rules_of now) (state_of now) (Some txn);
-  held = now.held ++ reply_by (state_of now) (outcome (rules_of now) now.tables txn);
+  tables = (after_asked (rules_of now) (state_now now) (Some txn)).tables;
+  txns = now.txns ++ commits_asked (rules_of now) (state_now now) (Some txn);
+  held = now.held ++ reply_by (state_now now) (txn_outcome (rules_of now) now.tables txn);
 }
 
 -- the group is closed, and another one begins
@@ -66,10 +66,10 @@ with_closed now = record now { before = now.before + length now.txns; txns = [];
 
 -- The session is within a group: it holds the replies of these requests, which began at this state, and their
 -- transactions.
-pub record IsWithin (start : State) (group : List Request) (now : Open) : Type 0 where
+pub record IsInGroup (start : SessionState) (group : List Request) (now : Open) : Type 0 where
   pub answers : now.held ≡ replies (rules_of now) start group
   pub body : now.txns ≡ committed (rules_of now) start group
-  pub here : ends (rules_of now) start group ≡ state_of now
+  pub here : ends (rules_of now) start group ≡ state_now now
   pub begun : start.number ≡ now.before
 
 -- ---- what every session keeps

@@ -21,7 +21,7 @@ pub record Rules : Type 0 where
   pub most : ℕ
 
 -- the tables now, and how many transactions were committed
-pub record State : Type 0 where
+pub record SessionState : Type 0 where
   pub tables : Tables
   pub number : ℕ
 
@@ -29,19 +29,19 @@ pub record State : Type 0 where
 
 -- the tables that a transaction leaves; or why it is aborted, by itself or else for the first table that would have more
 -- rows than the limit
-abbrev pub outcome : Rules → Tables → Txn → Result Tables ExecError
-outcome rules tables txn = limited (Some rules.limit) (length rules.catalogue.tables) (txn_meaning rules.catalogue.procs txn tables)
+abbrev pub txn_outcome : Rules → Tables → Txn → Result Tables ExecError
+txn_outcome rules tables txn = limited (Some rules.limit) (length rules.catalogue.tables) (txn_meaning rules.catalogue.procs txn tables)
 
 -- where it leaves tables it is committed, and has the next number
 abbrev pub committed_by : Txn → Result Tables ExecError → List Txn
 committed_by txn (Ok tables) = txn ∷ []
 committed_by txn (Err refusal) = []
 
-abbrev pub state_by : State → Result Tables ExecError → State
+abbrev pub state_by : SessionState → Result Tables ExecError → SessionState
 state_by state (Ok tables) = record { tables = tables; number = state.number + 1 }
 state_by state (Err refusal) = state
 
-abbrev pub reply_by : State → Result Tables ExecError → List Reply
+abbrev pub reply_by : SessionState → Result Tables ExecError → List Reply
 reply_by state (Ok tables) = Committed (state.number + 1) ∷ []
 reply_by state (Err (Abort op reason)) = Aborted op reason ∷ []
 reply_by state (Err (Full table)) = AbortedFull table ∷ []
@@ -60,25 +60,25 @@ txn_of request.Stop = None
 txn_of (request.Refused fault) = None
 
 -- the transaction that is committed, if any
-abbrev pub commits_asked : Rules → State → Option Txn → List Txn
+abbrev pub commits_asked : Rules → SessionState → Option Txn → List Txn
 commits_asked rules state None = []
-commits_asked rules state (Some txn) = committed_by txn (outcome rules state.tables txn)
+commits_asked rules state (Some txn) = committed_by txn (txn_outcome rules state.tables txn)
 
-abbrev pub commits : Rules → State → Request → List Txn
+abbrev pub commits : Rules → SessionState → Request → List Txn
 commits rules state asked = commits_asked rules state (txn_of asked)
 
 -- the state after a request
-abbrev pub after_asked : Rules → State → Option Txn → State
+abbrev pub after_asked : Rules → SessionState → Option Txn → SessionState
 after_asked rules state None = state
-after_asked rules state (Some txn) = state_by state (outcome rules state.tables txn)
+after_asked rules state (Some txn) = state_by state (txn_outcome rules state.tables txn)
 
-abbrev pub after : Rules → State → Request → State
-after rules state asked = after_asked rules state (txn_of asked)
+abbrev pub state_after : Rules → SessionState → Request → SessionState
+state_after rules state asked = after_asked rules state (txn_of asked)
 
 -- the reply to a request, if any
-abbrev pub answer : Rules → State → Request → List Reply
-answer rules state (request.Call proc args) = reply_by state (outcome rules state.tables (Call (record { proc = proc; args = args })))
-answer rules state (request.AdHoc records) = reply_by state (outcome rules state.tables (AdHoc records))
+abbrev pub answer : Rules → SessionState → Request → List Reply
+answer rules state (request.Call proc args) = reply_by state (txn_outcome rules state.tables (Call (record { proc = proc; args = args })))
+answer rules state (request.AdHoc records) = reply_by state (txn_outcome rules state.tables (AdHoc records))
 answer rules state request.Flush = []
 answer rules state (request.Show table key) = Shown table key (map.get state.tables (table, key)) ∷ []
 answer rules state request.Save = Saved state.number ∷ []
@@ -88,19 +88,19 @@ answer rules state (request.Refused fault) = Refused fault ∷ []
 -- ---- requests in order
 
 -- the state with which requests end
-abbrev pub ends : Rules → State → List Request → State
+abbrev pub ends : Rules → SessionState → List Request → SessionState
 ends rules state [] = state
-ends rules state (asked ∷ more) = ends rules (after rules state asked) more
+ends rules state (asked ∷ more) = ends rules (state_after rules state asked) more
 
 -- the replies to requests
-abbrev pub replies : Rules → State → List Request → List Reply
+abbrev pub replies : Rules → SessionState → List Request → List Reply
 replies rules state [] = []
-replies rules state (asked ∷ more) = answer rules state asked ++ replies rules (after rules state asked) more
+replies rules state (asked ∷ more) = answer rules state asked ++ replies rules (state_after rules state asked) more
 
 -- the transactions that requests commit
-abbrev pub committed : Rules → State → List Request → List Txn
+abbrev pub committed : Rules → SessionState → List Request → List Txn
 committed rules state [] = []
-committed rules state (asked ∷ more) = commits rules state asked ++ committed rules (after rules state asked) more
+committed rules state (asked ∷ more) = commits rules state asked ++ committed rules (state_after rules state asked) more
 
 -- ---- a session
 
@@ -119,9 +119,9 @@ up_to_stop (request.Refused fault ∷ more) = request.Refused fault ∷ up_to_st
 pub record Transcript : Type 0 where
   pub replies : List Reply
   pub committed : List Txn
-  pub state : State
+  pub state : SessionState
 
-abbrev pub session : Rules → State → List Request → Transcript
+abbrev pub session : Rules → SessionState → List Request → Transcript
 session rules start requests = record {
   replies = replies rules start (up_to_stop requests);
   committed = committed rules start (up_to_stop requests);

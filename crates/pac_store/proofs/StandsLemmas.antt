@@ -33,12 +33,12 @@ use Rattle.pac_check.proofs.OnceLemmas.{one-checkpoint, one-state}
 use Rattle.pac_check.proofs.SlotLemmas.{read_held}
 use Rattle.pac_store.specs.Images.{Images}
 use Rattle.pac_store.specs.Stored.{Stored, IsStored, AreNewest, newest_among}
-use Rattle.pac_store.specs.Stands.{EndsWith, IsHistory, HasSaved, HoldsSaved, IsShutOrFront, Stands}
+use Rattle.pac_store.specs.Stands.{EndsWith, IsHistory, HasSaved, HoldsSaved, IsShutOrFront, StandsFor}
 use Rattle.pac_store.specs.Fronts.{GoesOn}
 
 -- ---- more and fewer
 
-pub fewer : (text : List ℕ) (catalogue : CatalogueState) (history : List Txn) (least lesser : ℕ) (images : Images) → lesser ≤ least → Stands text catalogue history least images → Stands text catalogue history lesser images
+pub fewer : (text : List ℕ) (catalogue : CatalogueState) (history : List Txn) (least lesser : ℕ) (images : Images) → lesser ≤ least → StandsFor text catalogue history least images → StandsFor text catalogue history lesser images
 fewer text catalogue history least lesser images le is = record {
   executes = is.executes;
   batches = is.batches;
@@ -58,7 +58,7 @@ fewer-saved catalogue saved lesser images le (inl none) = inl (omega (arith, le,
 fewer-saved catalogue saved lesser images le (inr (inl a)) = inr (inl (fewer-here catalogue saved lesser images.slot_a le a))
 fewer-saved catalogue saved lesser images le (inr (inr b)) = inr (inr (fewer-here catalogue saved lesser images.slot_b le b))
 
-pub longer : (text : List ℕ) (catalogue : CatalogueState) (history more : List Txn) (least : ℕ) (images : Images) → IsHistory catalogue (history ++ more) → Stands text catalogue history least images → Stands text catalogue (history ++ more) least images
+pub longer : (text : List ℕ) (catalogue : CatalogueState) (history more : List Txn) (least : ℕ) (images : Images) → IsHistory catalogue (history ++ more) → StandsFor text catalogue history least images → StandsFor text catalogue (history ++ more) least images
 longer text catalogue history more least images executes is = record {
   executes = executes;
   batches = is.batches;
@@ -73,17 +73,17 @@ longer text catalogue history more least images executes is = record {
 -- ---- one history
 
 -- the first so many of the history are those of the log
-told-front : (text : List ℕ) (catalogue : CatalogueState) (history : List Txn) (least : ℕ) (images : Images) → (is : Stands text catalogue history least images) → take least history ≡ take least (all_txns is.batches)
+told-front : (text : List ℕ) (catalogue : CatalogueState) (history : List Txn) (least : ℕ) (images : Images) → (is : StandsFor text catalogue history least images) → take least history ≡ take least (all_txns is.batches)
 told-front text catalogue history least images is = ap (λ (h : List Txn). take least h) is.front ∙ take-append-le least (all_txns is.batches) is.later is.enough
 
-pub one-front : (s t : List ℕ) (c d : CatalogueState) (h g : List Txn) (least : ℕ) (images : Images) → Stands s c h least images → Stands t d g least images → (s ≡ t) × (c ≡ d) × (take least h ≡ take least g)
+pub one-front : (s t : List ℕ) (c d : CatalogueState) (h g : List Txn) (least : ℕ) (images : Images) → StandsFor s c h least images → StandsFor t d g least images → (s ≡ t) × (c ≡ d) × (take least h ≡ take least g)
 one-front s t c d h g least images is other =
     let one = one_log s t c d is.batches other.batches images.log is.log other.log in
     (one.0, one.1, told-front s c h least images is ∙ ap (λ (b : List (List Txn)). take least (all_txns b)) one.2 ∙ sym (told-front t d g least images other))
 
-pub one-whole : (s t : List ℕ) (c d : CatalogueState) (h g : List Txn) (images : Images) → length h ≡ length g → Stands s c h (length h) images → Stands t d g (length g) images → h ≡ g
+pub one-whole : (s t : List ℕ) (c d : CatalogueState) (h g : List Txn) (images : Images) → length h ≡ length g → StandsFor s c h (length h) images → StandsFor t d g (length g) images → h ≡ g
 one-whole s t c d h g images long is other =
-    let same = one-front s t c d h g (length h) images is (subst (λ (n : ℕ). Stands t d g n images) (sym long) other) in
+    let same = one-front s t c d h g (length h) images is (subst (λ (n : ℕ). StandsFor t d g n images) (sym long) other) in
     sym (take_all (length h) h (omega arith)) ∙ same.2 ∙ take_all (length h) g (omega (arith, long))
 
 -- ---- one checkpoint
@@ -160,7 +160,7 @@ behind-front procs k txns base end le front whole =
     ∙ whole
 
 -- what is stored on devices that stand for a history, of one text, one catalogue and one list of batches
-goes-on-here : (text : List ℕ) (catalogue : CatalogueState) → length catalogue.tables < 65536 → (history : List Txn) (least : ℕ) (images : Images) → (is : Stands text catalogue history least images)
+goes-on-here : (text : List ℕ) (catalogue : CatalogueState) → length catalogue.tables < 65536 → (history : List Txn) (least : ℕ) (images : Images) → (is : StandsFor text catalogue history least images)
     → (stored : Stored) → stored.catalogue ≡ catalogue → (newest : Option SlotInfo) → AreNewest catalogue images.slot_a images.slot_b newest stored.base stored.number → stored.rest ≡ drop stored.number (all_txns is.batches) → GoesOn catalogue history least stored
 goes-on-here text catalogue few_tables history least images is stored same newest are behind =
     let txns = all_txns is.batches in
@@ -177,7 +177,7 @@ goes-on-here text catalogue few_tables history least images is stored same newes
       from_base = ap (λ (l : List Txn). serial catalogue.procs (stored.number + 1) l stored.base) behind ∙ behind-front catalogue.procs stored.number txns stored.base whole.0 front.within front.ends whole.1;
     }
 
-pub goes-on : (text : List ℕ) (catalogue : CatalogueState) (history : List Txn) (least : ℕ) (images : Images) (stored : Stored) → Stands text catalogue history least images → IsStored images stored → GoesOn catalogue history least stored
+pub goes-on : (text : List ℕ) (catalogue : CatalogueState) (history : List Txn) (least : ℕ) (images : Images) (stored : Stored) → StandsFor text catalogue history least images → IsStored images stored → GoesOn catalogue history least stored
 goes-on text catalogue history least images stored is there =
     let few_tables = few-tables text catalogue is.log.log.accepted.has in
     let one = one_log text there.text catalogue stored.catalogue is.batches there.batches images.log is.log there.log in
@@ -263,7 +263,7 @@ module _ (text : List ℕ) (catalogue : CatalogueState) (batches : List (List Tx
       go (inl h) = out (tables-a info h)
       go (inr h) = out (tables-b info h)
 
-pub is-stored : (text : List ℕ) (catalogue : CatalogueState) (history : List Txn) (least : ℕ) (images : Images) → Stands text catalogue history least images → (stored : Stored) × IsStored images stored
+pub is-stored : (text : List ℕ) (catalogue : CatalogueState) (history : List Txn) (least : ℕ) (images : Images) → StandsFor text catalogue history least images → (stored : Stored) × IsStored images stored
 is-stored text catalogue history least images is =
     let few_tables = few-tables text catalogue is.log.log.accepted.has in
     let ra = readable text catalogue few_tables is.batches images.slot_a is.slot_a in

@@ -41,7 +41,7 @@ IsShutOrFront text catalogue batches image = IsShut [] image ⊎ HoldsFront text
 -- The devices stand for a history of at least so many transactions: the log is one of this catalogue's text and has no
 -- damage, its transactions are the first of the history, at least so many, and each slot is shut, or open with a
 -- checkpoint of the log's front.
-pub record Stands (text : List ℕ) (catalogue : CatalogueState) (history : List Txn) (least : ℕ) (images : Images) : Type 0 where
+pub record StandsFor (text : List ℕ) (catalogue : CatalogueState) (history : List Txn) (least : ℕ) (images : Images) : Type 0 where
   pub executes : IsHistory catalogue history
   pub batches : List (List Txn)
   pub log : HoldsLog text catalogue batches images.log

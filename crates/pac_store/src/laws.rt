@@ -4,34 +4,34 @@ ghost use Rattle.pac_ops.specs.declared.transaction.Txn.{Txn as ATxn};
 ghost use Rattle.pac_types.specs.Typing.{CatalogueState};
 ghost use Rattle.pac_store.specs.Fronts.{GoesOn};
 ghost use Rattle.pac_store.specs.Images.{Images};
-ghost use Rattle.pac_store.specs.Stands.{HoldsSaved, IsHistory, Stands};
+ghost use Rattle.pac_store.specs.Stands.{HoldsSaved, IsHistory, StandsFor};
 ghost use Rattle.pac_store.specs.Stored.{IsStored, Stored};
 
 /// Where devices stand for a history, serial execution of what is stored on them, from the tables of the newest slot on,
 /// ends with the tables of a front of the history, which has at least as many transactions as they stand for.
 pub fn stored_goes_on()
-    ensures { (text : List ℕ) (c : CatalogueState) (history : List ATxn) (least : ℕ) (images : Images) (stored : Stored) → Stands text c history least images → IsStored images stored → GoesOn c history least stored }
+    ensures { (text : List ℕ) (c : CatalogueState) (history : List ATxn) (least : ℕ) (images : Images) (stored : Stored) → StandsFor text c history least images → IsStored images stored → GoesOn c history least stored }
 {}
 
 /// Where devices stand for a history, something is stored on them: the log is whole, and so are the slots.
 pub fn what_stands_is_stored()
-    ensures { (text : List ℕ) (c : CatalogueState) (history : List ATxn) (least : ℕ) (images : Images) → Stands text c history least images → (stored : Stored) × IsStored images stored }
+    ensures { (text : List ℕ) (c : CatalogueState) (history : List ATxn) (least : ℕ) (images : Images) → StandsFor text c history least images → (stored : Stored) × IsStored images stored }
 {}
 
 /// Devices stand for one text, one catalogue, and one list of as many transactions: two histories that they stand for
 /// begin with the same ones.
 pub fn one_history()
-    ensures front { (s t : List ℕ) (c d : CatalogueState) (h g : List ATxn) (least : ℕ) (images : Images) → Stands s c h least images → Stands t d g least images → (s ≡ t) × (c ≡ d) × (take least h ≡ take least g) }
-    ensures whole { (s t : List ℕ) (c d : CatalogueState) (h g : List ATxn) (images : Images) → length h ≡ length g → Stands s c h (length h) images → Stands t d g (length g) images → h ≡ g }
+    ensures front { (s t : List ℕ) (c d : CatalogueState) (h g : List ATxn) (least : ℕ) (images : Images) → StandsFor s c h least images → StandsFor t d g least images → (s ≡ t) × (c ≡ d) × (take least h ≡ take least g) }
+    ensures whole { (s t : List ℕ) (c d : CatalogueState) (h g : List ATxn) (images : Images) → length h ≡ length g → StandsFor s c h (length h) images → StandsFor t d g (length g) images → h ≡ g }
 {}
 
 /// Devices that stand for a history of at least so many transactions stand for it with fewer.
 pub fn fewer_stand()
-    ensures log { (text : List ℕ) (c : CatalogueState) (history : List ATxn) (least lesser : ℕ) (images : Images) → lesser ≤ least → Stands text c history least images → Stands text c history lesser images }
+    ensures log { (text : List ℕ) (c : CatalogueState) (history : List ATxn) (least lesser : ℕ) (images : Images) → lesser ≤ least → StandsFor text c history least images → StandsFor text c history lesser images }
     ensures slots { (c : CatalogueState) (saved lesser : ℕ) (images : Images) → lesser ≤ saved → HoldsSaved c saved images → HoldsSaved c lesser images }
 {}
 
 /// Devices that stand for a history stand for each history that continues it.
 pub fn more_stand()
-    ensures { (text : List ℕ) (c : CatalogueState) (history more : List ATxn) (least : ℕ) (images : Images) → IsHistory c (history ++ more) → Stands text c history least images → Stands text c (history ++ more) least images }
+    ensures { (text : List ℕ) (c : CatalogueState) (history more : List ATxn) (least : ℕ) (images : Images) → IsHistory c (history ++ more) → StandsFor text c history least images → StandsFor text c (history ++ more) least images }
 {}
