@@ -37,8 +37,8 @@ IsNewStore text (log ∷ a ∷ b ∷ []) = (log.now ≡ settled (header_bytes te
 IsNewStore text _ = ⊥
 
 -- it was made on empty devices
-abbrev pub IsMade : List ℕ → List History → List History → Type 0
-IsMade text old new = AreEmpty old × IsNewStore text new
+abbrev pub MakesStore : List ℕ → List History → List History → Type 0
+MakesStore text old new = AreEmpty old × IsNewStore text new
 
 -- a device has so many bytes, and nothing was written
 abbrev pub IsInUse : DeviceName → ℕ → List History → List History → Type 0

@@ -5,7 +5,7 @@ ghost use Rattle.pac_outside.specs.Devices.{OneRose, WhereAllTold, each};
 ghost use Rattle.pac_outside.specs.Disk.{BothTell, WhereTold, settled};
 ghost use Rattle.pac_types.specs.Typing.{CatalogueState};
 ghost use Rattle.pac_log.specs.Logs.{IsAccepted};
-ghost use Rattle.pac_init.specs.Made.{AreEmpty, IsInUse, IsMade};
+ghost use Rattle.pac_init.specs.Made.{AreEmpty, IsInUse, MakesStore};
 ghost use Rattle.pac_init.specs.declared.device.DeviceName.{DeviceName as ADevice};
 
 use crate::{DeviceName, MakeError};
@@ -74,7 +74,7 @@ pub fn make_store<D: Disk>(
     requires { (catalogue : CatalogueState) × IsAccepted text.now catalogue }
 
     // From Ok on each crash leaves the store of the text, and the devices were empty.
-    ensures made { OnOk result (WhereAllTold (IsMade text.now) (each D.told devices.old) (each D.told devices.new)) }
+    ensures made { OnOk result (WhereAllTold (MakesStore text.now) (each D.told devices.old) (each D.told devices.new)) }
     ensures in_use { (device : ADevice) (length : ℕ) → IsErrOf result (MakeError.NotEmpty device length) → WhereAllTold (IsInUse device length) (each D.told devices.old) (each D.told devices.new) }
     ensures kept { OnErr result (¬ IsErrOf result MakeError.DiskFault → WhereAllTold (λ old new. new ≡ old) (each D.told devices.old) (each D.told devices.new)) }
 

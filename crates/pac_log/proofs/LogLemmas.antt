@@ -124,6 +124,12 @@ behind_so text batches txns gate new count len counted long e is =
     let with_len : IsBehind text (batches ++ txns ∷ []) (gate_behind count len gate) = subst (λ (n : ℕ). IsBehind text (batches ++ txns ∷ []) (gate_behind count n gate)) (sym long) with_count in
     subst (λ (g : NextGate). IsBehind text (batches ++ txns ∷ []) g) (sym e) with_len
 
+-- the gate behind what was ready
+pub gate_so : (txns : List Txn) (inside old new : NextGate) (count len : ℕ) → count ≡ length txns → len ≡ 1 + length (body_bytes txns) → new ≡ gate_behind count len inside → inside ≡ old
+    → new ≡ gate_behind (length txns) (1 + length (body_bytes txns)) old
+gate_so txns inside old new count len counted long e same =
+    e ∙ ap (λ (n : ℕ). gate_behind n len inside) counted ∙ ap (λ (n : ℕ). gate_behind (length txns) n inside) long ∙ ap (λ (g : NextGate). gate_behind (length txns) (1 + length (body_bytes txns)) g) same
+
 -- a log that ended at its gate ends at the next one, when a batch was added
 pub ends_again : (R : History → History → Type 0) (old new : NextGate) (before after : Option History) (txns : List Txn) → BothTell R before after → WhereTold (λ h. LogEndsAt old h.now) before
     → ((text : List ℕ) (batches : List (List Txn)) → IsBehind text batches old → BothTell (AddsBatch text old.catalogue batches txns) before after)

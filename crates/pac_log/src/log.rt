@@ -143,6 +143,7 @@ impl Log {
             → BothTell (AddsBatch text self.old.gate.catalogue batches txns) (D.told disk.old) (D.told disk.new)) }
         ensures behind { OnOk result ((text : List ℕ) (batches : List (List ATxn)) (txns : List ATxn) → IsBehind text batches self.old.gate → IsPrepared self.old txns
             → IsBehind text (batches ++ txns ∷ []) self.new.gate) }
+        ensures gate { OnOk result ((txns : List ATxn) → IsPrepared self.old txns → self.new.gate ≡ gate_behind (length txns) (1 + length (body_bytes txns)) self.old.gate) }
         ensures still_ends { OnOk result ((txns : List ATxn) → IsPrepared self.old txns → WhereTold (λ new. LogEndsAt self.new.gate new.now) (D.told disk.new)) }
         ensures catalogue { self.new.gate.catalogue ≡ self.old.gate.catalogue }
         ensures waits { OnOk result (self.new.stage ≡ Stage.Waiting) }

@@ -13,7 +13,7 @@ use Rattle.pac_main.specs.declared.stop.Stop.{Stop}
 use Rattle.pac_main.specs.declared.stop.Stop.TheVariants as stop
 use Rattle.pac_main.specs.Streams.{Observed, ObservedDevices, FaultsRose, IsFrontTaken}
 use Rattle.pac_main.specs.Init.{AreUntouched, IsNoStoreFor}
-use Rattle.pac_main.specs.Replay.{IsRefusedAs, IsTooLong, outcome, IsDumpOf, IsAbortOf, IsOverOf}
+use Rattle.pac_main.specs.Replay.{IsRefusedAs, IsLongScript, outcome, IsDumpOf, IsAbortOf, IsOverOf}
 use Rattle.pac_main.specs.Explained.{IsExplanationOf, IsUnexplainedAs}
 
 -- ---- `replay`
@@ -21,7 +21,7 @@ use Rattle.pac_main.specs.Explained.{IsExplanationOf, IsUnexplainedAs}
 -- an input that gives no script
 abbrev pub GivesNoScript : Observed → InputError → Type 0
 GivesNoScript source input.Failed = FaultsRose source
-GivesNoScript source input.TooLong = IsTooLong source.before
+GivesNoScript source input.TooLong = IsLongScript source.before
 GivesNoScript source (input.Script fault) = IsRefusedAs source.before fault
 GivesNoScript source input.NoMemory = Unit {0}
 
@@ -48,7 +48,7 @@ ReplayStops limit source sink stop.InputFault = FaultsRose source
 ReplayStops limit source sink stop.OutputFault = FaultsRose sink × IsDumpOf limit source.before (IsFrontTaken sink)
 ReplayStops limit source sink stop.DiskFault = ⊥
 ReplayStops limit source sink stop.NoMemory = Unit {0}
-ReplayStops limit source sink stop.TooLong = IsTooLong source.before
+ReplayStops limit source sink stop.TooLong = IsLongScript source.before
 
 -- ---- `explain`
 

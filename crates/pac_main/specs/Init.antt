@@ -3,7 +3,7 @@ use Rattle.std.specs.Prelude.{◌≡◌, ◌≢◌, ℕ, List, [], ◌∷◌, Op
 use Rattle.pac_outside.specs.Devices.{OneRose, WhereAllTold}
 use Rattle.pac_types.specs.Typing.{CatalogueState}
 use Rattle.pac_log.specs.Logs.{IsAccepted}
-use Rattle.pac_init.specs.Made.{IsInUse, IsMade}
+use Rattle.pac_init.specs.Made.{IsInUse, MakesStore}
 use Rattle.pac_init.specs.declared.device.DeviceName.{DeviceName}
 use Rattle.pac_request.specs.declared.script_fault.ScriptFault.{ScriptFault}
 use Rattle.pac_main.specs.declared.stop.Stop.TheVariants as stop
@@ -27,7 +27,7 @@ IsNoStoreFor input fault = IfSome input (λ text. IsNoStoreText text fault)
 
 -- the input was such a text, and the devices have its store
 abbrev pub IsStoreOf : Option (List ℕ) → ObservedDevices → Type 0
-IsStoreOf input devices = (text : List ℕ) × IsStoreText text input × WhereAllTold (IsMade text) devices.before devices.behind
+IsStoreOf input devices = (text : List ℕ) × IsStoreText text input × WhereAllTold (MakesStore text) devices.before devices.behind
 
 -- nothing was written to a device, and no call of one failed
 pub record AreUntouched (devices : ObservedDevices) : Type 0 where

@@ -37,8 +37,8 @@ abbrev pub IsRefusedAs : Option (List ℕ) → ScriptFault → Type 0
 IsRefusedAs input fault = IfSome input (λ text. IsReadAs text (Err fault))
 
 -- the input has more than 67,108,864 bytes, where the source tells it
-abbrev pub IsTooLong : Option (List ℕ) → Type 0
-IsTooLong input = IfSome input (λ text. MAX_INPUT < length text)
+abbrev pub IsLongScript : Option (List ℕ) → Type 0
+IsLongScript input = IfSome input (λ text. MAX_INPUT < length text)
 
 -- ---- what its transactions give
 
@@ -62,8 +62,8 @@ DoesEnd (Err (Abort note)) meaning = meaning ≡ Err note
 DoesEnd (Err NoMemory) meaning = Unit {0}
 
 -- the number of the first of a script's tables that has more rows than the limit, and how many it has
-abbrev pub over : ℕ → Script → Tables → Option (ℕ × ℕ)
-over limit script tables = first_over limit (length script.catalogue.tables) tables
+abbrev pub first_over_in : ℕ → Script → Tables → Option (ℕ × ℕ)
+first_over_in limit script tables = first_over limit (length script.catalogue.tables) tables
 
 -- the text of the tables, in the catalogue's order
 abbrev pub dump : Script → Tables → List ℕ
@@ -77,7 +77,7 @@ pub record IsDumpOf (limit : ℕ) (input : Option (List ℕ)) (P : List ℕ → 
   pub tables : Tables
   pub is : IsScriptOf script input
   pub ends : outcome script ≡ Ok tables
-  pub within : over limit script tables ≡ None
+  pub within : first_over_in limit script tables ≡ None
   pub has : P (dump script tables)
 
 -- the input is a script whose transactions abort so
@@ -91,7 +91,7 @@ pub record IsOverOf (limit : ℕ) (input : Option (List ℕ)) (name : List ℕ) 
   pub is : IsScriptOf script input
   pub ends : outcome script ≡ Ok tables
   pub number : ℕ
-  pub first : over limit script tables ≡ Some (number, rows)
+  pub first : first_over_in limit script tables ≡ Some (number, rows)
   pub named : option_map (λ table. table.name) (slice_get script.catalogue.tables number) ≡ Some name
 
 -- how `replay` ends under a limit of rows: the statuses that it may have, and a line for each that has a cause
@@ -103,4 +103,4 @@ pub record ReplayEnds (limit status : ℕ) (input output errors : Observed) : Ty
   pub over_limit : status ≡ 5 → (name : List ℕ) × (rows : ℕ) × IsOverOf limit input.before name rows × IsTold errors (rows_line name rows limit)
   pub input_fault : status ≡ 6 → FaultsRose input
   pub output_fault : status ≡ 7 → FaultsRose output × IsDumpOf limit input.before (IsFrontTaken output)
-  pub too_long : status ≡ 11 → IsTooLong input.before
+  pub too_long : status ≡ 11 → IsLongScript input.before

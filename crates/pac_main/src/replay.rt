@@ -4,7 +4,7 @@ ghost use Rattle.pac_outside.specs.Content.{GaveAtMost};
 ghost use Rattle.pac_types.specs.Execution.{first_over};
 ghost use Rattle.pac_request.specs.RequestFits.{BatchesFit, BatchesHaveNumbers};
 ghost use Rattle.pac_main.specs.Causes.{AreOver, GivesNoScript, ReplayStops, ScriptStops};
-ghost use Rattle.pac_main.specs.Replay.{AreNumberedFrom, IsDumpOf, IsScriptOf, IsTooLong, ReplayEnds, outcome, over};
+ghost use Rattle.pac_main.specs.Replay.{AreNumberedFrom, IsDumpOf, IsScriptOf, IsLongScript, ReplayEnds, first_over_in, outcome};
 ghost use Rattle.pac_main.specs.Stop.{line_of, status_of};
 ghost use Rattle.pac_main.specs.Streams.{IsTaken, IsTold, observed};
 ghost use Rattle.pac_main.specs.declared.stop.Stop.{Stop as AStop};
@@ -71,7 +71,7 @@ fn finished(alloc: Global, limit: u32, script: &Script) -> Result<OrderedRows, S
     requires small { BatchesHaveNumbers script.now.batches }
     requires numbered { AreNumberedFrom 1 script.now.batches }
     ensures ends { IfOk result (λ rows. outcome script.now ≡ Ok rows.rows) }
-    ensures within { IfOk result (λ rows. over limit script.now rows.rows ≡ None) }
+    ensures within { IfOk result (λ rows. first_over_in limit script.now rows.rows ≡ None) }
     ensures tables { IfOk result (λ rows. rows.tables ≡ length script.now.catalogue.tables) }
     ensures stops { IfErr result (ScriptStops limit script.now) }
 {

@@ -2,7 +2,7 @@
 use Rattle.std.proofs.Common.{sym, subst, List, ℕ}
 use Rattle.std.proofs.lemmas.Result.{err_from_is_err_and}
 use Rattle.pac_outside.specs.Devices.{WhereAllTold, each}
-use Rattle.pac_init.specs.Made.{IsMade}
+use Rattle.pac_init.specs.Made.{MakesStore}
 use Rattle.pac_main.specs.Causes.{InitStops}
 use Rattle.pac_main.specs.Streams.{observed, observed_devices}
 use Rattle.pac_main.proofs.InputLemmas.{if_err}
@@ -17,7 +17,7 @@ pub returns-clause-done : goal.returns-clause-done
 returns-clause-done g c = (
   c.in_ok-text.text.items,
   c.in_ok-text.ensures.ok,
-  subst (λ (text : List ℕ). WhereAllTold (IsMade text) (each g.D.Disk.told c.args.devices.now) (each g.D.Disk.told c.make_store.new.devices)) c.deref.ensures.value c.in_ok-make_store.ensures.made,
+  subst (λ (text : List ℕ). WhereAllTold (MakesStore text) (each g.D.Disk.told c.args.devices.now) (each g.D.Disk.told c.make_store.new.devices)) c.deref.ensures.value c.in_ok-make_store.ensures.made,
 )
 
 pub returns-in_err-text-clause-stops : goal.returns-in_err-text-clause-stops

@@ -6,7 +6,7 @@ use Rattle.pac_log.specs.declared.position.NextGate.{NextGate}
 use Rattle.pac_log.specs.Bodies.{body_bytes}
 use Rattle.pac_log.specs.Logs.{log_front}
 use Rattle.pac_log.specs.Places.{IsBehind}
-use Rattle.pac_log.proofs.LogLemmas.{keeps_or_adds, adds_batch, ready_parts, behind_so, ends_again}
+use Rattle.pac_log.proofs.LogLemmas.{keeps_or_adds, adds_batch, ready_parts, behind_so, gate_so, ends_again}
 use Rattle.pac_log.proofs.log.Log.commit.Goals as goal
 
 pub returns-in-Ok-clause-any_moment : goal.returns-in-Ok-clause-any_moment
@@ -29,6 +29,12 @@ returns-in-Ok-clause-behind g c = λ text batches txns behind prepared.
     let parts = ready_parts _ _ _ _ _ _ c.in-Ready.is (ap (λ (p : LogParts). p.stage) c.self.view_is) prepared.ready in
     let long = ap (λ (l : List ℕ). length l) (c.as_slice.ensures ∙ parts.0) in
     behind_so text batches txns c.self.inside.parts.gate _ _ _ parts.1 (omega (arith, long, length-append (body_bytes txns) (0 ∷ []))) c.advance.ensures (subst (λ (p : LogParts). IsBehind text batches p.gate) (sym c.self.view_is) behind)
+
+pub returns-in-Ok-clause-gate : goal.returns-in-Ok-clause-gate
+returns-in-Ok-clause-gate g c = λ txns prepared.
+    let parts = ready_parts _ _ _ _ _ _ c.in-Ready.is (ap (λ (p : LogParts). p.stage) c.self.view_is) prepared.ready in
+    let long = ap (λ (l : List ℕ). length l) (c.as_slice.ensures ∙ parts.0) in
+    gate_so txns c.self.inside.parts.gate _ _ _ _ parts.1 (omega (arith, long, length-append (body_bytes txns) (0 ∷ []))) c.advance.ensures (ap (λ (p : LogParts). p.gate) c.self.view_is)
 
 pub returns-in-Ok-clause-still_ends : goal.returns-in-Ok-clause-still_ends
 returns-in-Ok-clause-still_ends g c = λ txns prepared.
