@@ -4,6 +4,7 @@ ghost use Rattle.std.specs.Int.{w32, to_le_bytes};
 ghost use Rattle.pac_value.specs.Growth.{Grew};
 ghost use Rattle.pac_syntax.specs.declared.limits.TheConstants.{MAX_CATALOGUE};
 ghost use Rattle.pac_types.specs.Typing.{CatalogueState};
+ghost use Rattle.pac_log.specs.declared.damage.DamageKind.{DamageKind as ADamageKind};
 ghost use Rattle.pac_log.specs.Logs.{IsAccepted, header_bytes, log_name};
 
 use crate::LogError;
@@ -45,6 +46,7 @@ pub(crate) fn accepted(alloc: Global, text: &[u8]) -> Result<Catalogue, LogError
     ensures ok { IfOk result (IsAccepted text.now) }
     ensures refused { IsErrOf result LogError.NoStore → (catalogue : CatalogueState) → ¬ IsAccepted text.now catalogue }
     ensures only { ¬ IsErrOf result LogError.DiskFault }
+    ensures whole { (at : ℕ) (kind : ADamageKind) → ¬ IsErrOf result (LogError.Damaged at kind) }
 {
     match read_catalogue(alloc, text) {
         Ok(catalogue) => match test_operations(&catalogue) {

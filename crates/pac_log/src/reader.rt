@@ -7,6 +7,7 @@ ghost use Rattle.pac_types.specs.Fits.{TxnFits};
 ghost use Rattle.pac_types.specs.OperationLimits.{HasFewOperations};
 ghost use Rattle.pac_types.specs.Typing.{CatalogueState};
 ghost use Rattle.pac_bytes.specs.Reading.{told_as};
+ghost use Rattle.pac_log.specs.declared.damage.DamageKind.{DamageKind as ADamageKind};
 ghost use Rattle.pac_log.specs.Logs.{HoldsLog};
 ghost use Rattle.pac_log.specs.Places.{IsBehind};
 ghost use Rattle.pac_log.specs.Looked.{IsSpelled};
@@ -59,11 +60,14 @@ impl LogReader {
     ///   name, and the text of a catalogue that is within the limits on operations.
     /// - [`LogError::DiskFault`] where the device failed, so only where its count of faults rose.
     /// - [`LogError::NoMemory`] where there was no memory for the catalogue.
+    ///
+    /// No damage is told: no batch is read.
     pub fn attach<D: Disk>(alloc: Global, disk: &mut D) -> Result<LogReader, LogError>
         // The header is right, and the reader stands in front of the first batch.
         ensures store { IfOk result (λ reader. WhereTold (λ old. (text : List ℕ) × IsStore text reader.gate.catalogue old.now.seen × StandsBehind text [] reader.gate old.now.seen) (D.told disk.old)) }
         ensures first { IfOk result (λ reader. reader.gate.txns ≡ 0) }
         ensures no_store { IsErrOf result LogError.NoStore → WhereTold (λ old. (text : List ℕ) (catalogue : CatalogueState) → ¬ IsStore text catalogue old.now.seen) (D.told disk.old) }
+        ensures whole { (at : ℕ) (kind : ADamageKind) → ¬ IsErrOf result (LogError.Damaged at kind) }
 
         // The device is only read, and no call of it comes after one that failed.
         ensures same { D.told disk.new ≡ D.told disk.old }
