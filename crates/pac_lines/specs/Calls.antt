@@ -1,0 +1,46 @@
+-- What one call of a reader does.
+use Rattle.std.specs.Prelude.{◌≡◌, ◌⊎◌, ℕ, ◌+◌, ◌≤◌, Bool, true, false, List, [], ◌++◌, length, Option, Result, Ok, Err}
+use Rattle.pac_outside.specs.Content.{Gave, IsAtEnd}
+use Rattle.pac_lines.specs.Lines.{HasNoFeed, IsEndedLine, IsLastLine}
+use Rattle.pac_lines.specs.Reading.{HasNoLine, ReaderState}
+use Rattle.pac_lines.specs.declared.line_error.LineError.{LineError}
+use Rattle.pac_lines.specs.declared.line_error.LineError.TheVariants.{Failed, TooLong, NoMemory}
+
+-- no line is handed out, and these bytes are ahead
+abbrev pub Keeps : List ℕ → ReaderState → Type 0
+Keeps text now = (now.line ≡ []) × (now.ahead ≡ text)
+
+-- What is handed out of a text, which is what was ahead and then what the source gave: its first line that is ended, or
+-- its last one where the source is at its end; none where nothing is left of both. An error leaves all of it ahead.
+abbrev pub Answers : List ℕ → ReaderState → Option (List ℕ) → Result Bool LineError → Type 0
+Answers text now left (Ok true) = IsEndedLine text now.line now.ahead ⊎ (IsLastLine text now.line now.ahead × IsAtEnd left)
+Answers text now left (Ok false) = Keeps text now × (text ≡ []) × IsAtEnd left
+Answers text now left (Err Failed) = Keeps text now
+Answers text now left (Err TooLong) = Keeps text now × HasNoLine text
+Answers text now left (Err NoMemory) = Keeps text now
+
+-- the source was read only while no line feed was ahead: but for the last read, of at most 4,096 bytes, none has any
+pub record IsReadOn (ahead given : List ℕ) : Type 0 where
+  pub earlier : List ℕ
+  pub last : List ℕ
+  pub split : given ≡ earlier ++ last
+  pub none : HasNoFeed (ahead ++ earlier)
+  pub chunk : length last ≤ 4096
+
+-- a call of a reader: what the source gave, and what is handed out
+pub record IsCall (before now : ReaderState) (left left' : Option (List ℕ)) (result : Result Bool LineError) : Type 0 where
+  pub given : List ℕ
+  pub gave : Gave left given left'
+  pub counted : now.taken ≡ before.taken + length given
+  pub limit : now.limit ≡ before.limit
+  pub read : (given ≡ []) ⊎ IsReadOn before.ahead given
+  pub answer : Answers (before.ahead ++ given) now left' result
+
+-- a read of a reader: the source gave so many bytes, none at its end
+pub record IsChunk (before now : ReaderState) (left left' : Option (List ℕ)) (count : ℕ) : Type 0 where
+  pub given : List ℕ
+  pub gave : Gave left given left'
+  pub counted : count ≡ length given
+  pub chunk : length given ≤ 4096
+  pub end : count ≡ 0 → IsAtEnd left'
+  pub grown : now ≡ record { line = []; ahead = before.ahead ++ given; taken = before.taken + length given; limit = before.limit }
