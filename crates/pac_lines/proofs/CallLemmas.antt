@@ -1,13 +1,14 @@
 -- The reads of one call, one after another, and what the call then answers.
-use Rattle.std.proofs.Common.{◌≡◌, ◌⊎◌, ◌+◌, ℕ, Bool, true, false, ◌||◌, eqb, ltb, List, [], ◌∷◌, ◌++◌, length, Option, Ok, Err, refl, sym, ap, subst, ◌∙◌, append_assoc, append-nil, length-append, arith, inl, inr}
+use Rattle.std.proofs.Common.{◌≡◌, ◌⊎◌, ◌+◌, ℕ, Bool, true, false, ◌||◌, eqb, ltb, List, [], ◌∷◌, ◌++◌, length, Option, Some, None, Result, Ok, Err, refl, sym, ap, subst, ◌∙◌, append_assoc, append-nil, length-append, arith, inl, inr}
 use Rattle.std.proofs.lemmas.Bool.{ltb-true, ltb-false}
 use Rattle.std.proofs.lemmas.List.Folds.{list_any-append}
+use Rattle.std.specs.Io.KnownBytes.{prepend_known}
 use Rattle.std.proofs.KnownBytes.{prepend_known-nil}
 use Rattle.pac_outside.specs.Content.{Gave, IsAtEnd}
 use Rattle.pac_outside.proofs.ContentLemmas.{Gave-append}
-use Rattle.pac_lines.specs.Lines.{has_feed, HasFeed, HasNoFeed, IsEndedLine}
+use Rattle.pac_lines.specs.Lines.{HandsOut, has_feed, HasFeed, HasNoFeed, IsEndedLine, IsLastLine}
 use Rattle.pac_lines.specs.Reading.{AheadState, HasNoLine, ReaderState}
-use Rattle.pac_lines.specs.Calls.{Answers, IsCall, IsChunk, IsReadOn, Keeps}
+use Rattle.pac_lines.specs.Calls.{Answers, Calls, IsCall, known, IsChunk, IsReadOn, Keeps}
 use Rattle.pac_lines.specs.declared.line_error.LineError.{LineError}
 use Rattle.pac_lines.specs.declared.line_error.LineError.TheVariants.{Failed, TooLong, NoMemory}
 
@@ -113,3 +114,58 @@ answers_error before now left left' error reading long = record {
   read = reading.read;
   answer = error_answer (before.ahead ++ reading.given) (record now { line = [] }) left' error (refl, reading.ahead) (λ e. subst HasNoLine reading.ahead (long e));
 }
+
+-- ---- what is known of the source
+
+known-gave : (ahead given : List ℕ) (left' : Option (List ℕ)) → prepend_known ahead (prepend_known given left') ≡ prepend_known (ahead ++ given) left'
+known-gave ahead given None = refl
+known-gave ahead given (Some rest) = ap Some (sym (append_assoc ahead given rest))
+
+known_before : (before now : ReaderState) (left left' : Option (List ℕ)) (result : Result Bool LineError) (call : IsCall before now left left' result) → known before left ≡ prepend_known (before.ahead ++ call.given) left'
+known_before before now left left' result call = ap (prepend_known before.ahead) call.gave ∙ known-gave before.ahead call.given left'
+
+kept : (text : List ℕ) (now : ReaderState) (left : Option (List ℕ)) (error : LineError) → Answers text now left (Err error) → now.ahead ≡ text
+kept text now left Failed answer = answer.1
+kept text now left TooLong answer = answer.0.1
+kept text now left NoMemory answer = answer.1
+
+pub nothing_lost : (before now : ReaderState) (left left' : Option (List ℕ)) (error : LineError) → IsCall before now left left' (Err error) → known now left' ≡ known before left
+nothing_lost before now left left' error call =
+    ap (λ (l : List ℕ). prepend_known l left') (kept (before.ahead ++ call.given) now left' error call.answer) ∙ sym (known_before before now left left' (Err error) call)
+
+-- a line of what was taken is one of the text
+line_of_text : (taken : List ℕ) (now : ReaderState) (left' : Option (List ℕ)) (text : List ℕ) → Answers taken now left' (Ok true) → prepend_known taken left' ≡ Some text
+    → (rest : List ℕ) × (known now left' ≡ Some rest) × (IsEndedLine text now.line rest ⊎ IsLastLine text now.line rest)
+line_of_text taken now None text answer is = absurd cc
+line_of_text taken now (Some rest) text answer is = (now.ahead ++ rest, refl, by answer)
+  where
+    all : taken ++ rest ≡ text
+    all = cc
+
+    by : Answers taken now (Some rest) (Ok true) → IsEndedLine text now.line (now.ahead ++ rest) ⊎ IsLastLine text now.line (now.ahead ++ rest)
+    by (inl first) = inl (record { none = first.none; split = sym all ∙ ap (λ (l : List ℕ). l ++ rest) first.split ∙ append_assoc now.line _ rest })
+    by (inr last) = inr (record {
+      none = last.0.none;
+      some = last.0.some;
+      all = sym all ∙ ap (λ (l : List ℕ). taken ++ l) last.1 ∙ append-nil taken ∙ last.0.all;
+      end = ap (λ (l : List ℕ). l ++ rest) last.0.end ∙ last.1;
+    })
+
+pub lines_of_text : (text : List ℕ) (before now : ReaderState) (left left' : Option (List ℕ)) (lines : List (List ℕ)) → Calls before left lines now left' → known before left ≡ Some text
+    → (rest : List ℕ) × (known now left' ≡ Some rest) × HandsOut text lines rest
+lines_of_text text before now left left' [] calls is = (text, rw (calls.0, calls.1) is, refl)
+lines_of_text text before now left left' (line ∷ lines) calls is =
+    let call = calls.2 in
+    let one = line_of_text (before.ahead ++ call.given) calls.0 calls.1 text call.answer (sym (known_before before calls.0 left calls.1 (Ok true) call) ∙ is) in
+    let more = lines_of_text one.0 calls.0 now calls.1 left' lines calls.4 one.1 in
+    (more.0, more.1, (one.0, subst (λ (l : List ℕ). IsEndedLine text l one.0 ⊎ IsLastLine text l one.0) calls.3 one.2, more.2))
+
+pub end_of_text : (text : List ℕ) (before now : ReaderState) (left left' : Option (List ℕ)) → IsCall before now left left' (Ok false) → known before left ≡ Some text → text ≡ []
+end_of_text text before now left left' call is =
+    by left' call.answer (sym (known_before before now left left' (Ok false) call) ∙ is)
+  where
+    by : (end : Option (List ℕ)) → Answers (before.ahead ++ call.given) now end (Ok false) → prepend_known (before.ahead ++ call.given) end ≡ Some text → text ≡ []
+    by None answer is = absurd cc
+    by (Some rest) answer is =
+        let all : (before.ahead ++ call.given) ++ rest ≡ text = cc in
+        sym all ∙ ap (λ (l : List ℕ). l ++ rest) answer.1 ∙ answer.2

@@ -1,5 +1,6 @@
 -- What one call of a reader does.
-use Rattle.std.specs.Prelude.{◌≡◌, ◌⊎◌, ℕ, ◌+◌, ◌≤◌, Bool, true, false, List, [], ◌++◌, length, Option, Result, Ok, Err}
+use Rattle.std.specs.Prelude.{◌≡◌, ◌⊎◌, ℕ, ◌+◌, ◌≤◌, Bool, true, false, List, [], ◌∷◌, ◌++◌, length, Option, Result, Ok, Err}
+use Rattle.std.specs.Io.KnownBytes.{prepend_known}
 use Rattle.pac_outside.specs.Content.{Gave, IsAtEnd}
 use Rattle.pac_lines.specs.Lines.{HasNoFeed, IsEndedLine, IsLastLine}
 use Rattle.pac_lines.specs.Reading.{HasNoLine, ReaderState}
@@ -44,3 +45,12 @@ pub record IsChunk (before now : ReaderState) (left left' : Option (List ℕ)) (
   pub chunk : length given ≤ 4096
   pub end : count ≡ 0 → IsAtEnd left'
   pub grown : now ≡ record { line = []; ahead = before.ahead ++ given; taken = before.taken + length given; limit = before.limit }
+
+-- what is ahead and then left, where the source tells that
+abbrev pub known : ReaderState → Option (List ℕ) → Option (List ℕ)
+known state left = prepend_known state.ahead left
+
+-- calls one after another, each of which hands out the next of these lines
+abbrev pub Calls : ReaderState → Option (List ℕ) → List (List ℕ) → ReaderState → Option (List ℕ) → Type 0
+Calls before left [] now left' = (now ≡ before) × (left' ≡ left)
+Calls before left (line ∷ lines) now left' = (next : ReaderState) × (mid : Option (List ℕ)) × IsCall before next left mid (Ok true) × (next.line ≡ line) × Calls next mid lines now left'

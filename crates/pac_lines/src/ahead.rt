@@ -133,15 +133,18 @@ impl Ahead {
         self.len > 0
     }
 
-    // Moves the bytes ahead to the front of the buffer, and forgets the line.
+    // Moves the bytes ahead to the front of the buffer, if they don't stand there, and forgets the line.
     fn move_to_front(&mut self)
         ensures { self.new ≡ record { line = []; bytes = self.old.bytes } }
     {
+        self.line = 0;
+        self.len = 0;
+        if self.next == 0 {
+            return;
+        }
         let count = self.buffer.len() - self.next;
         self.buffer.copy_within(self.next.., 0);
         self.buffer.truncate(count);
-        self.line = 0;
-        self.len = 0;
         self.next = 0;
     }
 

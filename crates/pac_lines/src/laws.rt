@@ -1,15 +1,30 @@
-// What holds of the lines of a text. Each law is a function without code.
-ghost use Rattle.std.specs.Prelude.{◌≡◌, ◌++◌, ℕ, List};
+// What holds of the lines of a text, and of calls that hand them out. Each law is a function without code.
+ghost use Rattle.std.specs.Prelude.{◌≡◌, ◌++◌, [], ℕ, List, Option, Some, Ok, Err, false};
+ghost use Rattle.pac_lines.specs.Calls.{Calls, IsCall, known};
 ghost use Rattle.pac_lines.specs.Lines.{AreLines, HandsOut, Lines, all_lines, lines_of};
+ghost use Rattle.pac_lines.specs.Reading.{ReaderState};
+ghost use Rattle.pac_lines.specs.declared.line_error.LineError.{LineError as ALineError};
 
 /// Each text has lines and a rest, and only these.
-pub fn lines_of_a_text()
+pub fn each_text_has_its_lines()
     ensures are { (text : List ℕ) → AreLines text (lines_of text) }
     ensures only { (text : List ℕ) (lines : Lines) → AreLines text lines → lines ≡ lines_of text }
 {}
 
-/// Where lines are handed out one after another, they are the first of the text's, and the others are the lines of what
-/// is left; so where nothing is left they are all, with the rest as the last one where it isn't empty.
-pub fn lines_in_turn()
-    ensures { (before after : List ℕ) (lines : List (List ℕ)) → HandsOut before lines after → all_lines (lines_of before) ≡ lines ++ all_lines (lines_of after) }
+/// Where lines are handed out of a text one after another, they are its first ones, and the others are those of what is
+/// left of it. The rest behind the last line feed is the last one, if it isn't empty.
+pub fn lines_come_in_turn()
+    ensures { (text left : List ℕ) (lines : List (List ℕ)) → HandsOut text lines left → all_lines (lines_of text) ≡ lines ++ all_lines (lines_of left) }
+{}
+
+/// Calls of a reader that hand out lines do so of the text that is ahead and then left of the source. One that hands out
+/// none was behind the whole text.
+pub fn calls_hand_out_lines()
+    ensures lines { (text : List ℕ) (before now : ReaderState) (left left' : Option (List ℕ)) (lines : List (List ℕ)) → Calls before left lines now left' → known before left ≡ Some text → (rest : List ℕ) × (known now left' ≡ Some rest) × HandsOut text lines rest }
+    ensures end { (text : List ℕ) (before now : ReaderState) (left left' : Option (List ℕ)) → IsCall before now left left' (Ok false) → known before left ≡ Some text → text ≡ [] }
+{}
+
+/// Behind an error, what is ahead and then left of the source is what it was before the call.
+pub fn no_byte_is_lost()
+    ensures { (before now : ReaderState) (left left' : Option (List ℕ)) (error : ALineError) → IsCall before now left left' (Err error) → known now left' ≡ known before left }
 {}

@@ -10,8 +10,8 @@
 //!   stands in front of it any more, the answer is [`LineError::TooLong`].
 //! - No answer loses a byte: what is ahead and then what is left of the source is, behind an error, what it was before.
 //!
-//! `specs/Lines.antt` says what the lines of a text are, and [`lines_of_a_text`] and [`lines_in_turn`] are laws over that: the lines that
-//! are handed out one after another are those of the text.
+//! `specs/Lines.antt` says what the lines of a text are, and `specs/Calls.antt` what a call of a reader does. Laws stand over
+//! that: [`each_text_has_its_lines`], [`lines_come_in_turn`], [`calls_hand_out_lines`] and [`no_byte_is_lost`].
 #![tactic(auto)]
 
 mod ahead;
@@ -19,6 +19,8 @@ mod laws;
 mod line_error;
 mod reader;
 
-pub use laws::{lines_in_turn, lines_of_a_text};
+pub use laws::{
+    calls_hand_out_lines, each_text_has_its_lines, lines_come_in_turn, no_byte_is_lost,
+};
 pub use line_error::LineError;
 pub use reader::LineReader;

@@ -1,5 +1,5 @@
 use Rattle.pac_lines.proofs.LineLemmas.{lines_are, only_lines}
-use Rattle.pac_lines.proofs.laws.lines_of_a_text.Goals as goal
+use Rattle.pac_lines.proofs.laws.each_text_has_its_lines.Goals as goal
 
 pub returns-clause-are : goal.returns-clause-are
 returns-clause-are c = lines_are
