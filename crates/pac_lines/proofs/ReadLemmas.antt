@@ -4,9 +4,9 @@ use Rattle.std.proofs.Math.Seq.{take-append-add}
 use Rattle.std.proofs.lemmas.List.{take-append-le, take-take, take_all, take_at}
 
 -- the old bytes are in front of a buffer that was made longer
-pub old_front : (old more longer : List ℕ) (n most : ℕ) → length old ≡ n → longer ≡ take (n + most) old ++ more → take n longer ≡ old
-old_front old more longer n most long is =
-    ap (λ (l : List ℕ). take n l) (is ∙ ap (λ (l : List ℕ). l ++ more) (take_all (n + most) old (omega (arith, long)))) ∙ take_at old more n long
+pub old_front : (old more resized longer : List ℕ) (n most : ℕ) → length old ≡ n → resized ≡ take (n + most) old ++ more → longer ≡ resized → take n longer ≡ old
+old_front old more resized longer n most long is same =
+    ap (λ (l : List ℕ). take n l) (same ∙ is ∙ ap (λ (l : List ℕ). l ++ more) (take_all (n + most) old (omega (arith, long)))) ∙ take_at old more n long
 
 -- behind them stands what was read, and the rest is cut off
 pub read_behind : (old buf post rest longer new : List ℕ) (n count whole : ℕ) → length old ≡ n → take n longer ≡ old → count ≤ length buf → n + count ≤ whole

@@ -69,6 +69,9 @@ impl LineReader {
         ensures at_hand { HasFeed self.old.ahead → source.new ≡ source.old }
         ensures whole { HasFeed self.old.ahead → self.old.taken ≤ self.old.limit → result ≡ Ok true }
 
+        // Once it is too long, it is not read any more.
+        ensures over { self.old.limit < self.old.taken → source.new ≡ source.old }
+
         // Of the source no more is taken than the limit and one byte. That one is what is too long.
         ensures most { self.new.taken ≤ self.new.limit + 1 }
         ensures long { IsErrOf result LineError.TooLong ↔ (self.new.limit < self.new.taken) }
