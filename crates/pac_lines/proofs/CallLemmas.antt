@@ -121,7 +121,7 @@ known-gave : (ahead given : List ℕ) (left' : Option (List ℕ)) → prepend_kn
 known-gave ahead given None = refl
 known-gave ahead given (Some rest) = ap Some (sym (append_assoc ahead given rest))
 
-known_before : (before now : ReaderState) (left left' : Option (List ℕ)) (result : Result Bool LineError) (call : IsCall before now left left' result) → known before left ≡ prepend_known (before.ahead ++ call.given) left'
+pub known_before : (before now : ReaderState) (left left' : Option (List ℕ)) (result : Result Bool LineError) (call : IsCall before now left left' result) → known before left ≡ prepend_known (before.ahead ++ call.given) left'
 known_before before now left left' result call = ap (prepend_known before.ahead) call.gave ∙ known-gave before.ahead call.given left'
 
 kept : (text : List ℕ) (now : ReaderState) (left : Option (List ℕ)) (error : LineError) → Answers text now left (Err error) → now.ahead ≡ text

@@ -6,12 +6,10 @@ ghost use Rattle.pac_lines.specs.Lines.{HasNoFeed, IsEndedLine, line_feed};
 ghost use Rattle.pac_lines.specs.Reading.{AheadState, IsGrown};
 
 use crate::LineError;
+use crate::limits::MAX_READ;
 use pac_outside::Source;
 use std::alloc::Global;
 use std::marker::Model;
-
-// How many bytes one read asks for at most.
-pub(crate) const CHUNK: usize = 4096;
 
 /// Bytes that were taken from a source and not handed out, and the line that was handed out last.
 #[derive(Drop)]
@@ -49,7 +47,7 @@ fn feed_at(bytes: &[u8]) -> Option<usize>
 
 // Reads at most `most` bytes behind those of the buffer.
 fn append<S: Source>(buffer: &mut Vec<u8>, source: &mut S, most: usize) -> Result<usize, LineError>
-    requires { most ≤ 4096 }
+    requires { most ≤ MAX_READ }
     ensures most { IfOk result (λ count. count ≤ most) }
     ensures bytes { MatchResult result (λ count. IsGrown buffer.old.items buffer.new.items (S.left source.old) (S.left source.new) count) (λ _. (buffer.new.items ≡ buffer.old.items) × (S.left source.new ≡ S.left source.old)) }
     ensures end { IfOk result (λ count. count ≡ 0 → 0 < most → IsAtEnd (S.left source.new)) }
@@ -153,10 +151,10 @@ impl Ahead {
     ///
     /// # Errors
     ///
-    /// [`LineError::Failed`] only where the source's count of faults rose. [`LineError::NoMemory`] before any byte is
-    /// taken. Nothing is read then.
+    /// [`LineError::Failed`] only where the source's count of faults rose, and [`LineError::NoMemory`]. No byte is taken
+    /// then.
     pub fn read<S: Source>(&mut self, source: &mut S, most: usize) -> Result<usize, LineError>
-        requires { most ≤ 4096 }
+        requires { most ≤ MAX_READ }
         ensures line { self.new.line ≡ [] }
         ensures most { IfOk result (λ count. count ≤ most) }
         ensures bytes { MatchResult result (λ count. IsGrown self.old.bytes self.new.bytes (S.left source.old) (S.left source.new) count) (λ _. (self.new.bytes ≡ self.old.bytes) × (S.left source.new ≡ S.left source.old)) }

@@ -11,16 +11,20 @@
 //! - No answer loses a byte: what is ahead and then what is left of the source is, behind an error, what it was before.
 //!
 //! `specs/Lines.antt` says what the lines of a text are, and `specs/Calls.antt` what a call of a reader does. Laws stand over
-//! that: [`each_text_has_its_lines`], [`lines_come_in_turn`], [`calls_hand_out_lines`] and [`no_byte_is_lost`].
+//! that: [`each_text_has_its_lines`], [`lines_come_in_turn`], [`calls_hand_out_lines`],
+//! [`too_long_is_told_exactly`] and [`no_byte_is_lost`].
 #![tactic(auto)]
 
 mod ahead;
 mod laws;
+mod limits;
 mod line_error;
 mod reader;
 
 pub use laws::{
     calls_hand_out_lines, each_text_has_its_lines, lines_come_in_turn, no_byte_is_lost,
+    too_long_is_told_exactly,
 };
+pub use limits::MAX_READ;
 pub use line_error::LineError;
 pub use reader::LineReader;

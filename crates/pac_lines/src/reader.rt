@@ -4,10 +4,11 @@ ghost use Rattle.pac_outside.specs.Causes.{Rose};
 ghost use Rattle.pac_outside.specs.Content.{IsAtEnd};
 ghost use Rattle.pac_lines.specs.Lines.{HasFeed, HasNoFeed};
 ghost use Rattle.pac_lines.specs.Reading.{ReaderState};
-ghost use Rattle.pac_lines.specs.Calls.{IsCall, IsChunk};
+ghost use Rattle.pac_lines.specs.Calls.{IsCall, IsChunk, KeepsLimit};
 
 use crate::LineError;
-use crate::ahead::{Ahead, CHUNK};
+use crate::ahead::Ahead;
+use crate::limits::MAX_READ;
 use pac_outside::Source;
 use std::alloc::Global;
 use std::marker::Model;
@@ -72,9 +73,8 @@ impl LineReader {
         // Once it is too long, it is not read any more.
         ensures over { self.old.limit < self.old.taken → source.new ≡ source.old }
 
-        // Of the source no more is taken than the limit and one byte. That one is what is too long.
-        ensures most { self.new.taken ≤ self.new.limit + 1 }
-        ensures long { IsErrOf result LineError.TooLong ↔ (self.new.limit < self.new.taken) }
+        // It is too long by a byte more than the limit, and that is all that is taken.
+        ensures limit { KeepsLimit self.new result }
 
         // The count never falls, and it rose where the source is said to have failed.
         ensures later { S.faults source.old ≤ S.faults source.new }
@@ -101,7 +101,7 @@ impl LineReader {
         ensures cause { IsErrOf result LineError.Failed → Rose (S.faults source.old) (S.faults source.new) }
         ensures long { ¬ IsErrOf result LineError.TooLong }
     {
-        let most = (self.limit - self.taken).clamp(1, CHUNK);
+        let most = (self.limit - self.taken).clamp(1, MAX_READ);
         let count = self.ahead.read(source, most)?;
         self.taken += count;
         Ok(count)
