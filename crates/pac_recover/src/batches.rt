@@ -16,8 +16,11 @@ use std::alloc::Global;
 ///
 /// # Errors
 ///
-/// Those of [`exec_all`].
-pub(crate) fn execute<R: Rows>(
+/// - [`AllError::Abort`] exactly where serial execution stops, with the transaction that aborts.
+/// - [`AllError::NoMemory`] where there was no memory for the tables.
+///
+/// The transactions before the one that is refused stay executed.
+pub fn execute<R: Rows>(
     alloc: Global,
     cat: &Catalogue,
     before: u64,

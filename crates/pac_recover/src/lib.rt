@@ -5,6 +5,7 @@
 //!   log behind them, and what writes on: the log's reader and the slots. Or the first [`Damage`], a [`LoadError`].
 //! - [`recover`]: the tables after all stored transactions, [`Recovered`], or the first of these that aborts, or the first
 //!   table that has more rows than a limit, a [`RecoverError`].
+//! - [`execute`]: serial execution of batches that run on, one after another, over any tables.
 //! - [`test_rows`]: the first table that has more rows than a limit, [`TooManyRows`].
 //!
 //! `specs/Loading.antt` says what a load gives, on every device and on those that tell their bytes; `specs/Damages.antt`
@@ -21,6 +22,7 @@ mod log;
 mod recovery;
 mod slots;
 
+pub use batches::execute;
 pub use errors::{Damage, LoadError, RecoverError};
 pub use limit::{TooManyRows, test_rows};
 pub use loading::{Loaded, load};
