@@ -18,8 +18,6 @@ use std::alloc::Global;
 ///
 /// - [`AllError::Abort`] exactly where serial execution stops, with the transaction that aborts.
 /// - [`AllError::NoMemory`] where there was no memory for the tables.
-///
-/// The transactions before the one that is refused stay executed.
 pub fn execute<R: Rows>(
     alloc: Global,
     cat: &Catalogue,
