@@ -44,7 +44,7 @@ pub record KeepsLimit (now : ReaderState) (result : Result Bool LineError) : Typ
   pub most : now.taken ≤ now.limit + 1
   pub long : IsErrOf result TooLong ↔ (now.limit < now.taken)
 
--- a read of a reader: the source gave so many bytes, none at its end
+-- a read of a reader: the source gave so many bytes, none only at its end
 pub record IsChunk (before now : ReaderState) (left left' : Option (List ℕ)) (count : ℕ) : Type 0 where
   pub given : List ℕ
   pub gave : Gave left given left'

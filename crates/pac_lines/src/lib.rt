@@ -10,8 +10,8 @@
 //!   stands in front of it any more, the answer is [`LineError::TooLong`].
 //! - No answer loses a byte: what is ahead and then what is left of the source is, behind an error, what it was before.
 //!
-//! `specs/Lines.antt` says what the lines of a text are, and `specs/Calls.antt` what a call of a reader does. Laws stand over
-//! that: [`each_text_has_its_lines`], [`lines_come_in_turn`], [`calls_hand_out_lines`],
+//! `specs/Lines.antt` says what the lines of a text are, and `specs/Calls.antt` what a call of a reader does. Laws stand
+//! over these: [`each_text_has_its_lines`], [`lines_come_in_turn`], [`calls_hand_out_lines`],
 //! [`too_long_is_told_exactly`] and [`no_byte_is_lost`].
 #![tactic(auto)]
 
