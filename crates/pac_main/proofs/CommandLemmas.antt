@@ -79,7 +79,7 @@ module _ (words : List (String Global)) where
   recover-is workers most limit status devices output errors is asks = subst (λ (n : ℕ). RecoverEnds n status devices output errors) (most_is workers most limit (order_in words) is asks.0 asks.1)
 
   pub asks-recover : (workers limit : ℕ) → Some (Recover workers limit) ≡ order_in words → AsksRecover words
-  asks-recover workers limit is = (limit, workers, sym is)
+  asks-recover workers limit is = (limit, (workers, sym is))
 
   no_recover : (workers limit : ℕ) (said : Option Order) → said ≡ Some (Recover workers limit) → (other : Order) → (other ≡ Recover workers limit → ⊥) → Some other ≡ said → ⊥
   no_recover workers limit said h other differs is = let both : Some other ≡ Some (Recover workers limit) = is ∙ h in differs cc

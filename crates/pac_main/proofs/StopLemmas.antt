@@ -1,5 +1,5 @@
 -- A stop has the cause of what came before it, and the command ends by the stop that is told.
-use Rattle.std.proofs.Common.{◌≡◌, ◌⊎◌, ℕ, Bool, List, [], ◌∷◌, Ok, Err, inl, inr, refl, sym, subst, arith}
+use Rattle.std.proofs.Common.{◌≡◌, ◌⊎◌, ℕ, Bool, [], ◌∷◌, Ok, Err, inl, inr, refl, sym, subst, arith}
 use Rattle.std.specs.Prelude.{IsTrue}
 use Rattle.pac_value.specs.State.{Tables}
 use Rattle.pac_recover.specs.Limits.{IsFirstOver}
