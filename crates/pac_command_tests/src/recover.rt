@@ -12,15 +12,13 @@ const ADD: &str =
     "table T(key int, v int);\nproc Add(k int, n int) {\n  read a = T[k].v default 0;\n  let m = n;\n  let b = a + m;\n  put T[k] = (b);\n}\nproc Need(k int) {\n  read a = T[k].v default 1;\n  abort if a == 0;\n}\n";
 
 // Add(1, 9223372036854775807), Add(2, 5), Add(1, 1) and Need(1).
-const FOUR: &[u8] =
-    b"\x01\0\0\x02\x01\x01\0\0\0\0\0\0\0\x01\xff\xff\xff\xff\xff\xff\xff\x7f\
+const FOUR: &[u8] = b"\x01\0\0\x02\x01\x01\0\0\0\0\0\0\0\x01\xff\xff\xff\xff\xff\xff\xff\x7f\
     \x01\0\0\x02\x01\x02\0\0\0\0\0\0\0\x01\x05\0\0\0\0\0\0\0\
     \x01\0\0\x02\x01\x01\0\0\0\0\0\0\0\x01\x01\0\0\0\0\0\0\0\
     \x01\x01\0\x01\x01\x01\0\0\0\0\0\0\0";
 
 // The records put Family[1] = (2), Deposit(1, 10500, 7) and Transfer(1, 500).
-const THREE: &[u8] =
-    b"\x02\x01\x01\0\0\x01\x01\0\0\0\0\0\0\0\x01\x01\x02\0\0\0\0\0\0\0\
+const THREE: &[u8] = b"\x02\x01\x01\0\0\x01\x01\0\0\0\0\0\0\0\x01\x01\x02\0\0\0\0\0\0\0\
     \x01\x01\0\x03\x01\x01\0\0\0\0\0\0\0\x01\x04\x29\0\0\0\0\0\0\x01\x07\0\0\0\0\0\0\0\
     \x01\0\0\x02\x01\x01\0\0\0\0\0\0\0\x01\xf4\x01\0\0\0\0\0\0";
 
@@ -28,6 +26,7 @@ const BANK_DUMP: &str =
     "table Family 1\n1 (2)\ntable Current 2\n1 (10000)\n2 (500)\ntable Saving 1\n1 (1)\ntable Stats 1\n7 (1)\n";
 
 const ONE_ROW: &str = "table T 1\n1 (2)\n";
+
 const NO_ROW: &str = "table T 0\n";
 
 // Whether the words of a line end with this status, output and line on devices of these bytes, which stay, and enter no
@@ -159,7 +158,10 @@ fn damage_in_a_log_is_told(rt: HostRuntime) -> Result<(), Fail> {
         (69, 1, 70, "damaged log 70 Short\n"),
     ] {
         let log = changed(alloc, LOG, place, byte, length)?;
-        assert!(rt; tells(&rt, alloc, [&log, SHUT, SHUT], (3, "", line))?, "at {place}: {line}");
+        assert!(rt;
+            tells(&rt, alloc, [&log, SHUT, SHUT], (3, "", line))?,
+            "at {place}: {line}"
+        );
     }
     Ok(())
 }
@@ -177,8 +179,14 @@ fn damage_in_a_slot_is_told(rt: HostRuntime) -> Result<(), Fail> {
         (17, 36, 53, "damaged a 9 Place\n", "damaged b 9 Place\n"),
     ] {
         let slot = changed(alloc, SLOT, place, byte, length)?;
-        assert!(rt; tells(&rt, alloc, [LOG, &slot, SHUT], (3, "", in_a))?, "{in_a}");
-        assert!(rt; tells(&rt, alloc, [LOG, SHUT, &slot], (3, "", in_b))?, "{in_b}");
+        assert!(rt;
+            tells(&rt, alloc, [LOG, &slot, SHUT], (3, "", in_a))?,
+            "{in_a}"
+        );
+        assert!(rt;
+            tells(&rt, alloc, [LOG, SHUT, &slot], (3, "", in_b))?,
+            "{in_b}"
+        );
         for gate in [0, 7] {
             let shut = changed(alloc, &slot, 0, gate, length)?;
             assert!(rt; tells(&rt, alloc, [LOG, &shut, SHUT], (0, ONE_ROW, ""))?);
@@ -204,7 +212,10 @@ fn a_failing_device_is_told(rt: HostRuntime) -> Result<(), Fail> {
             let (output, errors) = (answer.output.bytes(), answer.errors.bytes());
             if answer.status == 8 {
                 failures += 1;
-                assert_eq!(rt; (output, errors), (b"".as_slice(), b"disk fault\n".as_slice()));
+                assert_eq!(rt;
+                    (output, errors),
+                    (b"".as_slice(), b"disk fault\n".as_slice())
+                );
             } else {
                 assert_eq!(rt; (answer.status, output), (0, ONE_ROW.as_bytes()));
             }
