@@ -109,6 +109,24 @@ fn a_transaction_that_aborts_is_told(rt: HostRuntime) -> Result<(), Fail> {
     Ok(())
 }
 
+// The first batch aborts where no row stands. The slot has two transactions, and names the gate behind that batch.
+#[test]
+fn transactions_of_a_checkpoint_are_not_executed(rt: HostRuntime) -> Result<(), Fail> {
+    let alloc = rt.alloc();
+    let mut first = FOUR[..22].to_vec(alloc)?;
+    first.extend_from_slice(&FOUR[44..66])?;
+    let log = log_of(alloc, ADD, &[(2, &first), (1, &FOUR[22..44])])?;
+    let abort = (4, "", "abort 2 2 Overflow\n");
+    assert!(rt; tells(&rt, alloc, [&log, SHUT, SHUT], abort)?);
+    let two = changed(alloc, SLOT, 9, 2, 53)?;
+    let place = changed(alloc, &two, 17, 7, 53)?; // 263, in two bytes
+    let slot = changed(alloc, &place, 18, 1, 53)?;
+    let dump = (0, "table T 2\n1 (2)\n2 (5)\n", "");
+    assert!(rt; tells(&rt, alloc, [&log, &slot, SHUT], dump)?);
+    assert!(rt; tells(&rt, alloc, [&log, SHUT, &slot], dump)?);
+    Ok(())
+}
+
 #[test]
 fn what_is_no_log_is_no_store(rt: HostRuntime) -> Result<(), Fail> {
     let alloc = rt.alloc();

@@ -12,6 +12,7 @@ use Rattle.pac_request.specs.declared.script_fault.ScriptFault.TheVariants.{Cata
 use Rattle.pac_request.specs.LineKinds.{line_kind_name}
 use Rattle.pac_init.specs.Made.{device_name}
 use Rattle.pac_init.specs.declared.device.DeviceName.{DeviceName}
+use Rattle.pac_init.specs.declared.device.DeviceName.TheVariants.{Log as TheLog, SlotA, SlotB}
 use Rattle.pac_init.specs.declared.errors.MakeError.{MakeError}
 use Rattle.pac_init.specs.declared.errors.MakeError.TheVariants as make
 use Rattle.pac_log.specs.Damages.{damage_name}
@@ -69,19 +70,19 @@ rows_line name rows limit = codes "rows " ++ name ++ codes " " ++ decimal rows +
 abbrev pub not_empty_line : DeviceName → ℕ → List ℕ
 not_empty_line device length = codes "not empty " ++ device_name device ++ codes " " ++ decimal length ++ codes "\n"
 
--- the name of a slot, as a user is told it
-abbrev pub slot_name : SlotName → List ℕ
-slot_name A = codes "a"
-slot_name B = codes "b"
+-- the device of a slot
+abbrev pub slot_device : SlotName → DeviceName
+slot_device A = SlotA
+slot_device B = SlotB
 
 -- the name of a damaged device, the place of its first damage, and the kind
-abbrev pub damaged_at : List ℕ → ℕ → List ℕ → List ℕ
-damaged_at device at kind = codes "damaged " ++ device ++ codes " " ++ decimal at ++ codes " " ++ kind ++ codes "\n"
+abbrev pub damaged_at : DeviceName → ℕ → List ℕ → List ℕ
+damaged_at device at kind = codes "damaged " ++ device_name device ++ codes " " ++ decimal at ++ codes " " ++ kind ++ codes "\n"
 
 -- the same of damage in the log, or in a slot
 abbrev pub damaged_line : Damage → List ℕ
-damaged_line (Log at kind) = damaged_at (codes "log") at (damage_name kind)
-damaged_line (Slot slot at kind) = damaged_at (slot_name slot) at (slot_damage_name kind)
+damaged_line (Log at kind) = damaged_at TheLog at (damage_name kind)
+damaged_line (Slot slot at kind) = damaged_at (slot_device slot) at (slot_damage_name kind)
 
 -- whether a stop's line has numbers, and is made
 abbrev pub takes_memory : Stop → Bool

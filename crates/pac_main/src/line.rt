@@ -1,6 +1,6 @@
 // The lines that have numbers, and so take memory.
 ghost use Rattle.std.specs.Prelude.{◌≡◌, IfOk, IsTrue, MatchOption, false};
-ghost use Rattle.pac_main.specs.Stop.{abort_line, catalogue_line, damaged_at, damaged_line, line_of, not_empty_line, operations_line, rows_line, script_line, slot_name, takes_memory};
+ghost use Rattle.pac_main.specs.Stop.{abort_line, catalogue_line, damaged_at, damaged_line, line_of, not_empty_line, operations_line, rows_line, script_line, slot_device, takes_memory};
 
 use crate::stop::Stop;
 use pac_base::NoMemory;
@@ -97,23 +97,23 @@ fn not_empty_line(alloc: Global, device: DeviceName, length: u64) -> Result<Vec<
     Ok(line)
 }
 
-// The name of a slot, as a user is told it.
-fn slot_name(slot: SlotName) -> &'static str
-    ensures { result.now ≡ slot_name slot }
+// The device of a slot.
+fn slot_device(slot: SlotName) -> DeviceName
+    ensures { result ≡ slot_device slot }
 {
     match slot {
-        SlotName::A => "a",
-        SlotName::B => "b",
+        SlotName::A => DeviceName::SlotA,
+        SlotName::B => DeviceName::SlotB,
     }
 }
 
 // The line `damaged DEVICE AT KIND`.
-fn damaged_at(alloc: Global, device: &str, at: u64, kind: &str) -> Result<Vec<u8>, NoMemory>
-    ensures { IfOk result (λ line. line.items ≡ damaged_at device.now at kind.now) }
+fn damaged_at(alloc: Global, device: DeviceName, at: u64, kind: &str) -> Result<Vec<u8>, NoMemory>
+    ensures { IfOk result (λ line. line.items ≡ damaged_at device at kind.now) }
 {
     let mut line = Vec::new(alloc);
     line.extend_from_slice(b"damaged ")?;
-    line.extend_from_slice(device.as_bytes())?;
+    line.extend_from_slice(device.name().as_bytes())?;
     line.extend_from_slice(b" ")?;
     push_count(&mut line, at)?;
     line.extend_from_slice(b" ")?;
@@ -127,8 +127,8 @@ fn damaged_line(alloc: Global, damage: Damage) -> Result<Vec<u8>, NoMemory>
     ensures { IfOk result (λ line. line.items ≡ damaged_line damage) }
 {
     match damage {
-        Damage::Log { at, kind } => damaged_at(alloc, "log", at, kind.name()),
-        Damage::Slot { slot, at, kind } => damaged_at(alloc, slot_name(slot), at, kind.name()),
+        Damage::Log { at, kind } => damaged_at(alloc, DeviceName::Log, at, kind.name()),
+        Damage::Slot { slot, at, kind } => damaged_at(alloc, slot_device(slot), at, kind.name()),
     }
 }
 
