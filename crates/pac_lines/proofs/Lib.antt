@@ -1,0 +1,4 @@
+pub mod CallLemmas
+pub mod LimitLemmas
+pub mod LineLemmas
+pub mod ReadLemmas

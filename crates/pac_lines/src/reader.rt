@@ -1,0 +1,109 @@
+// Reading a source by lines.
+ghost use Rattle.std.specs.Prelude.{◌≡◌, ◌≤◌, ◌<◌, ◌+◌, ◌↔◌, [], Ok, true, IfOk, IsErrOf, IsTrue, IsFalse, MatchResult, length, nat_lt};
+ghost use Rattle.pac_outside.specs.Causes.{Rose};
+ghost use Rattle.pac_outside.specs.Content.{IsAtEnd};
+ghost use Rattle.pac_lines.specs.Lines.{HasFeed, HasNoFeed};
+ghost use Rattle.pac_lines.specs.Reading.{ReaderState};
+ghost use Rattle.pac_lines.specs.Calls.{IsCall, IsChunk, KeepsLimit};
+
+use crate::LineError;
+use crate::ahead::Ahead;
+use crate::limits::MAX_READ;
+use pac_outside::Source;
+use std::alloc::Global;
+use std::marker::Model;
+
+/// Hands out the lines of one source.
+#[derive(Drop)]
+pub struct LineReader {
+    ahead: Ahead,
+
+    // How many bytes were taken, and how many may be before one more is too many.
+    taken: usize,
+    limit: usize,
+}
+
+impl Model for LineReader {
+    ghost use Rattle.std.specs.Prelude.{◌+◌, ◌^◌, ◌≤◌, ◌<◌};
+    ghost use Rattle.pac_lines.specs.Reading.{ReaderState, HasNoLine};
+
+    ghost Value = { ReaderState };
+
+    ghost view = { λ reader. record { line = reader.ahead.line; ahead = reader.ahead.bytes; taken = reader.taken; limit = reader.limit } };
+
+    ghost invariant = { λ reader. (reader.limit < 2 ^ 32) × (reader.taken ≤ reader.limit + 1) × (reader.limit < reader.taken → HasNoLine reader.ahead.bytes) };
+}
+
+impl LineReader {
+    /// A reader that takes at most `limit` bytes of its source, and one more that it doesn't hand out.
+    pub fn new(alloc: Global, limit: u32) -> Self
+        ensures { result ≡ record { line = []; ahead = []; taken = 0; limit = limit } }
+    {
+        LineReader {
+            ahead: Ahead::new(alloc),
+            taken: 0,
+            limit: limit as usize,
+        }
+    }
+
+    /// The line that the last call of [`LineReader::next_line`] went on to, without its line feed; empty where it answered
+    /// that there is none, or an error.
+    pub fn line(&self) -> &[u8]
+        ensures { result.now ≡ self.now.line }
+    {
+        self.ahead.line()
+    }
+
+    /// Goes on to the next line, and answers whether there is one. The bytes behind the last line feed are one too, if
+    /// there are any and the source is at its end. Reads only while no whole line is ahead.
+    ///
+    /// # Errors
+    ///
+    /// [`LineError::Failed`] only where the source's count of faults rose. [`LineError::TooLong`] exactly where the source
+    /// gave one byte more than the limit, in this call or before, and no whole line stands in front of it.
+    /// [`LineError::NoMemory`] where there is no memory for more bytes. No byte is lost, so where the cause is gone the
+    /// next call goes on.
+    pub fn next_line<S: Source>(&mut self, source: &mut S) -> Result<bool, LineError>
+        ensures call { IsCall self.old self.new (S.left source.old) (S.left source.new) result }
+
+        // A whole line ahead is handed out without a read.
+        ensures at_hand { HasFeed self.old.ahead → source.new ≡ source.old }
+        ensures whole { HasFeed self.old.ahead → self.old.taken ≤ self.old.limit → result ≡ Ok true }
+
+        // Once it is too long, it is not read any more.
+        ensures over { self.old.limit < self.old.taken → source.new ≡ source.old }
+
+        // It is too long by a byte more than the limit, and that is all that is taken.
+        ensures limit { KeepsLimit self.new result }
+
+        // The count never falls, and it rose where the source is said to have failed.
+        ensures later { S.faults source.old ≤ S.faults source.new }
+        ensures cause { IsErrOf result LineError.Failed → Rose (S.faults source.old) (S.faults source.new) }
+    {
+        while self.taken <= self.limit {
+            if self.ahead.take_line() {
+                return Ok(true);
+            }
+            if self.read(source)? == 0 {
+                return Ok(self.ahead.take_rest());
+            }
+        }
+        self.ahead.forget_line();
+        Err(LineError::TooLong)
+    }
+
+    // Reads a chunk: up to the limit, or one byte where that is reached.
+    fn read<S: Source>(&mut self, source: &mut S) -> Result<usize, LineError>
+        requires room { self.old.taken ≤ self.old.limit }
+        requires none { HasNoFeed self.old.ahead }
+        ensures chunk { MatchResult result (λ count. IsChunk self.old self.new (S.left source.old) (S.left source.new) count) (λ _. (self.new ≡ record self.old { line = [] }) × (S.left source.new ≡ S.left source.old)) }
+        ensures later { S.faults source.old ≤ S.faults source.new }
+        ensures cause { IsErrOf result LineError.Failed → Rose (S.faults source.old) (S.faults source.new) }
+        ensures long { ¬ IsErrOf result LineError.TooLong }
+    {
+        let most = (self.limit - self.taken).clamp(1, MAX_READ);
+        let count = self.ahead.read(source, most)?;
+        self.taken += count;
+        Ok(count)
+    }
+}

@@ -1,0 +1,9 @@
+pub mod CauseLemmas
+pub mod OverLemmas
+pub mod GateLemmas
+pub mod ReadLemmas
+pub mod SlotLemmas
+pub mod LoadLemmas
+pub mod RecoverLemmas
+pub mod StandsLemmas
+pub mod TellLemmas

@@ -1,0 +1,249 @@
+-- What a load gives, of the log and the slots that were read.
+use Rattle.std.proofs.Common.{◌≡◌, ◌∙◌, ◌⊎◌, inl, inr, ℕ, zero, suc, ◌≤◌, ◌+◌, List, [], ◌∷◌, length, take, drop, Option, Some, None, refl, sym, ap, ap₂, subst, arith}
+use Rattle.std.specs.Prelude.{slice_get, true}
+use Rattle.std.specs.List.{AllByRecursion}
+use Rattle.std.proofs.lemmas.List.{length-append}
+use Rattle.pac_ops.specs.declared.batch.Batch.{Batch}
+use Rattle.pac_ops.specs.declared.transaction.Txn.{Txn}
+use Rattle.pac_outside.specs.Disk.{History, WhereTold}
+use Rattle.pac_types.specs.Fits.{TxnFits}
+use Rattle.pac_types.specs.Typing.{CatalogueState}
+use Rattle.pac_log.specs.declared.position.NextGate.{NextGate}
+use Rattle.pac_log.specs.Logs.{HoldsLog}
+use Rattle.pac_log.specs.Places.{IsBehind}
+use Rattle.pac_log.specs.Reading.{IsStore, StandsBehind}
+use Rattle.pac_check.specs.declared.damage.SlotDamageKind.{SlotDamageKind}
+use Rattle.pac_check.specs.declared.head.Head.{Head}
+use Rattle.pac_check.specs.declared.info.SlotInfo.{SlotInfo}
+use Rattle.pac_check.specs.declared.info.SlotName.{SlotName}
+use Rattle.pac_check.specs.declared.info.SlotName.TheVariants.{A, B}
+use Rattle.pac_check.specs.declared.state.SlotState.{SlotState}
+use Rattle.pac_check.specs.declared.state.SlotState.TheVariants.{Empty, Closed, Open}
+use Rattle.pac_check.specs.SlotStates.{info_of, newest_of, with_more, IsSlot}
+use Rattle.pac_store.specs.Images.{Images, WhereRead}
+use Rattle.pac_store.specs.Stored.{AreNewest, IsStored}
+use Rattle.pac_store.proofs.StandsLemmas.{newest-one}
+use Rattle.pac_recover.specs.declared.gates.GatePlace.{GatePlace}
+use Rattle.pac_recover.specs.declared.loading.Loaded.{Loaded}
+use Rattle.pac_recover.specs.declared.log.WholeLog.{WholeLog}
+use Rattle.pac_recover.specs.Damages.{IsAmongGates, IsAtGate, IsDamagedSlot, IsSlotDamage}
+use Rattle.pac_recover.specs.Gates.{gate_after, gates_from, last_gate, place_of, txns_in, txns_by_batch, RunOn}
+use Rattle.pac_recover.specs.Loading.{AreNewestOf, IsInfoAmong, IsLoadedFrom, IsPlaced, number_of_newest, stored_of}
+use Rattle.pac_recover.specs.Logs.{FitBatches, HoldsBatches, HoldsWhole, IsReadUpTo, IsWhole, ReadsTo}
+use Rattle.pac_recover.proofs.GateLemmas.{among-gate, gate-among, last-number, number-at, runs-behind, txns-behind, txns-split}
+
+-- ---- the log
+
+pub whole : (log : WholeLog) (first : NextGate) → first.txns ≡ 0 → log.reader.is_at_end ≡ true → IsReadUpTo first log.reader.gate log.batches.items log.gates.items → IsWhole log
+whole log first none end read =
+    let start : place_of first ≡ record { place = first.place; txns = 0 } = ap (λ (n : ℕ). the_gate n) none in
+    record {
+      start = first.place;
+      end = end;
+      runs = subst (λ (n : ℕ). RunOn n log.batches.items) none read.runs;
+      fit = subst (λ (c : CatalogueState). FitBatches c log.batches.items) (sym read.catalogue) read.fit;
+      gates = read.are ∙ ap (λ (g : GatePlace). gates_from g (txns_by_batch log.batches.items)) start;
+      last = ap (λ (g : GatePlace). last_gate g (txns_by_batch log.batches.items)) (sym start) ∙ read.last;
+    }
+  where
+    the_gate : ℕ → GatePlace
+    the_gate n = record { place = first.place; txns = n }
+
+abbrev pub IsAttached : NextGate → List ℕ → Type 0
+IsAttached first image = (text : List ℕ) × IsStore text first.catalogue image × StandsBehind text [] first image
+
+pub holds-whole : (log : WholeLog) (first : NextGate) (told : Option History) → IsReadUpTo first log.reader.gate log.batches.items log.gates.items
+    → WhereTold (λ h. IsAttached first h.now.seen) told → ((text : List ℕ) → WhereTold (λ h. ReadsTo text first log.reader.gate log.batches.items h.now.seen) told)
+    → WhereTold (λ h. HoldsWhole log h.now.seen) told
+holds-whole log first None read attached reads = tt
+holds-whole log first (Some h) read attached reads =
+    let text = attached.0 in
+    let there = reads text attached.2 in
+    let start : place_of first ≡ gate_after text [] = ap₂ the_gate attached.2.behind.place attached.2.behind.txns in
+    record {
+      text = text;
+      holds = subst (λ (c : CatalogueState). HoldsBatches text c log.batches.items log.reader.gate h.now.seen) (sym read.catalogue) there;
+      gates = read.are ∙ ap (λ (g : GatePlace). gates_from g (txns_by_batch log.batches.items)) start;
+    }
+  where
+    the_gate : ℕ → ℕ → GatePlace
+    the_gate p n = record { place = p; txns = n }
+
+-- ---- the batches behind the newest slot
+
+-- so many batches stand in front of the newest slot's gate, and its number is that of their transactions
+pub record IsFront (batches : List Batch) (newest : Option SlotInfo) (count : ℕ) : Type 0 where
+  pub within : count ≤ length batches
+  pub number : number_of_newest newest ≡ length (txns_in (take count batches))
+
+pub front-of : (start : ℕ) (batches : List Batch) (gates : List GatePlace) (newest : Option SlotInfo) (count : ℕ) → gates ≡ gates_from (record { place = start; txns = 0 }) (txns_by_batch batches)
+    → (newest ≡ None → count ≡ 0) → ((info : SlotInfo) → newest ≡ Some info → slice_get gates count ≡ Some (record { place = info.place; txns = info.txns })) → IsFront batches newest count
+front-of start batches gates None count are none there =
+    subst (λ (n : ℕ). IsFront batches None n) (sym (none refl)) (record { within = omega arith; number = refl })
+front-of start batches gates (Some info) count are none there =
+    let found = number-at 0 count start batches (record { place = info.place; txns = info.txns }) (ap (λ (l : List GatePlace). slice_get l count) (sym are) ∙ there info refl) in
+    record { within = found.0; number = omega (arith, found.1) }
+
+all-drop : {X : Type 0} (P : X → Type 0) (n : ℕ) (xs : List X) → AllByRecursion P xs → AllByRecursion P (drop n xs)
+all-drop P zero xs all = all
+all-drop P (suc n) [] all = tt
+all-drop P (suc n) (x ∷ xs) all = all-drop P n xs all.1
+
+-- the newest slot is at a gate where both are
+pub newest-among : (gates : List GatePlace) (a b : SlotState) (newest : Option SlotInfo) → newest ≡ with_more (info_of A a) (info_of B b) → IsInfoAmong gates (info_of A a) → IsInfoAmong gates (info_of B b) → IsInfoAmong gates newest
+newest-among gates a b None e at_a at_b = tt
+newest-among gates a b (Some info) e at_a at_b = go (newest-one (info_of A a) (info_of B b) info (sym e))
+  where
+    go : (info_of A a ≡ Some info) ⊎ (info_of B b ≡ Some info) → IsInfoAmong gates (Some info)
+    go (inl h) = subst (λ (o : Option SlotInfo). IsInfoAmong gates o) h at_a
+    go (inr h) = subst (λ (o : Option SlotInfo). IsInfoAmong gates o) h at_b
+
+-- ---- on the images
+
+pub placed : (text : List ℕ) (batches : List (List Txn)) (gates : List GatePlace) (slot : SlotName) (state : SlotState) → gates ≡ gates_from (gate_after text []) batches → IsInfoAmong gates (info_of slot state) → IsPlaced text batches state
+placed text batches gates slot Empty are at = tt
+placed text batches gates slot Closed are at = tt
+placed text batches gates slot (Open head) are at = among-gate text batches head (subst (λ (l : List GatePlace). IsAmongGates l head) are at)
+
+-- the damage of the slots beside the gates that were read is one beside the log
+pub damaged-beside : (log : WholeLog) (images : Images) (slot : SlotName) (at : ℕ) (kind : SlotDamageKind) → HoldsWhole log images.log
+    → IsSlotDamage (IsAmongGates log.gates.items) log.reader.gate.catalogue.tables slot at kind images.slot_a images.slot_b → IsDamagedSlot slot at kind images
+damaged-beside log images slot at kind holds damage = record {
+  text = holds.text;
+  catalogue = log.reader.gate.catalogue;
+  batches = txns_by_batch log.batches.items;
+  log = holds.holds.log;
+  damage = go damage;
+}
+  where
+    to : (head : Head) → IsAmongGates log.gates.items head → IsAtGate holds.text (txns_by_batch log.batches.items) head
+    to head among = among-gate holds.text (txns_by_batch log.batches.items) head (subst (λ (l : List GatePlace). IsAmongGates l head) holds.gates among)
+
+    back : (head : Head) → IsAtGate holds.text (txns_by_batch log.batches.items) head → IsAmongGates log.gates.items head
+    back head is = subst (λ (l : List GatePlace). IsAmongGates l head) (sym holds.gates) (gate-among holds.text (txns_by_batch log.batches.items) head is)
+
+    go : IsSlotDamage (IsAmongGates log.gates.items) log.reader.gate.catalogue.tables slot at kind images.slot_a images.slot_b
+        → IsSlotDamage (IsAtGate holds.text (txns_by_batch log.batches.items)) log.reader.gate.catalogue.tables slot at kind images.slot_a images.slot_b
+    go (inl broken) = inl broken
+    go (inr (at_9, place, wrong)) = inr (
+      at_9,
+      place,
+      record {
+        state_a = wrong.state_a;
+        state_b = wrong.state_b;
+        is_a = wrong.is_a;
+        is_b = wrong.is_b;
+        head = wrong.head;
+        opens = wrong.opens;
+        misfit = λ is. wrong.misfit (back wrong.head is);
+        first = λ b other open_a. to other (wrong.first b other open_a);
+      },
+    )
+
+module _ (log : WholeLog) (loaded : Loaded) (count : ℕ) (is : IsWhole log) (front : IsFront log.batches.items (newest_of loaded.slots) count)
+    (same : loaded.catalogue ≡ log.reader.gate.catalogue) (batches : loaded.batches ≡ drop count log.batches.items) (number : loaded.txns ≡ number_of_newest (newest_of loaded.slots)) (reader : loaded.reader ≡ log.reader) where
+  pub runs-loaded : RunOn loaded.txns loaded.batches
+  runs-loaded =
+      let at : 0 + length (txns_in (take count log.batches.items)) ≡ loaded.txns = omega (arith, number, front.number) in
+      subst (λ (l : List Batch). RunOn loaded.txns l) (sym batches) (subst (λ (n : ℕ). RunOn n (drop count log.batches.items)) at (runs-behind 0 count log.batches.items is.runs front.within))
+
+  pub fit-loaded : FitBatches loaded.catalogue loaded.batches
+  fit-loaded =
+      subst (λ (l : List Batch). FitBatches loaded.catalogue l) (sym batches) (subst (λ (c : CatalogueState). FitBatches c (drop count log.batches.items)) (sym same)
+      (all-drop (λ (b : Batch). AllByRecursion (TxnFits log.reader.gate.catalogue) b.txns) count log.batches.items is.fit))
+
+  pub total-loaded : loaded.reader.gate.txns ≡ loaded.txns + length (txns_in loaded.batches)
+  total-loaded =
+      let last : (last_gate (record { place = is.start; txns = 0 }) (txns_by_batch log.batches.items)).txns ≡ log.reader.gate.txns = ap (λ (g : GatePlace). g.txns) is.last in
+      let counted : (last_gate (record { place = is.start; txns = 0 }) (txns_by_batch log.batches.items)).txns ≡ 0 + length (txns_in log.batches.items)
+      = last-number (record { place = is.start; txns = 0 }) (txns_by_batch log.batches.items) in
+      let all : log.reader.gate.txns ≡ length (txns_in log.batches.items) = omega (arith, last, counted) in
+      omega (
+        arith,
+        ap (λ r. r.gate.txns) reader,
+        all,
+        ap (λ (l : List Txn). length l) (txns-split count log.batches.items),
+        length-append (txns_in (take count log.batches.items)) (txns_in (drop count log.batches.items)),
+        number,
+        front.number,
+        ap (λ (l : List Batch). length (txns_in l)) batches,
+      )
+
+  pub behind-loaded : txns_in loaded.batches ≡ drop loaded.txns (txns_in log.batches.items)
+  behind-loaded = ap txns_in batches ∙ txns-behind count log.batches.items ∙ ap (λ (n : ℕ). drop n (txns_in log.batches.items)) (sym (number ∙ front.number))
+
+  -- on these images, where the slots are in these states
+  pub from-images : (images : Images) → IsInfoAmong log.gates.items (info_of A loaded.slots.a) → IsInfoAmong log.gates.items (info_of B loaded.slots.b) → HoldsWhole log images.log
+      → IsSlot loaded.catalogue.tables loaded.slots.a images.slot_a → IsSlot loaded.catalogue.tables loaded.slots.b images.slot_b → AreNewestOf loaded.catalogue loaded.slots loaded.tables.rows images.slot_a images.slot_b → IsLoadedFrom loaded images
+  from-images images at_a at_b holds is_a is_b newest = record {
+    text = holds.text;
+    batches = txns_by_batch log.batches.items;
+    log = subst (λ (c : CatalogueState). HoldsLog holds.text c (txns_by_batch log.batches.items) images.log) (sym same) holds.holds.log;
+    end = subst (λ (g : NextGate). IsBehind holds.text (txns_by_batch log.batches.items) g) (ap (λ r. r.gate) (sym reader)) holds.holds.end;
+    is_a = is_a;
+    is_b = is_b;
+    place_a = placed holds.text (txns_by_batch log.batches.items) log.gates.items A loaded.slots.a holds.gates at_a;
+    place_b = placed holds.text (txns_by_batch log.batches.items) log.gates.items B loaded.slots.b holds.gates at_b;
+    newest = subst (λ (n : ℕ). AreNewest loaded.catalogue images.slot_a images.slot_b (newest_of loaded.slots) loaded.tables.rows n) (sym number) newest;
+    behind = behind-loaded;
+  }
+
+-- ---- over what the devices tell
+
+pub told-together : (P Q R : List ℕ → Type 0) (S : List ℕ → List ℕ → Type 0) (T : Images → Type 0) → ((images : Images) → P images.log → Q images.slot_a → R images.slot_b → S images.slot_a images.slot_b → T images)
+    → (log a b : Option History) → WhereTold (λ h. P h.now.seen) log → WhereTold (λ h. Q h.now.seen) a → WhereTold (λ h. R h.now.seen) b → WhereTold (λ x. WhereTold (λ y. S x.now.seen y.now.seen) b) a → WhereRead T log a b
+told-together P Q R S T join None a b p q r s = tt
+told-together P Q R S T join (Some l) None b p q r s = tt
+told-together P Q R S T join (Some l) (Some x) None p q r s = tt
+told-together P Q R S T join (Some l) (Some x) (Some y) p q r s = join (record { log = l.now.seen; slot_a = x.now.seen; slot_b = y.now.seen }) p q r s
+
+pub told-weaker : (P Q : Images → Type 0) → ((images : Images) → P images → Q images) → (log a b : Option History) → WhereRead P log a b → WhereRead Q log a b
+told-weaker P Q weaker None a b p = tt
+told-weaker P Q weaker (Some l) None b p = tt
+told-weaker P Q weaker (Some l) (Some x) None p = tt
+told-weaker P Q weaker (Some l) (Some x) (Some y) p = weaker (record { log = l.now.seen; slot_a = x.now.seen; slot_b = y.now.seen }) p
+
+-- what is loaded is stored
+pub loaded-stored : (loaded : Loaded) (images : Images) → IsLoadedFrom loaded images → IsStored images (stored_of loaded)
+loaded-stored loaded images is = record {
+  text = is.text;
+  batches = is.batches;
+  log = is.log;
+  a = loaded.slots.a;
+  b = loaded.slots.b;
+  is_a = is.is_a;
+  is_b = is.is_b;
+  newest = is.newest;
+  behind = is.behind;
+}
+
+pub told-beside : (P : List ℕ → Type 0) (S : List ℕ → List ℕ → Type 0) (T : Images → Type 0) → ((images : Images) → P images.log → S images.slot_a images.slot_b → T images)
+    → (log a b : Option History) → WhereTold (λ h. P h.now.seen) log → WhereTold (λ x. WhereTold (λ y. S x.now.seen y.now.seen) b) a → WhereRead T log a b
+told-beside P S T join None a b p s = tt
+told-beside P S T join (Some l) None b p s = tt
+told-beside P S T join (Some l) (Some x) None p s = tt
+told-beside P S T join (Some l) (Some x) (Some y) p s = join (record { log = l.now.seen; slot_a = x.now.seen; slot_b = y.now.seen }) p s
+
+pub told-never : (T : Images → Type 0) (log a b : Option History) → WhereTold (λ x. WhereTold (λ y. ⊥) b) a → WhereRead T log a b
+told-never T None a b none = tt
+told-never T (Some l) None b none = tt
+told-never T (Some l) (Some x) None none = tt
+told-never T (Some l) (Some x) (Some y) none = absurd none
+
+-- the first damage of slots that were read beside a whole log
+pub first-damage : (log : WholeLog) (catalogue : CatalogueState) (gates : List GatePlace) (slot : SlotName) (at : ℕ) (kind : SlotDamageKind) → catalogue ≡ log.reader.gate.catalogue → gates ≡ log.gates.items → (l a b : Option History)
+    → WhereTold (λ h. HoldsWhole log h.now.seen) l → WhereTold (λ x. WhereTold (λ y. IsSlotDamage (IsAmongGates gates) catalogue.tables slot at kind x.now.seen y.now.seen) b) a → WhereRead (IsDamagedSlot slot at kind) l a b
+first-damage log catalogue gates slot at kind same are l a b holds damage =
+    told-beside (HoldsWhole log) (IsSlotDamage (IsAmongGates gates) catalogue.tables slot at kind) (IsDamagedSlot slot at kind)
+    (λ images whole here. damaged-beside log images slot at kind whole
+    (subst (λ (c : CatalogueState). IsSlotDamage (IsAmongGates log.gates.items) c.tables slot at kind images.slot_a images.slot_b) same
+    (subst (λ (gs : List GatePlace). IsSlotDamage (IsAmongGates gs) catalogue.tables slot at kind images.slot_a images.slot_b) are here)))
+    l a b holds damage
+
+-- what is told of slots that were read meanwhile is told of them as they were
+pub moved-told : (S : List ℕ → List ℕ → Type 0) (a b x y : Option History) → x ≡ a → y ≡ b → WhereTold (λ h. WhereTold (λ k. S h.now.seen k.now.seen) y) x → WhereTold (λ h. WhereTold (λ k. S h.now.seen k.now.seen) b) a
+moved-told S a b x y same_a same_b told =
+    subst (λ (t : Option History). WhereTold (λ h. WhereTold (λ k. S h.now.seen k.now.seen) b) t) same_a (subst (λ (u : Option History). WhereTold (λ h. WhereTold (λ k. S h.now.seen k.now.seen) u) x) same_b told)
+
+pub three-same : (l a b m x y : ℕ) → l ≡ m → a ≡ x → b ≡ y → l ∷ a ∷ b ∷ [] ≡ m ∷ x ∷ y ∷ []
+three-same l a b m x y e f g = cc

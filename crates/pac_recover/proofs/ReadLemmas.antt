@@ -1,0 +1,105 @@
+-- A log is read from gate to gate.
+use Rattle.std.proofs.Common.{◌≡◌, ◌∙◌, ℕ, ◌≤◌, ◌+◌, List, [], ◌∷◌, ◌++◌, length, Option, Some, None, Result, Ok, Err, refl, sym, ap, subst, arith}
+use Rattle.std.specs.List.{All, AllByRecursion}
+use Rattle.std.proofs.lemmas.List.Elements.{recursion_from_All}
+use Rattle.pac_ops.specs.declared.batch.Batch.{Batch}
+use Rattle.pac_ops.specs.declared.transaction.Txn.{Txn}
+use Rattle.pac_outside.specs.Disk.{History, WhereTold}
+use Rattle.pac_types.specs.Fits.{TxnFits}
+use Rattle.pac_types.specs.Typing.{CatalogueState}
+use Rattle.pac_log.specs.declared.damage.DamageKind.{DamageKind}
+use Rattle.pac_log.specs.declared.errors.LogError.{LogError}
+use Rattle.pac_log.specs.declared.errors.LogError.TheVariants as error
+use Rattle.pac_log.specs.declared.position.NextGate.{NextGate}
+use Rattle.pac_log.specs.Logs.{HoldsLog}
+use Rattle.pac_log.specs.Places.{IsBehind}
+use Rattle.pac_log.specs.Reading.{IsNextBatch, IsStore, StandsBehind, TellsOfImage}
+use Rattle.pac_recover.specs.declared.gates.GatePlace.{GatePlace}
+use Rattle.pac_recover.specs.Damages.{IsDamagedLog}
+use Rattle.pac_recover.specs.Gates.{gate_behind_txns, gates_from, last_gate, place_of, txns_in, txns_by_batch}
+use Rattle.pac_recover.specs.Logs.{IsReadUpTo, ReadsTo}
+use Rattle.pac_recover.proofs.GateLemmas.{gates-push, last-push, last-number, run-push, txns-push}
+
+all-push : {A : Type 0} (P : A → Type 0) (xs : List A) (x : A) → AllByRecursion P xs → P x → AllByRecursion P (xs ++ x ∷ [])
+all-push P [] x all one = (one, tt)
+all-push P (y ∷ xs) x all one = (all.0, all-push P xs x all.1 one)
+
+-- ---- what is read on every device
+
+pub nothing-read : (gate : NextGate) → IsReadUpTo gate gate [] (place_of gate ∷ [])
+nothing-read gate = record { catalogue = refl; runs = tt; fit = tt; are = refl; last = refl }
+
+pub one-more-read : (old mid new : NextGate) (bs : List Batch) (gs : List GatePlace) (batch : Batch) → IsReadUpTo old mid bs gs → IsNextBatch mid new batch → All (TxnFits mid.catalogue) batch.txns
+    → IsReadUpTo old new (bs ++ batch ∷ []) (gs ++ place_of new ∷ [])
+one-more-read old mid new bs gs batch read next fits =
+    let last : last_gate (place_of old) (txns_by_batch (bs ++ batch ∷ [])) ≡ place_of new
+    = ap (λ (l : List (List Txn)). last_gate (place_of old) l) (txns-push bs batch) ∙ last-push (place_of old) (txns_by_batch bs) batch.txns
+    ∙ ap (λ (g : GatePlace). gate_behind_txns g batch.txns) read.last ∙ ap (λ (g : NextGate). place_of g) (sym next.gate) in
+    let number : mid.txns ≡ old.txns + length (txns_in bs) = sym (ap (λ (g : GatePlace). g.txns) read.last) ∙ last-number (place_of old) (txns_by_batch bs) in
+    record {
+      catalogue = ap (λ (g : NextGate). g.catalogue) next.gate ∙ read.catalogue;
+      runs = run-push old.txns bs batch read.runs (next.first ∙ ap (λ (n : ℕ). n + 1) number);
+      fit = all-push (λ (b : Batch). AllByRecursion (TxnFits old.catalogue) b.txns) bs batch read.fit
+          (subst (λ (c : CatalogueState). AllByRecursion (TxnFits c) batch.txns) read.catalogue (recursion_from_All (TxnFits mid.catalogue) batch.txns fits));
+      are = ap (λ (l : List GatePlace). l ++ place_of new ∷ []) read.are
+          ∙ ap (λ (g : GatePlace). gates_from (place_of old) (txns_by_batch bs) ++ g ∷ []) (ap (λ (g : NextGate). place_of g) next.gate ∙ ap (λ (g : GatePlace). gate_behind_txns g batch.txns) (sym read.last))
+          ∙ sym (gates-push (place_of old) (txns_by_batch bs) batch.txns)
+          ∙ ap (λ (l : List (List Txn)). gates_from (place_of old) l) (sym (txns-push bs batch));
+      last = last;
+    }
+
+-- the same of what was pushed
+pub pushed-read : (old mid new gate : NextGate) (bs more : List Batch) (gs pushed : List GatePlace) (batch : Batch) (place : GatePlace) → more ≡ bs ++ batch ∷ [] → pushed ≡ gs ++ place ∷ [] → place ≡ place_of gate → gate ≡ new
+    → IsReadUpTo old mid bs gs → IsNextBatch mid new batch → All (TxnFits mid.catalogue) batch.txns → IsReadUpTo old new more pushed
+pushed-read old mid new gate bs more gs pushed batch place grown pushes placed same read next fits =
+    let here : pushed ≡ gs ++ place_of new ∷ [] = pushes ∙ ap (λ (p : GatePlace). gs ++ p ∷ []) (placed ∙ ap (λ (g : NextGate). place_of g) same) in
+    subst (λ (l : List Batch). IsReadUpTo old new l pushed) (sym grown) (subst (λ (l : List GatePlace). IsReadUpTo old new (bs ++ batch ∷ []) l) (sym here) (one-more-read old mid new bs gs batch read next fits))
+
+-- each batch has a transaction
+pub more-txns : (old new : NextGate) (batch : Batch) → IsNextBatch old new batch → old.txns + 1 ≤ new.txns
+more-txns old new batch next = omega (arith, ap (λ (g : NextGate). g.txns) next.gate, next.body.count.0)
+
+-- ---- what is read where the device tells
+
+-- the image holds what was read so far
+abbrev pub ReadsBehind : List ℕ → NextGate → NextGate → List Batch → List ℕ → Type 0
+ReadsBehind text old new batches image = StandsBehind text [] old image → StandsBehind text (txns_by_batch batches) new image
+
+abbrev pub TellsNext : NextGate → NextGate → Result (Option Batch) LogError → Option History → Type 0
+TellsNext old new result told = (text : List ℕ) (batches : List (List Txn)) → WhereTold (λ h. StandsBehind text batches old h.now.seen → TellsOfImage text batches old new h.now.seen result) told
+
+pub reads-more : (text : List ℕ) (old mid new : NextGate) (bs : List Batch) (batch : Batch) (told : Option History)
+    → WhereTold (λ h. ReadsBehind text old mid bs h.now.seen) told → TellsNext mid new (Ok (Some batch)) told → WhereTold (λ h. ReadsBehind text old new (bs ++ batch ∷ []) h.now.seen) told
+reads-more text old mid new bs batch None so_far tells = tt
+reads-more text old mid new bs batch (Some h) so_far tells = λ stands.
+    subst (λ (l : List (List Txn)). StandsBehind text l new h.now.seen) (sym (txns-push bs batch)) (tells text (txns_by_batch bs) (so_far stands))
+
+pub reads-all : (text : List ℕ) (old mid new : NextGate) (bs : List Batch) (told : Option History) → mid.catalogue ≡ old.catalogue → new ≡ mid
+    → WhereTold (λ h. ReadsBehind text old mid bs h.now.seen) told → TellsNext mid new (Ok None) told → WhereTold (λ h. ReadsTo text old new bs h.now.seen) told
+reads-all text old mid new bs None same end so_far tells = tt
+reads-all text old mid new bs (Some h) same end so_far tells = λ stands. record {
+  log = subst (λ (c : CatalogueState). HoldsLog text c (txns_by_batch bs) h.now.seen) same (tells text (txns_by_batch bs) (so_far stands));
+  end = subst (λ (g : NextGate). IsBehind text (txns_by_batch bs) g) (sym end) (so_far stands).behind;
+}
+
+pub reads-damage : (text : List ℕ) (old mid new : NextGate) (bs : List Batch) (at : ℕ) (kind : DamageKind) (told : Option History)
+    → WhereTold (λ h. ReadsBehind text old mid bs h.now.seen) told → TellsNext mid new (Err (error.Damaged at kind)) told
+    → WhereTold (λ h. StandsBehind text [] old h.now.seen → IsDamagedLog at kind h.now.seen) told
+reads-damage text old mid new bs at kind None so_far tells = tt
+reads-damage text old mid new bs at kind (Some h) so_far tells = λ stands. record {
+  text = text;
+  catalogue = mid.catalogue;
+  batches = txns_by_batch bs;
+  damage = tells text (txns_by_batch bs) (so_far stands);
+}
+
+pub reads-nothing : (text : List ℕ) (gate : NextGate) (told : Option History) → WhereTold (λ h. ReadsBehind text gate gate [] h.now.seen) told
+reads-nothing text gate None = tt
+reads-nothing text gate (Some h) = λ stands. stands
+
+-- damage behind a first gate is damage of the log that begins there
+pub damage-behind : (first : NextGate) (at : ℕ) (kind : DamageKind) (told now : Option History) → now ≡ told → WhereTold (λ h. (text : List ℕ) × IsStore text first.catalogue h.now.seen × StandsBehind text [] first h.now.seen) told
+    → ((text : List ℕ) → WhereTold (λ h. StandsBehind text [] first h.now.seen → IsDamagedLog at kind h.now.seen) now) → WhereTold (λ h. IsDamagedLog at kind h.now.seen) told
+damage-behind first at kind None now same attached damaged = tt
+damage-behind first at kind (Some h) now same attached damaged =
+    (subst (λ (t : Option History). WhereTold (λ k. StandsBehind attached.0 [] first k.now.seen → IsDamagedLog at kind k.now.seen) t) same (damaged attached.0)) attached.2

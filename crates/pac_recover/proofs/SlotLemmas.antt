@@ -1,0 +1,100 @@
+-- The first damage of two slots, beside gates that were read.
+use Rattle.std.proofs.Common.{◌≡◌, ◌∙◌, inl, inr, ℕ, List, Option, Some, None, Err, refl, sym, ap, subst}
+use Rattle.pac_outside.specs.Disk.{History, WhereTold}
+use Rattle.pac_types.specs.declared.table.Table.{Table}
+use Rattle.pac_check.specs.declared.damage.SlotDamageKind.{SlotDamageKind}
+use Rattle.pac_check.specs.declared.damage.SlotDamageKind.TheVariants.{Place}
+use Rattle.pac_check.specs.declared.errors.SlotError.{SlotError}
+use Rattle.pac_check.specs.declared.errors.SlotError.TheVariants as slot
+use Rattle.pac_check.specs.declared.head.Head.{Head}
+use Rattle.pac_check.specs.declared.info.SlotInfo.{SlotInfo}
+use Rattle.pac_check.specs.declared.info.SlotName.{SlotName}
+use Rattle.pac_check.specs.declared.info.SlotName.TheVariants.{A, B}
+use Rattle.pac_check.specs.declared.state.SlotState.{SlotState}
+use Rattle.pac_check.specs.declared.state.SlotState.TheVariants.{Empty, Closed, Open}
+use Rattle.pac_check.specs.Kinds.{slot_fault}
+use Rattle.pac_check.specs.SlotStates.{by_slot, info_of, slot_read, IsSlot, OpensExactly}
+use Rattle.pac_recover.specs.declared.errors.Damage.TheVariants.{Slot}
+use Rattle.pac_recover.specs.declared.errors.LoadError.{LoadError}
+use Rattle.pac_recover.specs.declared.errors.LoadError.TheVariants as load
+use Rattle.pac_recover.specs.declared.gates.GatePlace.{GatePlace}
+use Rattle.pac_recover.specs.Causes.{slot_not_loaded}
+use Rattle.pac_recover.specs.Damages.{IsAmongGates, IsSlotDamage}
+use Rattle.pac_recover.specs.Loading.{IsInfoAmong}
+
+-- ---- the bytes of a slot
+
+-- what is told as damage of a slot is damage of it
+pub slot-cause : (cause : SlotError) (name : SlotName) (at : ℕ) (kind : SlotDamageKind) → slot_not_loaded cause ≡ load.Damaged (Slot name at kind) → cause ≡ slot.Damaged name at kind
+slot-cause slot.DiskFault name at kind e = absurd cc
+slot-cause (slot.Damaged other place what) name at kind e = cc
+slot-cause slot.NoMemory name at kind e = absurd cc
+
+not-b : A ≡ B → ⊥
+not-b e = cc
+
+pub broken : (gates : List GatePlace) (tables : List Table) (name : SlotName) (at : ℕ) (kind : SlotDamageKind) (a b : Option History)
+    → WhereTold (λ h. slot_read tables h.now.seen ≡ Err (slot_fault kind at)) (by_slot name a b)
+    → (name ≡ B → WhereTold (λ h. (state : SlotState) × IsSlot tables state h.now.seen) a)
+    → WhereTold (λ x. WhereTold (λ y. IsSlotDamage (IsAmongGates gates) tables name at kind x.now.seen y.now.seen) b) a
+broken gates tables name at kind None b fault first = tt
+broken gates tables name at kind (Some x) None fault first = tt
+broken gates tables A at kind (Some x) (Some y) fault first = inl (record { fault_of = fault; first = λ e. absurd (not-b e) })
+broken gates tables B at kind (Some x) (Some y) fault first = inl (record { fault_of = fault; first = first })
+
+-- ---- the place of a slot
+
+abbrev slot_in : SlotName → Option SlotInfo → SlotName
+slot_in name None = name
+slot_in name (Some info) = info.slot
+
+-- a slot of which something is known is open
+open-at : (name : SlotName) (state : SlotState) (info : SlotInfo) → info_of name state ≡ Some info → (head : Head) × (state ≡ Open head) × (info.slot ≡ name)
+open-at name Empty info e = absurd cc
+open-at name Closed info e = absurd cc
+open-at name (Open head) info e = (head, refl, sym (ap (slot_in name) e))
+
+same-damage : (s t : SlotName) (m n : ℕ) (k l : SlotDamageKind) → load.Damaged (Slot s m k) ≡ load.Damaged (Slot t n l) → (s ≡ t) × (m ≡ n) × (k ≡ l)
+same-damage s t m n k l e = (cc, cc, cc)
+
+-- an open slot that is at none of the gates, behind one that is at one
+module _ (gates : List GatePlace) (tables : List Table) (name : SlotName) (state_a state_b : SlotState) (info : Option SlotInfo) (found : SlotInfo)
+    (is : info ≡ info_of name (by_slot name state_a state_b)) (there : info ≡ Some found) (misfit : IsInfoAmong gates info → ⊥) (front : name ≡ B → IsInfoAmong gates (info_of A state_a)) where
+  opens : (head : Head) × (by_slot name state_a state_b ≡ Open head) × (found.slot ≡ name)
+  opens = open-at name (by_slot name state_a state_b) found (sym is ∙ there)
+
+  beside : (a b : Option History) → WhereTold (λ h. IsSlot tables state_a h.now.seen × OpensExactly tables state_a h.now.seen) a → WhereTold (λ h. IsSlot tables state_b h.now.seen × OpensExactly tables state_b h.now.seen) b
+      → WhereTold (λ x. WhereTold (λ y. IsSlotDamage (IsAmongGates gates) tables name 9 Place x.now.seen y.now.seen) b) a
+  beside None b is_a is_b = tt
+  beside (Some x) None is_a is_b = tt
+  beside (Some x) (Some y) is_a is_b = inr (
+    refl,
+    refl,
+    record {
+      state_a = state_a;
+      state_b = state_b;
+      is_a = is_a.0;
+      is_b = is_b.0;
+      head = opens.0;
+      opens = opens.1;
+      misfit = λ among. misfit (subst (λ (o : Option SlotInfo). IsInfoAmong gates o) (sym is) (subst (λ (s : SlotState). IsInfoAmong gates (info_of name s)) (sym opens.1) among));
+      first = λ b other open_a. subst (λ (s : SlotState). IsInfoAmong gates (info_of A s)) open_a (front b);
+    },
+  )
+
+  pub misplaced : (error : LoadError) → error ≡ load.Damaged (Slot found.slot 9 Place) → (slot : SlotName) (at : ℕ) (kind : SlotDamageKind) → error ≡ load.Damaged (Slot slot at kind)
+      → (a b : Option History) → WhereTold (λ h. IsSlot tables state_a h.now.seen × OpensExactly tables state_a h.now.seen) a → WhereTold (λ h. IsSlot tables state_b h.now.seen × OpensExactly tables state_b h.now.seen) b
+      → WhereTold (λ x. WhereTold (λ y. IsSlotDamage (IsAmongGates gates) tables slot at kind x.now.seen y.now.seen) b) a
+  misplaced error made slot at kind told a b is_a is_b =
+      let same = same-damage found.slot slot 9 at Place kind (sym made ∙ told) in
+      subst (λ (s : SlotName). WhereTold (λ x. WhereTold (λ y. IsSlotDamage (IsAmongGates gates) tables s at kind x.now.seen y.now.seen) b) a) (sym opens.2 ∙ same.0)
+      (subst (λ (n : ℕ). WhereTold (λ x. WhereTold (λ y. IsSlotDamage (IsAmongGates gates) tables name n kind x.now.seen y.now.seen) b) a) same.1
+      (subst (λ (k : SlotDamageKind). WhereTold (λ x. WhereTold (λ y. IsSlotDamage (IsAmongGates gates) tables name 9 k x.now.seen y.now.seen) b) a) same.2 (beside a b is_a is_b)))
+
+-- ---- slots that are whole
+
+pub told-whole : (name : SlotName) (a b : Option History) → WhereTold (λ h. ⊥) (by_slot name a b) → WhereTold (λ x. WhereTold (λ y. ⊥) b) a
+told-whole A None b none = tt
+told-whole A (Some x) b none = absurd none
+told-whole B None b none = tt
+told-whole B (Some x) b none = none

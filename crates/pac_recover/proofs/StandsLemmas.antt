@@ -1,0 +1,162 @@
+-- Where the devices stand for a history, nothing is damaged, and the tables are those of a front of it.
+use Rattle.std.proofs.Common.{◌≡◌, ◌∙◌, inl, inr, ℕ, ◌≤◌, ◌+◌, List, ◌∷◌, ◌++◌, length, take, Option, Some, None, Result, Ok, Err, refl, sym, ap, subst, append_assoc}
+use Rattle.std.specs.Prelude.{IfOk, IsErrOf}
+use Rattle.pac_value.specs.State.{Tables}
+use Rattle.pac_ops.specs.declared.note.Note.{Note}
+use Rattle.pac_ops.specs.declared.transaction.Txn.{Txn}
+use Rattle.pac_outside.specs.Disk.{History, WhereTold}
+use Rattle.pac_types.specs.Execution.{serial}
+use Rattle.pac_types.specs.Typing.{CatalogueState}
+use Rattle.pac_log.specs.declared.damage.DamageKind.{DamageKind}
+use Rattle.pac_log.specs.Logs.{header_bytes, open_bodies, HoldsLog}
+use Rattle.pac_log.specs.Reading.{IsStore}
+use Rattle.pac_log.proofs.GateLemmas.{headed}
+use Rattle.pac_log.proofs.OneLog.{one_log, no_damage}
+use Rattle.pac_check.specs.declared.damage.SlotDamageKind.{SlotDamageKind}
+use Rattle.pac_check.specs.declared.damage.SlotFault.{SlotFault}
+use Rattle.pac_check.specs.declared.head.Head.{Head}
+use Rattle.pac_check.specs.declared.info.SlotName.{SlotName}
+use Rattle.pac_check.specs.declared.info.SlotName.TheVariants.{A, B}
+use Rattle.pac_check.specs.declared.state.SlotState.{SlotState}
+use Rattle.pac_check.specs.declared.state.SlotState.TheVariants.{Open}
+use Rattle.pac_check.specs.SlotStates.{by_slot, slot_read}
+use Rattle.pac_store.specs.Images.{Images, WhereRead}
+use Rattle.pac_store.specs.Stands.{EndsWith, StandsFor}
+use Rattle.pac_store.proofs.StandsLemmas.{few-tables, goes-on, readable, IsReadable}
+use Rattle.pac_recover.specs.declared.errors.Damage.TheVariants.{Log, Slot}
+use Rattle.pac_recover.specs.declared.errors.RecoverError.{RecoverError}
+use Rattle.pac_recover.specs.declared.errors.RecoverError.TheVariants as error
+use Rattle.pac_recover.specs.declared.recovery.Recovered.{Recovered}
+use Rattle.pac_recover.specs.Damages.{IsAtGate, IsDamagedLog, IsDamagedSlot, IsMisplacedSlot, IsSlotDamage}
+use Rattle.pac_recover.specs.Limits.{IsFirstOver}
+use Rattle.pac_recover.specs.Recovering.{AbortsIn, IsRecoveredFront, IsFrontOverLimit, IsOverIn, IsRecoveredFrom, Recovers}
+
+-- ---- no damage
+
+-- a log is a store
+store-of : (text : List ℕ) (catalogue : CatalogueState) (batches : List (List Txn)) (image : List ℕ) → HoldsLog text catalogue batches image → IsStore text catalogue image
+store-of text catalogue batches image holds =
+    let first = headed batches holds.shut.gate holds.shut.rest in
+    record {
+      accepted = holds.log.accepted;
+      gate = first.0;
+      rest = first.1;
+      split = holds.shut.split ∙ append_assoc (header_bytes text) (open_bodies batches) (holds.shut.gate ∷ holds.shut.rest) ∙ ap (λ (l : List ℕ). header_bytes text ++ l) first.2;
+    }
+
+ok-err : {X : Type 0} {E : Type 0} (x : X) (e : E) → ◌≡◌ {A = Result X E} (Ok x) (Err e) → ⊥
+ok-err x e h = cc
+
+same-open : (state other : SlotState) (head : Head) → ◌≡◌ {A = Result SlotState SlotFault} (Ok state) (Ok other) → other ≡ Open head → state ≡ Open head
+same-open state other head e f = cc
+
+module _ (text : List ℕ) (catalogue : CatalogueState) (history : List Txn) (least : ℕ) (images : Images) (is : StandsFor text catalogue history least images) where
+  readable-a : IsReadable text catalogue is.batches images.slot_a
+  readable-a = readable text catalogue (few-tables text catalogue is.log.log.accepted.has) is.batches images.slot_a is.slot_a
+
+  readable-b : IsReadable text catalogue is.batches images.slot_b
+  readable-b = readable text catalogue (few-tables text catalogue is.log.log.accepted.has) is.batches images.slot_b is.slot_b
+
+  pub is-store : ((t : List ℕ) (c : CatalogueState) → IsStore t c images.log → ⊥) → ⊥
+  is-store none = none text catalogue (store-of text catalogue is.batches images.log is.log)
+
+  pub no-log-damage : (at : ℕ) (kind : DamageKind) → IsDamagedLog at kind images.log → ⊥
+  no-log-damage at kind damaged = no_damage text damaged.text catalogue damaged.catalogue is.batches damaged.batches _ images.log is.log damaged.damage
+
+  -- the slots fit the log
+  no-misplaced : (slot : SlotName) → IsMisplacedSlot (IsAtGate text is.batches) catalogue.tables slot images.slot_a images.slot_b → ⊥
+  no-misplaced A wrong =
+      let front = readable-a.front wrong.head (same-open readable-a.state wrong.state_a wrong.head (sym readable-a.is ∙ wrong.is_a) wrong.opens) in
+      wrong.misfit front.3
+  no-misplaced B wrong =
+      let front = readable-b.front wrong.head (same-open readable-b.state wrong.state_b wrong.head (sym readable-b.is ∙ wrong.is_b) wrong.opens) in
+      wrong.misfit front.3
+
+  no-broken : (slot : SlotName) (fault : SlotFault) → slot_read catalogue.tables (by_slot slot images.slot_a images.slot_b) ≡ Err fault → ⊥
+  no-broken A fault e = ok-err readable-a.state fault (sym readable-a.is ∙ e)
+  no-broken B fault e = ok-err readable-b.state fault (sym readable-b.is ∙ e)
+
+  pub no-slot-damage : (slot : SlotName) (at : ℕ) (kind : SlotDamageKind) → IsDamagedSlot slot at kind images → ⊥
+  no-slot-damage slot at kind damaged =
+      let one = one_log text damaged.text catalogue damaged.catalogue is.batches damaged.batches images.log is.log damaged.log in
+      go (subst (λ (t : List ℕ). IsSlotDamage (IsAtGate t is.batches) catalogue.tables slot at kind images.slot_a images.slot_b) (sym one.0)
+      (subst (λ (c : CatalogueState). IsSlotDamage (IsAtGate damaged.text is.batches) c.tables slot at kind images.slot_a images.slot_b) (sym one.1)
+      (subst (λ (b : List (List Txn)). IsSlotDamage (IsAtGate damaged.text b) damaged.catalogue.tables slot at kind images.slot_a images.slot_b) (sym one.2) damaged.damage)))
+    where
+      go : IsSlotDamage (IsAtGate text is.batches) catalogue.tables slot at kind images.slot_a images.slot_b → ⊥
+      go (inl broken) = no-broken slot _ broken.fault_of
+      go (inr (at_9, place, wrong)) = no-misplaced slot wrong
+
+  -- ---- what is recovered
+
+  pub recovers-front : (recovered : Recovered) → IsRecoveredFrom recovered.catalogue recovered.tables.rows recovered.txns images → IsRecoveredFront catalogue history least recovered
+  recovers-front recovered from_stored =
+      let on = goes-on text catalogue history least images from_stored.stored is from_stored.is in
+      let held : on.held ≡ recovered.tables.rows
+      = same-ok on.held recovered.tables.rows (sym on.from_base ∙ ap (λ (c : CatalogueState). serial c.procs (from_stored.stored.number + 1) from_stored.stored.rest from_stored.stored.base) (sym on.same) ∙ from_stored.ends) in
+      record {
+        same = sym from_stored.same ∙ on.same;
+        enough = subst (λ (n : ℕ). least ≤ n) (sym from_stored.counted) on.enough;
+        within = subst (λ (n : ℕ). n ≤ length history) (sym from_stored.counted) on.within;
+        ends = subst (λ (n : ℕ). EndsWith catalogue (take n history) recovered.tables.rows) (sym from_stored.counted)
+            (subst (λ (t : Tables). EndsWith catalogue (take (from_stored.stored.number + length from_stored.stored.rest) history) t) held on.ends);
+      }
+    where
+      same-ok : (s t : Tables) → ◌≡◌ {A = Result Tables Note} (Ok s) (Ok t) → s ≡ t
+      same-ok s t e = cc
+
+  pub no-abort : (note : Note) → AbortsIn note images → ⊥
+  no-abort note aborts =
+      let on = goes-on text catalogue history least images aborts.stored is aborts.is in
+      ok-err on.held note (sym on.from_base ∙ ap (λ (c : CatalogueState). serial c.procs (aborts.stored.number + 1) aborts.stored.rest aborts.stored.base) (sym on.same) ∙ aborts.stops)
+
+  pub over-front : (table : List ℕ) (rows limit : ℕ) → IsOverIn table rows limit images → IsFrontOverLimit catalogue history least table rows limit
+  over-front table rows limit over =
+      let on = goes-on text catalogue history least images over.stored is over.is in
+      let held : on.held ≡ over.held
+      = same-ok on.held over.held (sym on.from_base ∙ ap (λ (c : CatalogueState). serial c.procs (over.stored.number + 1) over.stored.rest over.stored.base) (sym on.same) ∙ over.ends) in
+      record {
+        count = over.stored.number + length over.stored.rest;
+        held = over.held;
+        enough = on.enough;
+        within = on.within;
+        ends = subst (λ (t : Tables). EndsWith catalogue (take (over.stored.number + length over.stored.rest) history) t) held on.ends;
+        over = subst (λ (c : CatalogueState). IsFirstOver limit c.tables over.held table rows) on.same over.over;
+      }
+    where
+      same-ok : (s t : Tables) → ◌≡◌ {A = Result Tables Note} (Ok s) (Ok t) → s ≡ t
+      same-ok s t e = cc
+
+-- ---- over what the devices tell
+
+-- what is told of each answer
+pub record TellsAnswer (limit : ℕ) (result : Result Recovered RecoverError) (log a b : Option History) : Type 0 where
+  pub recovered : IfOk result (λ recovered. WhereRead (IsRecoveredFrom recovered.catalogue recovered.tables.rows recovered.txns) log a b)
+  pub no_store : IsErrOf result error.NoStore → WhereTold (λ h. (text : List ℕ) (catalogue : CatalogueState) → IsStore text catalogue h.now.seen → ⊥) log
+  pub log_damage : (at : ℕ) (kind : DamageKind) → IsErrOf result (error.Damaged (Log at kind)) → WhereTold (λ h. IsDamagedLog at kind h.now.seen) log
+  pub slot_damage : (slot : SlotName) (at : ℕ) (kind : SlotDamageKind) → IsErrOf result (error.Damaged (Slot slot at kind)) → WhereRead (IsDamagedSlot slot at kind) log a b
+  pub abort : (note : Note) → IsErrOf result (error.AbortInLog note) → WhereRead (AbortsIn note) log a b
+  pub over : (table : List ℕ) (rows most : ℕ) → IsErrOf result (error.RowsOver table rows most) → (most ≡ limit) × WhereRead (IsOverIn table rows limit) log a b
+
+module _ (limit : ℕ) (l x y : History) (text : List ℕ) (catalogue : CatalogueState) (history : List Txn) (least : ℕ) where
+  abbrev images : Images
+  images = record { log = l.now.seen; slot_a = x.now.seen; slot_b = y.now.seen }
+
+  recovers-here : (result : Result Recovered RecoverError) → TellsAnswer limit result (Some l) (Some x) (Some y) → StandsFor text catalogue history least images → Recovers catalogue history least result
+  recovers-here (Ok recovered) tells is = recovers-front text catalogue history least images is recovered tells.recovered
+  recovers-here (Err error.NoStore) tells is = is-store text catalogue history least images is (tells.no_store refl)
+  recovers-here (Err (error.Damaged (Log at kind))) tells is = no-log-damage text catalogue history least images is at kind (tells.log_damage at kind refl)
+  recovers-here (Err (error.Damaged (Slot slot at kind))) tells is = no-slot-damage text catalogue history least images is slot at kind (tells.slot_damage slot at kind refl)
+  recovers-here (Err (error.AbortInLog note)) tells is = no-abort text catalogue history least images is note (tells.abort note refl)
+  recovers-here (Err (error.RowsOver table rows most)) tells is =
+      let over = tells.over table rows most refl in
+      subst (λ (n : ℕ). IsFrontOverLimit catalogue history least table rows n) (sym over.0) (over-front text catalogue history least images is table rows limit over.1)
+  recovers-here (Err error.DiskFault) tells is = tt
+  recovers-here (Err error.NoMemory) tells is = tt
+
+pub recovers : (limit : ℕ) (result : Result Recovered RecoverError) (log a b : Option History) → TellsAnswer limit result log a b → (text : List ℕ) (catalogue : CatalogueState) (history : List Txn) (least : ℕ)
+    → WhereRead (λ images. StandsFor text catalogue history least images → Recovers catalogue history least result) log a b
+recovers limit result None a b tells text catalogue history least = tt
+recovers limit result (Some l) None b tells text catalogue history least = tt
+recovers limit result (Some l) (Some x) None tells text catalogue history least = tt
+recovers limit result (Some l) (Some x) (Some y) tells text catalogue history least = recovers-here limit l x y text catalogue history least result tells

@@ -1,0 +1,37 @@
+-- Refusals of the layers below as those of a store.
+use Rattle.pac_log.specs.declared.errors.LogError.{LogError}
+use Rattle.pac_log.specs.declared.errors.LogError.TheVariants as log
+use Rattle.pac_check.specs.declared.errors.SlotError.{SlotError}
+use Rattle.pac_check.specs.declared.errors.SlotError.TheVariants as slot
+use Rattle.pac_serial.specs.declared.serial.AllError.{AllError}
+use Rattle.pac_serial.specs.declared.serial.AllError.TheVariants as serial
+use Rattle.pac_recover.specs.declared.errors.Damage.TheVariants.{Log, Slot}
+use Rattle.pac_recover.specs.declared.errors.LoadError.{LoadError}
+use Rattle.pac_recover.specs.declared.errors.LoadError.TheVariants as load
+use Rattle.pac_recover.specs.declared.errors.RecoverError.{RecoverError}
+use Rattle.pac_recover.specs.declared.errors.RecoverError.TheVariants as recover
+
+-- why the log isn't read
+abbrev pub log_not_loaded : LogError → LoadError
+log_not_loaded log.NoStore = load.NoStore
+log_not_loaded (log.Damaged at kind) = load.Damaged (Log at kind)
+log_not_loaded log.DiskFault = load.DiskFault
+log_not_loaded log.NoMemory = load.NoMemory
+
+-- why the slots aren't
+abbrev pub slot_not_loaded : SlotError → LoadError
+slot_not_loaded slot.DiskFault = load.DiskFault
+slot_not_loaded (slot.Damaged name at kind) = load.Damaged (Slot name at kind)
+slot_not_loaded slot.NoMemory = load.NoMemory
+
+-- why nothing is recovered where nothing is loaded
+abbrev pub not_loaded : LoadError → RecoverError
+not_loaded load.NoStore = recover.NoStore
+not_loaded (load.Damaged damage) = recover.Damaged damage
+not_loaded load.DiskFault = recover.DiskFault
+not_loaded load.NoMemory = recover.NoMemory
+
+-- or where a stored transaction isn't executed
+abbrev pub not_executed : AllError → RecoverError
+not_executed (serial.Abort note) = recover.AbortInLog note
+not_executed serial.NoMemory = recover.NoMemory

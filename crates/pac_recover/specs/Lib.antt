@@ -1,0 +1,7 @@
+pub mod Limits
+pub mod Gates
+pub mod Causes
+pub mod Logs
+pub mod Damages
+pub mod Loading
+pub mod Recovering

@@ -1,0 +1,160 @@
+// Why a store isn't loaded or recovered.
+ghost use Rattle.std.specs.Prelude.{◌≡◌};
+
+use crate::TooManyRows;
+use pac_base::NoMemory;
+use pac_check::{SlotDamageKind, SlotError, SlotName};
+use pac_log::{DamageKind, LogError};
+use pac_ops::Note;
+use pac_serial::AllError;
+use pac_value::Name;
+use std::alloc::{AllocError, AllocFailed};
+use thiserror::Error;
+
+/// What is wrong on a device, at a place, an offset from 0.
+#[derive(Clone, Copy, Debug, PartialEq, Eq, Error)]
+pub enum Damage {
+    /// In the log.
+    #[error("log: {kind} at byte {at}")]
+    Log {
+        at: u64,
+        kind: DamageKind,
+    },
+    /// In a slot. Where its number of transactions and its place don't fit the log, it is `Place` at 9.
+    #[error("slot: {kind} at byte {at}")]
+    Slot {
+        slot: SlotName,
+        at: u64,
+        kind: SlotDamageKind,
+    },
+}
+
+/// Why nothing is loaded.
+#[derive(Clone, Copy, Debug, PartialEq, Eq, Error)]
+pub enum LoadError {
+    /// The first device doesn't begin as a log does.
+    #[error("no store")]
+    NoStore,
+    /// This is the first damage: of the log, or else of slot a, of slot b, or of the place that one of them has in the log.
+    #[error("damaged {0}")]
+    Damaged(Damage),
+    /// A call of a device failed.
+    #[error("a device failed")]
+    DiskFault,
+    /// There was no memory for what is read.
+    #[error("out of memory")]
+    NoMemory,
+}
+
+/// Why the tables aren't recovered.
+#[derive(Clone, Copy, Debug, PartialEq, Eq, Error)]
+pub enum RecoverError {
+    /// The first device doesn't begin as a log does.
+    #[error("no store")]
+    NoStore,
+    /// This is the first damage, as [`LoadError::Damaged`].
+    #[error("damaged {0}")]
+    Damaged(Damage),
+    /// A stored transaction aborts.
+    #[error("transaction {} aborts", .0.txn)]
+    AbortInLog(Note),
+    /// In the end a table has more rows than the limit: the first such one, by its name.
+    #[error("a table has {rows} rows, over {limit}")]
+    RowsOver { table: Name, rows: u64, limit: u64 },
+    /// A call of a device failed.
+    #[error("a device failed")]
+    DiskFault,
+    /// There was no memory for what is read, or for the tables.
+    #[error("out of memory")]
+    NoMemory,
+}
+
+impl From<LogError> for LoadError {
+    ghost use Rattle.pac_recover.specs.Causes.{log_not_loaded};
+
+    ghost from_gives = { λ cause error. error ≡ log_not_loaded cause };
+
+    fn from(cause: LogError) -> Self {
+        match cause {
+            LogError::NoStore => LoadError::NoStore,
+            LogError::Damaged { at, kind } => LoadError::Damaged(Damage::Log { at, kind }),
+            LogError::DiskFault => LoadError::DiskFault,
+            LogError::NoMemory => LoadError::NoMemory,
+        }
+    }
+}
+
+impl From<SlotError> for LoadError {
+    ghost use Rattle.pac_recover.specs.Causes.{slot_not_loaded};
+
+    ghost from_gives = { λ cause error. error ≡ slot_not_loaded cause };
+
+    fn from(cause: SlotError) -> Self {
+        match cause {
+            SlotError::DiskFault => LoadError::DiskFault,
+            SlotError::Damaged { slot, at, kind } => {
+                LoadError::Damaged(Damage::Slot { slot, at, kind })
+            }
+            SlotError::NoMemory => LoadError::NoMemory,
+        }
+    }
+}
+
+impl From<NoMemory> for LoadError {
+    ghost use Rattle.pac_recover.specs.declared.errors.LoadError.{LoadError};
+
+    ghost from_gives = { λ _ error. error ≡ LoadError.NoMemory };
+
+    fn from(_: NoMemory) -> Self {
+        LoadError::NoMemory
+    }
+}
+
+impl From<AllocError> for LoadError {
+    ghost use Rattle.pac_recover.specs.declared.errors.LoadError.{LoadError};
+
+    ghost from_gives = { λ _ error. error ≡ LoadError.NoMemory };
+
+    fn from(_: AllocError) -> Self {
+        LoadError::NoMemory
+    }
+}
+
+impl From<LoadError> for RecoverError {
+    ghost use Rattle.pac_recover.specs.Causes.{not_loaded};
+
+    ghost from_gives = { λ cause error. error ≡ not_loaded cause };
+
+    fn from(cause: LoadError) -> Self {
+        match cause {
+            LoadError::NoStore => RecoverError::NoStore,
+            LoadError::Damaged(damage) => RecoverError::Damaged(damage),
+            LoadError::DiskFault => RecoverError::DiskFault,
+            LoadError::NoMemory => RecoverError::NoMemory,
+        }
+    }
+}
+
+impl From<AllError> for RecoverError {
+    ghost use Rattle.pac_recover.specs.Causes.{not_executed};
+
+    ghost from_gives = { λ cause error. error ≡ not_executed cause };
+
+    fn from(cause: AllError) -> Self {
+        match cause {
+            AllError::Abort(note) => RecoverError::AbortInLog(note),
+            AllError::NoMemory => RecoverError::NoMemory,
+        }
+    }
+}
+
+impl From<TooManyRows> for RecoverError {
+    ghost use Rattle.pac_recover.specs.declared.errors.RecoverError.{RecoverError};
+
+    ghost from_gives = { λ excess error. error ≡ RecoverError.RowsOver excess.table excess.rows excess.limit };
+
+    fn from(excess: TooManyRows) -> Self {
+        let TooManyRows { table, rows, limit } = excess;
+        RecoverError::RowsOver { table, rows, limit }
+    }
+}

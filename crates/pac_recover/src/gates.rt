@@ -1,0 +1,36 @@
+// The gates of a log, by their places.
+ghost use Rattle.std.specs.Prelude.{◌≡◌, ◌≢◌, ℕ, IfSome, slice_get, Some as HasIt, None as NoPlace};
+
+use pac_log::Position;
+
+/// A gate of a log.
+#[derive(Clone, Copy, Debug, PartialEq, Eq)]
+pub(crate) struct GatePlace {
+    /// Its place, an offset from 0.
+    pub place: u64,
+    /// How many transactions stand in front of it.
+    pub txns: u64,
+}
+
+/// The gate that comes next.
+pub(crate) fn gate_place(gate: &Position) -> GatePlace
+    ensures { result ≡ record { place = gate.now.place; txns = gate.now.txns } }
+{
+    GatePlace {
+        place: gate.place(),
+        txns: gate.txns(),
+    }
+}
+
+/// The first number in a list that is that of this gate. `None`: it isn't there.
+pub(crate) fn number_of(gates: &[GatePlace], gate: GatePlace) -> Option<usize>
+    ensures found { IfSome result (λ number. slice_get gates.now number ≡ HasIt gate) }
+    ensures none { result ≡ NoPlace → (number : ℕ) → slice_get gates.now number ≢ HasIt gate }
+{
+    for i in 0..gates.len() {
+        if gates[i] == gate {
+            return Some(i);
+        }
+    }
+    None
+}

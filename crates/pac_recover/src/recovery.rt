@@ -1,0 +1,88 @@
+// Recovers the tables of a store.
+ghost use Rattle.std.specs.Prelude.{◌≡◌, ◌+◌, ℕ, List, IfOk, IsErrOf, None, length};
+ghost use Rattle.pac_outside.specs.Devices.{OneRose, each};
+ghost use Rattle.pac_outside.specs.Disk.{WhereTold};
+ghost use Rattle.pac_ops.specs.declared.note.Note.{Note as ANote};
+ghost use Rattle.pac_ops.specs.declared.transaction.Txn.{Txn as ATxn};
+ghost use Rattle.pac_types.specs.Execution.{first_over};
+ghost use Rattle.pac_types.specs.Fits.{FitsCatalogue};
+ghost use Rattle.pac_types.specs.Typing.{CatalogueState};
+ghost use Rattle.pac_log.specs.declared.damage.DamageKind.{DamageKind as ALogDamage};
+ghost use Rattle.pac_log.specs.Reading.{IsStore};
+ghost use Rattle.pac_check.specs.declared.damage.SlotDamageKind.{SlotDamageKind as ASlotDamage};
+ghost use Rattle.pac_check.specs.declared.info.SlotName.{SlotName as ASlotName};
+ghost use Rattle.pac_store.specs.Images.{WhereRead};
+ghost use Rattle.pac_store.specs.Stands.{StandsFor};
+ghost use Rattle.pac_recover.specs.declared.errors.Damage.TheVariants.{Log as InLog, Slot as InSlot};
+ghost use Rattle.pac_recover.specs.Damages.{IsDamagedLog, IsDamagedSlot};
+ghost use Rattle.pac_recover.specs.Recovering.{AbortsIn, IsOverIn, IsRecoveredFrom, Recovers};
+
+use crate::batches::execute;
+use crate::{Loaded, RecoverError, load, test_rows};
+use pac_outside::{Devices, Disk, Gate};
+use pac_tables::OrderedRows;
+use pac_types::Catalogue;
+use std::alloc::Global;
+
+/// The tables after all stored transactions.
+#[derive(Drop)]
+pub struct Recovered {
+    pub catalogue: Catalogue,
+    pub tables: OrderedRows,
+    /// How many transactions are in them.
+    pub txns: u64,
+}
+
+/// Recovers the tables of a store, on devices that are only read: executes the transactions of the log behind the newest
+/// slot over that one's tables, one after another, and then tests the limit of rows. The number of workers has no effect,
+/// and no gate is entered.
+///
+/// # Errors
+///
+/// - Those of [`load`].
+/// - [`RecoverError::AbortInLog`] exactly where serial execution of the stored transactions stops, with the transaction that
+///   aborts.
+/// - [`RecoverError::RowsOver`] exactly where the tables then have more rows than the limit: the first such table.
+/// - [`RecoverError::NoMemory`] where there was no memory for the tables.
+pub fn recover<D: Disk, G: Gate>(
+    alloc: Global,
+    _workers: u32,
+    limit: u64,
+    devices: &mut Devices<D>,
+    _gate: &G,
+) -> Result<Recovered, RecoverError>
+    // What is recovered, and when each refusal comes.
+    ensures recovered { IfOk result (λ recovered. WhereRead (IsRecoveredFrom recovered.catalogue recovered.tables.rows recovered.txns) (D.told devices.old.log) (D.told devices.old.slot_a) (D.told devices.old.slot_b)) }
+    ensures within { IfOk result (λ recovered. first_over limit (length recovered.catalogue.tables) recovered.tables.rows ≡ None) }
+    ensures fits { IfOk result (λ recovered. FitsCatalogue recovered.catalogue recovered.tables.tables recovered.tables.rows) }
+    ensures no_store { IsErrOf result RecoverError.NoStore → WhereTold (λ old. (text : List ℕ) (catalogue : CatalogueState) → ¬ IsStore text catalogue old.now.seen) (D.told devices.old.log) }
+    ensures log_damage { (at : ℕ) (kind : ALogDamage) → IsErrOf result (RecoverError.Damaged (InLog at kind)) → WhereTold (λ old. IsDamagedLog at kind old.now.seen) (D.told devices.old.log) }
+    ensures slot_damage { (slot : ASlotName) (at : ℕ) (kind : ASlotDamage) → IsErrOf result (RecoverError.Damaged (InSlot slot at kind)) → WhereRead (IsDamagedSlot slot at kind) (D.told devices.old.log) (D.told devices.old.slot_a) (D.told devices.old.slot_b) }
+    ensures abort { (note : ANote) → IsErrOf result (RecoverError.AbortInLog note) → WhereRead (AbortsIn note) (D.told devices.old.log) (D.told devices.old.slot_a) (D.told devices.old.slot_b) }
+    ensures over { (table : List ℕ) (rows most : ℕ) → IsErrOf result (RecoverError.RowsOver table rows most) → (most ≡ limit) × WhereRead (IsOverIn table rows limit) (D.told devices.old.log) (D.told devices.old.slot_a) (D.told devices.old.slot_b) }
+
+    // Where the devices stand for a history, it is a front of it that is recovered.
+    ensures stands { (text : List ℕ) (catalogue : CatalogueState) (history : List ATxn) (least : ℕ) → WhereRead (λ images. StandsFor text catalogue history least images → Recovers catalogue history least result) (D.told devices.old.log) (D.told devices.old.slot_a) (D.told devices.old.slot_b) }
+
+    // The devices are only read, and no call of one comes after one that failed.
+    ensures same { each D.told devices.new ≡ each D.told devices.old }
+    ensures disk_fault { IsErrOf result RecoverError.DiskFault → OneRose (each D.faults devices.old) (each D.faults devices.new) }
+    ensures quiet { ¬ IsErrOf result RecoverError.DiskFault → each D.faults devices.new ≡ each D.faults devices.old }
+{
+    let Loaded {
+        catalogue,
+        plan: _,
+        mut tables,
+        txns,
+        batches,
+        reader,
+        slots: _,
+    } = load(alloc, devices)?;
+    execute(alloc, &catalogue, txns, batches.as_slice(), &mut tables)?;
+    test_rows(&catalogue, &tables, limit)?;
+    Ok(Recovered {
+        catalogue,
+        tables,
+        txns: reader.gate().txns(),
+    })
+}

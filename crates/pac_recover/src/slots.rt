@@ -1,0 +1,133 @@
+// Reads the slots of a store.
+ghost use Rattle.std.specs.Prelude.{◌≡◌, ◌∷◌, [], ℕ, false, IfOk, IfSome, IsErrOf, OnOk, Some as HasInfo, None as NoInfo, slice_get};
+ghost use Rattle.pac_outside.specs.Devices.{OneRose};
+ghost use Rattle.pac_outside.specs.Disk.{WhereTold};
+ghost use Rattle.pac_types.specs.Fits.{FitsCatalogue};
+ghost use Rattle.pac_log.specs.declared.damage.DamageKind.{DamageKind as ALogDamage};
+ghost use Rattle.pac_check.specs.declared.damage.SlotDamageKind.{SlotDamageKind as ASlotDamage};
+ghost use Rattle.pac_check.specs.declared.info.SlotInfo.{SlotInfo as ASlotInfo};
+ghost use Rattle.pac_check.specs.declared.info.SlotName.{SlotName as ASlotName};
+ghost use Rattle.pac_check.specs.SlotStates.{IsSlot, info_of, newest_of};
+ghost use Rattle.pac_store.specs.Images.{Images};
+ghost use Rattle.pac_recover.specs.declared.errors.Damage.TheVariants.{Log as InLog, Slot as InSlot};
+ghost use Rattle.pac_recover.specs.declared.errors.LoadError.{LoadError as ALoadError};
+ghost use Rattle.pac_recover.specs.Damages.{IsAmongGates, IsSlotDamage};
+ghost use Rattle.pac_recover.specs.Loading.{AreNewestOf, IsInfoAmong, number_of_newest};
+
+use crate::gates::{GatePlace, number_of};
+use crate::{Damage, LoadError};
+use pac_check::{SlotDamageKind, SlotInfo, SlotName, Slots};
+use pac_outside::Disk;
+use pac_serial::no_rows;
+use pac_tables::OrderedRows;
+use pac_types::Catalogue;
+use std::alloc::Global;
+
+// Where the number of transactions and the place stand in a slot.
+const PLACE: u64 = 9;
+
+/// What stands in two slots, each open one of which is at one of these gates.
+///
+/// # Errors
+///
+/// Those of [`Slots::attach`], and then `Place`, of slot a before slot b.
+pub(crate) fn read_slots<D: Disk>(
+    alloc: Global,
+    cat: &Catalogue,
+    gates: &[GatePlace],
+    a: &mut D,
+    b: &mut D,
+) -> Result<Slots, LoadError>
+    ensures a { IfOk result (λ slots. WhereTold (λ old. IsSlot cat.now.tables slots.a old.now.seen) (D.told a.old)) }
+    ensures b { IfOk result (λ slots. WhereTold (λ old. IsSlot cat.now.tables slots.b old.now.seen) (D.told b.old)) }
+    ensures works { IfOk result (λ slots. slots.has_failed ≡ false) }
+    ensures among_a { IfOk result (λ slots. IsInfoAmong gates.now (info_of SlotName.A slots.a)) }
+    ensures among_b { IfOk result (λ slots. IsInfoAmong gates.now (info_of SlotName.B slots.b)) }
+    ensures damaged { (slot : ASlotName) (at : ℕ) (kind : ASlotDamage) → IsErrOf result (LoadError.Damaged (InSlot slot at kind))
+        → WhereTold (λ x. WhereTold (λ y. IsSlotDamage (IsAmongGates gates.now) cat.now.tables slot at kind x.now.seen y.now.seen) (D.told b.old)) (D.told a.old) }
+    ensures no_log { (at : ℕ) (kind : ALogDamage) → ¬ IsErrOf result (LoadError.Damaged (InLog at kind)) }
+    ensures no_store { ¬ IsErrOf result LoadError.NoStore }
+    ensures same_a { D.told a.new ≡ D.told a.old }
+    ensures same_b { D.told b.new ≡ D.told b.old }
+    ensures disk_fault { IsErrOf result LoadError.DiskFault → OneRose (D.faults a.old ∷ D.faults b.old ∷ []) (D.faults a.new ∷ D.faults b.new ∷ []) }
+    ensures quiet_a { ¬ IsErrOf result LoadError.DiskFault → D.faults a.new ≡ D.faults a.old }
+    ensures quiet_b { ¬ IsErrOf result LoadError.DiskFault → D.faults b.new ≡ D.faults b.old }
+{
+    let slots = Slots::attach(alloc, cat, a, b)?;
+    test_place(gates, slots.info(SlotName::A))?;
+    test_place(gates, slots.info(SlotName::B))?;
+    Ok(slots)
+}
+
+// That an open slot is at one of these gates.
+fn test_place(gates: &[GatePlace], info: Option<SlotInfo>) -> Result<(), LoadError>
+    ensures ok { OnOk result (IsInfoAmong gates.now info) }
+    ensures err { (error : ALoadError) → IsErrOf result error → (found : ASlotInfo) × (info ≡ HasInfo found) × (error ≡ LoadError.Damaged (InSlot found.slot 9 SlotDamageKind.Place)) × ¬ IsInfoAmong gates.now info }
+{
+    let Some(info) = info else {
+        return Ok(());
+    };
+    match number_of(gates, place_in(&info)) {
+        Some(_) => Ok(()),
+        None => Err(LoadError::Damaged(Damage::Slot {
+            slot: info.slot,
+            at: PLACE,
+            kind: SlotDamageKind::Place,
+        })),
+    }
+}
+
+// The gate that a slot names.
+fn place_in(info: &SlotInfo) -> GatePlace
+    ensures { result ≡ record { place = info.now.place; txns = info.now.txns } }
+{
+    GatePlace {
+        place: info.place,
+        txns: info.txns,
+    }
+}
+
+/// How many batches stand in front of the gate that the newest slot names; none where no slot is open.
+pub(crate) fn batches_before(gates: &[GatePlace], newest: Option<SlotInfo>) -> usize
+    requires { IsInfoAmong gates.now newest }
+    ensures none { newest ≡ NoInfo → result ≡ 0 }
+    ensures there { (info : ASlotInfo) → newest ≡ HasInfo info → slice_get gates.now result ≡ HasInfo (record { place = info.place; txns = info.txns }) }
+{
+    let Some(info) = newest else {
+        return 0;
+    };
+    match number_of(gates, place_in(&info)) {
+        Some(number) => number,
+        None => unreachable!(),
+    }
+}
+
+/// The tables of the newest slot; without rows where no slot is open.
+///
+/// # Errors
+///
+/// Those of [`Slots::load_newest`].
+pub(crate) fn read_tables<D: Disk>(
+    alloc: Global,
+    cat: &Catalogue,
+    slots: &Slots,
+    a: &mut D,
+    b: &mut D,
+) -> Result<OrderedRows, LoadError>
+    requires holds_a { WhereTold (λ old. IsSlot cat.now.tables slots.now.a old.now.seen) (D.told a.old) }
+    requires holds_b { WhereTold (λ old. IsSlot cat.now.tables slots.now.b old.now.seen) (D.told b.old) }
+    ensures fits { IfOk result (λ rows. FitsCatalogue cat.now rows.tables rows.rows) }
+    ensures newest { IfOk result (λ rows. WhereTold (λ x. WhereTold (λ y. AreNewestOf cat.now slots.now rows.rows x.now.seen y.now.seen) (D.told b.old)) (D.told a.old)) }
+    ensures whole { (slot : ASlotName) (at : ℕ) (kind : ASlotDamage) → IsErrOf result (LoadError.Damaged (InSlot slot at kind)) → WhereTold (λ x. WhereTold (λ y. ⊥) (D.told b.old)) (D.told a.old) }
+    ensures no_log { (at : ℕ) (kind : ALogDamage) → ¬ IsErrOf result (LoadError.Damaged (InLog at kind)) }
+    ensures no_store { ¬ IsErrOf result LoadError.NoStore }
+    ensures same_a { D.told a.new ≡ D.told a.old }
+    ensures same_b { D.told b.new ≡ D.told b.old }
+    ensures disk_fault { IsErrOf result LoadError.DiskFault → OneRose (D.faults a.old ∷ D.faults b.old ∷ []) (D.faults a.new ∷ D.faults b.new ∷ []) }
+    ensures quiet_a { ¬ IsErrOf result LoadError.DiskFault → D.faults a.new ≡ D.faults a.old }
+    ensures quiet_b { ¬ IsErrOf result LoadError.DiskFault → D.faults b.new ≡ D.faults b.old }
+{
+    let mut rows = no_rows(alloc, cat)?;
+    slots.load_newest(alloc, cat, a, b, &mut rows)?;
+    Ok(rows)
+}
