@@ -102,7 +102,10 @@ fn a_transaction_that_aborts_is_told(rt: HostRuntime) -> Result<(), Fail> {
     assert!(rt; tells(&rt, alloc, [&log, SHUT, SHUT], abort)?);
     let line = "recover --rows 1 --workers 16";
     assert!(rt; ends(&rt, alloc, line, [&log, SHUT, SHUT], abort)?);
-    // Damage that stands behind it comes first.
+    // Damage that stands behind it comes first: in the log's fourth entry, and in a slot.
+    let damaged = changed(alloc, &log, 285, 3, log.len())?;
+    let tag = (3, "", "damaged log 285 Tag\n");
+    assert!(rt; tells(&rt, alloc, [&damaged, SHUT, SHUT], tag)?);
     let broken = changed(alloc, SLOT, 1, 0, 53)?;
     let magic = (3, "", "damaged b 1 Magic\n");
     assert!(rt; tells(&rt, alloc, [&log, SHUT, &broken], magic)?);
@@ -152,8 +155,22 @@ fn only_an_open_gate_counts(rt: HostRuntime) -> Result<(), Fail> {
         assert!(rt; tells(&rt, alloc, [&log, SHUT, SHUT], (0, dump, ""))?);
     }
     for length in 37..70 {
-        let log = changed(alloc, LOG, 36, 0, length)?;
+        let log = changed(alloc, LOG, 36, 7, length)?;
         assert!(rt; tells(&rt, alloc, [&log, SHUT, SHUT], (0, NO_ROW, ""))?);
+    }
+    Ok(())
+}
+
+#[test]
+fn a_log_that_is_cut_behind_an_open_gate_is_damaged(rt: HostRuntime) -> Result<(), Fail> {
+    let alloc = rt.alloc();
+    for length in 37..70 {
+        let line = match length {
+            37..=40 => "damaged log 37 Short\n",
+            41..=44 => "damaged log 41 Short\n",
+            _ => "damaged log 45 Short\n",
+        };
+        assert!(rt; tells(&rt, alloc, [&LOG[..length], SHUT, SHUT], (3, "", line))?);
     }
     Ok(())
 }
@@ -162,10 +179,6 @@ fn only_an_open_gate_counts(rt: HostRuntime) -> Result<(), Fail> {
 fn damage_in_a_log_is_told(rt: HostRuntime) -> Result<(), Fail> {
     let alloc = rt.alloc();
     for (place, byte, length, line) in [
-        (36, 1, 60, "damaged log 45 Short\n"),
-        (36, 1, 37, "damaged log 37 Short\n"),
-        (36, 1, 41, "damaged log 41 Short\n"),
-        (36, 1, 69, "damaged log 45 Short\n"),
         (37, 0, 70, "damaged log 37 Range\n"),
         (41, 25, 70, "damaged log 45 Short\n"),
         (45, 3, 70, "damaged log 45 Tag\n"),
@@ -194,6 +207,7 @@ fn damage_in_a_slot_is_told(rt: HostRuntime) -> Result<(), Fail> {
         (9, 1, 20, "damaged a 17 Short\n", "damaged b 17 Short\n"),
         (25, 2, 53, "damaged a 25 Range\n", "damaged b 25 Range\n"),
         (9, 2, 53, "damaged a 9 Place\n", "damaged b 9 Place\n"),
+        (9, 0, 53, "damaged a 9 Place\n", "damaged b 9 Place\n"),
         (17, 36, 53, "damaged a 9 Place\n", "damaged b 9 Place\n"),
     ] {
         let slot = changed(alloc, SLOT, place, byte, length)?;
@@ -209,6 +223,30 @@ fn damage_in_a_slot_is_told(rt: HostRuntime) -> Result<(), Fail> {
             let shut = changed(alloc, &slot, 0, gate, length)?;
             assert!(rt; tells(&rt, alloc, [LOG, &shut, SHUT], (0, ONE_ROW, ""))?);
         }
+    }
+    Ok(())
+}
+
+// The log, the bytes of slot a and of slot b, and then their places.
+#[test]
+fn the_first_damage_is_told(rt: HostRuntime) -> Result<(), Fail> {
+    let alloc = rt.alloc();
+    let log = changed(alloc, LOG, 45, 3, 70)?;
+    let magic = changed(alloc, SLOT, 1, 0, 53)?;
+    let place = changed(alloc, SLOT, 9, 2, 53)?;
+    for (log, a, b, line) in [
+        (
+            log.as_slice(),
+            magic.as_slice(),
+            magic.as_slice(),
+            "damaged log 45 Tag\n",
+        ),
+        (LOG, &magic, &magic, "damaged a 1 Magic\n"),
+        (LOG, &place, &magic, "damaged b 1 Magic\n"),
+        (LOG, &place, &place, "damaged a 9 Place\n"),
+        (LOG, SLOT, &place, "damaged b 9 Place\n"),
+    ] {
+        assert!(rt; tells(&rt, alloc, [log, a, b], (3, "", line))?, "{line}");
     }
     Ok(())
 }
