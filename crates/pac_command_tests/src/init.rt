@@ -1,7 +1,8 @@
 // How stores are made, and when they aren't.
 use crate::running::USAGE;
+use crate::stores::{devices, disk, hold};
 use pac_main::{init_command, pacman};
-use pac_outside::{Devices, Fill, MemDisk, MemSink, MemSource, OpenGate};
+use pac_outside::{Devices, MemDisk, MemSink, MemSource, OpenGate};
 use std::alloc::Global;
 use std::sync::Wait;
 use std::test::Fail;
@@ -11,20 +12,6 @@ const ONE_TABLE: &[u8] = b"table T(key int, v int);";
 
 // The log of one table, without a batch.
 const MADE: &[u8] = b"PACMLOG1\x18\0\0\0table T(key int, v int);\0";
-
-// A disk of these bytes, of which the call with this number fails.
-fn disk(alloc: Global, bytes: &[u8], failing: u64) -> Result<MemDisk, Fail> {
-    Ok(MemDisk::new(bytes.to_vec(alloc)?, [failing].to_vec(alloc)?))
-}
-
-// Devices of these bytes.
-fn devices(alloc: Global, bytes: [&[u8]; 3]) -> Result<Devices<MemDisk>, Fail> {
-    Ok(Devices {
-        log: disk(alloc, bytes[0], 0)?,
-        slot_a: disk(alloc, bytes[1], 0)?,
-        slot_b: disk(alloc, bytes[2], 0)?,
-    })
-}
 
 // Makes the store of a text on devices: the status, and what the error sink took. The read with this number fails.
 fn made<RT: Threads + Wait + Sync>(
@@ -52,14 +39,6 @@ fn made<RT: Threads + Wait + Sync>(
         return Err(Fail::from("something was written"));
     }
     Ok((status, errors))
-}
-
-// Whether a crash leaves of each device these bytes.
-fn hold(devices: &Devices<MemDisk>, bytes: [&[u8]; 3]) -> Result<bool, Fail> {
-    let log = devices.log.image(Fill::Byte(7), false)?;
-    let a = devices.slot_a.image(Fill::Byte(7), false)?;
-    let b = devices.slot_b.image(Fill::Byte(7), false)?;
-    Ok(log.as_slice() == bytes[0] && a.as_slice() == bytes[1] && b.as_slice() == bytes[2])
 }
 
 #[test]

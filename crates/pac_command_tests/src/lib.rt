@@ -10,10 +10,14 @@ mod init;
 #[cfg(test)]
 mod options;
 #[cfg(test)]
+mod recover;
+#[cfg(test)]
 mod refusals;
 #[cfg(test)]
 mod running;
 #[cfg(test)]
 mod scripts;
+#[cfg(test)]
+mod stores;
 #[cfg(test)]
 mod streams;

@@ -48,12 +48,15 @@ fn other_words_are_refused(rt: HostRuntime) -> Result<(), Fail> {
         "replay --batch 4",
         "replay --help",
         "replay more",
+        "recover --workers 65",
+        "recover --rows 0",
+        "recover --batch 4",
+        "recover more",
         "init more",
         "init --text",
         // These don't run yet.
         "run",
         "run --batch=1 --rows=1",
-        "recover",
         "stress",
         "stress 8",
     ] {

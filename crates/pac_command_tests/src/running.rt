@@ -1,6 +1,6 @@
 // Runs the top call over streams in memory.
 use pac_main::pacman;
-use pac_outside::{Devices, Gate, MemSink, MemSource, NoDisk, Sink, Source};
+use pac_outside::{Devices, Gate, MemDisk, MemSink, MemSource, NoDisk, Sink, Source};
 use std::alloc::Global;
 use std::sync::Wait;
 use std::sync::atomic::{AtomicU64, Ordering};
@@ -49,16 +49,56 @@ pub fn run_over<RT: Threads + Wait + Sync, I: Source, O: Sink, E: Sink, G: Gate 
     errors: &mut E,
     gate: &G,
 ) -> Result<u8, Fail> {
-    let mut list = Vec::with_capacity(alloc, words.len())?;
-    for word in words {
-        list.push(String::from_str(alloc, word)?)?;
-    }
+    let list = strings(alloc, words)?;
     let mut devices = Devices {
         log: NoDisk::new(),
         slot_a: NoDisk::new(),
         slot_b: NoDisk::new(),
     };
     Ok(pacman(rt, alloc, &list, input, output, errors, &mut devices, gate))
+}
+
+// The words, each on its own.
+fn strings(alloc: Global, words: &[&str]) -> Result<Vec<String>, Fail> {
+    let mut list = Vec::with_capacity(alloc, words.len())?;
+    for word in words {
+        list.push(String::from_str(alloc, word)?)?;
+    }
+    Ok(list)
+}
+
+// Runs the words of a line over these devices, where no input can be read and this write of the output fails.
+pub fn run_on<RT: Threads + Wait + Sync>(
+    rt: &RT,
+    alloc: Global,
+    line: &str,
+    devices: &mut Devices<MemDisk>,
+    bad_write: u64,
+) -> Result<Answer, Fail> {
+    let words: Vec<&str> = line.split_whitespace().collect(alloc)?;
+    let list = strings(alloc, &words)?;
+    let mut input = MemSource::new(Vec::new(alloc), [1].to_vec(alloc)?);
+    let mut output = MemSink::new(Vec::new(alloc), [bad_write].to_vec(alloc)?);
+    let mut errors = MemSink::new(Vec::new(alloc), Vec::new(alloc));
+    let gate = Counting {
+        entered: AtomicU64::new(0),
+    };
+    let status = pacman(
+        rt,
+        alloc,
+        &list,
+        &mut input,
+        &mut output,
+        &mut errors,
+        devices,
+        &gate,
+    );
+    Ok(Answer {
+        status,
+        entered: gate.entered.load(Ordering::SeqCst),
+        output,
+        errors,
+    })
 }
 
 // Runs the words over these texts one behind the other, and answers whether it ends with this status, output and line, and

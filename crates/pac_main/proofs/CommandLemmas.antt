@@ -3,10 +3,11 @@ use Rattle.std.proofs.Common.{◌≡◌, ◌↔◌, ℕ, Bool, true, false, List
 use Rattle.std.specs.Prelude.{IsSomeAnd, String}
 use Rattle.std.specs.Global.{Global}
 use Rattle.pac_words.specs.declared.order.Order.{Order}
-use Rattle.pac_words.specs.declared.order.Order.TheVariants.{Init, Explain, Replay}
-use Rattle.pac_main.specs.Commands.{order_in, IsExplain, IsInit, IsReplay, NamesCommand, Runs}
+use Rattle.pac_words.specs.declared.order.Order.TheVariants.{Init, Recover, Explain, Replay}
+use Rattle.pac_main.specs.Commands.{order_in, AsksRecover, IsExplain, IsInit, IsRecover, IsReplay, NamesCommand, Runs}
 use Rattle.pac_main.specs.Explained.{ExplainEnds}
 use Rattle.pac_main.specs.Init.{AreUntouched, InitEnds}
+use Rattle.pac_main.specs.Recover.{RecoverEnds}
 use Rattle.pac_main.specs.Replay.{ReplayEnds}
 use Rattle.pac_main.specs.Streams.{IsOneOf, Observed, ObservedDevices}
 
@@ -19,6 +20,9 @@ not-usage-of-explain n h one = let no : ◌≡◌ {A = Bool} false true = subst 
 
 pub not-usage-of-init : (n : ℕ) → IsOneOf n (0 ∷ 2 ∷ 3 ∷ 6 ∷ 8 ∷ 9 ∷ []) → n ≡ 1 → ⊥
 not-usage-of-init n h one = let no : ◌≡◌ {A = Bool} false true = subst (λ (k : ℕ). IsOneOf k (0 ∷ 2 ∷ 3 ∷ 6 ∷ 8 ∷ 9 ∷ [])) one h in absurd cc
+
+pub not-usage-of-recover : (n : ℕ) → IsOneOf n (0 ∷ 3 ∷ 4 ∷ 5 ∷ 7 ∷ 8 ∷ 9 ∷ []) → n ≡ 1 → ⊥
+not-usage-of-recover n h one = let no : ◌≡◌ {A = Bool} false true = subst (λ (k : ℕ). IsOneOf k (0 ∷ 3 ∷ 4 ∷ 5 ∷ 7 ∷ 8 ∷ 9 ∷ [])) one h in absurd cc
 
 module _ (words : List (String Global)) where
   -- words that name a command that runs, with a status that isn't 1
@@ -67,6 +71,39 @@ module _ (words : List (String Global)) where
 
   pub no-replay-in-init : (limit : ℕ) → Some Init ≡ order_in words → IsReplay words limit → ⊥
   no-replay-in-init limit is asks = no_init_replay (order_in words) (sym is) asks.0 limit (sym asks.1)
+
+  most_is : (workers most limit : ℕ) (said : Option Order) → Some (Recover workers most) ≡ said → (w : ℕ) → said ≡ Some (Recover w limit) → most ≡ limit
+  most_is workers most limit said is w h = let both : Some (Recover workers most) ≡ Some (Recover w limit) = is ∙ h in cc
+
+  pub recover-is : (workers most limit status : ℕ) (devices : ObservedDevices) (output errors : Observed) → Some (Recover workers most) ≡ order_in words → IsRecover words limit → RecoverEnds most status devices output errors → RecoverEnds limit status devices output errors
+  recover-is workers most limit status devices output errors is asks = subst (λ (n : ℕ). RecoverEnds n status devices output errors) (most_is workers most limit (order_in words) is asks.0 asks.1)
+
+  pub asks-recover : (workers limit : ℕ) → Some (Recover workers limit) ≡ order_in words → AsksRecover words
+  asks-recover workers limit is = (limit, (workers, sym is))
+
+  no_recover : (workers limit : ℕ) (said : Option Order) → said ≡ Some (Recover workers limit) → (other : Order) → (other ≡ Recover workers limit → ⊥) → Some other ≡ said → ⊥
+  no_recover workers limit said h other differs is = let both : Some other ≡ Some (Recover workers limit) = is ∙ h in differs cc
+
+  pub no-recover-in-init : (limit : ℕ) → Some Init ≡ order_in words → IsRecover words limit → ⊥
+  no-recover-in-init limit is asks = no_recover asks.0 limit (order_in words) asks.1 Init (λ e. absurd cc) is
+
+  pub no-recover-in-explain : (a : Bool) (limit : ℕ) → Some (Explain a) ≡ order_in words → IsRecover words limit → ⊥
+  no-recover-in-explain a limit is asks = no_recover asks.0 limit (order_in words) asks.1 (Explain a) (λ e. absurd cc) is
+
+  pub no-recover-in-replay : (workers most limit : ℕ) → Some (Replay workers most) ≡ order_in words → IsRecover words limit → ⊥
+  no-recover-in-replay workers most limit is asks = no_recover asks.0 limit (order_in words) asks.1 (Replay workers most) (λ e. absurd cc) is
+
+  pub no-init-in-recover : (workers limit : ℕ) → Some (Recover workers limit) ≡ order_in words → IsInit words → ⊥
+  no-init-in-recover workers limit is asks = no_recover workers limit (order_in words) (sym is) Init (λ e. absurd cc) (sym asks)
+
+  pub no-explain-in-recover : (a : Bool) (workers limit : ℕ) → Some (Recover workers limit) ≡ order_in words → IsExplain words a → ⊥
+  no-explain-in-recover a workers limit is asks = no_recover workers limit (order_in words) (sym is) (Explain a) (λ e. absurd cc) (sym asks)
+
+  pub no-replay-in-recover : (workers most limit : ℕ) → Some (Recover workers most) ≡ order_in words → IsReplay words limit → ⊥
+  no-replay-in-recover workers most limit is asks = no_recover workers most (order_in words) (sym is) (Replay asks.0 limit) (λ e. absurd cc) (sym asks.1)
+
+  pub recover-names : (limit : ℕ) → IsRecover words limit → NamesCommand words
+  recover-names limit asks = subst (λ (o : Option Order). IsSomeAnd o Runs) (sym asks.1) tt
 
   pub init-names : IsInit words → NamesCommand words
   init-names asks = subst (λ (o : Option Order). IsSomeAnd o Runs) (sym asks) tt

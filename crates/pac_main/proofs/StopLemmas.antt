@@ -1,160 +1,30 @@
 -- A stop has the cause of what came before it, and the command ends by the stop that is told.
-use Rattle.std.proofs.Common.{◌≡◌, ◌⊎◌, ℕ, Bool, List, [], ◌∷◌, Ok, Err, inl, inr, refl, sym, subst, arith}
+use Rattle.std.proofs.Common.{◌≡◌, ◌⊎◌, ℕ, Bool, [], ◌∷◌, Ok, Err, inl, inr, refl, sym, subst, arith}
 use Rattle.std.specs.Prelude.{IsTrue}
 use Rattle.pac_value.specs.State.{Tables}
-use Rattle.pac_ops.specs.declared.note.Note.{Note}
+use Rattle.pac_recover.specs.Limits.{IsFirstOver}
+use Rattle.pac_recover.specs.declared.limit.TooManyRows.{TooManyRows}
 use Rattle.pac_request.specs.declared.script.Script.{Script}
-use Rattle.pac_request.specs.declared.script_fault.ScriptFault.{ScriptFault}
 use Rattle.pac_serial.specs.declared.serial.AllError.{AllError}
 use Rattle.pac_serial.specs.declared.serial.AllError.TheVariants as serial
-use Rattle.pac_init.specs.declared.device.DeviceName.{DeviceName}
-use Rattle.pac_main.specs.Causes.{AreOver, GivesNoScript, GivesNoExplanation, GivesNoText, ScriptStops, ReplayStops, ExplainStops, InitStops}
+use Rattle.pac_main.specs.Causes.{GivesNoScript, GivesNoExplanation, GivesNoText, ScriptStops, ReplayStops, ExplainStops, InitStops}
 use Rattle.pac_main.specs.Explained.{ExplainEnds}
 use Rattle.pac_main.specs.Init.{AreUntouched, InitEnds}
 use Rattle.pac_main.specs.Replay.{DoesEnd, IsScriptOf, ReplayEnds, outcome}
-use Rattle.pac_main.specs.Stop.{line_of, status_of, stop_of_input, stop_of_serial, takes_memory}
+use Rattle.pac_main.specs.Stop.{line_of, status_of, stop_of_excess, stop_of_input, stop_of_serial, takes_memory}
 use Rattle.pac_main.specs.Streams.{IsOneOf, IsTold, Observed, ObservedDevices}
 use Rattle.pac_main.specs.declared.input.InputError.{InputError}
 use Rattle.pac_main.specs.declared.input.InputError.TheVariants as input
 use Rattle.pac_main.specs.declared.stop.Stop.{Stop}
-use Rattle.pac_main.specs.declared.stop.Stop.TheVariants.{Usage, Script as ScriptStop, NotEmpty, Aborted, RowsOver, InputFault, OutputFault, DiskFault, NoMemory, TooLong}
-
--- ---- what a stop stands for
-
--- a stop with this status
-pub record AnAbort (stop : Stop) : Type 0 where
-  pub note : Note
-  pub is : stop ≡ Aborted note
-
-pub record ARefusal (stop : Stop) : Type 0 where
-  pub fault : ScriptFault
-  pub is : stop ≡ ScriptStop fault
-
-pub record AnOver (stop : Stop) : Type 0 where
-  pub name : List ℕ
-  pub rows : ℕ
-  pub most : ℕ
-  pub is : stop ≡ RowsOver name rows most
-
-pub record AFullDevice (stop : Stop) : Type 0 where
-  pub device : DeviceName
-  pub length : ℕ
-  pub is : stop ≡ NotEmpty device length
-
-device_of : (stop : Stop) → status_of stop ≡ 3 → AFullDevice stop
-device_of (NotEmpty device length) three = record { device = device; length = length; is = refl }
-device_of Usage three = absurd (omega (arith, three))
-device_of (ScriptStop fault) three = absurd (omega (arith, three))
-device_of (Aborted note) three = absurd (omega (arith, three))
-device_of (RowsOver name rows most) three = absurd (omega (arith, three))
-device_of InputFault three = absurd (omega (arith, three))
-device_of OutputFault three = absurd (omega (arith, three))
-device_of DiskFault three = absurd (omega (arith, three))
-device_of NoMemory three = absurd (omega (arith, three))
-device_of TooLong three = absurd (omega (arith, three))
-
-disk_of : (stop : Stop) → status_of stop ≡ 8 → stop ≡ DiskFault
-disk_of DiskFault eight = refl
-disk_of Usage eight = absurd (omega (arith, eight))
-disk_of (ScriptStop fault) eight = absurd (omega (arith, eight))
-disk_of (NotEmpty device length) eight = absurd (omega (arith, eight))
-disk_of (Aborted note) eight = absurd (omega (arith, eight))
-disk_of (RowsOver name rows most) eight = absurd (omega (arith, eight))
-disk_of InputFault eight = absurd (omega (arith, eight))
-disk_of OutputFault eight = absurd (omega (arith, eight))
-disk_of NoMemory eight = absurd (omega (arith, eight))
-disk_of TooLong eight = absurd (omega (arith, eight))
-
-aborted_of : (stop : Stop) → status_of stop ≡ 4 → AnAbort stop
-aborted_of (Aborted note) four = record { note = note; is = refl }
-aborted_of Usage four = absurd (omega (arith, four))
-aborted_of (ScriptStop fault) four = absurd (omega (arith, four))
-aborted_of (NotEmpty device length) four = absurd (omega (arith, four))
-aborted_of DiskFault four = absurd (omega (arith, four))
-aborted_of (RowsOver name rows most) four = absurd (omega (arith, four))
-aborted_of InputFault four = absurd (omega (arith, four))
-aborted_of OutputFault four = absurd (omega (arith, four))
-aborted_of NoMemory four = absurd (omega (arith, four))
-aborted_of TooLong four = absurd (omega (arith, four))
-
-refused_of : (stop : Stop) → status_of stop ≡ 2 → ARefusal stop
-refused_of (ScriptStop fault) two = record { fault = fault; is = refl }
-refused_of (NotEmpty device length) two = absurd (omega (arith, two))
-refused_of DiskFault two = absurd (omega (arith, two))
-refused_of Usage two = absurd (omega (arith, two))
-refused_of (Aborted note) two = absurd (omega (arith, two))
-refused_of (RowsOver name rows most) two = absurd (omega (arith, two))
-refused_of InputFault two = absurd (omega (arith, two))
-refused_of OutputFault two = absurd (omega (arith, two))
-refused_of NoMemory two = absurd (omega (arith, two))
-refused_of TooLong two = absurd (omega (arith, two))
-
-over_of : (stop : Stop) → status_of stop ≡ 5 → AnOver stop
-over_of (RowsOver name rows most) five = record { name = name; rows = rows; most = most; is = refl }
-over_of Usage five = absurd (omega (arith, five))
-over_of (ScriptStop fault) five = absurd (omega (arith, five))
-over_of (NotEmpty device length) five = absurd (omega (arith, five))
-over_of DiskFault five = absurd (omega (arith, five))
-over_of (Aborted note) five = absurd (omega (arith, five))
-over_of InputFault five = absurd (omega (arith, five))
-over_of OutputFault five = absurd (omega (arith, five))
-over_of NoMemory five = absurd (omega (arith, five))
-over_of TooLong five = absurd (omega (arith, five))
-
-never_done : (stop : Stop) → status_of stop ≡ 0 → ⊥
-never_done Usage zero = omega (arith, zero)
-never_done (ScriptStop fault) zero = omega (arith, zero)
-never_done (NotEmpty device length) zero = omega (arith, zero)
-never_done DiskFault zero = omega (arith, zero)
-never_done (Aborted note) zero = omega (arith, zero)
-never_done (RowsOver name rows most) zero = omega (arith, zero)
-never_done InputFault zero = omega (arith, zero)
-never_done OutputFault zero = omega (arith, zero)
-never_done NoMemory zero = omega (arith, zero)
-never_done TooLong zero = omega (arith, zero)
-
-input_of : (stop : Stop) → status_of stop ≡ 6 → stop ≡ InputFault
-input_of InputFault six = refl
-input_of Usage six = absurd (omega (arith, six))
-input_of (ScriptStop fault) six = absurd (omega (arith, six))
-input_of (NotEmpty device length) six = absurd (omega (arith, six))
-input_of DiskFault six = absurd (omega (arith, six))
-input_of (Aborted note) six = absurd (omega (arith, six))
-input_of (RowsOver name rows most) six = absurd (omega (arith, six))
-input_of OutputFault six = absurd (omega (arith, six))
-input_of NoMemory six = absurd (omega (arith, six))
-input_of TooLong six = absurd (omega (arith, six))
-
-output_of : (stop : Stop) → status_of stop ≡ 7 → stop ≡ OutputFault
-output_of OutputFault seven = refl
-output_of Usage seven = absurd (omega (arith, seven))
-output_of (ScriptStop fault) seven = absurd (omega (arith, seven))
-output_of (NotEmpty device length) seven = absurd (omega (arith, seven))
-output_of DiskFault seven = absurd (omega (arith, seven))
-output_of (Aborted note) seven = absurd (omega (arith, seven))
-output_of (RowsOver name rows most) seven = absurd (omega (arith, seven))
-output_of InputFault seven = absurd (omega (arith, seven))
-output_of NoMemory seven = absurd (omega (arith, seven))
-output_of TooLong seven = absurd (omega (arith, seven))
-
-long_of : (stop : Stop) → status_of stop ≡ 11 → stop ≡ TooLong
-long_of TooLong eleven = refl
-long_of Usage eleven = absurd (omega (arith, eleven))
-long_of (ScriptStop fault) eleven = absurd (omega (arith, eleven))
-long_of (NotEmpty device length) eleven = absurd (omega (arith, eleven))
-long_of DiskFault eleven = absurd (omega (arith, eleven))
-long_of (Aborted note) eleven = absurd (omega (arith, eleven))
-long_of (RowsOver name rows most) eleven = absurd (omega (arith, eleven))
-long_of InputFault eleven = absurd (omega (arith, eleven))
-long_of OutputFault eleven = absurd (omega (arith, eleven))
-long_of NoMemory eleven = absurd (omega (arith, eleven))
+use Rattle.pac_main.specs.declared.stop.Stop.TheVariants.{Usage, Script as ScriptStop, NotEmpty, NoStore, Damaged, Aborted, RowsOver, InputFault, OutputFault, DiskFault, NoMemory, TooLong}
+use Rattle.pac_main.proofs.StatusLemmas.{ADeviceRefusal, AFullDevice, aborted_of, device_of, disk_of, input_of, long_of, never_done, output_of, over_of, refused_of}
 
 -- a stop is told itself, or there was no memory for its line
 abbrev pub Told : Stop → Stop → Type 0
 Told stop told = (told ≡ stop) ⊎ ((told ≡ NoMemory) × IsTrue (takes_memory stop))
 
 -- what is told has a cause, where want of memory needs none
-told_cause : (P : Stop → Type 0) (stop told : Stop) → Told stop told → P NoMemory → P stop → P told
+pub told_cause : (P : Stop → Type 0) (stop told : Stop) → Told stop told → P NoMemory → P stop → P told
 told_cause P stop told (inl e) free h = subst P (sym e) h
 told_cause P stop told (inr e) free h = subst P (sym e.0) free
 
@@ -169,11 +39,13 @@ module _ (limit : ℕ) (source sink : Observed) where
 
   pub replay-script : (script : Script) (stop : Stop) → IsScriptOf script source.before → ScriptStops limit script stop → ReplayStops limit source sink stop
   replay-script script (Aborted note) is h = (script, is, h)
-  replay-script script (RowsOver name rows most) is h = (record { script = script; tables = h.0; is = is; ends = h.1; number = h.2.0; first = h.2.1; named = h.2.2 }, h.2.3)
+  replay-script script (RowsOver name rows most) is h = (record { script = script; tables = h.0.0; is = is; ends = h.0.1; over = h.0.2 }, h.1)
   replay-script script NoMemory is h = tt
   replay-script script Usage is h = absurd h
   replay-script script (ScriptStop fault) is h = absurd h
   replay-script script (NotEmpty device length) is h = absurd h
+  replay-script script NoStore is h = absurd h
+  replay-script script (Damaged damage) is h = absurd h
   replay-script script DiskFault is h = absurd h
   replay-script script InputFault is h = absurd h
   replay-script script OutputFault is h = absurd h
@@ -183,6 +55,8 @@ module _ (limit : ℕ) (source sink : Observed) where
   replay_status Usage h = absurd h
   replay_status (ScriptStop fault) h = refl
   replay_status (NotEmpty device length) h = absurd h
+  replay_status NoStore h = absurd h
+  replay_status (Damaged damage) h = absurd h
   replay_status DiskFault h = absurd h
   replay_status (Aborted note) h = refl
   replay_status (RowsOver name rows most) h = refl
@@ -216,17 +90,8 @@ execution-stops limit script (serial.Abort note) h = h
 execution-stops limit script serial.NoMemory h = tt
 
 -- a script whose tables are over the limit
-pub over-stops : (limit : ℕ) (script : Script) (tables : Tables) (stop : Stop) → outcome script ≡ Ok tables → AreOver limit script.catalogue.tables tables stop → ScriptStops limit script stop
-over-stops limit script tables (RowsOver name rows most) ends h = (tables, ends, h)
-over-stops limit script tables Usage ends h = absurd h
-over-stops limit script tables (ScriptStop fault) ends h = absurd h
-over-stops limit script tables (NotEmpty device length) ends h = absurd h
-over-stops limit script tables DiskFault ends h = absurd h
-over-stops limit script tables (Aborted note) ends h = absurd h
-over-stops limit script tables InputFault ends h = absurd h
-over-stops limit script tables OutputFault ends h = absurd h
-over-stops limit script tables NoMemory ends h = absurd h
-over-stops limit script tables TooLong ends h = absurd h
+pub over-stops : (limit : ℕ) (script : Script) (tables : Tables) (excess : TooManyRows) → outcome script ≡ Ok tables → IsFirstOver limit script.catalogue.tables tables excess.table excess.rows → excess.limit ≡ limit → ScriptStops limit script (stop_of_excess excess)
+over-stops limit script tables excess ends over is = ((tables, ends, over), is)
 
 -- ---- `explain`
 
@@ -240,6 +105,8 @@ module _ (with_text : Bool) (source sink : Observed) where
   explain_status : (stop : Stop) → ExplainStops with_text source sink stop → IsOneOf (status_of stop) (0 ∷ 2 ∷ 6 ∷ 7 ∷ 9 ∷ [])
   explain_status (ScriptStop fault) h = refl
   explain_status (NotEmpty device length) h = absurd h
+  explain_status NoStore h = absurd h
+  explain_status (Damaged damage) h = absurd h
   explain_status DiskFault h = absurd h
   explain_status InputFault h = refl
   explain_status OutputFault h = refl
@@ -274,6 +141,8 @@ module _ (source : Observed) (devices : ObservedDevices) where
   init_status : (stop : Stop) → InitStops source devices stop → IsOneOf (status_of stop) (0 ∷ 2 ∷ 3 ∷ 6 ∷ 8 ∷ 9 ∷ [])
   init_status (ScriptStop fault) h = refl
   init_status (NotEmpty device length) h = refl
+  init_status NoStore h = absurd h
+  init_status (Damaged damage) h = absurd h
   init_status InputFault h = refl
   init_status DiskFault h = refl
   init_status NoMemory h = refl
@@ -286,6 +155,8 @@ module _ (source : Observed) (devices : ObservedDevices) where
   init_untouched : (stop : Stop) → InitStops source devices stop → (status_of stop ≡ 8 → ⊥) → AreUntouched devices
   init_untouched (ScriptStop fault) h other = h.0
   init_untouched (NotEmpty device length) h other = h.0
+  init_untouched NoStore h other = absurd h
+  init_untouched (Damaged damage) h other = absurd h
   init_untouched InputFault h other = h.0
   init_untouched DiskFault h other = absurd (other refl)
   init_untouched NoMemory h other = h
@@ -295,12 +166,17 @@ module _ (source : Observed) (devices : ObservedDevices) where
   init_untouched OutputFault h other = absurd h
   init_untouched TooLong h other = absurd h
 
+  full_device : (stop : Stop) → ADeviceRefusal stop → InitStops source devices stop → AFullDevice stop
+  full_device stop (inl d) h = d
+  full_device stop (inr (inl is)) h = absurd (subst (InitStops source devices) is h)
+  full_device stop (inr (inr d)) h = absurd (subst (InitStops source devices) d.is h)
+
   init_told : (errors : Observed) (stop : Stop) → InitStops source devices stop → IsTold errors (line_of stop) → InitEnds (status_of stop) source errors devices
   init_told errors stop cause line = record {
     statuses = init_status stop cause;
     done = λ zero. absurd (never_done stop zero);
     refused = λ two. let r = refused_of stop two in (r.fault, (subst (InitStops source devices) r.is cause).1, subst (λ (s : Stop). IsTold errors (line_of s)) r.is line);
-    not_empty = λ three. let d = device_of stop three in (d.device, d.length, (subst (InitStops source devices) d.is cause).1, subst (λ (s : Stop). IsTold errors (line_of s)) d.is line);
+    not_empty = λ three. let d = full_device stop (device_of stop three) cause in (d.device, d.length, (subst (InitStops source devices) d.is cause).1, subst (λ (s : Stop). IsTold errors (line_of s)) d.is line);
     input_fault = λ six. (subst (InitStops source devices) (input_of stop six) cause).1;
     disk_fault = λ eight. subst (InitStops source devices) (disk_of stop eight) cause;
     untouched = λ zero eight. init_untouched stop cause eight;
@@ -317,6 +193,8 @@ module _ (source : Observed) (devices : ObservedDevices) where
       no_disk Usage memory eight = omega (arith, eight)
       no_disk (ScriptStop fault) memory eight = omega (arith, eight)
       no_disk (NotEmpty device length) memory eight = omega (arith, eight)
+      no_disk NoStore memory eight = omega (arith, eight)
+      no_disk (Damaged damage) memory eight = omega (arith, eight)
       no_disk (Aborted note) memory eight = omega (arith, eight)
       no_disk (RowsOver name rows most) memory eight = omega (arith, eight)
       no_disk InputFault memory eight = omega (arith, eight)

@@ -1,20 +1,23 @@
 -- Why a command stops, by its stop. The clauses of public calls don't name these: they say the same by the status.
-use Rattle.std.specs.Prelude.{◌≡◌, ℕ, Bool, List, slice_get, length, Some, Ok, Err}
-use Rattle.std.specs.Option.{option_map}
+use Rattle.std.specs.Prelude.{◌≡◌, ◌≢◌, ℕ, Bool, List, Ok, Err}
 use Rattle.pac_value.specs.State.{Tables}
+use Rattle.pac_ops.specs.declared.transaction.Txn.{Txn}
 use Rattle.pac_outside.specs.Devices.{OneRose, WhereAllTold}
 use Rattle.pac_init.specs.Made.{IsInUse}
-use Rattle.pac_types.specs.Execution.{first_over}
-use Rattle.pac_types.specs.declared.table.Table.{Table}
+use Rattle.pac_types.specs.Typing.{CatalogueState}
+use Rattle.pac_store.specs.Stands.{StandsFor}
+use Rattle.pac_recover.specs.Limits.{IsFirstOver}
+use Rattle.pac_recover.specs.Recovering.{AbortsIn, IsFrontOverLimit, IsOverIn}
 use Rattle.pac_request.specs.declared.script.Script.{Script}
 use Rattle.pac_main.specs.declared.input.InputError.{InputError}
 use Rattle.pac_main.specs.declared.input.InputError.TheVariants as input
 use Rattle.pac_main.specs.declared.stop.Stop.{Stop}
 use Rattle.pac_main.specs.declared.stop.Stop.TheVariants as stop
-use Rattle.pac_main.specs.Streams.{Observed, ObservedDevices, FaultsRose, IsFrontTaken}
+use Rattle.pac_main.specs.Streams.{Observed, ObservedDevices, FaultsRose, IsTaken, IsFrontTaken}
 use Rattle.pac_main.specs.Init.{AreUntouched, IsNoStoreFor}
 use Rattle.pac_main.specs.Replay.{IsRefusedAs, IsLongScript, outcome, IsDumpOf, IsAbortOf, IsOverOf}
 use Rattle.pac_main.specs.Explained.{IsExplanationOf, IsUnexplainedAs}
+use Rattle.pac_main.specs.Recover.{HasDamage, HasNoStore, IsDumpOfFront, IsRecovery, WhereHeld}
 
 -- ---- `replay`
 
@@ -25,15 +28,10 @@ GivesNoScript source input.TooLong = IsLongScript source.before
 GivesNoScript source (input.Script fault) = IsRefusedAs source.before fault
 GivesNoScript source input.NoMemory = Unit {0}
 
--- the first of the tables that is over the limit
-abbrev pub AreOver : ℕ → List Table → Tables → Stop → Type 0
-AreOver limit tables held (stop.RowsOver name rows most) = (number : ℕ) × (first_over limit (length tables) held ≡ Some (number, rows)) × (option_map (λ table. table.name) (slice_get tables number) ≡ Some name) × (most ≡ limit)
-AreOver limit tables held _ = ⊥
-
 -- a script whose transactions abort, end with tables over the limit, or find no memory
 abbrev pub ScriptStops : ℕ → Script → Stop → Type 0
 ScriptStops limit script (stop.Aborted note) = outcome script ≡ Err note
-ScriptStops limit script (stop.RowsOver name rows most) = (tables : Tables) × (outcome script ≡ Ok tables) × AreOver limit script.catalogue.tables tables (stop.RowsOver name rows most)
+ScriptStops limit script (stop.RowsOver name rows most) = ((tables : Tables) × (outcome script ≡ Ok tables) × IsFirstOver limit script.catalogue.tables tables name rows) × (most ≡ limit)
 ScriptStops limit script stop.NoMemory = Unit {0}
 ScriptStops limit script _ = ⊥
 
@@ -42,6 +40,8 @@ abbrev pub ReplayStops : ℕ → Observed → Observed → Stop → Type 0
 ReplayStops limit source sink stop.Usage = ⊥
 ReplayStops limit source sink (stop.Script fault) = IsRefusedAs source.before fault
 ReplayStops limit source sink (stop.NotEmpty device length) = ⊥
+ReplayStops limit source sink stop.NoStore = ⊥
+ReplayStops limit source sink (stop.Damaged damage) = ⊥
 ReplayStops limit source sink (stop.Aborted note) = IsAbortOf source.before note
 ReplayStops limit source sink (stop.RowsOver name rows most) = IsOverOf limit source.before name rows × (most ≡ limit)
 ReplayStops limit source sink stop.InputFault = FaultsRose source
@@ -84,3 +84,39 @@ InitStops source devices stop.InputFault = AreUntouched devices × FaultsRose so
 InitStops source devices stop.DiskFault = OneRose devices.faults_before devices.faults_behind
 InitStops source devices stop.NoMemory = AreUntouched devices
 InitStops source devices _ = ⊥
+
+-- ---- `recover`
+
+-- why nothing is recovered
+abbrev pub IsUnrecovered : ℕ → ObservedDevices → Observed → Stop → Type 0
+IsUnrecovered limit devices sink stop.NoStore = HasNoStore devices.before
+IsUnrecovered limit devices sink (stop.Damaged damage) = HasDamage damage devices.before
+IsUnrecovered limit devices sink (stop.Aborted note) = WhereHeld (AbortsIn note) devices.before
+IsUnrecovered limit devices sink (stop.RowsOver name rows most) = (most ≡ limit) × WhereHeld (IsOverIn name rows limit) devices.before
+IsUnrecovered limit devices sink stop.OutputFault = FaultsRose sink × IsRecovery limit devices.before (IsFrontTaken sink)
+IsUnrecovered limit devices sink stop.DiskFault = OneRose devices.faults_before devices.faults_behind
+IsUnrecovered limit devices sink stop.NoMemory = Unit {0}
+IsUnrecovered limit devices sink _ = ⊥
+
+-- the same on devices that stand for a history
+abbrev pub IsFrontUnrecovered : ℕ → CatalogueState → List Txn → ℕ → Observed → Stop → Type 0
+IsFrontUnrecovered limit catalogue history least sink stop.NoStore = ⊥
+IsFrontUnrecovered limit catalogue history least sink (stop.Damaged damage) = ⊥
+IsFrontUnrecovered limit catalogue history least sink (stop.Aborted note) = ⊥
+IsFrontUnrecovered limit catalogue history least sink (stop.RowsOver name rows most) = IsFrontOverLimit catalogue history least name rows limit
+IsFrontUnrecovered limit catalogue history least sink stop.OutputFault = IsDumpOfFront limit catalogue history least (IsFrontTaken sink)
+IsFrontUnrecovered limit catalogue history least sink _ = Unit {0}
+
+-- the whole command
+pub record RecoverStops (limit : ℕ) (devices : ObservedDevices) (sink : Observed) (why : Stop) : Type 0 where
+  pub cause : IsUnrecovered limit devices sink why
+  pub stands : (text : List ℕ) (catalogue : CatalogueState) (history : List Txn) (least : ℕ)
+      → WhereHeld (λ images. StandsFor text catalogue history least images → IsFrontUnrecovered limit catalogue history least sink why) devices.before
+  pub quiet : why ≢ stop.DiskFault → devices.faults_behind ≡ devices.faults_before
+
+-- or it is done
+pub record IsRecovered (limit : ℕ) (devices : ObservedDevices) (sink : Observed) : Type 0 where
+  pub dump : IsRecovery limit devices.before (IsTaken sink)
+  pub stands : (text : List ℕ) (catalogue : CatalogueState) (history : List Txn) (least : ℕ)
+      → WhereHeld (λ images. StandsFor text catalogue history least images → IsDumpOfFront limit catalogue history least (IsTaken sink)) devices.before
+  pub quiet : devices.faults_behind ≡ devices.faults_before

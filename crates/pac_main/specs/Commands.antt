@@ -3,7 +3,7 @@ use Rattle.std.specs.Prelude.{◌≡◌, ℕ, List, map, Option, Some, IsSomeAnd
 use Rattle.std.specs.Global.{Global}
 use Rattle.pac_words.specs.Orders.{order}
 use Rattle.pac_words.specs.declared.order.Order.{Order}
-use Rattle.pac_words.specs.declared.order.Order.TheVariants.{Init, Explain, Replay}
+use Rattle.pac_words.specs.declared.order.Order.TheVariants.{Init, Recover, Explain, Replay}
 
 -- what the words say is to be done, if they are a command
 abbrev pub order_in : List (String Global) → Option Order
@@ -12,6 +12,14 @@ order_in words = order (map string_bytes words)
 -- the words are `init`
 abbrev pub IsInit : List (String Global) → Type 0
 IsInit words = order_in words ≡ Some Init
+
+-- the words are `recover`, with this limit on the rows of a table and any number of workers
+abbrev pub IsRecover : List (String Global) → ℕ → Type 0
+IsRecover words limit = (workers : ℕ) × (order_in words ≡ Some (Recover workers limit))
+
+-- the words ask for a recovery
+abbrev pub AsksRecover : List (String Global) → Type 0
+AsksRecover words = (limit : ℕ) × IsRecover words limit
 
 -- the words are `explain`, with `--text` where the canonical text is wanted
 abbrev pub IsExplain : List (String Global) → Bool → Type 0
@@ -25,9 +33,10 @@ AsksExplain words = (with_text : Bool) × IsExplain words with_text
 abbrev pub IsReplay : List (String Global) → ℕ → Type 0
 IsReplay words limit = (workers : ℕ) × (order_in words ≡ Some (Replay workers limit))
 
--- a command that runs: `run`, `recover` and `stress` don't run yet
+-- a command that runs: `run` and `stress` don't run yet
 abbrev pub Runs : Order → Type 0
 Runs Init = Unit {0}
+Runs (Recover workers limit) = Unit {0}
 Runs (Explain with_text) = Unit {0}
 Runs (Replay workers limit) = Unit {0}
 Runs _ = ⊥

@@ -5,4 +5,5 @@ pub mod Commands
 pub mod Replay
 pub mod Explained
 pub mod Init
+pub mod Recover
 pub mod Causes

@@ -1,6 +1,5 @@
 -- How `replay` ends.
-use Rattle.std.specs.Prelude.{◌≡◌, ◌≤◌, ◌<◌, ◌+◌, ℕ, List, [], ◌∷◌, length, slice_get, Option, Some, None, IfSome, Result, Ok, Err}
-use Rattle.std.specs.Option.{option_map}
+use Rattle.std.specs.Prelude.{◌≡◌, ◌≤◌, ◌<◌, ◌+◌, ℕ, List, [], ◌∷◌, length, Option, None, IfSome, Result, Ok, Err}
 use Rattle.std.specs.List.{flat_map}
 use Rattle.std.specs.FinMap.{empty}
 use Rattle.pac_value.specs.State.{Tables}
@@ -11,6 +10,7 @@ use Rattle.pac_tables.specs.Joined.{Held}
 use Rattle.pac_types.specs.Execution.{serial, first_over}
 use Rattle.pac_serial.specs.declared.serial.AllError.{AllError}
 use Rattle.pac_serial.specs.declared.serial.AllError.TheVariants.{Abort, NoMemory}
+use Rattle.pac_recover.specs.Limits.{IsFirstOver}
 use Rattle.pac_report.specs.Dump.{tables_text}
 use Rattle.pac_request.specs.declared.script.Script.{Script}
 use Rattle.pac_request.specs.declared.script_fault.ScriptFault.{ScriptFault}
@@ -90,9 +90,7 @@ pub record IsOverOf (limit : ℕ) (input : Option (List ℕ)) (name : List ℕ) 
   pub tables : Tables
   pub is : IsScriptOf script input
   pub ends : outcome script ≡ Ok tables
-  pub number : ℕ
-  pub first : first_over_in limit script tables ≡ Some (number, rows)
-  pub named : option_map (λ table. table.name) (slice_get script.catalogue.tables number) ≡ Some name
+  pub over : IsFirstOver limit script.catalogue.tables tables name rows
 
 -- how `replay` ends under a limit of rows: the statuses that it may have, and a line for each that has a cause
 pub record ReplayEnds (limit status : ℕ) (input output errors : Observed) : Type 0 where

@@ -12,12 +12,22 @@ use Rattle.pac_request.specs.declared.script_fault.ScriptFault.TheVariants.{Cata
 use Rattle.pac_request.specs.LineKinds.{line_kind_name}
 use Rattle.pac_init.specs.Made.{device_name}
 use Rattle.pac_init.specs.declared.device.DeviceName.{DeviceName}
+use Rattle.pac_init.specs.declared.device.DeviceName.TheVariants.{Log as TheLog, SlotA, SlotB}
 use Rattle.pac_init.specs.declared.errors.MakeError.{MakeError}
 use Rattle.pac_init.specs.declared.errors.MakeError.TheVariants as make
+use Rattle.pac_log.specs.Damages.{damage_name}
+use Rattle.pac_check.specs.Kinds.{slot_damage_name}
+use Rattle.pac_check.specs.declared.info.SlotName.{SlotName}
+use Rattle.pac_check.specs.declared.info.SlotName.TheVariants.{A, B}
+use Rattle.pac_recover.specs.declared.errors.Damage.{Damage}
+use Rattle.pac_recover.specs.declared.errors.Damage.TheVariants.{Log, Slot}
+use Rattle.pac_recover.specs.declared.errors.RecoverError.{RecoverError}
+use Rattle.pac_recover.specs.declared.errors.RecoverError.TheVariants as recover
+use Rattle.pac_recover.specs.declared.limit.TooManyRows.{TooManyRows}
 use Rattle.pac_main.specs.declared.input.InputError.{InputError}
 use Rattle.pac_main.specs.declared.input.InputError.TheVariants as input
 use Rattle.pac_main.specs.declared.stop.Stop.{Stop}
-use Rattle.pac_main.specs.declared.stop.Stop.TheVariants.{Usage, Script, NotEmpty, Aborted, RowsOver, InputFault, OutputFault, DiskFault, NoMemory, TooLong}
+use Rattle.pac_main.specs.declared.stop.Stop.TheVariants.{Usage, Script, NotEmpty, NoStore, Damaged, Aborted, RowsOver, InputFault, OutputFault, DiskFault, NoMemory, TooLong}
 use Rattle.pac_main.specs.declared.tell.WordsError.{WordsError}
 use Rattle.pac_main.specs.declared.tell.WordsError.TheVariants as words
 
@@ -26,6 +36,8 @@ abbrev pub status_of : Stop → ℕ
 status_of Usage = 1
 status_of (Script fault) = 2
 status_of (NotEmpty device length) = 3
+status_of NoStore = 3
+status_of (Damaged damage) = 3
 status_of (Aborted note) = 4
 status_of (RowsOver name rows limit) = 5
 status_of InputFault = 6
@@ -58,10 +70,25 @@ rows_line name rows limit = codes "rows " ++ name ++ codes " " ++ decimal rows +
 abbrev pub not_empty_line : DeviceName → ℕ → List ℕ
 not_empty_line device length = codes "not empty " ++ device_name device ++ codes " " ++ decimal length ++ codes "\n"
 
+-- the device of a slot
+abbrev pub slot_device : SlotName → DeviceName
+slot_device A = SlotA
+slot_device B = SlotB
+
+-- the name of a damaged device, the place of its first damage, and the kind
+abbrev pub damaged_at : DeviceName → ℕ → List ℕ → List ℕ
+damaged_at device at kind = codes "damaged " ++ device_name device ++ codes " " ++ decimal at ++ codes " " ++ kind ++ codes "\n"
+
+-- the same of damage in the log, or in a slot
+abbrev pub damaged_line : Damage → List ℕ
+damaged_line (Log at kind) = damaged_at TheLog at (damage_name kind)
+damaged_line (Slot slot at kind) = damaged_at (slot_device slot) at (slot_damage_name kind)
+
 -- whether a stop's line has numbers, and is made
 abbrev pub takes_memory : Stop → Bool
 takes_memory (Script fault) = true
 takes_memory (NotEmpty device length) = true
+takes_memory (Damaged damage) = true
 takes_memory (Aborted note) = true
 takes_memory (RowsOver name rows limit) = true
 takes_memory _ = false
@@ -73,6 +100,8 @@ line_of (Script (Catalogue fault)) = catalogue_line fault
 line_of (Script (TooManyOps name count)) = operations_line name count
 line_of (Script (Line number fault)) = script_line number fault
 line_of (NotEmpty device length) = not_empty_line device length
+line_of NoStore = codes "no store\n"
+line_of (Damaged damage) = damaged_line damage
 line_of (Aborted note) = abort_line note
 line_of (RowsOver name rows limit) = rows_line name rows limit
 line_of InputFault = codes "input fault\n"
@@ -103,3 +132,16 @@ abbrev pub stop_of_make : MakeError → Stop
 stop_of_make (make.NotEmpty device length) = NotEmpty device length
 stop_of_make make.DiskFault = DiskFault
 stop_of_make make.NoMemory = NoMemory
+
+-- tables over the limit stop with the first such one
+abbrev pub stop_of_excess : TooManyRows → Stop
+stop_of_excess excess = RowsOver excess.table excess.rows excess.limit
+
+-- a store that isn't recovered stops with its cause
+abbrev pub stop_of_recover : RecoverError → Stop
+stop_of_recover recover.NoStore = NoStore
+stop_of_recover (recover.Damaged damage) = Damaged damage
+stop_of_recover (recover.AbortInLog note) = Aborted note
+stop_of_recover (recover.RowsOver name rows limit) = RowsOver name rows limit
+stop_of_recover recover.DiskFault = DiskFault
+stop_of_recover recover.NoMemory = NoMemory

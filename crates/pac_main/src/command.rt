@@ -1,9 +1,10 @@
 // The commands, by the words of the command line.
 ghost use Rattle.std.specs.Prelude.{◌≡◌, ◌≢◌, ◌↔◌, ◌∷◌, ℕ, [], Bool, ◌+◌};
 ghost use Rattle.pac_outside.specs.Content.{GaveAtMost};
-ghost use Rattle.pac_main.specs.Commands.{IsExplain, IsInit, IsReplay, NamesCommand};
+ghost use Rattle.pac_main.specs.Commands.{AsksRecover, IsExplain, IsInit, IsRecover, IsReplay, NamesCommand};
 ghost use Rattle.pac_main.specs.Explained.{ExplainEnds};
 ghost use Rattle.pac_main.specs.Init.{InitEnds};
+ghost use Rattle.pac_main.specs.Recover.{RecoverEnds};
 ghost use Rattle.pac_main.specs.Replay.{ReplayEnds};
 ghost use Rattle.pac_main.specs.Stop.{status_of, line_of};
 ghost use Rattle.pac_main.specs.Streams.{IsOneOf, IsTold, observed, observed_devices};
@@ -12,6 +13,7 @@ ghost use Rattle.pac_main.specs.declared.stop.Stop.{Stop as AStop};
 use crate::explain::explain_input;
 use crate::init::init_input;
 use crate::limits::MAX_INPUT;
+use crate::recover::recover_devices;
 use crate::replay::replay_input;
 use crate::tell::{WordsError, refuse_words};
 use pac_base::NoMemory;
@@ -29,15 +31,21 @@ use std::thread::Threads;
 ///   that its transactions execute.
 /// - `explain` and `explain --text` do what [`crate::explain_command`] says.
 /// - `init` does what [`crate::init_command`] says.
-/// - `run`, `recover` and `stress` are read, and answered as words that are no command: they don't run yet.
+/// - `recover [--workers N] [--rows N]` reads the devices, executes the stored transactions behind the newest slot over that
+///   one's tables, and writes the tables where none has more rows than `--rows` says, or 1,000,000. The number of workers,
+///   from 1 to 64, changes nothing. It reads no input, and no device is written or synced. All batches of the log are held in
+///   memory.
+/// - `run` and `stress` are read, and answered as words that are no command: they don't run yet.
 ///
 /// | status | comes | the error sink takes |
 /// |---|---|---|
-/// | 0 | else: the output took the dump, or the explanation; or the store is there | nothing |
+/// | 0 | else: the output took the dump of a replay or a recovery, or the explanation; or the store is there | nothing |
 /// | 1 | exactly where the words name no command that runs, unless there was no memory to read them | `usage: pacman init, run, recover, explain, replay or stress` |
 /// | 2 | only where the input is no script, or its catalogue is refused | its first fault: `catalogue AT KIND` where the catalogue's text isn't read, or isn't typed; `operations PROC COUNT` where its operations are too many: the first procedure at which they are, and how many; else, of `replay` alone, `script LINE AT KIND`: the first line that is refused, from 1 on, and its fault |
 /// | 3 | only where a device of a store that is to be made has a byte; the first of the log, slot a and slot b | `not empty DEVICE LENGTH` |
-/// | 4 | only where serial execution of the transactions of a replay aborts | `abort TXN OP REASON` |
+/// | 3 | only where the log of a store that is to be recovered doesn't begin as one | `no store` |
+/// | 3 | or where it is damaged: its first damage, of the log, slot a and slot b, and then of the slots' places in the log | `damaged DEVICE AT KIND` |
+/// | 4 | only where serial execution of the transactions of a replay, or of those that are stored, aborts | `abort TXN OP REASON` |
 /// | 5 | only where they end with a table that has more rows than the limit; the first | `rows TABLE ROWS LIMIT` |
 /// | 6 | only where the input's count of faults rose | `input fault` |
 /// | 7 | only where the output's count of faults rose; the output took a front of its text | `output fault` |
@@ -45,7 +53,7 @@ use std::thread::Threads;
 /// | 9 | where an allocation was refused | `no memory` |
 /// | 11 | only where the input of a replay has more than 67,108,864 bytes | `input too long` |
 ///
-/// A failing error sink changes no status. The call waits for nobody: it calls no gate, and hands the runtime to nothing.
+/// A failing error sink changes no status. The call waits for nobody: it enters no gate, and hands the runtime to nothing.
 pub fn pacman<RT: Threads + Wait + Sync, I: Source, O: Sink, E: Sink, D: Disk, G: Gate + Sync>(
     _rt: &RT,
     alloc: Global,
@@ -54,7 +62,7 @@ pub fn pacman<RT: Threads + Wait + Sync, I: Source, O: Sink, E: Sink, D: Disk, G
     output: &mut O,
     errors: &mut E,
     devices: &mut Devices<D>,
-    _gate: &G,
+    gate: &G,
 ) -> u8
     ensures status { IsOneOf result (0 ∷ 1 ∷ 2 ∷ 3 ∷ 4 ∷ 5 ∷ 6 ∷ 7 ∷ 8 ∷ 9 ∷ 11 ∷ []) }
 
@@ -62,6 +70,8 @@ pub fn pacman<RT: Threads + Wait + Sync, I: Source, O: Sink, E: Sink, D: Disk, G
     ensures usage { result ≢ 9 → (result ≡ 1) ↔ ¬ NamesCommand words.now }
     ensures init { IsInit words.now → InitEnds result
         (observed I.left I.faults input.old input.new) (observed E.held E.faults errors.old errors.new) (observed_devices D.told D.faults devices.old devices.new) }
+    ensures recover { (limit : ℕ) → IsRecover words.now limit → RecoverEnds limit result
+        (observed_devices D.told D.faults devices.old devices.new) (observed O.held O.faults output.old output.new) (observed E.held E.faults errors.old errors.new) }
     ensures replay { (limit : ℕ) → IsReplay words.now limit → ReplayEnds limit result
         (observed I.left I.faults input.old input.new) (observed O.held O.faults output.old output.new) (observed E.held E.faults errors.old errors.new) }
     ensures explain { (with_text : Bool) → IsExplain words.now with_text → ExplainEnds with_text result
@@ -75,14 +85,18 @@ pub fn pacman<RT: Threads + Wait + Sync, I: Source, O: Sink, E: Sink, D: Disk, G
     ensures quiet { result ≡ 0 → errors.new ≡ errors.old }
     ensures told { result ≢ 0 → (stop : AStop) × (result ≡ status_of stop) × IsTold (observed E.held E.faults errors.old errors.new) (line_of stop) }
 
-    // It reads at most one byte more than an input may have, nothing where the words are wrong, and no other command calls a
-    // device.
+    // It reads at most one byte more than an input may have, and nothing where the words are wrong or ask for a recovery. No
+    // other command calls a device.
     ensures taken { GaveAtMost (MAX_INPUT + 1) (I.left input.old) (I.left input.new) }
     ensures unread { ¬ NamesCommand words.now → input.new ≡ input.old }
-    ensures devices { ¬ IsInit words.now → devices.new ≡ devices.old }
+    ensures no_input { AsksRecover words.now → input.new ≡ input.old }
+    ensures devices { ¬ IsInit words.now → ¬ AsksRecover words.now → devices.new ≡ devices.old }
 {
     match order_of(alloc, words) {
         Ok(Some(Order::Init)) => init_input(alloc, input, errors, devices),
+        Ok(Some(Order::Recover { workers, rows })) => {
+            recover_devices(alloc, workers, rows, output, errors, devices, gate)
+        }
         Ok(Some(Order::Explain { text })) => explain_input(alloc, text, input, output, errors),
         Ok(Some(Order::Replay { rows, .. })) => replay_input(alloc, rows, input, output, errors),
         Ok(_) => refuse_words(WordsError::Usage, errors),

@@ -6,8 +6,8 @@
 //! - [`refuse_words`]: answers the exit status where these words couldn't be read.
 //!
 //! Each command is a file of its own. What the calls answer stands in `specs/`: `Commands` (what the words say, and which
-//! commands run), `Init`, `Replay` and `Explained` (how each command ends, by its status), `Streams` (what is observed of streams
-//! and devices) and `Stop` (the exit statuses and their lines).
+//! commands run), `Init`, `Recover`, `Replay` and `Explained` (how each command ends, by its status), `Streams` (what is
+//! observed of streams and devices) and `Stop` (the exit statuses and their lines).
 #![tactic(auto)]
 
 mod command;
@@ -18,6 +18,7 @@ mod init;
 mod input;
 mod limits;
 mod line;
+mod recover;
 mod replay;
 mod stop;
 mod tell;

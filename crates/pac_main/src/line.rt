@@ -1,11 +1,13 @@
 // The lines that have numbers, and so take memory.
 ghost use Rattle.std.specs.Prelude.{◌≡◌, IfOk, IsTrue, MatchOption, false};
-ghost use Rattle.pac_main.specs.Stop.{abort_line, catalogue_line, line_of, not_empty_line, operations_line, rows_line, script_line, takes_memory};
+ghost use Rattle.pac_main.specs.Stop.{abort_line, catalogue_line, damaged_at, damaged_line, line_of, not_empty_line, operations_line, rows_line, script_line, slot_device, takes_memory};
 
 use crate::stop::Stop;
 use pac_base::NoMemory;
+use pac_check::SlotName;
 use pac_init::DeviceName;
 use pac_ops::Note;
+use pac_recover::Damage;
 use pac_request::{LineFault, ScriptFault};
 use pac_types::CatalogueFault;
 use pac_value::{Name, push_count};
@@ -68,7 +70,7 @@ fn script_line(alloc: Global, number: usize, fault: LineFault) -> Result<Vec<u8>
 }
 
 // The line `rows TABLE ROWS LIMIT`.
-fn rows_line(alloc: Global, name: Name, rows: u64, limit: u32) -> Result<Vec<u8>, NoMemory>
+fn rows_line(alloc: Global, name: Name, rows: u64, limit: u64) -> Result<Vec<u8>, NoMemory>
     ensures { IfOk result (λ line. line.items ≡ rows_line name rows limit) }
 {
     let mut line = Vec::new(alloc);
@@ -77,7 +79,7 @@ fn rows_line(alloc: Global, name: Name, rows: u64, limit: u32) -> Result<Vec<u8>
     line.extend_from_slice(b" ")?;
     push_count(&mut line, rows)?;
     line.extend_from_slice(b" ")?;
-    push_count(&mut line, u64::from(limit))?;
+    push_count(&mut line, limit)?;
     line.extend_from_slice(b"\n")?;
     Ok(line)
 }
@@ -95,6 +97,41 @@ fn not_empty_line(alloc: Global, device: DeviceName, length: u64) -> Result<Vec<
     Ok(line)
 }
 
+// The device of a slot.
+fn slot_device(slot: SlotName) -> DeviceName
+    ensures { result ≡ slot_device slot }
+{
+    match slot {
+        SlotName::A => DeviceName::SlotA,
+        SlotName::B => DeviceName::SlotB,
+    }
+}
+
+// The line `damaged DEVICE AT KIND`.
+fn damaged_at(alloc: Global, device: DeviceName, at: u64, kind: &str) -> Result<Vec<u8>, NoMemory>
+    ensures { IfOk result (λ line. line.items ≡ damaged_at device at kind.now) }
+{
+    let mut line = Vec::new(alloc);
+    line.extend_from_slice(b"damaged ")?;
+    line.extend_from_slice(device.name().as_bytes())?;
+    line.extend_from_slice(b" ")?;
+    push_count(&mut line, at)?;
+    line.extend_from_slice(b" ")?;
+    line.extend_from_slice(kind.as_bytes())?;
+    line.extend_from_slice(b"\n")?;
+    Ok(line)
+}
+
+// The same of damage in the log, or in a slot.
+fn damaged_line(alloc: Global, damage: Damage) -> Result<Vec<u8>, NoMemory>
+    ensures { IfOk result (λ line. line.items ≡ damaged_line damage) }
+{
+    match damage {
+        Damage::Log { at, kind } => damaged_at(alloc, DeviceName::Log, at, kind.name()),
+        Damage::Slot { slot, at, kind } => damaged_at(alloc, slot_device(slot), at, kind.name()),
+    }
+}
+
 /// The line of a stop, where it has numbers. `None`: its line is one text.
 pub fn made_line(alloc: Global, stop: &Stop) -> Option<Result<Vec<u8>, NoMemory>>
     ensures { MatchOption result (takes_memory stop.now ≡ false) (λ made. IsTrue (takes_memory stop.now) × IfOk made (λ line. line.items ≡ line_of stop.now)) }
@@ -106,6 +143,7 @@ pub fn made_line(alloc: Global, stop: &Stop) -> Option<Result<Vec<u8>, NoMemory>
         }
         Stop::Script(ScriptFault::Line { line, fault }) => Some(script_line(alloc, line, fault)),
         Stop::NotEmpty { device, length } => Some(not_empty_line(alloc, device, length)),
+        Stop::Damaged(damage) => Some(damaged_line(alloc, damage)),
         Stop::Aborted(note) => Some(abort_line(alloc, note)),
         Stop::RowsOver { name, rows, limit } => Some(rows_line(alloc, name, rows, limit)),
         _ => None,

@@ -1,9 +1,8 @@
 // The command `replay`.
 ghost use Rattle.std.specs.Prelude.{◌≡◌, ◌≢◌, ◌≤◌, ◌+◌, None, IfOk, IfErr, IfSome, OnOk, OnErr, Ok, length};
 ghost use Rattle.pac_outside.specs.Content.{GaveAtMost};
-ghost use Rattle.pac_types.specs.Execution.{first_over};
 ghost use Rattle.pac_request.specs.RequestFits.{BatchesFit, BatchesHaveNumbers};
-ghost use Rattle.pac_main.specs.Causes.{AreOver, GivesNoScript, ReplayStops, ScriptStops};
+ghost use Rattle.pac_main.specs.Causes.{GivesNoScript, ReplayStops, ScriptStops};
 ghost use Rattle.pac_main.specs.Replay.{AreNumberedFrom, IsDumpOf, IsScriptOf, IsLongScript, ReplayEnds, first_over_in, outcome};
 ghost use Rattle.pac_main.specs.Stop.{line_of, status_of};
 ghost use Rattle.pac_main.specs.Streams.{IsTaken, IsTold, observed};
@@ -15,11 +14,10 @@ use crate::limits::MAX_INPUT;
 use crate::stop::Stop;
 use crate::tell::told;
 use pac_outside::{Sink, Source, read_up_to, write_all};
+use pac_recover::test_rows;
 use pac_report::dump;
 use pac_request::{Script, read_script};
-use pac_serial::first_over;
 use pac_tables::OrderedRows;
-use pac_types::Catalogue;
 use std::alloc::Global;
 
 // All that the source holds.
@@ -49,22 +47,6 @@ fn read_input<I: Source>(alloc: Global, input: &mut I) -> Result<Script, InputEr
     Ok(read_script(alloc, &text)?)
 }
 
-// That no table has more rows than the limit.
-fn test_rows(limit: u32, catalogue: &Catalogue, rows: &OrderedRows) -> Result<(), Stop>
-    requires { rows.now.tables ≡ length catalogue.now.tables }
-    ensures within { OnOk result (first_over limit (length catalogue.now.tables) rows.now.rows ≡ None) }
-    ensures stops { IfErr result (AreOver limit catalogue.now.tables rows.now.rows) }
-{
-    match first_over(rows, u64::from(limit)) {
-        None => Ok(()),
-        Some((table, rows)) => Err(Stop::RowsOver {
-            name: catalogue.tables()[usize::from(table)].name,
-            rows,
-            limit,
-        }),
-    }
-}
-
 // The tables with which a script's transactions end, where these are within the limit.
 fn finished(alloc: Global, limit: u32, script: &Script) -> Result<OrderedRows, Stop>
     requires fit { BatchesFit script.now.catalogue script.now.batches }
@@ -76,7 +58,7 @@ fn finished(alloc: Global, limit: u32, script: &Script) -> Result<OrderedRows, S
     ensures stops { IfErr result (ScriptStops limit script.now) }
 {
     let rows = execute(alloc, &script.catalogue, script.batches.as_slice())?;
-    test_rows(limit, &script.catalogue, &rows)?;
+    test_rows(&script.catalogue, &rows, u64::from(limit))?;
     Ok(rows)
 }
 

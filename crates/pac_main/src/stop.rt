@@ -1,6 +1,6 @@
 // Why a command stops before its end.
 ghost use Rattle.std.specs.Prelude.{◌≡◌, IsTrue, MatchOption};
-ghost use Rattle.pac_main.specs.Stop.{status_of, line_of, takes_memory, stop_of_input, stop_of_make, stop_of_serial};
+ghost use Rattle.pac_main.specs.Stop.{status_of, line_of, takes_memory, stop_of_excess, stop_of_input, stop_of_make, stop_of_recover, stop_of_serial};
 ghost use Rattle.pac_main.specs.declared.stop.Stop.TheVariants.{OutputFault, NoMemory as WantOfMemory};
 
 use crate::input::InputError;
@@ -8,6 +8,7 @@ use pac_base::NoMemory;
 use pac_init::{DeviceName, MakeError};
 use pac_ops::Note;
 use pac_outside::Failed;
+use pac_recover::{Damage, RecoverError, TooManyRows};
 use pac_request::ScriptFault;
 use pac_serial::AllError;
 use pac_value::Name;
@@ -21,10 +22,14 @@ pub enum Stop {
     Script(ScriptFault),
     /// This device of a store that is to be made has so many bytes already.
     NotEmpty { device: DeviceName, length: u64 },
+    /// The log's device holds no log.
+    NoStore,
+    /// This is the first damage of a store.
+    Damaged(Damage),
     /// This operation of this transaction aborts.
     Aborted(Note),
     /// This table is the first that has more rows than the limit.
-    RowsOver { name: Name, rows: u64, limit: u32 },
+    RowsOver { name: Name, rows: u64, limit: u64 },
     /// The input could not be read.
     InputFault,
     /// The output could not be written.
@@ -90,6 +95,38 @@ impl From<MakeError> for Stop {
     }
 }
 
+impl From<TooManyRows> for Stop {
+    ghost from_gives = { λ excess stop. stop ≡ stop_of_excess excess };
+
+    fn from(excess: TooManyRows) -> Self {
+        let TooManyRows { table, rows, limit } = excess;
+        Stop::RowsOver {
+            name: table,
+            rows,
+            limit,
+        }
+    }
+}
+
+impl From<RecoverError> for Stop {
+    ghost from_gives = { λ error stop. stop ≡ stop_of_recover error };
+
+    fn from(error: RecoverError) -> Self {
+        match error {
+            RecoverError::NoStore => Stop::NoStore,
+            RecoverError::Damaged(damage) => Stop::Damaged(damage),
+            RecoverError::AbortInLog(note) => Stop::Aborted(note),
+            RecoverError::RowsOver { table, rows, limit } => Stop::RowsOver {
+                name: table,
+                rows,
+                limit,
+            },
+            RecoverError::DiskFault => Stop::DiskFault,
+            RecoverError::NoMemory => Stop::NoMemory,
+        }
+    }
+}
+
 impl Stop {
     /// The program's exit status.
     pub fn status(self) -> u8
@@ -98,7 +135,7 @@ impl Stop {
         match self {
             Stop::Usage => 1,
             Stop::Script(_) => 2,
-            Stop::NotEmpty { .. } => 3,
+            Stop::NotEmpty { .. } | Stop::NoStore | Stop::Damaged(_) => 3,
             Stop::Aborted(_) => 4,
             Stop::RowsOver { .. } => 5,
             Stop::InputFault => 6,
@@ -115,8 +152,12 @@ impl Stop {
     {
         match self {
             Stop::Usage => Some(b"usage: pacman init, run, recover, explain, replay or stress\n"),
-            Stop::Script(_) | Stop::NotEmpty { .. } | Stop::Aborted(_) | Stop::RowsOver { .. } =>
-                None,
+            Stop::Script(_)
+            | Stop::NotEmpty { .. }
+            | Stop::Damaged(_)
+            | Stop::Aborted(_)
+            | Stop::RowsOver { .. } => None,
+            Stop::NoStore => Some(b"no store\n"),
             Stop::InputFault => Some(b"input fault\n"),
             Stop::OutputFault => Some(b"output fault\n"),
             Stop::DiskFault => Some(b"disk fault\n"),

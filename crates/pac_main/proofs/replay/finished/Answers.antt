@@ -1,9 +1,10 @@
 -- Tables over the limit are those with which the transactions end.
-use Rattle.std.proofs.Common.{◌≡◌, Ok, List, sym, subst}
+use Rattle.std.proofs.Common.{◌≡◌, ℕ, Ok, List, refl, sym, subst, ◌∙◌}
 use Rattle.std.specs.FinMap.{empty}
 use Rattle.std.proofs.lemmas.Result.{err_from_is_err_and}
 use Rattle.pac_ops.specs.declared.batch.Batch.{Batch}
 use Rattle.pac_types.specs.Execution.{serial}
+use Rattle.pac_recover.specs.Limits.{IsFirstOver}
 use Rattle.pac_main.specs.Causes.{ScriptStops}
 use Rattle.pac_main.specs.Replay.{outcome, txns_of}
 use Rattle.pac_main.proofs.InputLemmas.{if_err}
@@ -14,6 +15,9 @@ pub returns-in_err-test_rows-clause-stops : goal.returns-in_err-test_rows-clause
 returns-in_err-test_rows-clause-stops c =
     let script = c.args.script.now in
     let rows = c.in_ok-rows.rows.rows in
+    let excess = c.in_err-test_rows.field-0.0 in
     let p = err_from_is_err_and c.from_residual-in_err-test_rows.result c.from_residual-in_err-test_rows.ensures.1 in
+    let over = c.in_err-test_rows.ensures.over excess refl in
     let ends : outcome script ≡ Ok rows = subst (λ (bs : List Batch). serial script.catalogue.procs 1 (txns_of bs) empty ≡ Ok rows) c.as_slice.ensures c.in_ok-rows.ensures.ends in
-    if_err (ScriptStops c.args.limit script) c.from_residual-in_err-test_rows.result p.0 p.1 (subst (ScriptStops c.args.limit script) (sym p.2) (over-stops c.args.limit script rows c.in_err-test_rows.field-0.0 ends c.in_err-test_rows.ensures.stops))
+    let first = subst (λ (n : ℕ). IsFirstOver n script.catalogue.tables rows excess.table excess.rows) c.from.ensures over.0 in
+    if_err (ScriptStops c.args.limit script) c.from_residual-in_err-test_rows.result p.0 p.1 (subst (ScriptStops c.args.limit script) (sym p.2) (over-stops c.args.limit script rows excess ends first (over.1 ∙ c.from.ensures)))

@@ -1,0 +1,57 @@
+// The command `recover`.
+ghost use Rattle.std.specs.Prelude.{◌≡◌, ◌≢◌, IfErr, OnOk};
+ghost use Rattle.pac_outside.specs.Devices.{each};
+ghost use Rattle.pac_main.specs.Causes.{IsRecovered, RecoverStops};
+ghost use Rattle.pac_main.specs.Recover.{RecoverEnds};
+ghost use Rattle.pac_main.specs.Stop.{line_of, status_of};
+ghost use Rattle.pac_main.specs.Streams.{IsTold, observed, observed_devices};
+ghost use Rattle.pac_main.specs.declared.stop.Stop.{Stop as AStop};
+
+use crate::stop::Stop;
+use crate::tell::told;
+use pac_outside::{Devices, Disk, Gate, Sink, write_all};
+use pac_recover::recover;
+use pac_report::dump;
+use std::alloc::Global;
+
+// Recovers the tables of the devices, and writes their dump.
+fn write_recovered<O: Sink, D: Disk, G: Gate>(
+    alloc: Global,
+    workers: u32,
+    limit: u32,
+    output: &mut O,
+    devices: &mut Devices<D>,
+    gate: &G,
+) -> Result<(), Stop>
+    ensures done { OnOk result (IsRecovered limit (observed_devices D.told D.faults devices.old devices.new) (observed O.held O.faults output.old output.new)) }
+    ensures stops { IfErr result (RecoverStops limit (observed_devices D.told D.faults devices.old devices.new) (observed O.held O.faults output.old output.new)) }
+    ensures kept { IfErr result (λ stop. stop ≢ Stop.OutputFault → output.new ≡ output.old) }
+    ensures untouched { each D.told devices.new ≡ each D.told devices.old }
+{
+    let recovered = recover(alloc, workers, u64::from(limit), devices, gate)?;
+    let text = dump(alloc, &recovered.catalogue, &recovered.tables)?;
+    Ok(write_all(output, &text)?)
+}
+
+/// Writes the dump of the tables that are recovered of the devices, and tells why where that stops before its end. The
+/// devices are only read. The number of workers has no effect, and no gate is entered.
+pub(crate) fn recover_devices<O: Sink, E: Sink, D: Disk, G: Gate>(
+    alloc: Global,
+    workers: u32,
+    limit: u32,
+    output: &mut O,
+    errors: &mut E,
+    devices: &mut Devices<D>,
+    gate: &G,
+) -> u8
+    ensures ends { RecoverEnds limit result
+        (observed_devices D.told D.faults devices.old devices.new) (observed O.held O.faults output.old output.new) (observed E.held E.faults errors.old errors.new) }
+    ensures kept { result ≢ 0 → result ≢ 7 → output.new ≡ output.old }
+    ensures quiet { result ≡ 0 → errors.new ≡ errors.old }
+    ensures told { result ≢ 0 → (stop : AStop) × (result ≡ status_of stop) × IsTold (observed E.held E.faults errors.old errors.new) (line_of stop) }
+{
+    match write_recovered(alloc, workers, limit, output, devices, gate) {
+        Ok(()) => 0,
+        Err(stop) => told(alloc, stop, errors).status(),
+    }
+}
