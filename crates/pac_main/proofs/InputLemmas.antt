@@ -15,9 +15,10 @@ use Rattle.pac_request.specs.declared.script_fault.ScriptFault.{ScriptFault}
 use Rattle.pac_request.proofs.OneScript.{script_once}
 use Rattle.pac_main.specs.Causes.{GivesNoScript}
 use Rattle.pac_main.specs.Inputs.{input_of_read, input_of_script}
-use Rattle.pac_main.specs.Replay.{AreNumberedFrom, IsReadAs}
+use Rattle.pac_recover.specs.Gates.{RunOn}
+use Rattle.pac_main.specs.Replay.{IsReadAs}
 use Rattle.pac_main.specs.Streams.{Observed, FaultsRose}
-use Rattle.pac_main.proofs.BatchLemmas.{numbered-batches}
+use Rattle.pac_main.proofs.BatchLemmas.{running-batches}
 
 -- a result holds one error
 pub err_is : {T E : Type 0} (r : Result T E) (x y : E) → r ≡ Err x → r ≡ Err y → x ≡ y
@@ -70,6 +71,6 @@ pub no-script : (source : Observed) (text : List ℕ) (error : Refusal ScriptFau
 no-script source text (refusal.Fault fault) short whole says = of-input (λ (t : List ℕ). IsReadAs t (Err fault)) source.before text whole (the-reading text (Err fault) short says)
 no-script source text refusal.NoMemory short whole says = tt
 
--- the batches of a script are numbered from 1 on
-pub script-numbered : (text : List ℕ) (script : Script) → ScriptSays text (Ok script) → AreNumberedFrom 1 script.batches
-script-numbered text script says = numbered-batches 1 _ script.batches says.parts.batches.cut.are
+-- the batches of a script run on from the first transaction
+pub script-runs : (text : List ℕ) (script : Script) → ScriptSays text (Ok script) → RunOn 0 script.batches
+script-runs text script says = running-batches _ script.batches says.parts.batches.cut.are

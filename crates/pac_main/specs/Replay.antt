@@ -1,17 +1,15 @@
 -- How `replay` ends.
-use Rattle.std.specs.Prelude.{◌≡◌, ◌≤◌, ◌<◌, ◌+◌, ℕ, List, [], ◌∷◌, length, Option, None, IfSome, Result, Ok, Err}
-use Rattle.std.specs.List.{flat_map}
+use Rattle.std.specs.Prelude.{◌≡◌, ◌≤◌, ◌<◌, ℕ, List, [], ◌∷◌, length, Option, None, IfSome, Result, Ok, Err}
 use Rattle.std.specs.FinMap.{empty}
 use Rattle.pac_value.specs.State.{Tables}
-use Rattle.pac_ops.specs.declared.batch.Batch.{Batch}
 use Rattle.pac_ops.specs.declared.note.Note.{Note}
-use Rattle.pac_ops.specs.declared.transaction.Txn.{Txn}
 use Rattle.pac_tables.specs.Joined.{Held}
 use Rattle.pac_types.specs.Execution.{serial, first_over}
 use Rattle.pac_serial.specs.declared.serial.AllError.{AllError}
 use Rattle.pac_serial.specs.declared.serial.AllError.TheVariants.{Abort, NoMemory}
 use Rattle.pac_recover.specs.Limits.{IsFirstOver}
 use Rattle.pac_report.specs.Dump.{tables_text}
+use Rattle.pac_recover.specs.Gates.{txns_in}
 use Rattle.pac_request.specs.declared.script.Script.{Script}
 use Rattle.pac_request.specs.declared.script_fault.ScriptFault.{ScriptFault}
 use Rattle.pac_request.specs.Script.{ScriptSays}
@@ -42,18 +40,9 @@ IsLongScript input = IfSome input (λ text. MAX_INPUT < length text)
 
 -- ---- what its transactions give
 
--- all transactions of batches, in their order
-abbrev pub txns_of : List Batch → List Txn
-txns_of batches = flat_map (λ batch. batch.txns) batches
-
--- the transactions of the batches are numbered one behind another, from this number on
-abbrev pub AreNumberedFrom : ℕ → List Batch → Type 0
-AreNumberedFrom first [] = Unit {0}
-AreNumberedFrom first (batch ∷ batches) = (batch.first ≡ first) × AreNumberedFrom (first + length batch.txns) batches
-
 -- the tables with which serial execution of a script's transactions ends, from no rows on, or its abort
 abbrev pub outcome : Script → Result Tables Note
-outcome script = serial script.catalogue.procs 1 (txns_of script.batches) empty
+outcome script = serial script.catalogue.procs 1 (txns_in script.batches) empty
 
 -- the transactions end with these tables, abort so, or find no memory
 abbrev pub DoesEnd : Result Held AllError → Result Tables Note → Type 0

@@ -3,12 +3,13 @@ ghost use Rattle.std.specs.Prelude.{◌≡◌, ◌≢◌, ◌≤◌, ◌+◌, No
 ghost use Rattle.pac_outside.specs.Content.{GaveAtMost};
 ghost use Rattle.pac_request.specs.RequestFits.{BatchesFit, BatchesHaveNumbers};
 ghost use Rattle.pac_main.specs.Causes.{GivesNoScript, ReplayStops, ScriptStops};
-ghost use Rattle.pac_main.specs.Replay.{AreNumberedFrom, IsDumpOf, IsScriptOf, IsLongScript, ReplayEnds, first_over_in, outcome};
+ghost use Rattle.pac_recover.specs.Gates.{RunOn};
+ghost use Rattle.pac_main.specs.Replay.{IsDumpOf, IsScriptOf, IsLongScript, ReplayEnds, first_over_in, outcome};
 ghost use Rattle.pac_main.specs.Stop.{line_of, status_of};
 ghost use Rattle.pac_main.specs.Streams.{IsTaken, IsTold, observed};
 ghost use Rattle.pac_main.specs.declared.stop.Stop.{Stop as AStop};
 
-use crate::execution::execute;
+use crate::execution::executed;
 use crate::input::InputError;
 use crate::limits::MAX_INPUT;
 use crate::stop::Stop;
@@ -39,7 +40,7 @@ fn read_input<I: Source>(alloc: Global, input: &mut I) -> Result<Script, InputEr
     ensures ok { IfOk result (λ script. IsScriptOf script (I.left input.old)) }
     ensures fit { IfOk result (λ script. BatchesFit script.catalogue script.batches) }
     ensures small { IfOk result (λ script. BatchesHaveNumbers script.batches) }
-    ensures numbered { IfOk result (λ script. AreNumberedFrom 1 script.batches) }
+    ensures runs { IfOk result (λ script. RunOn 0 script.batches) }
     ensures stops { IfErr result (GivesNoScript (observed I.left I.faults input.old input.new)) }
     ensures taken { GaveAtMost (MAX_INPUT + 1) (I.left input.old) (I.left input.new) }
 {
@@ -51,13 +52,13 @@ fn read_input<I: Source>(alloc: Global, input: &mut I) -> Result<Script, InputEr
 fn finished(alloc: Global, limit: u32, script: &Script) -> Result<OrderedRows, Stop>
     requires fit { BatchesFit script.now.catalogue script.now.batches }
     requires small { BatchesHaveNumbers script.now.batches }
-    requires numbered { AreNumberedFrom 1 script.now.batches }
+    requires runs { RunOn 0 script.now.batches }
     ensures ends { IfOk result (λ rows. outcome script.now ≡ Ok rows.rows) }
     ensures within { IfOk result (λ rows. first_over_in limit script.now rows.rows ≡ None) }
     ensures tables { IfOk result (λ rows. rows.tables ≡ length script.now.catalogue.tables) }
     ensures stops { IfErr result (ScriptStops limit script.now) }
 {
-    let rows = execute(alloc, &script.catalogue, script.batches.as_slice())?;
+    let rows = executed(alloc, &script.catalogue, script.batches.as_slice())?;
     test_rows(&script.catalogue, &rows, u64::from(limit))?;
     Ok(rows)
 }

@@ -4,9 +4,10 @@ use Rattle.std.specs.FinMap.{empty}
 use Rattle.std.proofs.lemmas.Result.{err_from_is_err_and}
 use Rattle.pac_ops.specs.declared.batch.Batch.{Batch}
 use Rattle.pac_types.specs.Execution.{serial}
+use Rattle.pac_recover.specs.Gates.{txns_in}
 use Rattle.pac_recover.specs.Limits.{IsFirstOver}
 use Rattle.pac_main.specs.Causes.{ScriptStops}
-use Rattle.pac_main.specs.Replay.{outcome, txns_of}
+use Rattle.pac_main.specs.Replay.{outcome}
 use Rattle.pac_main.proofs.InputLemmas.{if_err}
 use Rattle.pac_main.proofs.StopLemmas.{over-stops}
 use Rattle.pac_main.proofs.replay.finished.Goals as goal
@@ -18,6 +19,6 @@ returns-in_err-test_rows-clause-stops c =
     let excess = c.in_err-test_rows.field-0.0 in
     let p = err_from_is_err_and c.from_residual-in_err-test_rows.result c.from_residual-in_err-test_rows.ensures.1 in
     let over = c.in_err-test_rows.ensures.over excess refl in
-    let ends : outcome script ≡ Ok rows = subst (λ (bs : List Batch). serial script.catalogue.procs 1 (txns_of bs) empty ≡ Ok rows) c.as_slice.ensures c.in_ok-rows.ensures.ends in
+    let ends : outcome script ≡ Ok rows = subst (λ (bs : List Batch). serial script.catalogue.procs 1 (txns_in bs) empty ≡ Ok rows) c.as_slice.ensures c.in_ok-rows.ensures.ends in
     let first = subst (λ (n : ℕ). IsFirstOver n script.catalogue.tables rows excess.table excess.rows) c.from.ensures over.0 in
     if_err (ScriptStops c.args.limit script) c.from_residual-in_err-test_rows.result p.0 p.1 (subst (ScriptStops c.args.limit script) (sym p.2) (over-stops c.args.limit script rows excess ends first (over.1 ∙ c.from.ensures)))

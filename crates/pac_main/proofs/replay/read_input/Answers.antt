@@ -7,15 +7,15 @@ use Rattle.pac_request.specs.declared.script.Script.{Script}
 use Rattle.pac_main.specs.Causes.{GivesNoScript}
 use Rattle.pac_main.specs.Replay.{IsReadAs}
 use Rattle.pac_main.specs.Streams.{observed}
-use Rattle.pac_main.proofs.InputLemmas.{if_err, of-input, the-reading, no-script, script-numbered}
+use Rattle.pac_main.proofs.InputLemmas.{if_err, of-input, the-reading, no-script, script-runs}
 use Rattle.pac_main.proofs.replay.read_input.Goals as goal
 
 pub returns-clause-ok : goal.returns-clause-ok
 returns-clause-ok g c = of-input (λ (text : List ℕ). IsReadAs text (Ok c.in_ok-read_script.field-0)) _ c.in_ok-text.text.items c.in_ok-text.ensures.whole
     (the-reading c.in_ok-text.text.items (Ok c.in_ok-read_script.field-0) c.in_ok-text.ensures.short (subst (λ (text : List ℕ). ScriptSays text (Ok c.in_ok-read_script.field-0)) c.deref.ensures.value c.in_ok-read_script.ensures.says))
 
-pub returns-clause-numbered : goal.returns-clause-numbered
-returns-clause-numbered g c = script-numbered _ c.in_ok-read_script.field-0 c.in_ok-read_script.ensures.says
+pub returns-clause-runs : goal.returns-clause-runs
+returns-clause-runs g c = script-runs _ c.in_ok-read_script.field-0 c.in_ok-read_script.ensures.says
 
 pub returns-in_err-read_script-clause-stops : goal.returns-in_err-read_script-clause-stops
 returns-in_err-read_script-clause-stops g c =
