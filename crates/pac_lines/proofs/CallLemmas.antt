@@ -8,7 +8,7 @@ use Rattle.pac_outside.specs.Content.{Gave, IsAtEnd}
 use Rattle.pac_outside.proofs.ContentLemmas.{Gave-append}
 use Rattle.pac_lines.specs.Lines.{HandsOut, has_feed, HasFeed, HasNoFeed, IsEndedLine, IsLastLine}
 use Rattle.pac_lines.specs.Reading.{AheadState, HasNoLine, ReaderState}
-use Rattle.pac_lines.specs.Calls.{Answers, Calls, IsCall, known, IsChunk, IsReadOn, Keeps}
+use Rattle.pac_lines.specs.Calls.{AnswersLine, Calls, IsCall, known, IsChunk, IsReadOn, Keeps}
 use Rattle.pac_lines.specs.declared.line_error.LineError.{LineError}
 use Rattle.pac_lines.specs.declared.line_error.LineError.TheVariants.{Failed, TooLong, NoMemory}
 
@@ -77,10 +77,10 @@ none_of [] e = refl
 none_of (x ∷ xs) e = absurd (omega (arith, e))
 
 rest_answer : (text : List ℕ) (taken limit : ℕ) (left : Option (List ℕ)) → HasNoFeed text → IsAtEnd left
-    → Answers text (record { line = text; ahead = []; taken = taken; limit = limit }) left (Ok (ltb 0 (length text)))
+    → AnswersLine text (record { line = text; ahead = []; taken = taken; limit = limit }) left (Ok (ltb 0 (length text)))
 rest_answer text taken limit left none end = by (ltb 0 (length text)) refl
   where
-    by : (some : Bool) → ltb 0 (length text) ≡ some → Answers text (record { line = text; ahead = []; taken = taken; limit = limit }) left (Ok some)
+    by : (some : Bool) → ltb 0 (length text) ≡ some → AnswersLine text (record { line = text; ahead = []; taken = taken; limit = limit }) left (Ok some)
     by true is = inr (record { none = none; some = λ e. let len : length text ≡ 0 = ap (λ (l : List ℕ). length l) e in omega (arith, len, ltb-true _ _ is); all = refl; end = refl }, end)
     by false is = let nothing : text ≡ [] = none_of text (omega (arith, ltb-false _ _ is)) in ((nothing, sym nothing), nothing, end)
 
@@ -95,11 +95,11 @@ answers_rest before now next left mid left' count reading none chunk zero =
       counted = more.counted;
       limit = more.limit;
       read = more.read;
-      answer = subst (λ (l : List ℕ). Answers l (record { line = next.ahead; ahead = []; taken = next.taken; limit = next.limit }) left' (Ok (ltb 0 (length next.ahead)))) more.ahead
+      answer = subst (λ (l : List ℕ). AnswersLine l (record { line = next.ahead; ahead = []; taken = next.taken; limit = next.limit }) left' (Ok (ltb 0 (length next.ahead)))) more.ahead
           (rest_answer next.ahead next.taken next.limit left' (subst HasNoFeed (sym same) none) (chunk.end zero));
     }
 
-error_answer : (text : List ℕ) (now : ReaderState) (left : Option (List ℕ)) (error : LineError) → Keeps text now → (error ≡ TooLong → HasNoLine text) → Answers text now left (Err error)
+error_answer : (text : List ℕ) (now : ReaderState) (left : Option (List ℕ)) (error : LineError) → Keeps text now → (error ≡ TooLong → HasNoLine text) → AnswersLine text now left (Err error)
 error_answer text now left Failed keeps long = keeps
 error_answer text now left TooLong keeps long = (keeps, long refl)
 error_answer text now left NoMemory keeps long = keeps
@@ -124,7 +124,7 @@ known-gave ahead given (Some rest) = ap Some (sym (append_assoc ahead given rest
 pub known_before : (before now : ReaderState) (left left' : Option (List ℕ)) (result : Result Bool LineError) (call : IsCall before now left left' result) → known before left ≡ prepend_known (before.ahead ++ call.given) left'
 known_before before now left left' result call = ap (prepend_known before.ahead) call.gave ∙ known-gave before.ahead call.given left'
 
-kept : (text : List ℕ) (now : ReaderState) (left : Option (List ℕ)) (error : LineError) → Answers text now left (Err error) → now.ahead ≡ text
+kept : (text : List ℕ) (now : ReaderState) (left : Option (List ℕ)) (error : LineError) → AnswersLine text now left (Err error) → now.ahead ≡ text
 kept text now left Failed answer = answer.1
 kept text now left TooLong answer = answer.0.1
 kept text now left NoMemory answer = answer.1
@@ -134,7 +134,7 @@ nothing_lost before now left left' error call =
     ap (λ (l : List ℕ). prepend_known l left') (kept (before.ahead ++ call.given) now left' error call.answer) ∙ sym (known_before before now left left' (Err error) call)
 
 -- a line of what was taken is one of the text
-line_of_text : (taken : List ℕ) (now : ReaderState) (left' : Option (List ℕ)) (text : List ℕ) → Answers taken now left' (Ok true) → prepend_known taken left' ≡ Some text
+line_of_text : (taken : List ℕ) (now : ReaderState) (left' : Option (List ℕ)) (text : List ℕ) → AnswersLine taken now left' (Ok true) → prepend_known taken left' ≡ Some text
     → (rest : List ℕ) × (known now left' ≡ Some rest) × (IsEndedLine text now.line rest ⊎ IsLastLine text now.line rest)
 line_of_text taken now None text answer is = absurd cc
 line_of_text taken now (Some rest) text answer is = (now.ahead ++ rest, refl, by answer)
@@ -142,7 +142,7 @@ line_of_text taken now (Some rest) text answer is = (now.ahead ++ rest, refl, by
     all : taken ++ rest ≡ text
     all = cc
 
-    by : Answers taken now (Some rest) (Ok true) → IsEndedLine text now.line (now.ahead ++ rest) ⊎ IsLastLine text now.line (now.ahead ++ rest)
+    by : AnswersLine taken now (Some rest) (Ok true) → IsEndedLine text now.line (now.ahead ++ rest) ⊎ IsLastLine text now.line (now.ahead ++ rest)
     by (inl first) = inl (record { none = first.none; split = sym all ∙ ap (λ (l : List ℕ). l ++ rest) first.split ∙ append_assoc now.line _ rest })
     by (inr last) = inr (record {
       none = last.0.none;
@@ -164,7 +164,7 @@ pub end_of_text : (text : List ℕ) (before now : ReaderState) (left left' : Opt
 end_of_text text before now left left' call is =
     by left' call.answer (sym (known_before before now left left' (Ok false) call) ∙ is)
   where
-    by : (end : Option (List ℕ)) → Answers (before.ahead ++ call.given) now end (Ok false) → prepend_known (before.ahead ++ call.given) end ≡ Some text → text ≡ []
+    by : (end : Option (List ℕ)) → AnswersLine (before.ahead ++ call.given) now end (Ok false) → prepend_known (before.ahead ++ call.given) end ≡ Some text → text ≡ []
     by None answer is = absurd cc
     by (Some rest) answer is =
         let all : (before.ahead ++ call.given) ++ rest ≡ text = cc in

@@ -6,9 +6,10 @@ use Rattle.std.proofs.lemmas.List.{take-append-le}
 use Rattle.std.proofs.lemmas.List.Folds.{list_any-append}
 use Rattle.std.specs.Io.KnownBytes.{prepend_known}
 use Rattle.pac_outside.specs.Content.{IsAtEnd}
-use Rattle.pac_lines.specs.Lines.{has_feed, HasFeed, HasNoFeed, IsEndedLine, line_feed}
+use Rattle.pac_value.specs.Ascii.{line_feed}
+use Rattle.pac_lines.specs.Lines.{has_feed, HasFeed, HasNoFeed, IsEndedLine}
 use Rattle.pac_lines.specs.Reading.{HasNoLine, ReaderState}
-use Rattle.pac_lines.specs.Calls.{Answers, IsCall, IsTooLong, KeepsLimit, known, room}
+use Rattle.pac_lines.specs.Calls.{AnswersLine, IsCall, HasTooMuch, KeepsLimit, known, room}
 use Rattle.pac_lines.specs.declared.line_error.LineError.{LineError}
 use Rattle.pac_lines.specs.declared.line_error.LineError.TheVariants.{Failed, TooLong, NoMemory}
 use Rattle.pac_lines.proofs.CallLemmas.{known_before}
@@ -33,7 +34,7 @@ module _ (before now : ReaderState) (left' : Option (List ℕ)) (given text : Li
   fits : now.taken ≤ now.limit → length (before.ahead ++ given) ≤ room before
   fits most = omega (arith, most, counted, same, length-append before.ahead given)
 
-  not_ended : (line : List ℕ) → IsEndedLine (before.ahead ++ given) line now.ahead → now.taken ≤ now.limit → IsTooLong before text → ⊥
+  not_ended : (line : List ℕ) → IsEndedLine (before.ahead ++ given) line now.ahead → now.taken ≤ now.limit → HasTooMuch before text → ⊥
   not_ended line first most long = by left' is
     where
       by : (end : Option (List ℕ)) → prepend_known (before.ahead ++ given) end ≡ Some text → ⊥
@@ -44,7 +45,7 @@ module _ (before now : ReaderState) (left' : Option (List ℕ)) (given text : Li
           let len : length (before.ahead ++ given) ≡ length (line ++ line_feed ∷ now.ahead) = ap (λ (l : List ℕ). length l) first.split in
           ended_within text line (now.ahead ++ rest) (room before) split (omega (arith, fits most, len, length-append line (line_feed ∷ now.ahead))) long.none
 
-  not_at_end : IsAtEnd left' → now.taken ≤ now.limit → IsTooLong before text → ⊥
+  not_at_end : IsAtEnd left' → now.taken ≤ now.limit → HasTooMuch before text → ⊥
   not_at_end end most long = by left' end is
     where
       by : (end : Option (List ℕ)) → IsAtEnd end → prepend_known (before.ahead ++ given) end ≡ Some text → ⊥
@@ -54,7 +55,7 @@ module _ (before now : ReaderState) (left' : Option (List ℕ)) (given text : Li
           let whole : length text ≡ length (before.ahead ++ given) = ap (λ (l : List ℕ). length l) (sym all ∙ ap (λ (l : List ℕ). (before.ahead ++ given) ++ l) end ∙ append-nil (before.ahead ++ given)) in
           omega (arith, whole, fits most, long.longer)
 
-  one_too_many : now.limit < now.taken → now.taken ≤ now.limit + 1 → HasNoLine (before.ahead ++ given) → IsTooLong before text
+  one_too_many : now.limit < now.taken → now.taken ≤ now.limit + 1 → HasNoLine (before.ahead ++ given) → HasTooMuch before text
   one_too_many over most line = by left' is
     where
       len : length (before.ahead ++ given) ≡ room before + 1
@@ -63,7 +64,7 @@ module _ (before now : ReaderState) (left' : Option (List ℕ)) (given text : Li
       front : room before ≡ length (before.ahead ++ given) - 1
       front = omega (arith, len)
 
-      by : (end : Option (List ℕ)) → prepend_known (before.ahead ++ given) end ≡ Some text → IsTooLong before text
+      by : (end : Option (List ℕ)) → prepend_known (before.ahead ++ given) end ≡ Some text → HasTooMuch before text
       by None is = absurd cc
       by (Some rest) is =
           let all : (before.ahead ++ given) ++ rest ≡ text = cc in record {
@@ -72,7 +73,7 @@ module _ (before now : ReaderState) (left' : Option (List ℕ)) (given text : Li
           }
 
 pub told_exactly : (text : List ℕ) (before now : ReaderState) (left left' : Option (List ℕ)) (result : Result Bool LineError) → IsCall before now left left' result → KeepsLimit now result → known before left ≡ Some text
-    → MatchResult result (λ _. ¬ IsTooLong before text) (λ error. error ≡ TooLong → IsTooLong before text)
+    → MatchResult result (λ _. ¬ HasTooMuch before text) (λ error. error ≡ TooLong → HasTooMuch before text)
 told_exactly text before now left left' result call limit is =
     by result call.answer limit
   where
@@ -86,7 +87,7 @@ told_exactly text before now left left' result call limit is =
         by true is = let e = limit.long.1 (ltb-true _ _ is) in absurd cc
         by false is = ltb-false _ _ is
 
-    by : (r : Result Bool LineError) → Answers (before.ahead ++ call.given) now left' r → KeepsLimit now r → MatchResult r (λ _. ¬ IsTooLong before text) (λ error. error ≡ TooLong → IsTooLong before text)
+    by : (r : Result Bool LineError) → AnswersLine (before.ahead ++ call.given) now left' r → KeepsLimit now r → MatchResult r (λ _. ¬ HasTooMuch before text) (λ error. error ≡ TooLong → HasTooMuch before text)
     by (Ok true) (inl first) limit = not_ended before now left' call.given text call.counted call.limit all now.line first (within true limit)
     by (Ok true) (inr last) limit = not_at_end before now left' call.given text call.counted call.limit all last.1 (within true limit)
     by (Ok false) none limit = not_at_end before now left' call.given text call.counted call.limit all none.2 (within false limit)

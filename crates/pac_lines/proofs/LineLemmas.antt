@@ -5,7 +5,8 @@ use Rattle.std.proofs.Math.Seq.{take-add}
 use Rattle.std.proofs.lemmas.Bool.{eqb-true, ltb-true, ltb-false}
 use Rattle.std.proofs.lemmas.List.{take-append-drop, take_rest, drop-drop}
 use Rattle.std.proofs.lemmas.List.Folds.{list_any-append}
-use Rattle.pac_lines.specs.Lines.{AreLines, HandsOut, HasNoFeed, IsEndedLine, IsLastLine, Lines, all_lines, ended, has_feed, last_line, line_feed, lines_of, with_first}
+use Rattle.pac_value.specs.Ascii.{line_feed}
+use Rattle.pac_lines.specs.Lines.{AreLines, HandsOut, HasNoFeed, IsEndedLine, IsLastLine, Lines, all_lines, with_feed, has_feed, last_line, lines_of, with_first_byte}
 
 -- ---- where a line feed stands
 
@@ -110,21 +111,21 @@ lines-ended [] left none = refl
 lines-ended (b ∷ bs) left none = by (eqb b 10) none (lines-ended bs left)
   where
     by : (e : Bool) → (e || has_feed bs) ≡ false → (HasNoFeed bs → lines_of (bs ++ line_feed ∷ left) ≡ record { whole = bs ∷ (lines_of left).whole; rest = (lines_of left).rest })
-        → cond e (record { whole = [] ∷ (lines_of (bs ++ line_feed ∷ left)).whole; rest = (lines_of (bs ++ line_feed ∷ left)).rest }) (with_first b (lines_of (bs ++ line_feed ∷ left)).whole (lines_of (bs ++ line_feed ∷ left)).rest)
+        → cond e (record { whole = [] ∷ (lines_of (bs ++ line_feed ∷ left)).whole; rest = (lines_of (bs ++ line_feed ∷ left)).rest }) (with_first_byte b (lines_of (bs ++ line_feed ∷ left)).whole (lines_of (bs ++ line_feed ∷ left)).rest)
         ≡ record { whole = (b ∷ bs) ∷ (lines_of left).whole; rest = (lines_of left).rest }
     by true none more = absurd cc
-    by false none more = ap (λ (l : Lines). with_first b l.whole l.rest) (more none)
+    by false none more = ap (λ (l : Lines). with_first_byte b l.whole l.rest) (more none)
 
 pub lines-rest : (rest : List ℕ) → HasNoFeed rest → lines_of rest ≡ record { whole = []; rest = rest }
 lines-rest [] none = refl
 lines-rest (b ∷ bs) none = by (eqb b 10) none (lines-rest bs)
   where
     by : (e : Bool) → (e || has_feed bs) ≡ false → (HasNoFeed bs → lines_of bs ≡ record { whole = []; rest = bs })
-        → cond e (record { whole = [] ∷ (lines_of bs).whole; rest = (lines_of bs).rest }) (with_first b (lines_of bs).whole (lines_of bs).rest) ≡ record { whole = []; rest = b ∷ bs }
+        → cond e (record { whole = [] ∷ (lines_of bs).whole; rest = (lines_of bs).rest }) (with_first_byte b (lines_of bs).whole (lines_of bs).rest) ≡ record { whole = []; rest = b ∷ bs }
     by true none more = absurd cc
-    by false none more = ap (λ (l : Lines). with_first b l.whole l.rest) (more none)
+    by false none more = ap (λ (l : Lines). with_first_byte b l.whole l.rest) (more none)
 
-more_lines : (b : ℕ) (bs : List ℕ) (whole : List (List ℕ)) (rest : List ℕ) → eqb b 10 ≡ false → AreLines bs (record { whole = whole; rest = rest }) → AreLines (b ∷ bs) (with_first b whole rest)
+more_lines : (b : ℕ) (bs : List ℕ) (whole : List (List ℕ)) (rest : List ℕ) → eqb b 10 ≡ false → AreLines bs (record { whole = whole; rest = rest }) → AreLines (b ∷ bs) (with_first_byte b whole rest)
 more_lines b bs [] rest is lines = record { split = ap (λ l. b ∷ l) lines.split; whole = lines.whole; rest = no_feed-cons b rest is lines.rest }
 more_lines b bs (line ∷ others) rest is lines = record {
   split = ap (λ l. b ∷ l) lines.split;
@@ -137,15 +138,15 @@ lines_are [] = record { split = refl; whole = tt; rest = refl }
 lines_are (b ∷ bs) = by (eqb b 10) refl (lines_are bs)
   where
     by : (e : Bool) → eqb b 10 ≡ e → AreLines bs (lines_of bs)
-        → AreLines (b ∷ bs) (cond e (record { whole = [] ∷ (lines_of bs).whole; rest = (lines_of bs).rest }) (with_first b (lines_of bs).whole (lines_of bs).rest))
+        → AreLines (b ∷ bs) (cond e (record { whole = [] ∷ (lines_of bs).whole; rest = (lines_of bs).rest }) (with_first_byte b (lines_of bs).whole (lines_of bs).rest))
     by true is lines = let same : b ≡ 10 = eqb-true b 10 is in rw same (record { split = ap (λ l. 10 ∷ l) lines.split; whole = (refl, lines.whole); rest = lines.rest })
     by false is lines = more_lines b bs _ _ is lines
 
-joined-lines : (whole : List (List ℕ)) (rest : List ℕ) → AllByRecursion HasNoFeed whole → HasNoFeed rest → lines_of (flat_map ended whole ++ rest) ≡ record { whole = whole; rest = rest }
+joined-lines : (whole : List (List ℕ)) (rest : List ℕ) → AllByRecursion HasNoFeed whole → HasNoFeed rest → lines_of (flat_map with_feed whole ++ rest) ≡ record { whole = whole; rest = rest }
 joined-lines [] rest none end = lines-rest rest end
 joined-lines (line ∷ others) rest none end =
     let more = joined-lines others rest none.1 end in
-    let parts : flat_map ended (line ∷ others) ++ rest ≡ line ++ line_feed ∷ (flat_map ended others ++ rest) = append_assoc (ended line) (flat_map ended others) rest ∙ append_assoc line (line_feed ∷ []) _ in
+    let parts : flat_map with_feed (line ∷ others) ++ rest ≡ line ++ line_feed ∷ (flat_map with_feed others ++ rest) = append_assoc (with_feed line) (flat_map with_feed others) rest ∙ append_assoc line (line_feed ∷ []) _ in
     rw parts (lines-ended line _ none.0 ∙ ap (λ (l : Lines). record { whole = line ∷ l.whole; rest = l.rest }) more)
 
 pub only_lines : (text : List ℕ) (lines : Lines) → AreLines text lines → lines ≡ lines_of text

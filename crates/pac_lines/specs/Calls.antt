@@ -14,12 +14,12 @@ Keeps text now = (now.line ≡ []) × (now.ahead ≡ text)
 
 -- What is handed out of a text, which is what was ahead and then what the source gave: its first line that is ended, or
 -- its last one where the source is at its end; none where nothing is left of both. An error leaves all of it ahead.
-abbrev pub Answers : List ℕ → ReaderState → Option (List ℕ) → Result Bool LineError → Type 0
-Answers text now left (Ok true) = IsEndedLine text now.line now.ahead ⊎ (IsLastLine text now.line now.ahead × IsAtEnd left)
-Answers text now left (Ok false) = Keeps text now × (text ≡ []) × IsAtEnd left
-Answers text now left (Err Failed) = Keeps text now
-Answers text now left (Err TooLong) = Keeps text now × HasNoLine text
-Answers text now left (Err NoMemory) = Keeps text now
+abbrev pub AnswersLine : List ℕ → ReaderState → Option (List ℕ) → Result Bool LineError → Type 0
+AnswersLine text now left (Ok true) = IsEndedLine text now.line now.ahead ⊎ (IsLastLine text now.line now.ahead × IsAtEnd left)
+AnswersLine text now left (Ok false) = Keeps text now × (text ≡ []) × IsAtEnd left
+AnswersLine text now left (Err Failed) = Keeps text now
+AnswersLine text now left (Err TooLong) = Keeps text now × HasNoLine text
+AnswersLine text now left (Err NoMemory) = Keeps text now
 
 -- the source was read only while no line feed was ahead: but for the last read none gave any
 pub record IsReadOn (ahead given : List ℕ) : Type 0 where
@@ -36,7 +36,7 @@ pub record IsCall (before now : ReaderState) (left left' : Option (List ℕ)) (r
   pub counted : now.taken ≡ before.taken + length given
   pub limit : now.limit ≡ before.limit
   pub read : (given ≡ []) ⊎ IsReadOn before.ahead given
-  pub answer : Answers (before.ahead ++ given) now left' result
+  pub answer : AnswersLine (before.ahead ++ given) now left' result
 
 -- How a call keeps the limit: of the source no more is taken than the limit and one byte, and that one is what is too
 -- long.
@@ -67,6 +67,6 @@ abbrev pub room : ReaderState → ℕ
 room state = length state.ahead + state.limit - state.taken
 
 -- the text is longer, and no line feed stands in what may be handed out of it
-pub record IsTooLong (before : ReaderState) (text : List ℕ) : Type 0 where
+pub record HasTooMuch (before : ReaderState) (text : List ℕ) : Type 0 where
   pub longer : room before < length text
   pub none : HasNoFeed (take (room before) text)

@@ -1,9 +1,7 @@
 -- The lines of a text.
 use Rattle.std.specs.Prelude.{◌≡◌, ◌≢◌, ◌⊎◌, ℕ, Bool, true, false, nat_eq, List, [], ◌∷◌, ◌++◌, if◌then◌else◌}
 use Rattle.std.specs.List.{AllByRecursion, flat_map, list_any}
-
-abbrev pub line_feed : ℕ
-line_feed = 10
+use Rattle.pac_value.specs.Ascii.{line_feed}
 
 -- whether a line feed stands in the text
 abbrev pub has_feed : List ℕ → Bool
@@ -21,24 +19,24 @@ pub record Lines : Type 0 where
   pub rest : List ℕ
 
 -- a line and its line feed
-abbrev pub ended : List ℕ → List ℕ
-ended line = line ++ line_feed ∷ []
+abbrev pub with_feed : List ℕ → List ℕ
+with_feed line = line ++ line_feed ∷ []
 
 -- the text is these lines, each with its line feed, and then the rest; no line feed stands in one of them, or in the rest
 pub record AreLines (text : List ℕ) (lines : Lines) : Type 0 where
-  pub split : text ≡ flat_map ended lines.whole ++ lines.rest
+  pub split : text ≡ flat_map with_feed lines.whole ++ lines.rest
   pub whole : AllByRecursion HasNoFeed lines.whole
   pub rest : HasNoFeed lines.rest
 
 -- a byte more at the front of the first line, which is the rest where no line is whole
-abbrev pub with_first : ℕ → List (List ℕ) → List ℕ → Lines
-with_first b [] rest = record { whole = []; rest = b ∷ rest }
-with_first b (line ∷ others) rest = record { whole = (b ∷ line) ∷ others; rest = rest }
+abbrev pub with_first_byte : ℕ → List (List ℕ) → List ℕ → Lines
+with_first_byte b [] rest = record { whole = []; rest = b ∷ rest }
+with_first_byte b (line ∷ others) rest = record { whole = (b ∷ line) ∷ others; rest = rest }
 
 -- the lines of a text and its rest: the only ones that are such
 abbrev pub lines_of : List ℕ → Lines
 lines_of [] = record { whole = []; rest = [] }
-lines_of (b ∷ bs) = if nat_eq b line_feed then record { whole = [] ∷ (lines_of bs).whole; rest = (lines_of bs).rest } else with_first b (lines_of bs).whole (lines_of bs).rest
+lines_of (b ∷ bs) = if nat_eq b line_feed then record { whole = [] ∷ (lines_of bs).whole; rest = (lines_of bs).rest } else with_first_byte b (lines_of bs).whole (lines_of bs).rest
 
 -- the last line needs no line feed, unless it is empty
 abbrev pub last_line : List ℕ → List (List ℕ)

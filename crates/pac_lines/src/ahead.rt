@@ -2,7 +2,8 @@
 ghost use Rattle.std.specs.Prelude.{◌≡◌, ◌≤◌, ◌<◌, [], length, IfOk, IfSome, IsErrOf, IsTrue, IsFalse, MatchResult, nat_eq, nat_lt, position};
 ghost use Rattle.pac_outside.specs.Causes.{Rose};
 ghost use Rattle.pac_outside.specs.Content.{IsAtEnd};
-ghost use Rattle.pac_lines.specs.Lines.{HasNoFeed, IsEndedLine, line_feed};
+ghost use Rattle.pac_value.specs.Ascii.{line_feed};
+ghost use Rattle.pac_lines.specs.Lines.{HasNoFeed, IsEndedLine};
 ghost use Rattle.pac_lines.specs.Reading.{AheadState, IsGrown};
 
 use crate::LineError;

@@ -1,6 +1,6 @@
 // What holds of the lines of a text, and of calls that hand them out. Each law is a function without code.
 ghost use Rattle.std.specs.Prelude.{◌≡◌, ◌++◌, [], ℕ, Bool, List, Option, Some, Result, Ok, Err, MatchResult, false};
-ghost use Rattle.pac_lines.specs.Calls.{Calls, IsCall, IsTooLong, KeepsLimit, known};
+ghost use Rattle.pac_lines.specs.Calls.{Calls, IsCall, HasTooMuch, KeepsLimit, known};
 ghost use Rattle.pac_lines.specs.Lines.{AreLines, HandsOut, Lines, all_lines, lines_of};
 ghost use Rattle.pac_lines.specs.Reading.{ReaderState};
 ghost use Rattle.pac_lines.specs.declared.line_error.LineError.{LineError as ALineError};
@@ -28,7 +28,7 @@ pub fn calls_hand_out_lines()
 /// Of a text that is ahead and then left of the source, a call answers that it is too long only where it is, and hands
 /// out a line, or none, only where it isn't: where more than may be taken is ahead and left, and no line feed in what may.
 pub fn too_long_is_told_exactly()
-    ensures { (text : List ℕ) (before now : ReaderState) (left left' : Option (List ℕ)) (result : Result Bool ALineError) → IsCall before now left left' result → KeepsLimit now result → known before left ≡ Some text → MatchResult result (λ _. ¬ IsTooLong before text) (λ error. error ≡ TooLong → IsTooLong before text) }
+    ensures { (text : List ℕ) (before now : ReaderState) (left left' : Option (List ℕ)) (result : Result Bool ALineError) → IsCall before now left left' result → KeepsLimit now result → known before left ≡ Some text → MatchResult result (λ _. ¬ HasTooMuch before text) (λ error. error ≡ TooLong → HasTooMuch before text) }
 {}
 
 /// Behind an error, what is ahead and then left of the source is what it was before the call.

@@ -20,7 +20,7 @@ use Rattle.pac_recover.specs.Damages.{IsDamagedLog, IsDamagedSlot}
 use Rattle.pac_recover.specs.Recovering.{AbortsIn, IsFrontOverLimit, IsOverIn, IsRecoveredFrom, IsRecoveredFront, Recovers}
 use Rattle.pac_report.specs.Dump.{tables_text}
 use Rattle.pac_main.specs.Causes.{IsFrontUnrecovered, IsRecovered, IsUnrecovered, RecoverStops}
-use Rattle.pac_main.specs.Recover.{HasNoStore, IsDumpOfFront, IsFaultless, IsRecovery, IsRefusedStore, RecoverEnds, RecoversFront, StaysWithin, WhereHeld}
+use Rattle.pac_main.specs.Recover.{HasNoStore, IsDumpOfFront, IsFaultless, IsRecovery, IsRefusedStore, RecoverEnds, RecoversFront, StaysInLimit, WhereHeld}
 use Rattle.pac_main.specs.Stop.{line_of, status_of, stop_of_recover, takes_memory}
 use Rattle.pac_main.specs.Streams.{IsOneOf, IsTaken, IsTold, Observed, ObservedDevices}
 use Rattle.pac_main.specs.declared.stop.Stop.{Stop}
@@ -169,10 +169,10 @@ module _ (limit : ℕ) (devices : ObservedDevices) (sink errors : Observed) wher
     not_refused stop (inr (inl is)) h f = subst (IsFrontUnrecovered limit catalogue history least sink) is f
     not_refused stop (inr (inr d)) h f = subst (IsFrontUnrecovered limit catalogue history least sink) d.is f
 
-    over : (name : List ℕ) (rows : ℕ) → IsFrontOverLimit catalogue history least name rows limit → StaysWithin limit catalogue history least → ⊥
+    over : (name : List ℕ) (rows : ℕ) → IsFrontOverLimit catalogue history least name rows limit → StaysInLimit limit catalogue history least → ⊥
     over name rows f stays = let none = stays f.held (record { count = f.count; enough = f.enough; within = f.within; ends = f.ends }) in let some = f.over.1 in absurd cc
 
-    complete : (stop : Stop) → IsUnrecovered limit devices sink stop → IsFrontUnrecovered limit catalogue history least sink stop → IsFaultless devices sink → StaysWithin limit catalogue history least → IsOneOf (status_of stop) (0 ∷ 9 ∷ [])
+    complete : (stop : Stop) → IsUnrecovered limit devices sink stop → IsFrontUnrecovered limit catalogue history least sink stop → IsFaultless devices sink → StaysInLimit limit catalogue history least → IsOneOf (status_of stop) (0 ∷ 9 ∷ [])
     complete NoStore h f none stays = absurd f
     complete (Damaged damage) h f none stays = absurd f
     complete (Aborted note) h f none stays = absurd f

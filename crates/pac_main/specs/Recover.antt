@@ -64,8 +64,8 @@ pub record IsDumpOfFront (limit : ℕ) (catalogue : CatalogueState) (history : L
   pub has : P (tables_text tables 0 catalogue.tables)
 
 -- no such tables are over the limit
-abbrev pub StaysWithin : ℕ → CatalogueState → List Txn → ℕ → Type 0
-StaysWithin limit catalogue history least = (tables : Tables) → AreOfFront catalogue history least tables → first_over limit (length catalogue.tables) tables ≡ None
+abbrev pub StaysInLimit : ℕ → CatalogueState → List Txn → ℕ → Type 0
+StaysInLimit limit catalogue history least = (tables : Tables) → AreOfFront catalogue history least tables → first_over limit (length catalogue.tables) tables ≡ None
 
 -- no count of faults rose, of a device or of the output
 abbrev pub IsFaultless : ObservedDevices → Observed → Type 0
@@ -80,7 +80,7 @@ pub record RecoversFront (limit status : ℕ) (catalogue : CatalogueState) (hist
   pub executes : status ≢ 4
   pub over_limit : status ≡ 5 → (name : List ℕ) × (rows : ℕ) × IsFrontOverLimit catalogue history least name rows limit
   pub output_fault : status ≡ 7 → IsDumpOfFront limit catalogue history least (IsFrontTaken output)
-  pub complete : IsFaultless devices output → StaysWithin limit catalogue history least → IsOneOf status (0 ∷ 9 ∷ [])
+  pub complete : IsFaultless devices output → StaysInLimit limit catalogue history least → IsOneOf status (0 ∷ 9 ∷ [])
 
 -- ---- the statuses
 
