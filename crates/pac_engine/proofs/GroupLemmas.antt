@@ -1,6 +1,7 @@
 -- The groups that a step closes, and the group that an engine is within.
 use Rattle.std.proofs.Common.{◌≡◌, ◌∙◌, inl, inr, ℕ, ◌+◌, ◌<◌, ◌≤◌, Bool, true, false, List, [], ◌∷◌, ◌++◌, length, refl, sym, ap, subst, arith, length-append}
 use Rattle.std.specs.Prelude.{if◌then◌else◌, nat_le, ◌||◌}
+use Rattle.std.specs.List.{AllByRecursion}
 use Rattle.std.proofs.lemmas.List.{append-nil}
 use Rattle.pac_value.specs.State.{Tables}
 use Rattle.pac_ops.specs.declared.transaction.Txn.{Txn}
@@ -17,7 +18,7 @@ use Rattle.pac_engine.specs.declared.fault.EngineCause.{EngineCause}
 use Rattle.pac_engine.specs.declared.fault.EngineCause.TheVariants.{DiskFault, LogFull, TooLarge, Ended, NoMemory}
 use Rattle.pac_engine.specs.declared.parts.EngineParts.{EngineParts}
 use Rattle.pac_engine.specs.Committing.{HasRoomAt, IsOverFull, gate_after}
-use Rattle.pac_engine.specs.Closing.{Closes, IsTooLarge, IsUnsaved, StopsAt, slot_len}
+use Rattle.pac_engine.specs.Closing.{Closes, GroupFits, IsTooLarge, IsUnsaved, StopsAt, place_after, slot_len}
 use Rattle.pac_engine.specs.Moves.{committed_parts, saved_parts, with_request}
 use Rattle.pac_engine.proofs.BodyLemmas.{place-after}
 
@@ -133,28 +134,28 @@ module _ (mid : EngineParts) (start : SessionState) (group : List Request) (is :
 abbrev pub the_group : Rules → ℕ → SessionState → List Request → Group
 the_group rules place start group = record { requests = group; txns = committed rules start group; replies = replies rules start group; place = place }
 
--- the group that is closed has these transactions, and nothing was given out
-module _ (rules : Rules) (place : ℕ) (start : SessionState) (group : List Request) (asked : Request) (closed : List (List Request)) (one : List Request) (is_one : closed ≡ one ∷ [])
-    (txns : List Txn) (body : txns ≡ committed rules start one) where
+-- one group is closed, of these transactions
+module _ (rules : Rules) (place : ℕ) (start : SessionState) (closed : List (List Request)) (one : List Request) (is_one : closed ≡ one ∷ []) (txns : List Txn) (body : txns ≡ committed rules start one) where
   one-described : described rules place start closed ≡ the_group rules place start one ∷ []
   one-described = ap (λ (c : List (List Request)). described rules place start c) is_one
 
+  -- nothing was given out
   pub close-stops : (cause : EngineCause) (given : List Reply) → given ≡ [] → ((bytes : ℕ) → cause ≡ TooLarge bytes → ⊥) → (cause ≡ Ended → ⊥) → ((need : ℕ) → cause ≡ LogFull need → IsOverFull place txns need) → (cause ≡ DiskFault → 0 < length txns)
-      → StopsAt rules place start group asked (described rules place start closed) given cause
+      → StopsAt rules place start closed given cause
   close-stops DiskFault given none known on full called =
       inl (record { before = []; group = the_group rules place start one; rest = []; split = one-described; replied = none; fit = tt; here = subst (λ (l : List Txn). 0 < length l) body (called refl) })
   close-stops NoMemory given none known on full called = inl (record { before = []; rest = described rules place start closed; split = refl; replied = none })
   close-stops (TooLarge bytes) given none known on full called = absurd (known bytes refl)
-  close-stops Ended given none known on full called = none
+  close-stops Ended given none known on full called = absurd (on refl)
   close-stops (LogFull need) given none known on full called =
       record { before = []; group = the_group rules place start one; rest = []; split = one-described; replied = none; fit = tt; here = subst (λ (l : List Txn). IsOverFull place l need) body (full need refl) }
 
-  -- or its replies were
-  pub closed-stops : (given : List Reply) → given ≡ replies rules start one → StopsAt rules place start group asked (described rules place start closed) given NoMemory
+  -- its replies were
+  pub closed-stops : (given : List Reply) → given ≡ replies rules start one → StopsAt rules place start closed given NoMemory
   closed-stops given gave = inl (record { before = described rules place start closed; rest = []; split = sym (append-nil (described rules place start closed)); replied = gave ∙ sym (append-nil (replies rules start one)) ∙ sym (ap (λ (g : List Group). all_replies g) one-described) })
 
-pub memory-stops : (rules : Rules) (place : ℕ) (start : SessionState) (group : List Request) (asked : Request) (groups : List Group) (cause : EngineCause) (given : List Reply) → given ≡ [] → cause ≡ NoMemory → StopsAt rules place start group asked groups given cause
-memory-stops rules place start group asked groups cause given none is = subst (λ (c : EngineCause). StopsAt rules place start group asked groups given c) (sym is) (inl (record { before = []; rest = groups; split = refl; replied = none }))
+pub memory-stops : (rules : Rules) (place : ℕ) (start : SessionState) (closed : List (List Request)) (cause : EngineCause) (given : List Reply) → given ≡ [] → cause ≡ NoMemory → StopsAt rules place start closed given cause
+memory-stops rules place start closed cause given none is = subst (λ (c : EngineCause). StopsAt rules place start closed given c) (sym is) (inl (record { before = []; rest = described rules place start closed; split = refl; replied = none }))
 
 -- ---- a save
 
@@ -183,24 +184,45 @@ module _ (e : EngineParts) (start : SessionState) (group : List Request) (is : I
       (subst (λ (l : List Txn). HasRoomAt e.log.gate.place l) body room) (place-after e.session.txns e.log.gate ∙ ap (λ (l : List Txn). place_behind e.log.gate.place l) body) refl
       (subst (λ (s : SessionState). IsInGroup s [] (with_closed e.session)) (sym save-here) (group-closed start group e.session is)))
 
-  unsaved : (given : List Reply) → given ≡ e.session.held → IsUnsaved rules place start group request.Save given
-  unsaved given gave = record { saving = refl; replied = gave ∙ is.answers; fits = subst (λ (l : List Txn). HasRoomAt e.log.gate.place l) is.body room }
+  module _ (closed : List (List Request)) (is_one : closed ≡ (group ++ request.Save ∷ []) ∷ []) (given : List Reply) (gave : given ≡ e.session.held) where
+    groups-are : described rules place start closed ≡ the_group rules place start (group ++ request.Save ∷ []) ∷ []
+    groups-are = ap (λ (c : List (List Request)). described rules place start c) is_one
 
-  pub save-stops : (groups : List Group) (cause : EngineCause) (given : List Reply) → given ≡ e.session.held → (cause ≡ Ended → ⊥) → ((need : ℕ) → cause ≡ LogFull need → ⊥)
-      → ((bytes : ℕ) → cause ≡ TooLarge bytes → IsTooLarge rules place start group request.Save bytes given)
-      → StopsAt (rules_of e.session) e.log.gate.place start group request.Save groups given cause
-  save-stops groups DiskFault given gave on full large = inr (unsaved given gave)
-  save-stops groups NoMemory given gave on full large = inr (unsaved given gave)
-  save-stops groups (LogFull need) given gave on full large = absurd (full need refl)
-  save-stops groups Ended given gave on full large = absurd (on refl)
-  save-stops groups (TooLarge bytes) given gave on full large = large bytes refl
+    pub unsaved : IsUnsaved (described (rules_of e.session) e.log.gate.place start closed) given
+    unsaved = record {
+      before = [];
+      group = the_group rules place start (group ++ request.Save ∷ []);
+      asked = group;
+      held = replies rules start group;
+      number = (ends rules start group).number;
+      split = groups-are;
+      saving = refl;
+      answers = replies-push rules start group request.Save;
+      replied = gave ∙ is.answers;
+      fit = subst (λ (g : List Group). AllByRecursion GroupFits g) (sym groups-are) (subst (λ (l : List Txn). HasRoomAt place l) (is.body ∙ sym (save-commits rules start group)) room, tt);
+    }
 
-  pub save-large : (bytes : ℕ) (given : List Reply) → given ≡ e.session.held → bytes ≡ slot_len (rules_of e.session) (state_now (with_closed e.session)) (gate_after e.session.txns e.log.gate).place → MAX_SLOT_LEN < bytes → IsTooLarge rules place start group request.Save bytes given
-  save-large bytes given gave long over = record {
-    unsaved = unsaved given gave;
-    is = long ∙ ap (λ (s : SessionState). slot_len rules s (gate_after e.session.txns e.log.gate).place) (closed-state e.session ∙ sym is.here) ∙ ap (λ (p : ℕ). slot_len rules (ends rules start group) p) (group-place e start group is room);
-    over = over;
-  }
+    save-place : place_after place (described rules place start closed) ≡ (gate_after e.session.txns e.log.gate).place
+    save-place = ap (λ (g : List Group). place_after place g) groups-are ∙ ap (λ (l : List Txn). place_behind place l) (save-commits rules start group) ∙ sym (group-place e start group is room)
+
+    save-state : ends rules start (all_requests closed) ≡ state_now (with_closed e.session)
+    save-state = ap (λ (c : List (List Request)). ends rules start (all_requests c)) is_one ∙ ap (λ (g : List Request). ends rules start g) (append-nil (group ++ request.Save ∷ [])) ∙ save-here ∙ is.here ∙ sym (closed-state e.session)
+
+    pub save-large : (bytes : ℕ) → bytes ≡ slot_len (rules_of e.session) (state_now (with_closed e.session)) (gate_after e.session.txns e.log.gate).place → MAX_SLOT_LEN < bytes → IsTooLarge (rules_of e.session) e.log.gate.place start closed bytes given
+    save-large bytes long over = record {
+      unsaved = unsaved;
+      is = long ∙ ap (λ (s : SessionState). slot_len rules s (gate_after e.session.txns e.log.gate).place) (sym save-state) ∙ ap (λ (p : ℕ). slot_len rules (ends rules start (all_requests closed)) p) (sym save-place);
+      over = over;
+    }
+
+    pub save-stops : (cause : EngineCause) → (cause ≡ Ended → ⊥) → ((need : ℕ) → cause ≡ LogFull need → ⊥)
+        → ((bytes : ℕ) → cause ≡ TooLarge bytes → (bytes ≡ slot_len (rules_of e.session) (state_now (with_closed e.session)) (gate_after e.session.txns e.log.gate).place) × (MAX_SLOT_LEN < bytes))
+        → StopsAt (rules_of e.session) e.log.gate.place start closed given cause
+    save-stops DiskFault on full large = inr unsaved
+    save-stops NoMemory on full large = inr unsaved
+    save-stops (LogFull need) on full large = absurd (full need refl)
+    save-stops Ended on full large = absurd (on refl)
+    save-stops (TooLarge bytes) on full large = let much = large bytes refl in save-large bytes much.0 much.1
 
 -- what a checkpoint takes is said of the group before it is closed
 pub saved-small : (e : EngineParts) → slot_len (rules_of e.session) (state_now (with_closed e.session)) (gate_after e.session.txns e.log.gate).place ≤ MAX_SLOT_LEN → slot_len (rules_of e.session) (state_now e.session) (place_behind e.log.gate.place e.session.txns) ≤ MAX_SLOT_LEN

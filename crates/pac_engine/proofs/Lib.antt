@@ -9,3 +9,4 @@ pub mod SaveLemmas
 pub mod MoveLemmas
 pub mod GroupLemmas
 pub mod StepLemmas
+pub mod LawLemmas

@@ -22,13 +22,14 @@ use Rattle.pac_engine.specs.declared.fault.EngineCause.{EngineCause}
 use Rattle.pac_engine.specs.declared.fault.EngineCause.TheVariants.{DiskFault, LogFull, TooLarge, Ended, NoMemory}
 use Rattle.pac_engine.specs.declared.parts.EngineParts.{EngineParts}
 use Rattle.pac_engine.specs.Committing.{HasRoomAt, IsOverFull}
-use Rattle.pac_engine.specs.Closing.{Closes, IsKept, StopsFor}
+use Rattle.pac_check.specs.declared.limits.TheConstants.{MAX_SLOT_LEN}
+use Rattle.pac_engine.specs.Closing.{Closes, IsKept, StopsAt, slot_len}
 use Rattle.pac_engine.specs.Moves.{IsAsked, IsHeldBy, IsLive, IsWorking, committed_parts, saved_parts, with_request}
 use Rattle.pac_engine.specs.Standing.{EngineStands, KeepsHistory, KeepsMore, StandsForMore, StandsOn, TellsIf, durable_of, saved_of}
 use Rattle.pac_engine.proofs.BodyLemmas.{txns-after}
 use Rattle.pac_engine.proofs.SavingLemmas.{saves-all}
 use Rattle.pac_engine.proofs.DeviceLemmas.{rest-told, told-then, told-weaken}
-use Rattle.pac_engine.proofs.GroupLemmas.{close-stops, closed-state, closed-stops, closes-before, closes-closed, closes-none, closes-saved, cut-before, cut-closed, cut-later, group-asked, save-commits}
+use Rattle.pac_engine.proofs.GroupLemmas.{close-stops, closed-state, closed-stops, closes-before, closes-closed, closes-none, closes-saved, cut-before, cut-closed, cut-later, group-asked, save-commits, save-stops}
 use Rattle.pac_engine.proofs.MoveLemmas.{all-held-kept, kept-and-saved, one-reply, run-asked, with_session}
 use Rattle.pac_engine.proofs.StandingLemmas.{asked-history, asked-keeps, asked-stands, keeps-as, keeps-longer, keeps-then}
 
@@ -65,9 +66,9 @@ module _ (before now : EngineParts) (asked : Request) (closing : Bool) (is : IsA
           (gave ∙ ap (λ (e : EngineParts). e.session.held) is.becomes) (becomes ∙ ap committed_parts is.becomes)
 
       pub behind-stops : (cause : EngineCause) (given : List Reply) → given ≡ [] → ((bytes : ℕ) → cause ≡ TooLarge bytes → ⊥) → (cause ≡ Ended → ⊥) → ((need : ℕ) → cause ≡ LogFull need → IsOverFull now.log.gate.place now.session.txns need) → (cause ≡ DiskFault → 0 < length now.session.txns)
-          → StopsFor (rules_of before.session) before.log.gate.place start group asked given cause
+          → StopsAt (rules_of before.session) before.log.gate.place start (cut_one (rules_of before.session) start group asked).closed given cause
       behind-stops cause given none known on full called =
-          close-stops rules before.log.gate.place start group asked (cut_one rules start group asked).closed (group ++ asked ∷ []) (ap (λ (cut : GroupCut). cut.closed) cut-is) (with_asked asked before.session).txns more.body cause given none known on
+          close-stops rules before.log.gate.place start (cut_one rules start group asked).closed (group ++ asked ∷ []) (ap (λ (cut : GroupCut). cut.closed) cut-is) (with_asked asked before.session).txns more.body cause given none known on
           (λ need e. subst (λ (p : EngineParts). IsOverFull p.log.gate.place p.session.txns need) is.becomes (full need e)) (λ e. subst (λ (p : EngineParts). 0 < length p.session.txns) is.becomes (called e))
 
 -- what is told of a group that was closed is durable
@@ -192,11 +193,11 @@ module _ (e : EngineParts) (live : IsLive e) (asked : Request) (txn : Txn) (asks
   anew-closes given new gave becomes room = closes-before e start group within room asked (cut_one (rules_of e.session) start group asked) given new anew-cut gave becomes
 
   pub anew-stops : (cause : EngineCause) (given : List Reply) → given ≡ [] → ((bytes : ℕ) → cause ≡ TooLarge bytes → ⊥) → (cause ≡ Ended → ⊥) → ((need : ℕ) → cause ≡ LogFull need → IsOverFull e.log.gate.place e.session.txns need) → (cause ≡ DiskFault → 0 < length e.session.txns)
-      → StopsFor (rules_of e.session) e.log.gate.place start group asked given cause
-  anew-stops = close-stops (rules_of e.session) e.log.gate.place start group asked (cut_one (rules_of e.session) start group asked).closed group (ap (λ (cut : GroupCut). cut.closed) anew-cut) e.session.txns within.body
+      → StopsAt (rules_of e.session) e.log.gate.place start (cut_one (rules_of e.session) start group asked).closed given cause
+  anew-stops = close-stops (rules_of e.session) e.log.gate.place start (cut_one (rules_of e.session) start group asked).closed group (ap (λ (cut : GroupCut). cut.closed) anew-cut) e.session.txns within.body
 
-  pub anew-unrun : (given : List Reply) → given ≡ e.session.held → StopsFor (rules_of e.session) e.log.gate.place start group asked given NoMemory
-  anew-unrun given gave = closed-stops (rules_of e.session) e.log.gate.place start group asked (cut_one (rules_of e.session) start group asked).closed group (ap (λ (cut : GroupCut). cut.closed) anew-cut) e.session.txns within.body given (gave ∙ within.answers)
+  pub anew-unrun : (given : List Reply) → given ≡ e.session.held → StopsAt (rules_of e.session) e.log.gate.place start (cut_one (rules_of e.session) start group asked).closed given NoMemory
+  anew-unrun given gave = closed-stops (rules_of e.session) e.log.gate.place start (cut_one (rules_of e.session) start group asked).closed group (ap (λ (cut : GroupCut). cut.closed) anew-cut) e.session.txns within.body given (gave ∙ within.answers)
 
 -- a transaction that was run, as a request
 pub ran-parts : (e mid : EngineParts) (ran : Open) (asked : Request) (txn : Txn) → txn_of asked ≡ Some txn → mid ≡ committed_parts e → ran ≡ with_run txn mid.session → with_session ran mid ≡ with_request asked (committed_parts e)
@@ -232,9 +233,18 @@ module _ (e : EngineParts) (counted : e.log.gate.txns ≡ e.session.before) (sta
       (told ∙ ap (λ (l : List Reply). l ++ reply.Saved mid.log.gate.txns ∷ []) gave) number (saved ∙ ap saved_parts closed)
 
   pub checkpoint-stops : (cause : EngineCause) (given : List Reply) → given ≡ [] → ((bytes : ℕ) → cause ≡ TooLarge bytes → ⊥) → (cause ≡ Ended → ⊥) → ((need : ℕ) → cause ≡ LogFull need → IsOverFull e.log.gate.place e.session.txns need) → (cause ≡ DiskFault → 0 < length e.session.txns)
-      → StopsFor (rules_of e.session) e.log.gate.place start group request.Save given cause
-  checkpoint-stops = close-stops (rules_of e.session) e.log.gate.place start group request.Save (cut_one (rules_of e.session) start group request.Save).closed (group ++ request.Save ∷ []) (ap (λ (cut : GroupCut). cut.closed) save-cut)
+      → StopsAt (rules_of e.session) e.log.gate.place start (cut_one (rules_of e.session) start group request.Save).closed given cause
+  checkpoint-stops = close-stops (rules_of e.session) e.log.gate.place start (cut_one (rules_of e.session) start group request.Save).closed (group ++ request.Save ∷ []) (ap (λ (cut : GroupCut). cut.closed) save-cut)
       e.session.txns (within.body ∙ sym (save-commits (rules_of e.session) start group))
+
+  -- the group's replies were given out, but not that of the save
+  pub checkpoint-unsaved : HasRoomAt e.log.gate.place e.session.txns → (mid : EngineParts) (replies given : List Reply) → mid ≡ committed_parts e → replies ≡ e.session.held → given ≡ replies
+      → (cause : EngineCause) → (cause ≡ Ended → ⊥) → ((need : ℕ) → cause ≡ LogFull need → ⊥)
+      → ((bytes : ℕ) → cause ≡ TooLarge bytes → (bytes ≡ slot_len (rules_of mid.session) (state_now mid.session) mid.log.gate.place) × (MAX_SLOT_LEN < bytes))
+      → StopsAt (rules_of e.session) e.log.gate.place start (cut_one (rules_of e.session) start group request.Save).closed given cause
+  checkpoint-unsaved room mid replies given closed gave untold cause on full large =
+      save-stops e start group within room (cut_one (rules_of e.session) start group request.Save).closed (ap (λ (cut : GroupCut). cut.closed) save-cut) given (untold ∙ gave) cause on full
+      (λ bytes is. let much = large bytes is in (much.0 ∙ ap (λ (m : EngineParts). slot_len (rules_of m.session) (state_now m.session) m.log.gate.place) closed, much.1))
 
 module _ (text : List ℕ) (history : List Txn) (e mid new : EngineParts) (closed : mid ≡ committed_parts e) (x y z : Option (List History)) (stands : TellsIf (StandsOn text history e) (λ was is. StandsOn text (history ++ []) mid is) x y) where
   pub checkpoint-keeps : TellsIf (StandsOn text history e) (KeepsHistory text (history ++ []) e mid) x y → TellsIf (StandsOn text (history ++ []) mid) (KeepsHistory text ((history ++ []) ++ []) mid new) y z

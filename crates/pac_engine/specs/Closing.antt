@@ -9,8 +9,8 @@ use Rattle.pac_request.specs.declared.request.Reply.TheVariants as reply
 use Rattle.pac_check.specs.declared.limits.TheConstants.{MAX_SLOT_LEN}
 use Rattle.pac_check.specs.Checkpoints.{checkpoint_bytes, head_with}
 use Rattle.pac_check.specs.Saved.{checkpoint_of}
-use Rattle.pac_session.specs.Session.{Rules, SessionState, ends, replies, committed}
-use Rattle.pac_session.specs.Groups.{Group, GroupCut, all_replies, all_requests, cut_one, described, place_behind}
+use Rattle.pac_session.specs.Session.{Rules, SessionState, ends}
+use Rattle.pac_session.specs.Groups.{Group, GroupCut, all_replies, all_requests, described, place_behind}
 use Rattle.pac_session.specs.Open.{IsInGroup, rules_of}
 use Rattle.pac_engine.specs.declared.fault.EngineCause.{EngineCause}
 use Rattle.pac_engine.specs.declared.fault.EngineCause.TheVariants.{DiskFault, LogFull, TooLarge, Ended, NoMemory}
@@ -76,29 +76,37 @@ HasTransactions group = 0 < length group.txns
 abbrev pub NeedsTooMuch : ℕ → Group → Type 0
 NeedsTooMuch need group = IsOverFull group.place group.txns need
 
--- a save ends the group, which fits the log, and its replies are given out, without that of the save
-pub record IsUnsaved (rules : Rules) (place : ℕ) (start : SessionState) (group : List Request) (asked : Request) (given : List Reply) : Type 0 where
-  pub saving : asked ≡ request.Save
-  pub replied : given ≡ replies rules start group
-  pub fits : HasRoomAt place (committed rules start group)
+-- A save ends the last of these groups, all of which fit the log. The replies are those of all of them, without that of the
+-- save.
+pub record IsUnsaved (groups : List Group) (given : List Reply) : Type 0 where
+  pub before : List Group
+  pub group : Group
+  pub asked : List Request
+  pub held : List Reply
+  pub number : ℕ
+  pub split : groups ≡ before ++ (group ∷ [])
+  pub saving : group.requests ≡ asked ++ (request.Save ∷ [])
+  pub answers : group.replies ≡ held ++ (reply.Saved number ∷ [])
+  pub replied : given ≡ all_replies before ++ held
+  pub fit : AllByRecursion GroupFits groups
 
 -- how many bytes a slot has with the checkpoint of these tables, the log's gate being at this place
 abbrev pub slot_len : Rules → SessionState → ℕ → ℕ
 slot_len rules state place = 1 + length (checkpoint_bytes (checkpoint_of (length rules.catalogue.tables) (head_with state.number place) state.tables))
 
--- and the slot would have this many bytes, which is too many
-pub record IsTooLarge (rules : Rules) (place : ℕ) (start : SessionState) (group : List Request) (asked : Request) (bytes : ℕ) (given : List Reply) : Type 0 where
-  pub unsaved : IsUnsaved rules place start group asked given
-  pub is : bytes ≡ slot_len rules (ends rules start group) (place_behind place (committed rules start group))
+-- and with the checkpoint behind these groups a slot would have this many bytes, which is too many
+pub record IsTooLarge (rules : Rules) (place : ℕ) (start : SessionState) (closed : List (List Request)) (bytes : ℕ) (given : List Reply) : Type 0 where
+  pub unsaved : IsUnsaved (described rules place start closed) given
+  pub is : bytes ≡ slot_len rules (ends rules start (all_requests closed)) (place_after place (described rules place start closed))
   pub over : MAX_SLOT_LEN < bytes
 
--- why a step stops that would have closed these groups, behind a group of these requests, and what it gave out before
-abbrev pub StopsAt : Rules → ℕ → SessionState → List Request → Request → List Group → List Reply → EngineCause → Type 0
-StopsAt rules place start group asked groups given DiskFault = IsUpToGroup HasTransactions groups given ⊎ IsUnsaved rules place start group asked given
-StopsAt rules place start group asked groups given (LogFull need) = IsUpToGroup (NeedsTooMuch need) groups given
-StopsAt rules place start group asked groups given (TooLarge bytes) = IsTooLarge rules place start group asked bytes given
-StopsAt rules place start group asked groups given Ended = given ≡ []
-StopsAt rules place start group asked groups given NoMemory = IsUpToSome groups given ⊎ IsUnsaved rules place start group asked given
+-- Requests are cut into these groups, and it stops at one of them for this cause, with these replies given out.
+abbrev pub StopsAt : Rules → ℕ → SessionState → List (List Request) → List Reply → EngineCause → Type 0
+StopsAt rules place start closed given DiskFault = IsUpToGroup HasTransactions (described rules place start closed) given ⊎ IsUnsaved (described rules place start closed) given
+StopsAt rules place start closed given (LogFull need) = IsUpToGroup (NeedsTooMuch need) (described rules place start closed) given
+StopsAt rules place start closed given (TooLarge bytes) = IsTooLarge rules place start closed bytes given
+StopsAt rules place start closed given Ended = ⊥
+StopsAt rules place start closed given NoMemory = IsUpToSome (described rules place start closed) given ⊎ IsUnsaved (described rules place start closed) given
 
 -- Of a fault of a device the count of one device rose by one, and no call of any came after it. Else no call failed.
 abbrev pub CountsFault : EngineCause → List ℕ → List ℕ → Type 0
@@ -107,10 +115,6 @@ CountsFault (LogFull need) before now = now ≡ before
 CountsFault (TooLarge bytes) before now = now ≡ before
 CountsFault Ended before now = now ≡ before
 CountsFault NoMemory before now = now ≡ before
-
--- the same, of the groups that the request would have closed
-abbrev pub StopsFor : Rules → ℕ → SessionState → List Request → Request → List Reply → EngineCause → Type 0
-StopsFor rules place start group asked given cause = StopsAt rules place start group asked (described rules place start (cut_one rules start group asked).closed) given cause
 
 -- the request ends the engine
 abbrev pub is_stop : Request → Bool

@@ -12,7 +12,7 @@ ghost use Rattle.pac_request.specs.RequestFits.{RequestFits};
 ghost use Rattle.pac_session.specs.Session.{SessionState, commits};
 ghost use Rattle.pac_session.specs.Groups.{cut_one, place_behind};
 ghost use Rattle.pac_session.specs.Open.{IsInGroup, rules_of, state_now};
-ghost use Rattle.pac_engine.specs.Closing.{Closes, CountsFault, IsKept, StopsFor, is_stop, slot_len};
+ghost use Rattle.pac_engine.specs.Closing.{Closes, CountsFault, IsKept, StopsAt, is_stop, slot_len};
 ghost use Rattle.pac_engine.specs.Standing.{HasDevices, KeepsMore, StandsForMore};
 
 use crate::{EngineCause, EngineFault, EngineParts};
@@ -93,6 +93,13 @@ impl Engine {
         }
     }
 
+    /// The catalogue.
+    pub fn catalogue(&self) -> &Catalogue
+        ensures { result.now ≡ self.now.session.catalogue }
+    {
+        self.parts.session.catalogue()
+    }
+
     /// Does what one request asks. A transaction is executed, and where the open group has no room for its entry that is
     /// closed first; the reply is held. The group is closed where it is full then, or the request closes it: its transactions
     /// are committed, and the replies that it held are given out. A save then puts a checkpoint into a slot, and a stop ends
@@ -120,8 +127,8 @@ impl Engine {
         // closed before.
         ensures closes { (start : SessionState) (group : List ARequest) → IsInGroup start group self.old.session
             → IfOk result (λ given. Closes (rules_of self.old.session) self.old.log.gate.place start (cut_one (rules_of self.old.session) start group request) given self.new) }
-        ensures stops { (start : SessionState) (group : List ARequest) → IsInGroup start group self.old.session
-            → IfErr result (λ fault. StopsFor (rules_of self.old.session) self.old.log.gate.place start group request fault.replies fault.cause) }
+        ensures stops { self.old.ended ≡ false → (start : SessionState) (group : List ARequest) → IsInGroup start group self.old.session
+            → IfErr result (λ fault. StopsAt (rules_of self.old.session) self.old.log.gate.place start (cut_one (rules_of self.old.session) start group request).closed fault.replies fault.cause) }
         ensures small { request ≡ ARequest.Save → OnOk result (slot_len (rules_of self.old.session) (state_now self.old.session) (place_behind self.old.log.gate.place self.old.session.txns) ≤ MAX_SLOT_LEN) }
 
         // What they tell of is durable.

@@ -10,7 +10,7 @@ ghost use Rattle.pac_request.specs.RequestFits.{RequestFits};
 ghost use Rattle.pac_session.specs.Session.{SessionState, commits, txn_of};
 ghost use Rattle.pac_session.specs.Groups.{cut_one, is_closing, lacks_room, place_behind};
 ghost use Rattle.pac_session.specs.Open.{IsInGroup, rules_of, state_now};
-ghost use Rattle.pac_engine.specs.Closing.{Closes, CountsFault, IsKept, StopsFor, slot_len};
+ghost use Rattle.pac_engine.specs.Closing.{Closes, CountsFault, IsKept, StopsAt, slot_len};
 ghost use Rattle.pac_engine.specs.Moves.{IsAsked, IsHeldBy, IsLive, IsWorking, saved_parts};
 ghost use Rattle.pac_engine.specs.Standing.{HasDevices, KeepsMore, StandsForMore};
 ghost use Rattle.pac_engine.specs.declared.parts.EngineParts.{EngineParts as AParts};
@@ -77,7 +77,7 @@ impl EngineParts {
         ensures closes { (before : AParts) (asked : ARequest) → IsAsked before asked closing self.old → (start : SessionState) (group : List ARequest) → IsInGroup start group before.session
             → IfOk result (λ given. Closes (rules_of before.session) before.log.gate.place start (cut_one (rules_of before.session) start group asked) given self.new) }
         ensures stops { (before : AParts) (asked : ARequest) → IsAsked before asked closing self.old → (start : SessionState) (group : List ARequest) → IsInGroup start group before.session
-            → IfErr result (λ fault. StopsFor (rules_of before.session) before.log.gate.place start group asked fault.replies fault.cause) }
+            → IfErr result (λ fault. StopsAt (rules_of before.session) before.log.gate.place start (cut_one (rules_of before.session) start group asked).closed fault.replies fault.cause) }
         ensures kept { IfOk result (λ given. AllByRecursion (IsKept self.new) given) }
         ensures kept_before { IfErr result (λ fault. AllByRecursion (IsKept self.new) fault.replies) }
         ensures live { OnOk result (IsLive self.new) }
@@ -111,7 +111,7 @@ impl EngineParts {
         ensures closes { (asked : ARequest) → txn_of asked ≡ ASome txn → (start : SessionState) (group : List ARequest) → IsInGroup start group self.old.session
             → IfOk result (λ given. Closes (rules_of self.old.session) self.old.log.gate.place start (cut_one (rules_of self.old.session) start group asked) given self.new) }
         ensures stops { (asked : ARequest) → txn_of asked ≡ ASome txn → (start : SessionState) (group : List ARequest) → IsInGroup start group self.old.session
-            → IfErr result (λ fault. StopsFor (rules_of self.old.session) self.old.log.gate.place start group asked fault.replies fault.cause) }
+            → IfErr result (λ fault. StopsAt (rules_of self.old.session) self.old.log.gate.place start (cut_one (rules_of self.old.session) start group asked).closed fault.replies fault.cause) }
         ensures kept { IfOk result (λ given. AllByRecursion (IsKept self.new) given) }
         ensures kept_before { IfErr result (λ fault. AllByRecursion (IsKept self.new) fault.replies) }
         ensures live { OnOk result (IsLive self.new) }
@@ -147,7 +147,7 @@ impl EngineParts {
         ensures closes { (asked : ARequest) → txn_of asked ≡ ASome txn → (start : SessionState) (group : List ARequest) → IsInGroup start group self.old.session
             → IfOk result (λ given. Closes (rules_of self.old.session) self.old.log.gate.place start (cut_one (rules_of self.old.session) start group asked) given self.new) }
         ensures stops { (asked : ARequest) → txn_of asked ≡ ASome txn → (start : SessionState) (group : List ARequest) → IsInGroup start group self.old.session
-            → IfErr result (λ fault. StopsFor (rules_of self.old.session) self.old.log.gate.place start group asked fault.replies fault.cause) }
+            → IfErr result (λ fault. StopsAt (rules_of self.old.session) self.old.log.gate.place start (cut_one (rules_of self.old.session) start group asked).closed fault.replies fault.cause) }
         ensures kept { IfOk result (λ given. AllByRecursion (IsKept self.new) given) }
         ensures kept_before { IfErr result (λ fault. AllByRecursion (IsKept self.new) fault.replies) }
         ensures live { OnOk result (IsLive self.new) }
@@ -181,7 +181,7 @@ impl EngineParts {
         ensures closes { (start : SessionState) (group : List ARequest) → IsInGroup start group self.old.session
             → IfOk result (λ given. Closes (rules_of self.old.session) self.old.log.gate.place start (cut_one (rules_of self.old.session) start group request) given self.new) }
         ensures stops { (start : SessionState) (group : List ARequest) → IsInGroup start group self.old.session
-            → IfErr result (λ fault. StopsFor (rules_of self.old.session) self.old.log.gate.place start group request fault.replies fault.cause) }
+            → IfErr result (λ fault. StopsAt (rules_of self.old.session) self.old.log.gate.place start (cut_one (rules_of self.old.session) start group request).closed fault.replies fault.cause) }
         ensures kept { IfOk result (λ given. AllByRecursion (IsKept self.new) given) }
         ensures kept_before { IfErr result (λ fault. AllByRecursion (IsKept self.new) fault.replies) }
         ensures live { OnOk result (IsLive self.new) }
@@ -243,7 +243,7 @@ impl EngineParts {
         ensures closes { (start : SessionState) (group : List ARequest) → IsInGroup start group self.old.session
             → IfOk result (λ given. Closes (rules_of self.old.session) self.old.log.gate.place start (cut_one (rules_of self.old.session) start group ARequest.Save) given self.new) }
         ensures stops { (start : SessionState) (group : List ARequest) → IsInGroup start group self.old.session
-            → IfErr result (λ fault. StopsFor (rules_of self.old.session) self.old.log.gate.place start group ARequest.Save fault.replies fault.cause) }
+            → IfErr result (λ fault. StopsAt (rules_of self.old.session) self.old.log.gate.place start (cut_one (rules_of self.old.session) start group ARequest.Save).closed fault.replies fault.cause) }
         ensures kept { IfOk result (λ given. AllByRecursion (IsKept self.new) given) }
         ensures kept_before { IfErr result (λ fault. AllByRecursion (IsKept self.new) fault.replies) }
         ensures live { OnOk result (IsLive self.new) }
@@ -273,7 +273,7 @@ impl EngineParts {
         ensures closes { (start : SessionState) (group : List ARequest) → IsInGroup start group self.old.session
             → IfOk result (λ given. Closes (rules_of self.old.session) self.old.log.gate.place start (cut_one (rules_of self.old.session) start group request) given self.new) }
         ensures stops { (start : SessionState) (group : List ARequest) → IsInGroup start group self.old.session
-            → IfErr result (λ fault. StopsFor (rules_of self.old.session) self.old.log.gate.place start group request fault.replies fault.cause) }
+            → IfErr result (λ fault. StopsAt (rules_of self.old.session) self.old.log.gate.place start (cut_one (rules_of self.old.session) start group request).closed fault.replies fault.cause) }
         ensures kept { IfOk result (λ given. AllByRecursion (IsKept self.new) given) }
         ensures kept_before { IfErr result (λ fault. AllByRecursion (IsKept self.new) fault.replies) }
         ensures live { OnOk result (IsLive self.new) }
