@@ -1,6 +1,16 @@
 -- Groups that were closed, and more of them behind.
-use Rattle.std.proofs.Common.{◌≡◌, ◌∙◌, ◌⊎◌, inl, inr, ⊎_elim, ℕ, ◌+◌, List, [], ◌∷◌, ◌++◌, length, refl, sym, ap, ap₂, subst, arith, append_assoc}
+use Rattle.std.proofs.Common.{◌≡◌, ◌∙◌, inl, inr, ⊎_elim, ℕ, List, [], ◌∷◌, ◌++◌, length, Option, refl, sym, ap, ap₂, subst, arith, append_assoc}
 use Rattle.std.specs.List.{AllByRecursion}
+use Rattle.pac_ops.specs.declared.transaction.Txn.{Txn}
+use Rattle.pac_outside.specs.Devices.{AllLeave, AreImages, RunLeaves, all_told}
+use Rattle.pac_outside.specs.Devices.RunLeaves.{rests, runs}
+use Rattle.pac_outside.specs.Disk.{DiskState, History, IsImage}
+use Rattle.pac_outside.specs.GateByte.{OneImage}
+use Rattle.pac_types.specs.Typing.{CatalogueState}
+use Rattle.pac_store.specs.Stands.{IsHistory}
+use Rattle.pac_engine.specs.Standing.{IsGrown, KeepsHistory, MayLeave, StandsOn, TellsWhere}
+use Rattle.pac_engine.proofs.DeviceLemmas.{told-then}
+use Rattle.pac_engine.proofs.StandingLemmas.{keeps-longer, keeps-then}
 use Rattle.pac_request.specs.declared.request.Request.{Request}
 use Rattle.pac_request.specs.declared.request.Reply.{Reply}
 use Rattle.pac_session.specs.Session.{Rules, SessionState, committed, ends, replies}
@@ -11,7 +21,7 @@ use Rattle.pac_session.proofs.CutLemmas.{joined-append}
 use Rattle.pac_engine.specs.declared.fault.EngineCause.{EngineCause}
 use Rattle.pac_engine.specs.declared.fault.EngineCause.TheVariants.{DiskFault, LogFull, TooLarge, Ended, NoMemory}
 use Rattle.pac_engine.specs.declared.parts.EngineParts.{EngineParts}
-use Rattle.pac_engine.specs.Closing.{Closes, GroupFits, HasTransactions, IsTooLarge, IsUnsaved, IsUpToGroup, IsUpToSome, NeedsTooMuch, StopsAt, place_after, slot_len}
+use Rattle.pac_engine.specs.Closing.{Closes, GroupFits, HasTransactions, IsUnsaved, IsUpToGroup, IsUpToSome, NeedsTooMuch, StopsAt, place_after, slot_len}
 
 -- ---- lists of groups
 
@@ -132,3 +142,54 @@ module _ (rules : Rules) (place : ℕ) (start : SessionState) (whole : GroupCut)
     }
     stops-then Ended stops = absurd stops
     stops-then NoMemory stops = ⊎_elim (λ up. inl (some-then up)) (λ un. inr (unsaved-then un)) stops
+
+-- ---- what the devices stand for
+
+-- what a crash leaves at the first moment
+images-split : (P : List (List ℕ) → Type 0) (front back : List History) (device : History)
+    → ((image : List ℕ) → IsImage device.now image → (before behind : List (List ℕ)) → AreImages front before → AreImages back behind → P (before ++ (image ∷ behind)))
+    → AllLeave P (front ++ (device ∷ back))
+images-split P [] back device has [] are = absurd are
+images-split P [] back device has (image ∷ images) are = has image are.0 [] images tt are.1
+images-split P (first ∷ front) back device has [] are = absurd are
+images-split P (first ∷ front) back device has (image ∷ images) are = images-split (λ rest. P (image ∷ rest)) front back device (λ own is before behind fronts backs. has own is (image ∷ before) behind (are.0, fronts) backs) images are.1
+
+run-start : (P : List (List ℕ) → Type 0) (x y : List History) → RunLeaves P x y → AllLeave P x
+run-start P x y (rests devices here) = here
+run-start P x y (runs front back end old next run more) = images-split P front back old run.first
+
+own-image : (P : List ℕ → Type 0) (state : DiskState) → OneImage P state → IsImage state state.seen
+own-image P state one = subst (λ (s : DiskState). IsImage s state.seen) (sym one.one) (record { no_shorter = omega arith; no_longer = omega arith; stays = λ place below is. refl })
+
+-- a history that is kept executes
+kept-executes : (text : List ℕ) (history longer : List Txn) (b c : EngineParts) (v w : List History) → StandsOn text history b v → KeepsHistory text longer b c v w → IsHistory b.session.catalogue longer
+kept-executes text history longer b c [] w is keeps = absurd is
+kept-executes text history longer b c (l ∷ []) w is keeps = absurd is
+kept-executes text history longer b c (l ∷ x ∷ []) w is keeps = absurd is
+kept-executes text history longer b c (l ∷ x ∷ y ∷ []) w is keeps =
+    let leaves = run-start (MayLeave text b.session.catalogue longer b) (l ∷ x ∷ y ∷ []) w keeps.moments (l.now.seen ∷ x.now.seen ∷ y.now.seen ∷ []) (own-image _ l.now is.log, (own-image _ x.now is.slot_a, (own-image _ y.now is.slot_b, tt))) in
+    leaves.stands.executes
+kept-executes text history longer b c (l ∷ x ∷ y ∷ d ∷ devices) w is keeps = absurd is
+
+-- the first step keeps the longer history too
+pub history-then : (text : List ℕ) (history more last : List Txn) (a b c : EngineParts) (x y z : List (Option History)) → rules_of b.session ≡ rules_of a.session → IsGrown a b
+    → TellsWhere (StandsOn text history a) (KeepsHistory text (history ++ more) a b) x y → TellsWhere (StandsOn text history a) (λ was is. StandsOn text (history ++ more) b is) x y
+    → TellsWhere (StandsOn text (history ++ more) b) (KeepsHistory text ((history ++ more) ++ last) b c) y z → TellsWhere (StandsOn text history a) (KeepsHistory text (history ++ (more ++ last)) a c) x z
+history-then text history more last a b c x y z same grown first stands second =
+    told-then (StandsOn text history a) (StandsOn text (history ++ more) b) (KeepsHistory text (history ++ more) a b) (KeepsHistory text ((history ++ more) ++ last) b c) (KeepsHistory text (history ++ (more ++ last)) a c)
+    (λ u v w p r q s. subst (λ (h : List Txn). KeepsHistory text h a c u w) (append_assoc history more last)
+    (keeps-then text ((history ++ more) ++ last) a b c u v w catalogue_same grown.durable grown.saved (keeps-longer text (history ++ more) last a b u v (executes v w q s) r) s))
+    (all_told x) (all_told y) (all_told z) first stands second
+  where
+    catalogue_same : b.session.catalogue ≡ a.session.catalogue
+    catalogue_same = ap (λ (r : Rules). r.catalogue) same
+
+    executes : (v w : List History) → StandsOn text (history ++ more) b v → KeepsHistory text ((history ++ more) ++ last) b c v w → IsHistory a.session.catalogue ((history ++ more) ++ last)
+    executes v w q s = subst (λ (cat : CatalogueState). IsHistory cat ((history ++ more) ++ last)) catalogue_same (kept-executes text (history ++ more) ((history ++ more) ++ last) b c v w q s)
+
+pub stands-then : (text : List ℕ) (history more last : List Txn) (a b c : EngineParts) (x y z : List (Option History))
+    → TellsWhere (StandsOn text history a) (λ was is. StandsOn text (history ++ more) b is) x y → TellsWhere (StandsOn text (history ++ more) b) (λ was is. StandsOn text ((history ++ more) ++ last) c is) y z
+    → TellsWhere (StandsOn text history a) (λ was is. StandsOn text (history ++ (more ++ last)) c is) x z
+stands-then text history more last a b c x y z first second =
+    told-then (StandsOn text history a) (StandsOn text (history ++ more) b) (λ was is. StandsOn text (history ++ more) b is) (λ was is. StandsOn text ((history ++ more) ++ last) c is) (λ was is. StandsOn text (history ++ (more ++ last)) c is)
+    (λ u v w p r q s. subst (λ (h : List Txn). StandsOn text h c w) (append_assoc history more last) s) (all_told x) (all_told y) (all_told z) first first second

@@ -1,6 +1,8 @@
 -- What an engine keeps, from one move to the next.
-use Rattle.std.proofs.Common.{◌≡◌, ◌∙◌, ℕ, ◌+◌, ◌≤◌, List, [], ◌∷◌, ◌++◌, length, Option, Some, None, Result, Ok, Err, refl, sym, ap, subst, arith, length-append}
+use Rattle.std.proofs.Common.{◌≡◌, ◌∙◌, ℕ, ◌+◌, ◌<◌, ◌≤◌, Bool, true, false, List, [], ◌∷◌, ◌++◌, length, Option, Some, None, Result, Ok, Err, refl, sym, ap, subst, arith, length-append}
+use Rattle.std.specs.Prelude.{nat_lt, if◌then◌else◌}
 use Rattle.std.specs.List.{AllByRecursion}
+use Rattle.std.proofs.lemmas.Bool.{ltb-false}
 use Rattle.pac_value.specs.State.{Tables}
 use Rattle.pac_ops.specs.declared.transaction.Txn.{Txn}
 use Rattle.pac_serial.specs.declared.execute.ExecError.{ExecError}
@@ -9,12 +11,23 @@ use Rattle.pac_request.specs.declared.request.Request.{Request}
 use Rattle.pac_request.specs.declared.request.Request.TheVariants as request
 use Rattle.pac_request.specs.declared.request.Reply.{Reply}
 use Rattle.pac_request.specs.declared.request.Reply.TheVariants as reply
+use Rattle.pac_log.specs.declared.position.NextGate.{NextGate}
+use Rattle.pac_check.specs.declared.head.Head.{Head}
+use Rattle.pac_check.specs.declared.info.SlotInfo.{SlotInfo}
+use Rattle.pac_check.specs.declared.info.SlotName.{SlotName}
+use Rattle.pac_check.specs.declared.info.SlotName.TheVariants.{A, B}
+use Rattle.pac_check.specs.declared.slots.Slots.{Slots}
+use Rattle.pac_check.specs.declared.state.SlotState.{SlotState}
+use Rattle.pac_check.specs.declared.state.SlotState.TheVariants.{Open as OpenSlot}
+use Rattle.pac_check.specs.Checkpoints.{head_with}
+use Rattle.pac_check.specs.SlotStates.{by_slot, info_of, newest_of, spare_of, with_more}
 use Rattle.pac_session.specs.Session.{SessionState, answer, after_asked, commits_asked, committed_by, reply_by, txn_of, txn_outcome}
 use Rattle.pac_session.specs.Open.{Open, rules_of, state_now, with_asked, with_run}
 use Rattle.pac_engine.specs.declared.parts.EngineParts.{EngineParts}
 use Rattle.pac_engine.specs.Closing.{IsKept}
-use Rattle.pac_engine.specs.Moves.{AreHeld, IsHeldBy, IsLive, IsWorking, committed_parts, with_request}
-use Rattle.pac_engine.specs.Standing.{durable_of, saved_of}
+use Rattle.pac_engine.specs.Moves.{AreHeld, IsHeldBy, IsLive, IsUnmoved, IsWorking, committed_parts, saved_parts, with_request}
+use Rattle.pac_engine.specs.Standing.{IsGrown, durable_of, saved_of, txns_in}
+use Rattle.pac_engine.proofs.SavingLemmas.{saves-all}
 use Rattle.pac_engine.proofs.BodyLemmas.{txns-after, catalogue-after}
 
 -- ---- a request whose transaction is executed
@@ -114,6 +127,7 @@ working-run e txn is =
       fewer = omega (arith, is.fewer, ran-fewer txn (state_now e.session) outcome, length-append e.session.txns (committed_by txn outcome), length-append e.session.held (reply_by (state_now e.session) outcome));
       held = ran-held e.session txn outcome is.held;
       limit = is.limit;
+      saved = is.saved;
     }
 
 pub working-asked : (e : EngineParts) (asked : Request) (txn : Txn) → txn_of asked ≡ Some txn → IsWorking e → IsWorking (with_request asked e)
@@ -135,6 +149,7 @@ working-more e more other is = record {
   fewer = omega (arith, is.fewer, length-append e.session.txns [], length-append e.session.held more);
   held = more-held e.session more is.held other;
   limit = is.limit;
+  saved = is.saved;
 }
 
 pub working-answered : (e : EngineParts) (asked : Request) → txn_of asked ≡ None → (asked ≡ request.Save → ⊥) → IsWorking e → IsWorking (with_request asked e)
@@ -158,7 +173,87 @@ working-closed e is = record {
   fewer = omega arith;
   held = tt;
   limit = is.limit;
+  saved = omega (arith, is.saved, txns-after e.session.txns e.log.gate);
 }
 
 pub live-closed : (e : EngineParts) → IsWorking e → IsLive (committed_parts e)
 live-closed e is = record { working = working-closed e is; unfull = is.some }
+
+-- ---- a checkpoint is saved
+
+not-ahead : (x y : Option SlotInfo) (n : ℕ) → txns_in x ≤ n → txns_in y ≤ n → txns_in (with_more x y) ≤ n
+not-ahead None y n first second = second
+not-ahead (Some x) None n first second = first
+not-ahead (Some x) (Some y) n first second = go (nat_lt x.txns y.txns)
+  where
+    go : (t : Bool) → txns_in (if t then Some y else Some x) ≤ n
+    go true = second
+    go false = first
+
+at-most-a : (x y : Option SlotInfo) → txns_in x ≤ txns_in (with_more x y)
+at-most-a None y = omega arith
+at-most-a (Some x) None = omega arith
+at-most-a (Some x) (Some y) = go (nat_lt x.txns y.txns) refl
+  where
+    go : (t : Bool) → nat_lt x.txns y.txns ≡ t → x.txns ≤ txns_in (if t then Some y else Some x)
+    go true e = let less : x.txns < y.txns = grind (arith, e) in omega arith
+    go false e = omega arith
+
+at-most-b : (x y : Option SlotInfo) → txns_in y ≤ txns_in (with_more x y)
+at-most-b None y = omega arith
+at-most-b (Some x) None = omega arith
+at-most-b (Some x) (Some y) = go (nat_lt x.txns y.txns) refl
+  where
+    go : (t : Bool) → nat_lt x.txns y.txns ≡ t → y.txns ≤ txns_in (if t then Some y else Some x)
+    go true e = omega arith
+    go false e = let more : y.txns ≤ x.txns = ltb-false _ _ e in omega arith
+
+-- the new checkpoint is as far as the log, and so is none ahead of it
+saved-within : (e : EngineParts) → saved_of e ≤ durable_of e → saved_of (saved_parts e) ≤ durable_of e
+saved-within e le = go (spare_of e.slots) refl
+  where
+    new_head : Head
+    new_head = head_with e.log.gate.txns e.log.gate.place
+
+    first : txns_in (info_of A e.slots.a) ≤ e.log.gate.txns
+    first = omega (arith, le, at-most-a (info_of A e.slots.a) (info_of B e.slots.b))
+
+    second : txns_in (info_of B e.slots.b) ≤ e.log.gate.txns
+    second = omega (arith, le, at-most-b (info_of A e.slots.a) (info_of B e.slots.b))
+
+    go : (spare : SlotName) → spare_of e.slots ≡ spare → txns_in (newest_of (by_slot (spare_of e.slots) (record (e.slots) { a = OpenSlot (head_with e.log.gate.txns e.log.gate.place) }) (record (e.slots) { b = OpenSlot (head_with e.log.gate.txns e.log.gate.place) }))) ≤ e.log.gate.txns
+    go A is = rw is (not-ahead (info_of A (OpenSlot (head_with e.log.gate.txns e.log.gate.place))) (info_of B e.slots.b) e.log.gate.txns (omega arith) second)
+    go B is = rw is (not-ahead (info_of A e.slots.a) (info_of B (OpenSlot (head_with e.log.gate.txns e.log.gate.place))) e.log.gate.txns first (omega arith))
+
+kept-working : (slots : Slots) (spare : SlotName) (head : Head) → (by_slot spare (record slots { a = OpenSlot head }) (record slots { b = OpenSlot head })).has_failed ≡ slots.has_failed
+kept-working slots A head = refl
+kept-working slots B head = refl
+
+pub working-saved : (e : EngineParts) → IsWorking e → IsWorking (saved_parts e)
+working-saved e is = record {
+  waits = is.waits;
+  works = kept-working e.slots (spare_of e.slots) (head_with e.log.gate.txns e.log.gate.place) ∙ is.works;
+  same = is.same;
+  counted = is.counted;
+  some = is.some;
+  fewer = is.fewer;
+  held = is.held;
+  limit = is.limit;
+  saved = saved-within e is.saved;
+}
+
+pub live-saved : (e new : EngineParts) → new ≡ saved_parts e → IsLive e → IsLive new
+live-saved e new becomes is = subst (λ (p : EngineParts). IsLive p) (sym becomes) (record { working = working-saved e is.working; unfull = is.unfull })
+
+-- what is durable and saved only grows
+pub grown-closed : (e new : EngineParts) → new ≡ committed_parts e → IsGrown e new
+grown-closed e new becomes = record { durable = omega (arith, ap durable_of becomes, txns-after e.session.txns e.log.gate); saved = omega (arith, ap saved_of becomes) }
+
+pub grown-saved : (e new : EngineParts) → IsWorking e → new ≡ saved_parts e → IsGrown e new
+grown-saved e new is becomes = record { durable = omega (arith, ap durable_of becomes); saved = omega (arith, ap saved_of becomes, is.saved, saves-all e) }
+
+pub grown-unmoved : (e new : EngineParts) → IsUnmoved e new → IsGrown e new
+grown-unmoved e new is = record {
+  durable = omega (arith, ap (λ (gate : NextGate). gate.txns) is.gate);
+  saved = omega (arith, ap (λ (x : SlotState). txns_in (with_more (info_of A x) (info_of B new.slots.b))) is.slot_a, ap (λ (y : SlotState). txns_in (with_more (info_of A e.slots.a) (info_of B y))) is.slot_b);
+}

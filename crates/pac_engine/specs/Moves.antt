@@ -15,6 +15,7 @@ use Rattle.pac_session.specs.Groups.{is_closing, lacks_room}
 use Rattle.pac_session.specs.Open.{Open, with_asked, with_closed}
 use Rattle.pac_engine.specs.declared.parts.EngineParts.{EngineParts}
 use Rattle.pac_engine.specs.Committing.{gate_after}
+use Rattle.pac_engine.specs.Standing.{durable_of, saved_of}
 
 -- a reply that is held: its transaction is among the first so many
 abbrev pub IsHeldBy : ℕ → Reply → Type 0
@@ -30,7 +31,7 @@ abbrev pub AreHeld : Open → Type 0
 AreHeld now = AllByRecursion (IsHeldBy (now.before + length now.txns)) now.held
 
 -- An engine that works: neither its log nor its slots have failed, both are of the session's catalogue and have what was
--- committed before the open group; each transaction of the group has a reply, and the tables are few enough to be saved.
+-- committed before the open group; each transaction of the group has a reply. The tables are few enough to be saved, and no checkpoint is ahead of the log.
 pub record IsWorking (engine : EngineParts) : Type 0 where
   pub waits : engine.log.stage ≡ Waiting
   pub works : engine.slots.has_failed ≡ false
@@ -40,6 +41,7 @@ pub record IsWorking (engine : EngineParts) : Type 0 where
   pub fewer : length engine.session.txns ≤ length engine.session.held
   pub held : AreHeld engine.session
   pub limit : engine.session.limit ≤ MAX_SAVED_ROWS
+  pub saved : saved_of engine ≤ durable_of engine
 
 -- between requests the open group isn't full
 pub record IsLive (engine : EngineParts) : Type 0 where

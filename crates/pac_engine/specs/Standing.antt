@@ -1,5 +1,5 @@
 -- Which history an engine stands for on its devices, and what is kept of it while the devices are called.
-use Rattle.std.specs.Prelude.{◌≡◌, ℕ, List, [], ◌∷◌, ◌++◌, Option, Some, None}
+use Rattle.std.specs.Prelude.{◌≡◌, ◌≤◌, ℕ, List, [], ◌∷◌, ◌++◌, Option, Some, None}
 use Rattle.std.specs.List.{All}
 use Rattle.pac_ops.specs.declared.transaction.Txn.{Txn}
 use Rattle.pac_outside.specs.Devices.{AllLeave, RunLeaves, all_told, each}
@@ -28,6 +28,11 @@ txns_in (Some info) = info.txns
 -- how many are in the newest checkpoint
 abbrev pub saved_of : EngineParts → ℕ
 saved_of engine = txns_in (newest_of engine.slots)
+
+-- what is durable and saved stays so
+pub record IsGrown (before now : EngineParts) : Type 0 where
+  pub durable : durable_of before ≤ durable_of now
+  pub saved : saved_of before ≤ saved_of now
 
 -- Where the devices tell, a crash leaves of each one image: that of a log that ends at the engine's gate, and those of two
 -- slots in the states that the engine knows. It is said of each device by itself: one may tell while others do not.

@@ -7,13 +7,14 @@ ghost use Rattle.pac_types.specs.Execution.{first_over};
 ghost use Rattle.pac_types.specs.Fits.{FitsCatalogue};
 ghost use Rattle.pac_log.specs.declared.log.Stage.{Stage};
 ghost use Rattle.pac_check.specs.declared.limits.TheConstants.{MAX_SAVED_ROWS, MAX_SLOT_LEN};
+ghost use Rattle.pac_check.specs.SlotStates.{newest_of};
 ghost use Rattle.pac_request.specs.declared.request.Request.{Request as ARequest};
 ghost use Rattle.pac_request.specs.RequestFits.{RequestFits};
 ghost use Rattle.pac_session.specs.Session.{SessionState, commits};
 ghost use Rattle.pac_session.specs.Groups.{cut_one, place_behind};
 ghost use Rattle.pac_session.specs.Open.{IsInGroup, rules_of, state_now};
 ghost use Rattle.pac_engine.specs.Closing.{Closes, CountsFault, IsKept, StopsAt, is_stop, slot_len};
-ghost use Rattle.pac_engine.specs.Standing.{HasDevices, KeepsMore, StandsForMore};
+ghost use Rattle.pac_engine.specs.Standing.{HasDevices, IsGrown, KeepsMore, StandsForMore, txns_in};
 
 use crate::{EngineCause, EngineFault, EngineParts};
 use pac_check::Slots;
@@ -70,6 +71,7 @@ impl Engine {
         requires same { log.gate.catalogue ≡ catalogue }
         requires waits { log.stage ≡ Stage.Waiting }
         requires works { slots.has_failed ≡ false }
+        requires saved { txns_in (newest_of slots) ≤ log.gate.txns }
         requires fits { FitsCatalogue catalogue rows.tables rows.rows }
         requires within { first_over limit (length catalogue.tables) rows.rows ≡ NoTable }
         requires limit { limit ≤ MAX_SAVED_ROWS }
@@ -130,8 +132,10 @@ impl Engine {
         ensures stops { self.old.ended ≡ false → (start : SessionState) (group : List ARequest) → IsInGroup start group self.old.session
             → IfErr result (λ fault. StopsAt (rules_of self.old.session) self.old.log.gate.place start (cut_one (rules_of self.old.session) start group request).closed fault.replies fault.cause) }
         ensures small { request ≡ ARequest.Save → OnOk result (slot_len (rules_of self.old.session) (state_now self.old.session) (place_behind self.old.log.gate.place self.old.session.txns) ≤ MAX_SLOT_LEN) }
+        ensures same { OnOk result (rules_of self.new.session ≡ rules_of self.old.session) }
 
-        // What they tell of is durable.
+        // What they tell of is durable, and stays so.
+        ensures grows { IsGrown self.old self.new }
         ensures kept { IfOk result (λ given. AllByRecursion (IsKept self.new) given) }
         ensures kept_before { IfErr result (λ fault. AllByRecursion (IsKept self.new) fault.replies) }
 

@@ -4,7 +4,7 @@
 //! - [`Engine`]: a session over a store's log and slots. [`Engine::step`] does what one request asks, and gives out the replies
 //!   of the group that closes, if one does.
 //! - [`EngineFault`]: why a step fails, with the replies that became durable in it before.
-//! - [`steps_are_the_session`]: what the steps of many requests come to.
+//! - [`steps_are_the_session`] and [`steps_keep_the_history`]: what the steps of many requests come to.
 //! - [`commit`]: puts the transactions of a group behind the others of a log.
 //!
 //! `specs/Standing.antt` says which history an engine stands for on its devices, and what a step keeps of it at each moment.
@@ -21,5 +21,5 @@ mod parts;
 pub use committing::commit;
 pub use engine::Engine;
 pub use fault::{EngineCause, EngineFault};
-pub use law::steps_are_the_session;
+pub use law::{steps_are_the_session, steps_keep_the_history};
 pub use parts::EngineParts;
