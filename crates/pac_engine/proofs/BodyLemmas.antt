@@ -9,7 +9,7 @@ use Rattle.pac_request.specs.Batches.{body_len}
 use Rattle.pac_log.specs.declared.position.NextGate.{NextGate}
 use Rattle.pac_log.specs.Bodies.{body_bytes, entries_bytes}
 use Rattle.pac_session.specs.Groups.{place_behind}
-use Rattle.pac_engine.specs.Committing.{gate_after}
+use Rattle.pac_engine.specs.Committing.{gate_past}
 
 pub body_len-bytes : (txns : List Txn) → body_len txns ≡ length (body_bytes txns)
 body_len-bytes txns =
@@ -18,14 +18,14 @@ body_len-bytes txns =
     omega (arith, length-append count (len ++ entries_bytes txns), length-append len (entries_bytes txns), width32.len (length txns), width32.len (length (entries_bytes txns)), length-flat_map txn_bytes txns)
 
 -- the gate behind the transactions of a group
-pub place-after : (txns : List Txn) (gate : NextGate) → (gate_after txns gate).place ≡ place_behind gate.place txns
+pub place-after : (txns : List Txn) (gate : NextGate) → (gate_past txns gate).place ≡ place_behind gate.place txns
 place-after [] gate = refl
 place-after (txn ∷ txns) gate = ap (λ (n : ℕ). gate.place + (1 + n)) (sym (body_len-bytes (txn ∷ txns)))
 
-pub txns-after : (txns : List Txn) (gate : NextGate) → (gate_after txns gate).txns ≡ gate.txns + length txns
+pub txns-after : (txns : List Txn) (gate : NextGate) → (gate_past txns gate).txns ≡ gate.txns + length txns
 txns-after [] gate = omega arith
 txns-after (txn ∷ txns) gate = refl
 
-pub catalogue-after : (txns : List Txn) (gate : NextGate) → (gate_after txns gate).catalogue ≡ gate.catalogue
+pub catalogue-after : (txns : List Txn) (gate : NextGate) → (gate_past txns gate).catalogue ≡ gate.catalogue
 catalogue-after [] gate = refl
 catalogue-after (txn ∷ txns) gate = refl

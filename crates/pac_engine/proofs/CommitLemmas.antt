@@ -11,7 +11,7 @@ use Rattle.pac_log.specs.Bodies.{body_bytes}
 use Rattle.pac_log.specs.Gates.{gate_behind}
 use Rattle.pac_log.specs.Logs.{AddsBatch, HoldsLog, KeepsOrAdds}
 use Rattle.pac_log.specs.Places.{IsBehind}
-use Rattle.pac_engine.specs.Committing.{HasAdded, MayAdd, gate_after, with_batch}
+use Rattle.pac_engine.specs.Committing.{HasAdded, MayAdd, gate_past, with_batch}
 
 -- where a crash leaves one image, it leaves that
 one_leaves : (P Q : List ℕ → Type 0) → ((image : List ℕ) → P image → Q image) → (state : DiskState) → OneImage P state → Leaves Q state
@@ -37,16 +37,16 @@ none_has_added text catalogue batches txns none told = subst (λ (l : List Txn).
 pub none_behind : (text : List ℕ) (batches : List (List Txn)) (txns : List Txn) → txns ≡ [] → (gate : NextGate) → IsBehind text batches gate → IsBehind text (with_batch batches txns) gate
 none_behind text batches txns none gate is = subst (λ (l : List Txn). IsBehind text (with_batch batches l) gate) (sym none) is
 
-pub no_gate : (txns : List Txn) (gate : NextGate) → txns ≡ [] → gate ≡ gate_after txns gate
-no_gate txns gate none = subst (λ (l : List Txn). gate ≡ gate_after l gate) (sym none) refl
+pub no_gate : (txns : List Txn) (gate : NextGate) → txns ≡ [] → gate ≡ gate_past txns gate
+no_gate txns gate none = subst (λ (l : List Txn). gate ≡ gate_past l gate) (sym none) refl
 
 with_some : (batches : List (List Txn)) (txns : List Txn) → 0 < length txns → with_batch batches txns ≡ batches ++ txns ∷ []
 with_some batches [] some = absurd (omega (arith, some))
 with_some batches (txn ∷ txns) some = refl
 
-pub some_gate : (txns : List Txn) (old now new : NextGate) → 0 < length txns → now ≡ old → new ≡ gate_behind (length txns) (1 + length (body_bytes txns)) now → new ≡ gate_after txns old
+pub some_gate : (txns : List Txn) (old now new : NextGate) → 0 < length txns → now ≡ old → new ≡ gate_behind (length txns) (1 + length (body_bytes txns)) now → new ≡ gate_past txns old
 some_gate [] old now new some same is = absurd (omega (arith, some))
-some_gate (txn ∷ txns) old now new some same is = is ∙ ap (λ (g : NextGate). gate_after (txn ∷ txns) g) same
+some_gate (txn ∷ txns) old now new some same is = is ∙ ap (λ (g : NextGate). gate_past (txn ∷ txns) g) same
 
 module _ (text : List ℕ) (batches : List (List Txn)) (txns : List Txn) (some : 0 < length txns) (old now : NextGate) (same : now ≡ old) where
   pub may_add : (a b : Option History) → BothTell (KeepsOrAdds text now.catalogue batches txns) a b → BothTell (MayAdd text old.catalogue batches txns) a b

@@ -17,7 +17,7 @@ use Rattle.pac_session.proofs.SessionLemmas.{after-number, committed-append, end
 use Rattle.pac_engine.specs.declared.fault.EngineCause.{EngineCause}
 use Rattle.pac_engine.specs.declared.fault.EngineCause.TheVariants.{DiskFault, LogFull, TooLarge, Ended, NoMemory}
 use Rattle.pac_engine.specs.declared.parts.EngineParts.{EngineParts}
-use Rattle.pac_engine.specs.Committing.{HasRoomAt, IsOverFull, gate_after}
+use Rattle.pac_engine.specs.Committing.{HasRoomAt, IsCalledFor, IsOverFull, gate_past}
 use Rattle.pac_engine.specs.Closing.{Closes, GroupFits, IsTooLarge, IsUnsaved, StopsAt, place_after, slot_len}
 use Rattle.pac_engine.specs.Moves.{committed_parts, saved_parts, with_request}
 use Rattle.pac_engine.proofs.BodyLemmas.{place-after}
@@ -112,7 +112,7 @@ module _ (mid : EngineParts) (start : SessionState) (group : List Request) (is :
   group-room : HasRoomAt mid.log.gate.place (committed (rules_of mid.session) start group)
   group-room = subst (λ (l : List Txn). HasRoomAt mid.log.gate.place l) is.body room
 
-  group-place : (gate_after mid.session.txns mid.log.gate).place ≡ place_behind mid.log.gate.place (committed (rules_of mid.session) start group)
+  group-place : (gate_past mid.session.txns mid.log.gate).place ≡ place_behind mid.log.gate.place (committed (rules_of mid.session) start group)
   group-place = place-after mid.session.txns mid.log.gate ∙ ap (λ (l : List Txn). place_behind mid.log.gate.place l) is.body
 
   pub closes-closed : (cut : GroupCut) (given : List Reply) (new : EngineParts) → cut ≡ record { closed = group ∷ []; rest = [] } → given ≡ mid.session.held → new ≡ committed_parts mid
@@ -140,10 +140,10 @@ module _ (rules : Rules) (place : ℕ) (start : SessionState) (closed : List (Li
   one-described = ap (λ (c : List (List Request)). described rules place start c) is_one
 
   -- nothing was given out
-  pub close-stops : (cause : EngineCause) (given : List Reply) → given ≡ [] → ((bytes : ℕ) → cause ≡ TooLarge bytes → ⊥) → (cause ≡ Ended → ⊥) → ((need : ℕ) → cause ≡ LogFull need → IsOverFull place txns need) → (cause ≡ DiskFault → 0 < length txns)
+  pub close-stops : (cause : EngineCause) (given : List Reply) → given ≡ [] → ((bytes : ℕ) → cause ≡ TooLarge bytes → ⊥) → (cause ≡ Ended → ⊥) → ((need : ℕ) → cause ≡ LogFull need → IsOverFull place txns need) → (cause ≡ DiskFault → IsCalledFor place txns)
       → StopsAt rules place start closed given cause
   close-stops DiskFault given none known on full called =
-      inl (record { before = []; group = the_group rules place start one; rest = []; split = one-described; replied = none; fit = tt; here = subst (λ (l : List Txn). 0 < length l) body (called refl) })
+      inl (record { before = []; group = the_group rules place start one; rest = []; split = one-described; replied = none; fit = tt; here = subst (λ (l : List Txn). IsCalledFor place l) body (called refl) })
   close-stops NoMemory given none known on full called = inl (record { before = []; rest = described rules place start closed; split = refl; replied = none })
   close-stops (TooLarge bytes) given none known on full called = absurd (known bytes refl)
   close-stops Ended given none known on full called = absurd (on refl)
@@ -202,21 +202,21 @@ module _ (e : EngineParts) (start : SessionState) (group : List Request) (is : I
       fit = subst (λ (g : List Group). AllByRecursion GroupFits g) (sym groups-are) (subst (λ (l : List Txn). HasRoomAt place l) (is.body ∙ sym (save-commits rules start group)) room, tt);
     }
 
-    save-place : place_after place (described rules place start closed) ≡ (gate_after e.session.txns e.log.gate).place
+    save-place : place_after place (described rules place start closed) ≡ (gate_past e.session.txns e.log.gate).place
     save-place = ap (λ (g : List Group). place_after place g) groups-are ∙ ap (λ (l : List Txn). place_behind place l) (save-commits rules start group) ∙ sym (group-place e start group is room)
 
     save-state : ends rules start (all_requests closed) ≡ state_now (with_closed e.session)
     save-state = ap (λ (c : List (List Request)). ends rules start (all_requests c)) is_one ∙ ap (λ (g : List Request). ends rules start g) (append-nil (group ++ request.Save ∷ [])) ∙ save-here ∙ is.here ∙ sym (closed-state e.session)
 
-    pub save-large : (bytes : ℕ) → bytes ≡ slot_len (rules_of e.session) (state_now (with_closed e.session)) (gate_after e.session.txns e.log.gate).place → MAX_SLOT_LEN < bytes → IsTooLarge (rules_of e.session) e.log.gate.place start closed bytes given
+    pub save-large : (bytes : ℕ) → bytes ≡ slot_len (rules_of e.session) (state_now (with_closed e.session)) (gate_past e.session.txns e.log.gate).place → MAX_SLOT_LEN < bytes → IsTooLarge (rules_of e.session) e.log.gate.place start closed bytes given
     save-large bytes long over = record {
       unsaved = unsaved;
-      is = long ∙ ap (λ (s : SessionState). slot_len rules s (gate_after e.session.txns e.log.gate).place) (sym save-state) ∙ ap (λ (p : ℕ). slot_len rules (ends rules start (all_requests closed)) p) (sym save-place);
+      is = long ∙ ap (λ (s : SessionState). slot_len rules s (gate_past e.session.txns e.log.gate).place) (sym save-state) ∙ ap (λ (p : ℕ). slot_len rules (ends rules start (all_requests closed)) p) (sym save-place);
       over = over;
     }
 
     pub save-stops : (cause : EngineCause) → (cause ≡ Ended → ⊥) → ((need : ℕ) → cause ≡ LogFull need → ⊥)
-        → ((bytes : ℕ) → cause ≡ TooLarge bytes → (bytes ≡ slot_len (rules_of e.session) (state_now (with_closed e.session)) (gate_after e.session.txns e.log.gate).place) × (MAX_SLOT_LEN < bytes))
+        → ((bytes : ℕ) → cause ≡ TooLarge bytes → (bytes ≡ slot_len (rules_of e.session) (state_now (with_closed e.session)) (gate_past e.session.txns e.log.gate).place) × (MAX_SLOT_LEN < bytes))
         → StopsAt (rules_of e.session) e.log.gate.place start closed given cause
     save-stops DiskFault on full large = inr unsaved
     save-stops NoMemory on full large = inr unsaved
@@ -225,6 +225,6 @@ module _ (e : EngineParts) (start : SessionState) (group : List Request) (is : I
     save-stops (TooLarge bytes) on full large = let much = large bytes refl in save-large bytes much.0 much.1
 
 -- what a checkpoint takes is said of the group before it is closed
-pub saved-small : (e : EngineParts) → slot_len (rules_of e.session) (state_now (with_closed e.session)) (gate_after e.session.txns e.log.gate).place ≤ MAX_SLOT_LEN → slot_len (rules_of e.session) (state_now e.session) (place_behind e.log.gate.place e.session.txns) ≤ MAX_SLOT_LEN
+pub saved-small : (e : EngineParts) → slot_len (rules_of e.session) (state_now (with_closed e.session)) (gate_past e.session.txns e.log.gate).place ≤ MAX_SLOT_LEN → slot_len (rules_of e.session) (state_now e.session) (place_behind e.log.gate.place e.session.txns) ≤ MAX_SLOT_LEN
 saved-small e small = subst (λ (n : ℕ). n ≤ MAX_SLOT_LEN)
-    (ap (λ (s : SessionState). slot_len (rules_of e.session) s (gate_after e.session.txns e.log.gate).place) (closed-state e.session) ∙ ap (λ (p : ℕ). slot_len (rules_of e.session) (state_now e.session) p) (place-after e.session.txns e.log.gate)) small
+    (ap (λ (s : SessionState). slot_len (rules_of e.session) s (gate_past e.session.txns e.log.gate).place) (closed-state e.session) ∙ ap (λ (p : ℕ). slot_len (rules_of e.session) (state_now e.session) p) (place-after e.session.txns e.log.gate)) small

@@ -21,7 +21,7 @@ use Rattle.pac_session.proofs.CutLemmas.{joined-append}
 use Rattle.pac_engine.specs.declared.fault.EngineCause.{EngineCause}
 use Rattle.pac_engine.specs.declared.fault.EngineCause.TheVariants.{DiskFault, LogFull, TooLarge, Ended, NoMemory}
 use Rattle.pac_engine.specs.declared.parts.EngineParts.{EngineParts}
-use Rattle.pac_engine.specs.Closing.{Closes, GroupFits, HasTransactions, IsUnsaved, IsUpToGroup, IsUpToSome, NeedsTooMuch, StopsAt, place_after, slot_len}
+use Rattle.pac_engine.specs.Closing.{Closes, GroupFits, CallsDevice, IsUnsaved, IsUpToGroup, IsUpToSome, NeedsTooMuch, StopsAt, place_after, slot_len}
 
 -- ---- lists of groups
 
@@ -132,7 +132,7 @@ module _ (rules : Rules) (place : ℕ) (start : SessionState) (whole : GroupCut)
     }
 
     pub stops-then : (cause : EngineCause) → StopsAt rules old.log.gate.place (ends rules start (all_requests whole.closed)) more told cause → StopsAt rules place start (whole.closed ++ more) (given ++ told) cause
-    stops-then DiskFault stops = ⊎_elim (λ up. inl (group-then HasTransactions up)) (λ un. inr (unsaved-then un)) stops
+    stops-then DiskFault stops = ⊎_elim (λ up. inl (group-then CallsDevice up)) (λ un. inr (unsaved-then un)) stops
     stops-then (LogFull need) stops = group-then (NeedsTooMuch need) stops
     stops-then (TooLarge bytes) stops = record {
       unsaved = unsaved-then stops.unsaved;

@@ -36,9 +36,9 @@ use Rattle.pac_session.specs.Session.{Rules, SessionState, commits, commits_aske
 use Rattle.pac_session.specs.Open.{rules_of, state_now}
 use Rattle.pac_session.proofs.SessionLemmas.{after-serial, serial-then}
 use Rattle.pac_engine.specs.declared.parts.EngineParts.{EngineParts}
-use Rattle.pac_engine.specs.Committing.{HasAdded, MayAdd, gate_after, with_batch}
+use Rattle.pac_engine.specs.Committing.{HasAdded, MayAdd, gate_past, with_batch}
 use Rattle.pac_engine.specs.Moves.{committed_parts, with_request}
-use Rattle.pac_engine.specs.Standing.{EngineStands, KeepsHistory, MayLeave, StandsWith, durable_of, saved_of, txns_in}
+use Rattle.pac_engine.specs.Standing.{EngineStands, KeepsHistory, MayLeave, StandsWith, durable_of, saved_of, newest_txns}
 use Rattle.pac_engine.proofs.DeviceLemmas.{three, image-of, of-three, weaken-three, log-runs}
 
 -- ---- a log with the transactions of a group behind it
@@ -85,10 +85,10 @@ module _ (text : List ℕ) (catalogue : CatalogueState) (few_tables : length cat
 
   -- so the newest slot has one
   pub saved-now : (slots : Slots) (images : Images) → IsShutOrFront text catalogue batches images.slot_a → IsShutOrFront text catalogue batches images.slot_b
-      → IsSlot catalogue.tables slots.a images.slot_a → IsSlot catalogue.tables slots.b images.slot_b → HoldsSaved catalogue (txns_in (newest_of slots)) images
+      → IsSlot catalogue.tables slots.a images.slot_a → IsSlot catalogue.tables slots.b images.slot_b → HoldsSaved catalogue (newest_txns (newest_of slots)) images
   saved-now slots images is_a is_b known_a known_b = go (newest_of slots) refl
     where
-      go : (newest : Option SlotInfo) → newest_of slots ≡ newest → HoldsSaved catalogue (txns_in newest) images
+      go : (newest : Option SlotInfo) → newest_of slots ≡ newest → HoldsSaved catalogue (newest_txns newest) images
       go None e = inl refl
       go (Some info) e = ⊎_elim (λ a. inr (inl (open-saved images.slot_a slots.a is_a known_a A info a))) (λ b. inr (inr (open-saved images.slot_b slots.b is_b known_b B info b))) (newest-one (info_of A slots.a) (info_of B slots.b) info e)
 
@@ -174,7 +174,7 @@ module _ (text : List ℕ) (history : List Txn) (e : EngineParts) (l a b : Histo
     end = leave-same text e.session.catalogue history e now (n ∷ a ∷ b ∷ []) durable saved (run_end (MayLeave text e.session.catalogue history e) (l ∷ a ∷ b ∷ []) (n ∷ a ∷ b ∷ []) commit-run);
   }
 
-  module _ (added : HasAdded text e.session.catalogue is.batches e.session.txns l n) (behind : IsBehind text more (gate_after e.session.txns e.log.gate)) where
+  module _ (added : HasAdded text e.session.catalogue is.batches e.session.txns l n) (behind : IsBehind text more (gate_past e.session.txns e.log.gate)) where
     pub commit-stands : EngineStands text history (committed_parts e) n a b
     commit-stands = record {
       batches = more;

@@ -21,7 +21,7 @@ use Rattle.pac_store.specs.Stands.{IsHistory}
 use Rattle.pac_engine.specs.declared.fault.EngineCause.{EngineCause}
 use Rattle.pac_engine.specs.declared.fault.EngineCause.TheVariants.{DiskFault, LogFull, TooLarge, Ended, NoMemory}
 use Rattle.pac_engine.specs.declared.parts.EngineParts.{EngineParts}
-use Rattle.pac_engine.specs.Committing.{HasRoomAt, IsOverFull}
+use Rattle.pac_engine.specs.Committing.{HasRoomAt, IsCalledFor, IsOverFull}
 use Rattle.pac_check.specs.declared.limits.TheConstants.{MAX_SLOT_LEN}
 use Rattle.pac_engine.specs.Closing.{Closes, IsKept, StopsAt, slot_len}
 use Rattle.pac_engine.specs.Moves.{IsAsked, IsHeldBy, IsLive, IsWorking, committed_parts, saved_parts, with_request}
@@ -65,11 +65,11 @@ module _ (before now : EngineParts) (asked : Request) (closing : Bool) (is : IsA
           closes-closed (with_request asked before) start (group ++ asked ∷ []) more (subst (λ (e : EngineParts). HasRoomAt e.log.gate.place e.session.txns) is.becomes room) (cut_one rules start group asked) given new cut-is
           (gave ∙ ap (λ (e : EngineParts). e.session.held) is.becomes) (becomes ∙ ap committed_parts is.becomes)
 
-      pub behind-stops : (cause : EngineCause) (given : List Reply) → given ≡ [] → ((bytes : ℕ) → cause ≡ TooLarge bytes → ⊥) → (cause ≡ Ended → ⊥) → ((need : ℕ) → cause ≡ LogFull need → IsOverFull now.log.gate.place now.session.txns need) → (cause ≡ DiskFault → 0 < length now.session.txns)
+      pub behind-stops : (cause : EngineCause) (given : List Reply) → given ≡ [] → ((bytes : ℕ) → cause ≡ TooLarge bytes → ⊥) → (cause ≡ Ended → ⊥) → ((need : ℕ) → cause ≡ LogFull need → IsOverFull now.log.gate.place now.session.txns need) → (cause ≡ DiskFault → IsCalledFor now.log.gate.place now.session.txns)
           → StopsAt (rules_of before.session) before.log.gate.place start (cut_one (rules_of before.session) start group asked).closed given cause
       behind-stops cause given none known on full called =
           close-stops rules before.log.gate.place start (cut_one rules start group asked).closed (group ++ asked ∷ []) (ap (λ (cut : GroupCut). cut.closed) cut-is) (with_asked asked before.session).txns more.body cause given none known on
-          (λ need e. subst (λ (p : EngineParts). IsOverFull p.log.gate.place p.session.txns need) is.becomes (full need e)) (λ e. subst (λ (p : EngineParts). 0 < length p.session.txns) is.becomes (called e))
+          (λ need e. subst (λ (p : EngineParts). IsOverFull p.log.gate.place p.session.txns need) is.becomes (full need e)) (λ e. subst (λ (p : EngineParts). IsCalledFor p.log.gate.place p.session.txns) is.becomes (called e))
 
 -- what is told of a group that was closed is durable
 pub closed-kept : (e now : EngineParts) (given : List Reply) → IsWorking e → durable_of now ≡ durable_of (committed_parts e) → given ≡ e.session.held → AllByRecursion (IsKept now) given
@@ -192,7 +192,7 @@ module _ (e : EngineParts) (live : IsLive e) (asked : Request) (txn : Txn) (asks
       → Closes (rules_of e.session) e.log.gate.place start (cut_one (rules_of e.session) start group asked) given new
   anew-closes given new gave becomes room = closes-before e start group within room asked (cut_one (rules_of e.session) start group asked) given new anew-cut gave becomes
 
-  pub anew-stops : (cause : EngineCause) (given : List Reply) → given ≡ [] → ((bytes : ℕ) → cause ≡ TooLarge bytes → ⊥) → (cause ≡ Ended → ⊥) → ((need : ℕ) → cause ≡ LogFull need → IsOverFull e.log.gate.place e.session.txns need) → (cause ≡ DiskFault → 0 < length e.session.txns)
+  pub anew-stops : (cause : EngineCause) (given : List Reply) → given ≡ [] → ((bytes : ℕ) → cause ≡ TooLarge bytes → ⊥) → (cause ≡ Ended → ⊥) → ((need : ℕ) → cause ≡ LogFull need → IsOverFull e.log.gate.place e.session.txns need) → (cause ≡ DiskFault → IsCalledFor e.log.gate.place e.session.txns)
       → StopsAt (rules_of e.session) e.log.gate.place start (cut_one (rules_of e.session) start group asked).closed given cause
   anew-stops = close-stops (rules_of e.session) e.log.gate.place start (cut_one (rules_of e.session) start group asked).closed group (ap (λ (cut : GroupCut). cut.closed) anew-cut) e.session.txns within.body
 
@@ -232,7 +232,7 @@ module _ (e : EngineParts) (counted : e.log.gate.txns ≡ e.session.before) (sta
       closes-saved e start group within room (cut_one (rules_of e.session) start group request.Save) given mid.log.gate.txns new save-cut
       (told ∙ ap (λ (l : List Reply). l ++ reply.Saved mid.log.gate.txns ∷ []) gave) number (saved ∙ ap saved_parts closed)
 
-  pub checkpoint-stops : (cause : EngineCause) (given : List Reply) → given ≡ [] → ((bytes : ℕ) → cause ≡ TooLarge bytes → ⊥) → (cause ≡ Ended → ⊥) → ((need : ℕ) → cause ≡ LogFull need → IsOverFull e.log.gate.place e.session.txns need) → (cause ≡ DiskFault → 0 < length e.session.txns)
+  pub checkpoint-stops : (cause : EngineCause) (given : List Reply) → given ≡ [] → ((bytes : ℕ) → cause ≡ TooLarge bytes → ⊥) → (cause ≡ Ended → ⊥) → ((need : ℕ) → cause ≡ LogFull need → IsOverFull e.log.gate.place e.session.txns need) → (cause ≡ DiskFault → IsCalledFor e.log.gate.place e.session.txns)
       → StopsAt (rules_of e.session) e.log.gate.place start (cut_one (rules_of e.session) start group request.Save).closed given cause
   checkpoint-stops = close-stops (rules_of e.session) e.log.gate.place start (cut_one (rules_of e.session) start group request.Save).closed (group ++ request.Save ∷ []) (ap (λ (cut : GroupCut). cut.closed) save-cut)
       e.session.txns (within.body ∙ sym (save-commits (rules_of e.session) start group))

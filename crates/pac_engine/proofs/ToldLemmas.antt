@@ -21,7 +21,7 @@ use Rattle.pac_check.specs.Replacing.{HasByte, IsOldShutOrNew}
 use Rattle.pac_check.specs.Saved.{checkpoint_of}
 use Rattle.pac_check.specs.SlotStates.{HoldsRows, by_slot, spare_of}
 use Rattle.pac_engine.specs.declared.parts.EngineParts.{EngineParts}
-use Rattle.pac_engine.specs.Committing.{HasAdded, MayAdd, gate_after, with_batch}
+use Rattle.pac_engine.specs.Committing.{HasAdded, MayAdd, gate_past, with_batch}
 use Rattle.pac_engine.specs.Moves.{committed_parts, saved_parts}
 use Rattle.pac_engine.specs.Standing.{EngineStands, KeepsHistory, MayLeave, StandsOn, TellsIf, TellsWhere, durable_of, saved_of}
 use Rattle.pac_engine.proofs.DeviceLemmas.{log-told, a-told, b-told, rest-told}
@@ -55,12 +55,12 @@ module _ (text : List ℕ) (history : List Txn) (e : EngineParts) (same : e.log.
         l n a b (λ u v w is. all-tell (λ t bs x y. MayAdd t e.log.gate.catalogue bs txns x y) e.log.gate l n may text is.batches is.behind)
 
     module _ (added : (t : List ℕ) (bs : List (List Txn)) → IsBehind t bs e.log.gate → BothTell (HasAdded t e.log.gate.catalogue bs txns) l n)
-        (gate : NextGate) (behind : (t : List ℕ) (bs : List (List Txn)) → IsBehind t bs e.log.gate → IsBehind t (with_batch bs txns) gate) (gate_is : gate ≡ gate_after txns e.log.gate) (now : EngineParts) (becomes : now ≡ committed_parts e) where
+        (gate : NextGate) (behind : (t : List ℕ) (bs : List (List Txn)) → IsBehind t bs e.log.gate → IsBehind t (with_batch bs txns) gate) (gate_is : gate ≡ gate_past txns e.log.gate) (now : EngineParts) (becomes : now ≡ committed_parts e) where
       abbrev AddsAll : History → History → Type 0
       AddsAll x y = (t : List ℕ) (bs : List (List Txn)) → IsBehind t bs e.log.gate → MayAdd t e.log.gate.catalogue bs txns x y × HasAdded t e.log.gate.catalogue bs txns x y
 
-      behind-here : (batches : List (List Txn)) → IsBehind text batches e.log.gate → IsBehind text (with_batch batches e.session.txns) (gate_after e.session.txns e.log.gate)
-      behind-here batches is = subst (λ (t : List Txn). IsBehind text (with_batch batches t) (gate_after t e.log.gate)) txns_is (subst (λ (g : NextGate). IsBehind text (with_batch batches txns) g) gate_is (behind text batches is))
+      behind-here : (batches : List (List Txn)) → IsBehind text batches e.log.gate → IsBehind text (with_batch batches e.session.txns) (gate_past e.session.txns e.log.gate)
+      behind-here batches is = subst (λ (t : List Txn). IsBehind text (with_batch batches t) (gate_past t e.log.gate)) txns_is (subst (λ (g : NextGate). IsBehind text (with_batch batches txns) g) gate_is (behind text batches is))
 
       both-tell : (u v w : History) → StandsOn text history e (u ∷ v ∷ w ∷ []) → BothTell AddsAll l n
       both-tell u v w is = all-tell (λ t bs x y. MayAdd t e.log.gate.catalogue bs txns x y × HasAdded t e.log.gate.catalogue bs txns x y) e.log.gate l n

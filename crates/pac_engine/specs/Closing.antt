@@ -15,7 +15,7 @@ use Rattle.pac_session.specs.Open.{IsInGroup, rules_of}
 use Rattle.pac_engine.specs.declared.fault.EngineCause.{EngineCause}
 use Rattle.pac_engine.specs.declared.fault.EngineCause.TheVariants.{DiskFault, LogFull, TooLarge, Ended, NoMemory}
 use Rattle.pac_engine.specs.declared.parts.EngineParts.{EngineParts}
-use Rattle.pac_engine.specs.Committing.{HasRoomAt, IsOverFull}
+use Rattle.pac_engine.specs.Committing.{HasRoomAt, IsCalledFor, IsOverFull}
 use Rattle.pac_engine.specs.Standing.{durable_of, saved_of}
 
 -- ---- groups that were closed
@@ -68,9 +68,9 @@ pub record IsUpToGroup (P : Group → Type 0) (groups : List Group) (given : Lis
   pub fit : AllByRecursion GroupFits before
   pub here : P group
 
--- the group has transactions, so that a device is called for it
-abbrev pub HasTransactions : Group → Type 0
-HasTransactions group = 0 < length group.txns
+-- a device is called for the group: it has transactions, and fits the log
+abbrev pub CallsDevice : Group → Type 0
+CallsDevice group = IsCalledFor group.place group.txns
 
 -- the log would have this many bytes with the group, which is too many
 abbrev pub NeedsTooMuch : ℕ → Group → Type 0
@@ -102,7 +102,7 @@ pub record IsTooLarge (rules : Rules) (place : ℕ) (start : SessionState) (clos
 
 -- Requests are cut into these groups, and it stops at one of them for this cause, with these replies given out.
 abbrev pub StopsAt : Rules → ℕ → SessionState → List (List Request) → List Reply → EngineCause → Type 0
-StopsAt rules place start closed given DiskFault = IsUpToGroup HasTransactions (described rules place start closed) given ⊎ IsUnsaved (described rules place start closed) given
+StopsAt rules place start closed given DiskFault = IsUpToGroup CallsDevice (described rules place start closed) given ⊎ IsUnsaved (described rules place start closed) given
 StopsAt rules place start closed given (LogFull need) = IsUpToGroup (NeedsTooMuch need) (described rules place start closed) given
 StopsAt rules place start closed given (TooLarge bytes) = IsTooLarge rules place start closed bytes given
 StopsAt rules place start closed given Ended = ⊥

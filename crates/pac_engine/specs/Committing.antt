@@ -17,9 +17,9 @@ with_batch batches [] = batches
 with_batch batches (txn ∷ txns) = batches ++ (txn ∷ txns) ∷ []
 
 -- the gate behind these transactions where there are any
-abbrev pub gate_after : List Txn → NextGate → NextGate
-gate_after [] gate = gate
-gate_after (txn ∷ txns) gate = gate_behind (length (txn ∷ txns)) (1 + length (body_bytes (txn ∷ txns))) gate
+abbrev pub gate_past : List Txn → NextGate → NextGate
+gate_past [] gate = gate
+gate_past (txn ∷ txns) gate = gate_behind (length (txn ∷ txns)) (1 + length (body_bytes (txn ∷ txns))) gate
 
 -- at each moment a crash leaves these batches, or these and the new one
 abbrev pub MayAdd : List ℕ → CatalogueState → List (List Txn) → List Txn → History → History → Type 0
@@ -33,6 +33,11 @@ HasAdded text catalogue batches txns old new = OneImage (HoldsLog text catalogue
 -- behind this place the log has room for the transactions, where there are any
 abbrev pub HasRoomAt : ℕ → List Txn → Type 0
 HasRoomAt place txns = 0 < length txns → need_of place txns ≤ MAX_LOG_LEN
+
+-- a device is called for the transactions: there are some, and behind this place the log has room for them
+pub record IsCalledFor (place : ℕ) (txns : List Txn) : Type 0 where
+  pub some : 0 < length txns
+  pub room : need_of place txns ≤ MAX_LOG_LEN
 
 -- there are transactions, and the log would have this many bytes with them, or the greatest number of 64 bits where that is
 -- less; and it may not have so many

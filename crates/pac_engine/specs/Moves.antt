@@ -14,7 +14,7 @@ use Rattle.pac_session.specs.Session.{txn_of}
 use Rattle.pac_session.specs.Groups.{is_closing, lacks_room}
 use Rattle.pac_session.specs.Open.{Open, with_asked, with_closed}
 use Rattle.pac_engine.specs.declared.parts.EngineParts.{EngineParts}
-use Rattle.pac_engine.specs.Committing.{gate_after}
+use Rattle.pac_engine.specs.Committing.{gate_past}
 use Rattle.pac_engine.specs.Standing.{durable_of, saved_of}
 
 -- a reply that is held: its transaction is among the first so many
@@ -54,7 +54,7 @@ with_request asked engine = record engine { session = with_asked asked engine.se
 
 -- the open group closed, and committed
 abbrev pub committed_parts : EngineParts → EngineParts
-committed_parts engine = record engine { session = with_closed engine.session; log = record { gate = gate_after engine.session.txns engine.log.gate; stage = Waiting } }
+committed_parts engine = record engine { session = with_closed engine.session; log = record { gate = gate_past engine.session.txns engine.log.gate; stage = Waiting } }
 
 -- a checkpoint saved
 abbrev pub saved_parts : EngineParts → EngineParts

@@ -21,13 +21,13 @@ abbrev pub durable_of : EngineParts → ℕ
 durable_of engine = engine.log.gate.txns
 
 -- how many transactions are in a checkpoint; 0 where there is none
-abbrev pub txns_in : Option SlotInfo → ℕ
-txns_in None = 0
-txns_in (Some info) = info.txns
+abbrev pub newest_txns : Option SlotInfo → ℕ
+newest_txns None = 0
+newest_txns (Some info) = info.txns
 
 -- how many are in the newest checkpoint
 abbrev pub saved_of : EngineParts → ℕ
-saved_of engine = txns_in (newest_of engine.slots)
+saved_of engine = newest_txns (newest_of engine.slots)
 
 -- what is durable and saved stays so
 pub record IsGrown (before now : EngineParts) : Type 0 where

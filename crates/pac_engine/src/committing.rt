@@ -9,7 +9,7 @@ ghost use Rattle.pac_log.specs.declared.limits.TheConstants.{MAX_BODY_LEN, MAX_L
 ghost use Rattle.pac_log.specs.declared.log.Stage.{Stage};
 ghost use Rattle.pac_log.specs.Bodies.{body_bytes};
 ghost use Rattle.pac_log.specs.Places.{IsBehind, IsPrepared, LogEndsAt, need_of};
-ghost use Rattle.pac_engine.specs.Committing.{HasAdded, HasRoomAt, IsOverFull, MayAdd, gate_after, with_batch};
+ghost use Rattle.pac_engine.specs.Committing.{HasAdded, HasRoomAt, IsCalledFor, IsOverFull, MayAdd, gate_past, with_batch};
 
 use crate::fault::EngineCause;
 use pac_log::{Log, PrepareError};
@@ -70,14 +70,14 @@ pub fn commit<D: Disk>(log: &mut Log, disk: &mut D, txns: Vec<Txn>) -> Result<()
         → BothTell (HasAdded text log.old.gate.catalogue batches txns.items) (D.told disk.old) (D.told disk.new)) }
     ensures behind { OnOk result ((text : List ℕ) (batches : List (List ATxn)) → IsBehind text batches log.old.gate → IsBehind text (with_batch batches txns.items) log.new.gate) }
     ensures ends { OnOk result (WhereTold (λ new. LogEndsAt log.new.gate new.now) (D.told disk.new)) }
-    ensures gate { OnOk result (log.new.gate ≡ gate_after txns.items log.old.gate) }
+    ensures gate { OnOk result (log.new.gate ≡ gate_past txns.items log.old.gate) }
     ensures kept { OnErr result (log.new.gate ≡ log.old.gate) }
     ensures waits { OnOk result (log.new.stage ≡ Stage.Waiting) }
 
     // When each refusal comes.
     ensures full { (need : ℕ) → IsErrOf result (EngineCause.LogFull need) → IsOverFull log.old.gate.place txns.items need }
     ensures room { OnOk result (HasRoomAt log.old.gate.place txns.items) }
-    ensures called { IsErrOf result EngineCause.DiskFault → 0 < length txns.items }
+    ensures called { IsErrOf result EngineCause.DiskFault → IsCalledFor log.old.gate.place txns.items }
     ensures known { (bytes : ℕ) → ¬ IsErrOf result (EngineCause.TooLarge bytes) }
     ensures goes_on { ¬ IsErrOf result EngineCause.Ended }
 

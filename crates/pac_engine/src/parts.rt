@@ -4,7 +4,7 @@ ghost use Rattle.pac_outside.specs.Devices.{each};
 ghost use Rattle.pac_check.specs.declared.limits.TheConstants.{MAX_SLOT_LEN};
 ghost use Rattle.pac_session.specs.Open.{rules_of, state_now};
 ghost use Rattle.pac_engine.specs.Closing.{CountsFault, slot_len};
-ghost use Rattle.pac_engine.specs.Committing.{HasRoomAt, IsOverFull};
+ghost use Rattle.pac_engine.specs.Committing.{HasRoomAt, IsCalledFor, IsOverFull};
 ghost use Rattle.pac_engine.specs.Moves.{IsLive, IsUnmoved, IsWorking, committed_parts, saved_parts};
 ghost use Rattle.pac_engine.specs.Standing.{HasDevices, KeepsMore, StandsForMore};
 
@@ -41,7 +41,7 @@ impl EngineParts {
         ensures stands { OnOk result (StandsForMore D.told [] self.old self.new devices.old devices.new) }
         ensures full { (need : ℕ) → IsErrOf result (EngineCause.LogFull need) → IsOverFull self.old.log.gate.place self.old.session.txns need }
         ensures room { OnOk result (HasRoomAt self.old.log.gate.place self.old.session.txns) }
-        ensures called { IsErrOf result EngineCause.DiskFault → 0 < length self.old.session.txns }
+        ensures called { IsErrOf result EngineCause.DiskFault → IsCalledFor self.old.log.gate.place self.old.session.txns }
         ensures known { (bytes : ℕ) → ¬ IsErrOf result (EngineCause.TooLarge bytes) }
         ensures goes_on { ¬ IsErrOf result EngineCause.Ended }
         ensures faults { MatchResult result (λ _. each D.faults devices.new ≡ each D.faults devices.old) (λ cause. CountsFault cause (each D.faults devices.old) (each D.faults devices.new)) }

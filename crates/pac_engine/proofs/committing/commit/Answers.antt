@@ -33,3 +33,6 @@ returns-clause-behind g c = λ text batches is.
     let some : 0 < length c.args.txns.items = grind (arith, common_steps) in
     behind_some text batches c.args.txns.items some c.args.log.now.gate c.prepare.new.log.gate c.prepare.ensures.gate _
     (c.in_ok-commit.ensures.behind text batches c.args.txns.items (still_behind text batches c.args.txns.items some _ _ c.prepare.ensures.gate is) c.in_ok-prepare.ensures.prepared)
+
+pub returns-in_err-commit-clause-called : goal.returns-in_err-commit-clause-called
+returns-in_err-commit-clause-called g c = λ fault. record { some = grind (arith, common_steps); room = c.in_ok-prepare.ensures.room }
