@@ -12,7 +12,7 @@ ghost use Rattle.pac_check.specs.declared.info.SlotInfo.{SlotInfo as ASlotInfo};
 ghost use Rattle.pac_check.specs.declared.state.SlotState.{SlotState as AState};
 ghost use Rattle.pac_check.specs.declared.errors.SaveError.{SaveError as ASaveError};
 ghost use Rattle.pac_check.specs.declared.limits.TheConstants.{MAX_SAVED_ROWS, MAX_SLOT_LEN};
-ghost use Rattle.pac_check.specs.Checkpoints.{checkpoint_bytes, head_with};
+ghost use Rattle.pac_check.specs.Checkpoints.{IsCheckpoint, checkpoint_bytes, head_with};
 ghost use Rattle.pac_check.specs.Kinds.{slot_fault};
 ghost use Rattle.pac_check.specs.Replacing.{HasByte, IsOldShutOrNew};
 ghost use Rattle.pac_check.specs.Saved.{checkpoint_of};
@@ -184,6 +184,7 @@ impl Slots {
             → BothTell (λ old new. LeavesOnly (IsOldShutOrNew old.now.seen (checkpoint_bytes (checkpoint_of (length cat.now.tables) (head_with txns place) (R.held rows.now)))) old new)
             (by_slot (spare_of self.old) (D.told a.old) (D.told b.old)) (by_slot (spare_of self.old) (D.told a.new) (D.told b.new)) }
         ensures other { by_slot (spare_of self.old) (D.told b.new) (D.told a.new) ≡ by_slot (spare_of self.old) (D.told b.old) (D.told a.old) }
+        ensures form { IsErrOf result SaveError.DiskFault → IsCheckpoint cat.now.tables (checkpoint_of (length cat.now.tables) (head_with txns place) (R.held rows.now)) }
 
         // Afterwards it has the checkpoint, and the slots are known again.
         ensures saved { OnOk result (BothTell (λ old new. OneImage (HoldsRows cat.now.tables (head_with txns place) (R.held rows.now)) new.now) (by_slot (spare_of self.old) (D.told a.old) (D.told b.old)) (by_slot (spare_of self.old) (D.told a.new) (D.told b.new))) }

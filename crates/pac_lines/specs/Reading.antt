@@ -22,7 +22,7 @@ pub record HasNoLine (bytes : List ℕ) : Type 0 where
   pub front : HasNoFeed (take (length bytes - 1) bytes)
 
 -- a read added so many bytes behind those ahead
-pub record IsGrown (old new : List ℕ) (left left' : Option (List ℕ)) (count : ℕ) : Type 0 where
+pub record IsReadBehind (old new : List ℕ) (left left' : Option (List ℕ)) (count : ℕ) : Type 0 where
   pub given : List ℕ
   pub gave : Gave left given left'
   pub bytes : new ≡ old ++ given

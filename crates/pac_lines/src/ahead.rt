@@ -4,7 +4,7 @@ ghost use Rattle.pac_outside.specs.Causes.{Rose};
 ghost use Rattle.pac_outside.specs.Content.{IsAtEnd};
 ghost use Rattle.pac_value.specs.Ascii.{line_feed};
 ghost use Rattle.pac_lines.specs.Lines.{HasNoFeed, IsEndedLine};
-ghost use Rattle.pac_lines.specs.Reading.{AheadState, IsGrown};
+ghost use Rattle.pac_lines.specs.Reading.{AheadState, IsReadBehind};
 
 use crate::LineError;
 use crate::limits::MAX_READ;
@@ -50,7 +50,7 @@ fn feed_at(bytes: &[u8]) -> Option<usize>
 fn append<S: Source>(buffer: &mut Vec<u8>, source: &mut S, most: usize) -> Result<usize, LineError>
     requires { most ≤ MAX_READ }
     ensures most { IfOk result (λ count. count ≤ most) }
-    ensures bytes { MatchResult result (λ count. IsGrown buffer.old.items buffer.new.items (S.left source.old) (S.left source.new) count) (λ _. (buffer.new.items ≡ buffer.old.items) × (S.left source.new ≡ S.left source.old)) }
+    ensures bytes { MatchResult result (λ count. IsReadBehind buffer.old.items buffer.new.items (S.left source.old) (S.left source.new) count) (λ _. (buffer.new.items ≡ buffer.old.items) × (S.left source.new ≡ S.left source.old)) }
     ensures end { IfOk result (λ count. count ≡ 0 → 0 < most → IsAtEnd (S.left source.new)) }
     ensures later { S.faults source.old ≤ S.faults source.new }
     ensures cause { IsErrOf result LineError.Failed → Rose (S.faults source.old) (S.faults source.new) }
@@ -158,7 +158,7 @@ impl Ahead {
         requires { most ≤ MAX_READ }
         ensures line { self.new.line ≡ [] }
         ensures most { IfOk result (λ count. count ≤ most) }
-        ensures bytes { MatchResult result (λ count. IsGrown self.old.bytes self.new.bytes (S.left source.old) (S.left source.new) count) (λ _. (self.new.bytes ≡ self.old.bytes) × (S.left source.new ≡ S.left source.old)) }
+        ensures bytes { MatchResult result (λ count. IsReadBehind self.old.bytes self.new.bytes (S.left source.old) (S.left source.new) count) (λ _. (self.new.bytes ≡ self.old.bytes) × (S.left source.new ≡ S.left source.old)) }
         ensures end { IfOk result (λ count. count ≡ 0 → 0 < most → IsAtEnd (S.left source.new)) }
         ensures later { S.faults source.old ≤ S.faults source.new }
         ensures cause { IsErrOf result LineError.Failed → Rose (S.faults source.old) (S.faults source.new) }

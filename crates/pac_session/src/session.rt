@@ -104,9 +104,11 @@ impl Session {
         &self.rows
     }
 
-    /// Whether the body of the open group has no room for the entry of a transaction. Linear in its values.
+    /// Whether the body of the open group has no room for the entry of a transaction. A group without transactions has it.
+    /// Linear in the transaction's values.
     pub fn lacks_room(&self, txn: &Txn) -> bool
-        ensures { result ≡ lacks_room self.now.txns (ASome txn.now) }
+        ensures test { result ≡ lacks_room self.now.txns (ASome txn.now) }
+        ensures alone { lacks_room [] (ASome txn.now) ≡ false }
     {
         self.len + entry_len(txn) > MAX_BODY
     }

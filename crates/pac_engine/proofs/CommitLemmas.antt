@@ -1,0 +1,66 @@
+-- A log to which the transactions of a group are added, where there are any.
+use Rattle.std.proofs.Common.{◌≡◌, ◌⊎◌, inl, ◌∙◌, ℕ, ◌+◌, ◌<◌, List, [], ◌∷◌, ◌++◌, length, Option, Some, None, refl, sym, ap, subst, arith}
+use Rattle.std.proofs.lemmas.List.{append-nil}
+use Rattle.pac_ops.specs.declared.transaction.Txn.{Txn}
+use Rattle.pac_outside.specs.Disk.{BothTell, DiskState, History, IsImage, Leaves, LeavesOnly}
+use Rattle.pac_outside.specs.GateByte.{OneImage}
+use Rattle.pac_outside.proofs.Images.{one_image}
+use Rattle.pac_types.specs.Typing.{CatalogueState}
+use Rattle.pac_log.specs.declared.position.NextGate.{NextGate}
+use Rattle.pac_log.specs.Bodies.{body_bytes}
+use Rattle.pac_log.specs.Gates.{gate_behind}
+use Rattle.pac_log.specs.Logs.{AddsBatch, HoldsLog, KeepsOrAdds}
+use Rattle.pac_log.specs.Places.{IsBehind}
+use Rattle.pac_engine.specs.Committing.{HasAdded, MayAdd, gate_past, with_batch}
+
+-- where a crash leaves one image, it leaves that
+one_leaves : (P Q : List ℕ → Type 0) → ((image : List ℕ) → P image → Q image) → (state : DiskState) → OneImage P state → Leaves Q state
+one_leaves P Q f state one image is = subst Q (sym (one_image state.seen image (subst (λ (s : DiskState). IsImage s image) one.one is))) (f state.seen one.has)
+
+-- a device that isn't called leaves what it left
+pub rests : (P Q : List ℕ → Type 0) → ((image : List ℕ) → P image → Q image) → (h : History) → OneImage P h.now → LeavesOnly Q h h
+rests P Q f h one =
+    let here : Leaves Q h.now = one_leaves P Q f h.now one in
+    record { since = []; grown = sym (append-nil h.past); first = here; each = tt; last = here }
+
+pub nothing_added : (text : List ℕ) (catalogue : CatalogueState) (batches : List (List Txn)) (txns : List Txn) (told : Option History) → BothTell (MayAdd text catalogue batches txns) told told
+nothing_added text catalogue batches txns None = tt
+nothing_added text catalogue batches txns (Some h) = λ one. rests (HoldsLog text catalogue batches) (λ image. HoldsLog text catalogue batches image ⊎ HoldsLog text catalogue (with_batch batches txns) image) (λ image holds. inl holds) h one
+
+none_added : (text : List ℕ) (catalogue : CatalogueState) (batches : List (List Txn)) (told : Option History) → BothTell (HasAdded text catalogue batches []) told told
+none_added text catalogue batches None = tt
+none_added text catalogue batches (Some h) = λ one. one
+
+pub none_has_added : (text : List ℕ) (catalogue : CatalogueState) (batches : List (List Txn)) (txns : List Txn) → txns ≡ [] → (told : Option History) → BothTell (HasAdded text catalogue batches txns) told told
+none_has_added text catalogue batches txns none told = subst (λ (l : List Txn). BothTell (HasAdded text catalogue batches l) told told) (sym none) (none_added text catalogue batches told)
+
+pub none_behind : (text : List ℕ) (batches : List (List Txn)) (txns : List Txn) → txns ≡ [] → (gate : NextGate) → IsBehind text batches gate → IsBehind text (with_batch batches txns) gate
+none_behind text batches txns none gate is = subst (λ (l : List Txn). IsBehind text (with_batch batches l) gate) (sym none) is
+
+pub no_gate : (txns : List Txn) (gate : NextGate) → txns ≡ [] → gate ≡ gate_past txns gate
+no_gate txns gate none = subst (λ (l : List Txn). gate ≡ gate_past l gate) (sym none) refl
+
+with_some : (batches : List (List Txn)) (txns : List Txn) → 0 < length txns → with_batch batches txns ≡ batches ++ txns ∷ []
+with_some batches [] some = absurd (omega (arith, some))
+with_some batches (txn ∷ txns) some = refl
+
+pub some_gate : (txns : List Txn) (old now new : NextGate) → 0 < length txns → now ≡ old → new ≡ gate_behind (length txns) (1 + length (body_bytes txns)) now → new ≡ gate_past txns old
+some_gate [] old now new some same is = absurd (omega (arith, some))
+some_gate (txn ∷ txns) old now new some same is = is ∙ ap (λ (g : NextGate). gate_past (txn ∷ txns) g) same
+
+module _ (text : List ℕ) (batches : List (List Txn)) (txns : List Txn) (some : 0 < length txns) (old now : NextGate) (same : now ≡ old) where
+  pub may_add : (a b : Option History) → BothTell (KeepsOrAdds text now.catalogue batches txns) a b → BothTell (MayAdd text old.catalogue batches txns) a b
+  may_add a b told =
+      subst (λ (g : NextGate). BothTell (MayAdd text g.catalogue batches txns) a b) same
+      (subst (λ (bs : List (List Txn)). BothTell (λ x y. OneImage (HoldsLog text now.catalogue batches) x.now → LeavesOnly (λ image. HoldsLog text now.catalogue batches image ⊎ HoldsLog text now.catalogue bs image) x y) a b) (sym (with_some batches txns some)) told)
+
+  pub has_added : (a b : Option History) → BothTell (AddsBatch text now.catalogue batches txns) a b → BothTell (HasAdded text old.catalogue batches txns) a b
+  has_added a b told =
+      subst (λ (g : NextGate). BothTell (HasAdded text g.catalogue batches txns) a b) same
+      (subst (λ (bs : List (List Txn)). BothTell (λ x y. OneImage (HoldsLog text now.catalogue batches) x.now → OneImage (HoldsLog text now.catalogue bs) y.now) a b) (sym (with_some batches txns some)) told)
+
+  pub still_behind : IsBehind text batches old → IsBehind text batches now
+  still_behind is = subst (λ (g : NextGate). IsBehind text batches g) (sym same) is
+
+  pub behind_some : (new : NextGate) → IsBehind text (batches ++ txns ∷ []) new → IsBehind text (with_batch batches txns) new
+  behind_some new is = subst (λ (bs : List (List Txn)). IsBehind text bs new) (sym (with_some batches txns some)) is

@@ -1,0 +1,230 @@
+-- The groups that a step closes, and the group that an engine is within.
+use Rattle.std.proofs.Common.{◌≡◌, ◌∙◌, inl, inr, ℕ, ◌+◌, ◌<◌, ◌≤◌, Bool, true, false, List, [], ◌∷◌, ◌++◌, length, refl, sym, ap, subst, arith, length-append}
+use Rattle.std.specs.Prelude.{if◌then◌else◌, nat_le, ◌||◌}
+use Rattle.std.specs.List.{AllByRecursion}
+use Rattle.std.proofs.lemmas.List.{append-nil}
+use Rattle.pac_value.specs.State.{Tables}
+use Rattle.pac_ops.specs.declared.transaction.Txn.{Txn}
+use Rattle.pac_request.specs.declared.request.Request.{Request}
+use Rattle.pac_request.specs.declared.request.Request.TheVariants as request
+use Rattle.pac_request.specs.declared.request.Reply.{Reply}
+use Rattle.pac_request.specs.declared.request.Reply.TheVariants as reply
+use Rattle.pac_check.specs.declared.limits.TheConstants.{MAX_SLOT_LEN}
+use Rattle.pac_session.specs.Session.{Rules, SessionState, answer, commits, committed, ends, replies, state_after, txn_of}
+use Rattle.pac_session.specs.Groups.{Group, GroupCut, all_replies, all_requests, cut_behind, cut_one, cut_with, described, is_closing, lacks_room, place_behind}
+use Rattle.pac_session.specs.Open.{IsInGroup, Open, rules_of, state_now, with_asked, with_closed}
+use Rattle.pac_session.proofs.SessionLemmas.{after-number, committed-append, ends-append, replies-append}
+use Rattle.pac_engine.specs.declared.fault.EngineCause.{EngineCause}
+use Rattle.pac_engine.specs.declared.fault.EngineCause.TheVariants.{DiskFault, LogFull, TooLarge, Ended, NoMemory}
+use Rattle.pac_engine.specs.declared.parts.EngineParts.{EngineParts}
+use Rattle.pac_engine.specs.Committing.{HasRoomAt, IsCalledFor, IsOverFull, gate_past}
+use Rattle.pac_engine.specs.Closing.{Closes, GroupFits, IsTooLarge, IsUnsaved, StopsAt, place_after, slot_len}
+use Rattle.pac_engine.specs.Moves.{committed_parts, saved_parts, with_request}
+use Rattle.pac_engine.proofs.BodyLemmas.{place-after}
+
+-- ---- the open group, one request more, and closed
+
+state-same : (a b : SessionState) → a.tables ≡ b.tables → a.number ≡ b.number → a ≡ b
+state-same a b tables number = ap (λ (t : Tables). the_state t a.number) tables ∙ ap (λ (n : ℕ). the_state b.tables n) number
+  where
+    the_state : Tables → ℕ → SessionState
+    the_state t n = record { tables = t; number = n }
+
+asked-state : (now : Open) (asked : Request) → state_after (rules_of now) (state_now now) asked ≡ state_now (with_asked asked now)
+asked-state now asked = state-same (state_after (rules_of now) (state_now now) asked) (state_now (with_asked asked now)) refl
+    (omega (arith, after-number (rules_of now) (state_now now) asked, length-append now.txns (commits (rules_of now) (state_now now) asked)))
+
+pub closed-state : (now : Open) → state_now (with_closed now) ≡ state_now now
+closed-state now = state-same (state_now (with_closed now)) (state_now now) refl (omega arith)
+
+module _ (rules : Rules) (start : SessionState) (group : List Request) (asked : Request) where
+  pub ends-push : ends rules start (group ++ asked ∷ []) ≡ state_after rules (ends rules start group) asked
+  ends-push = ends-append rules start group (asked ∷ [])
+
+  pub replies-push : replies rules start (group ++ asked ∷ []) ≡ replies rules start group ++ answer rules (ends rules start group) asked
+  replies-push = replies-append rules start group (asked ∷ []) ∙ ap (λ (l : List Reply). replies rules start group ++ l) (append-nil (answer rules (ends rules start group) asked))
+
+  pub committed-push : committed rules start (group ++ asked ∷ []) ≡ committed rules start group ++ commits rules (ends rules start group) asked
+  committed-push = committed-append rules start group (asked ∷ []) ∙ ap (λ (l : List Txn). committed rules start group ++ l) (append-nil (commits rules (ends rules start group) asked))
+
+pub group-asked : (start : SessionState) (group : List Request) (asked : Request) (now : Open) → IsInGroup start group now → IsInGroup start (group ++ asked ∷ []) (with_asked asked now)
+group-asked start group asked now is = record {
+  answers = ap (λ (l : List Reply). l ++ answer (rules_of now) (state_now now) asked) is.answers ∙ ap (λ (s : SessionState). replies (rules_of now) start group ++ answer (rules_of now) s asked) (sym is.here) ∙ sym (replies-push (rules_of now) start group asked);
+  body = ap (λ (l : List Txn). l ++ commits (rules_of now) (state_now now) asked) is.body ∙ ap (λ (s : SessionState). committed (rules_of now) start group ++ commits (rules_of now) s asked) (sym is.here) ∙ sym (committed-push (rules_of now) start group asked);
+  here = ends-push (rules_of now) start group asked ∙ ap (λ (s : SessionState). state_after (rules_of now) s asked) is.here ∙ asked-state now asked;
+  begun = is.begun;
+}
+
+pub group-closed : (start : SessionState) (group : List Request) (now : Open) → IsInGroup start group now → IsInGroup (ends (rules_of now) start group) [] (with_closed now)
+group-closed start group now is = record { answers = refl; body = refl; here = is.here ∙ sym (closed-state now); begun = ap (λ (s : SessionState). s.number) is.here }
+
+-- ---- where a request cuts
+
+-- a cut behind no group
+behind-none : (group : List Request) (b : Bool) → cut_behind (record { closed = []; rest = group }) (if b then record { closed = group ∷ []; rest = [] } else record { closed = []; rest = group })
+    ≡ (if b then record { closed = group ∷ []; rest = [] } else record { closed = []; rest = group })
+behind-none group true = refl
+behind-none group false = refl
+
+module _ (rules : Rules) (start : SessionState) (group : List Request) (asked : Request) where
+  abbrev test : Bool
+  test = is_closing asked || nat_le rules.most (length (replies rules start (group ++ asked ∷ [])))
+
+  -- there is room for its transaction
+  module _ (room : lacks_room (committed rules start group) (txn_of asked) ≡ false) where
+    with-room : cut_one rules start group asked ≡ cut_behind (record { closed = []; rest = group }) (cut_with rules start group asked)
+    with-room = ap (λ (t : Bool). let made : GroupCut = if t then record { closed = group ∷ []; rest = [] } else record { closed = []; rest = group } in cut_behind made (cut_with rules (ends rules start (all_requests made.closed)) made.rest asked)) room
+
+    pub cut-closed : test ≡ true → cut_one rules start group asked ≡ record { closed = (group ++ asked ∷ []) ∷ []; rest = [] }
+    cut-closed is = with-room ∙ ap (λ (t : Bool). cut_behind (record { closed = []; rest = group }) (if t then record { closed = (group ++ asked ∷ []) ∷ []; rest = [] } else record { closed = []; rest = group ++ asked ∷ [] })) is
+
+    pub cut-later : test ≡ false → cut_one rules start group asked ≡ record { closed = []; rest = group ++ asked ∷ [] }
+    cut-later is = with-room ∙ ap (λ (t : Bool). cut_behind (record { closed = []; rest = group }) (if t then record { closed = (group ++ asked ∷ []) ∷ []; rest = [] } else record { closed = []; rest = group ++ asked ∷ [] })) is
+
+  -- there is none, and the new group isn't full with one reply
+  pub cut-before : lacks_room (committed rules start group) (txn_of asked) ≡ true → (is_closing asked || nat_le rules.most (length (replies rules (ends rules start (group ++ [])) (asked ∷ [])))) ≡ false
+      → cut_one rules start group asked ≡ record { closed = group ∷ []; rest = asked ∷ [] }
+  cut-before full is =
+      ap (λ (t : Bool). let made : GroupCut = if t then record { closed = group ∷ []; rest = [] } else record { closed = []; rest = group } in cut_behind made (cut_with rules (ends rules start (all_requests made.closed)) made.rest asked)) full
+      ∙ ap (λ (t : Bool). cut_behind (record { closed = group ∷ []; rest = [] }) (if t then record { closed = (asked ∷ []) ∷ []; rest = [] } else record { closed = []; rest = asked ∷ [] })) is
+
+-- ---- a group that was closed, or none
+
+pub closes-none : (rules : Rules) (place : ℕ) (start : SessionState) (cut : GroupCut) (rest : List Request) (given : List Reply) (new : EngineParts)
+    → cut ≡ record { closed = []; rest = rest } → given ≡ [] → new.log.gate.place ≡ place → rules_of new.session ≡ rules → IsInGroup start rest new.session → Closes rules place start cut given new
+closes-none rules place start cut rest given new is none there same within =
+    subst (λ (c : GroupCut). Closes rules place start c given new) (sym is) (record { replied = none; fit = tt; there = there; same = same; within = within })
+
+pub closes-one : (rules : Rules) (place : ℕ) (start : SessionState) (cut : GroupCut) (group rest : List Request) (given : List Reply) (new : EngineParts)
+    → cut ≡ record { closed = group ∷ []; rest = rest } → given ≡ replies rules start group → HasRoomAt place (committed rules start group)
+    → new.log.gate.place ≡ place_behind place (committed rules start group) → rules_of new.session ≡ rules → IsInGroup (ends rules start group) rest new.session → Closes rules place start cut given new
+closes-one rules place start cut group rest given new is gave room there same within =
+    subst (λ (c : GroupCut). Closes rules place start c given new) (sym is) (record {
+      replied = gave ∙ sym (append-nil (replies rules start group));
+      fit = (room, tt);
+      there = there;
+      same = same;
+      within = subst (λ (g : List Request). IsInGroup (ends rules start g) rest new.session) (sym (append-nil group)) within;
+    })
+
+-- an engine within a group that is closed
+module _ (mid : EngineParts) (start : SessionState) (group : List Request) (is : IsInGroup start group mid.session) (room : HasRoomAt mid.log.gate.place mid.session.txns) where
+  group-room : HasRoomAt mid.log.gate.place (committed (rules_of mid.session) start group)
+  group-room = subst (λ (l : List Txn). HasRoomAt mid.log.gate.place l) is.body room
+
+  group-place : (gate_past mid.session.txns mid.log.gate).place ≡ place_behind mid.log.gate.place (committed (rules_of mid.session) start group)
+  group-place = place-after mid.session.txns mid.log.gate ∙ ap (λ (l : List Txn). place_behind mid.log.gate.place l) is.body
+
+  pub closes-closed : (cut : GroupCut) (given : List Reply) (new : EngineParts) → cut ≡ record { closed = group ∷ []; rest = [] } → given ≡ mid.session.held → new ≡ committed_parts mid
+      → Closes (rules_of mid.session) mid.log.gate.place start cut given new
+  closes-closed cut given new is_cut gave becomes =
+      subst (λ (e : EngineParts). Closes (rules_of mid.session) mid.log.gate.place start cut given e) (sym becomes)
+      (closes-one (rules_of mid.session) mid.log.gate.place start cut group [] given (committed_parts mid) is_cut (gave ∙ is.answers) group-room group-place refl (group-closed start group mid.session is))
+
+  pub closes-before : (asked : Request) (cut : GroupCut) (given : List Reply) (new : EngineParts) → cut ≡ record { closed = group ∷ []; rest = asked ∷ [] } → given ≡ mid.session.held → new ≡ with_request asked (committed_parts mid)
+      → Closes (rules_of mid.session) mid.log.gate.place start cut given new
+  closes-before asked cut given new is_cut gave becomes =
+      subst (λ (e : EngineParts). Closes (rules_of mid.session) mid.log.gate.place start cut given e) (sym becomes)
+      (closes-one (rules_of mid.session) mid.log.gate.place start cut group (asked ∷ []) given (with_request asked (committed_parts mid)) is_cut (gave ∙ is.answers) group-room group-place refl
+      (group-asked (ends (rules_of mid.session) start group) [] asked (with_closed mid.session) (group-closed start group mid.session is)))
+
+-- ---- where a step stops
+
+-- a group as it is described
+abbrev pub the_group : Rules → ℕ → SessionState → List Request → Group
+the_group rules place start group = record { requests = group; txns = committed rules start group; replies = replies rules start group; place = place }
+
+-- one group is closed, of these transactions
+module _ (rules : Rules) (place : ℕ) (start : SessionState) (closed : List (List Request)) (one : List Request) (is_one : closed ≡ one ∷ []) (txns : List Txn) (body : txns ≡ committed rules start one) where
+  one-described : described rules place start closed ≡ the_group rules place start one ∷ []
+  one-described = ap (λ (c : List (List Request)). described rules place start c) is_one
+
+  -- nothing was given out
+  pub close-stops : (cause : EngineCause) (given : List Reply) → given ≡ [] → ((bytes : ℕ) → cause ≡ TooLarge bytes → ⊥) → (cause ≡ Ended → ⊥) → ((need : ℕ) → cause ≡ LogFull need → IsOverFull place txns need) → (cause ≡ DiskFault → IsCalledFor place txns)
+      → StopsAt rules place start closed given cause
+  close-stops DiskFault given none known on full called =
+      inl (record { before = []; group = the_group rules place start one; rest = []; split = one-described; replied = none; fit = tt; here = subst (λ (l : List Txn). IsCalledFor place l) body (called refl) })
+  close-stops NoMemory given none known on full called = inl (record { before = []; rest = described rules place start closed; split = refl; replied = none })
+  close-stops (TooLarge bytes) given none known on full called = absurd (known bytes refl)
+  close-stops Ended given none known on full called = absurd (on refl)
+  close-stops (LogFull need) given none known on full called =
+      record { before = []; group = the_group rules place start one; rest = []; split = one-described; replied = none; fit = tt; here = subst (λ (l : List Txn). IsOverFull place l need) body (full need refl) }
+
+  -- its replies were
+  pub closed-stops : (given : List Reply) → given ≡ replies rules start one → StopsAt rules place start closed given NoMemory
+  closed-stops given gave = inl (record { before = described rules place start closed; rest = []; split = sym (append-nil (described rules place start closed)); replied = gave ∙ sym (append-nil (replies rules start one)) ∙ sym (ap (λ (g : List Group). all_replies g) one-described) })
+
+pub memory-stops : (rules : Rules) (place : ℕ) (start : SessionState) (closed : List (List Request)) (cause : EngineCause) (given : List Reply) → given ≡ [] → cause ≡ NoMemory → StopsAt rules place start closed given cause
+memory-stops rules place start closed cause given none is = subst (λ (c : EngineCause). StopsAt rules place start closed given c) (sym is) (inl (record { before = []; rest = described rules place start closed; split = refl; replied = none }))
+
+-- ---- a save
+
+-- a save commits nothing
+pub save-commits : (rules : Rules) (start : SessionState) (group : List Request) → committed rules start (group ++ request.Save ∷ []) ≡ committed rules start group
+save-commits rules start group = committed-push rules start group request.Save ∙ append-nil (committed rules start group)
+
+module _ (e : EngineParts) (start : SessionState) (group : List Request) (is : IsInGroup start group e.session) (room : HasRoomAt e.log.gate.place e.session.txns) where
+  abbrev rules : Rules
+  rules = rules_of e.session
+
+  abbrev place : ℕ
+  place = e.log.gate.place
+
+  save-here : ends rules start (group ++ request.Save ∷ []) ≡ ends rules start group
+  save-here = ends-push rules start group request.Save
+
+  pub closes-saved : (cut : GroupCut) (given : List Reply) (number : ℕ) (new : EngineParts) → cut ≡ record { closed = (group ++ request.Save ∷ []) ∷ []; rest = [] } → given ≡ e.session.held ++ reply.Saved number ∷ [] → number ≡ e.session.before + length e.session.txns
+      → new ≡ saved_parts (committed_parts e) → Closes (rules_of e.session) e.log.gate.place start cut given new
+  closes-saved cut given number new is_cut gave counted becomes =
+      let tells : number ≡ (ends rules start group).number = counted ∙ sym (ap (λ (s : SessionState). s.number) is.here) in
+      let body : e.session.txns ≡ committed rules start (group ++ request.Save ∷ []) = is.body ∙ sym (save-commits rules start group) in
+      subst (λ (p : EngineParts). Closes (rules_of e.session) e.log.gate.place start cut given p) (sym becomes)
+      (closes-one rules place start cut (group ++ request.Save ∷ []) [] given (saved_parts (committed_parts e)) is_cut
+      (gave ∙ ap (λ (h : List Reply). h ++ reply.Saved number ∷ []) is.answers ∙ ap (λ (n : ℕ). replies rules start group ++ reply.Saved n ∷ []) tells ∙ sym (replies-push rules start group request.Save))
+      (subst (λ (l : List Txn). HasRoomAt e.log.gate.place l) body room) (place-after e.session.txns e.log.gate ∙ ap (λ (l : List Txn). place_behind e.log.gate.place l) body) refl
+      (subst (λ (s : SessionState). IsInGroup s [] (with_closed e.session)) (sym save-here) (group-closed start group e.session is)))
+
+  module _ (closed : List (List Request)) (is_one : closed ≡ (group ++ request.Save ∷ []) ∷ []) (given : List Reply) (gave : given ≡ e.session.held) where
+    groups-are : described rules place start closed ≡ the_group rules place start (group ++ request.Save ∷ []) ∷ []
+    groups-are = ap (λ (c : List (List Request)). described rules place start c) is_one
+
+    pub unsaved : IsUnsaved (described (rules_of e.session) e.log.gate.place start closed) given
+    unsaved = record {
+      before = [];
+      group = the_group rules place start (group ++ request.Save ∷ []);
+      asked = group;
+      held = replies rules start group;
+      number = (ends rules start group).number;
+      split = groups-are;
+      saving = refl;
+      answers = replies-push rules start group request.Save;
+      replied = gave ∙ is.answers;
+      fit = subst (λ (g : List Group). AllByRecursion GroupFits g) (sym groups-are) (subst (λ (l : List Txn). HasRoomAt place l) (is.body ∙ sym (save-commits rules start group)) room, tt);
+    }
+
+    save-place : place_after place (described rules place start closed) ≡ (gate_past e.session.txns e.log.gate).place
+    save-place = ap (λ (g : List Group). place_after place g) groups-are ∙ ap (λ (l : List Txn). place_behind place l) (save-commits rules start group) ∙ sym (group-place e start group is room)
+
+    save-state : ends rules start (all_requests closed) ≡ state_now (with_closed e.session)
+    save-state = ap (λ (c : List (List Request)). ends rules start (all_requests c)) is_one ∙ ap (λ (g : List Request). ends rules start g) (append-nil (group ++ request.Save ∷ [])) ∙ save-here ∙ is.here ∙ sym (closed-state e.session)
+
+    pub save-large : (bytes : ℕ) → bytes ≡ slot_len (rules_of e.session) (state_now (with_closed e.session)) (gate_past e.session.txns e.log.gate).place → MAX_SLOT_LEN < bytes → IsTooLarge (rules_of e.session) e.log.gate.place start closed bytes given
+    save-large bytes long over = record {
+      unsaved = unsaved;
+      is = long ∙ ap (λ (s : SessionState). slot_len rules s (gate_past e.session.txns e.log.gate).place) (sym save-state) ∙ ap (λ (p : ℕ). slot_len rules (ends rules start (all_requests closed)) p) (sym save-place);
+      over = over;
+    }
+
+    pub save-stops : (cause : EngineCause) → (cause ≡ Ended → ⊥) → ((need : ℕ) → cause ≡ LogFull need → ⊥)
+        → ((bytes : ℕ) → cause ≡ TooLarge bytes → (bytes ≡ slot_len (rules_of e.session) (state_now (with_closed e.session)) (gate_past e.session.txns e.log.gate).place) × (MAX_SLOT_LEN < bytes))
+        → StopsAt (rules_of e.session) e.log.gate.place start closed given cause
+    save-stops DiskFault on full large = inr unsaved
+    save-stops NoMemory on full large = inr unsaved
+    save-stops (LogFull need) on full large = absurd (full need refl)
+    save-stops Ended on full large = absurd (on refl)
+    save-stops (TooLarge bytes) on full large = let much = large bytes refl in save-large bytes much.0 much.1
+
+-- what a checkpoint takes is said of the group before it is closed
+pub saved-small : (e : EngineParts) → slot_len (rules_of e.session) (state_now (with_closed e.session)) (gate_past e.session.txns e.log.gate).place ≤ MAX_SLOT_LEN → slot_len (rules_of e.session) (state_now e.session) (place_behind e.log.gate.place e.session.txns) ≤ MAX_SLOT_LEN
+saved-small e small = subst (λ (n : ℕ). n ≤ MAX_SLOT_LEN)
+    (ap (λ (s : SessionState). slot_len (rules_of e.session) s (gate_past e.session.txns e.log.gate).place) (closed-state e.session) ∙ ap (λ (p : ℕ). slot_len (rules_of e.session) (state_now e.session) p) (place-after e.session.txns e.log.gate)) small

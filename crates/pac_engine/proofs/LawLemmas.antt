@@ -1,0 +1,195 @@
+-- Groups that were closed, and more of them behind.
+use Rattle.std.proofs.Common.{◌≡◌, ◌∙◌, inl, inr, ⊎_elim, ℕ, List, [], ◌∷◌, ◌++◌, length, Option, refl, sym, ap, ap₂, subst, arith, append_assoc}
+use Rattle.std.specs.List.{AllByRecursion}
+use Rattle.pac_ops.specs.declared.transaction.Txn.{Txn}
+use Rattle.pac_outside.specs.Devices.{AllLeave, AreImages, RunLeaves, all_told}
+use Rattle.pac_outside.specs.Devices.RunLeaves.{rests, runs}
+use Rattle.pac_outside.specs.Disk.{DiskState, History, IsImage}
+use Rattle.pac_outside.specs.GateByte.{OneImage}
+use Rattle.pac_types.specs.Typing.{CatalogueState}
+use Rattle.pac_store.specs.Stands.{IsHistory}
+use Rattle.pac_engine.specs.Standing.{IsGrown, KeepsHistory, MayLeave, StandsOn, TellsWhere}
+use Rattle.pac_engine.proofs.DeviceLemmas.{told-then}
+use Rattle.pac_engine.proofs.StandingLemmas.{keeps-longer, keeps-then}
+use Rattle.pac_request.specs.declared.request.Request.{Request}
+use Rattle.pac_request.specs.declared.request.Reply.{Reply}
+use Rattle.pac_session.specs.Session.{Rules, SessionState, committed, ends, replies}
+use Rattle.pac_session.specs.Groups.{Group, GroupCut, all_replies, all_requests, cut_behind, described, place_behind}
+use Rattle.pac_session.specs.Open.{IsInGroup, rules_of, state_now}
+use Rattle.pac_session.proofs.SessionLemmas.{ends-append}
+use Rattle.pac_session.proofs.CutLemmas.{joined-append}
+use Rattle.pac_engine.specs.declared.fault.EngineCause.{EngineCause}
+use Rattle.pac_engine.specs.declared.fault.EngineCause.TheVariants.{DiskFault, LogFull, TooLarge, Ended, NoMemory}
+use Rattle.pac_engine.specs.declared.parts.EngineParts.{EngineParts}
+use Rattle.pac_engine.specs.Closing.{Closes, GroupFits, CallsDevice, IsUnsaved, IsUpToGroup, IsUpToSome, NeedsTooMuch, StopsAt, place_after, slot_len}
+
+-- ---- lists of groups
+
+replies-both : (xs ys : List Group) → all_replies (xs ++ ys) ≡ all_replies xs ++ all_replies ys
+replies-both [] ys = refl
+replies-both (x ∷ xs) ys = ap (λ (l : List Reply). x.replies ++ l) (replies-both xs ys) ∙ sym (append_assoc x.replies (all_replies xs) (all_replies ys))
+
+fit-both : (xs ys : List Group) → AllByRecursion GroupFits xs → AllByRecursion GroupFits ys → AllByRecursion GroupFits (xs ++ ys)
+fit-both [] ys first second = second
+fit-both (x ∷ xs) ys first second = (first.0, fit-both xs ys first.1 second)
+
+place-both : (place : ℕ) (xs ys : List Group) → place_after place (xs ++ ys) ≡ place_after (place_after place xs) ys
+place-both place [] ys = refl
+place-both place (x ∷ xs) ys = place-both (place_behind place x.txns) xs ys
+
+described-both : (rules : Rules) (place : ℕ) (start : SessionState) (xs ys : List (List Request))
+    → described rules place start (xs ++ ys) ≡ described rules place start xs ++ described rules (place_after place (described rules place start xs)) (ends rules start (all_requests xs)) ys
+described-both rules place start [] ys = refl
+described-both rules place start (x ∷ xs) ys =
+    let next = place_behind place (committed rules start x) in
+    ap (λ (l : List Group). the_first l) (described-both rules next (ends rules start x) xs ys
+    ∙ ap (λ (s : SessionState). described rules next (ends rules start x) xs ++ described rules (place_after next (described rules next (ends rules start x) xs)) s ys) (sym (ends-append rules start x (all_requests xs))))
+  where
+    the_first : List Group → List Group
+    the_first l = record { requests = x; txns = committed rules start x; replies = replies rules start x; place = place } ∷ l
+
+ends-both : (rules : Rules) (start : SessionState) (xs ys : List (List Request)) → ends rules start (all_requests (xs ++ ys)) ≡ ends rules (ends rules start (all_requests xs)) (all_requests ys)
+ends-both rules start xs ys = ap (λ (l : List Request). ends rules start l) (joined-append xs ys) ∙ ends-append rules start (all_requests xs) (all_requests ys)
+
+-- ---- steps
+
+pub begins : (engine : EngineParts) → engine.session.txns ≡ [] → engine.session.held ≡ [] → Closes (rules_of engine.session) engine.log.gate.place (state_now engine.session) (record { closed = []; rest = [] }) [] engine
+begins engine txns held = record {
+  replied = refl;
+  fit = tt;
+  there = refl;
+  same = refl;
+  within = record { answers = held; body = txns; here = refl; begun = omega (arith, ap (λ l. length l) txns) };
+}
+
+module _ (rules : Rules) (place : ℕ) (start : SessionState) (whole : GroupCut) (given : List Reply) (old : EngineParts) (is : Closes rules place start whole given old) where
+  abbrev middle : SessionState
+  middle = ends rules start (all_requests whole.closed)
+
+  abbrev groups : List Group
+  groups = described rules place start whole.closed
+
+  -- more groups behind these
+  all-groups : (more : List (List Request)) → described rules place start (whole.closed ++ more) ≡ described rules place start whole.closed ++ described rules old.log.gate.place (ends rules start (all_requests whole.closed)) more
+  all-groups more = described-both rules place start whole.closed more ∙ ap (λ (p : ℕ). groups ++ described rules p middle more) (sym is.there)
+
+  pub closes-then : (next : GroupCut) (more : List Reply) (new : EngineParts) → Closes rules old.log.gate.place (ends rules start (all_requests whole.closed)) next more new → Closes rules place start (cut_behind whole next) (given ++ more) new
+  closes-then next more new then =
+      let all = all-groups next.closed in
+      let behind = described rules old.log.gate.place middle next.closed in
+      record {
+        replied = ap₂ (λ (a b : List Reply). a ++ b) is.replied then.replied ∙ sym (replies-both groups behind) ∙ sym (ap (λ (g : List Group). all_replies g) all);
+        fit = subst (λ (g : List Group). AllByRecursion GroupFits g) (sym all) (fit-both groups behind is.fit then.fit);
+        there = then.there ∙ ap (λ (p : ℕ). place_after p behind) is.there ∙ sym (place-both place groups behind) ∙ sym (ap (λ (g : List Group). place_after place g) all);
+        same = then.same;
+        within = subst (λ (s : SessionState). IsInGroup s next.rest new.session) (sym (ends-both rules start whole.closed next.closed)) then.within;
+      }
+
+  module _ (more : List (List Request)) (told : List Reply) where
+    abbrev behind : List Group
+    behind = described rules old.log.gate.place (ends rules start (all_requests whole.closed)) more
+
+    abbrev all : List Group
+    all = described rules place start (whole.closed ++ more)
+
+    told-both : (before : List Group) (rest : List Reply) → told ≡ all_replies before ++ rest → given ++ told ≡ all_replies (groups ++ before) ++ rest
+    told-both before rest e = ap₂ (λ (a b : List Reply). a ++ b) is.replied e ∙ sym (append_assoc (all_replies groups) (all_replies before) rest) ∙ ap (λ (l : List Reply). l ++ rest) (sym (replies-both groups before))
+
+    told-all : (before : List Group) → told ≡ all_replies before → given ++ told ≡ all_replies (groups ++ before)
+    told-all before e = ap₂ (λ (a b : List Reply). a ++ b) is.replied e ∙ sym (replies-both groups before)
+
+    group-then : (P : Group → Type 0) → IsUpToGroup P behind told → IsUpToGroup P all (given ++ told)
+    group-then P up = record {
+      before = groups ++ up.before;
+      group = up.group;
+      rest = up.rest;
+      split = all-groups more ∙ ap (λ (g : List Group). groups ++ g) up.split ∙ sym (append_assoc groups up.before (up.group ∷ up.rest));
+      replied = told-all up.before up.replied;
+      fit = fit-both groups up.before is.fit up.fit;
+      here = up.here;
+    }
+
+    some-then : IsUpToSome behind told → IsUpToSome all (given ++ told)
+    some-then up = record {
+      before = groups ++ up.before;
+      rest = up.rest;
+      split = all-groups more ∙ ap (λ (g : List Group). groups ++ g) up.split ∙ sym (append_assoc groups up.before up.rest);
+      replied = told-all up.before up.replied;
+    }
+
+    unsaved-then : IsUnsaved behind told → IsUnsaved all (given ++ told)
+    unsaved-then un = record {
+      before = groups ++ un.before;
+      group = un.group;
+      asked = un.asked;
+      held = un.held;
+      number = un.number;
+      split = all-groups more ∙ ap (λ (g : List Group). groups ++ g) un.split ∙ sym (append_assoc groups un.before (un.group ∷ []));
+      saving = un.saving;
+      answers = un.answers;
+      replied = told-both un.before un.held un.replied;
+      fit = subst (λ (g : List Group). AllByRecursion GroupFits g) (sym (all-groups more)) (fit-both groups behind is.fit un.fit);
+    }
+
+    pub stops-then : (cause : EngineCause) → StopsAt rules old.log.gate.place (ends rules start (all_requests whole.closed)) more told cause → StopsAt rules place start (whole.closed ++ more) (given ++ told) cause
+    stops-then DiskFault stops = ⊎_elim (λ up. inl (group-then CallsDevice up)) (λ un. inr (unsaved-then un)) stops
+    stops-then (LogFull need) stops = group-then (NeedsTooMuch need) stops
+    stops-then (TooLarge bytes) stops = record {
+      unsaved = unsaved-then stops.unsaved;
+      is = stops.is ∙ ap (λ (s : SessionState). slot_len rules s (place_after old.log.gate.place behind)) (sym (ends-both rules start whole.closed more))
+          ∙ ap (λ (p : ℕ). slot_len rules (ends rules start (all_requests (whole.closed ++ more))) p) (ap (λ (p : ℕ). place_after p behind) is.there ∙ sym (place-both place groups behind) ∙ sym (ap (λ (g : List Group). place_after place g) (all-groups more)));
+      over = stops.over;
+    }
+    stops-then Ended stops = absurd stops
+    stops-then NoMemory stops = ⊎_elim (λ up. inl (some-then up)) (λ un. inr (unsaved-then un)) stops
+
+-- ---- what the devices stand for
+
+-- what a crash leaves at the first moment
+images-split : (P : List (List ℕ) → Type 0) (front back : List History) (device : History)
+    → ((image : List ℕ) → IsImage device.now image → (before behind : List (List ℕ)) → AreImages front before → AreImages back behind → P (before ++ (image ∷ behind)))
+    → AllLeave P (front ++ (device ∷ back))
+images-split P [] back device has [] are = absurd are
+images-split P [] back device has (image ∷ images) are = has image are.0 [] images tt are.1
+images-split P (first ∷ front) back device has [] are = absurd are
+images-split P (first ∷ front) back device has (image ∷ images) are = images-split (λ rest. P (image ∷ rest)) front back device (λ own is before behind fronts backs. has own is (image ∷ before) behind (are.0, fronts) backs) images are.1
+
+run-start : (P : List (List ℕ) → Type 0) (x y : List History) → RunLeaves P x y → AllLeave P x
+run-start P x y (rests devices here) = here
+run-start P x y (runs front back end old next run more) = images-split P front back old run.first
+
+own-image : (P : List ℕ → Type 0) (state : DiskState) → OneImage P state → IsImage state state.seen
+own-image P state one = subst (λ (s : DiskState). IsImage s state.seen) (sym one.one) (record { no_shorter = omega arith; no_longer = omega arith; stays = λ place below is. refl })
+
+-- a history that is kept executes
+kept-executes : (text : List ℕ) (history longer : List Txn) (b c : EngineParts) (v w : List History) → StandsOn text history b v → KeepsHistory text longer b c v w → IsHistory b.session.catalogue longer
+kept-executes text history longer b c [] w is keeps = absurd is
+kept-executes text history longer b c (l ∷ []) w is keeps = absurd is
+kept-executes text history longer b c (l ∷ x ∷ []) w is keeps = absurd is
+kept-executes text history longer b c (l ∷ x ∷ y ∷ []) w is keeps =
+    let leaves = run-start (MayLeave text b.session.catalogue longer b) (l ∷ x ∷ y ∷ []) w keeps.moments (l.now.seen ∷ x.now.seen ∷ y.now.seen ∷ []) (own-image _ l.now is.log, (own-image _ x.now is.slot_a, (own-image _ y.now is.slot_b, tt))) in
+    leaves.stands.executes
+kept-executes text history longer b c (l ∷ x ∷ y ∷ d ∷ devices) w is keeps = absurd is
+
+-- the first step keeps the longer history too
+pub history-then : (text : List ℕ) (history more last : List Txn) (a b c : EngineParts) (x y z : List (Option History)) → rules_of b.session ≡ rules_of a.session → IsGrown a b
+    → TellsWhere (StandsOn text history a) (KeepsHistory text (history ++ more) a b) x y → TellsWhere (StandsOn text history a) (λ was is. StandsOn text (history ++ more) b is) x y
+    → TellsWhere (StandsOn text (history ++ more) b) (KeepsHistory text ((history ++ more) ++ last) b c) y z → TellsWhere (StandsOn text history a) (KeepsHistory text (history ++ (more ++ last)) a c) x z
+history-then text history more last a b c x y z same grown first stands second =
+    told-then (StandsOn text history a) (StandsOn text (history ++ more) b) (KeepsHistory text (history ++ more) a b) (KeepsHistory text ((history ++ more) ++ last) b c) (KeepsHistory text (history ++ (more ++ last)) a c)
+    (λ u v w p r q s. subst (λ (h : List Txn). KeepsHistory text h a c u w) (append_assoc history more last)
+    (keeps-then text ((history ++ more) ++ last) a b c u v w catalogue_same grown.durable grown.saved (keeps-longer text (history ++ more) last a b u v (executes v w q s) r) s))
+    (all_told x) (all_told y) (all_told z) first stands second
+  where
+    catalogue_same : b.session.catalogue ≡ a.session.catalogue
+    catalogue_same = ap (λ (r : Rules). r.catalogue) same
+
+    executes : (v w : List History) → StandsOn text (history ++ more) b v → KeepsHistory text ((history ++ more) ++ last) b c v w → IsHistory a.session.catalogue ((history ++ more) ++ last)
+    executes v w q s = subst (λ (cat : CatalogueState). IsHistory cat ((history ++ more) ++ last)) catalogue_same (kept-executes text (history ++ more) ((history ++ more) ++ last) b c v w q s)
+
+pub stands-then : (text : List ℕ) (history more last : List Txn) (a b c : EngineParts) (x y z : List (Option History))
+    → TellsWhere (StandsOn text history a) (λ was is. StandsOn text (history ++ more) b is) x y → TellsWhere (StandsOn text (history ++ more) b) (λ was is. StandsOn text ((history ++ more) ++ last) c is) y z
+    → TellsWhere (StandsOn text history a) (λ was is. StandsOn text (history ++ (more ++ last)) c is) x z
+stands-then text history more last a b c x y z first second =
+    told-then (StandsOn text history a) (StandsOn text (history ++ more) b) (λ was is. StandsOn text (history ++ more) b is) (λ was is. StandsOn text ((history ++ more) ++ last) c is) (λ was is. StandsOn text (history ++ (more ++ last)) c is)
+    (λ u v w p r q s. subst (λ (h : List Txn). StandsOn text h c w) (append_assoc history more last) s) (all_told x) (all_told y) (all_told z) first first second

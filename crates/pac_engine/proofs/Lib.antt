@@ -1,0 +1,12 @@
+pub mod Results
+pub mod BodyLemmas
+pub mod CommitLemmas
+pub mod DeviceLemmas
+pub mod StandingLemmas
+pub mod SavingLemmas
+pub mod ToldLemmas
+pub mod SaveLemmas
+pub mod MoveLemmas
+pub mod GroupLemmas
+pub mod StepLemmas
+pub mod LawLemmas

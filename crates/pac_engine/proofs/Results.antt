@@ -1,0 +1,22 @@
+-- What holds of an answer, by its variant.
+use Rattle.std.proofs.Common.{Result, Ok, Err, IfErr, IfOk, OnOk}
+
+pub if-ok : {T E : Type 0} {P Q : T → Type 0} (result : Result T E) → IfOk result P → ((x : T) → P x → Q x) → IfOk result Q
+if-ok (Ok x) has step = step x has
+if-ok (Err e) has step = tt
+
+pub if-ok-both : {T E : Type 0} {P Q : T → Type 0} {F : Type 0} (result : Result T E) → IfOk result P → OnOk result F → ((x : T) → P x → F → Q x) → IfOk result Q
+if-ok-both (Ok x) has fact step = step x has fact
+if-ok-both (Err e) has fact step = tt
+
+pub if-err : {T E : Type 0} {P Q : E → Type 0} (result : Result T E) → IfErr result P → ((e : E) → P e → Q e) → IfErr result Q
+if-err (Ok x) has step = tt
+if-err (Err e) has step = step e has
+
+pub if-err-four : {T E : Type 0} {P Q R S U : E → Type 0} (result : Result T E) → IfErr result P → IfErr result Q → IfErr result R → IfErr result S → ((e : E) → P e → Q e → R e → S e → U e) → IfErr result U
+if-err-four (Ok x) p q r s step = tt
+if-err-four (Err e) p q r s step = step e p q r s
+
+pub on-ok : {T E : Type 0} {P Q : Type 0} (result : Result T E) → OnOk result P → (P → Q) → OnOk result Q
+on-ok (Ok x) has step = step has
+on-ok (Err e) has step = tt

@@ -1,0 +1,281 @@
+-- The parts of a step, put together.
+use Rattle.std.proofs.Common.{◌≡◌, ◌∙◌, ℕ, ◌+◌, ◌<◌, ◌≤◌, Bool, true, false, List, [], ◌∷◌, ◌++◌, length, Option, Some, None, refl, sym, ap, subst, arith, length-append}
+use Rattle.std.specs.Prelude.{nat_le, ◌||◌}
+use Rattle.std.specs.List.{AllByRecursion}
+use Rattle.std.proofs.lemmas.Bool.Decides.{nat_tests}
+use Rattle.std.proofs.lemmas.List.{append-nil}
+use Rattle.pac_ops.specs.declared.transaction.Txn.{Txn}
+use Rattle.pac_ops.specs.declared.transaction.Txn.TheVariants.{Call, AdHoc}
+use Rattle.pac_outside.specs.Disk.{History}
+use Rattle.pac_outside.specs.Devices.{all_told, each}
+use Rattle.pac_outside.specs.declared.devices.Devices.{Devices}
+use Rattle.pac_types.specs.Fits.{TxnFits}
+use Rattle.pac_request.specs.declared.request.Request.{Request}
+use Rattle.pac_request.specs.declared.request.Request.TheVariants as request
+use Rattle.pac_request.specs.declared.request.Reply.{Reply}
+use Rattle.pac_request.specs.declared.request.Reply.TheVariants as reply
+use Rattle.pac_session.specs.Session.{Rules, SessionState, answer, commits, committed, ends, replies, txn_of, txn_outcome}
+use Rattle.pac_session.specs.Groups.{GroupCut, cut_one, is_closing, lacks_room}
+use Rattle.pac_session.specs.Open.{IsInGroup, Open, rules_of, state_now, with_asked, with_run}
+use Rattle.pac_store.specs.Stands.{IsHistory}
+use Rattle.pac_engine.specs.declared.fault.EngineCause.{EngineCause}
+use Rattle.pac_engine.specs.declared.fault.EngineCause.TheVariants.{DiskFault, LogFull, TooLarge, Ended, NoMemory}
+use Rattle.pac_engine.specs.declared.parts.EngineParts.{EngineParts}
+use Rattle.pac_engine.specs.Committing.{HasRoomAt, IsCalledFor, IsOverFull}
+use Rattle.pac_check.specs.declared.limits.TheConstants.{MAX_SLOT_LEN}
+use Rattle.pac_engine.specs.Closing.{Closes, IsKept, StopsAt, slot_len}
+use Rattle.pac_engine.specs.Moves.{IsAsked, IsHeldBy, IsLive, IsWorking, committed_parts, saved_parts, with_request}
+use Rattle.pac_engine.specs.Standing.{EngineStands, KeepsHistory, KeepsMore, StandsForMore, StandsOn, TellsIf, durable_of, saved_of}
+use Rattle.pac_engine.proofs.BodyLemmas.{txns-after}
+use Rattle.pac_engine.proofs.SavingLemmas.{saves-all}
+use Rattle.pac_engine.proofs.DeviceLemmas.{rest-told, told-then, told-weaken}
+use Rattle.pac_engine.proofs.GroupLemmas.{close-stops, closed-state, closed-stops, closes-before, closes-closed, closes-none, closes-saved, cut-before, cut-closed, cut-later, group-asked, save-commits, save-stops}
+use Rattle.pac_engine.proofs.MoveLemmas.{all-held-kept, kept-and-saved, one-reply, run-asked, with_session}
+use Rattle.pac_engine.proofs.StandingLemmas.{asked-history, asked-keeps, asked-stands, keeps-as, keeps-longer, keeps-then}
+
+-- ---- a request that was executed where there was room
+
+module _ (before now : EngineParts) (asked : Request) (closing : Bool) (is : IsAsked before asked closing now) (start : SessionState) (group : List Request) (within : IsInGroup start group before.session) where
+  abbrev rules : Rules
+  rules = rules_of before.session
+
+  more : IsInGroup start (group ++ asked ∷ []) (with_asked asked before.session)
+  more = group-asked start group asked before.session within
+
+  room-here : lacks_room (committed rules start group) (txn_of asked) ≡ false
+  room-here = ap (λ (l : List Txn). lacks_room l (txn_of asked)) (sym within.body) ∙ is.room
+
+  test-is : (is_closing asked || nat_le rules.most (length (replies rules start (group ++ asked ∷ [])))) ≡ (closing || nat_le now.session.most (length now.session.held))
+  test-is = sym (ap (λ (e : EngineParts). closing || nat_le e.session.most (length e.session.held)) is.becomes
+      ∙ ap (λ (b : Bool). b || nat_le before.session.most (length (with_asked asked before.session).held)) is.closes
+      ∙ ap (λ (h : List Reply). is_closing asked || nat_le before.session.most (length h)) more.answers)
+
+  module _ (ends_here : Bool) (test : ends_here ≡ (closing || nat_le now.session.most (length now.session.held))) where
+    pub behind-later : ends_here ≡ false → (given : List Reply) → given ≡ [] → Closes (rules_of before.session) before.log.gate.place start (cut_one (rules_of before.session) start group asked) given now
+    behind-later not given none = subst (λ (e : EngineParts). Closes (rules_of before.session) before.log.gate.place start (cut_one (rules_of before.session) start group asked) given e) (sym is.becomes)
+        (closes-none rules before.log.gate.place start (cut_one rules start group asked) (group ++ asked ∷ []) given (with_request asked before) (cut-later rules start group asked room-here (test-is ∙ sym test ∙ not)) none refl refl more)
+
+    module _ (yes : ends_here ≡ true) where
+      cut-is : cut_one rules start group asked ≡ record { closed = (group ++ asked ∷ []) ∷ []; rest = [] }
+      cut-is = cut-closed rules start group asked room-here (test-is ∙ sym test ∙ yes)
+
+      pub behind-closed : (given : List Reply) (new : EngineParts) → given ≡ now.session.held → new ≡ committed_parts now → HasRoomAt now.log.gate.place now.session.txns
+          → Closes (rules_of before.session) before.log.gate.place start (cut_one (rules_of before.session) start group asked) given new
+      behind-closed given new gave becomes room =
+          closes-closed (with_request asked before) start (group ++ asked ∷ []) more (subst (λ (e : EngineParts). HasRoomAt e.log.gate.place e.session.txns) is.becomes room) (cut_one rules start group asked) given new cut-is
+          (gave ∙ ap (λ (e : EngineParts). e.session.held) is.becomes) (becomes ∙ ap committed_parts is.becomes)
+
+      pub behind-stops : (cause : EngineCause) (given : List Reply) → given ≡ [] → ((bytes : ℕ) → cause ≡ TooLarge bytes → ⊥) → (cause ≡ Ended → ⊥) → ((need : ℕ) → cause ≡ LogFull need → IsOverFull now.log.gate.place now.session.txns need) → (cause ≡ DiskFault → IsCalledFor now.log.gate.place now.session.txns)
+          → StopsAt (rules_of before.session) before.log.gate.place start (cut_one (rules_of before.session) start group asked).closed given cause
+      behind-stops cause given none known on full called =
+          close-stops rules before.log.gate.place start (cut_one rules start group asked).closed (group ++ asked ∷ []) (ap (λ (cut : GroupCut). cut.closed) cut-is) (with_asked asked before.session).txns more.body cause given none known on
+          (λ need e. subst (λ (p : EngineParts). IsOverFull p.log.gate.place p.session.txns need) is.becomes (full need e)) (λ e. subst (λ (p : EngineParts). IsCalledFor p.log.gate.place p.session.txns) is.becomes (called e))
+
+-- what is told of a group that was closed is durable
+pub closed-kept : (e now : EngineParts) (given : List Reply) → IsWorking e → durable_of now ≡ durable_of (committed_parts e) → given ≡ e.session.held → AllByRecursion (IsKept now) given
+closed-kept e now given is durable gave = subst (λ (l : List Reply). AllByRecursion (IsKept now) l) (sym gave)
+    (all-held-kept now (e.session.before + length e.session.txns) (omega (arith, durable, txns-after e.session.txns e.log.gate, is.counted)) e.session.held is.held)
+
+-- ---- the devices, while a request is executed and its group is closed
+
+-- of three devices
+of-stands : (text : List ℕ) (history : List Txn) (e : EngineParts) (Q : List History → Type 0) → ((l a b : History) → EngineStands text history e l a b → Q (l ∷ a ∷ b ∷ [])) → (devices : List History) → StandsOn text history e devices → Q devices
+of-stands text history e Q has [] is = absurd is
+of-stands text history e Q has (l ∷ []) is = absurd is
+of-stands text history e Q has (l ∷ a ∷ []) is = absurd is
+of-stands text history e Q has (l ∷ a ∷ b ∷ []) is = has l a b is
+of-stands text history e Q has (l ∷ a ∷ b ∷ d ∷ devices) is = absurd is
+
+module _ (text : List ℕ) (history : List Txn) (e : EngineParts) (asked : Request) (fits : (txn : Txn) → txn_of asked ≡ Some txn → TxnFits e.session.catalogue txn) (counted : e.log.gate.txns ≡ e.session.before) where
+  abbrev asks : List Txn
+  asks = commits (rules_of e.session) (state_now e.session) asked
+
+  pub asked-keeps-told : (now : EngineParts) → durable_of now ≡ durable_of e → saved_of now ≡ saved_of e → (told : Option (List History))
+      → TellsIf (StandsOn text history e) (KeepsHistory text (history ++ commits (rules_of e.session) (state_now e.session) asked) e now) told told
+  asked-keeps-told now durable saved = rest-told (StandsOn text history e) (KeepsHistory text (history ++ asks) e now)
+      (of-stands text history e (λ d. KeepsHistory text (history ++ asks) e now d d) (asked-keeps text history e asked fits counted now durable saved))
+
+  stands-asked : (devices : List History) → StandsOn text history e devices → StandsOn text (history ++ asks) (with_request asked e) devices
+  stands-asked = of-stands text history e (λ d. StandsOn text (history ++ asks) (with_request asked e) d) (asked-stands text history e asked fits counted)
+
+  pub asked-stands-told : (now : EngineParts) → now ≡ with_request asked e → (told : Option (List History))
+      → TellsIf (StandsOn text history e) (λ was is. StandsOn text (history ++ commits (rules_of e.session) (state_now e.session) asked) now is) told told
+  asked-stands-told now becomes = rest-told (StandsOn text history e) (λ was is. StandsOn text (history ++ asks) now is)
+      (λ devices is. subst (λ (p : EngineParts). StandsOn text (history ++ asks) p devices) (sym becomes) (stands-asked devices is))
+
+  -- the group is closed behind it
+  module _ (now : EngineParts) (becomes : now ≡ with_request asked e) (new : EngineParts) (x y : Option (List History)) where
+    stands-before : (devices : List History) → StandsOn text history e devices → StandsOn text (history ++ asks) now devices
+    stands-before devices is = subst (λ (p : EngineParts). StandsOn text (history ++ asks) p devices) (sym becomes) (stands-asked devices is)
+
+    as-before : (u v : List History) → KeepsHistory text ((history ++ asks) ++ []) now new u v → KeepsHistory text (history ++ asks) e new u v
+    as-before u v keeps =
+        let here : KeepsHistory text (history ++ asks) (with_request asked e) new u v = subst (λ (p : EngineParts). KeepsHistory text (history ++ asks) p new u v) becomes (subst (λ (h : List Txn). KeepsHistory text h now new u v) (append-nil (history ++ asks)) keeps) in
+        record { moments = here.moments; end = here.end }
+
+    pub behind-keeps : TellsIf (StandsOn text (history ++ asks) now) (KeepsHistory text ((history ++ asks) ++ []) now new) x y
+        → TellsIf (StandsOn text history e) (KeepsHistory text (history ++ commits (rules_of e.session) (state_now e.session) asked) e new) x y
+    behind-keeps told = told-weaken (StandsOn text (history ++ asks) now) (StandsOn text history e) (KeepsHistory text ((history ++ asks) ++ []) now new) (KeepsHistory text (history ++ asks) e new) stands-before (λ u v is keeps. as-before u v keeps) x y told
+
+    pub behind-stands : TellsIf (StandsOn text (history ++ asks) now) (λ was is. StandsOn text ((history ++ asks) ++ []) new is) x y
+        → TellsIf (StandsOn text history e) (λ was is. StandsOn text (history ++ commits (rules_of e.session) (state_now e.session) asked) new is) x y
+    behind-stands told = told-weaken (StandsOn text (history ++ asks) now) (StandsOn text history e) (λ was is. StandsOn text ((history ++ asks) ++ []) new is) (λ was is. StandsOn text (history ++ asks) new is) stands-before
+        (λ u v is stands. subst (λ (h : List Txn). StandsOn text h new v) (append-nil (history ++ asks)) stands) x y told
+
+  -- the group is closed before it is executed
+  module _ (mid : EngineParts) (x y : Option (List History)) (first : TellsIf (StandsOn text history e) (KeepsHistory text (history ++ []) e mid) x y) where
+    pub anew-keeps : (new : EngineParts) → durable_of new ≡ durable_of mid → saved_of new ≡ saved_of mid
+        → TellsIf (StandsOn text history e) (KeepsHistory text (history ++ commits (rules_of e.session) (state_now e.session) asked) e new) x y
+    anew-keeps new durable saved = told-weaken (StandsOn text history e) (StandsOn text history e) (KeepsHistory text (history ++ []) e mid) (KeepsHistory text (history ++ asks) e new) (λ u is. is)
+        (λ u v is keeps.
+        let executes : IsHistory e.session.catalogue (history ++ asks) = of-stands text history e (λ d. IsHistory e.session.catalogue (history ++ asks)) (asked-history text history e asked fits counted) u is in
+        keeps-as text (history ++ asks) e mid new u v durable saved (keeps-longer text history asks e mid u v executes (subst (λ (h : List Txn). KeepsHistory text h e mid u v) (append-nil history) keeps))) x y first
+
+    module _ (closed : mid ≡ committed_parts e) (stands : TellsIf (StandsOn text history e) (λ was is. StandsOn text (history ++ []) mid is) x y) where
+      mid-counted : mid.log.gate.txns ≡ mid.session.before
+      mid-counted = ap (λ (p : EngineParts). p.log.gate.txns) closed ∙ txns-after e.session.txns e.log.gate ∙ ap (λ (n : ℕ). n + length e.session.txns) counted ∙ sym (ap (λ (p : EngineParts). p.session.before) closed)
+
+      mid-asks : commits (rules_of mid.session) (state_now mid.session) asked ≡ asks
+      mid-asks = ap (λ (p : EngineParts). commits (rules_of p.session) (state_now p.session) asked) closed ∙ ap (λ (s : SessionState). commits (rules_of e.session) s asked) (closed-state e.session)
+
+      mid-fits : (txn : Txn) → txn_of asked ≡ Some txn → TxnFits mid.session.catalogue txn
+      mid-fits txn asks_it = subst (λ (p : EngineParts). TxnFits p.session.catalogue txn) (sym closed) (fits txn asks_it)
+
+      pub anew-stands : (new : EngineParts) → new ≡ with_request asked mid
+          → TellsIf (StandsOn text history e) (λ was is. StandsOn text (history ++ commits (rules_of e.session) (state_now e.session) asked) new is) x y
+      anew-stands new becomes = told-weaken (StandsOn text history e) (StandsOn text history e) (λ was is. StandsOn text (history ++ []) mid is) (λ was is. StandsOn text (history ++ asks) new is) (λ u is. is)
+          (λ u v is here.
+          let now : StandsOn text history mid v = subst (λ (h : List Txn). StandsOn text h mid v) (append-nil history) here in
+          let after : StandsOn text (history ++ commits (rules_of mid.session) (state_now mid.session) asked) (with_request asked mid) v
+          = of-stands text history mid (λ d. StandsOn text (history ++ commits (rules_of mid.session) (state_now mid.session) asked) (with_request asked mid) d) (asked-stands text history mid asked mid-fits mid-counted) v now in
+          subst (λ (p : EngineParts). StandsOn text (history ++ asks) p v) (sym becomes) (subst (λ (t : List Txn). StandsOn text (history ++ t) (with_request asked mid) v) mid-asks after)) x y stands
+
+-- ---- a transaction that opens a new group
+
+not-closing : (asked : Request) (txn : Txn) → txn_of asked ≡ Some txn → is_closing asked ≡ false
+not-closing (request.Call proc args) txn is = refl
+not-closing (request.AdHoc records) txn is = refl
+not-closing request.Flush txn is = absurd (cc is)
+not-closing (request.Show table key) txn is = refl
+not-closing request.Save txn is = absurd (cc is)
+not-closing request.Stop txn is = absurd (cc is)
+not-closing (request.Refused fault) txn is = refl
+
+one-answer : (r : Rules) (state : SessionState) (asked : Request) (txn : Txn) → txn_of asked ≡ Some txn → length (answer r state asked ++ []) ≤ 1
+one-answer r state (request.Call proc args) txn is = omega (arith, one-reply state (txn_outcome r state.tables (Call (record { proc = proc; args = args }))), length-append (answer r state (request.Call proc args)) [])
+one-answer r state (request.AdHoc records) txn is = omega (arith, one-reply state (txn_outcome r state.tables (AdHoc records)), length-append (answer r state (request.AdHoc records)) [])
+one-answer r state request.Flush txn is = absurd (cc is)
+one-answer r state (request.Show table key) txn is = absurd (cc is)
+one-answer r state request.Save txn is = absurd (cc is)
+one-answer r state request.Stop txn is = absurd (cc is)
+one-answer r state (request.Refused fault) txn is = absurd (cc is)
+
+-- a group that has no room has a transaction
+has-some : (txns : List Txn) (txn : Txn) → lacks_room txns (Some txn) ≡ true → lacks_room [] (Some txn) ≡ false → 0 < length txns
+has-some [] txn full alone = let no : true ≡ false = sym full ∙ alone in absurd cc
+has-some (t ∷ ts) txn full alone = omega arith
+
+module _ (e : EngineParts) (live : IsLive e) (asked : Request) (txn : Txn) (asks_txn : txn_of asked ≡ Some txn) (full : lacks_room e.session.txns (Some txn) ≡ true) (alone : lacks_room [] (Some txn) ≡ false)
+    (start : SessionState) (group : List Request) (within : IsInGroup start group e.session) where
+  not-full : (n : ℕ) → n ≤ 1 → nat_le e.session.most n ≡ false
+  not-full n le =
+      let some : 0 < length e.session.txns = has-some e.session.txns txn full alone in
+      let above : n < e.session.most = omega (arith, le, some, live.working.fewer, live.unfull) in
+      grind (arith, nat_tests)
+
+  anew-cut : cut_one (rules_of e.session) start group asked ≡ record { closed = group ∷ []; rest = asked ∷ [] }
+  anew-cut = cut-before (rules_of e.session) start group asked (ap (λ (l : List Txn). lacks_room l (txn_of asked)) (sym within.body) ∙ ap (λ (o : Option Txn). lacks_room e.session.txns o) asks_txn ∙ full)
+      (ap (λ (b : Bool). b || nat_le e.session.most (length (replies (rules_of e.session) (ends (rules_of e.session) start (group ++ [])) (asked ∷ [])))) (not-closing asked txn asks_txn)
+      ∙ not-full (length (replies (rules_of e.session) (ends (rules_of e.session) start (group ++ [])) (asked ∷ []))) (one-answer (rules_of e.session) (ends (rules_of e.session) start (group ++ [])) asked txn asks_txn))
+
+  pub anew-closes : (given : List Reply) (new : EngineParts) → given ≡ e.session.held → new ≡ with_request asked (committed_parts e) → HasRoomAt e.log.gate.place e.session.txns
+      → Closes (rules_of e.session) e.log.gate.place start (cut_one (rules_of e.session) start group asked) given new
+  anew-closes given new gave becomes room = closes-before e start group within room asked (cut_one (rules_of e.session) start group asked) given new anew-cut gave becomes
+
+  pub anew-stops : (cause : EngineCause) (given : List Reply) → given ≡ [] → ((bytes : ℕ) → cause ≡ TooLarge bytes → ⊥) → (cause ≡ Ended → ⊥) → ((need : ℕ) → cause ≡ LogFull need → IsOverFull e.log.gate.place e.session.txns need) → (cause ≡ DiskFault → IsCalledFor e.log.gate.place e.session.txns)
+      → StopsAt (rules_of e.session) e.log.gate.place start (cut_one (rules_of e.session) start group asked).closed given cause
+  anew-stops = close-stops (rules_of e.session) e.log.gate.place start (cut_one (rules_of e.session) start group asked).closed group (ap (λ (cut : GroupCut). cut.closed) anew-cut) e.session.txns within.body
+
+  pub anew-unrun : (given : List Reply) → given ≡ e.session.held → StopsAt (rules_of e.session) e.log.gate.place start (cut_one (rules_of e.session) start group asked).closed given NoMemory
+  anew-unrun given gave = closed-stops (rules_of e.session) e.log.gate.place start (cut_one (rules_of e.session) start group asked).closed group (ap (λ (cut : GroupCut). cut.closed) anew-cut) e.session.txns within.body given (gave ∙ within.answers)
+
+-- a transaction that was run, as a request
+pub ran-parts : (e mid : EngineParts) (ran : Open) (asked : Request) (txn : Txn) → txn_of asked ≡ Some txn → mid ≡ committed_parts e → ran ≡ with_run txn mid.session → with_session ran mid ≡ with_request asked (committed_parts e)
+ran-parts e mid ran asked txn asks_txn closed is = ap (λ (now : Open). with_session now mid) (is ∙ run-asked asked mid.session txn asks_txn) ∙ ap (λ (p : EngineParts). with_request asked p) closed
+
+-- a request that asks for no transaction, and one that asks for this
+pub none-fits : (e : EngineParts) (asked : Request) → txn_of asked ≡ None → (txn : Txn) → txn_of asked ≡ Some txn → TxnFits e.session.catalogue txn
+none-fits e asked none txn is = let no : None ≡ Some txn = sym none ∙ is in absurd cc
+
+pub same-fits : (e : EngineParts) (asked : Request) (txn : Txn) → txn_of asked ≡ Some txn → TxnFits e.session.catalogue txn → (other : Txn) → txn_of asked ≡ Some other → TxnFits e.session.catalogue other
+same-fits e asked txn asks_txn fits other is = let same : Some txn ≡ Some other = sym asks_txn ∙ is in let here : txn ≡ other = cc in subst (λ (t : Txn). TxnFits e.session.catalogue t) here fits
+
+-- ---- a save
+
+-- replies that were given out, and that of the save
+pub told-saved : (e new : EngineParts) (replies given : List Reply) → AllByRecursion (IsHeldBy e.log.gate.txns) replies → new ≡ saved_parts e → given ≡ replies ++ reply.Saved e.log.gate.txns ∷ [] → AllByRecursion (IsKept new) given
+told-saved e new replies given held becomes told =
+    subst (λ (p : EngineParts). AllByRecursion (IsKept p) given) (sym becomes) (subst (λ (l : List Reply). AllByRecursion (IsKept (saved_parts e)) l) (sym told)
+    (kept-and-saved (saved_parts e) e.log.gate.txns replies (saves-all e) (all-held-kept (saved_parts e) e.log.gate.txns (omega arith) replies held)))
+
+pub untold-saved : (e new : EngineParts) (replies given : List Reply) → AllByRecursion (IsHeldBy e.log.gate.txns) replies → durable_of new ≡ e.log.gate.txns → given ≡ replies → AllByRecursion (IsKept new) given
+untold-saved e new replies given held durable untold = subst (λ (l : List Reply). AllByRecursion (IsKept new) l) (sym untold) (all-held-kept new e.log.gate.txns (omega (arith, durable)) replies held)
+
+module _ (e : EngineParts) (counted : e.log.gate.txns ≡ e.session.before) (start : SessionState) (group : List Request) (within : IsInGroup start group e.session) where
+  save-cut : cut_one (rules_of e.session) start group request.Save ≡ record { closed = (group ++ request.Save ∷ []) ∷ []; rest = [] }
+  save-cut = cut-closed (rules_of e.session) start group request.Save refl refl
+
+  pub checkpoint-closes : HasRoomAt e.log.gate.place e.session.txns → (mid new : EngineParts) (replies given : List Reply) → mid ≡ committed_parts e → new ≡ saved_parts mid → replies ≡ e.session.held → given ≡ replies ++ reply.Saved mid.log.gate.txns ∷ []
+      → Closes (rules_of e.session) e.log.gate.place start (cut_one (rules_of e.session) start group request.Save) given new
+  checkpoint-closes room mid new replies given closed saved gave told =
+      let number : mid.log.gate.txns ≡ e.session.before + length e.session.txns = ap (λ (p : EngineParts). p.log.gate.txns) closed ∙ txns-after e.session.txns e.log.gate ∙ ap (λ (n : ℕ). n + length e.session.txns) counted in
+      closes-saved e start group within room (cut_one (rules_of e.session) start group request.Save) given mid.log.gate.txns new save-cut
+      (told ∙ ap (λ (l : List Reply). l ++ reply.Saved mid.log.gate.txns ∷ []) gave) number (saved ∙ ap saved_parts closed)
+
+  pub checkpoint-stops : (cause : EngineCause) (given : List Reply) → given ≡ [] → ((bytes : ℕ) → cause ≡ TooLarge bytes → ⊥) → (cause ≡ Ended → ⊥) → ((need : ℕ) → cause ≡ LogFull need → IsOverFull e.log.gate.place e.session.txns need) → (cause ≡ DiskFault → IsCalledFor e.log.gate.place e.session.txns)
+      → StopsAt (rules_of e.session) e.log.gate.place start (cut_one (rules_of e.session) start group request.Save).closed given cause
+  checkpoint-stops = close-stops (rules_of e.session) e.log.gate.place start (cut_one (rules_of e.session) start group request.Save).closed (group ++ request.Save ∷ []) (ap (λ (cut : GroupCut). cut.closed) save-cut)
+      e.session.txns (within.body ∙ sym (save-commits (rules_of e.session) start group))
+
+  -- the group's replies were given out, but not that of the save
+  pub checkpoint-unsaved : HasRoomAt e.log.gate.place e.session.txns → (mid : EngineParts) (replies given : List Reply) → mid ≡ committed_parts e → replies ≡ e.session.held → given ≡ replies
+      → (cause : EngineCause) → (cause ≡ Ended → ⊥) → ((need : ℕ) → cause ≡ LogFull need → ⊥)
+      → ((bytes : ℕ) → cause ≡ TooLarge bytes → (bytes ≡ slot_len (rules_of mid.session) (state_now mid.session) mid.log.gate.place) × (MAX_SLOT_LEN < bytes))
+      → StopsAt (rules_of e.session) e.log.gate.place start (cut_one (rules_of e.session) start group request.Save).closed given cause
+  checkpoint-unsaved room mid replies given closed gave untold cause on full large =
+      save-stops e start group within room (cut_one (rules_of e.session) start group request.Save).closed (ap (λ (cut : GroupCut). cut.closed) save-cut) given (untold ∙ gave) cause on full
+      (λ bytes is. let much = large bytes is in (much.0 ∙ ap (λ (m : EngineParts). slot_len (rules_of m.session) (state_now m.session) m.log.gate.place) closed, much.1))
+
+module _ (text : List ℕ) (history : List Txn) (e mid new : EngineParts) (closed : mid ≡ committed_parts e) (x y z : Option (List History)) (stands : TellsIf (StandsOn text history e) (λ was is. StandsOn text (history ++ []) mid is) x y) where
+  pub checkpoint-keeps : TellsIf (StandsOn text history e) (KeepsHistory text (history ++ []) e mid) x y → TellsIf (StandsOn text (history ++ []) mid) (KeepsHistory text ((history ++ []) ++ []) mid new) y z
+      → TellsIf (StandsOn text history e) (KeepsHistory text (history ++ []) e new) x z
+  checkpoint-keeps first second = told-then (StandsOn text history e) (StandsOn text (history ++ []) mid) (KeepsHistory text (history ++ []) e mid) (KeepsHistory text ((history ++ []) ++ []) mid new) (KeepsHistory text (history ++ []) e new)
+      (λ u v w p r q s. keeps-then text (history ++ []) e mid new u v w (ap (λ (m : EngineParts). m.session.catalogue) closed)
+      (omega (arith, ap (λ (m : EngineParts). m.log.gate.txns) closed, txns-after e.session.txns e.log.gate)) (omega (arith, ap saved_of closed)) r (subst (λ (h : List Txn). KeepsHistory text h mid new v w) (append-nil (history ++ [])) s))
+      x y z first stands second
+
+  pub checkpoint-stands : TellsIf (StandsOn text (history ++ []) mid) (λ was is. StandsOn text ((history ++ []) ++ []) new is) y z → TellsIf (StandsOn text history e) (λ was is. StandsOn text (history ++ []) new is) x z
+  checkpoint-stands second = told-then (StandsOn text history e) (StandsOn text (history ++ []) mid) (λ was is. StandsOn text (history ++ []) mid is) (λ was is. StandsOn text ((history ++ []) ++ []) new is) (λ was is. StandsOn text (history ++ []) new is)
+      (λ u v w p r q s. subst (λ (h : List Txn). StandsOn text h new w) (append-nil (history ++ [])) s) x y z stands stands second
+
+-- ---- the flag of an engine
+
+module _ {D : Type 0} (told : D → Option History) (asked : Request) (inside e mid : EngineParts) (same : inside ≡ e) (old new : Devices D) where
+  pub flag-keeps : (now : EngineParts) → durable_of now ≡ durable_of mid → saved_of now ≡ saved_of mid → KeepsMore told (commits (rules_of inside.session) (state_now inside.session) asked) inside mid old new
+      → KeepsMore told (commits (rules_of e.session) (state_now e.session) asked) e now old new
+  flag-keeps now durable saved keeps = λ text history.
+      let here : KeepsMore told (commits (rules_of e.session) (state_now e.session) asked) e mid old new = subst (λ (p : EngineParts). KeepsMore told (commits (rules_of p.session) (state_now p.session) asked) p mid old new) same keeps in
+      told-weaken (StandsOn text history e) (StandsOn text history e) (KeepsHistory text (history ++ commits (rules_of e.session) (state_now e.session) asked) e mid) (KeepsHistory text (history ++ commits (rules_of e.session) (state_now e.session) asked) e now)
+      (λ u is. is) (λ u v is k. keeps-as text (history ++ commits (rules_of e.session) (state_now e.session) asked) e mid now u v durable saved k) (all_told (each told old)) (all_told (each told new)) (here text history)
+
+  pub flag-stands : (flag : Bool) → StandsForMore told (commits (rules_of inside.session) (state_now inside.session) asked) inside mid old new
+      → StandsForMore told (commits (rules_of e.session) (state_now e.session) asked) e (record mid { ended = flag }) old new
+  flag-stands flag stands = λ text history.
+      let here : StandsForMore told (commits (rules_of e.session) (state_now e.session) asked) e mid old new = subst (λ (p : EngineParts). StandsForMore told (commits (rules_of p.session) (state_now p.session) asked) p mid old new) same stands in
+      told-weaken (StandsOn text history e) (StandsOn text history e) (λ was is. StandsOn text (history ++ commits (rules_of e.session) (state_now e.session) asked) mid is)
+      (λ was is. StandsOn text (history ++ commits (rules_of e.session) (state_now e.session) asked) (record mid { ended = flag }) is) (λ u is. is)
+      (λ u v is s. flagged text (history ++ commits (rules_of e.session) (state_now e.session) asked) v s) (all_told (each told old)) (all_told (each told new)) (here text history)
+    where
+      flagged : (text : List ℕ) (history : List Txn) (devices : List History) → StandsOn text history mid devices → StandsOn text history (record mid { ended = flag }) devices
+      flagged text history = of-stands text history mid (λ d. StandsOn text history (record mid { ended = flag }) d)
+          (λ l a b is. record { batches = is.batches; log = is.log; behind = is.behind; slot_a = is.slot_a; slot_b = is.slot_b; known_a = is.known_a; known_b = is.known_b; fit = is.fit; ends = is.ends; split = is.split })

@@ -1,0 +1,127 @@
+-- Which replies a step gives out, and where it stops.
+use Rattle.std.specs.Prelude.{◌≡◌, ◌⊎◌, ◌+◌, ◌<◌, ◌≤◌, ℕ, Bool, false, true, List, [], ◌∷◌, ◌++◌, length}
+use Rattle.std.specs.List.{AllByRecursion}
+use Rattle.pac_outside.specs.Devices.{OneRose}
+use Rattle.pac_request.specs.declared.request.Request.{Request}
+use Rattle.pac_request.specs.declared.request.Request.TheVariants as request
+use Rattle.pac_request.specs.declared.request.Reply.{Reply}
+use Rattle.pac_request.specs.declared.request.Reply.TheVariants as reply
+use Rattle.pac_check.specs.declared.limits.TheConstants.{MAX_SLOT_LEN}
+use Rattle.pac_check.specs.Checkpoints.{checkpoint_bytes, head_with}
+use Rattle.pac_check.specs.Saved.{checkpoint_of}
+use Rattle.pac_session.specs.Session.{Rules, SessionState, ends}
+use Rattle.pac_session.specs.Groups.{Group, GroupCut, all_replies, all_requests, described, place_behind}
+use Rattle.pac_session.specs.Open.{IsInGroup, rules_of}
+use Rattle.pac_engine.specs.declared.fault.EngineCause.{EngineCause}
+use Rattle.pac_engine.specs.declared.fault.EngineCause.TheVariants.{DiskFault, LogFull, TooLarge, Ended, NoMemory}
+use Rattle.pac_engine.specs.declared.parts.EngineParts.{EngineParts}
+use Rattle.pac_engine.specs.Committing.{HasRoomAt, IsCalledFor, IsOverFull}
+use Rattle.pac_engine.specs.Standing.{durable_of, saved_of}
+
+-- ---- groups that were closed
+
+-- the log has room for the group
+abbrev pub GroupFits : Group → Type 0
+GroupFits group = HasRoomAt group.place group.txns
+
+-- the place of the log's gate behind groups, where it stood here in front of them
+abbrev pub place_after : ℕ → List Group → ℕ
+place_after place [] = place
+place_after place (group ∷ more) = place_after (place_behind place group.txns) more
+
+-- Groups were closed: each fits the log, and their replies were given out. The engine is within the next one, and goes by
+-- the same rules.
+pub record Closes (rules : Rules) (place : ℕ) (start : SessionState) (cut : GroupCut) (given : List Reply) (engine : EngineParts) : Type 0 where
+  pub replied : given ≡ all_replies (described rules place start cut.closed)
+  pub fit : AllByRecursion GroupFits (described rules place start cut.closed)
+  pub there : engine.log.gate.place ≡ place_after place (described rules place start cut.closed)
+  pub same : rules_of engine.session ≡ rules
+  pub within : IsInGroup (ends rules start (all_requests cut.closed)) cut.rest engine.session
+
+-- ---- replies that were given out
+
+-- a reply that was given out: the transaction is durable, and so is the checkpoint
+abbrev pub IsKept : EngineParts → Reply → Type 0
+IsKept engine (reply.Committed txn) = txn ≤ durable_of engine
+IsKept engine (reply.Aborted op reason) = Unit {0}
+IsKept engine (reply.AbortedFull table) = Unit {0}
+IsKept engine (reply.Shown table key row) = Unit {0}
+IsKept engine (reply.Refused fault) = Unit {0}
+IsKept engine (reply.Saved txns) = txns ≤ saved_of engine
+
+-- ---- where a step stops
+
+-- the replies are those of the first of these groups
+pub record IsUpToSome (groups : List Group) (given : List Reply) : Type 0 where
+  pub before : List Group
+  pub rest : List Group
+  pub split : groups ≡ before ++ rest
+  pub replied : given ≡ all_replies before
+
+-- they are those of the groups in front of one of which this is said, and each of those fits the log
+pub record IsUpToGroup (P : Group → Type 0) (groups : List Group) (given : List Reply) : Type 0 where
+  pub before : List Group
+  pub group : Group
+  pub rest : List Group
+  pub split : groups ≡ before ++ (group ∷ rest)
+  pub replied : given ≡ all_replies before
+  pub fit : AllByRecursion GroupFits before
+  pub here : P group
+
+-- a device is called for the group: it has transactions, and fits the log
+abbrev pub CallsDevice : Group → Type 0
+CallsDevice group = IsCalledFor group.place group.txns
+
+-- the log would have this many bytes with the group, which is too many
+abbrev pub NeedsTooMuch : ℕ → Group → Type 0
+NeedsTooMuch need group = IsOverFull group.place group.txns need
+
+-- A save ends the last of these groups, all of which fit the log. The replies are those of all of them, without that of the
+-- save.
+pub record IsUnsaved (groups : List Group) (given : List Reply) : Type 0 where
+  pub before : List Group
+  pub group : Group
+  pub asked : List Request
+  pub held : List Reply
+  pub number : ℕ
+  pub split : groups ≡ before ++ (group ∷ [])
+  pub saving : group.requests ≡ asked ++ (request.Save ∷ [])
+  pub answers : group.replies ≡ held ++ (reply.Saved number ∷ [])
+  pub replied : given ≡ all_replies before ++ held
+  pub fit : AllByRecursion GroupFits groups
+
+-- how many bytes a slot has with the checkpoint of these tables, the log's gate being at this place
+abbrev pub slot_len : Rules → SessionState → ℕ → ℕ
+slot_len rules state place = 1 + length (checkpoint_bytes (checkpoint_of (length rules.catalogue.tables) (head_with state.number place) state.tables))
+
+-- and with the checkpoint behind these groups a slot would have this many bytes, which is too many
+pub record IsTooLarge (rules : Rules) (place : ℕ) (start : SessionState) (closed : List (List Request)) (bytes : ℕ) (given : List Reply) : Type 0 where
+  pub unsaved : IsUnsaved (described rules place start closed) given
+  pub is : bytes ≡ slot_len rules (ends rules start (all_requests closed)) (place_after place (described rules place start closed))
+  pub over : MAX_SLOT_LEN < bytes
+
+-- Requests are cut into these groups, and it stops at one of them for this cause, with these replies given out.
+abbrev pub StopsAt : Rules → ℕ → SessionState → List (List Request) → List Reply → EngineCause → Type 0
+StopsAt rules place start closed given DiskFault = IsUpToGroup CallsDevice (described rules place start closed) given ⊎ IsUnsaved (described rules place start closed) given
+StopsAt rules place start closed given (LogFull need) = IsUpToGroup (NeedsTooMuch need) (described rules place start closed) given
+StopsAt rules place start closed given (TooLarge bytes) = IsTooLarge rules place start closed bytes given
+StopsAt rules place start closed given Ended = ⊥
+StopsAt rules place start closed given NoMemory = IsUpToSome (described rules place start closed) given ⊎ IsUnsaved (described rules place start closed) given
+
+-- Of a fault of a device the count of one device rose by one, and no call of any came after it. Else no call failed.
+abbrev pub CountsFault : EngineCause → List ℕ → List ℕ → Type 0
+CountsFault DiskFault before now = OneRose before now
+CountsFault (LogFull need) before now = now ≡ before
+CountsFault (TooLarge bytes) before now = now ≡ before
+CountsFault Ended before now = now ≡ before
+CountsFault NoMemory before now = now ≡ before
+
+-- the request ends the engine
+abbrev pub is_stop : Request → Bool
+is_stop (request.Call proc args) = false
+is_stop (request.AdHoc records) = false
+is_stop request.Flush = false
+is_stop (request.Show table key) = false
+is_stop request.Save = false
+is_stop request.Stop = true
+is_stop (request.Refused fault) = false

@@ -1,0 +1,5 @@
+pub mod Causes
+pub mod Committing
+pub mod Standing
+pub mod Closing
+pub mod Moves

@@ -1,0 +1,76 @@
+-- What an engine keeps between requests, and what single moves make of it.
+use Rattle.std.specs.Prelude.{◌≡◌, ◌<◌, ◌≤◌, ◌+◌, ℕ, Bool, false, length, Some}
+use Rattle.std.specs.List.{AllByRecursion}
+use Rattle.pac_ops.specs.declared.transaction.Txn.{Txn}
+use Rattle.pac_types.specs.Fits.{TxnFits}
+use Rattle.pac_request.specs.declared.request.Request.{Request}
+use Rattle.pac_request.specs.declared.request.Reply.{Reply}
+use Rattle.pac_request.specs.declared.request.Reply.TheVariants as reply
+use Rattle.pac_log.specs.declared.log.Stage.TheVariants.{Waiting}
+use Rattle.pac_check.specs.declared.limits.TheConstants.{MAX_SAVED_ROWS}
+use Rattle.pac_check.specs.Checkpoints.{head_with}
+use Rattle.pac_check.specs.SlotStates.{saved_slots}
+use Rattle.pac_session.specs.Session.{txn_of}
+use Rattle.pac_session.specs.Groups.{is_closing, lacks_room}
+use Rattle.pac_session.specs.Open.{Open, with_asked, with_closed}
+use Rattle.pac_engine.specs.declared.parts.EngineParts.{EngineParts}
+use Rattle.pac_engine.specs.Committing.{gate_past}
+use Rattle.pac_engine.specs.Standing.{durable_of, saved_of}
+
+-- a reply that is held: its transaction is among the first so many
+abbrev pub IsHeldBy : ℕ → Reply → Type 0
+IsHeldBy number (reply.Committed txn) = txn ≤ number
+IsHeldBy number (reply.Aborted op reason) = Unit {0}
+IsHeldBy number (reply.AbortedFull table) = Unit {0}
+IsHeldBy number (reply.Shown table key row) = Unit {0}
+IsHeldBy number (reply.Refused fault) = Unit {0}
+IsHeldBy number (reply.Saved txns) = ⊥
+
+-- the replies that a session holds are of its transactions
+abbrev pub AreHeld : Open → Type 0
+AreHeld now = AllByRecursion (IsHeldBy (now.before + length now.txns)) now.held
+
+-- An engine that works: neither its log nor its slots have failed, both are of the session's catalogue and have what was
+-- committed before the open group; each transaction of the group has a reply. The tables are few enough to be saved, and no checkpoint is ahead of the log.
+pub record IsWorking (engine : EngineParts) : Type 0 where
+  pub waits : engine.log.stage ≡ Waiting
+  pub works : engine.slots.has_failed ≡ false
+  pub same : engine.log.gate.catalogue ≡ engine.session.catalogue
+  pub counted : engine.log.gate.txns ≡ engine.session.before
+  pub some : 0 < engine.session.most
+  pub fewer : length engine.session.txns ≤ length engine.session.held
+  pub held : AreHeld engine.session
+  pub limit : engine.session.limit ≤ MAX_SAVED_ROWS
+  pub saved : saved_of engine ≤ durable_of engine
+
+-- between requests the open group isn't full
+pub record IsLive (engine : EngineParts) : Type 0 where
+  pub working : IsWorking engine
+  pub unfull : length engine.session.held < engine.session.most
+
+-- a request behind those of the open group
+abbrev pub with_request : Request → EngineParts → EngineParts
+with_request asked engine = record engine { session = with_asked asked engine.session }
+
+-- the open group closed, and committed
+abbrev pub committed_parts : EngineParts → EngineParts
+committed_parts engine = record engine { session = with_closed engine.session; log = record { gate = gate_past engine.session.txns engine.log.gate; stage = Waiting } }
+
+-- a checkpoint saved
+abbrev pub saved_parts : EngineParts → EngineParts
+saved_parts engine = record engine { slots = saved_slots (head_with engine.log.gate.txns engine.log.gate.place) engine.slots }
+
+-- what is durable and saved is as it was
+pub record IsUnmoved (before now : EngineParts) : Type 0 where
+  pub gate : now.log.gate ≡ before.log.gate
+  pub slot_a : now.slots.a ≡ before.slots.a
+  pub slot_b : now.slots.b ≡ before.slots.b
+
+-- A request was executed behind those of the open group, which had room for its transaction; what is known of the request,
+-- and of whether it closes its group.
+pub record IsAsked (before : EngineParts) (asked : Request) (closing : Bool) (now : EngineParts) : Type 0 where
+  pub live : IsLive before
+  pub fits : (txn : Txn) → txn_of asked ≡ Some txn → TxnFits before.session.catalogue txn
+  pub room : lacks_room before.session.txns (txn_of asked) ≡ false
+  pub closes : closing ≡ is_closing asked
+  pub becomes : now ≡ with_request asked before

@@ -1,0 +1,101 @@
+-- Which history an engine stands for on its devices, and what is kept of it while the devices are called.
+use Rattle.std.specs.Prelude.{◌≡◌, ◌≤◌, ℕ, List, [], ◌∷◌, ◌++◌, Option, Some, None}
+use Rattle.std.specs.List.{All}
+use Rattle.pac_ops.specs.declared.transaction.Txn.{Txn}
+use Rattle.pac_outside.specs.Devices.{AllLeave, RunLeaves, all_told, each}
+use Rattle.pac_outside.specs.declared.devices.Devices.{Devices}
+use Rattle.pac_outside.specs.Disk.{History, WhereTold}
+use Rattle.pac_outside.specs.GateByte.{OneImage}
+use Rattle.pac_types.specs.Fits.{TxnFits}
+use Rattle.pac_types.specs.Typing.{CatalogueState}
+use Rattle.pac_log.specs.Logs.{HoldsLog, all_txns}
+use Rattle.pac_log.specs.Places.{IsBehind, LogEndsAt}
+use Rattle.pac_check.specs.declared.info.SlotInfo.{SlotInfo}
+use Rattle.pac_check.specs.SlotStates.{IsSlot, newest_of}
+use Rattle.pac_store.specs.Images.{Images, OfThree}
+use Rattle.pac_store.specs.Stands.{EndsWith, HoldsSaved, IsShutOrFront, StandsFor}
+use Rattle.pac_engine.specs.declared.parts.EngineParts.{EngineParts}
+
+-- how many transactions are durable: those of the log
+abbrev pub durable_of : EngineParts → ℕ
+durable_of engine = engine.log.gate.txns
+
+-- how many transactions are in a checkpoint; 0 where there is none
+abbrev pub newest_txns : Option SlotInfo → ℕ
+newest_txns None = 0
+newest_txns (Some info) = info.txns
+
+-- how many are in the newest checkpoint
+abbrev pub saved_of : EngineParts → ℕ
+saved_of engine = newest_txns (newest_of engine.slots)
+
+-- what is durable and saved stays so
+pub record IsGrown (before now : EngineParts) : Type 0 where
+  pub durable : durable_of before ≤ durable_of now
+  pub saved : saved_of before ≤ saved_of now
+
+-- Where the devices tell, a crash leaves of each one image: that of a log that ends at the engine's gate, and those of two
+-- slots in the states that the engine knows. It is said of each device by itself: one may tell while others do not.
+pub record HasDevices {D : Type 0} (told : D → Option History) (engine : EngineParts) (devices : Devices D) : Type 0 where
+  pub log : WhereTold (λ now. LogEndsAt engine.log.gate now.now) (told devices.log)
+  pub slot_a : WhereTold (λ now. OneImage (IsSlot engine.session.catalogue.tables engine.slots.a) now.now) (told devices.slot_a)
+  pub slot_b : WhereTold (λ now. OneImage (IsSlot engine.session.catalogue.tables engine.slots.b) now.now) (told devices.slot_b)
+
+-- The devices stand for the history, of which the log has at least so many transactions and some slot at least so many.
+pub record StandsWith (text : List ℕ) (catalogue : CatalogueState) (history : List Txn) (least saved : ℕ) (images : Images) : Type 0 where
+  pub stands : StandsFor text catalogue history least images
+  pub saves : HoldsSaved catalogue saved images
+
+-- The engine stands for the history on the log, slot a and slot b: serial execution of the history ends with the engine's
+-- tables. The history ends with the open group's transactions, and a crash leaves what is before them in the log; of each
+-- slot it leaves one image too, which is shut or has a checkpoint of the log's front.
+pub record EngineStands (text : List ℕ) (history : List Txn) (engine : EngineParts) (l a b : History) : Type 0 where
+  pub batches : List (List Txn)
+  pub log : OneImage (HoldsLog text engine.session.catalogue batches) l.now
+  pub behind : IsBehind text batches engine.log.gate
+  pub slot_a : OneImage (IsShutOrFront text engine.session.catalogue batches) a.now
+  pub slot_b : OneImage (IsShutOrFront text engine.session.catalogue batches) b.now
+  pub known_a : IsSlot engine.session.catalogue.tables engine.slots.a a.now.seen
+  pub known_b : IsSlot engine.session.catalogue.tables engine.slots.b b.now.seen
+  pub fit : All (TxnFits engine.session.catalogue) history
+  pub ends : EndsWith engine.session.catalogue history engine.session.tables
+  pub split : history ≡ all_txns batches ++ engine.session.txns
+
+-- what is said of three devices, in the order in which devices are told
+abbrev pub OfDevices : (History → History → History → Type 0) → List History → Type 0
+OfDevices P [] = ⊥
+OfDevices P (l ∷ []) = ⊥
+OfDevices P (l ∷ a ∷ []) = ⊥
+OfDevices P (l ∷ a ∷ b ∷ []) = P l a b
+OfDevices P (l ∷ a ∷ b ∷ device ∷ devices) = ⊥
+
+abbrev pub StandsOn : List ℕ → List Txn → EngineParts → List History → Type 0
+StandsOn text history engine devices = OfDevices (EngineStands text history engine) devices
+
+-- a crash may leave images that stand for the history, with what is durable and saved
+abbrev pub MayLeave : List ℕ → CatalogueState → List Txn → EngineParts → List (List ℕ) → Type 0
+MayLeave text catalogue history engine images = OfThree (StandsWith text catalogue history (durable_of engine) (saved_of engine)) images
+
+-- At each moment from old to new a crash leaves images that stand for the history with what was durable and saved before, and
+-- in the end with what is durable and saved then.
+pub record KeepsHistory (text : List ℕ) (history : List Txn) (before now : EngineParts) (old new : List History) : Type 0 where
+  pub moments : RunLeaves (MayLeave text before.session.catalogue history before) old new
+  pub end : AllLeave (MayLeave text before.session.catalogue history now) new
+
+-- what is told before, if it has P, and after has R; it is told after where it was before
+abbrev pub TellsIf : (List History → Type 0) → (List History → List History → Type 0) → Option (List History) → Option (List History) → Type 0
+TellsIf P R None new = Unit {0}
+TellsIf P R (Some old) None = P old → ⊥
+TellsIf P R (Some old) (Some new) = P old → R old new
+
+-- where the devices tell and have P before a call, they tell after it, and their histories have R
+abbrev pub TellsWhere : (List History → Type 0) → (List History → List History → Type 0) → List (Option History) → List (Option History) → Type 0
+TellsWhere P R old new = TellsIf P R (all_told old) (all_told new)
+
+-- where the devices tell, an engine that stands for some history keeps it with these transactions behind it
+abbrev pub KeepsMore : {D : Type 0} → (D → Option History) → List Txn → EngineParts → EngineParts → Devices D → Devices D → Type 0
+KeepsMore told more before now old new = (text : List ℕ) (history : List Txn) → TellsWhere (StandsOn text history before) (KeepsHistory text (history ++ more) before now) (each told old) (each told new)
+
+-- and it stands for that afterwards
+abbrev pub StandsForMore : {D : Type 0} → (D → Option History) → List Txn → EngineParts → EngineParts → Devices D → Devices D → Type 0
+StandsForMore told more before now old new = (text : List ℕ) (history : List Txn) → TellsWhere (StandsOn text history before) (λ was is. StandsOn text (history ++ more) now is) (each told old) (each told new)

@@ -1,0 +1,95 @@
+// Commits the transactions of a group.
+ghost use Rattle.std.specs.Prelude.{◌≡◌, ◌<◌, ◌≤◌, ℕ, List, All, length, OnOk, OnErr, IsErrOf};
+ghost use Rattle.pac_outside.specs.Causes.{Rose, one_more};
+ghost use Rattle.pac_outside.specs.Disk.{BothTell, WhereTold};
+ghost use Rattle.pac_ops.specs.declared.limits.TheConstants.{MAX_TXNS};
+ghost use Rattle.pac_ops.specs.declared.transaction.Txn.{Txn as ATxn};
+ghost use Rattle.pac_types.specs.Fits.{TxnFits};
+ghost use Rattle.pac_log.specs.declared.limits.TheConstants.{MAX_BODY_LEN, MAX_LOG_LEN};
+ghost use Rattle.pac_log.specs.declared.log.Stage.{Stage};
+ghost use Rattle.pac_log.specs.Bodies.{body_bytes};
+ghost use Rattle.pac_log.specs.Places.{IsBehind, IsPrepared, LogEndsAt, need_of};
+ghost use Rattle.pac_engine.specs.Committing.{HasAdded, HasRoomAt, IsCalledFor, IsOverFull, MayAdd, gate_past, with_batch};
+
+use crate::fault::EngineCause;
+use pac_log::{Log, PrepareError};
+use pac_ops::{Batch, Txn, Txns};
+use pac_outside::Disk;
+
+// Makes transactions ready to be committed.
+fn prepare(log: &mut Log, txns: Vec<Txn>) -> Result<(), EngineCause>
+    requires waits { log.old.stage ≡ Stage.Waiting }
+    requires some { 0 < length txns.items }
+    requires few { length txns.items ≤ MAX_TXNS }
+    requires fit { All (TxnFits log.old.gate.catalogue) txns.items }
+    requires short { length (body_bytes txns.items) ≤ MAX_BODY_LEN }
+    ensures prepared { OnOk result (IsPrepared log.new txns.items) }
+    ensures gate { log.new.gate ≡ log.old.gate }
+    ensures refused { OnErr result (log.new ≡ log.old) }
+    ensures full { (need : ℕ) → IsErrOf result (EngineCause.LogFull need) → IsOverFull log.old.gate.place txns.items need }
+    ensures room { OnOk result (need_of log.old.gate.place txns.items ≤ MAX_LOG_LEN) }
+    ensures no_fault { ¬ IsErrOf result EngineCause.DiskFault }
+    ensures known { (bytes : ℕ) → ¬ IsErrOf result (EngineCause.TooLarge bytes) }
+    ensures goes_on { ¬ IsErrOf result EngineCause.Ended }
+{
+    let batch = Batch {
+        first: log.gate().txns() + 1,
+        txns: Txns::of(txns),
+    };
+    match log.prepare(&batch) {
+        Ok(()) => Ok(()),
+        Err(PrepareError::LogFull { need }) => Err(EngineCause::LogFull { need }),
+        Err(PrepareError::NoMemory) => Err(EngineCause::NoMemory),
+        Err(PrepareError::Failed) => unreachable!(),
+    }
+}
+
+/// Puts the transactions of a group behind the others of a log, and makes them durable; where there are none, the device is
+/// not called.
+///
+/// # Errors
+///
+/// - [`EngineCause::LogFull`] exactly where there are transactions and the log would have more than 268,435,456 bytes with
+///   them. The device is not called.
+/// - [`EngineCause::NoMemory`] where there was no memory for the body. The device is not called.
+/// - [`EngineCause::DiskFault`] where a call of the device failed, so only where its count of faults rose; no call comes after
+///   it.
+pub fn commit<D: Disk>(log: &mut Log, disk: &mut D, txns: Vec<Txn>) -> Result<(), EngineCause>
+    requires waits { log.old.stage ≡ Stage.Waiting }
+    requires ends { WhereTold (λ old. LogEndsAt log.old.gate old.now) (D.told disk.old) }
+    requires few { length txns.items ≤ MAX_TXNS }
+    requires fit { All (TxnFits log.old.gate.catalogue) txns.items }
+    requires short { length (body_bytes txns.items) ≤ MAX_BODY_LEN }
+
+    // At each moment a crash leaves the batches before, or these and the new one.
+    ensures moments { (text : List ℕ) (batches : List (List ATxn)) → IsBehind text batches log.old.gate
+        → BothTell (MayAdd text log.old.gate.catalogue batches txns.items) (D.told disk.old) (D.told disk.new) }
+
+    // Afterwards it leaves the new one too, and the log stands behind it.
+    ensures added { OnOk result ((text : List ℕ) (batches : List (List ATxn)) → IsBehind text batches log.old.gate
+        → BothTell (HasAdded text log.old.gate.catalogue batches txns.items) (D.told disk.old) (D.told disk.new)) }
+    ensures behind { OnOk result ((text : List ℕ) (batches : List (List ATxn)) → IsBehind text batches log.old.gate → IsBehind text (with_batch batches txns.items) log.new.gate) }
+    ensures ends { OnOk result (WhereTold (λ new. LogEndsAt log.new.gate new.now) (D.told disk.new)) }
+    ensures gate { OnOk result (log.new.gate ≡ gate_past txns.items log.old.gate) }
+    ensures kept { OnErr result (log.new.gate ≡ log.old.gate) }
+    ensures waits { OnOk result (log.new.stage ≡ Stage.Waiting) }
+
+    // When each refusal comes.
+    ensures full { (need : ℕ) → IsErrOf result (EngineCause.LogFull need) → IsOverFull log.old.gate.place txns.items need }
+    ensures room { OnOk result (HasRoomAt log.old.gate.place txns.items) }
+    ensures called { IsErrOf result EngineCause.DiskFault → IsCalledFor log.old.gate.place txns.items }
+    ensures known { (bytes : ℕ) → ¬ IsErrOf result (EngineCause.TooLarge bytes) }
+    ensures goes_on { ¬ IsErrOf result EngineCause.Ended }
+
+    // No call of the device comes after one that failed.
+    ensures cause { IsErrOf result EngineCause.DiskFault → Rose (D.faults disk.old) (D.faults disk.new) }
+    ensures once { IsErrOf result EngineCause.DiskFault → D.faults disk.new ≡ one_more (D.faults disk.old) }
+    ensures quiet { ¬ IsErrOf result EngineCause.DiskFault → D.faults disk.new ≡ D.faults disk.old }
+{
+    if txns.is_empty() {
+        return Ok(());
+    }
+    prepare(log, txns)?;
+    log.commit(disk)?;
+    Ok(())
+}

@@ -1,0 +1,70 @@
+// Why a step of the engine fails.
+ghost use Rattle.std.specs.Prelude.{◌≡◌};
+
+use pac_base::NoMemory;
+use pac_check::SaveError;
+use pac_outside::Failed;
+use pac_request::Replies;
+use thiserror::Error;
+
+/// Why a step fails.
+#[derive(Clone, Copy, Debug, PartialEq, Eq, Error)]
+pub enum EngineCause {
+    /// A call of a device failed.
+    #[error("a device failed")]
+    DiskFault,
+    /// The log would have so many bytes.
+    #[error("the log would have {need} bytes")]
+    LogFull { need: u64 },
+    /// A checkpoint's slot would have so many bytes.
+    #[error("the slot would have {bytes} bytes")]
+    TooLarge { bytes: u64 },
+    /// An earlier step failed, or stopped the engine.
+    #[error("the engine has ended")]
+    Ended,
+    /// An allocation was refused.
+    #[error("out of memory")]
+    NoMemory,
+}
+
+/// A step failed. The replies are those that became durable in it before.
+#[derive(Drop)]
+pub struct EngineFault {
+    pub replies: Replies,
+    pub cause: EngineCause,
+}
+
+impl From<NoMemory> for EngineCause {
+    ghost use Rattle.pac_engine.specs.declared.fault.EngineCause.{EngineCause};
+
+    ghost from_gives = { λ _ cause. cause ≡ EngineCause.NoMemory };
+
+    fn from(_: NoMemory) -> Self {
+        EngineCause::NoMemory
+    }
+}
+
+// A device failed.
+impl From<Failed> for EngineCause {
+    ghost use Rattle.pac_engine.specs.declared.fault.EngineCause.{EngineCause};
+
+    ghost from_gives = { λ _ cause. cause ≡ EngineCause.DiskFault };
+
+    fn from(_: Failed) -> Self {
+        EngineCause::DiskFault
+    }
+}
+
+impl From<SaveError> for EngineCause {
+    ghost use Rattle.pac_engine.specs.Causes.{cause_of_save};
+
+    ghost from_gives = { λ error cause. cause ≡ cause_of_save error };
+
+    fn from(error: SaveError) -> Self {
+        match error {
+            SaveError::TooLarge { bytes } => EngineCause::TooLarge { bytes },
+            SaveError::DiskFault => EngineCause::DiskFault,
+            SaveError::NoMemory => EngineCause::NoMemory,
+        }
+    }
+}

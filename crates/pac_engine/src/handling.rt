@@ -1,0 +1,306 @@
+// Does what one request asks.
+ghost use Rattle.std.specs.Prelude.{◌≡◌, ◌≤◌, ◌<◌, ◌≢◌, ◌++◌, ◌∷◌, ◌||◌, [], false, true, length, nat_le, ℕ, List, IfErr, IfOk, MatchResult, OnErr, OnOk, Some as ASome, None as ANone};
+ghost use Rattle.std.specs.List.{AllByRecursion};
+ghost use Rattle.pac_outside.specs.Devices.{each};
+ghost use Rattle.pac_types.specs.Fits.{TxnFits};
+ghost use Rattle.pac_check.specs.declared.limits.TheConstants.{MAX_SLOT_LEN};
+ghost use Rattle.pac_request.specs.declared.request.Request.{Request as ARequest};
+ghost use Rattle.pac_request.specs.declared.request.Reply.{Reply as AReply};
+ghost use Rattle.pac_request.specs.RequestFits.{RequestFits};
+ghost use Rattle.pac_session.specs.Session.{SessionState, commits, txn_of};
+ghost use Rattle.pac_session.specs.Groups.{cut_one, is_closing, lacks_room, place_behind};
+ghost use Rattle.pac_session.specs.Open.{IsInGroup, rules_of, state_now};
+ghost use Rattle.pac_engine.specs.Closing.{Closes, CountsFault, IsKept, StopsAt, slot_len};
+ghost use Rattle.pac_engine.specs.Moves.{IsAsked, IsHeldBy, IsLive, IsWorking, saved_parts};
+ghost use Rattle.pac_engine.specs.Standing.{HasDevices, IsGrown, KeepsMore, StandsForMore};
+ghost use Rattle.pac_engine.specs.declared.parts.EngineParts.{EngineParts as AParts};
+
+use crate::{EngineCause, EngineFault, EngineParts};
+use pac_base::NoMemory;
+use pac_ops::Txn;
+use pac_outside::{Devices, Disk};
+use pac_request::{Replies, Reply, Request};
+use pac_session::transaction_of;
+use std::alloc::Global;
+
+// A fault before which no reply was given out.
+fn fault(alloc: Global, cause: EngineCause) -> EngineFault
+    ensures replies { result.replies ≡ [] }
+    ensures cause { result.cause ≡ cause }
+{
+    EngineFault {
+        replies: Replies::of(Vec::new(alloc)),
+        cause,
+    }
+}
+
+// Whether the request closes the group that it is in.
+fn is_closing(request: &Request) -> bool
+    ensures { result ≡ is_closing request.now }
+{
+    matches!(request, Request::Flush | Request::Save | Request::Stop)
+}
+
+// The replies, and one more behind them.
+fn with_reply(replies: Replies, reply: Reply) -> Result<Replies, EngineFault>
+    ensures told { IfOk result (λ given. given ≡ replies ++ reply ∷ []) }
+    ensures untold { IfErr result (λ fault. fault.replies ≡ replies) }
+    ensures cause { IfErr result (λ fault. fault.cause ≡ EngineCause.NoMemory) }
+{
+    let mut given = replies.into_items();
+    match given.push(reply) {
+        Ok(()) => Ok(Replies::of(given)),
+        Err(_) => Err(EngineFault {
+            replies: Replies::of(given),
+            cause: EngineCause::NoMemory,
+        }),
+    }
+}
+
+impl EngineParts {
+    // Whether the open group ends behind a request, which closes it or doesn't.
+    fn ends_group(&self, closing: bool) -> bool
+        ensures { result ≡ (closing || nat_le self.now.session.most (length self.now.session.held)) }
+    {
+        closing || self.session.is_full()
+    }
+
+    // Closes the open group behind a request, where that closes it or the group is full.
+    fn close_behind<D: Disk>(
+        &mut self,
+        alloc: Global,
+        closing: bool,
+        devices: &mut Devices<D>,
+    ) -> Result<Replies, EngineFault>
+        requires working { IsWorking self.old }
+        requires ready { HasDevices D.told self.old devices.old }
+        ensures closes { (before : AParts) (asked : ARequest) → IsAsked before asked closing self.old → (start : SessionState) (group : List ARequest) → IsInGroup start group before.session
+            → IfOk result (λ given. Closes (rules_of before.session) before.log.gate.place start (cut_one (rules_of before.session) start group asked) given self.new) }
+        ensures stops { (before : AParts) (asked : ARequest) → IsAsked before asked closing self.old → (start : SessionState) (group : List ARequest) → IsInGroup start group before.session
+            → IfErr result (λ fault. StopsAt (rules_of before.session) before.log.gate.place start (cut_one (rules_of before.session) start group asked).closed fault.replies fault.cause) }
+        ensures kept { IfOk result (λ given. AllByRecursion (IsKept self.new) given) }
+        ensures kept_before { IfErr result (λ fault. AllByRecursion (IsKept self.new) fault.replies) }
+        ensures live { OnOk result (IsLive self.new) }
+        ensures grows { IsGrown self.old self.new }
+        ensures same { OnOk result (rules_of self.new.session ≡ rules_of self.old.session) }
+        ensures ready { OnOk result (HasDevices D.told self.new devices.new) }
+        ensures keeps { (before : AParts) (asked : ARequest) → IsAsked before asked closing self.old → KeepsMore D.told (commits (rules_of before.session) (state_now before.session) asked) before self.new devices.old devices.new }
+        ensures stands { (before : AParts) (asked : ARequest) → IsAsked before asked closing self.old → OnOk result (StandsForMore D.told (commits (rules_of before.session) (state_now before.session) asked) before self.new devices.old devices.new) }
+        ensures goes_on { IfErr result (λ fault. ¬ (fault.cause ≡ EngineCause.Ended)) }
+        ensures faults { MatchResult result (λ _. each D.faults devices.new ≡ each D.faults devices.old) (λ fault. CountsFault fault.cause (each D.faults devices.old) (each D.faults devices.new)) }
+    {
+        if !self.ends_group(closing) {
+            return Ok(Replies::of(Vec::new(alloc)));
+        }
+        match self.close(devices) {
+            Ok(replies) => Ok(replies),
+            Err(cause) => Err(fault(alloc, cause)),
+        }
+    }
+
+    // Executes a transaction in a new group, since the open one has no room for it.
+    fn execute_anew<D: Disk>(
+        &mut self,
+        alloc: Global,
+        txn: Txn,
+        devices: &mut Devices<D>,
+    ) -> Result<Replies, EngineFault>
+        requires live { IsLive self.old }
+        requires ready { HasDevices D.told self.old devices.old }
+        requires fits { TxnFits self.old.session.catalogue txn }
+        requires full { lacks_room self.old.session.txns (ASome txn) ≡ true }
+        requires alone { lacks_room [] (ASome txn) ≡ false }
+        ensures closes { (asked : ARequest) → txn_of asked ≡ ASome txn → (start : SessionState) (group : List ARequest) → IsInGroup start group self.old.session
+            → IfOk result (λ given. Closes (rules_of self.old.session) self.old.log.gate.place start (cut_one (rules_of self.old.session) start group asked) given self.new) }
+        ensures stops { (asked : ARequest) → txn_of asked ≡ ASome txn → (start : SessionState) (group : List ARequest) → IsInGroup start group self.old.session
+            → IfErr result (λ fault. StopsAt (rules_of self.old.session) self.old.log.gate.place start (cut_one (rules_of self.old.session) start group asked).closed fault.replies fault.cause) }
+        ensures kept { IfOk result (λ given. AllByRecursion (IsKept self.new) given) }
+        ensures kept_before { IfErr result (λ fault. AllByRecursion (IsKept self.new) fault.replies) }
+        ensures live { OnOk result (IsLive self.new) }
+        ensures grows { IsGrown self.old self.new }
+        ensures same { OnOk result (rules_of self.new.session ≡ rules_of self.old.session) }
+        ensures ready { OnOk result (HasDevices D.told self.new devices.new) }
+        ensures keeps { (asked : ARequest) → txn_of asked ≡ ASome txn → KeepsMore D.told (commits (rules_of self.old.session) (state_now self.old.session) asked) self.old self.new devices.old devices.new }
+        ensures stands { (asked : ARequest) → txn_of asked ≡ ASome txn → OnOk result (StandsForMore D.told (commits (rules_of self.old.session) (state_now self.old.session) asked) self.old self.new devices.old devices.new) }
+        ensures goes_on { IfErr result (λ fault. ¬ (fault.cause ≡ EngineCause.Ended)) }
+        ensures faults { MatchResult result (λ _. each D.faults devices.new ≡ each D.faults devices.old) (λ fault. CountsFault fault.cause (each D.faults devices.old) (each D.faults devices.new)) }
+    {
+        let replies = match self.close(devices) {
+            Ok(replies) => replies,
+            Err(cause) => return Err(fault(alloc, cause)),
+        };
+        match self.session.run(txn) {
+            Ok(()) => Ok(replies),
+            Err(NoMemory) => Err(EngineFault {
+                replies,
+                cause: EngineCause::NoMemory,
+            }),
+        }
+    }
+
+    // Executes a transaction; where the open group has no room for it, that is closed first.
+    fn execute<D: Disk>(
+        &mut self,
+        alloc: Global,
+        txn: Txn,
+        devices: &mut Devices<D>,
+    ) -> Result<Replies, EngineFault>
+        requires live { IsLive self.old }
+        requires ready { HasDevices D.told self.old devices.old }
+        requires fits { TxnFits self.old.session.catalogue txn }
+        ensures closes { (asked : ARequest) → txn_of asked ≡ ASome txn → (start : SessionState) (group : List ARequest) → IsInGroup start group self.old.session
+            → IfOk result (λ given. Closes (rules_of self.old.session) self.old.log.gate.place start (cut_one (rules_of self.old.session) start group asked) given self.new) }
+        ensures stops { (asked : ARequest) → txn_of asked ≡ ASome txn → (start : SessionState) (group : List ARequest) → IsInGroup start group self.old.session
+            → IfErr result (λ fault. StopsAt (rules_of self.old.session) self.old.log.gate.place start (cut_one (rules_of self.old.session) start group asked).closed fault.replies fault.cause) }
+        ensures kept { IfOk result (λ given. AllByRecursion (IsKept self.new) given) }
+        ensures kept_before { IfErr result (λ fault. AllByRecursion (IsKept self.new) fault.replies) }
+        ensures live { OnOk result (IsLive self.new) }
+        ensures grows { IsGrown self.old self.new }
+        ensures same { OnOk result (rules_of self.new.session ≡ rules_of self.old.session) }
+        ensures ready { OnOk result (HasDevices D.told self.new devices.new) }
+        ensures keeps { (asked : ARequest) → txn_of asked ≡ ASome txn → KeepsMore D.told (commits (rules_of self.old.session) (state_now self.old.session) asked) self.old self.new devices.old devices.new }
+        ensures stands { (asked : ARequest) → txn_of asked ≡ ASome txn → OnOk result (StandsForMore D.told (commits (rules_of self.old.session) (state_now self.old.session) asked) self.old self.new devices.old devices.new) }
+        ensures goes_on { IfErr result (λ fault. ¬ (fault.cause ≡ EngineCause.Ended)) }
+        ensures faults { MatchResult result (λ _. each D.faults devices.new ≡ each D.faults devices.old) (λ fault. CountsFault fault.cause (each D.faults devices.old) (each D.faults devices.new)) }
+    {
+        if self.session.lacks_room(&txn) {
+            return self.execute_anew(alloc, txn, devices);
+        }
+        match self.session.run(txn) {
+            Ok(()) => self.close_behind(alloc, false, devices),
+            Err(NoMemory) => Err(fault(alloc, EngineCause::NoMemory)),
+        }
+    }
+
+    // Answers a request that asks for no transaction and no checkpoint.
+    fn answer<D: Disk>(
+        &mut self,
+        alloc: Global,
+        request: Request,
+        devices: &mut Devices<D>,
+    ) -> Result<Replies, EngineFault>
+        requires live { IsLive self.old }
+        requires ready { HasDevices D.told self.old devices.old }
+        requires fits { RequestFits self.old.session.catalogue request }
+        requires none { txn_of request ≡ ANone }
+        requires unsaved { request ≢ ARequest.Save }
+        ensures closes { (start : SessionState) (group : List ARequest) → IsInGroup start group self.old.session
+            → IfOk result (λ given. Closes (rules_of self.old.session) self.old.log.gate.place start (cut_one (rules_of self.old.session) start group request) given self.new) }
+        ensures stops { (start : SessionState) (group : List ARequest) → IsInGroup start group self.old.session
+            → IfErr result (λ fault. StopsAt (rules_of self.old.session) self.old.log.gate.place start (cut_one (rules_of self.old.session) start group request).closed fault.replies fault.cause) }
+        ensures kept { IfOk result (λ given. AllByRecursion (IsKept self.new) given) }
+        ensures kept_before { IfErr result (λ fault. AllByRecursion (IsKept self.new) fault.replies) }
+        ensures live { OnOk result (IsLive self.new) }
+        ensures grows { IsGrown self.old self.new }
+        ensures same { OnOk result (rules_of self.new.session ≡ rules_of self.old.session) }
+        ensures ready { OnOk result (HasDevices D.told self.new devices.new) }
+        ensures keeps { KeepsMore D.told (commits (rules_of self.old.session) (state_now self.old.session) request) self.old self.new devices.old devices.new }
+        ensures stands { OnOk result (StandsForMore D.told (commits (rules_of self.old.session) (state_now self.old.session) request) self.old self.new devices.old devices.new) }
+        ensures goes_on { IfErr result (λ fault. ¬ (fault.cause ≡ EngineCause.Ended)) }
+        ensures faults { MatchResult result (λ _. each D.faults devices.new ≡ each D.faults devices.old) (λ fault. CountsFault fault.cause (each D.faults devices.old) (each D.faults devices.new)) }
+    {
+        let closing = is_closing(&request);
+        match self.session.answer(request) {
+            Ok(()) => self.close_behind(alloc, closing, devices),
+            Err(NoMemory) => Err(fault(alloc, EngineCause::NoMemory)),
+        }
+    }
+
+    // Saves a checkpoint behind a group that was closed, and tells of it behind the group's replies.
+    fn save_and_tell<D: Disk>(
+        &mut self,
+        alloc: Global,
+        replies: Replies,
+        devices: &mut Devices<D>,
+    ) -> Result<Replies, EngineFault>
+        requires working { IsWorking self.old }
+        requires none { self.old.session.txns ≡ [] }
+        requires held { AllByRecursion (IsHeldBy self.old.log.gate.txns) replies }
+        requires ready { HasDevices D.told self.old devices.old }
+        ensures saved { OnOk result (self.new ≡ saved_parts self.old) }
+        ensures grows { IsGrown self.old self.new }
+        ensures told { IfOk result (λ given. given ≡ replies ++ AReply.Saved self.old.log.gate.txns ∷ []) }
+        ensures untold { IfErr result (λ fault. fault.replies ≡ replies) }
+        ensures kept { IfOk result (λ given. AllByRecursion (IsKept self.new) given) }
+        ensures kept_before { IfErr result (λ fault. AllByRecursion (IsKept self.new) fault.replies) }
+        ensures ready { OnOk result (HasDevices D.told self.new devices.new) }
+        ensures keeps { KeepsMore D.told [] self.old self.new devices.old devices.new }
+        ensures stands { OnOk result (StandsForMore D.told [] self.old self.new devices.old devices.new) }
+        ensures large { IfErr result (λ fault. (bytes : ℕ) → fault.cause ≡ EngineCause.TooLarge bytes → (bytes ≡ slot_len (rules_of self.old.session) (state_now self.old.session) self.old.log.gate.place) × (MAX_SLOT_LEN < bytes)) }
+        ensures small { OnOk result (slot_len (rules_of self.old.session) (state_now self.old.session) self.old.log.gate.place ≤ MAX_SLOT_LEN) }
+        ensures full { IfErr result (λ fault. (need : ℕ) → ¬ (fault.cause ≡ EngineCause.LogFull need)) }
+        ensures goes_on { IfErr result (λ fault. ¬ (fault.cause ≡ EngineCause.Ended)) }
+        ensures faults { MatchResult result (λ _. each D.faults devices.new ≡ each D.faults devices.old) (λ fault. CountsFault fault.cause (each D.faults devices.old) (each D.faults devices.new)) }
+    {
+        match self.save(alloc, devices) {
+            Ok(()) => {
+                let txns = self.log.gate().txns();
+                with_reply(replies, Reply::Saved { txns })
+            }
+            Err(cause) => Err(EngineFault { replies, cause }),
+        }
+    }
+
+    // Closes the open group, and saves a checkpoint.
+    fn checkpoint<D: Disk>(
+        &mut self,
+        alloc: Global,
+        devices: &mut Devices<D>,
+    ) -> Result<Replies, EngineFault>
+        requires live { IsLive self.old }
+        requires ready { HasDevices D.told self.old devices.old }
+        ensures closes { (start : SessionState) (group : List ARequest) → IsInGroup start group self.old.session
+            → IfOk result (λ given. Closes (rules_of self.old.session) self.old.log.gate.place start (cut_one (rules_of self.old.session) start group ARequest.Save) given self.new) }
+        ensures stops { (start : SessionState) (group : List ARequest) → IsInGroup start group self.old.session
+            → IfErr result (λ fault. StopsAt (rules_of self.old.session) self.old.log.gate.place start (cut_one (rules_of self.old.session) start group ARequest.Save).closed fault.replies fault.cause) }
+        ensures kept { IfOk result (λ given. AllByRecursion (IsKept self.new) given) }
+        ensures kept_before { IfErr result (λ fault. AllByRecursion (IsKept self.new) fault.replies) }
+        ensures live { OnOk result (IsLive self.new) }
+        ensures grows { IsGrown self.old self.new }
+        ensures same { OnOk result (rules_of self.new.session ≡ rules_of self.old.session) }
+        ensures ready { OnOk result (HasDevices D.told self.new devices.new) }
+        ensures keeps { KeepsMore D.told (commits (rules_of self.old.session) (state_now self.old.session) ARequest.Save) self.old self.new devices.old devices.new }
+        ensures stands { OnOk result (StandsForMore D.told (commits (rules_of self.old.session) (state_now self.old.session) ARequest.Save) self.old self.new devices.old devices.new) }
+        ensures goes_on { IfErr result (λ fault. ¬ (fault.cause ≡ EngineCause.Ended)) }
+        ensures faults { MatchResult result (λ _. each D.faults devices.new ≡ each D.faults devices.old) (λ fault. CountsFault fault.cause (each D.faults devices.old) (each D.faults devices.new)) }
+        ensures small { OnOk result (slot_len (rules_of self.old.session) (state_now self.old.session) (place_behind self.old.log.gate.place self.old.session.txns) ≤ MAX_SLOT_LEN) }
+    {
+        match self.close(devices) {
+            Ok(replies) => self.save_and_tell(alloc, replies, devices),
+            Err(cause) => Err(fault(alloc, cause)),
+        }
+    }
+
+    // Does what a request asks.
+    pub(crate) fn handle<D: Disk>(
+        &mut self,
+        alloc: Global,
+        request: Request,
+        devices: &mut Devices<D>,
+    ) -> Result<Replies, EngineFault>
+        requires live { IsLive self.old }
+        requires ready { HasDevices D.told self.old devices.old }
+        requires fits { RequestFits self.old.session.catalogue request }
+        ensures closes { (start : SessionState) (group : List ARequest) → IsInGroup start group self.old.session
+            → IfOk result (λ given. Closes (rules_of self.old.session) self.old.log.gate.place start (cut_one (rules_of self.old.session) start group request) given self.new) }
+        ensures stops { (start : SessionState) (group : List ARequest) → IsInGroup start group self.old.session
+            → IfErr result (λ fault. StopsAt (rules_of self.old.session) self.old.log.gate.place start (cut_one (rules_of self.old.session) start group request).closed fault.replies fault.cause) }
+        ensures kept { IfOk result (λ given. AllByRecursion (IsKept self.new) given) }
+        ensures kept_before { IfErr result (λ fault. AllByRecursion (IsKept self.new) fault.replies) }
+        ensures live { OnOk result (IsLive self.new) }
+        ensures grows { IsGrown self.old self.new }
+        ensures same { OnOk result (rules_of self.new.session ≡ rules_of self.old.session) }
+        ensures ready { OnOk result (HasDevices D.told self.new devices.new) }
+        ensures keeps { KeepsMore D.told (commits (rules_of self.old.session) (state_now self.old.session) request) self.old self.new devices.old devices.new }
+        ensures stands { OnOk result (StandsForMore D.told (commits (rules_of self.old.session) (state_now self.old.session) request) self.old self.new devices.old devices.new) }
+        ensures goes_on { IfErr result (λ fault. ¬ (fault.cause ≡ EngineCause.Ended)) }
+        ensures faults { MatchResult result (λ _. each D.faults devices.new ≡ each D.faults devices.old) (λ fault. CountsFault fault.cause (each D.faults devices.old) (each D.faults devices.new)) }
+        ensures small { request ≡ ARequest.Save → OnOk result (slot_len (rules_of self.old.session) (state_now self.old.session) (place_behind self.old.log.gate.place self.old.session.txns) ≤ MAX_SLOT_LEN) }
+    {
+        match transaction_of(request) {
+            Ok(txn) => self.execute(alloc, txn, devices),
+            Err(Request::Save) => self.checkpoint(alloc, devices),
+            Err(other) => self.answer(alloc, other, devices),
+        }
+    }
+}
