@@ -29,7 +29,7 @@ use Rattle.pac_recover.specs.declared.log.WholeLog.{WholeLog}
 use Rattle.pac_recover.specs.Damages.{IsAmongGates, IsAtGate, IsDamagedSlot, IsSlotDamage}
 use Rattle.pac_recover.specs.Gates.{gate_after, gates_from, last_gate, place_of, txns_in, txns_by_batch, RunOn}
 use Rattle.pac_recover.specs.Loading.{AreNewestOf, IsInfoAmong, IsLoadedFrom, IsPlaced, number_of_newest, stored_of}
-use Rattle.pac_recover.specs.Logs.{FitBatches, HoldsBatches, HoldsWhole, IsReadUpTo, IsWhole, ReadsTo}
+use Rattle.pac_recover.specs.Logs.{FitBatches, HoldsBatches, HoldsLogUpTo, HoldsWhole, IsReadUpTo, IsWhole, ReadsTo}
 use Rattle.pac_recover.proofs.GateLemmas.{among-gate, gate-among, last-number, number-at, runs-behind, txns-behind, txns-split}
 
 -- ---- the log
@@ -247,3 +247,21 @@ moved-told S a b x y same_a same_b told =
 
 pub three-same : (l a b m x y : ℕ) → l ≡ m → a ≡ x → b ≡ y → l ∷ a ∷ b ∷ [] ≡ m ∷ x ∷ y ∷ []
 three-same l a b m x y e f g = cc
+
+-- ---- each device by itself
+
+-- the log of what was read is that of the reader that is loaded
+pub reader-told : (log : WholeLog) (loaded : Loaded) (told : Option History) → loaded.reader ≡ log.reader → WhereTold (λ h. HoldsWhole log h.now.seen) told → WhereTold (λ h. HoldsLogUpTo loaded.reader.gate h.now.seen) told
+reader-told log loaded None same whole = tt
+reader-told log loaded (Some h) same whole =
+    let holds = whole.holds in
+    ap-gate (record { text = whole.text; batches = txns_by_batch log.batches.items; log = holds.log; end = holds.end })
+  where
+    ap-gate : HoldsLogUpTo log.reader.gate h.now.seen → HoldsLogUpTo loaded.reader.gate h.now.seen
+    ap-gate up = subst (λ g. HoldsLogUpTo g h.now.seen) (ap (λ r. r.gate) (sym same)) up
+
+-- the slot of what was read is the one that is loaded
+pub slot-told : (catalogue other : CatalogueState) (state same_state : SlotState) (told : Option History) → other ≡ catalogue → same_state ≡ state → WhereTold (λ h. IsSlot catalogue.tables state h.now.seen) told → WhereTold (λ h. IsSlot other.tables same_state h.now.seen) told
+slot-told catalogue other state same_state None same equal is = tt
+slot-told catalogue other state same_state (Some h) same equal is =
+    subst (λ (c : CatalogueState). IsSlot c.tables same_state h.now.seen) (sym same) (subst (λ (s : SlotState). IsSlot catalogue.tables s h.now.seen) (sym equal) is)

@@ -2,6 +2,7 @@
 use Rattle.std.specs.Prelude.{◌≡◌, ℕ, true, List, []}
 use Rattle.std.specs.List.{AllByRecursion}
 use Rattle.pac_ops.specs.declared.batch.Batch.{Batch}
+use Rattle.pac_ops.specs.declared.transaction.Txn.{Txn}
 use Rattle.pac_types.specs.Fits.{TxnFits}
 use Rattle.pac_types.specs.Typing.{CatalogueState}
 use Rattle.pac_log.specs.declared.position.NextGate.{NextGate}
@@ -37,6 +38,13 @@ pub record IsWhole (log : WholeLog) : Type 0 where
 pub record HoldsBatches (text : List ℕ) (catalogue : CatalogueState) (batches : List Batch) (gate : NextGate) (image : List ℕ) : Type 0 where
   pub log : HoldsLog text catalogue (txns_by_batch batches) image
   pub end : IsBehind text (txns_by_batch batches) gate
+
+-- the image is that of a log with the gate's catalogue, and the gate is the one behind its batches
+pub record HoldsLogUpTo (gate : NextGate) (image : List ℕ) : Type 0 where
+  pub text : List ℕ
+  pub batches : List (List Txn)
+  pub log : HoldsLog text gate.catalogue batches image
+  pub end : IsBehind text batches gate
 
 -- where the first gate is the log's first, the image holds the batches that were read from there on
 abbrev pub ReadsTo : List ℕ → NextGate → NextGate → List Batch → List ℕ → Type 0

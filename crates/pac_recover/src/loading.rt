@@ -17,7 +17,7 @@ ghost use Rattle.pac_recover.specs.declared.errors.Damage.TheVariants.{Log as In
 ghost use Rattle.pac_recover.specs.Damages.{IsDamagedLog, IsDamagedSlot};
 ghost use Rattle.pac_check.specs.SlotStates.{IsSlot, info_of};
 ghost use Rattle.pac_recover.specs.Loading.{AreNewestOf, IsInfoAmong, IsLoaded, IsLoadedFrom, number_of_newest, stored_of};
-ghost use Rattle.pac_recover.specs.Logs.{HoldsWhole, IsWhole};
+ghost use Rattle.pac_recover.specs.Logs.{HoldsLogUpTo, HoldsWhole, IsWhole};
 
 use crate::LoadError;
 use crate::log::{WholeLog, read_log};
@@ -67,6 +67,11 @@ pub struct Loaded {
 pub fn load<D: Disk>(alloc: Global, devices: &mut Devices<D>) -> Result<Loaded, LoadError>
     // On every device.
     ensures sound { IfOk result IsLoaded }
+
+    // What stands on each device that tells.
+    ensures log { IfOk result (λ loaded. WhereTold (λ old. HoldsLogUpTo loaded.reader.gate old.now.seen) (D.told devices.old.log)) }
+    ensures slot_a { IfOk result (λ loaded. WhereTold (λ old. IsSlot loaded.catalogue.tables loaded.slots.a old.now.seen) (D.told devices.old.slot_a)) }
+    ensures slot_b { IfOk result (λ loaded. WhereTold (λ old. IsSlot loaded.catalogue.tables loaded.slots.b old.now.seen) (D.told devices.old.slot_b)) }
 
     // What is stored.
     ensures loaded { IfOk result (λ loaded. WhereRead (IsLoadedFrom loaded) (D.told devices.old.log) (D.told devices.old.slot_a) (D.told devices.old.slot_b)) }
@@ -120,6 +125,9 @@ fn join_parts(
     requires among_a { IsInfoAmong log.gates.items (info_of SlotName.A slots.a) }
     requires among_b { IsInfoAmong log.gates.items (info_of SlotName.B slots.b) }
     ensures sound { IfOk result IsLoaded }
+    ensures reader { IfOk result (λ loaded. loaded.reader ≡ log.reader) }
+    ensures catalogue { IfOk result (λ loaded. loaded.catalogue ≡ catalogue) }
+    ensures slots { IfOk result (λ loaded. loaded.slots ≡ slots) }
     ensures images { IfOk result (λ loaded. (images : Images) → HoldsWhole log images.log → IsSlot catalogue.tables slots.a images.slot_a → IsSlot catalogue.tables slots.b images.slot_b → AreNewestOf catalogue slots tables.rows images.slot_a images.slot_b → IsLoadedFrom loaded images) }
 {
     let WholeLog {

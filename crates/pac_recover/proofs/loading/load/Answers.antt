@@ -2,6 +2,7 @@
 use Rattle.std.proofs.Common.{◌∙◌, ap}
 use Rattle.std.proofs.lemmas.Result.{err_from_is_err_and}
 use Rattle.pac_log.specs.declared.position.NextGate.{NextGate}
+use Rattle.pac_check.specs.declared.slots.Slots.{Slots}
 use Rattle.pac_check.specs.SlotStates.{IsSlot}
 use Rattle.pac_store.specs.Stored.{IsStored}
 use Rattle.pac_recover.specs.declared.errors.Damage.TheVariants.{Log, Slot}
@@ -10,7 +11,7 @@ use Rattle.pac_recover.specs.Damages.{IsDamagedSlot}
 use Rattle.pac_recover.specs.Loading.{AreNewestOf, IsLoadedFrom, stored_of}
 use Rattle.pac_recover.specs.Logs.{HoldsWhole}
 use Rattle.pac_recover.proofs.CauseLemmas.{as-error, no-error, the-cause}
-use Rattle.pac_recover.proofs.LoadLemmas.{first-damage, loaded-stored, moved-told, three-same, told-never, told-together, told-weaker}
+use Rattle.pac_recover.proofs.LoadLemmas.{first-damage, loaded-stored, moved-told, reader-told, slot-told, three-same, told-never, told-together, told-weaker}
 use Rattle.pac_recover.proofs.loading.load.Goals as goal
 
 pub returns-in_err-slots-clause-log_damage : goal.returns-in_err-slots-clause-log_damage
@@ -57,3 +58,16 @@ pub returns-clause-quiet : goal.returns-clause-quiet
 returns-clause-quiet g c = λ no_fault.
     three-same _ _ _ _ _ _ (c.in_ok-log.ensures.kept (no-error _ _)) (c.in_ok-tables.ensures.quiet_a (no-error _ _) ∙ c.in_ok-slots.ensures.quiet_a (no-error _ _))
     (c.in_ok-tables.ensures.quiet_b (no-error _ _) ∙ c.in_ok-slots.ensures.quiet_b (no-error _ _))
+
+pub returns-clause-log : goal.returns-clause-log
+returns-clause-log g c = reader-told c.in_ok-log.log c.in_ok-join_parts.field-0 _ c.in_ok-join_parts.ensures.reader c.in_ok-log.ensures.holds
+
+pub returns-clause-slot_a : goal.returns-clause-slot_a
+returns-clause-slot_a g c =
+    let slots = c.in_ok-slots.slots in
+    slot-told c.in_ok-catalogue.catalogue c.in_ok-join_parts.field-0.catalogue slots.a c.in_ok-join_parts.field-0.slots.a _ c.in_ok-join_parts.ensures.catalogue (ap (λ (s : Slots). s.a) c.in_ok-join_parts.ensures.slots) c.in_ok-slots.ensures.a
+
+pub returns-clause-slot_b : goal.returns-clause-slot_b
+returns-clause-slot_b g c =
+    let slots = c.in_ok-slots.slots in
+    slot-told c.in_ok-catalogue.catalogue c.in_ok-join_parts.field-0.catalogue slots.b c.in_ok-join_parts.field-0.slots.b _ c.in_ok-join_parts.ensures.catalogue (ap (λ (s : Slots). s.b) c.in_ok-join_parts.ensures.slots) c.in_ok-slots.ensures.b
