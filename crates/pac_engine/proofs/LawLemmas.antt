@@ -8,7 +8,7 @@ use Rattle.pac_outside.specs.Disk.{DiskState, History, IsImage}
 use Rattle.pac_outside.specs.GateByte.{OneImage}
 use Rattle.pac_types.specs.Typing.{CatalogueState}
 use Rattle.pac_store.specs.Stands.{IsHistory}
-use Rattle.pac_engine.specs.Standing.{IsGrown, KeepsHistory, MayLeave, StandsOn, TellsWhere}
+use Rattle.pac_engine.specs.Standing.{OnlyGrows, KeepsHistory, MayLeave, StandsOn, TellsWhere}
 use Rattle.pac_engine.proofs.DeviceLemmas.{told-then}
 use Rattle.pac_engine.proofs.StandingLemmas.{keeps-longer, keeps-then}
 use Rattle.pac_request.specs.declared.request.Request.{Request}
@@ -172,7 +172,7 @@ kept-executes text history longer b c (l ∷ x ∷ y ∷ []) w is keeps =
 kept-executes text history longer b c (l ∷ x ∷ y ∷ d ∷ devices) w is keeps = absurd is
 
 -- the first step keeps the longer history too
-pub history-then : (text : List ℕ) (history more last : List Txn) (a b c : EngineParts) (x y z : List (Option History)) → rules_of b.session ≡ rules_of a.session → IsGrown a b
+pub history-then : (text : List ℕ) (history more last : List Txn) (a b c : EngineParts) (x y z : List (Option History)) → rules_of b.session ≡ rules_of a.session → OnlyGrows a b
     → TellsWhere (StandsOn text history a) (KeepsHistory text (history ++ more) a b) x y → TellsWhere (StandsOn text history a) (λ was is. StandsOn text (history ++ more) b is) x y
     → TellsWhere (StandsOn text (history ++ more) b) (KeepsHistory text ((history ++ more) ++ last) b c) y z → TellsWhere (StandsOn text history a) (KeepsHistory text (history ++ (more ++ last)) a c) x z
 history-then text history more last a b c x y z same grown first stands second =

@@ -10,3 +10,4 @@ pub mod MoveLemmas
 pub mod GroupLemmas
 pub mod StepLemmas
 pub mod LawLemmas
+pub mod OpeningLemmas

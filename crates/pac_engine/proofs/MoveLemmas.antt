@@ -26,7 +26,7 @@ use Rattle.pac_session.specs.Open.{Open, rules_of, state_now, with_asked, with_r
 use Rattle.pac_engine.specs.declared.parts.EngineParts.{EngineParts}
 use Rattle.pac_engine.specs.Closing.{IsKept}
 use Rattle.pac_engine.specs.Moves.{AreHeld, IsHeldBy, IsLive, IsUnmoved, IsWorking, committed_parts, saved_parts, with_request}
-use Rattle.pac_engine.specs.Standing.{IsGrown, durable_of, saved_of, newest_txns}
+use Rattle.pac_engine.specs.Standing.{OnlyGrows, durable_of, saved_of, newest_txns}
 use Rattle.pac_engine.proofs.SavingLemmas.{saves-all}
 use Rattle.pac_engine.proofs.BodyLemmas.{txns-after, catalogue-after}
 
@@ -246,13 +246,13 @@ pub live-saved : (e new : EngineParts) → new ≡ saved_parts e → IsLive e �
 live-saved e new becomes is = subst (λ (p : EngineParts). IsLive p) (sym becomes) (record { working = working-saved e is.working; unfull = is.unfull })
 
 -- what is durable and saved only grows
-pub grown-closed : (e new : EngineParts) → new ≡ committed_parts e → IsGrown e new
+pub grown-closed : (e new : EngineParts) → new ≡ committed_parts e → OnlyGrows e new
 grown-closed e new becomes = record { durable = omega (arith, ap durable_of becomes, txns-after e.session.txns e.log.gate); saved = omega (arith, ap saved_of becomes) }
 
-pub grown-saved : (e new : EngineParts) → IsWorking e → new ≡ saved_parts e → IsGrown e new
+pub grown-saved : (e new : EngineParts) → IsWorking e → new ≡ saved_parts e → OnlyGrows e new
 grown-saved e new is becomes = record { durable = omega (arith, ap durable_of becomes); saved = omega (arith, ap saved_of becomes, is.saved, saves-all e) }
 
-pub grown-unmoved : (e new : EngineParts) → IsUnmoved e new → IsGrown e new
+pub grown-unmoved : (e new : EngineParts) → IsUnmoved e new → OnlyGrows e new
 grown-unmoved e new is = record {
   durable = omega (arith, ap (λ (gate : NextGate). gate.txns) is.gate);
   saved = omega (arith, ap (λ (x : SlotState). newest_txns (with_more (info_of A x) (info_of B new.slots.b))) is.slot_a, ap (λ (y : SlotState). newest_txns (with_more (info_of A e.slots.a) (info_of B y))) is.slot_b);

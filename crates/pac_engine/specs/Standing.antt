@@ -1,10 +1,10 @@
 -- Which history an engine stands for on its devices, and what is kept of it while the devices are called.
-use Rattle.std.specs.Prelude.{◌≡◌, ◌≤◌, ℕ, List, [], ◌∷◌, ◌++◌, Option, Some, None}
+use Rattle.std.specs.Prelude.{◌≡◌, ◌≤◌, ℕ, List, [], ◌∷◌, ◌++◌, take, Option, Some, None}
 use Rattle.std.specs.List.{All}
 use Rattle.pac_ops.specs.declared.transaction.Txn.{Txn}
 use Rattle.pac_outside.specs.Devices.{AllLeave, RunLeaves, all_told, each}
 use Rattle.pac_outside.specs.declared.devices.Devices.{Devices}
-use Rattle.pac_outside.specs.Disk.{History, WhereTold}
+use Rattle.pac_outside.specs.Disk.{History, WhereTold, settled}
 use Rattle.pac_outside.specs.GateByte.{OneImage}
 use Rattle.pac_types.specs.Fits.{TxnFits}
 use Rattle.pac_types.specs.Typing.{CatalogueState}
@@ -30,7 +30,7 @@ abbrev pub saved_of : EngineParts → ℕ
 saved_of engine = newest_txns (newest_of engine.slots)
 
 -- what is durable and saved stays so
-pub record IsGrown (before now : EngineParts) : Type 0 where
+pub record OnlyGrows (before now : EngineParts) : Type 0 where
   pub durable : durable_of before ≤ durable_of now
   pub saved : saved_of before ≤ saved_of now
 
@@ -99,3 +99,22 @@ KeepsMore told more before now old new = (text : List ℕ) (history : List Txn) 
 -- and it stands for that afterwards
 abbrev pub StandsForMore : {D : Type 0} → (D → Option History) → List Txn → EngineParts → EngineParts → Devices D → Devices D → Type 0
 StandsForMore told more before now old new = (text : List ℕ) (history : List Txn) → TellsWhere (StandsOn text history before) (λ was is. StandsOn text (history ++ more) now is) (each told old) (each told new)
+
+-- what a read gives of three devices
+abbrev pub seen_of : History → History → History → Images
+seen_of l a b = record { log = l.now.seen; slot_a = a.now.seen; slot_b = b.now.seen }
+
+-- An engine was opened on devices that were synced: it stands at the end of the log that they hold, knows the states of both
+-- slots, has no open transaction, and its tables are those with which the log's transactions, the first of the history, end.
+pub record IsOpenedOn (history : List Txn) (engine : EngineParts) (l a b : History) : Type 0 where
+  pub log_settled : l.now ≡ settled l.now.seen
+  pub a_settled : a.now ≡ settled a.now.seen
+  pub b_settled : b.now ≡ settled b.now.seen
+  pub text : List ℕ
+  pub batches : List (List Txn)
+  pub log : HoldsLog text engine.session.catalogue batches l.now.seen
+  pub behind : IsBehind text batches engine.log.gate
+  pub known_a : IsSlot engine.session.catalogue.tables engine.slots.a a.now.seen
+  pub known_b : IsSlot engine.session.catalogue.tables engine.slots.b b.now.seen
+  pub none : engine.session.txns ≡ []
+  pub ends : EndsWith engine.session.catalogue (take engine.log.gate.txns history) engine.session.tables

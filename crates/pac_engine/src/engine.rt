@@ -14,7 +14,7 @@ ghost use Rattle.pac_session.specs.Session.{SessionState, commits};
 ghost use Rattle.pac_session.specs.Groups.{cut_one, place_behind};
 ghost use Rattle.pac_session.specs.Open.{IsInGroup, rules_of, state_now};
 ghost use Rattle.pac_engine.specs.Closing.{Closes, CountsFault, IsKept, StopsAt, is_stop, slot_len};
-ghost use Rattle.pac_engine.specs.Standing.{HasDevices, IsGrown, KeepsMore, StandsForMore, newest_txns};
+ghost use Rattle.pac_engine.specs.Standing.{HasDevices, OnlyGrows, KeepsMore, StandsForMore, newest_txns};
 
 use crate::{EngineCause, EngineFault, EngineParts};
 use pac_check::Slots;
@@ -135,7 +135,7 @@ impl Engine {
         ensures same { OnOk result (rules_of self.new.session ≡ rules_of self.old.session) }
 
         // What they tell of is durable, and stays so.
-        ensures grows { IsGrown self.old self.new }
+        ensures grows { OnlyGrows self.old self.new }
         ensures kept { IfOk result (λ given. AllByRecursion (IsKept self.new) given) }
         ensures kept_before { IfErr result (λ fault. AllByRecursion (IsKept self.new) fault.replies) }
 

@@ -12,7 +12,7 @@ ghost use Rattle.pac_session.specs.Groups.{cut_one, is_closing, lacks_room, plac
 ghost use Rattle.pac_session.specs.Open.{IsInGroup, rules_of, state_now};
 ghost use Rattle.pac_engine.specs.Closing.{Closes, CountsFault, IsKept, StopsAt, slot_len};
 ghost use Rattle.pac_engine.specs.Moves.{IsAsked, IsHeldBy, IsLive, IsWorking, saved_parts};
-ghost use Rattle.pac_engine.specs.Standing.{HasDevices, IsGrown, KeepsMore, StandsForMore};
+ghost use Rattle.pac_engine.specs.Standing.{HasDevices, OnlyGrows, KeepsMore, StandsForMore};
 ghost use Rattle.pac_engine.specs.declared.parts.EngineParts.{EngineParts as AParts};
 
 use crate::{EngineCause, EngineFault, EngineParts};
@@ -81,7 +81,7 @@ impl EngineParts {
         ensures kept { IfOk result (λ given. AllByRecursion (IsKept self.new) given) }
         ensures kept_before { IfErr result (λ fault. AllByRecursion (IsKept self.new) fault.replies) }
         ensures live { OnOk result (IsLive self.new) }
-        ensures grows { IsGrown self.old self.new }
+        ensures grows { OnlyGrows self.old self.new }
         ensures same { OnOk result (rules_of self.new.session ≡ rules_of self.old.session) }
         ensures ready { OnOk result (HasDevices D.told self.new devices.new) }
         ensures keeps { (before : AParts) (asked : ARequest) → IsAsked before asked closing self.old → KeepsMore D.told (commits (rules_of before.session) (state_now before.session) asked) before self.new devices.old devices.new }
@@ -117,7 +117,7 @@ impl EngineParts {
         ensures kept { IfOk result (λ given. AllByRecursion (IsKept self.new) given) }
         ensures kept_before { IfErr result (λ fault. AllByRecursion (IsKept self.new) fault.replies) }
         ensures live { OnOk result (IsLive self.new) }
-        ensures grows { IsGrown self.old self.new }
+        ensures grows { OnlyGrows self.old self.new }
         ensures same { OnOk result (rules_of self.new.session ≡ rules_of self.old.session) }
         ensures ready { OnOk result (HasDevices D.told self.new devices.new) }
         ensures keeps { (asked : ARequest) → txn_of asked ≡ ASome txn → KeepsMore D.told (commits (rules_of self.old.session) (state_now self.old.session) asked) self.old self.new devices.old devices.new }
@@ -155,7 +155,7 @@ impl EngineParts {
         ensures kept { IfOk result (λ given. AllByRecursion (IsKept self.new) given) }
         ensures kept_before { IfErr result (λ fault. AllByRecursion (IsKept self.new) fault.replies) }
         ensures live { OnOk result (IsLive self.new) }
-        ensures grows { IsGrown self.old self.new }
+        ensures grows { OnlyGrows self.old self.new }
         ensures same { OnOk result (rules_of self.new.session ≡ rules_of self.old.session) }
         ensures ready { OnOk result (HasDevices D.told self.new devices.new) }
         ensures keeps { (asked : ARequest) → txn_of asked ≡ ASome txn → KeepsMore D.told (commits (rules_of self.old.session) (state_now self.old.session) asked) self.old self.new devices.old devices.new }
@@ -191,7 +191,7 @@ impl EngineParts {
         ensures kept { IfOk result (λ given. AllByRecursion (IsKept self.new) given) }
         ensures kept_before { IfErr result (λ fault. AllByRecursion (IsKept self.new) fault.replies) }
         ensures live { OnOk result (IsLive self.new) }
-        ensures grows { IsGrown self.old self.new }
+        ensures grows { OnlyGrows self.old self.new }
         ensures same { OnOk result (rules_of self.new.session ≡ rules_of self.old.session) }
         ensures ready { OnOk result (HasDevices D.told self.new devices.new) }
         ensures keeps { KeepsMore D.told (commits (rules_of self.old.session) (state_now self.old.session) request) self.old self.new devices.old devices.new }
@@ -218,7 +218,7 @@ impl EngineParts {
         requires held { AllByRecursion (IsHeldBy self.old.log.gate.txns) replies }
         requires ready { HasDevices D.told self.old devices.old }
         ensures saved { OnOk result (self.new ≡ saved_parts self.old) }
-        ensures grows { IsGrown self.old self.new }
+        ensures grows { OnlyGrows self.old self.new }
         ensures told { IfOk result (λ given. given ≡ replies ++ AReply.Saved self.old.log.gate.txns ∷ []) }
         ensures untold { IfErr result (λ fault. fault.replies ≡ replies) }
         ensures kept { IfOk result (λ given. AllByRecursion (IsKept self.new) given) }
@@ -256,7 +256,7 @@ impl EngineParts {
         ensures kept { IfOk result (λ given. AllByRecursion (IsKept self.new) given) }
         ensures kept_before { IfErr result (λ fault. AllByRecursion (IsKept self.new) fault.replies) }
         ensures live { OnOk result (IsLive self.new) }
-        ensures grows { IsGrown self.old self.new }
+        ensures grows { OnlyGrows self.old self.new }
         ensures same { OnOk result (rules_of self.new.session ≡ rules_of self.old.session) }
         ensures ready { OnOk result (HasDevices D.told self.new devices.new) }
         ensures keeps { KeepsMore D.told (commits (rules_of self.old.session) (state_now self.old.session) ARequest.Save) self.old self.new devices.old devices.new }
@@ -288,7 +288,7 @@ impl EngineParts {
         ensures kept { IfOk result (λ given. AllByRecursion (IsKept self.new) given) }
         ensures kept_before { IfErr result (λ fault. AllByRecursion (IsKept self.new) fault.replies) }
         ensures live { OnOk result (IsLive self.new) }
-        ensures grows { IsGrown self.old self.new }
+        ensures grows { OnlyGrows self.old self.new }
         ensures same { OnOk result (rules_of self.new.session ≡ rules_of self.old.session) }
         ensures ready { OnOk result (HasDevices D.told self.new devices.new) }
         ensures keeps { KeepsMore D.told (commits (rules_of self.old.session) (state_now self.old.session) request) self.old self.new devices.old devices.new }

@@ -4,6 +4,7 @@
 //! - [`Engine`]: a session over a store's log and slots. [`Engine::step`] does what one request asks, and gives out the replies
 //!   of the group that closes, if one does.
 //! - [`EngineFault`]: why a step fails, with the replies that became durable in it before.
+//! - [`an_opened_engine_stands`]: which history an engine stands for at first.
 //! - [`steps_are_the_session`] and [`steps_keep_the_history`]: what the steps of many requests come to.
 //! - [`commit`]: puts the transactions of a group behind the others of a log.
 //!
@@ -21,5 +22,5 @@ mod parts;
 pub use committing::commit;
 pub use engine::Engine;
 pub use fault::{EngineCause, EngineFault};
-pub use law::{steps_are_the_session, steps_keep_the_history};
+pub use law::{an_opened_engine_stands, steps_are_the_session, steps_keep_the_history};
 pub use parts::EngineParts;
