@@ -9,12 +9,16 @@
 //! `commit`, `commits` and `fill` make a log in the file `pac_bench.log`, which must not be there, and a round commits a
 //! batch of one, of 64, or of as many transactions and records as there may be. `scan` reads up to so many batches of it. `save`
 //! saves a checkpoint of so many rows of eight texts of 64 bytes to the file `pac_bench.a`.
+//!
+//! A round of `few` and of `many` executes 1,000 transactions, each of which puts a row where one is, over a table of 10 and
+//! of 100,000 rows; `few_limited` and `many_limited` test a limit of 1,000,000 rows behind each.
 #![tactic(auto)]
 
 mod body;
 mod graph;
 mod log;
 mod part;
+mod rows;
 mod slot;
 
 use pac_outside::FileDisk;
@@ -24,7 +28,7 @@ use std::process::ExitCode;
 use std::{env, io};
 
 const USAGE: &str =
-    "usage: pac_bench write|read|copy|table|tables|chain|commit|commits|fill|scan|save ROUNDS";
+    "usage: pac_bench write|read|copy|table|tables|chain|commit|commits|fill|scan|save|few|few_limited|many|many_limited ROUNDS";
 
 // The part and the rounds that the words ask for.
 fn asked(words: &[String]) -> Option<(Part, u32)> {
@@ -51,6 +55,7 @@ fn make(rt: &HostRuntime, part: Part, rounds: u32) -> Result<u64, PartError> {
             &mut FileDisk::new(rt, "pac_bench.b"),
             rounds,
         ),
+        Part::Execute(held) => rows::execute(alloc, held, rounds),
     }
 }
 

@@ -1,5 +1,6 @@
 // What can be made, and why it may not be.
 use crate::log::Load;
+use crate::rows::Held;
 use pac_base::NoMemory;
 use pac_check::{SaveError, SlotError};
 use pac_entry::EntryError;
@@ -29,6 +30,7 @@ pub enum Part {
     Commit(Load),
     Scan,
     Save,
+    Execute(Held),
 }
 
 impl Part {
@@ -55,8 +57,17 @@ impl Part {
             })),
             "scan" => Some(Part::Scan),
             "save" => Some(Part::Save),
+            "few" => Some(Part::over(10, None)),
+            "few_limited" => Some(Part::over(10, Some(1_000_000))),
+            "many" => Some(Part::over(100_000, None)),
+            "many_limited" => Some(Part::over(100_000, Some(1_000_000))),
             _ => None,
         }
+    }
+
+    // Transactions over a table of so many rows, under this limit.
+    fn over(rows: u32, limit: Option<u64>) -> Part {
+        Part::Execute(Held { rows, limit })
     }
 
     /// What is counted.
@@ -64,7 +75,7 @@ impl Part {
         match self {
             Part::Write | Part::Read | Part::Copy | Part::Scan => "bytes",
             Part::Graph(_) => "blocks",
-            Part::Commit(_) => "transactions",
+            Part::Commit(_) | Part::Execute(_) => "transactions",
             Part::Save => "rows",
         }
     }

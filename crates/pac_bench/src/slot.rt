@@ -1,50 +1,30 @@
 // A checkpoint on a device, of one table whose rows have eight texts of 64 bytes.
-ghost use Rattle.std.specs.Prelude.{◌<◌, ◌≤◌, ℕ, length, IsTrue, IfOk};
+ghost use Rattle.std.specs.Prelude.{◌<◌, ◌≤◌, ℕ, length, IsTrue};
 ghost use Rattle.pac_value.specs.State.{keys_of};
-ghost use Rattle.pac_types.specs.Fits.{FitsCatalogue};
 ghost use Rattle.pac_check.specs.declared.limits.TheConstants.{MAX_SAVED_ROWS};
 
 use crate::part::PartError;
+use crate::rows::filled;
 use pac_base::NoMemory;
-use pac_bytes::put_u64;
 use pac_check::{MAX_SAVED_ROWS, Slots};
-use pac_entry::read_entry;
-use pac_ops::Txn;
 use pac_outside::FileDisk;
-use pac_serial::{exec_adhoc, no_rows};
 use pac_tables::{OrderedRows, Rows};
-use pac_types::{Catalogue, read_catalogue};
+use pac_types::read_catalogue;
 use std::alloc::Global;
 use std::fs::{File, Files};
 
 const CATALOGUE: &[u8] =
     b"table T(key int, a text, b text, c text, d text, e text, f text, g text, h text);";
 
-// The entry of a transaction that puts a row at a key.
-fn entry(alloc: Global, key: u32) -> Result<Vec<u8>, NoMemory> {
-    let mut entry = Vec::with_capacity(alloc, 543)?;
-    entry.extend_from_slice(b"\x02\x01\x01\0\0\x01")?;
-    put_u64(&mut entry, u64::from(key))?;
-    entry.push(8)?;
+// A row of eight texts.
+fn texts(alloc: Global) -> Result<Vec<u8>, NoMemory> {
+    let mut values = Vec::with_capacity(alloc, 529)?;
+    values.push(8)?;
     for _ in 0..8 {
-        entry.extend_from_slice(b"\x02\x40")?;
-        entry.extend_from_slice(&[b'x'; 64])?;
+        values.extend_from_slice(b"\x02\x40")?;
+        values.extend_from_slice(&[b'x'; 64])?;
     }
-    Ok(entry)
-}
-
-// The table with rows at so many keys.
-fn filled(alloc: Global, cat: &Catalogue, count: u32) -> Result<OrderedRows, PartError>
-    ensures { IfOk result (λ rows. FitsCatalogue cat.now rows.tables rows.rows) }
-{
-    let mut rows = no_rows(alloc, cat)?;
-    for key in 0..count {
-        let (txn, _) = read_entry(alloc, cat, &entry(alloc, key)?, 0)?;
-        if let Txn::AdHoc { records } = &txn {
-            exec_adhoc(alloc, cat, records, None, &mut rows)?;
-        }
-    }
-    Ok(rows)
+    Ok(values)
 }
 
 // Whether no table has more rows than can be saved.
@@ -67,7 +47,7 @@ pub fn save<'a, R: Files<File = File>>(
     count: u32,
 ) -> Result<u64, PartError> {
     let cat = read_catalogue(alloc, CATALOGUE)?;
-    let rows = filled(alloc, &cat, count)?;
+    let rows = filled(alloc, &cat, &texts(alloc)?, count)?;
     if !is_small(&rows) {
         return Err(PartError::Refused);
     }
