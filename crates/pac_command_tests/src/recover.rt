@@ -257,7 +257,7 @@ fn a_failing_device_is_told(rt: HostRuntime) -> Result<(), Fail> {
     let alloc = rt.alloc();
     let bytes = [LOG, SLOT, SHUT];
     for device in 0..3 {
-        let mut failures = 0;
+        let mut has_failed = false;
         for call in 1..20 {
             let mut store = Devices {
                 log: disk(alloc, LOG, if device == 0 { call } else { 0 })?,
@@ -267,7 +267,7 @@ fn a_failing_device_is_told(rt: HostRuntime) -> Result<(), Fail> {
             let answer = run_on(&rt, alloc, "recover", &mut store, 0)?;
             let (output, errors) = (answer.output.bytes(), answer.errors.bytes());
             if answer.status == 8 {
-                failures += 1;
+                has_failed = true;
                 assert_eq!(rt;
                     (output, errors),
                     (b"".as_slice(), b"disk fault\n".as_slice())
@@ -277,7 +277,7 @@ fn a_failing_device_is_told(rt: HostRuntime) -> Result<(), Fail> {
             }
             assert!(rt; hold(&store, bytes)?);
         }
-        assert!(rt; failures > 0);
+        assert!(rt; has_failed);
     }
     Ok(())
 }
