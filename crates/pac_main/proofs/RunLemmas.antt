@@ -34,6 +34,8 @@ use Rattle.pac_main.specs.Stop.{line_of, status_of, stop_of_run, takes_memory}
 use Rattle.pac_main.specs.Streams.{FaultsRose, IsOneOf, IsTold, Observed, ObservedDevices}
 use Rattle.pac_main.specs.declared.stop.Stop.{Stop}
 use Rattle.pac_main.specs.declared.stop.Stop.TheVariants as stop
+use Rattle.pac_main.proofs.IdleLemmas.{idle-run}
+use Rattle.pac_main.proofs.RecoverLemmas.{uncalled}
 use Rattle.pac_main.proofs.RunStatusLemmas.{RunAbort, RunDamage, RunFull, RunLarge, RunOver, run_aborted_of, run_disk_of, run_full_of, run_input_of, run_large_of, run_long_of, run_never_done, run_output_of, run_over_of, run_refused_of}
 use Rattle.pac_main.proofs.StopLemmas.{Told}
 
@@ -260,3 +262,13 @@ module _ (batch limit : ℕ) (source sink errors : Observed) (log a b : Option H
     too_long = λ e. absurd (omega (arith, e));
     too_large = λ e. absurd (omega (arith, e));
   }
+
+-- ---- want of memory for the words: no stream and no device is called
+
+-- a stream that is not called
+abbrev pub still : Option (List ℕ) → ℕ → Observed
+still bytes faults = record { before = bytes; behind = bytes; faults_before = faults; faults_behind = faults }
+
+pub run-idle : (batch limit n : ℕ) (left held : Option (List ℕ)) (reads writes : ℕ) (log a b : Option History) (faults : List ℕ) (errors : Observed) → n ≡ 9 → RunEnds batch limit n (still left reads) (still held writes) errors (uncalled log a b faults)
+run-idle batch limit n left held reads writes log a b faults errors nine =
+    run-memory batch limit (still left reads) (still held writes) errors log a b (log ∷ a ∷ b ∷ []) faults faults (Err run.NoMemory) n nine (idle-run batch limit left held log a b (FaultsRose (still held writes)))
