@@ -2,7 +2,6 @@
 use Rattle.std.proofs.Common.{◌≡◌, ◌∙◌, ◌⊎◌, ◌≤◌, ◌+◌, ℕ, zero, suc, List, [], ◌∷◌, ◌++◌, length, length-append, take, drop, Option, Some, None, inl, inr, refl, sym, ap, subst, arith}
 use Rattle.std.specs.Prelude.{IfSome, map}
 use Rattle.std.proofs.Math.Seq.{take-nil}
-use Rattle.std.specs.List.{AllZip}
 use Rattle.std.proofs.lemmas.List.{append-nil, take-append-drop, take-append-le}
 use Rattle.pac_ops.specs.declared.transaction.Txn.{Txn}
 use Rattle.pac_outside.specs.Devices.{AllLeave, AreImages, all_told}
@@ -20,7 +19,7 @@ use Rattle.pac_run.specs.Acked.{Acknowledges}
 use Rattle.pac_run.specs.Run.{AtExit, AtMoments, IsBegun, IsExit, WhereAllStand, history_after}
 use Rattle.pac_run.specs.Texts.{texts}
 use Rattle.pac_engine.specs.Standing.{TellsIf}
-use Rattle.pac_main.specs.Headline.{AreNext, AreRuns, HoldImages, IsKeptFrom, IsNext, KeepsAll, OneRun}
+use Rattle.pac_main.specs.Headline.{AreRuns, HoldImages, IsNext, KeepsAll, OneRun}
 use Rattle.pac_main.specs.Recover.{RecoverEnds, RecoversFront, WhereHeld}
 use Rattle.pac_main.specs.Streams.{Observed, ObservedDevices}
 

@@ -1,11 +1,10 @@
 -- A run that wasn't begun, and how much a run takes from its input.
-use Rattle.std.proofs.Common.{◌≡◌, ◌≤◌, ◌+◌, ◌++◌, ℕ, List, [], ◌∷◌, length, Option, Some, None, Result, Ok, Err, ◌⊎◌, inl, inr, refl, sym, subst, arith}
-use Rattle.std.specs.Prelude.{IfSome, IsErrOf, map}
+use Rattle.std.proofs.Common.{◌≡◌, ◌+◌, ◌++◌, ℕ, List, [], ◌∷◌, Option, Some, None, Result, Ok, Err, ◌⊎◌, inl, refl, arith}
+use Rattle.std.specs.Prelude.{IfSome}
 use Rattle.std.specs.Io.KnownBytes.{append_known, prepend_known}
 use Rattle.std.specs.FinMap.{empty}
 use Rattle.std.proofs.lemmas.List.{append-nil}
 use Rattle.pac_outside.specs.Content.{GaveAtMost}
-use Rattle.pac_outside.specs.Devices.{AreImages, RunLeaves}
 use Rattle.pac_outside.specs.Devices.RunLeaves.{rests}
 use Rattle.pac_outside.specs.Disk.{History}
 use Rattle.pac_types.specs.Typing.{CatalogueState}

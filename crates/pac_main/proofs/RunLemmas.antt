@@ -1,16 +1,12 @@
 -- Why a run stops, and how the command ends by the stop that is told.
-use Rattle.std.proofs.Common.{◌≡◌, ◌≢◌, ◌⊎◌, ◌≤◌, ◌+◌, ℕ, Bool, true, false, List, [], ◌∷◌, length, take, Option, Some, None, Result, Ok, Err, inl, inr, refl, sym, ap, subst, ◌∙◌, arith}
-use Rattle.std.specs.Prelude.{IsErrOf, IsTrue}
-use Rattle.std.specs.Io.KnownBytes.{append_known, prepend_known}
+use Rattle.std.proofs.Common.{◌≡◌, ◌≢◌, ◌⊎◌, ℕ, Bool, true, false, List, [], ◌∷◌, take, Option, Some, None, Result, Ok, Err, inl, inr, refl, sym, ap, subst, ◌∙◌, arith}
 use Rattle.std.proofs.Math.Seq.{take-nil}
 use Rattle.pac_ops.specs.declared.note.Note.{Note}
 use Rattle.pac_ops.specs.declared.transaction.Txn.{Txn}
-use Rattle.pac_outside.specs.Content.{GaveAtMost}
 use Rattle.pac_outside.specs.Devices.{OneRose}
 use Rattle.pac_outside.specs.Disk.{History, WhereTold}
 use Rattle.pac_types.specs.Typing.{CatalogueState}
 use Rattle.pac_log.specs.declared.damage.DamageKind.{DamageKind}
-use Rattle.pac_log.specs.Reading.{IsStore}
 use Rattle.pac_check.specs.declared.damage.SlotDamageKind.{SlotDamageKind}
 use Rattle.pac_check.specs.declared.info.SlotName.{SlotName}
 use Rattle.pac_store.specs.Images.{Images, WhereRead}
@@ -28,15 +24,15 @@ use Rattle.pac_run.specs.Texts.{IsFront, texts}
 use Rattle.pac_run.specs.declared.stop.RunStop.{RunStop}
 use Rattle.pac_run.specs.declared.stop.RunStop.TheVariants as run
 use Rattle.pac_main.specs.Causes.{RunCause}
-use Rattle.pac_main.specs.Recover.{HasDamage, HasNoStore, IsRefusedStore, WhereHeld}
+use Rattle.pac_main.specs.Recover.{HasNoStore, IsRefusedStore}
 use Rattle.pac_main.specs.Run.{RunEnds, RunsOnFront}
-use Rattle.pac_main.specs.Stop.{line_of, status_of, stop_of_run, takes_memory}
+use Rattle.pac_main.specs.Stop.{line_of, status_of, stop_of_run}
 use Rattle.pac_main.specs.Streams.{FaultsRose, IsOneOf, IsTold, Observed, ObservedDevices}
 use Rattle.pac_main.specs.declared.stop.Stop.{Stop}
 use Rattle.pac_main.specs.declared.stop.Stop.TheVariants as stop
 use Rattle.pac_main.proofs.IdleLemmas.{idle-run}
 use Rattle.pac_main.proofs.RecoverLemmas.{uncalled}
-use Rattle.pac_main.proofs.RunStatusLemmas.{RunAbort, RunDamage, RunFull, RunLarge, RunOver, run_aborted_of, run_disk_of, run_full_of, run_input_of, run_large_of, run_long_of, run_never_done, run_output_of, run_over_of, run_refused_of}
+use Rattle.pac_main.proofs.RunStatusLemmas.{RunDamage, run_aborted_of, run_disk_of, run_full_of, run_input_of, run_large_of, run_long_of, run_never_done, run_output_of, run_over_of, run_refused_of}
 use Rattle.pac_main.proofs.StopLemmas.{Told}
 
 -- ---- why a run stops

@@ -4,13 +4,13 @@ use Rattle.std.specs.Prelude.{IfSome, String, ◌&&◌, nat_le, if◌then◌else
 use Rattle.std.specs.Global.{Global}
 use Rattle.std.specs.Str.{bytes_eq}
 use Rattle.std.proofs.lemmas.Bool.{leb-true}
-use Rattle.clap.specs.Words.{App, Row, Text}
-use Rattle.pac_words.specs.declared.limits.TheConstants.{MAX_BATCH, MAX_ROWS, MAX_WORKERS, MAX_STRESS, DEFAULT_BATCH, DEFAULT_ROWS, DEFAULT_WORKERS}
+use Rattle.clap.specs.Words.{Row, Text}
+use Rattle.pac_words.specs.declared.limits.TheConstants.{MAX_BATCH, MAX_ROWS, DEFAULT_BATCH, DEFAULT_ROWS}
 use Rattle.pac_words.specs.declared.order.Order.{Order}
 use Rattle.pac_words.specs.declared.order.Order.TheVariants as the
-use Rattle.pac_words.specs.Found.{found_rows, is_set, number_or, option_number}
-use Rattle.pac_words.specs.Numbers.{number_up_to, one_to, spelled_number}
-use Rattle.pac_words.specs.Orders.{batch_in, both, count_in, explain_app, explain_said, init_app, init_said, order, order_named, recover_app, recover_of, recover_said, replay_app, replay_of, replay_said, rows_in, run_app, run_of, run_said, stress_app, stress_of, stress_said, workers_in}
+use Rattle.pac_words.specs.Found.{found_rows, is_set, number_or}
+use Rattle.pac_words.specs.Numbers.{one_to, spelled_number}
+use Rattle.pac_words.specs.Orders.{batch_in, both, count_in, explain_app, init_app, order, order_named, recover_app, recover_of, replay_app, replay_of, rows_in, run_app, run_of, stress_app, stress_of, workers_in}
 use Rattle.pac_main.specs.Commands.{order_in}
 
 -- a number is within its range

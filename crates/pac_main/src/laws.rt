@@ -1,5 +1,5 @@
 // Laws over whole runs. Each is a function without code.
-ghost use Rattle.std.specs.Prelude.{◌≡◌, ℕ, List, [], Some};
+ghost use Rattle.std.specs.Prelude.{◌≡◌, ℕ, List, Some};
 ghost use Rattle.pac_ops.specs.declared.transaction.Txn.{Txn as ATxn};
 ghost use Rattle.pac_outside.specs.Devices.{all_told};
 ghost use Rattle.pac_outside.specs.Disk.{History};

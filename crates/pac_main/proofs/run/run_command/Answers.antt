@@ -1,6 +1,5 @@
 -- Where there is no memory for the words, nothing is read and no device is called.
 use Rattle.pac_outside.specs.Devices.{each}
-use Rattle.pac_main.specs.Streams.{observed}
 use Rattle.pac_main.proofs.RunLemmas.{run-idle}
 use Rattle.pac_main.proofs.run.run_command.Goals as goal
 
