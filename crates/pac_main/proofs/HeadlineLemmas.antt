@@ -19,7 +19,7 @@ use Rattle.pac_run.specs.Acked.{Acknowledges}
 use Rattle.pac_run.specs.Run.{AtExit, AtMoments, IsBegun, IsExit, WhereAllStand, history_after}
 use Rattle.pac_run.specs.Texts.{texts}
 use Rattle.pac_engine.specs.Standing.{TellsIf}
-use Rattle.pac_main.specs.Headline.{AreRuns, HoldImages, IsNext, KeepsAll, OneRun}
+use Rattle.pac_main.specs.Headline.{AreRuns, HoldImages, IsNextRun, KeepsAll, OneRun}
 use Rattle.pac_main.specs.Recover.{RecoverEnds, RecoversFront, WhereHeld}
 use Rattle.pac_main.specs.Streams.{Observed, ObservedDevices}
 
@@ -101,7 +101,7 @@ module _ (text : List ℕ) (catalogue : CatalogueState) where
   pub record Behind (history : List Txn) (least : ℕ) (run : OneRun) (left : List (List ℕ)) : Type 0 where
     pub next : List Txn
     pub kept : ℕ
-    pub is : IsNext history run next
+    pub is : IsNextRun history run next
     pub more : least ≤ kept
     pub same : take least next ≡ take least history
     pub acknowledged : (number : ℕ) → Acknowledges run.ends.is.out number → number ≤ kept

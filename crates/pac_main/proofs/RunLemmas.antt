@@ -20,7 +20,7 @@ use Rattle.pac_request.specs.declared.request.Request.{Request}
 use Rattle.pac_request.specs.declared.request.Reply.{Reply}
 use Rattle.pac_run.specs.Run.{IsRun}
 use Rattle.pac_run.specs.Stopping.{IsStopped}
-use Rattle.pac_run.specs.Texts.{IsFront, texts}
+use Rattle.pac_run.specs.Texts.{IsTextFront, texts}
 use Rattle.pac_run.specs.declared.stop.RunStop.{RunStop}
 use Rattle.pac_run.specs.declared.stop.RunStop.TheVariants as run
 use Rattle.pac_main.specs.Causes.{RunCause}
@@ -149,7 +149,7 @@ run_status run.TooLong = refl
 run_status (run.TooLarge bytes) = refl
 
 -- nothing was given out where the store wasn't opened
-no_text : (catalogue : CatalogueState) (given : List Reply) (out : List ℕ) → given ≡ [] → IsFront out (texts catalogue given) → out ≡ []
+no_text : (catalogue : CatalogueState) (given : List Reply) (out : List ℕ) → given ≡ [] → IsTextFront out (texts catalogue given) → out ≡ []
 no_text catalogue given out none front = front.is ∙ ap (λ (g : List Reply). take front.count (texts catalogue g)) none ∙ take-nil front.count
 
 none_given : (rules : Rules) (place : ℕ) (start : SessionState) (requests : List Request) (given : List Reply) (why : RunStop)

@@ -43,14 +43,14 @@ AreRuns images (run ∷ runs) left = HoldImages images run.entry × ((next : Lis
 
 -- The transactions that are committed behind a run: those before it, where it wrote nothing; or else the first of those before
 -- it, which its log had, and then those that its session commits.
-abbrev pub IsNext : List Txn → OneRun → List Txn → Type 0
-IsNext history run next = ((run.ends.is.out ≡ []) × (next ≡ history)) ⊎ (next ≡ history_after history run.ends.is.rules run.ends.is.start run.ends.is.requests)
+abbrev pub IsNextRun : List Txn → OneRun → List Txn → Type 0
+IsNextRun history run next = ((run.ends.is.out ≡ []) × (next ≡ history)) ⊎ (next ≡ history_after history run.ends.is.rules run.ends.is.start run.ends.is.requests)
 
 -- behind each of the runs, and in the end
 abbrev pub AreNext : List Txn → List OneRun → List (List Txn) → List Txn → Type 0
 AreNext history [] nexts last = (nexts ≡ []) × (last ≡ history)
 AreNext history (run ∷ runs) [] last = ⊥
-AreNext history (run ∷ runs) (next ∷ nexts) last = IsNext history run next × AreNext next runs nexts last
+AreNext history (run ∷ runs) (next ∷ nexts) last = IsNextRun history run next × AreNext next runs nexts last
 
 -- ---- what is kept
 

@@ -22,8 +22,8 @@ use Rattle.pac_report.specs.Replies.{reply_text, reply_words, shown_row, table_n
 use Rattle.pac_engine.specs.declared.parts.EngineParts.{EngineParts}
 use Rattle.pac_engine.specs.Closing.{IsKept}
 use Rattle.pac_engine.specs.Standing.{durable_of, saved_of}
-use Rattle.pac_run.specs.Acked.{Acknowledges, IsAmong, TellsSaved, whole_lines}
-use Rattle.pac_run.specs.Texts.{IsFront, IsPlain, texts}
+use Rattle.pac_run.specs.Acked.{Acknowledges, IsOneOfLines, TellsSaved, whole_lines}
+use Rattle.pac_run.specs.Texts.{IsTextFront, IsPlain, texts}
 use Rattle.pac_run.proofs.NameLemmas.{AreNamed}
 use Rattle.pac_run.proofs.PlainLemmas.{cons_no_feed, decimal_no_feed, no_feed_both}
 
@@ -185,13 +185,13 @@ each-of : (P Q R : Reply → Type 0) → ((r : Reply) → P r → Q r → R r) �
 each-of P Q R step [] first second = tt
 each-of P Q R step (r ∷ replies) first second = (step r first.0 second.0, each-of P Q R step replies first.1 second.1)
 
-one-among : (P : List ℕ → Type 0) (line : List ℕ) (lines : List (List ℕ)) → AllByRecursion P lines → IsAmong line lines → (other : List ℕ) × (line ≡ other) × P other
+one-among : (P : List ℕ → Type 0) (line : List ℕ) (lines : List (List ℕ)) → AllByRecursion P lines → IsOneOfLines line lines → (other : List ℕ) × (line ≡ other) × P other
 one-among P line [] each is = absurd is
 one-among P line (first ∷ lines) each (inl same) = (first, same, each.0)
 one-among P line (first ∷ lines) each (inr is) = one-among P line lines each.1 is
 
-module _ (catalogue : CatalogueState) (names : AreNamed catalogue.tables) (engine : EngineParts) (replies : List Reply) (output : List ℕ) (plain : AllByRecursion IsPlain replies) (kept : AllByRecursion (IsKept engine) replies) (front : IsFront output (texts catalogue replies)) where
-  tells : (word : List ℕ) (most : ℕ) → AllByRecursion (λ r. TellsAtMost word most (reply_words catalogue r)) replies → (number : ℕ) → (number < 2 ^ 64) × IsAmong (word ++ decimal number) (whole_lines output) → number ≤ most
+module _ (catalogue : CatalogueState) (names : AreNamed catalogue.tables) (engine : EngineParts) (replies : List Reply) (output : List ℕ) (plain : AllByRecursion IsPlain replies) (kept : AllByRecursion (IsKept engine) replies) (front : IsTextFront output (texts catalogue replies)) where
+  tells : (word : List ℕ) (most : ℕ) → AllByRecursion (λ r. TellsAtMost word most (reply_words catalogue r)) replies → (number : ℕ) → (number < 2 ^ 64) × IsOneOfLines (word ++ decimal number) (whole_lines output) → number ≤ most
   tells word most each number is =
       let feeds = each-of IsPlain (λ r. Unit {0}) (λ r. HasNoFeed (reply_words catalogue r)) (λ r p u. words-no-feed catalogue names r p) replies plain (all-unit replies) in
       let lines = subst (λ (t : List ℕ). AllByRecursion (TellsAtMost word most) (whole_lines t)) (sym front.is) (each-line (TellsAtMost word most) catalogue replies feeds each front.count) in

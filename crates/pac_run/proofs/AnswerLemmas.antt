@@ -25,7 +25,7 @@ use Rattle.pac_run.specs.declared.stop.RunStop.{RunStop}
 use Rattle.pac_run.specs.declared.stop.RunStop.TheVariants.{NoMemory, OutputFault}
 use Rattle.pac_run.specs.Causes.{not_answered}
 use Rattle.pac_run.specs.Serving.{Answered, Broke, KeepsEach, StandsForEach, StepStops}
-use Rattle.pac_run.specs.Texts.{IsFront, IsPlain, SaysUnlessFault, texts}
+use Rattle.pac_run.specs.Texts.{IsTextFront, IsPlain, SaysUnlessFault, texts}
 use Rattle.pac_run.proofs.ServeLemmas.{took-nothing, whole-front}
 use Rattle.pac_run.proofs.StepLemmas.{nothing-keeps}
 use Rattle.pac_run.proofs.StopLemmas.{none-told, step-stops}
@@ -70,7 +70,7 @@ module _ (asked : Request) (old new : EngineParts) (told told' : List (Option Hi
     more = more;
     out = text;
     took = took;
-    front = subst (λ (t : List ℕ). IsFront t (texts catalogue more)) (sym is) (whole-front (texts catalogue more));
+    front = subst (λ (t : List ℕ). IsTextFront t (texts catalogue more)) (sym is) (whole-front (texts catalogue more));
     whole = inl is;
     stops = stops;
     keeps = keeps-one keeps;

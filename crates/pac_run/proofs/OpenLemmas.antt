@@ -30,7 +30,7 @@ use Rattle.pac_recover.specs.Recovering.{IsRecoveredFront}
 use Rattle.pac_recover.proofs.StandsLemmas.{recovers-front}
 use Rattle.pac_engine.specs.declared.parts.EngineParts.{EngineParts}
 use Rattle.pac_engine.specs.Standing.{EngineStands, HasDevices, durable_of}
-use Rattle.pac_run.specs.Opening.{AllStand, Begins, IsFresh, IsOpenedFrom, StandsForFront}
+use Rattle.pac_run.specs.Opening.{AllStand, BeginsOver, IsFresh, IsOpenedFrom, StandsForFront}
 
 -- ---- each device by itself
 
@@ -111,7 +111,7 @@ module _ (engine : EngineParts) (l a b : History) (none : engine.session.txns �
     for-front = record { same = sym same-log.1; enough = front.enough; within = front.within; stands = here }
 
   begins-all : RunsAsBefore (l ∷ a ∷ b ∷ []) (after_sync l ∷ after_sync a ∷ after_sync b ∷ []) → IsOpenedFrom engine (record { log = l.now.seen; slot_a = a.now.seen; slot_b = b.now.seen })
-      → IsSlot engine.session.catalogue.tables engine.slots.a a.now.seen → IsSlot engine.session.catalogue.tables engine.slots.b b.now.seen → Begins engine (l ∷ a ∷ b ∷ []) (after_sync l ∷ after_sync a ∷ after_sync b ∷ [])
+      → IsSlot engine.session.catalogue.tables engine.slots.a a.now.seen → IsSlot engine.session.catalogue.tables engine.slots.b b.now.seen → BeginsOver engine (l ∷ a ∷ b ∷ []) (after_sync l ∷ after_sync a ∷ after_sync b ∷ [])
   begins-all moments opened slot_a slot_b = λ text catalogue history least every.
       let seen : List (List ℕ) = l.now.seen ∷ a.now.seen ∷ b.now.seen ∷ [] in
       let are : AreImages entry seen = run_end (AreImages entry) entry now moments seen (own-image l.now.seen, (own-image a.now.seen, (own-image b.now.seen, tt))) in
@@ -127,19 +127,19 @@ pub record IsReadFrom (engine : EngineParts) (l a b m x y : Option History) : Ty
   pub slot_b : WhereTold (λ h. IsSlot engine.session.catalogue.tables engine.slots.b h.now.seen) y
 
 begins-synced : (engine : EngineParts) (l a b : Option History) → engine.session.txns ≡ [] → IsReadFrom engine l a b (option_map after_sync l) (option_map after_sync a) (option_map after_sync b)
-    → WhereAllTold (Begins engine) (l ∷ a ∷ b ∷ []) (option_map after_sync l ∷ option_map after_sync a ∷ option_map after_sync b ∷ [])
+    → WhereAllTold (BeginsOver engine) (l ∷ a ∷ b ∷ []) (option_map after_sync l ∷ option_map after_sync a ∷ option_map after_sync b ∷ [])
 begins-synced engine None a b none is = tt
 begins-synced engine (Some l) None b none is = tt
 begins-synced engine (Some l) (Some a) None none is = tt
 begins-synced engine (Some l) (Some a) (Some b) none is = begins-all engine l a b none is.runs is.opened is.slot_a is.slot_b
 
 pub begins-told : (engine : EngineParts) (l a b m x y : Option History) (now : List (Option History)) → engine.session.txns ≡ [] → m ≡ option_map after_sync l → x ≡ option_map after_sync a → y ≡ option_map after_sync b → now ≡ m ∷ x ∷ y ∷ []
-    → IsReadFrom engine l a b m x y → WhereAllTold (Begins engine) (l ∷ a ∷ b ∷ []) now
+    → IsReadFrom engine l a b m x y → WhereAllTold (BeginsOver engine) (l ∷ a ∷ b ∷ []) now
 begins-told engine l a b m x y now none is_m is_x is_y same is =
     let there = begins-synced engine l a b none (subst (λ (t : Option History). IsReadFrom engine l a b (option_map after_sync l) (option_map after_sync a) t) is_y
     (subst (λ (t : Option History). IsReadFrom engine l a b (option_map after_sync l) t y) is_x (subst (λ (t : Option History). IsReadFrom engine l a b t x y) is_m is))) in
     let all : now ≡ option_map after_sync l ∷ option_map after_sync a ∷ option_map after_sync b ∷ [] = cc in
-    subst (λ (t : List (Option History)). WhereAllTold (Begins engine) (l ∷ a ∷ b ∷ []) t) (sym all) there
+    subst (λ (t : List (Option History)). WhereAllTold (BeginsOver engine) (l ∷ a ∷ b ∷ []) t) (sym all) there
 
 -- a crash now leaves what a read gave at entry
 pub settled-told : (l a b : Option History) (now : List (Option History)) → now ≡ option_map after_sync l ∷ option_map after_sync a ∷ option_map after_sync b ∷ [] → WhereAllTold AreSettled (l ∷ a ∷ b ∷ []) now
@@ -180,7 +180,7 @@ module _ {D : Type 0} (told : D → Option History) (devices : Devices D) (l a b
 
   pub opened-begins : (batch limit : ℕ) (r : Result EngineParts RecoverError) → IfOk r (IsFresh batch limit) → WhereAllTold RunsAsBefore (l ∷ a ∷ b ∷ []) (m ∷ x ∷ y ∷ []) → IfOk r (λ e. WhereRead (IsOpenedFrom e) m x y)
       → IfOk r (λ e. WhereTold (λ h. IsSlot e.session.catalogue.tables e.slots.a h.now.seen) x) → IfOk r (λ e. WhereTold (λ h. IsSlot e.session.catalogue.tables e.slots.b h.now.seen) y)
-      → IfOk r (λ e. WhereAllTold (Begins e) (l ∷ a ∷ b ∷ []) (each told devices))
+      → IfOk r (λ e. WhereAllTold (BeginsOver e) (l ∷ a ∷ b ∷ []) (each told devices))
   opened-begins batch limit (Err error) fresh moments opened slot_a slot_b = tt
   opened-begins batch limit (Ok e) fresh moments opened slot_a slot_b = begins-told e l a b m x y (each told devices) fresh.txns is_m is_x is_y same (record { runs = moments; opened = opened; slot_a = slot_a; slot_b = slot_b })
 

@@ -32,18 +32,18 @@ use Rattle.pac_run.specs.declared.stop.RunStop.{RunStop}
 use Rattle.pac_run.specs.declared.stop.RunStop.TheVariants.{NoStore, Damaged, AbortInLog, RowsOver, InputFault, OutputFault, DiskFault, NoMemory, LogFull, TooLong, TooLarge}
 use Rattle.pac_run.specs.Asked.{WereHandled}
 use Rattle.pac_run.specs.Causes.{not_opened}
-use Rattle.pac_run.specs.Opening.{AllStand, Begins, IsFresh, IsOpenedFrom, StandsForFront}
-use Rattle.pac_run.specs.Run.{AtExit, AtMoments, IsBegun, IsExit, IsRun, IsWhole, WhereAllStand, WhereSeen, history_after}
+use Rattle.pac_run.specs.Opening.{AllStand, BeginsOver, IsFresh, IsOpenedFrom, StandsForFront}
+use Rattle.pac_run.specs.Run.{AtExit, AtMoments, IsBegun, IsExit, IsRun, IsWholeRun, WhereAllStand, WhereSeen, history_after}
 use Rattle.pac_run.specs.Serving.{IsDone, KeepsEach, Served}
 use Rattle.pac_run.specs.Stopping.{AreFirst, IsStopped, IsStoppedAt}
-use Rattle.pac_run.specs.Texts.{IsFront, texts}
+use Rattle.pac_run.specs.Texts.{IsTextFront, texts}
 use Rattle.pac_run.proofs.AckedLemmas.{acknowledged, told-saved}
 use Rattle.pac_run.proofs.NameLemmas.{names-of}
 use Rattle.pac_run.proofs.ServeLemmas.{took-nothing, whole-front}
 
 -- ---- a front of a front
 
-pub front-longer : (out xs ys : List ℕ) → IsFront out xs → IsFront out (xs ++ ys)
+pub front-longer : (out xs ys : List ℕ) → IsTextFront out xs → IsTextFront out (xs ++ ys)
 front-longer out xs ys front =
     let split : xs ≡ out ++ drop front.count xs = sym (take-append-drop front.count xs) ∙ ap (λ (l : List ℕ). l ++ drop front.count xs) (sym front.is) in
     record {
@@ -51,9 +51,9 @@ front-longer out xs ys front =
       is = sym (ap (λ (l : List ℕ). take (length out) (l ++ ys)) split ∙ ap (take (length out)) (append_assoc out (drop front.count xs) ys) ∙ take-append_seam out (drop front.count xs ++ ys));
     }
 
-front-of-all : (catalogue : CatalogueState) (given all : List Reply) (out : List ℕ) → IsFront out (texts catalogue given) → AreFirst given all → IsFront out (texts catalogue all)
+front-of-all : (catalogue : CatalogueState) (given all : List Reply) (out : List ℕ) → IsTextFront out (texts catalogue given) → AreFirst given all → IsTextFront out (texts catalogue all)
 front-of-all catalogue given all out front firsts =
-    subst (λ (l : List ℕ). IsFront out l) (sym (ap (texts catalogue) firsts.split ∙ flat_map-append (reply_text catalogue) given firsts.rest)) (front-longer out (texts catalogue given) (texts catalogue firsts.rest) front)
+    subst (λ (l : List ℕ). IsTextFront out l) (sym (ap (texts catalogue) firsts.split ∙ flat_map-append (reply_text catalogue) given firsts.rest)) (front-longer out (texts catalogue given) (texts catalogue firsts.rest) front)
 
 -- ---- a store that isn't opened
 
@@ -127,7 +127,7 @@ stops-part (Ok x) P R S is step = tt
 stops-part (Err stop) P R S is step = step stop is
 
 module _ (batch limit : ℕ) (engine new : EngineParts) (left left' held held' : Option (List ℕ)) (l a b : Option History) (middle told' : List (Option History)) (rose : Type 0) (result : Result (Unit {0}) RunStop) (fresh : IsFresh batch limit engine)
-    (opened : WhereRead (IsOpenedFrom engine) l a b) (begins : WhereAllTold (Begins engine) (l ∷ a ∷ b ∷ []) middle) (runs : WhereAllTold RunsAsBefore (l ∷ a ∷ b ∷ []) middle)
+    (opened : WhereRead (IsOpenedFrom engine) l a b) (begins : WhereAllTold (BeginsOver engine) (l ∷ a ∷ b ∷ []) middle) (runs : WhereAllTold RunsAsBefore (l ∷ a ∷ b ∷ []) middle)
     (served : Served engine new left left' held held' middle told' rose result) where
   abbrev rules : Rules
   rules = rules_of engine.session
@@ -202,14 +202,14 @@ module _ (batch limit : ℕ) (engine new : EngineParts) (left left' held held' :
     text-of h (l ∷ a ∷ b ∷ []) is = is.log.has.log.accepted.has
     text-of h (l ∷ a ∷ b ∷ d ∷ devices) is = absurd is
 
-    exit-told : (t m n : Option (List History)) → TellsOn (Begins engine) t m → TellsIf (StandsOn text (take (durable_of engine) history) engine) (KeepsHistory text (take (durable_of engine) history ++ committed (rules_of engine.session) (state_now engine.session) served.requests) engine new) m n
+    exit-told : (t m n : Option (List History)) → TellsOn (BeginsOver engine) t m → TellsIf (StandsOn text (take (durable_of engine) history) engine) (KeepsHistory text (take (durable_of engine) history ++ committed (rules_of engine.session) (state_now engine.session) served.requests) engine new) m n
         → TellsIf (AllStand text catalogue history least) (AtExit text catalogue history (rules_of engine.session) (state_now engine.session) served.requests served.out) t n
     exit-told None m n begin keep = tt
     exit-told (Some t) None n begin keep = absurd begin
     exit-told (Some t) (Some m) None begin keep = λ all. keep (begin text catalogue history least all).stands
     exit-told (Some t) (Some m) (Some n) begin keep = λ all. let front = begin text catalogue history least all in exits t m n front (text-of (take (durable_of engine) history) m front.stands) (keep front.stands)
 
-    moments-told : (t m n : Option (List History)) → TellsOn (Begins engine) t m → TellsOn RunsAsBefore t m → TellsIf (StandsOn text (take (durable_of engine) history) engine) (KeepsHistory text (take (durable_of engine) history ++ committed (rules_of engine.session) (state_now engine.session) served.requests) engine new) m n
+    moments-told : (t m n : Option (List History)) → TellsOn (BeginsOver engine) t m → TellsOn RunsAsBefore t m → TellsIf (StandsOn text (take (durable_of engine) history) engine) (KeepsHistory text (take (durable_of engine) history ++ committed (rules_of engine.session) (state_now engine.session) served.requests) engine new) m n
         → TellsIf (AllStand text catalogue history least) (AtMoments text catalogue history least (rules_of engine.session) (state_now engine.session) served.requests) t n
     moments-told None m n begin run keep = tt
     moments-told (Some t) None n begin run keep = absurd begin
@@ -235,7 +235,7 @@ module _ (batch limit : ℕ) (engine new : EngineParts) (left left' held held' :
     place = engine.log.gate.place;
     begun = begun-told l a b opened;
     front = front-of-all engine.session.catalogue served.given (replies rules start served.requests) served.out served.front served.firsts;
-    whole = three-parts result (IsDone rules engine.log.gate.place start served.requests served.given served.out) (IsWhole rules engine.log.gate.place start served.requests served.out) (λ stop. IsStoppedAt rules engine.log.gate.place start served.requests served.given stop) served.ending
+    whole = three-parts result (IsDone rules engine.log.gate.place start served.requests served.given served.out) (IsWholeRun rules engine.log.gate.place start served.requests served.out) (λ stop. IsStoppedAt rules engine.log.gate.place start served.requests served.given stop) served.ending
         (λ done. record { before = done.before; stops = done.stops; written = done.written ∙ ap (texts engine.session.catalogue) done.replied; fit = done.fit; saves = done.saves });
     exit = λ text catalogue history least. exit-told text catalogue history least (all_told (l ∷ a ∷ b ∷ [])) (all_told middle) (all_told told') begins (served.keeps text (take (durable_of engine) history));
     moments = λ text catalogue history least. moments-told text catalogue history least (all_told (l ∷ a ∷ b ∷ [])) (all_told middle) (all_told told') begins runs (served.keeps text (take (durable_of engine) history));

@@ -29,11 +29,11 @@ use Rattle.pac_engine.specs.Standing.{IsGrown}
 use Rattle.pac_run.specs.declared.limits.TheConstants.{MAX_INPUT}
 use Rattle.pac_run.specs.declared.stop.RunStop.{RunStop}
 use Rattle.pac_run.specs.declared.stop.RunStop.TheVariants.{NoStore, Damaged, AbortInLog, RowsOver, InputFault, OutputFault, DiskFault, NoMemory, LogFull, TooLong, TooLarge}
-use Rattle.pac_run.specs.Asked.{IsAsked, IsOverLong, LineAsks, LinesAsk, NoStop, StopsLast, TookAtMost, WereHandled}
+use Rattle.pac_run.specs.Asked.{WereAsked, IsOverLong, LineAsks, LinesAsk, NoStop, StopsLast, TookAtMost, WereHandled}
 use Rattle.pac_run.specs.Causes.{not_read}
-use Rattle.pac_run.specs.Serving.{Answered, Broke, Goes, HasRead, IsDone, IsUntouched, KeepsEach, LineBroke, LineServed, Replied, Served, Serving, StepStops, StopsWhere}
+use Rattle.pac_run.specs.Serving.{Answered, Broke, GoesFrom, HasRead, IsDone, IsUntouched, KeepsEach, LineBroke, LineServed, Replied, Served, Serving, StepStops, StopsWhere}
 use Rattle.pac_run.specs.Stopping.{AreFirst, IsStoppedAt, closed_groups}
-use Rattle.pac_run.specs.Texts.{IsFront, IsPlain, SaysUnlessFault, texts}
+use Rattle.pac_run.specs.Texts.{IsTextFront, IsPlain, SaysUnlessFault, texts}
 use Rattle.pac_run.proofs.ReadLemmas.{at-end, lines-ask, more-read, not-long, over-long, still-handled, took-few}
 use Rattle.pac_run.proofs.StepLemmas.{all-both, goes-more, grown-then, keeps-more, kept-grows}
 use Rattle.pac_run.proofs.StopLemmas.{all-replied, never-stops, no-stop-both, stopped-first, stopped-more, stopped-reading, stops-last}
@@ -47,14 +47,14 @@ took-nothing (Some bytes) = ap Some (sym (append-nil bytes))
 texts-both : (catalogue : CatalogueState) (xs ys : List Reply) → texts catalogue (xs ++ ys) ≡ texts catalogue xs ++ texts catalogue ys
 texts-both catalogue xs ys = flat_map-append (reply_text catalogue) xs ys
 
-front-more : (catalogue : CatalogueState) (given more : List Reply) (out : List ℕ) → IsFront out (texts catalogue more) → IsFront (texts catalogue given ++ out) (texts catalogue (given ++ more))
+front-more : (catalogue : CatalogueState) (given more : List Reply) (out : List ℕ) → IsTextFront out (texts catalogue more) → IsTextFront (texts catalogue given ++ out) (texts catalogue (given ++ more))
 front-more catalogue given more out front = record {
   count = length (texts catalogue given) + front.count;
   is = ap (λ (l : List ℕ). texts catalogue given ++ l) front.is ∙ sym (take-append-add (texts catalogue given) (texts catalogue more) front.count)
       ∙ ap (take (length (texts catalogue given) + front.count)) (sym (texts-both catalogue given more));
 }
 
-pub whole-front : (text : List ℕ) → IsFront text text
+pub whole-front : (text : List ℕ) → IsTextFront text text
 whole-front text = record { count = length text; is = sym (ap (take (length text)) (sym (append-nil text)) ∙ take-append_seam text []) }
 
 whole-more : (catalogue : CatalogueState) (given more : List Reply) (out : List ℕ) (rose : Type 0) → (out ≡ texts catalogue more) ⊎ rose → (texts catalogue given ++ out ≡ texts catalogue (given ++ more)) ⊎ rose
@@ -113,7 +113,7 @@ module _ (first now : EngineParts) (left mid : Option (List ℕ)) (reader : Read
 
   -- a request was not answered
   module _ (left' held'' : Option (List ℕ)) (told'' : List (Option History)) (new : EngineParts) (asks : Request) (rose rose' : Type 0) (stop : RunStop) (lines : List (List ℕ)) (ahead : List ℕ)
-      (handled : WereHandled left lines ahead left') (few : TookAtMost MAX_INPUT left left') (asked : IsAsked first.session.catalogue lines (prepend_known ahead left') (serving.requests ++ asks ∷ [])) (later : rose' → rose)
+      (handled : WereHandled left lines ahead left') (few : TookAtMost MAX_INPUT left left') (asked : WereAsked first.session.catalogue lines (prepend_known ahead left') (serving.requests ++ asks ∷ [])) (later : rose' → rose)
       (broke : Broke first.session.catalogue asks now new held' held'' told' told'' rose' stop) where
     abbrev whole : GroupCut
     whole = cut (rules_of first.session) (state_now first.session) serving.requests
@@ -156,7 +156,7 @@ module _ (first now : EngineParts) (left mid : Option (List ℕ)) (reader : Read
 
   -- a stop was answered
   pub stop-served : (left' held'' : Option (List ℕ)) (told'' : List (Option History)) (new : EngineParts) (rose : Type 0) (lines : List (List ℕ)) (ahead : List ℕ) → WereHandled left lines ahead left' → TookAtMost MAX_INPUT left left'
-      → IsAsked first.session.catalogue lines (prepend_known ahead left') (serving.requests ++ request.Stop ∷ []) → Replied first.session.catalogue (request.Stop ∷ []) now new held' held'' told' told''
+      → WereAsked first.session.catalogue lines (prepend_known ahead left') (serving.requests ++ request.Stop ∷ []) → Replied first.session.catalogue (request.Stop ∷ []) now new held' held'' told' told''
       → Served first new left left' held held'' told told'' rose (Ok tt)
   stop-served left' held'' told'' new rose lines ahead handled few asked replied =
       let goes = goes-more first now serving.requests serving.given told told' serving.goes new told'' (request.Stop ∷ []) replied.more replied.answered in
@@ -177,7 +177,7 @@ module _ (first now : EngineParts) (left mid : Option (List ℕ)) (reader : Read
         given = given;
         out = out;
         took = Took-append held held' held'' (texts catalogue serving.given) (texts catalogue replied.more) serving.took replied.took;
-        front = subst (λ (l : List ℕ). IsFront l (texts catalogue given)) (sym written) (whole-front (texts catalogue given));
+        front = subst (λ (l : List ℕ). IsTextFront l (texts catalogue given)) (sym written) (whole-front (texts catalogue given));
         whole = inl written;
         keeps = goes.keeps;
         grows = goes.grows;

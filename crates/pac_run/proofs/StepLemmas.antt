@@ -20,7 +20,7 @@ use Rattle.pac_engine.specs.Closing.{Closes, IsKept, place_after, slot_len}
 use Rattle.pac_engine.specs.Standing.{IsGrown, KeepsHistory, StandsOn, TellsWhere, durable_of, saved_of}
 use Rattle.pac_engine.proofs.LawLemmas.{begins, closes-then, history-then, stands-then}
 use Rattle.pac_engine.proofs.ToldLemmas.{refused-keeps}
-use Rattle.pac_run.specs.Serving.{Answered, Goes, KeepsEach, StandsForEach}
+use Rattle.pac_run.specs.Serving.{Answered, GoesFrom, KeepsEach, StandsForEach}
 use Rattle.pac_run.specs.Stopping.{SaveFits, closed_groups}
 use Rattle.pac_run.specs.Texts.{IsPlain}
 
@@ -86,7 +86,7 @@ nothing-keeps e told = λ text history. refused-keeps text history e e _ refl re
 -- ---- behind what was served
 
 -- the engine is at the end of the requests
-module _ (first now : EngineParts) (requests : List Request) (given : List Reply) (told told' : List (Option History)) (goes : Goes first now requests given told told') where
+module _ (first now : EngineParts) (requests : List Request) (given : List Reply) (told told' : List (Option History)) (goes : GoesFrom first now requests given told told') where
   abbrev rules : Rules
   rules = rules_of first.session
 
@@ -153,7 +153,7 @@ module _ (first now : EngineParts) (requests : List Request) (given : List Reply
           by (asks ∷ []) is = one asks is (data-free requests before rest asks request.Save (ap (λ (l : List Request). requests ++ l) (sym is) ∙ same))
           by (asks ∷ next ∷ others) is = absurd (omega (arith, answered.few, ap (λ (l : List Request). length l) is))
 
-      pub goes-more : Goes first new (requests ++ asked) (given ++ more) told told''
+      pub goes-more : GoesFrom first new (requests ++ asked) (given ++ more) told told''
       goes-more = record {
         closes = closes-more;
         keeps = keeps-more asked answered.keeps;
@@ -167,7 +167,7 @@ module _ (first now : EngineParts) (requests : List Request) (given : List Reply
 -- ---- from the beginning
 
 pub goes-first : (first : EngineParts) (told : List (Option History)) → first.session.txns ≡ [] → first.session.held ≡ [] → ((text : List ℕ) (history : List Txn) → TellsWhere (StandsOn text history first) (λ was is. StandsOn text (history ++ []) first is) told told)
-    → Goes first first [] [] told told
+    → GoesFrom first first [] [] told told
 goes-first first told txns held stands = record {
   closes = begins first txns held;
   keeps = nothing-keeps first told;

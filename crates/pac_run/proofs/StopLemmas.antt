@@ -19,7 +19,7 @@ use Rattle.pac_engine.specs.Closing.{Closes, IsUnsaved, StopsAt, is_stop}
 use Rattle.pac_engine.proofs.LawLemmas.{stops-then}
 use Rattle.pac_run.specs.Asked.{NoStop, StopsLast}
 use Rattle.pac_run.specs.Causes.{not_answered}
-use Rattle.pac_run.specs.Serving.{Goes, StepStops}
+use Rattle.pac_run.specs.Serving.{GoesFrom, StepStops}
 use Rattle.pac_run.specs.Stopping.{AreFirst, IsStoppedAt, closed_groups}
 use Rattle.pac_run.specs.declared.stop.RunStop.{RunStop}
 use Rattle.pac_run.specs.declared.stop.RunStop.TheVariants.{NoStore, Damaged, AbortInLog, RowsOver, InputFault, OutputFault, DiskFault, NoMemory, LogFull, TooLong, TooLarge}
@@ -95,7 +95,7 @@ step-stops rules place start closed given why stop is stops = subst (λ (s : Run
 pub none-told : (rules : Rules) (place : ℕ) (start : SessionState) (closed : List (List Request)) → StepStops rules place start closed [] NoMemory
 none-told rules place start closed = inl (record { before = []; rest = described rules place start closed; split = refl; replied = refl })
 
-module _ (first now : EngineParts) (requests : List Request) (given : List Reply) (told told' : List (Option History)) (goes : Goes first now requests given told told') where
+module _ (first now : EngineParts) (requests : List Request) (given : List Reply) (told told' : List (Option History)) (goes : GoesFrom first now requests given told told') where
   abbrev rules : Rules
   rules = rules_of first.session
 

@@ -8,14 +8,14 @@ abbrev pub whole_lines : List ℕ → List (List ℕ)
 whole_lines output = (lines_of output).whole
 
 -- the line is one of these
-abbrev pub IsAmong : List ℕ → List (List ℕ) → Type 0
-IsAmong line [] = ⊥
-IsAmong line (first ∷ lines) = (line ≡ first) ⊎ IsAmong line lines
+abbrev pub IsOneOfLines : List ℕ → List (List ℕ) → Type 0
+IsOneOfLines line [] = ⊥
+IsOneOfLines line (first ∷ lines) = (line ≡ first) ⊎ IsOneOfLines line lines
 
 -- the output has the whole line `committed NUMBER`
 abbrev pub Acknowledges : List ℕ → ℕ → Type 0
-Acknowledges output number = (number < 2 ^ 64) × IsAmong (codes "committed " ++ decimal number) (whole_lines output)
+Acknowledges output number = (number < 2 ^ 64) × IsOneOfLines (codes "committed " ++ decimal number) (whole_lines output)
 
 -- the output has the whole line `saved NUMBER`
 abbrev pub TellsSaved : List ℕ → ℕ → Type 0
-TellsSaved output number = (number < 2 ^ 64) × IsAmong (codes "saved " ++ decimal number) (whole_lines output)
+TellsSaved output number = (number < 2 ^ 64) × IsOneOfLines (codes "saved " ++ decimal number) (whole_lines output)

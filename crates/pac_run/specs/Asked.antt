@@ -34,8 +34,8 @@ LinesAsk catalogue [] requests = requests ≡ []
 LinesAsk catalogue (line ∷ lines) requests = (asked : List Request) × (rest : List Request) × LineAsks catalogue line asked × LinesAsk catalogue lines rest × (requests ≡ asked ++ rest)
 
 -- What was asked: what the lines ask, and a stop behind it where the end of the input was met.
-abbrev pub IsAsked : CatalogueState → List (List ℕ) → Option (List ℕ) → List Request → Type 0
-IsAsked catalogue lines left requests = LinesAsk catalogue lines requests ⊎ ((before : List Request) × LinesAsk catalogue lines before × (requests ≡ before ++ request.Stop ∷ []) × IsAtEnd left)
+abbrev pub WereAsked : CatalogueState → List (List ℕ) → Option (List ℕ) → List Request → Type 0
+WereAsked catalogue lines left requests = LinesAsk catalogue lines requests ⊎ ((before : List Request) × LinesAsk catalogue lines before × (requests ≡ before ++ request.Stop ∷ []) × IsAtEnd left)
 
 -- none of the requests is a stop; none but the last
 abbrev pub NoStop : List Request → Type 0

@@ -42,5 +42,5 @@ pub record StandsForFront (text : List ℕ) (catalogue : CatalogueState) (histor
   pub stands : StandsOn text (take (durable_of engine) history) engine devices
 
 -- where each image that a crash might have left at entry stands for a history, the engine stands for a front of it
-abbrev pub Begins : EngineParts → List History → List History → Type 0
-Begins engine entry now = (text : List ℕ) (catalogue : CatalogueState) (history : List Txn) (least : ℕ) → AllStand text catalogue history least entry → StandsForFront text catalogue history least engine now
+abbrev pub BeginsOver : EngineParts → List History → List History → Type 0
+BeginsOver engine entry now = (text : List ℕ) (catalogue : CatalogueState) (history : List Txn) (least : ℕ) → AllStand text catalogue history least entry → StandsForFront text catalogue history least engine now

@@ -21,10 +21,10 @@ use Rattle.pac_run.specs.declared.limits.TheConstants.{MAX_INPUT}
 use Rattle.pac_run.specs.declared.stop.RunStop.{RunStop}
 use Rattle.pac_run.specs.declared.stop.RunStop.TheVariants.{TooLong}
 use Rattle.pac_run.specs.Acked.{Acknowledges, TellsSaved}
-use Rattle.pac_run.specs.Asked.{IsAsked, IsOverLong, StopsLast, TookAtMost, WereHandled}
+use Rattle.pac_run.specs.Asked.{WereAsked, IsOverLong, StopsLast, TookAtMost, WereHandled}
 use Rattle.pac_run.specs.Opening.{AllStand}
 use Rattle.pac_run.specs.Stopping.{IsStopped, SaveFits, closed_groups}
-use Rattle.pac_run.specs.Texts.{IsFront, texts}
+use Rattle.pac_run.specs.Texts.{IsTextFront, texts}
 
 -- ---- where the session begins
 
@@ -74,7 +74,7 @@ WhereAllStand R told told' = (text : List ℕ) (catalogue : CatalogueState) (his
 -- ---- the run
 
 -- all replies were written, the last request is a stop, and each group and each checkpoint has room
-pub record IsWhole (rules : Rules) (place : ℕ) (start : SessionState) (requests : List Request) (out : List ℕ) : Type 0 where
+pub record IsWholeRun (rules : Rules) (place : ℕ) (start : SessionState) (requests : List Request) (out : List ℕ) : Type 0 where
   pub before : List Request
   pub stops : requests ≡ before ++ request.Stop ∷ []
   pub written : out ≡ texts rules.catalogue (replies rules start requests)
@@ -91,7 +91,7 @@ pub record IsRun (batch limit : ℕ) (left left' held held' : Option (List ℕ))
   pub long : IsErrOf result TooLong → IsOverLong ahead left left'
   pub rules : Rules
   pub requests : List Request
-  pub asked : IsAsked rules.catalogue lines (prepend_known ahead left') requests
+  pub asked : WereAsked rules.catalogue lines (prepend_known ahead left') requests
   pub last : StopsLast requests
   pub out : List ℕ
   pub took : Took held out held'
@@ -102,13 +102,13 @@ pub record IsRun (batch limit : ℕ) (left left' held held' : Option (List ℕ))
   pub place : ℕ
   pub begun : WhereSeen (λ images. (requests ≡ []) ⊎ IsBegun rules place start images) told
   -- (a) the output is a front of the texts of its replies, and all of them with Ok
-  pub front : IsFront out (texts rules.catalogue (replies rules start requests))
-  pub whole : OnOk result (IsWhole rules place start requests out)
+  pub front : IsTextFront out (texts rules.catalogue (replies rules start requests))
+  pub whole : OnOk result (IsWholeRun rules place start requests out)
   -- (b) and (e) what the devices hold at the exit, (c) and at each moment
   pub exit : WhereAllStand (λ text catalogue history least. AtExit text catalogue history rules start requests out) told told'
   pub moments : WhereAllStand (λ text catalogue history least. AtMoments text catalogue history least rules start requests) told told'
   -- (d) where it stopped: the output is the texts of these replies, unless the output's count of faults rose
   pub given : List Reply
-  pub written : IsFront out (texts rules.catalogue given)
+  pub written : IsTextFront out (texts rules.catalogue given)
   pub all : (out ≡ texts rules.catalogue given) ⊎ rose
   pub stopped : IfErr result (λ stop. IsStopped rules place start requests given stop)

@@ -23,9 +23,9 @@ use Rattle.pac_engine.specs.Standing.{IsGrown, KeepsHistory, StandsOn, TellsWher
 use Rattle.pac_run.specs.declared.limits.TheConstants.{MAX_INPUT}
 use Rattle.pac_run.specs.declared.stop.RunStop.{RunStop}
 use Rattle.pac_run.specs.declared.stop.RunStop.TheVariants.{NoStore, Damaged, AbortInLog, RowsOver, InputFault, OutputFault, DiskFault, NoMemory, LogFull, TooLong, TooLarge}
-use Rattle.pac_run.specs.Asked.{IsAsked, IsOverLong, LineAsks, LinesAsk, NoStop, StopsLast, TookAtMost, WereHandled}
+use Rattle.pac_run.specs.Asked.{WereAsked, IsOverLong, LineAsks, LinesAsk, NoStop, StopsLast, TookAtMost, WereHandled}
 use Rattle.pac_run.specs.Stopping.{AreFirst, IsStoppedAt, SaveFits, closed_groups}
-use Rattle.pac_run.specs.Texts.{IsFront, IsPlain, texts}
+use Rattle.pac_run.specs.Texts.{IsTextFront, IsPlain, texts}
 
 -- ---- one line
 
@@ -74,7 +74,7 @@ pub record Broke (catalogue : CatalogueState) (asked : Request) (old new : Engin
   pub more : List Reply
   pub out : List ℕ
   pub took : Took held out held'
-  pub front : IsFront out (texts catalogue more)
+  pub front : IsTextFront out (texts catalogue more)
   pub whole : (out ≡ texts catalogue more) ⊎ rose
   pub stops : (start : SessionState) (group : List Request) → IsInGroup start group old.session
       → StepStops (rules_of old.session) old.log.gate.place start (cut_one (rules_of old.session) start group asked).closed more stop
@@ -110,7 +110,7 @@ pub record LineServed (catalogue : CatalogueState) (line : List ℕ) (stops : Bo
 -- ---- all lines
 
 -- An engine that began so has served these requests, and has given these replies.
-pub record Goes (first now : EngineParts) (requests : List Request) (given : List Reply) (told told' : List (Option History)) : Type 0 where
+pub record GoesFrom (first now : EngineParts) (requests : List Request) (given : List Reply) (told told' : List (Option History)) : Type 0 where
   pub closes : Closes (rules_of first.session) first.log.gate.place (state_now first.session) (cut (rules_of first.session) (state_now first.session) requests) given now
   pub keeps : KeepsEach (committed (rules_of first.session) (state_now first.session) requests) first now told told'
   pub stands : StandsForEach (committed (rules_of first.session) (state_now first.session) requests) first now told told'
@@ -137,7 +137,7 @@ pub record Serving (first now : EngineParts) (left left' : Option (List ℕ)) (r
   pub unstopped : NoStop requests
   pub given : List Reply
   pub took : Took held (texts first.session.catalogue given) held'
-  pub goes : Goes first now requests given told told'
+  pub goes : GoesFrom first now requests given told told'
 
 -- all was done: the last request is a stop, and all replies were written
 pub record IsDone (rules : Rules) (place : ℕ) (start : SessionState) (requests : List Request) (given : List Reply) (out : List ℕ) : Type 0 where
@@ -156,12 +156,12 @@ pub record Served (first now : EngineParts) (left left' held held' : Option (Lis
   pub few : ¬ IsErrOf result TooLong → TookAtMost MAX_INPUT left left'
   pub long : IsErrOf result TooLong → IsOverLong ahead left left'
   pub requests : List Request
-  pub asked : IsAsked first.session.catalogue lines (prepend_known ahead left') requests
+  pub asked : WereAsked first.session.catalogue lines (prepend_known ahead left') requests
   pub last : StopsLast requests
   pub given : List Reply
   pub out : List ℕ
   pub took : Took held out held'
-  pub front : IsFront out (texts first.session.catalogue given)
+  pub front : IsTextFront out (texts first.session.catalogue given)
   pub whole : (out ≡ texts first.session.catalogue given) ⊎ rose
   pub keeps : KeepsEach (committed (rules_of first.session) (state_now first.session) requests) first now told told'
   pub grows : IsGrown first now

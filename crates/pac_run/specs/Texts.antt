@@ -14,7 +14,7 @@ abbrev pub texts : CatalogueState → List Reply → List ℕ
 texts catalogue replies = flat_map (reply_text catalogue) replies
 
 -- a front of a text
-pub record IsFront (front text : List ℕ) : Type 0 where
+pub record IsTextFront (front text : List ℕ) : Type 0 where
   pub count : ℕ
   pub is : front ≡ take count text
 

@@ -17,7 +17,7 @@ ghost use Rattle.pac_recover.specs.Damages.{IsDamagedLog, IsDamagedSlot};
 ghost use Rattle.pac_recover.specs.Logs.{HoldsLogUpTo};
 ghost use Rattle.pac_recover.specs.Recovering.{AbortsIn, IsOverIn};
 ghost use Rattle.pac_engine.specs.Standing.{HasDevices};
-ghost use Rattle.pac_run.specs.Opening.{Begins, IsFresh, IsOpenedFrom};
+ghost use Rattle.pac_run.specs.Opening.{BeginsOver, IsFresh, IsOpenedFrom};
 
 use pac_engine::Engine;
 use pac_log::Log;
@@ -108,7 +108,7 @@ pub fn open<D: Disk>(
 
     // The engine stands for what was stored, and at each moment a crash leaves what it might have left at entry.
     ensures ready { IfOk result (λ engine. HasDevices D.told engine devices.new) }
-    ensures begins { IfOk result (λ engine. WhereAllTold (Begins engine) (each D.told devices.old) (each D.told devices.new)) }
+    ensures begins { IfOk result (λ engine. WhereAllTold (BeginsOver engine) (each D.told devices.old) (each D.told devices.new)) }
     ensures moments { WhereAllTold RunsAsBefore (each D.told devices.old) (each D.told devices.new) }
 
     // No device is written, and no call of one comes after one that failed.
