@@ -14,6 +14,10 @@ mod recover;
 #[cfg(test)]
 mod refusals;
 #[cfg(test)]
+mod run;
+#[cfg(test)]
+mod run_stops;
+#[cfg(test)]
 mod running;
 #[cfg(test)]
 mod scripts;

@@ -54,9 +54,9 @@ fn other_words_are_refused(rt: HostRuntime) -> Result<(), Fail> {
         "recover more",
         "init more",
         "init --text",
-        // These don't run yet.
-        "run",
-        "run --batch=1 --rows=1",
+        "run more",
+        "run --workers 4",
+        // It doesn't run yet.
         "stress",
         "stress 8",
     ] {

@@ -8,7 +8,7 @@ use std::test::Fail;
 use std::thread::Threads;
 
 // A table, a procedure that adds to its numbers, and one that aborts at a 0.
-const ADD: &str =
+pub const ADD: &str =
     "table T(key int, v int);\nproc Add(k int, n int) {\n  read a = T[k].v default 0;\n  let m = n;\n  let b = a + m;\n  put T[k] = (b);\n}\nproc Need(k int) {\n  read a = T[k].v default 1;\n  abort if a == 0;\n}\n";
 
 // Add(1, 9223372036854775807), Add(2, 5), Add(1, 1) and Need(1).
@@ -22,12 +22,12 @@ const THREE: &[u8] = b"\x02\x01\x01\0\0\x01\x01\0\0\0\0\0\0\0\x01\x01\x02\0\0\0\
     \x01\x01\0\x03\x01\x01\0\0\0\0\0\0\0\x01\x04\x29\0\0\0\0\0\0\x01\x07\0\0\0\0\0\0\0\
     \x01\0\0\x02\x01\x01\0\0\0\0\0\0\0\x01\xf4\x01\0\0\0\0\0\0";
 
-const BANK_DUMP: &str =
+pub const BANK_DUMP: &str =
     "table Family 1\n1 (2)\ntable Current 2\n1 (10000)\n2 (500)\ntable Saving 1\n1 (1)\ntable Stats 1\n7 (1)\n";
 
-const ONE_ROW: &str = "table T 1\n1 (2)\n";
+pub const ONE_ROW: &str = "table T 1\n1 (2)\n";
 
-const NO_ROW: &str = "table T 0\n";
+pub const NO_ROW: &str = "table T 0\n";
 
 // Whether the words of a line end with this status, output and line on devices of these bytes, which stay, and enter no
 // gate.

@@ -75,9 +75,22 @@ pub fn run_on<RT: Threads + Wait + Sync>(
     devices: &mut Devices<MemDisk>,
     bad_write: u64,
 ) -> Result<Answer, Fail> {
+    run_lines(rt, alloc, line, "", [1, bad_write], devices)
+}
+
+// Runs the words of a line over this input and these devices, where this read of the input and this write of the output fail.
+pub fn run_lines<RT: Threads + Wait + Sync>(
+    rt: &RT,
+    alloc: Global,
+    line: &str,
+    text: &str,
+    bad_calls: [u64; 2],
+    devices: &mut Devices<MemDisk>,
+) -> Result<Answer, Fail> {
     let words: Vec<&str> = line.split_whitespace().collect(alloc)?;
     let list = strings(alloc, &words)?;
-    let mut input = MemSource::new(Vec::new(alloc), [1].to_vec(alloc)?);
+    let [bad_read, bad_write] = bad_calls;
+    let mut input = MemSource::new(text.as_bytes().to_vec(alloc)?, [bad_read].to_vec(alloc)?);
     let mut output = MemSink::new(Vec::new(alloc), [bad_write].to_vec(alloc)?);
     let mut errors = MemSink::new(Vec::new(alloc), Vec::new(alloc));
     let gate = Counting {

@@ -29,6 +29,20 @@ pub fn devices(alloc: Global, bytes: [&[u8]; 3]) -> Result<Devices<MemDisk>, Fai
     })
 }
 
+/// Devices of what a crash leaves of these.
+pub fn left(
+    alloc: Global,
+    devices: &Devices<MemDisk>,
+    fill: Fill,
+    grown: bool,
+) -> Result<Devices<MemDisk>, Fail> {
+    Ok(Devices {
+        log: disk(alloc, &devices.log.image(fill, grown)?, 0)?,
+        slot_a: disk(alloc, &devices.slot_a.image(fill, grown)?, 0)?,
+        slot_b: disk(alloc, &devices.slot_b.image(fill, grown)?, 0)?,
+    })
+}
+
 /// Whether a crash leaves of each device these bytes.
 pub fn hold(devices: &Devices<MemDisk>, bytes: [&[u8]; 3]) -> Result<bool, Fail> {
     let log = devices.log.image(Fill::Byte(7), false)?;

@@ -3,12 +3,13 @@ use Rattle.std.proofs.Common.{◌≡◌, ◌↔◌, ℕ, Bool, true, false, List
 use Rattle.std.specs.Prelude.{IsSomeAnd, String}
 use Rattle.std.specs.Global.{Global}
 use Rattle.pac_words.specs.declared.order.Order.{Order}
-use Rattle.pac_words.specs.declared.order.Order.TheVariants.{Init, Recover, Explain, Replay}
-use Rattle.pac_main.specs.Commands.{order_in, AsksRecover, IsExplain, IsInit, IsRecover, IsReplay, NamesCommand, Runs}
+use Rattle.pac_words.specs.declared.order.Order.TheVariants.{Init, Run, Recover, Explain, Replay}
+use Rattle.pac_main.specs.Commands.{order_in, AsksRecover, AsksRun, IsExplain, IsInit, IsRecover, IsReplay, IsRunOf, NamesCommand, Runs}
 use Rattle.pac_main.specs.Explained.{ExplainEnds}
 use Rattle.pac_main.specs.Init.{AreUntouched, InitEnds}
 use Rattle.pac_main.specs.Recover.{RecoverEnds}
 use Rattle.pac_main.specs.Replay.{ReplayEnds}
+use Rattle.pac_main.specs.Run.{RunEnds}
 use Rattle.pac_main.specs.Streams.{IsOneOf, Observed, ObservedDevices}
 
 -- a status that a command has
@@ -23,6 +24,9 @@ not-usage-of-init n h one = let no : ◌≡◌ {A = Bool} false true = subst (λ
 
 pub not-usage-of-recover : (n : ℕ) → IsOneOf n (0 ∷ 3 ∷ 4 ∷ 5 ∷ 7 ∷ 8 ∷ 9 ∷ []) → n ≡ 1 → ⊥
 not-usage-of-recover n h one = let no : ◌≡◌ {A = Bool} false true = subst (λ (k : ℕ). IsOneOf k (0 ∷ 3 ∷ 4 ∷ 5 ∷ 7 ∷ 8 ∷ 9 ∷ [])) one h in absurd cc
+
+pub not-usage-of-run : (n : ℕ) → IsOneOf n (0 ∷ 3 ∷ 4 ∷ 5 ∷ 6 ∷ 7 ∷ 8 ∷ 9 ∷ 10 ∷ 11 ∷ 12 ∷ []) → n ≡ 1 → ⊥
+not-usage-of-run n h one = let no : ◌≡◌ {A = Bool} false true = subst (λ (k : ℕ). IsOneOf k (0 ∷ 3 ∷ 4 ∷ 5 ∷ 6 ∷ 7 ∷ 8 ∷ 9 ∷ 10 ∷ 11 ∷ 12 ∷ [])) one h in absurd cc
 
 module _ (words : List (String Global)) where
   -- words that name a command that runs, with a status that isn't 1
@@ -101,6 +105,47 @@ module _ (words : List (String Global)) where
 
   pub no-replay-in-recover : (workers most limit : ℕ) → Some (Recover workers most) ≡ order_in words → IsReplay words limit → ⊥
   no-replay-in-recover workers most limit is asks = no_recover workers most (order_in words) (sym is) (Replay asks.0 limit) (λ e. absurd cc) (sym asks.1)
+
+  run_is : (b m batch limit : ℕ) (said : Option Order) → Some (Run b m) ≡ said → said ≡ Some (Run batch limit) → (b ≡ batch) × (m ≡ limit)
+  run_is b m batch limit said is h = let both : Some (Run b m) ≡ Some (Run batch limit) = is ∙ h in (cc, cc)
+
+  pub run-is : (b m batch limit status : ℕ) (input output errors : Observed) (devices : ObservedDevices) → Some (Run b m) ≡ order_in words → IsRunOf words batch limit → RunEnds b m status input output errors devices → RunEnds batch limit status input output errors devices
+  run-is b m batch limit status input output errors devices is asks h =
+      let same = run_is b m batch limit (order_in words) is asks in
+      subst (λ (n : ℕ). RunEnds n limit status input output errors devices) same.0 (subst (λ (n : ℕ). RunEnds b n status input output errors devices) same.1 h)
+
+  pub asks-run : (batch limit : ℕ) → Some (Run batch limit) ≡ order_in words → AsksRun words
+  asks-run batch limit is = (batch, limit, sym is)
+
+  no_run : (batch limit : ℕ) (said : Option Order) → said ≡ Some (Run batch limit) → (other : Order) → (other ≡ Run batch limit → ⊥) → Some other ≡ said → ⊥
+  no_run batch limit said h other differs is = let both : Some other ≡ Some (Run batch limit) = is ∙ h in differs cc
+
+  pub no-run-in-init : (batch limit : ℕ) → Some Init ≡ order_in words → IsRunOf words batch limit → ⊥
+  no-run-in-init batch limit is asks = no_run batch limit (order_in words) asks Init (λ e. absurd cc) is
+
+  pub no-run-in-recover : (batch limit workers most : ℕ) → Some (Recover workers most) ≡ order_in words → IsRunOf words batch limit → ⊥
+  no-run-in-recover batch limit workers most is asks = no_run batch limit (order_in words) asks (Recover workers most) (λ e. absurd cc) is
+
+  pub no-run-in-explain : (a : Bool) (batch limit : ℕ) → Some (Explain a) ≡ order_in words → IsRunOf words batch limit → ⊥
+  no-run-in-explain a batch limit is asks = no_run batch limit (order_in words) asks (Explain a) (λ e. absurd cc) is
+
+  pub no-run-in-replay : (batch limit workers most : ℕ) → Some (Replay workers most) ≡ order_in words → IsRunOf words batch limit → ⊥
+  no-run-in-replay batch limit workers most is asks = no_run batch limit (order_in words) asks (Replay workers most) (λ e. absurd cc) is
+
+  pub no-init-in-run : (batch limit : ℕ) → Some (Run batch limit) ≡ order_in words → IsInit words → ⊥
+  no-init-in-run batch limit is asks = no_run batch limit (order_in words) (sym is) Init (λ e. absurd cc) (sym asks)
+
+  pub no-recover-in-run : (batch limit most : ℕ) → Some (Run batch limit) ≡ order_in words → IsRecover words most → ⊥
+  no-recover-in-run batch limit most is asks = no_run batch limit (order_in words) (sym is) (Recover asks.0 most) (λ e. absurd cc) (sym asks.1)
+
+  pub no-explain-in-run : (a : Bool) (batch limit : ℕ) → Some (Run batch limit) ≡ order_in words → IsExplain words a → ⊥
+  no-explain-in-run a batch limit is asks = no_run batch limit (order_in words) (sym is) (Explain a) (λ e. absurd cc) (sym asks)
+
+  pub no-replay-in-run : (batch limit most : ℕ) → Some (Run batch limit) ≡ order_in words → IsReplay words most → ⊥
+  no-replay-in-run batch limit most is asks = no_run batch limit (order_in words) (sym is) (Replay asks.0 most) (λ e. absurd cc) (sym asks.1)
+
+  pub run-names : (batch limit : ℕ) → IsRunOf words batch limit → NamesCommand words
+  run-names batch limit asks = subst (λ (o : Option Order). IsSomeAnd o Runs) (sym asks) tt
 
   pub recover-names : (limit : ℕ) → IsRecover words limit → NamesCommand words
   recover-names limit asks = subst (λ (o : Option Order). IsSomeAnd o Runs) (sym asks.1) tt

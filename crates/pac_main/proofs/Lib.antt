@@ -6,3 +6,8 @@ pub mod ExplainLemmas
 pub mod CommandLemmas
 pub mod InitLemmas
 pub mod RecoverLemmas
+pub mod RunStatusLemmas
+pub mod RunLemmas
+pub mod IdleLemmas
+pub mod WordLemmas
+pub mod HeadlineLemmas

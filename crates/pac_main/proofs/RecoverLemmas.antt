@@ -24,7 +24,7 @@ use Rattle.pac_main.specs.Recover.{HasNoStore, IsDumpOfFront, IsFaultless, IsRec
 use Rattle.pac_main.specs.Stop.{line_of, status_of, stop_of_recover, takes_memory}
 use Rattle.pac_main.specs.Streams.{IsOneOf, IsTaken, IsTold, Observed, ObservedDevices}
 use Rattle.pac_main.specs.declared.stop.Stop.{Stop}
-use Rattle.pac_main.specs.declared.stop.Stop.TheVariants.{Usage, Script as ScriptStop, NotEmpty, NoStore, Damaged, Aborted, RowsOver, InputFault, OutputFault, DiskFault, NoMemory, TooLong}
+use Rattle.pac_main.specs.declared.stop.Stop.TheVariants.{Usage, Script as ScriptStop, NotEmpty, NoStore, Damaged, Aborted, RowsOver, InputFault, OutputFault, DiskFault, NoMemory, LogFull, TooLong, TooLarge}
 use Rattle.pac_main.proofs.StatusLemmas.{ADeviceRefusal, aborted_of, device_of, disk_of, never_done, output_of, over_of}
 use Rattle.pac_main.proofs.StopLemmas.{Told}
 
@@ -156,6 +156,8 @@ module _ (limit : ℕ) (devices : ObservedDevices) (sink errors : Observed) wher
   status (NotEmpty device length) h = absurd h
   status InputFault h = absurd h
   status TooLong h = absurd h
+  status (LogFull need) h = absurd h
+  status (TooLarge bytes) h = absurd h
 
   -- a device's refusal is told
   refused : (stop : Stop) → ADeviceRefusal stop → IsUnrecovered limit devices sink stop → IsTold errors (line_of stop) → IsRefusedStore devices.before errors
@@ -185,6 +187,8 @@ module _ (limit : ℕ) (devices : ObservedDevices) (sink errors : Observed) wher
     complete (NotEmpty device length) h f none stays = absurd h
     complete InputFault h f none stays = absurd h
     complete TooLong h f none stays = absurd h
+    complete (LogFull need) h f none stays = absurd h
+    complete (TooLarge bytes) h f none stays = absurd h
 
     stopped : (stop : Stop) → IsUnrecovered limit devices sink stop → IsFrontUnrecovered limit catalogue history least sink stop → RecoversFront limit (status_of stop) catalogue history least devices sink
     stopped stop h f = record {

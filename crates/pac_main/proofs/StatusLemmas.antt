@@ -6,7 +6,7 @@ use Rattle.pac_init.specs.declared.device.DeviceName.{DeviceName}
 use Rattle.pac_recover.specs.declared.errors.Damage.{Damage}
 use Rattle.pac_main.specs.Stop.{status_of}
 use Rattle.pac_main.specs.declared.stop.Stop.{Stop}
-use Rattle.pac_main.specs.declared.stop.Stop.TheVariants.{Usage, Script as ScriptStop, NotEmpty, NoStore, Damaged, Aborted, RowsOver, InputFault, OutputFault, DiskFault, NoMemory, TooLong}
+use Rattle.pac_main.specs.declared.stop.Stop.TheVariants.{Usage, Script as ScriptStop, NotEmpty, NoStore, Damaged, Aborted, RowsOver, InputFault, OutputFault, DiskFault, NoMemory, LogFull, TooLong, TooLarge}
 
 pub record AnAbort (stop : Stop) : Type 0 where
   pub note : Note
@@ -31,6 +31,14 @@ pub record ADamage (stop : Stop) : Type 0 where
   pub damage : Damage
   pub is : stop ≡ Damaged damage
 
+pub record AFullLog (stop : Stop) : Type 0 where
+  pub need : ℕ
+  pub is : stop ≡ LogFull need
+
+pub record ALargeSlot (stop : Stop) : Type 0 where
+  pub bytes : ℕ
+  pub is : stop ≡ TooLarge bytes
+
 -- why devices are refused
 abbrev pub ADeviceRefusal : Stop → Type 0
 ADeviceRefusal stop = AFullDevice stop ⊎ ((stop ≡ NoStore) ⊎ ADamage stop)
@@ -48,6 +56,8 @@ never_done OutputFault zero = omega (arith, zero)
 never_done DiskFault zero = omega (arith, zero)
 never_done NoMemory zero = omega (arith, zero)
 never_done TooLong zero = omega (arith, zero)
+never_done (LogFull need) zero = omega (arith, zero)
+never_done (TooLarge bytes) zero = omega (arith, zero)
 
 pub refused_of : (stop : Stop) → status_of stop ≡ 2 → ARefusal stop
 refused_of (ScriptStop fault) two = record { fault = fault; is = refl }
@@ -62,6 +72,8 @@ refused_of OutputFault two = absurd (omega (arith, two))
 refused_of DiskFault two = absurd (omega (arith, two))
 refused_of NoMemory two = absurd (omega (arith, two))
 refused_of TooLong two = absurd (omega (arith, two))
+refused_of (LogFull need) two = absurd (omega (arith, two))
+refused_of (TooLarge bytes) two = absurd (omega (arith, two))
 
 pub device_of : (stop : Stop) → status_of stop ≡ 3 → ADeviceRefusal stop
 device_of (NotEmpty device length) three = inl (record { device = device; length = length; is = refl })
@@ -76,6 +88,8 @@ device_of OutputFault three = absurd (omega (arith, three))
 device_of DiskFault three = absurd (omega (arith, three))
 device_of NoMemory three = absurd (omega (arith, three))
 device_of TooLong three = absurd (omega (arith, three))
+device_of (LogFull need) three = absurd (omega (arith, three))
+device_of (TooLarge bytes) three = absurd (omega (arith, three))
 
 pub aborted_of : (stop : Stop) → status_of stop ≡ 4 → AnAbort stop
 aborted_of (Aborted note) four = record { note = note; is = refl }
@@ -90,6 +104,8 @@ aborted_of OutputFault four = absurd (omega (arith, four))
 aborted_of DiskFault four = absurd (omega (arith, four))
 aborted_of NoMemory four = absurd (omega (arith, four))
 aborted_of TooLong four = absurd (omega (arith, four))
+aborted_of (LogFull need) four = absurd (omega (arith, four))
+aborted_of (TooLarge bytes) four = absurd (omega (arith, four))
 
 pub over_of : (stop : Stop) → status_of stop ≡ 5 → AnOver stop
 over_of (RowsOver name rows most) five = record { name = name; rows = rows; most = most; is = refl }
@@ -104,6 +120,8 @@ over_of OutputFault five = absurd (omega (arith, five))
 over_of DiskFault five = absurd (omega (arith, five))
 over_of NoMemory five = absurd (omega (arith, five))
 over_of TooLong five = absurd (omega (arith, five))
+over_of (LogFull need) five = absurd (omega (arith, five))
+over_of (TooLarge bytes) five = absurd (omega (arith, five))
 
 pub input_of : (stop : Stop) → status_of stop ≡ 6 → stop ≡ InputFault
 input_of InputFault six = refl
@@ -118,6 +136,8 @@ input_of OutputFault six = absurd (omega (arith, six))
 input_of DiskFault six = absurd (omega (arith, six))
 input_of NoMemory six = absurd (omega (arith, six))
 input_of TooLong six = absurd (omega (arith, six))
+input_of (LogFull need) six = absurd (omega (arith, six))
+input_of (TooLarge bytes) six = absurd (omega (arith, six))
 
 pub output_of : (stop : Stop) → status_of stop ≡ 7 → stop ≡ OutputFault
 output_of OutputFault seven = refl
@@ -132,6 +152,8 @@ output_of InputFault seven = absurd (omega (arith, seven))
 output_of DiskFault seven = absurd (omega (arith, seven))
 output_of NoMemory seven = absurd (omega (arith, seven))
 output_of TooLong seven = absurd (omega (arith, seven))
+output_of (LogFull need) seven = absurd (omega (arith, seven))
+output_of (TooLarge bytes) seven = absurd (omega (arith, seven))
 
 pub disk_of : (stop : Stop) → status_of stop ≡ 8 → stop ≡ DiskFault
 disk_of DiskFault eight = refl
@@ -146,9 +168,13 @@ disk_of InputFault eight = absurd (omega (arith, eight))
 disk_of OutputFault eight = absurd (omega (arith, eight))
 disk_of NoMemory eight = absurd (omega (arith, eight))
 disk_of TooLong eight = absurd (omega (arith, eight))
+disk_of (LogFull need) eight = absurd (omega (arith, eight))
+disk_of (TooLarge bytes) eight = absurd (omega (arith, eight))
 
 pub long_of : (stop : Stop) → status_of stop ≡ 11 → stop ≡ TooLong
 long_of TooLong eleven = refl
+long_of (LogFull need) eleven = absurd (omega (arith, eleven))
+long_of (TooLarge bytes) eleven = absurd (omega (arith, eleven))
 long_of Usage eleven = absurd (omega (arith, eleven))
 long_of (ScriptStop fault) eleven = absurd (omega (arith, eleven))
 long_of (NotEmpty device length) eleven = absurd (omega (arith, eleven))
@@ -160,3 +186,35 @@ long_of InputFault eleven = absurd (omega (arith, eleven))
 long_of OutputFault eleven = absurd (omega (arith, eleven))
 long_of DiskFault eleven = absurd (omega (arith, eleven))
 long_of NoMemory eleven = absurd (omega (arith, eleven))
+
+pub full_of : (stop : Stop) → status_of stop ≡ 10 → AFullLog stop
+full_of (LogFull need) ten = record { need = need; is = refl }
+full_of Usage ten = absurd (omega (arith, ten))
+full_of (ScriptStop fault) ten = absurd (omega (arith, ten))
+full_of (NotEmpty device length) ten = absurd (omega (arith, ten))
+full_of NoStore ten = absurd (omega (arith, ten))
+full_of (Damaged damage) ten = absurd (omega (arith, ten))
+full_of (Aborted note) ten = absurd (omega (arith, ten))
+full_of (RowsOver name rows most) ten = absurd (omega (arith, ten))
+full_of InputFault ten = absurd (omega (arith, ten))
+full_of OutputFault ten = absurd (omega (arith, ten))
+full_of DiskFault ten = absurd (omega (arith, ten))
+full_of NoMemory ten = absurd (omega (arith, ten))
+full_of TooLong ten = absurd (omega (arith, ten))
+full_of (TooLarge bytes) ten = absurd (omega (arith, ten))
+
+pub large_of : (stop : Stop) → status_of stop ≡ 12 → ALargeSlot stop
+large_of (TooLarge bytes) twelve = record { bytes = bytes; is = refl }
+large_of Usage twelve = absurd (omega (arith, twelve))
+large_of (ScriptStop fault) twelve = absurd (omega (arith, twelve))
+large_of (NotEmpty device length) twelve = absurd (omega (arith, twelve))
+large_of NoStore twelve = absurd (omega (arith, twelve))
+large_of (Damaged damage) twelve = absurd (omega (arith, twelve))
+large_of (Aborted note) twelve = absurd (omega (arith, twelve))
+large_of (RowsOver name rows most) twelve = absurd (omega (arith, twelve))
+large_of InputFault twelve = absurd (omega (arith, twelve))
+large_of OutputFault twelve = absurd (omega (arith, twelve))
+large_of DiskFault twelve = absurd (omega (arith, twelve))
+large_of NoMemory twelve = absurd (omega (arith, twelve))
+large_of (LogFull need) twelve = absurd (omega (arith, twelve))
+large_of TooLong twelve = absurd (omega (arith, twelve))

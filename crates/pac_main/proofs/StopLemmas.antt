@@ -16,7 +16,7 @@ use Rattle.pac_main.specs.Streams.{IsOneOf, IsTold, Observed, ObservedDevices}
 use Rattle.pac_main.specs.declared.input.InputError.{InputError}
 use Rattle.pac_main.specs.declared.input.InputError.TheVariants as input
 use Rattle.pac_main.specs.declared.stop.Stop.{Stop}
-use Rattle.pac_main.specs.declared.stop.Stop.TheVariants.{Usage, Script as ScriptStop, NotEmpty, NoStore, Damaged, Aborted, RowsOver, InputFault, OutputFault, DiskFault, NoMemory, TooLong}
+use Rattle.pac_main.specs.declared.stop.Stop.TheVariants.{Usage, Script as ScriptStop, NotEmpty, NoStore, Damaged, Aborted, RowsOver, InputFault, OutputFault, DiskFault, NoMemory, LogFull, TooLong, TooLarge}
 use Rattle.pac_main.proofs.StatusLemmas.{ADeviceRefusal, AFullDevice, aborted_of, device_of, disk_of, input_of, long_of, never_done, output_of, over_of, refused_of}
 
 -- a stop is told itself, or there was no memory for its line
@@ -50,6 +50,8 @@ module _ (limit : ℕ) (source sink : Observed) where
   replay-script script InputFault is h = absurd h
   replay-script script OutputFault is h = absurd h
   replay-script script TooLong is h = absurd h
+  replay-script script (LogFull need) is h = absurd h
+  replay-script script (TooLarge bytes) is h = absurd h
 
   replay_status : (stop : Stop) → ReplayStops limit source sink stop → IsOneOf (status_of stop) (0 ∷ 2 ∷ 4 ∷ 5 ∷ 6 ∷ 7 ∷ 9 ∷ 11 ∷ [])
   replay_status Usage h = absurd h
@@ -64,6 +66,8 @@ module _ (limit : ℕ) (source sink : Observed) where
   replay_status OutputFault h = refl
   replay_status NoMemory h = refl
   replay_status TooLong h = refl
+  replay_status (LogFull need) h = absurd h
+  replay_status (TooLarge bytes) h = absurd h
 
   ends_told : (errors : Observed) (stop : Stop) → ReplayStops limit source sink stop → IsTold errors (line_of stop) → ReplayEnds limit (status_of stop) source sink errors
   ends_told errors stop cause line = record {
@@ -115,6 +119,8 @@ module _ (with_text : Bool) (source sink : Observed) where
   explain_status (Aborted note) h = absurd h
   explain_status (RowsOver name rows most) h = absurd h
   explain_status TooLong h = absurd h
+  explain_status (LogFull need) h = absurd h
+  explain_status (TooLarge bytes) h = absurd h
 
   explained_told : (errors : Observed) (stop : Stop) → ExplainStops with_text source sink stop → IsTold errors (line_of stop) → ExplainEnds with_text (status_of stop) source sink errors
   explained_told errors stop cause line = record {
@@ -151,6 +157,8 @@ module _ (source : Observed) (devices : ObservedDevices) where
   init_status (RowsOver name rows most) h = absurd h
   init_status OutputFault h = absurd h
   init_status TooLong h = absurd h
+  init_status (LogFull need) h = absurd h
+  init_status (TooLarge bytes) h = absurd h
 
   init_untouched : (stop : Stop) → InitStops source devices stop → (status_of stop ≡ 8 → ⊥) → AreUntouched devices
   init_untouched (ScriptStop fault) h other = h.0
@@ -165,6 +173,8 @@ module _ (source : Observed) (devices : ObservedDevices) where
   init_untouched (RowsOver name rows most) h other = absurd h
   init_untouched OutputFault h other = absurd h
   init_untouched TooLong h other = absurd h
+  init_untouched (LogFull need) h other = absurd h
+  init_untouched (TooLarge bytes) h other = absurd h
 
   full_device : (stop : Stop) → ADeviceRefusal stop → InitStops source devices stop → AFullDevice stop
   full_device stop (inl d) h = d
@@ -201,6 +211,8 @@ module _ (source : Observed) (devices : ObservedDevices) where
       no_disk OutputFault memory eight = omega (arith, eight)
       no_disk NoMemory memory eight = omega (arith, eight)
       no_disk TooLong memory eight = omega (arith, eight)
+      no_disk (LogFull need) memory eight = omega (arith, eight)
+      no_disk (TooLarge bytes) memory eight = omega (arith, eight)
 
   pub init-ends : (errors : Observed) (stop told : Stop) (status : ℕ) → status ≡ status_of told → Told stop told → InitStops source devices stop → IsTold errors (line_of told) → InitEnds status source errors devices
   init-ends errors stop told status is which cause line =

@@ -9,6 +9,8 @@ use Rattle.pac_store.specs.Stands.{StandsFor}
 use Rattle.pac_recover.specs.Limits.{IsFirstOver}
 use Rattle.pac_recover.specs.Recovering.{AbortsIn, IsFrontOverLimit, IsOverIn}
 use Rattle.pac_request.specs.declared.script.Script.{Script}
+use Rattle.pac_run.specs.declared.stop.RunStop.{RunStop}
+use Rattle.pac_run.specs.declared.stop.RunStop.TheVariants as run
 use Rattle.pac_main.specs.declared.input.InputError.{InputError}
 use Rattle.pac_main.specs.declared.input.InputError.TheVariants as input
 use Rattle.pac_main.specs.declared.stop.Stop.{Stop}
@@ -48,7 +50,9 @@ ReplayStops limit source sink stop.InputFault = FaultsRose source
 ReplayStops limit source sink stop.OutputFault = FaultsRose sink × IsDumpOf limit source.before (IsFrontTaken sink)
 ReplayStops limit source sink stop.DiskFault = ⊥
 ReplayStops limit source sink stop.NoMemory = Unit {0}
+ReplayStops limit source sink (stop.LogFull need) = ⊥
 ReplayStops limit source sink stop.TooLong = IsLongScript source.before
+ReplayStops limit source sink (stop.TooLarge bytes) = ⊥
 
 -- ---- `explain`
 
@@ -120,3 +124,19 @@ pub record IsRecovered (limit : ℕ) (devices : ObservedDevices) (sink : Observe
   pub stands : (text : List ℕ) (catalogue : CatalogueState) (history : List Txn) (least : ℕ)
       → WhereHeld (λ images. StandsFor text catalogue history least images → IsDumpOfFront limit catalogue history least (IsTaken sink)) devices.before
   pub quiet : devices.faults_behind ≡ devices.faults_before
+
+-- ---- `run`
+
+-- why a run stops before its end, by its own stop; where it stopped is said by the run
+abbrev pub RunCause : ℕ → Observed → Observed → ObservedDevices → RunStop → Type 0
+RunCause limit source sink devices run.NoStore = HasNoStore devices.before
+RunCause limit source sink devices (run.Damaged damage) = HasDamage damage devices.before
+RunCause limit source sink devices (run.AbortInLog note) = WhereHeld (AbortsIn note) devices.before
+RunCause limit source sink devices (run.RowsOver name rows most) = (most ≡ limit) × WhereHeld (IsOverIn name rows limit) devices.before
+RunCause limit source sink devices run.InputFault = FaultsRose source
+RunCause limit source sink devices run.OutputFault = FaultsRose sink
+RunCause limit source sink devices run.DiskFault = OneRose devices.faults_before devices.faults_behind
+RunCause limit source sink devices run.NoMemory = Unit {0}
+RunCause limit source sink devices (run.LogFull need) = Unit {0}
+RunCause limit source sink devices run.TooLong = Unit {0}
+RunCause limit source sink devices (run.TooLarge bytes) = Unit {0}

@@ -3,6 +3,8 @@ pub mod Streams
 pub mod Stop
 pub mod Commands
 pub mod Replay
+pub mod Run
+pub mod Headline
 pub mod Explained
 pub mod Init
 pub mod Recover

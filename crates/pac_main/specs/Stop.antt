@@ -24,10 +24,12 @@ use Rattle.pac_recover.specs.declared.errors.Damage.TheVariants.{Log, Slot}
 use Rattle.pac_recover.specs.declared.errors.RecoverError.{RecoverError}
 use Rattle.pac_recover.specs.declared.errors.RecoverError.TheVariants as recover
 use Rattle.pac_recover.specs.declared.limit.TooManyRows.{TooManyRows}
+use Rattle.pac_run.specs.declared.stop.RunStop.{RunStop}
+use Rattle.pac_run.specs.declared.stop.RunStop.TheVariants as run
 use Rattle.pac_main.specs.declared.input.InputError.{InputError}
 use Rattle.pac_main.specs.declared.input.InputError.TheVariants as input
 use Rattle.pac_main.specs.declared.stop.Stop.{Stop}
-use Rattle.pac_main.specs.declared.stop.Stop.TheVariants.{Usage, Script, NotEmpty, NoStore, Damaged, Aborted, RowsOver, InputFault, OutputFault, DiskFault, NoMemory, TooLong}
+use Rattle.pac_main.specs.declared.stop.Stop.TheVariants.{Usage, Script, NotEmpty, NoStore, Damaged, Aborted, RowsOver, InputFault, OutputFault, DiskFault, NoMemory, LogFull, TooLong, TooLarge}
 use Rattle.pac_main.specs.declared.tell.WordsError.{WordsError}
 use Rattle.pac_main.specs.declared.tell.WordsError.TheVariants as words
 
@@ -44,7 +46,9 @@ status_of InputFault = 6
 status_of OutputFault = 7
 status_of DiskFault = 8
 status_of NoMemory = 9
+status_of (LogFull need) = 10
 status_of TooLong = 11
+status_of (TooLarge bytes) = 12
 
 -- the transaction's number, the operation's, and the reason
 abbrev pub abort_line : Note → List ℕ
@@ -84,6 +88,14 @@ abbrev pub damaged_line : Damage → List ℕ
 damaged_line (Log at kind) = damaged_at TheLog at (damage_name kind)
 damaged_line (Slot slot at kind) = damaged_at (slot_device slot) at (slot_damage_name kind)
 
+-- how many bytes a log that is full would have
+abbrev pub full_line : ℕ → List ℕ
+full_line need = codes "log full " ++ decimal need ++ codes "\n"
+
+-- how many bytes a slot would have with a checkpoint that is too large
+abbrev pub too_large_line : ℕ → List ℕ
+too_large_line bytes = codes "checkpoint too large " ++ decimal bytes ++ codes "\n"
+
 -- whether a stop's line has numbers, and is made
 abbrev pub takes_memory : Stop → Bool
 takes_memory (Script fault) = true
@@ -91,6 +103,8 @@ takes_memory (NotEmpty device length) = true
 takes_memory (Damaged damage) = true
 takes_memory (Aborted note) = true
 takes_memory (RowsOver name rows limit) = true
+takes_memory (LogFull need) = true
+takes_memory (TooLarge bytes) = true
 takes_memory _ = false
 
 -- the line that the error sink is told of a stop
@@ -108,7 +122,9 @@ line_of InputFault = codes "input fault\n"
 line_of OutputFault = codes "output fault\n"
 line_of DiskFault = codes "disk fault\n"
 line_of NoMemory = codes "no memory\n"
+line_of (LogFull need) = full_line need
 line_of TooLong = codes "input too long\n"
+line_of (TooLarge bytes) = too_large_line bytes
 
 -- words that can't be read are no command's, or there was no memory for them
 abbrev pub stop_of_words : WordsError → Stop
@@ -145,3 +161,17 @@ stop_of_recover (recover.AbortInLog note) = Aborted note
 stop_of_recover (recover.RowsOver name rows limit) = RowsOver name rows limit
 stop_of_recover recover.DiskFault = DiskFault
 stop_of_recover recover.NoMemory = NoMemory
+
+-- a run that stops before its end does so with its cause
+abbrev pub stop_of_run : RunStop → Stop
+stop_of_run run.NoStore = NoStore
+stop_of_run (run.Damaged damage) = Damaged damage
+stop_of_run (run.AbortInLog note) = Aborted note
+stop_of_run (run.RowsOver name rows limit) = RowsOver name rows limit
+stop_of_run run.InputFault = InputFault
+stop_of_run run.OutputFault = OutputFault
+stop_of_run run.DiskFault = DiskFault
+stop_of_run run.NoMemory = NoMemory
+stop_of_run (run.LogFull need) = LogFull need
+stop_of_run run.TooLong = TooLong
+stop_of_run (run.TooLarge bytes) = TooLarge bytes

@@ -1,11 +1,12 @@
 // The commands, by the words of the command line.
 ghost use Rattle.std.specs.Prelude.{◌≡◌, ◌≢◌, ◌↔◌, ◌∷◌, ℕ, [], Bool, ◌+◌};
 ghost use Rattle.pac_outside.specs.Content.{GaveAtMost};
-ghost use Rattle.pac_main.specs.Commands.{AsksRecover, IsExplain, IsInit, IsRecover, IsReplay, NamesCommand};
+ghost use Rattle.pac_main.specs.Commands.{AsksRecover, AsksRun, IsExplain, IsInit, IsRecover, IsReplay, IsRunOf, NamesCommand};
 ghost use Rattle.pac_main.specs.Explained.{ExplainEnds};
 ghost use Rattle.pac_main.specs.Init.{InitEnds};
 ghost use Rattle.pac_main.specs.Recover.{RecoverEnds};
 ghost use Rattle.pac_main.specs.Replay.{ReplayEnds};
+ghost use Rattle.pac_main.specs.Run.{RunEnds};
 ghost use Rattle.pac_main.specs.Stop.{status_of, line_of};
 ghost use Rattle.pac_main.specs.Streams.{IsOneOf, IsTold, observed, observed_devices};
 ghost use Rattle.pac_main.specs.declared.stop.Stop.{Stop as AStop};
@@ -15,6 +16,7 @@ use crate::init::init_input;
 use crate::limits::MAX_INPUT;
 use crate::recover::recover_devices;
 use crate::replay::replay_input;
+use crate::run::run_devices;
 use crate::tell::{WordsError, refuse_words};
 use pac_base::NoMemory;
 use pac_outside::{Devices, Disk, Gate, Sink, Source};
@@ -35,15 +37,16 @@ use std::thread::Threads;
 ///   one's tables, and writes the tables where none has more rows than `--rows` says, or 1,000,000. The number of workers,
 ///   from 1 to 64, changes nothing. It reads no input, and no device is written or synced. All batches of the log are held in
 ///   memory.
-/// - `run` and `stress` are read, and answered as words that are no command: they don't run yet.
+/// - `run [--batch N] [--rows N]` does what [`crate::run_command`] says.
+/// - `stress` is read, and answered as words that are no command: it doesn't run yet.
 ///
 /// | status | comes | the error sink takes |
 /// |---|---|---|
-/// | 0 | else: the output took the dump of a replay or a recovery, or the explanation; or the store is there | nothing |
+/// | 0 | else: the output took the dump of a replay or a recovery, or the explanation, or all replies of a run; or the store is there | nothing |
 /// | 1 | exactly where the words name no command that runs, unless there was no memory to read them | `usage: pacman init, run, recover, explain, replay or stress` |
 /// | 2 | only where the input is no script, or its catalogue is refused | its first fault: `catalogue AT KIND` where the catalogue's text isn't read, or isn't typed; `operations PROC COUNT` where its operations are too many: the first procedure at which they are, and how many; else, of `replay` alone, `script LINE AT KIND`: the first line that is refused, from 1 on, and its fault |
 /// | 3 | only where a device of a store that is to be made has a byte; the first of the log, slot a and slot b | `not empty DEVICE LENGTH` |
-/// | 3 | only where the log of a store that is to be recovered doesn't begin as one | `no store` |
+/// | 3 | only where the log of a store that is to be recovered or run doesn't begin as one | `no store` |
 /// | 3 | or where it is damaged: its first damage, of the log, slot a and slot b, and then of the slots' places in the log | `damaged DEVICE AT KIND` |
 /// | 4 | only where serial execution of the transactions of a replay, or of those that are stored, aborts | `abort TXN OP REASON` |
 /// | 5 | only where they end with a table that has more rows than the limit; the first | `rows TABLE ROWS LIMIT` |
@@ -51,7 +54,9 @@ use std::thread::Threads;
 /// | 7 | only where the output's count of faults rose; the output took a front of its text | `output fault` |
 /// | 8 | only where a device's count of faults rose | `disk fault` |
 /// | 9 | where an allocation was refused | `no memory` |
-/// | 11 | only where the input of a replay has more than 67,108,864 bytes | `input too long` |
+/// | 10 | only where the log has no room for a group of a run, with which it would have so many bytes | `log full NEED` |
+/// | 11 | only where the input of a replay has more than 67,108,864 bytes, or more are read in a run before a line `stop` | `input too long` |
+/// | 12 | only where a slot has no room for a checkpoint of a run, with which it would have so many bytes | `checkpoint too large BYTES` |
 ///
 /// A failing error sink changes no status. The call waits for nobody: it enters no gate, and hands the runtime to nothing.
 pub fn pacman<RT: Threads + Wait + Sync, I: Source, O: Sink, E: Sink, D: Disk, G: Gate + Sync>(
@@ -64,12 +69,14 @@ pub fn pacman<RT: Threads + Wait + Sync, I: Source, O: Sink, E: Sink, D: Disk, G
     devices: &mut Devices<D>,
     gate: &G,
 ) -> u8
-    ensures status { IsOneOf result (0 ∷ 1 ∷ 2 ∷ 3 ∷ 4 ∷ 5 ∷ 6 ∷ 7 ∷ 8 ∷ 9 ∷ 11 ∷ []) }
+    ensures status { IsOneOf result (0 ∷ 1 ∷ 2 ∷ 3 ∷ 4 ∷ 5 ∷ 6 ∷ 7 ∷ 8 ∷ 9 ∷ 10 ∷ 11 ∷ 12 ∷ []) }
 
     // Each command ends so, by its status; where the words name none that runs, it is 1.
     ensures usage { result ≢ 9 → (result ≡ 1) ↔ ¬ NamesCommand words.now }
     ensures init { IsInit words.now → InitEnds result
         (observed I.left I.faults input.old input.new) (observed E.held E.faults errors.old errors.new) (observed_devices D.told D.faults devices.old devices.new) }
+    ensures run { (batch limit : ℕ) → IsRunOf words.now batch limit → RunEnds batch limit result
+        (observed I.left I.faults input.old input.new) (observed O.held O.faults output.old output.new) (observed E.held E.faults errors.old errors.new) (observed_devices D.told D.faults devices.old devices.new) }
     ensures recover { (limit : ℕ) → IsRecover words.now limit → RecoverEnds limit result
         (observed_devices D.told D.faults devices.old devices.new) (observed O.held O.faults output.old output.new) (observed E.held E.faults errors.old errors.new) }
     ensures replay { (limit : ℕ) → IsReplay words.now limit → ReplayEnds limit result
@@ -77,8 +84,8 @@ pub fn pacman<RT: Threads + Wait + Sync, I: Source, O: Sink, E: Sink, D: Disk, G
     ensures explain { (with_text : Bool) → IsExplain words.now with_text → ExplainEnds with_text result
         (observed I.left I.faults input.old input.new) (observed O.held O.faults output.old output.new) (observed E.held E.faults errors.old errors.new) }
 
-    // The output takes something with the statuses 0 and 7 alone, and nothing from `init`.
-    ensures kept { result ≢ 0 → result ≢ 7 → output.new ≡ output.old }
+    // But in a run, the output takes something with the statuses 0 and 7 alone. It takes nothing from `init`.
+    ensures kept { ¬ AsksRun words.now → result ≢ 0 → result ≢ 7 → output.new ≡ output.old }
     ensures silent { IsInit words.now → output.new ≡ output.old }
 
     // The error sink takes the status's line.
@@ -90,10 +97,13 @@ pub fn pacman<RT: Threads + Wait + Sync, I: Source, O: Sink, E: Sink, D: Disk, G
     ensures taken { GaveAtMost (MAX_INPUT + 1) (I.left input.old) (I.left input.new) }
     ensures unread { ¬ NamesCommand words.now → input.new ≡ input.old }
     ensures no_input { AsksRecover words.now → input.new ≡ input.old }
-    ensures devices { ¬ IsInit words.now → ¬ AsksRecover words.now → devices.new ≡ devices.old }
+    ensures devices { ¬ IsInit words.now → ¬ AsksRun words.now → ¬ AsksRecover words.now → devices.new ≡ devices.old }
 {
     match order_of(alloc, words) {
         Ok(Some(Order::Init)) => init_input(alloc, input, errors, devices),
+        Ok(Some(Order::Run { batch, rows })) => {
+            run_devices(alloc, batch, rows, input, output, errors, devices)
+        }
         Ok(Some(Order::Recover { workers, rows })) => {
             recover_devices(alloc, workers, rows, output, errors, devices, gate)
         }

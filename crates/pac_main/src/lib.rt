@@ -2,11 +2,14 @@
 //!
 //! - [`pacman`]: does what the words of the command line say, and answers the exit status.
 //! - [`init_command`]: what it does where the words ask for a new store.
+//! - [`run_command`]: what it does where the words ask for a run.
 //! - [`explain_command`]: what it does where the words ask for an explanation.
+//! - [`runs_keep_what_is_acknowledged`] and [`recover_gives_what_is_acknowledged`]: laws over any number of runs, and
+//!   what is recovered behind them.
 //! - [`refuse_words`]: answers the exit status where these words couldn't be read.
 //!
 //! Each command is a file of its own. What the calls answer stands in `specs/`: `Commands` (what the words say, and which
-//! commands run), `Init`, `Recover`, `Replay` and `Explained` (how each command ends, by its status), `Streams` (what is
+//! commands run), `Init`, `Run`, `Recover`, `Replay` and `Explained` (how each command ends, by its status), `Streams` (what is
 //! observed of streams and devices) and `Stop` (the exit statuses and their lines).
 #![tactic(auto)]
 
@@ -16,15 +19,19 @@ mod explain;
 mod explanation;
 mod init;
 mod input;
+mod laws;
 mod limits;
 mod line;
 mod recover;
 mod replay;
+mod run;
 mod stop;
 mod tell;
 
 pub use command::pacman;
 pub use explain::explain_command;
 pub use init::init_command;
+pub use laws::{recover_gives_what_is_acknowledged, runs_keep_what_is_acknowledged};
 pub use limits::MAX_INPUT;
+pub use run::run_command;
 pub use tell::{WordsError, refuse_words};

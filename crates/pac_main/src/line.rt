@@ -1,6 +1,6 @@
 // The lines that have numbers, and so take memory.
 ghost use Rattle.std.specs.Prelude.{◌≡◌, IfOk, IsTrue, MatchOption, false};
-ghost use Rattle.pac_main.specs.Stop.{abort_line, catalogue_line, damaged_at, damaged_line, line_of, not_empty_line, operations_line, rows_line, script_line, slot_device, takes_memory};
+ghost use Rattle.pac_main.specs.Stop.{abort_line, catalogue_line, damaged_at, damaged_line, full_line, line_of, not_empty_line, operations_line, rows_line, script_line, slot_device, takes_memory, too_large_line};
 
 use crate::stop::Stop;
 use pac_base::NoMemory;
@@ -132,6 +132,28 @@ fn damaged_line(alloc: Global, damage: Damage) -> Result<Vec<u8>, NoMemory>
     }
 }
 
+// The line `log full NEED`.
+fn full_line(alloc: Global, need: u64) -> Result<Vec<u8>, NoMemory>
+    ensures { IfOk result (λ line. line.items ≡ full_line need) }
+{
+    let mut line = Vec::new(alloc);
+    line.extend_from_slice(b"log full ")?;
+    push_count(&mut line, need)?;
+    line.extend_from_slice(b"\n")?;
+    Ok(line)
+}
+
+// The line `checkpoint too large BYTES`.
+fn too_large_line(alloc: Global, bytes: u64) -> Result<Vec<u8>, NoMemory>
+    ensures { IfOk result (λ line. line.items ≡ too_large_line bytes) }
+{
+    let mut line = Vec::new(alloc);
+    line.extend_from_slice(b"checkpoint too large ")?;
+    push_count(&mut line, bytes)?;
+    line.extend_from_slice(b"\n")?;
+    Ok(line)
+}
+
 /// The line of a stop, where it has numbers. `None`: its line is one text.
 pub fn made_line(alloc: Global, stop: &Stop) -> Option<Result<Vec<u8>, NoMemory>>
     ensures { MatchOption result (takes_memory stop.now ≡ false) (λ made. IsTrue (takes_memory stop.now) × IfOk made (λ line. line.items ≡ line_of stop.now)) }
@@ -146,6 +168,8 @@ pub fn made_line(alloc: Global, stop: &Stop) -> Option<Result<Vec<u8>, NoMemory>
         Stop::Damaged(damage) => Some(damaged_line(alloc, damage)),
         Stop::Aborted(note) => Some(abort_line(alloc, note)),
         Stop::RowsOver { name, rows, limit } => Some(rows_line(alloc, name, rows, limit)),
+        Stop::LogFull { need } => Some(full_line(alloc, need)),
+        Stop::TooLarge { bytes } => Some(too_large_line(alloc, bytes)),
         _ => None,
     }
 }

@@ -1,6 +1,6 @@
 // Why a command stops before its end.
 ghost use Rattle.std.specs.Prelude.{◌≡◌, IsTrue, MatchOption};
-ghost use Rattle.pac_main.specs.Stop.{status_of, line_of, takes_memory, stop_of_excess, stop_of_input, stop_of_make, stop_of_recover, stop_of_serial};
+ghost use Rattle.pac_main.specs.Stop.{status_of, line_of, takes_memory, stop_of_excess, stop_of_input, stop_of_make, stop_of_recover, stop_of_run, stop_of_serial};
 ghost use Rattle.pac_main.specs.declared.stop.Stop.TheVariants.{OutputFault, NoMemory as WantOfMemory};
 
 use crate::input::InputError;
@@ -10,6 +10,7 @@ use pac_ops::Note;
 use pac_outside::Failed;
 use pac_recover::{Damage, RecoverError, TooManyRows};
 use pac_request::ScriptFault;
+use pac_run::RunStop;
 use pac_serial::AllError;
 use pac_value::Name;
 
@@ -38,8 +39,12 @@ pub enum Stop {
     DiskFault,
     /// An allocation was refused.
     NoMemory,
+    /// The log would have so many bytes, and has no room for them.
+    LogFull { need: u64 },
     /// The input has more bytes than it may.
     TooLong,
+    /// A checkpoint's slot would have so many bytes, and has no room for them.
+    TooLarge { bytes: u64 },
 }
 
 impl From<NoMemory> for Stop {
@@ -127,6 +132,30 @@ impl From<RecoverError> for Stop {
     }
 }
 
+impl From<RunStop> for Stop {
+    ghost from_gives = { λ why stop. stop ≡ stop_of_run why };
+
+    fn from(why: RunStop) -> Self {
+        match why {
+            RunStop::NoStore => Stop::NoStore,
+            RunStop::Damaged(damage) => Stop::Damaged(damage),
+            RunStop::AbortInLog(note) => Stop::Aborted(note),
+            RunStop::RowsOver { table, rows, limit } => Stop::RowsOver {
+                name: table,
+                rows,
+                limit,
+            },
+            RunStop::InputFault => Stop::InputFault,
+            RunStop::OutputFault => Stop::OutputFault,
+            RunStop::DiskFault => Stop::DiskFault,
+            RunStop::NoMemory => Stop::NoMemory,
+            RunStop::LogFull { need } => Stop::LogFull { need },
+            RunStop::TooLong => Stop::TooLong,
+            RunStop::TooLarge { bytes } => Stop::TooLarge { bytes },
+        }
+    }
+}
+
 impl Stop {
     /// The program's exit status.
     pub fn status(self) -> u8
@@ -142,7 +171,9 @@ impl Stop {
             Stop::OutputFault => 7,
             Stop::DiskFault => 8,
             Stop::NoMemory => 9,
+            Stop::LogFull { .. } => 10,
             Stop::TooLong => 11,
+            Stop::TooLarge { .. } => 12,
         }
     }
 
@@ -156,7 +187,9 @@ impl Stop {
             | Stop::NotEmpty { .. }
             | Stop::Damaged(_)
             | Stop::Aborted(_)
-            | Stop::RowsOver { .. } => None,
+            | Stop::RowsOver { .. }
+            | Stop::LogFull { .. }
+            | Stop::TooLarge { .. } => None,
             Stop::NoStore => Some(b"no store\n"),
             Stop::InputFault => Some(b"input fault\n"),
             Stop::OutputFault => Some(b"output fault\n"),

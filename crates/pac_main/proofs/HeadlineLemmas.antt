@@ -1,0 +1,277 @@
+-- Runs one after another keep what they acknowledge.
+use Rattle.std.proofs.Common.{◌≡◌, ◌∙◌, ◌⊎◌, ◌≤◌, ◌+◌, ℕ, zero, suc, List, [], ◌∷◌, ◌++◌, length, length-append, take, drop, Option, Some, None, inl, inr, refl, sym, ap, subst, arith}
+use Rattle.std.specs.Prelude.{IfSome, map}
+use Rattle.std.proofs.Math.Seq.{take-nil}
+use Rattle.std.proofs.lemmas.List.{append-nil, take-append-drop, take-append-le}
+use Rattle.pac_ops.specs.declared.transaction.Txn.{Txn}
+use Rattle.pac_outside.specs.Devices.{AllLeave, AreImages, all_told}
+use Rattle.pac_outside.specs.Disk.{DiskState, History, IsImage, settled}
+use Rattle.pac_outside.proofs.Images.{one_image}
+use Rattle.pac_outside.proofs.Runs.{run_end}
+use Rattle.pac_types.specs.Typing.{CatalogueState}
+use Rattle.pac_log.specs.Logs.{all_txns}
+use Rattle.pac_store.specs.Images.{Images, OfThree}
+use Rattle.pac_store.specs.Stands.{StandsFor}
+use Rattle.pac_store.proofs.StandsLemmas.{goes-on}
+use Rattle.pac_request.specs.declared.request.Request.{Request}
+use Rattle.pac_session.specs.Session.{Rules, SessionState, committed, replies}
+use Rattle.pac_run.specs.Acked.{Acknowledges}
+use Rattle.pac_run.specs.Run.{AtExit, AtMoments, IsBegun, IsExit, WhereAllStand, history_after}
+use Rattle.pac_run.specs.Texts.{texts}
+use Rattle.pac_engine.specs.Standing.{TellsIf}
+use Rattle.pac_main.specs.Headline.{AreRuns, HoldImages, IsNextRun, KeepsAll, OneRun}
+use Rattle.pac_main.specs.Recover.{RecoverEnds, RecoversFront, WhereHeld}
+use Rattle.pac_main.specs.Streams.{Observed, ObservedDevices}
+
+-- ---- fronts of lists
+
+-- a front of a front is one of what stands behind it, too
+front_on : {A : Type 0} (least m : ℕ) (history more : List A) → least ≤ length (take m history) → take least (take m history ++ more) ≡ take least history
+front_on least m history more le =
+    take-append-le least (take m history) more le ∙ sym (take-append-le least (take m history) (drop m history) le) ∙ ap (λ l. take least l) (take-append-drop m history)
+
+take_length : {A : Type 0} (m : ℕ) (l : List A) → m ≤ length l → m ≤ length (take m l)
+take_length zero l le = omega arith
+take_length (suc m) [] le = absurd (omega (arith, le))
+take_length (suc m) (x ∷ l) le = let rest = take_length m l (omega (arith, le)) in omega (arith, rest)
+
+front_of_front : {A : Type 0} (least m : ℕ) (history : List A) → least ≤ length (take m history) → take least (take m history) ≡ take least history
+front_of_front least m history le = sym (take-append-le least (take m history) (drop m history) le) ∙ ap (λ l. take least l) (take-append-drop m history)
+
+-- lists with one front have one shorter front
+take_less : {A : Type 0} (few many : ℕ) (l : List A) → few ≤ many → take few (take many l) ≡ take few l
+take_less zero many l le = refl
+take_less (suc few) zero l le = absurd (omega (arith, le))
+take_less (suc few) (suc many) [] le = refl
+take_less (suc few) (suc many) (x ∷ l) le = ap (λ rest. x ∷ rest) (take_less few many l (omega (arith, le)))
+
+shorter_front : {A : Type 0} (few many : ℕ) (a b : List A) → few ≤ many → take many a ≡ take many b → take few a ≡ take few b
+shorter_front few many a b le same = sym (take_less few many a le) ∙ ap (λ l. take few l) same ∙ take_less few many b le
+
+-- ---- devices that hold images
+
+same_image : (image other : List ℕ) (state : DiskState) → state ≡ settled image → IsImage state other → other ≡ image
+same_image image other state is at = one_image image other (subst (λ (s : DiskState). IsImage s other) is at)
+
+same_images : (images : List (List ℕ)) (devices : List History) → HoldImages images devices → (others : List (List ℕ)) → AreImages devices others → others ≡ images
+same_images [] [] hold [] are = refl
+same_images [] [] hold (other ∷ others) are = absurd are
+same_images [] (device ∷ devices) hold others are = absurd hold
+same_images (image ∷ images) [] hold others are = absurd hold
+same_images (image ∷ images) (device ∷ devices) hold [] are = absurd are
+same_images (image ∷ images) (device ∷ devices) hold (other ∷ others) are =
+    let one = same_image image other device.now hold.0 are.0 in
+    let rest = same_images images devices hold.1 others are.1 in
+    cc
+
+seen_images : (images : List (List ℕ)) (devices : List History) → HoldImages images devices → map (λ device. device.now.seen) devices ≡ images
+seen_images [] [] hold = refl
+seen_images [] (device ∷ devices) hold = absurd hold
+seen_images (image ∷ images) [] hold = absurd hold
+seen_images (image ∷ images) (device ∷ devices) hold =
+    let one : device.now.seen ≡ image = ap (λ (s : DiskState). s.seen) hold.0 in
+    let rest = seen_images images devices hold.1 in
+    cc
+
+-- ---- one run
+
+module _ (text : List ℕ) (catalogue : CatalogueState) where
+  both_three : (P Q : Images → Type 0) (R : Type 0) → ((images : Images) → P images → Q images → R) → (images : List (List ℕ)) → OfThree P images → OfThree Q images → R
+  both_three P Q R f [] p q = absurd p
+  both_three P Q R f (l ∷ []) p q = absurd p
+  both_three P Q R f (l ∷ a ∷ []) p q = absurd p
+  both_three P Q R f (l ∷ a ∷ b ∷ []) p q = f _ p q
+  both_three P Q R f (l ∷ a ∷ b ∷ c ∷ more) p q = absurd p
+
+  one_three : (P : Images → Type 0) (R : Type 0) → ((images : Images) → P images → R) → (images : List (List ℕ)) → OfThree P images → R
+  one_three P R f [] p = absurd p
+  one_three P R f (l ∷ []) p = absurd p
+  one_three P R f (l ∷ a ∷ []) p = absurd p
+  one_three P R f (l ∷ a ∷ b ∷ []) p = f _ p
+  one_three P R f (l ∷ a ∷ b ∷ c ∷ more) p = absurd p
+
+  -- a history is as long as what the log has of it
+  enough_of : (history : List Txn) (least : ℕ) (images : Images) → StandsFor text catalogue history least images → least ≤ length history
+  enough_of history least images stands =
+      let long : length history ≡ length (all_txns stands.batches) + length stands.later = ap length stands.front ∙ length-append (all_txns stands.batches) stands.later in
+      let enough = stands.enough in
+      omega (arith, long, enough)
+
+  -- what stands behind one run
+  pub record Behind (history : List Txn) (least : ℕ) (run : OneRun) (left : List (List ℕ)) : Type 0 where
+    pub next : List Txn
+    pub kept : ℕ
+    pub is : IsNextRun history run next
+    pub more : least ≤ kept
+    pub same : take least next ≡ take least history
+    pub acknowledged : (number : ℕ) → Acknowledges run.ends.is.out number → number ≤ kept
+    pub stands : OfThree (StandsFor text catalogue next kept) left
+
+  -- nothing was written
+  unwritten : (history : List Txn) (least : ℕ) (run : OneRun) (left : List (List ℕ)) → run.ends.is.out ≡ [] → OfThree (StandsFor text catalogue history least) left → Behind history least run left
+  unwritten history least run left none stands = record {
+    next = history;
+    kept = least;
+    is = inl (none, refl);
+    more = omega arith;
+    same = refl;
+    acknowledged = λ number told. absurd (subst (λ (out : List ℕ). Acknowledges out number) none told).1;
+    stands = stands;
+  }
+
+  -- the session began with what is stored
+  begun_number : (history : List Txn) (least place : ℕ) (rules : Rules) (start : SessionState) (images : Images) → StandsFor text catalogue history least images → IsBegun rules place start images
+      → (least ≤ start.number) × (start.number ≤ length history)
+  begun_number history least place rules start images stands begun =
+      let on = goes-on text catalogue history least images begun.recovered.stored stands begun.recovered.is in
+      (subst (λ (n : ℕ). least ≤ n) (sym begun.recovered.counted) on.enough, subst (λ (n : ℕ). n ≤ length history) (sym begun.recovered.counted) on.within)
+
+  module _ (history : List Txn) (least : ℕ) (images left : List (List ℕ)) (run : OneRun) (stands : OfThree (StandsFor text catalogue history least) images) (hold : HoldImages images run.entry) (are : AreImages run.exit left) where
+    all_stand : AllLeave (λ others. OfThree (StandsFor text catalogue history least) others) run.entry
+    all_stand others leave = subst (λ (i : List (List ℕ)). OfThree (StandsFor text catalogue history least) i) (sym (same_images images run.entry hold others leave)) stands
+
+    -- what is said of devices that tell and stand for the history
+    tells : (R : List ℕ → CatalogueState → List Txn → ℕ → List History → List History → Type 0) → WhereAllStand R run.devices.before run.devices.behind → R text catalogue history least run.entry run.exit
+    tells R h = subst (λ (o : Option (List History)). TellsIf stood there (Some run.entry) o) run.told_behind (subst (λ (o : Option (List History)). TellsIf stood there o (all_told run.devices.behind)) run.told (h text catalogue history least)) all_stand
+      where
+        stood : List History → Type 0
+        stood = AllLeave (λ others. OfThree (StandsFor text catalogue history least) others)
+
+        there : List History → List History → Type 0
+        there = R text catalogue history least
+
+    abbrev after : List Txn
+    after = history_after history run.ends.is.rules run.ends.is.start run.ends.is.requests
+
+    at_exit : ((run.ends.is.out ≡ []) × AreImages run.entry left) ⊎ OfThree (IsExit text catalogue after run.ends.is.start.number run.ends.is.out) left
+    at_exit = tells (λ t c h k. AtExit t c h run.ends.is.rules run.ends.is.start run.ends.is.requests run.ends.is.out) run.ends.is.exit left are
+
+    at_end : AreImages run.entry left ⊎ OfThree (StandsFor text catalogue after least) left
+    at_end = run_end (λ others. AreImages run.entry others ⊎ OfThree (StandsFor text catalogue after least) others) run.entry run.exit
+        (tells (λ t c h k. AtMoments t c h k run.ends.is.rules run.ends.is.start run.ends.is.requests) run.ends.is.moments) left are
+
+    -- an image at the exit, where the session began with what is stored
+    committed_behind : (i : Images) → (least ≤ run.ends.is.start.number) × (run.ends.is.start.number ≤ length history) → (e : IsExit text catalogue after run.ends.is.start.number run.ends.is.out i)
+        → (l a b : List ℕ) → left ≡ l ∷ a ∷ b ∷ [] → i ≡ record { log = l; slot_a = a; slot_b = b } → Behind history least run left
+    committed_behind i number e l a b is same =
+        let front = take_length run.ends.is.start.number history number.1 in
+        record {
+          next = after;
+          kept = e.least;
+          is = inr refl;
+          more = omega (arith, number.0, e.more);
+          same = front_on least run.ends.is.start.number history (committed run.ends.is.rules run.ends.is.start run.ends.is.requests) (omega (arith, number.0, front));
+          acknowledged = e.acknowledged;
+          stands = subst (λ (o : List (List ℕ)). OfThree (StandsFor text catalogue after e.least) o) (sym is) (subst (λ (j : Images). StandsFor text catalogue after e.least j) same e.stands.stands);
+        }
+
+    from_exit : (others : List (List ℕ)) → left ≡ others → (least ≤ run.ends.is.start.number) × (run.ends.is.start.number ≤ length history)
+        → OfThree (IsExit text catalogue after run.ends.is.start.number run.ends.is.out) others → Behind history least run left
+    from_exit [] is number e = absurd e
+    from_exit (l ∷ []) is number e = absurd e
+    from_exit (l ∷ a ∷ []) is number e = absurd e
+    from_exit (l ∷ a ∷ b ∷ []) is number e = committed_behind (record { log = l; slot_a = a; slot_b = b }) number e l a b is refl
+    from_exit (l ∷ a ∷ b ∷ c ∷ more) is number e = absurd e
+
+    begun : OfThree (IsBegun run.ends.is.rules run.ends.is.place run.ends.is.start) images → Behind history least run left
+    begun h = at at_exit
+      where
+        number : (least ≤ run.ends.is.start.number) × (run.ends.is.start.number ≤ length history)
+        number = both_three (StandsFor text catalogue history least) (IsBegun run.ends.is.rules run.ends.is.place run.ends.is.start) ((least ≤ run.ends.is.start.number) × (run.ends.is.start.number ≤ length history))
+            (λ i s b. begun_number history least run.ends.is.place run.ends.is.rules run.ends.is.start i s b) images stands h
+
+        at : ((run.ends.is.out ≡ []) × AreImages run.entry left) ⊎ OfThree (IsExit text catalogue after run.ends.is.start.number run.ends.is.out) left → Behind history least run left
+        at (inl none) = unwritten history least run left none.0 (all_stand left none.1)
+        at (inr e) = from_exit left refl number e
+
+    -- where nothing was asked, nothing was written, and what is left is a front of the history with no more behind it
+    unasked : run.ends.is.requests ≡ [] → Behind history least run left
+    unasked none = at at_end
+      where
+        nothing : run.ends.is.out ≡ []
+        nothing = run.ends.is.front.is
+            ∙ ap (λ (r : List Request). take run.ends.is.front.count (texts run.ends.is.rules.catalogue (replies run.ends.is.rules run.ends.is.start r))) none
+            ∙ take-nil run.ends.is.front.count
+
+        shorter : after ≡ take run.ends.is.start.number history
+        shorter = ap (λ (r : List Request). take run.ends.is.start.number history ++ committed run.ends.is.rules run.ends.is.start r) none ∙ append-nil (take run.ends.is.start.number history)
+
+        few : OfThree (StandsFor text catalogue after least) left → least ≤ length after
+        few h = one_three (StandsFor text catalogue after least) (least ≤ length after) (λ i s. enough_of after least i s) left h
+
+        at : AreImages run.entry left ⊎ OfThree (StandsFor text catalogue after least) left → Behind history least run left
+        at (inl same) = unwritten history least run left nothing (all_stand left same)
+        at (inr h) = record {
+          next = after;
+          kept = least;
+          is = inr refl;
+          more = omega arith;
+          same = ap (λ (l : List Txn). take least l) shorter ∙ front_of_front least run.ends.is.start.number history (subst (λ (l : List Txn). least ≤ length l) shorter (few h));
+          acknowledged = λ number told. absurd (subst (λ (out : List ℕ). Acknowledges out number) nothing told).1;
+          stands = h;
+        }
+
+    seen : OfThree (λ i. (run.ends.is.requests ≡ []) ⊎ IsBegun run.ends.is.rules run.ends.is.place run.ends.is.start i) images
+    seen = subst (λ (i : List (List ℕ)). OfThree (λ j. (run.ends.is.requests ≡ []) ⊎ IsBegun run.ends.is.rules run.ends.is.place run.ends.is.start j) i) (seen_images images run.entry hold)
+        (subst (λ (o : Option (List History)). IfSome o (λ devices. OfThree (λ j. (run.ends.is.requests ≡ []) ⊎ IsBegun run.ends.is.rules run.ends.is.place run.ends.is.start j) (map (λ device. device.now.seen) devices))) run.told run.ends.is.begun)
+
+    which : (others : List (List ℕ)) → images ≡ others → OfThree (λ i. (run.ends.is.requests ≡ []) ⊎ IsBegun run.ends.is.rules run.ends.is.place run.ends.is.start i) others → Behind history least run left
+    which [] is h = absurd h
+    which (l ∷ []) is h = absurd h
+    which (l ∷ a ∷ []) is h = absurd h
+    which (l ∷ a ∷ b ∷ []) is (inl none) = unasked none
+    which (l ∷ a ∷ b ∷ []) is (inr h) = begun (subst (λ (i : List (List ℕ)). OfThree (IsBegun run.ends.is.rules run.ends.is.place run.ends.is.start) i) (sym is) h)
+    which (l ∷ a ∷ b ∷ c ∷ more) is h = absurd h
+
+    pub behind : Behind history least run left
+    behind = which images refl seen
+
+  -- ---- any number of runs
+
+  pub keeps-all : (history : List Txn) (least : ℕ) (images left : List (List ℕ)) (runs : List OneRun) → OfThree (StandsFor text catalogue history least) images → AreRuns images runs left → KeepsAll text catalogue history least runs left
+  keeps-all history least images left [] stands same = record {
+    nexts = [];
+    last = history;
+    are = (refl, refl);
+    kept = least;
+    more = omega arith;
+    same = refl;
+    acknowledged = tt;
+    stands = subst (λ (i : List (List ℕ)). OfThree (StandsFor text catalogue history least) i) (sym same) stands;
+  }
+  keeps-all history least images left (run ∷ runs) stands (hold, (next, are, more)) =
+      let first = behind history least images next run stands hold are in
+      let rest = keeps-all first.next first.kept next left runs first.stands more in
+      record {
+        nexts = first.next ∷ rest.nexts;
+        last = rest.last;
+        are = (first.is, rest.are);
+        kept = rest.kept;
+        more = omega (arith, first.more, rest.more);
+        same = shorter_front least first.kept rest.last first.next first.more rest.same ∙ first.same;
+        acknowledged = (λ number told. let few = first.acknowledged number told in (omega (arith, few, rest.more), shorter_front number first.kept rest.last first.next few rest.same), rest.acknowledged);
+        stands = rest.stands;
+      }
+
+-- ---- and what is recovered behind them
+
+recovers_here : (limit status : ℕ) (text : List ℕ) (catalogue : CatalogueState) (history : List Txn) (least : ℕ) (left : List (List ℕ)) (before : List (Option History)) (devices : ObservedDevices) (output : Observed) (entry : List History)
+    → all_told before ≡ Some entry → HoldImages left entry → OfThree (StandsFor text catalogue history least) left
+    → WhereHeld (λ images. StandsFor text catalogue history least images → RecoversFront limit status catalogue history least devices output) before → RecoversFront limit status catalogue history least devices output
+recovers_here limit status text catalogue history least left [] devices output entry told hold stands h = absurd h
+recovers_here limit status text catalogue history least left (a ∷ []) devices output entry told hold stands h = absurd h
+recovers_here limit status text catalogue history least left (a ∷ b ∷ []) devices output entry told hold stands h = absurd h
+recovers_here limit status text catalogue history least left (None ∷ b ∷ c ∷ []) devices output entry told hold stands h = absurd cc
+recovers_here limit status text catalogue history least left (Some l ∷ None ∷ c ∷ []) devices output entry told hold stands h = absurd cc
+recovers_here limit status text catalogue history least left (Some l ∷ Some x ∷ None ∷ []) devices output entry told hold stands h = absurd cc
+recovers_here limit status text catalogue history least left (Some l ∷ Some x ∷ Some y ∷ []) devices output entry told hold stands h =
+    let is : l ∷ x ∷ y ∷ [] ≡ entry = cc in
+    let same = seen_images left (l ∷ x ∷ y ∷ []) (subst (λ (e : List History). HoldImages left e) (sym is) hold) in
+    h (subst (λ (i : List (List ℕ)). OfThree (StandsFor text catalogue history least) i) (sym same) stands)
+recovers_here limit status text catalogue history least left (a ∷ b ∷ c ∷ d ∷ more) devices output entry told hold stands h = absurd h
+
+pub recovers-all : (text : List ℕ) (catalogue : CatalogueState) (history : List Txn) (least : ℕ) (images left : List (List ℕ)) (runs : List OneRun) → (keeps : KeepsAll text catalogue history least runs left)
+    → (limit status : ℕ) (devices : ObservedDevices) (output errors : Observed) (entry : List History) → all_told devices.before ≡ Some entry → HoldImages left entry → RecoverEnds limit status devices output errors
+    → RecoversFront limit status catalogue keeps.last keeps.kept devices output
+recovers-all text catalogue history least images left runs keeps limit status devices output errors entry told hold ends =
+    recovers_here limit status text catalogue keeps.last keeps.kept left devices.before devices output entry told hold keeps.stands (ends.stands text catalogue keeps.last keeps.kept)

@@ -1,0 +1,13 @@
+pub mod AckedLemmas
+pub mod AnswerLemmas
+pub mod CauseLemmas
+pub mod LineLemmas
+pub mod LoopLemmas
+pub mod NameLemmas
+pub mod OpenLemmas
+pub mod PlainLemmas
+pub mod ReadLemmas
+pub mod RunLemmas
+pub mod ServeLemmas
+pub mod StepLemmas
+pub mod StopLemmas

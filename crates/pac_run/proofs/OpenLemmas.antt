@@ -1,0 +1,195 @@
+-- An engine that begins over a store.
+use Rattle.std.proofs.Common.{◌≡◌, ◌∙◌, ◌≤◌, ◌+◌, ℕ, List, [], ◌∷◌, ◌++◌, length, take, Option, Some, None, option_map, Result, Ok, Err, refl, sym, ap, subst, arith}
+use Rattle.std.proofs.Math.Seq.{take-append_seam}
+use Rattle.std.proofs.lemmas.List.{append-nil}
+use Rattle.std.proofs.lemmas.List.Elements.{All-take}
+use Rattle.std.specs.List.{All}
+use Rattle.std.specs.Prelude.{IfOk}
+use Rattle.pac_value.specs.State.{Tables}
+use Rattle.pac_ops.specs.declared.transaction.Txn.{Txn}
+use Rattle.pac_outside.specs.declared.devices.Devices.{Devices}
+use Rattle.pac_outside.specs.Devices.{AreImages, AreSettled, RunsAsBefore, WhereAllTold, each}
+use Rattle.pac_outside.specs.Disk.{History, IsImage, WhereTold, after_sync, settled}
+use Rattle.pac_outside.specs.GateByte.{OneImage}
+use Rattle.pac_outside.proofs.Runs.{run_end}
+use Rattle.pac_types.specs.declared.table.Table.{Table}
+use Rattle.pac_types.specs.Fits.{TxnFits}
+use Rattle.pac_types.specs.Typing.{CatalogueState}
+use Rattle.pac_log.specs.declared.position.NextGate.{NextGate}
+use Rattle.pac_log.specs.Logs.{HoldsLog, all_txns}
+use Rattle.pac_log.specs.Places.{IsBehind, LogEndsAt}
+use Rattle.pac_log.proofs.OneLog.{one_log}
+use Rattle.pac_check.specs.declared.state.SlotState.{SlotState}
+use Rattle.pac_check.specs.SlotStates.{IsSlot}
+use Rattle.pac_store.specs.Images.{Images, WhereRead}
+use Rattle.pac_store.specs.Stands.{EndsWith, IsShutOrFront, StandsFor}
+use Rattle.pac_recover.specs.declared.errors.RecoverError.{RecoverError}
+use Rattle.pac_recover.specs.declared.recovery.Recovered.{Recovered}
+use Rattle.pac_recover.specs.Logs.{HoldsLogUpTo}
+use Rattle.pac_recover.specs.Recovering.{IsRecoveredFront}
+use Rattle.pac_recover.proofs.StandsLemmas.{recovers-front}
+use Rattle.pac_engine.specs.declared.parts.EngineParts.{EngineParts}
+use Rattle.pac_engine.specs.Standing.{EngineStands, HasDevices, durable_of}
+use Rattle.pac_run.specs.Opening.{AllStand, BeginsOver, IsFresh, IsOpenedFrom, StandsForFront}
+
+-- ---- each device by itself
+
+-- what a log holds after a sync is its one image
+pub one-log : (gate : NextGate) (old mid now : Option History) → mid ≡ option_map after_sync old → now ≡ mid → WhereTold (λ h. HoldsLogUpTo gate h.now.seen) mid → WhereTold (λ h. LogEndsAt gate h.now) now
+one-log gate None mid now synced same told = subst (λ (t : Option History). WhereTold (λ h. LogEndsAt gate h.now) t) (sym (same ∙ synced)) tt
+one-log gate (Some h) mid now synced same told =
+    let up : HoldsLogUpTo gate h.now.seen = subst (λ (t : Option History). WhereTold (λ x. HoldsLogUpTo gate x.now.seen) t) synced told in
+    let ends : LogEndsAt gate (settled h.now.seen) = record { text = up.text; batches = up.batches; holds = record { one = refl; has = up.log }; behind = up.end } in
+    subst (λ (t : Option History). WhereTold (λ x. LogEndsAt gate x.now) t) (sym (same ∙ synced)) ends
+
+-- and so it is of a slot
+pub one-slot : (tables : List Table) (state : SlotState) (old mid now : Option History) → mid ≡ option_map after_sync old → now ≡ mid → WhereTold (λ h. IsSlot tables state h.now.seen) mid → WhereTold (λ h. OneImage (IsSlot tables state) h.now) now
+one-slot tables state None mid now synced same told = subst (λ (t : Option History). WhereTold (λ h. OneImage (IsSlot tables state) h.now) t) (sym (same ∙ synced)) tt
+one-slot tables state (Some h) mid now synced same told =
+    let is : IsSlot tables state h.now.seen = subst (λ (t : Option History). WhereTold (λ x. IsSlot tables state x.now.seen) t) synced told in
+    let one : OneImage (IsSlot tables state) (settled h.now.seen) = record { one = refl; has = is } in
+    subst (λ (t : Option History). WhereTold (λ x. OneImage (IsSlot tables state) x.now) t) (sym (same ∙ synced)) one
+
+-- what three devices tell
+pub first-same : (l a b m x y : Option History) → l ∷ a ∷ b ∷ [] ≡ m ∷ x ∷ y ∷ [] → l ≡ m
+first-same l a b m x y same = cc
+
+pub second-same : (l a b m x y : Option History) → l ∷ a ∷ b ∷ [] ≡ m ∷ x ∷ y ∷ [] → a ≡ x
+second-same l a b m x y same = cc
+
+pub third-same : (l a b m x y : Option History) → l ∷ a ∷ b ∷ [] ≡ m ∷ x ∷ y ∷ [] → b ≡ y
+third-same l a b m x y same = cc
+
+-- ---- all three
+
+own-image : (bytes : List ℕ) → IsImage (settled bytes) bytes
+own-image bytes = record { no_shorter = omega arith; no_longer = omega arith; stays = λ place below none. refl }
+
+module _ (engine : EngineParts) (l a b : History) (none : engine.session.txns ≡ []) where
+  abbrev images : Images
+  images = record { log = l.now.seen; slot_a = a.now.seen; slot_b = b.now.seen }
+
+  abbrev entry : List History
+  entry = l ∷ a ∷ b ∷ []
+
+  abbrev now : List History
+  now = after_sync l ∷ after_sync a ∷ after_sync b ∷ []
+
+  module _ (opened : IsOpenedFrom engine (record { log = l.now.seen; slot_a = a.now.seen; slot_b = b.now.seen }))
+      (slot_a : IsSlot engine.session.catalogue.tables engine.slots.a a.now.seen) (slot_b : IsSlot engine.session.catalogue.tables engine.slots.b b.now.seen)
+      (text : List ℕ) (catalogue : CatalogueState) (history : List Txn) (least : ℕ) (is : StandsFor text catalogue history least (record { log = l.now.seen; slot_a = a.now.seen; slot_b = b.now.seen })) where
+    same-log : (text ≡ opened.text) × (catalogue ≡ engine.session.catalogue) × (is.batches ≡ opened.batches)
+    same-log = one_log text opened.text catalogue engine.session.catalogue is.batches opened.batches images.log is.log opened.log
+
+    abbrev recovered : Recovered
+    recovered = record { catalogue = engine.session.catalogue; tables = record { tables = 0; rows = engine.session.tables }; txns = durable_of engine }
+
+    front : IsRecoveredFront catalogue history least recovered
+    front = recovers-front text catalogue history least images is recovered opened.recovered
+
+    counted : durable_of engine ≡ length (all_txns is.batches)
+    counted = opened.behind.txns ∙ ap (λ (bs : List (List Txn)). length (all_txns bs)) (sym same-log.2)
+
+    front-is : take (durable_of engine) history ≡ all_txns is.batches
+    front-is = ap (λ (n : ℕ). take n history) counted ∙ ap (take (length (all_txns is.batches))) is.front ∙ take-append_seam (all_txns is.batches) is.later
+
+    pub here : EngineStands text (take (durable_of engine) history) engine (after_sync l) (after_sync a) (after_sync b)
+    here = record {
+      batches = is.batches;
+      log = record { one = refl; has = subst (λ (c : CatalogueState). HoldsLog text c is.batches l.now.seen) same-log.1 is.log };
+      behind = subst (λ (t : List ℕ). IsBehind t is.batches engine.log.gate) (sym same-log.0) (subst (λ (bs : List (List Txn)). IsBehind opened.text bs engine.log.gate) (sym same-log.2) opened.behind);
+      slot_a = record { one = refl; has = subst (λ (c : CatalogueState). IsShutOrFront text c is.batches a.now.seen) same-log.1 is.slot_a };
+      slot_b = record { one = refl; has = subst (λ (c : CatalogueState). IsShutOrFront text c is.batches b.now.seen) same-log.1 is.slot_b };
+      known_a = slot_a;
+      known_b = slot_b;
+      fit = subst (λ (c : CatalogueState). All (TxnFits c) (take (durable_of engine) history)) same-log.1 (All-take (TxnFits catalogue) (durable_of engine) history is.executes.fit);
+      ends = subst (λ (c : CatalogueState). EndsWith c (take (durable_of engine) history) engine.session.tables) same-log.1 front.ends;
+      split = front-is ∙ sym (append-nil (all_txns is.batches)) ∙ ap (λ (t : List Txn). all_txns is.batches ++ t) (sym none);
+    }
+
+    pub for-front : StandsForFront text catalogue history least engine (after_sync l ∷ after_sync a ∷ after_sync b ∷ [])
+    for-front = record { same = sym same-log.1; enough = front.enough; within = front.within; stands = here }
+
+  begins-all : RunsAsBefore (l ∷ a ∷ b ∷ []) (after_sync l ∷ after_sync a ∷ after_sync b ∷ []) → IsOpenedFrom engine (record { log = l.now.seen; slot_a = a.now.seen; slot_b = b.now.seen })
+      → IsSlot engine.session.catalogue.tables engine.slots.a a.now.seen → IsSlot engine.session.catalogue.tables engine.slots.b b.now.seen → BeginsOver engine (l ∷ a ∷ b ∷ []) (after_sync l ∷ after_sync a ∷ after_sync b ∷ [])
+  begins-all moments opened slot_a slot_b = λ text catalogue history least every.
+      let seen : List (List ℕ) = l.now.seen ∷ a.now.seen ∷ b.now.seen ∷ [] in
+      let are : AreImages entry seen = run_end (AreImages entry) entry now moments seen (own-image l.now.seen, (own-image a.now.seen, (own-image b.now.seen, tt))) in
+      for-front opened slot_a slot_b text catalogue history least (every seen are)
+
+-- ---- where they tell
+
+-- what an engine is read from
+pub record IsReadFrom (engine : EngineParts) (l a b m x y : Option History) : Type 0 where
+  pub runs : WhereAllTold RunsAsBefore (l ∷ a ∷ b ∷ []) (m ∷ x ∷ y ∷ [])
+  pub opened : WhereRead (IsOpenedFrom engine) m x y
+  pub slot_a : WhereTold (λ h. IsSlot engine.session.catalogue.tables engine.slots.a h.now.seen) x
+  pub slot_b : WhereTold (λ h. IsSlot engine.session.catalogue.tables engine.slots.b h.now.seen) y
+
+begins-synced : (engine : EngineParts) (l a b : Option History) → engine.session.txns ≡ [] → IsReadFrom engine l a b (option_map after_sync l) (option_map after_sync a) (option_map after_sync b)
+    → WhereAllTold (BeginsOver engine) (l ∷ a ∷ b ∷ []) (option_map after_sync l ∷ option_map after_sync a ∷ option_map after_sync b ∷ [])
+begins-synced engine None a b none is = tt
+begins-synced engine (Some l) None b none is = tt
+begins-synced engine (Some l) (Some a) None none is = tt
+begins-synced engine (Some l) (Some a) (Some b) none is = begins-all engine l a b none is.runs is.opened is.slot_a is.slot_b
+
+pub begins-told : (engine : EngineParts) (l a b m x y : Option History) (now : List (Option History)) → engine.session.txns ≡ [] → m ≡ option_map after_sync l → x ≡ option_map after_sync a → y ≡ option_map after_sync b → now ≡ m ∷ x ∷ y ∷ []
+    → IsReadFrom engine l a b m x y → WhereAllTold (BeginsOver engine) (l ∷ a ∷ b ∷ []) now
+begins-told engine l a b m x y now none is_m is_x is_y same is =
+    let there = begins-synced engine l a b none (subst (λ (t : Option History). IsReadFrom engine l a b (option_map after_sync l) (option_map after_sync a) t) is_y
+    (subst (λ (t : Option History). IsReadFrom engine l a b (option_map after_sync l) t y) is_x (subst (λ (t : Option History). IsReadFrom engine l a b t x y) is_m is))) in
+    let all : now ≡ option_map after_sync l ∷ option_map after_sync a ∷ option_map after_sync b ∷ [] = cc in
+    subst (λ (t : List (Option History)). WhereAllTold (BeginsOver engine) (l ∷ a ∷ b ∷ []) t) (sym all) there
+
+-- a crash now leaves what a read gave at entry
+pub settled-told : (l a b : Option History) (now : List (Option History)) → now ≡ option_map after_sync l ∷ option_map after_sync a ∷ option_map after_sync b ∷ [] → WhereAllTold AreSettled (l ∷ a ∷ b ∷ []) now
+settled-told l a b after same = subst (λ (t : List (Option History)). WhereAllTold AreSettled (l ∷ a ∷ b ∷ []) t) (sym same) (go l a b)
+  where
+    go : (l a b : Option History) → WhereAllTold AreSettled (l ∷ a ∷ b ∷ []) (option_map after_sync l ∷ option_map after_sync a ∷ option_map after_sync b ∷ [])
+    go None a b = tt
+    go (Some l) None b = tt
+    go (Some l) (Some a) None = tt
+    go (Some l) (Some a) (Some b) = (refl, (refl, (refl, tt)))
+
+-- what is read after a sync is what was read before
+pub told-before : (P : History → Type 0) → ((h : History) → P (after_sync h) → P h) → (old new : Option History) → new ≡ option_map after_sync old → WhereTold P new → WhereTold P old
+told-before P back None new same told = tt
+told-before P back (Some h) new same told = back h (subst (λ (t : Option History). WhereTold P t) same told)
+
+pub read-before : (P : Images → Type 0) (l a b m x y : Option History) → m ≡ option_map after_sync l → x ≡ option_map after_sync a → y ≡ option_map after_sync b → WhereRead P m x y → WhereRead P l a b
+read-before P l a b m x y is_m is_x is_y told =
+    go l a b (subst (λ (t : Option History). WhereRead P (option_map after_sync l) (option_map after_sync a) t) is_y (subst (λ (t : Option History). WhereRead P (option_map after_sync l) t y) is_x (subst (λ (t : Option History). WhereRead P t x y) is_m told)))
+  where
+    go : (l a b : Option History) → WhereRead P (option_map after_sync l) (option_map after_sync a) (option_map after_sync b) → WhereRead P l a b
+    go None a b told = tt
+    go (Some l) None b told = tt
+    go (Some l) (Some a) None told = tt
+    go (Some l) (Some a) (Some b) told = told
+
+-- ---- what is opened
+
+module _ {D : Type 0} (told : D → Option History) (devices : Devices D) (l a b m x y : Option History) (is_m : m ≡ option_map after_sync l) (is_x : x ≡ option_map after_sync a) (is_y : y ≡ option_map after_sync b) (same : each told devices ≡ m ∷ x ∷ y ∷ []) where
+  pub opened-ready : (r : Result EngineParts RecoverError) → IfOk r (λ e. WhereTold (λ h. HoldsLogUpTo e.log.gate h.now.seen) m) → IfOk r (λ e. WhereTold (λ h. IsSlot e.session.catalogue.tables e.slots.a h.now.seen) x)
+      → IfOk r (λ e. WhereTold (λ h. IsSlot e.session.catalogue.tables e.slots.b h.now.seen) y) → IfOk r (λ e. HasDevices told e devices)
+  opened-ready (Err error) log slot_a slot_b = tt
+  opened-ready (Ok e) log slot_a slot_b = record {
+    log = one-log e.log.gate l m (told devices.log) is_m (first-same _ _ _ _ _ _ same) log;
+    slot_a = one-slot e.session.catalogue.tables e.slots.a a x (told devices.slot_a) is_x (second-same _ _ _ _ _ _ same) slot_a;
+    slot_b = one-slot e.session.catalogue.tables e.slots.b b y (told devices.slot_b) is_y (third-same _ _ _ _ _ _ same) slot_b;
+  }
+
+  pub opened-begins : (batch limit : ℕ) (r : Result EngineParts RecoverError) → IfOk r (IsFresh batch limit) → WhereAllTold RunsAsBefore (l ∷ a ∷ b ∷ []) (m ∷ x ∷ y ∷ []) → IfOk r (λ e. WhereRead (IsOpenedFrom e) m x y)
+      → IfOk r (λ e. WhereTold (λ h. IsSlot e.session.catalogue.tables e.slots.a h.now.seen) x) → IfOk r (λ e. WhereTold (λ h. IsSlot e.session.catalogue.tables e.slots.b h.now.seen) y)
+      → IfOk r (λ e. WhereAllTold (BeginsOver e) (l ∷ a ∷ b ∷ []) (each told devices))
+  opened-begins batch limit (Err error) fresh moments opened slot_a slot_b = tt
+  opened-begins batch limit (Ok e) fresh moments opened slot_a slot_b = begins-told e l a b m x y (each told devices) fresh.txns is_m is_x is_y same (record { runs = moments; opened = opened; slot_a = slot_a; slot_b = slot_b })
+
+  pub opened-before : (r : Result EngineParts RecoverError) → IfOk r (λ e. WhereRead (IsOpenedFrom e) m x y) → IfOk r (λ e. WhereRead (IsOpenedFrom e) l a b)
+  opened-before (Err error) opened = tt
+  opened-before (Ok e) opened = read-before (IsOpenedFrom e) l a b m x y is_m is_x is_y opened
+
+  pub settled-before : WhereAllTold AreSettled (l ∷ a ∷ b ∷ []) (each told devices)
+  settled-before = settled-told l a b (each told devices) (all-same (each told devices) m x y l a b same is_m is_x is_y)
+    where
+      all-same : (t : List (Option History)) (m x y l a b : Option History) → t ≡ m ∷ x ∷ y ∷ [] → m ≡ option_map after_sync l → x ≡ option_map after_sync a → y ≡ option_map after_sync b → t ≡ option_map after_sync l ∷ option_map after_sync a ∷ option_map after_sync b ∷ []
+      all-same t m x y l a b e is_m is_x is_y = cc

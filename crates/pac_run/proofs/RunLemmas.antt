@@ -1,0 +1,246 @@
+-- The whole run.
+use Rattle.std.proofs.Common.{◌≡◌, ◌∙◌, ◌⊎◌, inl, inr, ℕ, ◌+◌, ◌≤◌, List, [], ◌∷◌, ◌++◌, length, take, map, Option, Some, None, Result, Ok, Err, OnOk, refl, sym, ap, subst, arith, append_assoc, drop}
+use Rattle.std.specs.Prelude.{IfErr, IfSome, IsErrOf, MatchResult}
+use Rattle.std.specs.FinMap.{empty}
+use Rattle.std.specs.List.{AllByRecursion}
+use Rattle.std.specs.Io.KnownBytes.{prepend_known}
+use Rattle.std.proofs.KnownBytes.{prepend_known-nil}
+use Rattle.std.proofs.lemmas.Grind.{flat_map-append}
+use Rattle.std.proofs.Math.Seq.{take-append_seam}
+use Rattle.std.proofs.lemmas.List.{take-append-drop}
+use Rattle.pac_ops.specs.declared.transaction.Txn.{Txn}
+use Rattle.pac_outside.specs.Devices.{AllLeave, AreImages, RunLeaves, RunsAsBefore, TellsOn, WhereAllTold, all_told}
+use Rattle.pac_outside.specs.Disk.{History, WhereTold}
+use Rattle.pac_outside.proofs.Runs.{run_end, run_then, weaken_run}
+use Rattle.pac_types.specs.CatalogueText.{HasCatalogue}
+use Rattle.pac_types.specs.Typing.{CatalogueState}
+use Rattle.pac_log.specs.declared.position.NextGate.{NextGate}
+use Rattle.pac_store.specs.Images.{Images, OfThree, WhereRead}
+use Rattle.pac_store.specs.Stands.{StandsFor}
+use Rattle.pac_request.specs.declared.request.Request.{Request}
+use Rattle.pac_request.specs.declared.request.Reply.{Reply}
+use Rattle.pac_report.specs.Replies.{reply_text}
+use Rattle.pac_session.specs.Session.{Rules, SessionState, committed, replies}
+use Rattle.pac_session.specs.Open.{rules_of, state_now}
+use Rattle.pac_recover.specs.declared.errors.RecoverError.{RecoverError}
+use Rattle.pac_recover.specs.declared.errors.RecoverError.TheVariants as error
+use Rattle.pac_recover.specs.Recovering.{IsRecoveredFrom}
+use Rattle.pac_engine.specs.declared.parts.EngineParts.{EngineParts}
+use Rattle.pac_engine.specs.Standing.{KeepsHistory, MayLeave, StandsOn, StandsWith, TellsIf, durable_of, saved_of}
+use Rattle.pac_engine.proofs.DeviceLemmas.{weaken-three}
+use Rattle.pac_run.specs.declared.stop.RunStop.{RunStop}
+use Rattle.pac_run.specs.declared.stop.RunStop.TheVariants.{NoStore, Damaged, AbortInLog, RowsOver, InputFault, OutputFault, DiskFault, NoMemory, LogFull, TooLong, TooLarge}
+use Rattle.pac_run.specs.Asked.{WereHandled}
+use Rattle.pac_run.specs.Causes.{not_opened}
+use Rattle.pac_run.specs.Opening.{AllStand, BeginsOver, IsFresh, IsOpenedFrom, StandsForFront}
+use Rattle.pac_run.specs.Run.{AtExit, AtMoments, IsBegun, IsExit, IsRun, IsWholeRun, WhereAllStand, WhereSeen, history_after}
+use Rattle.pac_run.specs.Serving.{IsDone, KeepsEach, Served}
+use Rattle.pac_run.specs.Stopping.{AreFirst, IsStopped, IsStoppedAt}
+use Rattle.pac_run.specs.Texts.{IsTextFront, texts}
+use Rattle.pac_run.proofs.AckedLemmas.{acknowledged, told-saved}
+use Rattle.pac_run.proofs.NameLemmas.{names-of}
+use Rattle.pac_run.proofs.ServeLemmas.{took-nothing, whole-front}
+
+-- ---- a front of a front
+
+pub front-longer : (out xs ys : List ℕ) → IsTextFront out xs → IsTextFront out (xs ++ ys)
+front-longer out xs ys front =
+    let split : xs ≡ out ++ drop front.count xs = sym (take-append-drop front.count xs) ∙ ap (λ (l : List ℕ). l ++ drop front.count xs) (sym front.is) in
+    record {
+      count = length out;
+      is = sym (ap (λ (l : List ℕ). take (length out) (l ++ ys)) split ∙ ap (take (length out)) (append_assoc out (drop front.count xs) ys) ∙ take-append_seam out (drop front.count xs ++ ys));
+    }
+
+front-of-all : (catalogue : CatalogueState) (given all : List Reply) (out : List ℕ) → IsTextFront out (texts catalogue given) → AreFirst given all → IsTextFront out (texts catalogue all)
+front-of-all catalogue given all out front firsts =
+    subst (λ (l : List ℕ). IsTextFront out l) (sym (ap (texts catalogue) firsts.split ∙ flat_map-append (reply_text catalogue) given firsts.rest)) (front-longer out (texts catalogue given) (texts catalogue firsts.rest) front)
+
+-- ---- a store that isn't opened
+
+opening-long : (error : RecoverError) → not_opened error ≡ TooLong → ⊥
+opening-long error.NoStore is = cc
+opening-long (error.Damaged damage) is = cc
+opening-long (error.AbortInLog note) is = cc
+opening-long (error.RowsOver table rows limit) is = cc
+opening-long error.DiskFault is = cc
+opening-long error.NoMemory is = cc
+
+same-stop : (a b : RunStop) → ◌≡◌ {A = Result (Unit {0}) RunStop} (Err a) (Err b) → a ≡ b
+same-stop a b e = cc
+
+none-begun : (P : Images → Type 0) (l a b : Option History) → WhereSeen (λ images. (◌≡◌ {A = List Request} [] []) ⊎ P images) (l ∷ a ∷ b ∷ [])
+none-begun P None a b = tt
+none-begun P (Some l) None b = tt
+none-begun P (Some l) (Some a) None = tt
+none-begun P (Some l) (Some a) (Some b) = inl refl
+
+none-handled : (left : Option (List ℕ)) → WereHandled left [] [] left
+none-handled None = tt
+none-handled (Some text) = (text, refl, refl)
+
+as-before : (P : List History → Type 0) (R : List History → List History → Type 0) → ((u v : List History) → RunsAsBefore u v → P u → R u v) → (x y : Option (List History)) → TellsOn RunsAsBefore x y → TellsIf P R x y
+as-before P R step None y runs = tt
+as-before P R step (Some x) None runs = absurd runs
+as-before P R step (Some x) (Some y) runs = λ is. step x y runs is
+
+pub not-opened : (batch limit : ℕ) (left held : Option (List ℕ)) (l a b : Option History) (told' : List (Option History)) (rose : Type 0) (error : RecoverError) (stop : RunStop) → stop ≡ not_opened error → WhereAllTold RunsAsBefore (l ∷ a ∷ b ∷ []) told'
+    → IsRun batch limit left left held held (l ∷ a ∷ b ∷ []) told' rose (Err stop)
+not-opened batch limit left held l a b told' rose error stop is runs =
+    let rules : Rules = record { catalogue = record { tables = []; procs = [] }; limit = limit; most = batch } in
+    let start : SessionState = record { tables = empty; number = 0 } in
+    record {
+      lines = [];
+      ahead = [];
+      handled = none-handled left;
+      few = λ other. record { bytes = []; gave = sym (prepend_known-nil left); few = omega arith };
+      long = λ long. absurd (opening-long error (sym is ∙ same-stop stop TooLong long));
+      rules = rules;
+      requests = [];
+      asked = inl refl;
+      last = tt;
+      out = [];
+      took = took-nothing held;
+      limited = refl;
+      most = refl;
+      start = start;
+      place = 0;
+      begun = none-begun (IsBegun rules 0 start) l a b;
+      front = record { count = 0; is = refl };
+      whole = tt;
+      exit = λ text catalogue history least. as-before (AllStand text catalogue history least) (AtExit text catalogue history rules start [] []) (λ u v run stands images are. inl (refl, run_end (AreImages u) u v run images are)) _ _ runs;
+      moments = λ text catalogue history least. as-before (AllStand text catalogue history least) (AtMoments text catalogue history least rules start [])
+          (λ u v run stands. weaken_run (AreImages u) (λ images. AreImages u images ⊎ OfThree (StandsFor text catalogue (history_after history rules start []) least) images) (λ images are. inl are) u v run) _ _ runs;
+      given = [];
+      written = record { count = 0; is = refl };
+      all = inl refl;
+      stopped = inl (refl, refl);
+    }
+
+-- ---- one that is
+
+three-parts : (run : Result (Unit {0}) RunStop) (P Q : Type 0) (R : RunStop → Type 0) → MatchResult run (λ _. P) R → (P → Q) → OnOk run Q
+three-parts (Ok x) P Q R is step = step is
+three-parts (Err stop) P Q R is step = tt
+
+stops-part : (run : Result (Unit {0}) RunStop) (P : Type 0) (R S : RunStop → Type 0) → MatchResult run (λ _. P) R → ((stop : RunStop) → R stop → S stop) → IfErr run S
+stops-part (Ok x) P R S is step = tt
+stops-part (Err stop) P R S is step = step stop is
+
+module _ (batch limit : ℕ) (engine new : EngineParts) (left left' held held' : Option (List ℕ)) (l a b : Option History) (middle told' : List (Option History)) (rose : Type 0) (result : Result (Unit {0}) RunStop) (fresh : IsFresh batch limit engine)
+    (opened : WhereRead (IsOpenedFrom engine) l a b) (begins : WhereAllTold (BeginsOver engine) (l ∷ a ∷ b ∷ []) middle) (runs : WhereAllTold RunsAsBefore (l ∷ a ∷ b ∷ []) middle)
+    (served : Served engine new left left' held held' middle told' rose result) where
+  abbrev rules : Rules
+  rules = rules_of engine.session
+
+  abbrev start : SessionState
+  start = state_now engine.session
+
+  number-is : (state_now engine.session).number ≡ durable_of engine
+  number-is = omega (arith, ap (λ (t : List Txn). length t) fresh.txns, fresh.before)
+
+  begun-here : (images : Images) → IsOpenedFrom engine images → IsBegun (rules_of engine.session) engine.log.gate.place (state_now engine.session) images
+  begun-here images is = record {
+    recovered = subst (λ (n : ℕ). IsRecoveredFrom engine.session.catalogue engine.session.tables n images) (sym number-is) is.recovered;
+    text = is.text;
+    batches = is.batches;
+    log = is.log;
+    there = is.behind.place;
+  }
+
+  begun-told : (l a b : Option History) → WhereRead (IsOpenedFrom engine) l a b → WhereSeen (λ images. (served.requests ≡ []) ⊎ IsBegun (rules_of engine.session) engine.log.gate.place (state_now engine.session) images) (l ∷ a ∷ b ∷ [])
+  begun-told None a b is = tt
+  begun-told (Some l) None b is = tt
+  begun-told (Some l) (Some a) None is = tt
+  begun-told (Some l) (Some a) (Some b) is = inr (begun-here (record { log = l.now.seen; slot_a = a.now.seen; slot_b = b.now.seen }) is)
+
+  module _ (text : List ℕ) (catalogue : CatalogueState) (history : List Txn) (least : ℕ) where
+    abbrev after : List Txn
+    after = history_after history (rules_of engine.session) (state_now engine.session) served.requests
+
+    abbrev kept-as : List Txn
+    kept-as = take (durable_of engine) history ++ committed (rules_of engine.session) (state_now engine.session) served.requests
+
+    same-history : take (durable_of engine) history ++ committed (rules_of engine.session) (state_now engine.session) served.requests ≡ history_after history (rules_of engine.session) (state_now engine.session) served.requests
+    same-history = ap (λ (n : ℕ). take n history ++ committed rules start served.requests) (sym number-is)
+
+    module _ (entry mid now : List History) (begin : StandsForFront text catalogue history least engine mid) (names : HasCatalogue text engine.session.catalogue)
+        (keeps : KeepsHistory text (take (durable_of engine) history ++ committed (rules_of engine.session) (state_now engine.session) served.requests) engine new mid now) where
+      exit-one : (images : Images) → StandsWith text engine.session.catalogue (take (durable_of engine) history ++ committed (rules_of engine.session) (state_now engine.session) served.requests) (durable_of new) (saved_of new) images
+          → IsExit text catalogue (history_after history (rules_of engine.session) (state_now engine.session) served.requests) (state_now engine.session).number served.out images
+      exit-one images is = record {
+        least = durable_of new;
+        saved = saved_of new;
+        more = omega (arith, number-is, served.grows.durable);
+        acknowledged = acknowledged engine.session.catalogue (names-of text engine.session.catalogue names) new served.given served.out served.plain served.kept served.front;
+        kept = told-saved engine.session.catalogue (names-of text engine.session.catalogue names) new served.given served.out served.plain served.kept served.front;
+        stands = subst (λ (h : List Txn). StandsWith text catalogue h (durable_of new) (saved_of new) images) same-history (subst (λ (c : CatalogueState). StandsWith text c kept-as (durable_of new) (saved_of new) images) begin.same is);
+      }
+
+      pub exits : AtExit text catalogue history (rules_of engine.session) (state_now engine.session) served.requests served.out entry now
+      exits images are = inr (weaken-three (StandsWith text engine.session.catalogue kept-as (durable_of new) (saved_of new)) (IsExit text catalogue after start.number served.out) exit-one images (keeps.end images are))
+
+      stands-one : (images : Images) → StandsWith text engine.session.catalogue (take (durable_of engine) history ++ committed (rules_of engine.session) (state_now engine.session) served.requests) (durable_of engine) (saved_of engine) images
+          → StandsFor text catalogue (history_after history (rules_of engine.session) (state_now engine.session) served.requests) least images
+      stands-one images is =
+          let s = is.stands in
+          let fewer : StandsFor text engine.session.catalogue kept-as least images
+          = record { executes = s.executes; batches = s.batches; log = s.log; later = s.later; front = s.front; enough = omega (arith, begin.enough, s.enough); slot_a = s.slot_a; slot_b = s.slot_b } in
+          subst (λ (h : List Txn). StandsFor text catalogue h least images) same-history (subst (λ (c : CatalogueState). StandsFor text c kept-as least images) begin.same fewer)
+
+      pub each-moment : RunsAsBefore entry mid → AtMoments text catalogue history least (rules_of engine.session) (state_now engine.session) served.requests entry now
+      each-moment run =
+          let P : List (List ℕ) → Type 0 = λ images. AreImages entry images ⊎ OfThree (StandsFor text catalogue after least) images in
+          run_then P entry mid now (weaken_run (AreImages entry) P (λ images are. inl are) entry mid run)
+          (weaken_run (MayLeave text engine.session.catalogue kept-as engine) P
+          (λ images may. inr (weaken-three (StandsWith text engine.session.catalogue kept-as (durable_of engine) (saved_of engine)) (StandsFor text catalogue after least) stands-one images may)) mid now keeps.moments)
+
+    -- what the engine stands for tells the catalogue's text
+    text-of : (h : List Txn) (devices : List History) → StandsOn text h engine devices → HasCatalogue text engine.session.catalogue
+    text-of h [] is = absurd is
+    text-of h (l ∷ []) is = absurd is
+    text-of h (l ∷ a ∷ []) is = absurd is
+    text-of h (l ∷ a ∷ b ∷ []) is = is.log.has.log.accepted.has
+    text-of h (l ∷ a ∷ b ∷ d ∷ devices) is = absurd is
+
+    exit-told : (t m n : Option (List History)) → TellsOn (BeginsOver engine) t m → TellsIf (StandsOn text (take (durable_of engine) history) engine) (KeepsHistory text (take (durable_of engine) history ++ committed (rules_of engine.session) (state_now engine.session) served.requests) engine new) m n
+        → TellsIf (AllStand text catalogue history least) (AtExit text catalogue history (rules_of engine.session) (state_now engine.session) served.requests served.out) t n
+    exit-told None m n begin keep = tt
+    exit-told (Some t) None n begin keep = absurd begin
+    exit-told (Some t) (Some m) None begin keep = λ all. keep (begin text catalogue history least all).stands
+    exit-told (Some t) (Some m) (Some n) begin keep = λ all. let front = begin text catalogue history least all in exits t m n front (text-of (take (durable_of engine) history) m front.stands) (keep front.stands)
+
+    moments-told : (t m n : Option (List History)) → TellsOn (BeginsOver engine) t m → TellsOn RunsAsBefore t m → TellsIf (StandsOn text (take (durable_of engine) history) engine) (KeepsHistory text (take (durable_of engine) history ++ committed (rules_of engine.session) (state_now engine.session) served.requests) engine new) m n
+        → TellsIf (AllStand text catalogue history least) (AtMoments text catalogue history least (rules_of engine.session) (state_now engine.session) served.requests) t n
+    moments-told None m n begin run keep = tt
+    moments-told (Some t) None n begin run keep = absurd begin
+    moments-told (Some t) (Some m) None begin run keep = λ all. keep (begin text catalogue history least all).stands
+    moments-told (Some t) (Some m) (Some n) begin run keep = λ all. let front = begin text catalogue history least all in each-moment t m n front (text-of (take (durable_of engine) history) m front.stands) (keep front.stands) run
+
+  pub is-run : IsRun batch limit left left' held held' (l ∷ a ∷ b ∷ []) told' rose result
+  is-run = record {
+    lines = served.lines;
+    ahead = served.ahead;
+    handled = served.handled;
+    few = served.few;
+    long = served.long;
+    rules = rules;
+    requests = served.requests;
+    asked = served.asked;
+    last = served.last;
+    out = served.out;
+    took = served.took;
+    limited = fresh.within;
+    most = fresh.most;
+    start = start;
+    place = engine.log.gate.place;
+    begun = begun-told l a b opened;
+    front = front-of-all engine.session.catalogue served.given (replies rules start served.requests) served.out served.front served.firsts;
+    whole = three-parts result (IsDone rules engine.log.gate.place start served.requests served.given served.out) (IsWholeRun rules engine.log.gate.place start served.requests served.out) (λ stop. IsStoppedAt rules engine.log.gate.place start served.requests served.given stop) served.ending
+        (λ done. record { before = done.before; stops = done.stops; written = done.written ∙ ap (texts engine.session.catalogue) done.replied; fit = done.fit; saves = done.saves });
+    exit = λ text catalogue history least. exit-told text catalogue history least (all_told (l ∷ a ∷ b ∷ [])) (all_told middle) (all_told told') begins (served.keeps text (take (durable_of engine) history));
+    moments = λ text catalogue history least. moments-told text catalogue history least (all_told (l ∷ a ∷ b ∷ [])) (all_told middle) (all_told told') begins runs (served.keeps text (take (durable_of engine) history));
+    given = served.given;
+    written = served.front;
+    all = served.whole;
+    stopped = stops-part result (IsDone rules engine.log.gate.place start served.requests served.given served.out) (λ stop. IsStoppedAt rules engine.log.gate.place start served.requests served.given stop) (λ stop. IsStopped rules engine.log.gate.place start served.requests served.given stop) served.ending (λ stop at. inr at);
+  }

@@ -1,0 +1,208 @@
+-- Lines that are served one after another, up to an end.
+use Rattle.std.proofs.Common.{◌≡◌, ◌∙◌, ◌⊎◌, inl, inr, ℕ, ◌+◌, ◌≤◌, Bool, true, false, List, [], ◌∷◌, ◌++◌, length, take, Option, Some, None, Result, Ok, Err, OnOk, refl, sym, ap, subst, arith}
+use Rattle.std.specs.Prelude.{IsErrOf, MatchResult, flat_map}
+use Rattle.std.specs.Io.KnownBytes.{prepend_known, append_known}
+use Rattle.std.specs.List.{AllByRecursion}
+use Rattle.std.proofs.lemmas.List.{append-nil}
+use Rattle.std.proofs.lemmas.List.Sums.{fold-append}
+use Rattle.std.proofs.lemmas.Grind.{flat_map-append}
+use Rattle.std.proofs.Math.Seq.{take-append-add, take-append_seam}
+use Rattle.pac_ops.specs.declared.transaction.Txn.{Txn}
+use Rattle.pac_outside.specs.Content.{Gave, IsAtEnd, Took, TookFront}
+use Rattle.pac_outside.proofs.ContentLemmas.{Took-append}
+use Rattle.pac_outside.specs.Disk.{History}
+use Rattle.pac_lines.specs.Calls.{IsCall, KeepsLimit}
+use Rattle.pac_lines.specs.Reading.{ReaderState}
+use Rattle.pac_lines.specs.declared.line_error.LineError.{LineError}
+use Rattle.pac_lines.specs.declared.line_error.LineError.TheVariants as line
+use Rattle.pac_types.specs.Typing.{CatalogueState}
+use Rattle.pac_request.specs.declared.request.Request.{Request}
+use Rattle.pac_request.specs.declared.request.Request.TheVariants as request
+use Rattle.pac_request.specs.declared.request.Reply.{Reply}
+use Rattle.pac_report.specs.Replies.{reply_text}
+use Rattle.pac_session.specs.Session.{Rules, SessionState, committed, ends, replies}
+use Rattle.pac_session.specs.Groups.{GroupCut, all_requests, cut, cut_on, cut_one}
+use Rattle.pac_session.specs.Open.{rules_of, state_now}
+use Rattle.pac_engine.specs.declared.parts.EngineParts.{EngineParts}
+use Rattle.pac_engine.specs.Closing.{GroupFits, IsKept}
+use Rattle.pac_engine.specs.Standing.{IsGrown}
+use Rattle.pac_run.specs.declared.limits.TheConstants.{MAX_INPUT}
+use Rattle.pac_run.specs.declared.stop.RunStop.{RunStop}
+use Rattle.pac_run.specs.declared.stop.RunStop.TheVariants.{NoStore, Damaged, AbortInLog, RowsOver, InputFault, OutputFault, DiskFault, NoMemory, LogFull, TooLong, TooLarge}
+use Rattle.pac_run.specs.Asked.{WereAsked, IsOverLong, LineAsks, LinesAsk, NoStop, StopsLast, TookAtMost, WereHandled}
+use Rattle.pac_run.specs.Causes.{not_read}
+use Rattle.pac_run.specs.Serving.{Answered, Broke, GoesFrom, HasRead, IsDone, IsUntouched, KeepsEach, LineBroke, LineServed, Replied, Served, Serving, StepStops, StopsWhere}
+use Rattle.pac_run.specs.Stopping.{AreFirst, IsStoppedAt, closed_groups}
+use Rattle.pac_run.specs.Texts.{IsTextFront, IsPlain, SaysUnlessFault, texts}
+use Rattle.pac_run.proofs.ReadLemmas.{at-end, lines-ask, more-read, not-long, over-long, still-handled, took-few}
+use Rattle.pac_run.proofs.StepLemmas.{all-both, goes-more, grown-then, keeps-more, kept-grows}
+use Rattle.pac_run.proofs.StopLemmas.{all-replied, never-stops, no-stop-both, stopped-first, stopped-more, stopped-reading, stops-last}
+
+-- ---- what was written
+
+pub took-nothing : (held : Option (List ℕ)) → Took held [] held
+took-nothing None = refl
+took-nothing (Some bytes) = ap Some (sym (append-nil bytes))
+
+texts-both : (catalogue : CatalogueState) (xs ys : List Reply) → texts catalogue (xs ++ ys) ≡ texts catalogue xs ++ texts catalogue ys
+texts-both catalogue xs ys = flat_map-append (reply_text catalogue) xs ys
+
+front-more : (catalogue : CatalogueState) (given more : List Reply) (out : List ℕ) → IsTextFront out (texts catalogue more) → IsTextFront (texts catalogue given ++ out) (texts catalogue (given ++ more))
+front-more catalogue given more out front = record {
+  count = length (texts catalogue given) + front.count;
+  is = ap (λ (l : List ℕ). texts catalogue given ++ l) front.is ∙ sym (take-append-add (texts catalogue given) (texts catalogue more) front.count)
+      ∙ ap (take (length (texts catalogue given) + front.count)) (sym (texts-both catalogue given more));
+}
+
+pub whole-front : (text : List ℕ) → IsTextFront text text
+whole-front text = record { count = length text; is = sym (ap (take (length text)) (sym (append-nil text)) ∙ take-append_seam text []) }
+
+whole-more : (catalogue : CatalogueState) (given more : List Reply) (out : List ℕ) (rose : Type 0) → (out ≡ texts catalogue more) ⊎ rose → (texts catalogue given ++ out ≡ texts catalogue (given ++ more)) ⊎ rose
+whole-more catalogue given more out rose (inl is) = inl (ap (λ (l : List ℕ). texts catalogue given ++ l) is ∙ sym (texts-both catalogue given more))
+whole-more catalogue given more out rose (inr r) = inr r
+
+-- a step isn't stopped by the length of the input
+never-long : (rules : Rules) (place : ℕ) (start : SessionState) (closed : List (List Request)) (more : List Reply) (stop : RunStop) → StepStops rules place start closed more stop → stop ≡ TooLong → ⊥
+never-long rules place start closed more stop stops is = subst (λ (s : RunStop). StepStops rules place start closed more s) is stops
+
+-- ---- an end
+
+module _ (first now : EngineParts) (left mid : Option (List ℕ)) (reader : ReaderState) (held held' : Option (List ℕ)) (told told' : List (Option History)) (serving : Serving first now left mid reader held held' told told') where
+  abbrev rules : Rules
+  rules = rules_of first.session
+
+  abbrev start : SessionState
+  start = state_now first.session
+
+  abbrev place : ℕ
+  place = first.log.gate.place
+
+  abbrev catalogue : CatalogueState
+  catalogue = first.session.catalogue
+
+  -- no more was served
+  module _ (left' : Option (List ℕ)) (rose : Type 0) (stop : RunStop) (ahead : List ℕ) (handled : WereHandled left serving.lines ahead left')
+      (few : (stop ≡ TooLong → ⊥) → TookAtMost MAX_INPUT left left') (long : stop ≡ TooLong → IsOverLong ahead left left') where
+    same-stop : ◌≡◌ {A = Result (Unit {0}) RunStop} (Err stop) (Err TooLong) → stop ≡ TooLong
+    same-stop e = cc
+
+    pub still-served : (stop ≡ InputFault) ⊎ ((stop ≡ TooLong) ⊎ (stop ≡ NoMemory)) → Served first now left left' held held' told told' rose (Err stop)
+    still-served why =
+        let stopped = stopped-reading first now serving.requests serving.given told told' serving.goes stop why serving.unstopped in
+        record {
+          lines = serving.lines;
+          ahead = ahead;
+          handled = handled;
+          few = λ other. few (λ is. other (ap (λ (s : RunStop). Err s) is));
+          long = λ is. long (same-stop is);
+          requests = serving.requests;
+          asked = inl serving.asked;
+          last = never-stops serving.requests serving.unstopped;
+          given = serving.given;
+          out = texts catalogue serving.given;
+          took = serving.took;
+          front = whole-front (texts catalogue serving.given);
+          whole = inl refl;
+          keeps = serving.goes.keeps;
+          grows = serving.goes.grows;
+          kept = serving.goes.kept;
+          plain = serving.goes.plain;
+          firsts = stopped-first rules place start serving.requests serving.given stop stopped;
+          ending = stopped;
+        }
+
+  -- a request was not answered
+  module _ (left' held'' : Option (List ℕ)) (told'' : List (Option History)) (new : EngineParts) (asks : Request) (rose rose' : Type 0) (stop : RunStop) (lines : List (List ℕ)) (ahead : List ℕ)
+      (handled : WereHandled left lines ahead left') (few : TookAtMost MAX_INPUT left left') (asked : WereAsked first.session.catalogue lines (prepend_known ahead left') (serving.requests ++ asks ∷ [])) (later : rose' → rose)
+      (broke : Broke first.session.catalogue asks now new held' held'' told' told'' rose' stop) where
+    abbrev whole : GroupCut
+    whole = cut (rules_of first.session) (state_now first.session) serving.requests
+
+    abbrev middle : SessionState
+    middle = ends (rules_of first.session) (state_now first.session) (all_requests (cut (rules_of first.session) (state_now first.session) serving.requests).closed)
+
+    stopped : IsStoppedAt (rules_of first.session) first.log.gate.place (state_now first.session) (serving.requests ++ asks ∷ []) (serving.given ++ broke.more) stop
+    stopped = stopped-more first now serving.requests serving.given told told' serving.goes asks broke.more stop broke.stops
+
+    same-too : ◌≡◌ {A = Result (Unit {0}) RunStop} (Err stop) (Err TooLong) → stop ≡ TooLong
+    same-too e = cc
+
+    pub broke-served : Served first new left left' held held'' told told'' rose (Err stop)
+    broke-served = record {
+      lines = lines;
+      ahead = ahead;
+      handled = handled;
+      few = λ other. few;
+      long = λ is. absurd (never-long (rules_of now.session) now.log.gate.place middle (cut_one (rules_of now.session) middle whole.rest asks).closed broke.more stop (broke.stops middle whole.rest serving.goes.closes.within) (same-too is));
+      requests = serving.requests ++ asks ∷ [];
+      asked = asked;
+      last = stops-last serving.requests asks serving.unstopped;
+      given = serving.given ++ broke.more;
+      out = texts catalogue serving.given ++ broke.out;
+      took = Took-append held held' held'' (texts catalogue serving.given) broke.out serving.took broke.took;
+      front = front-more catalogue serving.given broke.more broke.out broke.front;
+      whole = whole-more catalogue serving.given broke.more broke.out rose (risen broke.whole);
+      keeps = keeps-more first now serving.requests serving.given told told' serving.goes new told'' (asks ∷ []) broke.keeps;
+      grows = grown-then first now new serving.goes.grows broke.grows;
+      kept = all-both (IsKept new) serving.given broke.more (kept-grows now new broke.grows serving.given serving.goes.kept) broke.kept;
+      plain = all-both IsPlain serving.given broke.more serving.goes.plain broke.plain;
+      firsts = stopped-first rules place start (serving.requests ++ asks ∷ []) (serving.given ++ broke.more) stop stopped;
+      ending = stopped;
+    }
+      where
+        risen : (broke.out ≡ texts catalogue broke.more) ⊎ rose' → (broke.out ≡ texts catalogue broke.more) ⊎ rose
+        risen (inl is) = inl is
+        risen (inr r) = inr (later r)
+
+  -- a stop was answered
+  pub stop-served : (left' held'' : Option (List ℕ)) (told'' : List (Option History)) (new : EngineParts) (rose : Type 0) (lines : List (List ℕ)) (ahead : List ℕ) → WereHandled left lines ahead left' → TookAtMost MAX_INPUT left left'
+      → WereAsked first.session.catalogue lines (prepend_known ahead left') (serving.requests ++ request.Stop ∷ []) → Replied first.session.catalogue (request.Stop ∷ []) now new held' held'' told' told''
+      → Served first new left left' held held'' told told'' rose (Ok tt)
+  stop-served left' held'' told'' new rose lines ahead handled few asked replied =
+      let goes = goes-more first now serving.requests serving.given told told' serving.goes new told'' (request.Stop ∷ []) replied.more replied.answered in
+      let requests = serving.requests ++ request.Stop ∷ [] in
+      let given = serving.given ++ replied.more in
+      let out = texts catalogue serving.given ++ texts catalogue replied.more in
+      let written : out ≡ texts catalogue given = sym (texts-both catalogue serving.given replied.more) in
+      let answers : given ≡ replies rules start requests = all-replied rules place start serving.requests given new goes.closes (stop-closes rules start serving.requests) in
+      record {
+        lines = lines;
+        ahead = ahead;
+        handled = handled;
+        few = λ other. few;
+        long = λ is. absurd (no-err is);
+        requests = requests;
+        asked = asked;
+        last = stops-last serving.requests request.Stop serving.unstopped;
+        given = given;
+        out = out;
+        took = Took-append held held' held'' (texts catalogue serving.given) (texts catalogue replied.more) serving.took replied.took;
+        front = subst (λ (l : List ℕ). IsTextFront l (texts catalogue given)) (sym written) (whole-front (texts catalogue given));
+        whole = inl written;
+        keeps = goes.keeps;
+        grows = goes.grows;
+        kept = goes.kept;
+        plain = goes.plain;
+        firsts = record { rest = []; split = sym answers ∙ sym (append-nil given) };
+        ending = record { before = serving.requests; stops = refl; replied = answers; written = written; fit = goes.closes.fit; saves = goes.saves };
+      }
+    where
+      no-err : ◌≡◌ {A = Result (Unit {0}) RunStop} (Ok tt) (Err TooLong) → ⊥
+      no-err e = cc
+
+      stop-closes : (rules : Rules) (start : SessionState) (before : List Request) → (cut rules start (before ++ request.Stop ∷ [])).rest ≡ []
+      stop-closes rules start before = ap (λ (c : GroupCut). c.rest) (fold-append (cut_on rules start) (record { closed = []; rest = [] }) before (request.Stop ∷ []))
+
+  -- a line was served, and is no stop
+  pub serving-more : (left' held'' : Option (List ℕ)) (told'' : List (Option History)) (next : ReaderState) (new : EngineParts) → IsCall reader next mid left' (Ok true) → KeepsLimit next (Ok true)
+      → LineServed first.session.catalogue next.line false now new held' held'' told' told'' → Serving first new left left' next held held'' told told''
+  serving-more left' held'' told'' next new call keeps served = record {
+    lines = serving.lines ++ next.line ∷ [];
+    read = more-read left mid left' reader next serving.lines serving.read call keeps;
+    requests = serving.requests ++ served.asked;
+    asked = lines-ask catalogue serving.lines next.line serving.requests served.asked serving.asked served.asks;
+    unstopped = no-stop-both serving.requests served.asked serving.unstopped served.stop;
+    given = serving.given ++ served.replied.more;
+    took = subst (λ (l : List ℕ). Took held l held'') (sym (texts-both catalogue serving.given served.replied.more)) (Took-append held held' held'' (texts catalogue serving.given) (texts catalogue served.replied.more) serving.took served.replied.took);
+    goes = goes-more first now serving.requests serving.given told told' serving.goes new told'' served.asked served.replied.more served.replied.answered;
+  }

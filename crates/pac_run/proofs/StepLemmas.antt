@@ -1,0 +1,183 @@
+-- One line is served behind others.
+use Rattle.std.proofs.Common.{◌≡◌, ◌∙◌, ◌⊎◌, inl, inr, ℕ, ◌≤◌, List, [], ◌∷◌, ◌++◌, length, Option, refl, sym, ap, ap₂, subst, arith, append_assoc}
+use Rattle.std.specs.List.{AllByRecursion, fold}
+use Rattle.std.proofs.lemmas.List.{append-nil}
+use Rattle.std.proofs.lemmas.List.Sums.{fold-append}
+use Rattle.pac_ops.specs.declared.transaction.Txn.{Txn}
+use Rattle.pac_outside.specs.Disk.{History}
+use Rattle.pac_check.specs.declared.limits.TheConstants.{MAX_SLOT_LEN}
+use Rattle.pac_request.specs.declared.request.Request.{Request}
+use Rattle.pac_request.specs.declared.request.Request.TheVariants as request
+use Rattle.pac_request.specs.declared.request.Reply.{Reply}
+use Rattle.pac_request.specs.declared.request.Reply.TheVariants as reply
+use Rattle.pac_session.specs.Session.{Rules, SessionState, commits, committed, ends, replies}
+use Rattle.pac_session.specs.Groups.{GroupCut, all_replies, all_requests, cut, cut_on, cut_one, described, place_behind}
+use Rattle.pac_session.specs.Open.{IsInGroup, rules_of, state_now}
+use Rattle.pac_session.proofs.SessionLemmas.{committed-append, ends-append, replies-append}
+use Rattle.pac_session.proofs.CutLemmas.{joined-append, whole-cut, described-replies}
+use Rattle.pac_engine.specs.declared.parts.EngineParts.{EngineParts}
+use Rattle.pac_engine.specs.Closing.{Closes, IsKept, place_after, slot_len}
+use Rattle.pac_engine.specs.Standing.{IsGrown, KeepsHistory, StandsOn, TellsWhere, durable_of, saved_of}
+use Rattle.pac_engine.proofs.LawLemmas.{begins, closes-then, history-then, stands-then}
+use Rattle.pac_engine.proofs.ToldLemmas.{refused-keeps}
+use Rattle.pac_run.specs.Serving.{Answered, GoesFrom, KeepsEach, StandsForEach}
+use Rattle.pac_run.specs.Stopping.{SaveFits, closed_groups}
+use Rattle.pac_run.specs.Texts.{IsPlain}
+
+-- ---- lists
+
+pub all-both : (P : Reply → Type 0) (xs ys : List Reply) → AllByRecursion P xs → AllByRecursion P ys → AllByRecursion P (xs ++ ys)
+all-both P [] ys first second = second
+all-both P (x ∷ xs) ys first second = (first.0, all-both P xs ys first.1 second)
+
+kept-one : (old new : EngineParts) → IsGrown old new → (r : Reply) → IsKept old r → IsKept new r
+kept-one old new grows (reply.Committed txn) is = let k : txn ≤ durable_of old = is in omega (arith, k, grows.durable)
+kept-one old new grows (reply.Aborted op reason) is = tt
+kept-one old new grows (reply.AbortedFull table) is = tt
+kept-one old new grows (reply.Shown table key row) is = tt
+kept-one old new grows (reply.Refused fault) is = tt
+kept-one old new grows (reply.Saved txns) is = let k : txns ≤ saved_of old = is in omega (arith, k, grows.saved)
+
+pub kept-grows : (old new : EngineParts) → IsGrown old new → (given : List Reply) → AllByRecursion (IsKept old) given → AllByRecursion (IsKept new) given
+kept-grows old new grows [] kept = tt
+kept-grows old new grows (r ∷ given) kept = (kept-one old new grows r kept.0, kept-grows old new grows given kept.1)
+
+pub grown-then : (a b c : EngineParts) → IsGrown a b → IsGrown b c → IsGrown a c
+grown-then a b c first second = record { durable = omega (arith, first.durable, second.durable); saved = omega (arith, first.saved, second.saved) }
+
+-- a request among these and one more is one of these, or that one
+pub data-free : (xs before rest : List Request) (x y : Request) → xs ++ x ∷ [] ≡ before ++ y ∷ rest → ((before ≡ xs) × (x ≡ y)) ⊎ ((more : List Request) × (xs ≡ before ++ y ∷ more))
+data-free [] [] rest x y same = inl (refl, head-same x y [] rest same)
+  where
+    head-same : (x y : Request) (xs ys : List Request) → x ∷ xs ≡ y ∷ ys → x ≡ y
+    head-same x y xs ys e = cc
+data-free [] (b ∷ bs) rest x y same = absurd (none bs (tail-same x b [] (bs ++ y ∷ rest) same))
+  where
+    tail-same : (x y : Request) (xs ys : List Request) → x ∷ xs ≡ y ∷ ys → xs ≡ ys
+    tail-same x y xs ys e = cc
+
+    none : (bs : List Request) → [] ≡ bs ++ y ∷ rest → ⊥
+    none [] e = absurd cc
+    none (c ∷ cs) e = absurd cc
+data-free (z ∷ zs) [] rest x y same = inr (zs, ap (λ (r : Request). r ∷ zs) (head-same z y (zs ++ x ∷ []) rest same))
+  where
+    head-same : (x y : Request) (xs ys : List Request) → x ∷ xs ≡ y ∷ ys → x ≡ y
+    head-same x y xs ys e = cc
+data-free (z ∷ zs) (b ∷ bs) rest x y same = go (data-free zs bs rest x y (tail-same z b (zs ++ x ∷ []) (bs ++ y ∷ rest) same))
+  where
+    tail-same : (x y : Request) (xs ys : List Request) → x ∷ xs ≡ y ∷ ys → xs ≡ ys
+    tail-same x y xs ys e = cc
+
+    head-same : (x y : Request) (xs ys : List Request) → x ∷ xs ≡ y ∷ ys → x ≡ y
+    head-same x y xs ys e = cc
+
+    first : z ≡ b
+    first = head-same z b (zs ++ x ∷ []) (bs ++ y ∷ rest) same
+
+    go : ((bs ≡ zs) × (x ≡ y)) ⊎ ((more : List Request) × (zs ≡ bs ++ y ∷ more)) → ((b ∷ bs ≡ z ∷ zs) × (x ≡ y)) ⊎ ((more : List Request) × (z ∷ zs ≡ b ∷ (bs ++ y ∷ more)))
+    go (inl is) = inl (ap₂ (λ (r : Request) (l : List Request). r ∷ l) (sym first) is.0, is.1)
+    go (inr is) = inr (is.0, ap₂ (λ (r : Request) (l : List Request). r ∷ l) first is.1)
+
+-- ---- nothing is asked
+
+pub nothing-keeps : (e : EngineParts) (told : List (Option History)) → KeepsEach [] e e told told
+nothing-keeps e told = λ text history. refused-keeps text history e e _ refl refl
+
+-- ---- behind what was served
+
+-- the engine is at the end of the requests
+module _ (first now : EngineParts) (requests : List Request) (given : List Reply) (told told' : List (Option History)) (goes : GoesFrom first now requests given told told') where
+  abbrev rules : Rules
+  rules = rules_of first.session
+
+  abbrev start : SessionState
+  start = state_now first.session
+
+  abbrev place : ℕ
+  place = first.log.gate.place
+
+  abbrev whole : GroupCut
+  whole = cut (rules_of first.session) (state_now first.session) requests
+
+  abbrev middle : SessionState
+  middle = ends (rules_of first.session) (state_now first.session) (all_requests (cut (rules_of first.session) (state_now first.session) requests).closed)
+
+  pub reached : state_now now.session ≡ ends (rules_of first.session) (state_now first.session) requests
+  reached = sym goes.closes.within.here ∙ ap (λ (r : Rules). ends r middle whole.rest) goes.closes.same ∙ sym (ends-append rules start (all_requests whole.closed) whole.rest) ∙ ap (ends rules start) (whole-cut rules start requests)
+
+  pub committed-more : (asked : List Request) → committed (rules_of first.session) (state_now first.session) requests ++ committed (rules_of now.session) (state_now now.session) asked ≡ committed (rules_of first.session) (state_now first.session) (requests ++ asked)
+  committed-more asked = ap (λ (t : List Txn). committed rules start requests ++ t) (ap (λ (r : Rules). committed r (state_now now.session) asked) goes.closes.same ∙ ap (λ (s : SessionState). committed rules s asked) reached) ∙ sym (committed-append rules start requests asked)
+
+  pub cut-more : (asked : List Request) → cut (rules_of first.session) (state_now first.session) (requests ++ asked) ≡ fold (cut_on (rules_of first.session) (state_now first.session)) (cut (rules_of first.session) (state_now first.session) requests) asked
+  cut-more asked = fold-append (cut_on rules start) (record { closed = []; rest = [] }) requests asked
+
+  module _ (new : EngineParts) (told'' : List (Option History)) where
+    pub keeps-more : (asked : List Request) → KeepsEach (committed (rules_of now.session) (state_now now.session) asked) now new told' told''
+        → KeepsEach (committed (rules_of first.session) (state_now first.session) (requests ++ asked)) first new told told''
+    keeps-more asked keeps = λ text history. subst (λ (t : List Txn). TellsWhere (StandsOn text history first) (KeepsHistory text (history ++ t) first new) told told'') (committed-more asked)
+        (history-then text history (committed rules start requests) (committed (rules_of now.session) (state_now now.session) asked) first now new told told' told'' goes.closes.same goes.grows (goes.keeps text history) (goes.stands text history) (keeps text (history ++ committed rules start requests)))
+
+    stands-more : (asked : List Request) → StandsForEach (committed (rules_of now.session) (state_now now.session) asked) now new told' told''
+        → StandsForEach (committed (rules_of first.session) (state_now first.session) (requests ++ asked)) first new told told''
+    stands-more asked stands = λ text history. subst (λ (t : List Txn). TellsWhere (StandsOn text history first) (λ was is. StandsOn text (history ++ t) new is) told told'') (committed-more asked)
+        (stands-then text history (committed rules start requests) (committed (rules_of now.session) (state_now now.session) asked) first now new told told' told'' (goes.stands text history) (stands text (history ++ committed rules start requests)))
+
+    module _ (asked : List Request) (more : List Reply) (answered : Answered asked more now new told' told'') where
+      closes-more : Closes (rules_of first.session) first.log.gate.place (state_now first.session) (cut (rules_of first.session) (state_now first.session) (requests ++ asked)) (given ++ more) new
+      closes-more = subst (λ (c : GroupCut). Closes rules place start c (given ++ more) new) (sym (cut-more asked)) (answered.closes rules place start whole given goes.closes)
+
+      -- a save that was answered had room
+      save-fits : asked ≡ request.Save ∷ [] → SaveFits (rules_of first.session) first.log.gate.place (state_now first.session) requests
+      save-fits is =
+          let saves : Answered (request.Save ∷ []) more now new told' told'' = subst (λ (l : List Request). Answered l more now new told' told'') is answered in
+          let alone : Closes rules now.log.gate.place middle (record { closed = []; rest = whole.rest }) [] now = record { replied = refl; fit = tt; there = refl; same = goes.closes.same; within = goes.closes.within } in
+          let one = saves.closes rules now.log.gate.place middle (record { closed = []; rest = whole.rest }) [] alone in
+          let all : Closes rules place start (cut rules start (requests ++ request.Save ∷ [])) (given ++ more) new = subst (λ (c : GroupCut). Closes rules place start c (given ++ more) new) (sym (cut-more (request.Save ∷ []))) (saves.closes rules place start whole given goes.closes) in
+          let txns : committed rules middle (whole.rest ++ request.Save ∷ []) ≡ now.session.txns
+          = committed-append rules middle whole.rest (request.Save ∷ []) ∙ append-nil (committed rules middle whole.rest) ∙ ap (λ (r : Rules). committed r middle whole.rest) (sym goes.closes.same) ∙ sym goes.closes.within.body in
+          let there : place_behind now.log.gate.place now.session.txns ≡ place_after place (closed_groups rules place start (requests ++ request.Save ∷ []))
+          = ap (place_behind now.log.gate.place) (sym txns) ∙ sym one.there ∙ all.there in
+          let room : slot_len rules (ends rules start requests) (place_behind now.log.gate.place now.session.txns) ≤ MAX_SLOT_LEN
+          = subst (λ (s : SessionState). slot_len rules s (place_behind now.log.gate.place now.session.txns) ≤ MAX_SLOT_LEN) reached (subst (λ (r : Rules). slot_len r (state_now now.session) (place_behind now.log.gate.place now.session.txns) ≤ MAX_SLOT_LEN) goes.closes.same (saves.saves refl)) in
+          subst (λ (p : ℕ). slot_len rules (ends rules start requests) p ≤ MAX_SLOT_LEN) there room
+
+      saves-more : (before rest : List Request) → requests ++ asked ≡ before ++ request.Save ∷ rest → SaveFits (rules_of first.session) first.log.gate.place (state_now first.session) before
+      saves-more before rest same = by asked refl
+        where
+          one : (asks : Request) → asked ≡ asks ∷ [] → ((before ≡ requests) × (asks ≡ request.Save)) ⊎ ((others : List Request) × (requests ≡ before ++ request.Save ∷ others)) → SaveFits rules place start before
+          one asks is (inl at) = subst (λ (l : List Request). SaveFits rules place start l) (sym at.0) (save-fits (is ∙ ap (λ (r : Request). r ∷ []) at.1))
+          one asks is (inr at) = goes.saves before at.0 at.1
+
+          by : (list : List Request) → asked ≡ list → SaveFits rules place start before
+          by [] is = goes.saves before rest (sym (append-nil requests) ∙ ap (λ (l : List Request). requests ++ l) (sym is) ∙ same)
+          by (asks ∷ []) is = one asks is (data-free requests before rest asks request.Save (ap (λ (l : List Request). requests ++ l) (sym is) ∙ same))
+          by (asks ∷ next ∷ others) is = absurd (omega (arith, answered.few, ap (λ (l : List Request). length l) is))
+
+      pub goes-more : GoesFrom first new (requests ++ asked) (given ++ more) told told''
+      goes-more = record {
+        closes = closes-more;
+        keeps = keeps-more asked answered.keeps;
+        stands = stands-more asked answered.stands;
+        grows = grown-then first now new goes.grows answered.grows;
+        kept = all-both (IsKept new) given more (kept-grows now new answered.grows given goes.kept) answered.kept;
+        plain = all-both IsPlain given more goes.plain answered.plain;
+        saves = saves-more;
+      }
+
+-- ---- from the beginning
+
+pub goes-first : (first : EngineParts) (told : List (Option History)) → first.session.txns ≡ [] → first.session.held ≡ [] → ((text : List ℕ) (history : List Txn) → TellsWhere (StandsOn text history first) (λ was is. StandsOn text (history ++ []) first is) told told)
+    → GoesFrom first first [] [] told told
+goes-first first told txns held stands = record {
+  closes = begins first txns held;
+  keeps = nothing-keeps first told;
+  stands = stands;
+  grows = record { durable = omega arith; saved = omega arith };
+  kept = tt;
+  plain = tt;
+  saves = λ before rest same. absurd (none before rest same);
+}
+  where
+    none : (before rest : List Request) → [] ≡ before ++ request.Save ∷ rest → ⊥
+    none [] rest e = absurd cc
+    none (b ∷ bs) rest e = absurd cc

@@ -1,0 +1,188 @@
+-- Where a run stops, and which replies it was to write.
+use Rattle.std.proofs.Common.{◌≡◌, ◌∙◌, ◌⊎◌, inl, inr, ℕ, Bool, true, false, List, [], ◌∷◌, ◌++◌, Option, refl, sym, ap, ap₂, subst, append_assoc}
+use Rattle.std.specs.List.{AllByRecursion, fold}
+use Rattle.std.proofs.lemmas.List.{append-nil}
+use Rattle.pac_outside.specs.Disk.{History}
+use Rattle.pac_request.specs.declared.request.Request.{Request}
+use Rattle.pac_request.specs.declared.request.Request.TheVariants as request
+use Rattle.pac_request.specs.declared.request.Reply.{Reply}
+use Rattle.pac_request.specs.declared.request.Reply.TheVariants as reply
+use Rattle.pac_session.specs.Session.{Rules, SessionState, ends, replies}
+use Rattle.pac_session.specs.Groups.{Group, GroupCut, all_replies, all_requests, cut, cut_on, cut_one, described}
+use Rattle.pac_session.specs.Open.{IsInGroup, rules_of, state_now}
+use Rattle.pac_session.proofs.SessionLemmas.{replies-append}
+use Rattle.pac_session.proofs.CutLemmas.{joined-append, whole-cut, described-replies}
+use Rattle.pac_engine.specs.declared.fault.EngineCause.{EngineCause}
+use Rattle.pac_engine.specs.declared.fault.EngineCause.TheVariants as cause
+use Rattle.pac_engine.specs.declared.parts.EngineParts.{EngineParts}
+use Rattle.pac_engine.specs.Closing.{Closes, IsUnsaved, StopsAt, is_stop}
+use Rattle.pac_engine.proofs.LawLemmas.{stops-then}
+use Rattle.pac_run.specs.Asked.{NoStop, StopsLast}
+use Rattle.pac_run.specs.Causes.{not_answered}
+use Rattle.pac_run.specs.Serving.{GoesFrom, StepStops}
+use Rattle.pac_run.specs.Stopping.{AreFirst, IsStoppedAt, closed_groups}
+use Rattle.pac_run.specs.declared.stop.RunStop.{RunStop}
+use Rattle.pac_run.specs.declared.stop.RunStop.TheVariants.{NoStore, Damaged, AbortInLog, RowsOver, InputFault, OutputFault, DiskFault, NoMemory, LogFull, TooLong, TooLarge}
+use Rattle.pac_run.proofs.StepLemmas.{cut-more}
+
+-- ---- the replies are the first of the session
+
+replies-both : (xs ys : List Group) → all_replies (xs ++ ys) ≡ all_replies xs ++ all_replies ys
+replies-both [] ys = refl
+replies-both (x ∷ xs) ys = ap (λ (l : List Reply). x.replies ++ l) (replies-both xs ys) ∙ sym (append_assoc x.replies (all_replies xs) (all_replies ys))
+
+-- those of the groups that were closed are the first
+groups-first : (rules : Rules) (place : ℕ) (start : SessionState) (requests : List Request) (given : List Reply) → AreFirst given (all_replies (closed_groups rules place start requests)) → AreFirst given (replies rules start requests)
+groups-first rules place start requests given is =
+    let whole = cut rules start requests in
+    let tail = replies rules (ends rules start (all_requests whole.closed)) whole.rest in
+    record {
+      rest = is.rest ++ tail;
+      split = ap (replies rules start) (sym (whole-cut rules start requests)) ∙ replies-append rules start (all_requests whole.closed) whole.rest
+          ∙ ap (λ (l : List Reply). l ++ tail) (sym (described-replies rules place start whole.closed) ∙ is.split) ∙ append_assoc given is.rest tail;
+    }
+
+all-first : (given all : List Reply) → given ≡ all → AreFirst given all
+all-first given all is = record { rest = []; split = sym is ∙ sym (append-nil given) }
+
+some-first : (groups before rest : List Group) (given : List Reply) → groups ≡ before ++ rest → given ≡ all_replies before → AreFirst given (all_replies groups)
+some-first groups before rest given split replied =
+    record { rest = all_replies rest; split = ap (λ (g : List Group). all_replies g) split ∙ replies-both before rest ∙ ap (λ (l : List Reply). l ++ all_replies rest) (sym replied) }
+
+unsaved-first : (groups : List Group) (given : List Reply) → IsUnsaved groups given → AreFirst given (all_replies groups)
+unsaved-first groups given is = record {
+  rest = reply.Saved is.number ∷ [];
+  split = ap (λ (g : List Group). all_replies g) is.split ∙ replies-both is.before (is.group ∷ []) ∙ ap (λ (l : List Reply). all_replies is.before ++ l) (append-nil is.group.replies ∙ is.answers)
+      ∙ sym (append_assoc (all_replies is.before) is.held (reply.Saved is.number ∷ [])) ∙ ap (λ (l : List Reply). l ++ reply.Saved is.number ∷ []) (sym is.replied);
+}
+
+stops-first : (rules : Rules) (place : ℕ) (start : SessionState) (closed : List (List Request)) (given : List Reply) (why : EngineCause) → StopsAt rules place start closed given why → AreFirst given (all_replies (described rules place start closed))
+stops-first rules place start closed given cause.DiskFault (inl is) = some-first (described rules place start closed) is.before (is.group ∷ is.rest) given is.split is.replied
+stops-first rules place start closed given cause.DiskFault (inr is) = unsaved-first (described rules place start closed) given is
+stops-first rules place start closed given (cause.LogFull need) is = some-first (described rules place start closed) is.before (is.group ∷ is.rest) given is.split is.replied
+stops-first rules place start closed given (cause.TooLarge bytes) is = unsaved-first (described rules place start closed) given is.unsaved
+stops-first rules place start closed given cause.Ended is = absurd is
+stops-first rules place start closed given cause.NoMemory (inl is) = some-first (described rules place start closed) is.before is.rest given is.split is.replied
+stops-first rules place start closed given cause.NoMemory (inr is) = unsaved-first (described rules place start closed) given is
+
+pub stopped-first : (rules : Rules) (place : ℕ) (start : SessionState) (requests : List Request) (given : List Reply) (stop : RunStop) → IsStoppedAt rules place start requests given stop → AreFirst given (replies rules start requests)
+stopped-first rules place start requests given NoStore is = absurd is
+stopped-first rules place start requests given (Damaged damage) is = absurd is
+stopped-first rules place start requests given (AbortInLog note) is = absurd is
+stopped-first rules place start requests given (RowsOver table rows limit) is = absurd is
+stopped-first rules place start requests given InputFault is = groups-first rules place start requests given (all-first given _ is.0)
+stopped-first rules place start requests given TooLong is = groups-first rules place start requests given (all-first given _ is.0)
+stopped-first rules place start requests given OutputFault is = groups-first rules place start requests given (all-first given _ is)
+stopped-first rules place start requests given DiskFault is = groups-first rules place start requests given (stops-first rules place start _ given cause.DiskFault is)
+stopped-first rules place start requests given NoMemory is = groups-first rules place start requests given (stops-first rules place start _ given cause.NoMemory is)
+stopped-first rules place start requests given (LogFull need) is = groups-first rules place start requests given (stops-first rules place start _ given (cause.LogFull need) is)
+stopped-first rules place start requests given (TooLarge bytes) is = groups-first rules place start requests given (stops-first rules place start _ given (cause.TooLarge bytes) is)
+
+-- ---- one request that is not answered
+
+-- a step's cause is the run's
+pub step-stops : (rules : Rules) (place : ℕ) (start : SessionState) (closed : List (List Request)) (given : List Reply) (why : EngineCause) (stop : RunStop) → stop ≡ not_answered why → StopsAt rules place start closed given why → StepStops rules place start closed given stop
+step-stops rules place start closed given why stop is stops = subst (λ (s : RunStop). StepStops rules place start closed given s) (sym is) (go why stops)
+  where
+    go : (why : EngineCause) → StopsAt rules place start closed given why → StepStops rules place start closed given (not_answered why)
+    go cause.DiskFault at = at
+    go (cause.LogFull need) at = at
+    go (cause.TooLarge bytes) at = at
+    go cause.Ended at = absurd at
+    go cause.NoMemory at = at
+
+-- where nothing was written for want of memory, no group's replies were
+pub none-told : (rules : Rules) (place : ℕ) (start : SessionState) (closed : List (List Request)) → StepStops rules place start closed [] NoMemory
+none-told rules place start closed = inl (record { before = []; rest = described rules place start closed; split = refl; replied = refl })
+
+module _ (first now : EngineParts) (requests : List Request) (given : List Reply) (told told' : List (Option History)) (goes : GoesFrom first now requests given told told') where
+  abbrev rules : Rules
+  rules = rules_of first.session
+
+  abbrev start : SessionState
+  start = state_now first.session
+
+  abbrev place : ℕ
+  place = first.log.gate.place
+
+  abbrev whole : GroupCut
+  whole = cut (rules_of first.session) (state_now first.session) requests
+
+  abbrev middle : SessionState
+  middle = ends (rules_of first.session) (state_now first.session) (all_requests (cut (rules_of first.session) (state_now first.session) requests).closed)
+
+  module _ (asked : Request) (more : List Reply) where
+    abbrev one : List (List Request)
+    one = (cut_one rules middle whole.rest asked).closed
+
+    closed-is : (cut rules start (requests ++ asked ∷ [])).closed ≡ whole.closed ++ one
+    closed-is = ap (λ (c : GroupCut). c.closed) (cut-more first now requests given told told' goes (asked ∷ []))
+
+    all-told : more ≡ all_replies (described rules now.log.gate.place middle one) → given ++ more ≡ all_replies (closed_groups rules place start (requests ++ asked ∷ []))
+    all-told is = ap₂ (λ (a b : List Reply). a ++ b) (goes.closes.replied ∙ described-replies rules place start whole.closed) (is ∙ described-replies rules now.log.gate.place middle one)
+        ∙ sym (replies-append rules start (all_requests whole.closed) (all_requests one)) ∙ ap (replies rules start) (sym (joined-append whole.closed one))
+        ∙ sym (described-replies rules place start (whole.closed ++ one)) ∙ ap (λ (c : List (List Request)). all_replies (described rules place start c)) (sym closed-is)
+
+    then-stops : (why : EngineCause) → StopsAt rules now.log.gate.place middle one more why → StopsAt rules place start (cut rules start (requests ++ asked ∷ [])).closed (given ++ more) why
+    then-stops why stops = subst (λ (c : List (List Request)). StopsAt rules place start c (given ++ more) why) (sym closed-is) (stops-then rules place start whole given now goes.closes one more why stops)
+
+    stopped-there : (stop : RunStop) → StepStops rules now.log.gate.place middle one more stop → IsStoppedAt rules place start (requests ++ asked ∷ []) (given ++ more) stop
+    stopped-there NoStore stops = absurd stops
+    stopped-there (Damaged damage) stops = absurd stops
+    stopped-there (AbortInLog note) stops = absurd stops
+    stopped-there (RowsOver table rows limit) stops = absurd stops
+    stopped-there InputFault stops = absurd stops
+    stopped-there TooLong stops = absurd stops
+    stopped-there OutputFault stops = all-told stops
+    stopped-there DiskFault stops = then-stops cause.DiskFault stops
+    stopped-there NoMemory stops = then-stops cause.NoMemory stops
+    stopped-there (LogFull need) stops = then-stops (cause.LogFull need) stops
+    stopped-there (TooLarge bytes) stops = then-stops (cause.TooLarge bytes) stops
+
+    pub stopped-more : (stop : RunStop) → ((from : SessionState) (group : List Request) → IsInGroup from group now.session → StepStops (rules_of now.session) now.log.gate.place from (cut_one (rules_of now.session) from group asked).closed more stop)
+        → IsStoppedAt (rules_of first.session) first.log.gate.place (state_now first.session) (requests ++ asked ∷ []) (given ++ more) stop
+    stopped-more stop stops = stopped-there stop (subst (λ (r : Rules). StepStops r now.log.gate.place middle (cut_one r middle whole.rest asked).closed more stop) goes.closes.same (stops middle whole.rest goes.closes.within))
+
+  -- where no more is read
+  pub stopped-reading : (stop : RunStop) → (stop ≡ InputFault) ⊎ ((stop ≡ TooLong) ⊎ (stop ≡ NoMemory)) → NoStop requests → IsStoppedAt (rules_of first.session) first.log.gate.place (state_now first.session) requests given stop
+  stopped-reading stop why none = by why
+    where
+      by : (stop ≡ InputFault) ⊎ ((stop ≡ TooLong) ⊎ (stop ≡ NoMemory)) → IsStoppedAt rules place start requests given stop
+      by (inl is) = subst (λ (s : RunStop). IsStoppedAt rules place start requests given s) (sym is) (goes.closes.replied, none)
+      by (inr (inl is)) = subst (λ (s : RunStop). IsStoppedAt rules place start requests given s) (sym is) (goes.closes.replied, none)
+      by (inr (inr is)) = subst (λ (s : RunStop). IsStoppedAt rules place start requests given s) (sym is)
+          (inl (record { before = closed_groups rules place start requests; rest = []; split = sym (append-nil (closed_groups rules place start requests)); replied = goes.closes.replied }))
+
+-- ---- stops
+
+pub no-stop-both : (xs ys : List Request) → NoStop xs → NoStop ys → NoStop (xs ++ ys)
+no-stop-both [] ys first second = second
+no-stop-both (x ∷ xs) ys first second = (first.0, no-stop-both xs ys first.1 second)
+
+pub stops-last : (requests : List Request) (last : Request) → NoStop requests → StopsLast (requests ++ last ∷ [])
+stops-last [] last none = tt
+stops-last (r ∷ []) last none = (none.0, tt)
+stops-last (r ∷ next ∷ requests) last none = (none.0, stops-last (next ∷ requests) last none.1)
+
+pub never-stops : (requests : List Request) → NoStop requests → StopsLast requests
+never-stops [] none = tt
+never-stops (r ∷ []) none = tt
+never-stops (r ∷ next ∷ requests) none = (none.0, never-stops (next ∷ requests) none.1)
+
+pub stop-is : (asked : Request) → is_stop asked ≡ true → asked ≡ request.Stop
+stop-is (request.Call proc args) is = absurd cc
+stop-is (request.AdHoc records) is = absurd cc
+stop-is request.Flush is = absurd cc
+stop-is (request.Show table key) is = absurd cc
+stop-is request.Save is = absurd cc
+stop-is request.Stop is = refl
+stop-is (request.Refused fault) is = absurd cc
+
+-- behind a stop no request is left
+pub all-replied : (rules : Rules) (place : ℕ) (start : SessionState) (before : List Request) (given : List Reply) (now : EngineParts) → Closes rules place start (cut rules start (before ++ request.Stop ∷ [])) given now → (cut rules start (before ++ request.Stop ∷ [])).rest ≡ []
+    → given ≡ replies rules start (before ++ request.Stop ∷ [])
+all-replied rules place start before given now closes none =
+    let requests = before ++ request.Stop ∷ [] in
+    let whole = cut rules start requests in
+    closes.replied ∙ described-replies rules place start whole.closed
+    ∙ ap (replies rules start) (sym (append-nil (all_requests whole.closed)) ∙ ap (λ (l : List Request). all_requests whole.closed ++ l) (sym none) ∙ whole-cut rules start requests)

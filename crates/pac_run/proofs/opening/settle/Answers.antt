@@ -1,0 +1,12 @@
+-- At each moment the devices leave what they might have left before.
+use Rattle.pac_outside.proofs.SyncRuns.{one_synced, two_synced, three_synced}
+use Rattle.pac_run.proofs.opening.settle.Goals as goal
+
+pub returns-in_err-sync-clause-moments : goal.returns-in_err-sync-clause-moments
+returns-in_err-sync-clause-moments g c = one_synced _ _ _ _ c.sync.ensures.moments
+
+pub returns-in_err-sync-2-clause-moments : goal.returns-in_err-sync-2-clause-moments
+returns-in_err-sync-2-clause-moments g c = two_synced _ _ _ _ _ c.sync.ensures.moments c.sync-2.ensures.moments
+
+pub returns-clause-moments : goal.returns-clause-moments
+returns-clause-moments g c = three_synced _ _ _ _ _ _ c.sync.ensures.moments c.sync-2.ensures.moments c.sync-3.ensures.moments

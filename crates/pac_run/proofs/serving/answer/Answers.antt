@@ -1,0 +1,62 @@
+-- A request is answered, and its replies are written, or not.
+use Rattle.std.proofs.Common.{◌∙◌, ℕ, List, ◌∷◌, refl, sym, ap, subst}
+use Rattle.std.proofs.lemmas.Result.{err_from_is_err_and}
+use Rattle.std.specs.List.{AllByRecursion}
+use Rattle.pac_outside.specs.Content.{Took}
+use Rattle.pac_request.specs.declared.request.Reply.{Reply}
+use Rattle.pac_session.specs.Groups.{cut_one}
+use Rattle.pac_session.specs.Open.{rules_of}
+use Rattle.pac_recover.proofs.CauseLemmas.{same-error, the-error}
+use Rattle.pac_engine.proofs.Results.{on-ok}
+use Rattle.pac_run.specs.declared.stop.RunStop.{RunStop}
+use Rattle.pac_run.specs.Serving.{StepStops}
+use Rattle.pac_run.specs.Texts.{IsPlain, texts}
+use Rattle.pac_run.proofs.AnswerLemmas.{answered-one, broke-of, no-text, only-err}
+use Rattle.pac_run.proofs.StopLemmas.{step-stops}
+use Rattle.pac_run.proofs.serving.answer.Goals as goal
+
+pub returns-in_err-text-in-Ok-clause-err : goal.returns-in_err-text-in-Ok-clause-err
+returns-in_err-text-in-Ok-clause-err g c = λ stop is.
+    let r = c.from_residual in
+    let p = err_from_is_err_and r.result r.ensures.1 in
+    no-text c.args.asked c.args.engine.now c.step.new.self _ _ c.args.catalogue.now _ _ stop (sym (the-error r.result p.0 stop p.1 is) ∙ p.2) (c.step.ensures.keeps c.requires.goes_on) c.step.ensures.grows
+
+pub returns-in_err-text-in-Err-clause-err : goal.returns-in_err-text-in-Err-clause-err
+returns-in_err-text-in-Err-clause-err g c = λ stop is.
+    let r = c.from_residual-in_err-text-in-Err in
+    let p = err_from_is_err_and r.result r.ensures.1 in
+    no-text c.args.asked c.args.engine.now c.step.new.self _ _ c.args.catalogue.now _ _ stop (sym (the-error r.result p.0 stop p.1 is) ∙ p.2) (c.step.ensures.keeps c.requires.goes_on) c.step.ensures.grows
+
+pub returns-in_ok-text-in-Ok-clause-ok : goal.returns-in_ok-text-in-Ok-clause-ok
+returns-in_ok-text-in-Ok-clause-ok g c =
+    let cat = c.args.catalogue.now in
+    let e = c.in-Ok.ensures in
+    let text = c.deref.ensures.value ∙ c.in_ok-text-in-Ok.ensures.text ∙ ap (texts cat) c.items.ensures.value in
+    let plain = subst (λ (l : List Reply). AllByRecursion IsPlain l) c.items.ensures.value c.in_ok-text-in-Ok.ensures.plain in
+    on-ok c.write.result c.write.ensures.ok (λ took. record {
+      more = c.in-Ok.replies;
+      took = subst (λ (l : List ℕ). Took (g.O.Sink.held c.args.output.now) l (g.O.Sink.held c.write.new.output)) text took;
+      answered = answered-one c.args.asked c.args.engine.now c.step.new.self _ _ c.in-Ok.replies e.closes (e.keeps c.requires.goes_on) e.stands e.same e.grows e.kept plain e.small;
+    })
+
+pub returns-in_ok-text-in-Ok-clause-err : goal.returns-in_ok-text-in-Ok-clause-err
+returns-in_ok-text-in-Ok-clause-err g c = λ stop is.
+    let cat = c.args.catalogue.now in
+    let old = c.args.engine.now in
+    let e = c.in-Ok.ensures in
+    let text = c.deref.ensures.value ∙ c.in_ok-text-in-Ok.ensures.text ∙ ap (texts cat) c.items.ensures.value in
+    let plain = subst (λ (l : List Reply). AllByRecursion IsPlain l) c.items.ensures.value c.in_ok-text-in-Ok.ensures.plain in
+    let same = only-err c.write.result _ stop c.write.ensures.only is in
+    broke-of c.args.asked old c.step.new.self _ _ cat _ _ _ stop c.in-Ok.replies c.deref.result.now text c.write.ensures.says (e.keeps c.requires.goes_on) e.grows e.kept plain
+    (λ start group within. subst (λ (s : RunStop). StepStops (rules_of old.session) old.log.gate.place start (cut_one (rules_of old.session) start group c.args.asked).closed c.in-Ok.replies s) (sym same) (e.closes start group within).replied)
+
+pub returns-in_ok-text-in-Err-clause-err : goal.returns-in_ok-text-in-Err-clause-err
+returns-in_ok-text-in-Err-clause-err g c = λ stop is.
+    let cat = c.args.catalogue.now in
+    let old = c.args.engine.now in
+    let e = c.in-Err.ensures in
+    let text = c.deref-in-Err.ensures.value ∙ c.in_ok-text-in-Err.ensures.text ∙ ap (texts cat) c.items-in-Err.ensures.value in
+    let plain = subst (λ (l : List Reply). AllByRecursion IsPlain l) c.items-in-Err.ensures.value c.in_ok-text-in-Err.ensures.plain in
+    let same = sym (same-error _ _ is) ∙ c.not_answered.ensures in
+    broke-of c.args.asked old c.step.new.self _ _ cat _ _ _ stop c.in-Err.fault.replies c.deref-in-Err.result.now text c.write-in-Err.ensures.says (e.keeps c.requires.goes_on) e.grows e.kept_before plain
+    (λ start group within. step-stops (rules_of old.session) old.log.gate.place start (cut_one (rules_of old.session) start group c.args.asked).closed c.in-Err.fault.replies c.in-Err.fault.cause stop same (e.stops c.requires.goes_on start group within))

@@ -1,0 +1,16 @@
+-- A line that asks nothing is skipped.
+use Rattle.std.proofs.Common.{◌≡◌, [], Option, subst}
+use Rattle.pac_outside.specs.Devices.{each}
+use Rattle.pac_request.specs.declared.request.Request.{Request}
+use Rattle.pac_run.specs.Asked.{LineAsks, listed_asked}
+use Rattle.pac_run.proofs.AnswerLemmas.{answered-none, nothing-stands}
+use Rattle.pac_run.proofs.ServeLemmas.{took-nothing}
+use Rattle.pac_run.proofs.serving.serve_line.Goals as goal
+
+pub returns-in_default-clause-ok : goal.returns-in_default-clause-ok
+returns-in_default-clause-ok g c = record {
+  asked = [];
+  asks = subst (λ (o : Option Request). LineAsks c.args.catalogue.now c.args.line.now (listed_asked o)) c.in_default.is c.in_ok-asked.ensures.asks;
+  stop = tt;
+  replied = record { more = []; took = took-nothing _; answered = answered-none c.args.engine.now (each g.D.Disk.told c.args.devices.now) (nothing-stands c.args.engine.now (each g.D.Disk.told c.args.devices.now)) };
+}

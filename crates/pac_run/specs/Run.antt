@@ -1,0 +1,114 @@
+-- What a run reads, writes and leaves.
+use Rattle.std.specs.Prelude.{◌≡◌, ◌⊎◌, ◌≤◌, ℕ, List, [], ◌∷◌, ◌++◌, length, map, take, Option, IfSome, Result, IfErr, IsErrOf, OnOk}
+use Rattle.std.specs.Io.KnownBytes.{prepend_known}
+use Rattle.std.specs.List.{AllByRecursion}
+use Rattle.pac_ops.specs.declared.transaction.Txn.{Txn}
+use Rattle.pac_outside.specs.Content.{Took}
+use Rattle.pac_outside.specs.Devices.{AllLeave, AreImages, RunLeaves, all_told}
+use Rattle.pac_outside.specs.Disk.{History}
+use Rattle.pac_types.specs.Typing.{CatalogueState}
+use Rattle.pac_log.specs.Logs.{HoldsLog, log_front}
+use Rattle.pac_store.specs.Images.{Images, OfThree}
+use Rattle.pac_store.specs.Stands.{StandsFor}
+use Rattle.pac_request.specs.declared.request.Request.{Request}
+use Rattle.pac_request.specs.declared.request.Request.TheVariants as request
+use Rattle.pac_request.specs.declared.request.Reply.{Reply}
+use Rattle.pac_session.specs.Session.{Rules, SessionState, committed, replies}
+use Rattle.pac_recover.specs.Recovering.{IsRecoveredFrom}
+use Rattle.pac_engine.specs.Closing.{GroupFits}
+use Rattle.pac_engine.specs.Standing.{StandsWith, TellsWhere}
+use Rattle.pac_run.specs.declared.limits.TheConstants.{MAX_INPUT}
+use Rattle.pac_run.specs.declared.stop.RunStop.{RunStop}
+use Rattle.pac_run.specs.declared.stop.RunStop.TheVariants.{TooLong}
+use Rattle.pac_run.specs.Acked.{Acknowledges, TellsSaved}
+use Rattle.pac_run.specs.Asked.{WereAsked, IsOverLong, StopsLast, TookAtMost, WereHandled}
+use Rattle.pac_run.specs.Opening.{AllStand}
+use Rattle.pac_run.specs.Stopping.{IsStopped, SaveFits, closed_groups}
+use Rattle.pac_run.specs.Texts.{IsTextFront, texts}
+
+-- ---- where the session begins
+
+-- The session begins with what is stored in these images: with the tables after it and as many transactions, and with the
+-- log's gate behind the batches that are stored.
+pub record IsBegun (rules : Rules) (place : ℕ) (start : SessionState) (images : Images) : Type 0 where
+  pub recovered : IsRecoveredFrom rules.catalogue start.tables start.number images
+  pub text : List ℕ
+  pub batches : List (List Txn)
+  pub log : HoldsLog text rules.catalogue batches images.log
+  pub there : place ≡ length (log_front text batches)
+
+-- where all devices tell, what a read gives of them has P
+abbrev pub WhereSeen : (Images → Type 0) → List (Option History) → Type 0
+WhereSeen P told = IfSome (all_told told) (λ devices. OfThree P (map (λ device. device.now.seen) devices))
+
+-- ---- what the devices hold
+
+-- the committed transactions after a run: of those before it the first, which the log had, and then those of the session
+abbrev pub history_after : List Txn → Rules → SessionState → List Request → List Txn
+history_after history rules start requests = take start.number history ++ committed rules start requests
+
+-- An image at the exit stands for the history. Its log has what the log had at entry, and each transaction that the
+-- output acknowledges; some slot has a checkpoint of as many as the output tells that one has.
+pub record IsExit (text : List ℕ) (catalogue : CatalogueState) (history : List Txn) (entered : ℕ) (out : List ℕ) (images : Images) : Type 0 where
+  pub least : ℕ
+  pub saved : ℕ
+  pub more : entered ≤ least
+  pub acknowledged : (number : ℕ) → Acknowledges out number → number ≤ least
+  pub kept : (number : ℕ) → TellsSaved out number → number ≤ saved
+  pub stands : StandsWith text catalogue history least saved images
+
+-- an image at the exit is one of entry, and nothing was written, or it stands for the history with what the session commits
+abbrev pub AtExit : List ℕ → CatalogueState → List Txn → Rules → SessionState → List Request → List ℕ → List History → List History → Type 0
+AtExit text catalogue history rules start requests out entry now =
+    AllLeave (λ images. ((out ≡ []) × AreImages entry images) ⊎ OfThree (IsExit text catalogue (history_after history rules start requests) start.number out) images) now
+
+-- and so it is of each image that a crash at a moment of the run might have left
+abbrev pub AtMoments : List ℕ → CatalogueState → List Txn → ℕ → Rules → SessionState → List Request → List History → List History → Type 0
+AtMoments text catalogue history least rules start requests entry now =
+    RunLeaves (λ images. AreImages entry images ⊎ OfThree (StandsFor text catalogue (history_after history rules start requests) least) images) entry now
+
+-- where the devices tell, and each image at entry stands for a history, this is so of what they hold then and now
+abbrev pub WhereAllStand : (List ℕ → CatalogueState → List Txn → ℕ → List History → List History → Type 0) → List (Option History) → List (Option History) → Type 0
+WhereAllStand R told told' = (text : List ℕ) (catalogue : CatalogueState) (history : List Txn) (least : ℕ) → TellsWhere (AllStand text catalogue history least) (R text catalogue history least) told told'
+
+-- ---- the run
+
+-- all replies were written, the last request is a stop, and each group and each checkpoint has room
+pub record IsWholeRun (rules : Rules) (place : ℕ) (start : SessionState) (requests : List Request) (out : List ℕ) : Type 0 where
+  pub before : List Request
+  pub stops : requests ≡ before ++ request.Stop ∷ []
+  pub written : out ≡ texts rules.catalogue (replies rules start requests)
+  pub fit : AllByRecursion GroupFits (closed_groups rules place start requests)
+  pub saves : (first rest : List Request) → requests ≡ first ++ request.Save ∷ rest → SaveFits rules place start first
+
+-- A run, whatever its answer.
+pub record IsRun (batch limit : ℕ) (left left' held held' : Option (List ℕ)) (told told' : List (Option History)) (rose : Type 0) (result : Result (Unit {0}) RunStop) : Type 0 where
+  -- what it read and wrote
+  pub lines : List (List ℕ)
+  pub ahead : List ℕ  -- taken, and not handled
+  pub handled : WereHandled left lines ahead left'
+  pub few : ¬ IsErrOf result TooLong → TookAtMost MAX_INPUT left left'
+  pub long : IsErrOf result TooLong → IsOverLong ahead left left'
+  pub rules : Rules
+  pub requests : List Request
+  pub asked : WereAsked rules.catalogue lines (prepend_known ahead left') requests
+  pub last : StopsLast requests
+  pub out : List ℕ
+  pub took : Took held out held'
+  -- the session of the requests
+  pub limited : rules.limit ≡ limit
+  pub most : rules.most ≡ batch
+  pub start : SessionState
+  pub place : ℕ
+  pub begun : WhereSeen (λ images. (requests ≡ []) ⊎ IsBegun rules place start images) told
+  -- (a) the output is a front of the texts of its replies, and all of them with Ok
+  pub front : IsTextFront out (texts rules.catalogue (replies rules start requests))
+  pub whole : OnOk result (IsWholeRun rules place start requests out)
+  -- (b) and (e) what the devices hold at the exit, (c) and at each moment
+  pub exit : WhereAllStand (λ text catalogue history least. AtExit text catalogue history rules start requests out) told told'
+  pub moments : WhereAllStand (λ text catalogue history least. AtMoments text catalogue history least rules start requests) told told'
+  -- (d) where it stopped: the output is the texts of these replies, unless the output's count of faults rose
+  pub given : List Reply
+  pub written : IsTextFront out (texts rules.catalogue given)
+  pub all : (out ≡ texts rules.catalogue given) ⊎ rose
+  pub stopped : IfErr result (λ stop. IsStopped rules place start requests given stop)

@@ -1,0 +1,51 @@
+-- Where a run stops.
+use Rattle.std.specs.Prelude.{◌≡◌, ◌⊎◌, ◌≤◌, ℕ, List, [], ◌∷◌, ◌++◌}
+use Rattle.pac_check.specs.declared.limits.TheConstants.{MAX_SLOT_LEN}
+use Rattle.pac_request.specs.declared.request.Request.{Request}
+use Rattle.pac_request.specs.declared.request.Request.TheVariants as request
+use Rattle.pac_request.specs.declared.request.Reply.{Reply}
+use Rattle.pac_session.specs.Session.{Rules, SessionState, ends, replies}
+use Rattle.pac_session.specs.Groups.{Group, all_replies, cut, described}
+use Rattle.pac_engine.specs.declared.fault.EngineCause.TheVariants as cause
+use Rattle.pac_engine.specs.Closing.{StopsAt, place_after, slot_len}
+use Rattle.pac_run.specs.Asked.{NoStop}
+use Rattle.pac_run.specs.declared.stop.RunStop.{RunStop}
+use Rattle.pac_run.specs.declared.stop.RunStop.TheVariants.{NoStore, Damaged, AbortInLog, RowsOver, InputFault, OutputFault, DiskFault, NoMemory, LogFull, TooLong, TooLarge}
+
+-- the groups that closings cut off
+abbrev pub closed_groups : Rules → ℕ → SessionState → List Request → List Group
+closed_groups rules place start requests = described rules place start (cut rules start requests).closed
+
+-- Which replies were to be written before a stop, where these requests were handled.
+abbrev pub IsStoppedAt : Rules → ℕ → SessionState → List Request → List Reply → RunStop → Type 0
+-- no store is given up once it is open
+IsStoppedAt rules place start requests given NoStore = ⊥
+IsStoppedAt rules place start requests given (Damaged damage) = ⊥
+IsStoppedAt rules place start requests given (AbortInLog note) = ⊥
+IsStoppedAt rules place start requests given (RowsOver table rows limit) = ⊥
+-- those of all groups that were closed; no request was a stop
+IsStoppedAt rules place start requests given InputFault = (given ≡ all_replies (closed_groups rules place start requests)) × NoStop requests
+IsStoppedAt rules place start requests given TooLong = (given ≡ all_replies (closed_groups rules place start requests)) × NoStop requests
+-- those of all groups that were closed
+IsStoppedAt rules place start requests given OutputFault = given ≡ all_replies (closed_groups rules place start requests)
+-- those of the groups before the first that needs too much
+IsStoppedAt rules place start requests given (LogFull need) = StopsAt rules place start (cut rules start requests).closed given (cause.LogFull need)
+-- those up to the group that the save ends, but for its own
+IsStoppedAt rules place start requests given (TooLarge bytes) = StopsAt rules place start (cut rules start requests).closed given (cause.TooLarge bytes)
+-- those of the groups before one that has transactions, or up to one that a save ends, but for its own
+IsStoppedAt rules place start requests given DiskFault = StopsAt rules place start (cut rules start requests).closed given cause.DiskFault
+-- those of any first groups, or up to one that a save ends, but for its own
+IsStoppedAt rules place start requests given NoMemory = StopsAt rules place start (cut rules start requests).closed given cause.NoMemory
+
+-- before a request was handled, or where it stopped then
+abbrev pub IsStopped : Rules → ℕ → SessionState → List Request → List Reply → RunStop → Type 0
+IsStopped rules place start requests given stop = ((requests ≡ []) × (given ≡ [])) ⊎ IsStoppedAt rules place start requests given stop
+
+-- a save behind these requests has room in a slot
+abbrev pub SaveFits : Rules → ℕ → SessionState → List Request → Type 0
+SaveFits rules place start before = slot_len rules (ends rules start before) (place_after place (closed_groups rules place start (before ++ request.Save ∷ []))) ≤ MAX_SLOT_LEN
+
+-- the replies are the first of these
+pub record AreFirst (given all : List Reply) : Type 0 where
+  pub rest : List Reply
+  pub split : all ≡ given ++ rest

@@ -1,0 +1,61 @@
+// A run over a store.
+ghost use Rattle.std.specs.Prelude.{◌≡◌, ◌≤◌, ℕ, List, IsErrOf};
+ghost use Rattle.pac_ops.specs.declared.limits.TheConstants.{MAX_TXNS};
+ghost use Rattle.pac_ops.specs.declared.note.Note.{Note as ANote};
+ghost use Rattle.pac_outside.specs.Causes.{Rose};
+ghost use Rattle.pac_outside.specs.Devices.{OneRose, each};
+ghost use Rattle.pac_outside.specs.Disk.{WhereTold};
+ghost use Rattle.pac_types.specs.Typing.{CatalogueState};
+ghost use Rattle.pac_log.specs.declared.damage.DamageKind.{DamageKind as ALogDamage};
+ghost use Rattle.pac_log.specs.Reading.{IsStore};
+ghost use Rattle.pac_check.specs.declared.damage.SlotDamageKind.{SlotDamageKind as ASlotDamage};
+ghost use Rattle.pac_check.specs.declared.info.SlotName.{SlotName as ASlotName};
+ghost use Rattle.pac_check.specs.declared.limits.TheConstants.{MAX_SAVED_ROWS};
+ghost use Rattle.pac_store.specs.Images.{WhereRead};
+ghost use Rattle.pac_recover.specs.declared.errors.Damage.TheVariants.{Log as InLog, Slot as InSlot};
+ghost use Rattle.pac_recover.specs.Damages.{IsDamagedLog, IsDamagedSlot};
+ghost use Rattle.pac_recover.specs.Recovering.{AbortsIn, IsOverIn};
+ghost use Rattle.pac_run.specs.Run.{IsRun};
+
+use crate::opening::open;
+use crate::serving::serve;
+use crate::stop::RunStop;
+use pac_outside::{Devices, Disk, Sink, Source};
+use std::alloc::Global;
+
+/// Opens the store on the devices and serves the request lines of the input over it, up to a stop or to the end. Transactions
+/// are committed in groups of at most `batch` replies, which are written once the group is on the devices.
+///
+/// # Errors
+///
+/// Those of [`open`] and [`serve`].
+pub fn run<I: Source, O: Sink, D: Disk>(
+    alloc: Global,
+    batch: u32,
+    limit: u64,
+    input: &mut I,
+    output: &mut O,
+    devices: &mut Devices<D>,
+) -> Result<(), RunStop>
+    requires some { 1 ≤ batch }
+    requires few { batch ≤ MAX_TXNS }
+    requires limit { limit ≤ MAX_SAVED_ROWS }
+
+    // What was read and written, and what the devices hold, at the exit and at each moment.
+    ensures run { IsRun batch limit (I.left input.old) (I.left input.new) (O.held output.old) (O.held output.new) (each D.told devices.old) (each D.told devices.new) (Rose (O.faults output.old) (O.faults output.new)) result }
+
+    // Each refusal comes only where its cause holds.
+    ensures no_store { IsErrOf result RunStop.NoStore → WhereTold (λ old. (text : List ℕ) (catalogue : CatalogueState) → ¬ IsStore text catalogue old.now.seen) (D.told devices.old.log) }
+    ensures log_damage { (at : ℕ) (kind : ALogDamage) → IsErrOf result (RunStop.Damaged (InLog at kind)) → WhereTold (λ old. IsDamagedLog at kind old.now.seen) (D.told devices.old.log) }
+    ensures slot_damage { (slot : ASlotName) (at : ℕ) (kind : ASlotDamage) → IsErrOf result (RunStop.Damaged (InSlot slot at kind)) → WhereRead (IsDamagedSlot slot at kind) (D.told devices.old.log) (D.told devices.old.slot_a) (D.told devices.old.slot_b) }
+    ensures abort { (note : ANote) → IsErrOf result (RunStop.AbortInLog note) → WhereRead (AbortsIn note) (D.told devices.old.log) (D.told devices.old.slot_a) (D.told devices.old.slot_b) }
+    ensures over { (table : List ℕ) (rows most : ℕ) → IsErrOf result (RunStop.RowsOver table rows most) → (most ≡ limit) × WhereRead (IsOverIn table rows limit) (D.told devices.old.log) (D.told devices.old.slot_a) (D.told devices.old.slot_b) }
+    ensures input_fault { IsErrOf result RunStop.InputFault → Rose (I.faults input.old) (I.faults input.new) }
+    ensures output_fault { IsErrOf result RunStop.OutputFault → Rose (O.faults output.old) (O.faults output.new) }
+    ensures disk_fault { IsErrOf result RunStop.DiskFault → OneRose (each D.faults devices.old) (each D.faults devices.new) }
+{
+    match open(alloc, batch, limit, devices) {
+        Ok(mut engine) => serve(alloc, &mut engine, input, output, devices),
+        Err(error) => Err(RunStop::from(error)),
+    }
+}

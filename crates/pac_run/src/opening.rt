@@ -1,0 +1,123 @@
+// How a store is opened.
+ghost use Rattle.std.specs.Prelude.{◌≡◌, ◌≤◌, ℕ, List, IfOk, IsErrOf, OnOk, option_map};
+ghost use Rattle.pac_ops.specs.declared.limits.TheConstants.{MAX_TXNS};
+ghost use Rattle.pac_ops.specs.declared.note.Note.{Note as ANote};
+ghost use Rattle.pac_outside.specs.Devices.{AreSettled, EndsAtOneFault, OneRose, RunsAsBefore, WhereAllTold, each};
+ghost use Rattle.pac_outside.specs.Disk.{WhereTold, after_sync};
+ghost use Rattle.pac_types.specs.Typing.{CatalogueState};
+ghost use Rattle.pac_log.specs.declared.damage.DamageKind.{DamageKind as ALogDamage};
+ghost use Rattle.pac_log.specs.Reading.{IsStore};
+ghost use Rattle.pac_check.specs.declared.damage.SlotDamageKind.{SlotDamageKind as ASlotDamage};
+ghost use Rattle.pac_check.specs.declared.info.SlotName.{SlotName as ASlotName};
+ghost use Rattle.pac_check.specs.declared.limits.TheConstants.{MAX_SAVED_ROWS};
+ghost use Rattle.pac_check.specs.SlotStates.{IsSlot};
+ghost use Rattle.pac_store.specs.Images.{WhereRead};
+ghost use Rattle.pac_recover.specs.declared.errors.Damage.TheVariants.{Log as InLog, Slot as InSlot};
+ghost use Rattle.pac_recover.specs.Damages.{IsDamagedLog, IsDamagedSlot};
+ghost use Rattle.pac_recover.specs.Logs.{HoldsLogUpTo};
+ghost use Rattle.pac_recover.specs.Recovering.{AbortsIn, IsOverIn};
+ghost use Rattle.pac_engine.specs.Standing.{HasDevices};
+ghost use Rattle.pac_run.specs.Opening.{BeginsOver, IsFresh, IsOpenedFrom};
+
+use pac_engine::Engine;
+use pac_log::Log;
+use pac_outside::{Devices, Disk, Failed};
+use pac_recover::{Loaded, RecoverError, execute, load, test_rows};
+use std::alloc::Global;
+
+// Syncs each device. What each tells is said of it by itself.
+fn settle<D: Disk>(devices: &mut Devices<D>) -> Result<(), Failed>
+    ensures log { OnOk result (D.told devices.new.log ≡ option_map after_sync (D.told devices.old.log)) }
+    ensures slot_a { OnOk result (D.told devices.new.slot_a ≡ option_map after_sync (D.told devices.old.slot_a)) }
+    ensures slot_b { OnOk result (D.told devices.new.slot_b ≡ option_map after_sync (D.told devices.old.slot_b)) }
+    ensures moments { WhereAllTold RunsAsBefore (each D.told devices.old) (each D.told devices.new) }
+    ensures once { EndsAtOneFault (each D.faults devices.old) (each D.faults devices.new) result }
+{
+    devices.log.sync()?;
+    devices.slot_a.sync()?;
+    devices.slot_b.sync()
+}
+
+// An engine over what is stored on devices, which are only read.
+fn engine_over<D: Disk>(
+    alloc: Global,
+    batch: u32,
+    limit: u64,
+    devices: &mut Devices<D>,
+) -> Result<Engine, RecoverError>
+    requires some { 1 ≤ batch }
+    requires few { batch ≤ MAX_TXNS }
+    requires limit { limit ≤ MAX_SAVED_ROWS }
+    ensures opened { IfOk result (λ engine. WhereRead (IsOpenedFrom engine) (D.told devices.old.log) (D.told devices.old.slot_a) (D.told devices.old.slot_b)) }
+    ensures fresh { IfOk result (IsFresh batch limit) }
+    ensures log { IfOk result (λ engine. WhereTold (λ old. HoldsLogUpTo engine.log.gate old.now.seen) (D.told devices.old.log)) }
+    ensures slot_a { IfOk result (λ engine. WhereTold (λ old. IsSlot engine.session.catalogue.tables engine.slots.a old.now.seen) (D.told devices.old.slot_a)) }
+    ensures slot_b { IfOk result (λ engine. WhereTold (λ old. IsSlot engine.session.catalogue.tables engine.slots.b old.now.seen) (D.told devices.old.slot_b)) }
+    ensures no_store { IsErrOf result RecoverError.NoStore → WhereTold (λ old. (text : List ℕ) (catalogue : CatalogueState) → ¬ IsStore text catalogue old.now.seen) (D.told devices.old.log) }
+    ensures log_damage { (at : ℕ) (kind : ALogDamage) → IsErrOf result (RecoverError.Damaged (InLog at kind)) → WhereTold (λ old. IsDamagedLog at kind old.now.seen) (D.told devices.old.log) }
+    ensures slot_damage { (slot : ASlotName) (at : ℕ) (kind : ASlotDamage) → IsErrOf result (RecoverError.Damaged (InSlot slot at kind)) → WhereRead (IsDamagedSlot slot at kind) (D.told devices.old.log) (D.told devices.old.slot_a) (D.told devices.old.slot_b) }
+    ensures abort { (note : ANote) → IsErrOf result (RecoverError.AbortInLog note) → WhereRead (AbortsIn note) (D.told devices.old.log) (D.told devices.old.slot_a) (D.told devices.old.slot_b) }
+    ensures over { (table : List ℕ) (rows most : ℕ) → IsErrOf result (RecoverError.RowsOver table rows most) → (most ≡ limit) × WhereRead (IsOverIn table rows limit) (D.told devices.old.log) (D.told devices.old.slot_a) (D.told devices.old.slot_b) }
+    ensures same { each D.told devices.new ≡ each D.told devices.old }
+    ensures disk_fault { IsErrOf result RecoverError.DiskFault → OneRose (each D.faults devices.old) (each D.faults devices.new) }
+    ensures quiet { ¬ IsErrOf result RecoverError.DiskFault → each D.faults devices.new ≡ each D.faults devices.old }
+{
+    let Loaded {
+        catalogue,
+        plan: _,
+        mut tables,
+        txns,
+        batches,
+        reader,
+        slots,
+    } = load(alloc, devices)?;
+    execute(alloc, &catalogue, txns, batches.as_slice(), &mut tables)?;
+    test_rows(&catalogue, &tables, limit)?;
+    let log = Log::resume(reader);
+    Ok(Engine::new(alloc, catalogue, tables, log, slots, batch, limit))
+}
+
+/// Opens a store: syncs its devices, loads it, executes the stored transactions one after another, and tests the limit of
+/// rows. No device is written. A group of the engine holds at most `batch` replies.
+///
+/// # Errors
+///
+/// - [`RecoverError::NoStore`], [`RecoverError::Damaged`], [`RecoverError::AbortInLog`] and [`RecoverError::RowsOver`] exactly
+///   where `recover` answers them.
+/// - [`RecoverError::DiskFault`] where a call of a device failed, so only where the count of faults of one rose; no call of any
+///   device comes after it.
+/// - [`RecoverError::NoMemory`] where there was no memory for what is read, or for the tables.
+pub fn open<D: Disk>(
+    alloc: Global,
+    batch: u32,
+    limit: u64,
+    devices: &mut Devices<D>,
+) -> Result<Engine, RecoverError>
+    requires some { 1 ≤ batch }
+    requires few { batch ≤ MAX_TXNS }
+    requires limit { limit ≤ MAX_SAVED_ROWS }
+
+    // What is opened, and when each refusal comes.
+    ensures opened { IfOk result (λ engine. WhereRead (IsOpenedFrom engine) (D.told devices.old.log) (D.told devices.old.slot_a) (D.told devices.old.slot_b)) }
+    ensures fresh { IfOk result (IsFresh batch limit) }
+    ensures no_store { IsErrOf result RecoverError.NoStore → WhereTold (λ old. (text : List ℕ) (catalogue : CatalogueState) → ¬ IsStore text catalogue old.now.seen) (D.told devices.old.log) }
+    ensures log_damage { (at : ℕ) (kind : ALogDamage) → IsErrOf result (RecoverError.Damaged (InLog at kind)) → WhereTold (λ old. IsDamagedLog at kind old.now.seen) (D.told devices.old.log) }
+    ensures slot_damage { (slot : ASlotName) (at : ℕ) (kind : ASlotDamage) → IsErrOf result (RecoverError.Damaged (InSlot slot at kind)) → WhereRead (IsDamagedSlot slot at kind) (D.told devices.old.log) (D.told devices.old.slot_a) (D.told devices.old.slot_b) }
+    ensures abort { (note : ANote) → IsErrOf result (RecoverError.AbortInLog note) → WhereRead (AbortsIn note) (D.told devices.old.log) (D.told devices.old.slot_a) (D.told devices.old.slot_b) }
+    ensures over { (table : List ℕ) (rows most : ℕ) → IsErrOf result (RecoverError.RowsOver table rows most) → (most ≡ limit) × WhereRead (IsOverIn table rows limit) (D.told devices.old.log) (D.told devices.old.slot_a) (D.told devices.old.slot_b) }
+
+    // The engine stands for what was stored, and at each moment a crash leaves what it might have left at entry.
+    ensures ready { IfOk result (λ engine. HasDevices D.told engine devices.new) }
+    ensures begins { IfOk result (λ engine. WhereAllTold (BeginsOver engine) (each D.told devices.old) (each D.told devices.new)) }
+    ensures moments { WhereAllTold RunsAsBefore (each D.told devices.old) (each D.told devices.new) }
+
+    // No device is written, and no call of one comes after one that failed.
+    ensures settled { ¬ IsErrOf result RecoverError.DiskFault → WhereAllTold AreSettled (each D.told devices.old) (each D.told devices.new) }
+    ensures disk_fault { IsErrOf result RecoverError.DiskFault → OneRose (each D.faults devices.old) (each D.faults devices.new) }
+    ensures quiet { ¬ IsErrOf result RecoverError.DiskFault → each D.faults devices.new ≡ each D.faults devices.old }
+{
+    match settle(devices) {
+        Ok(()) => engine_over(alloc, batch, limit, devices),
+        Err(_) => Err(RecoverError::DiskFault),
+    }
+}

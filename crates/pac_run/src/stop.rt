@@ -1,0 +1,102 @@
+// Why a run stops before its end.
+ghost use Rattle.std.specs.Prelude.{◌≡◌};
+ghost use Rattle.pac_engine.specs.declared.fault.EngineCause.TheVariants.{Ended};
+ghost use Rattle.pac_run.specs.Causes.{not_answered, not_opened, not_read};
+ghost use Rattle.pac_run.specs.declared.stop.RunStop.TheVariants.{NoMemory as WantOfMemory};
+
+use pac_base::NoMemory;
+use pac_engine::EngineCause;
+use pac_lines::LineError;
+use pac_ops::Note;
+use pac_recover::{Damage, RecoverError};
+use pac_value::Name;
+use thiserror::Error;
+
+/// Why a run stops before its end.
+#[derive(Clone, Copy, Debug, PartialEq, Eq, Error)]
+pub enum RunStop {
+    /// The first device doesn't begin as a log does.
+    #[error("no store")]
+    NoStore,
+    /// This is the first damage of the store.
+    #[error("damaged {0}")]
+    Damaged(Damage),
+    /// A stored transaction aborts.
+    #[error("transaction {} aborts", .0.txn)]
+    AbortInLog(Note),
+    /// After the stored transactions a table has more rows than the limit: the first such one, by its name.
+    #[error("a table has {rows} rows, over {limit}")]
+    RowsOver { table: Name, rows: u64, limit: u64 },
+    /// The input failed.
+    #[error("the input failed")]
+    InputFault,
+    /// The output failed.
+    #[error("the output failed")]
+    OutputFault,
+    /// A call of a device failed.
+    #[error("a device failed")]
+    DiskFault,
+    /// An allocation was refused.
+    #[error("out of memory")]
+    NoMemory,
+    /// The log would have so many bytes.
+    #[error("the log would have {need} bytes")]
+    LogFull { need: u64 },
+    /// The input has a byte more than a run handles.
+    #[error("the input is too long")]
+    TooLong,
+    /// A checkpoint's slot would have so many bytes.
+    #[error("the slot would have {bytes} bytes")]
+    TooLarge { bytes: u64 },
+}
+
+impl From<NoMemory> for RunStop {
+    ghost from_gives = { λ _ stop. stop ≡ WantOfMemory };
+
+    fn from(_: NoMemory) -> Self {
+        RunStop::NoMemory
+    }
+}
+
+// The store isn't opened.
+impl From<RecoverError> for RunStop {
+    ghost from_gives = { λ error stop. stop ≡ not_opened error };
+
+    fn from(error: RecoverError) -> Self {
+        match error {
+            RecoverError::NoStore => RunStop::NoStore,
+            RecoverError::Damaged(damage) => RunStop::Damaged(damage),
+            RecoverError::AbortInLog(note) => RunStop::AbortInLog(note),
+            RecoverError::RowsOver { table, rows, limit } => {
+                RunStop::RowsOver { table, rows, limit }
+            }
+            RecoverError::DiskFault => RunStop::DiskFault,
+            RecoverError::NoMemory => RunStop::NoMemory,
+        }
+    }
+}
+
+/// The next line isn't read.
+pub(crate) fn not_read(error: LineError) -> RunStop
+    ensures { result ≡ not_read error }
+{
+    match error {
+        LineError::Failed => RunStop::InputFault,
+        LineError::TooLong => RunStop::TooLong,
+        LineError::NoMemory => RunStop::NoMemory,
+    }
+}
+
+/// A request isn't answered by an engine that goes on.
+pub(crate) fn not_answered(cause: EngineCause) -> RunStop
+    requires { ¬ (cause ≡ Ended) }
+    ensures { result ≡ not_answered cause }
+{
+    match cause {
+        EngineCause::DiskFault => RunStop::DiskFault,
+        EngineCause::LogFull { need } => RunStop::LogFull { need },
+        EngineCause::TooLarge { bytes } => RunStop::TooLarge { bytes },
+        EngineCause::Ended => unreachable!(),
+        EngineCause::NoMemory => RunStop::NoMemory,
+    }
+}

@@ -1,0 +1,49 @@
+#!/bin/sh
+# Runs the bank's store, kills the run by SIGKILL at a random moment, and sees that each transaction whose reply was written
+# is recovered, with all in front of it and none left out. It says so of each round, and ends with 1 at the first that fails.
+#
+#     examples/run_kill.sh PROGRAM [ROUNDS [LINES [SECONDS]]]
+#
+# A round has LINES deposits, and is killed within SECONDS.
+set -eu
+
+program=$(realpath "$1")
+rounds=${2:-50}
+lines=${3:-10000}
+seconds=${4:-2}
+catalogue=$(realpath "$(dirname "$0")/bank.catalogue")
+
+folder=$(mktemp -d)
+trap 'rm -rf "$folder"' EXIT
+cd "$folder"
+
+# The i-th deposit is to account i, so what is recovered tells which deposits were executed. The slots are saved meanwhile.
+awk -v lines="$lines" 'BEGIN {
+    for (i = 1; i <= lines; i++) {
+        print "call Deposit(" i ", 1, 7)"
+        if (i % 1000 == 0) print "save"
+    }
+}' > lines
+
+for round in $(seq "$rounds"); do
+    rm -f pacman.log pacman.a pacman.b
+    "$program" init < "$catalogue"
+    "$program" run --batch 16 < lines > replies 2> errors &
+    run=$!
+    sleep "$(awk -v seed="$$$round" -v most="$seconds" 'BEGIN { srand(seed); print rand() * most }')"
+    kill -9 "$run" 2> /dev/null || true
+    wait "$run" 2> /dev/null || true
+
+    # A reply is a whole line. The last one may be cut.
+    told=$(head -n "$(wc -l < replies)" replies | awk '$1 == "committed" { told = $2 } END { print told + 0 }')
+    "$program" recover > dump
+    awk -v round="$round" -v told="$told" '
+        /^table / { table = $2; next }
+        table == "Current" { found++; if ($1 != found || $2 != "(1)") wrong = 1 }
+        table == "Stats" { counted = $2 }
+        END {
+            right = !wrong && found + 0 >= told && (found == 0 || counted == "(" found ")")
+            print "round " round ": " told " acknowledged, " found + 0 " recovered" (right ? "" : ", which is wrong")
+            exit !right
+        }' dump
+done
