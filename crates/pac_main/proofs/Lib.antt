@@ -9,5 +9,4 @@ pub mod RecoverLemmas
 pub mod RunStatusLemmas
 pub mod RunLemmas
 pub mod IdleLemmas
-pub mod WordLemmas
 pub mod HeadlineLemmas

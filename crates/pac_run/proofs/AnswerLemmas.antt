@@ -18,7 +18,7 @@ use Rattle.pac_session.specs.Open.{IsInGroup, rules_of, state_now}
 use Rattle.pac_engine.specs.declared.fault.EngineCause.{EngineCause}
 use Rattle.pac_engine.specs.declared.parts.EngineParts.{EngineParts}
 use Rattle.pac_engine.specs.Closing.{Closes, IsKept, StopsAt, is_stop, slot_len}
-use Rattle.pac_engine.specs.Standing.{IsGrown, KeepsHistory, StandsOn, TellsWhere}
+use Rattle.pac_engine.specs.Standing.{OnlyGrows, KeepsHistory, StandsOn, TellsWhere}
 use Rattle.pac_engine.proofs.DeviceLemmas.{rest-told}
 use Rattle.pac_engine.proofs.LawLemmas.{closes-then}
 use Rattle.pac_run.specs.declared.stop.RunStop.{RunStop}
@@ -46,7 +46,7 @@ module _ (asked : Request) (old new : EngineParts) (told told' : List (Option Hi
   stands-one stands = subst (λ (t : List Txn). StandsForEach t old new told told') (sym (append-nil (commits (rules_of old.session) (state_now old.session) asked))) stands
 
   -- nothing was written, since there was no memory for the text
-  pub no-text : (catalogue : CatalogueState) (held : Option (List ℕ)) (rose : Type 0) (stop : RunStop) → stop ≡ NoMemory → KeepsEach (commits (rules_of old.session) (state_now old.session) asked) old new told told' → IsGrown old new
+  pub no-text : (catalogue : CatalogueState) (held : Option (List ℕ)) (rose : Type 0) (stop : RunStop) → stop ≡ NoMemory → KeepsEach (commits (rules_of old.session) (state_now old.session) asked) old new told told' → OnlyGrows old new
       → Broke catalogue asked old new held held told told' rose stop
   no-text catalogue held rose stop is keeps grows = record {
     more = [];
@@ -63,7 +63,7 @@ module _ (asked : Request) (old new : EngineParts) (told told' : List (Option Hi
   }
 
   pub broke-of : (catalogue : CatalogueState) (held held' : Option (List ℕ)) (rose : Type 0) (stop : RunStop) (more : List Reply) (text : List ℕ) → text ≡ texts catalogue more → SaysUnlessFault held text held' rose
-      → KeepsEach (commits (rules_of old.session) (state_now old.session) asked) old new told told' → IsGrown old new → AllByRecursion (IsKept new) more → AllByRecursion IsPlain more
+      → KeepsEach (commits (rules_of old.session) (state_now old.session) asked) old new told told' → OnlyGrows old new → AllByRecursion (IsKept new) more → AllByRecursion IsPlain more
       → ((start : SessionState) (group : List Request) → IsInGroup start group old.session → StepStops (rules_of old.session) old.log.gate.place start (cut_one (rules_of old.session) start group asked).closed more stop)
       → Broke catalogue asked old new held held' told told' rose stop
   broke-of catalogue held held' rose stop more text is (inl took) keeps grows kept plain stops = record {
@@ -94,7 +94,7 @@ module _ (asked : Request) (old new : EngineParts) (told told' : List (Option Hi
   -- a request was answered
   pub answered-one : (more : List Reply) → ((start : SessionState) (group : List Request) → IsInGroup start group old.session → Closes (rules_of old.session) old.log.gate.place start (cut_one (rules_of old.session) start group asked) more new)
       → KeepsEach (commits (rules_of old.session) (state_now old.session) asked) old new told told' → StandsForEach (commits (rules_of old.session) (state_now old.session) asked) old new told told'
-      → rules_of new.session ≡ rules_of old.session → IsGrown old new → AllByRecursion (IsKept new) more → AllByRecursion IsPlain more
+      → rules_of new.session ≡ rules_of old.session → OnlyGrows old new → AllByRecursion (IsKept new) more → AllByRecursion IsPlain more
       → (asked ≡ request.Save → slot_len (rules_of old.session) (state_now old.session) (place_behind old.log.gate.place old.session.txns) ≤ MAX_SLOT_LEN)
       → Answered (asked ∷ []) more old new told told'
   answered-one more closes keeps stands same grows kept plain small = record {

@@ -25,7 +25,7 @@ use Rattle.pac_session.specs.Groups.{GroupCut, all_requests, cut, cut_on, cut_on
 use Rattle.pac_session.specs.Open.{rules_of, state_now}
 use Rattle.pac_engine.specs.declared.parts.EngineParts.{EngineParts}
 use Rattle.pac_engine.specs.Closing.{GroupFits, IsKept}
-use Rattle.pac_engine.specs.Standing.{IsGrown}
+use Rattle.pac_engine.specs.Standing.{OnlyGrows}
 use Rattle.pac_run.specs.declared.limits.TheConstants.{MAX_INPUT}
 use Rattle.pac_run.specs.declared.stop.RunStop.{RunStop}
 use Rattle.pac_run.specs.declared.stop.RunStop.TheVariants.{NoStore, Damaged, AbortInLog, RowsOver, InputFault, OutputFault, DiskFault, NoMemory, LogFull, TooLong, TooLarge}
