@@ -1,5 +1,5 @@
 // The line that tells a stop.
-ghost use Rattle.std.specs.Prelude.{◌≡◌};
+ghost use Rattle.std.specs.Prelude.{◌≡◌, IsTrue};
 ghost use Rattle.pac_report.specs.Status.{fault_text, is_made};
 ghost use Rattle.pac_main.specs.Stop.{damaged_line, line_of, script_fault_line, slot_device, takes_memory};
 
