@@ -1,12 +1,12 @@
 -- What a front of the texts of replies acknowledges.
-use Rattle.std.proofs.Common.{◌≡◌, ◌∙◌, ◌⊎◌, inl, inr, ℕ, zero, suc, ◌+◌, ◌^◌, ◌<◌, ◌≤◌, Bool, true, false, ◌||◌, List, [], ◌∷◌, ◌++◌, take, map, refl, sym, ap, subst, arith, append_assoc}
+use Rattle.std.proofs.Common.{◌≡◌, ◌∙◌, ◌⊎◌, inl, inr, ℕ, zero, suc, ◌^◌, ◌<◌, ◌≤◌, Bool, true, false, ◌||◌, List, [], ◌∷◌, ◌++◌, take, map, refl, sym, ap, subst, arith, append_assoc}
 use Rattle.std.specs.Prelude.{codes, nat_eq, slice_index_or, if◌then◌else◌}
 use Rattle.std.specs.List.{AllByRecursion, list_all}
 use Rattle.std.specs.Fmt.{decimal}
 use Rattle.std.specs.Cmp.{first_so, second_so}
 use Rattle.std.proofs.lemmas.Fmt.{decimal_injective}
 use Rattle.pac_tokens.specs.Tokens.{is_name}
-use Rattle.pac_lines.specs.Lines.{HasNoFeed, has_feed, lines_of, with_first}
+use Rattle.pac_lines.specs.Lines.{HasNoFeed, has_feed, lines_of, with_first_byte}
 use Rattle.pac_types.specs.declared.table.Table.{Table}
 use Rattle.pac_types.specs.Typing.{CatalogueState}
 use Rattle.pac_request.specs.declared.request.Reply.{Reply}
@@ -18,7 +18,7 @@ use Rattle.pac_ops.specs.declared.reason.Reason.{Reason}
 use Rattle.pac_ops.specs.declared.reason.Reason.TheVariants as reason
 use Rattle.pac_ops.specs.Reasons.{reason_name}
 use Rattle.pac_value.specs.Literals.{key_text}
-use Rattle.pac_report.specs.Replies.{reply_text, reply_words, shown_row, table_name}
+use Rattle.pac_report.specs.Replies.{reply_words, shown_row, table_name}
 use Rattle.pac_engine.specs.declared.parts.EngineParts.{EngineParts}
 use Rattle.pac_engine.specs.Closing.{IsKept}
 use Rattle.pac_engine.specs.Standing.{durable_of, saved_of}
@@ -47,14 +47,14 @@ front-lines (b ∷ line) rest (suc i) none = go (nat_eq b 10) refl (front-lines 
     bytes : List ℕ
     bytes = take i (line ++ 10 ∷ rest)
 
-    first : (w : List (List ℕ)) (r : List ℕ) → w ≡ [] → (with_first b w r).whole ≡ []
-    first w r e = ap (λ (x : List (List ℕ)). (with_first b x r).whole) e
+    first : (w : List (List ℕ)) (r : List ℕ) → w ≡ [] → (with_first_byte b w r).whole ≡ []
+    first w r e = ap (λ (x : List (List ℕ)). (with_first_byte b x r).whole) e
 
-    more : (w others : List (List ℕ)) (r : List ℕ) → w ≡ line ∷ others → (with_first b w r).whole ≡ (b ∷ line) ∷ others
-    more w others r e = ap (λ (x : List (List ℕ)). (with_first b x r).whole) e
+    more : (w others : List (List ℕ)) (r : List ℕ) → w ≡ line ∷ others → (with_first_byte b w r).whole ≡ (b ∷ line) ∷ others
+    more w others r e = ap (λ (x : List (List ℕ)). (with_first_byte b x r).whole) e
 
-    whole-is : (nat_eq b 10 ≡ false) → whole_lines (b ∷ take i (line ++ 10 ∷ rest)) ≡ (with_first b (lines_of (take i (line ++ 10 ∷ rest))).whole (lines_of (take i (line ++ 10 ∷ rest))).rest).whole
-    whole-is e = ap (λ (t : Bool). (if t then record { whole = [] ∷ (lines_of (take i (line ++ 10 ∷ rest))).whole; rest = (lines_of (take i (line ++ 10 ∷ rest))).rest } else with_first b (lines_of (take i (line ++ 10 ∷ rest))).whole (lines_of (take i (line ++ 10 ∷ rest))).rest).whole) e
+    whole-is : (nat_eq b 10 ≡ false) → whole_lines (b ∷ take i (line ++ 10 ∷ rest)) ≡ (with_first_byte b (lines_of (take i (line ++ 10 ∷ rest))).whole (lines_of (take i (line ++ 10 ∷ rest))).rest).whole
+    whole-is e = ap (λ (t : Bool). (if t then record { whole = [] ∷ (lines_of (take i (line ++ 10 ∷ rest))).whole; rest = (lines_of (take i (line ++ 10 ∷ rest))).rest } else with_first_byte b (lines_of (take i (line ++ 10 ∷ rest))).whole (lines_of (take i (line ++ 10 ∷ rest))).rest).whole) e
 
     go : (t : Bool) → nat_eq b 10 ≡ t → (whole_lines (take i (line ++ 10 ∷ rest)) ≡ []) ⊎ ((j : ℕ) × (whole_lines (take i (line ++ 10 ∷ rest)) ≡ line ∷ whole_lines (take j rest)))
         → (whole_lines (b ∷ take i (line ++ 10 ∷ rest)) ≡ []) ⊎ ((j : ℕ) × (whole_lines (b ∷ take i (line ++ 10 ∷ rest)) ≡ (b ∷ line) ∷ whole_lines (take j rest)))

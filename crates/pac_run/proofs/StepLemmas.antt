@@ -1,5 +1,5 @@
 -- One line is served behind others.
-use Rattle.std.proofs.Common.{◌≡◌, ◌∙◌, ◌⊎◌, inl, inr, ℕ, ◌≤◌, List, [], ◌∷◌, ◌++◌, length, Option, refl, sym, ap, ap₂, subst, arith, append_assoc}
+use Rattle.std.proofs.Common.{◌≡◌, ◌∙◌, ◌⊎◌, inl, inr, ℕ, ◌≤◌, List, [], ◌∷◌, ◌++◌, length, Option, refl, sym, ap, ap₂, subst, arith}
 use Rattle.std.specs.List.{AllByRecursion, fold}
 use Rattle.std.proofs.lemmas.List.{append-nil}
 use Rattle.std.proofs.lemmas.List.Sums.{fold-append}
@@ -10,15 +10,15 @@ use Rattle.pac_request.specs.declared.request.Request.{Request}
 use Rattle.pac_request.specs.declared.request.Request.TheVariants as request
 use Rattle.pac_request.specs.declared.request.Reply.{Reply}
 use Rattle.pac_request.specs.declared.request.Reply.TheVariants as reply
-use Rattle.pac_session.specs.Session.{Rules, SessionState, commits, committed, ends, replies}
-use Rattle.pac_session.specs.Groups.{GroupCut, all_replies, all_requests, cut, cut_on, cut_one, described, place_behind}
-use Rattle.pac_session.specs.Open.{IsInGroup, rules_of, state_now}
-use Rattle.pac_session.proofs.SessionLemmas.{committed-append, ends-append, replies-append}
-use Rattle.pac_session.proofs.CutLemmas.{joined-append, whole-cut, described-replies}
+use Rattle.pac_session.specs.Session.{Rules, SessionState, committed, ends}
+use Rattle.pac_session.specs.Groups.{GroupCut, all_requests, cut, cut_on, place_behind}
+use Rattle.pac_session.specs.Open.{rules_of, state_now}
+use Rattle.pac_session.proofs.SessionLemmas.{committed-append, ends-append}
+use Rattle.pac_session.proofs.CutLemmas.{whole-cut}
 use Rattle.pac_engine.specs.declared.parts.EngineParts.{EngineParts}
 use Rattle.pac_engine.specs.Closing.{Closes, IsKept, place_after, slot_len}
-use Rattle.pac_engine.specs.Standing.{IsGrown, KeepsHistory, StandsOn, TellsWhere, durable_of, saved_of}
-use Rattle.pac_engine.proofs.LawLemmas.{begins, closes-then, history-then, stands-then}
+use Rattle.pac_engine.specs.Standing.{OnlyGrows, KeepsHistory, StandsOn, TellsWhere, durable_of, saved_of}
+use Rattle.pac_engine.proofs.LawLemmas.{begins, history-then, stands-then}
 use Rattle.pac_engine.proofs.ToldLemmas.{refused-keeps}
 use Rattle.pac_run.specs.Serving.{Answered, GoesFrom, KeepsEach, StandsForEach}
 use Rattle.pac_run.specs.Stopping.{SaveFits, closed_groups}
@@ -30,7 +30,7 @@ pub all-both : (P : Reply → Type 0) (xs ys : List Reply) → AllByRecursion P 
 all-both P [] ys first second = second
 all-both P (x ∷ xs) ys first second = (first.0, all-both P xs ys first.1 second)
 
-kept-one : (old new : EngineParts) → IsGrown old new → (r : Reply) → IsKept old r → IsKept new r
+kept-one : (old new : EngineParts) → OnlyGrows old new → (r : Reply) → IsKept old r → IsKept new r
 kept-one old new grows (reply.Committed txn) is = let k : txn ≤ durable_of old = is in omega (arith, k, grows.durable)
 kept-one old new grows (reply.Aborted op reason) is = tt
 kept-one old new grows (reply.AbortedFull table) is = tt
@@ -38,11 +38,11 @@ kept-one old new grows (reply.Shown table key row) is = tt
 kept-one old new grows (reply.Refused fault) is = tt
 kept-one old new grows (reply.Saved txns) is = let k : txns ≤ saved_of old = is in omega (arith, k, grows.saved)
 
-pub kept-grows : (old new : EngineParts) → IsGrown old new → (given : List Reply) → AllByRecursion (IsKept old) given → AllByRecursion (IsKept new) given
+pub kept-grows : (old new : EngineParts) → OnlyGrows old new → (given : List Reply) → AllByRecursion (IsKept old) given → AllByRecursion (IsKept new) given
 kept-grows old new grows [] kept = tt
 kept-grows old new grows (r ∷ given) kept = (kept-one old new grows r kept.0, kept-grows old new grows given kept.1)
 
-pub grown-then : (a b c : EngineParts) → IsGrown a b → IsGrown b c → IsGrown a c
+pub grown-then : (a b c : EngineParts) → OnlyGrows a b → OnlyGrows b c → OnlyGrows a c
 grown-then a b c first second = record { durable = omega (arith, first.durable, second.durable); saved = omega (arith, first.saved, second.saved) }
 
 -- a request among these and one more is one of these, or that one

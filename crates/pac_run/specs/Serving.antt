@@ -1,5 +1,5 @@
 -- What an engine does while lines are served, from one to the next.
-use Rattle.std.specs.Prelude.{◌≡◌, ◌⊎◌, ◌≤◌, ◌+◌, ℕ, Bool, true, false, List, [], ◌∷◌, ◌++◌, length, Option, Some, IfSome, Result, MatchResult, IsErrOf}
+use Rattle.std.specs.Prelude.{◌≡◌, ◌⊎◌, ◌≤◌, ℕ, Bool, true, false, List, [], ◌∷◌, ◌++◌, length, Option, Some, IfSome, Result, MatchResult, IsErrOf}
 use Rattle.std.specs.Io.KnownBytes.{prepend_known}
 use Rattle.std.specs.List.{AllByRecursion, fold}
 use Rattle.pac_ops.specs.declared.transaction.Txn.{Txn}
@@ -19,7 +19,7 @@ use Rattle.pac_check.specs.declared.limits.TheConstants.{MAX_SLOT_LEN}
 use Rattle.pac_engine.specs.declared.fault.EngineCause.TheVariants as cause
 use Rattle.pac_engine.specs.declared.parts.EngineParts.{EngineParts}
 use Rattle.pac_engine.specs.Closing.{Closes, GroupFits, IsKept, StopsAt, slot_len}
-use Rattle.pac_engine.specs.Standing.{IsGrown, KeepsHistory, StandsOn, TellsWhere}
+use Rattle.pac_engine.specs.Standing.{OnlyGrows, KeepsHistory, StandsOn, TellsWhere}
 use Rattle.pac_run.specs.declared.limits.TheConstants.{MAX_INPUT}
 use Rattle.pac_run.specs.declared.stop.RunStop.{RunStop}
 use Rattle.pac_run.specs.declared.stop.RunStop.TheVariants.{NoStore, Damaged, AbortInLog, RowsOver, InputFault, OutputFault, DiskFault, NoMemory, LogFull, TooLong, TooLarge}
@@ -43,7 +43,7 @@ pub record Answered (asked : List Request) (more : List Reply) (old new : Engine
   pub keeps : KeepsEach (committed (rules_of old.session) (state_now old.session) asked) old new told told'
   pub stands : StandsForEach (committed (rules_of old.session) (state_now old.session) asked) old new told told'
   pub same : rules_of new.session ≡ rules_of old.session
-  pub grows : IsGrown old new
+  pub grows : OnlyGrows old new
   pub kept : AllByRecursion (IsKept new) more
   pub plain : AllByRecursion IsPlain more
   pub few : length asked ≤ 1
@@ -79,7 +79,7 @@ pub record Broke (catalogue : CatalogueState) (asked : Request) (old new : Engin
   pub stops : (start : SessionState) (group : List Request) → IsInGroup start group old.session
       → StepStops (rules_of old.session) old.log.gate.place start (cut_one (rules_of old.session) start group asked).closed more stop
   pub keeps : KeepsEach (committed (rules_of old.session) (state_now old.session) (asked ∷ [])) old new told told'
-  pub grows : IsGrown old new
+  pub grows : OnlyGrows old new
   pub kept : AllByRecursion (IsKept new) more
   pub plain : AllByRecursion IsPlain more
 
@@ -114,7 +114,7 @@ pub record GoesFrom (first now : EngineParts) (requests : List Request) (given :
   pub closes : Closes (rules_of first.session) first.log.gate.place (state_now first.session) (cut (rules_of first.session) (state_now first.session) requests) given now
   pub keeps : KeepsEach (committed (rules_of first.session) (state_now first.session) requests) first now told told'
   pub stands : StandsForEach (committed (rules_of first.session) (state_now first.session) requests) first now told told'
-  pub grows : IsGrown first now
+  pub grows : OnlyGrows first now
   pub kept : AllByRecursion (IsKept now) given
   pub plain : AllByRecursion IsPlain given
   pub saves : (before rest : List Request) → requests ≡ before ++ request.Save ∷ rest → SaveFits (rules_of first.session) first.log.gate.place (state_now first.session) before
@@ -164,7 +164,7 @@ pub record Served (first now : EngineParts) (left left' held held' : Option (Lis
   pub front : IsTextFront out (texts first.session.catalogue given)
   pub whole : (out ≡ texts first.session.catalogue given) ⊎ rose
   pub keeps : KeepsEach (committed (rules_of first.session) (state_now first.session) requests) first now told told'
-  pub grows : IsGrown first now
+  pub grows : OnlyGrows first now
   pub kept : AllByRecursion (IsKept now) given
   pub plain : AllByRecursion IsPlain given
   pub firsts : AreFirst given (replies (rules_of first.session) (state_now first.session) requests)
