@@ -1,5 +1,5 @@
 -- What a front of the texts of replies acknowledges.
-use Rattle.std.proofs.Common.{◌≡◌, ◌∙◌, ◌⊎◌, inl, inr, ℕ, zero, suc, ◌+◌, ◌^◌, ◌<◌, ◌≤◌, Bool, true, false, ◌||◌, List, [], ◌∷◌, ◌++◌, take, map, refl, sym, ap, subst, arith, append_assoc}
+use Rattle.std.proofs.Common.{◌≡◌, ◌∙◌, ◌⊎◌, inl, inr, ℕ, zero, suc, ◌^◌, ◌<◌, ◌≤◌, Bool, true, false, ◌||◌, List, [], ◌∷◌, ◌++◌, take, map, refl, sym, ap, subst, arith, append_assoc}
 use Rattle.std.specs.Prelude.{codes, nat_eq, slice_index_or, if◌then◌else◌}
 use Rattle.std.specs.List.{AllByRecursion, list_all}
 use Rattle.std.specs.Fmt.{decimal}
@@ -18,7 +18,7 @@ use Rattle.pac_ops.specs.declared.reason.Reason.{Reason}
 use Rattle.pac_ops.specs.declared.reason.Reason.TheVariants as reason
 use Rattle.pac_ops.specs.Reasons.{reason_name}
 use Rattle.pac_value.specs.Literals.{key_text}
-use Rattle.pac_report.specs.Replies.{reply_text, reply_words, shown_row, table_name}
+use Rattle.pac_report.specs.Replies.{reply_words, shown_row, table_name}
 use Rattle.pac_engine.specs.declared.parts.EngineParts.{EngineParts}
 use Rattle.pac_engine.specs.Closing.{IsKept}
 use Rattle.pac_engine.specs.Standing.{durable_of, saved_of}

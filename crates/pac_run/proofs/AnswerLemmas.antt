@@ -1,10 +1,9 @@
 -- One request is answered, or not.
-use Rattle.std.proofs.Common.{◌≡◌, ◌∙◌, ◌⊎◌, inl, inr, ℕ, ◌≤◌, Bool, true, false, List, [], ◌∷◌, ◌++◌, length, take, Option, Result, Ok, Err, refl, sym, ap, subst, arith}
+use Rattle.std.proofs.Common.{◌≡◌, inl, inr, ℕ, ◌≤◌, List, [], ◌∷◌, ◌++◌, take, Option, Result, Ok, Err, refl, sym, ap, subst, arith}
 use Rattle.std.specs.Prelude.{IsErrOf, OnErr}
 use Rattle.std.specs.List.{AllByRecursion}
 use Rattle.std.proofs.lemmas.List.{append-nil}
 use Rattle.pac_ops.specs.declared.transaction.Txn.{Txn}
-use Rattle.pac_outside.specs.Content.{Took}
 use Rattle.pac_outside.specs.Devices.{all_told}
 use Rattle.pac_outside.specs.Disk.{History}
 use Rattle.pac_types.specs.Typing.{CatalogueState}
@@ -13,22 +12,20 @@ use Rattle.pac_request.specs.declared.request.Request.{Request}
 use Rattle.pac_request.specs.declared.request.Request.TheVariants as request
 use Rattle.pac_request.specs.declared.request.Reply.{Reply}
 use Rattle.pac_session.specs.Session.{Rules, SessionState, commits, committed, ends}
-use Rattle.pac_session.specs.Groups.{GroupCut, all_requests, cut_one, place_behind}
+use Rattle.pac_session.specs.Groups.{all_requests, cut_one, place_behind}
 use Rattle.pac_session.specs.Open.{IsInGroup, rules_of, state_now}
-use Rattle.pac_engine.specs.declared.fault.EngineCause.{EngineCause}
 use Rattle.pac_engine.specs.declared.parts.EngineParts.{EngineParts}
-use Rattle.pac_engine.specs.Closing.{Closes, IsKept, StopsAt, is_stop, slot_len}
-use Rattle.pac_engine.specs.Standing.{OnlyGrows, KeepsHistory, StandsOn, TellsWhere}
+use Rattle.pac_engine.specs.Closing.{Closes, IsKept, slot_len}
+use Rattle.pac_engine.specs.Standing.{OnlyGrows, StandsOn}
 use Rattle.pac_engine.proofs.DeviceLemmas.{rest-told}
 use Rattle.pac_engine.proofs.LawLemmas.{closes-then}
 use Rattle.pac_run.specs.declared.stop.RunStop.{RunStop}
-use Rattle.pac_run.specs.declared.stop.RunStop.TheVariants.{NoMemory, OutputFault}
-use Rattle.pac_run.specs.Causes.{not_answered}
+use Rattle.pac_run.specs.declared.stop.RunStop.TheVariants.{NoMemory}
 use Rattle.pac_run.specs.Serving.{Answered, Broke, KeepsEach, StandsForEach, StepStops}
 use Rattle.pac_run.specs.Texts.{IsTextFront, IsPlain, SaysUnlessFault, texts}
 use Rattle.pac_run.proofs.ServeLemmas.{took-nothing, whole-front}
 use Rattle.pac_run.proofs.StepLemmas.{nothing-keeps}
-use Rattle.pac_run.proofs.StopLemmas.{none-told, step-stops}
+use Rattle.pac_run.proofs.StopLemmas.{none-told}
 
 -- an error is the only one that the answer may have
 pub only-err : {T E : Type 0} (r : Result T E) (a b : E) → OnErr r (IsErrOf r a) → IsErrOf r b → b ≡ a

@@ -1,5 +1,5 @@
 -- What a store's refusal tells of its cause, and what an engine is read from.
-use Rattle.std.proofs.Common.{◌≡◌, ◌∙◌, ℕ, ◌+◌, List, length, Option, Some, None, Result, Ok, Err, refl, sym, ap, subst}
+use Rattle.std.proofs.Common.{◌≡◌, ◌∙◌, ℕ, ◌+◌, List, length, Option, Some, None, Result, Ok, Err, refl, sym, subst}
 use Rattle.std.specs.Prelude.{IsErrOf}
 use Rattle.pac_value.specs.State.{Tables}
 use Rattle.pac_ops.specs.declared.batch.Batch.{Batch}
@@ -10,7 +10,6 @@ use Rattle.pac_types.specs.Typing.{CatalogueState}
 use Rattle.pac_log.specs.declared.position.NextGate.{NextGate}
 use Rattle.pac_log.specs.Logs.{HoldsLog}
 use Rattle.pac_log.specs.Places.{IsBehind}
-use Rattle.pac_check.specs.declared.slots.Slots.{Slots}
 use Rattle.pac_check.specs.declared.state.SlotState.{SlotState}
 use Rattle.pac_check.specs.SlotStates.{IsSlot}
 use Rattle.pac_serial.specs.declared.serial.AllError.{AllError}
@@ -22,14 +21,12 @@ use Rattle.pac_recover.specs.declared.errors.RecoverError.TheVariants as error
 use Rattle.pac_recover.specs.declared.loading.Loaded.{Loaded}
 use Rattle.pac_recover.specs.Causes.{not_executed}
 use Rattle.pac_recover.specs.Gates.{txns_in}
-use Rattle.pac_recover.specs.Limits.{IsFirstOver}
 use Rattle.pac_recover.specs.Loading.{IsLoadedFrom, stored_of}
 use Rattle.pac_recover.specs.Logs.{HoldsLogUpTo}
 use Rattle.pac_recover.specs.Recovering.{IsOverIn, IsRecoveredFrom}
 use Rattle.pac_recover.proofs.CauseLemmas.{the-cause}
 use Rattle.pac_recover.proofs.TellLemmas.{stored-recovered}
 use Rattle.pac_engine.specs.declared.parts.EngineParts.{EngineParts}
-use Rattle.pac_engine.specs.Standing.{durable_of}
 use Rattle.pac_run.specs.Opening.{IsOpenedFrom}
 
 -- ---- causes

@@ -1,6 +1,6 @@
 -- The loop over lines, as its calls answer.
-use Rattle.std.proofs.Common.{◌≡◌, ◌∙◌, ℕ, ◌+◌, ◌-◌, ◌<◌, ◌≤◌, Bool, true, false, List, [], ◌∷◌, ◌++◌, length, Option, Some, None, Result, Ok, Err, OnOk, inl, inr, refl, sym, ap, subst, arith}
-use Rattle.std.specs.Prelude.{IsErrOf, IfOk}
+use Rattle.std.proofs.Common.{◌≡◌, ◌∙◌, ℕ, ◌+◌, ◌-◌, ◌<◌, ◌≤◌, Bool, true, false, List, [], ◌∷◌, length, Option, Some, None, Result, Ok, Err, OnOk, inr, refl, sym, ap, subst, arith}
+use Rattle.std.specs.Prelude.{IsErrOf}
 use Rattle.std.proofs.KnownBytes.{prepend_known-nil}
 use Rattle.pac_outside.specs.Causes.{Rose}
 use Rattle.pac_outside.specs.Disk.{History}

@@ -1,7 +1,6 @@
 -- The ways in which the loop over lines ends.
-use Rattle.std.proofs.Common.{◌≡◌, ◌∙◌, ◌⊎◌, inl, inr, ℕ, Bool, true, false, List, [], ◌∷◌, ◌++◌, Option, Result, Ok, Err, refl, sym, ap, subst}
+use Rattle.std.proofs.Common.{◌≡◌, inl, inr, ℕ, Bool, true, false, List, [], ◌∷◌, ◌++◌, Option, Result, Ok, Err, refl, sym, subst}
 use Rattle.std.specs.Prelude.{IsErrOf}
-use Rattle.std.specs.Io.KnownBytes.{prepend_known}
 use Rattle.pac_outside.specs.Disk.{History}
 use Rattle.pac_lines.specs.Calls.{IsCall, KeepsLimit}
 use Rattle.pac_lines.specs.Reading.{ReaderState}
@@ -14,9 +13,9 @@ use Rattle.pac_run.specs.declared.stop.RunStop.{RunStop}
 use Rattle.pac_run.specs.declared.stop.RunStop.TheVariants.{InputFault, NoMemory, TooLong}
 use Rattle.pac_run.specs.Asked.{LinesAsk}
 use Rattle.pac_run.specs.Causes.{not_read}
-use Rattle.pac_run.specs.Serving.{Broke, HasRead, IsUntouched, LineBroke, LineServed, Replied, Served, Serving}
+use Rattle.pac_run.specs.Serving.{Broke, HasRead, LineBroke, LineServed, Replied, Served, Serving}
 use Rattle.pac_run.proofs.ReadLemmas.{at-end, lines-ask, more-read, not-long, over-long, still-handled}
-use Rattle.pac_run.proofs.ServeLemmas.{broke-served, serving-more, still-served, stop-served}
+use Rattle.pac_run.proofs.ServeLemmas.{broke-served, still-served, stop-served}
 
 module _ (first now : EngineParts) (left mid : Option (List ℕ)) (reader : ReaderState) (held held' : Option (List ℕ)) (told told' : List (Option History)) (serving : Serving first now left mid reader held held' told told') where
   no-long : (e : LineError) → (e ≡ line.TooLong → ⊥) → IsErrOf {T = Bool} (Err e) line.TooLong → ⊥

@@ -1,12 +1,12 @@
 -- The names of the tables of a catalogue that a text has.
-use Rattle.std.proofs.Common.{◌≡◌, ◌∙◌, ℕ, suc, List, [], ◌∷◌, map, refl, sym, ap, subst}
+use Rattle.std.proofs.Common.{◌≡◌, ◌∙◌, ℕ, suc, List, map, sym, ap, subst}
 use Rattle.std.specs.List.{AllByRecursion, list_all}
 use Rattle.std.specs.Prelude.{true}
 use Rattle.pac_tokens.specs.declared.token.Spanned.{Spanned}
 use Rattle.pac_tokens.specs.Tokens.{is_name}
 use Rattle.pac_tokens.proofs.Spelled.{word_names}
 use Rattle.pac_syntax.specs.declared.tree.Tree.{Tree}
-use Rattle.pac_syntax.specs.Grammar.{Marked, TablesForm, NoTable, ATable, marks_of, table_nodes, tokens_of, tree_of}
+use Rattle.pac_syntax.specs.Grammar.{Marked, TablesForm, NoTable, ATable, marks_of, table_nodes, tokens_of}
 use Rattle.pac_print.proofs.Proper.{AreProperTables, IsFine, all_fine, fine_catalogue}
 use Rattle.pac_print.proofs.TokenFacts.{IsToken, all_tokens}
 use Rattle.pac_types.specs.declared.table.Table.{Table}

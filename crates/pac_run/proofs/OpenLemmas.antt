@@ -1,11 +1,10 @@
 -- An engine that begins over a store.
-use Rattle.std.proofs.Common.{◌≡◌, ◌∙◌, ◌≤◌, ◌+◌, ℕ, List, [], ◌∷◌, ◌++◌, length, take, Option, Some, None, option_map, Result, Ok, Err, refl, sym, ap, subst, arith}
+use Rattle.std.proofs.Common.{◌≡◌, ◌∙◌, ℕ, List, [], ◌∷◌, ◌++◌, length, take, Option, Some, None, option_map, Result, Ok, Err, refl, sym, ap, subst, arith}
 use Rattle.std.proofs.Math.Seq.{take-append_seam}
 use Rattle.std.proofs.lemmas.List.{append-nil}
 use Rattle.std.proofs.lemmas.List.Elements.{All-take}
 use Rattle.std.specs.List.{All}
 use Rattle.std.specs.Prelude.{IfOk}
-use Rattle.pac_value.specs.State.{Tables}
 use Rattle.pac_ops.specs.declared.transaction.Txn.{Txn}
 use Rattle.pac_outside.specs.declared.devices.Devices.{Devices}
 use Rattle.pac_outside.specs.Devices.{AreImages, AreSettled, RunsAsBefore, WhereAllTold, each}
@@ -30,7 +29,7 @@ use Rattle.pac_recover.specs.Recovering.{IsRecoveredFront}
 use Rattle.pac_recover.proofs.StandsLemmas.{recovers-front}
 use Rattle.pac_engine.specs.declared.parts.EngineParts.{EngineParts}
 use Rattle.pac_engine.specs.Standing.{EngineStands, HasDevices, durable_of}
-use Rattle.pac_run.specs.Opening.{AllStand, BeginsOver, IsFresh, IsOpenedFrom, StandsForFront}
+use Rattle.pac_run.specs.Opening.{BeginsOver, IsFresh, IsOpenedFrom, StandsForFront}
 
 -- ---- each device by itself
 

@@ -6,7 +6,7 @@ use Rattle.std.specs.Io.KnownBytes.{prepend_known}
 use Rattle.std.proofs.KnownBytes.{prepend_known-nil}
 use Rattle.pac_outside.specs.Content.{Gave, IsAtEnd}
 use Rattle.pac_outside.proofs.ContentLemmas.{Gave-append}
-use Rattle.pac_lines.specs.Calls.{AnswersLine, IsCall, KeepsLimit, known}
+use Rattle.pac_lines.specs.Calls.{IsCall, KeepsLimit, known}
 use Rattle.pac_lines.specs.Lines.{HandsOut, IsEndedLine, IsLastLine}
 use Rattle.pac_lines.specs.Reading.{ReaderState}
 use Rattle.pac_lines.specs.declared.line_error.LineError.{LineError}

@@ -1,20 +1,17 @@
 -- The whole run.
-use Rattle.std.proofs.Common.{◌≡◌, ◌∙◌, ◌⊎◌, inl, inr, ℕ, ◌+◌, ◌≤◌, List, [], ◌∷◌, ◌++◌, length, take, map, Option, Some, None, Result, Ok, Err, OnOk, refl, sym, ap, subst, arith, append_assoc, drop}
-use Rattle.std.specs.Prelude.{IfErr, IfSome, IsErrOf, MatchResult}
+use Rattle.std.proofs.Common.{◌≡◌, ◌∙◌, ◌⊎◌, inl, inr, ℕ, List, [], ◌∷◌, ◌++◌, length, take, Option, Some, None, Result, Ok, Err, OnOk, refl, sym, ap, subst, arith, append_assoc, drop}
+use Rattle.std.specs.Prelude.{IfErr, MatchResult}
 use Rattle.std.specs.FinMap.{empty}
-use Rattle.std.specs.List.{AllByRecursion}
-use Rattle.std.specs.Io.KnownBytes.{prepend_known}
 use Rattle.std.proofs.KnownBytes.{prepend_known-nil}
 use Rattle.std.proofs.lemmas.Grind.{flat_map-append}
 use Rattle.std.proofs.Math.Seq.{take-append_seam}
 use Rattle.std.proofs.lemmas.List.{take-append-drop}
 use Rattle.pac_ops.specs.declared.transaction.Txn.{Txn}
-use Rattle.pac_outside.specs.Devices.{AllLeave, AreImages, RunLeaves, RunsAsBefore, TellsOn, WhereAllTold, all_told}
-use Rattle.pac_outside.specs.Disk.{History, WhereTold}
+use Rattle.pac_outside.specs.Devices.{AreImages, RunsAsBefore, TellsOn, WhereAllTold, all_told}
+use Rattle.pac_outside.specs.Disk.{History}
 use Rattle.pac_outside.proofs.Runs.{run_end, run_then, weaken_run}
 use Rattle.pac_types.specs.CatalogueText.{HasCatalogue}
 use Rattle.pac_types.specs.Typing.{CatalogueState}
-use Rattle.pac_log.specs.declared.position.NextGate.{NextGate}
 use Rattle.pac_store.specs.Images.{Images, OfThree, WhereRead}
 use Rattle.pac_store.specs.Stands.{StandsFor}
 use Rattle.pac_request.specs.declared.request.Request.{Request}
@@ -29,17 +26,17 @@ use Rattle.pac_engine.specs.declared.parts.EngineParts.{EngineParts}
 use Rattle.pac_engine.specs.Standing.{KeepsHistory, MayLeave, StandsOn, StandsWith, TellsIf, durable_of, saved_of}
 use Rattle.pac_engine.proofs.DeviceLemmas.{weaken-three}
 use Rattle.pac_run.specs.declared.stop.RunStop.{RunStop}
-use Rattle.pac_run.specs.declared.stop.RunStop.TheVariants.{NoStore, Damaged, AbortInLog, RowsOver, InputFault, OutputFault, DiskFault, NoMemory, LogFull, TooLong, TooLarge}
+use Rattle.pac_run.specs.declared.stop.RunStop.TheVariants.{TooLong}
 use Rattle.pac_run.specs.Asked.{WereHandled}
 use Rattle.pac_run.specs.Causes.{not_opened}
 use Rattle.pac_run.specs.Opening.{AllStand, BeginsOver, IsFresh, IsOpenedFrom, StandsForFront}
-use Rattle.pac_run.specs.Run.{AtExit, AtMoments, IsBegun, IsExit, IsRun, IsWholeRun, WhereAllStand, WhereSeen, history_after}
-use Rattle.pac_run.specs.Serving.{IsDone, KeepsEach, Served}
+use Rattle.pac_run.specs.Run.{AtExit, AtMoments, IsBegun, IsExit, IsRun, IsWholeRun, WhereSeen, history_after}
+use Rattle.pac_run.specs.Serving.{IsDone, Served}
 use Rattle.pac_run.specs.Stopping.{AreFirst, IsStopped, IsStoppedAt}
 use Rattle.pac_run.specs.Texts.{IsTextFront, texts}
 use Rattle.pac_run.proofs.AckedLemmas.{acknowledged, told-saved}
 use Rattle.pac_run.proofs.NameLemmas.{names-of}
-use Rattle.pac_run.proofs.ServeLemmas.{took-nothing, whole-front}
+use Rattle.pac_run.proofs.ServeLemmas.{took-nothing}
 
 -- ---- a front of a front
 

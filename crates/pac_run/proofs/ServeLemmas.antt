@@ -1,40 +1,33 @@
 -- Lines that are served one after another, up to an end.
-use Rattle.std.proofs.Common.{◌≡◌, ◌∙◌, ◌⊎◌, inl, inr, ℕ, ◌+◌, ◌≤◌, Bool, true, false, List, [], ◌∷◌, ◌++◌, length, take, Option, Some, None, Result, Ok, Err, OnOk, refl, sym, ap, subst, arith}
-use Rattle.std.specs.Prelude.{IsErrOf, MatchResult, flat_map}
-use Rattle.std.specs.Io.KnownBytes.{prepend_known, append_known}
-use Rattle.std.specs.List.{AllByRecursion}
+use Rattle.std.proofs.Common.{◌≡◌, ◌∙◌, ◌⊎◌, inl, inr, ℕ, ◌+◌, true, false, List, [], ◌∷◌, ◌++◌, length, take, Option, Some, None, Result, Ok, Err, refl, sym, ap, subst}
+use Rattle.std.specs.Io.KnownBytes.{prepend_known}
 use Rattle.std.proofs.lemmas.List.{append-nil}
 use Rattle.std.proofs.lemmas.List.Sums.{fold-append}
 use Rattle.std.proofs.lemmas.Grind.{flat_map-append}
 use Rattle.std.proofs.Math.Seq.{take-append-add, take-append_seam}
-use Rattle.pac_ops.specs.declared.transaction.Txn.{Txn}
-use Rattle.pac_outside.specs.Content.{Gave, IsAtEnd, Took, TookFront}
+use Rattle.pac_outside.specs.Content.{Took}
 use Rattle.pac_outside.proofs.ContentLemmas.{Took-append}
 use Rattle.pac_outside.specs.Disk.{History}
 use Rattle.pac_lines.specs.Calls.{IsCall, KeepsLimit}
 use Rattle.pac_lines.specs.Reading.{ReaderState}
-use Rattle.pac_lines.specs.declared.line_error.LineError.{LineError}
-use Rattle.pac_lines.specs.declared.line_error.LineError.TheVariants as line
 use Rattle.pac_types.specs.Typing.{CatalogueState}
 use Rattle.pac_request.specs.declared.request.Request.{Request}
 use Rattle.pac_request.specs.declared.request.Request.TheVariants as request
 use Rattle.pac_request.specs.declared.request.Reply.{Reply}
 use Rattle.pac_report.specs.Replies.{reply_text}
-use Rattle.pac_session.specs.Session.{Rules, SessionState, committed, ends, replies}
+use Rattle.pac_session.specs.Session.{Rules, SessionState, ends, replies}
 use Rattle.pac_session.specs.Groups.{GroupCut, all_requests, cut, cut_on, cut_one}
 use Rattle.pac_session.specs.Open.{rules_of, state_now}
 use Rattle.pac_engine.specs.declared.parts.EngineParts.{EngineParts}
-use Rattle.pac_engine.specs.Closing.{GroupFits, IsKept}
-use Rattle.pac_engine.specs.Standing.{OnlyGrows}
+use Rattle.pac_engine.specs.Closing.{IsKept}
 use Rattle.pac_run.specs.declared.limits.TheConstants.{MAX_INPUT}
 use Rattle.pac_run.specs.declared.stop.RunStop.{RunStop}
-use Rattle.pac_run.specs.declared.stop.RunStop.TheVariants.{NoStore, Damaged, AbortInLog, RowsOver, InputFault, OutputFault, DiskFault, NoMemory, LogFull, TooLong, TooLarge}
-use Rattle.pac_run.specs.Asked.{WereAsked, IsOverLong, LineAsks, LinesAsk, NoStop, StopsLast, TookAtMost, WereHandled}
-use Rattle.pac_run.specs.Causes.{not_read}
-use Rattle.pac_run.specs.Serving.{Answered, Broke, GoesFrom, HasRead, IsDone, IsUntouched, KeepsEach, LineBroke, LineServed, Replied, Served, Serving, StepStops, StopsWhere}
-use Rattle.pac_run.specs.Stopping.{AreFirst, IsStoppedAt, closed_groups}
-use Rattle.pac_run.specs.Texts.{IsTextFront, IsPlain, SaysUnlessFault, texts}
-use Rattle.pac_run.proofs.ReadLemmas.{at-end, lines-ask, more-read, not-long, over-long, still-handled, took-few}
+use Rattle.pac_run.specs.declared.stop.RunStop.TheVariants.{InputFault, NoMemory, TooLong}
+use Rattle.pac_run.specs.Asked.{WereAsked, IsOverLong, TookAtMost, WereHandled}
+use Rattle.pac_run.specs.Serving.{Broke, LineServed, Replied, Served, Serving, StepStops}
+use Rattle.pac_run.specs.Stopping.{IsStoppedAt}
+use Rattle.pac_run.specs.Texts.{IsTextFront, IsPlain, texts}
+use Rattle.pac_run.proofs.ReadLemmas.{lines-ask, more-read}
 use Rattle.pac_run.proofs.StepLemmas.{all-both, goes-more, grown-then, keeps-more, kept-grows}
 use Rattle.pac_run.proofs.StopLemmas.{all-replied, never-stops, no-stop-both, stopped-first, stopped-more, stopped-reading, stops-last}
 

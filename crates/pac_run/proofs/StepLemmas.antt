@@ -1,5 +1,5 @@
 -- One line is served behind others.
-use Rattle.std.proofs.Common.{◌≡◌, ◌∙◌, ◌⊎◌, inl, inr, ℕ, ◌≤◌, List, [], ◌∷◌, ◌++◌, length, Option, refl, sym, ap, ap₂, subst, arith, append_assoc}
+use Rattle.std.proofs.Common.{◌≡◌, ◌∙◌, ◌⊎◌, inl, inr, ℕ, ◌≤◌, List, [], ◌∷◌, ◌++◌, length, Option, refl, sym, ap, ap₂, subst, arith}
 use Rattle.std.specs.List.{AllByRecursion, fold}
 use Rattle.std.proofs.lemmas.List.{append-nil}
 use Rattle.std.proofs.lemmas.List.Sums.{fold-append}
@@ -10,15 +10,15 @@ use Rattle.pac_request.specs.declared.request.Request.{Request}
 use Rattle.pac_request.specs.declared.request.Request.TheVariants as request
 use Rattle.pac_request.specs.declared.request.Reply.{Reply}
 use Rattle.pac_request.specs.declared.request.Reply.TheVariants as reply
-use Rattle.pac_session.specs.Session.{Rules, SessionState, commits, committed, ends, replies}
-use Rattle.pac_session.specs.Groups.{GroupCut, all_replies, all_requests, cut, cut_on, cut_one, described, place_behind}
-use Rattle.pac_session.specs.Open.{IsInGroup, rules_of, state_now}
-use Rattle.pac_session.proofs.SessionLemmas.{committed-append, ends-append, replies-append}
-use Rattle.pac_session.proofs.CutLemmas.{joined-append, whole-cut, described-replies}
+use Rattle.pac_session.specs.Session.{Rules, SessionState, committed, ends}
+use Rattle.pac_session.specs.Groups.{GroupCut, all_requests, cut, cut_on, place_behind}
+use Rattle.pac_session.specs.Open.{rules_of, state_now}
+use Rattle.pac_session.proofs.SessionLemmas.{committed-append, ends-append}
+use Rattle.pac_session.proofs.CutLemmas.{whole-cut}
 use Rattle.pac_engine.specs.declared.parts.EngineParts.{EngineParts}
 use Rattle.pac_engine.specs.Closing.{Closes, IsKept, place_after, slot_len}
 use Rattle.pac_engine.specs.Standing.{OnlyGrows, KeepsHistory, StandsOn, TellsWhere, durable_of, saved_of}
-use Rattle.pac_engine.proofs.LawLemmas.{begins, closes-then, history-then, stands-then}
+use Rattle.pac_engine.proofs.LawLemmas.{begins, history-then, stands-then}
 use Rattle.pac_engine.proofs.ToldLemmas.{refused-keeps}
 use Rattle.pac_run.specs.Serving.{Answered, GoesFrom, KeepsEach, StandsForEach}
 use Rattle.pac_run.specs.Stopping.{SaveFits, closed_groups}

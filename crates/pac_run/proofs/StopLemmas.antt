@@ -1,6 +1,5 @@
 -- Where a run stops, and which replies it was to write.
-use Rattle.std.proofs.Common.{◌≡◌, ◌∙◌, ◌⊎◌, inl, inr, ℕ, Bool, true, false, List, [], ◌∷◌, ◌++◌, Option, refl, sym, ap, ap₂, subst, append_assoc}
-use Rattle.std.specs.List.{AllByRecursion, fold}
+use Rattle.std.proofs.Common.{◌≡◌, ◌∙◌, ◌⊎◌, inl, inr, ℕ, true, List, [], ◌∷◌, ◌++◌, Option, refl, sym, ap, ap₂, subst, append_assoc}
 use Rattle.std.proofs.lemmas.List.{append-nil}
 use Rattle.pac_outside.specs.Disk.{History}
 use Rattle.pac_request.specs.declared.request.Request.{Request}
@@ -8,7 +7,7 @@ use Rattle.pac_request.specs.declared.request.Request.TheVariants as request
 use Rattle.pac_request.specs.declared.request.Reply.{Reply}
 use Rattle.pac_request.specs.declared.request.Reply.TheVariants as reply
 use Rattle.pac_session.specs.Session.{Rules, SessionState, ends, replies}
-use Rattle.pac_session.specs.Groups.{Group, GroupCut, all_replies, all_requests, cut, cut_on, cut_one, described}
+use Rattle.pac_session.specs.Groups.{Group, GroupCut, all_replies, all_requests, cut, cut_one, described}
 use Rattle.pac_session.specs.Open.{IsInGroup, rules_of, state_now}
 use Rattle.pac_session.proofs.SessionLemmas.{replies-append}
 use Rattle.pac_session.proofs.CutLemmas.{joined-append, whole-cut, described-replies}

@@ -6,7 +6,7 @@ use Rattle.pac_recover.specs.declared.errors.RecoverError.TheVariants as recover
 use Rattle.pac_engine.specs.declared.fault.EngineCause.{EngineCause}
 use Rattle.pac_engine.specs.declared.fault.EngineCause.TheVariants as engine
 use Rattle.pac_run.specs.declared.stop.RunStop.{RunStop}
-use Rattle.pac_run.specs.declared.stop.RunStop.TheVariants.{NoStore, Damaged, AbortInLog, RowsOver, InputFault, OutputFault, DiskFault, NoMemory, LogFull, TooLong, TooLarge}
+use Rattle.pac_run.specs.declared.stop.RunStop.TheVariants.{NoStore, Damaged, AbortInLog, RowsOver, InputFault, DiskFault, NoMemory, LogFull, TooLong, TooLarge}
 
 -- why the store isn't opened
 abbrev pub not_opened : RecoverError → RunStop

@@ -1,7 +1,6 @@
 pub mod Acked
 pub mod Asked
 pub mod Causes
-pub mod Chain
 pub mod Opening
 pub mod Run
 pub mod Serving

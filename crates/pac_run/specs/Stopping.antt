@@ -4,7 +4,7 @@ use Rattle.pac_check.specs.declared.limits.TheConstants.{MAX_SLOT_LEN}
 use Rattle.pac_request.specs.declared.request.Request.{Request}
 use Rattle.pac_request.specs.declared.request.Request.TheVariants as request
 use Rattle.pac_request.specs.declared.request.Reply.{Reply}
-use Rattle.pac_session.specs.Session.{Rules, SessionState, ends, replies}
+use Rattle.pac_session.specs.Session.{Rules, SessionState, ends}
 use Rattle.pac_session.specs.Groups.{Group, all_replies, cut, described}
 use Rattle.pac_engine.specs.declared.fault.EngineCause.TheVariants as cause
 use Rattle.pac_engine.specs.Closing.{StopsAt, place_after, slot_len}

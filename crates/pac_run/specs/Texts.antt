@@ -1,5 +1,5 @@
 -- The texts of replies.
-use Rattle.std.specs.Prelude.{◌≡◌, ◌⊎◌, ◌<◌, ◌^◌, ℕ, List, [], ◌++◌, take, Option}
+use Rattle.std.specs.Prelude.{◌≡◌, ◌⊎◌, ◌<◌, ◌^◌, ℕ, List, take, Option}
 use Rattle.std.specs.List.{flat_map}
 use Rattle.pac_lines.specs.Lines.{HasNoFeed}
 use Rattle.pac_outside.specs.Content.{Took, TookFront}

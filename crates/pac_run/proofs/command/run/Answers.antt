@@ -1,5 +1,4 @@
 -- The store is opened and served, or not.
-use Rattle.std.proofs.Common.{Err, refl}
 use Rattle.pac_run.proofs.RunLemmas.{is-run, not-opened}
 use Rattle.pac_run.proofs.command.run.Goals as goal
 

@@ -1,5 +1,5 @@
 -- The devices are synced, and an engine is made over them.
-use Rattle.std.proofs.Common.{◌≡◌, ℕ, List}
+use Rattle.std.proofs.Common.{ℕ, List}
 use Rattle.pac_types.specs.Typing.{CatalogueState}
 use Rattle.pac_log.specs.Reading.{IsStore}
 use Rattle.pac_recover.specs.Damages.{IsDamagedLog, IsDamagedSlot}

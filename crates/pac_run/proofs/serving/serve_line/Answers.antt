@@ -1,5 +1,5 @@
 -- A line that asks nothing is skipped.
-use Rattle.std.proofs.Common.{◌≡◌, [], Option, subst}
+use Rattle.std.proofs.Common.{[], Option, subst}
 use Rattle.pac_outside.specs.Devices.{each}
 use Rattle.pac_request.specs.declared.request.Request.{Request}
 use Rattle.pac_run.specs.Asked.{LineAsks, listed_asked}

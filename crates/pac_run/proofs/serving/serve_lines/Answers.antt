@@ -1,5 +1,5 @@
 -- Each line is served behind the others.
-use Rattle.std.proofs.Common.{rules, ◌∙◌, refl, sym, ap, subst, arith, Err}
+use Rattle.std.proofs.Common.{◌∙◌, refl, sym, arith}
 use Rattle.std.proofs.lemmas.Result.{err_from_is_err_and}
 use Rattle.pac_outside.specs.Devices.{each}
 use Rattle.pac_recover.proofs.CauseLemmas.{as-error}

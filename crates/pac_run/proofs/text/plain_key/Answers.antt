@@ -1,4 +1,4 @@
-use Rattle.std.proofs.Common.{List, ℕ, sym, subst, ap}
+use Rattle.std.proofs.Common.{sym, subst}
 use Rattle.pac_value.specs.declared.values.Key.{Key}
 use Rattle.pac_value.specs.Literals.{key_text}
 use Rattle.pac_lines.specs.Lines.{HasNoFeed}
