@@ -5,5 +5,6 @@ pub mod Candidates
 pub mod Longest
 pub mod SignLemmas
 pub mod Steps
+pub mod FrontLemmas
 pub mod LexedOnce
 pub mod LexLemmas

@@ -49,7 +49,7 @@ step_is before at bytes found old new (Ok s) some is h = step_of before at bytes
 step_is before at bytes found old new (Err e) some is h = tt
 
 -- a token has at least one byte, and no more than there are
-next_within : (before : Before) (bytes : List ℕ) (t : Token) (len : ℕ) → IsNext before bytes t len → (1 ≤ len) × (len ≤ length bytes)
+pub next_within : (before : Before) (bytes : List ℕ) (t : Token) (len : ℕ) → IsNext before bytes t len → (1 ≤ len) × (len ≤ length bytes)
 next_within before bytes t len h =
     (omega (arith, h.counted, spells_some before t h.front h.longest.spells), omega (arith, h.counted, ap length h.longest.parts, length-append h.front h.rest))
 

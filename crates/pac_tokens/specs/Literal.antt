@@ -1,9 +1,10 @@
 -- An int or a text as it is written in tokens: [ "-" ] INT, or TEXT.
-use Rattle.std.specs.Prelude.{List, [], ◌∷◌, Option, Some, None}
+use Rattle.std.specs.Prelude.{List, [], ◌∷◌, Option, Some, None, true, false}
 use Rattle.pac_value.specs.declared.values.Value.{Value}
-use Rattle.pac_value.specs.declared.values.Value.TheVariants.{Int, Text}
+use Rattle.pac_value.specs.declared.values.Value.TheVariants.{Int, Text, Bool}
 use Rattle.pac_tokens.specs.declared.token.Token.{Token}
 use Rattle.pac_tokens.specs.declared.token.Token.TheVariants as token
+use Rattle.pac_tokens.specs.declared.token.Keyword.TheVariants as keyword
 use Rattle.pac_tokens.specs.declared.token.Symbol.TheVariants as symbol
 use Rattle.pac_tokens.specs.declared.token.Spanned.{Spanned}
 
@@ -28,3 +29,10 @@ int_or_text_from _ rest = None
 abbrev pub int_or_text_in : List Spanned → Option (Value × List Spanned)
 int_or_text_in [] = None
 int_or_text_in (t ∷ ts) = int_or_text_from t.token ts
+
+-- the token that a literal is, where it is of one token
+abbrev pub literal_token : Value → Token
+literal_token (Int z) = token.Int z
+literal_token (Text text) = token.Text text
+literal_token (Bool true) = token.Keyword keyword.True
+literal_token (Bool false) = token.Keyword keyword.False

@@ -40,13 +40,13 @@ fn is_blank_byte(byte: u8) -> bool
     matches!(byte, b' ' | b'\t' | b'\r' | b'\n')
 }
 
-fn is_letter_byte(byte: u8) -> bool
+pub(crate) fn is_letter_byte(byte: u8) -> bool
     ensures { result ≡ is_letter byte }
 {
     (byte >= b'a' && byte <= b'z') || (byte >= b'A' && byte <= b'Z') || byte == b'_'
 }
 
-fn is_digit_byte(byte: u8) -> bool
+pub(crate) fn is_digit_byte(byte: u8) -> bool
     ensures { result ≡ is_digit byte }
 {
     byte >= b'0' && byte <= b'9'
@@ -58,8 +58,8 @@ fn is_name_byte(byte: u8) -> bool
     is_letter_byte(byte) || is_digit_byte(byte)
 }
 
-// How many bytes of white space and comments stand in front.
-fn gap_len(bytes: &[u8]) -> usize
+/// How many bytes of white space and comments stand in front.
+pub fn gap_len(bytes: &[u8]) -> usize
     ensures gap { result ≡ gap bytes.now }
     ensures within { result ≤ length bytes.now }
 {
@@ -80,7 +80,7 @@ fn gap_len(bytes: &[u8]) -> usize
 }
 
 // How many bytes of a name stand in front.
-fn word_len(bytes: &[u8]) -> usize
+pub(crate) fn word_len(bytes: &[u8]) -> usize
     ensures { result ≡ length (take_while is_name bytes.now) }
 {
     bytes.iter().take_while(|byte| is_name_byte(**byte)).count()
@@ -125,7 +125,7 @@ fn keyword_like(first: u8, second: u8, len: usize) -> Option<Keyword>
 }
 
 // The reserved word that these bytes spell.
-fn find_keyword(word: &[u8]) -> Option<Keyword>
+pub(crate) fn find_keyword(word: &[u8]) -> Option<Keyword>
     ensures { result ≡ keyword_of word.now }
 {
     let [first, second, ..] = word else {
@@ -215,7 +215,7 @@ fn magnitude(digits: &[u8]) -> Option<u64>
 }
 
 // The int of digits.
-fn int(before: Before, bytes: &[u8]) -> Result<(Token, usize), FaultKind>
+pub(crate) fn int(before: Before, bytes: &[u8]) -> Result<(Token, usize), FaultKind>
     ensures { result ≡ int_at before (take_while is_digit bytes.now) }
 {
     let digits = &bytes[..digits_len(bytes)];
@@ -329,7 +329,7 @@ fn unescape(bytes: &[u8]) -> Option<Text>
 }
 
 // A text, behind its opening quote.
-fn text(behind: &[u8]) -> Result<(Token, usize), FaultKind>
+pub(crate) fn text(behind: &[u8]) -> Result<(Token, usize), FaultKind>
     ensures { result ≡ text_at behind.now }
 {
     let Some(closing) = closing(behind) else {

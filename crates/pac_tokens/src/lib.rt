@@ -3,6 +3,8 @@
 //! - [`tokens`]: all tokens of a text, or its first [`Fault`], at a place (a byte offset) and of a kind.
 //! - [`int_or_text`]: the int or text that tokens begin with, which is a literal but for `true` and `false`.
 //! - [`lex`]: the tokens up to the text's end or to its first fault of a token, for a reader that tells an earlier fault.
+//! - [`gap_len`], [`name_in_front`], [`literal_in_front`]: what bytes begin with, for a reader that knows which token it wants
+//!   and makes no list of them.
 //! - [`Token`], [`Keyword`], [`Symbol`], [`Spanned`]: a token, its words and signs, and a token with its place.
 //! - [`SyntaxError`]: why a text isn't read.
 //!
@@ -14,13 +16,15 @@
 #![tactic(auto)]
 
 mod fault;
+mod front;
 mod lexer;
 mod literal;
 mod reading;
 mod token;
 
 pub use fault::{Fault, FaultKind, SyntaxError};
-pub use lexer::{Before, Lexed, lex};
+pub use front::{literal_in_front, name_in_front};
+pub use lexer::{Before, Lexed, gap_len, lex};
 pub use literal::int_or_text;
 pub use reading::tokens;
 pub use token::{Keyword, Spanned, Symbol, Token, Tokens};
