@@ -1,5 +1,5 @@
 -- What bytes begin with, for a reader that wants a name, an int, a text, a bracket or a comma.
-use Rattle.std.proofs.Common.{◌≡◌, ◌≤◌, ℕ, true, false, List, [], ◌∷◌, length, drop, get_or, Result, Ok, Err, refl, sym, ap, subst, ◌∙◌, arith, nat_eq, nat_le, ℤ, None}
+use Rattle.std.proofs.Common.{◌≡◌, ◌≤◌, ℕ, true, false, List, [], ◌∷◌, length, drop, get_or, Result, Ok, refl, ap, ◌∙◌, arith, nat_le, None}
 use Rattle.std.specs.List.{take_while}
 use Rattle.std.proofs.lemmas.Bool.{le-ltb, lt-leb, leb-true, ne_eqb, and_parts}
 use Rattle.pac_tokens.specs.declared.token.Token.{Token}
@@ -8,8 +8,8 @@ use Rattle.pac_tokens.specs.declared.token.Symbol.TheVariants as symbol
 use Rattle.pac_tokens.specs.declared.lexer.Before.{Before}
 use Rattle.pac_tokens.specs.declared.lexer.Before.TheVariants.{Value, Other, LiteralMinus}
 use Rattle.pac_tokens.specs.declared.fault.FaultKind.{FaultKind}
-use Rattle.pac_tokens.specs.Tokens.{is_letter, is_digit, is_name, keyword_of, IsNext, IsInFront, is_literal_minus}
-use Rattle.pac_tokens.specs.Lexing.{word_at, int_at, text_at, symbol_of, token_at}
+use Rattle.pac_tokens.specs.Tokens.{is_letter, is_digit, is_name, keyword_of, IsInFront, is_literal_minus}
+use Rattle.pac_tokens.specs.Lexing.{word_at, int_at, text_at, symbol_of}
 use Rattle.pac_tokens.proofs.Longest.{front_of, front_ok}
 use Rattle.pac_tokens.proofs.Steps.{word_is, int_is, text_is, next_within}
 
