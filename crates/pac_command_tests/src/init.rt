@@ -1,17 +1,14 @@
 // How stores are made, and when they aren't.
+use crate::outage::{Outage, run_struck};
+use crate::run::ONE_TABLE;
 use crate::running::USAGE;
-use crate::stores::{devices, disk, hold};
+use crate::stores::{NEW, devices, hold};
 use pac_main::{init_command, pacman};
 use pac_outside::{Devices, MemDisk, MemSink, MemSource, OpenGate};
 use std::alloc::Global;
 use std::sync::Wait;
 use std::test::Fail;
 use std::thread::Threads;
-
-const ONE_TABLE: &[u8] = b"table T(key int, v int);";
-
-// The log of one table, without a batch.
-const MADE: &[u8] = b"PACMLOG1\x18\0\0\0table T(key int, v int);\0";
 
 // Makes the store of a text on devices: the status, and what the error sink took. The read with this number fails.
 fn made<RT: Threads + Wait + Sync>(
@@ -45,15 +42,15 @@ fn made<RT: Threads + Wait + Sync>(
 fn a_store_is_made_once(rt: HostRuntime) -> Result<(), Fail> {
     let alloc = rt.alloc();
     let mut devices = devices(alloc, [b"", b"", b""])?;
-    let (status, errors) = made(&rt, alloc, ONE_TABLE, 0, &mut devices)?;
+    let (status, errors) = made(&rt, alloc, ONE_TABLE.as_bytes(), 0, &mut devices)?;
     assert_eq!(rt; (status, errors.bytes()), (0, b"".as_slice()));
-    assert!(rt; hold(&devices, [MADE, b"\0", b"\0"])?);
-    let (status, errors) = made(&rt, alloc, ONE_TABLE, 0, &mut devices)?;
+    assert!(rt; hold(&devices, [NEW, b"\0", b"\0"])?);
+    let (status, errors) = made(&rt, alloc, ONE_TABLE.as_bytes(), 0, &mut devices)?;
     assert_eq!(rt;
         (status, errors.bytes()),
         (3, b"not empty log 37\n".as_slice())
     );
-    assert!(rt; hold(&devices, [MADE, b"\0", b"\0"])?);
+    assert!(rt; hold(&devices, [NEW, b"\0", b"\0"])?);
     Ok(())
 }
 
@@ -69,7 +66,7 @@ fn devices_in_use_are_refused(rt: HostRuntime) -> Result<(), Fail> {
         ([log.as_slice(), b"\0", b"bytes"], "not empty log 70\n"),
     ] {
         let mut devices = devices(alloc, bytes)?;
-        let (status, errors) = made(&rt, alloc, ONE_TABLE, 0, &mut devices)?;
+        let (status, errors) = made(&rt, alloc, ONE_TABLE.as_bytes(), 0, &mut devices)?;
         assert_eq!(rt; (status, errors.bytes()), (3, line.as_bytes()));
         assert!(rt; hold(&devices, bytes)?);
     }
@@ -94,7 +91,7 @@ fn other_texts_make_no_store(rt: HostRuntime) -> Result<(), Fail> {
             "catalogue 25 Expected\n",
         ),
         (&long, 0, 2, "catalogue 65536 TooLong\n"),
-        (ONE_TABLE, 1, 6, "input fault\n"),
+        (ONE_TABLE.as_bytes(), 1, 6, "input fault\n"),
     ] {
         let mut devices = devices(alloc, [b"", b"", b""])?;
         let (answer, errors) = made(&rt, alloc, text, failing, &mut devices)?;
@@ -104,26 +101,24 @@ fn other_texts_make_no_store(rt: HostRuntime) -> Result<(), Fail> {
     Ok(())
 }
 
-// Each call of a device fails: it is asked for its length twice, written and synced.
+// No call of a device comes behind one that failed.
 #[test]
 fn a_failing_device_is_told(rt: HostRuntime) -> Result<(), Fail> {
     let alloc = rt.alloc();
-    for (log, a, b) in [
-        (1, 0, 0),
-        (2, 0, 0),
-        (3, 0, 0),
-        (4, 0, 0),
-        (0, 1, 0),
-        (0, 4, 0),
-        (0, 0, 3),
-    ] {
-        let mut devices = Devices {
-            log: disk(alloc, b"", log)?,
-            slot_a: disk(alloc, b"", a)?,
-            slot_b: disk(alloc, b"", b)?,
-        };
-        let (status, errors) = made(&rt, alloc, ONE_TABLE, 0, &mut devices)?;
-        assert_eq!(rt; (status, errors.bytes()), (8, b"disk fault\n".as_slice()));
+    for lasts in [false, true] {
+        let mut was_done = false;
+        for passing in 0..100 {
+            let outage = Outage::new(passing, lasts);
+            let empty = devices(alloc, [b"", b"", b""])?;
+            let (answer, store) = run_struck(&rt, alloc, "init", ONE_TABLE, empty, &outage)?;
+            assert_eq!(rt; answer.output.bytes(), b"".as_slice());
+            if answer.status == 0 {
+                assert!(rt; hold(&store, [NEW, b"\0", b"\0"])?);
+                was_done = true;
+                break;
+            }
+        }
+        assert!(rt; was_done);
     }
     Ok(())
 }

@@ -10,11 +10,17 @@ mod init;
 #[cfg(test)]
 mod options;
 #[cfg(test)]
+mod outage;
+#[cfg(test)]
 mod recover;
 #[cfg(test)]
 mod refusals;
 #[cfg(test)]
 mod run;
+#[cfg(test)]
+mod run_crashes;
+#[cfg(test)]
+mod run_images;
 #[cfg(test)]
 mod run_stops;
 #[cfg(test)]

@@ -1,7 +1,7 @@
 // What is recovered of stores in memory, and what is told of those that are damaged.
+use crate::outage::{Outage, run_struck};
 use crate::running::{BANK, USAGE, run_on};
-use crate::stores::{LOG, SHUT, SLOT, changed, devices, disk, hold, log_of};
-use pac_outside::Devices;
+use crate::stores::{LOG, SHUT, SLOT, changed, devices, hold, log_of};
 use std::alloc::Global;
 use std::sync::Wait;
 use std::test::Fail;
@@ -256,28 +256,21 @@ fn the_first_damage_is_told(rt: HostRuntime) -> Result<(), Fail> {
 fn a_failing_device_is_told(rt: HostRuntime) -> Result<(), Fail> {
     let alloc = rt.alloc();
     let bytes = [LOG, SLOT, SHUT];
-    for device in 0..3 {
-        let mut has_failed = false;
-        for call in 1..20 {
-            let mut store = Devices {
-                log: disk(alloc, LOG, if device == 0 { call } else { 0 })?,
-                slot_a: disk(alloc, SLOT, if device == 1 { call } else { 0 })?,
-                slot_b: disk(alloc, SHUT, if device == 2 { call } else { 0 })?,
-            };
-            let answer = run_on(&rt, alloc, "recover", &mut store, 0)?;
-            let (output, errors) = (answer.output.bytes(), answer.errors.bytes());
-            if answer.status == 8 {
-                has_failed = true;
-                assert_eq!(rt;
-                    (output, errors),
-                    (b"".as_slice(), b"disk fault\n".as_slice())
-                );
-            } else {
-                assert_eq!(rt; (answer.status, output), (0, ONE_ROW.as_bytes()));
-            }
+    for lasts in [false, true] {
+        let mut was_done = false;
+        for passing in 0..100 {
+            let outage = Outage::new(passing, lasts);
+            let store = devices(alloc, bytes)?;
+            let (answer, store) = run_struck(&rt, alloc, "recover", "", store, &outage)?;
             assert!(rt; hold(&store, bytes)?);
+            if answer.status == 0 {
+                assert_eq!(rt; answer.output.bytes(), ONE_ROW.as_bytes());
+                was_done = true;
+                break;
+            }
+            assert_eq!(rt; answer.output.bytes(), b"".as_slice());
         }
-        assert!(rt; has_failed);
+        assert!(rt; was_done);
     }
     Ok(())
 }

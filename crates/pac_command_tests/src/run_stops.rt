@@ -1,21 +1,21 @@
 // Runs that stop at a call of a device or of the output, and what is recovered of all that such a stop leaves.
+use crate::outage::{Outage, run_struck};
 use crate::recover::{NO_ROW, ONE_ROW};
 use crate::run::{ONE_TABLE, ends, store_of};
 use crate::running::{Answer, run_lines, run_on};
-use crate::stores::{SHUT, devices, disk, left};
+use crate::stores::{NEW, SHUT, devices, hold, left};
 use pac_outside::{Devices, Fill, MemDisk};
 use std::alloc::Global;
 use std::sync::Wait;
 use std::test::Fail;
 use std::thread::Threads;
 
-// The log of a new store of one table.
-const NEW: &[u8] = b"PACMLOG1\x18\0\0\0table T(key int, v int);\0";
-
 const LINES: &str = "adhoc put T[1] = (2)\nsave\nadhoc put T[2] = (3)\nsave\n";
 
+const TWO_ROWS: &str = "table T 2\n1 (2)\n2 (3)\n";
+
 // What stands behind so many of its transactions.
-const DUMPS: [&str; 3] = [NO_ROW, ONE_ROW, "table T 2\n1 (2)\n2 (3)\n"];
+const DUMPS: [&str; 3] = [NO_ROW, ONE_ROW, TWO_ROWS];
 
 // What the output may have taken of its replies, and how many transactions are acknowledged by that.
 const REPLIES: [(&str, usize); 5] = [
@@ -35,15 +35,6 @@ const FILLS: [Fill; 6] = [
     Fill::Byte(255),
 ];
 
-// A new store of one table, of which this call of this device fails.
-fn failing(alloc: Global, device: usize, call: u64) -> Result<Devices<MemDisk>, Fail> {
-    Ok(Devices {
-        log: disk(alloc, NEW, if device == 0 { call } else { 0 })?,
-        slot_a: disk(alloc, SHUT, if device == 1 { call } else { 0 })?,
-        slot_b: disk(alloc, SHUT, if device == 2 { call } else { 0 })?,
-    })
-}
-
 // How many transactions the output acknowledges.
 fn acknowledged(answer: &Answer) -> Result<usize, Fail> {
     for (replies, count) in REPLIES {
@@ -61,16 +52,15 @@ fn keeps<RT: Threads + Wait + Sync>(
     store: &Devices<MemDisk>,
     least: usize,
 ) -> Result<bool, Fail> {
+    let Some(dumps) = DUMPS.get(least..) else {
+        return Ok(false);
+    };
     for fill in FILLS {
         for grown in [false, true] {
             let mut image = left(alloc, store, fill, grown)?;
             let answer = run_on(rt, alloc, "recover", &mut image, 0)?;
-            let dumps = &DUMPS[least..];
-            if answer.status != 0
-                || !dumps
-                    .iter()
-                    .any(|dump| answer.output.bytes() == dump.as_bytes())
-            {
+            let told = answer.output.bytes();
+            if answer.status != 0 || !dumps.iter().any(|dump| told == dump.as_bytes()) {
                 return Ok(false);
             }
         }
@@ -78,27 +68,48 @@ fn keeps<RT: Threads + Wait + Sync>(
     Ok(true)
 }
 
+// Each call of a device in turn fails, alone or with all behind it, up to a run that makes no such call.
 #[test]
 fn what_is_acknowledged_is_recovered(rt: HostRuntime) -> Result<(), Fail> {
     let alloc = rt.alloc();
-    for device in 0..3 {
-        let mut failures = 0;
-        for call in 1..24 {
-            let mut store = failing(alloc, device, call)?;
-            let answer = run_lines(&rt, alloc, "run", LINES, [0, 0], &mut store)?;
+    for lasts in [false, true] {
+        let mut was_done = false;
+        for passing in 0..100 {
+            let store = devices(alloc, [NEW, SHUT, SHUT])?;
+            let outage = Outage::new(passing, lasts);
+            let (answer, store) = run_struck(&rt, alloc, "run", LINES, store, &outage)?;
             let count = acknowledged(&answer)?;
-            if answer.status == 8 {
-                failures += 1;
-                assert_eq!(rt; answer.errors.bytes(), b"disk fault\n".as_slice());
-            } else {
-                assert_eq!(rt; (answer.status, count), (0, 2));
+            assert!(rt; keeps(&rt, alloc, &store, count)?, "behind {passing} calls");
+            if answer.status == 0 {
+                assert_eq!(rt; count, 2);
+                was_done = true;
+                break;
             }
-            assert!(rt;
-                keeps(&rt, alloc, &store, count)?,
-                "device {device}, call {call}"
-            );
         }
-        assert!(rt; failures > 0);
+        assert!(rt; was_done);
+    }
+    Ok(())
+}
+
+// The last four calls are those of the second commit. Until the write of the gate byte nothing of it is there.
+#[test]
+fn a_commit_is_there_once_its_gate_is_open(rt: HostRuntime) -> Result<(), Fail> {
+    let alloc = rt.alloc();
+    let lines = "adhoc put T[1] = (2)\nadhoc put T[2] = (3)\n";
+    let whole = Outage::new(1000, false);
+    let store = devices(alloc, [NEW, SHUT, SHUT])?;
+    run_struck(&rt, alloc, "run --batch 1", lines, store, &whole)?;
+    for (before_end, opens) in [(4, false), (3, false), (2, true), (1, true)] {
+        let outage = Outage::new(whole.made().saturating_sub(before_end), true);
+        let store = devices(alloc, [NEW, SHUT, SHUT])?;
+        let (answer, store) = run_struck(&rt, alloc, "run --batch 1", lines, store, &outage)?;
+        assert_eq!(rt; answer.output.bytes(), b"committed 1\n".as_slice());
+        for fill in FILLS {
+            let mut image = left(alloc, &store, fill, true)?;
+            let is_open = opens && (fill == Fill::New || fill == Fill::Byte(1));
+            let dump = if is_open { TWO_ROWS } else { ONE_ROW };
+            assert!(rt; ends(&rt, alloc, "recover", "", &mut image, (0, dump, ""))?);
+        }
     }
     Ok(())
 }
@@ -125,57 +136,40 @@ fn an_output_that_fails_ends_the_run(rt: HostRuntime) -> Result<(), Fail> {
 fn a_lost_group_has_no_numbers(rt: HostRuntime) -> Result<(), Fail> {
     let alloc = rt.alloc();
     let lines = "adhoc put T[1] = (2)\nadhoc put T[3] = (4)\n";
-    let mut lost = 0;
-    for call in 1..24 {
-        let mut store = failing(alloc, 0, call)?;
-        let answer = run_lines(&rt, alloc, "run --batch 1", lines, [0, 0], &mut store)?;
+    let mut was_lost = false;
+    for passing in 0..100 {
+        let store = devices(alloc, [NEW, SHUT, SHUT])?;
+        let outage = Outage::new(passing, false);
+        let (answer, store) = run_struck(&rt, alloc, "run --batch 1", lines, store, &outage)?;
+        if answer.status == 0 {
+            break;
+        }
         if answer.output.bytes() != b"committed 1\n".as_slice() {
             continue;
         }
-        assert_eq!(rt;
-            (answer.status, answer.errors.bytes()),
-            (8, b"disk fault\n".as_slice())
-        );
         // The image that has nothing of the group that failed.
         let mut image = left(alloc, &store, Fill::Old, false)?;
         assert!(rt; ends(&rt, alloc, "recover", "", &mut image, (0, ONE_ROW, ""))?);
         let next = "adhoc put T[5] = (6)\n";
-        assert!(rt;
-            ends(
-                &rt,
-                alloc,
-                "run",
-                next,
-                &mut image,
-                (0, "committed 2\n", "")
-            )?
-        );
+        let end = (0, "committed 2\n", "");
+        assert!(rt; ends(&rt, alloc, "run", next, &mut image, end)?);
         let dump = (0, "table T 2\n1 (2)\n5 (6)\n", "");
         assert!(rt; ends(&rt, alloc, "recover", "", &mut image, dump)?);
-        lost += 1;
+        was_lost = true;
     }
-    assert!(rt; lost > 0);
+    assert!(rt; was_lost);
     Ok(())
 }
 
 #[test]
-fn a_run_that_cannot_sync_reads_nothing(rt: HostRuntime) -> Result<(), Fail> {
+fn a_run_that_cannot_sync_writes_nothing(rt: HostRuntime) -> Result<(), Fail> {
     let alloc = rt.alloc();
-    for device in 0..3 {
-        let mut store = failing(alloc, device, 1)?;
-        assert!(rt;
-            ends(
-                &rt,
-                alloc,
-                "run",
-                LINES,
-                &mut store,
-                (8, "", "disk fault\n")
-            )?
-        );
-        let mut same = devices(alloc, [NEW, SHUT, SHUT])?;
-        assert!(rt; keeps(&rt, alloc, &store, 0)?);
-        assert!(rt; ends(&rt, alloc, "recover", "", &mut same, (0, NO_ROW, ""))?);
+    for passing in 0..3 {
+        let store = devices(alloc, [NEW, SHUT, SHUT])?;
+        let outage = Outage::new(passing, false);
+        let (answer, store) = run_struck(&rt, alloc, "run", LINES, store, &outage)?;
+        assert_eq!(rt; (answer.status, answer.output.bytes()), (8, b"".as_slice()));
+        assert!(rt; hold(&store, [NEW, SHUT, SHUT])?);
     }
     Ok(())
 }

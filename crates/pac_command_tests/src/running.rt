@@ -1,6 +1,6 @@
 // Runs the top call over streams in memory.
 use pac_main::pacman;
-use pac_outside::{Devices, Gate, MemDisk, MemSink, MemSource, NoDisk, Sink, Source};
+use pac_outside::{Devices, Disk, Gate, MemSink, MemSource, NoDisk, Sink, Source};
 use std::alloc::Global;
 use std::sync::Wait;
 use std::sync::atomic::{AtomicU64, Ordering};
@@ -68,29 +68,48 @@ fn strings(alloc: Global, words: &[&str]) -> Result<Vec<String>, Fail> {
 }
 
 // Runs the words of a line over these devices, where no input can be read and this write of the output fails.
-pub fn run_on<RT: Threads + Wait + Sync>(
+pub fn run_on<RT: Threads + Wait + Sync, D: Disk>(
     rt: &RT,
     alloc: Global,
     line: &str,
-    devices: &mut Devices<MemDisk>,
+    devices: &mut Devices<D>,
     bad_write: u64,
 ) -> Result<Answer, Fail> {
     run_lines(rt, alloc, line, "", [1, bad_write], devices)
 }
 
 // Runs the words of a line over this input and these devices, where this read of the input and this write of the output fail.
-pub fn run_lines<RT: Threads + Wait + Sync>(
+pub fn run_lines<RT: Threads + Wait + Sync, D: Disk>(
     rt: &RT,
     alloc: Global,
     line: &str,
     text: &str,
     bad_calls: [u64; 2],
-    devices: &mut Devices<MemDisk>,
+    devices: &mut Devices<D>,
+) -> Result<Answer, Fail> {
+    run_bytes(
+        rt,
+        alloc,
+        line,
+        text.as_bytes().to_vec(alloc)?,
+        bad_calls,
+        devices,
+    )
+}
+
+// The same over any bytes.
+pub fn run_bytes<RT: Threads + Wait + Sync, D: Disk>(
+    rt: &RT,
+    alloc: Global,
+    line: &str,
+    text: Vec<u8>,
+    bad_calls: [u64; 2],
+    devices: &mut Devices<D>,
 ) -> Result<Answer, Fail> {
     let words: Vec<&str> = line.split_whitespace().collect(alloc)?;
     let list = strings(alloc, &words)?;
     let [bad_read, bad_write] = bad_calls;
-    let mut input = MemSource::new(text.as_bytes().to_vec(alloc)?, [bad_read].to_vec(alloc)?);
+    let mut input = MemSource::new(text, [bad_read].to_vec(alloc)?);
     let mut output = MemSink::new(Vec::new(alloc), [bad_write].to_vec(alloc)?);
     let mut errors = MemSink::new(Vec::new(alloc), Vec::new(alloc));
     let gate = Counting {

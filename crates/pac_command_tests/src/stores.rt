@@ -3,6 +3,9 @@ use pac_outside::{Devices, Fill, MemDisk};
 use std::alloc::Global;
 use std::test::Fail;
 
+/// The log of a new store of one table.
+pub const NEW: &[u8] = b"PACMLOG1\x18\0\0\0table T(key int, v int);\0";
+
 /// The log of one table with `adhoc put T[1] = (2)`: the header, the open gate at 36, the numbers at 37 and 41, the entry
 /// from 45 on, and the shut gate at 69.
 pub const LOG: &[u8] = b"PACMLOG1\x18\0\0\0table T(key int, v int);\
@@ -15,17 +18,17 @@ pub const SLOT: &[u8] =
 /// A slot without a checkpoint.
 pub const SHUT: &[u8] = b"\0";
 
-/// A disk of these bytes, of which the call with this number fails.
-pub fn disk(alloc: Global, bytes: &[u8], failing: u64) -> Result<MemDisk, Fail> {
-    Ok(MemDisk::new(bytes.to_vec(alloc)?, [failing].to_vec(alloc)?))
+// A disk of these bytes.
+fn disk(alloc: Global, bytes: &[u8]) -> Result<MemDisk, Fail> {
+    Ok(MemDisk::new(bytes.to_vec(alloc)?, Vec::new(alloc)))
 }
 
 /// Devices of these bytes.
 pub fn devices(alloc: Global, bytes: [&[u8]; 3]) -> Result<Devices<MemDisk>, Fail> {
     Ok(Devices {
-        log: disk(alloc, bytes[0], 0)?,
-        slot_a: disk(alloc, bytes[1], 0)?,
-        slot_b: disk(alloc, bytes[2], 0)?,
+        log: disk(alloc, bytes[0])?,
+        slot_a: disk(alloc, bytes[1])?,
+        slot_b: disk(alloc, bytes[2])?,
     })
 }
 
@@ -37,9 +40,9 @@ pub fn left(
     grown: bool,
 ) -> Result<Devices<MemDisk>, Fail> {
     Ok(Devices {
-        log: disk(alloc, &devices.log.image(fill, grown)?, 0)?,
-        slot_a: disk(alloc, &devices.slot_a.image(fill, grown)?, 0)?,
-        slot_b: disk(alloc, &devices.slot_b.image(fill, grown)?, 0)?,
+        log: disk(alloc, &devices.log.image(fill, grown)?)?,
+        slot_a: disk(alloc, &devices.slot_a.image(fill, grown)?)?,
+        slot_b: disk(alloc, &devices.slot_b.image(fill, grown)?)?,
     })
 }
 

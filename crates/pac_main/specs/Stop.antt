@@ -1,6 +1,5 @@
 -- The exit status of each stop, and what the error sink is told.
-use Rattle.std.specs.Prelude.{ℕ, Bool, true, false, List, ◌++◌, codes}
-use Rattle.std.specs.Fmt.{decimal}
+use Rattle.std.specs.Prelude.{ℕ, Bool, true, false, List, codes}
 use Rattle.pac_types.specs.declared.text.CatalogueFault.{CatalogueFault}
 use Rattle.pac_types.specs.CatalogueText.{fault_place, fault_kind}
 use Rattle.pac_ops.specs.declared.note.Note.{Note}
@@ -8,6 +7,7 @@ use Rattle.pac_ops.specs.Reasons.{reason_name}
 use Rattle.pac_serial.specs.declared.serial.AllError.{AllError}
 use Rattle.pac_serial.specs.declared.serial.AllError.TheVariants as serial
 use Rattle.pac_request.specs.declared.fault.LineFault.{LineFault}
+use Rattle.pac_request.specs.declared.script_fault.ScriptFault.{ScriptFault}
 use Rattle.pac_request.specs.declared.script_fault.ScriptFault.TheVariants.{Catalogue, TooManyOps, Line}
 use Rattle.pac_request.specs.LineKinds.{line_kind_name}
 use Rattle.pac_init.specs.Made.{device_name}
@@ -26,6 +26,7 @@ use Rattle.pac_recover.specs.declared.errors.RecoverError.TheVariants as recover
 use Rattle.pac_recover.specs.declared.limit.TooManyRows.{TooManyRows}
 use Rattle.pac_run.specs.declared.stop.RunStop.{RunStop}
 use Rattle.pac_run.specs.declared.stop.RunStop.TheVariants as run
+use Rattle.pac_report.specs.Status.{abort_words, as_line, catalogue_words, damage_words, full_words, not_empty_words, operations_words, rows_words, script_words, too_large_words}
 use Rattle.pac_main.specs.declared.input.InputError.{InputError}
 use Rattle.pac_main.specs.declared.input.InputError.TheVariants as input
 use Rattle.pac_main.specs.declared.stop.Stop.{Stop}
@@ -52,27 +53,27 @@ status_of (TooLarge bytes) = 12
 
 -- the transaction's number, the operation's, and the reason
 abbrev pub abort_line : Note → List ℕ
-abort_line note = codes "abort " ++ decimal note.txn ++ codes " " ++ decimal note.op ++ codes " " ++ reason_name note.reason ++ codes "\n"
+abort_line note = as_line (abort_words note.txn note.op (reason_name note.reason))
 
 -- the place of a catalogue's fault, and its kind
 abbrev pub catalogue_line : CatalogueFault → List ℕ
-catalogue_line fault = codes "catalogue " ++ decimal (fault_place fault) ++ codes " " ++ fault_kind fault ++ codes "\n"
+catalogue_line fault = as_line (catalogue_words (fault_place fault) (fault_kind fault))
 
 -- the name of a procedure, and how many operations are too many there
 abbrev pub operations_line : List ℕ → ℕ → List ℕ
-operations_line name count = codes "operations " ++ name ++ codes " " ++ decimal count ++ codes "\n"
+operations_line name count = as_line (operations_words name count)
 
 -- the number of a refused line, the place of its fault in it, and the kind
 abbrev pub script_line : ℕ → LineFault → List ℕ
-script_line number fault = codes "script " ++ decimal number ++ codes " " ++ decimal fault.at ++ codes " " ++ line_kind_name fault.kind ++ codes "\n"
+script_line number fault = as_line (script_words number fault.at (line_kind_name fault.kind))
 
 -- the name of a table over the limit, its rows, and the limit
 abbrev pub rows_line : List ℕ → ℕ → ℕ → List ℕ
-rows_line name rows limit = codes "rows " ++ name ++ codes " " ++ decimal rows ++ codes " " ++ decimal limit ++ codes "\n"
+rows_line name rows limit = as_line (rows_words name rows limit)
 
 -- the name of a device that isn't empty, and how many bytes it has
 abbrev pub not_empty_line : DeviceName → ℕ → List ℕ
-not_empty_line device length = codes "not empty " ++ device_name device ++ codes " " ++ decimal length ++ codes "\n"
+not_empty_line device length = as_line (not_empty_words (device_name device) length)
 
 -- the device of a slot
 abbrev pub slot_device : SlotName → DeviceName
@@ -81,7 +82,7 @@ slot_device B = SlotB
 
 -- the name of a damaged device, the place of its first damage, and the kind
 abbrev pub damaged_at : DeviceName → ℕ → List ℕ → List ℕ
-damaged_at device at kind = codes "damaged " ++ device_name device ++ codes " " ++ decimal at ++ codes " " ++ kind ++ codes "\n"
+damaged_at device at kind = as_line (damage_words (device_name device) at kind)
 
 -- the same of damage in the log, or in a slot
 abbrev pub damaged_line : Damage → List ℕ
@@ -90,11 +91,11 @@ damaged_line (Slot slot at kind) = damaged_at (slot_device slot) at (slot_damage
 
 -- how many bytes a log that is full would have
 abbrev pub full_line : ℕ → List ℕ
-full_line need = codes "log full " ++ decimal need ++ codes "\n"
+full_line need = as_line (full_words need)
 
 -- how many bytes a slot would have with a checkpoint that is too large
 abbrev pub too_large_line : ℕ → List ℕ
-too_large_line bytes = codes "checkpoint too large " ++ decimal bytes ++ codes "\n"
+too_large_line bytes = as_line (too_large_words bytes)
 
 -- whether a stop's line has numbers, and is made
 abbrev pub takes_memory : Stop → Bool
@@ -107,23 +108,27 @@ takes_memory (LogFull need) = true
 takes_memory (TooLarge bytes) = true
 takes_memory _ = false
 
+-- the first fault of the catalogue that is refused, too many operations, or the first line that is refused
+abbrev pub script_fault_line : ScriptFault → List ℕ
+script_fault_line (Catalogue fault) = catalogue_line fault
+script_fault_line (TooManyOps name count) = operations_line name count
+script_fault_line (Line number fault) = script_line number fault
+
 -- the line that the error sink is told of a stop
 abbrev pub line_of : Stop → List ℕ
-line_of Usage = codes "usage: pacman init, run, recover, explain, replay or stress\n"
-line_of (Script (Catalogue fault)) = catalogue_line fault
-line_of (Script (TooManyOps name count)) = operations_line name count
-line_of (Script (Line number fault)) = script_line number fault
+line_of Usage = as_line (codes "usage: pacman init, run, recover, explain, replay or stress")
+line_of (Script fault) = script_fault_line fault
 line_of (NotEmpty device length) = not_empty_line device length
-line_of NoStore = codes "no store\n"
+line_of NoStore = as_line (codes "no store")
 line_of (Damaged damage) = damaged_line damage
 line_of (Aborted note) = abort_line note
 line_of (RowsOver name rows limit) = rows_line name rows limit
-line_of InputFault = codes "input fault\n"
-line_of OutputFault = codes "output fault\n"
-line_of DiskFault = codes "disk fault\n"
-line_of NoMemory = codes "no memory\n"
+line_of InputFault = as_line (codes "input fault")
+line_of OutputFault = as_line (codes "output fault")
+line_of DiskFault = as_line (codes "disk fault")
+line_of NoMemory = as_line (codes "no memory")
 line_of (LogFull need) = full_line need
-line_of TooLong = codes "input too long\n"
+line_of TooLong = as_line (codes "input too long")
 line_of (TooLarge bytes) = too_large_line bytes
 
 -- words that can't be read are no command's, or there was no memory for them

@@ -1,6 +1,6 @@
 // Why a command stops before its end.
-ghost use Rattle.std.specs.Prelude.{◌≡◌, IsTrue, MatchOption};
-ghost use Rattle.pac_main.specs.Stop.{status_of, line_of, takes_memory, stop_of_excess, stop_of_input, stop_of_make, stop_of_recover, stop_of_run, stop_of_serial};
+ghost use Rattle.std.specs.Prelude.{◌≡◌};
+ghost use Rattle.pac_main.specs.Stop.{status_of, takes_memory, stop_of_excess, stop_of_input, stop_of_make, stop_of_recover, stop_of_run, stop_of_serial};
 ghost use Rattle.pac_main.specs.declared.stop.Stop.TheVariants.{OutputFault, NoMemory as WantOfMemory};
 
 use crate::input::InputError;
@@ -177,25 +177,19 @@ impl Stop {
         }
     }
 
-    /// What the error sink is told, where that is one text. `None`: the line has numbers, and is made.
-    pub fn line(self) -> Option<&'static [u8]>
-        ensures { MatchOption result (IsTrue (takes_memory self)) (λ line. line.now ≡ line_of self) }
+    /// Whether its line has names or numbers, and is made.
+    pub fn takes_memory(self) -> bool
+        ensures { result ≡ takes_memory self }
     {
-        match self {
-            Stop::Usage => Some(b"usage: pacman init, run, recover, explain, replay or stress\n"),
+        matches!(
+            self,
             Stop::Script(_)
-            | Stop::NotEmpty { .. }
-            | Stop::Damaged(_)
-            | Stop::Aborted(_)
-            | Stop::RowsOver { .. }
-            | Stop::LogFull { .. }
-            | Stop::TooLarge { .. } => None,
-            Stop::NoStore => Some(b"no store\n"),
-            Stop::InputFault => Some(b"input fault\n"),
-            Stop::OutputFault => Some(b"output fault\n"),
-            Stop::DiskFault => Some(b"disk fault\n"),
-            Stop::NoMemory => Some(b"no memory\n"),
-            Stop::TooLong => Some(b"input too long\n"),
-        }
+                | Stop::NotEmpty { .. }
+                | Stop::Damaged(_)
+                | Stop::Aborted(_)
+                | Stop::RowsOver { .. }
+                | Stop::LogFull { .. }
+                | Stop::TooLarge { .. }
+        )
     }
 }

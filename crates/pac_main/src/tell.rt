@@ -1,13 +1,12 @@
 // What the error sink is told, and the status behind it.
-ghost use Rattle.std.specs.Prelude.{◌≡◌, ◌⊎◌, IfOk, IsTrue, false, if◌then◌else◌};
-ghost use Rattle.std.specs.Result.{is_ok};
+ghost use Rattle.std.specs.Prelude.{◌≡◌, ◌⊎◌, IsTrue, false};
 ghost use Rattle.pac_main.specs.Streams.{observed, IsTold};
 ghost use Rattle.pac_main.specs.Stop.{status_of, line_of, takes_memory, stop_of_words};
 
-use crate::line::made_line;
+use crate::line::status_line;
 use crate::stop::Stop;
-use pac_base::NoMemory;
 use pac_outside::{Sink, write_all};
+use pac_report::fault_text;
 use std::alloc::Global;
 use thiserror::Error;
 
@@ -48,18 +47,17 @@ fn told_text<E: Sink>(stop: &Stop, errors: &mut E)
     requires { takes_memory stop.now ≡ false }
     ensures line { IsTold (observed E.held E.faults errors.old errors.new) (line_of stop.now) }
 {
-    if let Some(line) = stop.line() {
+    if let Some(line) = status_line(stop).text() {
         let _ = write_all(errors, line);
     }
 }
 
-// Tells the error sink the line that was made for the stop, and answers that, or that there was no memory for the line.
-fn told_made<E: Sink>(stop: Stop, made: Result<Vec<u8>, NoMemory>, errors: &mut E) -> Stop
-    requires { IfOk made (λ line. line.items ≡ line_of stop) }
-    ensures which { result ≡ (if is_ok made then stop else Stop.NoMemory) }
+// Tells the error sink the stop's line, which is made, and answers that, or that there was no memory for the line.
+fn told_made<E: Sink>(alloc: Global, stop: Stop, errors: &mut E) -> Stop
+    ensures which { (result ≡ stop) ⊎ (result ≡ Stop.NoMemory) }
     ensures line { IsTold (observed E.held E.faults errors.old errors.new) (line_of result) }
 {
-    match made {
+    match fault_text(alloc, &status_line(&stop)) {
         Ok(line) => {
             let _ = write_all(errors, &line);
             stop
@@ -76,11 +74,10 @@ pub fn told<E: Sink>(alloc: Global, stop: Stop, errors: &mut E) -> Stop
     ensures which { (result ≡ stop) ⊎ ((result ≡ Stop.NoMemory) × IsTrue (takes_memory stop)) }
     ensures line { IsTold (observed E.held E.faults errors.old errors.new) (line_of result) }
 {
-    match made_line(alloc, &stop) {
-        Some(made) => told_made(stop, made, errors),
-        None => {
-            told_text(&stop, errors);
-            stop
-        }
+    if stop.takes_memory() {
+        told_made(alloc, stop, errors)
+    } else {
+        told_text(&stop, errors);
+        stop
     }
 }

@@ -1,7 +1,6 @@
 -- The texts of replies.
 use Rattle.std.specs.Prelude.{ℕ, List, [], ◌++◌, codes, map, slice_index_or, Option, Some, None}
 use Rattle.std.specs.Fmt.{decimal}
-use Rattle.pac_value.specs.declared.values.Key.{Key}
 use Rattle.pac_value.specs.Literals.{key_text, values_text}
 use Rattle.pac_value.specs.State.{RowValues}
 use Rattle.pac_ops.specs.Reasons.{reason_name}

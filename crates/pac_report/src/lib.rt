@@ -4,7 +4,8 @@
 //! - [`explain_text`]: the text of the graph of a catalogue, which are the slices of its procedures and the blocks of its
 //!   plan, with the edges between them.
 //! - [`reply_text`]: the line that tells a reply to a request.
-//! - [`fault_text`]: the line that tells a status, a [`StatusLine`].
+//! - [`fault_text`]: the line that tells a status, a [`StatusLine`]; [`StatusLine::text`]: the same without memory, where the
+//!   line is one text.
 //!
 //! `specs/Dump.antt`, `specs/Explain.antt`, `specs/Replies.antt` and `specs/Status.antt` say which texts these are, by the
 //! names of the catalogue, the rows, the slices, the plan, the reply and the status alone.

@@ -1,8 +1,8 @@
 // The lines of statuses.
-ghost use Rattle.std.specs.Prelude.{◌≡◌, ◌++◌, codes, IfOk, OnOk};
+ghost use Rattle.std.specs.Prelude.{◌≡◌, ◌++◌, codes, IfOk, IsTrue, MatchOption, OnOk};
 ghost use Rattle.std.specs.Fmt.{decimal};
 ghost use Rattle.pac_value.specs.Growth.{Grew};
-ghost use Rattle.pac_report.specs.Status.{fault_text, fault_words};
+ghost use Rattle.pac_report.specs.Status.{abort_words, damage_words, fault_text, fault_words, is_made, rows_words, script_words};
 
 use crate::words::{push_number, push_word};
 use pac_base::NoMemory;
@@ -27,7 +27,7 @@ pub enum StatusLine<'a> {
     },
     /// The first fault of the first line of a script that is refused.
     Script {
-        line: u32,
+        line: u64,
         at: u64,
         kind: &'a str,
     },
@@ -76,6 +76,34 @@ pub enum StatusLine<'a> {
     },
 }
 
+impl StatusLine<'_> {
+    /// The line where it is one text, which takes no memory. `None`: it has numbers, and [`fault_text`] makes it.
+    pub fn text(&self) -> Option<&'static [u8]>
+        ensures { MatchOption result (IsTrue (is_made self.now)) (λ line. line.now ≡ fault_text self.now) }
+    {
+        match self {
+            StatusLine::Usage => {
+                Some(b"usage: pacman init, run, recover, explain, replay or stress\n")
+            }
+            StatusLine::NoStore => Some(b"no store\n"),
+            StatusLine::InputFault => Some(b"input fault\n"),
+            StatusLine::OutputFault => Some(b"output fault\n"),
+            StatusLine::DiskFault => Some(b"disk fault\n"),
+            StatusLine::NoMemory => Some(b"no memory\n"),
+            StatusLine::InputTooLong => Some(b"input too long\n"),
+            StatusLine::Catalogue { .. }
+            | StatusLine::Operations { .. }
+            | StatusLine::Script { .. }
+            | StatusLine::NotEmpty { .. }
+            | StatusLine::Damaged { .. }
+            | StatusLine::Abort { .. }
+            | StatusLine::Rows { .. }
+            | StatusLine::LogFull { .. }
+            | StatusLine::TooLarge { .. } => None,
+        }
+    }
+}
+
 /// The line that the error sink is told of a status.
 ///
 /// # Errors
@@ -85,19 +113,22 @@ pub fn fault_text(alloc: Global, line: &StatusLine<'_>) -> Result<Vec<u8>, NoMem
     ensures { IfOk result (λ text. text.items ≡ fault_text line.now) }
 {
     let mut out = Vec::new(alloc);
-    push_status(&mut out, line)?;
-    out.extend_from_slice(b"\n")?;
+    match line.text() {
+        Some(text) => out.extend_from_slice(text)?,
+        None => {
+            push_status(&mut out, line)?;
+            out.extend_from_slice(b"\n")?;
+        }
+    }
     Ok(out)
 }
 
+// The words of a line that has numbers.
 fn push_status(out: &mut Vec<u8>, line: &StatusLine<'_>) -> Result<(), NoMemory>
+    requires { IsTrue (is_made line.now) }
     ensures { OnOk result (Grew out.old.items out.new.items (fault_words line.now)) }
 {
     match line {
-        StatusLine::Usage => push_text(
-            out,
-            b"usage: pacman init, run, recover, explain, replay or stress",
-        ),
         StatusLine::Catalogue { at, kind } => push_fault(out, b"catalogue", *at, kind),
         StatusLine::Operations { proc, count } => {
             push_named(out, b"operations", proc, u64::from(*count))
@@ -106,25 +137,13 @@ fn push_status(out: &mut Vec<u8>, line: &StatusLine<'_>) -> Result<(), NoMemory>
         StatusLine::NotEmpty { device, length } => {
             push_named(out, b"not empty", device.as_bytes(), *length)
         }
-        StatusLine::NoStore => push_text(out, b"no store"),
         StatusLine::Damaged { device, at, kind } => push_damage(out, device, *at, kind),
         StatusLine::Abort { txn, op, reason } => push_abort(out, *txn, *op, reason),
         StatusLine::Rows { table, rows, limit } => push_rows(out, table, *rows, *limit),
-        StatusLine::InputFault => push_text(out, b"input fault"),
-        StatusLine::OutputFault => push_text(out, b"output fault"),
-        StatusLine::DiskFault => push_text(out, b"disk fault"),
-        StatusLine::NoMemory => push_text(out, b"no memory"),
         StatusLine::LogFull { need } => push_counted(out, b"log full", *need),
-        StatusLine::InputTooLong => push_text(out, b"input too long"),
         StatusLine::TooLarge { bytes } => push_counted(out, b"checkpoint too large", *bytes),
+        _ => unreachable!(),
     }
-}
-
-fn push_text(out: &mut Vec<u8>, text: &[u8]) -> Result<(), NoMemory>
-    ensures { OnOk result (Grew out.old.items out.new.items text.now) }
-{
-    out.extend_from_slice(text)?;
-    Ok(())
 }
 
 // Words, and a number.
@@ -152,23 +171,23 @@ fn push_named(out: &mut Vec<u8>, words: &[u8], name: &[u8], count: u64) -> Resul
     push_number(out, count)
 }
 
-fn push_script(out: &mut Vec<u8>, line: u32, at: u64, kind: &str) -> Result<(), NoMemory>
-    ensures { OnOk result (Grew out.old.items out.new.items (codes "script " ++ decimal line ++ codes " " ++ decimal at ++ codes " " ++ kind.now)) }
+fn push_script(out: &mut Vec<u8>, line: u64, at: u64, kind: &str) -> Result<(), NoMemory>
+    ensures { OnOk result (Grew out.old.items out.new.items (script_words line at kind.now)) }
 {
-    push_counted(out, b"script", u64::from(line))?;
+    push_counted(out, b"script", line)?;
     push_number(out, at)?;
     push_word(out, kind.as_bytes())
 }
 
 fn push_damage(out: &mut Vec<u8>, device: &str, at: u64, kind: &str) -> Result<(), NoMemory>
-    ensures { OnOk result (Grew out.old.items out.new.items (codes "damaged " ++ device.now ++ codes " " ++ decimal at ++ codes " " ++ kind.now)) }
+    ensures { OnOk result (Grew out.old.items out.new.items (damage_words device.now at kind.now)) }
 {
     push_named(out, b"damaged", device.as_bytes(), at)?;
     push_word(out, kind.as_bytes())
 }
 
 fn push_abort(out: &mut Vec<u8>, txn: u64, op: u16, reason: &str) -> Result<(), NoMemory>
-    ensures { OnOk result (Grew out.old.items out.new.items (codes "abort " ++ decimal txn ++ codes " " ++ decimal op ++ codes " " ++ reason.now)) }
+    ensures { OnOk result (Grew out.old.items out.new.items (abort_words txn op reason.now)) }
 {
     push_counted(out, b"abort", txn)?;
     push_number(out, u64::from(op))?;
@@ -176,7 +195,7 @@ fn push_abort(out: &mut Vec<u8>, txn: u64, op: u16, reason: &str) -> Result<(), 
 }
 
 fn push_rows(out: &mut Vec<u8>, table: &[u8], rows: u64, limit: u64) -> Result<(), NoMemory>
-    ensures { OnOk result (Grew out.old.items out.new.items (codes "rows " ++ table.now ++ codes " " ++ decimal rows ++ codes " " ++ decimal limit)) }
+    ensures { OnOk result (Grew out.old.items out.new.items (rows_words table.now rows limit)) }
 {
     push_named(out, b"rows", table, rows)?;
     push_number(out, limit)
