@@ -1,24 +1,27 @@
 -- Runs one after another keep what they acknowledge.
 use Rattle.std.proofs.Common.{◌≡◌, ◌∙◌, ◌⊎◌, ◌≤◌, ◌+◌, ℕ, zero, suc, List, [], ◌∷◌, ◌++◌, length, length-append, take, drop, Option, Some, None, inl, inr, refl, sym, ap, subst, arith}
-use Rattle.std.specs.Prelude.{IfSome, map}
+use Rattle.std.specs.Prelude.{◌≢◌, IfSome, map}
+use Rattle.std.specs.FinMap.{empty}
 use Rattle.std.proofs.Math.Seq.{take-nil}
 use Rattle.std.proofs.lemmas.List.{append-nil, take-append-drop, take-append-le}
 use Rattle.pac_ops.specs.declared.transaction.Txn.{Txn}
-use Rattle.pac_outside.specs.Devices.{AllLeave, AreImages, all_told}
+use Rattle.pac_outside.specs.Devices.{AllLeave, AreImages, TellsOn, all_told}
 use Rattle.pac_outside.specs.Disk.{DiskState, History, IsImage, settled}
 use Rattle.pac_outside.proofs.Images.{one_image}
 use Rattle.pac_outside.proofs.Runs.{run_end}
 use Rattle.pac_types.specs.Typing.{CatalogueState}
-use Rattle.pac_log.specs.Logs.{all_txns}
+use Rattle.pac_log.specs.Logs.{IsAccepted, all_txns, header_bytes}
 use Rattle.pac_store.specs.Images.{Images, OfThree}
 use Rattle.pac_store.specs.Stands.{StandsFor}
 use Rattle.pac_store.proofs.StandsLemmas.{goes-on}
+use Rattle.pac_init.specs.Made.{IsNewStore, MakesStore}
 use Rattle.pac_request.specs.declared.request.Request.{Request}
 use Rattle.pac_session.specs.Session.{Rules, SessionState, committed, replies}
 use Rattle.pac_run.specs.Acked.{Acknowledges}
 use Rattle.pac_run.specs.Run.{AtExit, AtMoments, IsBegun, IsExit, WhereAllStand, history_after}
 use Rattle.pac_run.specs.Texts.{texts}
 use Rattle.pac_engine.specs.Standing.{TellsIf}
+use Rattle.pac_main.specs.Init.{InitEnds, IsStoreText}
 use Rattle.pac_main.specs.Headline.{AreRuns, HoldImages, IsNextRun, KeepsAll, OneRun}
 use Rattle.pac_main.specs.Recover.{RecoverEnds, RecoversFront, WhereHeld}
 use Rattle.pac_main.specs.Streams.{Observed, ObservedDevices}
@@ -72,6 +75,48 @@ seen_images (image ∷ images) (device ∷ devices) hold =
     let one : device.now.seen ≡ image = ap (λ (s : DiskState). s.seen) hold.0 in
     let rest = seen_images images devices hold.1 in
     cc
+
+-- ---- a new store
+
+not_open : ◌≢◌ {A = ℕ} 0 1
+not_open e = absurd (omega (arith, e))
+
+-- its images stand for no transactions
+new_images : (text : List ℕ) (catalogue : CatalogueState) → IsAccepted text catalogue → (log a b : List ℕ) → log ≡ header_bytes text ++ 0 ∷ [] → a ≡ 0 ∷ [] → b ≡ 0 ∷ []
+    → StandsFor text catalogue [] 0 (record { log = log; slot_a = a; slot_b = b })
+new_images text catalogue accepted log a b is one other = record {
+  executes = record { fit = λ k d below. absurd (omega (arith, below)); held = empty; ends = refl };
+  batches = [];
+  log = record {
+    log = record { accepted = accepted; each = λ k d below. absurd (omega (arith, below)) };
+    shut = record { gate = 0; rest = []; split = is ∙ ap (λ (front : List ℕ). front ++ 0 ∷ []) (sym (append-nil (header_bytes text))); shut = not_open };
+  };
+  later = [];
+  front = refl;
+  enough = omega arith;
+  slot_a = inl (record { gate = 0; rest = []; split = one; shut = not_open });
+  slot_b = inl (record { gate = 0; rest = []; split = other; shut = not_open });
+}
+
+new_devices : (text : List ℕ) (catalogue : CatalogueState) → IsAccepted text catalogue → (exit : List History) → IsNewStore text exit → (images : List (List ℕ)) → AreImages exit images → OfThree (StandsFor text catalogue [] 0) images
+new_devices text catalogue accepted [] new images are = absurd new
+new_devices text catalogue accepted (l ∷ []) new images are = absurd new
+new_devices text catalogue accepted (l ∷ a ∷ []) new images are = absurd new
+new_devices text catalogue accepted (l ∷ a ∷ b ∷ []) new [] are = absurd are
+new_devices text catalogue accepted (l ∷ a ∷ b ∷ []) new (x ∷ []) are = absurd are.1
+new_devices text catalogue accepted (l ∷ a ∷ b ∷ []) new (x ∷ y ∷ []) are = absurd are.1.1
+new_devices text catalogue accepted (l ∷ a ∷ b ∷ []) new (x ∷ y ∷ z ∷ []) are =
+    new_images text catalogue accepted x y z (same_image (header_bytes text ++ 0 ∷ []) x l.now new.0 are.0) (same_image (0 ∷ []) y a.now new.1 are.1.0) (same_image (0 ∷ []) z b.now new.2 are.1.1.0)
+new_devices text catalogue accepted (l ∷ a ∷ b ∷ []) new (x ∷ y ∷ z ∷ w ∷ more) are = absurd are.1.1.1
+new_devices text catalogue accepted (l ∷ a ∷ b ∷ c ∷ more) new images are = absurd new
+
+pub new-store : (status : ℕ) (text : List ℕ) (input errors : Observed) (devices : ObservedDevices) (entry exit : List History) (images : List (List ℕ)) → InitEnds status input errors devices → status ≡ 0
+    → input.before ≡ Some text → all_told devices.before ≡ Some entry → all_told devices.behind ≡ Some exit → AreImages exit images → (catalogue : CatalogueState) × OfThree (StandsFor text catalogue [] 0) images
+new-store status text input errors devices entry exit images ends done_so read told behind are =
+    let done = ends.done done_so in
+    let of : (text ≡ done.0) × ((catalogue : CatalogueState) × IsAccepted done.0 catalogue) = subst (λ (o : Option (List ℕ)). IsStoreText done.0 o) read done.1 in
+    let made : MakesStore done.0 entry exit = subst (λ (o : Option (List History)). TellsOn (MakesStore done.0) (Some entry) o) behind (subst (λ (o : Option (List History)). TellsOn (MakesStore done.0) o (all_told devices.behind)) told done.2) in
+    (of.1.0, subst (λ (t : List ℕ). OfThree (StandsFor t of.1.0 [] 0) images) (sym of.0) (new_devices done.0 of.1.0 of.1.1 exit made.1 images are))
 
 -- ---- one run
 

@@ -1,14 +1,21 @@
 // Laws over whole runs. Each is a function without code.
-ghost use Rattle.std.specs.Prelude.{◌≡◌, ℕ, List, Some};
+ghost use Rattle.std.specs.Prelude.{◌≡◌, ℕ, List, [], Some};
 ghost use Rattle.pac_ops.specs.declared.transaction.Txn.{Txn as ATxn};
-ghost use Rattle.pac_outside.specs.Devices.{all_told};
+ghost use Rattle.pac_outside.specs.Devices.{AreImages, all_told};
 ghost use Rattle.pac_outside.specs.Disk.{History};
 ghost use Rattle.pac_types.specs.Typing.{CatalogueState};
 ghost use Rattle.pac_store.specs.Images.{OfThree};
 ghost use Rattle.pac_store.specs.Stands.{StandsFor};
 ghost use Rattle.pac_main.specs.Headline.{AreRuns, HoldImages, KeepsAll, OneRun};
+ghost use Rattle.pac_main.specs.Init.{InitEnds};
 ghost use Rattle.pac_main.specs.Recover.{RecoverEnds, RecoversFront};
 ghost use Rattle.pac_main.specs.Streams.{Observed, ObservedDevices};
+
+/// A store that `init` makes stands for no transactions: whatever a crash leaves of it, runs may begin there.
+pub fn a_new_store_stands_for_none()
+    ensures { (status : ℕ) (text : List ℕ) (input errors : Observed) (devices : ObservedDevices) (entry exit : List History) (images : List (List ℕ)) → InitEnds status input errors devices → status ≡ 0
+        → input.before ≡ Some text → all_told devices.before ≡ Some entry → all_told devices.behind ≡ Some exit → AreImages exit images → (catalogue : CatalogueState) × OfThree (StandsFor text catalogue [] 0) images }
+{}
 
 /// Any number of runs, one after another, on a store that stands for a history, as a new one does for none: each begins on
 /// images that the one before may leave, at whatever moment it stops. What the last of them leaves stands for the

@@ -4,8 +4,8 @@
 //! - [`init_command`]: what it does where the words ask for a new store.
 //! - [`run_command`]: what it does where the words ask for a run.
 //! - [`explain_command`]: what it does where the words ask for an explanation.
-//! - [`runs_keep_what_is_acknowledged`] and [`recover_gives_what_is_acknowledged`]: laws over any number of runs, and
-//!   what is recovered behind them.
+//! - [`a_new_store_stands_for_none`], [`runs_keep_what_is_acknowledged`] and [`recover_gives_what_is_acknowledged`]: laws
+//!   over a new store, any number of runs on it, and what is recovered behind them.
 //! - [`refuse_words`]: answers the exit status where these words couldn't be read.
 //!
 //! Each command is a file of its own. What the calls answer stands in `specs/`: `Commands` (what the words say, and which
@@ -31,7 +31,9 @@ mod tell;
 pub use command::pacman;
 pub use explain::explain_command;
 pub use init::init_command;
-pub use laws::{recover_gives_what_is_acknowledged, runs_keep_what_is_acknowledged};
+pub use laws::{
+    a_new_store_stands_for_none, recover_gives_what_is_acknowledged, runs_keep_what_is_acknowledged,
+};
 pub use limits::MAX_INPUT;
 pub use run::run_command;
 pub use tell::{WordsError, refuse_words};
