@@ -14,6 +14,7 @@ use Rattle.pac_log.specs.Logs.{IsAccepted, all_txns, header_bytes}
 use Rattle.pac_store.specs.Images.{Images, OfThree}
 use Rattle.pac_store.specs.Stands.{StandsFor}
 use Rattle.pac_store.proofs.StandsLemmas.{goes-on}
+use Rattle.pac_recover.specs.Refusals.{WhereHeld}
 use Rattle.pac_init.specs.Made.{IsNewStore, MakesStore}
 use Rattle.pac_request.specs.declared.request.Request.{Request}
 use Rattle.pac_session.specs.Session.{Rules, SessionState, committed, replies}
@@ -23,7 +24,7 @@ use Rattle.pac_run.specs.Texts.{texts}
 use Rattle.pac_engine.specs.Standing.{TellsIf}
 use Rattle.pac_main.specs.Init.{InitEnds, IsStoreText}
 use Rattle.pac_main.specs.Headline.{AreRuns, HoldImages, IsNextRun, KeepsAll, OneRun}
-use Rattle.pac_main.specs.Recover.{RecoverEnds, RecoversFront, WhereHeld}
+use Rattle.pac_main.specs.Recover.{RecoverEnds, RecoversFront}
 use Rattle.pac_main.specs.Streams.{Observed, ObservedDevices}
 
 -- ---- fronts of lists

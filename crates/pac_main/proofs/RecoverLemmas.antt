@@ -18,9 +18,10 @@ use Rattle.pac_recover.specs.declared.errors.RecoverError.TheVariants as recover
 use Rattle.pac_recover.specs.declared.recovery.Recovered.{Recovered}
 use Rattle.pac_recover.specs.Damages.{IsDamagedLog, IsDamagedSlot}
 use Rattle.pac_recover.specs.Recovering.{AbortsIn, IsFrontOverLimit, IsOverIn, IsRecoveredFrom, IsRecoveredFront, Recovers}
+use Rattle.pac_recover.specs.Refusals.{HasNoStore, WhereHeld}
 use Rattle.pac_report.specs.Dump.{tables_text}
 use Rattle.pac_main.specs.Causes.{IsFrontUnrecovered, IsRecovered, IsUnrecovered, RecoverStops}
-use Rattle.pac_main.specs.Recover.{HasNoStore, IsDumpOfFront, IsFaultless, IsRecovery, IsRefusedStore, RecoverEnds, RecoversFront, StaysInLimit, WhereHeld}
+use Rattle.pac_main.specs.Recover.{IsDumpOfFront, IsFaultless, IsRecovery, IsRefusedStore, RecoverEnds, RecoversFront, StaysInLimit}
 use Rattle.pac_main.specs.Stop.{line_of, status_of, stop_of_recover, takes_memory}
 use Rattle.pac_main.specs.Streams.{IsOneOf, IsTaken, IsTold, Observed, ObservedDevices}
 use Rattle.pac_main.specs.declared.stop.Stop.{Stop}

@@ -14,6 +14,7 @@ use Rattle.pac_store.specs.Stands.{StandsFor}
 use Rattle.pac_recover.specs.declared.errors.Damage.TheVariants.{Log, Slot}
 use Rattle.pac_recover.specs.Damages.{IsDamagedLog, IsDamagedSlot}
 use Rattle.pac_recover.specs.Recovering.{AbortsIn, IsFrontOverLimit, IsOverIn}
+use Rattle.pac_recover.specs.Refusals.{HasNoStore}
 use Rattle.pac_recover.proofs.StandsLemmas.{is-store, no-abort, no-log-damage, no-slot-damage, over-front}
 use Rattle.pac_session.specs.Session.{Rules, SessionState}
 use Rattle.pac_request.specs.declared.request.Request.{Request}
@@ -24,7 +25,7 @@ use Rattle.pac_run.specs.Texts.{IsTextFront, texts}
 use Rattle.pac_run.specs.declared.stop.RunStop.{RunStop}
 use Rattle.pac_run.specs.declared.stop.RunStop.TheVariants as run
 use Rattle.pac_main.specs.Causes.{RunCause}
-use Rattle.pac_main.specs.Recover.{HasNoStore, IsRefusedStore}
+use Rattle.pac_main.specs.Recover.{IsRefusedStore}
 use Rattle.pac_main.specs.Run.{RunEnds, RunsOnFront}
 use Rattle.pac_main.specs.Stop.{line_of, status_of, stop_of_run}
 use Rattle.pac_main.specs.Streams.{FaultsRose, IsOneOf, IsTold, Observed, ObservedDevices}

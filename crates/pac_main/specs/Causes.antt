@@ -8,6 +8,7 @@ use Rattle.pac_types.specs.Typing.{CatalogueState}
 use Rattle.pac_store.specs.Stands.{StandsFor}
 use Rattle.pac_recover.specs.Limits.{IsFirstOver}
 use Rattle.pac_recover.specs.Recovering.{AbortsIn, IsFrontOverLimit, IsOverIn}
+use Rattle.pac_recover.specs.Refusals.{HasDamage, HasNoStore, WhereHeld}
 use Rattle.pac_request.specs.declared.script.Script.{Script}
 use Rattle.pac_run.specs.declared.stop.RunStop.{RunStop}
 use Rattle.pac_run.specs.declared.stop.RunStop.TheVariants as run
@@ -19,7 +20,7 @@ use Rattle.pac_main.specs.Streams.{Observed, ObservedDevices, FaultsRose, IsTake
 use Rattle.pac_main.specs.Init.{AreUntouched, IsNoStoreFor}
 use Rattle.pac_main.specs.Replay.{IsRefusedAs, IsLongScript, outcome, IsDumpOf, IsAbortOf, IsOverOf}
 use Rattle.pac_main.specs.Explained.{IsExplanationOf, IsUnexplainedAs}
-use Rattle.pac_main.specs.Recover.{HasDamage, HasNoStore, IsDumpOfFront, IsRecovery, WhereHeld}
+use Rattle.pac_main.specs.Recover.{IsDumpOfFront, IsRecovery}
 
 -- ---- `replay`
 

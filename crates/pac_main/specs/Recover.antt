@@ -4,37 +4,16 @@ use Rattle.pac_value.specs.State.{Tables}
 use Rattle.pac_ops.specs.declared.note.Note.{Note}
 use Rattle.pac_ops.specs.declared.transaction.Txn.{Txn}
 use Rattle.pac_outside.specs.Devices.{OneRose}
-use Rattle.pac_outside.specs.Disk.{History, WhereTold}
+use Rattle.pac_outside.specs.Disk.{History}
 use Rattle.pac_types.specs.Execution.{first_over}
 use Rattle.pac_types.specs.Typing.{CatalogueState}
-use Rattle.pac_log.specs.Reading.{IsStore}
-use Rattle.pac_store.specs.Images.{Images, WhereRead}
 use Rattle.pac_store.specs.Stands.{EndsWith, StandsFor}
 use Rattle.pac_recover.specs.declared.errors.Damage.{Damage}
-use Rattle.pac_recover.specs.declared.errors.Damage.TheVariants.{Log, Slot}
-use Rattle.pac_recover.specs.Damages.{IsDamagedLog, IsDamagedSlot}
 use Rattle.pac_recover.specs.Recovering.{AbortsIn, IsFrontOverLimit, IsOverIn, IsRecoveredFrom}
+use Rattle.pac_recover.specs.Refusals.{HasDamage, HasNoStore, WhereHeld}
 use Rattle.pac_report.specs.Dump.{tables_text}
 use Rattle.pac_main.specs.Stop.{abort_line, damaged_line, rows_line}
 use Rattle.pac_main.specs.Streams.{Observed, ObservedDevices, FaultsRose, IsTaken, IsFrontTaken, IsTold, IsOneOf}
-
--- ---- what the devices hold
-
--- what a read gives of the devices has P, where each of them tells
-abbrev pub WhereHeld : (Images → Type 0) → List (Option History) → Type 0
-WhereHeld P (log ∷ a ∷ b ∷ []) = WhereRead P log a b
-WhereHeld P _ = ⊥
-
--- the log's device holds no log, where it tells
-abbrev pub HasNoStore : List (Option History) → Type 0
-HasNoStore (log ∷ a ∷ b ∷ []) = WhereTold (λ told. (text : List ℕ) (catalogue : CatalogueState) → ¬ IsStore text catalogue told.now.seen) log
-HasNoStore _ = ⊥
-
--- this is the first damage of the devices, where they tell
-abbrev pub HasDamage : Damage → List (Option History) → Type 0
-HasDamage (Log at kind) (log ∷ a ∷ b ∷ []) = WhereTold (λ told. IsDamagedLog at kind told.now.seen) log
-HasDamage (Log at kind) _ = ⊥
-HasDamage (Slot slot at kind) devices = WhereHeld (IsDamagedSlot slot at kind) devices
 
 -- These tables of this catalogue are within the limit, and their dump has this property. Where the devices tell, they are
 -- those with which serial execution of what is stored ends.

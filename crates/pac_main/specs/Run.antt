@@ -6,10 +6,11 @@ use Rattle.pac_outside.specs.Devices.{OneRose}
 use Rattle.pac_types.specs.Typing.{CatalogueState}
 use Rattle.pac_store.specs.Stands.{StandsFor}
 use Rattle.pac_recover.specs.Recovering.{AbortsIn, IsFrontOverLimit, IsOverIn}
+use Rattle.pac_recover.specs.Refusals.{WhereHeld}
 use Rattle.pac_run.specs.Run.{IsRun}
 use Rattle.pac_run.specs.declared.stop.RunStop.{RunStop}
 use Rattle.pac_run.specs.declared.stop.RunStop.TheVariants as run
-use Rattle.pac_main.specs.Recover.{IsRefusedStore, WhereHeld}
+use Rattle.pac_main.specs.Recover.{IsRefusedStore}
 use Rattle.pac_main.specs.Stop.{abort_line, full_line, rows_line, too_large_line}
 use Rattle.pac_main.specs.Streams.{Observed, ObservedDevices, FaultsRose, IsTold, IsOneOf}
 

@@ -87,7 +87,7 @@ module _ (limit : ℕ) (log a b : Option History) where
     over = λ table rows most e. absurd (loaded-over cause table rows most (same-error _ _ e));
   })
 
-  pub execute-tells : (result : Result Recovered RecoverError) (answer : RecoverError) (cause : AllError) → result ≡ Err answer → answer ≡ not_executed cause
+  execute-tells : (result : Result Recovered RecoverError) (answer : RecoverError) (cause : AllError) → result ≡ Err answer → answer ≡ not_executed cause
       → ((note : Note) → cause ≡ serial.Abort note → WhereRead (AbortsIn note) log a b) → TellsAnswer limit result log a b
   execute-tells result answer cause is same abort =
       let other = executed-else cause (not_executed cause) refl in
@@ -103,7 +103,7 @@ module _ (limit : ℕ) (log a b : Option History) where
   over-is : (t u : List ℕ) (m n k l : ℕ) → error.RowsOver t m k ≡ error.RowsOver u n l → (t ≡ u) × (m ≡ n) × (k ≡ l)
   over-is t u m n k l e = (cc, cc, cc)
 
-  pub over-tells : (result : Result Recovered RecoverError) (answer : RecoverError) (table : List ℕ) (rows most : ℕ) → result ≡ Err answer → answer ≡ error.RowsOver table rows most
+  over-tells : (result : Result Recovered RecoverError) (answer : RecoverError) (table : List ℕ) (rows most : ℕ) → result ≡ Err answer → answer ≡ error.RowsOver table rows most
       → most ≡ limit → WhereRead (IsOverIn table rows limit) log a b → TellsAnswer limit result log a b
   over-tells result answer table rows most is same at over = as-answer result answer (error.RowsOver table rows most) is same (record {
     recovered = tt;
@@ -148,3 +148,15 @@ module _ (loaded : Loaded) (log a b : Option History) (slice : List Batch) (are 
   stored-recovered held txns count done told counted told_stored =
       told-weaker (λ images. IsStored images (stored_of loaded)) (IsRecoveredFrom loaded.catalogue held txns)
       (λ images is. record { stored = stored_of loaded; is = is; same = refl; ends = ends-as (Ok held) done; counted = told ∙ counted }) log a b told_stored
+
+  -- an execution that stops, and tables over the limit, tell what is answered of them
+
+  pub stopped-tells : (limit : ℕ) (result : Result Recovered RecoverError) (answer : RecoverError) (cause : AllError) → result ≡ Err answer → answer ≡ not_executed cause
+      → ((note : Note) → cause ≡ serial.Abort note → executed loaded.catalogue.procs (loaded.txns + 1) (txns_in slice) loaded.tables.rows ≡ Err note)
+      → WhereRead (λ images. IsStored images (stored_of loaded)) log a b → TellsAnswer limit result log a b
+  stopped-tells limit result answer cause is same stops told = execute-tells limit log a b result answer cause is same (λ note e. stored-aborts note (stops note e) told)
+
+  pub full-tells : (limit : ℕ) (result : Result Recovered RecoverError) (answer : RecoverError) (table : List ℕ) (rows most : ℕ) → result ≡ Err answer → answer ≡ error.RowsOver table rows most → most ≡ limit
+      → (held : Tables) → executed loaded.catalogue.procs (loaded.txns + 1) (txns_in slice) loaded.tables.rows ≡ Ok held → IsFirstOver limit loaded.catalogue.tables held table rows
+      → WhereRead (λ images. IsStored images (stored_of loaded)) log a b → TellsAnswer limit result log a b
+  full-tells limit result answer table rows most is same at held done over told = over-tells limit log a b result answer table rows most is same at (stored-over table rows limit held done over told)

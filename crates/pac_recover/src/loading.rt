@@ -1,23 +1,21 @@
 // Loads a store.
-ghost use Rattle.std.specs.Prelude.{◌≡◌, ◌≤◌, ℕ, List, IfOk, IsErrOf, drop, false, length, map};
+ghost use Rattle.std.specs.Prelude.{◌≡◌, ◌≤◌, ℕ, IfOk, IsErrOf, drop, false, length, map};
 ghost use Rattle.pac_outside.specs.Devices.{OneRose, each};
 ghost use Rattle.pac_outside.specs.Disk.{WhereTold};
 ghost use Rattle.pac_types.specs.Fits.{FitsCatalogue, shape};
 ghost use Rattle.pac_types.specs.OperationLimits.{HasFewOperations};
-ghost use Rattle.pac_types.specs.Typing.{CatalogueState};
 ghost use Rattle.pac_flat.specs.FlatForm.{program_of};
 ghost use Rattle.pac_plan.specs.Analysis.{IsAnalysis};
 ghost use Rattle.pac_log.specs.declared.damage.DamageKind.{DamageKind as ALogDamage};
-ghost use Rattle.pac_log.specs.Reading.{IsStore};
 ghost use Rattle.pac_check.specs.declared.damage.SlotDamageKind.{SlotDamageKind as ASlotDamage};
 ghost use Rattle.pac_check.specs.declared.info.SlotName.{SlotName as ASlotName};
 ghost use Rattle.pac_store.specs.Images.{Images, WhereRead};
 ghost use Rattle.pac_store.specs.Stored.{IsStored};
 ghost use Rattle.pac_recover.specs.declared.errors.Damage.TheVariants.{Log as InLog, Slot as InSlot};
-ghost use Rattle.pac_recover.specs.Damages.{IsDamagedLog, IsDamagedSlot};
 ghost use Rattle.pac_check.specs.SlotStates.{IsSlot, info_of};
 ghost use Rattle.pac_recover.specs.Loading.{AreNewestOf, IsInfoAmong, IsLoaded, IsLoadedFrom, number_of_newest, stored_of};
 ghost use Rattle.pac_recover.specs.Logs.{HoldsLogUpTo, HoldsWhole, IsWhole};
+ghost use Rattle.pac_recover.specs.Refusals.{HasDamage, HasNoStore};
 
 use crate::LoadError;
 use crate::log::{WholeLog, read_log};
@@ -78,9 +76,9 @@ pub fn load<D: Disk>(alloc: Global, devices: &mut Devices<D>) -> Result<Loaded, 
     ensures stored { IfOk result (λ loaded. WhereRead (λ images. IsStored images (stored_of loaded)) (D.told devices.old.log) (D.told devices.old.slot_a) (D.told devices.old.slot_b)) }
 
     // When each refusal comes.
-    ensures no_store { IsErrOf result LoadError.NoStore → WhereTold (λ old. (text : List ℕ) (catalogue : CatalogueState) → ¬ IsStore text catalogue old.now.seen) (D.told devices.old.log) }
-    ensures log_damage { (at : ℕ) (kind : ALogDamage) → IsErrOf result (LoadError.Damaged (InLog at kind)) → WhereTold (λ old. IsDamagedLog at kind old.now.seen) (D.told devices.old.log) }
-    ensures slot_damage { (slot : ASlotName) (at : ℕ) (kind : ASlotDamage) → IsErrOf result (LoadError.Damaged (InSlot slot at kind)) → WhereRead (IsDamagedSlot slot at kind) (D.told devices.old.log) (D.told devices.old.slot_a) (D.told devices.old.slot_b) }
+    ensures no_store { IsErrOf result LoadError.NoStore → HasNoStore (each D.told devices.old) }
+    ensures log_damage { (at : ℕ) (kind : ALogDamage) → IsErrOf result (LoadError.Damaged (InLog at kind)) → HasDamage (InLog at kind) (each D.told devices.old) }
+    ensures slot_damage { (slot : ASlotName) (at : ℕ) (kind : ASlotDamage) → IsErrOf result (LoadError.Damaged (InSlot slot at kind)) → HasDamage (InSlot slot at kind) (each D.told devices.old) }
 
     // The devices are only read, and no call of one comes after one that failed.
     ensures same { each D.told devices.new ≡ each D.told devices.old }

@@ -1,21 +1,19 @@
 // Recovers the tables of a store.
 ghost use Rattle.std.specs.Prelude.{◌≡◌, ◌+◌, ℕ, List, IfOk, IsErrOf, None, length};
 ghost use Rattle.pac_outside.specs.Devices.{OneRose, each};
-ghost use Rattle.pac_outside.specs.Disk.{WhereTold};
 ghost use Rattle.pac_ops.specs.declared.note.Note.{Note as ANote};
 ghost use Rattle.pac_ops.specs.declared.transaction.Txn.{Txn as ATxn};
 ghost use Rattle.pac_types.specs.Execution.{first_over};
 ghost use Rattle.pac_types.specs.Fits.{FitsCatalogue};
 ghost use Rattle.pac_types.specs.Typing.{CatalogueState};
 ghost use Rattle.pac_log.specs.declared.damage.DamageKind.{DamageKind as ALogDamage};
-ghost use Rattle.pac_log.specs.Reading.{IsStore};
 ghost use Rattle.pac_check.specs.declared.damage.SlotDamageKind.{SlotDamageKind as ASlotDamage};
 ghost use Rattle.pac_check.specs.declared.info.SlotName.{SlotName as ASlotName};
 ghost use Rattle.pac_store.specs.Images.{WhereRead};
 ghost use Rattle.pac_store.specs.Stands.{StandsFor};
 ghost use Rattle.pac_recover.specs.declared.errors.Damage.TheVariants.{Log as InLog, Slot as InSlot};
-ghost use Rattle.pac_recover.specs.Damages.{IsDamagedLog, IsDamagedSlot};
 ghost use Rattle.pac_recover.specs.Recovering.{AbortsIn, IsOverIn, IsRecoveredFrom, Recovers};
+ghost use Rattle.pac_recover.specs.Refusals.{HasDamage, HasNoStore, WhereHeld};
 
 use crate::batches::execute;
 use crate::{Loaded, RecoverError, load, test_rows};
@@ -55,11 +53,11 @@ pub fn recover<D: Disk, G: Gate>(
     ensures recovered { IfOk result (λ recovered. WhereRead (IsRecoveredFrom recovered.catalogue recovered.tables.rows recovered.txns) (D.told devices.old.log) (D.told devices.old.slot_a) (D.told devices.old.slot_b)) }
     ensures within { IfOk result (λ recovered. first_over limit (length recovered.catalogue.tables) recovered.tables.rows ≡ None) }
     ensures fits { IfOk result (λ recovered. FitsCatalogue recovered.catalogue recovered.tables.tables recovered.tables.rows) }
-    ensures no_store { IsErrOf result RecoverError.NoStore → WhereTold (λ old. (text : List ℕ) (catalogue : CatalogueState) → ¬ IsStore text catalogue old.now.seen) (D.told devices.old.log) }
-    ensures log_damage { (at : ℕ) (kind : ALogDamage) → IsErrOf result (RecoverError.Damaged (InLog at kind)) → WhereTold (λ old. IsDamagedLog at kind old.now.seen) (D.told devices.old.log) }
-    ensures slot_damage { (slot : ASlotName) (at : ℕ) (kind : ASlotDamage) → IsErrOf result (RecoverError.Damaged (InSlot slot at kind)) → WhereRead (IsDamagedSlot slot at kind) (D.told devices.old.log) (D.told devices.old.slot_a) (D.told devices.old.slot_b) }
-    ensures abort { (note : ANote) → IsErrOf result (RecoverError.AbortInLog note) → WhereRead (AbortsIn note) (D.told devices.old.log) (D.told devices.old.slot_a) (D.told devices.old.slot_b) }
-    ensures over { (table : List ℕ) (rows most : ℕ) → IsErrOf result (RecoverError.RowsOver table rows most) → (most ≡ limit) × WhereRead (IsOverIn table rows limit) (D.told devices.old.log) (D.told devices.old.slot_a) (D.told devices.old.slot_b) }
+    ensures no_store { IsErrOf result RecoverError.NoStore → HasNoStore (each D.told devices.old) }
+    ensures log_damage { (at : ℕ) (kind : ALogDamage) → IsErrOf result (RecoverError.Damaged (InLog at kind)) → HasDamage (InLog at kind) (each D.told devices.old) }
+    ensures slot_damage { (slot : ASlotName) (at : ℕ) (kind : ASlotDamage) → IsErrOf result (RecoverError.Damaged (InSlot slot at kind)) → HasDamage (InSlot slot at kind) (each D.told devices.old) }
+    ensures abort { (note : ANote) → IsErrOf result (RecoverError.AbortInLog note) → WhereHeld (AbortsIn note) (each D.told devices.old) }
+    ensures over { (table : List ℕ) (rows most : ℕ) → IsErrOf result (RecoverError.RowsOver table rows most) → (most ≡ limit) × WhereHeld (IsOverIn table rows limit) (each D.told devices.old) }
 
     // Where the devices stand for a history, it is a front of it that is recovered.
     ensures stands { (text : List ℕ) (catalogue : CatalogueState) (history : List ATxn) (least : ℕ) → WhereRead (λ images. StandsFor text catalogue history least images → Recovers catalogue history least result) (D.told devices.old.log) (D.told devices.old.slot_a) (D.told devices.old.slot_b) }

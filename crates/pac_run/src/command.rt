@@ -4,17 +4,13 @@ ghost use Rattle.pac_ops.specs.declared.limits.TheConstants.{MAX_TXNS};
 ghost use Rattle.pac_ops.specs.declared.note.Note.{Note as ANote};
 ghost use Rattle.pac_outside.specs.Causes.{Rose};
 ghost use Rattle.pac_outside.specs.Devices.{OneRose, each};
-ghost use Rattle.pac_outside.specs.Disk.{WhereTold};
-ghost use Rattle.pac_types.specs.Typing.{CatalogueState};
 ghost use Rattle.pac_log.specs.declared.damage.DamageKind.{DamageKind as ALogDamage};
-ghost use Rattle.pac_log.specs.Reading.{IsStore};
 ghost use Rattle.pac_check.specs.declared.damage.SlotDamageKind.{SlotDamageKind as ASlotDamage};
 ghost use Rattle.pac_check.specs.declared.info.SlotName.{SlotName as ASlotName};
 ghost use Rattle.pac_check.specs.declared.limits.TheConstants.{MAX_SAVED_ROWS};
-ghost use Rattle.pac_store.specs.Images.{WhereRead};
 ghost use Rattle.pac_recover.specs.declared.errors.Damage.TheVariants.{Log as InLog, Slot as InSlot};
-ghost use Rattle.pac_recover.specs.Damages.{IsDamagedLog, IsDamagedSlot};
 ghost use Rattle.pac_recover.specs.Recovering.{AbortsIn, IsOverIn};
+ghost use Rattle.pac_recover.specs.Refusals.{HasDamage, HasNoStore, WhereHeld};
 ghost use Rattle.pac_run.specs.Run.{IsRun};
 
 use crate::opening::open;
@@ -45,11 +41,11 @@ pub fn run<I: Source, O: Sink, D: Disk>(
     ensures run { IsRun batch limit (I.left input.old) (I.left input.new) (O.held output.old) (O.held output.new) (each D.told devices.old) (each D.told devices.new) (Rose (O.faults output.old) (O.faults output.new)) result }
 
     // Each refusal comes only where its cause holds.
-    ensures no_store { IsErrOf result RunStop.NoStore → WhereTold (λ old. (text : List ℕ) (catalogue : CatalogueState) → ¬ IsStore text catalogue old.now.seen) (D.told devices.old.log) }
-    ensures log_damage { (at : ℕ) (kind : ALogDamage) → IsErrOf result (RunStop.Damaged (InLog at kind)) → WhereTold (λ old. IsDamagedLog at kind old.now.seen) (D.told devices.old.log) }
-    ensures slot_damage { (slot : ASlotName) (at : ℕ) (kind : ASlotDamage) → IsErrOf result (RunStop.Damaged (InSlot slot at kind)) → WhereRead (IsDamagedSlot slot at kind) (D.told devices.old.log) (D.told devices.old.slot_a) (D.told devices.old.slot_b) }
-    ensures abort { (note : ANote) → IsErrOf result (RunStop.AbortInLog note) → WhereRead (AbortsIn note) (D.told devices.old.log) (D.told devices.old.slot_a) (D.told devices.old.slot_b) }
-    ensures over { (table : List ℕ) (rows most : ℕ) → IsErrOf result (RunStop.RowsOver table rows most) → (most ≡ limit) × WhereRead (IsOverIn table rows limit) (D.told devices.old.log) (D.told devices.old.slot_a) (D.told devices.old.slot_b) }
+    ensures no_store { IsErrOf result RunStop.NoStore → HasNoStore (each D.told devices.old) }
+    ensures log_damage { (at : ℕ) (kind : ALogDamage) → IsErrOf result (RunStop.Damaged (InLog at kind)) → HasDamage (InLog at kind) (each D.told devices.old) }
+    ensures slot_damage { (slot : ASlotName) (at : ℕ) (kind : ASlotDamage) → IsErrOf result (RunStop.Damaged (InSlot slot at kind)) → HasDamage (InSlot slot at kind) (each D.told devices.old) }
+    ensures abort { (note : ANote) → IsErrOf result (RunStop.AbortInLog note) → WhereHeld (AbortsIn note) (each D.told devices.old) }
+    ensures over { (table : List ℕ) (rows most : ℕ) → IsErrOf result (RunStop.RowsOver table rows most) → (most ≡ limit) × WhereHeld (IsOverIn table rows limit) (each D.told devices.old) }
     ensures input_fault { IsErrOf result RunStop.InputFault → Rose (I.faults input.old) (I.faults input.new) }
     ensures output_fault { IsErrOf result RunStop.OutputFault → Rose (O.faults output.old) (O.faults output.new) }
     ensures disk_fault { IsErrOf result RunStop.DiskFault → OneRose (each D.faults devices.old) (each D.faults devices.new) }

@@ -4,18 +4,16 @@ ghost use Rattle.pac_ops.specs.declared.limits.TheConstants.{MAX_TXNS};
 ghost use Rattle.pac_ops.specs.declared.note.Note.{Note as ANote};
 ghost use Rattle.pac_outside.specs.Devices.{AreSettled, EndsAtOneFault, OneRose, RunsAsBefore, WhereAllTold, each};
 ghost use Rattle.pac_outside.specs.Disk.{WhereTold, after_sync};
-ghost use Rattle.pac_types.specs.Typing.{CatalogueState};
 ghost use Rattle.pac_log.specs.declared.damage.DamageKind.{DamageKind as ALogDamage};
-ghost use Rattle.pac_log.specs.Reading.{IsStore};
 ghost use Rattle.pac_check.specs.declared.damage.SlotDamageKind.{SlotDamageKind as ASlotDamage};
 ghost use Rattle.pac_check.specs.declared.info.SlotName.{SlotName as ASlotName};
 ghost use Rattle.pac_check.specs.declared.limits.TheConstants.{MAX_SAVED_ROWS};
 ghost use Rattle.pac_check.specs.SlotStates.{IsSlot};
 ghost use Rattle.pac_store.specs.Images.{WhereRead};
 ghost use Rattle.pac_recover.specs.declared.errors.Damage.TheVariants.{Log as InLog, Slot as InSlot};
-ghost use Rattle.pac_recover.specs.Damages.{IsDamagedLog, IsDamagedSlot};
 ghost use Rattle.pac_recover.specs.Logs.{HoldsLogUpTo};
 ghost use Rattle.pac_recover.specs.Recovering.{AbortsIn, IsOverIn};
+ghost use Rattle.pac_recover.specs.Refusals.{HasDamage, HasNoStore, WhereHeld};
 ghost use Rattle.pac_engine.specs.Standing.{HasDevices};
 ghost use Rattle.pac_run.specs.Opening.{BeginsOver, IsFresh, IsOpenedFrom};
 
@@ -53,11 +51,11 @@ fn engine_over<D: Disk>(
     ensures log { IfOk result (λ engine. WhereTold (λ old. HoldsLogUpTo engine.log.gate old.now.seen) (D.told devices.old.log)) }
     ensures slot_a { IfOk result (λ engine. WhereTold (λ old. IsSlot engine.session.catalogue.tables engine.slots.a old.now.seen) (D.told devices.old.slot_a)) }
     ensures slot_b { IfOk result (λ engine. WhereTold (λ old. IsSlot engine.session.catalogue.tables engine.slots.b old.now.seen) (D.told devices.old.slot_b)) }
-    ensures no_store { IsErrOf result RecoverError.NoStore → WhereTold (λ old. (text : List ℕ) (catalogue : CatalogueState) → ¬ IsStore text catalogue old.now.seen) (D.told devices.old.log) }
-    ensures log_damage { (at : ℕ) (kind : ALogDamage) → IsErrOf result (RecoverError.Damaged (InLog at kind)) → WhereTold (λ old. IsDamagedLog at kind old.now.seen) (D.told devices.old.log) }
-    ensures slot_damage { (slot : ASlotName) (at : ℕ) (kind : ASlotDamage) → IsErrOf result (RecoverError.Damaged (InSlot slot at kind)) → WhereRead (IsDamagedSlot slot at kind) (D.told devices.old.log) (D.told devices.old.slot_a) (D.told devices.old.slot_b) }
-    ensures abort { (note : ANote) → IsErrOf result (RecoverError.AbortInLog note) → WhereRead (AbortsIn note) (D.told devices.old.log) (D.told devices.old.slot_a) (D.told devices.old.slot_b) }
-    ensures over { (table : List ℕ) (rows most : ℕ) → IsErrOf result (RecoverError.RowsOver table rows most) → (most ≡ limit) × WhereRead (IsOverIn table rows limit) (D.told devices.old.log) (D.told devices.old.slot_a) (D.told devices.old.slot_b) }
+    ensures no_store { IsErrOf result RecoverError.NoStore → HasNoStore (each D.told devices.old) }
+    ensures log_damage { (at : ℕ) (kind : ALogDamage) → IsErrOf result (RecoverError.Damaged (InLog at kind)) → HasDamage (InLog at kind) (each D.told devices.old) }
+    ensures slot_damage { (slot : ASlotName) (at : ℕ) (kind : ASlotDamage) → IsErrOf result (RecoverError.Damaged (InSlot slot at kind)) → HasDamage (InSlot slot at kind) (each D.told devices.old) }
+    ensures abort { (note : ANote) → IsErrOf result (RecoverError.AbortInLog note) → WhereHeld (AbortsIn note) (each D.told devices.old) }
+    ensures over { (table : List ℕ) (rows most : ℕ) → IsErrOf result (RecoverError.RowsOver table rows most) → (most ≡ limit) × WhereHeld (IsOverIn table rows limit) (each D.told devices.old) }
     ensures same { each D.told devices.new ≡ each D.told devices.old }
     ensures disk_fault { IsErrOf result RecoverError.DiskFault → OneRose (each D.faults devices.old) (each D.faults devices.new) }
     ensures quiet { ¬ IsErrOf result RecoverError.DiskFault → each D.faults devices.new ≡ each D.faults devices.old }
@@ -100,11 +98,11 @@ pub fn open<D: Disk>(
     // What is opened, and when each refusal comes.
     ensures opened { IfOk result (λ engine. WhereRead (IsOpenedFrom engine) (D.told devices.old.log) (D.told devices.old.slot_a) (D.told devices.old.slot_b)) }
     ensures fresh { IfOk result (IsFresh batch limit) }
-    ensures no_store { IsErrOf result RecoverError.NoStore → WhereTold (λ old. (text : List ℕ) (catalogue : CatalogueState) → ¬ IsStore text catalogue old.now.seen) (D.told devices.old.log) }
-    ensures log_damage { (at : ℕ) (kind : ALogDamage) → IsErrOf result (RecoverError.Damaged (InLog at kind)) → WhereTold (λ old. IsDamagedLog at kind old.now.seen) (D.told devices.old.log) }
-    ensures slot_damage { (slot : ASlotName) (at : ℕ) (kind : ASlotDamage) → IsErrOf result (RecoverError.Damaged (InSlot slot at kind)) → WhereRead (IsDamagedSlot slot at kind) (D.told devices.old.log) (D.told devices.old.slot_a) (D.told devices.old.slot_b) }
-    ensures abort { (note : ANote) → IsErrOf result (RecoverError.AbortInLog note) → WhereRead (AbortsIn note) (D.told devices.old.log) (D.told devices.old.slot_a) (D.told devices.old.slot_b) }
-    ensures over { (table : List ℕ) (rows most : ℕ) → IsErrOf result (RecoverError.RowsOver table rows most) → (most ≡ limit) × WhereRead (IsOverIn table rows limit) (D.told devices.old.log) (D.told devices.old.slot_a) (D.told devices.old.slot_b) }
+    ensures no_store { IsErrOf result RecoverError.NoStore → HasNoStore (each D.told devices.old) }
+    ensures log_damage { (at : ℕ) (kind : ALogDamage) → IsErrOf result (RecoverError.Damaged (InLog at kind)) → HasDamage (InLog at kind) (each D.told devices.old) }
+    ensures slot_damage { (slot : ASlotName) (at : ℕ) (kind : ASlotDamage) → IsErrOf result (RecoverError.Damaged (InSlot slot at kind)) → HasDamage (InSlot slot at kind) (each D.told devices.old) }
+    ensures abort { (note : ANote) → IsErrOf result (RecoverError.AbortInLog note) → WhereHeld (AbortsIn note) (each D.told devices.old) }
+    ensures over { (table : List ℕ) (rows most : ℕ) → IsErrOf result (RecoverError.RowsOver table rows most) → (most ≡ limit) × WhereHeld (IsOverIn table rows limit) (each D.told devices.old) }
 
     // The engine stands for what was stored, and at each moment a crash leaves what it might have left at entry.
     ensures ready { IfOk result (λ engine. HasDevices D.told engine devices.new) }

@@ -5,7 +5,7 @@ use Rattle.pac_log.specs.declared.position.NextGate.{NextGate}
 use Rattle.pac_recover.specs.declared.recovery.Recovered.{Recovered}
 use Rattle.pac_recover.proofs.CauseLemmas.{as-error}
 use Rattle.pac_recover.proofs.StandsLemmas.{recovers}
-use Rattle.pac_recover.proofs.TellLemmas.{execute-tells, load-tells, over-tells, recovered-tells, stored-aborts, stored-over, stored-recovered}
+use Rattle.pac_recover.proofs.TellLemmas.{full-tells, load-tells, recovered-tells, stopped-tells, stored-recovered}
 use Rattle.pac_recover.proofs.recovery.recover.Goals as goal
 
 pub returns-in_err-catalogue-clause-stands : goal.returns-in_err-catalogue-clause-stands
@@ -21,62 +21,47 @@ returns-in_err-catalogue-clause-stands g c =
 
 pub returns-in_err-execute-clause-abort : goal.returns-in_err-execute-clause-abort
 returns-in_err-execute-clause-abort g c =
+    let d = c.args.devices.now in
     let r = c.from_residual-in_err-execute in
     let p = err_from_is_err_and r.result r.ensures.1 in
-    let loaded = c.in_ok-catalogue.field-0 in
-    let log = g.D.Disk.told c.args.devices.now.log in
-    let a = g.D.Disk.told c.args.devices.now.slot_a in
-    let b = g.D.Disk.told c.args.devices.now.slot_b in
-    (execute-tells c.args.limit log a b r.result p.0 c.in_err-execute.field-0.0 p.1 p.2
-    (λ note e. stored-aborts loaded log a b c.as_slice.result.now c.as_slice.ensures note (c.in_err-execute.ensures.abort note (as-error _ _ e)) c.in_ok-catalogue.ensures.stored)).abort
+    (stopped-tells c.in_ok-catalogue.field-0 (g.D.Disk.told d.log) (g.D.Disk.told d.slot_a) (g.D.Disk.told d.slot_b) c.as_slice.result.now c.as_slice.ensures c.args.limit r.result p.0 c.in_err-execute.field-0.0 p.1 p.2
+    (λ note e. c.in_err-execute.ensures.abort note (as-error _ _ e)) c.in_ok-catalogue.ensures.stored).abort
 
 pub returns-in_err-execute-clause-over : goal.returns-in_err-execute-clause-over
 returns-in_err-execute-clause-over g c =
+    let d = c.args.devices.now in
     let r = c.from_residual-in_err-execute in
     let p = err_from_is_err_and r.result r.ensures.1 in
-    let loaded = c.in_ok-catalogue.field-0 in
-    let log = g.D.Disk.told c.args.devices.now.log in
-    let a = g.D.Disk.told c.args.devices.now.slot_a in
-    let b = g.D.Disk.told c.args.devices.now.slot_b in
-    (execute-tells c.args.limit log a b r.result p.0 c.in_err-execute.field-0.0 p.1 p.2
-    (λ note e. stored-aborts loaded log a b c.as_slice.result.now c.as_slice.ensures note (c.in_err-execute.ensures.abort note (as-error _ _ e)) c.in_ok-catalogue.ensures.stored)).over
+    (stopped-tells c.in_ok-catalogue.field-0 (g.D.Disk.told d.log) (g.D.Disk.told d.slot_a) (g.D.Disk.told d.slot_b) c.as_slice.result.now c.as_slice.ensures c.args.limit r.result p.0 c.in_err-execute.field-0.0 p.1 p.2
+    (λ note e. c.in_err-execute.ensures.abort note (as-error _ _ e)) c.in_ok-catalogue.ensures.stored).over
 
 pub returns-in_err-execute-clause-stands : goal.returns-in_err-execute-clause-stands
 returns-in_err-execute-clause-stands g c =
+    let d = c.args.devices.now in
     let r = c.from_residual-in_err-execute in
     let p = err_from_is_err_and r.result r.ensures.1 in
-    let loaded = c.in_ok-catalogue.field-0 in
-    let log = g.D.Disk.told c.args.devices.now.log in
-    let a = g.D.Disk.told c.args.devices.now.slot_a in
-    let b = g.D.Disk.told c.args.devices.now.slot_b in
-    recovers c.args.limit r.result log a b (execute-tells c.args.limit log a b r.result p.0 c.in_err-execute.field-0.0 p.1 p.2
-    (λ note e. stored-aborts loaded log a b c.as_slice.result.now c.as_slice.ensures note (c.in_err-execute.ensures.abort note (as-error _ _ e)) c.in_ok-catalogue.ensures.stored))
+    recovers c.args.limit r.result (g.D.Disk.told d.log) (g.D.Disk.told d.slot_a) (g.D.Disk.told d.slot_b) (stopped-tells c.in_ok-catalogue.field-0 (g.D.Disk.told d.log) (g.D.Disk.told d.slot_a) (g.D.Disk.told d.slot_b) c.as_slice.result.now c.as_slice.ensures c.args.limit r.result p.0 c.in_err-execute.field-0.0 p.1 p.2
+    (λ note e. c.in_err-execute.ensures.abort note (as-error _ _ e)) c.in_ok-catalogue.ensures.stored)
 
 pub returns-in_err-test_rows-clause-over : goal.returns-in_err-test_rows-clause-over
 returns-in_err-test_rows-clause-over g c =
+    let d = c.args.devices.now in
     let r = c.from_residual-in_err-test_rows in
     let p = err_from_is_err_and r.result r.ensures.1 in
-    let loaded = c.in_ok-catalogue.field-0 in
     let excess = c.in_err-test_rows.field-0.0 in
     let found = c.in_err-test_rows.ensures.over excess refl in
-    let log = g.D.Disk.told c.args.devices.now.log in
-    let a = g.D.Disk.told c.args.devices.now.slot_a in
-    let b = g.D.Disk.told c.args.devices.now.slot_b in
-    (over-tells c.args.limit log a b r.result p.0 excess.table excess.rows excess.limit p.1 p.2 found.1
-    (stored-over loaded log a b c.as_slice.result.now c.as_slice.ensures excess.table excess.rows c.args.limit c.execute.new.rows.rows c.in_ok-execute.ensures.done found.0 c.in_ok-catalogue.ensures.stored)).over
+    (full-tells c.in_ok-catalogue.field-0 (g.D.Disk.told d.log) (g.D.Disk.told d.slot_a) (g.D.Disk.told d.slot_b) c.as_slice.result.now c.as_slice.ensures c.args.limit r.result p.0 excess.table excess.rows excess.limit p.1 p.2 found.1
+    c.execute.new.rows.rows c.in_ok-execute.ensures.done found.0 c.in_ok-catalogue.ensures.stored).over
 
 pub returns-in_err-test_rows-clause-stands : goal.returns-in_err-test_rows-clause-stands
 returns-in_err-test_rows-clause-stands g c =
+    let d = c.args.devices.now in
     let r = c.from_residual-in_err-test_rows in
     let p = err_from_is_err_and r.result r.ensures.1 in
-    let loaded = c.in_ok-catalogue.field-0 in
     let excess = c.in_err-test_rows.field-0.0 in
     let found = c.in_err-test_rows.ensures.over excess refl in
-    let log = g.D.Disk.told c.args.devices.now.log in
-    let a = g.D.Disk.told c.args.devices.now.slot_a in
-    let b = g.D.Disk.told c.args.devices.now.slot_b in
-    recovers c.args.limit r.result log a b (over-tells c.args.limit log a b r.result p.0 excess.table excess.rows excess.limit p.1 p.2 found.1
-    (stored-over loaded log a b c.as_slice.result.now c.as_slice.ensures excess.table excess.rows c.args.limit c.execute.new.rows.rows c.in_ok-execute.ensures.done found.0 c.in_ok-catalogue.ensures.stored))
+    recovers c.args.limit r.result (g.D.Disk.told d.log) (g.D.Disk.told d.slot_a) (g.D.Disk.told d.slot_b) (full-tells c.in_ok-catalogue.field-0 (g.D.Disk.told d.log) (g.D.Disk.told d.slot_a) (g.D.Disk.told d.slot_b) c.as_slice.result.now c.as_slice.ensures c.args.limit r.result p.0 excess.table excess.rows excess.limit p.1 p.2 found.1
+    c.execute.new.rows.rows c.in_ok-execute.ensures.done found.0 c.in_ok-catalogue.ensures.stored)
 
 pub returns-clause-recovered : goal.returns-clause-recovered
 returns-clause-recovered g c =
