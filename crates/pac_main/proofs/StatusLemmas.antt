@@ -1,5 +1,5 @@
 -- The stops of each status.
-use Rattle.std.proofs.Common.{◌≡◌, ◌⊎◌, ℕ, List, inl, inr, refl, arith}
+use Rattle.std.proofs.Common.{◌≡◌, ◌⊎◌, ℕ, zero, suc, List, inl, inr, refl, subst}
 use Rattle.pac_ops.specs.declared.note.Note.{Note}
 use Rattle.pac_request.specs.declared.script_fault.ScriptFault.{ScriptFault}
 use Rattle.pac_init.specs.declared.device.DeviceName.{DeviceName}
@@ -43,178 +43,65 @@ pub record ALargeSlot (stop : Stop) : Type 0 where
 abbrev pub ADeviceRefusal : Stop → Type 0
 ADeviceRefusal stop = AFullDevice stop ⊎ ((stop ≡ NoStore) ⊎ ADamage stop)
 
-pub never_done : (stop : Stop) → status_of stop ≡ 0 → ⊥
-never_done Usage zero = omega (arith, zero)
-never_done (ScriptStop fault) zero = omega (arith, zero)
-never_done (NotEmpty device length) zero = omega (arith, zero)
-never_done NoStore zero = omega (arith, zero)
-never_done (Damaged damage) zero = omega (arith, zero)
-never_done (Aborted note) zero = omega (arith, zero)
-never_done (RowsOver name rows most) zero = omega (arith, zero)
-never_done InputFault zero = omega (arith, zero)
-never_done OutputFault zero = omega (arith, zero)
-never_done DiskFault zero = omega (arith, zero)
-never_done NoMemory zero = omega (arith, zero)
-never_done TooLong zero = omega (arith, zero)
-never_done (LogFull need) zero = omega (arith, zero)
-never_done (TooLarge bytes) zero = omega (arith, zero)
+-- this where the number is 0, else what is said of the number below
+abbrev pub or_next : Type 0 → (ℕ → Type 0) → ℕ → Type 0
+or_next P more zero = P
+or_next P more (suc number) = more number
 
-pub refused_of : (stop : Stop) → status_of stop ≡ 2 → ARefusal stop
-refused_of (ScriptStop fault) two = record { fault = fault; is = refl }
-refused_of Usage two = absurd (omega (arith, two))
-refused_of (NotEmpty device length) two = absurd (omega (arith, two))
-refused_of NoStore two = absurd (omega (arith, two))
-refused_of (Damaged damage) two = absurd (omega (arith, two))
-refused_of (Aborted note) two = absurd (omega (arith, two))
-refused_of (RowsOver name rows most) two = absurd (omega (arith, two))
-refused_of InputFault two = absurd (omega (arith, two))
-refused_of OutputFault two = absurd (omega (arith, two))
-refused_of DiskFault two = absurd (omega (arith, two))
-refused_of NoMemory two = absurd (omega (arith, two))
-refused_of TooLong two = absurd (omega (arith, two))
-refused_of (LogFull need) two = absurd (omega (arith, two))
-refused_of (TooLarge bytes) two = absurd (omega (arith, two))
+-- what a stop of each status is, from 0 on
+abbrev IsOfStatus : Stop → ℕ → Type 0
+IsOfStatus s = or_next ⊥ (or_next (s ≡ Usage) (or_next (ARefusal s) (or_next (ADeviceRefusal s) (or_next (AnAbort s) (or_next (AnOver s) (or_next (s ≡ InputFault) (or_next (s ≡ OutputFault)
+    (or_next (s ≡ DiskFault) (or_next (s ≡ NoMemory) (or_next (AFullLog s) (or_next (s ≡ TooLong) (or_next (ALargeSlot s) (λ _. ⊥)))))))))))))
 
-pub device_of : (stop : Stop) → status_of stop ≡ 3 → ADeviceRefusal stop
-device_of (NotEmpty device length) three = inl (record { device = device; length = length; is = refl })
-device_of NoStore three = inr (inl refl)
-device_of (Damaged damage) three = inr (inr (record { damage = damage; is = refl }))
-device_of Usage three = absurd (omega (arith, three))
-device_of (ScriptStop fault) three = absurd (omega (arith, three))
-device_of (Aborted note) three = absurd (omega (arith, three))
-device_of (RowsOver name rows most) three = absurd (omega (arith, three))
-device_of InputFault three = absurd (omega (arith, three))
-device_of OutputFault three = absurd (omega (arith, three))
-device_of DiskFault three = absurd (omega (arith, three))
-device_of NoMemory three = absurd (omega (arith, three))
-device_of TooLong three = absurd (omega (arith, three))
-device_of (LogFull need) three = absurd (omega (arith, three))
-device_of (TooLarge bytes) three = absurd (omega (arith, three))
+of_its_status : (stop : Stop) → IsOfStatus stop (status_of stop)
+of_its_status Usage = refl
+of_its_status (ScriptStop fault) = record { fault = fault; is = refl }
+of_its_status (NotEmpty device length) = inl (record { device = device; length = length; is = refl })
+of_its_status NoStore = inr (inl refl)
+of_its_status (Damaged damage) = inr (inr (record { damage = damage; is = refl }))
+of_its_status (Aborted note) = record { note = note; is = refl }
+of_its_status (RowsOver name rows most) = record { name = name; rows = rows; most = most; is = refl }
+of_its_status InputFault = refl
+of_its_status OutputFault = refl
+of_its_status DiskFault = refl
+of_its_status NoMemory = refl
+of_its_status (LogFull need) = record { need = need; is = refl }
+of_its_status TooLong = refl
+of_its_status (TooLarge bytes) = record { bytes = bytes; is = refl }
 
-pub aborted_of : (stop : Stop) → status_of stop ≡ 4 → AnAbort stop
-aborted_of (Aborted note) four = record { note = note; is = refl }
-aborted_of Usage four = absurd (omega (arith, four))
-aborted_of (ScriptStop fault) four = absurd (omega (arith, four))
-aborted_of (NotEmpty device length) four = absurd (omega (arith, four))
-aborted_of NoStore four = absurd (omega (arith, four))
-aborted_of (Damaged damage) four = absurd (omega (arith, four))
-aborted_of (RowsOver name rows most) four = absurd (omega (arith, four))
-aborted_of InputFault four = absurd (omega (arith, four))
-aborted_of OutputFault four = absurd (omega (arith, four))
-aborted_of DiskFault four = absurd (omega (arith, four))
-aborted_of NoMemory four = absurd (omega (arith, four))
-aborted_of TooLong four = absurd (omega (arith, four))
-aborted_of (LogFull need) four = absurd (omega (arith, four))
-aborted_of (TooLarge bytes) four = absurd (omega (arith, four))
+module _ (stop : Stop) where
+  of_status : (status : ℕ) → status_of stop ≡ status → IsOfStatus stop status
+  of_status status is = subst (λ (n : ℕ). IsOfStatus stop n) is (of_its_status stop)
 
-pub over_of : (stop : Stop) → status_of stop ≡ 5 → AnOver stop
-over_of (RowsOver name rows most) five = record { name = name; rows = rows; most = most; is = refl }
-over_of Usage five = absurd (omega (arith, five))
-over_of (ScriptStop fault) five = absurd (omega (arith, five))
-over_of (NotEmpty device length) five = absurd (omega (arith, five))
-over_of NoStore five = absurd (omega (arith, five))
-over_of (Damaged damage) five = absurd (omega (arith, five))
-over_of (Aborted note) five = absurd (omega (arith, five))
-over_of InputFault five = absurd (omega (arith, five))
-over_of OutputFault five = absurd (omega (arith, five))
-over_of DiskFault five = absurd (omega (arith, five))
-over_of NoMemory five = absurd (omega (arith, five))
-over_of TooLong five = absurd (omega (arith, five))
-over_of (LogFull need) five = absurd (omega (arith, five))
-over_of (TooLarge bytes) five = absurd (omega (arith, five))
+  pub never_done : status_of stop ≡ 0 → ⊥
+  never_done = of_status 0
 
-pub input_of : (stop : Stop) → status_of stop ≡ 6 → stop ≡ InputFault
-input_of InputFault six = refl
-input_of Usage six = absurd (omega (arith, six))
-input_of (ScriptStop fault) six = absurd (omega (arith, six))
-input_of (NotEmpty device length) six = absurd (omega (arith, six))
-input_of NoStore six = absurd (omega (arith, six))
-input_of (Damaged damage) six = absurd (omega (arith, six))
-input_of (Aborted note) six = absurd (omega (arith, six))
-input_of (RowsOver name rows most) six = absurd (omega (arith, six))
-input_of OutputFault six = absurd (omega (arith, six))
-input_of DiskFault six = absurd (omega (arith, six))
-input_of NoMemory six = absurd (omega (arith, six))
-input_of TooLong six = absurd (omega (arith, six))
-input_of (LogFull need) six = absurd (omega (arith, six))
-input_of (TooLarge bytes) six = absurd (omega (arith, six))
+  pub refused_of : status_of stop ≡ 2 → ARefusal stop
+  refused_of = of_status 2
 
-pub output_of : (stop : Stop) → status_of stop ≡ 7 → stop ≡ OutputFault
-output_of OutputFault seven = refl
-output_of Usage seven = absurd (omega (arith, seven))
-output_of (ScriptStop fault) seven = absurd (omega (arith, seven))
-output_of (NotEmpty device length) seven = absurd (omega (arith, seven))
-output_of NoStore seven = absurd (omega (arith, seven))
-output_of (Damaged damage) seven = absurd (omega (arith, seven))
-output_of (Aborted note) seven = absurd (omega (arith, seven))
-output_of (RowsOver name rows most) seven = absurd (omega (arith, seven))
-output_of InputFault seven = absurd (omega (arith, seven))
-output_of DiskFault seven = absurd (omega (arith, seven))
-output_of NoMemory seven = absurd (omega (arith, seven))
-output_of TooLong seven = absurd (omega (arith, seven))
-output_of (LogFull need) seven = absurd (omega (arith, seven))
-output_of (TooLarge bytes) seven = absurd (omega (arith, seven))
+  pub device_of : status_of stop ≡ 3 → ADeviceRefusal stop
+  device_of = of_status 3
 
-pub disk_of : (stop : Stop) → status_of stop ≡ 8 → stop ≡ DiskFault
-disk_of DiskFault eight = refl
-disk_of Usage eight = absurd (omega (arith, eight))
-disk_of (ScriptStop fault) eight = absurd (omega (arith, eight))
-disk_of (NotEmpty device length) eight = absurd (omega (arith, eight))
-disk_of NoStore eight = absurd (omega (arith, eight))
-disk_of (Damaged damage) eight = absurd (omega (arith, eight))
-disk_of (Aborted note) eight = absurd (omega (arith, eight))
-disk_of (RowsOver name rows most) eight = absurd (omega (arith, eight))
-disk_of InputFault eight = absurd (omega (arith, eight))
-disk_of OutputFault eight = absurd (omega (arith, eight))
-disk_of NoMemory eight = absurd (omega (arith, eight))
-disk_of TooLong eight = absurd (omega (arith, eight))
-disk_of (LogFull need) eight = absurd (omega (arith, eight))
-disk_of (TooLarge bytes) eight = absurd (omega (arith, eight))
+  pub aborted_of : status_of stop ≡ 4 → AnAbort stop
+  aborted_of = of_status 4
 
-pub long_of : (stop : Stop) → status_of stop ≡ 11 → stop ≡ TooLong
-long_of TooLong eleven = refl
-long_of (LogFull need) eleven = absurd (omega (arith, eleven))
-long_of (TooLarge bytes) eleven = absurd (omega (arith, eleven))
-long_of Usage eleven = absurd (omega (arith, eleven))
-long_of (ScriptStop fault) eleven = absurd (omega (arith, eleven))
-long_of (NotEmpty device length) eleven = absurd (omega (arith, eleven))
-long_of NoStore eleven = absurd (omega (arith, eleven))
-long_of (Damaged damage) eleven = absurd (omega (arith, eleven))
-long_of (Aborted note) eleven = absurd (omega (arith, eleven))
-long_of (RowsOver name rows most) eleven = absurd (omega (arith, eleven))
-long_of InputFault eleven = absurd (omega (arith, eleven))
-long_of OutputFault eleven = absurd (omega (arith, eleven))
-long_of DiskFault eleven = absurd (omega (arith, eleven))
-long_of NoMemory eleven = absurd (omega (arith, eleven))
+  pub over_of : status_of stop ≡ 5 → AnOver stop
+  over_of = of_status 5
 
-pub full_of : (stop : Stop) → status_of stop ≡ 10 → AFullLog stop
-full_of (LogFull need) ten = record { need = need; is = refl }
-full_of Usage ten = absurd (omega (arith, ten))
-full_of (ScriptStop fault) ten = absurd (omega (arith, ten))
-full_of (NotEmpty device length) ten = absurd (omega (arith, ten))
-full_of NoStore ten = absurd (omega (arith, ten))
-full_of (Damaged damage) ten = absurd (omega (arith, ten))
-full_of (Aborted note) ten = absurd (omega (arith, ten))
-full_of (RowsOver name rows most) ten = absurd (omega (arith, ten))
-full_of InputFault ten = absurd (omega (arith, ten))
-full_of OutputFault ten = absurd (omega (arith, ten))
-full_of DiskFault ten = absurd (omega (arith, ten))
-full_of NoMemory ten = absurd (omega (arith, ten))
-full_of TooLong ten = absurd (omega (arith, ten))
-full_of (TooLarge bytes) ten = absurd (omega (arith, ten))
+  pub input_of : status_of stop ≡ 6 → stop ≡ InputFault
+  input_of = of_status 6
 
-pub large_of : (stop : Stop) → status_of stop ≡ 12 → ALargeSlot stop
-large_of (TooLarge bytes) twelve = record { bytes = bytes; is = refl }
-large_of Usage twelve = absurd (omega (arith, twelve))
-large_of (ScriptStop fault) twelve = absurd (omega (arith, twelve))
-large_of (NotEmpty device length) twelve = absurd (omega (arith, twelve))
-large_of NoStore twelve = absurd (omega (arith, twelve))
-large_of (Damaged damage) twelve = absurd (omega (arith, twelve))
-large_of (Aborted note) twelve = absurd (omega (arith, twelve))
-large_of (RowsOver name rows most) twelve = absurd (omega (arith, twelve))
-large_of InputFault twelve = absurd (omega (arith, twelve))
-large_of OutputFault twelve = absurd (omega (arith, twelve))
-large_of DiskFault twelve = absurd (omega (arith, twelve))
-large_of NoMemory twelve = absurd (omega (arith, twelve))
-large_of (LogFull need) twelve = absurd (omega (arith, twelve))
-large_of TooLong twelve = absurd (omega (arith, twelve))
+  pub output_of : status_of stop ≡ 7 → stop ≡ OutputFault
+  output_of = of_status 7
+
+  pub disk_of : status_of stop ≡ 8 → stop ≡ DiskFault
+  disk_of = of_status 8
+
+  pub full_of : status_of stop ≡ 10 → AFullLog stop
+  full_of = of_status 10
+
+  pub long_of : status_of stop ≡ 11 → stop ≡ TooLong
+  long_of = of_status 11
+
+  pub large_of : status_of stop ≡ 12 → ALargeSlot stop
+  large_of = of_status 12
