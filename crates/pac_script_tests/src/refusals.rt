@@ -1,11 +1,11 @@
 // Scripts that are refused, that abort, or that end with too many rows.
-use crate::running::{ADD, BANK, ends_so, of_operations, run_word};
+use pac_testing::{ADD_SCRIPT as ADD, BANK, BANK_DUMP, ends_apart, joined};
 use std::test::Fail;
 
 // The catalogue with the mark, the lines behind it; the status, and the line of the error sink.
 type Row = (&'static str, &'static str, u8, &'static str);
 
-const ROWS: [Row; 25] = [
+const ROWS: &[Row] = &[
     // Of a line, its number from 1 on, the place in it, and the kind.
     (ADD, "call Nobody(1)", 2, "script 1 5 UnknownName\n"),
     (ADD, "call Add(1)", 2, "script 1 5 WrongCount\n"),
@@ -119,15 +119,11 @@ const ROWS: [Row; 25] = [
 
 #[test]
 fn the_first_fault_or_abort_is_told(rt: HostRuntime) -> Result<(), Fail> {
-    for (catalogue, lines, status, line) in ROWS {
-        let right = ends_so(
-            &rt,
-            rt.alloc(),
-            &["replay"],
-            [catalogue, lines],
-            (status, "", line),
-        )?;
-        assert!(rt; right, "the end of {catalogue}{lines}");
+    let alloc = rt.alloc();
+    for row in ROWS {
+        let script = joined(alloc, row.0, row.1)?;
+        let right = ends_apart(&rt, alloc, "replay", script, [0, 0], (row.2, "", row.3))?;
+        assert!(rt; right, "the end of {}{}", row.0, row.1);
     }
     Ok(())
 }
@@ -135,10 +131,7 @@ fn the_first_fault_or_abort_is_told(rt: HostRuntime) -> Result<(), Fail> {
 const DEPOSITED: &str =
     "---\nadhoc put Family[1] = (2)\ncall Deposit(1, 10500, 7)\ncall Transfer(1, 500)";
 
-const DEPOSITS: &str =
-    "table Family 1\n1 (2)\ntable Current 2\n1 (10000)\n2 (500)\ntable Saving 1\n1 (1)\ntable Stats 1\n7 (1)\n";
-
-// The option, the catalogue with the mark, the lines behind it; the status, the output and the line of the error sink.
+// The words, the catalogue with the mark, the lines behind it; the status, the output and the line of the error sink.
 type Limited = (
     &'static str,
     &'static str,
@@ -148,12 +141,19 @@ type Limited = (
     &'static str,
 );
 
-const LIMITED: [Limited; 6] = [
-    ("--rows=1", BANK, DEPOSITED, 5, "", "rows Current 2 1\n"),
-    ("--rows=2", BANK, DEPOSITED, 0, DEPOSITS, ""),
+const LIMITED: &[Limited] = &[
+    (
+        "replay --rows=1",
+        BANK,
+        DEPOSITED,
+        5,
+        "",
+        "rows Current 2 1\n",
+    ),
+    ("replay --rows=2", BANK, DEPOSITED, 0, BANK_DUMP, ""),
     // The first table over the limit is told.
     (
-        "--rows=2",
+        "replay --rows=2",
         "table A(key int, v int); table B(key int, v int); table C(key int, v int);\n---\n",
         "adhoc put C[1] = (1); put C[2] = (1); put C[3] = (1); put B[1] = (1); put B[2] = (1); put B[3] = (1); put B[4] = (1)",
         5,
@@ -162,7 +162,7 @@ const LIMITED: [Limited; 6] = [
     ),
     // Only the tables at the end are over a limit.
     (
-        "--rows=1",
+        "replay --rows=1",
         ADD,
         "call Add(1, 1)\ncall Add(2, 1)\nadhoc delete T[1]",
         0,
@@ -171,7 +171,7 @@ const LIMITED: [Limited; 6] = [
     ),
     // An abort comes before the limit, and a refused line before both.
     (
-        "--rows=1",
+        "replay --rows=1",
         ADD,
         "call Add(1, 9223372036854775807)\ncall Add(2, 1)\ncall Add(1, 1)",
         4,
@@ -179,7 +179,7 @@ const LIMITED: [Limited; 6] = [
         "abort 3 1 Overflow\n",
     ),
     (
-        "--rows=1",
+        "replay --rows=1",
         ADD,
         "call Add(1, 1)\ncall Add(2, 1)\ncall Add()",
         2,
@@ -190,58 +190,12 @@ const LIMITED: [Limited; 6] = [
 
 #[test]
 fn rows_are_limited_at_the_end(rt: HostRuntime) -> Result<(), Fail> {
-    for (option, catalogue, lines, status, text, line) in LIMITED {
-        let words = ["replay", option];
-        let right = ends_so(
-            &rt,
-            rt.alloc(),
-            &words,
-            [catalogue, lines],
-            (status, text, line),
-        )?;
-        assert!(rt; right, "the end of {catalogue}{lines}");
-    }
-    Ok(())
-}
-
-#[test]
-fn a_longer_catalogue_is_refused_by_its_length(rt: HostRuntime) -> Result<(), Fail> {
     let alloc = rt.alloc();
-    for (blanks, line) in [
-        (65_535, "catalogue 65535 Token\n"),
-        (65_536, "catalogue 65536 TooLong\n"),
-    ] {
-        let mut script = vec![in alloc; b' '; blanks]?;
-        script.push(b'?')?;
-        let answer = run_word(
-            &rt,
-            alloc,
-            "replay",
-            script,
-            Vec::new(alloc),
-            Vec::new(alloc),
-        )?;
-        assert_eq!(rt; answer.status, 2);
-        assert_eq!(rt; answer.errors.bytes(), line.as_bytes());
+    for row in LIMITED {
+        let script = joined(alloc, row.1, row.2)?;
+        let end = (row.3, row.4, row.5);
+        let right = ends_apart(&rt, alloc, row.0, script, [0, 0], end)?;
+        assert!(rt; right, "the end of {}{}", row.1, row.2);
     }
-    Ok(())
-}
-
-#[test]
-fn too_many_operations_are_refused_before_the_lines(rt: HostRuntime) -> Result<(), Fail> {
-    let alloc = rt.alloc();
-    let mut script = of_operations(alloc, 257)?;
-    script.extend_from_slice(b"\n---\nno call\n")?;
-    let answer = run_word(
-        &rt,
-        alloc,
-        "replay",
-        script,
-        Vec::new(alloc),
-        Vec::new(alloc),
-    )?;
-    assert_eq!(rt; answer.status, 2);
-    assert_eq!(rt; answer.output.bytes(), b"".as_slice());
-    assert_eq!(rt; answer.errors.bytes(), b"operations P 257\n".as_slice());
     Ok(())
 }

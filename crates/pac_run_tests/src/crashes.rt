@@ -1,19 +1,17 @@
 // Runs that are stopped one behind the other, each on what a crash left of the one before.
-use crate::outage::{Outage, run_struck};
-use crate::recover::ADD;
-use crate::run::store_of;
-use crate::running::run_on;
-use crate::stores::left;
-use pac_outside::Fill;
+use pac_outside::{Devices, Fill, MemDisk};
+use pac_testing::{ADD, Outage, left, run_lines, run_struck, store_of};
 use std::alloc::Global;
+use std::sync::Wait;
 use std::test::Fail;
+use std::thread::Threads;
 
 // Each transaction adds 1 to one row, which so tells how many there were.
 const LINES: &str =
     "call Add(1, 1)\ncall Add(1, 1)\nsave\ncall Add(1, 1)\nflush\ncall Add(1, 1)\nsave\n";
 
 // Its replies: a word, and how many of these transactions stand behind it.
-const REPLIES: [(&str, u64); 6] = [
+const REPLIES: &[(&str, u64)] = &[
     ("committed ", 1),
     ("committed ", 2),
     ("saved ", 2),
@@ -65,7 +63,7 @@ fn acknowledged(alloc: Global, output: &[u8], stored: u64) -> Result<u64, Fail> 
         if replies.len() >= output.len() {
             break;
         }
-        count = stored.saturating_add(more);
+        count = stored.saturating_add(*more);
         push_line(alloc, &mut replies, word, count)?;
     }
     if replies.as_slice() == output {
@@ -94,6 +92,30 @@ fn recovered(alloc: Global, dump: &[u8], stored: u64, least: u64) -> Result<u64,
     Err(Fail::from("these are no such tables"))
 }
 
+// Stops a run on a store at a call, and then recovers what is left of it. Answers that with how many transactions it has.
+fn stopped<RT: Threads + Wait + Sync>(
+    rt: &RT,
+    alloc: Global,
+    numbers: &mut Numbers,
+    store: Devices<MemDisk>,
+    stored: u64,
+) -> Result<(Devices<MemDisk>, u64), Fail> {
+    let outage = Outage::new(numbers.next() % 80, true);
+    let words = match numbers.next() % 2 {
+        0 => "run --batch 1",
+        _ => "run",
+    };
+    let (answer, store) = run_struck(rt, alloc, words, LINES, store, &outage)?;
+    let least = acknowledged(alloc, answer.output.bytes(), stored)?;
+    let mut image = left(alloc, &store, numbers.fill(), numbers.next() % 2 == 0)?;
+    let answer = run_lines(rt, alloc, "recover", "", [1, 0], &mut image)?;
+    if answer.status != 0 {
+        return Err(Fail::from("it is not recovered"));
+    }
+    let stored = recovered(alloc, answer.output.bytes(), stored, least)?;
+    Ok((image, stored))
+}
+
 // Thirty stores, each stopped ten times.
 #[test]
 fn three_hundred_stops_lose_nothing_that_is_acknowledged(rt: HostRuntime) -> Result<(), Fail> {
@@ -104,17 +126,7 @@ fn three_hundred_stops_lose_nothing_that_is_acknowledged(rt: HostRuntime) -> Res
         let mut store = store_of(&rt, alloc, ADD)?;
         let mut stored = 0;
         for _ in 0..10 {
-            let outage = Outage::new(numbers.next() % 80, true);
-            let words = match numbers.next() % 2 {
-                0 => "run --batch 1",
-                _ => "run",
-            };
-            let (answer, stopped) = run_struck(&rt, alloc, words, LINES, store, &outage)?;
-            let least = acknowledged(alloc, answer.output.bytes(), stored)?;
-            store = left(alloc, &stopped, numbers.fill(), numbers.next() % 2 == 0)?;
-            let answer = run_on(&rt, alloc, "recover", &mut store, 0)?;
-            assert_eq!(rt; answer.status, 0);
-            stored = recovered(alloc, answer.output.bytes(), stored, least)?;
+            (store, stored) = stopped(&rt, alloc, &mut numbers, store, stored)?;
         }
         went_on = went_on || stored > 8;
     }

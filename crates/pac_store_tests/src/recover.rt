@@ -1,15 +1,12 @@
 // What is recovered of stores in memory, and what is told of those that are damaged.
-use crate::outage::{Outage, run_struck};
-use crate::running::{BANK, USAGE, run_on};
-use crate::stores::{LOG, SHUT, SLOT, changed, devices, hold, log_of};
+use pac_testing::{
+    ADD, BANK, BANK_DUMP, LOG, NO_ROW, ONE_ROW, Outage, SHUT, SLOT, USAGE, changed, devices, hold,
+    leaves, log_of, run_lines, run_struck,
+};
 use std::alloc::Global;
 use std::sync::Wait;
 use std::test::Fail;
 use std::thread::Threads;
-
-// A table, a procedure that adds to its numbers, and one that aborts at a 0.
-pub const ADD: &str =
-    "table T(key int, v int);\nproc Add(k int, n int) {\n  read a = T[k].v default 0;\n  let m = n;\n  let b = a + m;\n  put T[k] = (b);\n}\nproc Need(k int) {\n  read a = T[k].v default 1;\n  abort if a == 0;\n}\n";
 
 // Add(1, 9223372036854775807), Add(2, 5), Add(1, 1) and Need(1).
 const FOUR: &[u8] = b"\x01\0\0\x02\x01\x01\0\0\0\0\0\0\0\x01\xff\xff\xff\xff\xff\xff\xff\x7f\
@@ -22,33 +19,6 @@ const THREE: &[u8] = b"\x02\x01\x01\0\0\x01\x01\0\0\0\0\0\0\0\x01\x01\x02\0\0\0\
     \x01\x01\0\x03\x01\x01\0\0\0\0\0\0\0\x01\x04\x29\0\0\0\0\0\0\x01\x07\0\0\0\0\0\0\0\
     \x01\0\0\x02\x01\x01\0\0\0\0\0\0\0\x01\xf4\x01\0\0\0\0\0\0";
 
-pub const BANK_DUMP: &str =
-    "table Family 1\n1 (2)\ntable Current 2\n1 (10000)\n2 (500)\ntable Saving 1\n1 (1)\ntable Stats 1\n7 (1)\n";
-
-pub const ONE_ROW: &str = "table T 1\n1 (2)\n";
-
-pub const NO_ROW: &str = "table T 0\n";
-
-// Whether the words of a line end with this status, output and line on devices of these bytes, which stay, and enter no
-// gate.
-fn ends<RT: Threads + Wait + Sync>(
-    rt: &RT,
-    alloc: Global,
-    line: &str,
-    bytes: [&[u8]; 3],
-    end: (u8, &str, &str),
-) -> Result<bool, Fail> {
-    let mut store = devices(alloc, bytes)?;
-    let answer = run_on(rt, alloc, line, &mut store, 0)?;
-    Ok(
-        answer.status == end.0
-            && answer.entered == 0
-            && answer.output.bytes() == end.1.as_bytes()
-            && answer.errors.bytes() == end.2.as_bytes()
-            && hold(&store, bytes)?,
-    )
-}
-
 // Whether `recover` does.
 fn tells<RT: Threads + Wait + Sync>(
     rt: &RT,
@@ -56,41 +26,57 @@ fn tells<RT: Threads + Wait + Sync>(
     bytes: [&[u8]; 3],
     end: (u8, &str, &str),
 ) -> Result<bool, Fail> {
-    ends(rt, alloc, "recover", bytes, end)
+    leaves(rt, alloc, "recover", bytes, end)
+}
+
+// The words, and how they end.
+type Words = (&'static str, (u8, &'static str, &'static str));
+
+const WORDS: &[Words] = &[
+    ("recover", (0, BANK_DUMP, "")),
+    ("recover --workers 1", (0, BANK_DUMP, "")),
+    ("recover --workers=64 --rows 2", (0, BANK_DUMP, "")),
+    ("recover --rows 10000000", (0, BANK_DUMP, "")),
+];
+
+const LIMITED: &[Words] = &[
+    ("recover --rows 1", (5, "", "rows Current 2 1\n")),
+    (
+        "recover --rows=1 --workers 64",
+        (5, "", "rows Current 2 1\n"),
+    ),
+];
+
+// Whether each of these words ends so on the accounts.
+fn all_end<RT: Threads + Wait + Sync>(
+    rt: &RT,
+    alloc: Global,
+    rows: &[(&str, (u8, &str, &str))],
+) -> Result<bool, Fail> {
+    let log = log_of(alloc, BANK, &[(3, THREE)])?;
+    for row in rows {
+        if !leaves(rt, alloc, row.0, [&log, SHUT, SHUT], row.1)? {
+            return Ok(false);
+        }
+    }
+    Ok(true)
 }
 
 #[test]
 fn the_stored_tables_come_back(rt: HostRuntime) -> Result<(), Fail> {
     let alloc = rt.alloc();
-    let log = log_of(alloc, BANK, &[(3, THREE)])?;
-    for line in [
-        "recover",
-        "recover --workers 1",
-        "recover --workers=64 --rows 2",
-        "recover --rows 10000000",
-    ] {
-        let right = ends(&rt, alloc, line, [&log, SHUT, SHUT], (0, BANK_DUMP, ""))?;
-        assert!(rt; right, "the words {line}");
-    }
-    for (log, a, b) in [
-        (LOG, SHUT, SHUT),
-        (LOG, SLOT, SHUT),
-        (LOG, SHUT, SLOT),
-        (LOG, SLOT, SLOT),
-    ] {
-        assert!(rt; tells(&rt, alloc, [log, a, b], (0, ONE_ROW, ""))?);
+    assert!(rt; all_end(&rt, alloc, WORDS)?);
+    for a in [SHUT, SLOT] {
+        for b in [SHUT, SLOT] {
+            assert!(rt; tells(&rt, alloc, [LOG, a, b], (0, ONE_ROW, ""))?);
+        }
     }
     Ok(())
 }
 
 #[test]
 fn a_table_over_the_limit_is_told(rt: HostRuntime) -> Result<(), Fail> {
-    let alloc = rt.alloc();
-    let log = log_of(alloc, BANK, &[(3, THREE)])?;
-    for line in ["recover --rows 1", "recover --rows=1 --workers 64"] {
-        let end = (5, "", "rows Current 2 1\n");
-        assert!(rt; ends(&rt, alloc, line, [&log, SHUT, SHUT], end)?);
-    }
+    assert!(rt; all_end(&rt, rt.alloc(), LIMITED)?);
     Ok(())
 }
 
@@ -101,7 +87,7 @@ fn a_transaction_that_aborts_is_told(rt: HostRuntime) -> Result<(), Fail> {
     let abort = (4, "", "abort 3 2 Overflow\n");
     assert!(rt; tells(&rt, alloc, [&log, SHUT, SHUT], abort)?);
     let line = "recover --rows 1 --workers 16";
-    assert!(rt; ends(&rt, alloc, line, [&log, SHUT, SHUT], abort)?);
+    assert!(rt; leaves(&rt, alloc, line, [&log, SHUT, SHUT], abort)?);
     // Damage that stands behind it comes first: in the log's fourth entry, and in a slot.
     let damaged = changed(alloc, &log, 285, 3, log.len())?;
     let tag = (3, "", "damaged log 285 Tag\n");
@@ -141,7 +127,7 @@ fn what_is_no_log_is_no_store(rt: HostRuntime) -> Result<(), Fail> {
         assert!(rt; tells(&rt, alloc, [&LOG[..length], SHUT, SHUT], none)?);
     }
     let other = [b"".as_slice(), b"", b""];
-    assert!(rt; ends(&rt, alloc, "recover --workers 65", other, (1, "", USAGE))?);
+    assert!(rt; leaves(&rt, alloc, "recover --workers 65", other, (1, "", USAGE))?);
     Ok(())
 }
 
@@ -175,54 +161,66 @@ fn a_log_that_is_cut_behind_an_open_gate_is_damaged(rt: HostRuntime) -> Result<(
     Ok(())
 }
 
+// The place, the byte that is put there, the length; the line.
+const IN_LOG: &[(usize, u8, usize, &str)] = &[
+    (37, 0, 70, "damaged log 37 Range\n"),
+    (41, 25, 70, "damaged log 45 Short\n"),
+    (45, 3, 70, "damaged log 45 Tag\n"),
+    (46, 0, 70, "damaged log 46 TooMany\n"),
+    (48, 1, 70, "damaged log 48 UnknownTable\n"),
+    (59, 2, 70, "damaged log 59 WrongRow\n"),
+    (60, 5, 70, "damaged log 60 Tag\n"),
+    (69, 1, 70, "damaged log 70 Short\n"),
+];
+
 #[test]
 fn damage_in_a_log_is_told(rt: HostRuntime) -> Result<(), Fail> {
     let alloc = rt.alloc();
-    for (place, byte, length, line) in [
-        (37, 0, 70, "damaged log 37 Range\n"),
-        (41, 25, 70, "damaged log 45 Short\n"),
-        (45, 3, 70, "damaged log 45 Tag\n"),
-        (46, 0, 70, "damaged log 46 TooMany\n"),
-        (48, 1, 70, "damaged log 48 UnknownTable\n"),
-        (59, 2, 70, "damaged log 59 WrongRow\n"),
-        (60, 5, 70, "damaged log 60 Tag\n"),
-        (69, 1, 70, "damaged log 70 Short\n"),
-    ] {
-        let log = changed(alloc, LOG, place, byte, length)?;
-        assert!(rt;
-            tells(&rt, alloc, [&log, SHUT, SHUT], (3, "", line))?,
-            "at {place}: {line}"
-        );
+    for row in IN_LOG {
+        let log = changed(alloc, LOG, row.0, row.1, row.2)?;
+        let right = tells(&rt, alloc, [&log, SHUT, SHUT], (3, "", row.3))?;
+        assert!(rt; right, "{}", row.3);
     }
     Ok(())
 }
 
-// In slot a and in slot b; with its gate shut the slot is as good as none.
+// The place, the byte that is put there, the length; the line in slot a and in slot b.
+const IN_SLOT: &[(usize, u8, usize, &str, &str)] = &[
+    (1, 0, 53, "damaged a 1 Magic\n", "damaged b 1 Magic\n"),
+    (9, 1, 10, "damaged a 9 Short\n", "damaged b 9 Short\n"),
+    (9, 1, 20, "damaged a 17 Short\n", "damaged b 17 Short\n"),
+    (25, 2, 53, "damaged a 25 Range\n", "damaged b 25 Range\n"),
+    (9, 2, 53, "damaged a 9 Place\n", "damaged b 9 Place\n"),
+    (9, 0, 53, "damaged a 9 Place\n", "damaged b 9 Place\n"),
+    (17, 36, 53, "damaged a 9 Place\n", "damaged b 9 Place\n"),
+];
+
+// Whether this slot is told as damaged in slot a and in slot b; with its gate shut it is as good as none.
+fn slot_tells<RT: Threads + Wait + Sync>(
+    rt: &RT,
+    alloc: Global,
+    slot: &[u8],
+    in_a: &str,
+    in_b: &str,
+) -> Result<bool, Fail> {
+    for gate in [0, 7] {
+        let shut = changed(alloc, slot, 0, gate, slot.len())?;
+        if !tells(rt, alloc, [LOG, &shut, SHUT], (0, ONE_ROW, ""))? {
+            return Ok(false);
+        }
+    }
+    Ok(
+        tells(rt, alloc, [LOG, slot, SHUT], (3, "", in_a))?
+            && tells(rt, alloc, [LOG, SHUT, slot], (3, "", in_b))?,
+    )
+}
+
 #[test]
 fn damage_in_a_slot_is_told(rt: HostRuntime) -> Result<(), Fail> {
     let alloc = rt.alloc();
-    for (place, byte, length, in_a, in_b) in [
-        (1, 0, 53, "damaged a 1 Magic\n", "damaged b 1 Magic\n"),
-        (9, 1, 10, "damaged a 9 Short\n", "damaged b 9 Short\n"),
-        (9, 1, 20, "damaged a 17 Short\n", "damaged b 17 Short\n"),
-        (25, 2, 53, "damaged a 25 Range\n", "damaged b 25 Range\n"),
-        (9, 2, 53, "damaged a 9 Place\n", "damaged b 9 Place\n"),
-        (9, 0, 53, "damaged a 9 Place\n", "damaged b 9 Place\n"),
-        (17, 36, 53, "damaged a 9 Place\n", "damaged b 9 Place\n"),
-    ] {
-        let slot = changed(alloc, SLOT, place, byte, length)?;
-        assert!(rt;
-            tells(&rt, alloc, [LOG, &slot, SHUT], (3, "", in_a))?,
-            "{in_a}"
-        );
-        assert!(rt;
-            tells(&rt, alloc, [LOG, SHUT, &slot], (3, "", in_b))?,
-            "{in_b}"
-        );
-        for gate in [0, 7] {
-            let shut = changed(alloc, &slot, 0, gate, length)?;
-            assert!(rt; tells(&rt, alloc, [LOG, &shut, SHUT], (0, ONE_ROW, ""))?);
-        }
+    for row in IN_SLOT {
+        let slot = changed(alloc, SLOT, row.0, row.1, row.2)?;
+        assert!(rt; slot_tells(&rt, alloc, &slot, row.3, row.4)?, "{}", row.3);
     }
     Ok(())
 }
@@ -251,26 +249,34 @@ fn the_first_damage_is_told(rt: HostRuntime) -> Result<(), Fail> {
     Ok(())
 }
 
+// Whether an outage at this call makes a recovery fail, and leaves the devices; if none does, the row is written.
+fn fails_at<RT: Threads + Wait + Sync>(
+    rt: &RT,
+    alloc: Global,
+    passing: u64,
+    lasts: bool,
+) -> Result<bool, Fail> {
+    let bytes = [LOG, SLOT, SHUT];
+    let outage = Outage::new(passing, lasts);
+    let store = devices(alloc, bytes)?;
+    let (answer, store) = run_struck(rt, alloc, "recover", "", store, &outage)?;
+    let text = if answer.status == 0 { ONE_ROW } else { "" };
+    if answer.writes(text.as_bytes()) && hold(&store, bytes)? {
+        Ok(answer.status != 0)
+    } else {
+        Err(Fail::from("another end"))
+    }
+}
+
 // No call of a device comes behind one that failed.
 #[test]
 fn a_failing_device_is_told(rt: HostRuntime) -> Result<(), Fail> {
-    let alloc = rt.alloc();
-    let bytes = [LOG, SLOT, SHUT];
     for lasts in [false, true] {
-        let mut was_done = false;
-        for passing in 0..100 {
-            let outage = Outage::new(passing, lasts);
-            let store = devices(alloc, bytes)?;
-            let (answer, store) = run_struck(&rt, alloc, "recover", "", store, &outage)?;
-            assert!(rt; hold(&store, bytes)?);
-            if answer.status == 0 {
-                assert_eq!(rt; answer.output.bytes(), ONE_ROW.as_bytes());
-                was_done = true;
-                break;
-            }
-            assert_eq!(rt; answer.output.bytes(), b"".as_slice());
+        let mut passing = 0;
+        while passing < 100 && fails_at(&rt, rt.alloc(), passing, lasts)? {
+            passing += 1;
         }
-        assert!(rt; was_done);
+        assert!(rt; passing < 100);
     }
     Ok(())
 }
@@ -279,9 +285,7 @@ fn a_failing_device_is_told(rt: HostRuntime) -> Result<(), Fail> {
 fn a_failing_output_is_told(rt: HostRuntime) -> Result<(), Fail> {
     let alloc = rt.alloc();
     let mut store = devices(alloc, [LOG, SHUT, SHUT])?;
-    let answer = run_on(&rt, alloc, "recover", &mut store, 1)?;
-    assert_eq!(rt; answer.status, 7);
-    assert_eq!(rt; answer.output.bytes(), b"".as_slice());
-    assert_eq!(rt; answer.errors.bytes(), b"output fault\n".as_slice());
+    let answer = run_lines(&rt, alloc, "recover", "", [1, 1], &mut store)?;
+    assert!(rt; answer.is((7, "", "output fault\n")));
     Ok(())
 }

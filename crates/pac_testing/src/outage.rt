@@ -2,7 +2,8 @@
 ghost use Rattle.std.specs.Prelude.{◌≡◌, ◌≤◌, IfOk, None, Ok};
 ghost use Rattle.pac_outside.specs.Causes.{EndsAtFault, HasCause, one_more};
 
-use crate::running::{Answer, run_lines};
+use crate::answer::Answer;
+use crate::running::run_lines;
 use pac_outside::{Devices, Disk, Failed, MemDisk};
 use std::alloc::Global;
 use std::sync::Wait;

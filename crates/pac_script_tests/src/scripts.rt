@@ -1,11 +1,12 @@
 // Scripts that are replayed to their end.
-use crate::running::{ADD, BANK, ends_so, run_word};
+use pac_testing::{ADD_SCRIPT as ADD, BANK, ends_apart, joined, run_apart};
+use std::alloc::Global;
 use std::test::Fail;
 
 // The catalogue with the mark, the lines behind it, and the dump.
 type Row = (&'static str, &'static str, &'static str);
 
-const ROWS: [Row; 22] = [
+const ROWS: &[Row] = &[
     ("", "", ""),
     (
         ADD,
@@ -122,37 +123,56 @@ const ROWS: [Row; 22] = [
 
 #[test]
 fn the_tables_are_those_of_the_transactions_in_order(rt: HostRuntime) -> Result<(), Fail> {
-    for (catalogue, lines, text) in ROWS {
-        let right = ends_so(
-            &rt,
-            rt.alloc(),
-            &["replay"],
-            [catalogue, lines],
-            (0, text, ""),
-        )?;
-        assert!(rt; right, "the end of {catalogue}{lines}");
+    let alloc = rt.alloc();
+    for row in ROWS {
+        let script = joined(alloc, row.0, row.1)?;
+        let right = ends_apart(&rt, alloc, "replay", script, [0, 0], (0, row.2, ""))?;
+        assert!(rt; right, "the end of {}{}", row.0, row.1);
     }
+    Ok(())
+}
+
+// The script of a thousand calls of one key.
+fn calls_of_one(alloc: Global) -> Result<Vec<u8>, Fail> {
+    let mut script = ADD.as_bytes().to_vec(alloc)?;
+    for _ in 1..1025u32 {
+        script.extend_from_slice(b"call Add(1, 1)\n")?;
+    }
+    Ok(script)
+}
+
+// The script of as many calls of a key each, and its tables.
+fn calls_of_many(alloc: Global) -> Result<(Vec<u8>, Vec<u8>), Fail> {
+    let mut script = ADD.as_bytes().to_vec(alloc)?;
+    let mut rows = b"table T 1024\n".to_vec(alloc)?;
+    for key in 1..1025u32 {
+        push_number(alloc, &mut script, b"call Add(", key, b", 1)\n")?;
+        push_number(alloc, &mut rows, b"", key, b" (1)\n")?;
+    }
+    Ok((script, rows))
+}
+
+// Puts a number between two texts behind a text.
+fn push_number(
+    alloc: Global,
+    text: &mut Vec<u8>,
+    front: &[u8],
+    number: u32,
+    behind: &[u8],
+) -> Result<(), Fail> {
+    text.extend_from_slice(front)?;
+    text.extend_from_slice(number.to_string(alloc)?.as_bytes())?;
+    text.extend_from_slice(behind)?;
     Ok(())
 }
 
 #[test]
 fn executes_a_thousand_calls_of_one_key_and_of_many(rt: HostRuntime) -> Result<(), Fail> {
     let alloc = rt.alloc();
-    let mut one = ADD.as_bytes().to_vec(alloc)?;
-    let mut many = ADD.as_bytes().to_vec(alloc)?;
-    let mut rows = b"table T 1024\n".to_vec(alloc)?;
-    for key in 1..1025u32 {
-        let key = key.to_string(alloc)?;
-        one.extend_from_slice(b"call Add(1, 1)\n")?;
-        many.extend_from_slice(b"call Add(")?;
-        many.extend_from_slice(key.as_bytes())?;
-        many.extend_from_slice(b", 1)\n")?;
-        rows.extend_from_slice(key.as_bytes())?;
-        rows.extend_from_slice(b" (1)\n")?;
-    }
-    let one = run_word(&rt, alloc, "replay", one, Vec::new(alloc), Vec::new(alloc))?;
-    assert_eq!(rt; one.output.bytes(), b"table T 1\n1 (1024)\n".as_slice());
-    let many = run_word(&rt, alloc, "replay", many, Vec::new(alloc), Vec::new(alloc))?;
-    assert_eq!(rt; many.output.bytes(), rows.as_slice());
+    let one = run_apart(&rt, alloc, "replay", calls_of_one(alloc)?, [0, 0])?;
+    assert!(rt; one.writes(b"table T 1\n1 (1024)\n"));
+    let (script, rows) = calls_of_many(alloc)?;
+    let many = run_apart(&rt, alloc, "replay", script, [0, 0])?;
+    assert!(rt; many.writes(&rows));
     Ok(())
 }

@@ -1,0 +1,13 @@
+//! Tests of `run`, and of what is recovered behind it, by the top call over devices in memory. It has no calls of its own.
+//!
+//! They stand here and not beside what they test, so that it is proved once.
+#![tactic(auto)]
+
+#[cfg(test)]
+mod crashes;
+#[cfg(test)]
+mod images;
+#[cfg(test)]
+mod sessions;
+#[cfg(test)]
+mod stops;
