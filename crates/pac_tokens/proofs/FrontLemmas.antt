@@ -8,7 +8,7 @@ use Rattle.pac_tokens.specs.declared.token.Symbol.TheVariants as symbol
 use Rattle.pac_tokens.specs.declared.lexer.Before.{Before}
 use Rattle.pac_tokens.specs.declared.lexer.Before.TheVariants.{Value, Other, LiteralMinus}
 use Rattle.pac_tokens.specs.declared.fault.FaultKind.{FaultKind}
-use Rattle.pac_tokens.specs.Tokens.{is_letter, is_digit, is_name, keyword_of, IsInFront, is_literal_minus}
+use Rattle.pac_tokens.specs.Tokens.{is_letter, is_digit, is_name, keyword_of, IsPlainNext, is_literal_minus}
 use Rattle.pac_tokens.specs.Lexing.{word_at, int_at, text_at, symbol_of}
 use Rattle.pac_tokens.proofs.Longest.{front_of, front_ok}
 use Rattle.pac_tokens.proofs.Steps.{word_is, int_is, text_is, next_within}
@@ -22,7 +22,7 @@ found t len = Ok (t, len)
 -- ---- a name, an int, a text
 
 pub name_next : (bytes w : List ℕ) (len : ℕ) → 1 ≤ length bytes → is_letter (get_or bytes 0 0) ≡ true → w ≡ take_while is_name bytes → len ≡ length w → len ≤ 32 → keyword_of w ≡ None
-    → IsInFront bytes (token.Name w) len
+    → IsPlainNext bytes (token.Name w) len
 name_next bytes w len some letter is count short none = λ before other.
     let word : found (token.Name w) (length w) ≡ word_at w = rw (le-ltb 32 (length w) (omega (arith, count, short)), none) refl in
     rw count (front_ok before bytes (found (token.Name w) (length w)) some (word_is before bytes _ some letter (word ∙ ap word_at is)))
@@ -40,31 +40,31 @@ no_letter b digit =
     let high : b ≤ 57 = leb-true b 57 p.1 in
     rw (lt-leb 97 b (omega (arith, high)), lt-leb 65 b (omega (arith, high)), ne_eqb b 95 (λ e. omega (arith, high, e))) refl
 
-pub int_next : (bytes : List ℕ) (t : Token) (len : ℕ) → 1 ≤ length bytes → is_digit (get_or bytes 0 0) ≡ true → found t len ≡ int_at Other (take_while is_digit bytes) → IsInFront bytes t len
+pub int_next : (bytes : List ℕ) (t : Token) (len : ℕ) → 1 ≤ length bytes → is_digit (get_or bytes 0 0) ≡ true → found t len ≡ int_at Other (take_while is_digit bytes) → IsPlainNext bytes t len
 int_next bytes t len some digit is = λ before other.
     front_ok before bytes (found t len) some (int_is before bytes _ some (no_letter (get_or bytes 0 0) digit) digit (is ∙ same_int before _ other))
 
-pub text_next : (bytes : List ℕ) (t : Token) (len : ℕ) → 1 ≤ length bytes → get_or bytes 0 0 ≡ 34 → found t len ≡ text_at (drop 1 bytes) → IsInFront bytes t len
+pub text_next : (bytes : List ℕ) (t : Token) (len : ℕ) → 1 ≤ length bytes → get_or bytes 0 0 ≡ 34 → found t len ≡ text_at (drop 1 bytes) → IsPlainNext bytes t len
 text_next bytes t len some quote is = λ before other.
     front_ok before bytes (found t len) some (text_is before bytes _ some (rw quote refl) (rw quote refl) (rw quote refl) is)
 
 -- a token in front has no more bytes than there are
-pub in_front_within : (bytes : List ℕ) (t : Token) (len : ℕ) → IsInFront bytes t len → len ≤ length bytes
+pub in_front_within : (bytes : List ℕ) (t : Token) (len : ℕ) → IsPlainNext bytes t len → len ≤ length bytes
 in_front_within bytes t len h = (next_within Other bytes t len (h Other refl)).1
 
 -- ---- a bracket, a comma: no longer sign begins with it
 
-pub open_next : (bs : List ℕ) → IsInFront (40 ∷ bs) (token.Symbol symbol.OpenParen) 1
+pub open_next : (bs : List ℕ) → IsPlainNext (40 ∷ bs) (token.Symbol symbol.OpenParen) 1
 unfolding symbol_of
 open_next [] = λ before other. front_of before (40 ∷ []) (omega arith)
 open_next (b ∷ bs) = λ before other. front_of before (40 ∷ b ∷ bs) (omega arith)
 
-pub close_next : (bs : List ℕ) → IsInFront (41 ∷ bs) (token.Symbol symbol.CloseParen) 1
+pub close_next : (bs : List ℕ) → IsPlainNext (41 ∷ bs) (token.Symbol symbol.CloseParen) 1
 unfolding symbol_of
 close_next [] = λ before other. front_of before (41 ∷ []) (omega arith)
 close_next (b ∷ bs) = λ before other. front_of before (41 ∷ b ∷ bs) (omega arith)
 
-pub comma_next : (bs : List ℕ) → IsInFront (44 ∷ bs) (token.Symbol symbol.Comma) 1
+pub comma_next : (bs : List ℕ) → IsPlainNext (44 ∷ bs) (token.Symbol symbol.Comma) 1
 unfolding symbol_of
 comma_next [] = λ before other. front_of before (44 ∷ []) (omega arith)
 comma_next (b ∷ bs) = λ before other. front_of before (44 ∷ b ∷ bs) (omega arith)

@@ -120,8 +120,8 @@ pub record IsNext (before : Before) (bytes : List ℕ) (t : Token) (len : ℕ) :
   pub counted : len ≡ length front
 
 -- the next token, where no `-` of a literal stands before it
-abbrev pub IsInFront : List ℕ → Token → ℕ → Type 0
-IsInFront bytes t len = (before : Before) → is_literal_minus before ≡ false → IsNext before bytes t len
+abbrev pub IsPlainNext : List ℕ → Token → ℕ → Type 0
+IsPlainNext bytes t len = (before : Before) → is_literal_minus before ≡ false → IsNext before bytes t len
 
 -- the longest token in front is too long
 pub record IsTooLong (before : Before) (bytes : List ℕ) : Type 0 where

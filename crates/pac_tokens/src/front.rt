@@ -1,7 +1,7 @@
 // Reads the token in front of bytes, where it is of one kind.
 ghost use Rattle.std.specs.Prelude.{◌≡◌, ◌≤◌, length, take, IfSome};
 ghost use Rattle.pac_tokens.specs.declared.token.Token.TheVariants as token;
-ghost use Rattle.pac_tokens.specs.Tokens.{IsInFront};
+ghost use Rattle.pac_tokens.specs.Tokens.{IsPlainNext};
 ghost use Rattle.pac_tokens.specs.Literal.{literal_token};
 
 use crate::lexer::{Before, find_keyword, int, is_digit_byte, is_letter_byte, text, word_len};
@@ -10,7 +10,7 @@ use pac_value::{Name, Value};
 
 /// How many bytes the name in front has. `None`: another token stands there, or none.
 pub fn name_in_front(bytes: &[u8]) -> Option<usize>
-    ensures name { IfSome result (λ len. IsInFront bytes.now (token.Name (take len bytes.now)) len) }
+    ensures name { IfSome result (λ len. IsPlainNext bytes.now (token.Name (take len bytes.now)) len) }
     ensures within { IfSome result (λ len. len ≤ length bytes.now) }
 {
     let [first, ..] = bytes else {
@@ -42,7 +42,7 @@ fn value_of(token: Token) -> Option<Value>
 
 /// The int or text in front, and how many bytes it has, its quotes too. `None`: another token stands there, or none.
 pub fn literal_in_front(bytes: &[u8]) -> Option<(Value, usize)>
-    ensures literal { IfSome result (λ p. IsInFront bytes.now (literal_token p.0) p.1) }
+    ensures literal { IfSome result (λ p. IsPlainNext bytes.now (literal_token p.0) p.1) }
     ensures within { IfSome result (λ p. p.1 ≤ length bytes.now) }
 {
     let [first, behind @ ..] = bytes else {
