@@ -7,6 +7,7 @@ pub mod RequestMeaning
 pub mod LineReading
 pub mod RequestFits
 pub mod ScriptLines
+pub mod PlainCalls
 pub mod Lines
 pub mod Batches
 pub mod Cutting

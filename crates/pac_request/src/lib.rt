@@ -21,6 +21,10 @@
 //! `specs/Cutting.antt` and `specs/ScriptReading.antt`, a script taken one line after another: `proofs/CutLemmas.antt` shows
 //! that this gives the longest fronts, `proofs/ReadingLemmas.antt` that all lines are read, and `proofs/OneScript.antt` that
 //! a text is read as one thing.
+//!
+//! A line that is a call, as most are, is read from its bytes first (`plain_call`), and only where that finds something else
+//! is a list of its tokens made. `specs/PlainCalls.antt` says so beside the machine that is fed tokens, and
+//! `proofs/PlainLemmas.antt` that both read the same.
 #![tactic(auto)]
 
 mod cutter;
@@ -31,6 +35,7 @@ mod lines;
 mod meaning;
 mod node;
 mod parser;
+mod plain;
 mod request;
 mod script;
 mod script_fault;

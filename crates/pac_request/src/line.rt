@@ -15,6 +15,7 @@ use crate::limits::MAX_LINE;
 use crate::meaning::request_of;
 use crate::node::Verb;
 use crate::parser::parse_line;
+use crate::plain::plain_call;
 use crate::request::Request;
 use pac_base::Refusal;
 use pac_tokens::{Lexed, Spanned, Token, lex};
@@ -70,6 +71,9 @@ pub fn read_line(
     if line.len() > MAX_LINE {
         return Err(refused(MAX_LINE, LineFaultKind::TooLong));
     }
+    if let Some(call) = plain_call(alloc, catalogue, line)? {
+        return Ok(Some(call));
+    }
     let lexed = lex(alloc, line)?;
     answer_of(alloc, catalogue, &lexed, line.len())
 }
@@ -117,6 +121,9 @@ pub fn read_script_line(
 {
     if line.len() > MAX_LINE {
         return Err(refused(MAX_LINE, LineFaultKind::TooLong));
+    }
+    if let Some(call) = plain_call(alloc, catalogue, line)? {
+        return Ok(Some(call));
     }
     let lexed = lex(alloc, line)?;
     if let Some(at) = out_of_place(&lexed.items) {

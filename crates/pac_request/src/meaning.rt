@@ -6,6 +6,8 @@ ghost use Rattle.pac_value.specs.Values.{is_stored};
 ghost use Rattle.pac_value.specs.declared.limits.TheConstants.{MAX_PARAMS};
 ghost use Rattle.pac_types.specs.Sound.{types};
 ghost use Rattle.pac_types.specs.Typing.{IsSoundTable};
+ghost use Rattle.pac_syntax.specs.declared.tree.NameNode.{NameNode as ANameNode};
+ghost use Rattle.pac_request.specs.declared.fault.LineFaultKind.TheVariants.{UnknownName};
 ghost use Rattle.pac_request.specs.LineKinds.{line_fault};
 ghost use Rattle.pac_request.specs.RequestMeaning.{asked_value, asked_key, asked_values, counted_literals, proc_at, table_at, asked_call, asked_put, asked_cell, asked_change, asked_changes, asked, HoldsRecords};
 
@@ -109,16 +111,23 @@ fn count(name: &NameNode, columns: &[Column], literals: &[PlacedLiteral]) -> Res
     }
 }
 
+/// The procedure with a name, and its number.
+pub fn proc_named<'a>(catalogue: &'a Catalogue, name: &[u8]) -> Option<(u16, &'a Proc)>
+    ensures found { (node : ANameNode) → node.name ≡ name.now → MatchOption result (proc_at catalogue.now.procs node ≡ Err (line_fault UnknownName node.at)) (λ p. proc_at catalogue.now.procs node ≡ Ok (p.0, p.1.now)) }
+    ensures few { IfSome result (λ p. length p.1.now.params ≤ MAX_PARAMS) }
+{
+    let number = catalogue.proc_named(name)?;
+    let proc = catalogue.procs().get(usize::from(number))?;
+    Some((number, proc))
+}
+
 // The procedure with a name, and its number.
 fn proc_of<'a>(catalogue: &'a Catalogue, name: &NameNode) -> Result<(u16, &'a Proc), LineFault>
     ensures found { MatchResult result (λ p. proc_at catalogue.now.procs name.now ≡ Ok (p.0, p.1.now)) (λ fault. proc_at catalogue.now.procs name.now ≡ Err fault) }
     ensures few { IfOk result (λ p. length p.1.now.params ≤ MAX_PARAMS) }
 {
-    let Some(number) = catalogue.proc_named(name.name.bytes()) else {
-        return Err(refused(name.at, LineFaultKind::UnknownName));
-    };
-    match catalogue.procs().get(usize::from(number)) {
-        Some(proc) => Ok((number, proc)),
+    match proc_named(catalogue, name.name.bytes()) {
+        Some(found) => Ok(found),
         None => Err(refused(name.at, LineFaultKind::UnknownName)),
     }
 }

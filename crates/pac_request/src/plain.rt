@@ -1,0 +1,156 @@
+// Reads a call from the bytes of a line, with no list of its tokens: most lines are calls.
+ghost use Rattle.std.specs.Prelude.{◌≡◌, ◌≤◌, ◌<◌, ◌∷◌, [], length, drop, IfOk, IfSome, IsTrue, MatchOption, Some};
+ghost use Rattle.pac_tokens.specs.Tokens.{gap};
+ghost use Rattle.pac_value.specs.declared.limits.TheConstants.{MAX_PARAMS};
+ghost use Rattle.pac_types.specs.Sound.{types};
+ghost use Rattle.pac_request.specs.RequestMeaning.{value_of};
+ghost use Rattle.pac_request.specs.PlainCalls.{IsCalled, HasArguments, AsksPlainly, TakesLiteral, IsLiteralRead, IsEndRead};
+
+use crate::meaning::proc_named;
+use crate::node::Verb;
+use crate::request::Request;
+use pac_base::NoMemory;
+use pac_ops::Args;
+use pac_tokens::{gap_len, literal_in_front, name_in_front};
+use pac_types::{Catalogue, Column, Proc};
+use pac_value::{Ty, Value};
+use std::alloc::Global;
+
+// The bytes behind white space and comments.
+fn behind_gap(bytes: &[u8]) -> &[u8]
+    ensures { result.now ≡ drop (gap bytes.now) bytes.now }
+{
+    &bytes[gap_len(bytes)..]
+}
+
+// The bytes behind this one.
+fn behind_byte(byte: u8, bytes: &[u8]) -> Option<&[u8]>
+    ensures { IfSome result (λ rest. bytes.now ≡ byte ∷ rest.now) }
+{
+    match bytes {
+        [first, rest @ ..] if *first == byte => Some(rest),
+        _ => None,
+    }
+}
+
+// The procedure that is called, and the bytes behind `call NAME (`. `None`: the line is no call, or none of a procedure
+// of the catalogue.
+fn called<'a, 'b>(catalogue: &'a Catalogue, line: &'b [u8]) -> Option<(u16, &'a Proc, &'b [u8])>
+    ensures called { IfSome result (λ p. IsCalled catalogue.now line.now p.0 p.1.now p.2.now) }
+    ensures few { IfSome result (λ p. length p.1.now.params ≤ MAX_PARAMS) }
+{
+    let word = behind_gap(line);
+    let len = name_in_front(word)?;
+    if &word[..len] != Verb::Call.word() {
+        return None;
+    }
+    let name = behind_gap(&word[len..]);
+    let len = name_in_front(name)?;
+    let (number, proc) = proc_named(catalogue, &name[..len])?;
+    let behind = behind_byte(b'(', behind_gap(&name[len..]))?;
+    Some((number, proc, behind))
+}
+
+// The bytes from which on an argument is read: the first one here, and each other behind a comma.
+fn to_argument(is_first: bool, bytes: &[u8]) -> Option<&[u8]>
+    ensures { IfSome result (λ rest. TakesLiteral is_first bytes.now rest.now) }
+{
+    if is_first {
+        Some(bytes)
+    } else {
+        behind_byte(b',', behind_gap(bytes))
+    }
+}
+
+// An int or a text of this type, and the bytes behind it.
+fn argument(wanted: Ty, bytes: &[u8]) -> Option<(Value, &[u8])>
+    ensures read { IfSome result (λ p. IsLiteralRead bytes.now p.0 p.1.now) }
+    ensures value { IfSome result (λ p. value_of wanted p.0 ≡ Some p.0) }
+{
+    let literal = behind_gap(bytes);
+    let (value, len) = literal_in_front(literal)?;
+    if !is_of(wanted, &value) {
+        return None;
+    }
+    Some((value, &literal[len..]))
+}
+
+fn is_of(wanted: Ty, value: &Value) -> bool
+    ensures { IsTrue result → value_of wanted value.now ≡ Some value.now }
+{
+    match (wanted, value) {
+        (Ty::Int, Value::Int(_)) | (Ty::Text, Value::Text(_)) => true,
+        _ => false,
+    }
+}
+
+// Whether the arguments, and with them the line, end here.
+fn ends(bytes: &[u8]) -> bool
+    ensures { IsTrue result → IsEndRead bytes.now }
+{
+    match behind_byte(b')', behind_gap(bytes)) {
+        None => false,
+        Some(behind) => gap_len(behind) == behind.len(),
+    }
+}
+
+// The first column's type, and the columns behind it.
+fn split_column(columns: &[Column]) -> Option<(Ty, &[Column])>
+    ensures types { MatchOption result (types columns.now ≡ []) (λ p. types columns.now ≡ p.0 ∷ types p.1.now) }
+    ensures within { IfSome result (λ p. length p.1.now < length columns.now) }
+{
+    match columns {
+        [] => None,
+        [column, more @ ..] => Some((column.ty, more)),
+    }
+}
+
+// An argument for each parameter, of its type, up to the end of the line. `None`: something else is written there.
+fn arguments(alloc: Global, params: &[Column], bytes: &[u8]) -> Result<Option<Vec<Value>>, NoMemory>
+    ensures { IfOk result (λ found. IfSome found (λ values. HasArguments (types params.now) bytes.now values.items)) }
+{
+    let mut values = Vec::with_capacity(alloc, params.len())?;
+    let mut params = params;
+    let mut rest = bytes;
+    let mut is_first = true;
+    while let Some((wanted, more)) = split_column(params) {
+        let Some(here) = to_argument(is_first, rest) else {
+            return Ok(None);
+        };
+        let Some((value, behind)) = argument(wanted, here) else {
+            return Ok(None);
+        };
+        values.push(value)?;
+        params = more;
+        rest = behind;
+        is_first = false;
+    }
+    if ends(rest) {
+        Ok(Some(values))
+    } else {
+        Ok(None)
+    }
+}
+
+/// The call that a line is, where it is one of a procedure of the catalogue, and each argument is an int that isn't below
+/// zero or a text, of its parameter's type. `None`: the line asks something else, or is refused; its tokens tell.
+///
+/// # Errors
+///
+/// `NoMemory` alone.
+pub fn plain_call(
+    alloc: Global,
+    catalogue: &Catalogue,
+    line: &[u8],
+) -> Result<Option<Request>, NoMemory>
+    ensures { IfOk result (λ found. IfSome found (AsksPlainly catalogue.now line.now)) }
+{
+    let Some((proc, called, behind)) = called(catalogue, line) else {
+        return Ok(None);
+    };
+    let Some(values) = arguments(alloc, called.params.as_slice(), behind)? else {
+        return Ok(None);
+    };
+    let args = Args::of(values);
+    Ok(Some(Request::Call { proc, args }))
+}
