@@ -14,7 +14,7 @@ use Rattle.pac_tokens.specs.declared.token.Token.TheVariants as token
 use Rattle.pac_tokens.specs.declared.token.Symbol.TheVariants as symbol
 use Rattle.pac_tokens.specs.declared.lexer.Before.{Before}
 use Rattle.pac_tokens.specs.declared.lexer.Before.TheVariants.{Value as BehindValue, Other}
-use Rattle.pac_tokens.specs.Tokens.{gap, after, is_literal_minus, IsNext, IsInFront}
+use Rattle.pac_tokens.specs.Tokens.{gap, after, is_literal_minus, IsNext, IsPlainNext}
 use Rattle.pac_tokens.specs.Literal.{literal_token}
 use Rattle.pac_tokens.proofs.FrontLemmas.{open_next, close_next, comma_next}
 use Rattle.pac_syntax.specs.declared.tree.NameNode.{NameNode}
@@ -54,7 +54,7 @@ record Behind (text rest : List ℕ) (next : ℕ → LineSteps) : Type 0 where
   left : ReadsTo text rest (next place)
 
 -- the token here, behind white space and comments, is read by its step
-behind_token : (text bytes here rest : List ℕ) (k : LineSteps) (next : ℕ → LineSteps) (t : Token) (len : ℕ) → ReadsTo text bytes k → here ≡ drop (gap bytes) bytes → IsInFront here t len → rest ≡ drop len here
+behind_token : (text bytes here rest : List ℕ) (k : LineSteps) (next : ℕ → LineSteps) (t : Token) (len : ℕ) → ReadsTo text bytes k → here ≡ drop (gap bytes) bytes → IsPlainNext here t len → rest ≡ drop len here
     → ((before : Before) → is_literal_minus (after before t) ≡ false) → ((at : ℕ) → steps_behind k (record { token = t; at = at }) ≡ Some (next at)) → Behind text rest next
 behind_token text bytes here rest k next t len from is front is_rest other steps = record {
   place = from.at + gap bytes;
@@ -68,7 +68,7 @@ behind_token text bytes here rest k next t len from is front is_rest other steps
 
 -- ---- the procedure
 
-call_read : (text here w rest : List ℕ) (len : ℕ) → here ≡ drop (gap text) text → IsInFront here (token.Name w) len → w ≡ verb_word verb.Call → rest ≡ drop len here → ReadsTo text rest (verb_steps verb.Call)
+call_read : (text here w rest : List ℕ) (len : ℕ) → here ≡ drop (gap text) text → IsPlainNext here (token.Name w) len → w ≡ verb_word verb.Call → rest ≡ drop len here → ReadsTo text rest (verb_steps verb.Call)
 unfolding line_run steps_behind
 call_read text here w rest len is front word is_rest = record {
   before = BehindValue;
@@ -83,8 +83,8 @@ call_read text here w rest len is front word is_rest = record {
 }
 
 pub is_called : (catalogue : CatalogueState) (text first w behind second name behind_name here rest : List ℕ) (len size : ℕ) (number : ℕ) (proc : Proc)
-    → first ≡ drop (gap text) text → IsInFront first (token.Name w) len → w ≡ verb_word verb.Call → behind ≡ drop len first
-    → second ≡ drop (gap behind) behind → IsInFront second (token.Name name) size → behind_name ≡ drop size second
+    → first ≡ drop (gap text) text → IsPlainNext first (token.Name w) len → w ≡ verb_word verb.Call → behind ≡ drop len first
+    → second ≡ drop (gap behind) behind → IsPlainNext second (token.Name name) size → behind_name ≡ drop size second
     → ((node : NameNode) → node.name ≡ name → proc_at catalogue.procs node ≡ Ok (number, proc))
     → here ≡ drop (gap behind_name) behind_name → here ≡ 40 ∷ rest → IsCalled catalogue text number proc rest
 unfolding steps_behind
@@ -120,7 +120,7 @@ pub next_taken : (is_first : Bool) (bytes here : List ℕ) (found : Option (Bor 
 next_taken is_first bytes here (Some rest) later is comma = rw later (next_argument bytes here rest.now is comma)
 next_taken is_first bytes here None later is comma = tt
 
-pub argument_read : (bytes here rest : List ℕ) (v : Value) (len : ℕ) → here ≡ drop (gap bytes) bytes → IsInFront here (literal_token v) len → rest ≡ drop len here → IsLiteralRead bytes v rest
+pub argument_read : (bytes here rest : List ℕ) (v : Value) (len : ℕ) → here ≡ drop (gap bytes) bytes → IsPlainNext here (literal_token v) len → rest ≡ drop len here → IsLiteralRead bytes v rest
 unfolding steps_behind
 argument_read bytes here rest v len is front is_rest = λ text ls k from.
     let read = behind_token text bytes here rest (argument_at ls k) (λ at. MoreLiterals (ls ++ (record { at = at; value = v } ∷ [])) k) (literal_token v) len from is front is_rest (plain v) (step v ls k) in
