@@ -34,15 +34,15 @@ use Rattle.pac_request.specs.ScriptLines.{ScriptLineSays}
 use Rattle.pac_request.specs.LineForms.{verb_word}
 use Rattle.pac_request.specs.LineSteps.{LineSteps, LineEnds, ThisSign, SomeLiteral, MoreLiterals, AllArguments, verb_steps, steps_behind, said_at_end, line_run, tokens_read}
 use Rattle.pac_request.specs.RequestMeaning.{value_of, proc_at, asked_values, asked_call, asked_by}
-use Rattle.pac_request.specs.PlainCalls.{GoesOn, ReadsTo, IsCalled, arguments_behind, argument_at, is_none, TakesLiteral, IsLiteralRead, IsEndRead, EndsWith, HasArguments, AsksPlainly}
+use Rattle.pac_request.specs.PlainCalls.{LineGoesOn, LineReadsTo, IsCalled, arguments_behind, argument_at, is_none, TakesLiteral, IsLiteralRead, IsEndRead, LineEndsWith, HasArguments, AsksPlainly}
 use Rattle.pac_request.proofs.LineOnce.{short_says, in_place_says}
 use Rattle.pac_request.proofs.RequestFitLemmas.{asked_fits}
 use Rattle.pac_request.proofs.MeaningLemmas.{in_front, values_start, values_on, values_done, values_fit}
 
 -- ---- one token
 
-read_on : (text : List ℕ) (before : Before) (at : ℕ) (bytes : List ℕ) (k next : LineSteps) (t : Token) (len : ℕ) → GoesOn text before at bytes k → IsNext before (drop (gap bytes) bytes) t len
-    → steps_behind k (record { token = t; at = at + gap bytes }) ≡ Some next → GoesOn text (after before t) (at + gap bytes + len) (drop len (drop (gap bytes) bytes)) next
+read_on : (text : List ℕ) (before : Before) (at : ℕ) (bytes : List ℕ) (k next : LineSteps) (t : Token) (len : ℕ) → LineGoesOn text before at bytes k → IsNext before (drop (gap bytes) bytes) t len
+    → steps_behind k (record { token = t; at = at + gap bytes }) ≡ Some next → LineGoesOn text (after before t) (at + gap bytes + len) (drop len (drop (gap bytes) bytes)) next
 unfolding line_run
 read_on text before at bytes k next t len on is_next behind = λ ts lexed.
     let all = on (record { token = t; at = at + gap bytes } ∷ ts) (len, is_next, refl, lexed) in
@@ -51,10 +51,10 @@ read_on text before at bytes k next t len on is_next behind = λ ts lexed.
 -- where a token stands, and what is read on from behind it
 record Behind (text rest : List ℕ) (next : ℕ → LineSteps) : Type 0 where
   place : ℕ
-  left : ReadsTo text rest (next place)
+  left : LineReadsTo text rest (next place)
 
 -- the token here, behind white space and comments, is read by its step
-behind_token : (text bytes here rest : List ℕ) (k : LineSteps) (next : ℕ → LineSteps) (t : Token) (len : ℕ) → ReadsTo text bytes k → here ≡ drop (gap bytes) bytes → IsPlainNext here t len → rest ≡ drop len here
+behind_token : (text bytes here rest : List ℕ) (k : LineSteps) (next : ℕ → LineSteps) (t : Token) (len : ℕ) → LineReadsTo text bytes k → here ≡ drop (gap bytes) bytes → IsPlainNext here t len → rest ≡ drop len here
     → ((before : Before) → is_literal_minus (after before t) ≡ false) → ((at : ℕ) → steps_behind k (record { token = t; at = at }) ≡ Some (next at)) → Behind text rest next
 behind_token text bytes here rest k next t len from is front is_rest other steps = record {
   place = from.at + gap bytes;
@@ -68,7 +68,7 @@ behind_token text bytes here rest k next t len from is front is_rest other steps
 
 -- ---- the procedure
 
-call_read : (text here w rest : List ℕ) (len : ℕ) → here ≡ drop (gap text) text → IsPlainNext here (token.Name w) len → w ≡ verb_word verb.Call → rest ≡ drop len here → ReadsTo text rest (verb_steps verb.Call)
+call_read : (text here w rest : List ℕ) (len : ℕ) → here ≡ drop (gap text) text → IsPlainNext here (token.Name w) len → w ≡ verb_word verb.Call → rest ≡ drop len here → LineReadsTo text rest (verb_steps verb.Call)
 unfolding line_run steps_behind
 call_read text here w rest len is front word is_rest = record {
   before = BehindValue;
@@ -102,7 +102,7 @@ is_called catalogue text first w behind second name behind_name here rest len si
 pub first_argument : (bytes : List ℕ) → TakesLiteral true bytes bytes
 first_argument bytes = λ text ls k first from. by text ls k first from
   where
-    by : (text : List ℕ) (ls : List PlacedLiteral) (k : List PlacedLiteral → LineSteps) → true ≡ is_none ls → ReadsTo text bytes (arguments_behind ls k) → ReadsTo text bytes (argument_at ls k)
+    by : (text : List ℕ) (ls : List PlacedLiteral) (k : List PlacedLiteral → LineSteps) → true ≡ is_none ls → LineReadsTo text bytes (arguments_behind ls k) → LineReadsTo text bytes (argument_at ls k)
     by text [] k first from = from
     by text (l ∷ ls) k first from = absurd cc
 
@@ -110,7 +110,7 @@ pub next_argument : (bytes here rest : List ℕ) → here ≡ drop (gap bytes) b
 unfolding steps_behind
 next_argument bytes here rest is comma = λ text ls k first from. by text ls k first from
   where
-    by : (text : List ℕ) (ls : List PlacedLiteral) (k : List PlacedLiteral → LineSteps) → false ≡ is_none ls → ReadsTo text bytes (arguments_behind ls k) → ReadsTo text rest (argument_at ls k)
+    by : (text : List ℕ) (ls : List PlacedLiteral) (k : List PlacedLiteral → LineSteps) → false ≡ is_none ls → LineReadsTo text bytes (arguments_behind ls k) → LineReadsTo text rest (argument_at ls k)
     by text [] k first from = absurd cc
     by text (l ∷ ls) k first from =
         (behind_token text bytes here rest (MoreLiterals (l ∷ ls) k) (λ at. SomeLiteral (λ x. MoreLiterals ((l ∷ ls) ++ (x ∷ [])) k)) (token.Symbol symbol.Comma) 1
@@ -159,12 +159,12 @@ pub record ReadSoFar (text rest : List ℕ) (k : List PlacedLiteral → LineStep
   pub literals : List PlacedLiteral
   pub first : is_first ≡ is_none literals
   pub many : length tys ≡ length literals + length left
-  pub read : ReadsTo text rest (arguments_behind literals k)
+  pub read : LineReadsTo text rest (arguments_behind literals k)
   pub values : (more : List PlacedLiteral) → in_front vs (asked_values left more) ≡ asked_values tys (literals ++ more)
 
 -- the same of each line and of all that may come behind it
 abbrev pub SoFar : List ℕ → List ℕ → Bool → List Ty → List Ty → List Value → Type 0
-SoFar bytes rest is_first tys left vs = (text : List ℕ) (k : List PlacedLiteral → LineSteps) → ReadsTo text bytes (AllArguments k) → ReadSoFar text rest k is_first tys left vs
+SoFar bytes rest is_first tys left vs = (text : List ℕ) (k : List PlacedLiteral → LineSteps) → LineReadsTo text bytes (AllArguments k) → ReadSoFar text rest k is_first tys left vs
 
 pub none_yet : (bytes : List ℕ) (tys : List Ty) (vs : List Value) → vs ≡ [] → SoFar bytes bytes true tys tys vs
 none_yet bytes tys vs none = λ text k from. record { literals = []; first = refl; many = omega arith; read = from; values = λ more. values_start tys more vs none }
@@ -179,7 +179,7 @@ one_more bytes rest here behind is_first wanted tys left more vs ws v is takes r
       literals = h.literals ++ (l ∷ []);
       first = some h.literals l;
       many = omega (arith, h.many, ap length is, length-append h.literals (l ∷ []));
-      read = subst (λ (x : LineSteps). ReadsTo text behind x) (steps h.literals l k) r.left;
+      read = subst (λ (x : LineSteps). LineReadsTo text behind x) (steps h.literals l k) r.left;
       values = λ later. values_on vs ws wanted more left l later (l ∷ later) v (asked_values tys ((h.literals ++ (l ∷ [])) ++ later)) is refl pushed (rw typed refl) (h.values (l ∷ later) ∙ ap (asked_values tys) (sym (append_assoc h.literals (l ∷ []) later)));
     }
   where
@@ -192,7 +192,7 @@ one_more bytes rest here behind is_first wanted tys left more vs ws v is takes r
     steps (x ∷ ls) l k = refl
 
 pub all_read : (bytes rest : List ℕ) (is_first : Bool) (tys left : List Ty) (vs : List Value) → left ≡ [] → IsEndRead rest → SoFar bytes rest is_first tys left vs
-    → (text : List ℕ) (k : List PlacedLiteral → LineSteps) → ReadsTo text bytes (AllArguments k) → EndsWith text k tys vs
+    → (text : List ℕ) (k : List PlacedLiteral → LineSteps) → LineReadsTo text bytes (AllArguments k) → LineEndsWith text k tys vs
 unfolding asked_values
 all_read bytes rest is_first tys left vs none ends so_far text k from =
     let h = so_far text k from in
@@ -207,7 +207,7 @@ all_read bytes rest is_first tys left vs none ends so_far text k from =
 
 -- the literals of a call, and what the line's tokens say
 abbrev ended : (catalogue : CatalogueState) (text : List ℕ) (number : ℕ) (proc : Proc) (rest : List ℕ) (vs : List Value) (called : IsCalled catalogue text number proc rest) → HasArguments (types proc.params) rest vs
-    → EndsWith text (λ args. LineEnds (line.Call called.name args)) (types proc.params) vs
+    → LineEndsWith text (λ args. LineEnds (line.Call called.name args)) (types proc.params) vs
 ended catalogue text number proc rest vs called has = has text (λ args. LineEnds (line.Call called.name args)) called.left
 
 pub args_fit : (catalogue : CatalogueState) (text : List ℕ) (number : ℕ) (proc : Proc) (rest : List ℕ) (vs : List Value) → IsCalled catalogue text number proc rest → HasArguments (types proc.params) rest vs → length proc.params ≤ 16

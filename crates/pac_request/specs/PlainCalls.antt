@@ -25,21 +25,21 @@ pub record SaysAs (text : List ℕ) (said : LineFault → Result LineNode LineFa
   pub says : (end : LineFault) → line_run end AnyLine tokens ≡ said end
 
 -- to read on from here, the rest of the line, by these steps is to read the line
-abbrev pub GoesOn : List ℕ → Before → ℕ → List ℕ → LineSteps → Type 0
-GoesOn text before at rest steps = (ts : List Spanned) → Lexed before at rest ts None → SaysAs text (λ end. line_run end steps ts)
+abbrev pub LineGoesOn : List ℕ → Before → ℕ → List ℕ → LineSteps → Type 0
+LineGoesOn text before at rest steps = (ts : List Spanned) → Lexed before at rest ts None → SaysAs text (λ end. line_run end steps ts)
 
 -- the same from some place, where no `-` of a literal stands before
-pub record ReadsTo (text rest : List ℕ) (steps : LineSteps) : Type 0 where
+pub record LineReadsTo (text rest : List ℕ) (steps : LineSteps) : Type 0 where
   pub before : Before
   pub other : is_literal_minus before ≡ false
   pub at : ℕ
-  pub on : GoesOn text before at rest steps
+  pub on : LineGoesOn text before at rest steps
 
 -- the line calls this procedure, and the rest is to have its arguments
 pub record IsCalled (catalogue : CatalogueState) (text : List ℕ) (number : ℕ) (proc : Proc) (rest : List ℕ) : Type 0 where
   pub name : NameNode
   pub is : proc_at catalogue.procs name ≡ Ok (number, proc)
-  pub left : ReadsTo text rest (AllArguments (λ args. LineEnds (line.Call name args)))
+  pub left : LineReadsTo text rest (AllArguments (λ args. LineEnds (line.Call name args)))
 
 -- what is to come behind these arguments
 abbrev pub arguments_behind : List PlacedLiteral → (List PlacedLiteral → LineSteps) → LineSteps
@@ -58,23 +58,23 @@ is_none _ = false
 -- from the bytes one reads to the rest, where an argument begins, the first or one behind others
 abbrev pub TakesLiteral : Bool → List ℕ → List ℕ → Type 0
 TakesLiteral is_first bytes rest = (text : List ℕ) (ls : List PlacedLiteral) (k : List PlacedLiteral → LineSteps) → is_first ≡ is_none ls
-    → ReadsTo text bytes (arguments_behind ls k) → ReadsTo text rest (argument_at ls k)
+    → LineReadsTo text bytes (arguments_behind ls k) → LineReadsTo text rest (argument_at ls k)
 
 -- an argument that was read, with its place, and where it stands among those before it
 pub record IsArgumentRead (text rest : List ℕ) (ls : List PlacedLiteral) (k : List PlacedLiteral → LineSteps) (v : Value) : Type 0 where
   pub place : ℕ
-  pub left : ReadsTo text rest (MoreLiterals (ls ++ (record { at = place; value = v } ∷ [])) k)
+  pub left : LineReadsTo text rest (MoreLiterals (ls ++ (record { at = place; value = v } ∷ [])) k)
 
 -- from the bytes, where an argument begins, one reads this one to the rest
 abbrev pub IsLiteralRead : List ℕ → Value → List ℕ → Type 0
-IsLiteralRead bytes v rest = (text : List ℕ) (ls : List PlacedLiteral) (k : List PlacedLiteral → LineSteps) → ReadsTo text bytes (argument_at ls k) → IsArgumentRead text rest ls k v
+IsLiteralRead bytes v rest = (text : List ℕ) (ls : List PlacedLiteral) (k : List PlacedLiteral → LineSteps) → LineReadsTo text bytes (argument_at ls k) → IsArgumentRead text rest ls k v
 
 -- from the bytes, behind arguments, one reads to the end of the line
 abbrev pub IsEndRead : List ℕ → Type 0
-IsEndRead bytes = (text : List ℕ) (ls : List PlacedLiteral) (k : List PlacedLiteral → LineSteps) → ReadsTo text bytes (arguments_behind ls k) → SaysAs text (λ end. line_run end (k ls) [])
+IsEndRead bytes = (text : List ℕ) (ls : List PlacedLiteral) (k : List PlacedLiteral → LineSteps) → LineReadsTo text bytes (arguments_behind ls k) → SaysAs text (λ end. line_run end (k ls) [])
 
 -- the line ends behind arguments of these types, which have these values
-pub record EndsWith (text : List ℕ) (k : List PlacedLiteral → LineSteps) (tys : List Ty) (vs : List Value) : Type 0 where
+pub record LineEndsWith (text : List ℕ) (k : List PlacedLiteral → LineSteps) (tys : List Ty) (vs : List Value) : Type 0 where
   pub literals : List PlacedLiteral
   pub many : length tys ≡ length literals
   pub values : asked_values tys literals ≡ Ok vs
@@ -82,7 +82,7 @@ pub record EndsWith (text : List ℕ) (k : List PlacedLiteral → LineSteps) (ty
 
 -- from the bytes, where the arguments begin, one reads so to the end of the line
 abbrev pub HasArguments : List Ty → List ℕ → List Value → Type 0
-HasArguments tys bytes vs = (text : List ℕ) (k : List PlacedLiteral → LineSteps) → ReadsTo text bytes (AllArguments k) → EndsWith text k tys vs
+HasArguments tys bytes vs = (text : List ℕ) (k : List PlacedLiteral → LineSteps) → LineReadsTo text bytes (AllArguments k) → LineEndsWith text k tys vs
 
 -- the line asks this, by what its tokens say
 pub record AsksPlainly (catalogue : CatalogueState) (text : List ℕ) (request : Request) : Type 0 where
