@@ -12,6 +12,7 @@ use pac_base::NoMemory;
 use pac_tables::Rows;
 use pac_value::{Key, Row};
 use std::alloc::Global;
+use std::cmp::Ordering;
 use std::marker::Model;
 
 /// A change, and the cell that is changed.
@@ -48,7 +49,17 @@ fn search(changes: &[CellChange], table: u16, key: &Key) -> Result<usize, usize>
     ensures found { IfOk result (IsPlaceOf changes.now (table, key.now)) }
     ensures absent { IfErr result (IsGapFor changes.now (table, key.now)) }
 {
-    changes.binary_search_by_key(&(table, *key), |change| change.0)
+    changes.binary_search_by(|change| order(&change.0, table, key))
+}
+
+// How a cell stands to the one of this table and key. Neither is copied: a key is large.
+fn order(cell: &(u16, Key), table: u16, key: &Key) -> Ordering
+    ensures { result ≡ cell_cmp cell.now (table, key.now) }
+{
+    match cell.0.cmp(&table) {
+        Ordering::Equal => cell.1.cmp(key),
+        other => other,
+    }
 }
 
 impl Draft {

@@ -112,16 +112,12 @@ fn key_of(tables: &[Table], target: &Target<'_>, env: &Env) -> Result<Key, Trap>
 }
 
 // The column of a row, or the default where there is no row.
-fn column_or(row: Option<&Row>, column: u16, default: Value) -> Value
-    ensures { result ≡ column_or (option_map (λ r. r.now) row.entry) column default }
+fn column_or(row: Option<&Row>, column: u16, default: &Value) -> Value
+    ensures { result ≡ column_or (option_map (λ r. r.now) row.entry) column default.now }
 {
     match row {
-        Some(row) => row
-            .items()
-            .get(usize::from(column))
-            .copied()
-            .unwrap_or(default),
-        None => default,
+        Some(row) => *row.items().get(usize::from(column)).unwrap_or(default),
+        None => *default,
     }
 }
 
@@ -131,15 +127,15 @@ pub(crate) fn read<R: Rows>(
     rows: &R,
     target: &Target<'_>,
     column: u16,
-    default: Value,
+    default: &Value,
     var: u16,
     txn: &mut RunningTxn,
 ) -> Result<(), Halt>
     requires key { IsTrue (is_wanted (type_in (types_of txn.old.env) target.now.key.now) (key_type tables.now target.now.table)) }
-    requires column { IsTrue (is_wanted (Some (type_of default)) (column_type tables.now target.now.table column)) }
+    requires column { IsTrue (is_wanted (Some (type_of default.now)) (column_type tables.now target.now.table column)) }
     requires over { RunsOver tables.now (R.tables rows.now) (R.held rows.now) txn.old.draft }
-    ensures does { Does result (done (kind.Read var target.now.table target.now.key.now column default) (state_of (R.held rows.now) txn.old)) (state_of (R.held rows.now) txn.new) }
-    ensures types { OnOk result (types_of txn.new.env ≡ with_var (types_of txn.old.env) var (type_of default)) }
+    ensures does { Does result (done (kind.Read var target.now.table target.now.key.now column default.now) (state_of (R.held rows.now) txn.old)) (state_of (R.held rows.now) txn.new) }
+    ensures types { OnOk result (types_of txn.new.env ≡ with_var (types_of txn.old.env) var (type_of default.now)) }
     ensures draft { txn.new.draft ≡ txn.old.draft }
 {
     let key = key_of(tables, target, &txn.env)?;

@@ -67,7 +67,7 @@ fn exec_stmt<R: Rows>(
             default,
         } => {
             let target = Target { table: *table, key };
-            read(tables, rows, &target, *column, *default, *var, txn)
+            read(tables, rows, &target, *column, default, *var, txn)
         }
         Stmt::Has { var, table, key } => {
             let target = Target { table: *table, key };

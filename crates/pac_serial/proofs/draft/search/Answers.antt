@@ -2,7 +2,7 @@
 use Rattle.std.proofs.Common.{◌≡◌, ◌<◌, ◌≤◌, List, length, get_or, T, Result, Ok, Err, IfOk, IfErr, ℕ, rules, arith}
 use Rattle.std.specs.List.Sorted.{IsSearchInRange, IsBinarySearchResult}
 use Rattle.std.specs.FinMap.{is_sorted}
-use Rattle.std.proofs.lemmas.List.Sorted.{answers_always}
+use Rattle.std.proofs.lemmas.Fn.{always_returns_same}
 use Rattle.pac_value.specs.State.{Cell, cell_cmp}
 use Rattle.pac_value.proofs.CellLemmas.{cells_total, cells_antisymmetric}
 use Rattle.pac_serial.specs.Drafts.{Change, IsPlaceOf, IsGapFor}
@@ -18,12 +18,12 @@ searched changes sorted cell (Err at) in_range parted =
 
 pub returns-clause-found : goal.returns-clause-found
 returns-clause-found c =
-    let facts = c.binary_search_by_key.ensures in
-    let by = facts.position (λ change. change.0) (answers_always _ _ _ (λ f a r g called. search rules)) in
-    (searched c.args.changes.now c.requires (c.args.table, c.args.key.now) c.binary_search_by_key.result facts.bound by).0
+    let facts = c.binary_search_by.ensures in
+    let by = facts.position (λ change. cell_cmp change.0 (c.args.table, c.args.key.now)) (always_returns_same _ _ _ (λ a r f called. search rules)) in
+    (searched c.args.changes.now c.requires (c.args.table, c.args.key.now) c.binary_search_by.result facts.bound by).0
 
 pub returns-clause-absent : goal.returns-clause-absent
 returns-clause-absent c =
-    let facts = c.binary_search_by_key.ensures in
-    let by = facts.position (λ change. change.0) (answers_always _ _ _ (λ f a r g called. search rules)) in
-    (searched c.args.changes.now c.requires (c.args.table, c.args.key.now) c.binary_search_by_key.result facts.bound by).1
+    let facts = c.binary_search_by.ensures in
+    let by = facts.position (λ change. cell_cmp change.0 (c.args.table, c.args.key.now)) (always_returns_same _ _ _ (λ a r f called. search rules)) in
+    (searched c.args.changes.now c.requires (c.args.table, c.args.key.now) c.binary_search_by.result facts.bound by).1

@@ -14,5 +14,5 @@ returns-clause-types g c =
     let cell : Cell = (c.args.target.now.table, c.in_ok-key.key) in
     c.in_ok-define.ensures.types
     ∙ ap (with_var (types_of c.args.txn.now.env) c.args.var)
-    (ap type_of (c.column_or-value.ensures ∙ ap (λ o. column_or o c.args.column c.args.default) c.get.ensures)
-    ∙ column_or-type c.args.tables.now (drafted (g.R.Rows.held c.args.rows.now) c.args.txn.now.draft) cell c.args.column c.args.default c.requires.over.fits c.requires.column)
+    (ap type_of (c.column_or-value.ensures ∙ ap (λ o. column_or o c.args.column c.args.default.now) c.get.ensures)
+    ∙ column_or-type c.args.tables.now (drafted (g.R.Rows.held c.args.rows.now) c.args.txn.now.draft) cell c.args.column c.args.default.now c.requires.over.fits c.requires.column)
