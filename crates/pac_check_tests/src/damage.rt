@@ -24,24 +24,27 @@ fn told(
     }
 }
 
+// The byte that is put at a place, the length, and the place and the kind of the damage.
+const DAMAGES: &[(usize, u8, usize, u64, SlotDamageKind)] = &[
+    (1, 0, 53, 1, SlotDamageKind::Magic),
+    (0, 1, 1, 1, SlotDamageKind::Magic),
+    (0, 1, 10, 9, SlotDamageKind::Short),
+    (0, 1, 20, 17, SlotDamageKind::Short),
+    (0, 1, 26, 25, SlotDamageKind::Short),
+    (25, 2, 53, 25, SlotDamageKind::Range),
+    (25, 0, 53, 25, SlotDamageKind::Range),
+    (0, 1, 34, 27, SlotDamageKind::Short),
+    (35, 3, 53, 35, SlotDamageKind::Tag),
+    (35, 2, 53, 35, SlotDamageKind::Row),
+    (44, 0, 53, 44, SlotDamageKind::Tag),
+    (44, 2, 45, 44, SlotDamageKind::Row),
+    (27, 2, 53, 53, SlotDamageKind::Short),
+];
+
 #[test]
 fn damage_is_told_at_its_place(rt: HostRuntime) -> Result<(), Fail> {
     let alloc = rt.alloc();
-    for (place, byte, len, at, kind) in [
-        (1, 0, 53, 1, SlotDamageKind::Magic),
-        (0, 1, 1, 1, SlotDamageKind::Magic),
-        (0, 1, 10, 9, SlotDamageKind::Short),
-        (0, 1, 20, 17, SlotDamageKind::Short),
-        (0, 1, 26, 25, SlotDamageKind::Short),
-        (25, 2, 53, 25, SlotDamageKind::Range),
-        (25, 0, 53, 25, SlotDamageKind::Range),
-        (0, 1, 34, 27, SlotDamageKind::Short),
-        (35, 3, 53, 35, SlotDamageKind::Tag),
-        (35, 2, 53, 35, SlotDamageKind::Row),
-        (44, 0, 53, 44, SlotDamageKind::Tag),
-        (44, 2, 45, 44, SlotDamageKind::Row),
-        (27, 2, 53, 53, SlotDamageKind::Short),
-    ] {
+    for &(place, byte, len, at, kind) in DAMAGES {
         assert_eq!(rt; told(alloc, place, byte, len)?, Some((at, kind)));
     }
     assert_eq!(rt; told(alloc, 0, 1, 53)?, None);

@@ -72,6 +72,14 @@ fn newest_of(alloc: Global, a: &[u8]) -> Result<Option<u64>, Fail> {
     }
 }
 
+const IMAGES: &[(Fill, bool)] = &[
+    (Fill::Old, false),
+    (Fill::New, true),
+    (Fill::Byte(0), true),
+    (Fill::Byte(1), true),
+    (Fill::Byte(7), false),
+];
+
 #[test]
 fn a_crash_in_a_save_leaves_the_newest_slot(rt: HostRuntime) -> Result<(), Fail> {
     let alloc = rt.alloc();
@@ -79,13 +87,7 @@ fn a_crash_in_a_save_leaves_the_newest_slot(rt: HostRuntime) -> Result<(), Fail>
     for failing in 4..=9 {
         let (answer, a) = saved(alloc, 3, SLOT, &b, failing)?;
         assert_eq!(rt; answer, Err(SaveError::DiskFault));
-        for (fill, grown) in [
-            (Fill::Old, false),
-            (Fill::New, true),
-            (Fill::Byte(0), true),
-            (Fill::Byte(1), true),
-            (Fill::Byte(7), false),
-        ] {
+        for &(fill, grown) in IMAGES {
             let newest = newest_of(alloc, &a.image(fill, grown)?)?;
             assert!(rt; newest == Some(2) || (newest == Some(3) && failing >= 8));
         }

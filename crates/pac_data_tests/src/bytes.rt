@@ -24,21 +24,24 @@ fn numbers_have_their_lowest_byte_first(rt: HostRuntime) -> Result<(), Fail> {
     Ok(())
 }
 
+// A place of nine bytes, and whether one, two, four and eight bytes stand there.
+const ENDS: &[(usize, bool, bool, bool, bool)] = &[
+    (0, true, true, true, true),
+    (1, true, true, true, true),
+    (2, true, true, true, false),
+    (5, true, true, true, false),
+    (6, true, true, false, false),
+    (7, true, true, false, false),
+    (8, true, false, false, false),
+    (9, false, false, false, false),
+    (10, false, false, false, false),
+    (usize::MAX, false, false, false, false),
+];
+
 #[test]
 fn numbers_are_short_where_bytes_end(rt: HostRuntime) {
     let bytes = b"\0\0\0\0\0\0\0\0\0";
-    for (at, one, two, four, eight) in [
-        (0, true, true, true, true),
-        (1, true, true, true, true),
-        (2, true, true, true, false),
-        (5, true, true, true, false),
-        (6, true, true, false, false),
-        (7, true, true, false, false),
-        (8, true, false, false, false),
-        (9, false, false, false, false),
-        (10, false, false, false, false),
-        (usize::MAX, false, false, false, false),
-    ] {
+    for &(at, one, two, four, eight) in ENDS {
         let short = Short { at };
         assert_eq!(rt; u8_at(bytes, at).err(), (!one).then_some(short), "{at}");
         assert_eq!(rt; u16_at(bytes, at).err(), (!two).then_some(short), "{at}");
@@ -47,35 +50,41 @@ fn numbers_are_short_where_bytes_end(rt: HostRuntime) {
     }
 }
 
+const INTS: &[(i64, &[u8])] = &[
+    (1, b"\x01\x01\0\0\0\0\0\0\0"),
+    (10500, b"\x01\x04\x29\0\0\0\0\0\0"),
+    (-1, b"\x01\xFF\xFF\xFF\xFF\xFF\xFF\xFF\xFF"),
+    (i64::MIN, b"\x01\0\0\0\0\0\0\0\x80"),
+    (i64::MAX, b"\x01\xFF\xFF\xFF\xFF\xFF\xFF\xFF\x7F"),
+];
+
+const TEXTS: &[(&[u8], &[u8])] = &[
+    (b"ab", b"\x02\x02ab"),
+    (b"", b"\x02\0"),
+    (b" ~", b"\x02\x02 ~"),
+];
+
+// Whether the value is written so behind a byte, and read where the bytes end and where more follow.
+fn is_spelled(mut out: Vec<u8>, value: Value, spelled: &[u8]) -> Result<bool, Fail> {
+    let read = Ok((value, out.len()));
+    let written = out.get(1..) == Some(spelled);
+    let last = value_at(&out, 1) == read && type_at(&out, 1) == Ok(value.ty());
+    out.extend_from_slice(b"\x02")?;
+    Ok(written && last && value_at(&out, 1) == read)
+}
+
 #[test]
 fn values_are_a_tag_and_bytes(rt: HostRuntime) -> Result<(), Fail> {
-    let ab = Value::Text(Text::from_bytes(b"ab").ok_or("no text")?);
-    let empty = Value::Text(Text::from_bytes(b"").ok_or("no text")?);
-    let ends = Value::Text(Text::from_bytes(b" ~").ok_or("no text")?);
-    for (value, spelled) in [
-        (Value::Int(1), b"\x01\x01\0\0\0\0\0\0\0".as_slice()),
-        (Value::Int(10500), b"\x01\x04\x29\0\0\0\0\0\0".as_slice()),
-        (
-            Value::Int(-1),
-            b"\x01\xFF\xFF\xFF\xFF\xFF\xFF\xFF\xFF".as_slice(),
-        ),
-        (Value::Int(i64::MIN), b"\x01\0\0\0\0\0\0\0\x80".as_slice()),
-        (
-            Value::Int(i64::MAX),
-            b"\x01\xFF\xFF\xFF\xFF\xFF\xFF\xFF\x7F".as_slice(),
-        ),
-        (ab, b"\x02\x02ab".as_slice()),
-        (empty, b"\x02\0".as_slice()),
-        (ends, b"\x02\x02 ~".as_slice()),
-    ] {
+    for &(number, spelled) in INTS {
         let mut out = vec![in rt.alloc(); 0xFF]?;
-        put_value(&mut out, &value)?;
-        assert_eq!(rt; &out[1..], spelled);
-        let end = out.len();
-        assert_eq!(rt; value_at(&out, 1), Ok((value, end)));
-        assert_eq!(rt; type_at(&out, 1), Ok(value.ty()));
-        out.extend_from_slice(b"\x02")?;
-        assert_eq!(rt; value_at(&out, 1), Ok((value, end)));
+        put_value(&mut out, &Value::Int(number))?;
+        assert!(rt; is_spelled(out, Value::Int(number), spelled)?, "{number}");
+    }
+    for &(bytes, spelled) in TEXTS {
+        let text = Text::from_bytes(bytes).ok_or("no text")?;
+        let mut out = vec![in rt.alloc(); 0xFF]?;
+        put_value(&mut out, &Value::Text(text))?;
+        assert!(rt; is_spelled(out, Value::Text(text), spelled)?);
     }
     Ok(())
 }
@@ -106,36 +115,26 @@ fn values_are_short_where_they_are_cut(rt: HostRuntime) {
     }
 }
 
+const FAULTS: &[(&[u8], usize, ValueFault)] = &[
+    // A tag of 0 or 3, with bytes behind it or none.
+    (b"\0\x01\0\0\0\0\0\0\0", 0, ValueFault::Tag { at: 0 }),
+    (b"\x03", 0, ValueFault::Tag { at: 0 }),
+    (b"\x01\x03\0", 1, ValueFault::Tag { at: 1 }),
+    // A length of 65 and more, whatever is left.
+    (b"\x02\x41", 0, ValueFault::Bad { at: 0 }),
+    (b"\x01\x02\xFFa", 1, ValueFault::Bad { at: 1 }),
+    // A byte that isn't printable, in a text that is whole.
+    (b"\x02\x01\x1F", 0, ValueFault::Bad { at: 0 }),
+    (b"\x02\x02a\x7F", 0, ValueFault::Bad { at: 0 }),
+    (b"\0\0\x02\x02\x80a", 2, ValueFault::Bad { at: 2 }),
+    // The same in a text that is cut.
+    (b"\x02\x02\x1F", 0, ValueFault::Short { at: 1 }),
+    (b"\0\x02\x03\x1Fa", 1, ValueFault::Short { at: 2 }),
+];
+
 #[test]
 fn the_first_fault_of_a_value_is_told(rt: HostRuntime) {
-    for (bytes, at, fault) in [
-        // A tag of 0 or 3, with bytes behind it or none.
-        (
-            b"\0\x01\0\0\0\0\0\0\0".as_slice(),
-            0,
-            ValueFault::Tag { at: 0 },
-        ),
-        (b"\x03".as_slice(), 0, ValueFault::Tag { at: 0 }),
-        (b"\x01\x03\0".as_slice(), 1, ValueFault::Tag { at: 1 }),
-        // A length of 65 and more, whatever is left.
-        (b"\x02\x41".as_slice(), 0, ValueFault::Bad { at: 0 }),
-        (b"\x01\x02\xFFa".as_slice(), 1, ValueFault::Bad { at: 1 }),
-        // A byte that isn't printable, in a text that is whole.
-        (b"\x02\x01\x1F".as_slice(), 0, ValueFault::Bad { at: 0 }),
-        (b"\x02\x02a\x7F".as_slice(), 0, ValueFault::Bad { at: 0 }),
-        (
-            b"\0\0\x02\x02\x80a".as_slice(),
-            2,
-            ValueFault::Bad { at: 2 },
-        ),
-        // The same in a text that is cut.
-        (b"\x02\x02\x1F".as_slice(), 0, ValueFault::Short { at: 1 }),
-        (
-            b"\0\x02\x03\x1Fa".as_slice(),
-            1,
-            ValueFault::Short { at: 2 },
-        ),
-    ] {
+    for &(bytes, at, fault) in FAULTS {
         assert_eq!(rt; value_at(bytes, at), Err(fault), "{fault}");
     }
     assert_eq!(rt; type_at(b"\0", 0), Err(ValueFault::Tag { at: 0 }));

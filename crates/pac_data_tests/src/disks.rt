@@ -21,41 +21,54 @@ fn written(
     Ok(disk)
 }
 
+/// A place, and what is written there.
+type Piece = (u64, &'static [u8]);
+
+const NONE: Piece = (0, b"");
+
+const INSIDE: Piece = (1, b"XY");
+
+const AGAIN: Piece = (1, b"PQ");
+
+const BESIDE: Piece = (2, b"PQ");
+
+const OVER_END: Piece = (3, b"XYZ");
+
+const AT_END: Piece = (4, b"PQ");
+
+const DOTS: Fill = Fill::Byte(b'.');
+
+// The call that fails, two pieces, and the image that is left with these bytes in their places.
+const IMAGES: &[(u64, Piece, Piece, Fill, bool, &[u8])] = &[
+    (0, NONE, NONE, Fill::New, true, b"abcd"),
+    (0, INSIDE, NONE, Fill::Old, false, b"abcd"),
+    (0, INSIDE, NONE, Fill::New, false, b"aXYd"),
+    (0, INSIDE, NONE, DOTS, true, b"a..d"),
+    // The same range twice, and a range that overlaps.
+    (0, INSIDE, AGAIN, Fill::Old, true, b"abcd"),
+    (0, INSIDE, AGAIN, Fill::New, true, b"aPQd"),
+    (0, INSIDE, AGAIN, DOTS, true, b"a..d"),
+    (0, INSIDE, BESIDE, Fill::New, true, b"aXPQ"),
+    (0, INSIDE, BESIDE, DOTS, true, b"a..."),
+    // Over the end, where no byte was at the sync.
+    (0, OVER_END, NONE, Fill::Old, false, b"abcd"),
+    (0, OVER_END, NONE, Fill::Old, true, b"abcd\0\0"),
+    (0, OVER_END, NONE, Fill::New, false, b"abcX"),
+    (0, OVER_END, NONE, Fill::New, true, b"abcXYZ"),
+    (0, OVER_END, NONE, DOTS, false, b"abc."),
+    (0, OVER_END, AT_END, DOTS, true, b"abc..."),
+    (0, OVER_END, AT_END, Fill::New, true, b"abcXPQ"),
+    // A write that failed counts.
+    (1, INSIDE, NONE, Fill::Old, true, b"abcd"),
+    (1, INSIDE, NONE, Fill::New, true, b"aXYd"),
+    (2, INSIDE, AT_END, Fill::New, false, b"aXYd"),
+    (2, INSIDE, AT_END, Fill::New, true, b"aXYdPQ"),
+    (2, INSIDE, AT_END, DOTS, true, b"a..d.."),
+];
+
 #[test]
 fn images_are_old_new_or_filled(rt: HostRuntime) -> Result<(), Fail> {
-    let none = (0, b"".as_slice());
-    let inside = (1, b"XY".as_slice());
-    let again = (1, b"PQ".as_slice());
-    let beside = (2, b"PQ".as_slice());
-    let over_end = (3, b"XYZ".as_slice());
-    let at_end = (4, b"PQ".as_slice());
-    let dots = Fill::Byte(b'.');
-    for (failing, first, second, fill, grown, image) in [
-        (0, none, none, Fill::New, true, b"abcd".as_slice()),
-        (0, inside, none, Fill::Old, false, b"abcd".as_slice()),
-        (0, inside, none, Fill::New, false, b"aXYd".as_slice()),
-        (0, inside, none, dots, true, b"a..d".as_slice()),
-        // The same range twice, and a range that overlaps.
-        (0, inside, again, Fill::Old, true, b"abcd".as_slice()),
-        (0, inside, again, Fill::New, true, b"aPQd".as_slice()),
-        (0, inside, again, dots, true, b"a..d".as_slice()),
-        (0, inside, beside, Fill::New, true, b"aXPQ".as_slice()),
-        (0, inside, beside, dots, true, b"a...".as_slice()),
-        // Over the end, where no byte was at the sync.
-        (0, over_end, none, Fill::Old, false, b"abcd".as_slice()),
-        (0, over_end, none, Fill::Old, true, b"abcd\0\0".as_slice()),
-        (0, over_end, none, Fill::New, false, b"abcX".as_slice()),
-        (0, over_end, none, Fill::New, true, b"abcXYZ".as_slice()),
-        (0, over_end, none, dots, false, b"abc.".as_slice()),
-        (0, over_end, at_end, dots, true, b"abc...".as_slice()),
-        (0, over_end, at_end, Fill::New, true, b"abcXPQ".as_slice()),
-        // A write that failed counts.
-        (1, inside, none, Fill::Old, true, b"abcd".as_slice()),
-        (1, inside, none, Fill::New, true, b"aXYd".as_slice()),
-        (2, inside, at_end, Fill::New, false, b"aXYd".as_slice()),
-        (2, inside, at_end, Fill::New, true, b"aXYdPQ".as_slice()),
-        (2, inside, at_end, dots, true, b"a..d..".as_slice()),
-    ] {
+    for &(failing, first, second, fill, grown, image) in IMAGES {
         let disk = written(&rt, failing, first, second)?;
         let left = disk.image(fill, grown)?;
         assert_eq!(rt; left.as_slice(), image, "{failing} {fill:?} {grown}");
@@ -89,38 +102,24 @@ fn disk_in_memory_reads_and_syncs(rt: HostRuntime) -> Result<(), Fail> {
     Ok(())
 }
 
+const GATES: &[(u64, &[u8], &[u8], &[u8])] = &[
+    (1, b"0", b"0ab", b"0.."),
+    (2, b"0", b"0ab", b"0.."),
+    (3, b"0ab", b"\x01ab", b".ab"),
+    (4, b"0ab", b"\x01ab", b".ab"),
+    (5, b"\x01ab", b"\x01ab", b"\x01ab"),
+];
+
 #[test]
 fn gate_opens_once_the_piece_is_there(rt: HostRuntime) -> Result<(), Fail> {
     // The calls are the piece's write, its sync, the gate's write and its sync.
-    for (failing, old, new, filled) in [
-        (1, b"0".as_slice(), b"0ab".as_slice(), b"0..".as_slice()),
-        (2, b"0".as_slice(), b"0ab".as_slice(), b"0..".as_slice()),
-        (
-            3,
-            b"0ab".as_slice(),
-            b"\x01ab".as_slice(),
-            b".ab".as_slice(),
-        ),
-        (
-            4,
-            b"0ab".as_slice(),
-            b"\x01ab".as_slice(),
-            b".ab".as_slice(),
-        ),
-        (
-            5,
-            b"\x01ab".as_slice(),
-            b"\x01ab".as_slice(),
-            b"\x01ab".as_slice(),
-        ),
-    ] {
+    for &(failing, old, new, filled) in GATES {
         let bytes = b"0".to_vec(rt.alloc())?;
         let mut disk = MemDisk::new(bytes, [failing].to_vec(rt.alloc())?);
         assert_eq!(rt; open_behind(&mut disk, 0, b"ab").is_ok(), failing == 5);
-        let dots = Fill::Byte(b'.');
         assert_eq!(rt; disk.image(Fill::Old, false)?.as_slice(), old, "{failing}");
         assert_eq!(rt; disk.image(Fill::New, true)?.as_slice(), new, "{failing}");
-        assert_eq!(rt; disk.image(dots, true)?.as_slice(), filled, "{failing}");
+        assert_eq!(rt; disk.image(DOTS, true)?.as_slice(), filled, "{failing}");
     }
     Ok(())
 }

@@ -63,20 +63,23 @@ impl Sink for Short {
     }
 }
 
+// What each read of two bytes answers, and what is in its buffer then.
+const READS: &[(Result<usize, Failed>, &[u8])] = &[
+    (Ok(2), b"ab"),
+    (Err(Failed), b"ab"),
+    (Ok(2), b"cd"),
+    (Ok(1), b"ed"),
+    (Ok(0), b"ed"),
+];
+
 #[test]
 fn source_fails_once_and_goes_on(rt: HostRuntime) -> Result<(), Fail> {
     let bytes = b"abcde".to_vec(rt.alloc())?;
     let mut source = MemSource::new(bytes, [2].to_vec(rt.alloc())?);
     let mut buf = [0u8; 2];
-    for (count, front) in [
-        (Ok(2), b"ab"),
-        (Err(Failed), b"ab"),
-        (Ok(2), b"cd"),
-        (Ok(1), b"ed"),
-        (Ok(0), b"ed"),
-    ] {
+    for &(count, front) in READS {
         assert_eq!(rt; source.read(&mut buf), count);
-        assert_eq!(rt; buf.as_slice(), front.as_slice());
+        assert_eq!(rt; buf.as_slice(), front);
     }
     Ok(())
 }
@@ -93,16 +96,18 @@ fn sink_that_fails_keeps_a_front(rt: HostRuntime) -> Result<(), Fail> {
     Ok(())
 }
 
+const LIMITS: &[(usize, u64, Result<usize, ReadError>)] = &[
+    (4, 2, Ok(5)),
+    (5, 2, Err(ReadError::Failed)),
+    (5, 9, Ok(5)),
+    (6, 9, Ok(5)),
+    (0, 1, Err(ReadError::Failed)),
+];
+
 #[test]
 fn reads_a_whole_input_up_to_its_limit(rt: HostRuntime) -> Result<(), Fail> {
     // The second read of five bytes would be the end. It fails, and comes only where the limit isn't passed.
-    for (limit, failing, length) in [
-        (4, 2, Ok(5)),
-        (5, 2, Err(ReadError::Failed)),
-        (5, 9, Ok(5)),
-        (6, 9, Ok(5)),
-        (0, 1, Err(ReadError::Failed)),
-    ] {
+    for &(limit, failing, length) in LIMITS {
         let bytes = b"abcde".to_vec(rt.alloc())?;
         let mut source = MemSource::new(bytes, [failing].to_vec(rt.alloc())?);
         let read = read_up_to(rt.alloc(), &mut source, limit).map(|text| text.len());

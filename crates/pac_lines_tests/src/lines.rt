@@ -46,16 +46,18 @@ fn source(alloc: Global, text: &[u8], failing: &[u64]) -> Result<MemSource, Fail
     Ok(MemSource::new(text.to_vec(alloc)?, failing.to_vec(alloc)?))
 }
 
+const ENDS: &[(&[u8], &[u8])] = &[
+    (b"", b""),
+    (b"a", b"a|"),
+    (b"a\n", b"a|"),
+    (b"\n", b"|"),
+    (b"a\n\nb", b"a||b|"),
+    (b"a\r\nb\r\n", b"a\r|b\r|"),
+];
+
 #[test]
 fn a_line_ends_at_a_line_feed_or_at_the_end(rt: HostRuntime) -> Result<(), Fail> {
-    for (text, bars) in [
-        (b"".as_slice(), b"".as_slice()),
-        (b"a", b"a|"),
-        (b"a\n", b"a|"),
-        (b"\n", b"|"),
-        (b"a\n\nb", b"a||b|"),
-        (b"a\r\nb\r\n", b"a\r|b\r|"),
-    ] {
+    for &(text, bars) in ENDS {
         let mut reader = LineReader::new(rt.alloc(), 10);
         let mut input = source(rt.alloc(), text, &[])?;
         let (given, error) = lines(rt.alloc(), &mut reader, &mut input)?;
@@ -113,18 +115,19 @@ fn a_line_goes_on_over_chunks(rt: HostRuntime) -> Result<(), Fail> {
     Ok(())
 }
 
+const LIMITS: &[(&[u8], u32, &[u8], Option<LineError>)] = &[
+    (b"", 0, b"", None),
+    (b"a", 0, b"", Some(LineError::TooLong)),
+    (b"ab\ncd\ne", 7, b"ab|cd|e|", None),
+    (b"ab\ncd\ne", 6, b"ab|cd|", Some(LineError::TooLong)),
+    (b"ab\ncd\ne", 5, b"ab|", Some(LineError::TooLong)),
+    (b"ab\n", 3, b"ab|", None),
+    (b"ab\n", 2, b"", Some(LineError::TooLong)),
+];
+
 #[test]
 fn one_byte_over_the_limit_is_too_long(rt: HostRuntime) -> Result<(), Fail> {
-    let over = Some(LineError::TooLong);
-    for (text, limit, bars, last) in [
-        (b"".as_slice(), 0, b"".as_slice(), None),
-        (b"a", 0, b"", over),
-        (b"ab\ncd\ne", 7, b"ab|cd|e|", None),
-        (b"ab\ncd\ne", 6, b"ab|cd|", over),
-        (b"ab\ncd\ne", 5, b"ab|", over),
-        (b"ab\n", 3, b"ab|", None),
-        (b"ab\n", 2, b"", over),
-    ] {
+    for &(text, limit, bars, last) in LIMITS {
         let mut reader = LineReader::new(rt.alloc(), limit);
         let mut input = source(rt.alloc(), text, &[])?;
         let (given, error) = lines(rt.alloc(), &mut reader, &mut input)?;

@@ -79,15 +79,17 @@ fn count(alloc: Global, image: Vec<u8>) -> Result<u64, Fail> {
     Ok(opened(alloc, &mut disk)?.gate().txns())
 }
 
+const FILLS: &[Fill] = &[
+    Fill::Old,
+    Fill::New,
+    Fill::Byte(0),
+    Fill::Byte(1),
+    Fill::Byte(7),
+];
+
 // Whether each image of a disk holds no transaction, or no more than so many.
 fn hold_at_most(alloc: Global, disk: &MemDisk, most: u64) -> Result<bool, Fail> {
-    for fill in [
-        Fill::Old,
-        Fill::New,
-        Fill::Byte(0),
-        Fill::Byte(1),
-        Fill::Byte(7),
-    ] {
+    for &fill in FILLS {
         for grown in [false, true] {
             if count(alloc, disk.image(fill, grown)?)? > most {
                 return Ok(false);

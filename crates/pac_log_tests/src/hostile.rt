@@ -28,14 +28,16 @@ fn told(alloc: Global, place: usize, byte: u8, len: usize) -> Result<(u64, &'sta
     }
 }
 
+// Changes of the name, the length of the text, and the text.
+const HEADERS: &[(usize, u8)] = &[(7, b'2'), (8, 23), (9, 1), (10, 1), (12, b'T')];
+
 #[test]
 fn other_headers_are_no_store(rt: HostRuntime) -> Result<(), Fail> {
     let alloc = rt.alloc();
     for len in 0..37 {
         assert_eq!(rt; told(alloc, 0, b'P', len)?, (0, "no store"));
     }
-    // The name, the length of the text, and the text.
-    for (place, byte) in [(7, b'2'), (8, 23), (9, 1), (10, 1), (12, b'T')] {
+    for &(place, byte) in HEADERS {
         assert_eq!(rt; told(alloc, place, byte, 70)?, (0, "no store"));
     }
     Ok(())
@@ -72,28 +74,31 @@ fn a_cut_log_is_damaged(rt: HostRuntime) -> Result<(), Fail> {
     Ok(())
 }
 
+// The byte that is put at a place, the length, and what is told.
+const CHANGES: &[(usize, u8, usize, (u64, &str))] = &[
+    (36, 1, 70, (1, "txns")),
+    (36, 1, 90, (1, "txns")),
+    (37, 0, 70, (37, "Range")),
+    (38, 5, 70, (37, "Range")),
+    (37, 0, 41, (37, "Range")),
+    (44, 1, 70, (41, "Range")),
+    // More entries than there are, and entries that are longer or shorter than their length says.
+    (37, 2, 70, (69, "Short")),
+    (41, 25, 70, (45, "Short")),
+    (41, 25, 71, (69, "Range")),
+    (41, 23, 70, (61, "Short")),
+    (45, 3, 70, (45, "Tag")),
+    (46, 0, 70, (46, "TooMany")),
+    (48, 1, 70, (48, "UnknownTable")),
+    (59, 2, 70, (59, "WrongRow")),
+    (60, 5, 70, (60, "Tag")),
+    (69, 1, 70, (70, "Short")),
+];
+
 #[test]
 fn changed_bytes_are_told(rt: HostRuntime) -> Result<(), Fail> {
     let alloc = rt.alloc();
-    for (place, byte, len, answer) in [
-        (36, 1, 70, (1, "txns")),
-        (36, 1, 90, (1, "txns")),
-        (37, 0, 70, (37, "Range")),
-        (38, 5, 70, (37, "Range")),
-        (37, 0, 41, (37, "Range")),
-        (44, 1, 70, (41, "Range")),
-        // More entries than there are, and entries that are longer or shorter than their length says.
-        (37, 2, 70, (69, "Short")),
-        (41, 25, 70, (45, "Short")),
-        (41, 25, 71, (69, "Range")),
-        (41, 23, 70, (61, "Short")),
-        (45, 3, 70, (45, "Tag")),
-        (46, 0, 70, (46, "TooMany")),
-        (48, 1, 70, (48, "UnknownTable")),
-        (59, 2, 70, (59, "WrongRow")),
-        (60, 5, 70, (60, "Tag")),
-        (69, 1, 70, (70, "Short")),
-    ] {
+    for &(place, byte, len, answer) in CHANGES {
         assert_eq!(rt; told(alloc, place, byte, len)?, answer);
     }
     Ok(())

@@ -27,44 +27,45 @@ fn let_of(alloc: Global, expr: &str) -> Result<Vec<u8>, Fail> {
     Ok(text)
 }
 
+// An expression in its canonical text, and with parentheses that aren't needed.
+const EXPRESSIONS: &[(&str, &str)] = &[
+    ("a - (b - c)", "((a) - ((b - c)))"),
+    ("a - b - c", "(a - b) - c"),
+    ("(a == b) == c", "((a == b)) == (c)"),
+    ("a == (b == c)", "a == ((b == c))"),
+    ("a + b == c * d", "(a + b) == (c * d)"),
+    ("!(a && b)", "!((a && b))"),
+    ("!!a", "!(!(a))"),
+    ("!a && b", "(!a) && b"),
+    ("!(a == b) == c", "(!(a == b)) == c"),
+    ("(a + b) * c", "((a + b)) * (c)"),
+    ("a * (b + c)", "(a) * (b + c)"),
+    ("a + b * c", "a + (b * c)"),
+    ("a * b + c", "(a * b) + c"),
+    ("a * (b / c)", "a * ((b) / c)"),
+    ("a / b % c", "((a / b) % c)"),
+    ("-1 - -1", "(- 001) - (-1)"),
+    ("a - -1", "a-(-1)"),
+    ("a || b && c", "a || (b && c)"),
+    ("(a || b) && c", "((a || b)) && c"),
+    ("a && (b && c)", "a && ((b && c))"),
+    ("a && b && c", "((a && b) && c)"),
+    ("a || (b || c)", "a || ((b || c))"),
+    ("a < b || c >= d", "(a < b) || (c >= d)"),
+    ("a && b || c && d", "(a && b) || (c && d)"),
+    ("true != false", "(true) != (false)"),
+    ("0", "(000)"),
+    ("0 - 0", "(- 0) - (00)"),
+    ("-9223372036854775808", "(- 09223372036854775808)"),
+    (
+        "\"a\\\"b\\\\c\" <= \" # \"",
+        "(\"a\\\"b\\\\c\") <= (\" # \")",
+    ),
+];
+
 #[test]
 fn expressions_have_the_fewest_parentheses(rt: HostRuntime) -> Result<(), Fail> {
-    // An expression in its canonical text, and with parentheses that aren't needed.
-    let rows = [
-        ("a - (b - c)", "((a) - ((b - c)))"),
-        ("a - b - c", "(a - b) - c"),
-        ("(a == b) == c", "((a == b)) == (c)"),
-        ("a == (b == c)", "a == ((b == c))"),
-        ("a + b == c * d", "(a + b) == (c * d)"),
-        ("!(a && b)", "!((a && b))"),
-        ("!!a", "!(!(a))"),
-        ("!a && b", "(!a) && b"),
-        ("!(a == b) == c", "(!(a == b)) == c"),
-        ("(a + b) * c", "((a + b)) * (c)"),
-        ("a * (b + c)", "(a) * (b + c)"),
-        ("a + b * c", "a + (b * c)"),
-        ("a * b + c", "(a * b) + c"),
-        ("a * (b / c)", "a * ((b) / c)"),
-        ("a / b % c", "((a / b) % c)"),
-        ("-1 - -1", "(- 001) - (-1)"),
-        ("a - -1", "a-(-1)"),
-        ("a || b && c", "a || (b && c)"),
-        ("(a || b) && c", "((a || b)) && c"),
-        ("a && (b && c)", "a && ((b && c))"),
-        ("a && b && c", "((a && b) && c)"),
-        ("a || (b || c)", "a || ((b || c))"),
-        ("a < b || c >= d", "(a < b) || (c >= d)"),
-        ("a && b || c && d", "(a && b) || (c && d)"),
-        ("true != false", "(true) != (false)"),
-        ("0", "(000)"),
-        ("0 - 0", "(- 0) - (00)"),
-        ("-9223372036854775808", "(- 09223372036854775808)"),
-        (
-            "\"a\\\"b\\\\c\" <= \" # \"",
-            "(\"a\\\"b\\\\c\") <= (\" # \")",
-        ),
-    ];
-    for (text, longer) in rows {
+    for &(text, longer) in EXPRESSIONS {
         let want = let_of(rt.alloc(), text)?;
         let found = printed(rt.alloc(), &want)?;
         assert_eq!(rt; found.as_slice(), want.as_slice(), "{text}");

@@ -12,61 +12,62 @@ pub fn typed(alloc: Global, text: &[u8]) -> Result<Result<Catalogue, TypeError>,
     Ok(check(alloc, tree))
 }
 
+const CASES: &[(&[u8], bool)] = &[
+    (b"", true),
+    (
+        b"table T(key int, v int); proc P(k int) { read x = U[k].v default 0; }",
+        false,
+    ),
+    (
+        b"table T(key int, v int); proc P(k int) { read x = P[k].v default 0; }",
+        false,
+    ),
+    (
+        b"table T(key int, v int); proc P(k int) { read x = T[k].w default 0; }",
+        false,
+    ),
+    (
+        b"table T(key int, v int); table U(key int, w int); proc P(k int) { read x = T[k].w default 0; }",
+        false,
+    ),
+    (
+        b"table T(key int, v int); proc P(k int) { put U[k] = (1); }",
+        false,
+    ),
+    (b"table T(key int, v int, v int);", false),
+    (b"table T(key int, v int); table T(key int, w int);", false),
+    (b"proc P() { } proc P() { }", false),
+    (b"proc P(k int, k int) { }", false),
+    (b"proc P(k int) { let k = 1; }", false),
+    (b"proc P() { let x = 1; let x = 2; }", false),
+    (b"proc P() { let x = x + 1; }", false),
+    (b"proc P() { let x = y; let y = 1; }", false),
+    (b"proc P(k int) { } proc Q() { let x = k; }", false),
+    (
+        b"table T(key int, v int); proc P(k int) { read x = T[x].v default 0; }",
+        false,
+    ),
+    (
+        b"table T(key int, v int); proc P(k int) { put T[k] = (1, 2); }",
+        false,
+    ),
+    (
+        b"table T(key int, v int, w int); proc P(k int) { put T[k] = (1); }",
+        false,
+    ),
+    (
+        b"table T(key int, T int); proc T(T int) { let x = T; put T[x] = (T + x); }",
+        true,
+    ),
+    (
+        b"proc P(k int) { let x = 1; } proc Q(k int) { let x = k + x; }",
+        false,
+    ),
+];
+
 #[test]
 fn names_and_counts_are_checked(rt: HostRuntime) -> Result<(), Fail> {
-    let cases: [(&[u8], bool); 20] = [
-        (b"", true),
-        (
-            b"table T(key int, v int); proc P(k int) { read x = U[k].v default 0; }",
-            false,
-        ),
-        (
-            b"table T(key int, v int); proc P(k int) { read x = P[k].v default 0; }",
-            false,
-        ),
-        (
-            b"table T(key int, v int); proc P(k int) { read x = T[k].w default 0; }",
-            false,
-        ),
-        (
-            b"table T(key int, v int); table U(key int, w int); proc P(k int) { read x = T[k].w default 0; }",
-            false,
-        ),
-        (
-            b"table T(key int, v int); proc P(k int) { put U[k] = (1); }",
-            false,
-        ),
-        (b"table T(key int, v int, v int);", false),
-        (b"table T(key int, v int); table T(key int, w int);", false),
-        (b"proc P() { } proc P() { }", false),
-        (b"proc P(k int, k int) { }", false),
-        (b"proc P(k int) { let k = 1; }", false),
-        (b"proc P() { let x = 1; let x = 2; }", false),
-        (b"proc P() { let x = x + 1; }", false),
-        (b"proc P() { let x = y; let y = 1; }", false),
-        (b"proc P(k int) { } proc Q() { let x = k; }", false),
-        (
-            b"table T(key int, v int); proc P(k int) { read x = T[x].v default 0; }",
-            false,
-        ),
-        (
-            b"table T(key int, v int); proc P(k int) { put T[k] = (1, 2); }",
-            false,
-        ),
-        (
-            b"table T(key int, v int, w int); proc P(k int) { put T[k] = (1); }",
-            false,
-        ),
-        (
-            b"table T(key int, T int); proc T(T int) { let x = T; put T[x] = (T + x); }",
-            true,
-        ),
-        (
-            b"proc P(k int) { let x = 1; } proc Q(k int) { let x = k + x; }",
-            false,
-        ),
-    ];
-    for (text, accepted) in cases {
+    for &(text, accepted) in CASES {
         match typed(rt.alloc(), text)? {
             Ok(_) => assert!(rt; accepted, "{text:?}"),
             Err(error) => assert!(rt; !accepted && error != TypeError::NoMemory, "{text:?}"),

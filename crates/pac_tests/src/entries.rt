@@ -325,18 +325,20 @@ fn an_entry_has_at_most_64_records(rt: HostRuntime) -> Result<(), Fail> {
     Ok(())
 }
 
+const KINDS: &[(EntryFaultKind, &str)] = &[
+    (EntryFaultKind::Short, "Short"),
+    (EntryFaultKind::Tag, "Tag"),
+    (EntryFaultKind::UnknownProc, "UnknownProc"),
+    (EntryFaultKind::WrongArgs, "WrongArgs"),
+    (EntryFaultKind::UnknownTable, "UnknownTable"),
+    (EntryFaultKind::WrongRow, "WrongRow"),
+    (EntryFaultKind::TooMany, "TooMany"),
+];
+
 #[test]
 fn kinds_are_printed(rt: HostRuntime) -> Result<(), Fail> {
     let alloc = rt.alloc();
-    for (kind, name) in [
-        (EntryFaultKind::Short, "Short"),
-        (EntryFaultKind::Tag, "Tag"),
-        (EntryFaultKind::UnknownProc, "UnknownProc"),
-        (EntryFaultKind::WrongArgs, "WrongArgs"),
-        (EntryFaultKind::UnknownTable, "UnknownTable"),
-        (EntryFaultKind::WrongRow, "WrongRow"),
-        (EntryFaultKind::TooMany, "TooMany"),
-    ] {
+    for &(kind, name) in KINDS {
         assert_eq!(rt; kind.name(), name);
         assert_eq!(rt; format!(in alloc; "{kind}")?.as_str(), name);
     }

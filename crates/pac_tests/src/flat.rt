@@ -237,47 +237,37 @@ fn excess(alloc: Global, counts: &[u16]) -> Result<Option<TooManyOps>, Fail> {
     }
 }
 
+// The numbers of operations of procedures, and their first excess.
+const COUNTS: &[(&[u16], Option<TooManyOps>)] = &[
+    (&[256], None),
+    (
+        &[257],
+        Some(TooManyOps {
+            proc: 0,
+            count: 257,
+        }),
+    ),
+    (
+        &[3, 300, 257],
+        Some(TooManyOps {
+            proc: 1,
+            count: 300,
+        }),
+    ),
+    (&[256; 16], None),
+];
+
 #[test]
 fn operations_may_not_be_too_many(rt: HostRuntime) -> Result<(), Fail> {
-    let full: [u16; 16] = [256; 16];
-    let mut one_more: [u16; 17] = [256; 17];
-    one_more[16] = 1;
-    let mut both: [u16; 17] = [256; 17];
-    both[16] = 257;
-    let cases: [(&[u16], Option<TooManyOps>); 6] = [
-        (&[256], None),
-        (
-            &[257],
-            Some(TooManyOps {
-                proc: 0,
-                count: 257,
-            }),
-        ),
-        (
-            &[3, 300, 257],
-            Some(TooManyOps {
-                proc: 1,
-                count: 300,
-            }),
-        ),
-        (&full, None),
-        (
-            &one_more,
-            Some(TooManyOps {
-                proc: 16,
-                count: 4097,
-            }),
-        ),
-        (
-            &both,
-            Some(TooManyOps {
-                proc: 16,
-                count: 257,
-            }),
-        ),
-    ];
-    for (counts, expected) in cases {
+    for &(counts, expected) in COUNTS {
         assert!(rt; excess(rt.alloc(), counts)? == expected, "{counts:?}");
+    }
+    // One more than all may be, and one more than one procedure may have.
+    for (last, count) in [(1, 4097), (257, 257)] {
+        let mut counts: [u16; 17] = [256; 17];
+        counts[16] = last;
+        let expected = Some(TooManyOps { proc: 16, count });
+        assert!(rt; excess(rt.alloc(), &counts)? == expected, "{last}");
     }
     Ok(())
 }

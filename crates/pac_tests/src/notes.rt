@@ -212,6 +212,19 @@ fn abort(alloc: Global, cat: &Catalogue, argument: i64) -> Result<Option<(u16, R
     note_of(exec_all(alloc, cat, &batch, &mut rows))
 }
 
+// The argument of a call, and its first note.
+const NOTES: &[(i64, Option<(u16, Reason)>)] = &[
+    (0, None),
+    (1, Some((0, Reason::DivZero))),
+    (2, Some((1, Reason::DivZero))),
+    (3, Some((3, Reason::DivZero))),
+    (4, Some((4, Reason::DivZero))),
+    (5, Some((6, Reason::DivZero))),
+    (6, Some((7, Reason::Missing))),
+    (7, Some((8, Reason::Asked))),
+    (8, Some((9, Reason::Overflow))),
+];
+
 #[test]
 fn each_kind_of_operation_leaves_its_note(rt: HostRuntime) -> Result<(), Fail> {
     let alloc = rt.alloc();
@@ -220,18 +233,7 @@ fn each_kind_of_operation_leaves_its_note(rt: HostRuntime) -> Result<(), Fail> {
     let [program] = programs.as_slice() else {
         return Err(Fail::from("not one program"));
     };
-    let rows = [
-        (0, None),
-        (1, Some((0, Reason::DivZero))),
-        (2, Some((1, Reason::DivZero))),
-        (3, Some((3, Reason::DivZero))),
-        (4, Some((4, Reason::DivZero))),
-        (5, Some((6, Reason::DivZero))),
-        (6, Some((7, Reason::Missing))),
-        (7, Some((8, Reason::Asked))),
-        (8, Some((9, Reason::Overflow))),
-    ];
-    for (argument, note) in rows {
+    for &(argument, note) in NOTES {
         assert_eq!(rt; abort(alloc, &cat, argument)?, note);
         assert_eq!(rt; first_note(program, argument), note);
     }

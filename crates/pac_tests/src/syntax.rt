@@ -49,39 +49,40 @@ fn value_of(procs: &[ProcNode]) -> Option<&ExprNode> {
     }
 }
 
+// What stands at the top, and what its left and right operand are, if they are no names.
+const LEVELS: &[(&str, BinOp, Option<BinOp>, Option<BinOp>)] = &[
+    ("a + b * c", BinOp::Add, None, Some(BinOp::Mul)),
+    ("a * b + c", BinOp::Add, Some(BinOp::Mul), None),
+    ("a - b - c", BinOp::Sub, Some(BinOp::Sub), None),
+    ("a - (b - c)", BinOp::Sub, None, Some(BinOp::Sub)),
+    ("a / b % c", BinOp::Rem, Some(BinOp::Div), None),
+    (
+        "a + b == c - d",
+        BinOp::Eq,
+        Some(BinOp::Add),
+        Some(BinOp::Sub),
+    ),
+    (
+        "a != b && c < d",
+        BinOp::And,
+        Some(BinOp::Ne),
+        Some(BinOp::Lt),
+    ),
+    ("a || b && c", BinOp::Or, None, Some(BinOp::And)),
+    ("a && b || c", BinOp::Or, Some(BinOp::And), None),
+    (
+        "a >= b || c > d",
+        BinOp::Or,
+        Some(BinOp::Ge),
+        Some(BinOp::Gt),
+    ),
+    ("(a <= b) == c", BinOp::Eq, Some(BinOp::Le), None),
+    ("(a || b) && c", BinOp::And, Some(BinOp::Or), None),
+];
+
 #[test]
 fn operators_bind_by_their_levels(rt: HostRuntime) -> Result<(), Fail> {
-    // What stands at the top, and what its left and right operand are, if they are no names.
-    let rows = [
-        ("a + b * c", BinOp::Add, None, Some(BinOp::Mul)),
-        ("a * b + c", BinOp::Add, Some(BinOp::Mul), None),
-        ("a - b - c", BinOp::Sub, Some(BinOp::Sub), None),
-        ("a - (b - c)", BinOp::Sub, None, Some(BinOp::Sub)),
-        ("a / b % c", BinOp::Rem, Some(BinOp::Div), None),
-        (
-            "a + b == c - d",
-            BinOp::Eq,
-            Some(BinOp::Add),
-            Some(BinOp::Sub),
-        ),
-        (
-            "a != b && c < d",
-            BinOp::And,
-            Some(BinOp::Ne),
-            Some(BinOp::Lt),
-        ),
-        ("a || b && c", BinOp::Or, None, Some(BinOp::And)),
-        ("a && b || c", BinOp::Or, Some(BinOp::And), None),
-        (
-            "a >= b || c > d",
-            BinOp::Or,
-            Some(BinOp::Ge),
-            Some(BinOp::Gt),
-        ),
-        ("(a <= b) == c", BinOp::Eq, Some(BinOp::Le), None),
-        ("(a || b) && c", BinOp::And, Some(BinOp::Or), None),
-    ];
-    for (text, op, left, right) in rows {
+    for &(text, op, left, right) in LEVELS {
         let catalogue = let_of(rt.alloc(), text)?;
         let tree = parse_catalogue(rt.alloc(), &catalogue)?;
         let found = value_of(tree.procs.as_slice()).and_then(parts);
@@ -118,30 +119,31 @@ fn repeated(
     Ok(text)
 }
 
+const AT_LIMITS: &[&str] = &[
+    "",
+    " \t\r\n# a comment at the end",
+    "table T(key int, v int);# no line feed behind it",
+    "# \u{e9} is a letter of no name\ntable T(key int, v int);",
+    "table a_name_of_thirty_two_bytes_here1(key int, v text);",
+    "table T(key text, a int, b text, c int, d int, e int, f int, g int, h int);",
+    "proc P() { }",
+    "proc P() { let x = -9223372036854775808; let y = 9223372036854775807; let z = - 1; }",
+    "proc P() { let x = k - 9223372036854775807 - -9223372036854775808; }",
+    "proc P() { let x = 0007 + - # comment\n 5; }",
+    "proc P(a text, b text, c text, d text, e text, f text, g text, h text, i text, j text, k text, l text, m text, n text, o text, p text) { }",
+    "proc P() { let x = ((((((((((((((((a)))))))))))))))); }",
+    "proc P() { if a { if a { if a { if a { if a { if a { if a { if a { if a { if a { if a { if a { if a { if a { if a { if a { } } } } } } } } } } } } } } } } }",
+    "proc P() { let x = a + a + a + a + a + a + a + a + a + a + a + a + a + a + a + a + a + a + a + a + a + a + a + a + a + a + a + a + a + a + a + a + a + a + a + a + a + a + a + a + a + a + a + a + a + a + a + a + a + a + a + a + a + a + a + a + a + a + a + a + a + a + a + a + a; }",
+    "proc P() { let x = !!!!!!!!!!!!!!!!!!!!!!!!!!!!!!!!!!!!!!!!!!!!!!!!!!!!!!!!!!!!!!!!a; }",
+    "proc P() { let x = \"aaaaaaaaaaaaaaaaaaaaaaaaaaaaaaaaaaaaaaaaaaaaaaaaaaaaaaaaaaaaaaaa\"; }",
+    "proc P() { let x = \"aaaaaaaaaaaaaaaaaaaaaaaaaaaaaaaaaaaaaaaaaaaaaaaaaaaaaaaaaaaaaa\\\"\\\\\"; }",
+    "proc P() { put T[(a)] = (((((((((((((((((a)))))))))))))))), ((((((((((((((((a))))))))))))))))); }",
+    "proc P(k int) { read x = T[k].v default \"a\"; has y = T[x]; put T[k] = (1, true); set T[k].v = x; delete T[k]; abort if !y || x == \"b\" && k <= 3; if y { } else { let z = 1; } if y { } }",
+];
+
 #[test]
 fn takes_texts_at_their_limits(rt: HostRuntime) -> Result<(), Fail> {
-    let texts = [
-        "",
-        " \t\r\n# a comment at the end",
-        "table T(key int, v int);# no line feed behind it",
-        "# \u{e9} is a letter of no name\ntable T(key int, v int);",
-        "table a_name_of_thirty_two_bytes_here1(key int, v text);",
-        "table T(key text, a int, b text, c int, d int, e int, f int, g int, h int);",
-        "proc P() { }",
-        "proc P() { let x = -9223372036854775808; let y = 9223372036854775807; let z = - 1; }",
-        "proc P() { let x = k - 9223372036854775807 - -9223372036854775808; }",
-        "proc P() { let x = 0007 + - # comment\n 5; }",
-        "proc P(a text, b text, c text, d text, e text, f text, g text, h text, i text, j text, k text, l text, m text, n text, o text, p text) { }",
-        "proc P() { let x = ((((((((((((((((a)))))))))))))))); }",
-        "proc P() { if a { if a { if a { if a { if a { if a { if a { if a { if a { if a { if a { if a { if a { if a { if a { if a { } } } } } } } } } } } } } } } } }",
-        "proc P() { let x = a + a + a + a + a + a + a + a + a + a + a + a + a + a + a + a + a + a + a + a + a + a + a + a + a + a + a + a + a + a + a + a + a + a + a + a + a + a + a + a + a + a + a + a + a + a + a + a + a + a + a + a + a + a + a + a + a + a + a + a + a + a + a + a + a; }",
-        "proc P() { let x = !!!!!!!!!!!!!!!!!!!!!!!!!!!!!!!!!!!!!!!!!!!!!!!!!!!!!!!!!!!!!!!!a; }",
-        "proc P() { let x = \"aaaaaaaaaaaaaaaaaaaaaaaaaaaaaaaaaaaaaaaaaaaaaaaaaaaaaaaaaaaaaaaa\"; }",
-        "proc P() { let x = \"aaaaaaaaaaaaaaaaaaaaaaaaaaaaaaaaaaaaaaaaaaaaaaaaaaaaaaaaaaaaaa\\\"\\\\\"; }",
-        "proc P() { put T[(a)] = (((((((((((((((((a)))))))))))))))), ((((((((((((((((a))))))))))))))))); }",
-        "proc P(k int) { read x = T[k].v default \"a\"; has y = T[x]; put T[k] = (1, true); set T[k].v = x; delete T[k]; abort if !y || x == \"b\" && k <= 3; if y { } else { let z = 1; } if y { } }",
-    ];
-    for text in texts {
+    for &text in AT_LIMITS {
         assert!(rt;
             parse_catalogue(rt.alloc(), text.as_bytes()).is_ok(),
             "{text}"
@@ -150,42 +152,31 @@ fn takes_texts_at_their_limits(rt: HostRuntime) -> Result<(), Fail> {
     Ok(())
 }
 
+const TABLE: &str = "table T(key int, v int);\n";
+
+const PROC: &str = "proc P() { }\n";
+
+// A text between two others, so many times, and its first fault.
+const REPEATED: &[(&str, &str, usize, &str, Option<(usize, FaultKind)>)] = &[
+    ("", TABLE, 64, "", None),
+    ("", TABLE, 65, "", Some((64 * 25, FaultKind::TooMany))),
+    ("", PROC, 64, "", None),
+    ("", PROC, 65, "", Some((64 * 13, FaultKind::TooMany))),
+    (TABLE, " ", 65_511, "", None),
+    (TABLE, " ", 65_512, "", Some((65_536, FaultKind::TooLong))),
+    ("", "?", 65_537, "", Some((65_536, FaultKind::TooLong))),
+    ("proc P() { ", "let x = 1; ", 3_000, "}", None),
+];
+
 #[test]
 fn counts_tables_procedures_and_bytes(rt: HostRuntime) -> Result<(), Fail> {
-    let alloc = rt.alloc();
-    let table = "table T(key int, v int);\n";
-    let proc = "proc P() { }\n";
-    let many = [
-        (repeated(alloc, "", table, 64, "")?, None),
-        (
-            repeated(alloc, "", table, 65, "")?,
-            Some((64 * 25, FaultKind::TooMany)),
-        ),
-        (repeated(alloc, "", proc, 64, "")?, None),
-        (
-            repeated(alloc, "", proc, 65, "")?,
-            Some((64 * 13, FaultKind::TooMany)),
-        ),
-        (repeated(alloc, table, " ", 65_511, "")?, None),
-        (
-            repeated(alloc, table, " ", 65_512, "")?,
-            Some((65_536, FaultKind::TooLong)),
-        ),
-        (
-            repeated(alloc, "", "?", 65_537, "")?,
-            Some((65_536, FaultKind::TooLong)),
-        ),
-        (
-            repeated(alloc, "proc P() { ", "let x = 1; ", 3_000, "}")?,
-            None,
-        ),
-    ];
-    for (text, fault) in &many {
-        match (parse_catalogue(alloc, text), fault) {
+    for &(front, piece, times, back, fault) in REPEATED {
+        let text = repeated(rt.alloc(), front, piece, times, back)?;
+        match (parse_catalogue(rt.alloc(), &text), fault) {
             (Ok(_), None) => {}
             (Err(SyntaxError::Fault(found)), Some((at, kind))) => {
-                assert_eq!(rt; found.at, *at);
-                assert!(rt; found.kind == *kind);
+                assert_eq!(rt; found.at, at);
+                assert!(rt; found.kind == kind);
             }
             _ => assert!(rt; false, "{}", text.len()),
         }
@@ -193,173 +184,174 @@ fn counts_tables_procedures_and_bytes(rt: HostRuntime) -> Result<(), Fail> {
     Ok(())
 }
 
+const FAULTS: &[(&str, usize, FaultKind)] = &[
+    ("table T(key int, v int); ?", 25, FaultKind::Token),
+    ("proc P() ? let", 9, FaultKind::Token),
+    ("proc P() { let x = & y; }", 19, FaultKind::Token),
+    ("proc P() { let x = a | b; }", 21, FaultKind::Token),
+    ("proc P() { let x = \"open; }", 19, FaultKind::Token),
+    (
+        "proc P() { let x = \"a tab\there\"; }",
+        19,
+        FaultKind::Token,
+    ),
+    (
+        "proc P() { let x = \"no \\n escape\"; }",
+        19,
+        FaultKind::Token,
+    ),
+    (
+        "proc P() { let x = \"aaaaaaaaaaaaaaaaaaaaaaaaaaaaaaaaaaaaaaaaaaaaaaaaaaaaaaaaaaaaaaaaaaaaaa not closed; }",
+        19,
+        FaultKind::Token,
+    ),
+    ("proc P() { let é = 1; }", 15, FaultKind::Token),
+    ("~", 0, FaultKind::Token),
+    ("table T(key int);", 15, FaultKind::Expected),
+    ("table for(key int, v int);", 6, FaultKind::Expected),
+    ("table T(key int, v int)", 23, FaultKind::Expected),
+    ("table T(key int, v int); proc", 29, FaultKind::Expected),
+    ("table T(key int, v int); table", 30, FaultKind::Expected),
+    ("proc P() { let x = ; }", 19, FaultKind::Expected),
+    ("proc P() { let x = - y; }", 21, FaultKind::Expected),
+    ("proc ; ?", 5, FaultKind::Expected),
+    ("proc P() { if x let y = 1; }", 16, FaultKind::Expected),
+    ("proc P() { else { } }", 11, FaultKind::Expected),
+    ("proc P() { let x = a == b == c; }", 26, FaultKind::Expected),
+    ("proc P() { let x = a < b > c; }", 25, FaultKind::Expected),
+    ("proc P() { let x = (a ; }", 22, FaultKind::Expected),
+    ("proc P() { let x = a + * b; }", 23, FaultKind::Expected),
+    ("table T(key int, v bool);", 19, FaultKind::Expected),
+    (
+        "proc P() { } table T(key int, v int);",
+        13,
+        FaultKind::Expected,
+    ),
+    ("proc P() { delete T[k] = 1; }", 23, FaultKind::Expected),
+    ("proc P() { abort x; }", 17, FaultKind::Expected),
+    (
+        "proc P() { read x = T[k].v default y; }",
+        35,
+        FaultKind::Expected,
+    ),
+    ("proc P() { put T[k] = (); }", 23, FaultKind::Expected),
+    ("proc P() { let x = 1 2; }", 21, FaultKind::Expected),
+    ("proc P() { let x = 1 .. 2; }", 21, FaultKind::Expected),
+    ("proc P() { let x = !; }", 20, FaultKind::Expected),
+    ("proc P() { } }", 13, FaultKind::Expected),
+    ("proc P(a int,) { }", 13, FaultKind::Expected),
+    ("proc P() { set T[k] = 1; }", 20, FaultKind::Expected),
+    ("proc P() { has x = T[k].v; }", 23, FaultKind::Expected),
+    ("proc P() { for x }", 11, FaultKind::Expected),
+    (
+        "table a_name_of_thirty_three_bytes_her1(key int, v int);",
+        6,
+        FaultKind::TooLong,
+    ),
+    (
+        "proc P() { let x = \"aaaaaaaaaaaaaaaaaaaaaaaaaaaaaaaaaaaaaaaaaaaaaaaaaaaaaaaaaaaaaaaaa\"; }",
+        19,
+        FaultKind::TooLong,
+    ),
+    (
+        "proc P() { let x = \"aaaaaaaaaaaaaaaaaaaaaaaaaaaaaaaaaaaaaaaaaaaaaaaaaaaaaaaaaaaaaaaa\\\"\"; }",
+        19,
+        FaultKind::TooLong,
+    ),
+    (
+        "proc P() { let x = 9223372036854775808; }",
+        19,
+        FaultKind::TooLong,
+    ),
+    (
+        "proc P() { let x = -9223372036854775809; }",
+        19,
+        FaultKind::TooLong,
+    ),
+    (
+        "proc P() { let x = - # far\n 9223372036854775809; }",
+        19,
+        FaultKind::TooLong,
+    ),
+    (
+        "proc P() { let x = k - 9223372036854775808; }",
+        23,
+        FaultKind::TooLong,
+    ),
+    (
+        "proc P() { let x = (k) - 9223372036854775808; }",
+        25,
+        FaultKind::TooLong,
+    ),
+    (
+        "proc P() { let x = true - 9223372036854775808; }",
+        26,
+        FaultKind::TooLong,
+    ),
+    (
+        "proc P() { let x = \"a\" - 9223372036854775808; }",
+        25,
+        FaultKind::TooLong,
+    ),
+    ("table - 99999999999999999999", 6, FaultKind::TooLong),
+    ("table 99999999999999999999", 6, FaultKind::TooLong),
+    (
+        "table T(key int, a int, b int, c int, d int, e int, f int, g int, h int, i int);",
+        73,
+        FaultKind::TooMany,
+    ),
+    (
+        "proc P(a int, b int, c int, d int, e int, f int, g int, h int, i int, j int, k int, l int, m int, n int, o int, p int, q int) { }",
+        119,
+        FaultKind::TooMany,
+    ),
+    (
+        "proc P() { let x = (((((((((((((((((a))))))))))))))))); }",
+        35,
+        FaultKind::TooDeep,
+    ),
+    (
+        "proc P() { let x = ((((((((((((((((a (; }",
+        37,
+        FaultKind::Expected,
+    ),
+    (
+        "proc P() { put T[(a)] = ((((((((((((((((((a)))))))))))))))))); }",
+        41,
+        FaultKind::TooDeep,
+    ),
+    (
+        "proc P() { if a { if a { if a { if a { if a { if a { if a { if a { if a { if a { if a { if a { if a { if a { if a { if a { if a { } } } } } } } } } } } } } } } } } } ",
+        123,
+        FaultKind::TooDeep,
+    ),
+    (
+        "proc P() { if a { } else { if a { } else { if a { } else { if a { } else { if a { } else { if a { } else { if a { } else { if a { } else { if a { } else { if a { } else { if a { } else { if a { } else { if a { } else { if a { } else { if a { } else { if a { } else { if a { } } } } } } } } } } } } } } } } } } ",
+        267,
+        FaultKind::TooDeep,
+    ),
+    (
+        "proc P() { let x = a + a + a + a + a + a + a + a + a + a + a + a + a + a + a + a + a + a + a + a + a + a + a + a + a + a + a + a + a + a + a + a + a + a + a + a + a + a + a + a + a + a + a + a + a + a + a + a + a + a + a + a + a + a + a + a + a + a + a + a + a + a + a + a + a + a; }",
+        277,
+        FaultKind::TooMany,
+    ),
+    (
+        "proc P() { let x = !!!!!!!!!!!!!!!!!!!!!!!!!!!!!!!!!!!!!!!!!!!!!!!!!!!!!!!!!!!!!!!!!a; }",
+        83,
+        FaultKind::TooMany,
+    ),
+    (
+        "proc P() { let x = (a * a * a * a * a * a * a * a * a * a * a * a * a * a * a * a * a * a * a * a * a * a * a * a * a * a * a * a * a * a * a * a * a * a * a * a * a * a * a * a * a * a * a * a * a * a * a * a * a * a * a * a * a * a * a * a * a * a * a * a * a * a * a * a) == b && c; }",
+        280,
+        FaultKind::TooMany,
+    ),
+    ("proc P() { let x = ; } ?", 19, FaultKind::Expected),
+];
+
 // The places and kinds are those of the rules for faults.
 #[test]
 fn tells_the_first_fault(rt: HostRuntime) -> Result<(), Fail> {
-    let rows = [
-        ("table T(key int, v int); ?", 25, FaultKind::Token),
-        ("proc P() ? let", 9, FaultKind::Token),
-        ("proc P() { let x = & y; }", 19, FaultKind::Token),
-        ("proc P() { let x = a | b; }", 21, FaultKind::Token),
-        ("proc P() { let x = \"open; }", 19, FaultKind::Token),
-        (
-            "proc P() { let x = \"a tab\there\"; }",
-            19,
-            FaultKind::Token,
-        ),
-        (
-            "proc P() { let x = \"no \\n escape\"; }",
-            19,
-            FaultKind::Token,
-        ),
-        (
-            "proc P() { let x = \"aaaaaaaaaaaaaaaaaaaaaaaaaaaaaaaaaaaaaaaaaaaaaaaaaaaaaaaaaaaaaaaaaaaaaa not closed; }",
-            19,
-            FaultKind::Token,
-        ),
-        ("proc P() { let é = 1; }", 15, FaultKind::Token),
-        ("~", 0, FaultKind::Token),
-        ("table T(key int);", 15, FaultKind::Expected),
-        ("table for(key int, v int);", 6, FaultKind::Expected),
-        ("table T(key int, v int)", 23, FaultKind::Expected),
-        ("table T(key int, v int); proc", 29, FaultKind::Expected),
-        ("table T(key int, v int); table", 30, FaultKind::Expected),
-        ("proc P() { let x = ; }", 19, FaultKind::Expected),
-        ("proc P() { let x = - y; }", 21, FaultKind::Expected),
-        ("proc ; ?", 5, FaultKind::Expected),
-        ("proc P() { if x let y = 1; }", 16, FaultKind::Expected),
-        ("proc P() { else { } }", 11, FaultKind::Expected),
-        ("proc P() { let x = a == b == c; }", 26, FaultKind::Expected),
-        ("proc P() { let x = a < b > c; }", 25, FaultKind::Expected),
-        ("proc P() { let x = (a ; }", 22, FaultKind::Expected),
-        ("proc P() { let x = a + * b; }", 23, FaultKind::Expected),
-        ("table T(key int, v bool);", 19, FaultKind::Expected),
-        (
-            "proc P() { } table T(key int, v int);",
-            13,
-            FaultKind::Expected,
-        ),
-        ("proc P() { delete T[k] = 1; }", 23, FaultKind::Expected),
-        ("proc P() { abort x; }", 17, FaultKind::Expected),
-        (
-            "proc P() { read x = T[k].v default y; }",
-            35,
-            FaultKind::Expected,
-        ),
-        ("proc P() { put T[k] = (); }", 23, FaultKind::Expected),
-        ("proc P() { let x = 1 2; }", 21, FaultKind::Expected),
-        ("proc P() { let x = 1 .. 2; }", 21, FaultKind::Expected),
-        ("proc P() { let x = !; }", 20, FaultKind::Expected),
-        ("proc P() { } }", 13, FaultKind::Expected),
-        ("proc P(a int,) { }", 13, FaultKind::Expected),
-        ("proc P() { set T[k] = 1; }", 20, FaultKind::Expected),
-        ("proc P() { has x = T[k].v; }", 23, FaultKind::Expected),
-        ("proc P() { for x }", 11, FaultKind::Expected),
-        (
-            "table a_name_of_thirty_three_bytes_her1(key int, v int);",
-            6,
-            FaultKind::TooLong,
-        ),
-        (
-            "proc P() { let x = \"aaaaaaaaaaaaaaaaaaaaaaaaaaaaaaaaaaaaaaaaaaaaaaaaaaaaaaaaaaaaaaaaa\"; }",
-            19,
-            FaultKind::TooLong,
-        ),
-        (
-            "proc P() { let x = \"aaaaaaaaaaaaaaaaaaaaaaaaaaaaaaaaaaaaaaaaaaaaaaaaaaaaaaaaaaaaaaaa\\\"\"; }",
-            19,
-            FaultKind::TooLong,
-        ),
-        (
-            "proc P() { let x = 9223372036854775808; }",
-            19,
-            FaultKind::TooLong,
-        ),
-        (
-            "proc P() { let x = -9223372036854775809; }",
-            19,
-            FaultKind::TooLong,
-        ),
-        (
-            "proc P() { let x = - # far\n 9223372036854775809; }",
-            19,
-            FaultKind::TooLong,
-        ),
-        (
-            "proc P() { let x = k - 9223372036854775808; }",
-            23,
-            FaultKind::TooLong,
-        ),
-        (
-            "proc P() { let x = (k) - 9223372036854775808; }",
-            25,
-            FaultKind::TooLong,
-        ),
-        (
-            "proc P() { let x = true - 9223372036854775808; }",
-            26,
-            FaultKind::TooLong,
-        ),
-        (
-            "proc P() { let x = \"a\" - 9223372036854775808; }",
-            25,
-            FaultKind::TooLong,
-        ),
-        ("table - 99999999999999999999", 6, FaultKind::TooLong),
-        ("table 99999999999999999999", 6, FaultKind::TooLong),
-        (
-            "table T(key int, a int, b int, c int, d int, e int, f int, g int, h int, i int);",
-            73,
-            FaultKind::TooMany,
-        ),
-        (
-            "proc P(a int, b int, c int, d int, e int, f int, g int, h int, i int, j int, k int, l int, m int, n int, o int, p int, q int) { }",
-            119,
-            FaultKind::TooMany,
-        ),
-        (
-            "proc P() { let x = (((((((((((((((((a))))))))))))))))); }",
-            35,
-            FaultKind::TooDeep,
-        ),
-        (
-            "proc P() { let x = ((((((((((((((((a (; }",
-            37,
-            FaultKind::Expected,
-        ),
-        (
-            "proc P() { put T[(a)] = ((((((((((((((((((a)))))))))))))))))); }",
-            41,
-            FaultKind::TooDeep,
-        ),
-        (
-            "proc P() { if a { if a { if a { if a { if a { if a { if a { if a { if a { if a { if a { if a { if a { if a { if a { if a { if a { } } } } } } } } } } } } } } } } } } ",
-            123,
-            FaultKind::TooDeep,
-        ),
-        (
-            "proc P() { if a { } else { if a { } else { if a { } else { if a { } else { if a { } else { if a { } else { if a { } else { if a { } else { if a { } else { if a { } else { if a { } else { if a { } else { if a { } else { if a { } else { if a { } else { if a { } else { if a { } } } } } } } } } } } } } } } } } } ",
-            267,
-            FaultKind::TooDeep,
-        ),
-        (
-            "proc P() { let x = a + a + a + a + a + a + a + a + a + a + a + a + a + a + a + a + a + a + a + a + a + a + a + a + a + a + a + a + a + a + a + a + a + a + a + a + a + a + a + a + a + a + a + a + a + a + a + a + a + a + a + a + a + a + a + a + a + a + a + a + a + a + a + a + a + a; }",
-            277,
-            FaultKind::TooMany,
-        ),
-        (
-            "proc P() { let x = !!!!!!!!!!!!!!!!!!!!!!!!!!!!!!!!!!!!!!!!!!!!!!!!!!!!!!!!!!!!!!!!!a; }",
-            83,
-            FaultKind::TooMany,
-        ),
-        (
-            "proc P() { let x = (a * a * a * a * a * a * a * a * a * a * a * a * a * a * a * a * a * a * a * a * a * a * a * a * a * a * a * a * a * a * a * a * a * a * a * a * a * a * a * a * a * a * a * a * a * a * a * a * a * a * a * a * a * a * a * a * a * a * a * a * a * a * a * a) == b && c; }",
-            280,
-            FaultKind::TooMany,
-        ),
-        ("proc P() { let x = ; } ?", 19, FaultKind::Expected),
-    ];
-    for (text, at, kind) in rows {
+    for &(text, at, kind) in FAULTS {
         let refused = parse_catalogue(rt.alloc(), text.as_bytes());
         let want = SyntaxError::Fault(Fault { at, kind });
         assert!(rt; matches!(refused, Err(error) if error == want), "{text}");

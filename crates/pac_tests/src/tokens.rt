@@ -1,18 +1,20 @@
 // The tokens of a line, and the names of kinds.
 use pac_tokens::{FaultKind, Token, int_or_text, tokens};
 use pac_value::{Text, Value};
+use std::alloc::Global;
 use std::test::Fail;
+
+const KINDS: &[(FaultKind, &str)] = &[
+    (FaultKind::Token, "Token"),
+    (FaultKind::Expected, "Expected"),
+    (FaultKind::TooLong, "TooLong"),
+    (FaultKind::TooDeep, "TooDeep"),
+    (FaultKind::TooMany, "TooMany"),
+];
 
 #[test]
 fn kinds_are_printed_by_their_names(rt: HostRuntime) -> Result<(), Fail> {
-    let rows = [
-        (FaultKind::Token, "Token"),
-        (FaultKind::Expected, "Expected"),
-        (FaultKind::TooLong, "TooLong"),
-        (FaultKind::TooDeep, "TooDeep"),
-        (FaultKind::TooMany, "TooMany"),
-    ];
-    for (kind, name) in rows {
+    for &(kind, name) in KINDS {
         assert_eq!(rt; kind.name(), name);
     }
     Ok(())
@@ -39,26 +41,29 @@ fn gives_the_tokens_of_a_line(rt: HostRuntime) -> Result<(), Fail> {
     Ok(())
 }
 
+// The value in front of a line, and how many of its tokens are left behind that.
+fn front(alloc: Global, line: &str) -> Result<Option<(Value, usize)>, Fail> {
+    let found = tokens(alloc, line.as_bytes())?;
+    Ok(match int_or_text(found.as_slice()) {
+        Some((value, behind)) => Some((value, behind.len())),
+        None => None,
+    })
+}
+
+const INTS: &[(&str, i64, usize)] = &[("5 - 5", 5, 2), ("- 5, 6", -5, 2)];
+
+const NO_VALUES: &[&str] = &["true", "- - 5", "-", ""];
+
 #[test]
 fn an_int_or_a_text_is_taken_from_the_front(rt: HostRuntime) -> Result<(), Fail> {
-    // A line, the value in front of it, and how many of its tokens are left behind that.
-    let text = Text::from_bytes(b"a").unwrap();
-    let rows = [
-        ("5 - 5", Some((Value::Int(5), 2))),
-        ("- 5, 6", Some((Value::Int(-5), 2))),
-        ("\"a\")", Some((Value::Text(text), 1))),
-        ("true", None),
-        ("- - 5", None),
-        ("-", None),
-        ("", None),
-    ];
-    for (line, wanted) in rows {
-        let found = tokens(rt.alloc(), line.as_bytes())?;
-        let front = match int_or_text(found.as_slice()) {
-            Some((value, behind)) => Some((value, behind.len())),
-            None => None,
-        };
-        assert!(rt; front == wanted, "{line}");
+    for &(line, number, behind) in INTS {
+        let wanted = Some((Value::Int(number), behind));
+        assert!(rt; front(rt.alloc(), line)? == wanted, "{line}");
     }
+    for &line in NO_VALUES {
+        assert!(rt; front(rt.alloc(), line)?.is_none(), "{line}");
+    }
+    let text = Text::from_bytes(b"a").ok_or("no text")?;
+    assert!(rt; front(rt.alloc(), "\"a\")")? == Some((Value::Text(text), 1)));
     Ok(())
 }

@@ -4,253 +4,254 @@ use pac_types::{Stmt, TypeError, TypeFault, TypeFaultKind};
 use pac_value::{Expr, Value};
 use std::test::Fail;
 
+const CASES: &[(&[u8], usize, TypeFaultKind)] = &[
+    (
+        b"table T(key int, v int); proc P(k int) { read x = U[k].v default 0; }",
+        50,
+        TypeFaultKind::UnknownName,
+    ),
+    (
+        b"table T(key int, v int); proc P(k int) { read x = P[k].v default 0; }",
+        50,
+        TypeFaultKind::UnknownName,
+    ),
+    (
+        b"table T(key int, v int); proc P(k int) { read x = T[k].w default 0; }",
+        55,
+        TypeFaultKind::UnknownName,
+    ),
+    (
+        b"table T(key int, v int); table U(key int, w int); proc P(k int) { set T[k].w = 1; }",
+        75,
+        TypeFaultKind::UnknownName,
+    ),
+    (
+        b"table T(key int, v int); proc P(k int) { delete S[k]; }",
+        48,
+        TypeFaultKind::UnknownName,
+    ),
+    (
+        b"table T(key int, v int); proc P() { let x = T; }",
+        44,
+        TypeFaultKind::UnknownName,
+    ),
+    (b"proc P() { let x = y; }", 19, TypeFaultKind::UnknownName),
+    (
+        b"proc P(k int) { } proc Q() { let x = k; }",
+        37,
+        TypeFaultKind::UnknownName,
+    ),
+    (
+        b"proc P() { let x = x + 1; }",
+        19,
+        TypeFaultKind::OutOfScope,
+    ),
+    (
+        b"proc P() { let x = y; let y = 1; }",
+        19,
+        TypeFaultKind::OutOfScope,
+    ),
+    (
+        b"proc P(k int) { if k > 0 { let y = k; } let z = y; }",
+        48,
+        TypeFaultKind::OutOfScope,
+    ),
+    (
+        b"proc P(k int) { if k > 0 { let y = k; } else { let z = y; } }",
+        55,
+        TypeFaultKind::OutOfScope,
+    ),
+    (
+        b"proc P(k int) { if k > 0 { if k > 1 { let y = k; } let z = y; } }",
+        59,
+        TypeFaultKind::OutOfScope,
+    ),
+    (
+        b"proc P(k int) { if y { let y = k == 1; } }",
+        19,
+        TypeFaultKind::OutOfScope,
+    ),
+    (
+        b"table T(key int, v int); proc P(k int) { read x = T[x].v default 0; }",
+        52,
+        TypeFaultKind::OutOfScope,
+    ),
+    (
+        b"table T(key int, v int); proc P(k int) { if k > 0 { has h = T[k]; } abort if h; }",
+        77,
+        TypeFaultKind::OutOfScope,
+    ),
+    (b"table T(key int, v int, v int);", 24, TypeFaultKind::Twice),
+    (
+        b"table T(key int, v int); table T(key int, w int);",
+        31,
+        TypeFaultKind::Twice,
+    ),
+    (b"proc P() { } proc P() { }", 18, TypeFaultKind::Twice),
+    (b"proc P(k int, k text) { }", 14, TypeFaultKind::Twice),
+    (b"proc P(k int) { let k = 1; }", 20, TypeFaultKind::Twice),
+    (
+        b"proc P() { let x = 1; let x = 2; }",
+        26,
+        TypeFaultKind::Twice,
+    ),
+    (
+        b"proc P(k int) { if k > 0 { let y = 1; } else { let y = 2; } }",
+        51,
+        TypeFaultKind::Twice,
+    ),
+    (
+        b"proc P(k int) { if k > 0 { let y = 1; } let y = 2; }",
+        44,
+        TypeFaultKind::Twice,
+    ),
+    (
+        b"table T(key int, v int); proc P(k int) { has k = T[k]; }",
+        45,
+        TypeFaultKind::Twice,
+    ),
+    (
+        b"proc P(k int) { let x = k == true; }",
+        29,
+        TypeFaultKind::WrongType,
+    ),
+    (
+        b"proc P(t text) { let x = t + 1; }",
+        25,
+        TypeFaultKind::WrongType,
+    ),
+    (
+        b"proc P() { let x = 1 + \"a\"; }",
+        23,
+        TypeFaultKind::WrongType,
+    ),
+    (
+        b"proc P(k int) { let x = !k; }",
+        25,
+        TypeFaultKind::WrongType,
+    ),
+    (
+        b"proc P(k int) { let x = k > 0 && k; }",
+        33,
+        TypeFaultKind::WrongType,
+    ),
+    (
+        b"proc P(k int) { let x = k || k > 0; }",
+        24,
+        TypeFaultKind::WrongType,
+    ),
+    (
+        b"proc P() { let x = true < false; }",
+        19,
+        TypeFaultKind::WrongType,
+    ),
+    (
+        b"proc P(k int) { let x = \"a\" <= k; }",
+        31,
+        TypeFaultKind::WrongType,
+    ),
+    (b"proc P(k int) { if k { } }", 19, TypeFaultKind::WrongType),
+    (
+        b"proc P(k int) { abort if k + 1; }",
+        25,
+        TypeFaultKind::WrongType,
+    ),
+    (
+        b"proc P(k int) { let x = !((k)); }",
+        27,
+        TypeFaultKind::WrongType,
+    ),
+    (
+        b"proc P(k int) { let x = !((k) + 1); }",
+        26,
+        TypeFaultKind::WrongType,
+    ),
+    (
+        b"table N(key text, v int); proc P(k int) { delete N[k]; }",
+        51,
+        TypeFaultKind::WrongType,
+    ),
+    (
+        b"table T(key int, v int); proc P(k int) { read x = T[k == 1].v default 0; }",
+        52,
+        TypeFaultKind::WrongType,
+    ),
+    (
+        b"table T(key int, v int); proc P(k int) { read x = T[k].v default \"a\"; }",
+        65,
+        TypeFaultKind::WrongType,
+    ),
+    (
+        b"table T(key int, v int); proc P(k int) { read x = T[k].v default true; }",
+        65,
+        TypeFaultKind::WrongType,
+    ),
+    (
+        b"table T(key int, v text); proc P(k int) { put T[k] = (k); }",
+        54,
+        TypeFaultKind::WrongType,
+    ),
+    (
+        b"table T(key int, v text); proc P(k int) { set T[k].v = -1; }",
+        55,
+        TypeFaultKind::WrongType,
+    ),
+    (
+        b"table T(key int, v int); proc P(k int) { has h = T[k]; put T[k] = (h); }",
+        67,
+        TypeFaultKind::WrongType,
+    ),
+    (
+        b"table T(key int, v int); proc P(k int) { put T[k] = (1, 2); }",
+        45,
+        TypeFaultKind::WrongCount,
+    ),
+    (
+        b"table T(key int, v int, w int); proc P(k int) { put T[k] = (1); }",
+        52,
+        TypeFaultKind::WrongCount,
+    ),
+    (
+        b"proc P() { let x = a; let y = b; }",
+        19,
+        TypeFaultKind::UnknownName,
+    ),
+    (b"proc P(k int) { let k = a; }", 20, TypeFaultKind::Twice),
+    (
+        b"proc P() { let x = y; } proc P() { }",
+        19,
+        TypeFaultKind::UnknownName,
+    ),
+    (
+        b"table T(key int, v int, v int); proc P() { let x = y; }",
+        24,
+        TypeFaultKind::Twice,
+    ),
+    (
+        b"table T(key int, v int); proc P() { put T[a] = (b); }",
+        42,
+        TypeFaultKind::UnknownName,
+    ),
+    (
+        b"table T(key int, v int); proc P() { put T[true] = (\"a\"); }",
+        42,
+        TypeFaultKind::WrongType,
+    ),
+    (
+        b"table T(key int, v int); proc P() { put T[a] = (b, c); }",
+        40,
+        TypeFaultKind::WrongCount,
+    ),
+    (
+        b"proc P() { let x = true + 1; let y = x && true; }",
+        19,
+        TypeFaultKind::WrongType,
+    ),
+];
+
 #[test]
 fn tells_the_first_fault(rt: HostRuntime) -> Result<(), Fail> {
-    let cases: [(&[u8], usize, TypeFaultKind); 54] = [
-        (
-            b"table T(key int, v int); proc P(k int) { read x = U[k].v default 0; }",
-            50,
-            TypeFaultKind::UnknownName,
-        ),
-        (
-            b"table T(key int, v int); proc P(k int) { read x = P[k].v default 0; }",
-            50,
-            TypeFaultKind::UnknownName,
-        ),
-        (
-            b"table T(key int, v int); proc P(k int) { read x = T[k].w default 0; }",
-            55,
-            TypeFaultKind::UnknownName,
-        ),
-        (
-            b"table T(key int, v int); table U(key int, w int); proc P(k int) { set T[k].w = 1; }",
-            75,
-            TypeFaultKind::UnknownName,
-        ),
-        (
-            b"table T(key int, v int); proc P(k int) { delete S[k]; }",
-            48,
-            TypeFaultKind::UnknownName,
-        ),
-        (
-            b"table T(key int, v int); proc P() { let x = T; }",
-            44,
-            TypeFaultKind::UnknownName,
-        ),
-        (b"proc P() { let x = y; }", 19, TypeFaultKind::UnknownName),
-        (
-            b"proc P(k int) { } proc Q() { let x = k; }",
-            37,
-            TypeFaultKind::UnknownName,
-        ),
-        (
-            b"proc P() { let x = x + 1; }",
-            19,
-            TypeFaultKind::OutOfScope,
-        ),
-        (
-            b"proc P() { let x = y; let y = 1; }",
-            19,
-            TypeFaultKind::OutOfScope,
-        ),
-        (
-            b"proc P(k int) { if k > 0 { let y = k; } let z = y; }",
-            48,
-            TypeFaultKind::OutOfScope,
-        ),
-        (
-            b"proc P(k int) { if k > 0 { let y = k; } else { let z = y; } }",
-            55,
-            TypeFaultKind::OutOfScope,
-        ),
-        (
-            b"proc P(k int) { if k > 0 { if k > 1 { let y = k; } let z = y; } }",
-            59,
-            TypeFaultKind::OutOfScope,
-        ),
-        (
-            b"proc P(k int) { if y { let y = k == 1; } }",
-            19,
-            TypeFaultKind::OutOfScope,
-        ),
-        (
-            b"table T(key int, v int); proc P(k int) { read x = T[x].v default 0; }",
-            52,
-            TypeFaultKind::OutOfScope,
-        ),
-        (
-            b"table T(key int, v int); proc P(k int) { if k > 0 { has h = T[k]; } abort if h; }",
-            77,
-            TypeFaultKind::OutOfScope,
-        ),
-        (b"table T(key int, v int, v int);", 24, TypeFaultKind::Twice),
-        (
-            b"table T(key int, v int); table T(key int, w int);",
-            31,
-            TypeFaultKind::Twice,
-        ),
-        (b"proc P() { } proc P() { }", 18, TypeFaultKind::Twice),
-        (b"proc P(k int, k text) { }", 14, TypeFaultKind::Twice),
-        (b"proc P(k int) { let k = 1; }", 20, TypeFaultKind::Twice),
-        (
-            b"proc P() { let x = 1; let x = 2; }",
-            26,
-            TypeFaultKind::Twice,
-        ),
-        (
-            b"proc P(k int) { if k > 0 { let y = 1; } else { let y = 2; } }",
-            51,
-            TypeFaultKind::Twice,
-        ),
-        (
-            b"proc P(k int) { if k > 0 { let y = 1; } let y = 2; }",
-            44,
-            TypeFaultKind::Twice,
-        ),
-        (
-            b"table T(key int, v int); proc P(k int) { has k = T[k]; }",
-            45,
-            TypeFaultKind::Twice,
-        ),
-        (
-            b"proc P(k int) { let x = k == true; }",
-            29,
-            TypeFaultKind::WrongType,
-        ),
-        (
-            b"proc P(t text) { let x = t + 1; }",
-            25,
-            TypeFaultKind::WrongType,
-        ),
-        (
-            b"proc P() { let x = 1 + \"a\"; }",
-            23,
-            TypeFaultKind::WrongType,
-        ),
-        (
-            b"proc P(k int) { let x = !k; }",
-            25,
-            TypeFaultKind::WrongType,
-        ),
-        (
-            b"proc P(k int) { let x = k > 0 && k; }",
-            33,
-            TypeFaultKind::WrongType,
-        ),
-        (
-            b"proc P(k int) { let x = k || k > 0; }",
-            24,
-            TypeFaultKind::WrongType,
-        ),
-        (
-            b"proc P() { let x = true < false; }",
-            19,
-            TypeFaultKind::WrongType,
-        ),
-        (
-            b"proc P(k int) { let x = \"a\" <= k; }",
-            31,
-            TypeFaultKind::WrongType,
-        ),
-        (b"proc P(k int) { if k { } }", 19, TypeFaultKind::WrongType),
-        (
-            b"proc P(k int) { abort if k + 1; }",
-            25,
-            TypeFaultKind::WrongType,
-        ),
-        (
-            b"proc P(k int) { let x = !((k)); }",
-            27,
-            TypeFaultKind::WrongType,
-        ),
-        (
-            b"proc P(k int) { let x = !((k) + 1); }",
-            26,
-            TypeFaultKind::WrongType,
-        ),
-        (
-            b"table N(key text, v int); proc P(k int) { delete N[k]; }",
-            51,
-            TypeFaultKind::WrongType,
-        ),
-        (
-            b"table T(key int, v int); proc P(k int) { read x = T[k == 1].v default 0; }",
-            52,
-            TypeFaultKind::WrongType,
-        ),
-        (
-            b"table T(key int, v int); proc P(k int) { read x = T[k].v default \"a\"; }",
-            65,
-            TypeFaultKind::WrongType,
-        ),
-        (
-            b"table T(key int, v int); proc P(k int) { read x = T[k].v default true; }",
-            65,
-            TypeFaultKind::WrongType,
-        ),
-        (
-            b"table T(key int, v text); proc P(k int) { put T[k] = (k); }",
-            54,
-            TypeFaultKind::WrongType,
-        ),
-        (
-            b"table T(key int, v text); proc P(k int) { set T[k].v = -1; }",
-            55,
-            TypeFaultKind::WrongType,
-        ),
-        (
-            b"table T(key int, v int); proc P(k int) { has h = T[k]; put T[k] = (h); }",
-            67,
-            TypeFaultKind::WrongType,
-        ),
-        (
-            b"table T(key int, v int); proc P(k int) { put T[k] = (1, 2); }",
-            45,
-            TypeFaultKind::WrongCount,
-        ),
-        (
-            b"table T(key int, v int, w int); proc P(k int) { put T[k] = (1); }",
-            52,
-            TypeFaultKind::WrongCount,
-        ),
-        (
-            b"proc P() { let x = a; let y = b; }",
-            19,
-            TypeFaultKind::UnknownName,
-        ),
-        (b"proc P(k int) { let k = a; }", 20, TypeFaultKind::Twice),
-        (
-            b"proc P() { let x = y; } proc P() { }",
-            19,
-            TypeFaultKind::UnknownName,
-        ),
-        (
-            b"table T(key int, v int, v int); proc P() { let x = y; }",
-            24,
-            TypeFaultKind::Twice,
-        ),
-        (
-            b"table T(key int, v int); proc P() { put T[a] = (b); }",
-            42,
-            TypeFaultKind::UnknownName,
-        ),
-        (
-            b"table T(key int, v int); proc P() { put T[true] = (\"a\"); }",
-            42,
-            TypeFaultKind::WrongType,
-        ),
-        (
-            b"table T(key int, v int); proc P() { put T[a] = (b, c); }",
-            40,
-            TypeFaultKind::WrongCount,
-        ),
-        (
-            b"proc P() { let x = true + 1; let y = x && true; }",
-            19,
-            TypeFaultKind::WrongType,
-        ),
-    ];
-    for (text, at, kind) in cases {
+    for &(text, at, kind) in CASES {
         match typed(rt.alloc(), text)? {
             Err(error) => assert!(rt;
                 error == TypeError::Fault(TypeFault { at, kind }),
