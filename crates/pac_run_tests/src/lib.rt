@@ -4,10 +4,6 @@
 #![tactic(auto)]
 
 #[cfg(test)]
-mod crashes;
-#[cfg(test)]
 mod images;
 #[cfg(test)]
 mod sessions;
-#[cfg(test)]
-mod stops;

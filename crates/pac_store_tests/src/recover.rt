@@ -272,13 +272,23 @@ fn fails_at<RT: Threads + Wait + Sync>(
 #[test]
 fn a_failing_device_is_told(rt: HostRuntime) -> Result<(), Fail> {
     for lasts in [false, true] {
-        let mut passing = 0;
-        while passing < 100 && fails_at(&rt, rt.alloc(), passing, lasts)? {
-            passing += 1;
-        }
-        assert!(rt; passing < 100);
+        assert!(rt; failures_are_told(&rt, rt.alloc(), lasts)?);
     }
     Ok(())
+}
+
+// Whether an outage at each call in turn is told, up to a call that isn't made.
+fn failures_are_told<RT: Threads + Wait + Sync>(
+    rt: &RT,
+    alloc: Global,
+    lasts: bool,
+) -> Result<bool, Fail> {
+    for passing in 0..100 {
+        if !fails_at(rt, alloc, passing, lasts)? {
+            return Ok(true);
+        }
+    }
+    Ok(false)
 }
 
 #[test]

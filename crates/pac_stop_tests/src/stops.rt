@@ -88,13 +88,23 @@ fn fails_at<RT: Threads + Wait + Sync>(
 #[test]
 fn what_is_acknowledged_is_recovered(rt: HostRuntime) -> Result<(), Fail> {
     for lasts in [false, true] {
-        let mut passing = 0;
-        while passing < 100 && fails_at(&rt, rt.alloc(), passing, lasts)? {
-            passing += 1;
-        }
-        assert!(rt; passing < 100);
+        assert!(rt; failures_are_survived(&rt, rt.alloc(), lasts)?);
     }
     Ok(())
+}
+
+// Whether all is kept behind an outage at each call in turn, up to a call that isn't made.
+fn failures_are_survived<RT: Threads + Wait + Sync>(
+    rt: &RT,
+    alloc: Global,
+    lasts: bool,
+) -> Result<bool, Fail> {
+    for passing in 0..100 {
+        if !fails_at(rt, alloc, passing, lasts)? {
+            return Ok(true);
+        }
+    }
+    Ok(false)
 }
 
 // The last four calls are those of the second commit. Until the write of the gate byte nothing of it is there.
@@ -184,13 +194,19 @@ const OTHERS: &str = "adhoc put T[1] = (2)\nadhoc put T[3] = (4)\n";
 
 #[test]
 fn a_lost_group_has_no_numbers(rt: HostRuntime) -> Result<(), Fail> {
-    let mut lost = 0;
-    let mut passing = 0;
-    while passing < 100 && loses_at(&rt, rt.alloc(), passing, &mut lost)? {
-        passing += 1;
-    }
-    assert!(rt; lost > 0);
+    assert!(rt; count_lost(&rt, rt.alloc())? > 0);
     Ok(())
+}
+
+// How many outages, of each call in turn, lose a group behind the first reply.
+fn count_lost<RT: Threads + Wait + Sync>(rt: &RT, alloc: Global) -> Result<u64, Fail> {
+    let mut lost = 0;
+    for passing in 0..100 {
+        if !loses_at(rt, alloc, passing, &mut lost)? {
+            return Ok(lost);
+        }
+    }
+    Ok(lost)
 }
 
 #[test]
