@@ -12,12 +12,12 @@ use Rattle.pac_request.specs.declared.request.Request.{Request}
 use Rattle.pac_session.specs.Session.{Rules, SessionState}
 use Rattle.pac_run.specs.Asked.{TookAtMost}
 use Rattle.pac_run.specs.Run.{AtExit, AtMoments, IsBegun, IsRun, WhereAllStand, WhereSeen}
-use Rattle.pac_run.specs.declared.limits.TheConstants.{MAX_INPUT as MAX_RUN_INPUT}
+use Rattle.pac_run.specs.declared.limits.TheConstants.{MAX_INPUT}
 use Rattle.pac_run.specs.declared.stop.RunStop.{RunStop}
 use Rattle.pac_run.specs.declared.stop.RunStop.TheVariants as run
 
 -- what is taken, by how the run ends
-few_taken : (left left' : Option (List ℕ)) → TookAtMost MAX_RUN_INPUT left left' → GaveAtMost 67108865 left left'
+few_taken : (left left' : Option (List ℕ)) → TookAtMost MAX_INPUT left left' → GaveAtMost 67108865 left left'
 few_taken left left' took = record { bytes = took.bytes; within = omega (arith, took.few); front = took.gave }
 
 pub run-taken : (batch limit : ℕ) (left left' held held' : Option (List ℕ)) (told told' : List (Option History)) (rose : Type 0) (end : Result (Unit {0}) RunStop)

@@ -13,7 +13,7 @@ use Rattle.pac_recover.specs.Gates.{txns_in}
 use Rattle.pac_request.specs.declared.script.Script.{Script}
 use Rattle.pac_request.specs.declared.script_fault.ScriptFault.{ScriptFault}
 use Rattle.pac_request.specs.Script.{ScriptSays}
-use Rattle.pac_main.specs.declared.limits.TheConstants.{MAX_INPUT}
+use Rattle.pac_run.specs.declared.limits.TheConstants.{MAX_INPUT}
 use Rattle.pac_main.specs.declared.stop.Stop.TheVariants as stop
 use Rattle.pac_main.specs.Streams.{Observed, FaultsRose, IsTaken, IsFrontTaken, IsTold, IsOneOf}
 use Rattle.pac_main.specs.Stop.{line_of, abort_line, rows_line}

@@ -10,10 +10,10 @@ ghost use Rattle.pac_main.specs.Run.{RunEnds};
 ghost use Rattle.pac_main.specs.Stop.{status_of, line_of};
 ghost use Rattle.pac_main.specs.Streams.{IsOneOf, IsTold, observed, observed_devices};
 ghost use Rattle.pac_main.specs.declared.stop.Stop.{Stop as AStop};
+ghost use Rattle.pac_run.specs.declared.limits.TheConstants.{MAX_INPUT};
 
 use crate::explain::explain_input;
 use crate::init::init_input;
-use crate::limits::MAX_INPUT;
 use crate::recover::recover_devices;
 use crate::replay::replay_input;
 use crate::run::run_devices;

@@ -20,7 +20,6 @@ mod explanation;
 mod init;
 mod input;
 mod laws;
-mod limits;
 mod line;
 mod recover;
 mod replay;
@@ -34,6 +33,5 @@ pub use init::init_command;
 pub use laws::{
     a_new_store_stands_for_none, recover_gives_what_is_acknowledged, runs_keep_what_is_acknowledged,
 };
-pub use limits::MAX_INPUT;
 pub use run::run_command;
 pub use tell::{WordsError, refuse_words};

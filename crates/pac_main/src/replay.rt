@@ -4,6 +4,7 @@ ghost use Rattle.pac_outside.specs.Content.{GaveAtMost};
 ghost use Rattle.pac_request.specs.RequestFits.{BatchesFit, BatchesHaveNumbers};
 ghost use Rattle.pac_main.specs.Causes.{GivesNoScript, ReplayStops, ScriptStops};
 ghost use Rattle.pac_recover.specs.Gates.{RunOn};
+ghost use Rattle.pac_run.specs.declared.limits.TheConstants.{MAX_INPUT};
 ghost use Rattle.pac_main.specs.Replay.{IsDumpOf, IsScriptOf, IsLongScript, ReplayEnds, first_over_in, outcome};
 ghost use Rattle.pac_main.specs.Stop.{line_of, status_of};
 ghost use Rattle.pac_main.specs.Streams.{IsTaken, IsTold, observed};
@@ -11,13 +12,13 @@ ghost use Rattle.pac_main.specs.declared.stop.Stop.{Stop as AStop};
 
 use crate::execution::executed;
 use crate::input::InputError;
-use crate::limits::MAX_INPUT;
 use crate::stop::Stop;
 use crate::tell::told;
 use pac_outside::{Sink, Source, read_up_to, write_all};
 use pac_recover::test_rows;
 use pac_report::dump;
 use pac_request::{Script, read_script};
+use pac_run::MAX_INPUT;
 use pac_tables::OrderedRows;
 use std::alloc::Global;
 
@@ -28,8 +29,9 @@ fn read_whole<I: Source>(alloc: Global, input: &mut I) -> Result<Vec<u8>, InputE
     ensures stops { IfErr result (GivesNoScript (observed I.left I.faults input.old input.new)) }
     ensures taken { GaveAtMost (MAX_INPUT + 1) (I.left input.old) (I.left input.new) }
 {
-    let text = read_up_to(alloc, input, MAX_INPUT)?;
-    if text.len() > MAX_INPUT {
+    let most = MAX_INPUT as usize;
+    let text = read_up_to(alloc, input, most)?;
+    if text.len() > most {
         return Err(InputError::TooLong);
     }
     Ok(text)

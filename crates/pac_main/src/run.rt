@@ -7,7 +7,7 @@ ghost use Rattle.pac_main.specs.Commands.{AsksRun, IsRunOf};
 ghost use Rattle.pac_main.specs.Run.{RunEnds};
 ghost use Rattle.pac_main.specs.Stop.{line_of, status_of};
 ghost use Rattle.pac_main.specs.Streams.{IsOneOf, IsTold, observed, observed_devices};
-ghost use Rattle.pac_main.specs.declared.limits.TheConstants.{MAX_INPUT};
+ghost use Rattle.pac_run.specs.declared.limits.TheConstants.{MAX_INPUT};
 ghost use Rattle.pac_main.specs.declared.stop.Stop.{Stop as AStop};
 
 use crate::stop::Stop;

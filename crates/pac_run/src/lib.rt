@@ -4,7 +4,7 @@
 //! - [`open`]: syncs the devices, loads them, executes the stored transactions, and gives the engine over their tables.
 //! - [`serve`]: has each line of the input answered by the engine, and writes the replies of a group once it is durable.
 //! - [`RunStop`]: why a run stops before its end.
-//! - [`MAX_INPUT`]: how much of its input a run handles.
+//! - [`MAX_INPUT`]: how long an input may be.
 //!
 //! What a run is, whatever its answer, is `IsRun` of `specs/Run.antt`. Over the lines that were handled, the requests that
 //! these ask and their session it says

@@ -1,4 +1,4 @@
-// How much input a run takes.
+// How long an input may be.
 
-/// How many bytes of its input a run handles at most.
+/// The most bytes of an input of request lines or of a script.
 pub const MAX_INPUT: u32 = 67_108_864;

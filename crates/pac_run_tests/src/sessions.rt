@@ -2,7 +2,7 @@
 use pac_outside::{Devices, MemDisk};
 use pac_testing::{
     ADD, BANK, BANK_DUMP, LOG, NO_ROW, ONE_ROW, ONE_TABLE, SHUT, SLOT, StoreStep, USAGE, changed,
-    devices, ends, goes, hold, run_lines, store_of,
+    devices, ends, goes, hold, run_bytes, run_lines, store_of,
 };
 use std::alloc::Global;
 use std::sync::Wait;
@@ -262,5 +262,37 @@ fn an_input_that_fails_drops_the_open_group(rt: HostRuntime) -> Result<(), Fail>
     assert!(rt; ends(&rt, alloc, "recover", "", &mut store, (0, ONE_ROW, ""))?);
     let answer = run_lines(&rt, alloc, "run", "", [1, 0], &mut store)?;
     assert!(rt; answer.status == 6 && answer.writes(b""));
+    Ok(())
+}
+
+const OPEN: &str = "adhoc put T[1] = (2)\nflush\nadhoc put T[3] = (4)\n";
+
+// How long the input is, how the run ends, and the dump.
+const LENGTHS: &[(usize, (u8, &str, &str), &str)] = &[
+    (
+        67_108_864,
+        (0, "committed 1\ncommitted 2\nrefused 4096 TooLong\n", ""),
+        "table T 2\n1 (2)\n3 (4)\n",
+    ),
+    (
+        67_108_865,
+        (11, "committed 1\n", "input too long\n"),
+        ONE_ROW,
+    ),
+];
+
+// These lines, and one of blanks behind them.
+#[test]
+fn an_input_that_is_too_long_drops_the_open_group(rt: HostRuntime) -> Result<(), Fail> {
+    let alloc = rt.alloc();
+    for row in LENGTHS {
+        let mut store = store_of(&rt, alloc, ONE_TABLE)?;
+        let mut text = Vec::with_capacity(alloc, row.0)?;
+        text.extend_from_slice(OPEN.as_bytes())?;
+        text.resize(row.0, b' ')?;
+        let answer = run_bytes(&rt, alloc, "run", text, [0, 0], &mut store)?;
+        assert!(rt; answer.is(row.1));
+        assert!(rt; ends(&rt, alloc, "recover", "", &mut store, (0, row.2, ""))?);
+    }
     Ok(())
 }

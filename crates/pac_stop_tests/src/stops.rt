@@ -2,7 +2,7 @@
 use pac_outside::{Devices, Fill, MemDisk};
 use pac_testing::{
     Answer, NEW, NO_ROW, ONE_ROW, ONE_TABLE, Outage, SHUT, StoreStep, devices, ends, goes, hold,
-    left, run_lines, run_struck, store_of,
+    left, run_lines, run_struck, store_of, strike_in_turn,
 };
 use std::alloc::Global;
 use std::sync::Wait;
@@ -67,16 +67,14 @@ fn keeps<RT: Threads + Wait + Sync>(
     Ok(true)
 }
 
-// Whether an outage at this call ends a run, and all is kept that was acknowledged; if none does, both are acknowledged.
-fn fails_at<RT: Threads + Wait + Sync>(
+// Whether an outage ends a run, and all is kept that was acknowledged; if it doesn't, both are acknowledged.
+fn is_struck<RT: Threads + Wait + Sync>(
     rt: &RT,
     alloc: Global,
-    passing: u64,
-    lasts: bool,
+    outage: &Outage,
 ) -> Result<bool, Fail> {
     let store = devices(alloc, [NEW, SHUT, SHUT])?;
-    let outage = Outage::new(passing, lasts);
-    let (answer, store) = run_struck(rt, alloc, "run", LINES, store, &outage)?;
+    let (answer, store) = run_struck(rt, alloc, "run", LINES, store, outage)?;
     let count = acknowledged(&answer)?;
     if !keeps(rt, alloc, &store, count)? || answer.status == 0 && count != 2 {
         return Err(Fail::from("not all is kept"));
@@ -87,24 +85,8 @@ fn fails_at<RT: Threads + Wait + Sync>(
 // Each call of a device in turn fails, alone or with all behind it, up to a run that makes no such call.
 #[test]
 fn what_is_acknowledged_is_recovered(rt: HostRuntime) -> Result<(), Fail> {
-    for lasts in [false, true] {
-        assert!(rt; failures_are_survived(&rt, rt.alloc(), lasts)?);
-    }
-    Ok(())
-}
-
-// Whether all is kept behind an outage at each call in turn, up to a call that isn't made.
-fn failures_are_survived<RT: Threads + Wait + Sync>(
-    rt: &RT,
-    alloc: Global,
-    lasts: bool,
-) -> Result<bool, Fail> {
-    for passing in 0..100 {
-        if !fails_at(rt, alloc, passing, lasts)? {
-            return Ok(true);
-        }
-    }
-    Ok(false)
+    let alloc = rt.alloc();
+    strike_in_turn(|outage| is_struck(&rt, alloc, outage))
 }
 
 // The last four calls are those of the second commit. Until the write of the gate byte nothing of it is there.

@@ -1,7 +1,9 @@
 // How stores are made, and when they aren't.
 use pac_main::init_command;
 use pac_outside::{Devices, MemDisk, MemSink, MemSource};
-use pac_testing::{NEW, ONE_TABLE, Outage, SHUT, USAGE, devices, hold, run_bytes, run_struck};
+use pac_testing::{
+    NEW, ONE_TABLE, Outage, SHUT, USAGE, devices, hold, run_bytes, run_struck, strike_in_turn,
+};
 use std::alloc::Global;
 use std::sync::Wait;
 use std::test::Fail;
@@ -84,16 +86,14 @@ fn other_texts_make_no_store(rt: HostRuntime) -> Result<(), Fail> {
     Ok(())
 }
 
-// Whether an outage at this call makes an `init` fail; if none does, the store is made.
-fn fails_at<RT: Threads + Wait + Sync>(
+// Whether an outage makes an `init` fail; if it doesn't, the store is made.
+fn is_struck<RT: Threads + Wait + Sync>(
     rt: &RT,
     alloc: Global,
-    passing: u64,
-    lasts: bool,
+    outage: &Outage,
 ) -> Result<bool, Fail> {
-    let outage = Outage::new(passing, lasts);
     let empty = devices(alloc, EMPTY)?;
-    let (answer, store) = run_struck(rt, alloc, "init", ONE_TABLE, empty, &outage)?;
+    let (answer, store) = run_struck(rt, alloc, "init", ONE_TABLE, empty, outage)?;
     if !answer.writes(b"") {
         return Err(Fail::from("something was written"));
     }
@@ -106,24 +106,8 @@ fn fails_at<RT: Threads + Wait + Sync>(
 // No call of a device comes behind one that failed.
 #[test]
 fn a_failing_device_is_told(rt: HostRuntime) -> Result<(), Fail> {
-    for lasts in [false, true] {
-        assert!(rt; failures_are_told(&rt, rt.alloc(), lasts)?);
-    }
-    Ok(())
-}
-
-// Whether an outage at each call in turn is told, up to a call that isn't made.
-fn failures_are_told<RT: Threads + Wait + Sync>(
-    rt: &RT,
-    alloc: Global,
-    lasts: bool,
-) -> Result<bool, Fail> {
-    for passing in 0..100 {
-        if !fails_at(rt, alloc, passing, lasts)? {
-            return Ok(true);
-        }
-    }
-    Ok(false)
+    let alloc = rt.alloc();
+    strike_in_turn(|outage| is_struck(&rt, alloc, outage))
 }
 
 #[test]

@@ -1,7 +1,7 @@
 // What is recovered of stores in memory, and what is told of those that are damaged.
 use pac_testing::{
     ADD, BANK, BANK_DUMP, LOG, NO_ROW, ONE_ROW, Outage, SHUT, SLOT, USAGE, changed, devices, hold,
-    leaves, log_of, run_lines, run_struck,
+    leaves, log_of, run_lines, run_struck, strike_in_turn,
 };
 use std::alloc::Global;
 use std::sync::Wait;
@@ -249,17 +249,15 @@ fn the_first_damage_is_told(rt: HostRuntime) -> Result<(), Fail> {
     Ok(())
 }
 
-// Whether an outage at this call makes a recovery fail, and leaves the devices; if none does, the row is written.
-fn fails_at<RT: Threads + Wait + Sync>(
+// Whether an outage makes a recovery fail, and leaves the devices; if it doesn't, the row is written.
+fn is_struck<RT: Threads + Wait + Sync>(
     rt: &RT,
     alloc: Global,
-    passing: u64,
-    lasts: bool,
+    outage: &Outage,
 ) -> Result<bool, Fail> {
     let bytes = [LOG, SLOT, SHUT];
-    let outage = Outage::new(passing, lasts);
     let store = devices(alloc, bytes)?;
-    let (answer, store) = run_struck(rt, alloc, "recover", "", store, &outage)?;
+    let (answer, store) = run_struck(rt, alloc, "recover", "", store, outage)?;
     let text = if answer.status == 0 { ONE_ROW } else { "" };
     if answer.writes(text.as_bytes()) && hold(&store, bytes)? {
         Ok(answer.status != 0)
@@ -271,24 +269,8 @@ fn fails_at<RT: Threads + Wait + Sync>(
 // No call of a device comes behind one that failed.
 #[test]
 fn a_failing_device_is_told(rt: HostRuntime) -> Result<(), Fail> {
-    for lasts in [false, true] {
-        assert!(rt; failures_are_told(&rt, rt.alloc(), lasts)?);
-    }
-    Ok(())
-}
-
-// Whether an outage at each call in turn is told, up to a call that isn't made.
-fn failures_are_told<RT: Threads + Wait + Sync>(
-    rt: &RT,
-    alloc: Global,
-    lasts: bool,
-) -> Result<bool, Fail> {
-    for passing in 0..100 {
-        if !fails_at(rt, alloc, passing, lasts)? {
-            return Ok(true);
-        }
-    }
-    Ok(false)
+    let alloc = rt.alloc();
+    strike_in_turn(|outage| is_struck(&rt, alloc, outage))
 }
 
 #[test]

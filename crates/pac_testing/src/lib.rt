@@ -3,7 +3,7 @@
 //!
 //! - [`run_over`], [`run_apart`], [`run_bytes`] and [`run_lines`]: run the words of a line, and tell what is answered.
 //! - [`ends`], [`ends_apart`], [`leaves`] and [`goes`]: whether the words end as they are to.
-//! - [`run_struck`]: runs them over devices of which an [`Outage`] strikes.
+//! - [`run_struck`]: runs them over devices that an [`Outage`] strikes; [`strike_in_turn`]: over an outage at each call in turn.
 //! - [`devices`], [`left`], [`hold`], [`changed`], [`log_of`]: stores of bytes.
 #![tactic(auto)]
 
@@ -14,7 +14,7 @@ mod stores;
 mod texts;
 
 pub use answer::{Answer, End, StoreStep, ends, ends_apart, goes, leaves, store_of};
-pub use outage::{Outage, run_struck};
+pub use outage::{Outage, run_struck, strike_in_turn};
 pub use running::{run_apart, run_bytes, run_lines, run_over};
 pub use stores::{LOG, NEW, SHUT, SLOT, changed, devices, hold, left, log_of};
 pub use texts::{

@@ -148,3 +148,35 @@ pub fn run_struck<RT: Threads + Wait + Sync>(
     };
     Ok((answer, store))
 }
+
+/// Hands an outage at each call of the devices in turn to `strike`, which answers whether one of its calls failed. First that
+/// call alone fails, and then, from the first call on again, all behind it too.
+///
+/// # Errors
+///
+/// Those of `strike`, and one where the calls don't come to an end.
+pub fn strike_in_turn<F: Fn(&Outage) -> Result<bool, Fail>>(strike: F) -> Result<(), Fail>
+    requires { F.IsAlwaysCallable strike }
+{
+    for lasts in [false, true] {
+        if !strikes_to_the_end(&strike, lasts)? {
+            return Err(Fail::from("the calls don't end"));
+        }
+    }
+    Ok(())
+}
+
+// Whether an outage at some call no longer strikes, since that call isn't made.
+fn strikes_to_the_end<F: Fn(&Outage) -> Result<bool, Fail>>(
+    strike: &F,
+    lasts: bool,
+) -> Result<bool, Fail>
+    requires { F.IsAlwaysCallable strike.now }
+{
+    for passing in 0..100 {
+        if !strike(&Outage::new(passing, lasts))? {
+            return Ok(true);
+        }
+    }
+    Ok(false)
+}
