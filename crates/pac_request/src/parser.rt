@@ -3,8 +3,7 @@ ghost use Rattle.std.specs.Prelude.{◌≡◌, ◌∷◌, [], MatchOption, OnOk,
 ghost use Rattle.pac_base.specs.Refusals.{Gives, Tells};
 ghost use Rattle.pac_base.specs.declared.refusal.Refusal.TheVariants as error;
 ghost use Rattle.pac_tokens.specs.declared.token.Token.TheVariants as token;
-ghost use Rattle.pac_syntax.specs.Machine.{is_same_word_or_sign, symbol_code};
-ghost use Rattle.pac_syntax.specs.Views.{Begins, IsNot, IsNoName, bool_in, name_part, name_token};
+ghost use Rattle.pac_syntax.specs.Views.{Begins, IsNot, IsNoName, name_token};
 ghost use Rattle.pac_request.specs.declared.node.LineNode.TheVariants as said;
 ghost use Rattle.pac_request.specs.declared.node.Verb.TheVariants as verb;
 ghost use Rattle.pac_syntax.specs.declared.tree.NameNode.{NameNode as ANameNode};
@@ -16,9 +15,9 @@ use crate::fault::{LineFault, LineFaultKind, line_fault};
 use crate::node::{LineNode, PlacedLiteral, RecordNode, Verb};
 use pac_base::{Refusal, listed};
 use pac_ops::MAX_RECORDS;
-use pac_syntax::NameNode;
+use pac_syntax::{NameNode, bool_of, is_same_word_or_sign, name_of, split_first};
 use pac_tokens::{Keyword, Lexed, Spanned, Symbol, Token, int_or_text};
-use pac_value::{Name, Value};
+use pac_value::Value;
 use std::alloc::Global;
 
 /// What is left to read.
@@ -28,54 +27,6 @@ pub struct LineParser<'a> {
     pub rest: &'a [Spanned],
     /// What is told where the tokens end too early: that at the line's end, or the fault of a token that ends them.
     pub end: LineFault,
-}
-
-// The first token, and those behind it.
-fn split_first(tokens: &[Spanned]) -> Option<(Spanned, &[Spanned])>
-    ensures { MatchOption result (tokens.now ≡ []) (λ p. tokens.now ≡ p.0 ∷ p.1.now) }
-{
-    match tokens {
-        [] => None,
-        [first, rest @ ..] => Some((*first, rest)),
-    }
-}
-
-fn name_of(token: Token) -> Option<Name>
-    ensures { result ≡ name_part token }
-{
-    match token {
-        Token::Name(name) => Some(name),
-        _ => None,
-    }
-}
-
-// Whether a token is `true` or `false`.
-fn bool_of(token: &Token) -> Option<bool>
-    ensures { result ≡ bool_in token.now }
-{
-    let Token::Keyword(word) = token else {
-        return None;
-    };
-    match word {
-        Keyword::True => Some(true),
-        Keyword::False => Some(false),
-        _ => None,
-    }
-}
-
-fn symbol_number(sign: Symbol) -> u8
-    ensures { result ≡ symbol_code sign }
-{
-    sign as u8
-}
-
-fn is_sign(sign: Symbol, found: &Token) -> bool
-    ensures { result ≡ is_same_word_or_sign (token.Symbol sign) found.now }
-{
-    match found {
-        Token::Symbol(other) => symbol_number(sign) == symbol_number(*other),
-        _ => false,
-    }
 }
 
 // The word that a line begins with.
@@ -145,7 +96,7 @@ impl<'a> LineParser<'a> {
         let Some((first, rest)) = split_first(self.rest) else {
             return None;
         };
-        if !is_sign(sign, &first.token) {
+        if !is_same_word_or_sign(&Token::Symbol(sign), &first.token) {
             return None;
         }
         self.rest = rest;

@@ -4,6 +4,7 @@
 //!   text's first [`Fault`], at a place (a byte offset) and of a kind.
 //! - [`tokens`] and what it speaks of: those of `pac_tokens`, which stands below.
 //! - [`sign_of`], [`tier_of`]: the sign of an operator, and how loosely it binds.
+//! - [`split_first`], [`name_of`], [`bool_of`], [`is_same_word_or_sign`]: what single tokens are, for each reader of tokens.
 //!
 //! What a text is read as stands in `specs/`, without any parser: `Grammar` (derivations with the place of each token, and
 //! the tree of each), `Faults` (limits are roles of tokens in a derivation; a fault is a token that can't follow, or one
@@ -19,6 +20,7 @@
 mod limits;
 mod operator;
 mod parse;
+mod single;
 mod tree;
 
 pub use limits::{MAX_CATALOGUE, MAX_NESTED, MAX_OPERATORS, MAX_PARENS, MAX_PROCS, MAX_TABLES};
@@ -27,4 +29,5 @@ pub use pac_tokens::{
     Fault, FaultKind, Keyword, Spanned, Symbol, SyntaxError, Token, Tokens, tokens,
 };
 pub use parse::parse_catalogue;
+pub use single::{bool_of, is_same_word_or_sign, name_of, split_first};
 pub use tree::{ColumnNode, ExprNode, LiteralNode, NameNode, ProcNode, StmtNode, TableNode, Tree};

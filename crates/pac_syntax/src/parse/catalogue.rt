@@ -11,8 +11,9 @@ ghost use Rattle.pac_syntax.specs.declared.tree.ColumnNode.{ColumnNode as AColum
 ghost use Rattle.pac_syntax.specs.declared.tree.ProcNode.{ProcNode as AProcNode};
 ghost use Rattle.pac_syntax.specs.declared.tree.TableNode.{TableNode as ATableNode};
 
-use super::parser::{Owner, Parser, split};
+use super::parser::{Owner, Parser};
 use crate::limits::{MAX_PROCS, MAX_TABLES};
+use crate::single::split_first;
 use crate::tree::{ColumnNode, NameNode, ProcNode, TableNode, Tree};
 use pac_base::listed;
 use pac_tokens::{Fault, FaultKind, Keyword, Spanned, Symbol, SyntaxError};
@@ -182,7 +183,7 @@ fn whole(alloc: Global, tokens: &[Spanned], end: usize) -> Result<Tree, SyntaxEr
     };
     let tables = listed(parser.tables()?);
     let procs = listed(parser.procedures()?);
-    match split(parser.rest) {
+    match split_first(parser.rest) {
         None => Ok(Tree { tables, procs }),
         Some(_) => Err(parser.refuse(FaultKind::Expected)),
     }

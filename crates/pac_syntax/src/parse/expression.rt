@@ -10,9 +10,10 @@ ghost use Rattle.pac_tokens.specs.declared.fault.FaultKind.TheVariants.{TooMany}
 ghost use Rattle.pac_base.specs.declared.refusal.Refusal.TheVariants as error;
 ghost use Rattle.pac_syntax.specs.declared.tree.ExprNode.{ExprNode as AnExprNode};
 
-use super::parser::{Operand, Parser, split};
+use super::parser::{Operand, Parser};
 use crate::limits::{MAX_OPERATORS, MAX_PARENS};
 use crate::operator::{operator_by, tier_behind, tier_of};
+use crate::single::split_first;
 use crate::tree::{ExprNode, LiteralNode, NameNode};
 use pac_base::Boxed;
 use pac_tokens::{Fault, FaultKind, Symbol, SyntaxError, Token};
@@ -72,7 +73,7 @@ impl<'a> Parser<'a> {
     fn sees_operator(&self, level: u8) -> bool
         ensures { (d : ℕ) (x : Begun) (k : Begun → ℕ → Steps) (o : ℕ) → result ≡ false → run self.now.end (rests d 0 level k x o) self.now.rest.now ≡ run self.now.end (k x o) self.now.rest.now }
     {
-        let Some((first, _)) = split(self.rest) else {
+        let Some((first, _)) = split_first(self.rest) else {
             return false;
         };
         operator_between(0, level, &first.token).is_some()
@@ -84,7 +85,7 @@ impl<'a> Parser<'a> {
         ensures shorter { IfOk result (λ o. IfSome o (λ _. IsShorter self.old self.new)) }
         ensures run { (d : ℕ) (x : Begun) (k : Begun → ℕ → Steps) → Gives (λ o. either o (run self.new.end (k x self.new.operators) self.new.rest.now) (λ op. run self.new.end (Level d (tier_of op) self.new.operators (λ y o. rests d (tier_behind (tier_of op)) level k (begun_binary op x y) o)) self.new.rest.now)) result (run self.old.end (rests d tier level k x self.old.operators) self.old.rest.now) }
     {
-        let Some((first, rest)) = split(self.rest) else {
+        let Some((first, rest)) = split_first(self.rest) else {
             return Ok(None);
         };
         let Some(op) = operator_between(tier, level, &first.token) else {
@@ -102,7 +103,7 @@ impl<'a> Parser<'a> {
         ensures shorter { IfSome result (λ _. IsShorter self.old self.new) }
         ensures run { MatchOption result ((self.new.rest ≡ self.old.rest) × IsNoName self.old.rest.now) (λ x. (d : ℕ) (k : Begun → ℕ → Steps) → run self.old.end (Level d 0 self.old.operators k) self.old.rest.now ≡ run self.new.end (k (begun_at x) self.new.operators) self.new.rest.now) }
     {
-        let Some((first, rest)) = split(self.rest) else {
+        let Some((first, rest)) = split_first(self.rest) else {
             return None;
         };
         let Some(operand) = operand_of(first.token, first.at) else {

@@ -4,15 +4,16 @@ ghost use Rattle.pac_base.specs.Refusals.{Gives};
 ghost use Rattle.pac_syntax.specs.Faults.{place};
 ghost use Rattle.pac_syntax.specs.Grammar.{Plain};
 ghost use Rattle.pac_value.specs.declared.values.Ty.{Ty as ATy};
-ghost use Rattle.pac_syntax.specs.Machine.{Steps, Want, WantName, WantType, WantLiteral, is_same_word_or_sign, keyword_code, symbol_code, type_of_token, run};
-ghost use Rattle.pac_syntax.specs.Views.{Begins, IsNot, IsNoName, IsType, IsNoType, bool_in, name_part, name_token, Goes, NoLonger, IsShorter};
+ghost use Rattle.pac_syntax.specs.Machine.{Steps, Want, WantName, WantType, WantLiteral, type_of_token, run};
+ghost use Rattle.pac_syntax.specs.Views.{Begins, IsNot, IsNoName, IsType, IsNoType, name_token, Goes, NoLonger, IsShorter};
 ghost use Rattle.pac_tokens.specs.declared.token.Token.TheVariants as token;
 ghost use Rattle.pac_syntax.specs.declared.tree.NameNode.{NameNode as ANameNode};
 ghost use Rattle.pac_base.specs.declared.refusal.Refusal.TheVariants as error;
 
+use crate::single::{bool_of, is_same_word_or_sign, name_of, split_first};
 use crate::tree::{ExprNode, LiteralNode, NameNode};
 use pac_tokens::{Fault, FaultKind, Keyword, Spanned, Symbol, SyntaxError, Token, int_or_text};
-use pac_value::{Name, Ty, Value};
+use pac_value::{Ty, Value};
 use std::alloc::Global;
 
 /// An expression, and where it begins, parentheses round it included.
@@ -40,26 +41,6 @@ pub struct Parser<'a> {
     pub operators: u8,
 }
 
-/// The first token, and those behind it.
-pub fn split(tokens: &[Spanned]) -> Option<(Spanned, &[Spanned])>
-    ensures { MatchOption result (tokens.now ≡ []) (λ p. tokens.now ≡ p.0 ∷ p.1.now) }
-{
-    match tokens {
-        [] => None,
-        [first, rest @ ..] => Some((*first, rest)),
-    }
-}
-
-// The name that a token is.
-fn name_of(token: Token) -> Option<Name>
-    ensures { result ≡ name_part token }
-{
-    match token {
-        Token::Name(name) => Some(name),
-        _ => None,
-    }
-}
-
 // The type that a token is.
 fn type_of(token: &Token) -> Option<Ty>
     ensures { result ≡ type_of_token token.now }
@@ -74,55 +55,12 @@ fn type_of(token: &Token) -> Option<Ty>
     }
 }
 
-// Whether a token is `true` or `false`.
-fn bool_of(token: &Token) -> Option<bool>
-    ensures { result ≡ bool_in token.now }
-{
-    let Token::Keyword(word) = token else {
-        return None;
-    };
-    match word {
-        Keyword::True => Some(true),
-        Keyword::False => Some(false),
-        _ => None,
-    }
-}
-
-fn keyword_number(word: Keyword) -> u8
-    ensures { result ≡ keyword_code word }
-{
-    word as u8
-}
-
-fn symbol_number(sign: Symbol) -> u8
-    ensures { result ≡ symbol_code sign }
-{
-    sign as u8
-}
-
-// Whether the two are one word or one sign.
-fn is_same_word_or_sign(wanted: &Token, found: &Token) -> bool
-    ensures { result ≡ is_same_word_or_sign wanted.now found.now }
-{
-    match wanted {
-        Token::Keyword(a) => match found {
-            Token::Keyword(b) => keyword_number(*a) == keyword_number(*b),
-            _ => false,
-        },
-        Token::Symbol(a) => match found {
-            Token::Symbol(b) => symbol_number(*a) == symbol_number(*b),
-            _ => false,
-        },
-        _ => false,
-    }
-}
-
 impl<'a> Parser<'a> {
     // The fault of this kind at the next token, or at the end.
     pub fn refuse(&self, kind: FaultKind) -> SyntaxError
         ensures { result ≡ error.Fault (record { at = place self.now.end self.now.rest.now; kind = kind }) }
     {
-        let at = match split(self.rest) {
+        let at = match split_first(self.rest) {
             None => self.end,
             Some((first, _)) => first.at,
         };
@@ -135,7 +73,7 @@ impl<'a> Parser<'a> {
         ensures operators { self.new.operators ≡ self.old.operators }
         ensures token { MatchOption result ((self.new.rest ≡ self.old.rest) × IsNot wanted self.old.rest.now) (λ at. Begins wanted at self.old.rest.now self.new.rest.now) }
     {
-        let Some((first, rest)) = split(self.rest) else {
+        let Some((first, rest)) = split_first(self.rest) else {
             return None;
         };
         if !is_same_word_or_sign(&wanted, &first.token) {
@@ -193,7 +131,7 @@ impl<'a> Parser<'a> {
         ensures operators { self.new.operators ≡ self.old.operators }
         ensures name { MatchOption result ((self.new.rest ≡ self.old.rest) × IsNoName self.old.rest.now) (λ n. self.old.rest.now ≡ name_token n ∷ self.new.rest.now) }
     {
-        let Some((first, rest)) = split(self.rest) else {
+        let Some((first, rest)) = split_first(self.rest) else {
             return None;
         };
         let at = first.at;
@@ -219,7 +157,7 @@ impl<'a> Parser<'a> {
         ensures end { self.new.end ≡ self.old.end }
         ensures ty { MatchOption result ((self.new.rest ≡ self.old.rest) × IsNoType self.old.rest.now) (λ y. IsType y self.old.rest.now self.new.rest.now) }
     {
-        let Some((first, rest)) = split(self.rest) else {
+        let Some((first, rest)) = split_first(self.rest) else {
             return None;
         };
         let Some(ty) = type_of(&first.token) else {
@@ -246,7 +184,7 @@ impl<'a> Parser<'a> {
         ensures operators { self.new.operators ≡ self.old.operators }
         ensures run { Goes WantLiteral self.old self.new result }
     {
-        let Some((first, behind)) = split(self.rest) else {
+        let Some((first, behind)) = split_first(self.rest) else {
             return Err(self.refuse(FaultKind::Expected));
         };
         let at = first.at;

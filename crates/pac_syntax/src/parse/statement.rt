@@ -7,8 +7,9 @@ ghost use Rattle.pac_syntax.specs.declared.tree.ExprNode.{ExprNode as AnExprNode
 ghost use Rattle.pac_syntax.specs.declared.tree.NameNode.{NameNode as ANameNode};
 ghost use Rattle.pac_syntax.specs.declared.tree.StmtNode.{StmtNode as AStmtNode};
 
-use super::parser::{Parser, split};
+use super::parser::Parser;
 use crate::limits::MAX_NESTED;
+use crate::single::split_first;
 use crate::tree::{ExprNode, NameNode, StmtNode};
 use pac_base::listed;
 use pac_tokens::{FaultKind, Keyword, Symbol, SyntaxError, Token};
@@ -247,7 +248,7 @@ impl<'a> Parser<'a> {
         ensures within { IfOk result (λ o. IfSome o (λ w. is_too_deep nested w ≡ false)) }
         ensures run { (ss : List AStmtNode) (k : List AStmtNode → Steps) → Gives (λ o. either o (run self.new.end (k ss) self.new.rest.now) (λ w. run self.new.end (stmt_steps nested w (λ s. MoreStmts nested (ss ++ (s ∷ [])) k)) self.new.rest.now)) result (run self.old.end (MoreStmts nested ss k) self.old.rest.now) }
     {
-        let Some((first, rest)) = split(self.rest) else {
+        let Some((first, rest)) = split_first(self.rest) else {
             return Ok(None);
         };
         let Some(word) = statement_word(&first.token) else {
