@@ -5,7 +5,8 @@
 //! - [`Slots::attach`] looks at two slots and finds what is open in each, a [`SlotInfo`], or the first damage.
 //!   [`Slots::newest`] is the one with more transactions.
 //! - [`Slots::load_newest`] reads its tables into any [`Rows`](pac_tables::Rows).
-//! - [`Slots::save`] puts a checkpoint into the slot that isn't the newest.
+//! - [`Slots::save`] puts a checkpoint into the slot that isn't the newest; [`can_be_saved`] tests that each table has few
+//!   enough rows.
 //! - [`slots_are_clear`] says that the bytes of a slot hold one checkpoint and no other.
 //!
 //! A slot is a gate byte, and where that is 1 a checkpoint behind it: the name `PACMSLT1`; the number of transactions and
@@ -30,6 +31,7 @@ mod loading;
 mod reading;
 mod replacing;
 mod rows;
+mod savable;
 mod scanning;
 mod slots;
 mod state;
@@ -42,5 +44,6 @@ pub use head::Head;
 pub use info::{SlotInfo, SlotName};
 pub use law::slots_are_clear;
 pub use limits::{MAX_SAVED_ROWS, MAX_SLOT_LEN};
+pub use savable::can_be_saved;
 pub use slots::Slots;
 pub use state::SlotState;

@@ -1,15 +1,13 @@
 // The worked slot, and how slots are attached to, loaded and saved to.
-ghost use Rattle.std.specs.Prelude.{◌≡◌, ◌<◌, ◌≤◌, ℕ, false, true, length, IsTrue, IfOk};
-ghost use Rattle.pac_value.specs.State.{keys_of};
+ghost use Rattle.std.specs.Prelude.{◌≡◌, false, IfOk};
 ghost use Rattle.pac_outside.specs.Disk.{WhereTold};
 ghost use Rattle.pac_outside.specs.GateByte.{OneImage};
 ghost use Rattle.pac_types.specs.Fits.{FitsCatalogue};
-ghost use Rattle.pac_check.specs.declared.limits.TheConstants.{MAX_SAVED_ROWS};
 ghost use Rattle.pac_check.specs.SlotStates.{IsSlot};
 
-use pac_check::{MAX_SAVED_ROWS, SaveError, SlotError, Slots};
+use pac_check::{SaveError, SlotError, Slots, can_be_saved};
 use pac_outside::{Disk, MemDisk};
-use pac_tables::{OrderedRows, Rows};
+use pac_tables::OrderedRows;
 use pac_types::{Catalogue, read_catalogue};
 use std::alloc::{AllocError, Global};
 use std::test::Fail;
@@ -82,18 +80,6 @@ pub fn loaded(alloc: Global, cat: &Catalogue, a: &[u8], b: &[u8]) -> Result<Orde
     }
 }
 
-// Whether each table has so few rows that they can be saved.
-fn is_small(rows: &OrderedRows) -> bool
-    ensures { IsTrue result → (table : ℕ) → table < rows.now.tables → length (keys_of rows.now.rows table) ≤ MAX_SAVED_ROWS }
-{
-    for table in 0..rows.tables() {
-        if rows.count(table) > MAX_SAVED_ROWS {
-            return false;
-        }
-    }
-    true
-}
-
 /// What a save of the worked slot's rows over two slots answers, with this number of transactions.
 pub fn save_rows<D: Disk>(
     alloc: Global,
@@ -103,7 +89,7 @@ pub fn save_rows<D: Disk>(
 ) -> Result<Result<(), SaveError>, Fail> {
     let cat = one_table(alloc)?;
     let rows = loaded(alloc, &cat, SLOT, &[0])?;
-    if !is_small(&rows) {
+    if !can_be_saved(&rows) {
         return Err(Fail::from("too many rows"));
     }
     let mut slots = opened(alloc, &cat, a, b)?;
