@@ -1,5 +1,5 @@
 // Does what one request asks.
-ghost use Rattle.std.specs.Prelude.{◌≡◌, ◌≤◌, ◌<◌, ◌≢◌, ◌++◌, ◌∷◌, ◌||◌, [], false, true, length, nat_le, ℕ, List, IfErr, IfOk, MatchResult, OnErr, OnOk, Some as ASome, None as ANone};
+ghost use Rattle.std.specs.Prelude.{◌≡◌, ◌≤◌, ◌<◌, ◌≢◌, ◌++◌, ◌∷◌, ◌||◌, [], false, true, length, nat_le, ℕ, IfErr, IfOk, MatchResult, OnErr, OnOk, Some as ASome, None as ANone};
 ghost use Rattle.std.specs.List.{AllByRecursion};
 ghost use Rattle.pac_outside.specs.Devices.{each};
 ghost use Rattle.pac_types.specs.Fits.{TxnFits};
@@ -7,10 +7,11 @@ ghost use Rattle.pac_check.specs.declared.limits.TheConstants.{MAX_SLOT_LEN};
 ghost use Rattle.pac_request.specs.declared.request.Request.{Request as ARequest};
 ghost use Rattle.pac_request.specs.declared.request.Reply.{Reply as AReply};
 ghost use Rattle.pac_request.specs.RequestFits.{RequestFits};
-ghost use Rattle.pac_session.specs.Session.{SessionState, commits, txn_of};
-ghost use Rattle.pac_session.specs.Groups.{cut_one, is_closing, lacks_room, place_behind};
-ghost use Rattle.pac_session.specs.Open.{IsInGroup, rules_of, state_now};
-ghost use Rattle.pac_engine.specs.Closing.{Closes, CountsFault, IsKept, StopsAt, slot_len};
+ghost use Rattle.pac_session.specs.Session.{txn_of};
+ghost use Rattle.pac_session.specs.Groups.{is_closing, lacks_room, place_behind};
+ghost use Rattle.pac_session.specs.Open.{rules_of, state_now};
+ghost use Rattle.pac_engine.specs.Closing.{CountsFault, IsKept, slot_len};
+ghost use Rattle.pac_engine.specs.Handled.{IsHandled};
 ghost use Rattle.pac_engine.specs.Moves.{IsAsked, IsHeldBy, IsLive, IsWorking, saved_parts};
 ghost use Rattle.pac_engine.specs.Standing.{HasDevices, OnlyGrows, KeepsMore, StandsForMore};
 ghost use Rattle.pac_engine.specs.declared.parts.EngineParts.{EngineParts as AParts};
@@ -74,20 +75,7 @@ impl EngineParts {
     ) -> Result<Replies, EngineFault>
         requires working { IsWorking self.old }
         requires ready { HasDevices D.told self.old devices.old }
-        ensures closes { (before : AParts) (asked : ARequest) → IsAsked before asked closing self.old → (start : SessionState) (group : List ARequest) → IsInGroup start group before.session
-            → IfOk result (λ given. Closes (rules_of before.session) before.log.gate.place start (cut_one (rules_of before.session) start group asked) given self.new) }
-        ensures stops { (before : AParts) (asked : ARequest) → IsAsked before asked closing self.old → (start : SessionState) (group : List ARequest) → IsInGroup start group before.session
-            → IfErr result (λ fault. StopsAt (rules_of before.session) before.log.gate.place start (cut_one (rules_of before.session) start group asked).closed fault.replies fault.cause) }
-        ensures kept { IfOk result (λ given. AllByRecursion (IsKept self.new) given) }
-        ensures kept_before { IfErr result (λ fault. AllByRecursion (IsKept self.new) fault.replies) }
-        ensures live { OnOk result (IsLive self.new) }
-        ensures grows { OnlyGrows self.old self.new }
-        ensures same { OnOk result (rules_of self.new.session ≡ rules_of self.old.session) }
-        ensures ready { OnOk result (HasDevices D.told self.new devices.new) }
-        ensures keeps { (before : AParts) (asked : ARequest) → IsAsked before asked closing self.old → KeepsMore D.told (commits (rules_of before.session) (state_now before.session) asked) before self.new devices.old devices.new }
-        ensures stands { (before : AParts) (asked : ARequest) → IsAsked before asked closing self.old → OnOk result (StandsForMore D.told (commits (rules_of before.session) (state_now before.session) asked) before self.new devices.old devices.new) }
-        ensures goes_on { IfErr result (λ fault. ¬ (fault.cause ≡ EngineCause.Ended)) }
-        ensures faults { MatchResult result (λ _. each D.faults devices.new ≡ each D.faults devices.old) (λ fault. CountsFault fault.cause (each D.faults devices.old) (each D.faults devices.new)) }
+        ensures { (before : AParts) (asked : ARequest) → IsAsked before asked closing self.old → IsHandled D.told D.faults asked before self.new devices.old devices.new result }
     {
         if !self.ends_group(closing) {
             return Ok(Replies::of(Vec::new(alloc)));
@@ -110,20 +98,7 @@ impl EngineParts {
         requires fits { TxnFits self.old.session.catalogue txn }
         requires full { lacks_room self.old.session.txns (ASome txn) ≡ true }
         requires alone { lacks_room [] (ASome txn) ≡ false }
-        ensures closes { (asked : ARequest) → txn_of asked ≡ ASome txn → (start : SessionState) (group : List ARequest) → IsInGroup start group self.old.session
-            → IfOk result (λ given. Closes (rules_of self.old.session) self.old.log.gate.place start (cut_one (rules_of self.old.session) start group asked) given self.new) }
-        ensures stops { (asked : ARequest) → txn_of asked ≡ ASome txn → (start : SessionState) (group : List ARequest) → IsInGroup start group self.old.session
-            → IfErr result (λ fault. StopsAt (rules_of self.old.session) self.old.log.gate.place start (cut_one (rules_of self.old.session) start group asked).closed fault.replies fault.cause) }
-        ensures kept { IfOk result (λ given. AllByRecursion (IsKept self.new) given) }
-        ensures kept_before { IfErr result (λ fault. AllByRecursion (IsKept self.new) fault.replies) }
-        ensures live { OnOk result (IsLive self.new) }
-        ensures grows { OnlyGrows self.old self.new }
-        ensures same { OnOk result (rules_of self.new.session ≡ rules_of self.old.session) }
-        ensures ready { OnOk result (HasDevices D.told self.new devices.new) }
-        ensures keeps { (asked : ARequest) → txn_of asked ≡ ASome txn → KeepsMore D.told (commits (rules_of self.old.session) (state_now self.old.session) asked) self.old self.new devices.old devices.new }
-        ensures stands { (asked : ARequest) → txn_of asked ≡ ASome txn → OnOk result (StandsForMore D.told (commits (rules_of self.old.session) (state_now self.old.session) asked) self.old self.new devices.old devices.new) }
-        ensures goes_on { IfErr result (λ fault. ¬ (fault.cause ≡ EngineCause.Ended)) }
-        ensures faults { MatchResult result (λ _. each D.faults devices.new ≡ each D.faults devices.old) (λ fault. CountsFault fault.cause (each D.faults devices.old) (each D.faults devices.new)) }
+        ensures { (asked : ARequest) → txn_of asked ≡ ASome txn → IsHandled D.told D.faults asked self.old self.new devices.old devices.new result }
     {
         let replies = match self.close(devices) {
             Ok(replies) => replies,
@@ -148,20 +123,7 @@ impl EngineParts {
         requires live { IsLive self.old }
         requires ready { HasDevices D.told self.old devices.old }
         requires fits { TxnFits self.old.session.catalogue txn }
-        ensures closes { (asked : ARequest) → txn_of asked ≡ ASome txn → (start : SessionState) (group : List ARequest) → IsInGroup start group self.old.session
-            → IfOk result (λ given. Closes (rules_of self.old.session) self.old.log.gate.place start (cut_one (rules_of self.old.session) start group asked) given self.new) }
-        ensures stops { (asked : ARequest) → txn_of asked ≡ ASome txn → (start : SessionState) (group : List ARequest) → IsInGroup start group self.old.session
-            → IfErr result (λ fault. StopsAt (rules_of self.old.session) self.old.log.gate.place start (cut_one (rules_of self.old.session) start group asked).closed fault.replies fault.cause) }
-        ensures kept { IfOk result (λ given. AllByRecursion (IsKept self.new) given) }
-        ensures kept_before { IfErr result (λ fault. AllByRecursion (IsKept self.new) fault.replies) }
-        ensures live { OnOk result (IsLive self.new) }
-        ensures grows { OnlyGrows self.old self.new }
-        ensures same { OnOk result (rules_of self.new.session ≡ rules_of self.old.session) }
-        ensures ready { OnOk result (HasDevices D.told self.new devices.new) }
-        ensures keeps { (asked : ARequest) → txn_of asked ≡ ASome txn → KeepsMore D.told (commits (rules_of self.old.session) (state_now self.old.session) asked) self.old self.new devices.old devices.new }
-        ensures stands { (asked : ARequest) → txn_of asked ≡ ASome txn → OnOk result (StandsForMore D.told (commits (rules_of self.old.session) (state_now self.old.session) asked) self.old self.new devices.old devices.new) }
-        ensures goes_on { IfErr result (λ fault. ¬ (fault.cause ≡ EngineCause.Ended)) }
-        ensures faults { MatchResult result (λ _. each D.faults devices.new ≡ each D.faults devices.old) (λ fault. CountsFault fault.cause (each D.faults devices.old) (each D.faults devices.new)) }
+        ensures { (asked : ARequest) → txn_of asked ≡ ASome txn → IsHandled D.told D.faults asked self.old self.new devices.old devices.new result }
     {
         if self.session.lacks_room(&txn) {
             return self.execute_anew(alloc, txn, devices);
@@ -184,20 +146,7 @@ impl EngineParts {
         requires fits { RequestFits self.old.session.catalogue request }
         requires none { txn_of request ≡ ANone }
         requires unsaved { request ≢ ARequest.Save }
-        ensures closes { (start : SessionState) (group : List ARequest) → IsInGroup start group self.old.session
-            → IfOk result (λ given. Closes (rules_of self.old.session) self.old.log.gate.place start (cut_one (rules_of self.old.session) start group request) given self.new) }
-        ensures stops { (start : SessionState) (group : List ARequest) → IsInGroup start group self.old.session
-            → IfErr result (λ fault. StopsAt (rules_of self.old.session) self.old.log.gate.place start (cut_one (rules_of self.old.session) start group request).closed fault.replies fault.cause) }
-        ensures kept { IfOk result (λ given. AllByRecursion (IsKept self.new) given) }
-        ensures kept_before { IfErr result (λ fault. AllByRecursion (IsKept self.new) fault.replies) }
-        ensures live { OnOk result (IsLive self.new) }
-        ensures grows { OnlyGrows self.old self.new }
-        ensures same { OnOk result (rules_of self.new.session ≡ rules_of self.old.session) }
-        ensures ready { OnOk result (HasDevices D.told self.new devices.new) }
-        ensures keeps { KeepsMore D.told (commits (rules_of self.old.session) (state_now self.old.session) request) self.old self.new devices.old devices.new }
-        ensures stands { OnOk result (StandsForMore D.told (commits (rules_of self.old.session) (state_now self.old.session) request) self.old self.new devices.old devices.new) }
-        ensures goes_on { IfErr result (λ fault. ¬ (fault.cause ≡ EngineCause.Ended)) }
-        ensures faults { MatchResult result (λ _. each D.faults devices.new ≡ each D.faults devices.old) (λ fault. CountsFault fault.cause (each D.faults devices.old) (each D.faults devices.new)) }
+        ensures { IsHandled D.told D.faults request self.old self.new devices.old devices.new result }
     {
         let closing = is_closing(&request);
         match self.session.answer(request) {
@@ -249,20 +198,7 @@ impl EngineParts {
     ) -> Result<Replies, EngineFault>
         requires live { IsLive self.old }
         requires ready { HasDevices D.told self.old devices.old }
-        ensures closes { (start : SessionState) (group : List ARequest) → IsInGroup start group self.old.session
-            → IfOk result (λ given. Closes (rules_of self.old.session) self.old.log.gate.place start (cut_one (rules_of self.old.session) start group ARequest.Save) given self.new) }
-        ensures stops { (start : SessionState) (group : List ARequest) → IsInGroup start group self.old.session
-            → IfErr result (λ fault. StopsAt (rules_of self.old.session) self.old.log.gate.place start (cut_one (rules_of self.old.session) start group ARequest.Save).closed fault.replies fault.cause) }
-        ensures kept { IfOk result (λ given. AllByRecursion (IsKept self.new) given) }
-        ensures kept_before { IfErr result (λ fault. AllByRecursion (IsKept self.new) fault.replies) }
-        ensures live { OnOk result (IsLive self.new) }
-        ensures grows { OnlyGrows self.old self.new }
-        ensures same { OnOk result (rules_of self.new.session ≡ rules_of self.old.session) }
-        ensures ready { OnOk result (HasDevices D.told self.new devices.new) }
-        ensures keeps { KeepsMore D.told (commits (rules_of self.old.session) (state_now self.old.session) ARequest.Save) self.old self.new devices.old devices.new }
-        ensures stands { OnOk result (StandsForMore D.told (commits (rules_of self.old.session) (state_now self.old.session) ARequest.Save) self.old self.new devices.old devices.new) }
-        ensures goes_on { IfErr result (λ fault. ¬ (fault.cause ≡ EngineCause.Ended)) }
-        ensures faults { MatchResult result (λ _. each D.faults devices.new ≡ each D.faults devices.old) (λ fault. CountsFault fault.cause (each D.faults devices.old) (each D.faults devices.new)) }
+        ensures handled { IsHandled D.told D.faults ARequest.Save self.old self.new devices.old devices.new result }
         ensures small { OnOk result (slot_len (rules_of self.old.session) (state_now self.old.session) (place_behind self.old.log.gate.place self.old.session.txns) ≤ MAX_SLOT_LEN) }
     {
         match self.close(devices) {
@@ -281,20 +217,7 @@ impl EngineParts {
         requires live { IsLive self.old }
         requires ready { HasDevices D.told self.old devices.old }
         requires fits { RequestFits self.old.session.catalogue request }
-        ensures closes { (start : SessionState) (group : List ARequest) → IsInGroup start group self.old.session
-            → IfOk result (λ given. Closes (rules_of self.old.session) self.old.log.gate.place start (cut_one (rules_of self.old.session) start group request) given self.new) }
-        ensures stops { (start : SessionState) (group : List ARequest) → IsInGroup start group self.old.session
-            → IfErr result (λ fault. StopsAt (rules_of self.old.session) self.old.log.gate.place start (cut_one (rules_of self.old.session) start group request).closed fault.replies fault.cause) }
-        ensures kept { IfOk result (λ given. AllByRecursion (IsKept self.new) given) }
-        ensures kept_before { IfErr result (λ fault. AllByRecursion (IsKept self.new) fault.replies) }
-        ensures live { OnOk result (IsLive self.new) }
-        ensures grows { OnlyGrows self.old self.new }
-        ensures same { OnOk result (rules_of self.new.session ≡ rules_of self.old.session) }
-        ensures ready { OnOk result (HasDevices D.told self.new devices.new) }
-        ensures keeps { KeepsMore D.told (commits (rules_of self.old.session) (state_now self.old.session) request) self.old self.new devices.old devices.new }
-        ensures stands { OnOk result (StandsForMore D.told (commits (rules_of self.old.session) (state_now self.old.session) request) self.old self.new devices.old devices.new) }
-        ensures goes_on { IfErr result (λ fault. ¬ (fault.cause ≡ EngineCause.Ended)) }
-        ensures faults { MatchResult result (λ _. each D.faults devices.new ≡ each D.faults devices.old) (λ fault. CountsFault fault.cause (each D.faults devices.old) (each D.faults devices.new)) }
+        ensures handled { IsHandled D.told D.faults request self.old self.new devices.old devices.new result }
         ensures small { request ≡ ARequest.Save → OnOk result (slot_len (rules_of self.old.session) (state_now self.old.session) (place_behind self.old.log.gate.place self.old.session.txns) ≤ MAX_SLOT_LEN) }
     {
         match transaction_of(request) {

@@ -1,0 +1,36 @@
+-- What an engine does with one request, whatever its answer.
+use Rattle.std.specs.Prelude.{◌≡◌, ℕ, List, Option, Result, IfErr, IfOk, MatchResult, OnOk}
+use Rattle.std.specs.List.{AllByRecursion}
+use Rattle.pac_outside.specs.Devices.{each}
+use Rattle.pac_outside.specs.Disk.{History}
+use Rattle.pac_outside.specs.declared.devices.Devices.{Devices}
+use Rattle.pac_request.specs.declared.request.Request.{Request}
+use Rattle.pac_request.specs.declared.request.Reply.{Reply}
+use Rattle.pac_session.specs.Session.{SessionState, commits}
+use Rattle.pac_session.specs.Groups.{cut_one}
+use Rattle.pac_session.specs.Open.{IsInGroup, rules_of, state_now}
+use Rattle.pac_engine.specs.declared.fault.EngineCause.TheVariants.{Ended}
+use Rattle.pac_engine.specs.declared.fault.EngineFault.{EngineFault}
+use Rattle.pac_engine.specs.declared.parts.EngineParts.{EngineParts}
+use Rattle.pac_engine.specs.Closing.{Closes, CountsFault, IsKept, StopsAt}
+use Rattle.pac_engine.specs.Moves.{IsLive}
+use Rattle.pac_engine.specs.Standing.{HasDevices, KeepsMore, OnlyGrows, StandsForMore}
+
+-- The request was handled by the engine as it was before. The replies are those of the groups that it closes, or it stops at
+-- one of these; what they tell of is durable; the devices stand for the history at each moment, and the engine for that with
+-- the transactions of the request; and no call of a device comes after one that failed.
+pub record IsHandled {D : Type 0} (told : D → Option History) (faults : D → ℕ) (asked : Request) (before now : EngineParts) (old new : Devices D) (result : Result (List Reply) EngineFault) : Type 0 where
+  pub closes : (start : SessionState) (group : List Request) → IsInGroup start group before.session
+      → IfOk result (λ given. Closes (rules_of before.session) before.log.gate.place start (cut_one (rules_of before.session) start group asked) given now)
+  pub stops : (start : SessionState) (group : List Request) → IsInGroup start group before.session
+      → IfErr result (λ fault. StopsAt (rules_of before.session) before.log.gate.place start (cut_one (rules_of before.session) start group asked).closed fault.replies fault.cause)
+  pub kept : IfOk result (λ given. AllByRecursion (IsKept now) given)
+  pub kept_before : IfErr result (λ fault. AllByRecursion (IsKept now) fault.replies)
+  pub live : OnOk result (IsLive now)
+  pub grows : OnlyGrows before now
+  pub same : OnOk result (rules_of now.session ≡ rules_of before.session)
+  pub ready : OnOk result (HasDevices told now new)
+  pub keeps : KeepsMore told (commits (rules_of before.session) (state_now before.session) asked) before now old new
+  pub stands : OnOk result (StandsForMore told (commits (rules_of before.session) (state_now before.session) asked) before now old new)
+  pub goes_on : IfErr result (λ fault. ¬ (fault.cause ≡ Ended))
+  pub counted : MatchResult result (λ _. each faults new ≡ each faults old) (λ fault. CountsFault fault.cause (each faults old) (each faults new))
