@@ -6,6 +6,11 @@ use std::alloc::Global;
 
 /// A type whose copies are equal to what they copy. A copy costs what the value holds.
 pub trait Exact: Drop {
+    /// An equal value.
+    ///
+    /// # Errors
+    ///
+    /// [`NoMemory`] where an allocation is refused.
     fn copy(&self, alloc: Global) -> Result<Self, NoMemory>
     where
         Self: Sized,
@@ -14,6 +19,7 @@ pub trait Exact: Drop {
 
 /// A type whose values can be told apart.
 pub trait Same {
+    /// Whether the values are equal.
     fn same(&self, other: &Self) -> bool
         ensures { IsTrue result ↔ (self.now ≡ other.now) };
 }

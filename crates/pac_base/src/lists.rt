@@ -40,6 +40,10 @@ impl<T: Same> Same for Items<T> {
 }
 
 /// A vector with copies of a slice's items.
+///
+/// # Errors
+///
+/// [`NoMemory`] where an allocation is refused.
 pub fn copy_of<T: Exact>(alloc: Global, items: &[T]) -> Result<Vec<T>, NoMemory>
     ensures { IfOk result (λ copy. copy.items ≡ items.now) }
 {

@@ -1,7 +1,7 @@
 // A log on a device, of ad-hoc transactions that put rows at one table.
 ghost use Rattle.std.specs.Prelude.{◌≤◌, All, IfOk, length};
 ghost use Rattle.pac_types.specs.Fits.{TxnFits};
-ghost use Rattle.pac_log.specs.declared.limits.TheConstants.{MAX_BODY_LEN};
+ghost use Rattle.pac_entry.specs.declared.limits.TheConstants.{MAX_BODY_LEN};
 ghost use Rattle.pac_log.specs.Bodies.{body_bytes};
 ghost use Rattle.pac_log.specs.Logs.{IsAccepted};
 
@@ -9,7 +9,7 @@ use crate::part::PartError;
 use pac_base::NoMemory;
 use pac_entry::read_entry;
 use pac_flat::test_operations;
-use pac_log::{Log, LogReader, MAX_BODY_LEN, body_len, create};
+use pac_log::{Log, LogReader, body_len, create};
 use pac_ops::{Batch, MAX_TXNS, Txns};
 use pac_outside::{Disk, FileDisk};
 use pac_types::{Catalogue, read_catalogue};
@@ -67,7 +67,7 @@ fn batch_of(alloc: Global, cat: &Catalogue, load: Load) -> Result<Batch, PartErr
         first: 1,
         txns: Txns::of(txns),
     };
-    if body_len(&batch) > MAX_BODY_LEN {
+    if body_len(&batch) > MAX_BODY_LEN as u64 {
         return Err(PartError::Refused);
     }
     Ok(batch)

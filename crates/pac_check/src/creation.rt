@@ -4,8 +4,7 @@ ghost use Rattle.pac_outside.specs.Causes.{Rose, one_more};
 ghost use Rattle.pac_outside.specs.Disk.{BothTell, WhereTold, settled};
 
 use crate::CreateSlotError;
-use crate::replacing::CLOSED;
-use pac_outside::{Disk, write_and_sync};
+use pac_outside::{Disk, GATE_SHUT, write_and_sync};
 
 /// Makes a slot without a checkpoint on an empty device: a closed gate, which it syncs. Takes no memory.
 ///
@@ -28,5 +27,5 @@ pub fn create_slot<D: Disk>(disk: &mut D) -> Result<(), CreateSlotError>
     if length > 0 {
         return Err(CreateSlotError::NotEmpty { length });
     }
-    Ok(write_and_sync(disk, 0, &[CLOSED])?)
+    Ok(write_and_sync(disk, 0, &[GATE_SHUT])?)
 }

@@ -19,17 +19,20 @@ pub enum CreateSlotError {
 }
 
 /// Why slots aren't read.
-#[derive(Clone, Copy, Debug, PartialEq, Eq)]
+#[derive(Clone, Copy, Debug, PartialEq, Eq, Error)]
 pub enum SlotError {
     /// A call of a device failed.
+    #[error("a device failed")]
     DiskFault,
     /// An open gate of this slot isn't followed by a checkpoint of the catalogue: the first fault, at this place.
+    #[error("slot: {kind} at byte {at}")]
     Damaged {
         slot: SlotName,
         at: u64,
         kind: SlotDamageKind,
     },
     /// There was no memory for what is read.
+    #[error("out of memory")]
     NoMemory,
 }
 

@@ -6,10 +6,7 @@ ghost use Rattle.pac_check.specs.declared.errors.SaveError.{SaveError as ASaveEr
 ghost use Rattle.pac_check.specs.Replacing.{BeginsAs, HasByte, IsReplaced, Replaces};
 
 use crate::{Head, SaveError, SlotState};
-use pac_outside::{Disk, Failed, open_behind, write_and_sync};
-
-// The gate byte of a slot without a checkpoint.
-pub(crate) const CLOSED: u8 = 0;
+use pac_outside::{Disk, Failed, GATE_SHUT, open_behind, write_and_sync};
 
 /// Puts a text behind the gate of a slot in this state. Where the gate is open, or the device has no byte, it closes the
 /// gate first, and syncs; then it writes the text, syncs, opens the gate, and syncs.
@@ -43,7 +40,7 @@ fn close_and_open<D: Disk>(disk: &mut D, state: SlotState, text: &[u8]) -> Resul
     ensures cause { HasCause (D.faults disk.old) (D.faults disk.new) result }
     ensures once { EndsAtFault (D.faults disk.old) (D.faults disk.new) result }
 {
-    write_and_sync(disk, 0, &[CLOSED])?;
+    write_and_sync(disk, 0, &[GATE_SHUT])?;
     open_behind(disk, 0, text)
 }
 

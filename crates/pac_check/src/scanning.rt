@@ -10,6 +10,7 @@ use crate::damage::CheckpointError;
 use crate::head::{head_at, number_at};
 use crate::rows::keyed_row_at;
 use crate::{Head, SlotState};
+use pac_outside::GATE_OPEN;
 use pac_types::Table;
 use pac_value::Key;
 use std::alloc::Global;
@@ -41,13 +42,10 @@ fn read_slot(alloc: Global, tables: &[Table], bytes: &[u8]) -> Result<SlotState,
 {
     match bytes.first() {
         None => Ok(SlotState::Empty),
-        Some(&OPEN) => Ok(SlotState::Open(scan_checkpoint(alloc, tables, bytes, 1)?)),
+        Some(&GATE_OPEN) => Ok(SlotState::Open(scan_checkpoint(alloc, tables, bytes, 1)?)),
         Some(_) => Ok(SlotState::Closed),
     }
 }
-
-// The gate byte in front of a checkpoint.
-const OPEN: u8 = 1;
 
 // The head of the checkpoint at a place, which is read to its end.
 #[tactic(auto, unfolding(crate::specs::CheckpointReading::next_checkpoint))]

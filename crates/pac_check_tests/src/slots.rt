@@ -13,11 +13,11 @@ use std::alloc::{AllocError, Global};
 use std::test::Fail;
 
 /// The tables of `adhoc put T[1] = (2)` after one transaction, at place 69 of the log.
-pub const SLOT: &[u8] =
+pub(crate) const SLOT: &[u8] =
     b"\x01PACMSLT1\x01\0\0\0\0\0\0\0\x45\0\0\0\0\0\0\0\x01\0\x01\0\0\0\0\0\0\0\x01\x01\0\0\0\0\0\0\0\x01\x02\0\0\0\0\0\0\0";
 
 /// The catalogue of one table.
-pub fn one_table(alloc: Global) -> Result<Catalogue, Fail> {
+pub(crate) fn one_table(alloc: Global) -> Result<Catalogue, Fail> {
     match read_catalogue(alloc, b"table T(key int, v int);") {
         Ok(catalogue) => Ok(catalogue),
         Err(_) => Err(Fail::from("no catalogue")),
@@ -25,14 +25,19 @@ pub fn one_table(alloc: Global) -> Result<Catalogue, Fail> {
 }
 
 /// A disk of these bytes, of which the call with this number fails.
-pub fn disk(alloc: Global, bytes: &[u8], failing: u64) -> Result<MemDisk, Fail> {
+pub(crate) fn disk(alloc: Global, bytes: &[u8], failing: u64) -> Result<MemDisk, Fail> {
     let bytes = bytes.to_vec(alloc)?;
     let failing = [failing].to_vec(alloc)?;
     Ok(MemDisk::new(bytes, failing))
 }
 
 /// The slot with this byte at a place, cut to a length.
-pub fn changed(alloc: Global, place: usize, byte: u8, len: usize) -> Result<Vec<u8>, AllocError> {
+pub(crate) fn changed(
+    alloc: Global,
+    place: usize,
+    byte: u8,
+    len: usize,
+) -> Result<Vec<u8>, AllocError> {
     let mut bytes = SLOT.to_vec(alloc)?;
     if let Some(old) = bytes.get_mut(place) {
         *old = byte;
@@ -42,7 +47,11 @@ pub fn changed(alloc: Global, place: usize, byte: u8, len: usize) -> Result<Vec<
 }
 
 /// What is found in two slots.
-pub fn attached(alloc: Global, a: &[u8], b: &[u8]) -> Result<Result<Slots, SlotError>, Fail> {
+pub(crate) fn attached(
+    alloc: Global,
+    a: &[u8],
+    b: &[u8],
+) -> Result<Result<Slots, SlotError>, Fail> {
     let cat = one_table(alloc)?;
     let mut a = disk(alloc, a, 0)?;
     let mut b = disk(alloc, b, 0)?;
@@ -50,7 +59,12 @@ pub fn attached(alloc: Global, a: &[u8], b: &[u8]) -> Result<Result<Slots, SlotE
 }
 
 /// The two slots on devices that are synced first.
-pub fn opened<D: Disk>(alloc: Global, cat: &Catalogue, a: &mut D, b: &mut D) -> Result<Slots, Fail>
+pub(crate) fn opened<D: Disk>(
+    alloc: Global,
+    cat: &Catalogue,
+    a: &mut D,
+    b: &mut D,
+) -> Result<Slots, Fail>
     ensures works { IfOk result (λ slots. slots.has_failed ≡ false) }
     ensures holds_a { IfOk result (λ slots. WhereTold (λ new. OneImage (IsSlot cat.now.tables slots.a) new.now) (D.told a.new)) }
     ensures holds_b { IfOk result (λ slots. WhereTold (λ new. OneImage (IsSlot cat.now.tables slots.b) new.now) (D.told b.new)) }
@@ -65,7 +79,12 @@ pub fn opened<D: Disk>(alloc: Global, cat: &Catalogue, a: &mut D, b: &mut D) -> 
 }
 
 /// The rows of the newest of two slots.
-pub fn loaded(alloc: Global, cat: &Catalogue, a: &[u8], b: &[u8]) -> Result<OrderedRows, Fail>
+pub(crate) fn loaded(
+    alloc: Global,
+    cat: &Catalogue,
+    a: &[u8],
+    b: &[u8],
+) -> Result<OrderedRows, Fail>
     ensures { IfOk result (λ rows. FitsCatalogue cat.now rows.tables rows.rows) }
 {
     let mut a = disk(alloc, a, 0)?;
@@ -81,7 +100,7 @@ pub fn loaded(alloc: Global, cat: &Catalogue, a: &[u8], b: &[u8]) -> Result<Orde
 }
 
 /// What a save of the worked slot's rows over two slots answers, with this number of transactions.
-pub fn save_rows<D: Disk>(
+pub(crate) fn save_rows<D: Disk>(
     alloc: Global,
     txns: u64,
     a: &mut D,

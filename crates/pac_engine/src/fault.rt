@@ -5,6 +5,7 @@ use pac_base::NoMemory;
 use pac_check::SaveError;
 use pac_outside::Failed;
 use pac_request::Replies;
+use std::fmt;
 use thiserror::Error;
 
 /// Why a step fails.
@@ -27,11 +28,18 @@ pub enum EngineCause {
     NoMemory,
 }
 
-/// A step failed. The replies are those that became durable in it before.
-#[derive(Drop)]
+/// A step failed. The replies are those that became durable in it before. It is printed as its cause.
+#[derive(Drop, Error)]
+#[error("{cause}")]
 pub struct EngineFault {
     pub replies: Replies,
     pub cause: EngineCause,
+}
+
+impl fmt::Debug for EngineFault {
+    fn fmt<W: fmt::Write>(&self, f: &mut fmt::Formatter<W>) -> fmt::Result {
+        fmt::Debug::fmt(&self.cause, f)
+    }
 }
 
 impl From<NoMemory> for EngineCause {

@@ -17,12 +17,14 @@
 
 mod fault;
 mod length;
+mod limits;
 mod reading;
 mod row;
 mod writing;
 
 pub use fault::{EntryError, EntryFault, EntryFaultKind};
 pub use length::{MAX_ENTRY_LEN, entry_len};
+pub use limits::{BODY_HEAD_LEN, MAX_BODY_LEN};
 pub use reading::read_entry;
 pub use row::{args_at, row_at};
 pub use writing::write_entry;

@@ -8,7 +8,7 @@ use pac_types::Stmt;
 use std::alloc::Global;
 
 /// The operations of a procedure's statements, which stand in no conditional. Linear in them and in their conditions.
-pub fn flat_operations(alloc: Global, stmts: &[Stmt]) -> Result<Vec<FlatOp>, NoMemory>
+pub(crate) fn flat_operations(alloc: Global, stmts: &[Stmt]) -> Result<Vec<FlatOp>, NoMemory>
     ensures { IfOk result (λ ops. ops.items ≡ flat_form stmts.now) }
 {
     let mut ops = Vec::new(alloc);

@@ -12,7 +12,7 @@ use pac_value::Ty;
 use std::alloc::Global;
 
 /// A procedure in flat form. Linear in its operations and their conditions.
-pub fn flat_program(alloc: Global, proc: &Proc) -> Result<Program, NoMemory>
+pub(crate) fn flat_program(alloc: Global, proc: &Proc) -> Result<Program, NoMemory>
     ensures { IfOk result (λ program. program ≡ program_of proc.now) }
 {
     let params = types(alloc, proc.params.as_slice())?;

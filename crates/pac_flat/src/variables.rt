@@ -10,7 +10,11 @@ use pac_value::{BinOp, Expr, Ty};
 use std::alloc::Global;
 
 /// The types of all variables: those of the parameters, and then that of each operation's variable.
-pub fn variable_types(alloc: Global, params: &[Ty], ops: &[FlatOp]) -> Result<Vec<Ty>, NoMemory>
+pub(crate) fn variable_types(
+    alloc: Global,
+    params: &[Ty],
+    ops: &[FlatOp],
+) -> Result<Vec<Ty>, NoMemory>
     ensures { IfOk result (λ vars. vars.items ≡ types_behind params.now ops.now) }
 {
     let mut vars = Vec::new(alloc);

@@ -1,6 +1,7 @@
 // The blocks of operations, out of the groups of all nodes.
 ghost use Rattle.std.specs.Prelude.{◌≡◌, ℕ, ◌+◌, ◌<◌, ◌≤◌, length, slice_index, IfOk, map};
 ghost use Rattle.pac_types.specs.Fits.{shape};
+ghost use Rattle.pac_ops.specs.declared.limits.TheConstants.{MAX_ALL_OPS};
 ghost use Rattle.pac_ops.specs.Programs.{count_ops};
 ghost use Rattle.pac_global.specs.Drawing.{AreBlocksOf};
 
@@ -16,7 +17,7 @@ pub(crate) fn blocks_of(
     programs: &[Program],
     numbers: &[u16],
 ) -> Result<Vec<Numbers>, NoMemory>
-    requires few { count_ops programs.now ≤ 4096 }
+    requires few { count_ops programs.now ≤ MAX_ALL_OPS }
     requires room { count_ops programs.now ≤ length numbers.now }
     ensures { IfOk result (λ blocks. AreBlocksOf programs.now numbers.now blocks.items) }
 {

@@ -4,6 +4,7 @@ ghost use Rattle.pac_graph.specs.declared.limits.TheConstants.{MAX_NODES};
 ghost use Rattle.pac_graph.specs.Adding.{Adds};
 ghost use Rattle.pac_ops.specs.declared.program.Program.{Program as AProgram};
 ghost use Rattle.pac_ops.specs.Dependencies.{Accesses};
+ghost use Rattle.pac_ops.specs.declared.limits.TheConstants.{MAX_ALL_OPS};
 ghost use Rattle.pac_ops.specs.Programs.{count_ops};
 ghost use Rattle.pac_global.specs.Drawing.{IsBothWays, HasHomeEdge, HasEdgeOf};
 
@@ -13,7 +14,7 @@ use pac_slice::add_flow;
 
 // How many operations programs have.
 pub(crate) fn op_count(programs: &[Program]) -> usize
-    requires { count_ops programs.now ≤ 4096 }
+    requires { count_ops programs.now ≤ MAX_ALL_OPS }
     ensures { result ≡ count_ops programs.now }
 {
     let mut count = 0;

@@ -3,9 +3,9 @@ ghost use Rattle.std.specs.Prelude.{◌≡◌, ℕ, ◌<◌, ◌≤◌, length, 
 ghost use Rattle.pac_graph.specs.Graph.{Reach};
 ghost use Rattle.pac_ops.specs.declared.limits.TheConstants.{MAX_ALL_OPS};
 ghost use Rattle.pac_ops.specs.Programs.{AreSoundPrograms};
-ghost use Rattle.pac_plan.specs.declared.limits.TheConstants.{MAX_PROGRAMS};
 ghost use Rattle.pac_plan.specs.Analysis.{IsAnalysis, IsPlan, HasBlockEdge};
 ghost use Rattle.pac_types.specs.Fits.{shape};
+ghost use Rattle.pac_value.specs.declared.limits.TheConstants.{MAX_PROCS};
 ghost use Rattle.pac_ops.specs.Programs.{count_ops};
 
 use crate::blocks::{blocks_of, row, table_types};
@@ -29,7 +29,7 @@ use std::alloc::Global;
 /// [`NoMemory`] where the plan, or what finds it, finds no room; the programs are given up then.
 pub fn global(alloc: Global, cat: &Catalogue, programs: Vec<Program>) -> Result<Plan, NoMemory>
     requires sound { AreSoundPrograms (map shape cat.now.tables) programs.items }
-    requires few { length programs.items ≤ MAX_PROGRAMS }
+    requires few { length programs.items ≤ MAX_PROCS }
     requires ops { count_ops programs.items ≤ MAX_ALL_OPS }
     ensures programs { IfOk result (λ plan. plan.programs ≡ programs.items) }
     ensures tables { IfOk result (λ plan. plan.tables ≡ map shape cat.now.tables) }
@@ -43,7 +43,7 @@ pub fn global(alloc: Global, cat: &Catalogue, programs: Vec<Program>) -> Result<
 // The parts of the plan: the groups of the graph of all operations and virtual writes.
 fn parts_of(alloc: Global, cat: &Catalogue, programs: Vec<Program>) -> Result<PlanParts, NoMemory>
     requires sound { AreSoundPrograms (map shape cat.now.tables) programs.items }
-    requires few { length programs.items ≤ MAX_PROGRAMS }
+    requires few { length programs.items ≤ MAX_PROCS }
     requires ops { count_ops programs.items ≤ MAX_ALL_OPS }
     ensures programs { IfOk result (λ parts. parts.programs ≡ programs.items) }
     ensures tables { IfOk result (λ parts. parts.tables ≡ map shape cat.now.tables) }

@@ -14,7 +14,7 @@ use Rattle.pac_bytes.specs.Reading.{Rest}
 use Rattle.pac_bytes.proofs.Numbers.{width32}
 use Rattle.pac_entry.specs.Entries.{IsEntry}
 use Rattle.pac_log.specs.declared.damage.LinkFault.{LinkFault}
-use Rattle.pac_log.specs.declared.limits.TheConstants.{MAX_BODY_LEN}
+use Rattle.pac_entry.specs.declared.limits.TheConstants.{MAX_BODY_LEN}
 use Rattle.pac_log.specs.declared.link.Link.{Link}
 use Rattle.pac_log.specs.Bodies.{entries_bytes, body_bytes, IsBody, link_bytes, IsLogLink}
 use Rattle.pac_log.proofs.LogLemmas.{body_long}

@@ -9,11 +9,8 @@ ghost use Rattle.pac_log.specs.Reading.{after_gate};
 
 use crate::MAX_ENTRIES_LEN;
 use pac_bytes::u32_at;
-use pac_outside::{Disk, ReadError, read_piece};
+use pac_outside::{Disk, GATE_OPEN, ReadError, read_piece};
 use std::alloc::Global;
-
-/// The gate byte behind which a batch stands.
-pub(crate) const OPEN: u8 = 1;
 
 // How many bytes a gate and the two numbers behind it have.
 const FRONT_LEN: usize = 9;
@@ -73,7 +70,7 @@ fn reach_behind(front: &[u8]) -> usize
     ensures whole { 0 < result → FRONT_LEN ≤ length front.now }
     ensures few { result ≤ 1 + MAX_ENTRIES_LEN }
 {
-    if front.first() != Some(&OPEN) {
+    if front.first() != Some(&GATE_OPEN) {
         return 0;
     }
     match u32_at(front, 5) {

@@ -37,7 +37,7 @@ pub use creation::create;
 pub use damage::{DamageKind, LinkError, LinkFault};
 pub use errors::{CreateError, LogError, PrepareError};
 pub use laws::{one_gate, one_log};
-pub use limits::{MAX_BODY_LEN, MAX_ENTRIES_LEN, MAX_LOG_LEN};
+pub use limits::{MAX_ENTRIES_LEN, MAX_LOG_LEN};
 pub use link::{Link, read_link};
 pub use log::{Log, LogParts, Stage};
 pub use position::{NextGate, Position};

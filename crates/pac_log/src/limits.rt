@@ -1,10 +1,8 @@
-// How long bodies and logs may be.
+// How long batches and logs may be.
+use pac_entry::{BODY_HEAD_LEN, MAX_BODY_LEN};
 
 /// The most bytes of the entries of a batch.
-pub const MAX_ENTRIES_LEN: usize = 4_194_296;
-
-/// The most bytes of the body of a batch: two numbers, and the entries.
-pub const MAX_BODY_LEN: u64 = 4_194_304;
+pub const MAX_ENTRIES_LEN: usize = MAX_BODY_LEN - BODY_HEAD_LEN;
 
 /// The most bytes of a log.
 pub const MAX_LOG_LEN: u64 = 268_435_456;

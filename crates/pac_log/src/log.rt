@@ -4,7 +4,8 @@ ghost use Rattle.pac_outside.specs.Causes.{EndsAtFault, HasCause};
 ghost use Rattle.pac_outside.specs.Disk.{BothTell, WhereTold};
 ghost use Rattle.pac_ops.specs.declared.transaction.Txn.{Txn as ATxn};
 ghost use Rattle.pac_types.specs.Fits.{TxnFits};
-ghost use Rattle.pac_log.specs.declared.limits.TheConstants.{MAX_BODY_LEN, MAX_LOG_LEN};
+ghost use Rattle.pac_entry.specs.declared.limits.TheConstants.{MAX_BODY_LEN};
+ghost use Rattle.pac_log.specs.declared.limits.TheConstants.{MAX_LOG_LEN};
 ghost use Rattle.pac_log.specs.Bodies.{body_bytes};
 ghost use Rattle.pac_log.specs.Logs.{AddsBatch, KeepsOrAdds};
 ghost use Rattle.pac_log.specs.Gates.{gate_behind};
@@ -14,7 +15,7 @@ use crate::position::Position;
 use crate::{LogReader, MAX_LOG_LEN, PrepareError, body_len, write_body};
 use pac_base::{Listed, listed};
 use pac_ops::Batch;
-use pac_outside::{Disk, Failed, open_behind};
+use pac_outside::{Disk, Failed, GATE_SHUT, open_behind};
 use std::alloc::Global;
 use std::marker::Model;
 
@@ -113,7 +114,7 @@ impl Log {
         }
         let mut piece = Vec::with_capacity(self.alloc, len as usize + 1)?;
         write_body(batch, &mut piece)?;
-        piece.push(CLOSED)?;
+        piece.push(GATE_SHUT)?;
         let txns = batch.txns.items().len() as u64;
         self.parts.stage = Stage::Ready {
             piece: listed(piece),
@@ -170,6 +171,3 @@ impl Log {
         }
     }
 }
-
-// The gate byte at which a log ends.
-const CLOSED: u8 = 0;

@@ -14,13 +14,13 @@ ghost use Rattle.pac_log.specs.Looked.{IsSpelled};
 ghost use Rattle.pac_log.specs.Reading.{IsNextBatch, IsStore, TellsOfImage, StandsBehind, TellsHeld, after_gate, at_gate, first_batch, further};
 
 use crate::damage::short_at;
-use crate::gate_bytes::{OPEN, bytes_from};
+use crate::gate_bytes::bytes_from;
 use crate::header::{HEADER_LEN, accepted, text_len};
 use crate::position::Position;
 use crate::{Link, LinkFault, LogError, read_link};
 use pac_base::Refusal;
 use pac_ops::Batch;
-use pac_outside::{Disk, read_piece};
+use pac_outside::{Disk, GATE_OPEN, read_piece};
 use pac_types::Catalogue;
 use std::alloc::Global;
 use std::marker::Model;
@@ -162,7 +162,7 @@ impl LogReader {
         let Some(gate) = bytes.first() else {
             return Err(damaged(place, short_at(0)));
         };
-        if *gate != OPEN {
+        if *gate != GATE_OPEN {
             self.parts.is_at_end = true;
             return Ok(None);
         }

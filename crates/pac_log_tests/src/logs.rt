@@ -2,32 +2,32 @@
 ghost use Rattle.std.specs.Prelude.{◌≤◌, All, IfOk, OnOk, length};
 ghost use Rattle.pac_outside.specs.Disk.{WhereTold};
 ghost use Rattle.pac_types.specs.Fits.{TxnFits};
-ghost use Rattle.pac_log.specs.declared.limits.TheConstants.{MAX_BODY_LEN};
+ghost use Rattle.pac_entry.specs.declared.limits.TheConstants.{MAX_BODY_LEN};
 ghost use Rattle.pac_log.specs.Bodies.{body_bytes};
 ghost use Rattle.pac_log.specs.Logs.{IsAccepted};
 ghost use Rattle.pac_log.specs.Places.{LogEndsAt};
 
 use pac_entry::read_entry;
 use pac_flat::test_operations;
-use pac_log::{CreateError, Log, LogReader, MAX_BODY_LEN, PrepareError, body_len, create};
+use pac_log::{CreateError, Log, LogReader, PrepareError, body_len, create};
 use pac_ops::{Batch, Txns};
 use pac_outside::{Disk, Failed};
 use pac_types::{Catalogue, read_catalogue};
 use std::alloc::{AllocError, Global};
 use std::test::Fail;
 
-pub const ONE_TABLE: &[u8] = b"table T(key int, v int);";
+pub(crate) const ONE_TABLE: &[u8] = b"table T(key int, v int);";
 
 /// The log of one table, without a batch.
-pub const MADE: &[u8] = b"PACMLOG1\x18\0\0\0table T(key int, v int);\0";
+pub(crate) const MADE: &[u8] = b"PACMLOG1\x18\0\0\0table T(key int, v int);\0";
 
 /// The log of one table with `adhoc put T[1] = (2)`: the header, the open gate at 36, the numbers at 37 and 41, the entry
 /// from 45 on, and the shut gate at 69.
-pub const LOG: &[u8] = b"PACMLOG1\x18\0\0\0table T(key int, v int);\
+pub(crate) const LOG: &[u8] = b"PACMLOG1\x18\0\0\0table T(key int, v int);\
     \x01\x01\0\0\0\x18\0\0\0\x02\x01\x01\0\0\x01\x01\0\0\0\0\0\0\0\x01\x01\x02\0\0\0\0\0\0\0\0";
 
 /// The catalogue of a text that a log may be of.
-pub fn catalogue(alloc: Global, text: &[u8]) -> Result<Catalogue, Fail>
+pub(crate) fn catalogue(alloc: Global, text: &[u8]) -> Result<Catalogue, Fail>
     ensures { IfOk result (IsAccepted text.now) }
 {
     let Ok(catalogue) = read_catalogue(alloc, text) else {
@@ -40,13 +40,13 @@ pub fn catalogue(alloc: Global, text: &[u8]) -> Result<Catalogue, Fail>
 }
 
 /// Makes the log of one table.
-pub fn make<D: Disk>(alloc: Global, disk: &mut D) -> Result<Result<(), CreateError>, Fail> {
+pub(crate) fn make<D: Disk>(alloc: Global, disk: &mut D) -> Result<Result<(), CreateError>, Fail> {
     let _ = catalogue(alloc, ONE_TABLE)?;
     Ok(create(alloc, disk, ONE_TABLE))
 }
 
 /// The log on a device, which is synced first and read to its end. It has fewer than nine batches.
-pub fn opened<D: Disk>(alloc: Global, disk: &mut D) -> Result<Log, Fail>
+pub(crate) fn opened<D: Disk>(alloc: Global, disk: &mut D) -> Result<Log, Fail>
     ensures ends { IfOk result (λ log. WhereTold (λ new. LogEndsAt log.gate new.now) (D.told disk.new)) }
 {
     let Ok(()) = disk.sync() else {
@@ -66,7 +66,7 @@ pub fn opened<D: Disk>(alloc: Global, disk: &mut D) -> Result<Log, Fail>
 }
 
 /// The batch of `adhoc put T[1] = (2)`, which is the entry of the worked log.
-pub fn put_batch(alloc: Global, cat: &Catalogue) -> Result<Batch, Fail>
+pub(crate) fn put_batch(alloc: Global, cat: &Catalogue) -> Result<Batch, Fail>
     ensures fits { IfOk result (λ batch. All (TxnFits cat.now) batch.txns) }
     ensures short { IfOk result (λ batch. length (body_bytes batch.txns) ≤ MAX_BODY_LEN) }
 {
@@ -77,20 +77,20 @@ pub fn put_batch(alloc: Global, cat: &Catalogue) -> Result<Batch, Fail>
         first: 1,
         txns: Txns::of(vec![in alloc; txn]?),
     };
-    if body_len(&batch) > MAX_BODY_LEN {
+    if body_len(&batch) > MAX_BODY_LEN as u64 {
         return Err(Fail::from("too long"));
     }
     Ok(batch)
 }
 
 /// Makes that batch ready.
-pub fn prepare_put(alloc: Global, log: &mut Log) -> Result<Result<(), PrepareError>, Fail> {
+pub(crate) fn prepare_put(alloc: Global, log: &mut Log) -> Result<Result<(), PrepareError>, Fail> {
     let batch = put_batch(alloc, log.gate().catalogue())?;
     Ok(log.prepare(&batch))
 }
 
 /// Commits that batch behind the others of a log.
-pub fn commit_put<D: Disk>(
+pub(crate) fn commit_put<D: Disk>(
     alloc: Global,
     log: &mut Log,
     disk: &mut D,
@@ -106,7 +106,12 @@ pub fn commit_put<D: Disk>(
 }
 
 /// The log with this byte at a place, so long; longer than it is, with bytes 0.
-pub fn changed(alloc: Global, place: usize, byte: u8, len: usize) -> Result<Vec<u8>, AllocError> {
+pub(crate) fn changed(
+    alloc: Global,
+    place: usize,
+    byte: u8,
+    len: usize,
+) -> Result<Vec<u8>, AllocError> {
     let mut bytes = LOG.to_vec(alloc)?;
     if let Some(old) = bytes.get_mut(place) {
         *old = byte;

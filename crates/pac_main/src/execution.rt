@@ -14,7 +14,7 @@ use pac_types::Catalogue;
 use std::alloc::Global;
 
 /// The tables with which the transactions of the batches end, from no rows on.
-pub fn executed(
+pub(crate) fn executed(
     alloc: Global,
     catalogue: &Catalogue,
     batches: &[Batch],

@@ -9,7 +9,7 @@ use thiserror::Error;
 
 /// Why a command gets nothing from its input.
 #[derive(Clone, Copy, Debug, PartialEq, Eq, Error)]
-pub enum InputError {
+pub(crate) enum InputError {
     /// It could not be read.
     #[error("the input failed")]
     Failed,

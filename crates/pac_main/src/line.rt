@@ -62,7 +62,7 @@ fn damage_status(damage: Damage) -> StatusLine<'static>
 }
 
 /// The line that the error sink is told of a stop.
-pub fn status_line(stop: &Stop) -> StatusLine<'_>
+pub(crate) fn status_line(stop: &Stop) -> StatusLine<'_>
     ensures line { fault_text result ≡ line_of stop.now }
     ensures made { is_made result ≡ takes_memory stop.now }
 {

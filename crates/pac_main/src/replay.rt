@@ -84,7 +84,7 @@ fn replay<I: Source, O: Sink>(
 }
 
 /// Replays the script that the input holds, and tells why where that stops before its end.
-pub fn replay_input<I: Source, O: Sink, E: Sink>(
+pub(crate) fn replay_input<I: Source, O: Sink, E: Sink>(
     alloc: Global,
     limit: u32,
     input: &mut I,

@@ -16,7 +16,7 @@ use pac_value::Name;
 
 /// Why a command stops before its end.
 #[derive(Clone, Copy, Debug, PartialEq, Eq)]
-pub enum Stop {
+pub(crate) enum Stop {
     /// The words name no command that runs.
     Usage,
     /// The input is no script, or its catalogue isn't explained.

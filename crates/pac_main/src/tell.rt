@@ -70,7 +70,7 @@ fn told_made<E: Sink>(alloc: Global, stop: Stop, errors: &mut E) -> Stop
 }
 
 /// Tells the error sink why the command stopped, and answers that, or that there was no memory for its line.
-pub fn told<E: Sink>(alloc: Global, stop: Stop, errors: &mut E) -> Stop
+pub(crate) fn told<E: Sink>(alloc: Global, stop: Stop, errors: &mut E) -> Stop
     ensures which { (result ≡ stop) ⊎ ((result ≡ Stop.NoMemory) × IsTrue (takes_memory stop)) }
     ensures line { IsTold (observed E.held E.faults errors.old errors.new) (line_of result) }
 {

@@ -10,7 +10,7 @@ use std::marker::Model;
 /// How many calls there were, the numbers of those that are to fail, and how many failed. The number of a call stops
 /// at the greatest `u64`.
 #[derive(Drop)]
-pub struct Calls {
+pub(crate) struct Calls {
     made: u64,
     failing: Vec<u64>,
     faults: Faults,

@@ -4,10 +4,7 @@ ghost use Rattle.pac_outside.specs.Causes.{EndsAtFault, HasCause};
 ghost use Rattle.pac_outside.specs.Disk.{BothTell, IsDurable, LeavesTorn, WhereTold};
 ghost use Rattle.pac_outside.specs.GateByte.{Opens, ShutOrOpen};
 
-use crate::{Disk, Failed};
-
-// The gate byte that lets the piece behind it count.
-const OPEN: u8 = 1;
+use crate::{Disk, Failed, GATE_OPEN};
 
 /// Writes the whole piece from place `at` on, and syncs it. After Ok a crash leaves what a read gives, and that has the
 /// piece. At each moment a crash leaves what it may leave of such a write.
@@ -50,5 +47,5 @@ pub fn open_behind<D: Disk>(disk: &mut D, place: u64, piece: &[u8]) -> Result<()
     ensures once { EndsAtFault (D.faults disk.old) (D.faults disk.new) result }
 {
     write_and_sync(disk, place + 1, piece)?;
-    write_and_sync(disk, place, &[OPEN])
+    write_and_sync(disk, place, &[GATE_OPEN])
 }

@@ -8,7 +8,7 @@ use std::marker::Model;
 
 /// How many calls of an object failed. The count stops at the greatest `u64`.
 #[derive(Drop)]
-pub struct Faults {
+pub(crate) struct Faults {
     count: u64,
 }
 

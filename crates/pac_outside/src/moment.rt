@@ -18,7 +18,7 @@ pub enum Fill {
 
 /// What a disk holds at one moment.
 #[derive(Drop)]
-pub struct Moment {
+pub(crate) struct Moment {
     // The bytes at the last sync, where they aren't those that a read gives.
     synced: Option<Vec<u8>>,
     // Place and length of each write since then.

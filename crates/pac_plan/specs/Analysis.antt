@@ -2,7 +2,7 @@
 use Rattle.std.specs.Prelude.{◌≡◌, ℕ, ◌≤◌, [], length, map, slice_index, slice_index_or, Contains}
 use Rattle.pac_graph.specs.Groups.{AreGroups}
 use Rattle.pac_ops.specs.Programs.{AreSoundPrograms, AreSoundTables}
-use Rattle.pac_plan.specs.declared.limits.TheConstants.{MAX_PROGRAMS, MAX_HOMES}
+use Rattle.pac_value.specs.declared.limits.TheConstants.{MAX_PROCS, MAX_TABLES}
 use Rattle.pac_plan.specs.declared.parts.PlanParts.{PlanParts}
 use Rattle.pac_plan.specs.Nodes.{Node, Operation, VirtualWrite, IsNode, ComesBefore, Flows, IsNodeLink}
 
@@ -20,8 +20,8 @@ pub record IsAnalysis (parts : PlanParts) : Type 0 where
 
 -- the parts are a plan's
 pub record IsPlan (parts : PlanParts) : Type 0 where
-  pub few_programs : length parts.programs ≤ MAX_PROGRAMS
-  pub few_tables : length parts.tables ≤ MAX_HOMES
+  pub few_programs : length parts.programs ≤ MAX_PROCS
+  pub few_tables : length parts.tables ≤ MAX_TABLES
   pub tables : AreSoundTables parts.tables
   pub programs : AreSoundPrograms parts.tables parts.programs
   pub analysis : IsAnalysis parts

@@ -15,11 +15,9 @@
 #![tactic(auto)]
 
 mod laws;
-mod limits;
 mod parts;
 mod plan;
 
 pub use laws::{is_plan, keeps_order};
-pub use limits::{MAX_HOMES, MAX_PROGRAMS};
 pub use parts::{BlocksOf, PlanParts};
 pub use plan::Plan;

@@ -31,7 +31,7 @@ fn level_of(expr: &ExprNode) -> u8
 }
 
 #[cycle(expression)]
-pub fn push_expr(out: &mut Vec<u8>, expr: &ExprNode) -> Result<(), NoMemory>
+pub(crate) fn push_expr(out: &mut Vec<u8>, expr: &ExprNode) -> Result<(), NoMemory>
     ensures { OnOk result (Grew out.old.items out.new.items (expr_text expr.now)) }
 {
     match expr {
@@ -79,7 +79,7 @@ fn push_further(out: &mut Vec<u8>, expr: &ExprNode) -> Result<(), NoMemory>
 }
 
 /// Expressions with a comma and a space between them.
-pub fn push_exprs(out: &mut Vec<u8>, exprs: &[ExprNode]) -> Result<(), NoMemory>
+pub(crate) fn push_exprs(out: &mut Vec<u8>, exprs: &[ExprNode]) -> Result<(), NoMemory>
     ensures { OnOk result (Grew out.old.items out.new.items (exprs_text exprs.now)) }
 {
     let Some((first, others)) = exprs.split_first() else {

@@ -9,7 +9,7 @@ use pac_syntax::{ExprNode, LiteralNode, NameNode, StmtNode};
 use pac_value::push_value;
 use std::alloc::Global;
 
-pub fn push_name(out: &mut Vec<u8>, name: &NameNode) -> Result<(), NoMemory>
+pub(crate) fn push_name(out: &mut Vec<u8>, name: &NameNode) -> Result<(), NoMemory>
     ensures { OnOk result (Grew out.old.items out.new.items name.now.name) }
 {
     out.extend_from_slice(name.name.bytes())?;
@@ -42,7 +42,7 @@ fn push_field(
 }
 
 /// The indent of what stands in a block.
-pub fn deeper(alloc: Global, indent: &[u8]) -> Result<Vec<u8>, NoMemory>
+pub(crate) fn deeper(alloc: Global, indent: &[u8]) -> Result<Vec<u8>, NoMemory>
     ensures { IfOk result (λ inner. inner.items ≡ deeper indent.now) }
 {
     let mut inner = Vec::new(alloc);
@@ -160,7 +160,7 @@ fn push_else(
 
 /// Statements, each on a line behind the indent.
 #[cycle(statement)]
-pub fn push_stmts(
+pub(crate) fn push_stmts(
     alloc: Global,
     out: &mut Vec<u8>,
     indent: &[u8],

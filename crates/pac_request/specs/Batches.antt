@@ -6,7 +6,7 @@ use Rattle.pac_ops.specs.declared.limits.TheConstants.{MAX_TXNS}
 use Rattle.pac_ops.specs.declared.transaction.Txn.{Txn}
 use Rattle.pac_ops.specs.declared.transaction.Txn.TheVariants.{Call, AdHoc}
 use Rattle.pac_entry.specs.Entries.{txn_bytes}
-use Rattle.pac_request.specs.declared.limits.TheConstants.{MAX_BODY}
+use Rattle.pac_entry.specs.declared.limits.TheConstants.{MAX_BODY_LEN}
 use Rattle.pac_request.specs.declared.request.Request.{Request}
 use Rattle.pac_request.specs.declared.request.Request.TheVariants as request
 use Rattle.pac_request.specs.declared.step.ScriptStep.{ScriptStep}
@@ -61,7 +61,7 @@ body_len txns = 8 + sum_by (λ txn. length (txn_bytes txn)) txns
 
 -- transactions that one batch can hold: at most 1,024, in a body of at most 4,194,304 bytes
 abbrev pub fits : List Txn → Bool
-fits txns = nat_le (length txns) MAX_TXNS && nat_le (body_len txns) MAX_BODY
+fits txns = nat_le (length txns) MAX_TXNS && nat_le (body_len txns) MAX_BODY_LEN
 
 -- a batch ends: nothing is left, or the next transaction doesn't fit in
 abbrev pub Ends : List Txn → List Txn → Type 0

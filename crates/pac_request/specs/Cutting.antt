@@ -2,7 +2,7 @@
 use Rattle.std.specs.Prelude.{ℕ, ◌+◌, ◌≤◌, List, [], ◌∷◌, ◌++◌, length, if◌then◌else◌}
 use Rattle.pac_ops.specs.declared.batch.Batch.{Batch}
 use Rattle.pac_ops.specs.declared.transaction.Txn.{Txn}
-use Rattle.pac_request.specs.declared.limits.TheConstants.{MAX_BODY}
+use Rattle.pac_entry.specs.declared.limits.TheConstants.{MAX_BODY_LEN}
 use Rattle.pac_request.specs.declared.step.ScriptStep.{ScriptStep}
 use Rattle.pac_request.specs.declared.step.ScriptStep.TheVariants.{Add, Flush}
 use Rattle.pac_request.specs.Batches.{body_len, fits}
@@ -45,5 +45,5 @@ next_txn cut = cut.first + length cut.held
 
 -- a batch can hold the transaction alone
 abbrev pub IsSmall : ScriptStep → Type 0
-IsSmall (Add txn) = body_len (txn ∷ []) ≤ MAX_BODY
+IsSmall (Add txn) = body_len (txn ∷ []) ≤ MAX_BODY_LEN
 IsSmall Flush = Unit {0}

@@ -4,20 +4,16 @@ ghost use Rattle.pac_request.specs.declared.step.ScriptStep.TheVariants.{Add};
 ghost use Rattle.pac_request.specs.Cutting.{nothing_cut, added, flushed, next_txn, IsSmall};
 ghost use Rattle.pac_request.specs.ScriptReading.{asked_cut, IsSmallAsked};
 
-use crate::limits::MAX_BODY;
 use crate::request::Request;
 use crate::step::{ScriptStep, step_of};
-use pac_entry::entry_len;
+use pac_entry::{BODY_HEAD_LEN, MAX_BODY_LEN, entry_len};
 use pac_ops::{Batch, MAX_TXNS, Txn, Txns};
 use std::alloc::{AllocError, Global};
 use std::marker::Model;
 
-// The bytes of a body without entries.
-const EMPTY_BODY: usize = 8;
-
 /// The batches that are closed, and the one that is open.
 #[derive(Drop)]
-pub struct Cutter {
+pub(crate) struct Cutter {
     closed: Vec<Batch>,
     // The number of the first transaction that is held.
     first: u64,
@@ -29,7 +25,7 @@ pub struct Cutter {
 impl Model for Cutter {
     ghost use Rattle.std.specs.Prelude.{◌≡◌, ◌≤◌, length};
     ghost use Rattle.pac_ops.specs.declared.limits.TheConstants.{MAX_TXNS};
-    ghost use Rattle.pac_request.specs.declared.limits.TheConstants.{MAX_BODY};
+    ghost use Rattle.pac_entry.specs.declared.limits.TheConstants.{MAX_BODY_LEN};
     ghost use Rattle.pac_request.specs.Batches.{body_len};
     ghost use Rattle.pac_request.specs.Cutting.{Cut};
 
@@ -37,7 +33,7 @@ impl Model for Cutter {
 
     ghost view = { λ c. record { closed = c.closed.items; first = c.first; held = c.held.items } };
 
-    ghost invariant = { λ c. (c.len ≡ body_len c.held.items) × (c.len ≤ MAX_BODY) × (length c.held.items ≤ MAX_TXNS) };
+    ghost invariant = { λ c. (c.len ≡ body_len c.held.items) × (c.len ≤ MAX_BODY_LEN) × (length c.held.items ≤ MAX_TXNS) };
 }
 
 impl Cutter {
@@ -48,7 +44,7 @@ impl Cutter {
             closed: Vec::new(alloc),
             first: 1,
             held: Vec::new(alloc),
-            len: EMPTY_BODY,
+            len: BODY_HEAD_LEN,
         }
     }
 
@@ -63,7 +59,7 @@ impl Cutter {
         let held = std::mem::replace(&mut self.held, Vec::new(alloc));
         let first = self.first;
         self.first += held.len() as u64;
-        self.len = EMPTY_BODY;
+        self.len = BODY_HEAD_LEN;
         self.closed.push(Batch {
             first,
             txns: Txns::of(held),
@@ -77,7 +73,7 @@ impl Cutter {
         ensures small { OnOk result (IsSmall (Add txn)) }
     {
         let len = entry_len(&txn);
-        if self.held.len() >= MAX_TXNS || self.len + len > MAX_BODY {
+        if self.held.len() >= MAX_TXNS || self.len + len > MAX_BODY_LEN {
             self.flush(alloc)?;
         }
         self.held.push(txn)?;

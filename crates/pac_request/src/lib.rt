@@ -43,7 +43,7 @@ mod step;
 mod stress;
 
 pub use fault::{LineFault, LineFaultKind};
-pub use limits::{MAX_BODY, MAX_LINE};
+pub use limits::MAX_LINE;
 pub use line::{read_line, read_script_line};
 pub use request::{Replies, RepliesRule, Reply, Request};
 pub use script::{Script, read_script};

@@ -26,7 +26,7 @@ fn begins_with_mark(text: &[u8]) -> bool
 }
 
 /// Where the first line that is exactly `---` begins.
-pub fn find_mark(text: &[u8]) -> Option<usize>
+pub(crate) fn find_mark(text: &[u8]) -> Option<usize>
     ensures within { IfSome result (λ at. at + 3 ≤ length text.now) }
     ensures mark { MatchOption result (HasNoMark text.now) (λ at. IsMark text.now at) }
 {
@@ -47,7 +47,7 @@ fn feed_at(text: &[u8]) -> Option<usize>
 }
 
 /// The first line of a text, and the text behind its line feed, if it has one.
-pub fn first_line(text: &[u8]) -> (&[u8], Option<&[u8]>)
+pub(crate) fn first_line(text: &[u8]) -> (&[u8], Option<&[u8]>)
     ensures within { IfSome result.1 (λ rest. length rest.now < length text.now) }
     ensures lines { MatchOption result.1 (lines text.now ≡ result.0.now ∷ []) (λ rest. lines text.now ≡ result.0.now ∷ lines rest.now) }
 {

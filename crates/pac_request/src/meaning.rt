@@ -112,7 +112,7 @@ fn count(name: &NameNode, columns: &[Column], literals: &[PlacedLiteral]) -> Res
 }
 
 /// The procedure with a name, and its number.
-pub fn proc_named<'a>(catalogue: &'a Catalogue, name: &[u8]) -> Option<(u16, &'a Proc)>
+pub(crate) fn proc_named<'a>(catalogue: &'a Catalogue, name: &[u8]) -> Option<(u16, &'a Proc)>
     ensures found { (node : ANameNode) → node.name ≡ name.now → MatchOption result (proc_at catalogue.now.procs node ≡ Err (line_fault UnknownName node.at)) (λ p. proc_at catalogue.now.procs node ≡ Ok (p.0, p.1.now)) }
     ensures few { IfSome result (λ p. length p.1.now.params ≤ MAX_PARAMS) }
 {
@@ -250,7 +250,7 @@ fn changes_of(
 /// # Errors
 ///
 /// The first fault from the left, of names, of numbers of literals, and of types; or `NoMemory`.
-pub fn request_of(
+pub(crate) fn request_of(
     alloc: Global,
     catalogue: &Catalogue,
     node: &LineNode,

@@ -8,7 +8,7 @@ use pac_value::Value;
 
 /// The word that a request line begins with.
 #[derive(Clone, Copy, Debug, PartialEq, Eq)]
-pub enum Verb {
+pub(crate) enum Verb {
     Call,
     AdHoc,
     Show,
@@ -35,14 +35,14 @@ impl Verb {
 
 /// A literal and the place of its first token.
 #[derive(Clone, Copy, Debug)]
-pub struct PlacedLiteral {
+pub(crate) struct PlacedLiteral {
     pub at: usize,
     pub value: Value,
 }
 
 /// A record of an ad-hoc transaction.
 #[derive(Debug, Drop)]
-pub enum RecordNode {
+pub(crate) enum RecordNode {
     /// `put TABLE[KEY] = (VALUES)`
     Put {
         table: NameNode,
@@ -58,7 +58,7 @@ pub enum RecordNode {
 
 /// A request line.
 #[derive(Debug, Drop)]
-pub enum LineNode {
+pub(crate) enum LineNode {
     /// White space and comment alone.
     Empty,
     /// `call PROC(ARGS)`

@@ -22,7 +22,7 @@ use std::alloc::Global;
 
 /// What is left to read.
 #[derive(Drop)]
-pub struct LineParser<'a> {
+pub(crate) struct LineParser<'a> {
     pub alloc: Global,
     pub rest: &'a [Spanned],
     /// What is told where the tokens end too early: that at the line's end, or the fault of a token that ends them.
@@ -56,7 +56,7 @@ fn verb_of(token: &Token) -> Option<Verb>
 
 // The word that a record begins with.
 #[derive(Clone, Copy, Debug, PartialEq, Eq)]
-pub enum RecordWord {
+pub(crate) enum RecordWord {
     Put,
     Delete,
 }
@@ -353,7 +353,11 @@ fn run_parser(
 /// # Errors
 ///
 /// The first of them that can't follow, or the fault of a token that ends them; or `NoMemory`.
-pub fn parse_line(alloc: Global, lexed: &Lexed, end: usize) -> Result<LineNode, Refusal<LineFault>>
+pub(crate) fn parse_line(
+    alloc: Global,
+    lexed: &Lexed,
+    end: usize,
+) -> Result<LineNode, Refusal<LineFault>>
     ensures read { Tells (λ node. node) result (tokens_read end lexed.now.items.items lexed.now.fault) }
     ensures records { IfOk result HoldsRecords }
 {

@@ -138,7 +138,7 @@ fn arguments(alloc: Global, params: &[Column], bytes: &[u8]) -> Result<Option<Ve
 /// # Errors
 ///
 /// `NoMemory` alone.
-pub fn plain_call(
+pub(crate) fn plain_call(
     alloc: Global,
     catalogue: &Catalogue,
     line: &[u8],

@@ -7,13 +7,13 @@ use pac_ops::{Call, Txn};
 
 /// A transaction, or the end of the batch that is open.
 #[derive(Drop)]
-pub enum ScriptStep {
+pub(crate) enum ScriptStep {
     Add(Txn),
     Flush,
 }
 
 /// What a request is to the batches, if it is anything to them.
-pub fn step_of(request: Request) -> Option<ScriptStep>
+pub(crate) fn step_of(request: Request) -> Option<ScriptStep>
     ensures { result ≡ step_of request }
 {
     match request {

@@ -18,15 +18,19 @@ use pac_tables::Rows;
 use pac_types::{Catalogue, Table};
 use pac_value::Value;
 use std::alloc::Global;
+use thiserror::Error;
 
 /// What refuses a transaction. The tables are then as they were.
-#[derive(Clone, Copy, Debug, PartialEq, Eq)]
+#[derive(Clone, Copy, Debug, PartialEq, Eq, Error)]
 pub enum ExecError {
     /// The operation with this number aborts for this reason.
+    #[error("operation {op} aborts: {}", .reason.name())]
     Abort { op: u16, reason: Reason },
     /// This table would have more rows than the limit; it is the first of those that would.
+    #[error("table {table} would have more rows than the limit")]
     Full { table: u16 },
     /// An allocation was refused.
+    #[error("out of memory")]
     NoMemory,
 }
 

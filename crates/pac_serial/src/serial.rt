@@ -12,13 +12,16 @@ use pac_ops::{Batch, Note};
 use pac_tables::Rows;
 use pac_types::Catalogue;
 use std::alloc::Global;
+use thiserror::Error;
 
 /// Why the transactions of a batch are not all executed.
-#[derive(Clone, Copy, Debug, PartialEq, Eq)]
+#[derive(Clone, Copy, Debug, PartialEq, Eq, Error)]
 pub enum AllError {
     /// This transaction aborts.
+    #[error("transaction {} aborts", .0.txn)]
     Abort(Note),
     /// An allocation was refused.
+    #[error("out of memory")]
     NoMemory,
 }
 

@@ -3,7 +3,7 @@
 use Rattle.std.specs.Prelude.{ℕ, ◌+◌, Bool, true, false, List, [], ◌∷◌, ◌++◌, length, nat_le, nat_lt, ◌||◌, if◌then◌else◌, Option, Some, None}
 use Rattle.std.specs.List.{fold}
 use Rattle.pac_ops.specs.declared.transaction.Txn.{Txn}
-use Rattle.pac_request.specs.declared.limits.TheConstants.{MAX_BODY}
+use Rattle.pac_entry.specs.declared.limits.TheConstants.{MAX_BODY_LEN}
 use Rattle.pac_request.specs.Batches.{body_len}
 use Rattle.pac_request.specs.declared.request.Request.{Request}
 use Rattle.pac_request.specs.declared.request.Request.TheVariants as request
@@ -33,7 +33,7 @@ is_closing (request.Refused fault) = false
 -- the body of these transactions has no room for an entry more
 abbrev pub lacks_room : List Txn → Option Txn → Bool
 lacks_room txns None = false
-lacks_room txns (Some txn) = nat_lt MAX_BODY (body_len (txns ++ txn ∷ []))
+lacks_room txns (Some txn) = nat_lt MAX_BODY_LEN (body_len (txns ++ txn ∷ []))
 
 -- before a request the group is closed where its body has no room for the request's entry
 abbrev pub room_made : Rules → SessionState → List Request → Request → GroupCut

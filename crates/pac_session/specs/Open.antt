@@ -10,7 +10,7 @@ use Rattle.pac_types.specs.contracts.catalogue.Catalogue as catalogue_type
 use Rattle.pac_types.specs.Execution.{first_over}
 use Rattle.pac_types.specs.Fits.{FitsCatalogue, TxnFits}
 use Rattle.pac_types.specs.Typing.{CatalogueState}
-use Rattle.pac_request.specs.declared.limits.TheConstants.{MAX_BODY}
+use Rattle.pac_entry.specs.declared.limits.TheConstants.{MAX_BODY_LEN}
 use Rattle.pac_request.specs.Batches.{body_len}
 use Rattle.pac_request.specs.declared.request.Request.{Request}
 use Rattle.pac_request.specs.declared.request.Reply.{Reply}
@@ -81,7 +81,7 @@ pub record IsSound (now : Open) (count len : ℕ) : Type 0 where
   pub within : first_over now.limit (length now.catalogue.tables) now.tables ≡ None
   pub fit : All (TxnFits now.catalogue) now.txns
   pub counted : len ≡ body_len now.txns
-  pub short : len ≤ MAX_BODY
+  pub short : len ≤ MAX_BODY_LEN
   pub fewer : length now.txns ≤ length now.held
   pub few : length now.held ≤ now.most
   pub most : now.most ≤ MAX_TXNS

@@ -5,7 +5,7 @@ ghost use Rattle.std.specs.FinMap as map;
 ghost use Rattle.pac_ops.specs.declared.limits.TheConstants.{MAX_TXNS};
 ghost use Rattle.pac_types.specs.Execution.{first_over};
 ghost use Rattle.pac_types.specs.Fits.{FitsCatalogue, TxnFits};
-ghost use Rattle.pac_request.specs.declared.limits.TheConstants.{MAX_BODY};
+ghost use Rattle.pac_entry.specs.declared.limits.TheConstants.{MAX_BODY_LEN};
 ghost use Rattle.pac_request.specs.Batches.{body_len};
 ghost use Rattle.pac_request.specs.declared.request.Request.{Request as ARequest};
 ghost use Rattle.pac_request.specs.declared.request.Reply.{Reply as AReply};
@@ -16,9 +16,9 @@ ghost use Rattle.pac_session.specs.Open.{with_asked, with_closed, with_run};
 
 use crate::execute::execute;
 use pac_base::{Exact, NoMemory};
-use pac_entry::entry_len;
+use pac_entry::{BODY_HEAD_LEN, MAX_BODY_LEN, entry_len};
 use pac_ops::Txn;
-use pac_request::{MAX_BODY, Replies, Reply, Request};
+use pac_request::{Replies, Reply, Request};
 use pac_serial::ExecError;
 use pac_tables::{OrderedRows, Rows};
 use pac_types::Catalogue;
@@ -26,9 +26,6 @@ use pac_value::Key;
 use std::alloc::Global;
 use std::marker::Model;
 use std::mem;
-
-// The bytes of a body without entries.
-const EMPTY_BODY: usize = 8;
 
 /// A session: it executes requests over its tables, and holds the transactions and the replies of the open group.
 #[derive(Drop)]
@@ -83,7 +80,7 @@ impl Session {
             rows,
             before,
             txns: Vec::new(alloc),
-            len: EMPTY_BODY,
+            len: BODY_HEAD_LEN,
             held: Vec::new(alloc),
         }
     }
@@ -110,7 +107,7 @@ impl Session {
         ensures test { result ≡ lacks_room self.now.txns (ASome txn.now) }
         ensures alone { lacks_room [] (ASome txn.now) ≡ false }
     {
-        self.len + entry_len(txn) > MAX_BODY
+        self.len + entry_len(txn) > MAX_BODY_LEN
     }
 
     /// Whether the open group has as many replies as it may hold.
@@ -212,12 +209,12 @@ impl Session {
         ensures replies { result.1 ≡ self.old.held }
         ensures fit { All (TxnFits self.old.catalogue) self.old.txns }
         ensures few { length self.old.txns ≤ MAX_TXNS }
-        ensures short { body_len self.old.txns ≤ MAX_BODY }
+        ensures short { body_len self.old.txns ≤ MAX_BODY_LEN }
     {
         let txns = mem::replace(&mut self.txns, Vec::new(self.alloc));
         let held = mem::replace(&mut self.held, Vec::new(self.alloc));
         self.before += txns.len() as u64;
-        self.len = EMPTY_BODY;
+        self.len = BODY_HEAD_LEN;
         (txns, Replies::of(held))
     }
 }

@@ -1,8 +1,8 @@
 -- The limits of the grammar, what is read, and the first fault of what isn't.
 use Rattle.std.specs.Prelude.{◌≡◌, ◌⊎◌, ℕ, ◌≤◌, List, [], ◌∷◌, ◌++◌, length, Option, Some, None, nat_lt, if◌then◌else◌}
 use Rattle.std.specs.List.{AllByRecursion}
-use Rattle.pac_value.specs.declared.limits.TheConstants.{MAX_COLUMNS, MAX_PARAMS}
-use Rattle.pac_syntax.specs.declared.limits.TheConstants.{MAX_TABLES, MAX_PROCS, MAX_OPERATORS, MAX_PARENS, MAX_NESTED}
+use Rattle.pac_value.specs.declared.limits.TheConstants.{MAX_COLUMNS, MAX_PARAMS, MAX_TABLES, MAX_PROCS}
+use Rattle.pac_syntax.specs.declared.limits.TheConstants.{MAX_OPERATORS, MAX_PARENS, MAX_NESTED}
 use Rattle.pac_tokens.specs.declared.token.Spanned.{Spanned}
 use Rattle.pac_tokens.specs.declared.fault.FaultKind.{FaultKind}
 use Rattle.pac_tokens.specs.declared.fault.FaultKind.TheVariants.{Token, Expected, TooLong, TooDeep, TooMany}

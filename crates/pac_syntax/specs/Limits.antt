@@ -1,7 +1,6 @@
 -- How much a tree may hold.
 use Rattle.std.specs.Prelude.{◌≤◌, ℕ, ◌+◌, suc, Bool, true, false, List, [], ◌∷◌, length, map, All, IsTrue}
-use Rattle.pac_value.specs.declared.limits.TheConstants.{MAX_COLUMNS, MAX_PARAMS}
-use Rattle.pac_syntax.specs.declared.limits.TheConstants.{MAX_TABLES, MAX_PROCS}
+use Rattle.pac_value.specs.declared.limits.TheConstants.{MAX_COLUMNS, MAX_PARAMS, MAX_TABLES, MAX_PROCS}
 use Rattle.pac_value.specs.declared.values.Ty.{Ty}
 use Rattle.pac_value.specs.declared.values.Ty.TheVariants.{Int, Text, Bool as BoolTy}
 use Rattle.pac_syntax.specs.declared.tree.ColumnNode.{ColumnNode}

@@ -23,7 +23,7 @@ mod parse;
 mod single;
 mod tree;
 
-pub use limits::{MAX_CATALOGUE, MAX_NESTED, MAX_OPERATORS, MAX_PARENS, MAX_PROCS, MAX_TABLES};
+pub use limits::{MAX_CATALOGUE, MAX_NESTED, MAX_OPERATORS, MAX_PARENS};
 pub use operator::{COMPARISONS, sign_of, tier_of};
 pub use pac_tokens::{
     Fault, FaultKind, Keyword, Spanned, Symbol, SyntaxError, Token, Tokens, tokens,

@@ -1,13 +1,7 @@
-// How large a catalogue may be.
+// How large a catalogue's text and its parts may be.
 
 /// The most bytes of a catalogue's text.
 pub const MAX_CATALOGUE: usize = 65_536;
-
-/// The most tables.
-pub const MAX_TABLES: usize = 64;
-
-/// The most procedures.
-pub const MAX_PROCS: usize = 64;
 
 /// The most operators of a whole expression.
 pub const MAX_OPERATORS: u8 = 64;

@@ -11,7 +11,7 @@ use pac_value::BinOp;
 pub const COMPARISONS: u8 = 2;
 
 /// The operator that a sign is.
-pub fn operator_by(sign: Symbol) -> Option<BinOp>
+pub(crate) fn operator_by(sign: Symbol) -> Option<BinOp>
     ensures { result ≡ operator_of sign }
 {
     match sign {
@@ -67,7 +67,7 @@ pub fn tier_of(op: BinOp) -> u8
 }
 
 /// The tightest tier whose operators may follow behind an operator of a tier and its right operand.
-pub fn tier_behind(tier: u8) -> u8
+pub(crate) fn tier_behind(tier: u8) -> u8
     ensures { result ≡ tier_behind tier }
 {
     match tier {

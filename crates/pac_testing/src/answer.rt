@@ -93,6 +93,10 @@ pub fn goes<RT: Threads + Wait + Sync>(
 }
 
 /// The store that `init` makes of a catalogue's text.
+///
+/// # Errors
+///
+/// One where it makes none.
 pub fn store_of<RT: Threads + Wait + Sync>(
     rt: &RT,
     alloc: Global,

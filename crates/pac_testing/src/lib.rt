@@ -1,5 +1,6 @@
 //! What the tests of the commands share: the top call over streams and devices in memory, stores that are made by hand, and
-//! texts. It promises little, so that what the top call promises is met here alone.
+//! texts. It promises little, so that what the top call promises is met here alone. A call fails where an allocation is refused;
+//! what else makes one fail stands with it.
 //!
 //! - [`run_over`], [`run_apart`], [`run_bytes`] and [`run_lines`]: run the words of a line, and tell what is answered.
 //! - [`ends`], [`ends_apart`], [`leaves`] and [`goes`]: whether the words end as they are to.

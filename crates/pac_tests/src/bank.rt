@@ -4,7 +4,7 @@ use pac_types::{Catalogue, read_catalogue};
 use std::alloc::Global;
 use std::test::Fail;
 
-pub const BANK: &str = "table Family(key int, spouse int);
+pub(crate) const BANK: &str = "table Family(key int, spouse int);
 table Current(key int, value int);
 table Saving(key int, value int);
 table Stats(key int, count int);
@@ -32,7 +32,7 @@ proc Deposit(name int, amount int, nation int) {
 ";
 
 // The catalogue of a text.
-pub fn catalogue(alloc: Global, text: &[u8]) -> Result<Catalogue, Fail> {
+pub(crate) fn catalogue(alloc: Global, text: &[u8]) -> Result<Catalogue, Fail> {
     match read_catalogue(alloc, text) {
         Ok(catalogue) => Ok(catalogue),
         Err(_) => Err(Fail::from("no catalogue")),

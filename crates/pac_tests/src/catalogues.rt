@@ -7,7 +7,7 @@ use std::alloc::Global;
 use std::test::Fail;
 
 // The catalogue of a text in the grammar.
-pub fn typed(alloc: Global, text: &[u8]) -> Result<Result<Catalogue, TypeError>, Fail> {
+pub(crate) fn typed(alloc: Global, text: &[u8]) -> Result<Result<Catalogue, TypeError>, Fail> {
     let tree = parse_catalogue(alloc, text)?;
     Ok(check(alloc, tree))
 }

@@ -343,7 +343,7 @@ pub(crate) fn text(behind: &[u8]) -> Result<(Token, usize), FaultKind>
 
 // What became of the bytes in front: a token was appended, and so much of them is read; or there is a fault.
 #[derive(Clone, Copy)]
-pub enum Step {
+pub(crate) enum Step {
     Pushed(usize, Before),
     Refused(FaultKind),
 }

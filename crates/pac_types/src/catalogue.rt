@@ -7,7 +7,7 @@ ghost use Rattle.pac_types.specs.CatalogueNames.{IsNamed};
 use crate::names::Names;
 use crate::{Proc, Table};
 use pac_base::{Exact, Listed, NoMemory};
-use pac_syntax::{MAX_PROCS, MAX_TABLES};
+use pac_value::{MAX_PROCS, MAX_TABLES};
 use std::alloc::Global;
 use std::marker::Model;
 

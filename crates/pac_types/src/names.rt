@@ -18,7 +18,7 @@ const FEW: usize = 8;
 
 /// Names, each with its first index as its number. Where they are more than few, a look-up goes by a map.
 #[derive(Debug, Drop)]
-pub struct Names {
+pub(crate) struct Names {
     names: Vec<Name>,
     numbers: HashMap<Name, u16>,
 }

@@ -129,7 +129,7 @@ impl Exact for Stmt {
 
 /// A copy of a block.
 #[cycle(copy)]
-pub fn copy_all(alloc: Global, stmts: &[Stmt]) -> Result<Stmts, NoMemory>
+pub(crate) fn copy_all(alloc: Global, stmts: &[Stmt]) -> Result<Stmts, NoMemory>
     ensures { IfOk result (λ copy. copy ≡ stmts.now) }
 {
     let mut copy = Vec::with_capacity(alloc, stmts.len())?;

@@ -30,7 +30,7 @@ mod values;
 pub use env::Env;
 pub use evaluation::eval;
 pub use expr::{BinOp, Expr, Trap};
-pub use limits::{MAX_COLUMNS, MAX_NAME, MAX_PARAMS, MAX_TEXT};
+pub use limits::{MAX_COLUMNS, MAX_NAME, MAX_PARAMS, MAX_PROCS, MAX_TABLES, MAX_TEXT};
 pub use literals::{push_count, push_key, push_value, push_values};
 pub use name::Name;
 pub use row::{Row, RowRule};

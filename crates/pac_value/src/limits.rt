@@ -1,4 +1,4 @@
-// How large names, texts and rows may be.
+// How large names, texts, rows and catalogues may be.
 
 /// The most bytes of a name.
 pub const MAX_NAME: usize = 32;
@@ -11,3 +11,9 @@ pub const MAX_COLUMNS: usize = 8;
 
 /// The most parameters of a procedure, so the most arguments of a call.
 pub const MAX_PARAMS: usize = 16;
+
+/// The most tables of a catalogue.
+pub const MAX_TABLES: usize = 64;
+
+/// The most procedures of a catalogue.
+pub const MAX_PROCS: usize = 64;

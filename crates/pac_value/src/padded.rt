@@ -12,7 +12,7 @@ use std::marker::Model;
 
 /// At most `N` bytes, which stand in the value itself. They are ordered byte by byte, a proper prefix first.
 #[derive(Clone, Copy, Debug)]
-pub struct Padded<const N: usize> {
+pub(crate) struct Padded<const N: usize> {
     room: [u8; N],
     len: usize,
 }

@@ -11,7 +11,7 @@ use pac_base::NoMemory;
 use std::alloc::Global;
 
 /// A command of this name, with no arguments, no help and no version.
-pub fn plain_app<'a>(alloc: Global, name: &'static str) -> Command<'a>
+pub(crate) fn plain_app<'a>(alloc: Global, name: &'static str) -> Command<'a>
     ensures { app_of result ≡ plain_app name.entry.now }
 {
     Command::new(alloc, name)
@@ -20,7 +20,7 @@ pub fn plain_app<'a>(alloc: Global, name: &'static str) -> Command<'a>
 }
 
 /// The command with an option more, `--name VALUE`.
-pub fn with_option<'a>(
+pub(crate) fn with_option<'a>(
     alloc: Global,
     command: Command<'a>,
     name: &'static str,
@@ -32,7 +32,7 @@ pub fn with_option<'a>(
 }
 
 /// The command with a flag more, `--name`.
-pub fn with_flag<'a>(
+pub(crate) fn with_flag<'a>(
     alloc: Global,
     command: Command<'a>,
     name: &'static str,
@@ -44,7 +44,7 @@ pub fn with_flag<'a>(
 }
 
 /// The command with a word more that has to stand there.
-pub fn with_operand<'a>(
+pub(crate) fn with_operand<'a>(
     alloc: Global,
     command: Command<'a>,
     name: &'static str,
@@ -56,7 +56,7 @@ pub fn with_operand<'a>(
 }
 
 /// What clap finds in the words; the first is the command's name. `None`: clap refuses them.
-pub fn find<'a>(
+pub(crate) fn find<'a>(
     command: Command<'a>,
     words: &'a [String],
 ) -> Result<Option<ArgMatches<'a>>, NoMemory>
@@ -73,7 +73,12 @@ pub fn find<'a>(
 }
 
 /// The number of an option, from 1 on: that of its value, or the default where the option isn't there.
-pub fn option_number(matches: &ArgMatches<'_>, id: &str, default: u32, most: u32) -> Option<u32>
+pub(crate) fn option_number(
+    matches: &ArgMatches<'_>,
+    id: &str,
+    default: u32,
+    most: u32,
+) -> Option<u32>
     ensures { result ≡ option_number id.now default most (rows_of (found_of matches.now)) }
 {
     match matches.get_str(id) {
@@ -83,7 +88,7 @@ pub fn option_number(matches: &ArgMatches<'_>, id: &str, default: u32, most: u32
 }
 
 /// Whether a flag is there.
-pub fn is_set(matches: &ArgMatches<'_>, id: &str) -> bool
+pub(crate) fn is_set(matches: &ArgMatches<'_>, id: &str) -> bool
     ensures { result ≡ is_set id.now (rows_of (found_of matches.now)) }
 {
     match matches.get_str(id) {

@@ -13,10 +13,10 @@ pub const MAX_WORKERS: u32 = 64;
 pub const MAX_STRESS: u32 = 100_000;
 
 /// The requests of a batch, where the words don't say how many.
-pub const DEFAULT_BATCH: u32 = 64;
+pub(crate) const DEFAULT_BATCH: u32 = 64;
 
 /// The limit on the rows of a table, where the words say none.
-pub const DEFAULT_ROWS: u32 = 1_000_000;
+pub(crate) const DEFAULT_ROWS: u32 = 1_000_000;
 
 /// The workers, where the words don't say how many.
-pub const DEFAULT_WORKERS: u32 = 4;
+pub(crate) const DEFAULT_WORKERS: u32 = 4;

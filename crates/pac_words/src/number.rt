@@ -33,7 +33,7 @@ fn spelled_number(text: &[u8]) -> Option<u32>
 }
 
 /// The same, where it is from 1 on, and no more than this.
-pub fn number_up_to(text: &[u8], most: u32) -> Option<u32>
+pub(crate) fn number_up_to(text: &[u8], most: u32) -> Option<u32>
     ensures { result ≡ number_up_to most text.now }
 {
     let number = spelled_number(text)?;

@@ -12,12 +12,11 @@ ghost use Rattle.pac_syntax.specs.declared.tree.ProcNode.{ProcNode as AProcNode}
 ghost use Rattle.pac_syntax.specs.declared.tree.TableNode.{TableNode as ATableNode};
 
 use super::parser::{Owner, Parser};
-use crate::limits::{MAX_PROCS, MAX_TABLES};
 use crate::single::split_first;
 use crate::tree::{ColumnNode, NameNode, ProcNode, TableNode, Tree};
 use pac_base::listed;
 use pac_tokens::{Fault, FaultKind, Keyword, Spanned, Symbol, SyntaxError};
-use pac_value::{MAX_COLUMNS, MAX_PARAMS};
+use pac_value::{MAX_COLUMNS, MAX_PARAMS, MAX_PROCS, MAX_TABLES};
 use std::alloc::Global;
 
 impl Owner {
@@ -162,7 +161,11 @@ impl<'a> Parser<'a> {
 }
 
 /// Reads the tokens of a catalogue, in a text that ends there.
-pub fn parse_tokens(alloc: Global, tokens: &[Spanned], end: usize) -> Result<Tree, SyntaxError>
+pub(crate) fn parse_tokens(
+    alloc: Global,
+    tokens: &[Spanned],
+    end: usize,
+) -> Result<Tree, SyntaxError>
     // What is read is a catalogue within the limits, and each such catalogue is read.
     ensures reads { IfOk result (λ tree. ReadsTokens tokens.now tree) }
     ensures only { (tree : ATree) → ReadsTokens tokens.now tree → Only result tree }

@@ -18,21 +18,21 @@ use std::alloc::Global;
 
 /// An expression, and where it begins, parentheses round it included.
 #[derive(Drop)]
-pub struct Operand {
+pub(crate) struct Operand {
     pub from: usize,
     pub expr: ExprNode,
 }
 
 /// What has a list of columns: a table, or a procedure, whose parameters they are.
 #[derive(Clone, Copy, Debug, PartialEq, Eq)]
-pub enum Owner {
+pub(crate) enum Owner {
     Table,
     Procedure,
 }
 
 /// What is left to read.
 #[derive(Drop)]
-pub struct Parser<'a> {
+pub(crate) struct Parser<'a> {
     pub alloc: Global,
     pub rest: &'a [Spanned],
     /// Where the text ends, or where its first fault of a token stands.

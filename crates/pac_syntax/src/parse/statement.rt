@@ -16,7 +16,7 @@ use pac_tokens::{FaultKind, Keyword, Symbol, SyntaxError, Token};
 
 /// The word that begins a statement.
 #[derive(Clone, Copy, Debug, PartialEq, Eq)]
-pub enum StatementWord {
+pub(crate) enum StatementWord {
     Let,
     Read,
     Has,

@@ -15,14 +15,14 @@ use std::alloc::Global;
 
 /// An expression with a number for each name, its type, and the place where it stands.
 #[derive(Drop)]
-pub struct Typed {
+pub(crate) struct Typed {
     pub at: usize,
     pub expr: Expr,
     pub ty: Ty,
 }
 
 // That an expression at a place has a type that is taken there.
-pub fn taken(at: usize, is_taken: bool) -> Result<(), TypeFault>
+pub(crate) fn taken(at: usize, is_taken: bool) -> Result<(), TypeFault>
     ensures { result ≡ taken at is_taken }
 {
     if is_taken {
@@ -67,7 +67,7 @@ fn given(op: BinOp) -> Ty
 }
 
 /// The expression of a node over the visible variables.
-pub fn check_expr(alloc: Global, scope: &Scope, node: &ExprNode) -> Result<Typed, TypeError>
+pub(crate) fn check_expr(alloc: Global, scope: &Scope, node: &ExprNode) -> Result<Typed, TypeError>
     ensures { Tells (λ typed. typed) result (checked_expr scope.now node.now) }
 {
     match node {
@@ -117,7 +117,7 @@ pub fn check_expr(alloc: Global, scope: &Scope, node: &ExprNode) -> Result<Typed
 }
 
 // Whether an expression's type is what a key or a column wants.
-pub fn wanted(ty: Ty, by: Option<Ty>) -> bool
+pub(crate) fn wanted(ty: Ty, by: Option<Ty>) -> bool
     ensures { result ≡ is_wanted (Some ty) by }
 {
     match (ty, by) {
@@ -127,7 +127,7 @@ pub fn wanted(ty: Ty, by: Option<Ty>) -> bool
 }
 
 /// The expression of a node where a key or a column wants its type.
-pub fn check_wanted(
+pub(crate) fn check_wanted(
     alloc: Global,
     scope: &Scope,
     node: &ExprNode,
@@ -141,7 +141,7 @@ pub fn check_wanted(
 }
 
 /// The expression of a node that is a condition.
-pub fn check_test(alloc: Global, scope: &Scope, node: &ExprNode) -> Result<Expr, TypeError>
+pub(crate) fn check_test(alloc: Global, scope: &Scope, node: &ExprNode) -> Result<Expr, TypeError>
     ensures { Tells (λ expr. expr) result (checked_test scope.now node.now) }
 {
     let typed = check_expr(alloc, scope, node)?;

@@ -82,7 +82,7 @@ fn check_params(scope: &mut Scope, nodes: &[ColumnNode]) -> Result<(), TypeError
 }
 
 /// The procedure of a node over the tables.
-pub fn check_proc(alloc: Global, tables: &Tables, node: &ProcNode) -> Result<Proc, TypeError>
+pub(crate) fn check_proc(alloc: Global, tables: &Tables, node: &ProcNode) -> Result<Proc, TypeError>
     requires { IsProcWithinLimits node.now }
     ensures { Tells (λ proc. proc) result (checked_proc tables.now node.now) }
 {

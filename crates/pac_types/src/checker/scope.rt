@@ -11,7 +11,7 @@ use std::marker::Model;
 
 /// A variable's number and type.
 #[derive(Clone, Copy, Debug)]
-pub struct Variable {
+pub(crate) struct Variable {
     pub number: u16,
     pub ty: Ty,
 }
@@ -19,7 +19,7 @@ pub struct Variable {
 /// The names of a procedure, of which the first stand before, each with its variable where that is visible, and the
 /// number that the next variable gets.
 #[derive(Drop)]
-pub struct Scope {
+pub(crate) struct Scope {
     names: Names,
     known: Vec<Option<Variable>>,
     next: usize,

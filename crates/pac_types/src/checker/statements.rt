@@ -223,7 +223,7 @@ fn check_stmt(
 
 /// The statements of a block, behind which no variable of it is visible.
 #[cycle(check)]
-pub fn check_block(
+pub(crate) fn check_block(
     alloc: Global,
     tables: &Tables,
     scope: &mut Scope,

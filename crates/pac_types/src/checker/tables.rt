@@ -17,7 +17,7 @@ use std::marker::Model;
 
 /// Tables, with maps of their names and of their columns' names.
 #[derive(Drop)]
-pub struct Tables {
+pub(crate) struct Tables {
     tables: Vec<Table>,
     names: Names,
     columns: Vec<Names>,
@@ -37,7 +37,7 @@ impl Model for Tables {
 }
 
 /// The columns or parameters of these nodes.
-pub fn columns_of(alloc: Global, nodes: &[ColumnNode]) -> Result<Vec<Column>, AllocError>
+pub(crate) fn columns_of(alloc: Global, nodes: &[ColumnNode]) -> Result<Vec<Column>, AllocError>
     ensures { IfOk result (λ columns. columns.items ≡ map column_of nodes.now) }
 {
     nodes
@@ -50,7 +50,7 @@ pub fn columns_of(alloc: Global, nodes: &[ColumnNode]) -> Result<Vec<Column>, Al
 }
 
 /// The names of these nodes.
-pub fn names_of(alloc: Global, nodes: &[ColumnNode]) -> Result<Vec<Name>, AllocError>
+pub(crate) fn names_of(alloc: Global, nodes: &[ColumnNode]) -> Result<Vec<Name>, AllocError>
     ensures { IfOk result (λ names. names.items ≡ map (λ node. node.name.name) nodes.now) }
 {
     nodes.iter().map(|node| node.name.name).collect(alloc)

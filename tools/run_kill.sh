@@ -2,7 +2,7 @@
 # Runs the bank's store, kills the run by SIGKILL at a random moment, and sees that each transaction whose reply was written
 # is recovered, with all in front of it and none left out. It says so of each round, and ends with 1 at the first that fails.
 #
-#     examples/run_kill.sh PROGRAM [ROUNDS [LINES [SECONDS]]]
+#     tools/run_kill.sh PROGRAM [ROUNDS [LINES [SECONDS]]]
 #
 # A round has LINES deposits, and is killed within SECONDS.
 set -eu
@@ -11,7 +11,7 @@ program=$(realpath "$1")
 rounds=${2:-50}
 lines=${3:-10000}
 seconds=${4:-2}
-catalogue=$(realpath "$(dirname "$0")/bank.catalogue")
+catalogue=$(realpath "$(dirname "$0")/../crates/pac_examples/data/bank.catalogue")
 
 folder=$(mktemp -d)
 trap 'rm -rf "$folder"' EXIT

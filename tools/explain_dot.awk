@@ -1,6 +1,6 @@
 # Turns what `pacman explain` writes into a graph for Graphviz:
 #
-#     pacman explain < examples/bank.catalogue | awk -f examples/explain_dot.awk | dot -Tsvg
+#     pacman explain < crates/pac_examples/data/bank.catalogue | awk -f tools/explain_dot.awk | dot -Tsvg
 #
 # A block is a box with its members. The slices of one procedure have one colour, up to eight procedures; a table is white.
 # An edge between blocks is an arrow.
