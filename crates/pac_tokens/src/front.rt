@@ -4,7 +4,9 @@ ghost use Rattle.pac_tokens.specs.declared.token.Token.TheVariants as token;
 ghost use Rattle.pac_tokens.specs.Tokens.{IsPlainNext};
 ghost use Rattle.pac_tokens.specs.Literal.{literal_token};
 
-use crate::lexer::{Before, find_keyword, int, is_digit_byte, is_letter_byte, text, word_len};
+use crate::int::int;
+use crate::lexer::{Before, find_keyword, is_digit_byte, is_letter_byte, word_len};
+use crate::text::text;
 use crate::token::Token;
 use pac_value::{Name, Value};
 

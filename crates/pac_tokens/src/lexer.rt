@@ -1,16 +1,15 @@
 // Reads the tokens of a text.
-ghost use Rattle.std.specs.Prelude.{◌≡◌, pos, neg_ℤ, ◌≤◌, ◌<◌, ◌^◌, ◌+◌, [], ◌∷◌, length, drop, IfOk, IfSome, IsTrue, Some, None, false, not, ◌&&◌, nat_eq, nat_le, nat_lt, if◌then◌else◌};
-ghost use Rattle.std.specs.List.{take_while, list_all};
-ghost use Rattle.pac_value.specs.Ascii.{backslash};
-ghost use Rattle.pac_value.specs.Texts.{is_printable};
-ghost use Rattle.pac_value.specs.declared.limits.TheConstants.{MAX_TEXT};
-ghost use Rattle.pac_tokens.specs.Tokens.{is_blank, is_letter, is_digit, is_name, gap, digits_value, keyword_of, after, next_digits, is_long_minus, IsLexed};
-ghost use Rattle.pac_tokens.specs.Lexing.{symbol_of, symbol_front, candidate, word_at, int_at, text_at, minus_at, symbol_at, token_at, closing_in, unescaped, IsPushed, IsStep, StaysWithin};
+ghost use Rattle.std.specs.Prelude.{◌≡◌, ◌≤◌, ◌+◌, [], ◌∷◌, length, IfOk};
+ghost use Rattle.std.specs.List.{take_while};
+ghost use Rattle.pac_tokens.specs.Tokens.{is_blank, is_letter, is_digit, is_name, gap, keyword_of, after, IsLexed};
+ghost use Rattle.pac_tokens.specs.Lexing.{symbol_of, symbol_front, candidate, word_at, symbol_at, IsPushed, IsStep, StaysWithin};
 
 use crate::fault::{Fault, FaultKind};
+use crate::int::{int, minus};
+use crate::text::text;
 use crate::token::{Keyword, Spanned, Symbol, Token};
 use pac_base::NoMemory;
-use pac_value::{Name, Text};
+use pac_value::Name;
 use std::alloc::Global;
 
 /// The tokens of a text, up to its end or to the first fault of a token.
@@ -30,9 +29,6 @@ pub enum Before {
 
 // The most tokens that room is made for before any is read.
 const ROOM: usize = 32_768;
-
-// One more than the greatest int.
-const LIMIT: u64 = 9_223_372_036_854_775_808;
 
 fn is_blank_byte(byte: u8) -> bool
     ensures { result ≡ is_blank byte }
@@ -87,7 +83,7 @@ pub(crate) fn word_len(bytes: &[u8]) -> usize
 }
 
 // How many digits stand in front.
-fn digits_len(bytes: &[u8]) -> usize
+pub(crate) fn digits_len(bytes: &[u8]) -> usize
     ensures { result ≡ length (take_while is_digit bytes.now) }
 {
     bytes
@@ -195,150 +191,6 @@ fn front_symbol(first: u8, behind: &[u8]) -> Option<Symbol>
         return Some(symbol);
     }
     short_symbol(first)
-}
-
-// The value of decimal digits, if it is at most 2 ^ 63.
-fn magnitude(digits: &[u8]) -> Option<u64>
-    ensures { result ≡ (if nat_le (digits_value digits.now) (2 ^ 63) then Some (digits_value digits.now) else None) }
-{
-    let mut value: u64 = 0;
-    for digit in digits {
-        if value > LIMIT / 10 {
-            return None;
-        }
-        value = value * 10 + u64::from(digit.saturating_sub(b'0'));
-    }
-    if value > LIMIT {
-        return None;
-    }
-    Some(value)
-}
-
-// The int of digits.
-pub(crate) fn int(before: Before, bytes: &[u8]) -> Result<(Token, usize), FaultKind>
-    ensures { result ≡ int_at before (take_while is_digit bytes.now) }
-{
-    let digits = &bytes[..digits_len(bytes)];
-    let Some(value) = magnitude(digits) else {
-        return Err(FaultKind::TooLong);
-    };
-    match before {
-        Before::LiteralMinus => Ok((Token::Negative(negated(value)), digits.len())),
-        _ => match i64::try_from(value) {
-            Ok(value) => Ok((Token::Int(value), digits.len())),
-            Err(_) => Err(FaultKind::TooLong),
-        },
-    }
-}
-
-// The int below zero of this magnitude.
-fn negated(magnitude: u64) -> i64
-    requires { magnitude ≤ 2 ^ 63 }
-    ensures { result ≡ neg_ℤ (pos magnitude) }
-{
-    if magnitude == LIMIT {
-        i64::MIN
-    } else {
-        -(magnitude as i64)
-    }
-}
-
-// A `-`, and what stands behind it.
-fn minus(before: Before, behind: &[u8]) -> Result<(Token, usize), FaultKind>
-    ensures { result ≡ minus_at before behind.now }
-{
-    let minus = Token::Symbol(Symbol::Minus);
-    if before == Before::Value || fits_behind_minus(behind) {
-        Ok((minus, 1))
-    } else {
-        Err(FaultKind::TooLong)
-    }
-}
-
-// The digits that come next, if any, are no more than 2 ^ 63.
-fn fits_behind_minus(behind: &[u8]) -> bool
-    ensures { result ≡ nat_le (digits_value (next_digits behind.now)) (2 ^ 63) }
-{
-    let rest = &behind[gap_len(behind)..];
-    let digits = &rest[..digits_len(rest)];
-    magnitude(digits).is_some()
-}
-
-fn is_printable_byte(byte: u8) -> bool
-    ensures { result ≡ is_printable byte }
-{
-    0x20 <= byte && byte <= 0x7E
-}
-
-// Where the closing quote of a text stands, whose opening quote stands in front of these bytes. `None`: it isn't well
-// formed.
-fn closing(bytes: &[u8]) -> Option<usize>
-    ensures closing { result ≡ closing_in false bytes.now }
-    ensures within { IfSome result (λ n. n < length bytes.now) }
-{
-    let mut escaped = false;
-    for (i, byte) in bytes.iter().enumerate() {
-        if escaped {
-            if *byte != b'"' && *byte != b'\\' {
-                return None;
-            }
-            escaped = false;
-        } else if *byte == b'"' {
-            return Some(i);
-        } else if *byte == b'\\' {
-            escaped = true;
-        } else if !is_printable_byte(*byte) {
-            return None;
-        }
-    }
-    None
-}
-
-// Whether a byte, behind a `\` or not, is the `\` of an escape.
-fn begins_escape(escaped: bool, byte: u8) -> bool
-    ensures { result ≡ (not escaped && nat_eq byte backslash) }
-{
-    !escaped && byte == b'\\'
-}
-
-// The text of these bytes without its escapes, if it has at most 64.
-#[tactic(auto, using(crate::proofs::Quoted::without_escape))]
-fn unescape(bytes: &[u8]) -> Option<Text>
-    requires { IsTrue (list_all is_printable (unescaped false bytes.now)) }
-    ensures { result ≡ (if nat_lt MAX_TEXT (length (unescaped false bytes.now)) then None else Some (unescaped false bytes.now)) }
-{
-    if !bytes.contains(&b'\\') {
-        return Text::from_bytes(bytes);
-    }
-    let mut room = [0; Text::MAX];
-    let mut len: usize = 0;
-    let mut escaped = false;
-    for byte in bytes {
-        if begins_escape(escaped, *byte) {
-            escaped = true;
-            continue;
-        }
-        if len == Text::MAX {
-            return None;
-        }
-        room[len] = *byte;
-        len += 1;
-        escaped = false;
-    }
-    Text::from_bytes(&room[..len])
-}
-
-// A text, behind its opening quote.
-pub(crate) fn text(behind: &[u8]) -> Result<(Token, usize), FaultKind>
-    ensures { result ≡ text_at behind.now }
-{
-    let Some(closing) = closing(behind) else {
-        return Err(FaultKind::Token);
-    };
-    match unescape(&behind[..closing]) {
-        Some(text) => Ok((Token::Text(text), closing + 2)),
-        None => Err(FaultKind::TooLong),
-    }
 }
 
 // What became of the bytes in front: a token was appended, and so much of them is read; or there is a fault.

@@ -17,9 +17,11 @@
 
 mod fault;
 mod front;
+mod int;
 mod lexer;
 mod literal;
 mod reading;
+mod text;
 mod token;
 
 pub use fault::{Fault, FaultKind, SyntaxError};

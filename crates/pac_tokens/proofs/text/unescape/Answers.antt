@@ -3,7 +3,7 @@ use Rattle.std.proofs.lemmas.Bool.{lt-ltb}
 use Rattle.std.proofs.lemmas.List.{length-append, length-set, length-take-le, take_more_set}
 use Rattle.pac_tokens.specs.Lexing.{unescaped}
 use Rattle.pac_tokens.proofs.Quoted.{plain_step}
-use Rattle.pac_tokens.proofs.lexer.unescape.Goals as goal
+use Rattle.pac_tokens.proofs.text.unescape.Goals as goal
 
 pub returns-then-len-eq-MAX : goal.returns-then-len-eq-MAX
 returns-then-len-eq-MAX c =

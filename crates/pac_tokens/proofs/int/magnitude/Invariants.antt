@@ -1,6 +1,6 @@
 use Rattle.std.proofs.Common.{◌≡◌, ◌≤◌, take}
 use Rattle.pac_tokens.specs.Tokens.{digits_value}
-use Rattle.pac_tokens.proofs.lexer.magnitude.Given as goal
+use Rattle.pac_tokens.proofs.int.magnitude.Given as goal
 
 -- the value of the digits so far
 abbrev pub invariant-loop-digit : goal.invariant-loop-digit

@@ -1,6 +1,6 @@
 use Rattle.std.proofs.Common.{◌≡◌, ◌≤◌, ◌++◌, false, length, take, drop}
 use Rattle.pac_tokens.specs.Lexing.{unescaped}
-use Rattle.pac_tokens.proofs.lexer.unescape.Given as goal
+use Rattle.pac_tokens.proofs.text.unescape.Given as goal
 
 -- the text is what was read and what is read from here
 abbrev pub invariant-loop-byte : goal.invariant-loop-byte

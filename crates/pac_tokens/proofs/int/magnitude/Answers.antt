@@ -1,7 +1,7 @@
 use Rattle.std.proofs.Common.{arith, ◌+◌, ◌*◌, ◌-◌, ℕ}
 use Rattle.std.proofs.lemmas.List.Sums.{fold_more}
 use Rattle.pac_tokens.proofs.NumberLemmas.{too_large}
-use Rattle.pac_tokens.proofs.lexer.magnitude.Goals as goal
+use Rattle.pac_tokens.proofs.int.magnitude.Goals as goal
 
 pub returns-then-value : goal.returns-then-value
 returns-then-value c =

@@ -1,0 +1,79 @@
+// Reads ints, and the `-` in front of them.
+ghost use Rattle.std.specs.Prelude.{◌≡◌, pos, neg_ℤ, ◌≤◌, ◌^◌, Some, None, nat_le, if◌then◌else◌};
+ghost use Rattle.std.specs.List.{take_while};
+ghost use Rattle.pac_tokens.specs.Tokens.{is_digit, digits_value, next_digits};
+ghost use Rattle.pac_tokens.specs.Lexing.{int_at, minus_at};
+
+use crate::fault::FaultKind;
+use crate::lexer::{Before, digits_len, gap_len};
+use crate::token::{Symbol, Token};
+
+// One more than the greatest int.
+const LIMIT: u64 = 9_223_372_036_854_775_808;
+
+// The value of decimal digits, if it is at most 2 ^ 63.
+fn magnitude(digits: &[u8]) -> Option<u64>
+    ensures { result ≡ (if nat_le (digits_value digits.now) (2 ^ 63) then Some (digits_value digits.now) else None) }
+{
+    let mut value: u64 = 0;
+    for digit in digits {
+        if value > LIMIT / 10 {
+            return None;
+        }
+        value = value * 10 + u64::from(digit.saturating_sub(b'0'));
+    }
+    if value > LIMIT {
+        return None;
+    }
+    Some(value)
+}
+
+// The int of digits.
+pub(crate) fn int(before: Before, bytes: &[u8]) -> Result<(Token, usize), FaultKind>
+    ensures { result ≡ int_at before (take_while is_digit bytes.now) }
+{
+    let digits = &bytes[..digits_len(bytes)];
+    let Some(value) = magnitude(digits) else {
+        return Err(FaultKind::TooLong);
+    };
+    match before {
+        Before::LiteralMinus => Ok((Token::Negative(negated(value)), digits.len())),
+        _ => match i64::try_from(value) {
+            Ok(value) => Ok((Token::Int(value), digits.len())),
+            Err(_) => Err(FaultKind::TooLong),
+        },
+    }
+}
+
+// The int below zero of this magnitude.
+fn negated(magnitude: u64) -> i64
+    requires { magnitude ≤ 2 ^ 63 }
+    ensures { result ≡ neg_ℤ (pos magnitude) }
+{
+    if magnitude == LIMIT {
+        i64::MIN
+    } else {
+        -(magnitude as i64)
+    }
+}
+
+// A `-`, and what stands behind it.
+pub(crate) fn minus(before: Before, behind: &[u8]) -> Result<(Token, usize), FaultKind>
+    ensures { result ≡ minus_at before behind.now }
+{
+    let minus = Token::Symbol(Symbol::Minus);
+    if before == Before::Value || fits_behind_minus(behind) {
+        Ok((minus, 1))
+    } else {
+        Err(FaultKind::TooLong)
+    }
+}
+
+// The digits that come next, if any, are no more than 2 ^ 63.
+fn fits_behind_minus(behind: &[u8]) -> bool
+    ensures { result ≡ nat_le (digits_value (next_digits behind.now)) (2 ^ 63) }
+{
+    let rest = &behind[gap_len(behind)..];
+    let digits = &rest[..digits_len(rest)];
+    magnitude(digits).is_some()
+}
