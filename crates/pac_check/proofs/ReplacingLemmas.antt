@@ -1,7 +1,7 @@
 -- A slot that is shut, and then opened with a new text.
 use Rattle.std.proofs.Common.{◌≡◌, ◌≢◌, ◌∙◌, ◌⊎◌, inl, inr, ⊎_elim, ℕ, List, [], ◌∷◌, length, drop, Option, refl, sym, ap, subst, arith}
 use Rattle.std.proofs.lemmas.Bool.{cases_eq}
-use Rattle.pac_outside.specs.Disk.{DiskState, History, IsImage, BothTell, LeavesTorn, IsDurable, wrote, settled, spliced}
+use Rattle.pac_outside.specs.Disk.{DiskState, DiskHistory, IsImage, BothTell, LeavesTorn, IsDurable, wrote, settled, spliced}
 use Rattle.pac_outside.specs.GateByte.{IsShut, IsOpen, OneImage, ShutOrOpen}
 use Rattle.pac_outside.proofs.Images.{length_stays, back_stays}
 use Rattle.pac_outside.proofs.Histories.{weaken, goes_on, both, both_and, both_then}
@@ -22,14 +22,14 @@ gate_torn rest image is = open_or_shut rest image (length_stays 0 (0 ∷ []) (1 
 
 module _ (text : List ℕ) where
   -- the first write
-  shutting : (state : SlotState) → state ≢ Closed → HasByte state → (a b : History) → LeavesTorn 0 (0 ∷ []) a b → Replaces state text a b
+  shutting : (state : SlotState) → state ≢ Closed → HasByte state → (a b : DiskHistory) → LeavesTorn 0 (0 ∷ []) a b → Replaces state text a b
   shutting Empty other some a b run = absurd some
   shutting Closed other some a b run = absurd (other refl)
   shutting (Open head) other some a b run = λ alone. weaken (IsImage (wrote 0 (0 ∷ []) a.now)) (IsOldShutOrNew a.now.seen text) a b (λ image is.
       let whole : a.now ≡ settled (1 ∷ alone.has.0) = alone.one ∙ ap settled alone.has.1 in
       ⊎_elim (λ same. inl (same ∙ sym alone.has.1)) (λ shut. inr (inl shut)) (gate_torn alone.has.0 image (subst (λ (s : DiskState). IsImage (wrote 0 (0 ∷ []) s) image) whole is))) run
 
-  shut : (state : SlotState) → state ≢ Closed → HasByte state → (a b : History) → OneImage (BeginsAs state) a.now → IsDurable 0 (0 ∷ []) a b → OneImage (IsShut []) b.now
+  shut : (state : SlotState) → state ≢ Closed → HasByte state → (a b : DiskHistory) → OneImage (BeginsAs state) a.now → IsDurable 0 (0 ∷ []) a b → OneImage (IsShut []) b.now
   shut Empty other some a b alone durable = absurd some
   shut Closed other some a b alone durable = absurd (other refl)
   shut (Open head) other some a b alone durable =
@@ -37,19 +37,19 @@ module _ (text : List ℕ) where
       let seen_is = ap (λ (state : DiskState). state.seen) is in
       record { one = is ∙ ap settled (sym seen_is); has = record { gate = 0; rest = alone.has.0; split = seen_is; shut = omega arith } }
 
-  opening : (state : SlotState) → state ≢ Closed → HasByte state → (a b c : History) → LeavesTorn 0 (0 ∷ []) a b × IsDurable 0 (0 ∷ []) a b → ShutOrOpen [] text b c → Replaces state text a c
+  opening : (state : SlotState) → state ≢ Closed → HasByte state → (a b c : DiskHistory) → LeavesTorn 0 (0 ∷ []) a b × IsDurable 0 (0 ∷ []) a b → ShutOrOpen [] text b c → Replaces state text a c
   opening state other some a b c first second = λ alone. goes_on (IsOldShutOrNew a.now.seen text) a b c (shutting state other some a b first.0 alone)
       (weaken (λ image. IsShut [] image ⊎ IsOpen [] text image) (IsOldShutOrNew a.now.seen text) b c (λ image is. inr is) (second (shut state other some a b alone first.1)))
 
-  behind_shut : (a b : History) → ShutOrOpen [] text a b → Replaces Closed text a b
+  behind_shut : (a b : DiskHistory) → ShutOrOpen [] text a b → Replaces Closed text a b
   behind_shut a b run = λ alone. weaken (λ image. IsShut [] image ⊎ IsOpen [] text image) (IsOldShutOrNew a.now.seen text) a b (λ image is. inr is) (run alone)
 
-  pub shutting_both : (state : SlotState) → state ≢ Closed → HasByte state → (a b : Option History) → BothTell (LeavesTorn 0 (0 ∷ [])) a b → BothTell (Replaces state text) a b
+  pub shutting_both : (state : SlotState) → state ≢ Closed → HasByte state → (a b : Option DiskHistory) → BothTell (LeavesTorn 0 (0 ∷ [])) a b → BothTell (Replaces state text) a b
   shutting_both state other some = both (LeavesTorn 0 (0 ∷ [])) (Replaces state text) (shutting state other some)
 
-  pub opening_both : (state : SlotState) → state ≢ Closed → HasByte state → (a b c : Option History) → BothTell (LeavesTorn 0 (0 ∷ [])) a b → BothTell (IsDurable 0 (0 ∷ [])) a b → BothTell (ShutOrOpen [] text) b c → BothTell (Replaces state text) a c
+  pub opening_both : (state : SlotState) → state ≢ Closed → HasByte state → (a b c : Option DiskHistory) → BothTell (LeavesTorn 0 (0 ∷ [])) a b → BothTell (IsDurable 0 (0 ∷ [])) a b → BothTell (ShutOrOpen [] text) b c → BothTell (Replaces state text) a c
   opening_both state other some a b c moments durable second = both_then (λ old new. LeavesTorn 0 (0 ∷ []) old new × IsDurable 0 (0 ∷ []) old new) (ShutOrOpen [] text) (Replaces state text) (opening state other some) a b c
       (both_and (LeavesTorn 0 (0 ∷ [])) (IsDurable 0 (0 ∷ [])) a b moments durable) second
 
-  pub behind_shut_both : (a b : Option History) → BothTell (ShutOrOpen [] text) a b → BothTell (Replaces Closed text) a b
+  pub behind_shut_both : (a b : Option DiskHistory) → BothTell (ShutOrOpen [] text) a b → BothTell (Replaces Closed text) a b
   behind_shut_both = both (ShutOrOpen [] text) (Replaces Closed text) behind_shut

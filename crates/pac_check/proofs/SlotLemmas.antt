@@ -4,7 +4,7 @@ use Rattle.std.proofs.lemmas.Bool.{eqb-true, eqb-false}
 use Rattle.std.proofs.lemmas.List.{append-nil}
 use Rattle.pac_base.specs.declared.refusal.Refusal.{Refusal}
 use Rattle.pac_base.specs.Refusals.{Tells}
-use Rattle.pac_outside.specs.Disk.{DiskState, History, IsImage, Leaves, LeavesOnly, BothTell, WhereTold}
+use Rattle.pac_outside.specs.Disk.{DiskState, DiskHistory, IsImage, Leaves, LeavesOnly, BothTell, WhereTold}
 use Rattle.pac_outside.specs.GateByte.{IsOpen, OneImage}
 use Rattle.pac_outside.proofs.Images.{one_image}
 use Rattle.pac_value.specs.State.{Tables}
@@ -119,7 +119,7 @@ stands_loaded tables few bytes at are view (Err refusal) read = tt
 -- ---- over what a disk tells
 
 -- what holds of the bytes that were read holds of what the disk has
-pub told_with : (P : List ℕ → Type 0) (bytes : List ℕ) (told : Option History) → WhereTold (λ old. bytes ≡ old.now.seen) told → P bytes → WhereTold (λ old. P old.now.seen) told
+pub told_with : (P : List ℕ → Type 0) (bytes : List ℕ) (told : Option DiskHistory) → WhereTold (λ old. bytes ≡ old.now.seen) told → P bytes → WhereTold (λ old. P old.now.seen) told
 told_with P bytes None is has = tt
 told_with P bytes (Some old) is has = subst P is has
 
@@ -135,7 +135,7 @@ loaded_there tables head own held image rest is read front =
     one : (a b : Checkpoint) → ◌≡◌ {A = Result Checkpoint SlotFault} (Ok a) (Ok b) → a ≡ b
     one a b h = cc
 
-pub loaded_told : (tables : List Table) (own : Head) (held : Tables) (bytes : List ℕ) (rest : Rest) (told : Option History) → found_alone (next_checkpoint tables (from bytes 1)) ≡ Ok (checkpoint_of (length tables) own held)
+pub loaded_told : (tables : List Table) (own : Head) (held : Tables) (bytes : List ℕ) (rest : Rest) (told : Option DiskHistory) → found_alone (next_checkpoint tables (from bytes 1)) ≡ Ok (checkpoint_of (length tables) own held)
     → IsInFront (IsCheckpoint tables) checkpoint_bytes (from bytes 1) (checkpoint_of (length tables) own held) rest → WhereTold (λ old. bytes ≡ old.now.seen) told
     → WhereTold (λ old. (head : Head) → IsSlot tables (Open head) old.now.seen → HoldsRows tables head held old.now.seen) told
 loaded_told tables own held bytes rest told read front is =
@@ -145,12 +145,12 @@ loaded_told tables own held bytes rest told read front is =
 begins_one : (tables : List Table) (state : SlotState) (disk : DiskState) → OneImage (IsSlot tables state) disk → OneImage (BeginsAs state) disk
 begins_one tables state disk alone = record { one = alone.one; has = begins tables state disk.seen alone.has }
 
-pub begins_told : (tables : List Table) (state : SlotState) (told : Option History) → WhereTold (λ old. OneImage (IsSlot tables state) old.now) told → WhereTold (λ old. BeginsAs state old.now.seen) told
+pub begins_told : (tables : List Table) (state : SlotState) (told : Option DiskHistory) → WhereTold (λ old. OneImage (IsSlot tables state) old.now) told → WhereTold (λ old. BeginsAs state old.now.seen) told
 begins_told tables state None alone = tt
 begins_told tables state (Some old) alone = begins tables state old.now.seen alone.has
 
 -- after a checkpoint was put into a slot, it is known again
-pub known_after : (tables : List Table) → length tables < 65536 → (state new_state : SlotState) (checkpoint : Checkpoint) (text : List ℕ) → IsCheckpoint tables checkpoint → text ≡ checkpoint_bytes checkpoint → (X : Type 0) {T E : Type 0} (result : Result T E) (old new : Option History)
+pub known_after : (tables : List Table) → length tables < 65536 → (state new_state : SlotState) (checkpoint : Checkpoint) (text : List ℕ) → IsCheckpoint tables checkpoint → text ≡ checkpoint_bytes checkpoint → (X : Type 0) {T E : Type 0} (result : Result T E) (old new : Option DiskHistory)
     → WhereTold (λ o. OneImage (IsSlot tables state) o.now) old → OnOk result (BothTell (IsReplaced state text) old new) → OnOk result ((new_state ≡ Open checkpoint.head) × X) → OnOk result (WhereTold (λ n. OneImage (IsSlot tables new_state) n.now) new)
 known_after tables few state new_state checkpoint text form is X (Err e) old new alone replaced noted = tt
 known_after tables few state new_state checkpoint text form is X (Ok x) None None alone replaced noted = tt
@@ -165,13 +165,13 @@ known_after tables few state new_state checkpoint text form is X (Ok x) (Some o)
     the_state s = Ok s
 
 -- where no device is called, a crash leaves what it might have left
-rests : (P : List ℕ → Type 0) (text : List ℕ) (told : Option History) → WhereTold (λ o. OneImage P o.now) told → BothTell (λ old new. LeavesOnly (IsOldShutOrNew old.now.seen text) old new) told told
+rests : (P : List ℕ → Type 0) (text : List ℕ) (told : Option DiskHistory) → WhereTold (λ o. OneImage P o.now) told → BothTell (λ old new. LeavesOnly (IsOldShutOrNew old.now.seen text) old new) told told
 rests P text None alone = tt
 rests P text (Some old) alone =
     let here : Leaves (IsOldShutOrNew old.now.seen text) old.now = λ image is. inl (one_image old.now.seen image (subst (λ (s : DiskState). IsImage s image) alone.one is)) in
     record { since = []; grown = sym (append-nil old.past); first = here; each = tt; last = here }
 
-pub rests_by_slot : (slot : SlotName) (P Q : List ℕ → Type 0) (text : List ℕ) (a b : Option History) → WhereTold (λ o. OneImage P o.now) a → WhereTold (λ o. OneImage Q o.now) b
+pub rests_by_slot : (slot : SlotName) (P Q : List ℕ → Type 0) (text : List ℕ) (a b : Option DiskHistory) → WhereTold (λ o. OneImage P o.now) a → WhereTold (λ o. OneImage Q o.now) b
     → BothTell (λ old new. LeavesOnly (IsOldShutOrNew old.now.seen text) old new) (by_slot slot a b) (by_slot slot a b)
 rests_by_slot A P Q text a b first second = rests P text a first
 rests_by_slot B P Q text a b first second = rests Q text b second

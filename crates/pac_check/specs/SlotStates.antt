@@ -55,6 +55,11 @@ info_of slot Empty = None
 info_of slot Closed = None
 info_of slot (Open head) = Some (record { slot = slot; txns = head.txns; place = head.place })
 
+-- how many transactions are in what is known of an open slot; 0 where none is open
+abbrev pub saved_txns : Option SlotInfo → ℕ
+saved_txns None = 0
+saved_txns (Some info) = info.txns
+
 -- the one with more transactions, and of two with as many the first
 abbrev pub with_more : Option SlotInfo → Option SlotInfo → Option SlotInfo
 with_more None b = b

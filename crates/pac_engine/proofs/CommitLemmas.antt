@@ -2,7 +2,7 @@
 use Rattle.std.proofs.Common.{◌≡◌, ◌⊎◌, inl, ◌∙◌, ℕ, ◌+◌, ◌<◌, List, [], ◌∷◌, ◌++◌, length, Option, Some, None, refl, sym, ap, subst, arith}
 use Rattle.std.proofs.lemmas.List.{append-nil}
 use Rattle.pac_ops.specs.declared.transaction.Txn.{Txn}
-use Rattle.pac_outside.specs.Disk.{BothTell, DiskState, History, IsImage, Leaves, LeavesOnly}
+use Rattle.pac_outside.specs.Disk.{BothTell, DiskState, DiskHistory, IsImage, Leaves, LeavesOnly}
 use Rattle.pac_outside.specs.GateByte.{OneImage}
 use Rattle.pac_outside.proofs.Images.{one_image}
 use Rattle.pac_types.specs.Typing.{CatalogueState}
@@ -18,20 +18,20 @@ one_leaves : (P Q : List ℕ → Type 0) → ((image : List ℕ) → P image →
 one_leaves P Q f state one image is = subst Q (sym (one_image state.seen image (subst (λ (s : DiskState). IsImage s image) one.one is))) (f state.seen one.has)
 
 -- a device that isn't called leaves what it left
-pub rests : (P Q : List ℕ → Type 0) → ((image : List ℕ) → P image → Q image) → (h : History) → OneImage P h.now → LeavesOnly Q h h
+pub rests : (P Q : List ℕ → Type 0) → ((image : List ℕ) → P image → Q image) → (h : DiskHistory) → OneImage P h.now → LeavesOnly Q h h
 rests P Q f h one =
     let here : Leaves Q h.now = one_leaves P Q f h.now one in
     record { since = []; grown = sym (append-nil h.past); first = here; each = tt; last = here }
 
-pub nothing_added : (text : List ℕ) (catalogue : CatalogueState) (batches : List (List Txn)) (txns : List Txn) (told : Option History) → BothTell (MayAdd text catalogue batches txns) told told
+pub nothing_added : (text : List ℕ) (catalogue : CatalogueState) (batches : List (List Txn)) (txns : List Txn) (told : Option DiskHistory) → BothTell (MayAdd text catalogue batches txns) told told
 nothing_added text catalogue batches txns None = tt
 nothing_added text catalogue batches txns (Some h) = λ one. rests (HoldsLog text catalogue batches) (λ image. HoldsLog text catalogue batches image ⊎ HoldsLog text catalogue (with_batch batches txns) image) (λ image holds. inl holds) h one
 
-none_added : (text : List ℕ) (catalogue : CatalogueState) (batches : List (List Txn)) (told : Option History) → BothTell (HasAdded text catalogue batches []) told told
+none_added : (text : List ℕ) (catalogue : CatalogueState) (batches : List (List Txn)) (told : Option DiskHistory) → BothTell (HasAdded text catalogue batches []) told told
 none_added text catalogue batches None = tt
 none_added text catalogue batches (Some h) = λ one. one
 
-pub none_has_added : (text : List ℕ) (catalogue : CatalogueState) (batches : List (List Txn)) (txns : List Txn) → txns ≡ [] → (told : Option History) → BothTell (HasAdded text catalogue batches txns) told told
+pub none_has_added : (text : List ℕ) (catalogue : CatalogueState) (batches : List (List Txn)) (txns : List Txn) → txns ≡ [] → (told : Option DiskHistory) → BothTell (HasAdded text catalogue batches txns) told told
 none_has_added text catalogue batches txns none told = subst (λ (l : List Txn). BothTell (HasAdded text catalogue batches l) told told) (sym none) (none_added text catalogue batches told)
 
 pub none_behind : (text : List ℕ) (batches : List (List Txn)) (txns : List Txn) → txns ≡ [] → (gate : NextGate) → IsBehind text batches gate → IsBehind text (with_batch batches txns) gate
@@ -49,12 +49,12 @@ some_gate [] old now new some same is = absurd (omega (arith, some))
 some_gate (txn ∷ txns) old now new some same is = is ∙ ap (λ (g : NextGate). gate_past (txn ∷ txns) g) same
 
 module _ (text : List ℕ) (batches : List (List Txn)) (txns : List Txn) (some : 0 < length txns) (old now : NextGate) (same : now ≡ old) where
-  pub may_add : (a b : Option History) → BothTell (KeepsOrAdds text now.catalogue batches txns) a b → BothTell (MayAdd text old.catalogue batches txns) a b
+  pub may_add : (a b : Option DiskHistory) → BothTell (KeepsOrAdds text now.catalogue batches txns) a b → BothTell (MayAdd text old.catalogue batches txns) a b
   may_add a b told =
       subst (λ (g : NextGate). BothTell (MayAdd text g.catalogue batches txns) a b) same
       (subst (λ (bs : List (List Txn)). BothTell (λ x y. OneImage (HoldsLog text now.catalogue batches) x.now → LeavesOnly (λ image. HoldsLog text now.catalogue batches image ⊎ HoldsLog text now.catalogue bs image) x y) a b) (sym (with_some batches txns some)) told)
 
-  pub has_added : (a b : Option History) → BothTell (AddsBatch text now.catalogue batches txns) a b → BothTell (HasAdded text old.catalogue batches txns) a b
+  pub has_added : (a b : Option DiskHistory) → BothTell (AddsBatch text now.catalogue batches txns) a b → BothTell (HasAdded text old.catalogue batches txns) a b
   has_added a b told =
       subst (λ (g : NextGate). BothTell (HasAdded text g.catalogue batches txns) a b) same
       (subst (λ (bs : List (List Txn)). BothTell (λ x y. OneImage (HoldsLog text now.catalogue batches) x.now → OneImage (HoldsLog text now.catalogue bs) y.now) a b) (sym (with_some batches txns some)) told)

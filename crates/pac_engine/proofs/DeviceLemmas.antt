@@ -1,6 +1,6 @@
 -- Calls of one of a store's three devices, while the two others stand still.
 use Rattle.std.proofs.Common.{◌≡◌, ℕ, List, [], ◌∷◌, ◌++◌, Option, Some, None, subst}
-use Rattle.pac_outside.specs.Disk.{DiskState, History, IsImage, LeavesOnly, BothTell}
+use Rattle.pac_outside.specs.Disk.{DiskState, DiskHistory, IsImage, LeavesOnly, BothTell}
 use Rattle.pac_outside.specs.Devices.{AllLeave, AreImages, RunLeaves}
 use Rattle.pac_outside.specs.GateByte.{OneImage}
 use Rattle.pac_outside.proofs.Histories.{weaken}
@@ -16,7 +16,7 @@ three i x y = record { log = i; slot_a = x; slot_b = y }
 pub image-of : (P : List ℕ → Type 0) (state : DiskState) → OneImage P state → (image : List ℕ) → IsImage state image → image ≡ state.seen
 image-of P state one image is = one_image state.seen image (subst (λ (s : DiskState). IsImage s image) one.one is)
 
-pub of-three : (P : Images → Type 0) (l a b : History) → ((i x y : List ℕ) → IsImage l.now i → IsImage a.now x → IsImage b.now y → P (three i x y)) → AllLeave (OfThree P) (l ∷ a ∷ b ∷ [])
+pub of-three : (P : Images → Type 0) (l a b : DiskHistory) → ((i x y : List ℕ) → IsImage l.now i → IsImage a.now x → IsImage b.now y → P (three i x y)) → AllLeave (OfThree P) (l ∷ a ∷ b ∷ [])
 of-three P l a b has [] are = absurd are
 of-three P l a b has (i ∷ []) are = absurd are.1
 of-three P l a b has (i ∷ x ∷ []) are = absurd are.1.1
@@ -31,7 +31,7 @@ weaken-three P Q weaker (i ∷ x ∷ y ∷ []) has = weaker (three i x y) has
 weaken-three P Q weaker (i ∷ x ∷ y ∷ z ∷ more) has = absurd has
 
 -- the log is called
-pub log-runs : (P : Images → Type 0) (l n a b : History) → LeavesOnly (λ i. (x y : List ℕ) → IsImage a.now x → IsImage b.now y → P (three i x y)) l n → RunLeaves (OfThree P) (l ∷ a ∷ b ∷ []) (n ∷ a ∷ b ∷ [])
+pub log-runs : (P : Images → Type 0) (l n a b : DiskHistory) → LeavesOnly (λ i. (x y : List ℕ) → IsImage a.now x → IsImage b.now y → P (three i x y)) l n → RunLeaves (OfThree P) (l ∷ a ∷ b ∷ []) (n ∷ a ∷ b ∷ [])
 log-runs P l n a b run = one_runs (OfThree P) [] (a ∷ b ∷ []) l n
     (weaken (λ i. (x y : List ℕ) → IsImage a.now x → IsImage b.now y → P (three i x y)) (λ i. (before behind : List (List ℕ)) → AreImages [] before → AreImages (a ∷ b ∷ []) behind → OfThree P (before ++ (i ∷ behind))) l n go run)
   where
@@ -43,7 +43,7 @@ log-runs P l n a b run = one_runs (OfThree P) [] (a ∷ b ∷ []) l n
     go i has [] (x ∷ y ∷ z ∷ more) fronts backs = absurd backs.1.1
 
 -- slot a is called
-pub a-runs : (P : Images → Type 0) (l a n b : History) → LeavesOnly (λ x. (i y : List ℕ) → IsImage l.now i → IsImage b.now y → P (three i x y)) a n → RunLeaves (OfThree P) (l ∷ a ∷ b ∷ []) (l ∷ n ∷ b ∷ [])
+pub a-runs : (P : Images → Type 0) (l a n b : DiskHistory) → LeavesOnly (λ x. (i y : List ℕ) → IsImage l.now i → IsImage b.now y → P (three i x y)) a n → RunLeaves (OfThree P) (l ∷ a ∷ b ∷ []) (l ∷ n ∷ b ∷ [])
 a-runs P l a n b run = one_runs (OfThree P) (l ∷ []) (b ∷ []) a n
     (weaken (λ x. (i y : List ℕ) → IsImage l.now i → IsImage b.now y → P (three i x y)) (λ x. (before behind : List (List ℕ)) → AreImages (l ∷ []) before → AreImages (b ∷ []) behind → OfThree P (before ++ (x ∷ behind))) a n go run)
   where
@@ -55,7 +55,7 @@ a-runs P l a n b run = one_runs (OfThree P) (l ∷ []) (b ∷ []) a n
     go x has (i ∷ []) (y ∷ z ∷ more) fronts backs = absurd backs.1
 
 -- slot b is called
-pub b-runs : (P : Images → Type 0) (l a b n : History) → LeavesOnly (λ y. (i x : List ℕ) → IsImage l.now i → IsImage a.now x → P (three i x y)) b n → RunLeaves (OfThree P) (l ∷ a ∷ b ∷ []) (l ∷ a ∷ n ∷ [])
+pub b-runs : (P : Images → Type 0) (l a b n : DiskHistory) → LeavesOnly (λ y. (i x : List ℕ) → IsImage l.now i → IsImage a.now x → P (three i x y)) b n → RunLeaves (OfThree P) (l ∷ a ∷ b ∷ []) (l ∷ a ∷ n ∷ [])
 b-runs P l a b n run = one_runs (OfThree P) (l ∷ a ∷ []) [] b n
     (weaken (λ y. (i x : List ℕ) → IsImage l.now i → IsImage a.now x → P (three i x y)) (λ y. (before behind : List (List ℕ)) → AreImages (l ∷ a ∷ []) before → AreImages [] behind → OfThree P (before ++ (y ∷ behind))) b n go run)
   where
@@ -68,31 +68,31 @@ b-runs P l a b n run = one_runs (OfThree P) (l ∷ a ∷ []) [] b n
 
 -- ---- where the devices tell
 
-module _ (P : List History → Type 0) (R : List History → List History → Type 0) where
+module _ (P : List DiskHistory → Type 0) (R : List DiskHistory → List DiskHistory → Type 0) where
   -- nothing is called
-  pub rest-told : ((devices : List History) → P devices → R devices devices) → (told : Option (List History)) → TellsIf P R told told
+  pub rest-told : ((devices : List DiskHistory) → P devices → R devices devices) → (told : Option (List DiskHistory)) → TellsIf P R told told
   rest-told step None = tt
   rest-told step (Some devices) = λ is. step devices is
 
-  module _ (S : History → History → Type 0) where
-    pub log-told : ((l n a b : History) → P (l ∷ a ∷ b ∷ []) → S l n → R (l ∷ a ∷ b ∷ []) (n ∷ a ∷ b ∷ [])) → (l n a b : Option History)
-        → ((u v w : History) → P (u ∷ v ∷ w ∷ []) → BothTell S l n) → TellsWhere P R (l ∷ a ∷ b ∷ []) (n ∷ a ∷ b ∷ [])
+  module _ (S : DiskHistory → DiskHistory → Type 0) where
+    pub log-told : ((l n a b : DiskHistory) → P (l ∷ a ∷ b ∷ []) → S l n → R (l ∷ a ∷ b ∷ []) (n ∷ a ∷ b ∷ [])) → (l n a b : Option DiskHistory)
+        → ((u v w : DiskHistory) → P (u ∷ v ∷ w ∷ []) → BothTell S l n) → TellsWhere P R (l ∷ a ∷ b ∷ []) (n ∷ a ∷ b ∷ [])
     log-told step None n a b both = tt
     log-told step (Some l) n None b both = tt
     log-told step (Some l) n (Some a) None both = tt
     log-told step (Some l) None (Some a) (Some b) both = λ is. both l a b is
     log-told step (Some l) (Some n) (Some a) (Some b) both = λ is. step l n a b is (both l a b is)
 
-    pub a-told : ((l a n b : History) → P (l ∷ a ∷ b ∷ []) → S a n → R (l ∷ a ∷ b ∷ []) (l ∷ n ∷ b ∷ [])) → (l a n b : Option History)
-        → ((u v w : History) → P (u ∷ v ∷ w ∷ []) → BothTell S a n) → TellsWhere P R (l ∷ a ∷ b ∷ []) (l ∷ n ∷ b ∷ [])
+    pub a-told : ((l a n b : DiskHistory) → P (l ∷ a ∷ b ∷ []) → S a n → R (l ∷ a ∷ b ∷ []) (l ∷ n ∷ b ∷ [])) → (l a n b : Option DiskHistory)
+        → ((u v w : DiskHistory) → P (u ∷ v ∷ w ∷ []) → BothTell S a n) → TellsWhere P R (l ∷ a ∷ b ∷ []) (l ∷ n ∷ b ∷ [])
     a-told step None a n b both = tt
     a-told step (Some l) None n b both = tt
     a-told step (Some l) (Some a) n None both = tt
     a-told step (Some l) (Some a) None (Some b) both = λ is. both l a b is
     a-told step (Some l) (Some a) (Some n) (Some b) both = λ is. step l a n b is (both l a b is)
 
-    pub b-told : ((l a b n : History) → P (l ∷ a ∷ b ∷ []) → S b n → R (l ∷ a ∷ b ∷ []) (l ∷ a ∷ n ∷ [])) → (l a b n : Option History)
-        → ((u v w : History) → P (u ∷ v ∷ w ∷ []) → BothTell S b n) → TellsWhere P R (l ∷ a ∷ b ∷ []) (l ∷ a ∷ n ∷ [])
+    pub b-told : ((l a b n : DiskHistory) → P (l ∷ a ∷ b ∷ []) → S b n → R (l ∷ a ∷ b ∷ []) (l ∷ a ∷ n ∷ [])) → (l a b n : Option DiskHistory)
+        → ((u v w : DiskHistory) → P (u ∷ v ∷ w ∷ []) → BothTell S b n) → TellsWhere P R (l ∷ a ∷ b ∷ []) (l ∷ a ∷ n ∷ [])
     b-told step None a b n both = tt
     b-told step (Some l) None b n both = tt
     b-told step (Some l) (Some a) None n both = tt
@@ -100,7 +100,7 @@ module _ (P : List History → Type 0) (R : List History → List History → Ty
     b-told step (Some l) (Some a) (Some b) (Some n) both = λ is. step l a b n is (both l a b is)
 
 -- one part of a step behind another
-pub told-then : (P Q : List History → Type 0) (R S T : List History → List History → Type 0) → ((u v w : List History) → P u → R u v → Q v → S v w → T u w) → (x y z : Option (List History))
+pub told-then : (P Q : List DiskHistory → Type 0) (R S T : List DiskHistory → List DiskHistory → Type 0) → ((u v w : List DiskHistory) → P u → R u v → Q v → S v w → T u w) → (x y z : Option (List DiskHistory))
     → TellsIf P R x y → TellsIf P (λ was is. Q is) x y → TellsIf Q S y z → TellsIf P T x z
 told-then P Q R S T step None y z first stands second = tt
 told-then P Q R S T step (Some x) None None first stands second = first
@@ -109,7 +109,7 @@ told-then P Q R S T step (Some x) (Some y) None first stands second = λ is. sec
 told-then P Q R S T step (Some x) (Some y) (Some z) first stands second = λ is. step x y z is (first is) (stands is) (second (stands is))
 
 -- what is told leads to something else
-pub told-weaken : (P Q : List History → Type 0) (R S : List History → List History → Type 0) → ((u : List History) → Q u → P u) → ((u v : List History) → Q u → R u v → S u v) → (x y : Option (List History)) → TellsIf P R x y → TellsIf Q S x y
+pub told-weaken : (P Q : List DiskHistory → Type 0) (R S : List DiskHistory → List DiskHistory → Type 0) → ((u : List DiskHistory) → Q u → P u) → ((u v : List DiskHistory) → Q u → R u v → S u v) → (x y : Option (List DiskHistory)) → TellsIf P R x y → TellsIf Q S x y
 told-weaken P Q R S premise step None y first = tt
 told-weaken P Q R S premise step (Some x) None first = λ is. first (premise x is)
 told-weaken P Q R S premise step (Some x) (Some y) first = λ is. step x y is (first (premise x is))

@@ -4,7 +4,7 @@ use Rattle.std.specs.List.{AllByRecursion}
 use Rattle.pac_ops.specs.declared.transaction.Txn.{Txn}
 use Rattle.pac_outside.specs.Devices.{AllLeave, AreImages, RunLeaves, all_told}
 use Rattle.pac_outside.specs.Devices.RunLeaves.{rests, runs}
-use Rattle.pac_outside.specs.Disk.{DiskState, History, IsImage}
+use Rattle.pac_outside.specs.Disk.{DiskState, DiskHistory, IsImage}
 use Rattle.pac_outside.specs.GateByte.{OneImage}
 use Rattle.pac_types.specs.Typing.{CatalogueState}
 use Rattle.pac_store.specs.Stands.{IsHistory}
@@ -146,7 +146,7 @@ module _ (rules : Rules) (place : ℕ) (start : SessionState) (whole : GroupCut)
 -- ---- what the devices stand for
 
 -- what a crash leaves at the first moment
-images-split : (P : List (List ℕ) → Type 0) (front back : List History) (device : History)
+images-split : (P : List (List ℕ) → Type 0) (front back : List DiskHistory) (device : DiskHistory)
     → ((image : List ℕ) → IsImage device.now image → (before behind : List (List ℕ)) → AreImages front before → AreImages back behind → P (before ++ (image ∷ behind)))
     → AllLeave P (front ++ (device ∷ back))
 images-split P [] back device has [] are = absurd are
@@ -154,7 +154,7 @@ images-split P [] back device has (image ∷ images) are = has image are.0 [] im
 images-split P (first ∷ front) back device has [] are = absurd are
 images-split P (first ∷ front) back device has (image ∷ images) are = images-split (λ rest. P (image ∷ rest)) front back device (λ own is before behind fronts backs. has own is (image ∷ before) behind (are.0, fronts) backs) images are.1
 
-run-start : (P : List (List ℕ) → Type 0) (x y : List History) → RunLeaves P x y → AllLeave P x
+run-start : (P : List (List ℕ) → Type 0) (x y : List DiskHistory) → RunLeaves P x y → AllLeave P x
 run-start P x y (rests devices here) = here
 run-start P x y (runs front back end old next run more) = images-split P front back old run.first
 
@@ -162,7 +162,7 @@ own-image : (P : List ℕ → Type 0) (state : DiskState) → OneImage P state �
 own-image P state one = subst (λ (s : DiskState). IsImage s state.seen) (sym one.one) (record { no_shorter = omega arith; no_longer = omega arith; stays = λ place below is. refl })
 
 -- a history that is kept executes
-kept-executes : (text : List ℕ) (history longer : List Txn) (b c : EngineParts) (v w : List History) → StandsOn text history b v → KeepsHistory text longer b c v w → IsHistory b.session.catalogue longer
+kept-executes : (text : List ℕ) (history longer : List Txn) (b c : EngineParts) (v w : List DiskHistory) → StandsOn text history b v → KeepsHistory text longer b c v w → IsHistory b.session.catalogue longer
 kept-executes text history longer b c [] w is keeps = absurd is
 kept-executes text history longer b c (l ∷ []) w is keeps = absurd is
 kept-executes text history longer b c (l ∷ x ∷ []) w is keeps = absurd is
@@ -172,7 +172,7 @@ kept-executes text history longer b c (l ∷ x ∷ y ∷ []) w is keeps =
 kept-executes text history longer b c (l ∷ x ∷ y ∷ d ∷ devices) w is keeps = absurd is
 
 -- the first step keeps the longer history too
-pub history-then : (text : List ℕ) (history more last : List Txn) (a b c : EngineParts) (x y z : List (Option History)) → rules_of b.session ≡ rules_of a.session → OnlyGrows a b
+pub history-then : (text : List ℕ) (history more last : List Txn) (a b c : EngineParts) (x y z : List (Option DiskHistory)) → rules_of b.session ≡ rules_of a.session → OnlyGrows a b
     → TellsWhere (StandsOn text history a) (KeepsHistory text (history ++ more) a b) x y → TellsWhere (StandsOn text history a) (λ was is. StandsOn text (history ++ more) b is) x y
     → TellsWhere (StandsOn text (history ++ more) b) (KeepsHistory text ((history ++ more) ++ last) b c) y z → TellsWhere (StandsOn text history a) (KeepsHistory text (history ++ (more ++ last)) a c) x z
 history-then text history more last a b c x y z same grown first stands second =
@@ -184,10 +184,10 @@ history-then text history more last a b c x y z same grown first stands second =
     catalogue_same : b.session.catalogue ≡ a.session.catalogue
     catalogue_same = ap (λ (r : Rules). r.catalogue) same
 
-    executes : (v w : List History) → StandsOn text (history ++ more) b v → KeepsHistory text ((history ++ more) ++ last) b c v w → IsHistory a.session.catalogue ((history ++ more) ++ last)
+    executes : (v w : List DiskHistory) → StandsOn text (history ++ more) b v → KeepsHistory text ((history ++ more) ++ last) b c v w → IsHistory a.session.catalogue ((history ++ more) ++ last)
     executes v w q s = subst (λ (cat : CatalogueState). IsHistory cat ((history ++ more) ++ last)) catalogue_same (kept-executes text (history ++ more) ((history ++ more) ++ last) b c v w q s)
 
-pub stands-then : (text : List ℕ) (history more last : List Txn) (a b c : EngineParts) (x y z : List (Option History))
+pub stands-then : (text : List ℕ) (history more last : List Txn) (a b c : EngineParts) (x y z : List (Option DiskHistory))
     → TellsWhere (StandsOn text history a) (λ was is. StandsOn text (history ++ more) b is) x y → TellsWhere (StandsOn text (history ++ more) b) (λ was is. StandsOn text ((history ++ more) ++ last) c is) y z
     → TellsWhere (StandsOn text history a) (λ was is. StandsOn text (history ++ (more ++ last)) c is) x z
 stands-then text history more last a b c x y z first second =

@@ -20,13 +20,13 @@ use Rattle.pac_check.specs.declared.slots.Slots.{Slots}
 use Rattle.pac_check.specs.declared.state.SlotState.{SlotState}
 use Rattle.pac_check.specs.declared.state.SlotState.TheVariants.{Open as OpenSlot}
 use Rattle.pac_check.specs.Checkpoints.{head_with}
-use Rattle.pac_check.specs.SlotStates.{by_slot, info_of, newest_of, spare_of, with_more}
+use Rattle.pac_check.specs.SlotStates.{by_slot, info_of, newest_of, saved_txns, spare_of, with_more}
 use Rattle.pac_session.specs.Session.{SessionState, answer, after_asked, commits_asked, committed_by, reply_by, txn_of, txn_outcome}
 use Rattle.pac_session.specs.Open.{Open, rules_of, state_now, with_asked, with_run}
 use Rattle.pac_engine.specs.declared.parts.EngineParts.{EngineParts}
 use Rattle.pac_engine.specs.Closing.{IsKept}
 use Rattle.pac_engine.specs.Moves.{AreHeld, IsHeldBy, IsLive, IsUnmoved, IsWorking, committed_parts, saved_parts, with_request}
-use Rattle.pac_engine.specs.Standing.{OnlyGrows, durable_of, saved_of, newest_txns}
+use Rattle.pac_engine.specs.Standing.{OnlyGrows, durable_of, saved_of}
 use Rattle.pac_engine.proofs.SavingLemmas.{saves-all}
 use Rattle.pac_engine.proofs.BodyLemmas.{txns-after, catalogue-after}
 
@@ -181,30 +181,30 @@ live-closed e is = record { working = working-closed e is; unfull = is.some }
 
 -- ---- a checkpoint is saved
 
-not-ahead : (x y : Option SlotInfo) (n : ℕ) → newest_txns x ≤ n → newest_txns y ≤ n → newest_txns (with_more x y) ≤ n
+not-ahead : (x y : Option SlotInfo) (n : ℕ) → saved_txns x ≤ n → saved_txns y ≤ n → saved_txns (with_more x y) ≤ n
 not-ahead None y n first second = second
 not-ahead (Some x) None n first second = first
 not-ahead (Some x) (Some y) n first second = go (nat_lt x.txns y.txns)
   where
-    go : (t : Bool) → newest_txns (if t then Some y else Some x) ≤ n
+    go : (t : Bool) → saved_txns (if t then Some y else Some x) ≤ n
     go true = second
     go false = first
 
-at-most-a : (x y : Option SlotInfo) → newest_txns x ≤ newest_txns (with_more x y)
+at-most-a : (x y : Option SlotInfo) → saved_txns x ≤ saved_txns (with_more x y)
 at-most-a None y = omega arith
 at-most-a (Some x) None = omega arith
 at-most-a (Some x) (Some y) = go (nat_lt x.txns y.txns) refl
   where
-    go : (t : Bool) → nat_lt x.txns y.txns ≡ t → x.txns ≤ newest_txns (if t then Some y else Some x)
+    go : (t : Bool) → nat_lt x.txns y.txns ≡ t → x.txns ≤ saved_txns (if t then Some y else Some x)
     go true e = let less : x.txns < y.txns = grind (arith, e) in omega arith
     go false e = omega arith
 
-at-most-b : (x y : Option SlotInfo) → newest_txns y ≤ newest_txns (with_more x y)
+at-most-b : (x y : Option SlotInfo) → saved_txns y ≤ saved_txns (with_more x y)
 at-most-b None y = omega arith
 at-most-b (Some x) None = omega arith
 at-most-b (Some x) (Some y) = go (nat_lt x.txns y.txns) refl
   where
-    go : (t : Bool) → nat_lt x.txns y.txns ≡ t → y.txns ≤ newest_txns (if t then Some y else Some x)
+    go : (t : Bool) → nat_lt x.txns y.txns ≡ t → y.txns ≤ saved_txns (if t then Some y else Some x)
     go true e = omega arith
     go false e = let more : y.txns ≤ x.txns = ltb-false _ _ e in omega arith
 
@@ -215,13 +215,13 @@ saved-within e le = go (spare_of e.slots) refl
     new_head : Head
     new_head = head_with e.log.gate.txns e.log.gate.place
 
-    first : newest_txns (info_of A e.slots.a) ≤ e.log.gate.txns
+    first : saved_txns (info_of A e.slots.a) ≤ e.log.gate.txns
     first = omega (arith, le, at-most-a (info_of A e.slots.a) (info_of B e.slots.b))
 
-    second : newest_txns (info_of B e.slots.b) ≤ e.log.gate.txns
+    second : saved_txns (info_of B e.slots.b) ≤ e.log.gate.txns
     second = omega (arith, le, at-most-b (info_of A e.slots.a) (info_of B e.slots.b))
 
-    go : (spare : SlotName) → spare_of e.slots ≡ spare → newest_txns (newest_of (by_slot (spare_of e.slots) (record (e.slots) { a = OpenSlot (head_with e.log.gate.txns e.log.gate.place) }) (record (e.slots) { b = OpenSlot (head_with e.log.gate.txns e.log.gate.place) }))) ≤ e.log.gate.txns
+    go : (spare : SlotName) → spare_of e.slots ≡ spare → saved_txns (newest_of (by_slot (spare_of e.slots) (record (e.slots) { a = OpenSlot (head_with e.log.gate.txns e.log.gate.place) }) (record (e.slots) { b = OpenSlot (head_with e.log.gate.txns e.log.gate.place) }))) ≤ e.log.gate.txns
     go A is = rw is (not-ahead (info_of A (OpenSlot (head_with e.log.gate.txns e.log.gate.place))) (info_of B e.slots.b) e.log.gate.txns (omega arith) second)
     go B is = rw is (not-ahead (info_of A e.slots.a) (info_of B (OpenSlot (head_with e.log.gate.txns e.log.gate.place))) e.log.gate.txns first (omega arith))
 
@@ -255,5 +255,5 @@ grown-saved e new is becomes = record { durable = omega (arith, ap durable_of be
 pub grown-unmoved : (e new : EngineParts) → IsUnmoved e new → OnlyGrows e new
 grown-unmoved e new is = record {
   durable = omega (arith, ap (λ (gate : NextGate). gate.txns) is.gate);
-  saved = omega (arith, ap (λ (x : SlotState). newest_txns (with_more (info_of A x) (info_of B new.slots.b))) is.slot_a, ap (λ (y : SlotState). newest_txns (with_more (info_of A e.slots.a) (info_of B y))) is.slot_b);
+  saved = omega (arith, ap (λ (x : SlotState). saved_txns (with_more (info_of A x) (info_of B new.slots.b))) is.slot_a, ap (λ (y : SlotState). saved_txns (with_more (info_of A e.slots.a) (info_of B y))) is.slot_b);
 }

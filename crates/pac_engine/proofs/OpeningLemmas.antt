@@ -3,7 +3,7 @@ use Rattle.std.proofs.Common.{◌≡◌, ◌∙◌, ℕ, List, ◌++◌, take, s
 use Rattle.std.proofs.lemmas.List.{append-nil, take_at}
 use Rattle.std.proofs.lemmas.List.Elements.{All-take}
 use Rattle.pac_ops.specs.declared.transaction.Txn.{Txn}
-use Rattle.pac_outside.specs.Disk.{History}
+use Rattle.pac_outside.specs.Disk.{DiskHistory}
 use Rattle.pac_types.specs.Fits.{TxnFits}
 use Rattle.pac_log.specs.Logs.{all_txns}
 use Rattle.pac_log.specs.Places.{IsBehind}
@@ -12,7 +12,7 @@ use Rattle.pac_store.specs.Stands.{StandsFor}
 use Rattle.pac_engine.specs.declared.parts.EngineParts.{EngineParts}
 use Rattle.pac_engine.specs.Standing.{EngineStands, IsOpenedOn, seen_of}
 
-pub opened-stands : (text : List ℕ) (history : List Txn) (least : ℕ) (engine : EngineParts) (l a b : History) → StandsFor text engine.session.catalogue history least (seen_of l a b) → IsOpenedOn history engine l a b → EngineStands text (take engine.log.gate.txns history) engine l a b
+pub opened-stands : (text : List ℕ) (history : List Txn) (least : ℕ) (engine : EngineParts) (l a b : DiskHistory) → StandsFor text engine.session.catalogue history least (seen_of l a b) → IsOpenedOn history engine l a b → EngineStands text (take engine.log.gate.txns history) engine l a b
 opened-stands text history least engine l a b stands opened =
     let cat = engine.session.catalogue in
     let one = one_log opened.text text cat cat opened.batches stands.batches l.now.seen opened.log stands.log in

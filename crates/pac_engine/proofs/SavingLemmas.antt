@@ -4,7 +4,7 @@ use Rattle.std.specs.Prelude.{nat_lt, if◌then◌else◌}
 use Rattle.std.proofs.lemmas.Bool.{ltb-false}
 use Rattle.std.proofs.lemmas.List.{append-nil, take_all}
 use Rattle.pac_ops.specs.declared.transaction.Txn.{Txn}
-use Rattle.pac_outside.specs.Disk.{History, IsImage, LeavesOnly}
+use Rattle.pac_outside.specs.Disk.{DiskHistory, IsImage, LeavesOnly}
 use Rattle.pac_outside.specs.Devices.{RunLeaves}
 use Rattle.pac_outside.specs.GateByte.{OneImage}
 use Rattle.pac_outside.proofs.Histories.{weaken}
@@ -22,14 +22,14 @@ use Rattle.pac_check.specs.declared.state.SlotState.TheVariants.{Empty, Closed, 
 use Rattle.pac_check.specs.Checkpoints.{IsCheckpoint, checkpoint_bytes, head_with}
 use Rattle.pac_check.specs.Replacing.{HasByte, IsOldShutOrNew}
 use Rattle.pac_check.specs.Saved.{checkpoint_of}
-use Rattle.pac_check.specs.SlotStates.{HoldsRows, IsSlot, by_slot, info_of, newest_of, spare_beside, spare_of, with_more}
+use Rattle.pac_check.specs.SlotStates.{HoldsRows, IsSlot, by_slot, info_of, newest_of, saved_txns, spare_beside, spare_of, with_more}
 use Rattle.pac_check.proofs.SlotLemmas.{begins, read_held}
 use Rattle.pac_store.specs.Images.{Images}
 use Rattle.pac_store.specs.Stands.{EndsWith, HoldsSaved, IsShutOrFront}
 use Rattle.pac_store.proofs.StandsLemmas.{newest-one}
 use Rattle.pac_engine.specs.declared.parts.EngineParts.{EngineParts}
 use Rattle.pac_engine.specs.Moves.{saved_parts}
-use Rattle.pac_engine.specs.Standing.{EngineStands, MayLeave, StandsWith, durable_of, saved_of, newest_txns}
+use Rattle.pac_engine.specs.Standing.{EngineStands, MayLeave, StandsWith, durable_of, saved_of}
 use Rattle.pac_engine.proofs.DeviceLemmas.{three, image-of, a-runs, b-runs}
 use Rattle.pac_engine.proofs.StandingLemmas.{durable-is, open-saved, some-open, stands-at, tables-few}
 
@@ -58,7 +58,7 @@ info-of-b slots spare info newest = go info.slot refl (newest-one (info_of A slo
     go B e which = let no : A ≡ B = sym (ap (λ (s : SlotName). by_slot s B A) e) ∙ beside in absurd cc
 
 -- once a checkpoint is saved, the newest slot has at least as many transactions
-at-least : (x y : Option SlotInfo) (n : ℕ) → (info : SlotInfo) × (info.txns ≡ n) × ((x ≡ Some info) ⊎ (y ≡ Some info)) → n ≤ newest_txns (with_more x y)
+at-least : (x y : Option SlotInfo) (n : ℕ) → (info : SlotInfo) × (info.txns ≡ n) × ((x ≡ Some info) ⊎ (y ≡ Some info)) → n ≤ saved_txns (with_more x y)
 at-least None None n (info, is, inl e) = absurd cc
 at-least None None n (info, is, inr e) = absurd cc
 at-least None (Some y) n (info, is, inl e) = absurd cc
@@ -67,7 +67,7 @@ at-least (Some x) None n (info, is, inl e) = let same : x ≡ info = cc in omega
 at-least (Some x) None n (info, is, inr e) = absurd cc
 at-least (Some x) (Some y) n (info, is, which) = go (nat_lt x.txns y.txns) refl which
   where
-    go : (t : Bool) → nat_lt x.txns y.txns ≡ t → (Some x ≡ Some info) ⊎ (Some y ≡ Some info) → n ≤ newest_txns (if t then Some y else Some x)
+    go : (t : Bool) → nat_lt x.txns y.txns ≡ t → (Some x ≡ Some info) ⊎ (Some y ≡ Some info) → n ≤ saved_txns (if t then Some y else Some x)
     go true e (inl h) = let same : x ≡ info = cc in let less : x.txns < y.txns = grind (arith, e) in omega (arith, is, ap (λ (i : SlotInfo). i.txns) same)
     go true e (inr h) = let same : y ≡ info = cc in omega (arith, is, ap (λ (i : SlotInfo). i.txns) same)
     go false e (inl h) = let same : x ≡ info = cc in omega (arith, is, ap (λ (i : SlotInfo). i.txns) same)
@@ -76,7 +76,7 @@ at-least (Some x) (Some y) n (info, is, which) = go (nat_lt x.txns y.txns) refl 
 pub saves-all : (e : EngineParts) → e.log.gate.txns ≤ saved_of (saved_parts e)
 saves-all e = go (spare_of e.slots) refl
   where
-    go : (spare : SlotName) → spare_of e.slots ≡ spare → e.log.gate.txns ≤ newest_txns (newest_of (by_slot (spare_of e.slots) (record (e.slots) { a = Open (head_with e.log.gate.txns e.log.gate.place) }) (record (e.slots) { b = Open (head_with e.log.gate.txns e.log.gate.place) })))
+    go : (spare : SlotName) → spare_of e.slots ≡ spare → e.log.gate.txns ≤ saved_txns (newest_of (by_slot (spare_of e.slots) (record (e.slots) { a = Open (head_with e.log.gate.txns e.log.gate.place) }) (record (e.slots) { b = Open (head_with e.log.gate.txns e.log.gate.place) })))
     go A is = rw is (at-least (info_of A (Open (head_with e.log.gate.txns e.log.gate.place))) (info_of B e.slots.b) e.log.gate.txns (record { slot = A; txns = e.log.gate.txns; place = e.log.gate.place }, refl, inl refl))
     go B is = rw is (at-least (info_of A e.slots.a) (info_of B (Open (head_with e.log.gate.txns e.log.gate.place))) e.log.gate.txns (record { slot = B; txns = e.log.gate.txns; place = e.log.gate.place }, refl, inr refl))
 
@@ -96,7 +96,7 @@ has-byte text catalogue batches Empty [] (inl shut) known = let no : [] ≡ shut
 has-byte text catalogue batches Empty [] (inr front) known = let no : [] ≡ 1 ∷ (checkpoint_bytes (checkpoint_of (length catalogue.tables) front.head front.held) ++ front.rows.opens.rest) = front.rows.opens.split in absurd cc
 has-byte text catalogue batches Empty (gate ∷ bytes) is known = absurd (never-empty catalogue.tables gate bytes known)
 
-module _ (text : List ℕ) (history : List Txn) (e : EngineParts) (l a b : History) (is : EngineStands text history e l a b) (none : e.session.txns ≡ []) (fit : FitTables e.session.catalogue.tables e.session.tables) where
+module _ (text : List ℕ) (history : List Txn) (e : EngineParts) (l a b : DiskHistory) (is : EngineStands text history e l a b) (none : e.session.txns ≡ []) (fit : FitTables e.session.catalogue.tables e.session.tables) where
   abbrev bytes : List ℕ
   bytes = checkpoint_bytes (checkpoint_of (length e.session.catalogue.tables) (head_with e.log.gate.txns e.log.gate.place) e.session.tables)
 
@@ -125,7 +125,7 @@ module _ (text : List ℕ) (history : List Txn) (e : EngineParts) (l a b : Histo
     replaced : (old image : List ℕ) → IsShutOrFront text e.session.catalogue is.batches old → IsOldShutOrNew old bytes image → IsShutOrFront text e.session.catalogue is.batches image
     replaced old image was which = ⊎_elim (λ same. subst (λ (i : List ℕ). IsShutOrFront text e.session.catalogue is.batches i) (sym same) was) (λ other. ⊎_elim (λ shut. inl shut) (λ opens. new-front image (record { form = form; opens = opens })) other) which
 
-    pub save-a-run : spare_of e.slots ≡ A → (n : History) → LeavesOnly (IsOldShutOrNew a.now.seen bytes) a n → RunLeaves (MayLeave text e.session.catalogue history e) (l ∷ a ∷ b ∷ []) (l ∷ n ∷ b ∷ [])
+    pub save-a-run : spare_of e.slots ≡ A → (n : DiskHistory) → LeavesOnly (IsOldShutOrNew a.now.seen bytes) a n → RunLeaves (MayLeave text e.session.catalogue history e) (l ∷ a ∷ b ∷ []) (l ∷ n ∷ b ∷ [])
     save-a-run spare n run = a-runs Left l a n b
         (weaken (IsOldShutOrNew a.now.seen bytes) (λ x. (i y : List ℕ) → IsImage l.now i → IsImage b.now y → Left (three i x y)) a n
         (λ x which i y is_i is_y. subst (λ (v : List ℕ). Left (three i x v)) (sym (image-of _ b.now is.slot_b y is_y)) (subst (λ (t : List ℕ). Left (three t x b.now.seen)) (sym (image-of _ l.now is.log i is_i))
@@ -134,11 +134,11 @@ module _ (text : List ℕ) (history : List Txn) (e : EngineParts) (l a b : Histo
         saves : (x : List ℕ) → HoldsSaved e.session.catalogue (saved_of e) (three l.now.seen x b.now.seen)
         saves x = go (newest_of e.slots) refl
           where
-            go : (newest : Option SlotInfo) → newest_of e.slots ≡ newest → HoldsSaved e.session.catalogue (newest_txns newest) (three l.now.seen x b.now.seen)
+            go : (newest : Option SlotInfo) → newest_of e.slots ≡ newest → HoldsSaved e.session.catalogue (saved_txns newest) (three l.now.seen x b.now.seen)
             go None h = inl refl
             go (Some info) h = inr (inr (open-saved text e.session.catalogue (tables-few text history e l a b is) is.batches b.now.seen e.slots.b is.slot_b.has is.known_b B info (info-of-a e.slots spare info h)))
 
-    pub save-b-run : spare_of e.slots ≡ B → (n : History) → LeavesOnly (IsOldShutOrNew b.now.seen bytes) b n → RunLeaves (MayLeave text e.session.catalogue history e) (l ∷ a ∷ b ∷ []) (l ∷ a ∷ n ∷ [])
+    pub save-b-run : spare_of e.slots ≡ B → (n : DiskHistory) → LeavesOnly (IsOldShutOrNew b.now.seen bytes) b n → RunLeaves (MayLeave text e.session.catalogue history e) (l ∷ a ∷ b ∷ []) (l ∷ a ∷ n ∷ [])
     save-b-run spare n run = b-runs Left l a b n
         (weaken (IsOldShutOrNew b.now.seen bytes) (λ y. (i x : List ℕ) → IsImage l.now i → IsImage a.now x → Left (three i x y)) b n
         (λ y which i x is_i is_x. subst (λ (u : List ℕ). Left (three i u y)) (sym (image-of _ a.now is.slot_a x is_x)) (subst (λ (t : List ℕ). Left (three t a.now.seen y)) (sym (image-of _ l.now is.log i is_i))
@@ -147,12 +147,12 @@ module _ (text : List ℕ) (history : List Txn) (e : EngineParts) (l a b : Histo
         saves : (y : List ℕ) → HoldsSaved e.session.catalogue (saved_of e) (three l.now.seen a.now.seen y)
         saves y = go (newest_of e.slots) refl
           where
-            go : (newest : Option SlotInfo) → newest_of e.slots ≡ newest → HoldsSaved e.session.catalogue (newest_txns newest) (three l.now.seen a.now.seen y)
+            go : (newest : Option SlotInfo) → newest_of e.slots ≡ newest → HoldsSaved e.session.catalogue (saved_txns newest) (three l.now.seen a.now.seen y)
             go None h = inl refl
             go (Some info) h = inr (inl (open-saved text e.session.catalogue (tables-few text history e l a b is) is.batches a.now.seen e.slots.a is.slot_a.has is.known_a A info (info-of-b e.slots spare info h)))
 
   -- afterwards
-  pub save-a-stands : (n : History) → OneImage (HoldsRows e.session.catalogue.tables (head_with e.log.gate.txns e.log.gate.place) e.session.tables) n.now
+  pub save-a-stands : (n : DiskHistory) → OneImage (HoldsRows e.session.catalogue.tables (head_with e.log.gate.txns e.log.gate.place) e.session.tables) n.now
       → EngineStands text history (record e { slots = record (e.slots) { a = Open (head_with e.log.gate.txns e.log.gate.place) } }) l n b
   save-a-stands n new = record {
     batches = is.batches;
@@ -167,7 +167,7 @@ module _ (text : List ℕ) (history : List Txn) (e : EngineParts) (l a b : Histo
     split = is.split;
   }
 
-  pub save-b-stands : (n : History) → OneImage (HoldsRows e.session.catalogue.tables (head_with e.log.gate.txns e.log.gate.place) e.session.tables) n.now
+  pub save-b-stands : (n : DiskHistory) → OneImage (HoldsRows e.session.catalogue.tables (head_with e.log.gate.txns e.log.gate.place) e.session.tables) n.now
       → EngineStands text history (record e { slots = record (e.slots) { b = Open (head_with e.log.gate.txns e.log.gate.place) } }) l a n
   save-b-stands n new = record {
     batches = is.batches;

@@ -6,7 +6,7 @@ use Rattle.std.proofs.lemmas.List.Elements.{All-append, All-cons, All-nil}
 use Rattle.std.specs.List.{All}
 use Rattle.pac_value.specs.State.{Tables}
 use Rattle.pac_ops.specs.declared.transaction.Txn.{Txn}
-use Rattle.pac_outside.specs.Disk.{History, IsImage}
+use Rattle.pac_outside.specs.Disk.{DiskHistory, IsImage}
 use Rattle.pac_outside.specs.Devices.{AllLeave, RunLeaves}
 use Rattle.pac_outside.specs.Devices.RunLeaves.{rests}
 use Rattle.pac_outside.proofs.Histories.{weaken}
@@ -27,7 +27,7 @@ use Rattle.pac_check.specs.declared.slots.Slots.{Slots}
 use Rattle.pac_check.specs.declared.damage.SlotFault.{SlotFault}
 use Rattle.pac_check.specs.declared.state.SlotState.{SlotState}
 use Rattle.pac_check.specs.declared.state.SlotState.TheVariants.{Empty, Closed, Open}
-use Rattle.pac_check.specs.SlotStates.{info_of, newest_of, IsSlot}
+use Rattle.pac_check.specs.SlotStates.{info_of, newest_of, saved_txns, IsSlot}
 use Rattle.pac_check.specs.Saved.{checkpoint_of}
 use Rattle.pac_store.specs.Images.{Images}
 use Rattle.pac_store.specs.Stands.{EndsWith, HasSaved, HoldsSaved, IsHistory, IsShutOrFront}
@@ -38,7 +38,7 @@ use Rattle.pac_session.proofs.SessionLemmas.{after-serial, serial-then}
 use Rattle.pac_engine.specs.declared.parts.EngineParts.{EngineParts}
 use Rattle.pac_engine.specs.Committing.{HasAdded, MayAdd, gate_past, with_batch}
 use Rattle.pac_engine.specs.Moves.{committed_parts, with_request}
-use Rattle.pac_engine.specs.Standing.{EngineStands, KeepsHistory, MayLeave, StandsWith, durable_of, saved_of, newest_txns}
+use Rattle.pac_engine.specs.Standing.{EngineStands, KeepsHistory, MayLeave, StandsWith, durable_of, saved_of}
 use Rattle.pac_engine.proofs.DeviceLemmas.{three, image-of, of-three, weaken-three, log-runs}
 
 -- ---- a log with the transactions of a group behind it
@@ -85,10 +85,10 @@ module _ (text : List ℕ) (catalogue : CatalogueState) (few_tables : length cat
 
   -- so the newest slot has one
   pub saved-now : (slots : Slots) (images : Images) → IsShutOrFront text catalogue batches images.slot_a → IsShutOrFront text catalogue batches images.slot_b
-      → IsSlot catalogue.tables slots.a images.slot_a → IsSlot catalogue.tables slots.b images.slot_b → HoldsSaved catalogue (newest_txns (newest_of slots)) images
+      → IsSlot catalogue.tables slots.a images.slot_a → IsSlot catalogue.tables slots.b images.slot_b → HoldsSaved catalogue (saved_txns (newest_of slots)) images
   saved-now slots images is_a is_b known_a known_b = go (newest_of slots) refl
     where
-      go : (newest : Option SlotInfo) → newest_of slots ≡ newest → HoldsSaved catalogue (newest_txns newest) images
+      go : (newest : Option SlotInfo) → newest_of slots ≡ newest → HoldsSaved catalogue (saved_txns newest) images
       go None e = inl refl
       go (Some info) e = ⊎_elim (λ a. inr (inl (open-saved images.slot_a slots.a is_a known_a A info a))) (λ b. inr (inr (open-saved images.slot_b slots.b is_b known_b B info b))) (newest-one (info_of A slots.a) (info_of B slots.b) info e)
 
@@ -100,7 +100,7 @@ stands-less text catalogue history least saved least' saved' images le le' is = 
 pub stands-longer : (text : List ℕ) (catalogue : CatalogueState) (history more : List Txn) (least saved : ℕ) (images : Images) → IsHistory catalogue (history ++ more) → StandsWith text catalogue history least saved images → StandsWith text catalogue (history ++ more) least saved images
 stands-longer text catalogue history more least saved images executes is = record { stands = longer text catalogue history more least images executes is.stands; saves = is.saves }
 
-module _ (text : List ℕ) (history : List Txn) (e : EngineParts) (l a b : History) (is : EngineStands text history e l a b) where
+module _ (text : List ℕ) (history : List Txn) (e : EngineParts) (l a b : DiskHistory) (is : EngineStands text history e l a b) where
   abbrev cat : CatalogueState
   cat = e.session.catalogue
 
@@ -136,14 +136,14 @@ module _ (text : List ℕ) (history : List Txn) (e : EngineParts) (l a b : Histo
       (stands-at is.batches e.session.txns (three l.now.seen a.now.seen b.now.seen) is.log.has is.split (omega (arith, durable-is)) is.slot_a.has is.slot_b.has (saved-here l.now.seen)))))
 
 -- where what is durable and saved is as it was, a crash leaves what it left
-pub leave-same : (text : List ℕ) (catalogue : CatalogueState) (history : List Txn) (before now : EngineParts) (devices : List History) → durable_of now ≡ durable_of before → saved_of now ≡ saved_of before
+pub leave-same : (text : List ℕ) (catalogue : CatalogueState) (history : List Txn) (before now : EngineParts) (devices : List DiskHistory) → durable_of now ≡ durable_of before → saved_of now ≡ saved_of before
     → AllLeave (MayLeave text catalogue history before) devices → AllLeave (MayLeave text catalogue history now) devices
 leave-same text catalogue history before now devices durable saved leaves = λ images are. weaken-three (StandsWith text catalogue history (durable_of before) (saved_of before)) (StandsWith text catalogue history (durable_of now) (saved_of now))
     (λ i s. stands-less text catalogue history (durable_of before) (saved_of before) (durable_of now) (saved_of now) i (omega (arith, durable)) (omega (arith, saved)) s) images (leaves images are)
 
 -- ---- a commit
 
-module _ (text : List ℕ) (history : List Txn) (e : EngineParts) (l a b : History) (is : EngineStands text history e l a b) (n : History) (may : MayAdd text e.session.catalogue is.batches e.session.txns l n) where
+module _ (text : List ℕ) (history : List Txn) (e : EngineParts) (l a b : DiskHistory) (is : EngineStands text history e l a b) (n : DiskHistory) (may : MayAdd text e.session.catalogue is.batches e.session.txns l n) where
   abbrev more : List (List Txn)
   more = with_batch is.batches e.session.txns
 
@@ -207,7 +207,7 @@ module _ (text : List ℕ) (history : List Txn) (e : EngineParts) (asked : Reque
   abbrev asks : List Txn
   asks = commits (rules_of e.session) (state_now e.session) asked
 
-  pub asked-stands : (l a b : History) → EngineStands text history e l a b → EngineStands text (history ++ asks) (with_request asked e) l a b
+  pub asked-stands : (l a b : DiskHistory) → EngineStands text history e l a b → EngineStands text (history ++ asks) (with_request asked e) l a b
   asked-stands l a b is =
       let long : 1 + length history ≡ e.session.before + length e.session.txns + 1 = omega (arith, ap (λ (t : List Txn). length t) is.split, length-append (all_txns is.batches) e.session.txns, is.behind.txns, counted) in
       record {
@@ -224,21 +224,21 @@ module _ (text : List ℕ) (history : List Txn) (e : EngineParts) (asked : Reque
         split = ap (λ (t : List Txn). t ++ asks) is.split ∙ append_assoc (all_txns is.batches) e.session.txns asks;
       }
 
-  pub asked-history : (l a b : History) → EngineStands text history e l a b → IsHistory e.session.catalogue (history ++ asks)
+  pub asked-history : (l a b : DiskHistory) → EngineStands text history e l a b → IsHistory e.session.catalogue (history ++ asks)
   asked-history l a b is = executes-it text (history ++ asks) (with_request asked e) l a b (asked-stands l a b is)
 
   -- no device is called
-  pub asked-keeps : (now : EngineParts) → durable_of now ≡ durable_of e → saved_of now ≡ saved_of e → (l a b : History) → EngineStands text history e l a b → KeepsHistory text (history ++ asks) e now (l ∷ a ∷ b ∷ []) (l ∷ a ∷ b ∷ [])
+  pub asked-keeps : (now : EngineParts) → durable_of now ≡ durable_of e → saved_of now ≡ saved_of e → (l a b : DiskHistory) → EngineStands text history e l a b → KeepsHistory text (history ++ asks) e now (l ∷ a ∷ b ∷ []) (l ∷ a ∷ b ∷ [])
   asked-keeps now durable saved l a b is =
       let leaves : AllLeave (MayLeave text e.session.catalogue (history ++ asks) e) (l ∷ a ∷ b ∷ []) = stands-now text (history ++ asks) (with_request asked e) l a b (asked-stands l a b is) in
       record { moments = rests (l ∷ a ∷ b ∷ []) leaves; end = leave-same text e.session.catalogue (history ++ asks) e now (l ∷ a ∷ b ∷ []) durable saved leaves }
 
 -- ---- from one move to the next
 
-pub keeps-as : (text : List ℕ) (history : List Txn) (before now other : EngineParts) (old new : List History) → durable_of other ≡ durable_of now → saved_of other ≡ saved_of now → KeepsHistory text history before now old new → KeepsHistory text history before other old new
+pub keeps-as : (text : List ℕ) (history : List Txn) (before now other : EngineParts) (old new : List DiskHistory) → durable_of other ≡ durable_of now → saved_of other ≡ saved_of now → KeepsHistory text history before now old new → KeepsHistory text history before other old new
 keeps-as text history before now other old new durable saved keeps = record { moments = keeps.moments; end = leave-same text before.session.catalogue history now other new durable saved keeps.end }
 
-pub keeps-longer : (text : List ℕ) (history more : List Txn) (before now : EngineParts) (old new : List History) → IsHistory before.session.catalogue (history ++ more) → KeepsHistory text history before now old new → KeepsHistory text (history ++ more) before now old new
+pub keeps-longer : (text : List ℕ) (history more : List Txn) (before now : EngineParts) (old new : List DiskHistory) → IsHistory before.session.catalogue (history ++ more) → KeepsHistory text history before now old new → KeepsHistory text (history ++ more) before now old new
 keeps-longer text history more before now old new executes keeps = record {
   moments = weaken_run (MayLeave text before.session.catalogue history before) (MayLeave text before.session.catalogue (history ++ more) before)
       (weaken-three (StandsWith text before.session.catalogue history (durable_of before) (saved_of before)) (StandsWith text before.session.catalogue (history ++ more) (durable_of before) (saved_of before))
@@ -247,7 +247,7 @@ keeps-longer text history more before now old new executes keeps = record {
       (λ i s. stands-longer text before.session.catalogue history more (durable_of now) (saved_of now) i executes s) images (keeps.end images are);
 }
 
-pub keeps-then : (text : List ℕ) (history : List Txn) (a b c : EngineParts) (x y z : List History) → b.session.catalogue ≡ a.session.catalogue → durable_of a ≤ durable_of b → saved_of a ≤ saved_of b
+pub keeps-then : (text : List ℕ) (history : List Txn) (a b c : EngineParts) (x y z : List DiskHistory) → b.session.catalogue ≡ a.session.catalogue → durable_of a ≤ durable_of b → saved_of a ≤ saved_of b
     → KeepsHistory text history a b x y → KeepsHistory text history b c y z → KeepsHistory text history a c x z
 keeps-then text history a b c x y z same durable saved first second =
     let moments : RunLeaves (MayLeave text a.session.catalogue history b) y z = subst (λ (cat : CatalogueState). RunLeaves (MayLeave text cat history b) y z) same second.moments in

@@ -6,7 +6,7 @@ use Rattle.std.proofs.lemmas.Bool.Decides.{nat_tests}
 use Rattle.std.proofs.lemmas.List.{append-nil}
 use Rattle.pac_ops.specs.declared.transaction.Txn.{Txn}
 use Rattle.pac_ops.specs.declared.transaction.Txn.TheVariants.{Call, AdHoc}
-use Rattle.pac_outside.specs.Disk.{History}
+use Rattle.pac_outside.specs.Disk.{DiskHistory}
 use Rattle.pac_outside.specs.Devices.{all_told, each}
 use Rattle.pac_outside.specs.declared.devices.Devices.{Devices}
 use Rattle.pac_types.specs.Fits.{TxnFits}
@@ -79,7 +79,7 @@ closed-kept e now given is durable gave = subst (λ (l : List Reply). AllByRecur
 -- ---- the devices, while a request is executed and its group is closed
 
 -- of three devices
-of-stands : (text : List ℕ) (history : List Txn) (e : EngineParts) (Q : List History → Type 0) → ((l a b : History) → EngineStands text history e l a b → Q (l ∷ a ∷ b ∷ [])) → (devices : List History) → StandsOn text history e devices → Q devices
+of-stands : (text : List ℕ) (history : List Txn) (e : EngineParts) (Q : List DiskHistory → Type 0) → ((l a b : DiskHistory) → EngineStands text history e l a b → Q (l ∷ a ∷ b ∷ [])) → (devices : List DiskHistory) → StandsOn text history e devices → Q devices
 of-stands text history e Q has [] is = absurd is
 of-stands text history e Q has (l ∷ []) is = absurd is
 of-stands text history e Q has (l ∷ a ∷ []) is = absurd is
@@ -90,25 +90,25 @@ module _ (text : List ℕ) (history : List Txn) (e : EngineParts) (asked : Reque
   abbrev asks : List Txn
   asks = commits (rules_of e.session) (state_now e.session) asked
 
-  pub asked-keeps-told : (now : EngineParts) → durable_of now ≡ durable_of e → saved_of now ≡ saved_of e → (told : Option (List History))
+  pub asked-keeps-told : (now : EngineParts) → durable_of now ≡ durable_of e → saved_of now ≡ saved_of e → (told : Option (List DiskHistory))
       → TellsIf (StandsOn text history e) (KeepsHistory text (history ++ commits (rules_of e.session) (state_now e.session) asked) e now) told told
   asked-keeps-told now durable saved = rest-told (StandsOn text history e) (KeepsHistory text (history ++ asks) e now)
       (of-stands text history e (λ d. KeepsHistory text (history ++ asks) e now d d) (asked-keeps text history e asked fits counted now durable saved))
 
-  stands-asked : (devices : List History) → StandsOn text history e devices → StandsOn text (history ++ asks) (with_request asked e) devices
+  stands-asked : (devices : List DiskHistory) → StandsOn text history e devices → StandsOn text (history ++ asks) (with_request asked e) devices
   stands-asked = of-stands text history e (λ d. StandsOn text (history ++ asks) (with_request asked e) d) (asked-stands text history e asked fits counted)
 
-  pub asked-stands-told : (now : EngineParts) → now ≡ with_request asked e → (told : Option (List History))
+  pub asked-stands-told : (now : EngineParts) → now ≡ with_request asked e → (told : Option (List DiskHistory))
       → TellsIf (StandsOn text history e) (λ was is. StandsOn text (history ++ commits (rules_of e.session) (state_now e.session) asked) now is) told told
   asked-stands-told now becomes = rest-told (StandsOn text history e) (λ was is. StandsOn text (history ++ asks) now is)
       (λ devices is. subst (λ (p : EngineParts). StandsOn text (history ++ asks) p devices) (sym becomes) (stands-asked devices is))
 
   -- the group is closed behind it
-  module _ (now : EngineParts) (becomes : now ≡ with_request asked e) (new : EngineParts) (x y : Option (List History)) where
-    stands-before : (devices : List History) → StandsOn text history e devices → StandsOn text (history ++ asks) now devices
+  module _ (now : EngineParts) (becomes : now ≡ with_request asked e) (new : EngineParts) (x y : Option (List DiskHistory)) where
+    stands-before : (devices : List DiskHistory) → StandsOn text history e devices → StandsOn text (history ++ asks) now devices
     stands-before devices is = subst (λ (p : EngineParts). StandsOn text (history ++ asks) p devices) (sym becomes) (stands-asked devices is)
 
-    as-before : (u v : List History) → KeepsHistory text ((history ++ asks) ++ []) now new u v → KeepsHistory text (history ++ asks) e new u v
+    as-before : (u v : List DiskHistory) → KeepsHistory text ((history ++ asks) ++ []) now new u v → KeepsHistory text (history ++ asks) e new u v
     as-before u v keeps =
         let here : KeepsHistory text (history ++ asks) (with_request asked e) new u v = subst (λ (p : EngineParts). KeepsHistory text (history ++ asks) p new u v) becomes (subst (λ (h : List Txn). KeepsHistory text h now new u v) (append-nil (history ++ asks)) keeps) in
         record { moments = here.moments; end = here.end }
@@ -123,7 +123,7 @@ module _ (text : List ℕ) (history : List Txn) (e : EngineParts) (asked : Reque
         (λ u v is stands. subst (λ (h : List Txn). StandsOn text h new v) (append-nil (history ++ asks)) stands) x y told
 
   -- the group is closed before it is executed
-  module _ (mid : EngineParts) (x y : Option (List History)) (first : TellsIf (StandsOn text history e) (KeepsHistory text (history ++ []) e mid) x y) where
+  module _ (mid : EngineParts) (x y : Option (List DiskHistory)) (first : TellsIf (StandsOn text history e) (KeepsHistory text (history ++ []) e mid) x y) where
     pub anew-keeps : (new : EngineParts) → durable_of new ≡ durable_of mid → saved_of new ≡ saved_of mid
         → TellsIf (StandsOn text history e) (KeepsHistory text (history ++ commits (rules_of e.session) (state_now e.session) asked) e new) x y
     anew-keeps new durable saved = told-weaken (StandsOn text history e) (StandsOn text history e) (KeepsHistory text (history ++ []) e mid) (KeepsHistory text (history ++ asks) e new) (λ u is. is)
@@ -246,7 +246,7 @@ module _ (e : EngineParts) (counted : e.log.gate.txns ≡ e.session.before) (sta
       save-stops e start group within room (cut_one (rules_of e.session) start group request.Save).closed (ap (λ (cut : GroupCut). cut.closed) save-cut) given (untold ∙ gave) cause on full
       (λ bytes is. let much = large bytes is in (much.0 ∙ ap (λ (m : EngineParts). slot_len (rules_of m.session) (state_now m.session) m.log.gate.place) closed, much.1))
 
-module _ (text : List ℕ) (history : List Txn) (e mid new : EngineParts) (closed : mid ≡ committed_parts e) (x y z : Option (List History)) (stands : TellsIf (StandsOn text history e) (λ was is. StandsOn text (history ++ []) mid is) x y) where
+module _ (text : List ℕ) (history : List Txn) (e mid new : EngineParts) (closed : mid ≡ committed_parts e) (x y z : Option (List DiskHistory)) (stands : TellsIf (StandsOn text history e) (λ was is. StandsOn text (history ++ []) mid is) x y) where
   pub checkpoint-keeps : TellsIf (StandsOn text history e) (KeepsHistory text (history ++ []) e mid) x y → TellsIf (StandsOn text (history ++ []) mid) (KeepsHistory text ((history ++ []) ++ []) mid new) y z
       → TellsIf (StandsOn text history e) (KeepsHistory text (history ++ []) e new) x z
   checkpoint-keeps first second = told-then (StandsOn text history e) (StandsOn text (history ++ []) mid) (KeepsHistory text (history ++ []) e mid) (KeepsHistory text ((history ++ []) ++ []) mid new) (KeepsHistory text (history ++ []) e new)
@@ -260,7 +260,7 @@ module _ (text : List ℕ) (history : List Txn) (e mid new : EngineParts) (close
 
 -- ---- the flag of an engine
 
-module _ {D : Type 0} (told : D → Option History) (asked : Request) (inside e mid : EngineParts) (same : inside ≡ e) (old new : Devices D) where
+module _ {D : Type 0} (told : D → Option DiskHistory) (asked : Request) (inside e mid : EngineParts) (same : inside ≡ e) (old new : Devices D) where
   pub flag-keeps : (now : EngineParts) → durable_of now ≡ durable_of mid → saved_of now ≡ saved_of mid → KeepsMore told (commits (rules_of inside.session) (state_now inside.session) asked) inside mid old new
       → KeepsMore told (commits (rules_of e.session) (state_now e.session) asked) e now old new
   flag-keeps now durable saved keeps = λ text history.
@@ -276,6 +276,6 @@ module _ {D : Type 0} (told : D → Option History) (asked : Request) (inside e 
       (λ was is. StandsOn text (history ++ commits (rules_of e.session) (state_now e.session) asked) (record mid { ended = flag }) is) (λ u is. is)
       (λ u v is s. flagged text (history ++ commits (rules_of e.session) (state_now e.session) asked) v s) (all_told (each told old)) (all_told (each told new)) (here text history)
     where
-      flagged : (text : List ℕ) (history : List Txn) (devices : List History) → StandsOn text history mid devices → StandsOn text history (record mid { ended = flag }) devices
+      flagged : (text : List ℕ) (history : List Txn) (devices : List DiskHistory) → StandsOn text history mid devices → StandsOn text history (record mid { ended = flag }) devices
       flagged text history = of-stands text history mid (λ d. StandsOn text history (record mid { ended = flag }) d)
           (λ l a b is. record { batches = is.batches; log = is.log; behind = is.behind; slot_a = is.slot_a; slot_b = is.slot_b; known_a = is.known_a; known_b = is.known_b; fit = is.fit; ends = is.ends; split = is.split })

@@ -2,7 +2,7 @@
 use Rattle.std.proofs.Common.{◌≡◌, ℕ, List, [], ◌∷◌, ◌++◌, length, Option, Some, None, refl, sym, ap, subst}
 use Rattle.std.proofs.lemmas.List.{append-nil}
 use Rattle.pac_ops.specs.declared.transaction.Txn.{Txn}
-use Rattle.pac_outside.specs.Disk.{History, LeavesOnly, BothTell}
+use Rattle.pac_outside.specs.Disk.{DiskHistory, LeavesOnly, BothTell}
 use Rattle.pac_outside.specs.Devices.{RunLeaves}
 use Rattle.pac_outside.specs.Devices.RunLeaves.{rests}
 use Rattle.pac_outside.specs.GateByte.{OneImage}
@@ -29,7 +29,7 @@ use Rattle.pac_engine.proofs.StandingLemmas.{commit-fails, commit-keeps, commit-
 use Rattle.pac_engine.proofs.SavingLemmas.{has-byte, save-a-run, save-a-stands, save-b-run, save-b-stands}
 
 -- what is said of each list of batches holds of all of them at once
-all-tell : (R : List ℕ → List (List Txn) → History → History → Type 0) (gate : NextGate) (l n : Option History) → ((text : List ℕ) (batches : List (List Txn)) → IsBehind text batches gate → BothTell (R text batches) l n)
+all-tell : (R : List ℕ → List (List Txn) → DiskHistory → DiskHistory → Type 0) (gate : NextGate) (l n : Option DiskHistory) → ((text : List ℕ) (batches : List (List Txn)) → IsBehind text batches gate → BothTell (R text batches) l n)
     → (text : List ℕ) (batches : List (List Txn)) → IsBehind text batches gate → BothTell (λ x y. (t : List ℕ) (bs : List (List Txn)) → IsBehind t bs gate → R t bs x y) l n
 all-tell R gate None None f text batches is = tt
 all-tell R gate None (Some n) f text batches is = f text batches is
@@ -38,15 +38,15 @@ all-tell R gate (Some l) (Some n) f text batches is = λ t bs behind. f t bs beh
 
 -- ---- a commit
 
-module _ (text : List ℕ) (history : List Txn) (e : EngineParts) (same : e.log.gate.catalogue ≡ e.session.catalogue) (txns : List Txn) (txns_is : txns ≡ e.session.txns) (l n a b : Option History) where
-  may-here : (batches : List (List Txn)) (x y : History) → MayAdd text e.log.gate.catalogue batches txns x y → MayAdd text e.session.catalogue batches e.session.txns x y
+module _ (text : List ℕ) (history : List Txn) (e : EngineParts) (same : e.log.gate.catalogue ≡ e.session.catalogue) (txns : List Txn) (txns_is : txns ≡ e.session.txns) (l n a b : Option DiskHistory) where
+  may-here : (batches : List (List Txn)) (x y : DiskHistory) → MayAdd text e.log.gate.catalogue batches txns x y → MayAdd text e.session.catalogue batches e.session.txns x y
   may-here batches x y may = subst (λ (t : List Txn). MayAdd text e.session.catalogue batches t x y) txns_is (subst (λ (c : CatalogueState). MayAdd text c batches txns x y) same may)
 
-  added-here : (batches : List (List Txn)) (x y : History) → HasAdded text e.log.gate.catalogue batches txns x y → HasAdded text e.session.catalogue batches e.session.txns x y
+  added-here : (batches : List (List Txn)) (x y : DiskHistory) → HasAdded text e.log.gate.catalogue batches txns x y → HasAdded text e.session.catalogue batches e.session.txns x y
   added-here batches x y added = subst (λ (t : List Txn). HasAdded text e.session.catalogue batches t x y) txns_is (subst (λ (c : CatalogueState). HasAdded text c batches txns x y) same added)
 
   module _ (may : (t : List ℕ) (bs : List (List Txn)) → IsBehind t bs e.log.gate → BothTell (MayAdd t e.log.gate.catalogue bs txns) l n) where
-    abbrev MayAll : History → History → Type 0
+    abbrev MayAll : DiskHistory → DiskHistory → Type 0
     MayAll x y = (t : List ℕ) (bs : List (List Txn)) → IsBehind t bs e.log.gate → MayAdd t e.log.gate.catalogue bs txns x y
 
     pub closed-fails : (now : EngineParts) → durable_of now ≡ durable_of e → saved_of now ≡ saved_of e → TellsWhere (StandsOn text history e) (KeepsHistory text (history ++ []) e now) (l ∷ a ∷ b ∷ []) (n ∷ a ∷ b ∷ [])
@@ -56,13 +56,13 @@ module _ (text : List ℕ) (history : List Txn) (e : EngineParts) (same : e.log.
 
     module _ (added : (t : List ℕ) (bs : List (List Txn)) → IsBehind t bs e.log.gate → BothTell (HasAdded t e.log.gate.catalogue bs txns) l n)
         (gate : NextGate) (behind : (t : List ℕ) (bs : List (List Txn)) → IsBehind t bs e.log.gate → IsBehind t (with_batch bs txns) gate) (gate_is : gate ≡ gate_past txns e.log.gate) (now : EngineParts) (becomes : now ≡ committed_parts e) where
-      abbrev AddsAll : History → History → Type 0
+      abbrev AddsAll : DiskHistory → DiskHistory → Type 0
       AddsAll x y = (t : List ℕ) (bs : List (List Txn)) → IsBehind t bs e.log.gate → MayAdd t e.log.gate.catalogue bs txns x y × HasAdded t e.log.gate.catalogue bs txns x y
 
       behind-here : (batches : List (List Txn)) → IsBehind text batches e.log.gate → IsBehind text (with_batch batches e.session.txns) (gate_past e.session.txns e.log.gate)
       behind-here batches is = subst (λ (t : List Txn). IsBehind text (with_batch batches t) (gate_past t e.log.gate)) txns_is (subst (λ (g : NextGate). IsBehind text (with_batch batches txns) g) gate_is (behind text batches is))
 
-      both-tell : (u v w : History) → StandsOn text history e (u ∷ v ∷ w ∷ []) → BothTell AddsAll l n
+      both-tell : (u v w : DiskHistory) → StandsOn text history e (u ∷ v ∷ w ∷ []) → BothTell AddsAll l n
       both-tell u v w is = all-tell (λ t bs x y. MayAdd t e.log.gate.catalogue bs txns x y × HasAdded t e.log.gate.catalogue bs txns x y) e.log.gate l n
           (λ t bs b. both_and (MayAdd t e.log.gate.catalogue bs txns) (HasAdded t e.log.gate.catalogue bs txns) l n (may t bs b) (added t bs b)) text is.batches is.behind
 
@@ -89,10 +89,10 @@ module _ (text : List ℕ) (history : List Txn) (e : EngineParts) (same : e.log.
 abbrev pub new_bytes : EngineParts → List ℕ
 new_bytes e = checkpoint_bytes (checkpoint_of (length e.session.catalogue.tables) (head_with e.log.gate.txns e.log.gate.place) e.session.tables)
 
-abbrev pub Replacing : EngineParts → History → History → Type 0
+abbrev pub Replacing : EngineParts → DiskHistory → DiskHistory → Type 0
 Replacing e old new = LeavesOnly (IsOldShutOrNew old.now.seen (new_bytes e)) old new
 
-abbrev pub NewIn : EngineParts → History → History → Type 0
+abbrev pub NewIn : EngineParts → DiskHistory → DiskHistory → Type 0
 NewIn e old new = OneImage (HoldsRows e.session.catalogue.tables (head_with e.log.gate.txns e.log.gate.place) e.session.tables) new.now
 
 saved-a : (e : EngineParts) → spare_of e.slots ≡ A → record e { slots = record (e.slots) { a = Open (head_with e.log.gate.txns e.log.gate.place) } } ≡ saved_parts e
@@ -107,31 +107,31 @@ saved-b e is = ap (λ (s : SlotName). with_slots (by_slot s (record (e.slots) { 
     with_slots : Slots → EngineParts
     with_slots slots = record e { slots = slots }
 
-module _ (text : List ℕ) (history : List Txn) (e : EngineParts) (none : e.session.txns ≡ []) (fit : FitTables e.session.catalogue.tables e.session.tables) (l a b a' b' : Option History)
+module _ (text : List ℕ) (history : List Txn) (e : EngineParts) (none : e.session.txns ≡ []) (fit : FitTables e.session.catalogue.tables e.session.tables) (l a b a' b' : Option DiskHistory)
     (any : HasByte (by_slot (spare_of e.slots) e.slots.a e.slots.b) → BothTell (Replacing e) (by_slot (spare_of e.slots) a b) (by_slot (spare_of e.slots) a' b'))
     (other : by_slot (spare_of e.slots) b' a' ≡ by_slot (spare_of e.slots) b a) where
   abbrev Form : Type 0
   Form = IsCheckpoint e.session.catalogue.tables (checkpoint_of (length e.session.catalogue.tables) (head_with e.log.gate.txns e.log.gate.place) e.session.tables)
 
-  byte-a : (u v w : History) → StandsOn text history e (u ∷ v ∷ w ∷ []) → HasByte e.slots.a
+  byte-a : (u v w : DiskHistory) → StandsOn text history e (u ∷ v ∷ w ∷ []) → HasByte e.slots.a
   byte-a u v w is = has-byte text e.session.catalogue is.batches e.slots.a v.now.seen is.slot_a.has is.known_a
 
-  byte-b : (u v w : History) → StandsOn text history e (u ∷ v ∷ w ∷ []) → HasByte e.slots.b
+  byte-b : (u v w : DiskHistory) → StandsOn text history e (u ∷ v ∷ w ∷ []) → HasByte e.slots.b
   byte-b u v w is = has-byte text e.session.catalogue is.batches e.slots.b w.now.seen is.slot_b.has is.known_b
 
   -- a relation between what is told, slot by slot
-  by-slot : (R : List History → List History → Type 0) (S : History → History → Type 0)
-      → (spare_of e.slots ≡ A → (x u n v : History) → StandsOn text history e (x ∷ u ∷ v ∷ []) → S u n → R (x ∷ u ∷ v ∷ []) (x ∷ n ∷ v ∷ []))
-      → (spare_of e.slots ≡ B → (x u v n : History) → StandsOn text history e (x ∷ u ∷ v ∷ []) → S v n → R (x ∷ u ∷ v ∷ []) (x ∷ u ∷ n ∷ []))
+  by-slot : (R : List DiskHistory → List DiskHistory → Type 0) (S : DiskHistory → DiskHistory → Type 0)
+      → (spare_of e.slots ≡ A → (x u n v : DiskHistory) → StandsOn text history e (x ∷ u ∷ v ∷ []) → S u n → R (x ∷ u ∷ v ∷ []) (x ∷ n ∷ v ∷ []))
+      → (spare_of e.slots ≡ B → (x u v n : DiskHistory) → StandsOn text history e (x ∷ u ∷ v ∷ []) → S v n → R (x ∷ u ∷ v ∷ []) (x ∷ u ∷ n ∷ []))
       → (HasByte (by_slot (spare_of e.slots) e.slots.a e.slots.b) → BothTell S (by_slot (spare_of e.slots) a b) (by_slot (spare_of e.slots) a' b'))
       → TellsWhere (StandsOn text history e) R (l ∷ a ∷ b ∷ []) (l ∷ a' ∷ b' ∷ [])
   by-slot R S in_a in_b both = go (spare_of e.slots) refl both other
     where
       go : (spare : SlotName) → spare_of e.slots ≡ spare → (HasByte (by_slot spare e.slots.a e.slots.b) → BothTell S (by_slot spare a b) (by_slot spare a' b')) → by_slot spare b' a' ≡ by_slot spare b a
           → TellsWhere (StandsOn text history e) R (l ∷ a ∷ b ∷ []) (l ∷ a' ∷ b' ∷ [])
-      go A is told rest = subst (λ (y : Option History). TellsWhere (StandsOn text history e) R (l ∷ a ∷ b ∷ []) (l ∷ a' ∷ y ∷ [])) (sym rest)
+      go A is told rest = subst (λ (y : Option DiskHistory). TellsWhere (StandsOn text history e) R (l ∷ a ∷ b ∷ []) (l ∷ a' ∷ y ∷ [])) (sym rest)
           (a-told (StandsOn text history e) R S (in_a is) l a a' b (λ u v w s. told (byte-a u v w s)))
-      go B is told rest = subst (λ (x : Option History). TellsWhere (StandsOn text history e) R (l ∷ a ∷ b ∷ []) (l ∷ x ∷ b' ∷ [])) (sym rest)
+      go B is told rest = subst (λ (x : Option DiskHistory). TellsWhere (StandsOn text history e) R (l ∷ a ∷ b ∷ []) (l ∷ x ∷ b' ∷ [])) (sym rest)
           (b-told (StandsOn text history e) R S (in_b is) l a b b' (λ u v w s. told (byte-b u v w s)))
 
   pub unsaved-keeps : Form → (now : EngineParts) → durable_of now ≡ durable_of e → saved_of now ≡ saved_of e → TellsWhere (StandsOn text history e) (KeepsHistory text (history ++ []) e now) (l ∷ a ∷ b ∷ []) (l ∷ a' ∷ b' ∷ [])
@@ -139,21 +139,21 @@ module _ (text : List ℕ) (history : List Txn) (e : EngineParts) (none : e.sess
       (λ spare x u n v is run. of (x ∷ u ∷ v ∷ []) (x ∷ n ∷ v ∷ []) (save-a-run text history e x u v is none fit form spare n run))
       (λ spare x u v n is run. of (x ∷ u ∷ v ∷ []) (x ∷ u ∷ n ∷ []) (save-b-run text history e x u v is none fit form spare n run)) any
     where
-      of : (old new : List History) → RunLeaves (MayLeave text e.session.catalogue history e) old new → KeepsHistory text (history ++ []) e now old new
+      of : (old new : List DiskHistory) → RunLeaves (MayLeave text e.session.catalogue history e) old new → KeepsHistory text (history ++ []) e now old new
       of old new run = subst (λ (h : List Txn). KeepsHistory text h e now old new) (sym (append-nil history))
           (record { moments = run; end = leave-same text e.session.catalogue history e now new durable saved (run_end (MayLeave text e.session.catalogue history e) old new run) })
 
   module _ (done : BothTell (NewIn e) (by_slot (spare_of e.slots) a b) (by_slot (spare_of e.slots) a' b')) (now : EngineParts) (becomes : now ≡ saved_parts e) where
-    abbrev Saves : History → History → Type 0
+    abbrev Saves : DiskHistory → DiskHistory → Type 0
     Saves old new = Replacing e old new × NewIn e old new
 
     saves : HasByte (by_slot (spare_of e.slots) e.slots.a e.slots.b) → BothTell Saves (by_slot (spare_of e.slots) a b) (by_slot (spare_of e.slots) a' b')
     saves byte = both_and (Replacing e) (NewIn e) (by_slot (spare_of e.slots) a b) (by_slot (spare_of e.slots) a' b') (any byte) done
 
-    stands-a : spare_of e.slots ≡ A → (x u n v : History) → EngineStands text history e x u v → Saves u n → EngineStands text history (saved_parts e) x n v
+    stands-a : spare_of e.slots ≡ A → (x u n v : DiskHistory) → EngineStands text history e x u v → Saves u n → EngineStands text history (saved_parts e) x n v
     stands-a spare x u n v is run = subst (λ (p : EngineParts). EngineStands text history p x n v) (saved-a e spare) (save-a-stands text history e x u v is none fit n run.1)
 
-    stands-b : spare_of e.slots ≡ B → (x u v n : History) → EngineStands text history e x u v → Saves v n → EngineStands text history (saved_parts e) x u n
+    stands-b : spare_of e.slots ≡ B → (x u v n : DiskHistory) → EngineStands text history e x u v → Saves v n → EngineStands text history (saved_parts e) x u n
     stands-b spare x u v n is run = subst (λ (p : EngineParts). EngineStands text history p x u n) (saved-b e spare) (save-b-stands text history e x u v is none fit n run.1)
 
     pub saved-keeps : TellsWhere (StandsOn text history e) (KeepsHistory text (history ++ []) e now) (l ∷ a ∷ b ∷ []) (l ∷ a' ∷ b' ∷ [])
@@ -169,10 +169,10 @@ module _ (text : List ℕ) (history : List Txn) (e : EngineParts) (none : e.sess
         (by-slot (λ was is. StandsOn text history (saved_parts e) is) Saves stands-a stands-b saves))
 
 -- where a save is refused, no device is called
-pub refused-keeps : (text : List ℕ) (history : List Txn) (e now : EngineParts) (told : Option (List History)) → durable_of now ≡ durable_of e → saved_of now ≡ saved_of e → TellsIf (StandsOn text history e) (KeepsHistory text (history ++ []) e now) told told
+pub refused-keeps : (text : List ℕ) (history : List Txn) (e now : EngineParts) (told : Option (List DiskHistory)) → durable_of now ≡ durable_of e → saved_of now ≡ saved_of e → TellsIf (StandsOn text history e) (KeepsHistory text (history ++ []) e now) told told
 refused-keeps text history e now told durable saved = rest-told (StandsOn text history e) (KeepsHistory text (history ++ []) e now) of told
   where
-    of : (devices : List History) → StandsOn text history e devices → KeepsHistory text (history ++ []) e now devices devices
+    of : (devices : List DiskHistory) → StandsOn text history e devices → KeepsHistory text (history ++ []) e now devices devices
     of [] is = absurd is
     of (l ∷ []) is = absurd is
     of (l ∷ a ∷ []) is = absurd is

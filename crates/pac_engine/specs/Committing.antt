@@ -1,7 +1,7 @@
 -- What a log holds while the transactions of a group are put behind the others.
 use Rattle.std.specs.Prelude.{◌≡◌, ◌⊎◌, ◌+◌, ◌-◌, ◌^◌, ◌<◌, ◌≤◌, ℕ, List, [], ◌∷◌, ◌++◌, length, min}
 use Rattle.pac_ops.specs.declared.transaction.Txn.{Txn}
-use Rattle.pac_outside.specs.Disk.{History, LeavesOnly}
+use Rattle.pac_outside.specs.Disk.{DiskHistory, LeavesOnly}
 use Rattle.pac_outside.specs.GateByte.{OneImage}
 use Rattle.pac_types.specs.Typing.{CatalogueState}
 use Rattle.pac_log.specs.declared.limits.TheConstants.{MAX_LOG_LEN}
@@ -22,12 +22,12 @@ gate_past [] gate = gate
 gate_past (txn ∷ txns) gate = gate_behind (length (txn ∷ txns)) (1 + length (body_bytes (txn ∷ txns))) gate
 
 -- at each moment a crash leaves these batches, or these and the new one
-abbrev pub MayAdd : List ℕ → CatalogueState → List (List Txn) → List Txn → History → History → Type 0
+abbrev pub MayAdd : List ℕ → CatalogueState → List (List Txn) → List Txn → DiskHistory → DiskHistory → Type 0
 MayAdd text catalogue batches txns old new = OneImage (HoldsLog text catalogue batches) old.now
     → LeavesOnly (λ image. HoldsLog text catalogue batches image ⊎ HoldsLog text catalogue (with_batch batches txns) image) old new
 
 -- afterwards the one image has the new batch too
-abbrev pub HasAdded : List ℕ → CatalogueState → List (List Txn) → List Txn → History → History → Type 0
+abbrev pub HasAdded : List ℕ → CatalogueState → List (List Txn) → List Txn → DiskHistory → DiskHistory → Type 0
 HasAdded text catalogue batches txns old new = OneImage (HoldsLog text catalogue batches) old.now → OneImage (HoldsLog text catalogue (with_batch batches txns)) new.now
 
 -- behind this place the log has room for the transactions, where there are any

@@ -2,7 +2,7 @@
 use Rattle.std.specs.Prelude.{◌≡◌, ℕ, List, Option, Result, IfErr, IfOk, MatchResult, OnOk}
 use Rattle.std.specs.List.{AllByRecursion}
 use Rattle.pac_outside.specs.Devices.{each}
-use Rattle.pac_outside.specs.Disk.{History}
+use Rattle.pac_outside.specs.Disk.{DiskHistory}
 use Rattle.pac_outside.specs.declared.devices.Devices.{Devices}
 use Rattle.pac_request.specs.declared.request.Request.{Request}
 use Rattle.pac_request.specs.declared.request.Reply.{Reply}
@@ -19,7 +19,7 @@ use Rattle.pac_engine.specs.Standing.{HasDevices, KeepsMore, OnlyGrows, StandsFo
 -- The request was handled by the engine as it was before. The replies are those of the groups that it closes, or it stops at
 -- one of these; what they tell of is durable; the devices stand for the history at each moment, and the engine for that with
 -- the transactions of the request; and no call of a device comes after one that failed.
-pub record IsHandled {D : Type 0} (told : D → Option History) (faults : D → ℕ) (asked : Request) (before now : EngineParts) (old new : Devices D) (result : Result (List Reply) EngineFault) : Type 0 where
+pub record IsHandled {D : Type 0} (told : D → Option DiskHistory) (faults : D → ℕ) (asked : Request) (before now : EngineParts) (old new : Devices D) (result : Result (List Reply) EngineFault) : Type 0 where
   pub closes : (start : SessionState) (group : List Request) → IsInGroup start group before.session
       → IfOk result (λ given. Closes (rules_of before.session) before.log.gate.place start (cut_one (rules_of before.session) start group asked) given now)
   pub stops : (start : SessionState) (group : List Request) → IsInGroup start group before.session

@@ -4,14 +4,13 @@ use Rattle.std.specs.List.{All}
 use Rattle.pac_ops.specs.declared.transaction.Txn.{Txn}
 use Rattle.pac_outside.specs.Devices.{AllLeave, RunLeaves, all_told, each}
 use Rattle.pac_outside.specs.declared.devices.Devices.{Devices}
-use Rattle.pac_outside.specs.Disk.{History, WhereTold, settled}
+use Rattle.pac_outside.specs.Disk.{DiskHistory, WhereTold, settled}
 use Rattle.pac_outside.specs.GateByte.{OneImage}
 use Rattle.pac_types.specs.Fits.{TxnFits}
 use Rattle.pac_types.specs.Typing.{CatalogueState}
 use Rattle.pac_log.specs.Logs.{HoldsLog, all_txns}
 use Rattle.pac_log.specs.Places.{IsBehind, LogEndsAt}
-use Rattle.pac_check.specs.declared.info.SlotInfo.{SlotInfo}
-use Rattle.pac_check.specs.SlotStates.{IsSlot, newest_of}
+use Rattle.pac_check.specs.SlotStates.{IsSlot, newest_of, saved_txns}
 use Rattle.pac_store.specs.Images.{Images, OfThree}
 use Rattle.pac_store.specs.Stands.{EndsWith, HoldsSaved, IsShutOrFront, StandsFor}
 use Rattle.pac_engine.specs.declared.parts.EngineParts.{EngineParts}
@@ -20,14 +19,9 @@ use Rattle.pac_engine.specs.declared.parts.EngineParts.{EngineParts}
 abbrev pub durable_of : EngineParts → ℕ
 durable_of engine = engine.log.gate.txns
 
--- how many transactions are in a checkpoint; 0 where there is none
-abbrev pub newest_txns : Option SlotInfo → ℕ
-newest_txns None = 0
-newest_txns (Some info) = info.txns
-
 -- how many are in the newest checkpoint
 abbrev pub saved_of : EngineParts → ℕ
-saved_of engine = newest_txns (newest_of engine.slots)
+saved_of engine = saved_txns (newest_of engine.slots)
 
 -- what is durable and saved stays so
 pub record OnlyGrows (before now : EngineParts) : Type 0 where
@@ -36,7 +30,7 @@ pub record OnlyGrows (before now : EngineParts) : Type 0 where
 
 -- Where the devices tell, a crash leaves of each one image: that of a log that ends at the engine's gate, and those of two
 -- slots in the states that the engine knows. It is said of each device by itself: one may tell while others do not.
-pub record HasDevices {D : Type 0} (told : D → Option History) (engine : EngineParts) (devices : Devices D) : Type 0 where
+pub record HasDevices {D : Type 0} (told : D → Option DiskHistory) (engine : EngineParts) (devices : Devices D) : Type 0 where
   pub log : WhereTold (λ now. LogEndsAt engine.log.gate now.now) (told devices.log)
   pub slot_a : WhereTold (λ now. OneImage (IsSlot engine.session.catalogue.tables engine.slots.a) now.now) (told devices.slot_a)
   pub slot_b : WhereTold (λ now. OneImage (IsSlot engine.session.catalogue.tables engine.slots.b) now.now) (told devices.slot_b)
@@ -49,7 +43,7 @@ pub record StandsWith (text : List ℕ) (catalogue : CatalogueState) (history : 
 -- The engine stands for the history on the log, slot a and slot b: serial execution of the history ends with the engine's
 -- tables. The history ends with the open group's transactions, and a crash leaves what is before them in the log; of each
 -- slot it leaves one image too, which is shut or has a checkpoint of the log's front.
-pub record EngineStands (text : List ℕ) (history : List Txn) (engine : EngineParts) (l a b : History) : Type 0 where
+pub record EngineStands (text : List ℕ) (history : List Txn) (engine : EngineParts) (l a b : DiskHistory) : Type 0 where
   pub batches : List (List Txn)
   pub log : OneImage (HoldsLog text engine.session.catalogue batches) l.now
   pub behind : IsBehind text batches engine.log.gate
@@ -62,14 +56,14 @@ pub record EngineStands (text : List ℕ) (history : List Txn) (engine : EngineP
   pub split : history ≡ all_txns batches ++ engine.session.txns
 
 -- what is said of three devices, in the order in which devices are told
-abbrev pub OfDevices : (History → History → History → Type 0) → List History → Type 0
+abbrev pub OfDevices : (DiskHistory → DiskHistory → DiskHistory → Type 0) → List DiskHistory → Type 0
 OfDevices P [] = ⊥
 OfDevices P (l ∷ []) = ⊥
 OfDevices P (l ∷ a ∷ []) = ⊥
 OfDevices P (l ∷ a ∷ b ∷ []) = P l a b
 OfDevices P (l ∷ a ∷ b ∷ device ∷ devices) = ⊥
 
-abbrev pub StandsOn : List ℕ → List Txn → EngineParts → List History → Type 0
+abbrev pub StandsOn : List ℕ → List Txn → EngineParts → List DiskHistory → Type 0
 StandsOn text history engine devices = OfDevices (EngineStands text history engine) devices
 
 -- a crash may leave images that stand for the history, with what is durable and saved
@@ -78,35 +72,35 @@ MayLeave text catalogue history engine images = OfThree (StandsWith text catalog
 
 -- At each moment from old to new a crash leaves images that stand for the history with what was durable and saved before, and
 -- in the end with what is durable and saved then.
-pub record KeepsHistory (text : List ℕ) (history : List Txn) (before now : EngineParts) (old new : List History) : Type 0 where
+pub record KeepsHistory (text : List ℕ) (history : List Txn) (before now : EngineParts) (old new : List DiskHistory) : Type 0 where
   pub moments : RunLeaves (MayLeave text before.session.catalogue history before) old new
   pub end : AllLeave (MayLeave text before.session.catalogue history now) new
 
 -- what is told before, if it has P, and after has R; it is told after where it was before
-abbrev pub TellsIf : (List History → Type 0) → (List History → List History → Type 0) → Option (List History) → Option (List History) → Type 0
+abbrev pub TellsIf : (List DiskHistory → Type 0) → (List DiskHistory → List DiskHistory → Type 0) → Option (List DiskHistory) → Option (List DiskHistory) → Type 0
 TellsIf P R None new = Unit {0}
 TellsIf P R (Some old) None = P old → ⊥
 TellsIf P R (Some old) (Some new) = P old → R old new
 
 -- where the devices tell and have P before a call, they tell after it, and their histories have R
-abbrev pub TellsWhere : (List History → Type 0) → (List History → List History → Type 0) → List (Option History) → List (Option History) → Type 0
+abbrev pub TellsWhere : (List DiskHistory → Type 0) → (List DiskHistory → List DiskHistory → Type 0) → List (Option DiskHistory) → List (Option DiskHistory) → Type 0
 TellsWhere P R old new = TellsIf P R (all_told old) (all_told new)
 
 -- where the devices tell, an engine that stands for some history keeps it with these transactions behind it
-abbrev pub KeepsMore : {D : Type 0} → (D → Option History) → List Txn → EngineParts → EngineParts → Devices D → Devices D → Type 0
+abbrev pub KeepsMore : {D : Type 0} → (D → Option DiskHistory) → List Txn → EngineParts → EngineParts → Devices D → Devices D → Type 0
 KeepsMore told more before now old new = (text : List ℕ) (history : List Txn) → TellsWhere (StandsOn text history before) (KeepsHistory text (history ++ more) before now) (each told old) (each told new)
 
 -- and it stands for that afterwards
-abbrev pub StandsForMore : {D : Type 0} → (D → Option History) → List Txn → EngineParts → EngineParts → Devices D → Devices D → Type 0
+abbrev pub StandsForMore : {D : Type 0} → (D → Option DiskHistory) → List Txn → EngineParts → EngineParts → Devices D → Devices D → Type 0
 StandsForMore told more before now old new = (text : List ℕ) (history : List Txn) → TellsWhere (StandsOn text history before) (λ was is. StandsOn text (history ++ more) now is) (each told old) (each told new)
 
 -- what a read gives of three devices
-abbrev pub seen_of : History → History → History → Images
+abbrev pub seen_of : DiskHistory → DiskHistory → DiskHistory → Images
 seen_of l a b = record { log = l.now.seen; slot_a = a.now.seen; slot_b = b.now.seen }
 
 -- An engine was opened on devices that were synced: it stands at the end of the log that they hold, knows the states of both
 -- slots, has no open transaction, and its tables are those with which the log's transactions, the first of the history, end.
-pub record IsOpenedOn (history : List Txn) (engine : EngineParts) (l a b : History) : Type 0 where
+pub record IsOpenedOn (history : List Txn) (engine : EngineParts) (l a b : DiskHistory) : Type 0 where
   pub log_settled : l.now ≡ settled l.now.seen
   pub a_settled : a.now ≡ settled a.now.seen
   pub b_settled : b.now ≡ settled b.now.seen

@@ -7,14 +7,14 @@ ghost use Rattle.pac_types.specs.Execution.{first_over};
 ghost use Rattle.pac_types.specs.Fits.{FitsCatalogue};
 ghost use Rattle.pac_log.specs.declared.log.Stage.{Stage};
 ghost use Rattle.pac_check.specs.declared.limits.TheConstants.{MAX_SAVED_ROWS, MAX_SLOT_LEN};
-ghost use Rattle.pac_check.specs.SlotStates.{newest_of};
+ghost use Rattle.pac_check.specs.SlotStates.{newest_of, saved_txns};
 ghost use Rattle.pac_request.specs.declared.request.Request.{Request as ARequest};
 ghost use Rattle.pac_request.specs.RequestFits.{RequestFits};
 ghost use Rattle.pac_session.specs.Session.{SessionState, commits};
 ghost use Rattle.pac_session.specs.Groups.{cut_one, place_behind};
 ghost use Rattle.pac_session.specs.Open.{IsInGroup, rules_of, state_now};
 ghost use Rattle.pac_engine.specs.Closing.{Closes, CountsFault, IsKept, StopsAt, is_stop, slot_len};
-ghost use Rattle.pac_engine.specs.Standing.{HasDevices, OnlyGrows, KeepsMore, StandsForMore, newest_txns};
+ghost use Rattle.pac_engine.specs.Standing.{HasDevices, OnlyGrows, KeepsMore, StandsForMore};
 
 use crate::{EngineCause, EngineFault, EngineParts};
 use pac_check::Slots;
@@ -71,7 +71,7 @@ impl Engine {
         requires same { log.gate.catalogue ≡ catalogue }
         requires waits { log.stage ≡ Stage.Waiting }
         requires works { slots.has_failed ≡ false }
-        requires saved { newest_txns (newest_of slots) ≤ log.gate.txns }
+        requires saved { saved_txns (newest_of slots) ≤ log.gate.txns }
         requires fits { FitsCatalogue catalogue rows.tables rows.rows }
         requires within { first_over limit (length catalogue.tables) rows.rows ≡ NoTable }
         requires limit { limit ≤ MAX_SAVED_ROWS }

@@ -1,7 +1,7 @@
 // What steps come to, one after another. Each law is a function without code.
 ghost use Rattle.std.specs.Prelude.{◌≡◌, ◌++◌, ◌∷◌, [], ℕ, List, Option, take};
 ghost use Rattle.pac_ops.specs.declared.transaction.Txn.{Txn as ATxn};
-ghost use Rattle.pac_outside.specs.Disk.{History};
+ghost use Rattle.pac_outside.specs.Disk.{DiskHistory};
 ghost use Rattle.pac_request.specs.declared.request.Request.{Request as ARequest};
 ghost use Rattle.pac_request.specs.declared.request.Reply.{Reply as AReply};
 ghost use Rattle.pac_store.specs.Stands.{StandsFor};
@@ -28,12 +28,12 @@ pub fn steps_are_the_session()
 /// An engine that stands for a history, and keeps it with some transactions behind it, in one step, and then with more of them
 /// in the next, keeps it with all of them in both.
 pub fn steps_keep_the_history()
-    ensures keeps { (text : List ℕ) (history more last : List ATxn) (first next end : AParts) (old middle new : List (Option History)) → rules_of next.session ≡ rules_of first.session → OnlyGrows first next
+    ensures keeps { (text : List ℕ) (history more last : List ATxn) (first next end : AParts) (old middle new : List (Option DiskHistory)) → rules_of next.session ≡ rules_of first.session → OnlyGrows first next
         → TellsWhere (StandsOn text history first) (KeepsHistory text (history ++ more) first next) old middle
         → TellsWhere (StandsOn text history first) (λ was is. StandsOn text (history ++ more) next is) old middle
         → TellsWhere (StandsOn text (history ++ more) next) (KeepsHistory text ((history ++ more) ++ last) next end) middle new
         → TellsWhere (StandsOn text history first) (KeepsHistory text (history ++ (more ++ last)) first end) old new }
-    ensures stands { (text : List ℕ) (history more last : List ATxn) (first next end : AParts) (old middle new : List (Option History))
+    ensures stands { (text : List ℕ) (history more last : List ATxn) (first next end : AParts) (old middle new : List (Option DiskHistory))
         → TellsWhere (StandsOn text history first) (λ was is. StandsOn text (history ++ more) next is) old middle
         → TellsWhere (StandsOn text (history ++ more) next) (λ was is. StandsOn text ((history ++ more) ++ last) end is) middle new
         → TellsWhere (StandsOn text history first) (λ was is. StandsOn text (history ++ (more ++ last)) end is) old new }
@@ -41,6 +41,6 @@ pub fn steps_keep_the_history()
 
 /// An engine that is opened over devices that stand for a history stands for as many transactions of it as the log has.
 pub fn an_opened_engine_stands()
-    ensures { (text : List ℕ) (history : List ATxn) (least : ℕ) (engine : AParts) (l a b : History) → StandsFor text engine.session.catalogue history least (seen_of l a b) → IsOpenedOn history engine l a b
+    ensures { (text : List ℕ) (history : List ATxn) (least : ℕ) (engine : AParts) (l a b : DiskHistory) → StandsFor text engine.session.catalogue history least (seen_of l a b) → IsOpenedOn history engine l a b
         → StandsOn text (take engine.log.gate.txns history) engine (l ∷ a ∷ b ∷ []) }
 {}

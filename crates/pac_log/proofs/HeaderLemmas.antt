@@ -6,7 +6,7 @@ use Rattle.std.proofs.lemmas.List.Elements.{All-nil}
 use Rattle.pac_base.specs.declared.refusal.Refusal.{Refusal}
 use Rattle.pac_base.specs.declared.refusal.Refusal.TheVariants.{Fault, NoMemory}
 use Rattle.pac_bytes.proofs.Numbers.{width32}
-use Rattle.pac_outside.specs.Disk.{History, WhereTold}
+use Rattle.pac_outside.specs.Disk.{DiskHistory, WhereTold}
 use Rattle.pac_syntax.specs.declared.limits.TheConstants.{MAX_CATALOGUE}
 use Rattle.pac_types.specs.Typing.{CatalogueState}
 use Rattle.pac_log.specs.declared.position.NextGate.{NextGate}
@@ -100,7 +100,7 @@ no_want {F} refusal fault is want = no_same (sym is ∙ want)
 -- ---- over what a disk tells
 
 -- a reader that found a header stands behind it
-pub attached : (told : Option History) (head text : List ℕ) (len : ℕ) (gate : NextGate) → head ≡ head_bytes len → len < length text → IsAccepted (take len text) gate.catalogue → gate.place ≡ 12 + len → gate.txns ≡ 0
+pub attached : (told : Option DiskHistory) (head text : List ℕ) (len : ℕ) (gate : NextGate) → head ≡ head_bytes len → len < length text → IsAccepted (take len text) gate.catalogue → gate.place ≡ 12 + len → gate.txns ≡ 0
     → WhereTold (λ old. head ≡ take 12 (drop 0 old.now.seen)) told → WhereTold (λ old. text ≡ take (len + 1) (drop 12 old.now.seen)) told
     → WhereTold (λ old. (t : List ℕ) × IsStore t gate.catalogue old.now.seen × StandsBehind t [] gate old.now.seen) told
 attached None head text len gate is long accepted placed none front behind = tt
@@ -112,13 +112,13 @@ attached (Some old) head text len gate is long accepted placed none front behind
     (take len text, store, first_stands (take len text) gate image len store (omega (arith, length-take len text, long)) placed none)
 
 -- no header where the front is none
-pub no_head : (told : Option History) (head : List ℕ) → WhereTold (λ old. head ≡ take 12 (drop 0 old.now.seen)) told → ((text : List ℕ) → length text ≤ MAX_CATALOGUE → head ≡ head_bytes (length text) → ⊥)
+pub no_head : (told : Option DiskHistory) (head : List ℕ) → WhereTold (λ old. head ≡ take 12 (drop 0 old.now.seen)) told → ((text : List ℕ) → length text ≤ MAX_CATALOGUE → head ≡ head_bytes (length text) → ⊥)
     → WhereTold (λ old. (text : List ℕ) (catalogue : CatalogueState) → IsStore text catalogue old.now.seen → ⊥) told
 no_head None head front none = tt
 no_head (Some old) head front none = λ text catalogue is. none text is.accepted.has.reads.short (front ∙ head_of_store text catalogue old.now.seen is)
 
 -- no header where the text is cut short, or has no catalogue
-pub no_text : (told : Option History) (head text : List ℕ) (len : ℕ) → head ≡ head_bytes len → len ≤ MAX_CATALOGUE → WhereTold (λ old. head ≡ take 12 (drop 0 old.now.seen)) told → WhereTold (λ old. text ≡ take (len + 1) (drop 12 old.now.seen)) told
+pub no_text : (told : Option DiskHistory) (head text : List ℕ) (len : ℕ) → head ≡ head_bytes len → len ≤ MAX_CATALOGUE → WhereTold (λ old. head ≡ take 12 (drop 0 old.now.seen)) told → WhereTold (λ old. text ≡ take (len + 1) (drop 12 old.now.seen)) told
     → (len < length text → (catalogue : CatalogueState) → IsAccepted (take len text) catalogue → ⊥)
     → WhereTold (λ old. (t : List ℕ) (catalogue : CatalogueState) → IsStore t catalogue old.now.seen → ⊥) told
 no_text None head text len is few front behind none = tt

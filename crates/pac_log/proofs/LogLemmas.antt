@@ -9,7 +9,7 @@ use Rattle.pac_ops.specs.declared.transaction.Txn.TheVariants.{Call, AdHoc}
 use Rattle.pac_bytes.proofs.Numbers.{width32}
 use Rattle.pac_entry.specs.Entries.{txn_bytes}
 use Rattle.pac_types.specs.Typing.{CatalogueState}
-use Rattle.pac_outside.specs.Disk.{History, WhereTold, BothTell}
+use Rattle.pac_outside.specs.Disk.{DiskHistory, WhereTold, BothTell}
 use Rattle.pac_outside.specs.GateByte.{IsShut, IsOpen, OneImage, ShutOrOpen, Opens}
 use Rattle.pac_outside.proofs.Histories.{both, weaken}
 use Rattle.pac_log.specs.declared.position.NextGate.{NextGate}
@@ -70,18 +70,18 @@ module _ (text : List ℕ) (catalogue : CatalogueState) (batches : List (List Tx
     };
   }
 
-  keeps : (a b : History) → ShutOrOpen (log_front text batches) piece a b → KeepsOrAdds text catalogue batches txns a b
+  keeps : (a b : DiskHistory) → ShutOrOpen (log_front text batches) piece a b → KeepsOrAdds text catalogue batches txns a b
   keeps a b run alone = weaken (λ image. IsShut (log_front text batches) image ⊎ IsOpen (log_front text batches) piece image) (λ image. HoldsLog text catalogue batches image ⊎ HoldsLog text catalogue (batches ++ txns ∷ []) image) a b
       (λ image is. ⊎_elim (λ shut. inl (record { log = alone.has.log; shut = shut })) (λ opened. inr (one_more image alone.has.log opened)) is)
       (run (record { one = alone.one; has = alone.has.shut }))
 
-  adds : (a b : History) → Opens (log_front text batches) piece a b → AddsBatch text catalogue batches txns a b
+  adds : (a b : DiskHistory) → Opens (log_front text batches) piece a b → AddsBatch text catalogue batches txns a b
   adds a b run alone = let opened = run (record { one = alone.one; has = alone.has.shut }) in record { one = opened.one; has = one_more b.now.seen alone.has.log opened.has }
 
-  pub keeps_or_adds : (a b : Option History) → BothTell (ShutOrOpen (log_front text batches) piece) a b → BothTell (KeepsOrAdds text catalogue batches txns) a b
+  pub keeps_or_adds : (a b : Option DiskHistory) → BothTell (ShutOrOpen (log_front text batches) piece) a b → BothTell (KeepsOrAdds text catalogue batches txns) a b
   keeps_or_adds = both (ShutOrOpen (log_front text batches) piece) (KeepsOrAdds text catalogue batches txns) keeps
 
-  pub adds_batch : (a b : Option History) → BothTell (Opens (log_front text batches) piece) a b → BothTell (AddsBatch text catalogue batches txns) a b
+  pub adds_batch : (a b : Option DiskHistory) → BothTell (Opens (log_front text batches) piece) a b → BothTell (AddsBatch text catalogue batches txns) a b
   adds_batch = both (Opens (log_front text batches) piece) (AddsBatch text catalogue batches txns) adds
 
 -- ---- what stands ready
@@ -131,7 +131,7 @@ gate_so txns inside old new count len counted long e same =
     e ∙ ap (λ (n : ℕ). gate_behind n len inside) counted ∙ ap (λ (n : ℕ). gate_behind (length txns) n inside) long ∙ ap (λ (g : NextGate). gate_behind (length txns) (1 + length (body_bytes txns)) g) same
 
 -- a log that ended at its gate ends at the next one, when a batch was added
-pub ends_again : (R : History → History → Type 0) (old new : NextGate) (before after : Option History) (txns : List Txn) → BothTell R before after → WhereTold (λ h. LogEndsAt old h.now) before
+pub ends_again : (R : DiskHistory → DiskHistory → Type 0) (old new : NextGate) (before after : Option DiskHistory) (txns : List Txn) → BothTell R before after → WhereTold (λ h. LogEndsAt old h.now) before
     → ((text : List ℕ) (batches : List (List Txn)) → IsBehind text batches old → BothTell (AddsBatch text old.catalogue batches txns) before after)
     → ((text : List ℕ) (batches : List (List Txn)) → IsBehind text batches old → IsBehind text (batches ++ txns ∷ []) new) → new.catalogue ≡ old.catalogue → WhereTold (λ h. LogEndsAt new h.now) after
 ends_again R old new None None txns both ends adds behind same = tt

@@ -3,7 +3,7 @@ use Rattle.std.proofs.Common.{◌≡◌, ◌∙◌, ℕ, ◌+◌, ◌-◌, ◌<�
 use Rattle.std.proofs.lemmas.Bool.{leb-true, leb-false}
 use Rattle.std.proofs.lemmas.List.{length-drop, take-take, take_all, drop-take, drop-drop, take-append-drop, take-append-le, take_at, drop_at}
 use Rattle.pac_types.specs.Typing.{CatalogueState}
-use Rattle.pac_outside.specs.Disk.{History, WhereTold}
+use Rattle.pac_outside.specs.Disk.{DiskHistory, WhereTold}
 use Rattle.pac_log.specs.Looked.{IsLookedAt}
 use Rattle.pac_log.specs.Reading.{after_gate}
 
@@ -30,12 +30,12 @@ looked piece all n is alike = record {
 abbrev pub IsReach : List ℕ → ℕ → Type 0
 IsReach front reach = (catalogue : CatalogueState) (all : List ℕ) → front ≡ take 9 all → after_gate catalogue (take (9 + reach) all) ≡ after_gate catalogue all
 
-module _ (told : Option History) (place len : ℕ) (front : List ℕ) (long : WhereTold (λ old. len ≡ length old.now.seen) told) (there : WhereTold (λ old. front ≡ take (min (len - place) 9) (drop place old.now.seen)) told) where
+module _ (told : Option DiskHistory) (place len : ℕ) (front : List ℕ) (long : WhereTold (λ old. len ≡ length old.now.seen) told) (there : WhereTold (λ old. front ≡ take (min (len - place) 9) (drop place old.now.seen)) told) where
   -- the gate and the two numbers are all
   pub looked_front : IsReach front 0 → WhereTold (λ old. IsLookedAt front (drop place old.now.seen)) told
   looked_front enough = by told long there
     where
-      by : (t : Option History) → WhereTold (λ old. len ≡ length old.now.seen) t → WhereTold (λ old. front ≡ take (min (len - place) 9) (drop place old.now.seen)) t → WhereTold (λ old. IsLookedAt front (drop place old.now.seen)) t
+      by : (t : Option DiskHistory) → WhereTold (λ old. len ≡ length old.now.seen) t → WhereTold (λ old. front ≡ take (min (len - place) 9) (drop place old.now.seen)) t → WhereTold (λ old. IsLookedAt front (drop place old.now.seen)) t
       by None l f = tt
       by (Some old) l f =
           let all = drop place old.now.seen in
@@ -46,7 +46,7 @@ module _ (told : Option History) (place len : ℕ) (front : List ℕ) (long : Wh
   pub looked_more : (reach : ℕ) (bytes : List ℕ) → IsReach front reach → WhereTold (λ old. bytes ≡ front ++ take (min (len - place - 9) reach) (drop (place + 9) old.now.seen)) told → WhereTold (λ old. IsLookedAt bytes (drop place old.now.seen)) told
   looked_more reach bytes enough more = by told long there more
     where
-      by : (t : Option History) → WhereTold (λ old. len ≡ length old.now.seen) t → WhereTold (λ old. front ≡ take (min (len - place) 9) (drop place old.now.seen)) t
+      by : (t : Option DiskHistory) → WhereTold (λ old. len ≡ length old.now.seen) t → WhereTold (λ old. front ≡ take (min (len - place) 9) (drop place old.now.seen)) t
           → WhereTold (λ old. bytes ≡ front ++ take (min (len - place - 9) reach) (drop (place + 9) old.now.seen)) t → WhereTold (λ old. IsLookedAt bytes (drop place old.now.seen)) t
       by None l f m = tt
       by (Some old) l f m =
@@ -67,7 +67,7 @@ behind_old old buf post rest place n len whole long front few inside =
     ∙ sym (take_more n len (old ++ (buf ++ (post ++ rest))))
     ∙ ap₂ (λ (a b : List ℕ). a ++ b) (take_at old (buf ++ (post ++ rest)) n long) (ap (λ (l : List ℕ). take len l) (drop_at old (buf ++ (post ++ rest)) n long) ∙ take-append-le len buf (post ++ rest) few)
 
-pub appended : (told : Option History) (new old buf post rest place : List ℕ) (n len whole count room at : ℕ) → length old ≡ n → take n place ≡ old → len ≤ length buf → n + len ≤ whole → room ≡ count
+pub appended : (told : Option DiskHistory) (new old buf post rest place : List ℕ) (n len whole count room at : ℕ) → length old ≡ n → take n place ≡ old → len ≤ length buf → n + len ≤ whole → room ≡ count
     → new ≡ take (n + len) (take whole ((take n place ++ (buf ++ post)) ++ rest)) → WhereTold (λ h. take len buf ≡ take room (drop at h.now.seen)) told → WhereTold (λ h. new ≡ old ++ take count (drop at h.now.seen)) told
 appended None new old buf post rest place n len whole count room at long front few inside same is read = tt
 appended (Some h) new old buf post rest place n len whole count room at long front few inside same is read =

@@ -5,7 +5,7 @@ use Rattle.std.proofs.lemmas.List.{drop_at}
 use Rattle.pac_ops.specs.declared.batch.Batch.{Batch}
 use Rattle.pac_ops.specs.declared.transaction.Txn.{Txn}
 use Rattle.pac_bytes.specs.Reading.{told_as}
-use Rattle.pac_outside.specs.Disk.{History, WhereTold}
+use Rattle.pac_outside.specs.Disk.{DiskHistory, WhereTold}
 use Rattle.pac_log.specs.declared.damage.LinkFault.{LinkFault}
 use Rattle.pac_log.specs.declared.errors.LogError.{LogError}
 use Rattle.pac_log.specs.declared.errors.LogError.TheVariants as error
@@ -85,7 +85,7 @@ reads_on text batches old new image (Err (error.Damaged at kind)) exact spelled 
 reads_on text batches old new image (Err error.DiskFault) exact spelled next stands = tt
 reads_on text batches old new image (Err error.NoMemory) exact spelled next stands = tt
 
-pub told_on : (text : List ℕ) (batches : List (List Txn)) (old new : NextGate) (result : Result (Option Batch) LogError) (told : Option History)
+pub told_on : (text : List ℕ) (batches : List (List Txn)) (old new : NextGate) (result : Result (Option Batch) LogError) (told : Option DiskHistory)
     → WhereTold (λ h. TellsHeld result (at_gate old.catalogue h.now.seen old.place)) told → IfOk result (λ found. IfSome found (λ batch. WhereTold (λ h. IsSpelled batch.txns (drop old.place h.now.seen)) told)) → IfOk result (λ found. IfSome found (IsNextBatch old new))
     → WhereTold (λ h. StandsBehind text batches old h.now.seen → TellsOfImage text batches old new h.now.seen result) told
 told_on text batches old new result None exact spelled next = tt
@@ -99,7 +99,7 @@ in_all piece all txns is spelled = record {
   split = is.split ∙ ap (λ (l : List ℕ). l ++ is.rest) spelled.split ∙ ap (λ (l : List ℕ). 1 ∷ l) (append_assoc (body_bytes txns) (spelled.gate ∷ spelled.rest) is.rest);
 }
 
-pub told_spelled : (piece : List ℕ) (place : ℕ) (result : Result (Option Batch) LogError) (told : Option History) → WhereTold (λ old. IsLookedAt piece (drop place old.now.seen)) told
+pub told_spelled : (piece : List ℕ) (place : ℕ) (result : Result (Option Batch) LogError) (told : Option DiskHistory) → WhereTold (λ old. IsLookedAt piece (drop place old.now.seen)) told
     → IfOk result (λ found. IfSome found (λ batch. IsSpelled batch.txns piece)) → IfOk result (λ found. IfSome found (λ batch. WhereTold (λ old. IsSpelled batch.txns (drop place old.now.seen)) told))
 told_spelled piece place (Ok (Some batch)) None looked spelled = tt
 told_spelled piece place (Ok (Some batch)) (Some old) looked spelled = in_all piece (drop place old.now.seen) batch.txns looked spelled
@@ -108,7 +108,7 @@ told_spelled piece place (Err error) told looked spelled = tt
 
 -- ---- what was written is read again
 
-pub told_again : (text : List ℕ) (before after : List (List Txn)) (gate : NextGate) (result : Result (Option Batch) LogError) (told : Option History) → WhereTold (λ old. TellsHeld result (at_gate gate.catalogue old.now.seen gate.place)) told
+pub told_again : (text : List ℕ) (before after : List (List Txn)) (gate : NextGate) (result : Result (Option Batch) LogError) (told : Option DiskHistory) → WhereTold (λ old. TellsHeld result (at_gate gate.catalogue old.now.seen gate.place)) told
     → WhereTold (λ old. HoldsLog text gate.catalogue (before ++ after) old.now.seen → IsBehind text before gate → TellsHeld result (Ok (first_batch after))) told
 told_again text before after gate result None exact = tt
 told_again text before after gate result (Some old) exact = λ holds behind.

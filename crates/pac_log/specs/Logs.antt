@@ -6,7 +6,7 @@ use Rattle.pac_ops.specs.declared.transaction.Txn.{Txn}
 use Rattle.pac_types.specs.CatalogueText.{HasCatalogue}
 use Rattle.pac_types.specs.OperationLimits.{HasFewOperations}
 use Rattle.pac_types.specs.Typing.{CatalogueState}
-use Rattle.pac_outside.specs.Disk.{History, LeavesOnly}
+use Rattle.pac_outside.specs.Disk.{DiskHistory, LeavesOnly}
 use Rattle.pac_outside.specs.GateByte.{IsShut, OneImage}
 use Rattle.pac_log.specs.Bodies.{body_bytes, IsBody}
 
@@ -56,10 +56,10 @@ pub record HasGate (text : List ℕ) (batches : List (List Txn)) (place count : 
   pub counted : count ≡ length (all_txns before)
 
 -- at each moment a crash leaves these batches, or these and the new one
-abbrev pub KeepsOrAdds : List ℕ → CatalogueState → List (List Txn) → List Txn → History → History → Type 0
+abbrev pub KeepsOrAdds : List ℕ → CatalogueState → List (List Txn) → List Txn → DiskHistory → DiskHistory → Type 0
 KeepsOrAdds text catalogue batches txns old new = OneImage (HoldsLog text catalogue batches) old.now
     → LeavesOnly (λ image. HoldsLog text catalogue batches image ⊎ HoldsLog text catalogue (batches ++ txns ∷ []) image) old new
 
 -- afterwards the one image has the new batch too
-abbrev pub AddsBatch : List ℕ → CatalogueState → List (List Txn) → List Txn → History → History → Type 0
+abbrev pub AddsBatch : List ℕ → CatalogueState → List (List Txn) → List Txn → DiskHistory → DiskHistory → Type 0
 AddsBatch text catalogue batches txns old new = OneImage (HoldsLog text catalogue batches) old.now → OneImage (HoldsLog text catalogue (batches ++ txns ∷ [])) new.now

@@ -6,7 +6,7 @@ use Rattle.std.proofs.Math.Seq.{take-nil}
 use Rattle.std.proofs.lemmas.List.{append-nil, take-append-drop, take-append-le}
 use Rattle.pac_ops.specs.declared.transaction.Txn.{Txn}
 use Rattle.pac_outside.specs.Devices.{AllLeave, AreImages, TellsOn, all_told}
-use Rattle.pac_outside.specs.Disk.{DiskState, History, IsImage, settled}
+use Rattle.pac_outside.specs.Disk.{DiskState, DiskHistory, IsImage, settled}
 use Rattle.pac_outside.proofs.Images.{one_image}
 use Rattle.pac_outside.proofs.Runs.{run_end}
 use Rattle.pac_types.specs.Typing.{CatalogueState}
@@ -57,7 +57,7 @@ shorter_front few many a b le same = sym (take_less few many a le) ∙ ap (λ l.
 same_image : (image other : List ℕ) (state : DiskState) → state ≡ settled image → IsImage state other → other ≡ image
 same_image image other state is at = one_image image other (subst (λ (s : DiskState). IsImage s other) is at)
 
-same_images : (images : List (List ℕ)) (devices : List History) → HoldImages images devices → (others : List (List ℕ)) → AreImages devices others → others ≡ images
+same_images : (images : List (List ℕ)) (devices : List DiskHistory) → HoldImages images devices → (others : List (List ℕ)) → AreImages devices others → others ≡ images
 same_images [] [] hold [] are = refl
 same_images [] [] hold (other ∷ others) are = absurd are
 same_images [] (device ∷ devices) hold others are = absurd hold
@@ -68,7 +68,7 @@ same_images (image ∷ images) (device ∷ devices) hold (other ∷ others) are 
     let rest = same_images images devices hold.1 others are.1 in
     cc
 
-seen_images : (images : List (List ℕ)) (devices : List History) → HoldImages images devices → map (λ device. device.now.seen) devices ≡ images
+seen_images : (images : List (List ℕ)) (devices : List DiskHistory) → HoldImages images devices → map (λ device. device.now.seen) devices ≡ images
 seen_images [] [] hold = refl
 seen_images [] (device ∷ devices) hold = absurd hold
 seen_images (image ∷ images) [] hold = absurd hold
@@ -99,7 +99,7 @@ new_images text catalogue accepted log a b is one other = record {
   slot_b = inl (record { gate = 0; rest = []; split = other; shut = not_open });
 }
 
-new_devices : (text : List ℕ) (catalogue : CatalogueState) → IsAccepted text catalogue → (exit : List History) → IsNewStore text exit → (images : List (List ℕ)) → AreImages exit images → OfThree (StandsFor text catalogue [] 0) images
+new_devices : (text : List ℕ) (catalogue : CatalogueState) → IsAccepted text catalogue → (exit : List DiskHistory) → IsNewStore text exit → (images : List (List ℕ)) → AreImages exit images → OfThree (StandsFor text catalogue [] 0) images
 new_devices text catalogue accepted [] new images are = absurd new
 new_devices text catalogue accepted (l ∷ []) new images are = absurd new
 new_devices text catalogue accepted (l ∷ a ∷ []) new images are = absurd new
@@ -111,12 +111,12 @@ new_devices text catalogue accepted (l ∷ a ∷ b ∷ []) new (x ∷ y ∷ z �
 new_devices text catalogue accepted (l ∷ a ∷ b ∷ []) new (x ∷ y ∷ z ∷ w ∷ more) are = absurd are.1.1.1
 new_devices text catalogue accepted (l ∷ a ∷ b ∷ c ∷ more) new images are = absurd new
 
-pub new-store : (status : ℕ) (text : List ℕ) (input errors : Observed) (devices : ObservedDevices) (entry exit : List History) (images : List (List ℕ)) → InitEnds status input errors devices → status ≡ 0
+pub new-store : (status : ℕ) (text : List ℕ) (input errors : Observed) (devices : ObservedDevices) (entry exit : List DiskHistory) (images : List (List ℕ)) → InitEnds status input errors devices → status ≡ 0
     → input.before ≡ Some text → all_told devices.before ≡ Some entry → all_told devices.behind ≡ Some exit → AreImages exit images → (catalogue : CatalogueState) × OfThree (StandsFor text catalogue [] 0) images
 new-store status text input errors devices entry exit images ends done_so read told behind are =
     let done = ends.done done_so in
     let of : (text ≡ done.0) × ((catalogue : CatalogueState) × IsAccepted done.0 catalogue) = subst (λ (o : Option (List ℕ)). IsStoreText done.0 o) read done.1 in
-    let made : MakesStore done.0 entry exit = subst (λ (o : Option (List History)). TellsOn (MakesStore done.0) (Some entry) o) behind (subst (λ (o : Option (List History)). TellsOn (MakesStore done.0) o (all_told devices.behind)) told done.2) in
+    let made : MakesStore done.0 entry exit = subst (λ (o : Option (List DiskHistory)). TellsOn (MakesStore done.0) (Some entry) o) behind (subst (λ (o : Option (List DiskHistory)). TellsOn (MakesStore done.0) o (all_told devices.behind)) told done.2) in
     (of.1.0, subst (λ (t : List ℕ). OfThree (StandsFor t of.1.0 [] 0) images) (sym of.0) (new_devices done.0 of.1.0 of.1.1 exit made.1 images are))
 
 -- ---- one run
@@ -177,13 +177,13 @@ module _ (text : List ℕ) (catalogue : CatalogueState) where
     all_stand others leave = subst (λ (i : List (List ℕ)). OfThree (StandsFor text catalogue history least) i) (sym (same_images images run.entry hold others leave)) stands
 
     -- what is said of devices that tell and stand for the history
-    tells : (R : List ℕ → CatalogueState → List Txn → ℕ → List History → List History → Type 0) → WhereAllStand R run.devices.before run.devices.behind → R text catalogue history least run.entry run.exit
-    tells R h = subst (λ (o : Option (List History)). TellsIf stood there (Some run.entry) o) run.told_behind (subst (λ (o : Option (List History)). TellsIf stood there o (all_told run.devices.behind)) run.told (h text catalogue history least)) all_stand
+    tells : (R : List ℕ → CatalogueState → List Txn → ℕ → List DiskHistory → List DiskHistory → Type 0) → WhereAllStand R run.devices.before run.devices.behind → R text catalogue history least run.entry run.exit
+    tells R h = subst (λ (o : Option (List DiskHistory)). TellsIf stood there (Some run.entry) o) run.told_behind (subst (λ (o : Option (List DiskHistory)). TellsIf stood there o (all_told run.devices.behind)) run.told (h text catalogue history least)) all_stand
       where
-        stood : List History → Type 0
+        stood : List DiskHistory → Type 0
         stood = AllLeave (λ others. OfThree (StandsFor text catalogue history least) others)
 
-        there : List History → List History → Type 0
+        there : List DiskHistory → List DiskHistory → Type 0
         there = R text catalogue history least
 
     abbrev after : List Txn
@@ -259,7 +259,7 @@ module _ (text : List ℕ) (catalogue : CatalogueState) where
 
     seen : OfThree (λ i. (run.ends.is.requests ≡ []) ⊎ IsBegun run.ends.is.rules run.ends.is.place run.ends.is.start i) images
     seen = subst (λ (i : List (List ℕ)). OfThree (λ j. (run.ends.is.requests ≡ []) ⊎ IsBegun run.ends.is.rules run.ends.is.place run.ends.is.start j) i) (seen_images images run.entry hold)
-        (subst (λ (o : Option (List History)). IfSome o (λ devices. OfThree (λ j. (run.ends.is.requests ≡ []) ⊎ IsBegun run.ends.is.rules run.ends.is.place run.ends.is.start j) (map (λ device. device.now.seen) devices))) run.told run.ends.is.begun)
+        (subst (λ (o : Option (List DiskHistory)). IfSome o (λ devices. OfThree (λ j. (run.ends.is.requests ≡ []) ⊎ IsBegun run.ends.is.rules run.ends.is.place run.ends.is.start j) (map (λ device. device.now.seen) devices))) run.told run.ends.is.begun)
 
     which : (others : List (List ℕ)) → images ≡ others → OfThree (λ i. (run.ends.is.requests ≡ []) ⊎ IsBegun run.ends.is.rules run.ends.is.place run.ends.is.start i) others → Behind history least run left
     which [] is h = absurd h
@@ -301,7 +301,7 @@ module _ (text : List ℕ) (catalogue : CatalogueState) where
 
 -- ---- and what is recovered behind them
 
-recovers_here : (limit status : ℕ) (text : List ℕ) (catalogue : CatalogueState) (history : List Txn) (least : ℕ) (left : List (List ℕ)) (before : List (Option History)) (devices : ObservedDevices) (output : Observed) (entry : List History)
+recovers_here : (limit status : ℕ) (text : List ℕ) (catalogue : CatalogueState) (history : List Txn) (least : ℕ) (left : List (List ℕ)) (before : List (Option DiskHistory)) (devices : ObservedDevices) (output : Observed) (entry : List DiskHistory)
     → all_told before ≡ Some entry → HoldImages left entry → OfThree (StandsFor text catalogue history least) left
     → WhereHeld (λ images. StandsFor text catalogue history least images → RecoversFront limit status catalogue history least devices output) before → RecoversFront limit status catalogue history least devices output
 recovers_here limit status text catalogue history least left [] devices output entry told hold stands h = absurd h
@@ -312,12 +312,12 @@ recovers_here limit status text catalogue history least left (Some l ∷ None �
 recovers_here limit status text catalogue history least left (Some l ∷ Some x ∷ None ∷ []) devices output entry told hold stands h = absurd cc
 recovers_here limit status text catalogue history least left (Some l ∷ Some x ∷ Some y ∷ []) devices output entry told hold stands h =
     let is : l ∷ x ∷ y ∷ [] ≡ entry = cc in
-    let same = seen_images left (l ∷ x ∷ y ∷ []) (subst (λ (e : List History). HoldImages left e) (sym is) hold) in
+    let same = seen_images left (l ∷ x ∷ y ∷ []) (subst (λ (e : List DiskHistory). HoldImages left e) (sym is) hold) in
     h (subst (λ (i : List (List ℕ)). OfThree (StandsFor text catalogue history least) i) (sym same) stands)
 recovers_here limit status text catalogue history least left (a ∷ b ∷ c ∷ d ∷ more) devices output entry told hold stands h = absurd h
 
 pub recovers-all : (text : List ℕ) (catalogue : CatalogueState) (history : List Txn) (least : ℕ) (images left : List (List ℕ)) (runs : List OneRun) → (keeps : KeepsAll text catalogue history least runs left)
-    → (limit status : ℕ) (devices : ObservedDevices) (output errors : Observed) (entry : List History) → all_told devices.before ≡ Some entry → HoldImages left entry → RecoverEnds limit status devices output errors
+    → (limit status : ℕ) (devices : ObservedDevices) (output errors : Observed) (entry : List DiskHistory) → all_told devices.before ≡ Some entry → HoldImages left entry → RecoverEnds limit status devices output errors
     → RecoversFront limit status catalogue keeps.last keeps.kept devices output
 recovers-all text catalogue history least images left runs keeps limit status devices output errors entry told hold ends =
     recovers_here limit status text catalogue keeps.last keeps.kept left devices.before devices output entry told hold keeps.stands (ends.stands text catalogue keeps.last keeps.kept)

@@ -6,7 +6,7 @@ use Rattle.std.specs.FinMap.{empty}
 use Rattle.std.proofs.lemmas.List.{append-nil}
 use Rattle.pac_outside.specs.Content.{GaveAtMost}
 use Rattle.pac_outside.specs.Devices.RunLeaves.{rests}
-use Rattle.pac_outside.specs.Disk.{History}
+use Rattle.pac_outside.specs.Disk.{DiskHistory}
 use Rattle.pac_types.specs.Typing.{CatalogueState}
 use Rattle.pac_request.specs.declared.request.Request.{Request}
 use Rattle.pac_session.specs.Session.{Rules, SessionState}
@@ -20,7 +20,7 @@ use Rattle.pac_run.specs.declared.stop.RunStop.TheVariants as run
 few_taken : (left left' : Option (List ℕ)) → TookAtMost MAX_INPUT left left' → GaveAtMost 67108865 left left'
 few_taken left left' took = record { bytes = took.bytes; within = omega (arith, took.few); front = took.gave }
 
-pub run-taken : (batch limit : ℕ) (left left' held held' : Option (List ℕ)) (told told' : List (Option History)) (rose : Type 0) (end : Result (Unit {0}) RunStop)
+pub run-taken : (batch limit : ℕ) (left left' held held' : Option (List ℕ)) (told told' : List (Option DiskHistory)) (rose : Type 0) (end : Result (Unit {0}) RunStop)
     → IsRun batch limit left left' held held' told told' rose end → GaveAtMost 67108865 left left'
 run-taken batch limit left left' held held' told told' rose (Ok done) ran = few_taken left left' (ran.few (λ e. absurd cc))
 run-taken batch limit left left' held held' told told' rose (Err run.NoStore) ran = few_taken left left' (ran.few (λ e. absurd cc))
@@ -59,25 +59,25 @@ idle_rules batch limit = record { catalogue = no_catalogue; limit = limit; most 
 abbrev idle_start : SessionState
 idle_start = record { tables = empty; number = 0 }
 
-idle_begun : (rules : Rules) (place : ℕ) (start : SessionState) (log a b : Option History) → WhereSeen (λ images. ◌≡◌ {A = List Request} [] [] ⊎ IsBegun rules place start images) (log ∷ a ∷ b ∷ [])
+idle_begun : (rules : Rules) (place : ℕ) (start : SessionState) (log a b : Option DiskHistory) → WhereSeen (λ images. ◌≡◌ {A = List Request} [] [] ⊎ IsBegun rules place start images) (log ∷ a ∷ b ∷ [])
 idle_begun rules place start None a b = tt
 idle_begun rules place start (Some l) None b = tt
 idle_begun rules place start (Some l) (Some x) None = tt
 idle_begun rules place start (Some l) (Some x) (Some y) = inl refl
 
-idle_exit : (rules : Rules) (start : SessionState) (log a b : Option History) → WhereAllStand (λ text catalogue history least. AtExit text catalogue history rules start [] []) (log ∷ a ∷ b ∷ []) (log ∷ a ∷ b ∷ [])
+idle_exit : (rules : Rules) (start : SessionState) (log a b : Option DiskHistory) → WhereAllStand (λ text catalogue history least. AtExit text catalogue history rules start [] []) (log ∷ a ∷ b ∷ []) (log ∷ a ∷ b ∷ [])
 idle_exit rules start None a b = λ text catalogue history least. tt
 idle_exit rules start (Some l) None b = λ text catalogue history least. tt
 idle_exit rules start (Some l) (Some x) None = λ text catalogue history least. tt
 idle_exit rules start (Some l) (Some x) (Some y) = λ text catalogue history least stand images are. inl (refl, are)
 
-idle_moments : (rules : Rules) (start : SessionState) (log a b : Option History) → WhereAllStand (λ text catalogue history least. AtMoments text catalogue history least rules start []) (log ∷ a ∷ b ∷ []) (log ∷ a ∷ b ∷ [])
+idle_moments : (rules : Rules) (start : SessionState) (log a b : Option DiskHistory) → WhereAllStand (λ text catalogue history least. AtMoments text catalogue history least rules start []) (log ∷ a ∷ b ∷ []) (log ∷ a ∷ b ∷ [])
 idle_moments rules start None a b = λ text catalogue history least. tt
 idle_moments rules start (Some l) None b = λ text catalogue history least. tt
 idle_moments rules start (Some l) (Some x) None = λ text catalogue history least. tt
 idle_moments rules start (Some l) (Some x) (Some y) = λ text catalogue history least stand. rests (l ∷ x ∷ y ∷ []) (λ images are. inl are)
 
-pub idle-run : (batch limit : ℕ) (left held : Option (List ℕ)) (log a b : Option History) (rose : Type 0) → IsRun batch limit left left held held (log ∷ a ∷ b ∷ []) (log ∷ a ∷ b ∷ []) rose (Err run.NoMemory)
+pub idle-run : (batch limit : ℕ) (left held : Option (List ℕ)) (log a b : Option DiskHistory) (rose : Type 0) → IsRun batch limit left left held held (log ∷ a ∷ b ∷ []) (log ∷ a ∷ b ∷ []) rose (Err run.NoMemory)
 idle-run batch limit left held log a b rose = record {
   lines = [];
   ahead = [];

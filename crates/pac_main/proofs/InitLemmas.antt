@@ -5,7 +5,7 @@ use Rattle.pac_base.specs.declared.refusal.Refusal.{Refusal}
 use Rattle.pac_base.specs.declared.refusal.Refusal.TheVariants as refusal
 use Rattle.pac_outside.specs.Content.{Gave, IsAtEnd}
 use Rattle.pac_outside.specs.Devices.{OneRose, TellsOn, WhereAllTold, all_told}
-use Rattle.pac_outside.specs.Disk.{History}
+use Rattle.pac_outside.specs.Disk.{DiskHistory}
 use Rattle.pac_outside.specs.declared.failed.ReadError.{ReadError}
 use Rattle.pac_outside.specs.declared.failed.ReadError.TheVariants as read
 use Rattle.pac_types.specs.Typing.{CatalogueState}
@@ -66,12 +66,12 @@ text-refused source new items refusal.NoMemory gave at_end is = tt
 
 -- ---- the devices
 
-same_told : (told : Option (List History)) → TellsOn (λ old new. new ≡ old) told told
+same_told : (told : Option (List DiskHistory)) → TellsOn (λ old new. new ≡ old) told told
 same_told None = tt
 same_told (Some histories) = refl
 
 -- devices that are not called are untouched
-pub not-called : (tolds : List (Option History)) (faults : List ℕ) → AreUntouched (record { before = tolds; behind = tolds; faults_before = faults; faults_behind = faults })
+pub not-called : (tolds : List (Option DiskHistory)) (faults : List ℕ) → AreUntouched (record { before = tolds; behind = tolds; faults_before = faults; faults_behind = faults })
 not-called tolds faults = record { kept = same_told (all_told tolds); quiet = refl }
 
 -- why a store isn't made

@@ -4,7 +4,7 @@ use Rattle.std.specs.Prelude.{IsTrue}
 use Rattle.pac_ops.specs.declared.note.Note.{Note}
 use Rattle.pac_ops.specs.declared.transaction.Txn.{Txn}
 use Rattle.pac_outside.specs.Devices.{OneRose}
-use Rattle.pac_outside.specs.Disk.{History, WhereTold}
+use Rattle.pac_outside.specs.Disk.{DiskHistory, WhereTold}
 use Rattle.pac_types.specs.Execution.{first_over}
 use Rattle.pac_types.specs.Typing.{CatalogueState}
 use Rattle.pac_log.specs.declared.damage.DamageKind.{DamageKind}
@@ -31,19 +31,19 @@ use Rattle.pac_main.proofs.StopLemmas.{Told}
 
 -- ---- where the devices tell
 
-read_weaker : (P Q : Images → Type 0) → ((images : Images) → P images → Q images) → (log a b : Option History) → WhereRead P log a b → WhereRead Q log a b
+read_weaker : (P Q : Images → Type 0) → ((images : Images) → P images → Q images) → (log a b : Option DiskHistory) → WhereRead P log a b → WhereRead Q log a b
 read_weaker P Q f None a b h = tt
 read_weaker P Q f (Some l) None b h = tt
 read_weaker P Q f (Some l) (Some x) None h = tt
 read_weaker P Q f (Some l) (Some x) (Some y) h = f _ h
 
-read_free : (P : Images → Type 0) → ((images : Images) → P images) → (log a b : Option History) → WhereRead P log a b
+read_free : (P : Images → Type 0) → ((images : Images) → P images) → (log a b : Option DiskHistory) → WhereRead P log a b
 read_free P f None a b = tt
 read_free P f (Some l) None b = tt
 read_free P f (Some l) (Some x) None = tt
 read_free P f (Some l) (Some x) (Some y) = f _
 
-held_weaker : (P Q : Images → Type 0) → ((images : Images) → P images → Q images) → (devices : List (Option History)) → WhereHeld P devices → WhereHeld Q devices
+held_weaker : (P Q : Images → Type 0) → ((images : Images) → P images → Q images) → (devices : List (Option DiskHistory)) → WhereHeld P devices → WhereHeld Q devices
 held_weaker P Q f [] h = absurd h
 held_weaker P Q f (log ∷ []) h = absurd h
 held_weaker P Q f (log ∷ a ∷ []) h = absurd h
@@ -56,7 +56,7 @@ held_weaker P Q f (log ∷ a ∷ b ∷ more ∷ rest) h = absurd h
 abbrev pub IsError : RecoverError → RecoverError → Type 0
 IsError error other = ◌≡◌ {A = Result Recovered RecoverError} (Err error) (Err other)
 
-module _ (limit : ℕ) (log a b : Option History) (was is : List ℕ) where
+module _ (limit : ℕ) (log a b : Option DiskHistory) (was is : List ℕ) where
   -- what a recovery tells with its error
   pub record Unrecovered (error : RecoverError) : Type 0 where
     pub no_store : IsError error recover.NoStore → HasNoStore (log ∷ a ∷ b ∷ [])
@@ -68,7 +68,7 @@ module _ (limit : ℕ) (log a b : Option History) (was is : List ℕ) where
     pub disk_fault : IsError error recover.DiskFault → OneRose was is
     pub quiet : (IsError error recover.DiskFault → ⊥) → is ≡ was
 
-  module _ (behind : List (Option History)) (sink : Observed) where
+  module _ (behind : List (Option DiskHistory)) (sink : Observed) where
     -- the devices, as they are observed
     abbrev devices : ObservedDevices
     devices = record { before = log ∷ a ∷ b ∷ []; behind = behind; faults_before = was; faults_behind = is }
@@ -114,17 +114,17 @@ module _ (limit : ℕ) (log a b : Option History) (was is : List ℕ) where
 -- ---- what is recovered
 
 -- what a recovery tells of its tables
-pub record IsFound (limit : ℕ) (log a b : Option History) (recovered : Recovered) : Type 0 where
+pub record IsFound (limit : ℕ) (log a b : Option DiskHistory) (recovered : Recovered) : Type 0 where
   pub is : WhereRead (IsRecoveredFrom recovered.catalogue recovered.tables.rows recovered.txns) log a b
   pub within : first_over limit (length recovered.catalogue.tables) recovered.tables.rows ≡ None
   pub stands : (text : List ℕ) (catalogue : CatalogueState) (history : List Txn) (least : ℕ) → WhereRead (λ images. StandsFor text catalogue history least images → Recovers catalogue history least (Ok recovered)) log a b
 
 -- the limit is handed down as another number type
-pub found_of : (limit number : ℕ) (log a b : Option History) (recovered : Recovered) → number ≡ limit → WhereRead (IsRecoveredFrom recovered.catalogue recovered.tables.rows recovered.txns) log a b → first_over number (length recovered.catalogue.tables) recovered.tables.rows ≡ None
+pub found_of : (limit number : ℕ) (log a b : Option DiskHistory) (recovered : Recovered) → number ≡ limit → WhereRead (IsRecoveredFrom recovered.catalogue recovered.tables.rows recovered.txns) log a b → first_over number (length recovered.catalogue.tables) recovered.tables.rows ≡ None
     → ((text : List ℕ) (catalogue : CatalogueState) (history : List Txn) (least : ℕ) → WhereRead (λ images. StandsFor text catalogue history least images → Recovers catalogue history least (Ok recovered)) log a b) → IsFound limit log a b recovered
 found_of limit number log a b recovered same is within stands = record { is = is; within = subst (λ (n : ℕ). first_over n (length recovered.catalogue.tables) recovered.tables.rows ≡ None) same within; stands = stands }
 
-module _ (limit : ℕ) (log a b : Option History) (recovered : Recovered) (found : IsFound limit log a b recovered) (P : List ℕ → Type 0) (has : P (tables_text recovered.tables.rows 0 recovered.catalogue.tables)) where
+module _ (limit : ℕ) (log a b : Option DiskHistory) (recovered : Recovered) (found : IsFound limit log a b recovered) (P : List ℕ → Type 0) (has : P (tables_text recovered.tables.rows 0 recovered.catalogue.tables)) where
   pub is-recovery : IsRecovery limit (log ∷ a ∷ b ∷ []) P
   is-recovery = record { catalogue = recovered.catalogue; tables = recovered.tables.rows; txns = recovered.txns; is = found.is; within = found.within; has = has }
 
@@ -276,10 +276,10 @@ no_memory limit n devices sink catalogue history least is = record {
 }
 
 -- devices that are not called
-abbrev pub uncalled : Option History → Option History → Option History → List ℕ → ObservedDevices
+abbrev pub uncalled : Option DiskHistory → Option DiskHistory → Option DiskHistory → List ℕ → ObservedDevices
 uncalled log a b faults = record { before = log ∷ a ∷ b ∷ []; behind = log ∷ a ∷ b ∷ []; faults_before = faults; faults_behind = faults }
 
-pub recover-memory : (limit n : ℕ) (log a b : Option History) (faults : List ℕ) (sink errors : Observed) → n ≡ 9 → RecoverEnds limit n (uncalled log a b faults) sink errors
+pub recover-memory : (limit n : ℕ) (log a b : Option DiskHistory) (faults : List ℕ) (sink errors : Observed) → n ≡ 9 → RecoverEnds limit n (uncalled log a b faults) sink errors
 recover-memory limit n log a b faults sink errors is = record {
   statuses = subst (λ (m : ℕ). IsOneOf m (0 ∷ 3 ∷ 4 ∷ 5 ∷ 7 ∷ 8 ∷ 9 ∷ [])) (sym is) refl;
   stands = λ text catalogue history least.

@@ -4,7 +4,7 @@ use Rattle.std.proofs.Math.Seq.{take-nil}
 use Rattle.pac_ops.specs.declared.note.Note.{Note}
 use Rattle.pac_ops.specs.declared.transaction.Txn.{Txn}
 use Rattle.pac_outside.specs.Devices.{OneRose}
-use Rattle.pac_outside.specs.Disk.{History, WhereTold}
+use Rattle.pac_outside.specs.Disk.{DiskHistory, WhereTold}
 use Rattle.pac_types.specs.Typing.{CatalogueState}
 use Rattle.pac_log.specs.declared.damage.DamageKind.{DamageKind}
 use Rattle.pac_check.specs.declared.damage.SlotDamageKind.{SlotDamageKind}
@@ -42,7 +42,7 @@ use Rattle.pac_main.proofs.StopLemmas.{Told}
 abbrev pub IsStop : RunStop → RunStop → Type 0
 IsStop why other = ◌≡◌ {A = Result (Unit {0}) RunStop} (Err why) (Err other)
 
-module _ (limit : ℕ) (source sink : Observed) (log a b : Option History) (was is : List ℕ) where
+module _ (limit : ℕ) (source sink : Observed) (log a b : Option DiskHistory) (was is : List ℕ) where
   -- what a run tells with its stop
   pub record TellsStop (why : RunStop) : Type 0 where
     pub no_store : IsStop why run.NoStore → HasNoStore (log ∷ a ∷ b ∷ [])
@@ -54,7 +54,7 @@ module _ (limit : ℕ) (source sink : Observed) (log a b : Option History) (was 
     pub output_fault : IsStop why run.OutputFault → FaultsRose sink
     pub disk_fault : IsStop why run.DiskFault → OneRose was is
 
-  module _ (behind : List (Option History)) where
+  module _ (behind : List (Option DiskHistory)) where
     pub run-cause : (why : RunStop) → TellsStop why → RunCause limit source sink (record { before = log ∷ a ∷ b ∷ []; behind = behind; faults_before = was; faults_behind = is }) why
     run-cause run.NoStore h = h.no_store refl
     run-cause (run.Damaged (Log at kind)) h = h.log_damage at kind refl
@@ -79,11 +79,11 @@ IsFrontStop limit catalogue history least (run.AbortInLog note) = ⊥
 IsFrontStop limit catalogue history least (run.RowsOver name rows most) = IsFrontOverLimit catalogue history least name rows limit
 IsFrontStop limit catalogue history least _ = Unit {0}
 
-module _ (limit : ℕ) (source sink : Observed) (behind : List (Option History)) (was is : List ℕ) (text : List ℕ) (catalogue : CatalogueState) (history : List Txn) (least : ℕ) where
-  abbrev held_by : Option History → Option History → Option History → ObservedDevices
+module _ (limit : ℕ) (source sink : Observed) (behind : List (Option DiskHistory)) (was is : List ℕ) (text : List ℕ) (catalogue : CatalogueState) (history : List Txn) (least : ℕ) where
+  abbrev held_by : Option DiskHistory → Option DiskHistory → Option DiskHistory → ObservedDevices
   held_by log a b = record { before = log ∷ a ∷ b ∷ []; behind = behind; faults_before = was; faults_behind = is }
 
-  front_here : (l x y : History) (why : RunStop) → RunCause limit source sink (held_by (Some l) (Some x) (Some y)) why
+  front_here : (l x y : DiskHistory) (why : RunStop) → RunCause limit source sink (held_by (Some l) (Some x) (Some y)) why
       → StandsFor text catalogue history least (record { log = l.now.seen; slot_a = x.now.seen; slot_b = y.now.seen }) → IsFrontStop limit catalogue history least why
   front_here l x y run.NoStore h stands = is-store text catalogue history least (record { log = l.now.seen; slot_a = x.now.seen; slot_b = y.now.seen }) stands h
   front_here l x y (run.Damaged (Log at kind)) h stands = no-log-damage text catalogue history least (record { log = l.now.seen; slot_a = x.now.seen; slot_b = y.now.seen }) stands at kind h
@@ -98,7 +98,7 @@ module _ (limit : ℕ) (source sink : Observed) (behind : List (Option History))
   front_here l x y run.TooLong h stands = tt
   front_here l x y (run.TooLarge bytes) h stands = tt
 
-  pub run-front : (log a b : Option History) (why : RunStop) → RunCause limit source sink (held_by log a b) why
+  pub run-front : (log a b : Option DiskHistory) (why : RunStop) → RunCause limit source sink (held_by log a b) why
       → WhereRead (λ images. StandsFor text catalogue history least images → IsFrontStop limit catalogue history least why) log a b
   run-front None a b why h = tt
   run-front (Some l) None b why h = tt
@@ -107,13 +107,13 @@ module _ (limit : ℕ) (source sink : Observed) (behind : List (Option History))
 
 -- ---- how the command ends
 
-read_then : (P Q : Images → Type 0) → ((images : Images) → P images → Q images) → (log a b : Option History) → WhereRead P log a b → WhereRead Q log a b
+read_then : (P Q : Images → Type 0) → ((images : Images) → P images → Q images) → (log a b : Option DiskHistory) → WhereRead P log a b → WhereRead Q log a b
 read_then P Q f None a b h = tt
 read_then P Q f (Some l) None b h = tt
 read_then P Q f (Some l) (Some x) None h = tt
 read_then P Q f (Some l) (Some x) (Some y) h = f _ h
 
-read_any : (P : Images → Type 0) → ((images : Images) → P images) → (log a b : Option History) → WhereRead P log a b
+read_any : (P : Images → Type 0) → ((images : Images) → P images) → (log a b : Option DiskHistory) → WhereRead P log a b
 read_any P f None a b = tt
 read_any P f (Some l) None b = tt
 read_any P f (Some l) (Some x) None = tt
@@ -168,7 +168,7 @@ none_given rules place start requests given (run.LogFull need) early (inr at) = 
 none_given rules place start requests given run.TooLong early (inr at) = let no : ◌≡◌ {A = Bool} false true = early in absurd cc
 none_given rules place start requests given (run.TooLarge bytes) early (inr at) = let no : ◌≡◌ {A = Bool} false true = early in absurd cc
 
-module _ (batch limit : ℕ) (source sink errors : Observed) (log a b : Option History) (behind : List (Option History)) (was is : List ℕ) where
+module _ (batch limit : ℕ) (source sink errors : Observed) (log a b : Option DiskHistory) (behind : List (Option DiskHistory)) (was is : List ℕ) where
   abbrev devices : ObservedDevices
   devices = record { before = log ∷ a ∷ b ∷ []; behind = behind; faults_before = was; faults_behind = is }
 
@@ -266,6 +266,6 @@ module _ (batch limit : ℕ) (source sink errors : Observed) (log a b : Option H
 abbrev pub still : Option (List ℕ) → ℕ → Observed
 still bytes faults = record { before = bytes; behind = bytes; faults_before = faults; faults_behind = faults }
 
-pub run-idle : (batch limit n : ℕ) (left held : Option (List ℕ)) (reads writes : ℕ) (log a b : Option History) (faults : List ℕ) (errors : Observed) → n ≡ 9 → RunEnds batch limit n (still left reads) (still held writes) errors (uncalled log a b faults)
+pub run-idle : (batch limit n : ℕ) (left held : Option (List ℕ)) (reads writes : ℕ) (log a b : Option DiskHistory) (faults : List ℕ) (errors : Observed) → n ≡ 9 → RunEnds batch limit n (still left reads) (still held writes) errors (uncalled log a b faults)
 run-idle batch limit n left held reads writes log a b faults errors nine =
     run-memory batch limit (still left reads) (still held writes) errors log a b (log ∷ a ∷ b ∷ []) faults faults (Err run.NoMemory) n nine (idle-run batch limit left held log a b (FaultsRose (still held writes)))

@@ -3,7 +3,7 @@ use Rattle.std.specs.Prelude.{◌≡◌, ◌≤◌, ◌⊎◌, ℕ, List, [], �
 use Rattle.std.specs.List.{AllZip}
 use Rattle.pac_ops.specs.declared.transaction.Txn.{Txn}
 use Rattle.pac_outside.specs.Devices.{AreImages, all_told}
-use Rattle.pac_outside.specs.Disk.{History, settled}
+use Rattle.pac_outside.specs.Disk.{DiskHistory, settled}
 use Rattle.pac_types.specs.Typing.{CatalogueState}
 use Rattle.pac_store.specs.Images.{OfThree}
 use Rattle.pac_store.specs.Stands.{StandsFor}
@@ -15,7 +15,7 @@ use Rattle.pac_main.specs.Streams.{Observed, ObservedDevices}
 -- ---- runs one after another
 
 -- the devices hold these images: a read gives them, and a crash leaves nothing else
-abbrev pub HoldImages : List (List ℕ) → List History → Type 0
+abbrev pub HoldImages : List (List ℕ) → List DiskHistory → Type 0
 HoldImages images devices = AllZip (λ image device. device.now ≡ settled image) images devices
 
 -- A run, however it ended, over devices that tell. A stop at any moment is a run whose devices fail from that call on.
@@ -28,8 +28,8 @@ pub record OneRun : Type 0 where
   pub errors : Observed
   pub devices : ObservedDevices
   pub ends : RunEnds batch limit status input output errors devices
-  pub entry : List History
-  pub exit : List History
+  pub entry : List DiskHistory
+  pub exit : List DiskHistory
   pub told : all_told devices.before ≡ Some entry
   pub told_behind : all_told devices.behind ≡ Some exit
 

@@ -4,7 +4,7 @@ use Rattle.pac_value.specs.State.{Tables}
 use Rattle.pac_ops.specs.declared.note.Note.{Note}
 use Rattle.pac_ops.specs.declared.transaction.Txn.{Txn}
 use Rattle.pac_outside.specs.Devices.{OneRose}
-use Rattle.pac_outside.specs.Disk.{History}
+use Rattle.pac_outside.specs.Disk.{DiskHistory}
 use Rattle.pac_types.specs.Execution.{first_over}
 use Rattle.pac_types.specs.Typing.{CatalogueState}
 use Rattle.pac_store.specs.Stands.{EndsWith, StandsFor}
@@ -17,7 +17,7 @@ use Rattle.pac_main.specs.Streams.{Observed, ObservedDevices, FaultsRose, IsTake
 
 -- These tables of this catalogue are within the limit, and their dump has this property. Where the devices tell, they are
 -- those with which serial execution of what is stored ends.
-pub record IsRecovery (limit : ℕ) (devices : List (Option History)) (P : List ℕ → Type 0) : Type 0 where
+pub record IsRecovery (limit : ℕ) (devices : List (Option DiskHistory)) (P : List ℕ → Type 0) : Type 0 where
   pub catalogue : CatalogueState
   pub tables : Tables
   pub txns : ℕ
@@ -64,7 +64,7 @@ pub record RecoversFront (limit status : ℕ) (catalogue : CatalogueState) (hist
 -- ---- the statuses
 
 -- there is no store, or this is its first damage, and the line that is told says so
-abbrev pub IsRefusedStore : List (Option History) → Observed → Type 0
+abbrev pub IsRefusedStore : List (Option DiskHistory) → Observed → Type 0
 IsRefusedStore devices errors = (HasNoStore devices × IsTold errors (codes "no store\n")) ⊎ ((damage : Damage) × HasDamage damage devices × IsTold errors (damaged_line damage))
 
 -- how `recover` ends under a limit of rows: the statuses that it may have, and a line for each that has a cause; the devices

@@ -4,7 +4,7 @@ use Rattle.std.specs.List.{list_any}
 use Rattle.pac_outside.specs.Causes.{Rose}
 use Rattle.pac_outside.specs.Content.{Took, TookFront}
 use Rattle.pac_outside.specs.Devices.{each}
-use Rattle.pac_outside.specs.Disk.{History}
+use Rattle.pac_outside.specs.Disk.{DiskHistory}
 use Rattle.pac_outside.specs.declared.devices.Devices.{Devices}
 
 -- a stream before and behind a command: the bytes that a source has left or that a sink holds, where it tells them, and its
@@ -41,11 +41,11 @@ IsOneOf status statuses = IsTrue (list_any (λ s. s == status) statuses)
 
 -- the devices of a store before and behind a command: what each tells, and its count of faults
 pub record ObservedDevices : Type 0 where
-  pub before : List (Option History)
-  pub behind : List (Option History)
+  pub before : List (Option DiskHistory)
+  pub behind : List (Option DiskHistory)
   pub faults_before : List ℕ
   pub faults_behind : List ℕ
 
 -- devices as they tell what they hold and count their faults, observed as they were and as they are
-abbrev pub observed_devices : {D : Type 0} → (D → Option History) → (D → ℕ) → Devices D → Devices D → ObservedDevices
+abbrev pub observed_devices : {D : Type 0} → (D → Option DiskHistory) → (D → ℕ) → Devices D → Devices D → ObservedDevices
 observed_devices told faults old new = record { before = each told old; behind = each told new; faults_before = each faults old; faults_behind = each faults new }

@@ -2,7 +2,7 @@
 ghost use Rattle.std.specs.Prelude.{◌≡◌, ℕ, List, [], Some};
 ghost use Rattle.pac_ops.specs.declared.transaction.Txn.{Txn as ATxn};
 ghost use Rattle.pac_outside.specs.Devices.{AreImages, all_told};
-ghost use Rattle.pac_outside.specs.Disk.{History};
+ghost use Rattle.pac_outside.specs.Disk.{DiskHistory};
 ghost use Rattle.pac_types.specs.Typing.{CatalogueState};
 ghost use Rattle.pac_store.specs.Images.{OfThree};
 ghost use Rattle.pac_store.specs.Stands.{StandsFor};
@@ -13,7 +13,7 @@ ghost use Rattle.pac_main.specs.Streams.{Observed, ObservedDevices};
 
 /// A store that `init` makes stands for no transactions: whatever a crash leaves of it, runs may begin there.
 pub fn a_new_store_stands_for_none()
-    ensures { (status : ℕ) (text : List ℕ) (input errors : Observed) (devices : ObservedDevices) (entry exit : List History) (images : List (List ℕ)) → InitEnds status input errors devices → status ≡ 0
+    ensures { (status : ℕ) (text : List ℕ) (input errors : Observed) (devices : ObservedDevices) (entry exit : List DiskHistory) (images : List (List ℕ)) → InitEnds status input errors devices → status ≡ 0
         → input.before ≡ Some text → all_told devices.before ≡ Some entry → all_told devices.behind ≡ Some exit → AreImages exit images → (catalogue : CatalogueState) × OfThree (StandsFor text catalogue [] 0) images }
 {}
 
@@ -29,6 +29,6 @@ pub fn runs_keep_what_is_acknowledged()
 /// memory.
 pub fn recover_gives_what_is_acknowledged()
     ensures { (text : List ℕ) (catalogue : CatalogueState) (history : List ATxn) (least : ℕ) (images left : List (List ℕ)) (runs : List OneRun) → (keeps : KeepsAll text catalogue history least runs left)
-        → (limit status : ℕ) (devices : ObservedDevices) (output errors : Observed) (entry : List History) → all_told devices.before ≡ Some entry → HoldImages left entry → RecoverEnds limit status devices output errors
+        → (limit status : ℕ) (devices : ObservedDevices) (output errors : Observed) (entry : List DiskHistory) → all_told devices.before ≡ Some entry → HoldImages left entry → RecoverEnds limit status devices output errors
         → RecoversFront limit status catalogue keeps.last keeps.kept devices output }
 {}

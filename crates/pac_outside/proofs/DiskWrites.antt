@@ -3,7 +3,7 @@ use Rattle.std.proofs.Common.{◌≡◌, ◌⊎◌, inl, inr, ℕ, ◌+◌, ◌-
 use Rattle.std.proofs.lemmas.Bool.{or_parts}
 use Rattle.std.proofs.lemmas.Bool.Decides.{nat_tests}
 use Rattle.std.proofs.lemmas.List.{append-nil, get_or-take, get_or-drop, get_or_append_left, get_or-append_right}
-use Rattle.pac_outside.specs.Disk.{DiskState, IsImage, is_within, spliced, wrote, History, after_write, LeavesTorn, SeenOutside}
+use Rattle.pac_outside.specs.Disk.{DiskState, IsImage, is_within, spliced, wrote, DiskHistory, after_write, LeavesTorn, SeenOutside}
 
 -- a place outside a range is in front of it or behind it
 beside : (at count place : ℕ) → is_within (at, count) place ≡ false → (place < at) ⊎ (at + count ≤ place)
@@ -48,7 +48,7 @@ module _ (at : ℕ) (piece : List ℕ) (state : DiskState) (within : at ≤ leng
   pub next_seen_is_image : IsImage state state.seen → (next : DiskState) → next ≡ wrote at piece state → IsImage next next.seen
   next_seen_is_image is next same = subst (λ (s : DiskState). IsImage s s.seen) (sym same) (seen_stays_image is)
 
-module _ (at : ℕ) (piece : List ℕ) (old : History) (within : at ≤ length old.now.seen) where
+module _ (at : ℕ) (piece : List ℕ) (old : DiskHistory) (within : at ≤ length old.now.seen) where
   made_torn : LeavesTorn at piece old (after_write at piece old)
   made_torn = record { since = old.now ∷ []; grown = refl; first = image_before at piece old.now within; each = (image_before at piece old.now within, tt); last = λ image is. is }
 
@@ -61,10 +61,10 @@ module _ (at : ℕ) (piece : List ℕ) (old : History) (within : at ≤ length o
   unmade_outside : SeenOutside at (length piece) old old
   unmade_outside = record { no_shorter = omega arith; stays = λ place below outside. refl }
 
-  pub torn : {T E : Type 0} (new : History) (result : Result T E) → OnOk result (new ≡ after_write at piece old) → OnErr result (new ≡ old) → LeavesTorn at piece old new
+  pub torn : {T E : Type 0} (new : DiskHistory) (result : Result T E) → OnOk result (new ≡ after_write at piece old) → OnErr result (new ≡ old) → LeavesTorn at piece old new
   torn new (Ok x) made unmade = subst (LeavesTorn at piece old) (sym made) made_torn
   torn new (Err e) made unmade = subst (LeavesTorn at piece old) (sym unmade) unmade_torn
 
-  pub outside : {T E : Type 0} (new : History) (result : Result T E) → OnOk result (new ≡ after_write at piece old) → OnErr result (new ≡ old) → SeenOutside at (length piece) old new
+  pub outside : {T E : Type 0} (new : DiskHistory) (result : Result T E) → OnOk result (new ≡ after_write at piece old) → OnErr result (new ≡ old) → SeenOutside at (length piece) old new
   outside new (Ok x) made unmade = subst (SeenOutside at (length piece) old) (sym made) made_outside
   outside new (Err e) made unmade = subst (SeenOutside at (length piece) old) (sym unmade) unmade_outside

@@ -2,7 +2,7 @@
 use Rattle.std.proofs.Common.{◌≡◌, ◌⊎◌, inl, inr, ℕ, ◌+◌, ◌≤◌, ◌<◌, List, [], ◌∷◌, ◌++◌, length, get_or, take, drop, Option, Some, None, sym, ap, ◌∙◌, subst, arith, length-append, length-take, append_assoc, take-append-drop}
 use Rattle.std.proofs.lemmas.Bool.{cases_eq}
 use Rattle.std.proofs.lemmas.List.{take_at, drop_at, drop_more, take-take, take-append-le}
-use Rattle.pac_outside.specs.Disk.{DiskState, History, IsImage, IsDurable, LeavesOnly, LeavesTorn, BothTell, WhereTold, wrote, settled, spliced}
+use Rattle.pac_outside.specs.Disk.{DiskState, DiskHistory, IsImage, IsDurable, LeavesOnly, LeavesTorn, BothTell, WhereTold, wrote, settled, spliced}
 use Rattle.pac_outside.specs.GateByte.{IsShut, IsOpen, OneImage, ShutOrOpen, Opens}
 use Rattle.pac_outside.proofs.Histories.{goes_on, weaken, both, both_and, both_then}
 use Rattle.pac_outside.proofs.Images.{front_stays, length_stays, back_stays}
@@ -66,20 +66,20 @@ module _ (front piece : List ℕ) (place : ℕ) (placed : place ≡ length front
           | inr not_open ↦ inl (record { gate = torn; rest = piece ++ rest; split = whole; shut = not_open })
         ]
 
-  stage : (a b : History) → LeavesTorn (place + 1) piece a b → ShutOrOpen front piece a b
+  stage : (a b : DiskHistory) → LeavesTorn (place + 1) piece a b → ShutOrOpen front piece a b
   stage a b run alone = weaken (IsImage (wrote (place + 1) piece a.now)) Either a b (λ image is. inl (piece_torn a.now.seen alone.has image (subst (λ (s : DiskState). IsImage (wrote (place + 1) piece s) image) alone.one is))) run
 
   -- what is there between the steps
-  between : (a b : History) (alone : OneImage (IsShut front) a.now) → IsDurable (place + 1) piece a b → b.now ≡ settled (staged alone.has.gate (behind a.now.seen alone.has))
+  between : (a b : DiskHistory) (alone : OneImage (IsShut front) a.now) → IsDurable (place + 1) piece a b → b.now ≡ settled (staged alone.has.gate (behind a.now.seen alone.has))
   between a b alone durable = durable ∙ ap settled (is_staged a.now.seen alone.has)
 
-  open_gate : (a b c : History) → OneImage (IsShut front) a.now → IsDurable (place + 1) piece a b → LeavesTorn place (1 ∷ []) b c → LeavesOnly Either b c
+  open_gate : (a b c : DiskHistory) → OneImage (IsShut front) a.now → IsDurable (place + 1) piece a b → LeavesTorn place (1 ∷ []) b c → LeavesOnly Either b c
   open_gate a b c alone durable = weaken (IsImage (wrote place (1 ∷ []) b.now)) Either b c (λ image is. gate_torn alone.has.gate (behind a.now.seen alone.has) image (subst (λ (state : DiskState). IsImage (wrote place (1 ∷ []) state) image) (between a b alone durable) is))
 
-  both_steps : (a b c : History) → LeavesTorn (place + 1) piece a b × IsDurable (place + 1) piece a b → LeavesTorn place (1 ∷ []) b c → ShutOrOpen front piece a c
+  both_steps : (a b c : DiskHistory) → LeavesTorn (place + 1) piece a b × IsDurable (place + 1) piece a b → LeavesTorn place (1 ∷ []) b c → ShutOrOpen front piece a c
   both_steps a b c first second alone = goes_on Either a b c (stage a b first.0 alone) (open_gate a b c alone first.1 second)
 
-  opened : (a b c : History) → IsDurable (place + 1) piece a b → IsDurable place (1 ∷ []) b c → Opens front piece a c
+  opened : (a b c : DiskHistory) → IsDurable (place + 1) piece a b → IsDurable place (1 ∷ []) b c → Opens front piece a c
   opened a b c first second alone =
       let rest = behind a.now.seen alone.has in
       let seen_between = ap (λ (state : DiskState). state.seen) (between a b alone first) in
@@ -87,13 +87,13 @@ module _ (front piece : List ℕ) (place : ℕ) (placed : place ≡ length front
       let seen_is = ap (λ (state : DiskState). state.seen) is in
       record { one = is ∙ ap settled (sym seen_is); has = record { rest = rest; split = seen_is } }
 
-  pub first_step : (a b : Option History) → BothTell (LeavesTorn (place + 1) piece) a b → BothTell (ShutOrOpen front piece) a b
+  pub first_step : (a b : Option DiskHistory) → BothTell (LeavesTorn (place + 1) piece) a b → BothTell (ShutOrOpen front piece) a b
   first_step = both (LeavesTorn (place + 1) piece) (ShutOrOpen front piece) stage
 
-  pub any_moment : (a b c : Option History) → BothTell (LeavesTorn (place + 1) piece) a b → BothTell (IsDurable (place + 1) piece) a b → BothTell (LeavesTorn place (1 ∷ [])) b c → BothTell (ShutOrOpen front piece) a c
+  pub any_moment : (a b c : Option DiskHistory) → BothTell (LeavesTorn (place + 1) piece) a b → BothTell (IsDurable (place + 1) piece) a b → BothTell (LeavesTorn place (1 ∷ [])) b c → BothTell (ShutOrOpen front piece) a c
   any_moment a b c moments durable second = both_then (λ old new. LeavesTorn (place + 1) piece old new × IsDurable (place + 1) piece old new) (LeavesTorn place (1 ∷ [])) (ShutOrOpen front piece) both_steps a b c (both_and (LeavesTorn (place + 1) piece) (IsDurable (place + 1) piece) a b moments durable) second
 
-  pub opens : (a b c : Option History) → BothTell (IsDurable (place + 1) piece) a b → BothTell (IsDurable place (1 ∷ [])) b c → BothTell (Opens front piece) a c
+  pub opens : (a b c : Option DiskHistory) → BothTell (IsDurable (place + 1) piece) a b → BothTell (IsDurable place (1 ∷ [])) b c → BothTell (Opens front piece) a c
   opens = both_then (IsDurable (place + 1) piece) (IsDurable place (1 ∷ [])) (Opens front piece) opened
 
 -- a piece and then the byte in front of it are one piece
@@ -106,10 +106,10 @@ spliced-spliced place byte piece bytes within =
     let same : place + 1 + length piece ≡ place + length (byte ∷ piece) = omega arith in
     ap (λ (l : List ℕ). l ++ (byte ∷ drop (place + 1) (take (place + 1) bytes ++ (piece ++ rest)))) front ∙ ap (λ (l : List ℕ). take place bytes ++ (byte ∷ l)) back ∙ ap (λ (n : ℕ). take place bytes ++ (byte ∷ (piece ++ drop n bytes))) same
 
-one_write : (place : ℕ) (piece : List ℕ) (a b c : History) → place < length a.now.seen → IsDurable (place + 1) piece a b → IsDurable place (1 ∷ []) b c → IsDurable place (1 ∷ piece) a c
+one_write : (place : ℕ) (piece : List ℕ) (a b c : DiskHistory) → place < length a.now.seen → IsDurable (place + 1) piece a b → IsDurable place (1 ∷ []) b c → IsDurable place (1 ∷ piece) a c
 one_write place piece a b c within first second = second ∙ ap (λ (state : DiskState). settled (spliced place (1 ∷ []) state.seen)) first ∙ ap settled (spliced-spliced place 1 piece a.now.seen within)
 
-pub opens_whole : (place : ℕ) (piece : List ℕ) (a b c : Option History) → WhereTold (λ old. place < length old.now.seen) a → BothTell (IsDurable (place + 1) piece) a b → BothTell (IsDurable place (1 ∷ [])) b c → BothTell (IsDurable place (1 ∷ piece)) a c
+pub opens_whole : (place : ℕ) (piece : List ℕ) (a b c : Option DiskHistory) → WhereTold (λ old. place < length old.now.seen) a → BothTell (IsDurable (place + 1) piece) a b → BothTell (IsDurable place (1 ∷ [])) b c → BothTell (IsDurable place (1 ∷ piece)) a c
 opens_whole place piece None None None within first second = tt
 opens_whole place piece None None (Some c) within first second = absurd second
 opens_whole place piece None (Some b) c within first second = absurd first

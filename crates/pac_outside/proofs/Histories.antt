@@ -1,7 +1,7 @@
 -- Calls of a disk one after another.
 use Rattle.std.proofs.Common.{List, [], ◌∷◌, ◌++◌, ℕ, Option, Some, None, Result, Ok, Err, OnOk, ap, ◌∙◌, append_assoc}
 use Rattle.std.specs.List.{AllByRecursion}
-use Rattle.pac_outside.specs.Disk.{DiskState, History, Leaves, LeavesOnly, BothTell}
+use Rattle.pac_outside.specs.Disk.{DiskState, DiskHistory, Leaves, LeavesOnly, BothTell}
 
 all_append : (P : DiskState → Type 0) (xs ys : List DiskState) → AllByRecursion P xs → AllByRecursion P ys → AllByRecursion P (xs ++ ys)
 all_append P [] ys left right = right
@@ -12,7 +12,7 @@ all_weaken P Q weaker [] all = tt
 all_weaken P Q weaker (x ∷ xs) all = (weaker x all.0, all_weaken P Q weaker xs all.1)
 
 -- one run of calls after another
-pub goes_on : (P : List ℕ → Type 0) (a b c : History) → LeavesOnly P a b → LeavesOnly P b c → LeavesOnly P a c
+pub goes_on : (P : List ℕ → Type 0) (a b c : DiskHistory) → LeavesOnly P a b → LeavesOnly P b c → LeavesOnly P a c
 goes_on P a b c first next = record {
   since = first.since ++ next.since;
   grown = next.grown ∙ ap (λ past. past ++ next.since) first.grown ∙ append_assoc a.past first.since next.since;
@@ -21,7 +21,7 @@ goes_on P a b c first next = record {
   last = next.last;
 }
 
-pub weaken : (P Q : List ℕ → Type 0) (a b : History) → ((image : List ℕ) → P image → Q image) → LeavesOnly P a b → LeavesOnly Q a b
+pub weaken : (P Q : List ℕ → Type 0) (a b : DiskHistory) → ((image : List ℕ) → P image → Q image) → LeavesOnly P a b → LeavesOnly Q a b
 weaken P Q a b weaker run = record {
   since = run.since;
   grown = run.grown;
@@ -31,13 +31,13 @@ weaken P Q a b weaker run = record {
 }
 
 -- where both tell, one relation leads to another
-pub both : (R S : History → History → Type 0) → ((a b : History) → R a b → S a b) → (a b : Option History) → BothTell R a b → BothTell S a b
+pub both : (R S : DiskHistory → DiskHistory → Type 0) → ((a b : DiskHistory) → R a b → S a b) → (a b : Option DiskHistory) → BothTell R a b → BothTell S a b
 both R S step None None run = tt
 both R S step None (Some b) run = absurd run
 both R S step (Some a) None run = absurd run
 both R S step (Some a) (Some b) run = step a b run
 
-pub both_then : (R S T : History → History → Type 0) → ((a b c : History) → R a b → S b c → T a c) → (a b c : Option History) → BothTell R a b → BothTell S b c → BothTell T a c
+pub both_then : (R S T : DiskHistory → DiskHistory → Type 0) → ((a b c : DiskHistory) → R a b → S b c → T a c) → (a b c : Option DiskHistory) → BothTell R a b → BothTell S b c → BothTell T a c
 both_then R S T step None None None first second = tt
 both_then R S T step None None (Some c) first second = absurd second
 both_then R S T step None (Some b) c first second = absurd first
@@ -45,7 +45,7 @@ both_then R S T step (Some a) None c first second = absurd first
 both_then R S T step (Some a) (Some b) None first second = absurd second
 both_then R S T step (Some a) (Some b) (Some c) first second = step a b c first second
 
-pub both_and : (R S : History → History → Type 0) (a b : Option History) → BothTell R a b → BothTell S a b → BothTell (λ old new. R old new × S old new) a b
+pub both_and : (R S : DiskHistory → DiskHistory → Type 0) (a b : Option DiskHistory) → BothTell R a b → BothTell S a b → BothTell (λ old new. R old new × S old new) a b
 both_and R S None None first second = tt
 both_and R S None (Some b) first second = absurd first
 both_and R S (Some a) None first second = absurd first

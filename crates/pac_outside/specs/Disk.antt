@@ -37,20 +37,20 @@ abbrev pub settled : List ℕ → DiskState
 settled bytes = record { synced = bytes; written = []; seen = bytes }
 
 -- what a disk tells: how it is now, and how it was at each moment before, the oldest first
-pub record History : Type 0 where
+pub record DiskHistory : Type 0 where
   pub past : List DiskState
   pub now : DiskState
 
 -- a moment later
-abbrev pub becomes : DiskState → History → History
+abbrev pub becomes : DiskState → DiskHistory → DiskHistory
 becomes state history = record { past = history.past ++ history.now ∷ []; now = state }
 
 -- a moment later, when a piece was written
-abbrev pub after_write : ℕ → List ℕ → History → History
+abbrev pub after_write : ℕ → List ℕ → DiskHistory → DiskHistory
 after_write at piece history = becomes (wrote at piece history.now) history
 
 -- a moment later, when all was synced
-abbrev pub after_sync : History → History
+abbrev pub after_sync : DiskHistory → DiskHistory
 after_sync history = becomes (settled history.now.seen) history
 
 -- a crash at this moment leaves only what has P
@@ -58,7 +58,7 @@ abbrev pub Leaves : (List ℕ → Type 0) → DiskState → Type 0
 Leaves P state = (image : List ℕ) → IsImage state image → P image
 
 -- a crash at any moment from old to new leaves only what has P
-pub record LeavesOnly (P : List ℕ → Type 0) (old new : History) : Type 0 where
+pub record LeavesOnly (P : List ℕ → Type 0) (old new : DiskHistory) : Type 0 where
   pub since : List DiskState
   pub grown : new.past ≡ old.past ++ since
   pub first : Leaves P old.now
@@ -66,34 +66,34 @@ pub record LeavesOnly (P : List ℕ → Type 0) (old new : History) : Type 0 whe
   pub last : Leaves P new.now
 
 -- what a read gives stays but for this range, and isn't cut
-pub record SeenOutside (at count : ℕ) (old new : History) : Type 0 where
+pub record SeenOutside (at count : ℕ) (old new : DiskHistory) : Type 0 where
   pub no_shorter : length old.now.seen ≤ length new.now.seen
   pub stays : (place : ℕ) → place < length old.now.seen → is_within (at, count) place ≡ false → slice_index new.now.seen place ≡ slice_index old.now.seen place
 
 -- where the disk tells, its history has P
-abbrev pub WhereTold : (History → Type 0) → Option History → Type 0
+abbrev pub WhereTold : (DiskHistory → Type 0) → Option DiskHistory → Type 0
 WhereTold P None = Unit {0}
 WhereTold P (Some history) = P history
 
 -- whether the disk tells stays the same, and where it does the histories have R
-abbrev pub BothTell : (History → History → Type 0) → Option History → Option History → Type 0
+abbrev pub BothTell : (DiskHistory → DiskHistory → Type 0) → Option DiskHistory → Option DiskHistory → Type 0
 BothTell R None None = Unit {0}
 BothTell R (Some old) (Some new) = R old new
 BothTell R None (Some new) = ⊥
 BothTell R (Some old) None = ⊥
 
 -- after a write of this piece, or while it goes on, a crash leaves what it may leave of such a write
-abbrev pub LeavesTorn : ℕ → List ℕ → History → History → Type 0
+abbrev pub LeavesTorn : ℕ → List ℕ → DiskHistory → DiskHistory → Type 0
 LeavesTorn at piece old = LeavesOnly (IsImage (wrote at piece old.now)) old
 
 -- a crash leaves what it might have left before
-abbrev pub LeavesAsBefore : History → History → Type 0
+abbrev pub LeavesAsBefore : DiskHistory → DiskHistory → Type 0
 LeavesAsBefore old = LeavesOnly (IsImage old.now) old
 
 -- all is synced, and the piece is written
-abbrev pub IsDurable : ℕ → List ℕ → History → History → Type 0
+abbrev pub IsDurable : ℕ → List ℕ → DiskHistory → DiskHistory → Type 0
 IsDurable at piece old new = new.now ≡ settled (spliced at piece old.now.seen)
 
 -- what a read gives is one of the images
-abbrev pub SeenIsImage : History → Type 0
+abbrev pub SeenIsImage : DiskHistory → Type 0
 SeenIsImage history = IsImage history.now history.now.seen

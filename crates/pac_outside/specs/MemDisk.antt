@@ -1,12 +1,12 @@
 -- What a disk in memory tells.
 use Rattle.std.specs.Prelude.{◌≡◌, ◌⊎◌, ℕ, Bool, IsTrue, List, map}
 use Rattle.pac_outside.specs.Calls.{CallState}
-use Rattle.pac_outside.specs.Disk.{History, after_write}
+use Rattle.pac_outside.specs.Disk.{DiskHistory, after_write}
 use Rattle.pac_outside.specs.Moments.{moment_state}
 use Rattle.pac_outside.specs.declared.mem_disk.MemDisk.{MemDisk}
 
 -- its states, now and before
-abbrev pub history_of : MemDisk → History
+abbrev pub history_of : MemDisk → DiskHistory
 history_of disk = record { past = map moment_state disk.past.items; now = moment_state disk.present }
 
 -- its calls

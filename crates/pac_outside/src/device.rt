@@ -2,7 +2,7 @@
 ghost use Rattle.std.specs.Prelude.{◌≡◌, ◌≤◌, ℕ, Option, None, IfOk, IsErr, OnOk, drop, length, option_map, take};
 ghost use Rattle.std.specs.Io.{ReadsAtMost};
 ghost use Rattle.pac_outside.specs.Causes.{EndsAtFault, HasCause, one_more};
-ghost use Rattle.pac_outside.specs.Disk.{BothTell, History, LeavesAsBefore, LeavesTorn, SeenIsImage, SeenOutside, WhereTold, after_sync, after_write};
+ghost use Rattle.pac_outside.specs.Disk.{BothTell, DiskHistory, LeavesAsBefore, LeavesTorn, SeenIsImage, SeenOutside, WhereTold, after_sync, after_write};
 
 use crate::Failed;
 use crate::faults::Faults;
@@ -13,7 +13,7 @@ use crate::faults::Faults;
 /// since an earlier one might have left. A failed call is counted once, and no other.
 pub trait Disk {
     // What it holds, and what it has held, where it tells that.
-    ghost told: { Self → Option History };
+    ghost told: { Self → Option DiskHistory };
 
     // How many calls failed.
     ghost faults: { Self → ℕ };

@@ -5,7 +5,7 @@ use Rattle.std.specs.List.{AllByRecursion}
 use Rattle.std.proofs.lemmas.List.{length-append}
 use Rattle.pac_ops.specs.declared.batch.Batch.{Batch}
 use Rattle.pac_ops.specs.declared.transaction.Txn.{Txn}
-use Rattle.pac_outside.specs.Disk.{History, WhereTold}
+use Rattle.pac_outside.specs.Disk.{DiskHistory, WhereTold}
 use Rattle.pac_types.specs.Fits.{TxnFits}
 use Rattle.pac_types.specs.Typing.{CatalogueState}
 use Rattle.pac_log.specs.declared.position.NextGate.{NextGate}
@@ -19,7 +19,7 @@ use Rattle.pac_check.specs.declared.info.SlotName.{SlotName}
 use Rattle.pac_check.specs.declared.info.SlotName.TheVariants.{A, B}
 use Rattle.pac_check.specs.declared.state.SlotState.{SlotState}
 use Rattle.pac_check.specs.declared.state.SlotState.TheVariants.{Empty, Closed, Open}
-use Rattle.pac_check.specs.SlotStates.{info_of, newest_of, with_more, IsSlot}
+use Rattle.pac_check.specs.SlotStates.{info_of, newest_of, saved_txns, with_more, IsSlot}
 use Rattle.pac_store.specs.Images.{Images, WhereRead}
 use Rattle.pac_store.specs.Stored.{AreNewest, IsStored}
 use Rattle.pac_store.proofs.StandsLemmas.{newest-one}
@@ -28,7 +28,7 @@ use Rattle.pac_recover.specs.declared.loading.Loaded.{Loaded}
 use Rattle.pac_recover.specs.declared.log.WholeLog.{WholeLog}
 use Rattle.pac_recover.specs.Damages.{IsAmongGates, IsAtGate, IsDamagedSlot, IsSlotDamage}
 use Rattle.pac_recover.specs.Gates.{gate_after, gates_from, last_gate, place_of, txns_in, txns_by_batch, RunOn}
-use Rattle.pac_recover.specs.Loading.{AreNewestOf, IsInfoAmong, IsLoadedFrom, IsPlaced, number_of_newest, stored_of}
+use Rattle.pac_recover.specs.Loading.{AreNewestOf, IsInfoAmong, IsLoadedFrom, IsPlaced, stored_of}
 use Rattle.pac_recover.specs.Logs.{FitBatches, HoldsBatches, HoldsLogUpTo, HoldsWhole, IsReadUpTo, IsWhole, ReadsTo}
 use Rattle.pac_recover.proofs.GateLemmas.{among-gate, gate-among, last-number, number-at, runs-behind, txns-behind, txns-split}
 
@@ -52,7 +52,7 @@ whole log first none end read =
 abbrev pub IsAttached : NextGate → List ℕ → Type 0
 IsAttached first image = (text : List ℕ) × IsStore text first.catalogue image × StandsBehind text [] first image
 
-pub holds-whole : (log : WholeLog) (first : NextGate) (told : Option History) → IsReadUpTo first log.reader.gate log.batches.items log.gates.items
+pub holds-whole : (log : WholeLog) (first : NextGate) (told : Option DiskHistory) → IsReadUpTo first log.reader.gate log.batches.items log.gates.items
     → WhereTold (λ h. IsAttached first h.now.seen) told → ((text : List ℕ) → WhereTold (λ h. ReadsTo text first log.reader.gate log.batches.items h.now.seen) told)
     → WhereTold (λ h. HoldsWhole log h.now.seen) told
 holds-whole log first None read attached reads = tt
@@ -74,7 +74,7 @@ holds-whole log first (Some h) read attached reads =
 -- so many batches stand in front of the newest slot's gate, and its number is that of their transactions
 pub record IsFront (batches : List Batch) (newest : Option SlotInfo) (count : ℕ) : Type 0 where
   pub within : count ≤ length batches
-  pub number : number_of_newest newest ≡ length (txns_in (take count batches))
+  pub number : saved_txns newest ≡ length (txns_in (take count batches))
 
 pub front-of : (start : ℕ) (batches : List Batch) (gates : List GatePlace) (newest : Option SlotInfo) (count : ℕ) → gates ≡ gates_from (record { place = start; txns = 0 }) (txns_by_batch batches)
     → (newest ≡ None → count ≡ 0) → ((info : SlotInfo) → newest ≡ Some info → slice_get gates count ≡ Some (record { place = info.place; txns = info.txns })) → IsFront batches newest count
@@ -141,7 +141,7 @@ damaged-beside log images slot at kind holds damage = record {
     )
 
 module _ (log : WholeLog) (loaded : Loaded) (count : ℕ) (is : IsWhole log) (front : IsFront log.batches.items (newest_of loaded.slots) count)
-    (same : loaded.catalogue ≡ log.reader.gate.catalogue) (batches : loaded.batches ≡ drop count log.batches.items) (number : loaded.txns ≡ number_of_newest (newest_of loaded.slots)) (reader : loaded.reader ≡ log.reader) where
+    (same : loaded.catalogue ≡ log.reader.gate.catalogue) (batches : loaded.batches ≡ drop count log.batches.items) (number : loaded.txns ≡ saved_txns (newest_of loaded.slots)) (reader : loaded.reader ≡ log.reader) where
   pub runs-loaded : RunOn loaded.txns loaded.batches
   runs-loaded =
       let at : 0 + length (txns_in (take count log.batches.items)) ≡ loaded.txns = omega (arith, number, front.number) in
@@ -191,13 +191,13 @@ module _ (log : WholeLog) (loaded : Loaded) (count : ℕ) (is : IsWhole log) (fr
 -- ---- over what the devices tell
 
 pub told-together : (P Q R : List ℕ → Type 0) (S : List ℕ → List ℕ → Type 0) (T : Images → Type 0) → ((images : Images) → P images.log → Q images.slot_a → R images.slot_b → S images.slot_a images.slot_b → T images)
-    → (log a b : Option History) → WhereTold (λ h. P h.now.seen) log → WhereTold (λ h. Q h.now.seen) a → WhereTold (λ h. R h.now.seen) b → WhereTold (λ x. WhereTold (λ y. S x.now.seen y.now.seen) b) a → WhereRead T log a b
+    → (log a b : Option DiskHistory) → WhereTold (λ h. P h.now.seen) log → WhereTold (λ h. Q h.now.seen) a → WhereTold (λ h. R h.now.seen) b → WhereTold (λ x. WhereTold (λ y. S x.now.seen y.now.seen) b) a → WhereRead T log a b
 told-together P Q R S T join None a b p q r s = tt
 told-together P Q R S T join (Some l) None b p q r s = tt
 told-together P Q R S T join (Some l) (Some x) None p q r s = tt
 told-together P Q R S T join (Some l) (Some x) (Some y) p q r s = join (record { log = l.now.seen; slot_a = x.now.seen; slot_b = y.now.seen }) p q r s
 
-pub told-weaker : (P Q : Images → Type 0) → ((images : Images) → P images → Q images) → (log a b : Option History) → WhereRead P log a b → WhereRead Q log a b
+pub told-weaker : (P Q : Images → Type 0) → ((images : Images) → P images → Q images) → (log a b : Option DiskHistory) → WhereRead P log a b → WhereRead Q log a b
 told-weaker P Q weaker None a b p = tt
 told-weaker P Q weaker (Some l) None b p = tt
 told-weaker P Q weaker (Some l) (Some x) None p = tt
@@ -218,20 +218,20 @@ loaded-stored loaded images is = record {
 }
 
 pub told-beside : (P : List ℕ → Type 0) (S : List ℕ → List ℕ → Type 0) (T : Images → Type 0) → ((images : Images) → P images.log → S images.slot_a images.slot_b → T images)
-    → (log a b : Option History) → WhereTold (λ h. P h.now.seen) log → WhereTold (λ x. WhereTold (λ y. S x.now.seen y.now.seen) b) a → WhereRead T log a b
+    → (log a b : Option DiskHistory) → WhereTold (λ h. P h.now.seen) log → WhereTold (λ x. WhereTold (λ y. S x.now.seen y.now.seen) b) a → WhereRead T log a b
 told-beside P S T join None a b p s = tt
 told-beside P S T join (Some l) None b p s = tt
 told-beside P S T join (Some l) (Some x) None p s = tt
 told-beside P S T join (Some l) (Some x) (Some y) p s = join (record { log = l.now.seen; slot_a = x.now.seen; slot_b = y.now.seen }) p s
 
-pub told-never : (T : Images → Type 0) (log a b : Option History) → WhereTold (λ x. WhereTold (λ y. ⊥) b) a → WhereRead T log a b
+pub told-never : (T : Images → Type 0) (log a b : Option DiskHistory) → WhereTold (λ x. WhereTold (λ y. ⊥) b) a → WhereRead T log a b
 told-never T None a b none = tt
 told-never T (Some l) None b none = tt
 told-never T (Some l) (Some x) None none = tt
 told-never T (Some l) (Some x) (Some y) none = absurd none
 
 -- the first damage of slots that were read beside a whole log
-pub first-damage : (log : WholeLog) (catalogue : CatalogueState) (gates : List GatePlace) (slot : SlotName) (at : ℕ) (kind : SlotDamageKind) → catalogue ≡ log.reader.gate.catalogue → gates ≡ log.gates.items → (l a b : Option History)
+pub first-damage : (log : WholeLog) (catalogue : CatalogueState) (gates : List GatePlace) (slot : SlotName) (at : ℕ) (kind : SlotDamageKind) → catalogue ≡ log.reader.gate.catalogue → gates ≡ log.gates.items → (l a b : Option DiskHistory)
     → WhereTold (λ h. HoldsWhole log h.now.seen) l → WhereTold (λ x. WhereTold (λ y. IsSlotDamage (IsAmongGates gates) catalogue.tables slot at kind x.now.seen y.now.seen) b) a → WhereRead (IsDamagedSlot slot at kind) l a b
 first-damage log catalogue gates slot at kind same are l a b holds damage =
     told-beside (HoldsWhole log) (IsSlotDamage (IsAmongGates gates) catalogue.tables slot at kind) (IsDamagedSlot slot at kind)
@@ -241,9 +241,9 @@ first-damage log catalogue gates slot at kind same are l a b holds damage =
     l a b holds damage
 
 -- what is told of slots that were read meanwhile is told of them as they were
-pub moved-told : (S : List ℕ → List ℕ → Type 0) (a b x y : Option History) → x ≡ a → y ≡ b → WhereTold (λ h. WhereTold (λ k. S h.now.seen k.now.seen) y) x → WhereTold (λ h. WhereTold (λ k. S h.now.seen k.now.seen) b) a
+pub moved-told : (S : List ℕ → List ℕ → Type 0) (a b x y : Option DiskHistory) → x ≡ a → y ≡ b → WhereTold (λ h. WhereTold (λ k. S h.now.seen k.now.seen) y) x → WhereTold (λ h. WhereTold (λ k. S h.now.seen k.now.seen) b) a
 moved-told S a b x y same_a same_b told =
-    subst (λ (t : Option History). WhereTold (λ h. WhereTold (λ k. S h.now.seen k.now.seen) b) t) same_a (subst (λ (u : Option History). WhereTold (λ h. WhereTold (λ k. S h.now.seen k.now.seen) u) x) same_b told)
+    subst (λ (t : Option DiskHistory). WhereTold (λ h. WhereTold (λ k. S h.now.seen k.now.seen) b) t) same_a (subst (λ (u : Option DiskHistory). WhereTold (λ h. WhereTold (λ k. S h.now.seen k.now.seen) u) x) same_b told)
 
 pub three-same : (l a b m x y : ℕ) → l ≡ m → a ≡ x → b ≡ y → l ∷ a ∷ b ∷ [] ≡ m ∷ x ∷ y ∷ []
 three-same l a b m x y e f g = cc
@@ -251,7 +251,7 @@ three-same l a b m x y e f g = cc
 -- ---- each device by itself
 
 -- the log of what was read is that of the reader that is loaded
-pub reader-told : (log : WholeLog) (loaded : Loaded) (told : Option History) → loaded.reader ≡ log.reader → WhereTold (λ h. HoldsWhole log h.now.seen) told → WhereTold (λ h. HoldsLogUpTo loaded.reader.gate h.now.seen) told
+pub reader-told : (log : WholeLog) (loaded : Loaded) (told : Option DiskHistory) → loaded.reader ≡ log.reader → WhereTold (λ h. HoldsWhole log h.now.seen) told → WhereTold (λ h. HoldsLogUpTo loaded.reader.gate h.now.seen) told
 reader-told log loaded None same whole = tt
 reader-told log loaded (Some h) same whole =
     let holds = whole.holds in
@@ -261,7 +261,7 @@ reader-told log loaded (Some h) same whole =
     ap-gate up = subst (λ g. HoldsLogUpTo g h.now.seen) (ap (λ r. r.gate) (sym same)) up
 
 -- the slot of what was read is the one that is loaded
-pub slot-told : (catalogue other : CatalogueState) (state same_state : SlotState) (told : Option History) → other ≡ catalogue → same_state ≡ state → WhereTold (λ h. IsSlot catalogue.tables state h.now.seen) told → WhereTold (λ h. IsSlot other.tables same_state h.now.seen) told
+pub slot-told : (catalogue other : CatalogueState) (state same_state : SlotState) (told : Option DiskHistory) → other ≡ catalogue → same_state ≡ state → WhereTold (λ h. IsSlot catalogue.tables state h.now.seen) told → WhereTold (λ h. IsSlot other.tables same_state h.now.seen) told
 slot-told catalogue other state same_state None same equal is = tt
 slot-told catalogue other state same_state (Some h) same equal is =
     subst (λ (c : CatalogueState). IsSlot c.tables same_state h.now.seen) (sym same) (subst (λ (s : SlotState). IsSlot catalogue.tables s h.now.seen) (sym equal) is)

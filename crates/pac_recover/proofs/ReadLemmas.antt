@@ -4,7 +4,7 @@ use Rattle.std.specs.List.{All, AllByRecursion}
 use Rattle.std.proofs.lemmas.List.Elements.{recursion_from_All}
 use Rattle.pac_ops.specs.declared.batch.Batch.{Batch}
 use Rattle.pac_ops.specs.declared.transaction.Txn.{Txn}
-use Rattle.pac_outside.specs.Disk.{History, WhereTold}
+use Rattle.pac_outside.specs.Disk.{DiskHistory, WhereTold}
 use Rattle.pac_types.specs.Fits.{TxnFits}
 use Rattle.pac_types.specs.Typing.{CatalogueState}
 use Rattle.pac_log.specs.declared.damage.DamageKind.{DamageKind}
@@ -65,16 +65,16 @@ more-txns old new batch next = omega (arith, ap (λ (g : NextGate). g.txns) next
 abbrev pub ReadsBehind : List ℕ → NextGate → NextGate → List Batch → List ℕ → Type 0
 ReadsBehind text old new batches image = StandsBehind text [] old image → StandsBehind text (txns_by_batch batches) new image
 
-abbrev pub TellsNext : NextGate → NextGate → Result (Option Batch) LogError → Option History → Type 0
+abbrev pub TellsNext : NextGate → NextGate → Result (Option Batch) LogError → Option DiskHistory → Type 0
 TellsNext old new result told = (text : List ℕ) (batches : List (List Txn)) → WhereTold (λ h. StandsBehind text batches old h.now.seen → TellsOfImage text batches old new h.now.seen result) told
 
-pub reads-more : (text : List ℕ) (old mid new : NextGate) (bs : List Batch) (batch : Batch) (told : Option History)
+pub reads-more : (text : List ℕ) (old mid new : NextGate) (bs : List Batch) (batch : Batch) (told : Option DiskHistory)
     → WhereTold (λ h. ReadsBehind text old mid bs h.now.seen) told → TellsNext mid new (Ok (Some batch)) told → WhereTold (λ h. ReadsBehind text old new (bs ++ batch ∷ []) h.now.seen) told
 reads-more text old mid new bs batch None so_far tells = tt
 reads-more text old mid new bs batch (Some h) so_far tells = λ stands.
     subst (λ (l : List (List Txn)). StandsBehind text l new h.now.seen) (sym (txns-push bs batch)) (tells text (txns_by_batch bs) (so_far stands))
 
-pub reads-all : (text : List ℕ) (old mid new : NextGate) (bs : List Batch) (told : Option History) → mid.catalogue ≡ old.catalogue → new ≡ mid
+pub reads-all : (text : List ℕ) (old mid new : NextGate) (bs : List Batch) (told : Option DiskHistory) → mid.catalogue ≡ old.catalogue → new ≡ mid
     → WhereTold (λ h. ReadsBehind text old mid bs h.now.seen) told → TellsNext mid new (Ok None) told → WhereTold (λ h. ReadsTo text old new bs h.now.seen) told
 reads-all text old mid new bs None same end so_far tells = tt
 reads-all text old mid new bs (Some h) same end so_far tells = λ stands. record {
@@ -82,7 +82,7 @@ reads-all text old mid new bs (Some h) same end so_far tells = λ stands. record
   end = subst (λ (g : NextGate). IsBehind text (txns_by_batch bs) g) (sym end) (so_far stands).behind;
 }
 
-pub reads-damage : (text : List ℕ) (old mid new : NextGate) (bs : List Batch) (at : ℕ) (kind : DamageKind) (told : Option History)
+pub reads-damage : (text : List ℕ) (old mid new : NextGate) (bs : List Batch) (at : ℕ) (kind : DamageKind) (told : Option DiskHistory)
     → WhereTold (λ h. ReadsBehind text old mid bs h.now.seen) told → TellsNext mid new (Err (error.Damaged at kind)) told
     → WhereTold (λ h. StandsBehind text [] old h.now.seen → IsDamagedLog at kind h.now.seen) told
 reads-damage text old mid new bs at kind None so_far tells = tt
@@ -93,13 +93,13 @@ reads-damage text old mid new bs at kind (Some h) so_far tells = λ stands. reco
   damage = tells text (txns_by_batch bs) (so_far stands);
 }
 
-pub reads-nothing : (text : List ℕ) (gate : NextGate) (told : Option History) → WhereTold (λ h. ReadsBehind text gate gate [] h.now.seen) told
+pub reads-nothing : (text : List ℕ) (gate : NextGate) (told : Option DiskHistory) → WhereTold (λ h. ReadsBehind text gate gate [] h.now.seen) told
 reads-nothing text gate None = tt
 reads-nothing text gate (Some h) = λ stands. stands
 
 -- damage behind a first gate is damage of the log that begins there
-pub damage-behind : (first : NextGate) (at : ℕ) (kind : DamageKind) (told now : Option History) → now ≡ told → WhereTold (λ h. (text : List ℕ) × IsStore text first.catalogue h.now.seen × StandsBehind text [] first h.now.seen) told
+pub damage-behind : (first : NextGate) (at : ℕ) (kind : DamageKind) (told now : Option DiskHistory) → now ≡ told → WhereTold (λ h. (text : List ℕ) × IsStore text first.catalogue h.now.seen × StandsBehind text [] first h.now.seen) told
     → ((text : List ℕ) → WhereTold (λ h. StandsBehind text [] first h.now.seen → IsDamagedLog at kind h.now.seen) now) → WhereTold (λ h. IsDamagedLog at kind h.now.seen) told
 damage-behind first at kind None now same attached damaged = tt
 damage-behind first at kind (Some h) now same attached damaged =
-    (subst (λ (t : Option History). WhereTold (λ k. StandsBehind attached.0 [] first k.now.seen → IsDamagedLog at kind k.now.seen) t) same (damaged attached.0)) attached.2
+    (subst (λ (t : Option DiskHistory). WhereTold (λ k. StandsBehind attached.0 [] first k.now.seen → IsDamagedLog at kind k.now.seen) t) same (damaged attached.0)) attached.2

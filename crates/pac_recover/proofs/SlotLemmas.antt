@@ -1,6 +1,6 @@
 -- The first damage of two slots, beside gates that were read.
 use Rattle.std.proofs.Common.{◌≡◌, ◌∙◌, inl, inr, ℕ, List, Option, Some, None, Err, refl, sym, ap, subst}
-use Rattle.pac_outside.specs.Disk.{History, WhereTold}
+use Rattle.pac_outside.specs.Disk.{DiskHistory, WhereTold}
 use Rattle.pac_types.specs.declared.table.Table.{Table}
 use Rattle.pac_check.specs.declared.damage.SlotDamageKind.{SlotDamageKind}
 use Rattle.pac_check.specs.declared.damage.SlotDamageKind.TheVariants.{Place}
@@ -33,7 +33,7 @@ slot-cause slot.NoMemory name at kind e = absurd cc
 not-b : A ≡ B → ⊥
 not-b e = cc
 
-pub broken : (gates : List GatePlace) (tables : List Table) (name : SlotName) (at : ℕ) (kind : SlotDamageKind) (a b : Option History)
+pub broken : (gates : List GatePlace) (tables : List Table) (name : SlotName) (at : ℕ) (kind : SlotDamageKind) (a b : Option DiskHistory)
     → WhereTold (λ h. slot_read tables h.now.seen ≡ Err (slot_fault kind at)) (by_slot name a b)
     → (name ≡ B → WhereTold (λ h. (state : SlotState) × IsSlot tables state h.now.seen) a)
     → WhereTold (λ x. WhereTold (λ y. IsSlotDamage (IsAmongGates gates) tables name at kind x.now.seen y.now.seen) b) a
@@ -63,7 +63,7 @@ module _ (gates : List GatePlace) (tables : List Table) (name : SlotName) (state
   opens : (head : Head) × (by_slot name state_a state_b ≡ Open head) × (found.slot ≡ name)
   opens = open-at name (by_slot name state_a state_b) found (sym is ∙ there)
 
-  beside : (a b : Option History) → WhereTold (λ h. IsSlot tables state_a h.now.seen × OpensExactly tables state_a h.now.seen) a → WhereTold (λ h. IsSlot tables state_b h.now.seen × OpensExactly tables state_b h.now.seen) b
+  beside : (a b : Option DiskHistory) → WhereTold (λ h. IsSlot tables state_a h.now.seen × OpensExactly tables state_a h.now.seen) a → WhereTold (λ h. IsSlot tables state_b h.now.seen × OpensExactly tables state_b h.now.seen) b
       → WhereTold (λ x. WhereTold (λ y. IsSlotDamage (IsAmongGates gates) tables name 9 Place x.now.seen y.now.seen) b) a
   beside None b is_a is_b = tt
   beside (Some x) None is_a is_b = tt
@@ -83,7 +83,7 @@ module _ (gates : List GatePlace) (tables : List Table) (name : SlotName) (state
   )
 
   pub misplaced : (error : LoadError) → error ≡ load.Damaged (Slot found.slot 9 Place) → (slot : SlotName) (at : ℕ) (kind : SlotDamageKind) → error ≡ load.Damaged (Slot slot at kind)
-      → (a b : Option History) → WhereTold (λ h. IsSlot tables state_a h.now.seen × OpensExactly tables state_a h.now.seen) a → WhereTold (λ h. IsSlot tables state_b h.now.seen × OpensExactly tables state_b h.now.seen) b
+      → (a b : Option DiskHistory) → WhereTold (λ h. IsSlot tables state_a h.now.seen × OpensExactly tables state_a h.now.seen) a → WhereTold (λ h. IsSlot tables state_b h.now.seen × OpensExactly tables state_b h.now.seen) b
       → WhereTold (λ x. WhereTold (λ y. IsSlotDamage (IsAmongGates gates) tables slot at kind x.now.seen y.now.seen) b) a
   misplaced error made slot at kind told a b is_a is_b =
       let same = same-damage found.slot slot 9 at Place kind (sym made ∙ told) in
@@ -93,7 +93,7 @@ module _ (gates : List GatePlace) (tables : List Table) (name : SlotName) (state
 
 -- ---- slots that are whole
 
-pub told-whole : (name : SlotName) (a b : Option History) → WhereTold (λ h. ⊥) (by_slot name a b) → WhereTold (λ x. WhereTold (λ y. ⊥) b) a
+pub told-whole : (name : SlotName) (a b : Option DiskHistory) → WhereTold (λ h. ⊥) (by_slot name a b) → WhereTold (λ x. WhereTold (λ y. ⊥) b) a
 told-whole A None b none = tt
 told-whole A (Some x) b none = absurd none
 told-whole B None b none = tt

@@ -4,7 +4,7 @@ use Rattle.std.specs.Prelude.{IfOk, IsErrOf}
 use Rattle.pac_value.specs.State.{Tables}
 use Rattle.pac_ops.specs.declared.note.Note.{Note}
 use Rattle.pac_ops.specs.declared.transaction.Txn.{Txn}
-use Rattle.pac_outside.specs.Disk.{History, WhereTold}
+use Rattle.pac_outside.specs.Disk.{DiskHistory, WhereTold}
 use Rattle.pac_types.specs.Execution.{serial}
 use Rattle.pac_types.specs.Typing.{CatalogueState}
 use Rattle.pac_log.specs.declared.damage.DamageKind.{DamageKind}
@@ -130,7 +130,7 @@ module _ (text : List ℕ) (catalogue : CatalogueState) (history : List Txn) (le
 -- ---- over what the devices tell
 
 -- what is told of each answer
-pub record TellsAnswer (limit : ℕ) (result : Result Recovered RecoverError) (log a b : Option History) : Type 0 where
+pub record TellsAnswer (limit : ℕ) (result : Result Recovered RecoverError) (log a b : Option DiskHistory) : Type 0 where
   pub recovered : IfOk result (λ recovered. WhereRead (IsRecoveredFrom recovered.catalogue recovered.tables.rows recovered.txns) log a b)
   pub no_store : IsErrOf result error.NoStore → WhereTold (λ h. (text : List ℕ) (catalogue : CatalogueState) → IsStore text catalogue h.now.seen → ⊥) log
   pub log_damage : (at : ℕ) (kind : DamageKind) → IsErrOf result (error.Damaged (Log at kind)) → WhereTold (λ h. IsDamagedLog at kind h.now.seen) log
@@ -138,7 +138,7 @@ pub record TellsAnswer (limit : ℕ) (result : Result Recovered RecoverError) (l
   pub abort : (note : Note) → IsErrOf result (error.AbortInLog note) → WhereRead (AbortsIn note) log a b
   pub over : (table : List ℕ) (rows most : ℕ) → IsErrOf result (error.RowsOver table rows most) → (most ≡ limit) × WhereRead (IsOverIn table rows limit) log a b
 
-module _ (limit : ℕ) (l x y : History) (text : List ℕ) (catalogue : CatalogueState) (history : List Txn) (least : ℕ) where
+module _ (limit : ℕ) (l x y : DiskHistory) (text : List ℕ) (catalogue : CatalogueState) (history : List Txn) (least : ℕ) where
   abbrev images : Images
   images = record { log = l.now.seen; slot_a = x.now.seen; slot_b = y.now.seen }
 
@@ -154,7 +154,7 @@ module _ (limit : ℕ) (l x y : History) (text : List ℕ) (catalogue : Catalogu
   recovers-here (Err error.DiskFault) tells is = tt
   recovers-here (Err error.NoMemory) tells is = tt
 
-pub recovers : (limit : ℕ) (result : Result Recovered RecoverError) (log a b : Option History) → TellsAnswer limit result log a b → (text : List ℕ) (catalogue : CatalogueState) (history : List Txn) (least : ℕ)
+pub recovers : (limit : ℕ) (result : Result Recovered RecoverError) (log a b : Option DiskHistory) → TellsAnswer limit result log a b → (text : List ℕ) (catalogue : CatalogueState) (history : List Txn) (least : ℕ)
     → WhereRead (λ images. StandsFor text catalogue history least images → Recovers catalogue history least result) log a b
 recovers limit result None a b tells text catalogue history least = tt
 recovers limit result (Some l) None b tells text catalogue history least = tt

@@ -3,7 +3,7 @@ use Rattle.std.proofs.Common.{◌≡◌, ◌∙◌, ◌+◌, ℕ, List, length, 
 use Rattle.pac_value.specs.State.{Tables}
 use Rattle.pac_ops.specs.declared.batch.Batch.{Batch}
 use Rattle.pac_ops.specs.declared.note.Note.{Note}
-use Rattle.pac_outside.specs.Disk.{History, WhereTold}
+use Rattle.pac_outside.specs.Disk.{DiskHistory, WhereTold}
 use Rattle.pac_types.specs.Execution.{serial as executed}
 use Rattle.pac_types.specs.Typing.{CatalogueState}
 use Rattle.pac_log.specs.declared.damage.DamageKind.{DamageKind}
@@ -68,7 +68,7 @@ executed-else serial.NoMemory other e = (λ f. cc, λ damage f. cc, λ table row
 
 -- ---- an answer that is a refusal tells what its cause tells
 
-module _ (limit : ℕ) (log a b : Option History) where
+module _ (limit : ℕ) (log a b : Option DiskHistory) where
   as-answer : (result : Result Recovered RecoverError) (error other : RecoverError) → result ≡ Err error → error ≡ other → TellsAnswer limit (Err other) log a b → TellsAnswer limit result log a b
   as-answer result error other is same tells =
       subst (λ (r : Result Recovered RecoverError). TellsAnswer limit r log a b) (sym is) (subst (λ (e : RecoverError). TellsAnswer limit (Err e) log a b) (sym same) tells)
@@ -130,7 +130,7 @@ module _ (limit : ℕ) (log a b : Option History) where
 
 -- ---- what is executed is what is stored
 
-module _ (loaded : Loaded) (log a b : Option History) (slice : List Batch) (are : slice ≡ loaded.batches) where
+module _ (loaded : Loaded) (log a b : Option DiskHistory) (slice : List Batch) (are : slice ≡ loaded.batches) where
   ends-as : (r : Result Tables Note) → executed loaded.catalogue.procs (loaded.txns + 1) (txns_in slice) loaded.tables.rows ≡ r → stored_outcome (stored_of loaded) ≡ r
   ends-as r done = subst (λ (l : List Batch). executed loaded.catalogue.procs (loaded.txns + 1) (txns_in l) loaded.tables.rows ≡ r) are done
 

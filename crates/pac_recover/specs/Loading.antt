@@ -13,7 +13,7 @@ use Rattle.pac_check.specs.declared.slots.Slots.{Slots}
 use Rattle.pac_check.specs.declared.state.SlotState.{SlotState}
 use Rattle.pac_check.specs.declared.state.SlotState.TheVariants.{Empty, Closed, Open}
 use Rattle.pac_check.specs.Checkpoints.{head_with}
-use Rattle.pac_check.specs.SlotStates.{newest_of, IsSlot}
+use Rattle.pac_check.specs.SlotStates.{newest_of, saved_txns, IsSlot}
 use Rattle.pac_store.specs.Images.{Images}
 use Rattle.pac_store.specs.Stored.{AreNewest, Stored}
 use Rattle.pac_recover.specs.declared.gates.GatePlace.{GatePlace}
@@ -22,11 +22,6 @@ use Rattle.pac_recover.specs.Damages.{IsAmongGates, IsAtGate}
 use Rattle.pac_recover.specs.Gates.{txns_in, RunOn}
 use Rattle.pac_recover.specs.Logs.{FitBatches}
 
--- how many transactions are in the tables of an open slot; 0 where there is none
-abbrev pub number_of_newest : Option SlotInfo → ℕ
-number_of_newest None = 0
-number_of_newest (Some info) = info.txns
-
 -- an open slot is at one of these gates
 abbrev pub IsInfoAmong : List GatePlace → Option SlotInfo → Type 0
 IsInfoAmong gates None = Unit {0}
@@ -34,7 +29,7 @@ IsInfoAmong gates (Some info) = IsAmongGates gates (head_with info.txns info.pla
 
 -- the tables of the newest of two slots
 abbrev pub AreNewestOf : CatalogueState → Slots → Tables → List ℕ → List ℕ → Type 0
-AreNewestOf catalogue slots base a b = AreNewest catalogue a b (newest_of slots) base (number_of_newest (newest_of slots))
+AreNewestOf catalogue slots base a b = AreNewest catalogue a b (newest_of slots) base (saved_txns (newest_of slots))
 
 -- an open slot is at a gate of the log
 abbrev pub IsPlaced : List ℕ → List (List Txn) → SlotState → Type 0
@@ -50,7 +45,7 @@ pub record IsLoaded (loaded : Loaded) : Type 0 where
   pub shapes : loaded.plan.tables ≡ map shape loaded.catalogue.tables
   pub analysis : IsAnalysis loaded.plan
   pub fits : FitsCatalogue loaded.catalogue loaded.tables.tables loaded.tables.rows
-  pub number : loaded.txns ≡ number_of_newest (newest_of loaded.slots)
+  pub number : loaded.txns ≡ saved_txns (newest_of loaded.slots)
   pub fit : FitBatches loaded.catalogue loaded.batches
   pub runs : RunOn loaded.txns loaded.batches
   pub total : loaded.reader.gate.txns ≡ loaded.txns + length (txns_in loaded.batches)

@@ -12,8 +12,8 @@ ghost use Rattle.pac_check.specs.declared.info.SlotName.{SlotName as ASlotName};
 ghost use Rattle.pac_store.specs.Images.{Images, WhereRead};
 ghost use Rattle.pac_store.specs.Stored.{IsStored};
 ghost use Rattle.pac_recover.specs.declared.errors.Damage.TheVariants.{Log as InLog, Slot as InSlot};
-ghost use Rattle.pac_check.specs.SlotStates.{IsSlot, info_of};
-ghost use Rattle.pac_recover.specs.Loading.{AreNewestOf, IsInfoAmong, IsLoaded, IsLoadedFrom, number_of_newest, stored_of};
+ghost use Rattle.pac_check.specs.SlotStates.{IsSlot, info_of, saved_txns};
+ghost use Rattle.pac_recover.specs.Loading.{AreNewestOf, IsInfoAmong, IsLoaded, IsLoadedFrom, stored_of};
 ghost use Rattle.pac_recover.specs.Logs.{HoldsLogUpTo, HoldsWhole, IsWhole};
 ghost use Rattle.pac_recover.specs.Refusals.{HasDamage, HasNoStore};
 
@@ -148,7 +148,7 @@ fn join_parts(
 
 // How many transactions are in the tables of a slot; 0 where there is none.
 fn txns_in(info: Option<SlotInfo>) -> u64
-    ensures { result ≡ number_of_newest info }
+    ensures { result ≡ saved_txns info }
 {
     match info {
         Some(info) => info.txns,

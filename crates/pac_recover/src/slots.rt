@@ -7,12 +7,12 @@ ghost use Rattle.pac_log.specs.declared.damage.DamageKind.{DamageKind as ALogDam
 ghost use Rattle.pac_check.specs.declared.damage.SlotDamageKind.{SlotDamageKind as ASlotDamage};
 ghost use Rattle.pac_check.specs.declared.info.SlotInfo.{SlotInfo as ASlotInfo};
 ghost use Rattle.pac_check.specs.declared.info.SlotName.{SlotName as ASlotName};
-ghost use Rattle.pac_check.specs.SlotStates.{IsSlot, info_of, newest_of};
+ghost use Rattle.pac_check.specs.SlotStates.{IsSlot, info_of, newest_of, saved_txns};
 ghost use Rattle.pac_store.specs.Images.{Images};
 ghost use Rattle.pac_recover.specs.declared.errors.Damage.TheVariants.{Log as InLog, Slot as InSlot};
 ghost use Rattle.pac_recover.specs.declared.errors.LoadError.{LoadError as ALoadError};
 ghost use Rattle.pac_recover.specs.Damages.{IsAmongGates, IsSlotDamage};
-ghost use Rattle.pac_recover.specs.Loading.{AreNewestOf, IsInfoAmong, number_of_newest};
+ghost use Rattle.pac_recover.specs.Loading.{AreNewestOf, IsInfoAmong};
 
 use crate::gates::{GatePlace, number_of};
 use crate::{Damage, LoadError};

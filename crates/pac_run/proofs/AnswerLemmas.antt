@@ -5,7 +5,7 @@ use Rattle.std.specs.List.{AllByRecursion}
 use Rattle.std.proofs.lemmas.List.{append-nil}
 use Rattle.pac_ops.specs.declared.transaction.Txn.{Txn}
 use Rattle.pac_outside.specs.Devices.{all_told}
-use Rattle.pac_outside.specs.Disk.{History}
+use Rattle.pac_outside.specs.Disk.{DiskHistory}
 use Rattle.pac_types.specs.Typing.{CatalogueState}
 use Rattle.pac_check.specs.declared.limits.TheConstants.{MAX_SLOT_LEN}
 use Rattle.pac_request.specs.declared.request.Request.{Request}
@@ -35,7 +35,7 @@ only-err (Err e) a b only is = same only is
     same : {T E : Type 0} {e a b : E} → ◌≡◌ {A = Result T E} (Err e) (Err a) → ◌≡◌ {A = Result T E} (Err e) (Err b) → b ≡ a
     same f g = cc
 
-module _ (asked : Request) (old new : EngineParts) (told told' : List (Option History)) where
+module _ (asked : Request) (old new : EngineParts) (told told' : List (Option DiskHistory)) where
   keeps-one : KeepsEach (commits (rules_of old.session) (state_now old.session) asked) old new told told' → KeepsEach (committed (rules_of old.session) (state_now old.session) (asked ∷ [])) old new told told'
   keeps-one keeps = subst (λ (t : List Txn). KeepsEach t old new told told') (sym (append-nil (commits (rules_of old.session) (state_now old.session) asked))) keeps
 
@@ -113,7 +113,7 @@ module _ (asked : Request) (old new : EngineParts) (told told' : List (Option Hi
       first-same e = cc
 
 -- nothing was asked
-pub answered-none : (e : EngineParts) (told : List (Option History)) → StandsForEach [] e e told told → Answered [] [] e e told told
+pub answered-none : (e : EngineParts) (told : List (Option DiskHistory)) → StandsForEach [] e e told told → Answered [] [] e e told told
 answered-none e told stands = record {
   closes = λ rules place start whole given is. subst (λ (l : List Reply). Closes rules place start whole l e) (sym (append-nil given)) is;
   keeps = nothing-keeps e told;
@@ -129,5 +129,5 @@ answered-none e told stands = record {
     none : [] ≡ request.Save ∷ [] → ⊥
     none e = cc
 
-pub nothing-stands : (e : EngineParts) (told : List (Option History)) → StandsForEach [] e e told told
+pub nothing-stands : (e : EngineParts) (told : List (Option DiskHistory)) → StandsForEach [] e e told told
 nothing-stands e told = λ text history. rest-told (StandsOn text history e) (λ was is. StandsOn text (history ++ []) e is) (λ devices is. subst (λ (h : List Txn). StandsOn text h e devices) (sym (append-nil history)) is) (all_told told)

@@ -4,7 +4,7 @@ use Rattle.std.specs.Prelude.{IsErrOf}
 use Rattle.pac_value.specs.State.{Tables}
 use Rattle.pac_ops.specs.declared.batch.Batch.{Batch}
 use Rattle.pac_ops.specs.declared.note.Note.{Note}
-use Rattle.pac_outside.specs.Disk.{History, WhereTold}
+use Rattle.pac_outside.specs.Disk.{DiskHistory, WhereTold}
 use Rattle.pac_types.specs.Execution.{serial as executed}
 use Rattle.pac_types.specs.Typing.{CatalogueState}
 use Rattle.pac_log.specs.declared.position.NextGate.{NextGate}
@@ -48,7 +48,7 @@ over-cause result answer cause table rows most is same told = executed-over caus
 over-is : (t u : List ℕ) (m n k l : ℕ) → error.RowsOver t m k ≡ error.RowsOver u n l → (t ≡ u) × (m ≡ n) × (k ≡ l)
 over-is t u m n k l e = (cc, cc, cc)
 
-pub over-told : (result : Result EngineParts RecoverError) (answer : RecoverError) (t : List ℕ) (m k limit : ℕ) (log a b : Option History) → result ≡ Err answer → answer ≡ error.RowsOver t m k → k ≡ limit → WhereRead (IsOverIn t m limit) log a b
+pub over-told : (result : Result EngineParts RecoverError) (answer : RecoverError) (t : List ℕ) (m k limit : ℕ) (log a b : Option DiskHistory) → result ≡ Err answer → answer ≡ error.RowsOver t m k → k ≡ limit → WhereRead (IsOverIn t m limit) log a b
     → (table : List ℕ) (rows most : ℕ) → IsErrOf result (error.RowsOver table rows most) → (most ≡ limit) × WhereRead (IsOverIn table rows limit) log a b
 over-told result answer t m k limit log a b is same at over table rows most told =
     let equal = over-is t table m rows k most (the-cause result answer (error.RowsOver t m k) (error.RowsOver table rows most) is same told) in (
@@ -58,11 +58,11 @@ over-told result answer t m k limit log a b is same at over table rows most told
 
 -- ---- the engine
 
-pub gate-told : (gate other : NextGate) (told : Option History) → other ≡ gate → WhereTold (λ h. HoldsLogUpTo gate h.now.seen) told → WhereTold (λ h. HoldsLogUpTo other h.now.seen) told
+pub gate-told : (gate other : NextGate) (told : Option DiskHistory) → other ≡ gate → WhereTold (λ h. HoldsLogUpTo gate h.now.seen) told → WhereTold (λ h. HoldsLogUpTo other h.now.seen) told
 gate-told gate other None same up = tt
 gate-told gate other (Some h) same up = subst (λ (g : NextGate). HoldsLogUpTo g h.now.seen) (sym same) up
 
-pub state-told : (catalogue other : CatalogueState) (state same-state : SlotState) (told : Option History) → other ≡ catalogue → same-state ≡ state → WhereTold (λ h. IsSlot catalogue.tables state h.now.seen) told → WhereTold (λ h. IsSlot other.tables same-state h.now.seen) told
+pub state-told : (catalogue other : CatalogueState) (state same-state : SlotState) (told : Option DiskHistory) → other ≡ catalogue → same-state ≡ state → WhereTold (λ h. IsSlot catalogue.tables state h.now.seen) told → WhereTold (λ h. IsSlot other.tables same-state h.now.seen) told
 state-told catalogue other state same-state None same equal is = tt
 state-told catalogue other state same-state (Some h) same equal is = subst (λ (c : CatalogueState). IsSlot c.tables same-state h.now.seen) (sym same) (subst (λ (s : SlotState). IsSlot catalogue.tables s h.now.seen) (sym equal) is)
 
@@ -77,12 +77,12 @@ module _ (engine : EngineParts) (loaded : Loaded) (held : Tables) (catalogue : e
     behind = subst (λ (g : NextGate). IsBehind from.text from.batches g) (sym gate) from.end;
   }
 
-  both-told : (log a b : Option History) → WhereRead (IsLoadedFrom loaded) log a b → WhereRead (IsRecoveredFrom loaded.catalogue held loaded.reader.gate.txns) log a b → WhereRead (IsOpenedFrom engine) log a b
+  both-told : (log a b : Option DiskHistory) → WhereRead (IsLoadedFrom loaded) log a b → WhereRead (IsRecoveredFrom loaded.catalogue held loaded.reader.gate.txns) log a b → WhereRead (IsOpenedFrom engine) log a b
   both-told None a b from recovered = tt
   both-told (Some l) None b from recovered = tt
   both-told (Some l) (Some a) None from recovered = tt
   both-told (Some l) (Some a) (Some b) from recovered = opened-here (record { log = l.now.seen; slot_a = a.now.seen; slot_b = b.now.seen }) from recovered
 
-  pub opened-told : (log a b : Option History) (slice : List Batch) → slice ≡ loaded.batches → executed loaded.catalogue.procs (loaded.txns + 1) (txns_in slice) loaded.tables.rows ≡ Ok held → loaded.reader.gate.txns ≡ loaded.txns + length (txns_in loaded.batches)
+  pub opened-told : (log a b : Option DiskHistory) (slice : List Batch) → slice ≡ loaded.batches → executed loaded.catalogue.procs (loaded.txns + 1) (txns_in slice) loaded.tables.rows ≡ Ok held → loaded.reader.gate.txns ≡ loaded.txns + length (txns_in loaded.batches)
       → WhereRead (IsLoadedFrom loaded) log a b → WhereRead (λ images. IsStored images (stored_of loaded)) log a b → WhereRead (IsOpenedFrom engine) log a b
   opened-told log a b slice are done total from stored = both-told log a b from (stored-recovered loaded log a b slice are held loaded.reader.gate.txns loaded.reader.gate.txns done refl total stored)

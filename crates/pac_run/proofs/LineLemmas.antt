@@ -3,7 +3,7 @@ use Rattle.std.proofs.Common.{◌≡◌, ◌∙◌, ℕ, ◌+◌, ◌-◌, ◌<�
 use Rattle.std.specs.Prelude.{IsErrOf}
 use Rattle.std.proofs.KnownBytes.{prepend_known-nil}
 use Rattle.pac_outside.specs.Causes.{Rose}
-use Rattle.pac_outside.specs.Disk.{History}
+use Rattle.pac_outside.specs.Disk.{DiskHistory}
 use Rattle.pac_lines.specs.Calls.{IsCall, KeepsLimit}
 use Rattle.pac_lines.specs.Reading.{ReaderState}
 use Rattle.pac_lines.specs.declared.line_error.LineError.{LineError}
@@ -27,7 +27,7 @@ use Rattle.pac_run.proofs.ServeLemmas.{serving-more, still-served, took-nothing}
 use Rattle.pac_run.proofs.StepLemmas.{goes-first}
 
 -- before the first line
-abbrev pub first-serving : (engine : EngineParts) (left held : Option (List ℕ)) (told : List (Option History)) (reader : ReaderState) → engine.session.txns ≡ [] → engine.session.held ≡ [] → reader ≡ record { line = []; ahead = []; taken = 0; limit = MAX_INPUT }
+abbrev pub first-serving : (engine : EngineParts) (left held : Option (List ℕ)) (told : List (Option DiskHistory)) (reader : ReaderState) → engine.session.txns ≡ [] → engine.session.held ≡ [] → reader ≡ record { line = []; ahead = []; taken = 0; limit = MAX_INPUT }
     → Serving engine engine left left reader held held told told
 first-serving engine left held told reader none empty is = record {
   lines = [];
@@ -40,7 +40,7 @@ first-serving engine left held told reader none empty is = record {
   goes = goes-first engine told none empty (nothing-stands engine told);
 }
 
-module _ (first now : EngineParts) (left mid left' : Option (List ℕ)) (reader next : ReaderState) (held held' held'' : Option (List ℕ)) (told told' told'' : List (Option History)) (serving : Serving first now left mid reader held held' told told') (new : EngineParts)
+module _ (first now : EngineParts) (left mid left' : Option (List ℕ)) (reader next : ReaderState) (held held' held'' : Option (List ℕ)) (told told' told'' : List (Option DiskHistory)) (serving : Serving first now left mid reader held held' told told') (new : EngineParts)
     (catalogue : CatalogueState) (same : catalogue ≡ first.session.catalogue) where
   pub end-any : (b : Bool) → b ≡ false → IsCall reader next mid left' (Ok b) → KeepsLimit next (Ok b) → (rose rose' : Type 0) → (rose' → rose) → (result : Result (Unit {0}) RunStop) → OnOk result (Replied catalogue (request.Stop ∷ []) now new held' held'' told' told'')
       → ((stop : RunStop) → IsErrOf result stop → Broke catalogue request.Stop now new held' held'' told' told'' rose' stop) → Served first new left left' held held'' told told'' rose result
@@ -80,11 +80,11 @@ module _ (first now : EngineParts) (left mid left' : Option (List ℕ)) (reader 
         omega (arith, falls left mid left' reader next serving.lines serving.read call-is, read.within, read.limit, serving.read.within, serving.read.limit)
 
 -- the catalogue stays the same
-pub catalogue-stays : (catalogue : CatalogueState) (old new : EngineParts) (text : List ℕ) (stops : Bool) (c : CatalogueState) (held held' : Option (List ℕ)) (told told' : List (Option History)) → catalogue ≡ old.session.catalogue → LineServed c text stops old new held held' told told' → catalogue ≡ new.session.catalogue
+pub catalogue-stays : (catalogue : CatalogueState) (old new : EngineParts) (text : List ℕ) (stops : Bool) (c : CatalogueState) (held held' : Option (List ℕ)) (told told' : List (Option DiskHistory)) → catalogue ≡ old.session.catalogue → LineServed c text stops old new held held' told told' → catalogue ≡ new.session.catalogue
 catalogue-stays catalogue old new text stops c held held' told told' same served = same ∙ ap (λ (r : Rules). r.catalogue) (sym served.replied.answered.same)
 
 -- where nothing could be served
-pub nothing-served : (engine : EngineParts) (left held : Option (List ℕ)) (told : List (Option History)) (rose : Type 0) (result : Result (Unit {0}) RunStop) (stop : RunStop) → engine.session.txns ≡ [] → engine.session.held ≡ [] → result ≡ Err stop → stop ≡ NoMemory
+pub nothing-served : (engine : EngineParts) (left held : Option (List ℕ)) (told : List (Option DiskHistory)) (rose : Type 0) (result : Result (Unit {0}) RunStop) (stop : RunStop) → engine.session.txns ≡ [] → engine.session.held ≡ [] → result ≡ Err stop → stop ≡ NoMemory
     → Served engine engine left left held held told told rose result
 nothing-served engine left held told rose result stop none empty gives is =
     let reader : ReaderState = record { line = []; ahead = []; taken = 0; limit = MAX_INPUT } in
@@ -99,13 +99,13 @@ nothing-served engine left held told rose result stop none empty gives is =
 pub rose-later : (a b c : ℕ) → a ≤ b → Rose b c → Rose a c
 rose-later a b c later rose = omega (arith, later, rose)
 
-pub read-any : (first now : EngineParts) (left mid left' : Option (List ℕ)) (reader next : ReaderState) (held held' : Option (List ℕ)) (told told' : List (Option History)) → Serving first now left mid reader held held' told told' → (rose : Type 0) (error : LineError) (stop : RunStop) → stop ≡ not_read error
+pub read-any : (first now : EngineParts) (left mid left' : Option (List ℕ)) (reader next : ReaderState) (held held' : Option (List ℕ)) (told told' : List (Option DiskHistory)) → Serving first now left mid reader held held' told told' → (rose : Type 0) (error : LineError) (stop : RunStop) → stop ≡ not_read error
     → IsCall reader next mid left' (Err error) → KeepsLimit next (Err error) → Served first now left left' held held' told told' rose (Err stop)
 read-any first now left mid left' reader next held held' told told' serving rose error stop is call keeps =
     subst (λ (s : RunStop). Served first now left left' held held' told told' rose (Err s)) (sym is) (read-stopped first now left mid reader held held' told told' serving left' next rose error call keeps)
 
 -- a request is never refused by the input
-pub never-input : (first now : EngineParts) (left mid : Option (List ℕ)) (reader : ReaderState) (held held' held'' : Option (List ℕ)) (told told' told'' : List (Option History)) → Serving first now left mid reader held held' told told' → (catalogue : CatalogueState) (asked : Request) (new : EngineParts) (rose : Type 0)
+pub never-input : (first now : EngineParts) (left mid : Option (List ℕ)) (reader : ReaderState) (held held' held'' : Option (List ℕ)) (told told' told'' : List (Option DiskHistory)) → Serving first now left mid reader held held' told told' → (catalogue : CatalogueState) (asked : Request) (new : EngineParts) (rose : Type 0)
     → Broke catalogue asked now new held' held'' told' told'' rose InputFault → ⊥
 never-input first now left mid reader held held' held'' told told' told'' serving catalogue asked new rose broke =
     let whole : GroupCut = cut (rules_of first.session) (state_now first.session) serving.requests in

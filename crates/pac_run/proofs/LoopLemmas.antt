@@ -1,7 +1,7 @@
 -- The ways in which the loop over lines ends.
 use Rattle.std.proofs.Common.{◌≡◌, inl, inr, ℕ, Bool, true, false, List, [], ◌∷◌, ◌++◌, Option, Result, Ok, Err, refl, sym, subst}
 use Rattle.std.specs.Prelude.{IsErrOf}
-use Rattle.pac_outside.specs.Disk.{History}
+use Rattle.pac_outside.specs.Disk.{DiskHistory}
 use Rattle.pac_lines.specs.Calls.{IsCall, KeepsLimit}
 use Rattle.pac_lines.specs.Reading.{ReaderState}
 use Rattle.pac_lines.specs.declared.line_error.LineError.{LineError}
@@ -17,7 +17,7 @@ use Rattle.pac_run.specs.Serving.{Broke, HasRead, LineBroke, LineServed, Replied
 use Rattle.pac_run.proofs.ReadLemmas.{at-end, lines-ask, more-read, not-long, over-long, still-handled}
 use Rattle.pac_run.proofs.ServeLemmas.{broke-served, still-served, stop-served}
 
-module _ (first now : EngineParts) (left mid : Option (List ℕ)) (reader : ReaderState) (held held' : Option (List ℕ)) (told told' : List (Option History)) (serving : Serving first now left mid reader held held' told told') where
+module _ (first now : EngineParts) (left mid : Option (List ℕ)) (reader : ReaderState) (held held' : Option (List ℕ)) (told told' : List (Option DiskHistory)) (serving : Serving first now left mid reader held held' told told') where
   no-long : (e : LineError) → (e ≡ line.TooLong → ⊥) → IsErrOf {T = Bool} (Err e) line.TooLong → ⊥
   no-long e other is = other (same is)
     where
@@ -40,7 +40,7 @@ module _ (first now : EngineParts) (left mid : Option (List ℕ)) (reader : Read
         still-served first now left mid reader held held' told told' serving left' rose NoMemory (reader.ahead ++ call.given) (still-handled left mid left' reader next serving.lines serving.read (Err line.NoMemory) call)
         (λ other. not-long left mid left' reader next serving.lines serving.read (Err line.NoMemory) call keeps (no-long line.NoMemory (λ e. cc))) (λ is. absurd cc) (inr (inr refl))
 
-    module _ (held'' : Option (List ℕ)) (told'' : List (Option History)) (new : EngineParts) where
+    module _ (held'' : Option (List ℕ)) (told'' : List (Option DiskHistory)) (new : EngineParts) where
       -- the end was met, and the stop behind it was answered or not
       module _ (call : IsCall reader next mid left' (Ok false)) (keeps : KeepsLimit next (Ok false)) where
         pub end-served : Replied first.session.catalogue (request.Stop ∷ []) now new held' held'' told' told'' → Served first new left left' held held'' told told'' rose (Ok tt)
@@ -71,7 +71,7 @@ module _ (first now : EngineParts) (left mid : Option (List ℕ)) (reader : Read
         line-broke rose' stop later (inl same) =
             subst (λ (e : EngineParts). Served first e left left' held held'' told told'' rose (Err stop)) (sym same.engine)
             (subst (λ (h : Option (List ℕ)). Served first now left left' held h told told'' rose (Err stop)) (sym same.output)
-            (subst (λ (t : List (Option History)). Served first now left left' held held' told t rose (Err stop)) (sym same.devices)
+            (subst (λ (t : List (Option DiskHistory)). Served first now left left' held held' told t rose (Err stop)) (sym same.devices)
             (subst (λ (s : RunStop). Served first now left left' held held' told told' rose (Err s)) (sym same.stopped)
             (still-served first now left mid reader held held' told told' serving left' rose NoMemory (reader.ahead ++ call.given) (still-handled left mid left' reader next serving.lines serving.read (Ok true) call)
             (λ other. not-long left mid left' reader next serving.lines serving.read (Ok true) call keeps (ok-no-long true)) (λ is. absurd cc) (inr (inr refl))))))

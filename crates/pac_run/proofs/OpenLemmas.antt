@@ -8,7 +8,7 @@ use Rattle.std.specs.Prelude.{IfOk}
 use Rattle.pac_ops.specs.declared.transaction.Txn.{Txn}
 use Rattle.pac_outside.specs.declared.devices.Devices.{Devices}
 use Rattle.pac_outside.specs.Devices.{AreImages, AreSettled, RunsAsBefore, WhereAllTold, each}
-use Rattle.pac_outside.specs.Disk.{History, IsImage, WhereTold, after_sync, settled}
+use Rattle.pac_outside.specs.Disk.{DiskHistory, IsImage, WhereTold, after_sync, settled}
 use Rattle.pac_outside.specs.GateByte.{OneImage}
 use Rattle.pac_outside.proofs.Runs.{run_end}
 use Rattle.pac_types.specs.declared.table.Table.{Table}
@@ -34,29 +34,29 @@ use Rattle.pac_run.specs.Opening.{BeginsOver, IsFresh, IsOpenedFrom, StandsForFr
 -- ---- each device by itself
 
 -- what a log holds after a sync is its one image
-pub one-log : (gate : NextGate) (old mid now : Option History) → mid ≡ option_map after_sync old → now ≡ mid → WhereTold (λ h. HoldsLogUpTo gate h.now.seen) mid → WhereTold (λ h. LogEndsAt gate h.now) now
-one-log gate None mid now synced same told = subst (λ (t : Option History). WhereTold (λ h. LogEndsAt gate h.now) t) (sym (same ∙ synced)) tt
+pub one-log : (gate : NextGate) (old mid now : Option DiskHistory) → mid ≡ option_map after_sync old → now ≡ mid → WhereTold (λ h. HoldsLogUpTo gate h.now.seen) mid → WhereTold (λ h. LogEndsAt gate h.now) now
+one-log gate None mid now synced same told = subst (λ (t : Option DiskHistory). WhereTold (λ h. LogEndsAt gate h.now) t) (sym (same ∙ synced)) tt
 one-log gate (Some h) mid now synced same told =
-    let up : HoldsLogUpTo gate h.now.seen = subst (λ (t : Option History). WhereTold (λ x. HoldsLogUpTo gate x.now.seen) t) synced told in
+    let up : HoldsLogUpTo gate h.now.seen = subst (λ (t : Option DiskHistory). WhereTold (λ x. HoldsLogUpTo gate x.now.seen) t) synced told in
     let ends : LogEndsAt gate (settled h.now.seen) = record { text = up.text; batches = up.batches; holds = record { one = refl; has = up.log }; behind = up.end } in
-    subst (λ (t : Option History). WhereTold (λ x. LogEndsAt gate x.now) t) (sym (same ∙ synced)) ends
+    subst (λ (t : Option DiskHistory). WhereTold (λ x. LogEndsAt gate x.now) t) (sym (same ∙ synced)) ends
 
 -- and so it is of a slot
-pub one-slot : (tables : List Table) (state : SlotState) (old mid now : Option History) → mid ≡ option_map after_sync old → now ≡ mid → WhereTold (λ h. IsSlot tables state h.now.seen) mid → WhereTold (λ h. OneImage (IsSlot tables state) h.now) now
-one-slot tables state None mid now synced same told = subst (λ (t : Option History). WhereTold (λ h. OneImage (IsSlot tables state) h.now) t) (sym (same ∙ synced)) tt
+pub one-slot : (tables : List Table) (state : SlotState) (old mid now : Option DiskHistory) → mid ≡ option_map after_sync old → now ≡ mid → WhereTold (λ h. IsSlot tables state h.now.seen) mid → WhereTold (λ h. OneImage (IsSlot tables state) h.now) now
+one-slot tables state None mid now synced same told = subst (λ (t : Option DiskHistory). WhereTold (λ h. OneImage (IsSlot tables state) h.now) t) (sym (same ∙ synced)) tt
 one-slot tables state (Some h) mid now synced same told =
-    let is : IsSlot tables state h.now.seen = subst (λ (t : Option History). WhereTold (λ x. IsSlot tables state x.now.seen) t) synced told in
+    let is : IsSlot tables state h.now.seen = subst (λ (t : Option DiskHistory). WhereTold (λ x. IsSlot tables state x.now.seen) t) synced told in
     let one : OneImage (IsSlot tables state) (settled h.now.seen) = record { one = refl; has = is } in
-    subst (λ (t : Option History). WhereTold (λ x. OneImage (IsSlot tables state) x.now) t) (sym (same ∙ synced)) one
+    subst (λ (t : Option DiskHistory). WhereTold (λ x. OneImage (IsSlot tables state) x.now) t) (sym (same ∙ synced)) one
 
 -- what three devices tell
-pub first-same : (l a b m x y : Option History) → l ∷ a ∷ b ∷ [] ≡ m ∷ x ∷ y ∷ [] → l ≡ m
+pub first-same : (l a b m x y : Option DiskHistory) → l ∷ a ∷ b ∷ [] ≡ m ∷ x ∷ y ∷ [] → l ≡ m
 first-same l a b m x y same = cc
 
-pub second-same : (l a b m x y : Option History) → l ∷ a ∷ b ∷ [] ≡ m ∷ x ∷ y ∷ [] → a ≡ x
+pub second-same : (l a b m x y : Option DiskHistory) → l ∷ a ∷ b ∷ [] ≡ m ∷ x ∷ y ∷ [] → a ≡ x
 second-same l a b m x y same = cc
 
-pub third-same : (l a b m x y : Option History) → l ∷ a ∷ b ∷ [] ≡ m ∷ x ∷ y ∷ [] → b ≡ y
+pub third-same : (l a b m x y : Option DiskHistory) → l ∷ a ∷ b ∷ [] ≡ m ∷ x ∷ y ∷ [] → b ≡ y
 third-same l a b m x y same = cc
 
 -- ---- all three
@@ -64,14 +64,14 @@ third-same l a b m x y same = cc
 own-image : (bytes : List ℕ) → IsImage (settled bytes) bytes
 own-image bytes = record { no_shorter = omega arith; no_longer = omega arith; stays = λ place below none. refl }
 
-module _ (engine : EngineParts) (l a b : History) (none : engine.session.txns ≡ []) where
+module _ (engine : EngineParts) (l a b : DiskHistory) (none : engine.session.txns ≡ []) where
   abbrev images : Images
   images = record { log = l.now.seen; slot_a = a.now.seen; slot_b = b.now.seen }
 
-  abbrev entry : List History
+  abbrev entry : List DiskHistory
   entry = l ∷ a ∷ b ∷ []
 
-  abbrev now : List History
+  abbrev now : List DiskHistory
   now = after_sync l ∷ after_sync a ∷ after_sync b ∷ []
 
   module _ (opened : IsOpenedFrom engine (record { log = l.now.seen; slot_a = a.now.seen; slot_b = b.now.seen }))
@@ -119,47 +119,47 @@ module _ (engine : EngineParts) (l a b : History) (none : engine.session.txns �
 -- ---- where they tell
 
 -- what an engine is read from
-pub record IsReadFrom (engine : EngineParts) (l a b m x y : Option History) : Type 0 where
+pub record IsReadFrom (engine : EngineParts) (l a b m x y : Option DiskHistory) : Type 0 where
   pub runs : WhereAllTold RunsAsBefore (l ∷ a ∷ b ∷ []) (m ∷ x ∷ y ∷ [])
   pub opened : WhereRead (IsOpenedFrom engine) m x y
   pub slot_a : WhereTold (λ h. IsSlot engine.session.catalogue.tables engine.slots.a h.now.seen) x
   pub slot_b : WhereTold (λ h. IsSlot engine.session.catalogue.tables engine.slots.b h.now.seen) y
 
-begins-synced : (engine : EngineParts) (l a b : Option History) → engine.session.txns ≡ [] → IsReadFrom engine l a b (option_map after_sync l) (option_map after_sync a) (option_map after_sync b)
+begins-synced : (engine : EngineParts) (l a b : Option DiskHistory) → engine.session.txns ≡ [] → IsReadFrom engine l a b (option_map after_sync l) (option_map after_sync a) (option_map after_sync b)
     → WhereAllTold (BeginsOver engine) (l ∷ a ∷ b ∷ []) (option_map after_sync l ∷ option_map after_sync a ∷ option_map after_sync b ∷ [])
 begins-synced engine None a b none is = tt
 begins-synced engine (Some l) None b none is = tt
 begins-synced engine (Some l) (Some a) None none is = tt
 begins-synced engine (Some l) (Some a) (Some b) none is = begins-all engine l a b none is.runs is.opened is.slot_a is.slot_b
 
-pub begins-told : (engine : EngineParts) (l a b m x y : Option History) (now : List (Option History)) → engine.session.txns ≡ [] → m ≡ option_map after_sync l → x ≡ option_map after_sync a → y ≡ option_map after_sync b → now ≡ m ∷ x ∷ y ∷ []
+pub begins-told : (engine : EngineParts) (l a b m x y : Option DiskHistory) (now : List (Option DiskHistory)) → engine.session.txns ≡ [] → m ≡ option_map after_sync l → x ≡ option_map after_sync a → y ≡ option_map after_sync b → now ≡ m ∷ x ∷ y ∷ []
     → IsReadFrom engine l a b m x y → WhereAllTold (BeginsOver engine) (l ∷ a ∷ b ∷ []) now
 begins-told engine l a b m x y now none is_m is_x is_y same is =
-    let there = begins-synced engine l a b none (subst (λ (t : Option History). IsReadFrom engine l a b (option_map after_sync l) (option_map after_sync a) t) is_y
-    (subst (λ (t : Option History). IsReadFrom engine l a b (option_map after_sync l) t y) is_x (subst (λ (t : Option History). IsReadFrom engine l a b t x y) is_m is))) in
+    let there = begins-synced engine l a b none (subst (λ (t : Option DiskHistory). IsReadFrom engine l a b (option_map after_sync l) (option_map after_sync a) t) is_y
+    (subst (λ (t : Option DiskHistory). IsReadFrom engine l a b (option_map after_sync l) t y) is_x (subst (λ (t : Option DiskHistory). IsReadFrom engine l a b t x y) is_m is))) in
     let all : now ≡ option_map after_sync l ∷ option_map after_sync a ∷ option_map after_sync b ∷ [] = cc in
-    subst (λ (t : List (Option History)). WhereAllTold (BeginsOver engine) (l ∷ a ∷ b ∷ []) t) (sym all) there
+    subst (λ (t : List (Option DiskHistory)). WhereAllTold (BeginsOver engine) (l ∷ a ∷ b ∷ []) t) (sym all) there
 
 -- a crash now leaves what a read gave at entry
-pub settled-told : (l a b : Option History) (now : List (Option History)) → now ≡ option_map after_sync l ∷ option_map after_sync a ∷ option_map after_sync b ∷ [] → WhereAllTold AreSettled (l ∷ a ∷ b ∷ []) now
-settled-told l a b after same = subst (λ (t : List (Option History)). WhereAllTold AreSettled (l ∷ a ∷ b ∷ []) t) (sym same) (go l a b)
+pub settled-told : (l a b : Option DiskHistory) (now : List (Option DiskHistory)) → now ≡ option_map after_sync l ∷ option_map after_sync a ∷ option_map after_sync b ∷ [] → WhereAllTold AreSettled (l ∷ a ∷ b ∷ []) now
+settled-told l a b after same = subst (λ (t : List (Option DiskHistory)). WhereAllTold AreSettled (l ∷ a ∷ b ∷ []) t) (sym same) (go l a b)
   where
-    go : (l a b : Option History) → WhereAllTold AreSettled (l ∷ a ∷ b ∷ []) (option_map after_sync l ∷ option_map after_sync a ∷ option_map after_sync b ∷ [])
+    go : (l a b : Option DiskHistory) → WhereAllTold AreSettled (l ∷ a ∷ b ∷ []) (option_map after_sync l ∷ option_map after_sync a ∷ option_map after_sync b ∷ [])
     go None a b = tt
     go (Some l) None b = tt
     go (Some l) (Some a) None = tt
     go (Some l) (Some a) (Some b) = (refl, (refl, (refl, tt)))
 
 -- what is read after a sync is what was read before
-pub told-before : (P : History → Type 0) → ((h : History) → P (after_sync h) → P h) → (old new : Option History) → new ≡ option_map after_sync old → WhereTold P new → WhereTold P old
+pub told-before : (P : DiskHistory → Type 0) → ((h : DiskHistory) → P (after_sync h) → P h) → (old new : Option DiskHistory) → new ≡ option_map after_sync old → WhereTold P new → WhereTold P old
 told-before P back None new same told = tt
-told-before P back (Some h) new same told = back h (subst (λ (t : Option History). WhereTold P t) same told)
+told-before P back (Some h) new same told = back h (subst (λ (t : Option DiskHistory). WhereTold P t) same told)
 
-pub read-before : (P : Images → Type 0) (l a b m x y : Option History) → m ≡ option_map after_sync l → x ≡ option_map after_sync a → y ≡ option_map after_sync b → WhereRead P m x y → WhereRead P l a b
+pub read-before : (P : Images → Type 0) (l a b m x y : Option DiskHistory) → m ≡ option_map after_sync l → x ≡ option_map after_sync a → y ≡ option_map after_sync b → WhereRead P m x y → WhereRead P l a b
 read-before P l a b m x y is_m is_x is_y told =
-    go l a b (subst (λ (t : Option History). WhereRead P (option_map after_sync l) (option_map after_sync a) t) is_y (subst (λ (t : Option History). WhereRead P (option_map after_sync l) t y) is_x (subst (λ (t : Option History). WhereRead P t x y) is_m told)))
+    go l a b (subst (λ (t : Option DiskHistory). WhereRead P (option_map after_sync l) (option_map after_sync a) t) is_y (subst (λ (t : Option DiskHistory). WhereRead P (option_map after_sync l) t y) is_x (subst (λ (t : Option DiskHistory). WhereRead P t x y) is_m told)))
   where
-    go : (l a b : Option History) → WhereRead P (option_map after_sync l) (option_map after_sync a) (option_map after_sync b) → WhereRead P l a b
+    go : (l a b : Option DiskHistory) → WhereRead P (option_map after_sync l) (option_map after_sync a) (option_map after_sync b) → WhereRead P l a b
     go None a b told = tt
     go (Some l) None b told = tt
     go (Some l) (Some a) None told = tt
@@ -167,7 +167,7 @@ read-before P l a b m x y is_m is_x is_y told =
 
 -- ---- what is opened
 
-module _ {D : Type 0} (told : D → Option History) (devices : Devices D) (l a b m x y : Option History) (is_m : m ≡ option_map after_sync l) (is_x : x ≡ option_map after_sync a) (is_y : y ≡ option_map after_sync b) (same : each told devices ≡ m ∷ x ∷ y ∷ []) where
+module _ {D : Type 0} (told : D → Option DiskHistory) (devices : Devices D) (l a b m x y : Option DiskHistory) (is_m : m ≡ option_map after_sync l) (is_x : x ≡ option_map after_sync a) (is_y : y ≡ option_map after_sync b) (same : each told devices ≡ m ∷ x ∷ y ∷ []) where
   pub opened-ready : (r : Result EngineParts RecoverError) → IfOk r (λ e. WhereTold (λ h. HoldsLogUpTo e.log.gate h.now.seen) m) → IfOk r (λ e. WhereTold (λ h. IsSlot e.session.catalogue.tables e.slots.a h.now.seen) x)
       → IfOk r (λ e. WhereTold (λ h. IsSlot e.session.catalogue.tables e.slots.b h.now.seen) y) → IfOk r (λ e. HasDevices told e devices)
   opened-ready (Err error) log slot_a slot_b = tt
@@ -190,5 +190,5 @@ module _ {D : Type 0} (told : D → Option History) (devices : Devices D) (l a b
   pub settled-before : WhereAllTold AreSettled (l ∷ a ∷ b ∷ []) (each told devices)
   settled-before = settled-told l a b (each told devices) (all-same (each told devices) m x y l a b same is_m is_x is_y)
     where
-      all-same : (t : List (Option History)) (m x y l a b : Option History) → t ≡ m ∷ x ∷ y ∷ [] → m ≡ option_map after_sync l → x ≡ option_map after_sync a → y ≡ option_map after_sync b → t ≡ option_map after_sync l ∷ option_map after_sync a ∷ option_map after_sync b ∷ []
+      all-same : (t : List (Option DiskHistory)) (m x y l a b : Option DiskHistory) → t ≡ m ∷ x ∷ y ∷ [] → m ≡ option_map after_sync l → x ≡ option_map after_sync a → y ≡ option_map after_sync b → t ≡ option_map after_sync l ∷ option_map after_sync a ∷ option_map after_sync b ∷ []
       all-same t m x y l a b e is_m is_x is_y = cc

@@ -8,7 +8,7 @@ use Rattle.std.proofs.Math.Seq.{take-append_seam}
 use Rattle.std.proofs.lemmas.List.{take-append-drop}
 use Rattle.pac_ops.specs.declared.transaction.Txn.{Txn}
 use Rattle.pac_outside.specs.Devices.{AreImages, RunsAsBefore, TellsOn, WhereAllTold, all_told}
-use Rattle.pac_outside.specs.Disk.{History}
+use Rattle.pac_outside.specs.Disk.{DiskHistory}
 use Rattle.pac_outside.proofs.Runs.{run_end, run_then, weaken_run}
 use Rattle.pac_types.specs.CatalogueText.{HasCatalogue}
 use Rattle.pac_types.specs.Typing.{CatalogueState}
@@ -65,7 +65,7 @@ opening-long error.NoMemory is = cc
 same-stop : (a b : RunStop) → ◌≡◌ {A = Result (Unit {0}) RunStop} (Err a) (Err b) → a ≡ b
 same-stop a b e = cc
 
-none-begun : (P : Images → Type 0) (l a b : Option History) → WhereSeen (λ images. (◌≡◌ {A = List Request} [] []) ⊎ P images) (l ∷ a ∷ b ∷ [])
+none-begun : (P : Images → Type 0) (l a b : Option DiskHistory) → WhereSeen (λ images. (◌≡◌ {A = List Request} [] []) ⊎ P images) (l ∷ a ∷ b ∷ [])
 none-begun P None a b = tt
 none-begun P (Some l) None b = tt
 none-begun P (Some l) (Some a) None = tt
@@ -75,12 +75,12 @@ none-handled : (left : Option (List ℕ)) → WereHandled left [] [] left
 none-handled None = tt
 none-handled (Some text) = (text, refl, refl)
 
-as-before : (P : List History → Type 0) (R : List History → List History → Type 0) → ((u v : List History) → RunsAsBefore u v → P u → R u v) → (x y : Option (List History)) → TellsOn RunsAsBefore x y → TellsIf P R x y
+as-before : (P : List DiskHistory → Type 0) (R : List DiskHistory → List DiskHistory → Type 0) → ((u v : List DiskHistory) → RunsAsBefore u v → P u → R u v) → (x y : Option (List DiskHistory)) → TellsOn RunsAsBefore x y → TellsIf P R x y
 as-before P R step None y runs = tt
 as-before P R step (Some x) None runs = absurd runs
 as-before P R step (Some x) (Some y) runs = λ is. step x y runs is
 
-pub not-opened : (batch limit : ℕ) (left held : Option (List ℕ)) (l a b : Option History) (told' : List (Option History)) (rose : Type 0) (error : RecoverError) (stop : RunStop) → stop ≡ not_opened error → WhereAllTold RunsAsBefore (l ∷ a ∷ b ∷ []) told'
+pub not-opened : (batch limit : ℕ) (left held : Option (List ℕ)) (l a b : Option DiskHistory) (told' : List (Option DiskHistory)) (rose : Type 0) (error : RecoverError) (stop : RunStop) → stop ≡ not_opened error → WhereAllTold RunsAsBefore (l ∷ a ∷ b ∷ []) told'
     → IsRun batch limit left left held held (l ∷ a ∷ b ∷ []) told' rose (Err stop)
 not-opened batch limit left held l a b told' rose error stop is runs =
     let rules : Rules = record { catalogue = record { tables = []; procs = [] }; limit = limit; most = batch } in
@@ -123,7 +123,7 @@ stops-part : (run : Result (Unit {0}) RunStop) (P : Type 0) (R S : RunStop → T
 stops-part (Ok x) P R S is step = tt
 stops-part (Err stop) P R S is step = step stop is
 
-module _ (batch limit : ℕ) (engine new : EngineParts) (left left' held held' : Option (List ℕ)) (l a b : Option History) (middle told' : List (Option History)) (rose : Type 0) (result : Result (Unit {0}) RunStop) (fresh : IsFresh batch limit engine)
+module _ (batch limit : ℕ) (engine new : EngineParts) (left left' held held' : Option (List ℕ)) (l a b : Option DiskHistory) (middle told' : List (Option DiskHistory)) (rose : Type 0) (result : Result (Unit {0}) RunStop) (fresh : IsFresh batch limit engine)
     (opened : WhereRead (IsOpenedFrom engine) l a b) (begins : WhereAllTold (BeginsOver engine) (l ∷ a ∷ b ∷ []) middle) (runs : WhereAllTold RunsAsBefore (l ∷ a ∷ b ∷ []) middle)
     (served : Served engine new left left' held held' middle told' rose result) where
   abbrev rules : Rules
@@ -144,7 +144,7 @@ module _ (batch limit : ℕ) (engine new : EngineParts) (left left' held held' :
     there = is.behind.place;
   }
 
-  begun-told : (l a b : Option History) → WhereRead (IsOpenedFrom engine) l a b → WhereSeen (λ images. (served.requests ≡ []) ⊎ IsBegun (rules_of engine.session) engine.log.gate.place (state_now engine.session) images) (l ∷ a ∷ b ∷ [])
+  begun-told : (l a b : Option DiskHistory) → WhereRead (IsOpenedFrom engine) l a b → WhereSeen (λ images. (served.requests ≡ []) ⊎ IsBegun (rules_of engine.session) engine.log.gate.place (state_now engine.session) images) (l ∷ a ∷ b ∷ [])
   begun-told None a b is = tt
   begun-told (Some l) None b is = tt
   begun-told (Some l) (Some a) None is = tt
@@ -160,7 +160,7 @@ module _ (batch limit : ℕ) (engine new : EngineParts) (left left' held held' :
     same-history : take (durable_of engine) history ++ committed (rules_of engine.session) (state_now engine.session) served.requests ≡ history_after history (rules_of engine.session) (state_now engine.session) served.requests
     same-history = ap (λ (n : ℕ). take n history ++ committed rules start served.requests) (sym number-is)
 
-    module _ (entry mid now : List History) (begin : StandsForFront text catalogue history least engine mid) (names : HasCatalogue text engine.session.catalogue)
+    module _ (entry mid now : List DiskHistory) (begin : StandsForFront text catalogue history least engine mid) (names : HasCatalogue text engine.session.catalogue)
         (keeps : KeepsHistory text (take (durable_of engine) history ++ committed (rules_of engine.session) (state_now engine.session) served.requests) engine new mid now) where
       exit-one : (images : Images) → StandsWith text engine.session.catalogue (take (durable_of engine) history ++ committed (rules_of engine.session) (state_now engine.session) served.requests) (durable_of new) (saved_of new) images
           → IsExit text catalogue (history_after history (rules_of engine.session) (state_now engine.session) served.requests) (state_now engine.session).number served.out images
@@ -192,21 +192,21 @@ module _ (batch limit : ℕ) (engine new : EngineParts) (left left' held held' :
           (λ images may. inr (weaken-three (StandsWith text engine.session.catalogue kept-as (durable_of engine) (saved_of engine)) (StandsFor text catalogue after least) stands-one images may)) mid now keeps.moments)
 
     -- what the engine stands for tells the catalogue's text
-    text-of : (h : List Txn) (devices : List History) → StandsOn text h engine devices → HasCatalogue text engine.session.catalogue
+    text-of : (h : List Txn) (devices : List DiskHistory) → StandsOn text h engine devices → HasCatalogue text engine.session.catalogue
     text-of h [] is = absurd is
     text-of h (l ∷ []) is = absurd is
     text-of h (l ∷ a ∷ []) is = absurd is
     text-of h (l ∷ a ∷ b ∷ []) is = is.log.has.log.accepted.has
     text-of h (l ∷ a ∷ b ∷ d ∷ devices) is = absurd is
 
-    exit-told : (t m n : Option (List History)) → TellsOn (BeginsOver engine) t m → TellsIf (StandsOn text (take (durable_of engine) history) engine) (KeepsHistory text (take (durable_of engine) history ++ committed (rules_of engine.session) (state_now engine.session) served.requests) engine new) m n
+    exit-told : (t m n : Option (List DiskHistory)) → TellsOn (BeginsOver engine) t m → TellsIf (StandsOn text (take (durable_of engine) history) engine) (KeepsHistory text (take (durable_of engine) history ++ committed (rules_of engine.session) (state_now engine.session) served.requests) engine new) m n
         → TellsIf (AllStand text catalogue history least) (AtExit text catalogue history (rules_of engine.session) (state_now engine.session) served.requests served.out) t n
     exit-told None m n begin keep = tt
     exit-told (Some t) None n begin keep = absurd begin
     exit-told (Some t) (Some m) None begin keep = λ all. keep (begin text catalogue history least all).stands
     exit-told (Some t) (Some m) (Some n) begin keep = λ all. let front = begin text catalogue history least all in exits t m n front (text-of (take (durable_of engine) history) m front.stands) (keep front.stands)
 
-    moments-told : (t m n : Option (List History)) → TellsOn (BeginsOver engine) t m → TellsOn RunsAsBefore t m → TellsIf (StandsOn text (take (durable_of engine) history) engine) (KeepsHistory text (take (durable_of engine) history ++ committed (rules_of engine.session) (state_now engine.session) served.requests) engine new) m n
+    moments-told : (t m n : Option (List DiskHistory)) → TellsOn (BeginsOver engine) t m → TellsOn RunsAsBefore t m → TellsIf (StandsOn text (take (durable_of engine) history) engine) (KeepsHistory text (take (durable_of engine) history ++ committed (rules_of engine.session) (state_now engine.session) served.requests) engine new) m n
         → TellsIf (AllStand text catalogue history least) (AtMoments text catalogue history least (rules_of engine.session) (state_now engine.session) served.requests) t n
     moments-told None m n begin run keep = tt
     moments-told (Some t) None n begin run keep = absurd begin

@@ -7,7 +7,7 @@ use Rattle.std.proofs.lemmas.Grind.{flat_map-append}
 use Rattle.std.proofs.Math.Seq.{take-append-add, take-append_seam}
 use Rattle.pac_outside.specs.Content.{Took}
 use Rattle.pac_outside.proofs.ContentLemmas.{Took-append}
-use Rattle.pac_outside.specs.Disk.{History}
+use Rattle.pac_outside.specs.Disk.{DiskHistory}
 use Rattle.pac_lines.specs.Calls.{IsCall, KeepsLimit}
 use Rattle.pac_lines.specs.Reading.{ReaderState}
 use Rattle.pac_types.specs.Typing.{CatalogueState}
@@ -60,7 +60,7 @@ never-long rules place start closed more stop stops is = subst (λ (s : RunStop)
 
 -- ---- an end
 
-module _ (first now : EngineParts) (left mid : Option (List ℕ)) (reader : ReaderState) (held held' : Option (List ℕ)) (told told' : List (Option History)) (serving : Serving first now left mid reader held held' told told') where
+module _ (first now : EngineParts) (left mid : Option (List ℕ)) (reader : ReaderState) (held held' : Option (List ℕ)) (told told' : List (Option DiskHistory)) (serving : Serving first now left mid reader held held' told told') where
   abbrev rules : Rules
   rules = rules_of first.session
 
@@ -105,7 +105,7 @@ module _ (first now : EngineParts) (left mid : Option (List ℕ)) (reader : Read
         }
 
   -- a request was not answered
-  module _ (left' held'' : Option (List ℕ)) (told'' : List (Option History)) (new : EngineParts) (asks : Request) (rose rose' : Type 0) (stop : RunStop) (lines : List (List ℕ)) (ahead : List ℕ)
+  module _ (left' held'' : Option (List ℕ)) (told'' : List (Option DiskHistory)) (new : EngineParts) (asks : Request) (rose rose' : Type 0) (stop : RunStop) (lines : List (List ℕ)) (ahead : List ℕ)
       (handled : WereHandled left lines ahead left') (few : TookAtMost MAX_INPUT left left') (asked : WereAsked first.session.catalogue lines (prepend_known ahead left') (serving.requests ++ asks ∷ [])) (later : rose' → rose)
       (broke : Broke first.session.catalogue asks now new held' held'' told' told'' rose' stop) where
     abbrev whole : GroupCut
@@ -148,7 +148,7 @@ module _ (first now : EngineParts) (left mid : Option (List ℕ)) (reader : Read
         risen (inr r) = inr (later r)
 
   -- a stop was answered
-  pub stop-served : (left' held'' : Option (List ℕ)) (told'' : List (Option History)) (new : EngineParts) (rose : Type 0) (lines : List (List ℕ)) (ahead : List ℕ) → WereHandled left lines ahead left' → TookAtMost MAX_INPUT left left'
+  pub stop-served : (left' held'' : Option (List ℕ)) (told'' : List (Option DiskHistory)) (new : EngineParts) (rose : Type 0) (lines : List (List ℕ)) (ahead : List ℕ) → WereHandled left lines ahead left' → TookAtMost MAX_INPUT left left'
       → WereAsked first.session.catalogue lines (prepend_known ahead left') (serving.requests ++ request.Stop ∷ []) → Replied first.session.catalogue (request.Stop ∷ []) now new held' held'' told' told''
       → Served first new left left' held held'' told told'' rose (Ok tt)
   stop-served left' held'' told'' new rose lines ahead handled few asked replied =
@@ -187,7 +187,7 @@ module _ (first now : EngineParts) (left mid : Option (List ℕ)) (reader : Read
       stop-closes rules start before = ap (λ (c : GroupCut). c.rest) (fold-append (cut_on rules start) (record { closed = []; rest = [] }) before (request.Stop ∷ []))
 
   -- a line was served, and is no stop
-  pub serving-more : (left' held'' : Option (List ℕ)) (told'' : List (Option History)) (next : ReaderState) (new : EngineParts) → IsCall reader next mid left' (Ok true) → KeepsLimit next (Ok true)
+  pub serving-more : (left' held'' : Option (List ℕ)) (told'' : List (Option DiskHistory)) (next : ReaderState) (new : EngineParts) → IsCall reader next mid left' (Ok true) → KeepsLimit next (Ok true)
       → LineServed first.session.catalogue next.line false now new held' held'' told' told'' → Serving first new left left' next held held'' told told''
   serving-more left' held'' told'' next new call keeps served = record {
     lines = serving.lines ++ next.line ∷ [];

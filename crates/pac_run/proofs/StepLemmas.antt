@@ -4,7 +4,7 @@ use Rattle.std.specs.List.{AllByRecursion, fold}
 use Rattle.std.proofs.lemmas.List.{append-nil}
 use Rattle.std.proofs.lemmas.List.Sums.{fold-append}
 use Rattle.pac_ops.specs.declared.transaction.Txn.{Txn}
-use Rattle.pac_outside.specs.Disk.{History}
+use Rattle.pac_outside.specs.Disk.{DiskHistory}
 use Rattle.pac_check.specs.declared.limits.TheConstants.{MAX_SLOT_LEN}
 use Rattle.pac_request.specs.declared.request.Request.{Request}
 use Rattle.pac_request.specs.declared.request.Request.TheVariants as request
@@ -80,13 +80,13 @@ data-free (z ∷ zs) (b ∷ bs) rest x y same = go (data-free zs bs rest x y (ta
 
 -- ---- nothing is asked
 
-pub nothing-keeps : (e : EngineParts) (told : List (Option History)) → KeepsEach [] e e told told
+pub nothing-keeps : (e : EngineParts) (told : List (Option DiskHistory)) → KeepsEach [] e e told told
 nothing-keeps e told = λ text history. refused-keeps text history e e _ refl refl
 
 -- ---- behind what was served
 
 -- the engine is at the end of the requests
-module _ (first now : EngineParts) (requests : List Request) (given : List Reply) (told told' : List (Option History)) (goes : GoesFrom first now requests given told told') where
+module _ (first now : EngineParts) (requests : List Request) (given : List Reply) (told told' : List (Option DiskHistory)) (goes : GoesFrom first now requests given told told') where
   abbrev rules : Rules
   rules = rules_of first.session
 
@@ -111,7 +111,7 @@ module _ (first now : EngineParts) (requests : List Request) (given : List Reply
   pub cut-more : (asked : List Request) → cut (rules_of first.session) (state_now first.session) (requests ++ asked) ≡ fold (cut_on (rules_of first.session) (state_now first.session)) (cut (rules_of first.session) (state_now first.session) requests) asked
   cut-more asked = fold-append (cut_on rules start) (record { closed = []; rest = [] }) requests asked
 
-  module _ (new : EngineParts) (told'' : List (Option History)) where
+  module _ (new : EngineParts) (told'' : List (Option DiskHistory)) where
     pub keeps-more : (asked : List Request) → KeepsEach (committed (rules_of now.session) (state_now now.session) asked) now new told' told''
         → KeepsEach (committed (rules_of first.session) (state_now first.session) (requests ++ asked)) first new told told''
     keeps-more asked keeps = λ text history. subst (λ (t : List Txn). TellsWhere (StandsOn text history first) (KeepsHistory text (history ++ t) first new) told told'') (committed-more asked)
@@ -166,7 +166,7 @@ module _ (first now : EngineParts) (requests : List Request) (given : List Reply
 
 -- ---- from the beginning
 
-pub goes-first : (first : EngineParts) (told : List (Option History)) → first.session.txns ≡ [] → first.session.held ≡ [] → ((text : List ℕ) (history : List Txn) → TellsWhere (StandsOn text history first) (λ was is. StandsOn text (history ++ []) first is) told told)
+pub goes-first : (first : EngineParts) (told : List (Option DiskHistory)) → first.session.txns ≡ [] → first.session.held ≡ [] → ((text : List ℕ) (history : List Txn) → TellsWhere (StandsOn text history first) (λ was is. StandsOn text (history ++ []) first is) told told)
     → GoesFrom first first [] [] told told
 goes-first first told txns held stands = record {
   closes = begins first txns held;

@@ -1,7 +1,7 @@
 -- Where a run stops, and which replies it was to write.
 use Rattle.std.proofs.Common.{◌≡◌, ◌∙◌, ◌⊎◌, inl, inr, ℕ, true, List, [], ◌∷◌, ◌++◌, Option, refl, sym, ap, ap₂, subst, append_assoc}
 use Rattle.std.proofs.lemmas.List.{append-nil}
-use Rattle.pac_outside.specs.Disk.{History}
+use Rattle.pac_outside.specs.Disk.{DiskHistory}
 use Rattle.pac_request.specs.declared.request.Request.{Request}
 use Rattle.pac_request.specs.declared.request.Request.TheVariants as request
 use Rattle.pac_request.specs.declared.request.Reply.{Reply}
@@ -94,7 +94,7 @@ step-stops rules place start closed given why stop is stops = subst (λ (s : Run
 pub none-told : (rules : Rules) (place : ℕ) (start : SessionState) (closed : List (List Request)) → StepStops rules place start closed [] NoMemory
 none-told rules place start closed = inl (record { before = []; rest = described rules place start closed; split = refl; replied = refl })
 
-module _ (first now : EngineParts) (requests : List Request) (given : List Reply) (told told' : List (Option History)) (goes : GoesFrom first now requests given told told') where
+module _ (first now : EngineParts) (requests : List Request) (given : List Reply) (told told' : List (Option DiskHistory)) (goes : GoesFrom first now requests given told told') where
   abbrev rules : Rules
   rules = rules_of first.session
 

@@ -5,7 +5,7 @@ use Rattle.std.specs.List.{AllByRecursion}
 use Rattle.pac_ops.specs.declared.transaction.Txn.{Txn}
 use Rattle.pac_outside.specs.Content.{Took}
 use Rattle.pac_outside.specs.Devices.{AllLeave, AreImages, RunLeaves, all_told}
-use Rattle.pac_outside.specs.Disk.{History}
+use Rattle.pac_outside.specs.Disk.{DiskHistory}
 use Rattle.pac_types.specs.Typing.{CatalogueState}
 use Rattle.pac_log.specs.Logs.{HoldsLog, log_front}
 use Rattle.pac_store.specs.Images.{Images, OfThree}
@@ -38,7 +38,7 @@ pub record IsBegun (rules : Rules) (place : ℕ) (start : SessionState) (images 
   pub there : place ≡ length (log_front text batches)
 
 -- where all devices tell, what a read gives of them has P
-abbrev pub WhereSeen : (Images → Type 0) → List (Option History) → Type 0
+abbrev pub WhereSeen : (Images → Type 0) → List (Option DiskHistory) → Type 0
 WhereSeen P told = IfSome (all_told told) (λ devices. OfThree P (map (λ device. device.now.seen) devices))
 
 -- ---- what the devices hold
@@ -58,17 +58,17 @@ pub record IsExit (text : List ℕ) (catalogue : CatalogueState) (history : List
   pub stands : StandsWith text catalogue history least saved images
 
 -- an image at the exit is one of entry, and nothing was written, or it stands for the history with what the session commits
-abbrev pub AtExit : List ℕ → CatalogueState → List Txn → Rules → SessionState → List Request → List ℕ → List History → List History → Type 0
+abbrev pub AtExit : List ℕ → CatalogueState → List Txn → Rules → SessionState → List Request → List ℕ → List DiskHistory → List DiskHistory → Type 0
 AtExit text catalogue history rules start requests out entry now =
     AllLeave (λ images. ((out ≡ []) × AreImages entry images) ⊎ OfThree (IsExit text catalogue (history_after history rules start requests) start.number out) images) now
 
 -- and so it is of each image that a crash at a moment of the run might have left
-abbrev pub AtMoments : List ℕ → CatalogueState → List Txn → ℕ → Rules → SessionState → List Request → List History → List History → Type 0
+abbrev pub AtMoments : List ℕ → CatalogueState → List Txn → ℕ → Rules → SessionState → List Request → List DiskHistory → List DiskHistory → Type 0
 AtMoments text catalogue history least rules start requests entry now =
     RunLeaves (λ images. AreImages entry images ⊎ OfThree (StandsFor text catalogue (history_after history rules start requests) least) images) entry now
 
 -- where the devices tell, and each image at entry stands for a history, this is so of what they hold then and now
-abbrev pub WhereAllStand : (List ℕ → CatalogueState → List Txn → ℕ → List History → List History → Type 0) → List (Option History) → List (Option History) → Type 0
+abbrev pub WhereAllStand : (List ℕ → CatalogueState → List Txn → ℕ → List DiskHistory → List DiskHistory → Type 0) → List (Option DiskHistory) → List (Option DiskHistory) → Type 0
 WhereAllStand R told told' = (text : List ℕ) (catalogue : CatalogueState) (history : List Txn) (least : ℕ) → TellsWhere (AllStand text catalogue history least) (R text catalogue history least) told told'
 
 -- ---- the run
@@ -82,7 +82,7 @@ pub record IsWholeRun (rules : Rules) (place : ℕ) (start : SessionState) (requ
   pub saves : (first rest : List Request) → requests ≡ first ++ request.Save ∷ rest → SaveFits rules place start first
 
 -- A run, whatever its answer.
-pub record IsRun (batch limit : ℕ) (left left' held held' : Option (List ℕ)) (told told' : List (Option History)) (rose : Type 0) (result : Result (Unit {0}) RunStop) : Type 0 where
+pub record IsRun (batch limit : ℕ) (left left' held held' : Option (List ℕ)) (told told' : List (Option DiskHistory)) (rose : Type 0) (result : Result (Unit {0}) RunStop) : Type 0 where
   -- what it read and wrote
   pub lines : List (List ℕ)
   pub ahead : List ℕ  -- taken, and not handled

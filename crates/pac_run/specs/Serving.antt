@@ -4,7 +4,7 @@ use Rattle.std.specs.Io.KnownBytes.{prepend_known}
 use Rattle.std.specs.List.{AllByRecursion, fold}
 use Rattle.pac_ops.specs.declared.transaction.Txn.{Txn}
 use Rattle.pac_outside.specs.Content.{Gave, Took}
-use Rattle.pac_outside.specs.Disk.{History}
+use Rattle.pac_outside.specs.Disk.{DiskHistory}
 use Rattle.pac_lines.specs.Calls.{known}
 use Rattle.pac_lines.specs.Lines.{HandsOut}
 use Rattle.pac_lines.specs.Reading.{ReaderState}
@@ -30,14 +30,14 @@ use Rattle.pac_run.specs.Texts.{IsTextFront, IsPlain, texts}
 -- ---- one line
 
 -- the engine keeps each history with these transactions behind it, and stands for it afterwards
-abbrev pub KeepsEach : List Txn → EngineParts → EngineParts → List (Option History) → List (Option History) → Type 0
+abbrev pub KeepsEach : List Txn → EngineParts → EngineParts → List (Option DiskHistory) → List (Option DiskHistory) → Type 0
 KeepsEach more old new told told' = (text : List ℕ) (history : List Txn) → TellsWhere (StandsOn text history old) (KeepsHistory text (history ++ more) old new) told told'
 
-abbrev pub StandsForEach : List Txn → EngineParts → EngineParts → List (Option History) → List (Option History) → Type 0
+abbrev pub StandsForEach : List Txn → EngineParts → EngineParts → List (Option DiskHistory) → List (Option DiskHistory) → Type 0
 StandsForEach more old new told told' = (text : List ℕ) (history : List Txn) → TellsWhere (StandsOn text history old) (λ was is. StandsOn text (history ++ more) new is) told told'
 
 -- Requests were answered, of one line and so at most one, with these replies.
-pub record Answered (asked : List Request) (more : List Reply) (old new : EngineParts) (told told' : List (Option History)) : Type 0 where
+pub record Answered (asked : List Request) (more : List Reply) (old new : EngineParts) (told told' : List (Option DiskHistory)) : Type 0 where
   pub closes : (rules : Rules) (place : ℕ) (start : SessionState) (whole : GroupCut) (given : List Reply) → Closes rules place start whole given old
       → Closes rules place start (fold (cut_on rules start) whole asked) (given ++ more) new
   pub keeps : KeepsEach (committed (rules_of old.session) (state_now old.session) asked) old new told told'
@@ -50,7 +50,7 @@ pub record Answered (asked : List Request) (more : List Reply) (old new : Engine
   pub saves : asked ≡ request.Save ∷ [] → slot_len (rules_of old.session) (state_now old.session) (place_behind old.log.gate.place old.session.txns) ≤ MAX_SLOT_LEN
 
 -- and their texts were written
-pub record Replied (catalogue : CatalogueState) (asked : List Request) (old new : EngineParts) (held held' : Option (List ℕ)) (told told' : List (Option History)) : Type 0 where
+pub record Replied (catalogue : CatalogueState) (asked : List Request) (old new : EngineParts) (held held' : Option (List ℕ)) (told told' : List (Option DiskHistory)) : Type 0 where
   pub more : List Reply
   pub took : Took held (texts catalogue more) held'
   pub answered : Answered asked more old new told told'
@@ -70,7 +70,7 @@ StepStops rules place start closed more DiskFault = StopsAt rules place start cl
 StepStops rules place start closed more NoMemory = StopsAt rules place start closed more cause.NoMemory
 
 -- One request was not answered, and a front of the texts of those replies was written, all of it unless the sink's count rose.
-pub record Broke (catalogue : CatalogueState) (asked : Request) (old new : EngineParts) (held held' : Option (List ℕ)) (told told' : List (Option History)) (rose : Type 0) (stop : RunStop) : Type 0 where
+pub record Broke (catalogue : CatalogueState) (asked : Request) (old new : EngineParts) (held held' : Option (List ℕ)) (told told' : List (Option DiskHistory)) (rose : Type 0) (stop : RunStop) : Type 0 where
   pub more : List Reply
   pub out : List ℕ
   pub took : Took held out held'
@@ -84,14 +84,14 @@ pub record Broke (catalogue : CatalogueState) (asked : Request) (old new : Engin
   pub plain : AllByRecursion IsPlain more
 
 -- all is as it was: there was no memory to know what the line asks
-pub record IsUntouched (old new : EngineParts) (held held' : Option (List ℕ)) (told told' : List (Option History)) (stop : RunStop) : Type 0 where
+pub record IsUntouched (old new : EngineParts) (held held' : Option (List ℕ)) (told told' : List (Option DiskHistory)) (stop : RunStop) : Type 0 where
   pub stopped : stop ≡ NoMemory
   pub engine : new ≡ old
   pub output : held' ≡ held
   pub devices : told' ≡ told
 
 -- a line was not served: it wasn't known what it asks, or that was not answered
-abbrev pub LineBroke : CatalogueState → List ℕ → EngineParts → EngineParts → Option (List ℕ) → Option (List ℕ) → List (Option History) → List (Option History) → Type 0 → RunStop → Type 0
+abbrev pub LineBroke : CatalogueState → List ℕ → EngineParts → EngineParts → Option (List ℕ) → Option (List ℕ) → List (Option DiskHistory) → List (Option DiskHistory) → Type 0 → RunStop → Type 0
 LineBroke catalogue line old new held held' told told' rose stop =
     IsUntouched old new held held' told told' stop ⊎ ((asked : Request) × LineAsks catalogue line (asked ∷ []) × Broke catalogue asked old new held held' told told' rose stop)
 
@@ -101,7 +101,7 @@ StopsWhere true asked = asked ≡ request.Stop ∷ []
 StopsWhere false asked = NoStop asked
 
 -- a line was served, and is a stop or not
-pub record LineServed (catalogue : CatalogueState) (line : List ℕ) (stops : Bool) (old new : EngineParts) (held held' : Option (List ℕ)) (told told' : List (Option History)) : Type 0 where
+pub record LineServed (catalogue : CatalogueState) (line : List ℕ) (stops : Bool) (old new : EngineParts) (held held' : Option (List ℕ)) (told told' : List (Option DiskHistory)) : Type 0 where
   pub asked : List Request
   pub asks : LineAsks catalogue line asked
   pub stop : StopsWhere stops asked
@@ -110,7 +110,7 @@ pub record LineServed (catalogue : CatalogueState) (line : List ℕ) (stops : Bo
 -- ---- all lines
 
 -- An engine that began so has served these requests, and has given these replies.
-pub record GoesFrom (first now : EngineParts) (requests : List Request) (given : List Reply) (told told' : List (Option History)) : Type 0 where
+pub record GoesFrom (first now : EngineParts) (requests : List Request) (given : List Reply) (told told' : List (Option DiskHistory)) : Type 0 where
   pub closes : Closes (rules_of first.session) first.log.gate.place (state_now first.session) (cut (rules_of first.session) (state_now first.session) requests) given now
   pub keeps : KeepsEach (committed (rules_of first.session) (state_now first.session) requests) first now told told'
   pub stands : StandsForEach (committed (rules_of first.session) (state_now first.session) requests) first now told told'
@@ -129,7 +129,7 @@ pub record HasRead (left left' : Option (List ℕ)) (reader : ReaderState) (line
   pub within : reader.taken ≤ MAX_INPUT
 
 -- between two lines
-pub record Serving (first now : EngineParts) (left left' : Option (List ℕ)) (reader : ReaderState) (held held' : Option (List ℕ)) (told told' : List (Option History)) : Type 0 where
+pub record Serving (first now : EngineParts) (left left' : Option (List ℕ)) (reader : ReaderState) (held held' : Option (List ℕ)) (told told' : List (Option DiskHistory)) : Type 0 where
   pub lines : List (List ℕ)
   pub read : HasRead left left' reader lines
   pub requests : List Request
@@ -149,7 +149,7 @@ pub record IsDone (rules : Rules) (place : ℕ) (start : SessionState) (requests
   pub saves : (first rest : List Request) → requests ≡ first ++ request.Save ∷ rest → SaveFits rules place start first
 
 -- What was served, whatever the end.
-pub record Served (first now : EngineParts) (left left' held held' : Option (List ℕ)) (told told' : List (Option History)) (rose : Type 0) (result : Result (Unit {0}) RunStop) : Type 0 where
+pub record Served (first now : EngineParts) (left left' held held' : Option (List ℕ)) (told told' : List (Option DiskHistory)) (rose : Type 0) (result : Result (Unit {0}) RunStop) : Type 0 where
   pub lines : List (List ℕ)
   pub ahead : List ℕ  -- taken, and not handled
   pub handled : WereHandled left lines ahead left'

@@ -1,8 +1,7 @@
 -- What was read of the log and the slots is what is loaded.
 use Rattle.std.proofs.Common.{◌∙◌, ap, sym, refl}
-use Rattle.pac_check.specs.SlotStates.{newest_of}
+use Rattle.pac_check.specs.SlotStates.{newest_of, saved_txns}
 use Rattle.pac_recover.specs.declared.loading.Loaded.{Loaded}
-use Rattle.pac_recover.specs.Loading.{number_of_newest}
 use Rattle.pac_recover.proofs.LoadLemmas.{front-of, fit-loaded, from-images, runs-loaded, total-loaded}
 use Rattle.pac_recover.proofs.loading.join_parts.Goals as goal
 
@@ -18,7 +17,7 @@ returns-clause-sound c =
     let loaded : Loaded = record { catalogue = c.args.catalogue; plan = c.args.plan; tables = c.args.tables; txns = c.txns_in.result; batches = c.in_ok-batches.batches; reader = log.reader; slots = c.args.slots } in
     let front = front-of whole.start log.batches.items c.deref.result.now (newest_of c.args.slots) c.batches_before.result (c.deref.ensures.value ∙ whole.gates)
     (λ e. c.batches_before.ensures.none (c.newest-newest.ensures ∙ e)) (λ info e. c.batches_before.ensures.there info (c.newest-newest.ensures ∙ e)) in
-    let number = c.txns_in.ensures ∙ ap number_of_newest c.newest-newest.ensures in
+    let number = c.txns_in.ensures ∙ ap saved_txns c.newest-newest.ensures in
     record {
       programs = c.requires.programs;
       shapes = c.requires.shapes;
@@ -40,5 +39,5 @@ returns-clause-images c = λ images holds is_a is_b newest.
     let loaded : Loaded = record { catalogue = c.args.catalogue; plan = c.args.plan; tables = c.args.tables; txns = c.txns_in.result; batches = c.in_ok-batches.batches; reader = log.reader; slots = c.args.slots } in
     let front = front-of whole.start log.batches.items c.deref.result.now (newest_of c.args.slots) c.batches_before.result (c.deref.ensures.value ∙ whole.gates)
     (λ e. c.batches_before.ensures.none (c.newest-newest.ensures ∙ e)) (λ info e. c.batches_before.ensures.there info (c.newest-newest.ensures ∙ e)) in
-    let number = c.txns_in.ensures ∙ ap number_of_newest c.newest-newest.ensures in
+    let number = c.txns_in.ensures ∙ ap saved_txns c.newest-newest.ensures in
     from-images log loaded c.batches_before.result whole front c.requires.same c.in_ok-batches.ensures number refl images c.requires.among_a c.requires.among_b holds is_a is_b newest

@@ -1,7 +1,7 @@
 -- The log is read from its first gate on.
 use Rattle.std.proofs.Common.{Option, subst}
 use Rattle.std.proofs.lemmas.Result.{err_from_is_err_and}
-use Rattle.pac_outside.specs.Disk.{History, WhereTold}
+use Rattle.pac_outside.specs.Disk.{DiskHistory, WhereTold}
 use Rattle.pac_log.specs.declared.errors.LogError.TheVariants as error
 use Rattle.pac_recover.specs.Logs.{ReadsTo}
 use Rattle.pac_recover.proofs.CauseLemmas.{as-error, the-cause}
@@ -27,4 +27,4 @@ returns-clause-holds g c =
     let first = c.in_ok-reader.reader.gate in
     let told = g.D.Disk.told c.args.disk.now in
     holds-whole (record { reader = c.read_batches.new.reader; batches = c.in_ok-batches.batches; gates = c.in_ok-batches.gates }) first told c.in_ok-batches.ensures.read c.in_ok-reader.ensures.store
-    (λ text. subst (λ (t : Option History). WhereTold (λ h. ReadsTo text first c.read_batches.new.reader.gate c.in_ok-batches.batches.items h.now.seen) t) c.in_ok-reader.ensures.same (c.in_ok-batches.ensures.holds text))
+    (λ text. subst (λ (t : Option DiskHistory). WhereTold (λ h. ReadsTo text first c.read_batches.new.reader.gate c.in_ok-batches.batches.items h.now.seen) t) c.in_ok-reader.ensures.same (c.in_ok-batches.ensures.holds text))
