@@ -5,7 +5,8 @@
 //! - [`lex`]: the tokens up to the text's end or to its first fault of a token, for a reader that tells an earlier fault.
 //! - [`gap_len`], [`name_in_front`], [`literal_in_front`]: what bytes begin with, for a reader that knows which token it wants
 //!   and makes no list of them.
-//! - [`Token`], [`Keyword`], [`Symbol`], [`Spanned`]: a token, its words and signs, and a token with its place.
+//! - [`Token`], [`Keyword`], [`Symbol`], [`Spanned`]: a token, its words and signs, and a token with its place. [`KEYWORDS`]
+//!   and [`SYMBOLS`] are all words and signs.
 //! - [`SyntaxError`]: why a text isn't read.
 //!
 //! What the tokens of a text are stands in `specs/Tokens.antt`: each is the longest front of what is left that spells one.
@@ -29,4 +30,4 @@ pub use front::{literal_in_front, name_in_front};
 pub use lexer::{Before, Lexed, gap_len, lex};
 pub use literal::int_or_text;
 pub use reading::tokens;
-pub use token::{Keyword, Spanned, Symbol, Token, Tokens};
+pub use token::{KEYWORDS, Keyword, SYMBOLS, Spanned, Symbol, Token, Tokens};

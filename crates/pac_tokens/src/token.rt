@@ -30,7 +30,7 @@ pub enum Keyword {
 }
 
 /// Every reserved word, among which `specs/` says what a word is.
-pub(crate) const KEYWORDS: [Keyword; 19] = [
+pub const KEYWORDS: [Keyword; 19] = [
     Keyword::Table,
     Keyword::Proc,
     Keyword::Key,
@@ -111,7 +111,7 @@ pub enum Symbol {
 }
 
 /// Every sign, among which `specs/` says what bytes spell one.
-pub(crate) const SYMBOLS: [Symbol; 24] = [
+pub const SYMBOLS: [Symbol; 24] = [
     Symbol::OpenParen,
     Symbol::CloseParen,
     Symbol::OpenBrace,
