@@ -7,7 +7,7 @@ ghost use Rattle.pac_log.specs.Logs.{IsAccepted};
 
 use crate::part::PartError;
 use pac_base::NoMemory;
-use pac_entry::read_entry;
+use pac_entry::{MAX_BODY_LEN, read_entry};
 use pac_flat::test_operations;
 use pac_log::{Log, LogReader, body_len, create};
 use pac_ops::{Batch, MAX_TXNS, Txns};

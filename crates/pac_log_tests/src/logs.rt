@@ -7,7 +7,7 @@ ghost use Rattle.pac_log.specs.Bodies.{body_bytes};
 ghost use Rattle.pac_log.specs.Logs.{IsAccepted};
 ghost use Rattle.pac_log.specs.Places.{LogEndsAt};
 
-use pac_entry::read_entry;
+use pac_entry::{MAX_BODY_LEN, read_entry};
 use pac_flat::test_operations;
 use pac_log::{CreateError, Log, LogReader, PrepareError, body_len, create};
 use pac_ops::{Batch, Txns};
