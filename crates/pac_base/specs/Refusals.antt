@@ -1,4 +1,4 @@
--- What a call answers that a fault of its input, or want of memory, can stop.
+-- What a call answers that a fault of its input, or running out of memory, can stop.
 use Rattle.std.specs.Prelude.{◌≡◌, Result, Ok, Err}
 use Rattle.pac_base.specs.declared.refusal.Refusal.{Refusal}
 use Rattle.pac_base.specs.declared.refusal.Refusal.TheVariants.{Fault, NoMemory}
@@ -14,8 +14,8 @@ Gives after (Ok x) meant = meant ≡ after x
 Gives after (Err refusal) meant = Fails refusal meant
 
 -- what is meant is the answer, seen so, or its fault, unless there was no memory
-abbrev pub Tells : {X Y F : Type 0} → (X → Y) → Result X (Refusal F) → Result Y F → Type 0
-Tells view result meant = Gives (λ x. Ok (view x)) result meant
+abbrev pub Reports : {X Y F : Type 0} → (X → Y) → Result X (Refusal F) → Result Y F → Type 0
+Reports view result meant = Gives (λ x. Ok (view x)) result meant
 
 -- the answer has this property, or there was no memory: it is no fault
 abbrev pub OkUnlessMemory : {X F : Type 0} → Result X (Refusal F) → (X → Type 0) → Type 0

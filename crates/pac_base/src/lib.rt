@@ -1,4 +1,4 @@
-//! What every crate above stands on: boxes and lists that contracts see as what they hold, the want of memory, and
+//! What every crate above stands on: boxes and lists that contracts see as what they hold, the running out of memory, and
 //! types whose copies are equal and whose values can be told apart.
 //!
 //! A declared type that holds a plain `Box` or `Vec` shows its addresses and capacities to the logic, so a copy of it

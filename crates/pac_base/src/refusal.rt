@@ -1,13 +1,13 @@
 // Why a call is refused.
 ghost use Rattle.std.specs.Prelude.{◌≡◌};
-ghost use Rattle.pac_base.specs.declared.refusal.Refusal.TheVariants.{NoMemory as WantOfMemory};
+ghost use Rattle.pac_base.specs.declared.refusal.Refusal.TheVariants.{NoMemory as OutOfMemory};
 
 use crate::NoMemory;
 use std::alloc::{AllocError, AllocFailed};
 use std::fmt::Display;
 use thiserror::Error;
 
-/// Why a call is refused that a fault of its input, or want of memory, can stop. Each layer's error is this of its own
+/// Why a call is refused that a fault of its input, or running out of memory, can stop. Each layer's error is this of its own
 /// fault, so its `From`s stand here once. What a call answers with it is said by the words of `specs/Refusals.antt`.
 #[derive(Clone, Copy, Debug, PartialEq, Eq, Error)]
 #[error_bound(F: Display)]
@@ -21,7 +21,7 @@ pub enum Refusal<F> {
 }
 
 impl<F> From<NoMemory> for Refusal<F> {
-    ghost from_gives = { λ _ refusal. refusal ≡ WantOfMemory };
+    ghost from_gives = { λ _ refusal. refusal ≡ OutOfMemory };
 
     fn from(_: NoMemory) -> Self {
         Refusal::NoMemory
@@ -29,7 +29,7 @@ impl<F> From<NoMemory> for Refusal<F> {
 }
 
 impl<F> From<AllocError> for Refusal<F> {
-    ghost from_gives = { λ _ refusal. refusal ≡ WantOfMemory };
+    ghost from_gives = { λ _ refusal. refusal ≡ OutOfMemory };
 
     fn from(_: AllocError) -> Self {
         Refusal::NoMemory
@@ -37,7 +37,7 @@ impl<F> From<AllocError> for Refusal<F> {
 }
 
 impl<F, T: Drop> From<AllocFailed<T>> for Refusal<F> {
-    ghost from_gives = { λ _ refusal. refusal ≡ WantOfMemory };
+    ghost from_gives = { λ _ refusal. refusal ≡ OutOfMemory };
 
     fn from(_: AllocFailed<T>) -> Self {
         Refusal::NoMemory

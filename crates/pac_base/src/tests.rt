@@ -30,7 +30,7 @@ fn copies_are_the_same(rt: HostRuntime) -> Result<(), Fail> {
 }
 
 #[test]
-fn lists_that_differ_are_told_apart(rt: HostRuntime) -> Result<(), Fail> {
+fn lists_that_differ_are_reported_apart(rt: HostRuntime) -> Result<(), Fail> {
     let alloc = rt.alloc();
     let list = vec![in alloc; 1i64, -2, 3]?;
     for (items, is_same) in [

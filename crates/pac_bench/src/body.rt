@@ -36,12 +36,12 @@ fn write_body(txns: &[Txn], out: &mut Vec<u8>) -> Result<(), NoMemory> {
     Ok(())
 }
 
-// Reads the body; the place behind it.
+// Reads the body; the offset after it.
 fn read_body(alloc: Global, cat: &Catalogue, bytes: &[u8]) -> Result<usize, EntryError> {
     let mut at = 0;
     for _ in 0..CALLS {
-        let (_, behind) = read_entry(alloc, cat, bytes, at)?;
-        at = behind;
+        let (_, after) = read_entry(alloc, cat, bytes, at)?;
+        at = after;
     }
     Ok(at)
 }
@@ -66,8 +66,8 @@ pub fn read(alloc: Global, rounds: u32) -> Result<u64, PartError> {
     write_body(&calls(alloc)?, &mut bytes)?;
     let mut total: u64 = 0;
     for _ in 0..rounds {
-        let behind = read_body(alloc, &cat, &bytes)?;
-        total = total.saturating_add(behind as u64);
+        let after = read_body(alloc, &cat, &bytes)?;
+        total = total.saturating_add(after as u64);
     }
     Ok(total)
 }

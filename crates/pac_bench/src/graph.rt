@@ -55,7 +55,7 @@ fn begin(text: &mut Vec<u8>, proc: u64) -> Result<(), NoMemory> {
     Ok(())
 }
 
-// The plan of a catalogue, behind the slices of its procedures.
+// The plan of a catalogue, after the slices of its procedures.
 fn plan_of(alloc: Global, cat: &Catalogue) -> Result<Plan, PartError> {
     let programs = flatten(alloc, cat)?;
     for program in &programs {

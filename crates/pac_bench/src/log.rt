@@ -1,4 +1,4 @@
-// A log on a device, of ad-hoc transactions that put rows at one table.
+// A log on a device, of ad hoc transactions that put rows at one table.
 ghost use Rattle.std.specs.Prelude.{◌≤◌, All, IfOk, length};
 ghost use Rattle.pac_types.specs.Fits.{TxnFits};
 ghost use Rattle.pac_entry.specs.declared.limits.TheConstants.{MAX_BODY_LEN};
@@ -39,7 +39,7 @@ fn catalogue(alloc: Global, text: &[u8]) -> Result<Catalogue, PartError>
     Ok(catalogue)
 }
 
-// The entry of a transaction of so many records.
+// The entry of a transaction of that many records.
 fn entry(alloc: Global, records: u8) -> Result<Vec<u8>, NoMemory> {
     let mut entry = vec![in alloc; 2, records]?;
     for _ in 0..records {
@@ -104,7 +104,7 @@ pub fn commit<R: Files<File = File>>(
     Ok(log.gate().txns())
 }
 
-/// Reads a log, up to so many of its batches; the bytes that were read.
+/// Reads a log, up to that many of its batches; the bytes that were read.
 pub fn scan<D: Disk>(alloc: Global, disk: &mut D, most: u32) -> Result<u64, PartError> {
     let mut reader = LogReader::attach(alloc, disk)?;
     for _ in 0..most {

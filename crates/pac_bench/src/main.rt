@@ -7,11 +7,11 @@
 //! or each with the value of the one before it.
 //!
 //! `commit`, `commits` and `fill` make a log in the file `pac_bench.log`, which must not be there, and a round commits a
-//! batch of one, of 64, or of as many transactions and records as there may be. `scan` reads up to so many batches of it. `save`
-//! saves a checkpoint of so many rows of eight texts of 64 bytes to the file `pac_bench.a`.
+//! batch of one, of 64, or of as many transactions and records as there may be. `scan` reads up to that many batches of it. `save`
+//! saves a checkpoint of that many rows of eight texts of 64 bytes to the file `pac_bench.a`.
 //!
 //! A round of `few` and of `many` executes 1,000 transactions, each of which puts a row where one is, over a table of 10 and
-//! of 100,000 rows; `few_limited` and `many_limited` test a limit of 1,000,000 rows behind each.
+//! of 100,000 rows; `few_limited` and `many_limited` test a limit of 1,000,000 rows after each.
 #![tactic(auto)]
 
 mod body;

@@ -65,7 +65,7 @@ impl Part {
         }
     }
 
-    // Transactions over a table of so many rows, under this limit.
+    // Transactions over a table of that many rows, under this limit.
     fn over(rows: u32, limit: Option<u64>) -> Part {
         Part::Execute(Held { rows, limit })
     }

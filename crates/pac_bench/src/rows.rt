@@ -34,7 +34,7 @@ fn entry(alloc: Global, key: u32, values: &[u8]) -> Result<Vec<u8>, NoMemory> {
     Ok(entry)
 }
 
-/// The first table with rows of these values at so many keys. The values begin with their number.
+/// The first table with rows of these values at that many keys. The values begin with their number.
 pub fn filled(
     alloc: Global,
     cat: &Catalogue,

@@ -22,7 +22,7 @@ fn texts(alloc: Global) -> Result<Vec<u8>, NoMemory> {
     Ok(values)
 }
 
-/// Saves a checkpoint of so many rows to the first of two slots; the rows.
+/// Saves a checkpoint of that many rows to the first of two slots; the rows.
 pub fn save<'a, R: Files<File = File>>(
     alloc: Global,
     a: &mut FileDisk<'a, R>,

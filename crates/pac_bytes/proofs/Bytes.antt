@@ -6,7 +6,7 @@ use Rattle.std.proofs.lemmas.List.{length-take, get_or-append-add, get_or-take, 
 abbrev pub IsBytes : List ℕ → Type 0
 IsBytes bytes = (i : ℕ) → get_or bytes i 0 < 256
 
--- so many bytes
+-- that many bytes
 abbrev pub AreBytes : ℕ → List ℕ → Type 0
 AreBytes n bytes = (length bytes ≡ n) × IsBytes bytes
 
@@ -27,6 +27,6 @@ IsBytes-take n bytes h i =
 pub IsBytes-drop : (n : ℕ) (bytes : List ℕ) → IsBytes bytes → IsBytes (drop n bytes)
 IsBytes-drop n bytes h i = rw get_or-drop (h (n + i))
 
--- what stands behind the first part of bytes are bytes
-pub IsBytes-behind : (a b c : List ℕ) → c ≡ a ++ b → IsBytes c → IsBytes b
-IsBytes-behind a b c e h i = rw (← get_or-append-add a b i 0, ← e) (h (length a + i))
+-- what stands after the first part of bytes are bytes
+pub IsBytes-after : (a b c : List ℕ) → c ≡ a ++ b → IsBytes c → IsBytes b
+IsBytes-after a b c e h i = rw (← get_or-append-add a b i 0, ← e) (h (length a + i))

@@ -26,8 +26,8 @@ codec_finds_spelled {A} {F} {has_form} {spell} {read} codec bytes at result exac
     by (Ok p) e =
         let both = ok_same {F = F} (p.0, from bytes p.1) (meant, record { at = at + length (spell meant); bytes = more }) (sym e ∙ is_read) in
         let one : p.0 ≡ meant = ap (λ (q : A × Rest). q.0) both in
-        let place : p.1 ≡ at + length (spell meant) = ap (λ (q : A × Rest). q.1.at) both in
-        let pair : ◌≡◌ {A = A × ℕ} (p.0, p.1) (meant, at + length (spell meant)) = ap₂ (λ (a : A) (n : ℕ). (a, n)) one place in
+        let offset : p.1 ≡ at + length (spell meant) = ap (λ (q : A × Rest). q.1.at) both in
+        let pair : ◌≡◌ {A = A × ℕ} (p.0, p.1) (meant, at + length (spell meant)) = ap₂ (λ (a : A) (n : ℕ). (a, n)) one offset in
         ap (λ (q : A × ℕ). Ok q) pair
     by (Err fault) e = absurd (no_fault (sym e ∙ is_read))
       where
@@ -53,7 +53,7 @@ codec_finds_spelled_unless_memory {A} {F} {has_form} {spell} {read} codec bytes 
     by (Ok p) e =
         let both = ok_same {F = F} (p.0, from bytes p.1) (meant, record { at = at + length (spell meant); bytes = more }) (sym e ∙ is_read) in
         let one : p.0 ≡ meant = ap (λ (q : A × Rest). q.0) both in
-        let place : p.1 ≡ at + length (spell meant) = ap (λ (q : A × Rest). q.1.at) both in
-        ap₂ (λ (a : A) (n : ℕ). (a, n)) one place
+        let offset : p.1 ≡ at + length (spell meant) = ap (λ (q : A × Rest). q.1.at) both in
+        ap₂ (λ (a : A) (n : ℕ). (a, n)) one offset
     by (Err NoMemory) e = refl
     by (Err (Fault fault)) e = absurd (no_fault fault _ (sym e ∙ is_read))

@@ -5,8 +5,8 @@ use Rattle.std.proofs.lemmas.Bool.{ltb-false, le-ltb}
 use Rattle.std.proofs.lemmas.List.{take_at, drop_at, take-append-drop, length-append, length-take, append-nil}
 use Rattle.std.proofs.lemmas.Nat.{le_bytes_2, le_bytes_4, le_bytes_8, from_le_bytes-to_le_bytes_2, from_le_bytes-to_le_bytes_4, from_le_bytes-to_le_bytes_8}
 use Rattle.pac_bytes.specs.declared.fault.Short.{Short}
-use Rattle.pac_bytes.specs.Reading.{Rest, behind, short_at, byte_in_front, next_byte, next_bytes, next_uint}
-use Rattle.pac_bytes.specs.Readers.{IsInFront}
+use Rattle.pac_bytes.specs.Reading.{Rest, after, short_at, leading_byte, next_byte, next_bytes, next_uint}
+use Rattle.pac_bytes.specs.Readers.{IsAtStart}
 use Rattle.pac_bytes.proofs.Results.{ok_same, false_ok}
 use Rattle.pac_bytes.proofs.Bytes.{IsBytes, AreBytes, IsBytes-nil, IsBytes-cons, IsBytes-take}
 use Rattle.pac_bytes.proofs.Codec.{IsCodec, ended, seq, same}
@@ -17,11 +17,11 @@ IsByte b = b < 256
 abbrev pub one_byte : ℕ → List ℕ
 one_byte b = b ∷ []
 
-byte_found : (at : ℕ) (bytes : List ℕ) (x : ℕ) (t : Rest) → IsBytes bytes → byte_in_front at bytes ≡ Ok (x, t) → IsInFront IsByte one_byte (record { at = at; bytes = bytes }) x t
+byte_found : (at : ℕ) (bytes : List ℕ) (x : ℕ) (t : Rest) → IsBytes bytes → leading_byte at bytes ≡ Ok (x, t) → IsAtStart IsByte one_byte (record { at = at; bytes = bytes }) x t
 byte_found at [] x t are e = absurd cc
 byte_found at (b ∷ bs) x t are e =
     let both : (b, record { at = at + 1; bytes = bs }) ≡ (x, t) = ok_same {F = Short} _ _ e in
-    subst (λ (p : ℕ × Rest). IsInFront IsByte one_byte (record { at = at; bytes = b ∷ bs }) p.0 p.1) both (record { bytes = refl; place = refl; form = are 0 })
+    subst (λ (p : ℕ × Rest). IsAtStart IsByte one_byte (record { at = at; bytes = b ∷ bs }) p.0 p.1) both (record { bytes = refl; offset = refl; form = are 0 })
 
 -- a byte
 pub byte_codec : IsCodec IsByte one_byte next_byte
@@ -37,12 +37,12 @@ bytes_codec {F} fault n = record {
       let long : ltb (length (x ++ more)) n ≡ false = le-ltb _ _ (omega (arith, length-append x more, fits.0)) in
       rw (long, take_at x more n fits.0, drop_at x more n fits.0, fits.0) refl;
   found = λ s x t are e.
-      let test = false_ok (ltb (length s.bytes) n) (fault s) (Ok (take n s.bytes, behind n s)) (x, t) e in
+      let test = false_ok (ltb (length s.bytes) n) (fault s) (Ok (take n s.bytes, after n s)) (x, t) e in
       let long : n ≤ length s.bytes = ltb-false _ _ test.0 in
       let len : length (take n s.bytes) ≡ n = omega (arith, length-take n s.bytes) in
-      let both : (take n s.bytes, behind n s) ≡ (x, t) = ok_same {F = F} (take n s.bytes, behind n s) (x, t) test.1 in
-      subst (λ (p : List ℕ × Rest). IsInFront (AreBytes n) (λ bs. bs) s p.0 p.1) both
-      (record { bytes = sym (take-append-drop n s.bytes); place = ap (λ (k : ℕ). s.at + k) (sym len); form = (len, IsBytes-take n s.bytes are) });
+      let both : (take n s.bytes, after n s) ≡ (x, t) = ok_same {F = F} (take n s.bytes, after n s) (x, t) test.1 in
+      subst (λ (p : List ℕ × Rest). IsAtStart (AreBytes n) (λ bs. bs) s p.0 p.1) both
+      (record { bytes = sym (take-append-drop n s.bytes); offset = ap (λ (k : ℕ). s.at + k) (sym len); form = (len, IsBytes-take n s.bytes are) });
 }
 
 byte_small : (i n : ℕ) → byte_at i n < 256

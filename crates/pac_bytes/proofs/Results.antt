@@ -1,7 +1,7 @@
 -- What follows from the result of a step, and of a test.
 use Rattle.std.proofs.Common.{◌≡◌, Bool, true, false, cond, Result, Ok, Err, refl}
 use Rattle.pac_value.specs.Expressions.{◌>>=◌}
-use Rattle.pac_bytes.specs.Reading.{told_as}
+use Rattle.pac_bytes.specs.Reading.{reported_as}
 
 -- two steps that end well: what the first gave, and that the second ends so from there
 pub bind_ok : {A B F : Type 0} (r : Result A F) (f : A → Result B F) (y : B) → (r >>= f) ≡ Ok y → (x : A) × (r ≡ Ok x) × (f x ≡ Ok y)
@@ -12,9 +12,9 @@ bind_ok (Err fault) f y e = absurd cc
 pub bind_of_ok : {A B F : Type 0} (r : Result A F) (x : A) (f : A → Result B F) (y : Result B F) → r ≡ Ok x → f x ≡ y → (r >>= f) ≡ y
 bind_of_ok r x f y e h = rw e h
 
-pub told_as_ok : {A F G : Type 0} (tell : F → G) (r : Result A F) (y : A) → told_as tell r ≡ Ok y → r ≡ Ok y
-told_as_ok tell (Ok x) y e = cc
-told_as_ok tell (Err fault) y e = absurd cc
+pub reported_as_ok : {A F G : Type 0} (report : F → G) (r : Result A F) (y : A) → reported_as report r ≡ Ok y → r ≡ Ok y
+reported_as_ok report (Ok x) y e = cc
+reported_as_ok report (Err fault) y e = absurd cc
 
 abbrev ok_of : {A F : Type 0} → A → Result A F
 ok_of x = Ok x

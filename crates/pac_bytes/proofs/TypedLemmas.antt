@@ -12,10 +12,10 @@ use Rattle.pac_value.specs.declared.values.Value.TheVariants.{Int, Text, Bool as
 use Rattle.pac_value.specs.Values.{type_of, is_stored, key_value, as_key}
 use Rattle.pac_bytes.specs.declared.fault.ValueFault.{ValueFault}
 use Rattle.pac_bytes.specs.declared.fault.TypedFault.TheVariants as fault
-use Rattle.pac_bytes.specs.Reading.{told_as}
+use Rattle.pac_bytes.specs.Reading.{reported_as}
 use Rattle.pac_bytes.specs.Values.{value_bytes, HasBytes, next_type, next_value}
 use Rattle.pac_bytes.specs.Typed.{HasType, key_bytes, KeyHasType, values_bytes, HaveTypes, as_typed_fault, same_type, next_typed, next_key, next_values}
-use Rattle.pac_bytes.proofs.Results.{bind_ok, told_as_ok, ok_same, true_ok}
+use Rattle.pac_bytes.proofs.Results.{bind_ok, reported_as_ok, ok_same, true_ok}
 use Rattle.pac_bytes.proofs.Codec.{IsCodec, ended, seq, same}
 use Rattle.pac_bytes.proofs.Lists.{along_codec}
 use Rattle.pac_bytes.proofs.ValueLemmas.{value_codec}
@@ -23,10 +23,10 @@ use Rattle.pac_bytes.proofs.ValueLemmas.{value_codec}
 -- ---- a value of a type
 
 -- the tag of a value is that of its type
-type_in_front : (v : Value) (at : ℕ) (more : List ℕ) → HasBytes v → next_type (record { at = at; bytes = value_bytes v ++ more }) ≡ Ok (type_of v)
-type_in_front (Int z) at more form = refl
-type_in_front (Text t) at more form = refl
-type_in_front (Truth b) at more form = absurd form
+leading_type : (v : Value) (at : ℕ) (more : List ℕ) → HasBytes v → next_type (record { at = at; bytes = value_bytes v ++ more }) ≡ Ok (type_of v)
+leading_type (Int z) at more form = refl
+leading_type (Text t) at more form = refl
+leading_type (Truth b) at more form = absurd form
 
 same_itself : (t : Ty) → same_type t t ≡ true
 same_itself ty.Int = refl
@@ -47,14 +47,14 @@ same_is ty.Bool ty.Text h = absurd cc
 pub typed_codec : (t : Ty) → IsCodec (HasType t) value_bytes (next_typed t)
 unfolding next_typed
 typed_codec t = record {
-  again = λ x at more fits. rw (type_in_front x at more fits.0, fits.1, same_itself t, value_codec.again x at more fits.0) refl;
+  again = λ x at more fits. rw (leading_type x at more fits.0, fits.1, same_itself t, value_codec.again x at more fits.0) refl;
   found = λ s x r bytes e.
-      let steps = bind_ok (told_as as_typed_fault (next_type s)) (λ found. cond (same_type found t) (told_as as_typed_fault (next_value s)) (Err (fault.Wrong s.at))) (x, r) e in
-      let test = true_ok (same_type steps.0 t) (fault.Wrong s.at) (told_as as_typed_fault (next_value s)) (x, r) steps.2 in
-      let is = value_codec.found s x r bytes (told_as_ok as_typed_fault (next_value s) (x, r) test.1) in
-      let type_is : next_type s ≡ Ok (type_of x) = ap (λ (w : List ℕ). next_type (record { at = s.at; bytes = w })) is.bytes ∙ type_in_front x s.at r.bytes is.form in
-      let found : steps.0 ≡ type_of x = ok_same {F = ValueFault} steps.0 (type_of x) (sym (told_as_ok as_typed_fault (next_type s) steps.0 steps.1) ∙ type_is) in
-      record { bytes = is.bytes; place = is.place; form = (is.form, sym found ∙ same_is steps.0 t test.0) };
+      let steps = bind_ok (reported_as as_typed_fault (next_type s)) (λ found. cond (same_type found t) (reported_as as_typed_fault (next_value s)) (Err (fault.Wrong s.at))) (x, r) e in
+      let test = true_ok (same_type steps.0 t) (fault.Wrong s.at) (reported_as as_typed_fault (next_value s)) (x, r) steps.2 in
+      let is = value_codec.found s x r bytes (reported_as_ok as_typed_fault (next_value s) (x, r) test.1) in
+      let type_is : next_type s ≡ Ok (type_of x) = ap (λ (w : List ℕ). next_type (record { at = s.at; bytes = w })) is.bytes ∙ leading_type x s.at r.bytes is.form in
+      let found : steps.0 ≡ type_of x = ok_same {F = ValueFault} steps.0 (type_of x) (sym (reported_as_ok as_typed_fault (next_type s) steps.0 steps.1) ∙ type_is) in
+      record { bytes = is.bytes; offset = is.offset; form = (is.form, sym found ∙ same_is steps.0 t test.0) };
 }
 
 -- ---- a key of a type

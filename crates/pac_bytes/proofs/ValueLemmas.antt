@@ -13,11 +13,11 @@ use Rattle.pac_value.specs.declared.values.Value.TheVariants.{Int, Text, Bool as
 use Rattle.pac_value.specs.Expressions.{◌>>=◌}
 use Rattle.pac_value.specs.Texts.{IsText, is_printable}
 use Rattle.pac_bytes.specs.declared.fault.ValueFault.TheVariants as fault
-use Rattle.pac_bytes.specs.Reading.{told_as, next_byte, next_bytes, next_uint}
+use Rattle.pac_bytes.specs.Reading.{reported_as, next_byte, next_bytes, next_uint}
 use Rattle.pac_bytes.specs.Values.{value_bytes, HasBytes, as_value_fault, int_body, printable_text, text_of_length, text_body, value_body, next_value}
 use Rattle.pac_bytes.proofs.Results.{not_both}
 use Rattle.pac_bytes.proofs.Bytes.{IsBytes, AreBytes, IsBytes-nil, IsBytes-cons}
-use Rattle.pac_bytes.proofs.Codec.{IsCodec, ended, seq, either, never, same, retold}
+use Rattle.pac_bytes.proofs.Codec.{IsCodec, ended, seq, either, never, same, reported_again}
 use Rattle.pac_bytes.proofs.Numbers.{IsByte, one_byte, byte_codec, bytes_codec, uint_codec, width64}
 
 -- ---- ints
@@ -56,8 +56,8 @@ int_codec = same _ _ _ _ int_body
     (λ v is. (is, bits_small v is))
     (λ v fits. fits.0)
     (λ v is. append-nil (to_le_bytes w64 (bits_of v)))
-    (seq bits_of (λ n. n < 2 ^ 64) (to_le_bytes w64) (λ s. told_as as_value_fault (next_uint w64 s)) IsInt (λ v. []) (λ at n s. Ok (Int (cast_signed w64 n), s))
-    (retold _ _ (next_uint w64) as_value_fault (uint_codec w64 (2 ^ 64) width64))
+    (seq bits_of (λ n. n < 2 ^ 64) (to_le_bytes w64) (λ s. reported_as as_value_fault (next_uint w64 s)) IsInt (λ v. []) (λ at n s. Ok (Int (cast_signed w64 n), s))
+    (reported_again _ _ (next_uint w64) as_value_fault (uint_codec w64 (2 ^ 64) width64))
     (λ at n lt. same _ _ _ _ _ (int_of_bits n) (bits_of_int n lt) (λ v h. refl) (ended (Int (cast_signed w64 n)))))
 
 -- ---- texts
@@ -104,7 +104,7 @@ text_printable bs (Int z) h e = absurd h
 text_printable bs (Text t) h e = subst (λ (x : List ℕ). list_all is_printable x ≡ true) e h.1
 text_printable bs (Truth b) h e = absurd h
 
--- a text of so many bytes
+-- a text of that many bytes
 abbrev HasLength : ℕ → Value → Type 0
 HasLength len v = IsTextValue v × (length (bytes_of v) ≡ len)
 
@@ -133,8 +133,8 @@ text_codec tag = same _ _ _ _ (text_body tag)
     (λ v is. let short = text_short v is in (is, omega arith))
     (λ v fits. fits.0)
     (λ v is. refl)
-    (seq (λ v. length (bytes_of v)) IsByte one_byte (λ s. told_as as_value_fault (next_byte s)) IsTextValue bytes_of (λ at len s. text_of_length tag at len s)
-    (retold _ _ next_byte as_value_fault byte_codec)
+    (seq (λ v. length (bytes_of v)) IsByte one_byte (λ s. reported_as as_value_fault (next_byte s)) IsTextValue bytes_of (λ at len s. text_of_length tag at len s)
+    (reported_again _ _ next_byte as_value_fault byte_codec)
     (λ at len lt. length_codec tag at len))
 
 -- ---- values
@@ -144,7 +144,7 @@ tag_of (Int z) = 1
 tag_of (Text t) = 2
 tag_of (Truth b) = 0
 
--- what stands behind the tag
+-- what stands after the tag
 abbrev body_bytes : Value → List ℕ
 body_bytes (Int z) = to_le_bytes w64 (cast_unsigned w64 z)
 body_bytes (Text t) = length t ∷ t
@@ -211,6 +211,6 @@ value_codec = same _ _ _ _ _
     (λ v h. (h, tag_small v))
     (λ v fits. fits.0)
     (λ v h. tag_and_body v h)
-    (seq tag_of IsByte one_byte (λ s. told_as as_value_fault (next_byte s)) HasBytes body_bytes (λ at tag s. value_body at tag s)
-    (retold _ _ next_byte as_value_fault byte_codec)
+    (seq tag_of IsByte one_byte (λ s. reported_as as_value_fault (next_byte s)) HasBytes body_bytes (λ at tag s. value_body at tag s)
+    (reported_again _ _ next_byte as_value_fault byte_codec)
     (λ at tag lt. body_codec at tag))

@@ -11,7 +11,7 @@ use Rattle.pac_bytes.specs.declared.fault.ValueFault.{ValueFault}
 use Rattle.pac_bytes.specs.declared.fault.ValueFault.TheVariants.{Short, Tag, Bad}
 use Rattle.pac_bytes.specs.declared.fault.TypedFault.{TypedFault}
 use Rattle.pac_bytes.specs.declared.fault.TypedFault.TheVariants as typed
-use Rattle.pac_bytes.specs.Reading.{Rest, told_as, along}
+use Rattle.pac_bytes.specs.Reading.{Rest, reported_as, along}
 use Rattle.pac_bytes.specs.Values.{value_bytes, HasBytes, next_type, next_value}
 
 -- a value of this type that has bytes
@@ -26,7 +26,7 @@ key_bytes key = value_bytes (key_value key)
 abbrev pub KeyHasType : Ty → Key → Type 0
 KeyHasType ty key = HasType ty (key_value key)
 
--- the bytes of values, one behind the other
+-- the bytes of values, one after another
 abbrev pub values_bytes : List Value → List ℕ
 values_bytes values = flat_map value_bytes values
 
@@ -34,7 +34,7 @@ values_bytes values = flat_map value_bytes values
 abbrev pub HaveTypes : List Ty → List Value → Type 0
 HaveTypes types values = (map type_of values ≡ types) × All HasBytes values
 
--- a fault of a value where one of some type is wanted: a text that is not right is told as a value of another type is
+-- a fault of a value where one of some type is wanted: a text that is not right is reported as a value of another type is
 abbrev pub as_typed_fault : ValueFault → TypedFault
 as_typed_fault (Short at) = typed.Short at
 as_typed_fault (Tag at) = typed.Tag at
@@ -49,8 +49,8 @@ same_type _ _ = false
 
 -- the next value, which has to be of this type; its type is compared before its bytes are looked at
 unfoldable pub next_typed : Ty → Rest → Result (Value × Rest) TypedFault
-next_typed ty s = told_as as_typed_fault (next_type s)
-    >>= λ found. if same_type found ty then told_as as_typed_fault (next_value s) else Err (typed.Wrong s.at)
+next_typed ty s = reported_as as_typed_fault (next_type s)
+    >>= λ found. if same_type found ty then reported_as as_typed_fault (next_value s) else Err (typed.Wrong s.at)
 
 -- the next key, which has to be of this type
 unfoldable pub next_key : Ty → Rest → Result (Key × Rest) TypedFault

@@ -12,7 +12,7 @@ use Rattle.pac_value.specs.Texts.{IsText, is_printable}
 use Rattle.pac_bytes.specs.declared.fault.Short.{Short}
 use Rattle.pac_bytes.specs.declared.fault.ValueFault.{ValueFault}
 use Rattle.pac_bytes.specs.declared.fault.ValueFault.TheVariants as fault
-use Rattle.pac_bytes.specs.Reading.{Rest, told_as, next_byte, next_bytes, next_uint}
+use Rattle.pac_bytes.specs.Reading.{Rest, reported_as, next_byte, next_bytes, next_uint}
 
 -- an int is the tag 1 and eight bytes, a text the tag 2, its length and its bytes; a bool has no bytes
 abbrev pub value_bytes : Value → List ℕ
@@ -30,34 +30,34 @@ HasBytes (Truth b) = ⊥
 abbrev pub as_value_fault : Short → ValueFault
 as_value_fault short = fault.Short short.at
 
--- the type that this tag tells, which stands at this place
+-- the type that this tag says, which stands at this offset
 abbrev pub type_of_tag : ℕ → ℕ → Result Ty ValueFault
 type_of_tag at tag = if nat_eq tag 1 then Ok IntTy else (if nat_eq tag 2 then Ok TextTy else Err (fault.Tag at))
 
 -- the type of the next value, by its tag alone
 abbrev pub next_type : Rest → Result Ty ValueFault
-next_type s = told_as as_value_fault (next_byte s) >>= λ tag. type_of_tag s.at tag.0
+next_type s = reported_as as_value_fault (next_byte s) >>= λ tag. type_of_tag s.at tag.0
 
--- an int, behind its tag
+-- an int, after its tag
 abbrev pub int_body : Rest → Result (Value × Rest) ValueFault
-int_body s = told_as as_value_fault (next_uint w64 s) >>= λ n. Ok (Int (cast_signed w64 n.0), n.1)
+int_body s = reported_as as_value_fault (next_uint w64 s) >>= λ n. Ok (Int (cast_signed w64 n.0), n.1)
 
 -- the text of these bytes, where all are printable; its tag stands at tag
 abbrev pub printable_text : ℕ → List ℕ → Rest → Result (Value × Rest) ValueFault
 printable_text tag bytes rest = if list_all is_printable bytes then Ok (Text bytes, rest) else Err (fault.Bad tag)
 
--- A text of so many bytes. Its length stands at field, and its tag at tag. One that is too long is bad before it is short.
+-- A text of that many bytes. Its length stands at field, and its tag at tag. One that is too long is bad before it is short.
 abbrev pub text_of_length : ℕ → ℕ → ℕ → Rest → Result (Value × Rest) ValueFault
 text_of_length tag field len s = if nat_lt MAX_TEXT len then Err (fault.Bad tag) else next_bytes (fault.Short field) len s >>= λ t. printable_text tag t.0 t.1
 
--- a text, behind its tag, which stands at tag
+-- a text, after its tag, which stands at tag
 abbrev pub text_body : ℕ → Rest → Result (Value × Rest) ValueFault
-text_body tag s = told_as as_value_fault (next_byte s) >>= λ len. text_of_length tag s.at len.0 len.1
+text_body tag s = reported_as as_value_fault (next_byte s) >>= λ len. text_of_length tag s.at len.0 len.1
 
--- a value, behind this tag, which stands at this place
+-- a value, after this tag, which stands at this offset
 abbrev pub value_body : ℕ → ℕ → Rest → Result (Value × Rest) ValueFault
 value_body at tag s = if nat_eq tag 1 then int_body s else (if nat_eq tag 2 then text_body at s else Err (fault.Tag at))
 
 -- the next value, or its first fault
 unfoldable pub next_value : Rest → Result (Value × Rest) ValueFault
-next_value s = told_as as_value_fault (next_byte s) >>= λ tag. value_body s.at tag.0 tag.1
+next_value s = reported_as as_value_fault (next_byte s) >>= λ tag. value_body s.at tag.0 tag.1

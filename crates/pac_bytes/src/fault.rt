@@ -7,24 +7,24 @@ ghost use Rattle.pac_bytes.specs.Typed.{as_typed_fault};
 use pac_base::Refusal;
 use thiserror::Error;
 
-/// Too few bytes are left for the field at this place.
+/// Too few bytes are left for the field at this offset.
 #[derive(Clone, Copy, Debug, PartialEq, Eq, Error)]
 #[error("bytes end inside the field at {at}")]
 pub struct Short {
-    /// The place of the field's first byte, an offset from 0.
+    /// The offset of the field's first byte, from 0.
     pub at: usize,
 }
 
-/// Why no value stands at a place: the first fault from the left, with its place, an offset from 0.
+/// Why no value stands at an offset: the first fault from the left, with its offset, from 0.
 #[derive(Clone, Copy, Debug, PartialEq, Eq, Error)]
 pub enum ValueFault {
-    /// Too few bytes are left for the field at this place. A text's length and its bytes are one field.
+    /// Too few bytes are left for the field at this offset. A text's length and its bytes are one field.
     #[error("bytes end inside the field at {at}")]
     Short { at: usize },
-    /// The byte at this place is no tag of a value.
+    /// The byte at this offset is no tag of a value.
     #[error("no value has the tag at {at}")]
     Tag { at: usize },
-    /// The value whose tag stands at this place is a text that is too long or has a byte that isn't printable.
+    /// The value whose tag stands at this offset is a text that is too long or has a byte that isn't printable.
     #[error("no text is what stands at {at}")]
     Bad { at: usize },
 }
@@ -37,17 +37,17 @@ impl From<Short> for ValueFault {
     }
 }
 
-/// Why no value of the type that is wanted stands at a place: the first fault from the left, with its place, an offset
+/// Why no value of the type that is wanted stands at an offset: the first fault from the left, with its offset, an offset
 /// from 0.
 #[derive(Clone, Copy, Debug, PartialEq, Eq, Error)]
 pub enum TypedFault {
-    /// Too few bytes are left for the field at this place. A text's length and its bytes are one field.
+    /// Too few bytes are left for the field at this offset. A text's length and its bytes are one field.
     #[error("bytes end inside the field at {at}")]
     Short { at: usize },
-    /// The byte at this place is no tag of a value.
+    /// The byte at this offset is no tag of a value.
     #[error("no value has the tag at {at}")]
     Tag { at: usize },
-    /// The value whose tag stands at this place is of another type, or a text that is too long or has a byte that isn't
+    /// The value whose tag stands at this offset is of another type, or a text that is too long or has a byte that isn't
     /// printable.
     #[error("another value is wanted at {at}")]
     Wrong { at: usize },

@@ -8,7 +8,7 @@ ghost use Rattle.pac_bytes.specs.Readers.{Answers, Finds, FindsSpelled};
 use crate::Short;
 use pac_base::NoMemory;
 
-// The `N` bytes at a place, and the place behind them.
+// The `N` bytes at an offset, and the offset after them.
 fn bytes_at<const N: usize>(bytes: &[u8], at: usize) -> Result<([u8; N], usize), Short>
     requires { 1 ≤ N }
     ensures exact { Answers bytes.now result (next_bytes (short_at at) N (from bytes.now at)) }
@@ -23,11 +23,11 @@ fn bytes_at<const N: usize>(bytes: &[u8], at: usize) -> Result<([u8; N], usize),
     }
 }
 
-/// The byte at a place, and the place behind it.
+/// The byte at an offset, and the offset after it.
 ///
 /// # Errors
 ///
-/// [`Short`]: the bytes end before the place or at it.
+/// [`Short`]: the bytes end before the offset or at it.
 pub fn u8_at(bytes: &[u8], at: usize) -> Result<(u8, usize), Short>
     ensures exact { Answers bytes.now result (next_byte (from bytes.now at)) }
     ensures found { Finds (λ b. b < 256) (λ b. b ∷ []) bytes.now at result }
@@ -40,11 +40,11 @@ pub fn u8_at(bytes: &[u8], at: usize) -> Result<(u8, usize), Short>
     }
 }
 
-/// The number whose two bytes stand at a place, and the place behind them.
+/// The number whose two bytes stand at an offset, and the offset after them.
 ///
 /// # Errors
 ///
-/// [`Short`]: fewer than two bytes are left at the place.
+/// [`Short`]: fewer than two bytes are left at the offset.
 pub fn u16_at(bytes: &[u8], at: usize) -> Result<(u16, usize), Short>
     ensures exact { Answers bytes.now result (next_uint w16 (from bytes.now at)) }
     ensures found { Finds (λ n. n < 2 ^ 16) (to_le_bytes w16) bytes.now at result }
@@ -55,11 +55,11 @@ pub fn u16_at(bytes: &[u8], at: usize) -> Result<(u16, usize), Short>
     Ok((u16::from_le_bytes(field), end))
 }
 
-/// The number whose four bytes stand at a place, and the place behind them.
+/// The number whose four bytes stand at an offset, and the offset after them.
 ///
 /// # Errors
 ///
-/// [`Short`]: fewer than four bytes are left at the place.
+/// [`Short`]: fewer than four bytes are left at the offset.
 pub fn u32_at(bytes: &[u8], at: usize) -> Result<(u32, usize), Short>
     ensures exact { Answers bytes.now result (next_uint w32 (from bytes.now at)) }
     ensures found { Finds (λ n. n < 2 ^ 32) (to_le_bytes w32) bytes.now at result }
@@ -70,11 +70,11 @@ pub fn u32_at(bytes: &[u8], at: usize) -> Result<(u32, usize), Short>
     Ok((u32::from_le_bytes(field), end))
 }
 
-/// The number whose eight bytes stand at a place, and the place behind them.
+/// The number whose eight bytes stand at an offset, and the offset after them.
 ///
 /// # Errors
 ///
-/// [`Short`]: fewer than eight bytes are left at the place.
+/// [`Short`]: fewer than eight bytes are left at the offset.
 pub fn u64_at(bytes: &[u8], at: usize) -> Result<(u64, usize), Short>
     ensures exact { Answers bytes.now result (next_uint w64 (from bytes.now at)) }
     ensures found { Finds (λ n. n < 2 ^ 64) (to_le_bytes w64) bytes.now at result }

@@ -13,7 +13,7 @@ use crate::{TypedFault, typed_at};
 use pac_base::NoMemory;
 use pac_value::{Key, Ty, Value};
 
-// The key at a place, which has to be of this type, as reading gives it.
+// The key at an offset, which has to be of this type, as reading gives it.
 #[tactic(auto, unfolding(crate::specs::Typed::next_key))]
 fn read_key(bytes: &[u8], at: usize, ty: Ty) -> Result<(Key, usize), TypedFault>
     ensures exact { Answers bytes.now result (next_key ty (from bytes.now at)) }
@@ -27,7 +27,7 @@ fn read_key(bytes: &[u8], at: usize, ty: Ty) -> Result<(Key, usize), TypedFault>
     }
 }
 
-/// The key at a place, which has to be of this type, and the place behind it.
+/// The key at an offset, which has to be of this type, and the offset after it.
 ///
 /// # Errors
 ///
@@ -39,7 +39,7 @@ pub fn key_at(bytes: &[u8], at: usize, ty: Ty) -> Result<(Key, usize), TypedFaul
     ensures found { Finds (KeyHasType ty) key_bytes bytes.now at result }
     // What has the type and is written so is found, whatever follows.
     ensures again { FindsSpelled (KeyHasType ty) key_bytes bytes.now at result }
-    // The place behind it is no further than the end.
+    // The offset after it is no further than the end.
     ensures inside { IfOk result (λ found. found.1 ≤ length bytes.now) }
 {
     read_key(bytes, at, ty)

@@ -8,7 +8,7 @@ ghost use Rattle.pac_bytes.specs.Typed.{next_typed, HasType};
 use crate::{TypedFault, type_at, value_at};
 use pac_value::{Ty, Value};
 
-// The value at a place, which has to be of this type, as reading gives it.
+// The value at an offset, which has to be of this type, as reading gives it.
 #[tactic(auto, unfolding(crate::specs::Typed::next_typed))]
 fn read_typed(bytes: &[u8], at: usize, ty: Ty) -> Result<(Value, usize), TypedFault>
     ensures exact { Answers bytes.now result (next_typed ty (from bytes.now at)) }
@@ -20,14 +20,14 @@ fn read_typed(bytes: &[u8], at: usize, ty: Ty) -> Result<(Value, usize), TypedFa
     Ok(value_at(bytes, at)?)
 }
 
-/// The value at a place, which has to be of this type, and the place behind it. The type is compared right behind the tag.
+/// The value at an offset, which has to be of this type, and the offset after it. The type is compared right after the tag.
 ///
 /// # Errors
 ///
 /// The first fault from the left:
 ///
 /// - [`TypedFault::Short`] and [`TypedFault::Tag`] as of [`value_at`].
-/// - [`TypedFault::Wrong`] at the tag of a value of another type, whatever is left behind it, and where [`value_at`]
+/// - [`TypedFault::Wrong`] at the tag of a value of another type, whatever is left after it, and where [`value_at`]
 ///   answers `Bad`.
 pub fn typed_at(bytes: &[u8], at: usize, ty: Ty) -> Result<(Value, usize), TypedFault>
     // It is what reading gives, or the first fault.
@@ -36,7 +36,7 @@ pub fn typed_at(bytes: &[u8], at: usize, ty: Ty) -> Result<(Value, usize), Typed
     ensures found { Finds (HasType ty) value_bytes bytes.now at result }
     // What has the type and is written so is found, whatever follows.
     ensures again { FindsSpelled (HasType ty) value_bytes bytes.now at result }
-    // The place behind it is no further than the end.
+    // The offset after it is no further than the end.
     ensures inside { IfOk result (λ found. found.1 ≤ length bytes.now) }
 {
     read_typed(bytes, at, ty)

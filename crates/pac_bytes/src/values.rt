@@ -24,11 +24,11 @@ pub(crate) const INT_LEN: usize = 9;
 /// The most bytes that a value has, those of the longest text.
 pub const MAX_VALUE_LEN: usize = 2 + Text::MAX;
 
-/// The type of the value at a place, by its tag alone.
+/// The type of the value at an offset, by its tag alone.
 ///
 /// # Errors
 ///
-/// [`ValueFault::Short`] where the bytes end before the place or at it, [`ValueFault::Tag`] where its byte is no tag.
+/// [`ValueFault::Short`] where the bytes end before the offset or at it, [`ValueFault::Tag`] where its byte is no tag.
 pub fn type_at(bytes: &[u8], at: usize) -> Result<Ty, ValueFault>
     ensures exact { result ≡ next_type (from bytes.now at) }
     // The tag is that of the value.
@@ -50,7 +50,7 @@ fn int_at(bytes: &[u8], at: usize) -> Result<(Value, usize), ValueFault>
     Ok((Value::Int(number.cast_signed()), end))
 }
 
-// The text of so many bytes at a place, where its length stands at `field` and its tag at `tag`.
+// The text of that many bytes at an offset, where its length stands at `field` and its tag at `tag`.
 fn text_of_length_at(
     bytes: &[u8],
     at: usize,
@@ -75,39 +75,39 @@ fn text_of_length_at(
     }
 }
 
-// The text whose length stands at a place, and its tag at `tag`.
+// The text whose length stands at an offset, and its tag at `tag`.
 fn text_at(bytes: &[u8], at: usize, tag: usize) -> Result<(Value, usize), ValueFault>
     ensures exact { Answers bytes.now result (text_body tag (from bytes.now at)) }
     ensures inside { IfOk result (λ found. found.1 ≤ length bytes.now) }
 {
-    let (len, behind) = u8_at(bytes, at)?;
-    text_of_length_at(bytes, behind, usize::from(len), at, tag)
+    let (len, after) = u8_at(bytes, at)?;
+    text_of_length_at(bytes, after, usize::from(len), at, tag)
 }
 
-// The value at a place, as reading gives it.
+// The value at an offset, as reading gives it.
 #[tactic(auto, unfolding(crate::specs::Values::next_value))]
 fn read_value(bytes: &[u8], at: usize) -> Result<(Value, usize), ValueFault>
     ensures exact { Answers bytes.now result (next_value (from bytes.now at)) }
     ensures inside { IfOk result (λ found. found.1 ≤ length bytes.now) }
 {
-    let (tag, behind) = u8_at(bytes, at)?;
+    let (tag, after) = u8_at(bytes, at)?;
     match tag {
-        INT => int_at(bytes, behind),
-        TEXT => text_at(bytes, behind, at),
+        INT => int_at(bytes, after),
+        TEXT => text_at(bytes, after, at),
         _ => Err(ValueFault::Tag { at }),
     }
 }
 
-/// The value at a place, and the place behind it.
+/// The value at an offset, and the offset after it.
 ///
 /// # Errors
 ///
 /// The first fault from the left:
 ///
 /// - [`ValueFault::Short`] where too few bytes are left for the tag, for the eight bytes of an int, or for the length and
-///   the bytes of a text, which are one field. Its place is that of the field.
-/// - [`ValueFault::Tag`] at a byte that is no tag, whatever is left behind it.
-/// - [`ValueFault::Bad`] at the tag of a text whose length is above 64, whatever is left behind it, and of one that is
+///   the bytes of a text, which are one field. Its offset is that of the field.
+/// - [`ValueFault::Tag`] at a byte that is no tag, whatever is left after it.
+/// - [`ValueFault::Bad`] at the tag of a text whose length is above 64, whatever is left after it, and of one that is
 ///   whole and has a byte below 0x20 or above 0x7E.
 pub fn value_at(bytes: &[u8], at: usize) -> Result<(Value, usize), ValueFault>
     // It is what reading gives, or the first fault.
@@ -116,7 +116,7 @@ pub fn value_at(bytes: &[u8], at: usize) -> Result<(Value, usize), ValueFault>
     ensures found { Finds HasBytes value_bytes bytes.now at result }
     // What is written so is found, whatever follows.
     ensures again { FindsSpelled HasBytes value_bytes bytes.now at result }
-    // The place behind it is no further than the end.
+    // The offset after it is no further than the end.
     ensures inside { IfOk result (λ found. found.1 ≤ length bytes.now) }
 {
     read_value(bytes, at)

@@ -12,12 +12,12 @@ use Rattle.pac_value.specs.declared.values.Key.TheVariants.{Int as IntKey}
 use Rattle.pac_value.specs.State.{RowValues}
 use Rattle.pac_value.specs.Expressions.{◌>>=◌}
 use Rattle.pac_types.specs.declared.table.Table.{Table}
-use Rattle.pac_types.specs.Sound.{types}
-use Rattle.pac_bytes.specs.Reading.{Rest, from, behind, told_as, next_uint, along}
-use Rattle.pac_bytes.specs.Readers.{IsInFront}
+use Rattle.pac_types.specs.WellFormed.{types}
+use Rattle.pac_bytes.specs.Reading.{Rest, from, after, reported_as, next_uint, along}
+use Rattle.pac_bytes.specs.Readers.{IsAtStart}
 use Rattle.pac_bytes.specs.Typed.{KeyHasType, key_bytes, next_key, HaveTypes, values_bytes, next_values}
 use Rattle.pac_bytes.proofs.Results.{ok_same, true_ok}
-use Rattle.pac_bytes.proofs.Codec.{IsCodec, ended, seq, either, never, same, retold}
+use Rattle.pac_bytes.proofs.Codec.{IsCodec, ended, seq, either, never, same, reported_again}
 use Rattle.pac_bytes.proofs.Lists.{along_codec}
 use Rattle.pac_bytes.proofs.Numbers.{uint_codec, width16, width64}
 use Rattle.pac_bytes.proofs.TypedLemmas.{key_codec, values_codec}
@@ -52,24 +52,24 @@ name_codec = record {
   again = λ x at more is. subst (λ (w : List ℕ). next_name (record { at = at; bytes = w ++ more }) ≡ Ok (w, record { at = at + length w; bytes = more })) (sym is)
       (rw (take_at checkpoint_name more 8 refl, drop_at checkpoint_name more 8 refl) refl);
   found = λ s x t are e.
-      let test = true_ok (pointwise nat_eq (take 8 s.bytes) checkpoint_name) (slot_fault Magic s.at) (Ok (checkpoint_name, behind 8 s)) (x, t) e in
-      let both : (checkpoint_name, behind 8 s) ≡ (x, t) = ok_same {F = SlotFault} (checkpoint_name, behind 8 s) (x, t) test.1 in
+      let test = true_ok (pointwise nat_eq (take 8 s.bytes) checkpoint_name) (slot_fault Magic s.at) (Ok (checkpoint_name, after 8 s)) (x, t) e in
+      let both : (checkpoint_name, after 8 s) ≡ (x, t) = ok_same {F = SlotFault} (checkpoint_name, after 8 s) (x, t) test.1 in
       let words : take 8 s.bytes ≡ checkpoint_name = same_bytes (take 8 s.bytes) checkpoint_name test.0 in
-      subst (λ (p : List ℕ × Rest). IsInFront IsName (λ bytes. bytes) s p.0 p.1) both
-      (record { bytes = sym (take-append-drop 8 s.bytes) ∙ ap (λ (w : List ℕ). w ++ drop 8 s.bytes) words; place = refl; form = refl });
+      subst (λ (p : List ℕ × Rest). IsAtStart IsName (λ bytes. bytes) s p.0 p.1) both
+      (record { bytes = sym (take-append-drop 8 s.bytes) ∙ ap (λ (w : List ℕ). w ++ drop 8 s.bytes) words; offset = refl; form = refl });
 }
 
--- the name is there by a test of what stands at a place
+-- the name is there by a test of what stands at an offset
 pub name_there : (bytes rest : List ℕ) (at : ℕ) → rest ≡ drop at bytes → pointwise nat_eq (take 8 rest) checkpoint_name ≡ true → next_name (from bytes at) ≡ Ok (checkpoint_name, from bytes (at + 8))
 name_there bytes rest at is test =
     let here : pointwise nat_eq (take 8 (drop at bytes)) checkpoint_name ≡ true = subst (λ (l : List ℕ). pointwise nat_eq (take 8 l) checkpoint_name ≡ true) is test in
     rw (here, drop-drop 8 at bytes) refl
 
 wide_codec : IsCodec (λ n. n < 2 ^ 64) (to_le_bytes w64) (slot_number w64)
-wide_codec = retold _ _ (next_uint w64) as_slot_fault (uint_codec w64 (2 ^ 64) width64)
+wide_codec = reported_again _ _ (next_uint w64) as_slot_fault (uint_codec w64 (2 ^ 64) width64)
 
 narrow_codec : IsCodec (λ n. n < 65536) (to_le_bytes w16) (slot_number w16)
-narrow_codec = retold _ _ (next_uint w16) as_slot_fault (uint_codec w16 65536 width16)
+narrow_codec = reported_again _ _ (next_uint w16) as_slot_fault (uint_codec w16 65536 width16)
 
 count_codec : (tables : ℕ) → tables < 65536 → IsCodec (λ n. n ≡ tables) (to_le_bytes w16) (next_count tables)
 count_codec tables few = same _ _ _ _ (next_count tables)
@@ -90,8 +90,8 @@ module _ (tables : ℕ) (few : tables < 65536) where
   head_is : (txns place : ℕ) (head : Head) → head.txns ≡ txns → head.place ≡ place → head ≡ the_head txns place
   head_is txns place head t p = ap₂ (λ (a b : ℕ). the_head a b) t p
 
-  behind_place : (txns place : ℕ) → txns < 2 ^ 64 → place < 2 ^ 64 → IsCodec (λ head. (IsHead head × (head.txns ≡ txns)) × (head.place ≡ place)) (λ head. to_le_bytes w16 tables) (λ s. next_count tables s >>= λ count. Ok (the_head txns place, count.1))
-  behind_place txns place small_txns small_place = same _ _ _ _ _
+  after_place : (txns place : ℕ) → txns < 2 ^ 64 → place < 2 ^ 64 → IsCodec (λ head. (IsHead head × (head.txns ≡ txns)) × (head.place ≡ place)) (λ head. to_le_bytes w16 tables) (λ s. next_count tables s >>= λ count. Ok (the_head txns place, count.1))
+  after_place txns place small_txns small_place = same _ _ _ _ _
       (λ head h. (h, refl))
       (λ head h. h.0)
       (λ head h. append-nil (to_le_bytes w16 tables))
@@ -103,27 +103,27 @@ module _ (tables : ℕ) (few : tables < 65536) where
       (λ head h. refl)
       (ended (the_head txns place))))
 
-  behind_txns : (txns : ℕ) → txns < 2 ^ 64 → IsCodec (λ head. IsHead head × (head.txns ≡ txns)) (λ head. to_le_bytes w64 head.place ++ to_le_bytes w16 tables)
+  after_txns : (txns : ℕ) → txns < 2 ^ 64 → IsCodec (λ head. IsHead head × (head.txns ≡ txns)) (λ head. to_le_bytes w64 head.place ++ to_le_bytes w16 tables)
       (λ s. slot_number w64 s >>= λ place. next_count tables place.1 >>= λ count. Ok (the_head txns place.0, count.1))
-  behind_txns txns small = same _ _ _ _ _
+  after_txns txns small = same _ _ _ _ _
       (λ head h. (h, h.0.place))
       (λ head h. h.0)
       (λ head h. refl)
       (seq (λ head. head.place) (λ n. n < 2 ^ 64) (to_le_bytes w64) (slot_number w64) (λ head. IsHead head × (head.txns ≡ txns)) (λ head. to_le_bytes w16 tables)
       (λ at place s. next_count tables s >>= λ count. Ok (the_head txns place, count.1))
       wide_codec
-      (λ at place lt. behind_place txns place small lt))
+      (λ at place lt. after_place txns place small lt))
 
-  behind_name : IsCodec IsHead (λ head. to_le_bytes w64 head.txns ++ (to_le_bytes w64 head.place ++ to_le_bytes w16 tables))
+  after_name : IsCodec IsHead (λ head. to_le_bytes w64 head.txns ++ (to_le_bytes w64 head.place ++ to_le_bytes w16 tables))
       (λ s. slot_number w64 s >>= λ txns. slot_number w64 txns.1 >>= λ place. next_count tables place.1 >>= λ count. Ok (the_head txns.0 place.0, count.1))
-  behind_name = same _ _ _ _ _
+  after_name = same _ _ _ _ _
       (λ head h. (h, h.txns))
       (λ head h. h.0)
       (λ head h. refl)
       (seq (λ head. head.txns) (λ n. n < 2 ^ 64) (to_le_bytes w64) (slot_number w64) IsHead (λ head. to_le_bytes w64 head.place ++ to_le_bytes w16 tables)
       (λ at txns s. slot_number w64 s >>= λ place. next_count tables place.1 >>= λ count. Ok (the_head txns place.0, count.1))
       wide_codec
-      (λ at txns lt. behind_txns txns lt))
+      (λ at txns lt. after_txns txns lt))
 
   pub head_codec : IsCodec IsHead (head_bytes tables) (next_head tables)
   unfolding next_head
@@ -138,7 +138,7 @@ module _ (tables : ℕ) (few : tables < 65536) where
       (λ head h. h.0)
       (λ head h. (h, sym is))
       (λ head h. refl)
-      behind_name))
+      after_name))
 
 -- ---- the rows of a table
 
@@ -146,46 +146,46 @@ abbrev keyed : Key → RowValues → KeyedRow
 keyed key row = (key, row)
 
 module _ (table : Table) where
-  -- a row of the table behind this key
-  abbrev pub IsRowBehind : Option Key → KeyedRow → Type 0
-  IsRowBehind before row = IsKeyedRow table row × (is_above before row.0 ≡ true)
+  -- a row of the table after this key
+  abbrev pub IsRowAfter : Option Key → KeyedRow → Type 0
+  IsRowAfter before row = IsKeyedRow table row × (is_above before row.0 ≡ true)
 
-  values_behind : (before : Option Key) (key : Key) → KeyHasType table.key key → is_above before key ≡ true → IsCodec (λ row. (HaveTypes (types table.columns) row.1 × (is_above before row.0 ≡ true)) × (row.0 ≡ key)) (λ row. values_bytes row.1)
-      (λ s. told_as of_typed (next_values (types table.columns) s) >>= λ values. Ok (keyed key values.0, values.1))
-  values_behind before key form above = same _ _ _ _ _
+  values_after : (before : Option Key) (key : Key) → KeyHasType table.key key → is_above before key ≡ true → IsCodec (λ row. (HaveTypes (types table.columns) row.1 × (is_above before row.0 ≡ true)) × (row.0 ≡ key)) (λ row. values_bytes row.1)
+      (λ s. reported_as of_typed (next_values (types table.columns) s) >>= λ values. Ok (keyed key values.0, values.1))
+  values_after before key form above = same _ _ _ _ _
       (λ row h. ((h.1, h.0.0), h.0.0))
       (λ row h. ((h.1, ap (is_above before) h.0.0 ∙ above), h.0.0))
       (λ row h. append-nil (values_bytes row.1))
-      (seq (λ row. row.1) (HaveTypes (types table.columns)) values_bytes (λ s. told_as of_typed (next_values (types table.columns) s)) (λ row. (row.0 ≡ key) × HaveTypes (types table.columns) row.1) (λ row. []) (λ at values s. Ok (keyed key values, s))
-      (retold _ _ (next_values (types table.columns)) of_typed (values_codec (types table.columns)))
+      (seq (λ row. row.1) (HaveTypes (types table.columns)) values_bytes (λ s. reported_as of_typed (next_values (types table.columns) s)) (λ row. (row.0 ≡ key) × HaveTypes (types table.columns) row.1) (λ row. []) (λ at values s. Ok (keyed key values, s))
+      (reported_again _ _ (next_values (types table.columns)) of_typed (values_codec (types table.columns)))
       (λ at values are. same _ _ _ _ _
       (λ row h. ap₂ keyed h.0.0 h.1)
       (λ row e. ((ap (λ (r : KeyedRow). r.0) e, subst (HaveTypes (types table.columns)) (sym (ap (λ (r : KeyedRow). r.1) e)) are), ap (λ (r : KeyedRow). r.1) e))
       (λ row h. refl)
       (ended (keyed key values))))
 
-  pub row_codec : (before : Option Key) → IsCodec (IsRowBehind before) keyed_bytes (next_row table before)
+  pub row_codec : (before : Option Key) → IsCodec (IsRowAfter before) keyed_bytes (next_row table before)
   unfolding next_row
   row_codec before = same _ _ _ _ _
       (λ row h. ((h.0.1, h.1), h.0.0))
       (λ row h. ((h.1, h.0.0), h.0.1))
       (λ row h. refl)
-      (seq (λ row. row.0) (KeyHasType table.key) key_bytes (λ s. told_as of_typed (next_key table.key s)) (λ row. HaveTypes (types table.columns) row.1 × (is_above before row.0 ≡ true)) (λ row. values_bytes row.1)
-      (λ at key s. cond (is_above before key) (told_as of_typed (next_values (types table.columns) s) >>= λ values. Ok (keyed key values.0, values.1)) (Err (slot_fault Order at)))
-      (retold _ _ (next_key table.key) of_typed (key_codec table.key))
-      (λ at key form. either _ _ (is_above before key) (λ s. told_as of_typed (next_values (types table.columns) s) >>= λ values. Ok (keyed key values.0, values.1)) (λ s. Err (slot_fault Order at))
-      (λ above. values_behind before key form above)
+      (seq (λ row. row.0) (KeyHasType table.key) key_bytes (λ s. reported_as of_typed (next_key table.key s)) (λ row. HaveTypes (types table.columns) row.1 × (is_above before row.0 ≡ true)) (λ row. values_bytes row.1)
+      (λ at key s. cond (is_above before key) (reported_as of_typed (next_values (types table.columns) s) >>= λ values. Ok (keyed key values.0, values.1)) (Err (slot_fault Order at)))
+      (reported_again _ _ (next_key table.key) of_typed (key_codec table.key))
+      (λ at key form. either _ _ (is_above before key) (λ s. reported_as of_typed (next_values (types table.columns) s) >>= λ values. Ok (keyed key values.0, values.1)) (λ s. Err (slot_fault Order at))
+      (λ above. values_after before key form above)
       (λ not_above. never _ _ (λ s. slot_fault Order at) (λ row h. no_two (is_above before row.0) (is_above before key) (ap (is_above before) h.1) h.0.1 not_above))))
     where
       no_two : (a b : Bool) → a ≡ b → a ≡ true → b ≡ false → ⊥
       no_two a b e p q = cc
 
-  -- so many rows of the table behind this key
-  abbrev AreBehind : Option Key → ℕ → List KeyedRow → Type 0
-  AreBehind before zero [] = Unit {0}
-  AreBehind before zero (row ∷ rows) = ⊥
-  AreBehind before (suc n) [] = ⊥
-  AreBehind before (suc n) (row ∷ rows) = IsRowBehind before row × AreBehind (Some row.0) n rows
+  -- that many rows of the table after this key
+  abbrev AreAfter : Option Key → ℕ → List KeyedRow → Type 0
+  AreAfter before zero [] = Unit {0}
+  AreAfter before zero (row ∷ rows) = ⊥
+  AreAfter before (suc n) [] = ⊥
+  AreAfter before (suc n) (row ∷ rows) = IsRowAfter before row × AreAfter (Some row.0) n rows
 
   abbrev IsCons : List KeyedRow → Type 0
   IsCons [] = ⊥
@@ -203,38 +203,38 @@ module _ (table : Table) where
   rows_are row rows [] some f o = absurd some
   rows_are row rows (x ∷ xs) some f o = ap₂ (λ (r : KeyedRow) (rs : List KeyedRow). r ∷ rs) f o
 
-  parts : (before : Option Key) (n : ℕ) (xs : List KeyedRow) → AreBehind before (suc n) xs → (IsCons xs × AreBehind (Some (first_of xs).0) n (others_of xs)) × IsRowBehind before (first_of xs)
+  parts : (before : Option Key) (n : ℕ) (xs : List KeyedRow) → AreAfter before (suc n) xs → (IsCons xs × AreAfter (Some (first_of xs).0) n (others_of xs)) × IsRowAfter before (first_of xs)
   parts before n [] h = absurd h
   parts before n (x ∷ xs) h = ((tt, h.1), h.0)
 
-  joined : (before : Option Key) (n : ℕ) (xs : List KeyedRow) → (IsCons xs × AreBehind (Some (first_of xs).0) n (others_of xs)) × IsRowBehind before (first_of xs) → AreBehind before (suc n) xs
+  joined : (before : Option Key) (n : ℕ) (xs : List KeyedRow) → (IsCons xs × AreAfter (Some (first_of xs).0) n (others_of xs)) × IsRowAfter before (first_of xs) → AreAfter before (suc n) xs
   joined before n [] h = absurd h.0.0
   joined before n (x ∷ xs) h = (h.1, h.0.1)
 
-  words : (before : Option Key) (n : ℕ) (xs : List KeyedRow) → AreBehind before (suc n) xs → keyed_bytes (first_of xs) ++ flat_map keyed_bytes (others_of xs) ≡ flat_map keyed_bytes xs
+  words : (before : Option Key) (n : ℕ) (xs : List KeyedRow) → AreAfter before (suc n) xs → keyed_bytes (first_of xs) ++ flat_map keyed_bytes (others_of xs) ≡ flat_map keyed_bytes xs
   words before n [] h = absurd h
   words before n (x ∷ xs) h = sym (flat_map-cons keyed_bytes x xs)
 
-  no_rows : (before : Option Key) (xs : List KeyedRow) → AreBehind before zero xs → xs ≡ []
+  no_rows : (before : Option Key) (xs : List KeyedRow) → AreAfter before zero xs → xs ≡ []
   no_rows before [] h = refl
   no_rows before (x ∷ xs) h = absurd h
 
-  no_words : (before : Option Key) (xs : List KeyedRow) → AreBehind before zero xs → [] ≡ flat_map keyed_bytes xs
+  no_words : (before : Option Key) (xs : List KeyedRow) → AreAfter before zero xs → [] ≡ flat_map keyed_bytes xs
   no_words before [] h = refl
   no_words before (x ∷ xs) h = absurd h
 
-  rows_codec : (before : Option Key) (n : ℕ) → IsCodec (AreBehind before n) (λ rows. flat_map keyed_bytes rows) (next_rows table n before)
+  rows_codec : (before : Option Key) (n : ℕ) → IsCodec (AreAfter before n) (λ rows. flat_map keyed_bytes rows) (next_rows table n before)
   unfolding next_rows
-  rows_codec before zero = same _ _ _ _ _ (no_rows before) (λ xs e. subst (AreBehind before zero) (sym e) tt) (no_words before) (ended [])
+  rows_codec before zero = same _ _ _ _ _ (no_rows before) (λ xs e. subst (AreAfter before zero) (sym e) tt) (no_words before) (ended [])
   rows_codec before (suc n) = same _ _ _ _ _ (parts before n) (joined before n) (words before n)
-      (seq first_of (IsRowBehind before) keyed_bytes (next_row table before) (λ xs. IsCons xs × AreBehind (Some (first_of xs).0) n (others_of xs)) (λ xs. flat_map keyed_bytes (others_of xs))
+      (seq first_of (IsRowAfter before) keyed_bytes (next_row table before) (λ xs. IsCons xs × AreAfter (Some (first_of xs).0) n (others_of xs)) (λ xs. flat_map keyed_bytes (others_of xs))
       (λ at row s. next_rows table n (Some row.0) s >>= λ rows. Ok (row ∷ rows.0, rows.1))
       (row_codec before)
       (λ at row is. same _ _ _ _ _
-      (λ xs h. ((h.0.0, h.1), subst (λ (r : KeyedRow). AreBehind (Some r.0) n (others_of xs)) h.1 h.0.1))
-      (λ xs h. ((h.0.0, subst (λ (r : KeyedRow). AreBehind (Some r.0) n (others_of xs)) (sym h.0.1) h.1), h.0.1))
+      (λ xs h. ((h.0.0, h.1), subst (λ (r : KeyedRow). AreAfter (Some r.0) n (others_of xs)) h.1 h.0.1))
+      (λ xs h. ((h.0.0, subst (λ (r : KeyedRow). AreAfter (Some r.0) n (others_of xs)) (sym h.0.1) h.1), h.0.1))
       (λ xs h. append-nil (flat_map keyed_bytes (others_of xs)))
-      (seq others_of (AreBehind (Some row.0) n) (λ rows. flat_map keyed_bytes rows) (next_rows table n (Some row.0)) (λ xs. IsCons xs × (first_of xs ≡ row)) (λ xs. []) (λ at2 rows s. Ok (row ∷ rows, s))
+      (seq others_of (AreAfter (Some row.0) n) (λ rows. flat_map keyed_bytes rows) (next_rows table n (Some row.0)) (λ xs. IsCons xs × (first_of xs ≡ row)) (λ xs. []) (λ at2 rows s. Ok (row ∷ rows, s))
       (rows_codec (Some row.0) n)
       (λ at2 rows are. same _ _ _ _ _
       (λ xs h. rows_are row rows xs h.0.0 h.0.1 h.1)
@@ -242,15 +242,15 @@ module _ (table : Table) where
       (λ xs h. refl)
       (ended (row ∷ rows))))))
 
-  are_behind : (before : Option Key) (rows : List KeyedRow) → AllByRecursion (IsKeyedRow table) rows → AreAscending before rows → AreBehind before (length rows) rows
-  are_behind before [] each ascending = tt
-  are_behind before (row ∷ rows) each ascending = ((each.0, ascending.0), are_behind (Some row.0) rows each.1 ascending.1)
+  are_after : (before : Option Key) (rows : List KeyedRow) → AllByRecursion (IsKeyedRow table) rows → AreAscending before rows → AreAfter before (length rows) rows
+  are_after before [] each ascending = tt
+  are_after before (row ∷ rows) each ascending = ((each.0, ascending.0), are_after (Some row.0) rows each.1 ascending.1)
 
-  behind_are : (before : Option Key) (n : ℕ) (rows : List KeyedRow) → AreBehind before n rows → (AllByRecursion (IsKeyedRow table) rows × AreAscending before rows) × (length rows ≡ n)
-  behind_are before zero [] h = ((tt, tt), refl)
-  behind_are before zero (row ∷ rows) h = absurd h
-  behind_are before (suc n) [] h = absurd h
-  behind_are before (suc n) (row ∷ rows) h = let rest = behind_are (Some row.0) n rows h.1 in (((h.0.0, rest.0.0), (h.0.1, rest.0.1)), omega (arith, rest.1))
+  after_are : (before : Option Key) (n : ℕ) (rows : List KeyedRow) → AreAfter before n rows → (AllByRecursion (IsKeyedRow table) rows × AreAscending before rows) × (length rows ≡ n)
+  after_are before zero [] h = ((tt, tt), refl)
+  after_are before zero (row ∷ rows) h = absurd h
+  after_are before (suc n) [] h = absurd h
+  after_are before (suc n) (row ∷ rows) h = let rest = after_are (Some row.0) n rows h.1 in (((h.0.0, rest.0.0), (h.0.1, rest.0.1)), omega (arith, rest.1))
 
   pub table_codec : IsCodec (AreRowsOf table) rows_bytes (next_table table)
   unfolding next_table
@@ -261,8 +261,8 @@ module _ (table : Table) where
       (seq (λ rows. length rows) (λ n. n < 2 ^ 64) (to_le_bytes w64) (slot_number w64) (λ rows. AllByRecursion (IsKeyedRow table) rows × AreAscending None rows) (λ rows. flat_map keyed_bytes rows) (λ at n s. next_rows table n None s)
       wide_codec
       (λ at n lt. same _ _ _ _ _
-      (λ rows h. subst (λ (k : ℕ). AreBehind None k rows) h.1 (are_behind None rows h.0.0 h.0.1))
-      (λ rows h. behind_are None n rows h)
+      (λ rows h. subst (λ (k : ℕ). AreAfter None k rows) h.1 (are_after None rows h.0.0 h.0.1))
+      (λ rows h. after_are None n rows h)
       (λ rows h. refl)
       (rows_codec None n)))
 

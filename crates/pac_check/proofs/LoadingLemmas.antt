@@ -1,4 +1,4 @@
--- A row that is read and put behind the others of its table.
+-- A row that is read and put after the others of its table.
 use Rattle.std.proofs.Common.{◌≡◌, ◌≢◌, ◌∙◌, ℕ, suc, ◌+◌, ◌-◌, ◌<◌, ◌==◌, Bool, true, false, cond, List, [], ◌∷◌, ◌++◌, map, length, get_or, Option, Some, None, Result, Ok, Err, refl, sym, ap, subst, arith}
 use Rattle.std.specs.Prelude.{slice_get}
 use Rattle.std.specs.Option.{option_map}
@@ -10,18 +10,18 @@ use Rattle.pac_value.specs.declared.values.Key.{Key}
 use Rattle.pac_value.specs.State.{Cell, cell_cmp, RowValues, Tables}
 use Rattle.pac_value.proofs.CellLemmas.{cells_total, tied_same}
 use Rattle.pac_types.specs.declared.table.Table.{Table}
-use Rattle.pac_types.specs.Sound.{column_types_of}
+use Rattle.pac_types.specs.WellFormed.{column_types_of}
 use Rattle.pac_types.specs.Fits.{FitTables, shape}
 use Rattle.pac_types.proofs.ShapeLemmas.{row-fits}
 use Rattle.pac_ops.specs.Shapes.{RowFits}
 use Rattle.pac_bytes.specs.Reading.{Rest, from}
 use Rattle.pac_bytes.proofs.Bytes.{IsBytes, IsBytes-drop}
-use Rattle.pac_bytes.proofs.Loops.{in_front_of}
+use Rattle.pac_bytes.proofs.Loops.{preceding}
 use Rattle.pac_check.specs.declared.damage.SlotFault.{SlotFault}
 use Rattle.pac_check.specs.Checkpoints.{KeyedRow, IsKeyedRow}
 use Rattle.pac_check.specs.CheckpointReading.{next_row, next_rows}
 use Rattle.pac_check.specs.Saved.{table_rows, rows_of_tables}
-use Rattle.pac_check.proofs.CheckpointLemmas.{IsRowBehind, row_codec}
+use Rattle.pac_check.proofs.CheckpointLemmas.{IsRowAfter, row_codec}
 use Rattle.pac_check.proofs.RowsLemmas.{AreUpTo, all-below, up-to-last, rows-inserted, others-inserted, tables-same, rows-empty}
 use Rattle.pac_check.proofs.LoopLemmas.{rows-on}
 
@@ -46,9 +46,9 @@ inserted-fits all held t table row is form fits = λ cell values found. go cell 
     go cell values true same e = subst (λ (c : Cell). RowFits (map shape all) c values) (sym (tied_same cell (t, row.0) same)) (subst (λ (v : RowValues). RowFits (map shape all) (t, row.0) v) (some_same e) here)
     go cell values false same e = fits cell values e
 
--- a row that is read behind a key of a table
+-- a row that is read after a key of a table
 module _ (table : Table) (before : Option Key) (bytes : List ℕ) (place end : ℕ) (key : Key) (row : RowValues) (are : IsBytes bytes) (read : next_row table before (from bytes place) ≡ Ok ((key, row), from bytes end)) where
-  pub row-form : IsRowBehind table before (key, row)
+  pub row-form : IsRowAfter table before (key, row)
   row-form = ((row_codec table before).found (from bytes place) (key, row) (from bytes end) (IsBytes-drop place bytes are) read).form
 
   module _ (held new : Tables) (t : ℕ) (up : AreUpTo before (table_rows held t)) (put : new ≡ insert held (t, key) row) where
@@ -64,16 +64,16 @@ module _ (table : Table) (before : Option Key) (bytes : List ℕ) (place end : �
     pub fits-put : (all : List Table) → slice_get all t ≡ Some table → FitTables all held → FitTables all new
     fits-put all is fits = subst (λ (h : Tables). FitTables all h) (sym put) (inserted-fits all held t table (key, row) is row-form.0 fits)
 
-    pub so-far-put : (count i : ℕ) (total : Result (List KeyedRow × Rest) SlotFault) → i < count → in_front_of (table_rows held t) (next_rows table (count - i) before (from bytes place)) ≡ total
-        → in_front_of (table_rows new t) (next_rows table (count - (i + 1)) (Some key) (from bytes end)) ≡ total
-    so-far-put count i total lt so_far = subst (λ (rows : List KeyedRow). in_front_of rows (next_rows table (count - (i + 1)) (Some key) (from bytes end)) ≡ total) (sym rows-put)
+    pub so-far-put : (count i : ℕ) (total : Result (List KeyedRow × Rest) SlotFault) → i < count → preceding (table_rows held t) (next_rows table (count - i) before (from bytes place)) ≡ total
+        → preceding (table_rows new t) (next_rows table (count - (i + 1)) (Some key) (from bytes end)) ≡ total
+    so-far-put count i total lt so_far = subst (λ (rows : List KeyedRow). preceding rows (next_rows table (count - (i + 1)) (Some key) (from bytes end)) ≡ total) (sym rows-put)
         (rows-on table (table_rows held t) count i before (from bytes place) total so_far (key, row) (from bytes end) lt read)
 
 -- ---- several tables
 
-pub front-nil : {A : Type 0} (r : Result (List A × Rest) SlotFault) → in_front_of [] r ≡ r
-front-nil (Ok xs) = refl
-front-nil (Err fault) = refl
+pub prefix-nil : {A : Type 0} (r : Result (List A × Rest) SlotFault) → preceding [] r ≡ r
+prefix-nil (Ok xs) = refl
+prefix-nil (Err fault) = refl
 
 pub empty-fits : (all : List Table) (held : Tables) → held ≡ empty → FitTables all held
 empty-fits all held is = λ cell row found. absurd (no_row (sym (get-empty cell_cmp cell) ∙ ap (λ (h : Tables). get h cell) (sym is) ∙ found))

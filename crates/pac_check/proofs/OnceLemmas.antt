@@ -47,8 +47,8 @@ rows-at a b s (suc n) (suc i) same lt =
     tail e = cc
 
 -- no row stands in a table that isn't there
-none-behind : (tables : List Table) (held : Tables) → FitTables tables held → (cell : Cell) → length tables ≤ cell.0 → get held cell ≡ None
-none-behind tables held fits cell past = go (get held cell) refl
+none-after : (tables : List Table) (held : Tables) → FitTables tables held → (cell : Cell) → length tables ≤ cell.0 → get held cell ≡ None
+none-after tables held fits cell past = go (get held cell) refl
   where
     go : (row : Option RowValues) → get held cell ≡ row → row ≡ None
     go None e = refl
@@ -73,5 +73,5 @@ one-state tables a b fits_a fits_b same = same_map cells_total cells_antisymmetr
     at : (cell : Cell) → get a cell ≡ get b cell
     at cell = elim (cases_lt cell.0 (length tables)) [
       | inl lt ↦ get-entries a cell ∙ find-among cell.0 cell.1 (entries a) ∙ ap (find key_cmp cell.1) (rows-here cell.0 lt) ∙ sym (get-entries b cell ∙ find-among cell.0 cell.1 (entries b))
-      | inr past ↦ none-behind tables a fits_a cell past ∙ sym (none-behind tables b fits_b cell past)
+      | inr past ↦ none-after tables a fits_a cell past ∙ sym (none-after tables b fits_b cell past)
     ]

@@ -1,7 +1,7 @@
 -- A slot that is shut, and then opened with a new text.
 use Rattle.std.proofs.Common.{◌≡◌, ◌≢◌, ◌∙◌, ◌⊎◌, inl, inr, ⊎_elim, ℕ, List, [], ◌∷◌, length, drop, Option, refl, sym, ap, subst, arith}
 use Rattle.std.proofs.lemmas.Bool.{cases_eq}
-use Rattle.pac_outside.specs.Disk.{DiskState, DiskHistory, IsImage, BothTell, LeavesTorn, IsDurable, wrote, settled, spliced}
+use Rattle.pac_outside.specs.Disk.{DiskState, DiskHistory, IsImage, BothKnown, LeavesTorn, IsDurable, wrote, settled, spliced}
 use Rattle.pac_outside.specs.GateByte.{IsShut, IsOpen, OneImage, ShutOrOpen}
 use Rattle.pac_outside.proofs.Images.{length_stays, back_stays}
 use Rattle.pac_outside.proofs.Histories.{weaken, goes_on, both, both_and, both_then}
@@ -11,9 +11,9 @@ use Rattle.pac_check.specs.Replacing.{BeginsAs, HasByte, IsOldShutOrNew, Replace
 
 open_or_shut : (rest image : List ℕ) → length image ≡ length (1 ∷ rest) → drop 1 image ≡ rest → (image ≡ 1 ∷ rest) ⊎ IsShut [] image
 open_or_shut rest [] long back = absurd (omega arith)
-open_or_shut rest (gate ∷ behind) long back = elim (cases_eq gate 1) [
-  | inl is_open ↦ inl (ap (λ (g : ℕ). g ∷ behind) is_open ∙ ap (λ (l : List ℕ). 1 ∷ l) back)
-  | inr shut ↦ inr (record { gate = gate; rest = behind; split = refl; shut = shut })
+open_or_shut rest (gate ∷ after) long back = elim (cases_eq gate 1) [
+  | inl is_open ↦ inl (ap (λ (g : ℕ). g ∷ after) is_open ∙ ap (λ (l : List ℕ). 1 ∷ l) back)
+  | inr shut ↦ inr (record { gate = gate; rest = after; split = refl; shut = shut })
 ]
 
 -- an open gate over which a 0 is written is open or shut
@@ -41,15 +41,15 @@ module _ (text : List ℕ) where
   opening state other some a b c first second = λ alone. goes_on (IsOldShutOrNew a.now.seen text) a b c (shutting state other some a b first.0 alone)
       (weaken (λ image. IsShut [] image ⊎ IsOpen [] text image) (IsOldShutOrNew a.now.seen text) b c (λ image is. inr is) (second (shut state other some a b alone first.1)))
 
-  behind_shut : (a b : DiskHistory) → ShutOrOpen [] text a b → Replaces Closed text a b
-  behind_shut a b run = λ alone. weaken (λ image. IsShut [] image ⊎ IsOpen [] text image) (IsOldShutOrNew a.now.seen text) a b (λ image is. inr is) (run alone)
+  after_shut : (a b : DiskHistory) → ShutOrOpen [] text a b → Replaces Closed text a b
+  after_shut a b run = λ alone. weaken (λ image. IsShut [] image ⊎ IsOpen [] text image) (IsOldShutOrNew a.now.seen text) a b (λ image is. inr is) (run alone)
 
-  pub shutting_both : (state : SlotState) → state ≢ Closed → HasByte state → (a b : Option DiskHistory) → BothTell (LeavesTorn 0 (0 ∷ [])) a b → BothTell (Replaces state text) a b
+  pub shutting_both : (state : SlotState) → state ≢ Closed → HasByte state → (a b : Option DiskHistory) → BothKnown (LeavesTorn 0 (0 ∷ [])) a b → BothKnown (Replaces state text) a b
   shutting_both state other some = both (LeavesTorn 0 (0 ∷ [])) (Replaces state text) (shutting state other some)
 
-  pub opening_both : (state : SlotState) → state ≢ Closed → HasByte state → (a b c : Option DiskHistory) → BothTell (LeavesTorn 0 (0 ∷ [])) a b → BothTell (IsDurable 0 (0 ∷ [])) a b → BothTell (ShutOrOpen [] text) b c → BothTell (Replaces state text) a c
+  pub opening_both : (state : SlotState) → state ≢ Closed → HasByte state → (a b c : Option DiskHistory) → BothKnown (LeavesTorn 0 (0 ∷ [])) a b → BothKnown (IsDurable 0 (0 ∷ [])) a b → BothKnown (ShutOrOpen [] text) b c → BothKnown (Replaces state text) a c
   opening_both state other some a b c moments durable second = both_then (λ old new. LeavesTorn 0 (0 ∷ []) old new × IsDurable 0 (0 ∷ []) old new) (ShutOrOpen [] text) (Replaces state text) (opening state other some) a b c
       (both_and (LeavesTorn 0 (0 ∷ [])) (IsDurable 0 (0 ∷ [])) a b moments durable) second
 
-  pub behind_shut_both : (a b : Option DiskHistory) → BothTell (ShutOrOpen [] text) a b → BothTell (Replaces Closed text) a b
-  behind_shut_both = both (ShutOrOpen [] text) (Replaces Closed text) behind_shut
+  pub after_shut_both : (a b : Option DiskHistory) → BothKnown (ShutOrOpen [] text) a b → BothKnown (Replaces Closed text) a b
+  after_shut_both = both (ShutOrOpen [] text) (Replaces Closed text) after_shut

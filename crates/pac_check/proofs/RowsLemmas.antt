@@ -1,4 +1,4 @@
--- The rows of a table among the entries of all: they ascend, are found by their keys, and one more may come behind them.
+-- The rows of a table among the entries of all: they ascend, are found by their keys, and one more may come after them.
 use Rattle.std.proofs.Common.{◌≡◌, ◌∙◌, ◌⊎◌, inl, inr, ℕ, zero, suc, ◌+◌, ◌<◌, ◌==◌, Bool, true, false, cond, T, ◌&&◌, List, [], ◌∷◌, ◌++◌, map, length, get_or, Option, Some, None, refl, sym, ap, subst, arith, append_assoc}
 use Rattle.std.specs.List.{filter, AllByRecursion}
 use Rattle.std.proofs.lemmas.Bool.{eqb-true}
@@ -78,27 +78,27 @@ cmp-here t key cell is = ap (cell_cmp (t, key)) (here t cell is) ∙ less-here t
 
 -- ---- they ascend
 
--- behind this key in the table
-abbrev AreBehind : ℕ → Option Key → List Entry → Type 0
-AreBehind t None es = Unit {0}
-AreBehind t (Some before) es = T (below_all cell_cmp (t, before) es)
+-- after this key in the table
+abbrev AreAfter : ℕ → Option Key → List Entry → Type 0
+AreAfter t None es = Unit {0}
+AreAfter t (Some before) es = T (below_all cell_cmp (t, before) es)
 
-behind-later : (t : ℕ) (before : Option Key) (e : Entry) (es : List Entry) → AreBehind t before (e ∷ es) → AreBehind t before es
-behind-later t None e es h = tt
-behind-later t (Some key) e es h = second _ _ h
+after-later : (t : ℕ) (before : Option Key) (e : Entry) (es : List Entry) → AreAfter t before (e ∷ es) → AreAfter t before es
+after-later t None e es h = tt
+after-later t (Some key) e es h = second _ _ h
 
-behind-first : (t : ℕ) (before : Option Key) (e : Entry) (es : List Entry) → (e.0.0 == t) ≡ true → AreBehind t before (e ∷ es) → is_above before e.0.1 ≡ true
-behind-first t None e es is h = refl
-behind-first t (Some key) e es is h = is_less _ (sym (cmp-here t key e.0 is) ∙ less _ (first _ _ h))
+after-first : (t : ℕ) (before : Option Key) (e : Entry) (es : List Entry) → (e.0.0 == t) ≡ true → AreAfter t before (e ∷ es) → is_above before e.0.1 ≡ true
+after-first t None e es is h = refl
+after-first t (Some key) e es is h = is_less _ (sym (cmp-here t key e.0 is) ∙ less _ (first _ _ h))
 
-ascending-among : (t : ℕ) (before : Option Key) (es : List Entry) → T (is_sorted cell_cmp es) → AreBehind t before es → AreAscending before (rows_among es t)
-ascending-among t before [] sorted behind = tt
-ascending-among t before (e ∷ es) sorted behind =
-    go (λ h. ascending-among t (Some e.0.1) es (second _ _ sorted) h) (ascending-among t before es (second _ _ sorted) (behind-later t before e es behind)) (e.0.0 == t) refl
+ascending-among : (t : ℕ) (before : Option Key) (es : List Entry) → T (is_sorted cell_cmp es) → AreAfter t before es → AreAscending before (rows_among es t)
+ascending-among t before [] sorted after = tt
+ascending-among t before (e ∷ es) sorted after =
+    go (λ h. ascending-among t (Some e.0.1) es (second _ _ sorted) h) (ascending-among t before es (second _ _ sorted) (after-later t before e es after)) (e.0.0 == t) refl
   where
     go : (T (below_all cell_cmp (t, e.0.1) es) → AreAscending (Some e.0.1) (rows_among es t)) → AreAscending before (rows_among es t) → (b : Bool) → (e.0.0 == t) ≡ b
         → AreAscending before (keyed_rows (cond b (e ∷ filter (λ entry. entry.0.0 == t) es) (filter (λ entry. entry.0.0 == t) es)))
-    go with_it without_it true is = (behind-first t before e es is behind, with_it (subst (λ (cell : Cell). T (below_all cell_cmp cell es)) (here t e.0 is) (first _ _ sorted)))
+    go with_it without_it true is = (after-first t before e es is after, with_it (subst (λ (cell : Cell). T (below_all cell_cmp cell es)) (here t e.0 is) (first _ _ sorted)))
     go with_it without_it false is = without_it
 
 pub ascending-rows : (held : Tables) (t : ℕ) → AreAscending None (table_rows held t)
@@ -141,7 +141,7 @@ find-at before (x ∷ rows) ascending (suc i) row lt is =
     let above : key_cmp row.0 x.0 ≡ Greater = keys_total.antisymm row.0 x.0 ∙ ap ordering_reverse below in
     ap (λ r. cond (is_eq r) (Some x.1) (find key_cmp row.0 rows)) above ∙ find-at (Some x.0) rows ascending.1 i row (omega (arith, lt)) is
 
--- what holds of each item by its place
+-- what holds of each item by its offset
 all-by-place : {A : Type 0} (P : A → Type 0) (xs : List A) → ((x : A) (i : ℕ) → i < length xs → x ≡ get_or xs i x → P x) → AllByRecursion P xs
 all-by-place P [] each = tt
 all-by-place P (x ∷ xs) each = (each x 0 (omega arith) refl, all-by-place P xs (λ y i lt is. each y (suc i) (omega (arith, lt)) is))
@@ -206,7 +206,7 @@ key-placed held t i key row lt is found =
 pub each-row : (P : KeyedRow → Type 0) (held : Tables) (t : ℕ) → ((row : KeyedRow) (i : ℕ) → i < length (table_rows held t) → row ≡ get_or (table_rows held t) i row → get held (t, row.0) ≡ Some row.1 → P row) → AllByRecursion P (table_rows held t)
 each-row P held t each = all-by-place P (table_rows held t) (λ row i lt is. each row i lt is (row-found held t i row lt is))
 
--- ---- one more behind them
+-- ---- one more after them
 
 abbrev AreBelow : Key → List KeyedRow → Type 0
 AreBelow key rows = AllByRecursion (λ row. key_cmp row.0 key ≡ Less) rows
@@ -324,7 +324,7 @@ pub tables-counted : (held : Tables) (n : ℕ) → length (rows_of_tables held n
 tables-counted held zero = refl
 tables-counted held (suc n) = omega (arith, tables-counted held n, length-append (rows_of_tables held n) (table_rows held n ∷ []))
 
--- the rows of so many tables from one on
+-- the rows of that many tables from one on
 abbrev pub rows_from : Tables → ℕ → ℕ → List (List KeyedRow)
 rows_from held s zero = []
 rows_from held s (suc n) = table_rows held s ∷ rows_from held (suc s) n

@@ -3,14 +3,14 @@ use Rattle.std.proofs.Common.{◌≡◌, ◌∙◌, ℕ, ◌<◌, Bool, true, fa
 use Rattle.std.proofs.lemmas.Bool.{eqb-true, eqb-false}
 use Rattle.std.proofs.lemmas.List.{append-nil}
 use Rattle.pac_base.specs.declared.refusal.Refusal.{Refusal}
-use Rattle.pac_base.specs.Refusals.{Tells}
-use Rattle.pac_outside.specs.Disk.{DiskState, DiskHistory, IsImage, Leaves, LeavesOnly, BothTell, WhereTold}
+use Rattle.pac_base.specs.Refusals.{Reports}
+use Rattle.pac_outside.specs.Disk.{DiskState, DiskHistory, IsImage, Leaves, LeavesOnly, BothKnown, IfKnown}
 use Rattle.pac_outside.specs.GateByte.{IsOpen, OneImage}
 use Rattle.pac_outside.proofs.Images.{one_image}
 use Rattle.pac_value.specs.State.{Tables}
 use Rattle.pac_types.specs.declared.table.Table.{Table}
 use Rattle.pac_bytes.specs.Reading.{Rest, from}
-use Rattle.pac_bytes.specs.Readers.{IsInFront}
+use Rattle.pac_bytes.specs.Readers.{IsAtStart}
 use Rattle.pac_bytes.proofs.Bytes.{IsBytes, IsBytes-drop}
 use Rattle.pac_check.specs.declared.damage.SlotFault.{SlotFault}
 use Rattle.pac_check.specs.declared.head.Head.{Head}
@@ -25,7 +25,7 @@ use Rattle.pac_check.specs.SlotStates.{by_slot, opened, slot_read, IsSlot, Holds
 use Rattle.pac_check.specs.Saved.{checkpoint_of}
 use Rattle.pac_check.proofs.CheckpointLemmas.{checkpoint_codec}
 
--- what is read of a slot behind an open gate
+-- what is read of a slot after an open gate
 abbrev Read : Type 0
 Read = Result (Checkpoint × Rest) SlotFault
 
@@ -57,7 +57,7 @@ begins tables state (gate ∷ bytes) is = go (eqb gate 1) refl is
         subst (λ (s : SlotState). BeginsAs s (gate ∷ bytes)) (sym found.1) (bytes, ap (λ (g : ℕ). g ∷ bytes) (eqb-true _ _ e))
     go false e h = subst (λ (s : SlotState). BeginsAs s (gate ∷ bytes)) (same_state Closed state h) (record { gate = gate; rest = bytes; split = refl; shut = eqb-false _ _ e })
 
--- an open slot's image begins with the open gate, and what is read behind it
+-- an open slot's image begins with the open gate, and what is read after it
 pub open_read : (tables : List Table) (head : Head) (image : List ℕ) → IsSlot tables (Open head) image → (p : Checkpoint × Rest) × (next_checkpoint tables (from image 1) ≡ Ok p) × (p.0.head ≡ head) × (image ≡ 1 ∷ drop 1 image)
 open_read tables head [] is = absurd (no is)
   where
@@ -74,13 +74,13 @@ open_read tables head (gate ∷ bytes) is = go (eqb gate 1) refl is
     go false e h = absurd (no h)
 
 module _ (tables : List Table) (few : length tables < 65536) where
-  -- what is read behind an open gate stands there
+  -- what is read after an open gate stands there
   pub holds_read : (image : List ℕ) (checkpoint : Checkpoint) (rest : Rest) → IsBytes image → image ≡ 1 ∷ drop 1 image → next_checkpoint tables (from image 1) ≡ Ok (checkpoint, rest) → HoldsCheckpoint tables checkpoint image
   holds_read image checkpoint rest are gate read =
       let found = (checkpoint_codec tables few).found (from image 1) checkpoint rest (IsBytes-drop 1 image are) read in
       record { form = found.form; opens = record { rest = rest.bytes; split = gate ∙ ap (λ (l : List ℕ). 1 ∷ l) found.bytes } }
 
-  -- what stands behind an open gate is read
+  -- what stands after an open gate is read
   pub read_held : (image : List ℕ) (checkpoint : Checkpoint) → HoldsCheckpoint tables checkpoint image → slot_read tables image ≡ Ok (Open checkpoint.head)
   read_held image checkpoint holds =
       let again = (checkpoint_codec tables few).again checkpoint 1 holds.opens.rest holds.form in
@@ -94,7 +94,7 @@ module _ (tables : List Table) (few : length tables < 65536) where
     open_there = λ checkpoint holds. same_state state (Open checkpoint.head) (sym is ∙ read_held image checkpoint holds);
   }
 
-pub opens_unless_memory : (tables : List Table) → length tables < 65536 → (image : List ℕ) → IsBytes image → (result : Result SlotState (Refusal SlotFault)) → Tells (λ state. state) result (slot_read tables image) → IfOk result (λ state. OpensExactly tables state image)
+pub opens_unless_memory : (tables : List Table) → length tables < 65536 → (image : List ℕ) → IsBytes image → (result : Result SlotState (Refusal SlotFault)) → Reports (λ state. state) result (slot_read tables image) → IfOk result (λ state. OpensExactly tables state image)
 opens_unless_memory tables few image are (Ok state) is = opens_exactly tables few image state are is
 opens_unless_memory tables few image are (Err refusal) is = tt
 
@@ -108,50 +108,50 @@ found_whole (Ok p) checkpoint e = (p.1, ap (λ (c : Checkpoint). the_read (c, p.
     same a b h = cc
 found_whole (Err fault) checkpoint e = absurd cc
 
--- what is loaded stands at its place
-pub stands_loaded : (tables : List Table) → length tables < 65536 → (bytes : List ℕ) (at : ℕ) → IsBytes bytes → {X : Type 0} (view : X → Checkpoint) (result : Result X (Refusal SlotFault)) → Tells view result (found_alone (next_checkpoint tables (from bytes at)))
-    → IfOk result (λ x. (rest : Rest) × IsInFront (IsCheckpoint tables) checkpoint_bytes (from bytes at) (view x) rest)
+-- what is loaded stands at its offset
+pub stands_loaded : (tables : List Table) → length tables < 65536 → (bytes : List ℕ) (at : ℕ) → IsBytes bytes → {X : Type 0} (view : X → Checkpoint) (result : Result X (Refusal SlotFault)) → Reports view result (found_alone (next_checkpoint tables (from bytes at)))
+    → IfOk result (λ x. (rest : Rest) × IsAtStart (IsCheckpoint tables) checkpoint_bytes (from bytes at) (view x) rest)
 stands_loaded tables few bytes at are view (Ok x) read =
     let whole = found_whole (next_checkpoint tables (from bytes at)) (view x) read in
     (whole.0, (checkpoint_codec tables few).found (from bytes at) (view x) whole.0 (IsBytes-drop at bytes are) whole.1)
 stands_loaded tables few bytes at are view (Err refusal) read = tt
 
--- ---- over what a disk tells
+-- ---- over what is known of a disk
 
 -- what holds of the bytes that were read holds of what the disk has
-pub told_with : (P : List ℕ → Type 0) (bytes : List ℕ) (told : Option DiskHistory) → WhereTold (λ old. bytes ≡ old.now.seen) told → P bytes → WhereTold (λ old. P old.now.seen) told
-told_with P bytes None is has = tt
-told_with P bytes (Some old) is has = subst P is has
+pub known_with : (P : List ℕ → Type 0) (bytes : List ℕ) (known : Option DiskHistory) → IfKnown (λ old. bytes ≡ old.now.seen) known → P bytes → IfKnown (λ old. P old.now.seen) known
+known_with P bytes None is has = tt
+known_with P bytes (Some old) is has = subst P is has
 
--- behind the open gate of a slot stands what is loaded from there
+-- after the open gate of a slot stands what is loaded from there
 loaded_there : (tables : List Table) (head own : Head) (held : Tables) (image : List ℕ) (rest : Rest) → IsSlot tables (Open head) image → found_alone (next_checkpoint tables (from image 1)) ≡ Ok (checkpoint_of (length tables) own held)
-    → IsInFront (IsCheckpoint tables) checkpoint_bytes (from image 1) (checkpoint_of (length tables) own held) rest → HoldsRows tables head held image
-loaded_there tables head own held image rest is read front =
+    → IsAtStart (IsCheckpoint tables) checkpoint_bytes (from image 1) (checkpoint_of (length tables) own held) rest → HoldsRows tables head held image
+loaded_there tables head own held image rest is read prefix =
     let there = open_read tables head image is in
     let same : there.0.0 ≡ checkpoint_of (length tables) own held = one there.0.0 (checkpoint_of (length tables) own held) (sym (ap found_alone there.1) ∙ read) in
     let head_is : own ≡ head = ap (λ (c : Checkpoint). c.head) (sym same) ∙ there.2 in
-    subst (λ (h : Head). HoldsRows tables h held image) head_is (record { form = front.form; opens = record { rest = rest.bytes; split = there.3 ∙ ap (λ (l : List ℕ). 1 ∷ l) front.bytes } })
+    subst (λ (h : Head). HoldsRows tables h held image) head_is (record { form = prefix.form; opens = record { rest = rest.bytes; split = there.3 ∙ ap (λ (l : List ℕ). 1 ∷ l) prefix.bytes } })
   where
     one : (a b : Checkpoint) → ◌≡◌ {A = Result Checkpoint SlotFault} (Ok a) (Ok b) → a ≡ b
     one a b h = cc
 
-pub loaded_told : (tables : List Table) (own : Head) (held : Tables) (bytes : List ℕ) (rest : Rest) (told : Option DiskHistory) → found_alone (next_checkpoint tables (from bytes 1)) ≡ Ok (checkpoint_of (length tables) own held)
-    → IsInFront (IsCheckpoint tables) checkpoint_bytes (from bytes 1) (checkpoint_of (length tables) own held) rest → WhereTold (λ old. bytes ≡ old.now.seen) told
-    → WhereTold (λ old. (head : Head) → IsSlot tables (Open head) old.now.seen → HoldsRows tables head held old.now.seen) told
-loaded_told tables own held bytes rest told read front is =
-    told_with (λ image. (head : Head) → IsSlot tables (Open head) image → HoldsRows tables head held image) bytes told is (λ head slot. loaded_there tables head own held bytes rest slot read front)
+pub loaded_known : (tables : List Table) (own : Head) (held : Tables) (bytes : List ℕ) (rest : Rest) (known : Option DiskHistory) → found_alone (next_checkpoint tables (from bytes 1)) ≡ Ok (checkpoint_of (length tables) own held)
+    → IsAtStart (IsCheckpoint tables) checkpoint_bytes (from bytes 1) (checkpoint_of (length tables) own held) rest → IfKnown (λ old. bytes ≡ old.now.seen) known
+    → IfKnown (λ old. (head : Head) → IsSlot tables (Open head) old.now.seen → HoldsRows tables head held old.now.seen) known
+loaded_known tables own held bytes rest known read prefix is =
+    known_with (λ image. (head : Head) → IsSlot tables (Open head) image → HoldsRows tables head held image) bytes known is (λ head slot. loaded_there tables head own held bytes rest slot read prefix)
 
 -- one image that begins as this slot does
 begins_one : (tables : List Table) (state : SlotState) (disk : DiskState) → OneImage (IsSlot tables state) disk → OneImage (BeginsAs state) disk
 begins_one tables state disk alone = record { one = alone.one; has = begins tables state disk.seen alone.has }
 
-pub begins_told : (tables : List Table) (state : SlotState) (told : Option DiskHistory) → WhereTold (λ old. OneImage (IsSlot tables state) old.now) told → WhereTold (λ old. BeginsAs state old.now.seen) told
-begins_told tables state None alone = tt
-begins_told tables state (Some old) alone = begins tables state old.now.seen alone.has
+pub begins_known : (tables : List Table) (state : SlotState) (known : Option DiskHistory) → IfKnown (λ old. OneImage (IsSlot tables state) old.now) known → IfKnown (λ old. BeginsAs state old.now.seen) known
+begins_known tables state None alone = tt
+begins_known tables state (Some old) alone = begins tables state old.now.seen alone.has
 
 -- after a checkpoint was put into a slot, it is known again
 pub known_after : (tables : List Table) → length tables < 65536 → (state new_state : SlotState) (checkpoint : Checkpoint) (text : List ℕ) → IsCheckpoint tables checkpoint → text ≡ checkpoint_bytes checkpoint → (X : Type 0) {T E : Type 0} (result : Result T E) (old new : Option DiskHistory)
-    → WhereTold (λ o. OneImage (IsSlot tables state) o.now) old → OnOk result (BothTell (IsReplaced state text) old new) → OnOk result ((new_state ≡ Open checkpoint.head) × X) → OnOk result (WhereTold (λ n. OneImage (IsSlot tables new_state) n.now) new)
+    → IfKnown (λ o. OneImage (IsSlot tables state) o.now) old → OnOk result (BothKnown (IsReplaced state text) old new) → OnOk result ((new_state ≡ Open checkpoint.head) × X) → OnOk result (IfKnown (λ n. OneImage (IsSlot tables new_state) n.now) new)
 known_after tables few state new_state checkpoint text form is X (Err e) old new alone replaced noted = tt
 known_after tables few state new_state checkpoint text form is X (Ok x) None None alone replaced noted = tt
 known_after tables few state new_state checkpoint text form is X (Ok x) None (Some n) alone replaced noted = absurd replaced
@@ -165,13 +165,13 @@ known_after tables few state new_state checkpoint text form is X (Ok x) (Some o)
     the_state s = Ok s
 
 -- where no device is called, a crash leaves what it might have left
-rests : (P : List ℕ → Type 0) (text : List ℕ) (told : Option DiskHistory) → WhereTold (λ o. OneImage P o.now) told → BothTell (λ old new. LeavesOnly (IsOldShutOrNew old.now.seen text) old new) told told
+rests : (P : List ℕ → Type 0) (text : List ℕ) (known : Option DiskHistory) → IfKnown (λ o. OneImage P o.now) known → BothKnown (λ old new. LeavesOnly (IsOldShutOrNew old.now.seen text) old new) known known
 rests P text None alone = tt
 rests P text (Some old) alone =
     let here : Leaves (IsOldShutOrNew old.now.seen text) old.now = λ image is. inl (one_image old.now.seen image (subst (λ (s : DiskState). IsImage s image) alone.one is)) in
     record { since = []; grown = sym (append-nil old.past); first = here; each = tt; last = here }
 
-pub rests_by_slot : (slot : SlotName) (P Q : List ℕ → Type 0) (text : List ℕ) (a b : Option DiskHistory) → WhereTold (λ o. OneImage P o.now) a → WhereTold (λ o. OneImage Q o.now) b
-    → BothTell (λ old new. LeavesOnly (IsOldShutOrNew old.now.seen text) old new) (by_slot slot a b) (by_slot slot a b)
+pub rests_by_slot : (slot : SlotName) (P Q : List ℕ → Type 0) (text : List ℕ) (a b : Option DiskHistory) → IfKnown (λ o. OneImage P o.now) a → IfKnown (λ o. OneImage Q o.now) b
+    → BothKnown (λ old new. LeavesOnly (IsOldShutOrNew old.now.seen text) old new) (by_slot slot a b) (by_slot slot a b)
 rests_by_slot A P Q text a b first second = rests P text a first
 rests_by_slot B P Q text a b first second = rests Q text b second

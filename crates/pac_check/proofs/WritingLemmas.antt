@@ -8,7 +8,7 @@ use Rattle.pac_value.specs.declared.values.Key.{Key}
 use Rattle.pac_value.specs.Values.{type_of, key_value}
 use Rattle.pac_value.specs.State.{Tables, keys_of}
 use Rattle.pac_types.specs.declared.table.Table.{Table}
-use Rattle.pac_types.specs.Sound.{column_types_of}
+use Rattle.pac_types.specs.WellFormed.{column_types_of}
 use Rattle.pac_types.specs.Fits.{FitTables}
 use Rattle.pac_types.proofs.ShapeLemmas.{key-of_fit, columns-of_fit}
 use Rattle.pac_entry.proofs.WrittenLemmas.{one_more}
@@ -74,7 +74,7 @@ written-checkpoint tables head held is fits bytes few = record {
       (zipped AreRowsOf held tables 0 (λ i table at. subst (λ (n : ℕ). AreRowsOf table (table_rows held n)) (omega arith) (rows-of-table tables held fits i table at (bytes i (within tables i table at)) (few i (within tables i table at)))));
 }
 
--- the head, and the tables behind it
+-- the head, and the tables after it
 pub head-and-tables : (count tables : ℕ) (head : Head) (held : Tables) (a b c : List ℕ) → count ≡ tables → a ≡ [] → b ≡ a ++ head_bytes count head → c ≡ b ++ flat_map rows_bytes (rows_of_tables held count) → c ≡ checkpoint_bytes (checkpoint_of tables head held)
 head-and-tables count tables head held a b c same none first second =
     let counted : length (rows_of_tables held tables) ≡ tables = tables-counted held tables in

@@ -5,8 +5,8 @@ use Rattle.std.specs.Cmp.Lexicographic.{pointwise}
 use Rattle.pac_value.specs.declared.values.Key.{Key}
 use Rattle.pac_value.specs.Expressions.{◌>>=◌}
 use Rattle.pac_types.specs.declared.table.Table.{Table}
-use Rattle.pac_types.specs.Sound.{types}
-use Rattle.pac_bytes.specs.Reading.{Rest, behind, told_as, next_uint, along}
+use Rattle.pac_types.specs.WellFormed.{types}
+use Rattle.pac_bytes.specs.Reading.{Rest, after, reported_as, next_uint, along}
 use Rattle.pac_bytes.specs.Typed.{next_key, next_values}
 use Rattle.pac_check.specs.declared.damage.SlotDamageKind.TheVariants.{Magic, Range, Order}
 use Rattle.pac_check.specs.declared.damage.SlotFault.{SlotFault}
@@ -16,17 +16,17 @@ use Rattle.pac_check.specs.Checkpoints.{Checkpoint, KeyedRow, checkpoint_name, i
 
 -- the next number of this width
 abbrev pub slot_number : Width → Rest → Result (ℕ × Rest) SlotFault
-slot_number w s = told_as as_slot_fault (next_uint w s)
+slot_number w s = reported_as as_slot_fault (next_uint w s)
 
 -- the name; a fault at its first byte where other bytes stand there, or too few
 abbrev pub next_name : Rest → Result (List ℕ × Rest) SlotFault
-next_name s = if pointwise nat_eq (take 8 s.bytes) checkpoint_name then Ok (checkpoint_name, behind 8 s) else Err (slot_fault Magic s.at)
+next_name s = if pointwise nat_eq (take 8 s.bytes) checkpoint_name then Ok (checkpoint_name, after 8 s) else Err (slot_fault Magic s.at)
 
 -- the number of tables, which has to be this one
 abbrev pub next_count : ℕ → Rest → Result (ℕ × Rest) SlotFault
 next_count tables s = slot_number w16 s >>= λ count. if nat_eq count.0 tables then Ok count else Err (slot_fault Range s.at)
 
--- the head of a checkpoint of so many tables
+-- the head of a checkpoint of that many tables
 unfoldable pub next_head : ℕ → Rest → Result (Head × Rest) SlotFault
 next_head tables s = next_name s
     >>= λ name. slot_number w64 name.1
@@ -36,10 +36,10 @@ next_head tables s = next_name s
 
 -- a row of this table, whose key has to be above the one before; keys are compared before the values are looked at
 unfoldable pub next_row : Table → Option Key → Rest → Result (KeyedRow × Rest) SlotFault
-next_row table before s = told_as of_typed (next_key table.key s)
-    >>= λ key. if is_above before key.0 then (told_as of_typed (next_values (types table.columns) key.1) >>= λ values. Ok ((key.0, values.0), values.1)) else Err (slot_fault Order s.at)
+next_row table before s = reported_as of_typed (next_key table.key s)
+    >>= λ key. if is_above before key.0 then (reported_as of_typed (next_values (types table.columns) key.1) >>= λ values. Ok ((key.0, values.0), values.1)) else Err (slot_fault Order s.at)
 
--- so many rows of this table, behind a key that came before
+-- that many rows of this table, after a key that came before
 unfoldable pub next_rows : Table → ℕ → Option Key → Rest → Result (List KeyedRow × Rest) SlotFault
 next_rows table zero before s = Ok ([], s)
 next_rows table (suc n) before s = next_row table before s >>= λ row. next_rows table n (Some row.0.0) row.1 >>= λ rows. Ok (row.0 ∷ rows.0, rows.1)
@@ -52,11 +52,11 @@ next_table table s = slot_number w64 s >>= λ count. next_rows table count.0 Non
 unfoldable pub next_checkpoint : List Table → Rest → Result (Checkpoint × Rest) SlotFault
 next_checkpoint tables s = next_head (length tables) s >>= λ head. along next_table tables head.1 >>= λ rows. Ok (record { head = head.0; tables = rows.0 }, rows.1)
 
--- what is left behind what is read
-abbrev pub left_behind : {A : Type 0} → Result (A × Rest) SlotFault → Result Rest SlotFault
-left_behind read = read >>= λ found. Ok found.1
+-- what is left after what is read
+abbrev pub left_after : {A : Type 0} → Result (A × Rest) SlotFault → Result Rest SlotFault
+left_after read = read >>= λ found. Ok found.1
 
--- what is read, without what is left behind it
+-- what is read, without what is left after it
 abbrev pub found_alone : {A : Type 0} → Result (A × Rest) SlotFault → Result A SlotFault
 found_alone read = read >>= λ found. Ok found.0
 

@@ -1,4 +1,4 @@
--- The bytes of a checkpoint, as they stand behind the open gate of a slot.
+-- The bytes of a checkpoint, as they stand after the open gate of a slot.
 use Rattle.std.specs.Prelude.{◌<◌, ◌^◌, ℕ, Bool, true, IsTrue, List, [], ◌∷◌, ◌++◌, length, codes, Option, Some, None}
 use Rattle.std.specs.Int.{w16, w64, to_le_bytes}
 use Rattle.std.specs.List.{flat_map, All, AllByRecursion, AllZip}
@@ -10,14 +10,14 @@ use Rattle.pac_bytes.specs.Values.{HasBytes}
 use Rattle.pac_value.specs.State.{RowValues}
 use Rattle.pac_bytes.specs.Typed.{key_bytes, values_bytes, KeyHasType, HaveTypes}
 use Rattle.pac_types.specs.declared.table.Table.{Table}
-use Rattle.pac_types.specs.Sound.{types}
+use Rattle.pac_types.specs.WellFormed.{types}
 use Rattle.pac_check.specs.declared.head.Head.{Head}
 
 -- a row with its key
 abbrev pub KeyedRow : Type 0
 KeyedRow = Key × RowValues
 
--- how many transactions are in it, at which place the log's gate stands behind these, and the rows of each table in the
+-- how many transactions are in it, at which offset the log's gate stands after these, and the rows of each table in the
 -- order of their keys
 pub record Checkpoint : Type 0 where
   pub head : Head
@@ -31,7 +31,7 @@ head_with txns place = record { txns = txns; place = place }
 abbrev pub checkpoint_name : List ℕ
 checkpoint_name = codes "PACMSLT1"
 
--- the name, the number of transactions, the place, and the number of tables
+-- the name, the number of transactions, the offset, and the number of tables
 abbrev pub head_bytes : ℕ → Head → List ℕ
 head_bytes tables head = checkpoint_name ++ (to_le_bytes w64 head.txns ++ (to_le_bytes w64 head.place ++ to_le_bytes w16 tables))
 
@@ -65,7 +65,7 @@ RowHasBytes row = HasBytes (key_value row.0) × All HasBytes row.1
 abbrev pub IsKeyedRow : Table → KeyedRow → Type 0
 IsKeyedRow table row = KeyHasType table.key row.0 × HaveTypes (types table.columns) row.1
 
--- rows of the table, by ascending keys, so many that 64 bits hold their number
+-- rows of the table, by ascending keys, that many that 64 bits hold their number
 pub record AreRowsOf (table : Table) (rows : List KeyedRow) : Type 0 where
   pub each : AllByRecursion (IsKeyedRow table) rows
   pub ascending : AreAscending None rows

@@ -24,7 +24,7 @@ slot_damage_name Row = codes "Row"
 slot_damage_name Order = codes "Order"
 slot_damage_name Place = codes "Place"
 
--- a fault of this kind at this place
+-- a fault of this kind at this offset
 abbrev pub slot_fault : SlotDamageKind → ℕ → SlotFault
 slot_fault kind at = record { at = at; kind = kind }
 
@@ -48,7 +48,7 @@ abbrev pub as_slot_error : PieceError → SlotError
 as_slot_error piece.Failed = error.DiskFault
 as_slot_error piece.NoMemory = error.NoMemory
 
--- a fault of a checkpoint, or want of memory, as one of this slot
+-- a fault of a checkpoint, or running out of memory, as one of this slot
 abbrev pub in_slot : SlotName → Refusal SlotFault → SlotError
 in_slot slot (Fault fault) = error.Damaged slot fault.at fault.kind
 in_slot slot NoRoom = error.NoMemory

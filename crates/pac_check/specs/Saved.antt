@@ -13,11 +13,11 @@ rows_among cells table = map (λ entry. (entry.0.1, entry.1)) (filter (λ entry.
 abbrev pub table_rows : Tables → ℕ → List KeyedRow
 table_rows held table = rows_among (entries held) table
 
--- the rows of each of the first so many tables
+-- the rows of each of the first n tables
 abbrev pub rows_of_tables : Tables → ℕ → List (List KeyedRow)
 rows_of_tables held zero = []
 rows_of_tables held (suc table) = rows_of_tables held table ++ table_rows held table ∷ []
 
--- the checkpoint of so many tables, with this head
+-- the checkpoint of that many tables, with this head
 abbrev pub checkpoint_of : ℕ → Head → Tables → Checkpoint
 checkpoint_of tables head held = record { head = head; tables = rows_of_tables held tables }

@@ -21,7 +21,7 @@ abbrev pub opened : Result Head SlotFault → Result SlotState SlotFault
 opened read = read >>= λ head. Ok (Open head)
 
 -- What stands in a slot of these tables: no byte, a gate byte that isn't 1, or an open gate and a checkpoint. Or the first
--- fault of what stands behind an open gate.
+-- fault of what stands after an open gate.
 abbrev pub slot_read : List Table → List ℕ → Result SlotState SlotFault
 slot_read tables [] = Ok Empty
 slot_read tables (gate ∷ bytes) = if nat_eq gate 1 then opened (head_alone (next_checkpoint tables (record { at = 1; bytes = bytes }))) else Ok Closed

@@ -1,7 +1,7 @@
 // Makes a slot.
 ghost use Rattle.std.specs.Prelude.{◌≡◌, ◌<◌, ℕ, List, [], ◌∷◌, length, OnOk, IsErrOf};
-ghost use Rattle.pac_outside.specs.Causes.{Rose, one_more};
-ghost use Rattle.pac_outside.specs.Disk.{BothTell, WhereTold, settled};
+ghost use Rattle.pac_outside.specs.Causes.{Faulted, one_more};
+ghost use Rattle.pac_outside.specs.Disk.{BothKnown, IfKnown, settled};
 
 use crate::CreateSlotError;
 use pac_outside::{Disk, GATE_SHUT, write_and_sync};
@@ -15,11 +15,11 @@ use pac_outside::{Disk, GATE_SHUT, write_and_sync};
 ///   promised of the device then; no call comes after the one that failed.
 pub fn create_slot<D: Disk>(disk: &mut D) -> Result<(), CreateSlotError>
     // From Ok on each crash leaves the one byte 0.
-    ensures made { OnOk result (BothTell (λ old new. new.now ≡ settled (0 ∷ [])) (D.told disk.old) (D.told disk.new)) }
-    ensures empty { OnOk result (WhereTold (λ old. length old.now.seen ≡ 0) (D.told disk.old)) }
-    ensures not_empty { (len : ℕ) → IsErrOf result (CreateSlotError.NotEmpty len) → (0 < len) × WhereTold (λ old. len ≡ length old.now.seen) (D.told disk.old) }
-    ensures kept { (len : ℕ) → IsErrOf result (CreateSlotError.NotEmpty len) → D.told disk.new ≡ D.told disk.old }
-    ensures cause { IsErrOf result CreateSlotError.DiskFault → Rose (D.faults disk.old) (D.faults disk.new) }
+    ensures made { OnOk result (BothKnown (λ old new. new.now ≡ settled (0 ∷ [])) (D.known disk.old) (D.known disk.new)) }
+    ensures empty { OnOk result (IfKnown (λ old. length old.now.seen ≡ 0) (D.known disk.old)) }
+    ensures not_empty { (len : ℕ) → IsErrOf result (CreateSlotError.NotEmpty len) → (0 < len) × IfKnown (λ old. len ≡ length old.now.seen) (D.known disk.old) }
+    ensures kept { (len : ℕ) → IsErrOf result (CreateSlotError.NotEmpty len) → D.known disk.new ≡ D.known disk.old }
+    ensures cause { IsErrOf result CreateSlotError.DiskFault → Faulted (D.faults disk.old) (D.faults disk.new) }
     ensures counted { IsErrOf result CreateSlotError.DiskFault → D.faults disk.new ≡ one_more (D.faults disk.old) }
     ensures quiet { ¬ IsErrOf result CreateSlotError.DiskFault → D.faults disk.new ≡ D.faults disk.old }
 {

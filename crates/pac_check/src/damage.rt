@@ -8,22 +8,22 @@ use pac_bytes::{Short, TypedFault};
 use std::fmt;
 use thiserror::Error;
 
-/// What is wrong at a place of an open slot.
+/// What is wrong at an offset of an open slot.
 #[derive(Clone, Copy, Debug, PartialEq, Eq)]
 pub enum SlotDamageKind {
-    /// The eight bytes at this place aren't the name of a checkpoint, or are fewer.
+    /// The eight bytes at this offset aren't the name of a checkpoint, or are fewer.
     Magic,
-    /// The bytes end inside the field at this place.
+    /// The bytes end inside the field at this offset.
     Short,
-    /// The number of tables at this place isn't that of the catalogue.
+    /// The number of tables at this offset isn't that of the catalogue.
     Range,
-    /// The byte at this place is no tag of a value.
+    /// The byte at this offset is no tag of a value.
     Tag,
-    /// The key or the value at this place has another type, or is a text that is too long or not printable.
+    /// The key or the value at this offset has another type, or is a text that is too long or not printable.
     Row,
-    /// The key at this place isn't above the one before.
+    /// The key at this offset isn't above the one before.
     Order,
-    /// The number of transactions at this place and the place of the gate behind it don't fit the log. Told where the log
+    /// The number of transactions at this offset and the offset of the gate after it don't fit the log. Reported where the log
     /// is known too.
     Place,
 }
@@ -56,7 +56,7 @@ impl fmt::Display for SlotDamageKind {
     }
 }
 
-/// The first fault of what stands behind an open gate, at a place, an offset from 0.
+/// The first fault of what stands after an open gate, at an offset, from 0.
 #[derive(Clone, Copy, Debug, PartialEq, Eq, Error)]
 #[error("{kind} at byte {at}")]
 pub struct SlotFault {
@@ -64,7 +64,7 @@ pub struct SlotFault {
     pub kind: SlotDamageKind,
 }
 
-/// Why no checkpoint is read: the first fault of the bytes, or want of memory.
+/// Why no checkpoint is read: the first fault of the bytes, or running out of memory.
 pub(crate) type CheckpointError = Refusal<SlotFault>;
 
 impl From<Short> for SlotFault {
@@ -107,7 +107,7 @@ impl From<SlotFault> for CheckpointError {
     }
 }
 
-/// A fault of values, or their want of memory, as one of a slot.
+/// A fault of values, or their running out of memory, as one of a slot.
 pub(crate) fn error_of(refusal: Refusal<TypedFault>) -> CheckpointError
     ensures { result ≡ of_values refusal }
 {
@@ -117,7 +117,7 @@ pub(crate) fn error_of(refusal: Refusal<TypedFault>) -> CheckpointError
     }
 }
 
-/// A fault of this kind at this place.
+/// A fault of this kind at this offset.
 pub(crate) fn fault_at(kind: SlotDamageKind, at: usize) -> SlotFault
     ensures { result ≡ slot_fault kind at }
 {

@@ -10,7 +10,7 @@ use thiserror::Error;
 /// Why a slot isn't made.
 #[derive(Clone, Copy, Debug, PartialEq, Eq, Error)]
 pub enum CreateSlotError {
-    /// The device has so many bytes already.
+    /// The device has that many bytes already.
     #[error("the device has {length} bytes")]
     NotEmpty { length: u64 },
     /// A call of the device failed.
@@ -24,7 +24,7 @@ pub enum SlotError {
     /// A call of a device failed.
     #[error("a device failed")]
     DiskFault,
-    /// An open gate of this slot isn't followed by a checkpoint of the catalogue: the first fault, at this place.
+    /// An open gate of this slot isn't followed by a checkpoint of the catalogue: the first fault, at this offset.
     #[error("slot: {kind} at byte {at}")]
     Damaged {
         slot: SlotName,
@@ -39,7 +39,7 @@ pub enum SlotError {
 /// Why a checkpoint isn't saved.
 #[derive(Clone, Copy, Debug, PartialEq, Eq, Error)]
 pub enum SaveError {
-    /// The slot would have so many bytes, its gate byte included.
+    /// The slot would have that many bytes, its gate byte included.
     #[error("the slot would have {bytes} bytes")]
     TooLarge { bytes: u64 },
     /// A call of a device failed.

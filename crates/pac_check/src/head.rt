@@ -15,19 +15,19 @@ use pac_bytes::{put_u16, put_u64, u16_at, u64_at};
 // What a checkpoint begins with.
 const NAME: &[u8; 8] = b"PACMSLT1";
 
-/// How many bytes stand in front of the tables.
+/// How many bytes come first of the tables.
 pub(crate) const HEAD_LEN: u64 = 26;
 
-/// What stands in front of the tables of a checkpoint.
+/// What stands before the tables of a checkpoint.
 #[derive(Clone, Copy, Debug, PartialEq, Eq)]
 pub struct Head {
     /// How many transactions are in the tables.
     pub txns: u64,
-    /// The place of the log's gate behind these, an offset from 0.
+    /// The offset of the log's gate after these, from 0.
     pub place: u64,
 }
 
-/// The head of a checkpoint of so many tables at a place, and the place behind it.
+/// The head of a checkpoint of that many tables at an offset, and the offset after it.
 ///
 /// # Errors
 ///
@@ -37,14 +37,14 @@ pub struct Head {
 pub(crate) fn head_at(tables: usize, bytes: &[u8], at: usize) -> Result<(Head, usize), SlotFault>
     ensures { Answers bytes.now result (next_head tables (from bytes.now at)) }
 {
-    let behind = name_end(bytes, at)?;
-    let (txns, behind) = number_at(bytes, behind)?;
-    let (place, behind) = number_at(bytes, behind)?;
-    let (_, end) = count_at(tables, bytes, behind)?;
+    let after = name_end(bytes, at)?;
+    let (txns, after) = number_at(bytes, after)?;
+    let (place, after) = number_at(bytes, after)?;
+    let (_, end) = count_at(tables, bytes, after)?;
     Ok((Head { txns, place }, end))
 }
 
-// The place behind the name of a checkpoint.
+// The offset after the name of a checkpoint.
 fn name_end(bytes: &[u8], at: usize) -> Result<usize, SlotFault>
     ensures { MatchResult result (λ end. next_name (from bytes.now at) ≡ Ok (checkpoint_name, from bytes.now end)) (λ fault. next_name (from bytes.now at) ≡ Err fault) }
 {
@@ -57,7 +57,7 @@ fn name_end(bytes: &[u8], at: usize) -> Result<usize, SlotFault>
     }
 }
 
-/// The number at a place, and the place behind it.
+/// The number at an offset, and the offset after it.
 pub(crate) fn number_at(bytes: &[u8], at: usize) -> Result<(u64, usize), SlotFault>
     ensures { Answers bytes.now result (slot_number w64 (from bytes.now at)) }
 {
@@ -74,7 +74,7 @@ fn count_at(tables: usize, bytes: &[u8], at: usize) -> Result<(u16, usize), Slot
     Ok((count, end))
 }
 
-/// Appends the head of a checkpoint of so many tables.
+/// Appends the head of a checkpoint of that many tables.
 pub(crate) fn put_head(out: &mut Vec<u8>, head: Head, tables: u16) -> Result<(), NoMemory>
     ensures bytes { OnOk result (Grew out.old.items out.new.items (head_bytes tables head)) }
     ensures form { IsHead head }

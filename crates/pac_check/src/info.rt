@@ -7,8 +7,8 @@ pub enum SlotName {
     B,
 }
 
-/// What is known of an open slot: how many transactions are in its tables, and at which place, an offset from 0, the log's
-/// gate stands behind these.
+/// What is known of an open slot: how many transactions are in its tables, and at which offset from 0, the log's
+/// gate stands after these.
 #[derive(Clone, Copy, Debug, PartialEq, Eq)]
 pub struct SlotInfo {
     pub slot: SlotName,

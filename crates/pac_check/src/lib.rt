@@ -9,10 +9,10 @@
 //!   enough rows.
 //! - [`slots_are_clear`] says that the bytes of a slot hold one checkpoint and no other.
 //!
-//! A slot is a gate byte, and where that is 1 a checkpoint behind it: the name `PACMSLT1`; the number of transactions and
-//! the place of the log's gate behind these, eight bytes each; the number of tables in two bytes; and for each table the
+//! A slot is a gate byte, and where that is 1 a checkpoint after it: the name `PACMSLT1`; the number of transactions and
+//! the offset of the log's gate after these, eight bytes each; the number of tables in two bytes; and for each table the
 //! number of its rows in eight bytes, and the rows by ascending keys, each its key and the values of its columns. Bytes
-//! behind that are not looked at, and a slot without a byte is closed.
+//! after that are not looked at, and a slot without a byte is closed.
 //!
 //! `specs/Checkpoints.antt` says what the bytes are, `specs/CheckpointReading.antt` how they are read, line by line with
 //! the faults; `proofs/CheckpointLemmas.antt` shows that the two fit, by the codecs of `pac_bytes`. `specs/Saved.antt` says

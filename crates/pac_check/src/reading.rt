@@ -2,7 +2,7 @@
 ghost use Rattle.std.specs.Prelude.{◌≡◌, ℕ, length, IfOk, IsErrOf, OnOk, Err};
 ghost use Rattle.std.specs.FinMap as map;
 ghost use Rattle.pac_outside.specs.Causes.{one_more};
-ghost use Rattle.pac_outside.specs.Disk.{WhereTold};
+ghost use Rattle.pac_outside.specs.Disk.{IfKnown};
 ghost use Rattle.pac_types.specs.Fits.{FitsCatalogue};
 ghost use Rattle.pac_check.specs.declared.damage.SlotDamageKind.{SlotDamageKind as ADamageKind};
 ghost use Rattle.pac_check.specs.declared.head.Head.{Head as AHead};
@@ -31,9 +31,9 @@ pub(crate) fn look_at<D: Disk>(
     slot: SlotName,
     disk: &mut D,
 ) -> Result<SlotState, SlotError>
-    ensures state { IfOk result (λ state. WhereTold (λ old. IsSlot cat.now.tables state old.now.seen × OpensExactly cat.now.tables state old.now.seen) (D.told disk.old)) }
-    ensures damaged { (name : ASlotName) (at : ℕ) (kind : ADamageKind) → IsErrOf result (SlotError.Damaged name at kind) → (name ≡ slot) × WhereTold (λ old. slot_read cat.now.tables old.now.seen ≡ Err (slot_fault kind at)) (D.told disk.old) }
-    ensures same { D.told disk.new ≡ D.told disk.old }
+    ensures state { IfOk result (λ state. IfKnown (λ old. IsSlot cat.now.tables state old.now.seen × OpensExactly cat.now.tables state old.now.seen) (D.known disk.old)) }
+    ensures damaged { (name : ASlotName) (at : ℕ) (kind : ADamageKind) → IsErrOf result (SlotError.Damaged name at kind) → (name ≡ slot) × IfKnown (λ old. slot_read cat.now.tables old.now.seen ≡ Err (slot_fault kind at)) (D.known disk.old) }
+    ensures same { D.known disk.new ≡ D.known disk.old }
     ensures counted { IsErrOf result SlotError.DiskFault → D.faults disk.new ≡ one_more (D.faults disk.old) }
     ensures quiet { ¬ IsErrOf result SlotError.DiskFault → D.faults disk.new ≡ D.faults disk.old }
 {
@@ -59,9 +59,9 @@ pub(crate) fn load_slot<D: Disk, R: Rows>(
     requires empty { R.held rows.old ≡ map.empty }
     requires count { R.tables rows.old ≡ length cat.now.tables }
     ensures fits { OnOk result (FitsCatalogue cat.now (R.tables rows.new) (R.held rows.new)) }
-    ensures loaded { OnOk result (WhereTold (λ old. (head : AHead) → IsSlot cat.now.tables (SlotState.Open head) old.now.seen → HoldsRows cat.now.tables head (R.held rows.new) old.now.seen) (D.told disk.old)) }
-    ensures damaged { (name : ASlotName) (at : ℕ) (kind : ADamageKind) → IsErrOf result (SlotError.Damaged name at kind) → (name ≡ slot) × WhereTold (λ old. (head : AHead) → ¬ IsSlot cat.now.tables (SlotState.Open head) old.now.seen) (D.told disk.old) }
-    ensures same { D.told disk.new ≡ D.told disk.old }
+    ensures loaded { OnOk result (IfKnown (λ old. (head : AHead) → IsSlot cat.now.tables (SlotState.Open head) old.now.seen → HoldsRows cat.now.tables head (R.held rows.new) old.now.seen) (D.known disk.old)) }
+    ensures damaged { (name : ASlotName) (at : ℕ) (kind : ADamageKind) → IsErrOf result (SlotError.Damaged name at kind) → (name ≡ slot) × IfKnown (λ old. (head : AHead) → ¬ IsSlot cat.now.tables (SlotState.Open head) old.now.seen) (D.known disk.old) }
+    ensures same { D.known disk.new ≡ D.known disk.old }
     ensures counted { IsErrOf result SlotError.DiskFault → D.faults disk.new ≡ one_more (D.faults disk.old) }
     ensures quiet { ¬ IsErrOf result SlotError.DiskFault → D.faults disk.new ≡ D.faults disk.old }
 {
@@ -74,9 +74,9 @@ pub(crate) fn load_slot<D: Disk, R: Rows>(
 
 // All bytes of a device.
 fn read_all<D: Disk>(alloc: Global, disk: &mut D) -> Result<Vec<u8>, SlotError>
-    ensures bytes { IfOk result (λ bytes. WhereTold (λ old. bytes.items ≡ old.now.seen) (D.told disk.old)) }
+    ensures bytes { IfOk result (λ bytes. IfKnown (λ old. bytes.items ≡ old.now.seen) (D.known disk.old)) }
     ensures only { (name : ASlotName) (at : ℕ) (kind : ADamageKind) → ¬ IsErrOf result (SlotError.Damaged name at kind) }
-    ensures same { D.told disk.new ≡ D.told disk.old }
+    ensures same { D.known disk.new ≡ D.known disk.old }
     ensures counted { IsErrOf result SlotError.DiskFault → D.faults disk.new ≡ one_more (D.faults disk.old) }
     ensures quiet { ¬ IsErrOf result SlotError.DiskFault → D.faults disk.new ≡ D.faults disk.old }
 {
@@ -84,7 +84,7 @@ fn read_all<D: Disk>(alloc: Global, disk: &mut D) -> Result<Vec<u8>, SlotError>
     Ok(read_piece(alloc, disk, 0, len as usize)?)
 }
 
-// A fault of a checkpoint, or want of memory, as one of this slot.
+// A fault of a checkpoint, or running out of memory, as one of this slot.
 fn damage_in(slot: SlotName, refusal: CheckpointError) -> SlotError
     ensures { result ≡ in_slot slot refusal }
 {

@@ -1,47 +1,47 @@
 // Replaces the text of one slot.
 ghost use Rattle.std.specs.Prelude.{◌≡◌, ◌≢◌, true, OnOk, IsErrOf};
 ghost use Rattle.pac_outside.specs.Causes.{EndsAtFault, HasCause};
-ghost use Rattle.pac_outside.specs.Disk.{BothTell, WhereTold};
+ghost use Rattle.pac_outside.specs.Disk.{BothKnown, IfKnown};
 ghost use Rattle.pac_check.specs.declared.errors.SaveError.{SaveError as ASaveError};
 ghost use Rattle.pac_check.specs.Replacing.{BeginsAs, HasByte, IsReplaced, Replaces};
 
 use crate::{Head, SaveError, SlotState};
-use pac_outside::{Disk, Failed, GATE_SHUT, open_behind, write_and_sync};
+use pac_outside::{Disk, Failed, GATE_SHUT, open_after, write_and_sync};
 
-/// Puts a text behind the gate of a slot in this state. Where the gate is open, or the device has no byte, it closes the
+/// Puts a text after the gate of a slot in this state. Where the gate is open, or the device has no byte, it closes the
 /// gate first, and syncs; then it writes the text, syncs, opens the gate, and syncs.
 ///
 /// # Errors
 ///
 /// [`Failed`] where a call of the device failed, so only where its count of faults rose; no call comes after it.
 pub(crate) fn replace<D: Disk>(disk: &mut D, state: SlotState, text: &[u8]) -> Result<(), Failed>
-    requires { WhereTold (λ old. BeginsAs state old.now.seen) (D.told disk.old) }
+    requires { IfKnown (λ old. BeginsAs state old.now.seen) (D.known disk.old) }
 
     // At each moment a crash leaves the slot as it was, or closed, or with the whole text; where it had no byte nothing is said.
-    ensures any_moment { HasByte state → BothTell (Replaces state text.now) (D.told disk.old) (D.told disk.new) }
-    ensures replaced { OnOk result (BothTell (IsReplaced state text.now) (D.told disk.old) (D.told disk.new)) }
+    ensures any_moment { HasByte state → BothKnown (Replaces state text.now) (D.known disk.old) (D.known disk.new) }
+    ensures replaced { OnOk result (BothKnown (IsReplaced state text.now) (D.known disk.old) (D.known disk.new)) }
 
     // No call of the device comes after one that failed.
     ensures cause { HasCause (D.faults disk.old) (D.faults disk.new) result }
     ensures once { EndsAtFault (D.faults disk.old) (D.faults disk.new) result }
 {
     match state {
-        SlotState::Closed => open_behind(disk, 0, text),
+        SlotState::Closed => open_after(disk, 0, text),
         SlotState::Empty | SlotState::Open(_) => close_and_open(disk, state, text),
     }
 }
 
 // The gate is open, or the device has no byte.
 fn close_and_open<D: Disk>(disk: &mut D, state: SlotState, text: &[u8]) -> Result<(), Failed>
-    requires begins { WhereTold (λ old. BeginsAs state old.now.seen) (D.told disk.old) }
+    requires begins { IfKnown (λ old. BeginsAs state old.now.seen) (D.known disk.old) }
     requires not_closed { state ≢ SlotState.Closed }
-    ensures any_moment { HasByte state → BothTell (Replaces state text.now) (D.told disk.old) (D.told disk.new) }
-    ensures replaced { OnOk result (BothTell (IsReplaced state text.now) (D.told disk.old) (D.told disk.new)) }
+    ensures any_moment { HasByte state → BothKnown (Replaces state text.now) (D.known disk.old) (D.known disk.new) }
+    ensures replaced { OnOk result (BothKnown (IsReplaced state text.now) (D.known disk.old) (D.known disk.new)) }
     ensures cause { HasCause (D.faults disk.old) (D.faults disk.new) result }
     ensures once { EndsAtFault (D.faults disk.old) (D.faults disk.new) result }
 {
     write_and_sync(disk, 0, &[GATE_SHUT])?;
-    open_behind(disk, 0, text)
+    open_after(disk, 0, text)
 }
 
 /// The same for a slot among two: puts the text of the checkpoint with this head into it, and notes what stands in it then, or
@@ -57,9 +57,9 @@ pub(crate) fn fill<D: Disk>(
     head: Head,
     text: &[u8],
 ) -> Result<(), SaveError>
-    requires { WhereTold (λ old. BeginsAs state.old old.now.seen) (D.told disk.old) }
-    ensures any_moment { HasByte state.old → BothTell (Replaces state.old text.now) (D.told disk.old) (D.told disk.new) }
-    ensures replaced { OnOk result (BothTell (IsReplaced state.old text.now) (D.told disk.old) (D.told disk.new)) }
+    requires { IfKnown (λ old. BeginsAs state.old old.now.seen) (D.known disk.old) }
+    ensures any_moment { HasByte state.old → BothKnown (Replaces state.old text.now) (D.known disk.old) (D.known disk.new) }
+    ensures replaced { OnOk result (BothKnown (IsReplaced state.old text.now) (D.known disk.old) (D.known disk.new)) }
     ensures ok { OnOk result ((state.new ≡ SlotState.Open head) × (has_failed.new ≡ has_failed.old)) }
     ensures err { (cause : ASaveError) → IsErrOf result cause → (cause ≡ SaveError.DiskFault) × (state.new ≡ state.old) × (has_failed.new ≡ true) }
     ensures once { EndsAtFault (D.faults disk.old) (D.faults disk.new) result }

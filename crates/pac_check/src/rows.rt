@@ -2,10 +2,10 @@
 ghost use Rattle.std.specs.Prelude.{◌≡◌};
 ghost use Rattle.std.specs.Option.{option_map};
 ghost use Rattle.pac_base.specs.declared.refusal.Refusal.TheVariants.{Fault as AFault};
-ghost use Rattle.pac_bytes.specs.Reading.{from, told_as};
+ghost use Rattle.pac_bytes.specs.Reading.{from, reported_as};
 ghost use Rattle.pac_bytes.specs.Readers.{Answers, AnswersUnlessMemory};
 ghost use Rattle.pac_bytes.specs.Typed.{next_key};
-ghost use Rattle.pac_types.specs.Typing.{IsSoundTable};
+ghost use Rattle.pac_types.specs.Typing.{IsWellFormedTable};
 ghost use Rattle.pac_check.specs.Checkpoints.{is_above};
 ghost use Rattle.pac_check.specs.CheckpointReading.{next_row};
 ghost use Rattle.pac_check.specs.Kinds.{of_typed};
@@ -19,7 +19,7 @@ use pac_types::Table;
 use pac_value::{Key, Row, Ty};
 use std::alloc::Global;
 
-/// The row of a table at a place, with its key, and the place behind it. It takes memory for the row alone.
+/// The row of a table at an offset, with its key, and the offset after it. It takes memory for the row alone.
 ///
 /// # Errors
 ///
@@ -33,27 +33,27 @@ pub(crate) fn keyed_row_at(
     bytes: &[u8],
     at: usize,
 ) -> Result<((Key, Row), usize), CheckpointError>
-    requires { IsSoundTable table.now }
+    requires { IsWellFormedTable table.now }
     ensures { AnswersUnlessMemory bytes.now result (next_row table.now (option_map (λ key. key.now) before.entry) (from bytes.now at)) }
 {
-    let (key, behind) = typed_key_at(table.key, bytes, at)?;
-    if !comes_behind(before, &key) {
+    let (key, after) = typed_key_at(table.key, bytes, at)?;
+    if !comes_after(before, &key) {
         return Err(Refusal::Fault(fault_at(SlotDamageKind::Order, at)));
     }
-    match row_at(alloc, table.columns.as_slice(), bytes, behind) {
+    match row_at(alloc, table.columns.as_slice(), bytes, after) {
         Ok((row, end)) => Ok(((key, row), end)),
         Err(refusal) => Err(error_of(refusal)),
     }
 }
 
 fn typed_key_at(ty: Ty, bytes: &[u8], at: usize) -> Result<(Key, usize), SlotFault>
-    ensures { Answers bytes.now result (told_as of_typed (next_key ty (from bytes.now at))) }
+    ensures { Answers bytes.now result (reported_as of_typed (next_key ty (from bytes.now at))) }
 {
     Ok(key_at(bytes, at, ty)?)
 }
 
 // Whether a key is above the one before, where there is one.
-fn comes_behind(before: Option<&Key>, key: &Key) -> bool
+fn comes_after(before: Option<&Key>, key: &Key) -> bool
     ensures { result ≡ is_above (option_map (λ key. key.now) before.entry) key.now }
 {
     match before {

@@ -1,9 +1,9 @@
 // Goes through a slot and keeps nothing of it but the head.
 ghost use Rattle.std.specs.Prelude.{◌≡◌, ◌<◌, ◌^◌, length, All, IfOk, None as NoKey};
-ghost use Rattle.pac_base.specs.Refusals.{Tells};
+ghost use Rattle.pac_base.specs.Refusals.{Reports};
 ghost use Rattle.pac_bytes.specs.Reading.{from, along};
-ghost use Rattle.pac_types.specs.Typing.{IsSoundTable};
-ghost use Rattle.pac_check.specs.CheckpointReading.{head_alone, left_behind, next_checkpoint, next_rows, next_table};
+ghost use Rattle.pac_types.specs.Typing.{IsWellFormedTable};
+ghost use Rattle.pac_check.specs.CheckpointReading.{head_alone, left_after, next_checkpoint, next_rows, next_table};
 ghost use Rattle.pac_check.specs.SlotStates.{OpensExactly, slot_read};
 
 use crate::damage::CheckpointError;
@@ -19,16 +19,16 @@ use std::alloc::Global;
 ///
 /// # Errors
 ///
-/// The first fault of what stands behind an open gate, or `NoMemory`.
+/// The first fault of what stands after an open gate, or `NoMemory`.
 pub(crate) fn scan_slot(
     alloc: Global,
     tables: &[Table],
     bytes: &[u8],
 ) -> Result<SlotState, CheckpointError>
-    requires sound { All IsSoundTable tables.now }
+    requires well_formed { All IsWellFormedTable tables.now }
     requires few { length tables.now < 2 ^ 16 }
     // It is what reading gives, or the first fault.
-    ensures exact { Tells (λ state. state) result (slot_read tables.now bytes.now) }
+    ensures exact { Reports (λ state. state) result (slot_read tables.now bytes.now) }
     // It is open where a checkpoint stands there, and nowhere else.
     ensures opens { IfOk result (λ state. OpensExactly tables.now state bytes.now) }
 {
@@ -37,8 +37,8 @@ pub(crate) fn scan_slot(
 
 // What stands in a slot, as reading gives it.
 fn read_slot(alloc: Global, tables: &[Table], bytes: &[u8]) -> Result<SlotState, CheckpointError>
-    requires { All IsSoundTable tables.now }
-    ensures { Tells (λ state. state) result (slot_read tables.now bytes.now) }
+    requires { All IsWellFormedTable tables.now }
+    ensures { Reports (λ state. state) result (slot_read tables.now bytes.now) }
 {
     match bytes.first() {
         None => Ok(SlotState::Empty),
@@ -47,7 +47,7 @@ fn read_slot(alloc: Global, tables: &[Table], bytes: &[u8]) -> Result<SlotState,
     }
 }
 
-// The head of the checkpoint at a place, which is read to its end.
+// The head of the checkpoint at an offset, which is read to its end.
 #[tactic(auto, unfolding(crate::specs::CheckpointReading::next_checkpoint))]
 fn scan_checkpoint(
     alloc: Global,
@@ -55,23 +55,23 @@ fn scan_checkpoint(
     bytes: &[u8],
     at: usize,
 ) -> Result<Head, CheckpointError>
-    requires { All IsSoundTable tables.now }
-    ensures { Tells (λ head. head) result (head_alone (next_checkpoint tables.now (from bytes.now at))) }
+    requires { All IsWellFormedTable tables.now }
+    ensures { Reports (λ head. head) result (head_alone (next_checkpoint tables.now (from bytes.now at))) }
 {
-    let (head, behind) = head_at(tables.len(), bytes, at)?;
-    scan_tables(alloc, tables, bytes, behind)?;
+    let (head, after) = head_at(tables.len(), bytes, at)?;
+    scan_tables(alloc, tables, bytes, after)?;
     Ok(head)
 }
 
-// The place behind the rows of all tables.
+// The offset after the rows of all tables.
 fn scan_tables(
     alloc: Global,
     tables: &[Table],
     bytes: &[u8],
     at: usize,
 ) -> Result<usize, CheckpointError>
-    requires { All IsSoundTable tables.now }
-    ensures { Tells (λ end. from bytes.now end) result (left_behind (along next_table tables.now (from bytes.now at))) }
+    requires { All IsWellFormedTable tables.now }
+    ensures { Reports (λ end. from bytes.now end) result (left_after (along next_table tables.now (from bytes.now at))) }
 {
     let mut place = at;
     for table in tables {
@@ -80,7 +80,7 @@ fn scan_tables(
     Ok(place)
 }
 
-// The place behind the rows of one table and their number.
+// The offset after the rows of one table and their number.
 #[tactic(auto, unfolding(crate::specs::CheckpointReading::next_table))]
 fn scan_table(
     alloc: Global,
@@ -88,14 +88,14 @@ fn scan_table(
     bytes: &[u8],
     at: usize,
 ) -> Result<usize, CheckpointError>
-    requires { IsSoundTable table.now }
-    ensures { Tells (λ end. from bytes.now end) result (left_behind (next_table table.now (from bytes.now at))) }
+    requires { IsWellFormedTable table.now }
+    ensures { Reports (λ end. from bytes.now end) result (left_after (next_table table.now (from bytes.now at))) }
 {
     let (count, first) = number_at(bytes, at)?;
     scan_rows(alloc, table, count, bytes, first)
 }
 
-// The place behind so many rows.
+// The offset after that many rows.
 fn scan_rows(
     alloc: Global,
     table: &Table,
@@ -103,8 +103,8 @@ fn scan_rows(
     bytes: &[u8],
     at: usize,
 ) -> Result<usize, CheckpointError>
-    requires { IsSoundTable table.now }
-    ensures { Tells (λ end. from bytes.now end) result (left_behind (next_rows table.now count NoKey (from bytes.now at))) }
+    requires { IsWellFormedTable table.now }
+    ensures { Reports (λ end. from bytes.now end) result (left_after (next_rows table.now count NoKey (from bytes.now at))) }
 {
     let mut place = at;
     let mut before: Option<Key> = None;

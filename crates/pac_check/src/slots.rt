@@ -1,8 +1,8 @@
 // Two slots.
 ghost use Rattle.std.specs.Prelude.{◌≡◌, ◌<◌, ◌≤◌, ◌+◌, ◌∷◌, [], ℕ, length, IfOk, IsErrOf, OnOk, None as NoInfo, Some as HasInfo, true, false, Err};
 ghost use Rattle.std.specs.FinMap as map;
-ghost use Rattle.pac_outside.specs.Devices.{OneRose};
-ghost use Rattle.pac_outside.specs.Disk.{BothTell, LeavesOnly, WhereTold};
+ghost use Rattle.pac_outside.specs.Devices.{OneFaulted};
+ghost use Rattle.pac_outside.specs.Disk.{BothKnown, LeavesOnly, IfKnown};
 ghost use Rattle.pac_outside.specs.GateByte.{OneImage};
 ghost use Rattle.pac_value.specs.State.{keys_of};
 ghost use Rattle.pac_types.specs.Fits.{FitsCatalogue};
@@ -54,18 +54,18 @@ impl Slots {
         b: &mut D,
     ) -> Result<Slots, SlotError>
         // What stands in each: it is open where a checkpoint stands there, and nowhere else.
-        ensures a { IfOk result (λ slots. WhereTold (λ old. IsSlot cat.now.tables slots.a old.now.seen × OpensExactly cat.now.tables slots.a old.now.seen) (D.told a.old)) }
-        ensures b { IfOk result (λ slots. WhereTold (λ old. IsSlot cat.now.tables slots.b old.now.seen × OpensExactly cat.now.tables slots.b old.now.seen) (D.told b.old)) }
+        ensures a { IfOk result (λ slots. IfKnown (λ old. IsSlot cat.now.tables slots.a old.now.seen × OpensExactly cat.now.tables slots.a old.now.seen) (D.known a.old)) }
+        ensures b { IfOk result (λ slots. IfKnown (λ old. IsSlot cat.now.tables slots.b old.now.seen × OpensExactly cat.now.tables slots.b old.now.seen) (D.known b.old)) }
         ensures works { IfOk result (λ slots. slots.has_failed ≡ false) }
 
         // The first fault, of slot a before slot b.
-        ensures damaged { (slot : ASlotName) (at : ℕ) (kind : ADamageKind) → IsErrOf result (SlotError.Damaged slot at kind) → WhereTold (λ old. slot_read cat.now.tables old.now.seen ≡ Err (slot_fault kind at)) (by_slot slot (D.told a.old) (D.told b.old)) }
-        ensures first { (at : ℕ) (kind : ADamageKind) → IsErrOf result (SlotError.Damaged SlotName.B at kind) → WhereTold (λ old. (state : AState) × IsSlot cat.now.tables state old.now.seen) (D.told a.old) }
+        ensures damaged { (slot : ASlotName) (at : ℕ) (kind : ADamageKind) → IsErrOf result (SlotError.Damaged slot at kind) → IfKnown (λ old. slot_read cat.now.tables old.now.seen ≡ Err (slot_fault kind at)) (by_slot slot (D.known a.old) (D.known b.old)) }
+        ensures first { (at : ℕ) (kind : ADamageKind) → IsErrOf result (SlotError.Damaged SlotName.B at kind) → IfKnown (λ old. (state : AState) × IsSlot cat.now.tables state old.now.seen) (D.known a.old) }
 
         // Both are only read.
-        ensures same_a { D.told a.new ≡ D.told a.old }
-        ensures same_b { D.told b.new ≡ D.told b.old }
-        ensures disk_fault { IsErrOf result SlotError.DiskFault → OneRose (D.faults a.old ∷ D.faults b.old ∷ []) (D.faults a.new ∷ D.faults b.new ∷ []) }
+        ensures same_a { D.known a.new ≡ D.known a.old }
+        ensures same_b { D.known b.new ≡ D.known b.old }
+        ensures disk_fault { IsErrOf result SlotError.DiskFault → OneFaulted (D.faults a.old ∷ D.faults b.old ∷ []) (D.faults a.new ∷ D.faults b.new ∷ []) }
         ensures quiet_a { ¬ IsErrOf result SlotError.DiskFault → D.faults a.new ≡ D.faults a.old }
         ensures quiet_b { ¬ IsErrOf result SlotError.DiskFault → D.faults b.new ≡ D.faults b.old }
     {
@@ -115,7 +115,7 @@ impl Slots {
     ///
     /// # Errors
     ///
-    /// Those of [`Slots::attach`]; where the devices tell what they hold, no damage is found.
+    /// Those of [`Slots::attach`]; where the devices' contents are known, no damage is found.
     pub fn load_newest<D: Disk, R: Rows>(
         &self,
         alloc: Global,
@@ -126,19 +126,19 @@ impl Slots {
     ) -> Result<(), SlotError>
         requires empty { R.held rows.old ≡ map.empty }
         requires count { R.tables rows.old ≡ length cat.now.tables }
-        requires holds_a { WhereTold (λ old. IsSlot cat.now.tables self.now.a old.now.seen) (D.told a.old) }
-        requires holds_b { WhereTold (λ old. IsSlot cat.now.tables self.now.b old.now.seen) (D.told b.old) }
+        requires holds_a { IfKnown (λ old. IsSlot cat.now.tables self.now.a old.now.seen) (D.known a.old) }
+        requires holds_b { IfKnown (λ old. IsSlot cat.now.tables self.now.b old.now.seen) (D.known b.old) }
 
         // The tables are those of the checkpoint that stands in the newest slot.
         ensures fits { OnOk result (FitsCatalogue cat.now (R.tables rows.new) (R.held rows.new)) }
         ensures none { newest_of self.now ≡ NoInfo → OnOk result (R.held rows.new ≡ map.empty) }
-        ensures loaded { (info : ASlotInfo) → newest_of self.now ≡ HasInfo info → OnOk result (WhereTold (λ old. HoldsRows cat.now.tables (head_with info.txns info.place) (R.held rows.new) old.now.seen) (by_slot info.slot (D.told a.old) (D.told b.old))) }
-        ensures whole { (slot : ASlotName) (at : ℕ) (kind : ADamageKind) → IsErrOf result (SlotError.Damaged slot at kind) → WhereTold (λ old. ⊥) (by_slot slot (D.told a.old) (D.told b.old)) }
+        ensures loaded { (info : ASlotInfo) → newest_of self.now ≡ HasInfo info → OnOk result (IfKnown (λ old. HoldsRows cat.now.tables (head_with info.txns info.place) (R.held rows.new) old.now.seen) (by_slot info.slot (D.known a.old) (D.known b.old))) }
+        ensures whole { (slot : ASlotName) (at : ℕ) (kind : ADamageKind) → IsErrOf result (SlotError.Damaged slot at kind) → IfKnown (λ old. ⊥) (by_slot slot (D.known a.old) (D.known b.old)) }
 
         // Both are only read.
-        ensures same_a { D.told a.new ≡ D.told a.old }
-        ensures same_b { D.told b.new ≡ D.told b.old }
-        ensures disk_fault { IsErrOf result SlotError.DiskFault → OneRose (D.faults a.old ∷ D.faults b.old ∷ []) (D.faults a.new ∷ D.faults b.new ∷ []) }
+        ensures same_a { D.known a.new ≡ D.known a.old }
+        ensures same_b { D.known b.new ≡ D.known b.old }
+        ensures disk_fault { IsErrOf result SlotError.DiskFault → OneFaulted (D.faults a.old ∷ D.faults b.old ∷ []) (D.faults a.new ∷ D.faults b.new ∷ []) }
         ensures quiet_a { ¬ IsErrOf result SlotError.DiskFault → D.faults a.new ≡ D.faults a.old }
         ensures quiet_b { ¬ IsErrOf result SlotError.DiskFault → D.faults b.new ≡ D.faults b.old }
     {
@@ -152,7 +152,7 @@ impl Slots {
     }
 
     /// Puts the checkpoint of tables into the slot that isn't the newest, slot a where none is open: the tables after so
-    /// many transactions, behind which the log's gate stands at this place. Its text is made before the first device call.
+    /// many transactions, after which the log's gate stands at this offset. Its text is made before the first device call.
     /// Where the slot's gate is open, or its device has no byte, the gate is closed first, and synced; then the text is
     /// written, synced, the gate opened, and synced. At each moment a crash leaves the other slot, and this one as it was,
     /// closed, or with the whole checkpoint.
@@ -176,30 +176,30 @@ impl Slots {
         requires fits { FitsCatalogue cat.now (R.tables rows.now) (R.held rows.now) }
         requires few { (table : ℕ) → table < R.tables rows.now → length (keys_of (R.held rows.now) table) ≤ MAX_SAVED_ROWS }
         requires works { self.old.has_failed ≡ false }
-        requires holds_a { WhereTold (λ old. OneImage (IsSlot cat.now.tables self.old.a) old.now) (D.told a.old) }
-        requires holds_b { WhereTold (λ old. OneImage (IsSlot cat.now.tables self.old.b) old.now) (D.told b.old) }
+        requires holds_a { IfKnown (λ old. OneImage (IsSlot cat.now.tables self.old.a) old.now) (D.known a.old) }
+        requires holds_b { IfKnown (λ old. OneImage (IsSlot cat.now.tables self.old.b) old.now) (D.known b.old) }
 
         // At each moment the slot is as it was, closed, or has the whole checkpoint; of one that had no byte nothing is said.
         ensures any_moment { HasByte (by_slot (spare_of self.old) self.old.a self.old.b)
-            → BothTell (λ old new. LeavesOnly (IsOldShutOrNew old.now.seen (checkpoint_bytes (checkpoint_of (length cat.now.tables) (head_with txns place) (R.held rows.now)))) old new)
-            (by_slot (spare_of self.old) (D.told a.old) (D.told b.old)) (by_slot (spare_of self.old) (D.told a.new) (D.told b.new)) }
-        ensures other { by_slot (spare_of self.old) (D.told b.new) (D.told a.new) ≡ by_slot (spare_of self.old) (D.told b.old) (D.told a.old) }
+            → BothKnown (λ old new. LeavesOnly (IsOldShutOrNew old.now.seen (checkpoint_bytes (checkpoint_of (length cat.now.tables) (head_with txns place) (R.held rows.now)))) old new)
+            (by_slot (spare_of self.old) (D.known a.old) (D.known b.old)) (by_slot (spare_of self.old) (D.known a.new) (D.known b.new)) }
+        ensures other { by_slot (spare_of self.old) (D.known b.new) (D.known a.new) ≡ by_slot (spare_of self.old) (D.known b.old) (D.known a.old) }
         ensures form { IsErrOf result SaveError.DiskFault → IsCheckpoint cat.now.tables (checkpoint_of (length cat.now.tables) (head_with txns place) (R.held rows.now)) }
 
         // Afterwards it has the checkpoint, and the slots are known again.
-        ensures saved { OnOk result (BothTell (λ old new. OneImage (HoldsRows cat.now.tables (head_with txns place) (R.held rows.now)) new.now) (by_slot (spare_of self.old) (D.told a.old) (D.told b.old)) (by_slot (spare_of self.old) (D.told a.new) (D.told b.new))) }
+        ensures saved { OnOk result (BothKnown (λ old new. OneImage (HoldsRows cat.now.tables (head_with txns place) (R.held rows.now)) new.now) (by_slot (spare_of self.old) (D.known a.old) (D.known b.old)) (by_slot (spare_of self.old) (D.known a.new) (D.known b.new))) }
         ensures slots { OnOk result (self.new ≡ saved_slots (head_with txns place) self.old) }
-        ensures known_a { OnOk result (WhereTold (λ new. OneImage (IsSlot cat.now.tables self.new.a) new.now) (D.told a.new)) }
-        ensures known_b { OnOk result (WhereTold (λ new. OneImage (IsSlot cat.now.tables self.new.b) new.now) (D.told b.new)) }
+        ensures known_a { OnOk result (IfKnown (λ new. OneImage (IsSlot cat.now.tables self.new.a) new.now) (D.known a.new)) }
+        ensures known_b { OnOk result (IfKnown (λ new. OneImage (IsSlot cat.now.tables self.new.b) new.now) (D.known b.new)) }
 
         // When each refusal comes.
         ensures too_large { (bytes : ℕ) → IsErrOf result (SaveError.TooLarge bytes) → (MAX_SLOT_LEN < bytes) × (bytes ≡ 1 + length (checkpoint_bytes (checkpoint_of (length cat.now.tables) (head_with txns place) (R.held rows.now)))) }
         ensures room { OnOk result (1 + length (checkpoint_bytes (checkpoint_of (length cat.now.tables) (head_with txns place) (R.held rows.now))) ≤ MAX_SLOT_LEN) }
         ensures failed { IsErrOf result SaveError.DiskFault → self.new ≡ record { a = self.old.a; b = self.old.b; has_failed = true } }
-        ensures refused { (cause : ASaveError) → IsErrOf result cause → ¬ (cause ≡ SaveError.DiskFault) → (self.new ≡ self.old) × (D.told a.new ≡ D.told a.old) × (D.told b.new ≡ D.told b.old) }
+        ensures refused { (cause : ASaveError) → IsErrOf result cause → ¬ (cause ≡ SaveError.DiskFault) → (self.new ≡ self.old) × (D.known a.new ≡ D.known a.old) × (D.known b.new ≡ D.known b.old) }
 
         // No call of a device comes after one that failed.
-        ensures disk_fault { IsErrOf result SaveError.DiskFault → OneRose (D.faults a.old ∷ D.faults b.old ∷ []) (D.faults a.new ∷ D.faults b.new ∷ []) }
+        ensures disk_fault { IsErrOf result SaveError.DiskFault → OneFaulted (D.faults a.old ∷ D.faults b.old ∷ []) (D.faults a.new ∷ D.faults b.new ∷ []) }
         ensures quiet_a { ¬ IsErrOf result SaveError.DiskFault → D.faults a.new ≡ D.faults a.old }
         ensures quiet_b { ¬ IsErrOf result SaveError.DiskFault → D.faults b.new ≡ D.faults b.old }
     {

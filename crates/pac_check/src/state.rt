@@ -11,7 +11,7 @@ pub enum SlotState {
     Empty,
     /// Its gate byte isn't 1.
     Closed,
-    /// Its gate byte is 1, and behind it stands a checkpoint with this head.
+    /// Its gate byte is 1, and after it stands a checkpoint with this head.
     Open(Head),
 }
 

@@ -63,7 +63,7 @@ pub(crate) fn checkpoint_text<R: Rows>(
     Ok(text)
 }
 
-// How many bytes the first so many tables have.
+// How many bytes the first n tables have.
 fn tables_len<R: Rows>(count: u16, rows: &R) -> Result<u64, NoMemory>
     requires within { count ≤ R.tables rows.now }
     requires few { (table : ℕ) → table < R.tables rows.now → length (keys_of (R.held rows.now) table) ≤ MAX_SAVED_ROWS }
@@ -114,7 +114,7 @@ fn values_len(row: &Row) -> u64
     len
 }
 
-// Appends the first so many tables.
+// Appends the first n tables.
 fn put_tables<R: Rows>(out: &mut Vec<u8>, count: u16, rows: &R) -> Result<(), NoMemory>
     requires { count ≤ R.tables rows.now }
     ensures bytes { OnOk result (Grew out.old.items out.new.items (flat_map rows_bytes (rows_of_tables (R.held rows.now) count))) }

@@ -1,11 +1,11 @@
-// What is told of a slot with a changed byte, or one that is cut.
+// What is reported of a slot with a changed byte, or one that is cut.
 use crate::slots::{SLOT, attached, changed};
 use pac_check::{SlotDamageKind, SlotError, SlotName};
 use std::alloc::Global;
 use std::test::Fail;
 
-// What is told of the slot with this byte at a place, cut to a length, as slot b: the place and the kind of its damage.
-fn told(
+// What is reported of the slot with this byte at an offset, cut to a length, as slot b: the offset and the kind of its damage.
+fn known(
     alloc: Global,
     place: usize,
     byte: u8,
@@ -24,7 +24,7 @@ fn told(
     }
 }
 
-// The byte that is put at a place, the length, and the place and the kind of the damage.
+// The byte that is put at an offset, the length, and the offset and the kind of the damage.
 const DAMAGES: &[(usize, u8, usize, u64, SlotDamageKind)] = &[
     (1, 0, 53, 1, SlotDamageKind::Magic),
     (0, 1, 1, 1, SlotDamageKind::Magic),
@@ -42,11 +42,11 @@ const DAMAGES: &[(usize, u8, usize, u64, SlotDamageKind)] = &[
 ];
 
 #[test]
-fn damage_is_told_at_its_place(rt: HostRuntime) -> Result<(), Fail> {
+fn damage_is_known_at_its_place(rt: HostRuntime) -> Result<(), Fail> {
     let alloc = rt.alloc();
     for &(place, byte, len, at, kind) in DAMAGES {
-        assert_eq!(rt; told(alloc, place, byte, len)?, Some((at, kind)));
+        assert_eq!(rt; known(alloc, place, byte, len)?, Some((at, kind)));
     }
-    assert_eq!(rt; told(alloc, 0, 1, 53)?, None);
+    assert_eq!(rt; known(alloc, 0, 1, 53)?, None);
     Ok(())
 }

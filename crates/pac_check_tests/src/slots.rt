@@ -1,6 +1,6 @@
 // The worked slot, and how slots are attached to, loaded and saved to.
 ghost use Rattle.std.specs.Prelude.{◌≡◌, false, IfOk};
-ghost use Rattle.pac_outside.specs.Disk.{WhereTold};
+ghost use Rattle.pac_outside.specs.Disk.{IfKnown};
 ghost use Rattle.pac_outside.specs.GateByte.{OneImage};
 ghost use Rattle.pac_types.specs.Fits.{FitsCatalogue};
 ghost use Rattle.pac_check.specs.SlotStates.{IsSlot};
@@ -12,7 +12,7 @@ use pac_types::{Catalogue, read_catalogue};
 use std::alloc::{AllocError, Global};
 use std::test::Fail;
 
-/// The tables of `adhoc put T[1] = (2)` after one transaction, at place 69 of the log.
+/// The tables of `adhoc put T[1] = (2)` after one transaction, at offset 69 of the log.
 pub(crate) const SLOT: &[u8] =
     b"\x01PACMSLT1\x01\0\0\0\0\0\0\0\x45\0\0\0\0\0\0\0\x01\0\x01\0\0\0\0\0\0\0\x01\x01\0\0\0\0\0\0\0\x01\x02\0\0\0\0\0\0\0";
 
@@ -31,7 +31,7 @@ pub(crate) fn disk(alloc: Global, bytes: &[u8], failing: u64) -> Result<MemDisk,
     Ok(MemDisk::new(bytes, failing))
 }
 
-/// The slot with this byte at a place, cut to a length.
+/// The slot with this byte at an offset, cut to a length.
 pub(crate) fn changed(
     alloc: Global,
     place: usize,
@@ -66,8 +66,8 @@ pub(crate) fn opened<D: Disk>(
     b: &mut D,
 ) -> Result<Slots, Fail>
     ensures works { IfOk result (λ slots. slots.has_failed ≡ false) }
-    ensures holds_a { IfOk result (λ slots. WhereTold (λ new. OneImage (IsSlot cat.now.tables slots.a) new.now) (D.told a.new)) }
-    ensures holds_b { IfOk result (λ slots. WhereTold (λ new. OneImage (IsSlot cat.now.tables slots.b) new.now) (D.told b.new)) }
+    ensures holds_a { IfOk result (λ slots. IfKnown (λ new. OneImage (IsSlot cat.now.tables slots.a) new.now) (D.known a.new)) }
+    ensures holds_b { IfOk result (λ slots. IfKnown (λ new. OneImage (IsSlot cat.now.tables slots.b) new.now) (D.known b.new)) }
 {
     let (Ok(()), Ok(())) = (a.sync(), b.sync()) else {
         return Err(Fail::from("not synced"));

@@ -24,7 +24,7 @@ fn numbers_have_their_lowest_byte_first(rt: HostRuntime) -> Result<(), Fail> {
     Ok(())
 }
 
-// A place of nine bytes, and whether one, two, four and eight bytes stand there.
+// An offset of nine bytes, and whether one, two, four and eight bytes stand there.
 const ENDS: &[(usize, bool, bool, bool, bool)] = &[
     (0, true, true, true, true),
     (1, true, true, true, true),
@@ -64,7 +64,7 @@ const TEXTS: &[(&[u8], &[u8])] = &[
     (b" ~", b"\x02\x02 ~"),
 ];
 
-// Whether the value is written so behind a byte, and read where the bytes end and where more follow.
+// Whether the value is written so after a byte, and read where the bytes end and where more follow.
 fn is_spelled(mut out: Vec<u8>, value: Value, spelled: &[u8]) -> Result<bool, Fail> {
     let read = Ok((value, out.len()));
     let written = out.get(1..) == Some(spelled);
@@ -116,7 +116,7 @@ fn values_are_short_where_they_are_cut(rt: HostRuntime) {
 }
 
 const FAULTS: &[(&[u8], usize, ValueFault)] = &[
-    // A tag of 0 or 3, with bytes behind it or none.
+    // A tag of 0 or 3, with bytes after it or none.
     (b"\0\x01\0\0\0\0\0\0\0", 0, ValueFault::Tag { at: 0 }),
     (b"\x03", 0, ValueFault::Tag { at: 0 }),
     (b"\x01\x03\0", 1, ValueFault::Tag { at: 1 }),
@@ -133,7 +133,7 @@ const FAULTS: &[(&[u8], usize, ValueFault)] = &[
 ];
 
 #[test]
-fn the_first_fault_of_a_value_is_told(rt: HostRuntime) {
+fn the_first_fault_of_a_value_is_known(rt: HostRuntime) {
     for &(bytes, at, fault) in FAULTS {
         assert_eq!(rt; value_at(bytes, at), Err(fault), "{fault}");
     }
@@ -178,7 +178,7 @@ fn keys_and_typed_values_have_one_type(rt: HostRuntime) -> Result<(), Fail> {
         assert_eq!(rt; (key_len(&key), value_len(&value)), (len, len));
         assert_eq!(rt; key_at(&out, 0, value.ty()), Ok((key, len)));
         assert_eq!(rt; typed_at(&out, 0, value.ty()), Ok((value, len)));
-        // The type is compared right behind the tag.
+        // The type is compared right after the tag.
         assert_eq!(rt;
             typed_at(&out[..1], 0, other),
             Err(TypedFault::Wrong { at: 0 })
@@ -192,7 +192,7 @@ fn keys_and_typed_values_have_one_type(rt: HostRuntime) -> Result<(), Fail> {
 }
 
 #[test]
-fn faults_are_printed_with_their_place(rt: HostRuntime) -> Result<(), Fail> {
+fn faults_are_printed_with_their_offset(rt: HostRuntime) -> Result<(), Fail> {
     let alloc = rt.alloc();
     for (fault, text) in [
         (

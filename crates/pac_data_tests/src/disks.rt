@@ -1,5 +1,5 @@
 // What no clause of the disks says: that their calls succeed, and which bytes come.
-use pac_outside::{Devices, Disk, Failed, Fill, MemDisk, ReadError, open_behind, read_piece};
+use pac_outside::{Devices, Disk, Failed, Fill, MemDisk, ReadError, open_after, read_piece};
 use std::test::Fail;
 
 fn disk_of(rt: &HostRuntime, bytes: &[u8], failing: u64) -> Result<MemDisk, Fail> {
@@ -7,7 +7,7 @@ fn disk_of(rt: &HostRuntime, bytes: &[u8], failing: u64) -> Result<MemDisk, Fail
     Ok(MemDisk::new(bytes.to_vec(rt.alloc())?, failing))
 }
 
-/// A disk of the bytes `abcd` after two writes, each at place 4 at most. The call with this number fails.
+/// A disk of the bytes `abcd` after two writes, each at offset 4 at most. The call with this number fails.
 fn written(
     rt: &HostRuntime,
     failing: u64,
@@ -21,7 +21,7 @@ fn written(
     Ok(disk)
 }
 
-/// A place, and what is written there.
+/// An offset, and what is written there.
 type Piece = (u64, &'static [u8]);
 
 const NONE: Piece = (0, b"");
@@ -38,7 +38,7 @@ const AT_END: Piece = (4, b"PQ");
 
 const DOTS: Fill = Fill::Byte(b'.');
 
-// The call that fails, two pieces, and the image that is left with these bytes in their places.
+// The call that fails, two pieces, and the image that is left with these bytes in their offsets.
 const IMAGES: &[(u64, Piece, Piece, Fill, bool, &[u8])] = &[
     (0, NONE, NONE, Fill::New, true, b"abcd"),
     (0, INSIDE, NONE, Fill::Old, false, b"abcd"),
@@ -116,7 +116,7 @@ fn gate_opens_once_the_piece_is_there(rt: HostRuntime) -> Result<(), Fail> {
     for &(failing, old, new, filled) in GATES {
         let bytes = b"0".to_vec(rt.alloc())?;
         let mut disk = MemDisk::new(bytes, [failing].to_vec(rt.alloc())?);
-        assert_eq!(rt; open_behind(&mut disk, 0, b"ab").is_ok(), failing == 5);
+        assert_eq!(rt; open_after(&mut disk, 0, b"ab").is_ok(), failing == 5);
         assert_eq!(rt; disk.image(Fill::Old, false)?.as_slice(), old, "{failing}");
         assert_eq!(rt; disk.image(Fill::New, true)?.as_slice(), new, "{failing}");
         assert_eq!(rt; disk.image(DOTS, true)?.as_slice(), filled, "{failing}");

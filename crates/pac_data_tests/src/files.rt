@@ -1,5 +1,5 @@
 // A disk over a file: what the system's calls give.
-use pac_outside::{Disk, Failed, FileDisk, open_behind, read_piece};
+use pac_outside::{Disk, Failed, FileDisk, open_after, read_piece};
 use std::fs;
 use std::test::Fail;
 
@@ -30,7 +30,7 @@ fn disk_over_a_file_keeps_what_is_written(rt: HostRuntime) -> Result<(), Fail> {
     // Another disk over the file reads the same, and opens a gate in it.
     let mut other = FileDisk::new(&rt, "file_disk_test/log");
     assert_eq!(rt; other.len(), Ok(6));
-    assert_eq!(rt; open_behind(&mut other, 0, b"piece!"), Ok(()));
+    assert_eq!(rt; open_after(&mut other, 0, b"piece!"), Ok(()));
     assert_eq!(rt;
         read_piece(rt.alloc(), &mut disk, 0, 9)?.as_slice(),
         b"\x01piece!".as_slice()

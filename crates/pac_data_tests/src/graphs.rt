@@ -144,7 +144,7 @@ fn the_least_node_waits_for_its_predecessors(rt: HostRuntime) -> Result<(), Fail
     Ok(())
 }
 
-// Counts from 0 on, each number so many times.
+// Counts from 0 on, each number that many times.
 fn counted(alloc: Global, nodes: usize, times: usize) -> Result<Vec<u16>, NoMemory>
     requires nodes { nodes ≤ 4160 }
     requires times { 0 < times }

@@ -9,7 +9,7 @@ use std::io;
 use std::io::{Read, Write};
 use std::test::Fail;
 
-/// A stream that answers each call by the next of its steps: at most so many bytes, or an error. After them is the end.
+/// A stream that answers each call by the next of its steps: at most that many bytes, or an error. After them is the end.
 #[derive(Drop)]
 struct Steps {
     steps: [Option<usize>; 3],
@@ -77,15 +77,15 @@ fn source_fails_once_and_goes_on(rt: HostRuntime) -> Result<(), Fail> {
     let bytes = b"abcde".to_vec(rt.alloc())?;
     let mut source = MemSource::new(bytes, [2].to_vec(rt.alloc())?);
     let mut buf = [0u8; 2];
-    for &(count, front) in READS {
+    for &(count, prefix) in READS {
         assert_eq!(rt; source.read(&mut buf), count);
-        assert_eq!(rt; buf.as_slice(), front);
+        assert_eq!(rt; buf.as_slice(), prefix);
     }
     Ok(())
 }
 
 #[test]
-fn sink_that_fails_keeps_a_front(rt: HostRuntime) -> Result<(), Fail> {
+fn sink_that_fails_keeps_a_prefix(rt: HostRuntime) -> Result<(), Fail> {
     let held = b"so: ".to_vec(rt.alloc())?;
     let inner = MemSink::new(held, [3].to_vec(rt.alloc())?);
     let mut sink = Short { inner };

@@ -8,7 +8,7 @@ use Rattle.pac_entry.specs.Entries.{txn_bytes}
 use Rattle.pac_request.specs.Batches.{body_len}
 use Rattle.pac_log.specs.declared.position.NextGate.{NextGate}
 use Rattle.pac_log.specs.Bodies.{body_bytes, entries_bytes}
-use Rattle.pac_session.specs.Groups.{place_behind}
+use Rattle.pac_session.specs.Groups.{place_after_group}
 use Rattle.pac_engine.specs.Committing.{gate_past}
 
 pub body_len-bytes : (txns : List Txn) → body_len txns ≡ length (body_bytes txns)
@@ -17,8 +17,8 @@ body_len-bytes txns =
     let len = to_le_bytes w32 (length (entries_bytes txns)) in
     omega (arith, length-append count (len ++ entries_bytes txns), length-append len (entries_bytes txns), width32.len (length txns), width32.len (length (entries_bytes txns)), length-flat_map txn_bytes txns)
 
--- the gate behind the transactions of a group
-pub place-after : (txns : List Txn) (gate : NextGate) → (gate_past txns gate).place ≡ place_behind gate.place txns
+-- the gate after the transactions of a group
+pub place-after : (txns : List Txn) (gate : NextGate) → (gate_past txns gate).place ≡ place_after_group gate.place txns
 place-after [] gate = refl
 place-after (txn ∷ txns) gate = ap (λ (n : ℕ). gate.place + (1 + n)) (sym (body_len-bytes (txn ∷ txns)))
 

@@ -2,15 +2,15 @@
 use Rattle.std.proofs.Common.{◌≡◌, ◌⊎◌, inl, ◌∙◌, ℕ, ◌+◌, ◌<◌, List, [], ◌∷◌, ◌++◌, length, Option, Some, None, refl, sym, ap, subst, arith}
 use Rattle.std.proofs.lemmas.List.{append-nil}
 use Rattle.pac_ops.specs.declared.transaction.Txn.{Txn}
-use Rattle.pac_outside.specs.Disk.{BothTell, DiskState, DiskHistory, IsImage, Leaves, LeavesOnly}
+use Rattle.pac_outside.specs.Disk.{BothKnown, DiskState, DiskHistory, IsImage, Leaves, LeavesOnly}
 use Rattle.pac_outside.specs.GateByte.{OneImage}
 use Rattle.pac_outside.proofs.Images.{one_image}
 use Rattle.pac_types.specs.Typing.{CatalogueState}
 use Rattle.pac_log.specs.declared.position.NextGate.{NextGate}
 use Rattle.pac_log.specs.Bodies.{body_bytes}
-use Rattle.pac_log.specs.Gates.{gate_behind}
+use Rattle.pac_log.specs.Gates.{gate_after}
 use Rattle.pac_log.specs.Logs.{AddsBatch, HoldsLog, KeepsOrAdds}
-use Rattle.pac_log.specs.Places.{IsBehind}
+use Rattle.pac_log.specs.Places.{IsAfter}
 use Rattle.pac_engine.specs.Committing.{HasAdded, MayAdd, gate_past, with_batch}
 
 -- where a crash leaves one image, it leaves that
@@ -23,19 +23,19 @@ rests P Q f h one =
     let here : Leaves Q h.now = one_leaves P Q f h.now one in
     record { since = []; grown = sym (append-nil h.past); first = here; each = tt; last = here }
 
-pub nothing_added : (text : List ℕ) (catalogue : CatalogueState) (batches : List (List Txn)) (txns : List Txn) (told : Option DiskHistory) → BothTell (MayAdd text catalogue batches txns) told told
+pub nothing_added : (text : List ℕ) (catalogue : CatalogueState) (batches : List (List Txn)) (txns : List Txn) (known : Option DiskHistory) → BothKnown (MayAdd text catalogue batches txns) known known
 nothing_added text catalogue batches txns None = tt
 nothing_added text catalogue batches txns (Some h) = λ one. rests (HoldsLog text catalogue batches) (λ image. HoldsLog text catalogue batches image ⊎ HoldsLog text catalogue (with_batch batches txns) image) (λ image holds. inl holds) h one
 
-none_added : (text : List ℕ) (catalogue : CatalogueState) (batches : List (List Txn)) (told : Option DiskHistory) → BothTell (HasAdded text catalogue batches []) told told
+none_added : (text : List ℕ) (catalogue : CatalogueState) (batches : List (List Txn)) (known : Option DiskHistory) → BothKnown (HasAdded text catalogue batches []) known known
 none_added text catalogue batches None = tt
 none_added text catalogue batches (Some h) = λ one. one
 
-pub none_has_added : (text : List ℕ) (catalogue : CatalogueState) (batches : List (List Txn)) (txns : List Txn) → txns ≡ [] → (told : Option DiskHistory) → BothTell (HasAdded text catalogue batches txns) told told
-none_has_added text catalogue batches txns none told = subst (λ (l : List Txn). BothTell (HasAdded text catalogue batches l) told told) (sym none) (none_added text catalogue batches told)
+pub none_has_added : (text : List ℕ) (catalogue : CatalogueState) (batches : List (List Txn)) (txns : List Txn) → txns ≡ [] → (known : Option DiskHistory) → BothKnown (HasAdded text catalogue batches txns) known known
+none_has_added text catalogue batches txns none known = subst (λ (l : List Txn). BothKnown (HasAdded text catalogue batches l) known known) (sym none) (none_added text catalogue batches known)
 
-pub none_behind : (text : List ℕ) (batches : List (List Txn)) (txns : List Txn) → txns ≡ [] → (gate : NextGate) → IsBehind text batches gate → IsBehind text (with_batch batches txns) gate
-none_behind text batches txns none gate is = subst (λ (l : List Txn). IsBehind text (with_batch batches l) gate) (sym none) is
+pub none_after : (text : List ℕ) (batches : List (List Txn)) (txns : List Txn) → txns ≡ [] → (gate : NextGate) → IsAfter text batches gate → IsAfter text (with_batch batches txns) gate
+none_after text batches txns none gate is = subst (λ (l : List Txn). IsAfter text (with_batch batches l) gate) (sym none) is
 
 pub no_gate : (txns : List Txn) (gate : NextGate) → txns ≡ [] → gate ≡ gate_past txns gate
 no_gate txns gate none = subst (λ (l : List Txn). gate ≡ gate_past l gate) (sym none) refl
@@ -44,23 +44,23 @@ with_some : (batches : List (List Txn)) (txns : List Txn) → 0 < length txns �
 with_some batches [] some = absurd (omega (arith, some))
 with_some batches (txn ∷ txns) some = refl
 
-pub some_gate : (txns : List Txn) (old now new : NextGate) → 0 < length txns → now ≡ old → new ≡ gate_behind (length txns) (1 + length (body_bytes txns)) now → new ≡ gate_past txns old
+pub some_gate : (txns : List Txn) (old now new : NextGate) → 0 < length txns → now ≡ old → new ≡ gate_after (length txns) (1 + length (body_bytes txns)) now → new ≡ gate_past txns old
 some_gate [] old now new some same is = absurd (omega (arith, some))
 some_gate (txn ∷ txns) old now new some same is = is ∙ ap (λ (g : NextGate). gate_past (txn ∷ txns) g) same
 
 module _ (text : List ℕ) (batches : List (List Txn)) (txns : List Txn) (some : 0 < length txns) (old now : NextGate) (same : now ≡ old) where
-  pub may_add : (a b : Option DiskHistory) → BothTell (KeepsOrAdds text now.catalogue batches txns) a b → BothTell (MayAdd text old.catalogue batches txns) a b
-  may_add a b told =
-      subst (λ (g : NextGate). BothTell (MayAdd text g.catalogue batches txns) a b) same
-      (subst (λ (bs : List (List Txn)). BothTell (λ x y. OneImage (HoldsLog text now.catalogue batches) x.now → LeavesOnly (λ image. HoldsLog text now.catalogue batches image ⊎ HoldsLog text now.catalogue bs image) x y) a b) (sym (with_some batches txns some)) told)
+  pub may_add : (a b : Option DiskHistory) → BothKnown (KeepsOrAdds text now.catalogue batches txns) a b → BothKnown (MayAdd text old.catalogue batches txns) a b
+  may_add a b known =
+      subst (λ (g : NextGate). BothKnown (MayAdd text g.catalogue batches txns) a b) same
+      (subst (λ (bs : List (List Txn)). BothKnown (λ x y. OneImage (HoldsLog text now.catalogue batches) x.now → LeavesOnly (λ image. HoldsLog text now.catalogue batches image ⊎ HoldsLog text now.catalogue bs image) x y) a b) (sym (with_some batches txns some)) known)
 
-  pub has_added : (a b : Option DiskHistory) → BothTell (AddsBatch text now.catalogue batches txns) a b → BothTell (HasAdded text old.catalogue batches txns) a b
-  has_added a b told =
-      subst (λ (g : NextGate). BothTell (HasAdded text g.catalogue batches txns) a b) same
-      (subst (λ (bs : List (List Txn)). BothTell (λ x y. OneImage (HoldsLog text now.catalogue batches) x.now → OneImage (HoldsLog text now.catalogue bs) y.now) a b) (sym (with_some batches txns some)) told)
+  pub has_added : (a b : Option DiskHistory) → BothKnown (AddsBatch text now.catalogue batches txns) a b → BothKnown (HasAdded text old.catalogue batches txns) a b
+  has_added a b known =
+      subst (λ (g : NextGate). BothKnown (HasAdded text g.catalogue batches txns) a b) same
+      (subst (λ (bs : List (List Txn)). BothKnown (λ x y. OneImage (HoldsLog text now.catalogue batches) x.now → OneImage (HoldsLog text now.catalogue bs) y.now) a b) (sym (with_some batches txns some)) known)
 
-  pub still_behind : IsBehind text batches old → IsBehind text batches now
-  still_behind is = subst (λ (g : NextGate). IsBehind text batches g) (sym same) is
+  pub still_after : IsAfter text batches old → IsAfter text batches now
+  still_after is = subst (λ (g : NextGate). IsAfter text batches g) (sym same) is
 
-  pub behind_some : (new : NextGate) → IsBehind text (batches ++ txns ∷ []) new → IsBehind text (with_batch batches txns) new
-  behind_some new is = subst (λ (bs : List (List Txn)). IsBehind text bs new) (sym (with_some batches txns some)) is
+  pub after_some : (new : NextGate) → IsAfter text (batches ++ txns ∷ []) new → IsAfter text (with_batch batches txns) new
+  after_some new is = subst (λ (bs : List (List Txn)). IsAfter text bs new) (sym (with_some batches txns some)) is

@@ -11,7 +11,7 @@ use Rattle.pac_request.specs.declared.request.Reply.{Reply}
 use Rattle.pac_request.specs.declared.request.Reply.TheVariants as reply
 use Rattle.pac_check.specs.declared.limits.TheConstants.{MAX_SLOT_LEN}
 use Rattle.pac_session.specs.Session.{Rules, SessionState, answer, commits, committed, ends, replies, state_after, txn_of}
-use Rattle.pac_session.specs.Groups.{Group, GroupCut, all_replies, all_requests, cut_behind, cut_one, cut_with, described, is_closing, lacks_room, place_behind}
+use Rattle.pac_session.specs.Groups.{Group, GroupCut, all_replies, all_requests, cut_after, cut_one, cut_with, described, is_closing, lacks_room, place_after_group}
 use Rattle.pac_session.specs.Open.{IsInGroup, Open, rules_of, state_now, with_asked, with_closed}
 use Rattle.pac_session.proofs.SessionLemmas.{after-number, committed-append, ends-append, replies-append}
 use Rattle.pac_engine.specs.declared.fault.EngineCause.{EngineCause}
@@ -60,11 +60,11 @@ group-closed start group now is = record { answers = refl; body = refl; here = i
 
 -- ---- where a request cuts
 
--- a cut behind no group
-behind-none : (group : List Request) (b : Bool) → cut_behind (record { closed = []; rest = group }) (if b then record { closed = group ∷ []; rest = [] } else record { closed = []; rest = group })
+-- a cut after no group
+after-none : (group : List Request) (b : Bool) → cut_after (record { closed = []; rest = group }) (if b then record { closed = group ∷ []; rest = [] } else record { closed = []; rest = group })
     ≡ (if b then record { closed = group ∷ []; rest = [] } else record { closed = []; rest = group })
-behind-none group true = refl
-behind-none group false = refl
+after-none group true = refl
+after-none group false = refl
 
 module _ (rules : Rules) (start : SessionState) (group : List Request) (asked : Request) where
   abbrev test : Bool
@@ -72,21 +72,21 @@ module _ (rules : Rules) (start : SessionState) (group : List Request) (asked : 
 
   -- there is room for its transaction
   module _ (room : lacks_room (committed rules start group) (txn_of asked) ≡ false) where
-    with-room : cut_one rules start group asked ≡ cut_behind (record { closed = []; rest = group }) (cut_with rules start group asked)
-    with-room = ap (λ (t : Bool). let made : GroupCut = if t then record { closed = group ∷ []; rest = [] } else record { closed = []; rest = group } in cut_behind made (cut_with rules (ends rules start (all_requests made.closed)) made.rest asked)) room
+    with-room : cut_one rules start group asked ≡ cut_after (record { closed = []; rest = group }) (cut_with rules start group asked)
+    with-room = ap (λ (t : Bool). let made : GroupCut = if t then record { closed = group ∷ []; rest = [] } else record { closed = []; rest = group } in cut_after made (cut_with rules (ends rules start (all_requests made.closed)) made.rest asked)) room
 
     pub cut-closed : test ≡ true → cut_one rules start group asked ≡ record { closed = (group ++ asked ∷ []) ∷ []; rest = [] }
-    cut-closed is = with-room ∙ ap (λ (t : Bool). cut_behind (record { closed = []; rest = group }) (if t then record { closed = (group ++ asked ∷ []) ∷ []; rest = [] } else record { closed = []; rest = group ++ asked ∷ [] })) is
+    cut-closed is = with-room ∙ ap (λ (t : Bool). cut_after (record { closed = []; rest = group }) (if t then record { closed = (group ++ asked ∷ []) ∷ []; rest = [] } else record { closed = []; rest = group ++ asked ∷ [] })) is
 
     pub cut-later : test ≡ false → cut_one rules start group asked ≡ record { closed = []; rest = group ++ asked ∷ [] }
-    cut-later is = with-room ∙ ap (λ (t : Bool). cut_behind (record { closed = []; rest = group }) (if t then record { closed = (group ++ asked ∷ []) ∷ []; rest = [] } else record { closed = []; rest = group ++ asked ∷ [] })) is
+    cut-later is = with-room ∙ ap (λ (t : Bool). cut_after (record { closed = []; rest = group }) (if t then record { closed = (group ++ asked ∷ []) ∷ []; rest = [] } else record { closed = []; rest = group ++ asked ∷ [] })) is
 
   -- there is none, and the new group isn't full with one reply
   pub cut-before : lacks_room (committed rules start group) (txn_of asked) ≡ true → (is_closing asked || nat_le rules.most (length (replies rules (ends rules start (group ++ [])) (asked ∷ [])))) ≡ false
       → cut_one rules start group asked ≡ record { closed = group ∷ []; rest = asked ∷ [] }
   cut-before full is =
-      ap (λ (t : Bool). let made : GroupCut = if t then record { closed = group ∷ []; rest = [] } else record { closed = []; rest = group } in cut_behind made (cut_with rules (ends rules start (all_requests made.closed)) made.rest asked)) full
-      ∙ ap (λ (t : Bool). cut_behind (record { closed = group ∷ []; rest = [] }) (if t then record { closed = (asked ∷ []) ∷ []; rest = [] } else record { closed = []; rest = asked ∷ [] })) is
+      ap (λ (t : Bool). let made : GroupCut = if t then record { closed = group ∷ []; rest = [] } else record { closed = []; rest = group } in cut_after made (cut_with rules (ends rules start (all_requests made.closed)) made.rest asked)) full
+      ∙ ap (λ (t : Bool). cut_after (record { closed = group ∷ []; rest = [] }) (if t then record { closed = (asked ∷ []) ∷ []; rest = [] } else record { closed = []; rest = asked ∷ [] })) is
 
 -- ---- a group that was closed, or none
 
@@ -97,7 +97,7 @@ closes-none rules place start cut rest given new is none there same within =
 
 pub closes-one : (rules : Rules) (place : ℕ) (start : SessionState) (cut : GroupCut) (group rest : List Request) (given : List Reply) (new : EngineParts)
     → cut ≡ record { closed = group ∷ []; rest = rest } → given ≡ replies rules start group → HasRoomAt place (committed rules start group)
-    → new.log.gate.place ≡ place_behind place (committed rules start group) → rules_of new.session ≡ rules → IsInGroup (ends rules start group) rest new.session → Closes rules place start cut given new
+    → new.log.gate.place ≡ place_after_group place (committed rules start group) → rules_of new.session ≡ rules → IsInGroup (ends rules start group) rest new.session → Closes rules place start cut given new
 closes-one rules place start cut group rest given new is gave room there same within =
     subst (λ (c : GroupCut). Closes rules place start c given new) (sym is) (record {
       replied = gave ∙ sym (append-nil (replies rules start group));
@@ -112,8 +112,8 @@ module _ (mid : EngineParts) (start : SessionState) (group : List Request) (is :
   group-room : HasRoomAt mid.log.gate.place (committed (rules_of mid.session) start group)
   group-room = subst (λ (l : List Txn). HasRoomAt mid.log.gate.place l) is.body room
 
-  group-place : (gate_past mid.session.txns mid.log.gate).place ≡ place_behind mid.log.gate.place (committed (rules_of mid.session) start group)
-  group-place = place-after mid.session.txns mid.log.gate ∙ ap (λ (l : List Txn). place_behind mid.log.gate.place l) is.body
+  group-place : (gate_past mid.session.txns mid.log.gate).place ≡ place_after_group mid.log.gate.place (committed (rules_of mid.session) start group)
+  group-place = place-after mid.session.txns mid.log.gate ∙ ap (λ (l : List Txn). place_after_group mid.log.gate.place l) is.body
 
   pub closes-closed : (cut : GroupCut) (given : List Reply) (new : EngineParts) → cut ≡ record { closed = group ∷ []; rest = [] } → given ≡ mid.session.held → new ≡ committed_parts mid
       → Closes (rules_of mid.session) mid.log.gate.place start cut given new
@@ -176,12 +176,12 @@ module _ (e : EngineParts) (start : SessionState) (group : List Request) (is : I
   pub closes-saved : (cut : GroupCut) (given : List Reply) (number : ℕ) (new : EngineParts) → cut ≡ record { closed = (group ++ request.Save ∷ []) ∷ []; rest = [] } → given ≡ e.session.held ++ reply.Saved number ∷ [] → number ≡ e.session.before + length e.session.txns
       → new ≡ saved_parts (committed_parts e) → Closes (rules_of e.session) e.log.gate.place start cut given new
   closes-saved cut given number new is_cut gave counted becomes =
-      let tells : number ≡ (ends rules start group).number = counted ∙ sym (ap (λ (s : SessionState). s.number) is.here) in
+      let knows : number ≡ (ends rules start group).number = counted ∙ sym (ap (λ (s : SessionState). s.number) is.here) in
       let body : e.session.txns ≡ committed rules start (group ++ request.Save ∷ []) = is.body ∙ sym (save-commits rules start group) in
       subst (λ (p : EngineParts). Closes (rules_of e.session) e.log.gate.place start cut given p) (sym becomes)
       (closes-one rules place start cut (group ++ request.Save ∷ []) [] given (saved_parts (committed_parts e)) is_cut
-      (gave ∙ ap (λ (h : List Reply). h ++ reply.Saved number ∷ []) is.answers ∙ ap (λ (n : ℕ). replies rules start group ++ reply.Saved n ∷ []) tells ∙ sym (replies-push rules start group request.Save))
-      (subst (λ (l : List Txn). HasRoomAt e.log.gate.place l) body room) (place-after e.session.txns e.log.gate ∙ ap (λ (l : List Txn). place_behind e.log.gate.place l) body) refl
+      (gave ∙ ap (λ (h : List Reply). h ++ reply.Saved number ∷ []) is.answers ∙ ap (λ (n : ℕ). replies rules start group ++ reply.Saved n ∷ []) knows ∙ sym (replies-push rules start group request.Save))
+      (subst (λ (l : List Txn). HasRoomAt e.log.gate.place l) body room) (place-after e.session.txns e.log.gate ∙ ap (λ (l : List Txn). place_after_group e.log.gate.place l) body) refl
       (subst (λ (s : SessionState). IsInGroup s [] (with_closed e.session)) (sym save-here) (group-closed start group e.session is)))
 
   module _ (closed : List (List Request)) (is_one : closed ≡ (group ++ request.Save ∷ []) ∷ []) (given : List Reply) (gave : given ≡ e.session.held) where
@@ -203,7 +203,7 @@ module _ (e : EngineParts) (start : SessionState) (group : List Request) (is : I
     }
 
     save-place : place_after place (described rules place start closed) ≡ (gate_past e.session.txns e.log.gate).place
-    save-place = ap (λ (g : List Group). place_after place g) groups-are ∙ ap (λ (l : List Txn). place_behind place l) (save-commits rules start group) ∙ sym (group-place e start group is room)
+    save-place = ap (λ (g : List Group). place_after place g) groups-are ∙ ap (λ (l : List Txn). place_after_group place l) (save-commits rules start group) ∙ sym (group-place e start group is room)
 
     save-state : ends rules start (all_requests closed) ≡ state_now (with_closed e.session)
     save-state = ap (λ (c : List (List Request)). ends rules start (all_requests c)) is_one ∙ ap (λ (g : List Request). ends rules start g) (append-nil (group ++ request.Save ∷ [])) ∙ save-here ∙ is.here ∙ sym (closed-state e.session)
@@ -225,6 +225,6 @@ module _ (e : EngineParts) (start : SessionState) (group : List Request) (is : I
     save-stops (TooLarge bytes) on full large = let much = large bytes refl in save-large bytes much.0 much.1
 
 -- what a checkpoint takes is said of the group before it is closed
-pub saved-small : (e : EngineParts) → slot_len (rules_of e.session) (state_now (with_closed e.session)) (gate_past e.session.txns e.log.gate).place ≤ MAX_SLOT_LEN → slot_len (rules_of e.session) (state_now e.session) (place_behind e.log.gate.place e.session.txns) ≤ MAX_SLOT_LEN
+pub saved-small : (e : EngineParts) → slot_len (rules_of e.session) (state_now (with_closed e.session)) (gate_past e.session.txns e.log.gate).place ≤ MAX_SLOT_LEN → slot_len (rules_of e.session) (state_now e.session) (place_after_group e.log.gate.place e.session.txns) ≤ MAX_SLOT_LEN
 saved-small e small = subst (λ (n : ℕ). n ≤ MAX_SLOT_LEN)
     (ap (λ (s : SessionState). slot_len (rules_of e.session) s (gate_past e.session.txns e.log.gate).place) (closed-state e.session) ∙ ap (λ (p : ℕ). slot_len (rules_of e.session) (state_now e.session) p) (place-after e.session.txns e.log.gate)) small

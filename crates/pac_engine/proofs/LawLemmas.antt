@@ -1,20 +1,20 @@
--- Groups that were closed, and more of them behind.
+-- Groups that were closed, and more of them after.
 use Rattle.std.proofs.Common.{◌≡◌, ◌∙◌, inl, inr, ⊎_elim, ℕ, List, [], ◌∷◌, ◌++◌, length, Option, refl, sym, ap, ap₂, subst, arith, append_assoc}
 use Rattle.std.specs.List.{AllByRecursion}
 use Rattle.pac_ops.specs.declared.transaction.Txn.{Txn}
-use Rattle.pac_outside.specs.Devices.{AllLeave, AreImages, RunLeaves, all_told}
+use Rattle.pac_outside.specs.Devices.{AllLeave, AreImages, RunLeaves, all_known}
 use Rattle.pac_outside.specs.Devices.RunLeaves.{rests, runs}
 use Rattle.pac_outside.specs.Disk.{DiskState, DiskHistory, IsImage}
 use Rattle.pac_outside.specs.GateByte.{OneImage}
 use Rattle.pac_types.specs.Typing.{CatalogueState}
 use Rattle.pac_store.specs.Stands.{IsHistory}
-use Rattle.pac_engine.specs.Standing.{OnlyGrows, KeepsHistory, MayLeave, StandsOn, TellsWhere}
-use Rattle.pac_engine.proofs.DeviceLemmas.{told-then}
+use Rattle.pac_engine.specs.Standing.{OnlyGrows, KeepsHistory, MayLeave, StandsOn, WhileAllKnown}
+use Rattle.pac_engine.proofs.DeviceLemmas.{known-then}
 use Rattle.pac_engine.proofs.StandingLemmas.{keeps-longer, keeps-then}
 use Rattle.pac_request.specs.declared.request.Request.{Request}
 use Rattle.pac_request.specs.declared.request.Reply.{Reply}
 use Rattle.pac_session.specs.Session.{Rules, SessionState, committed, ends, replies}
-use Rattle.pac_session.specs.Groups.{Group, GroupCut, all_replies, all_requests, cut_behind, described, place_behind}
+use Rattle.pac_session.specs.Groups.{Group, GroupCut, all_replies, all_requests, cut_after, described, place_after_group}
 use Rattle.pac_session.specs.Open.{IsInGroup, rules_of, state_now}
 use Rattle.pac_session.proofs.SessionLemmas.{ends-append}
 use Rattle.pac_session.proofs.CutLemmas.{joined-append}
@@ -35,13 +35,13 @@ fit-both (x ∷ xs) ys first second = (first.0, fit-both xs ys first.1 second)
 
 place-both : (place : ℕ) (xs ys : List Group) → place_after place (xs ++ ys) ≡ place_after (place_after place xs) ys
 place-both place [] ys = refl
-place-both place (x ∷ xs) ys = place-both (place_behind place x.txns) xs ys
+place-both place (x ∷ xs) ys = place-both (place_after_group place x.txns) xs ys
 
 described-both : (rules : Rules) (place : ℕ) (start : SessionState) (xs ys : List (List Request))
     → described rules place start (xs ++ ys) ≡ described rules place start xs ++ described rules (place_after place (described rules place start xs)) (ends rules start (all_requests xs)) ys
 described-both rules place start [] ys = refl
 described-both rules place start (x ∷ xs) ys =
-    let next = place_behind place (committed rules start x) in
+    let next = place_after_group place (committed rules start x) in
     ap (λ (l : List Group). the_first l) (described-both rules next (ends rules start x) xs ys
     ∙ ap (λ (s : SessionState). described rules next (ends rules start x) xs ++ described rules (place_after next (described rules next (ends rules start x) xs)) s ys) (sym (ends-append rules start x (all_requests xs))))
   where
@@ -69,55 +69,55 @@ module _ (rules : Rules) (place : ℕ) (start : SessionState) (whole : GroupCut)
   abbrev groups : List Group
   groups = described rules place start whole.closed
 
-  -- more groups behind these
+  -- more groups after these
   all-groups : (more : List (List Request)) → described rules place start (whole.closed ++ more) ≡ described rules place start whole.closed ++ described rules old.log.gate.place (ends rules start (all_requests whole.closed)) more
   all-groups more = described-both rules place start whole.closed more ∙ ap (λ (p : ℕ). groups ++ described rules p middle more) (sym is.there)
 
-  pub closes-then : (next : GroupCut) (more : List Reply) (new : EngineParts) → Closes rules old.log.gate.place (ends rules start (all_requests whole.closed)) next more new → Closes rules place start (cut_behind whole next) (given ++ more) new
+  pub closes-then : (next : GroupCut) (more : List Reply) (new : EngineParts) → Closes rules old.log.gate.place (ends rules start (all_requests whole.closed)) next more new → Closes rules place start (cut_after whole next) (given ++ more) new
   closes-then next more new then =
       let all = all-groups next.closed in
-      let behind = described rules old.log.gate.place middle next.closed in
+      let after = described rules old.log.gate.place middle next.closed in
       record {
-        replied = ap₂ (λ (a b : List Reply). a ++ b) is.replied then.replied ∙ sym (replies-both groups behind) ∙ sym (ap (λ (g : List Group). all_replies g) all);
-        fit = subst (λ (g : List Group). AllByRecursion GroupFits g) (sym all) (fit-both groups behind is.fit then.fit);
-        there = then.there ∙ ap (λ (p : ℕ). place_after p behind) is.there ∙ sym (place-both place groups behind) ∙ sym (ap (λ (g : List Group). place_after place g) all);
+        replied = ap₂ (λ (a b : List Reply). a ++ b) is.replied then.replied ∙ sym (replies-both groups after) ∙ sym (ap (λ (g : List Group). all_replies g) all);
+        fit = subst (λ (g : List Group). AllByRecursion GroupFits g) (sym all) (fit-both groups after is.fit then.fit);
+        there = then.there ∙ ap (λ (p : ℕ). place_after p after) is.there ∙ sym (place-both place groups after) ∙ sym (ap (λ (g : List Group). place_after place g) all);
         same = then.same;
         within = subst (λ (s : SessionState). IsInGroup s next.rest new.session) (sym (ends-both rules start whole.closed next.closed)) then.within;
       }
 
-  module _ (more : List (List Request)) (told : List Reply) where
-    abbrev behind : List Group
-    behind = described rules old.log.gate.place (ends rules start (all_requests whole.closed)) more
+  module _ (more : List (List Request)) (known : List Reply) where
+    abbrev after : List Group
+    after = described rules old.log.gate.place (ends rules start (all_requests whole.closed)) more
 
     abbrev all : List Group
     all = described rules place start (whole.closed ++ more)
 
-    told-both : (before : List Group) (rest : List Reply) → told ≡ all_replies before ++ rest → given ++ told ≡ all_replies (groups ++ before) ++ rest
-    told-both before rest e = ap₂ (λ (a b : List Reply). a ++ b) is.replied e ∙ sym (append_assoc (all_replies groups) (all_replies before) rest) ∙ ap (λ (l : List Reply). l ++ rest) (sym (replies-both groups before))
+    known-both : (before : List Group) (rest : List Reply) → known ≡ all_replies before ++ rest → given ++ known ≡ all_replies (groups ++ before) ++ rest
+    known-both before rest e = ap₂ (λ (a b : List Reply). a ++ b) is.replied e ∙ sym (append_assoc (all_replies groups) (all_replies before) rest) ∙ ap (λ (l : List Reply). l ++ rest) (sym (replies-both groups before))
 
-    told-all : (before : List Group) → told ≡ all_replies before → given ++ told ≡ all_replies (groups ++ before)
-    told-all before e = ap₂ (λ (a b : List Reply). a ++ b) is.replied e ∙ sym (replies-both groups before)
+    known-all : (before : List Group) → known ≡ all_replies before → given ++ known ≡ all_replies (groups ++ before)
+    known-all before e = ap₂ (λ (a b : List Reply). a ++ b) is.replied e ∙ sym (replies-both groups before)
 
-    group-then : (P : Group → Type 0) → IsUpToGroup P behind told → IsUpToGroup P all (given ++ told)
+    group-then : (P : Group → Type 0) → IsUpToGroup P after known → IsUpToGroup P all (given ++ known)
     group-then P up = record {
       before = groups ++ up.before;
       group = up.group;
       rest = up.rest;
       split = all-groups more ∙ ap (λ (g : List Group). groups ++ g) up.split ∙ sym (append_assoc groups up.before (up.group ∷ up.rest));
-      replied = told-all up.before up.replied;
+      replied = known-all up.before up.replied;
       fit = fit-both groups up.before is.fit up.fit;
       here = up.here;
     }
 
-    some-then : IsUpToSome behind told → IsUpToSome all (given ++ told)
+    some-then : IsUpToSome after known → IsUpToSome all (given ++ known)
     some-then up = record {
       before = groups ++ up.before;
       rest = up.rest;
       split = all-groups more ∙ ap (λ (g : List Group). groups ++ g) up.split ∙ sym (append_assoc groups up.before up.rest);
-      replied = told-all up.before up.replied;
+      replied = known-all up.before up.replied;
     }
 
-    unsaved-then : IsUnsaved behind told → IsUnsaved all (given ++ told)
+    unsaved-then : IsUnsaved after known → IsUnsaved all (given ++ known)
     unsaved-then un = record {
       before = groups ++ un.before;
       group = un.group;
@@ -127,17 +127,17 @@ module _ (rules : Rules) (place : ℕ) (start : SessionState) (whole : GroupCut)
       split = all-groups more ∙ ap (λ (g : List Group). groups ++ g) un.split ∙ sym (append_assoc groups un.before (un.group ∷ []));
       saving = un.saving;
       answers = un.answers;
-      replied = told-both un.before un.held un.replied;
-      fit = subst (λ (g : List Group). AllByRecursion GroupFits g) (sym (all-groups more)) (fit-both groups behind is.fit un.fit);
+      replied = known-both un.before un.held un.replied;
+      fit = subst (λ (g : List Group). AllByRecursion GroupFits g) (sym (all-groups more)) (fit-both groups after is.fit un.fit);
     }
 
-    pub stops-then : (cause : EngineCause) → StopsAt rules old.log.gate.place (ends rules start (all_requests whole.closed)) more told cause → StopsAt rules place start (whole.closed ++ more) (given ++ told) cause
+    pub stops-then : (cause : EngineCause) → StopsAt rules old.log.gate.place (ends rules start (all_requests whole.closed)) more known cause → StopsAt rules place start (whole.closed ++ more) (given ++ known) cause
     stops-then DiskFault stops = ⊎_elim (λ up. inl (group-then CallsDevice up)) (λ un. inr (unsaved-then un)) stops
     stops-then (LogFull need) stops = group-then (NeedsTooMuch need) stops
     stops-then (TooLarge bytes) stops = record {
       unsaved = unsaved-then stops.unsaved;
-      is = stops.is ∙ ap (λ (s : SessionState). slot_len rules s (place_after old.log.gate.place behind)) (sym (ends-both rules start whole.closed more))
-          ∙ ap (λ (p : ℕ). slot_len rules (ends rules start (all_requests (whole.closed ++ more))) p) (ap (λ (p : ℕ). place_after p behind) is.there ∙ sym (place-both place groups behind) ∙ sym (ap (λ (g : List Group). place_after place g) (all-groups more)));
+      is = stops.is ∙ ap (λ (s : SessionState). slot_len rules s (place_after old.log.gate.place after)) (sym (ends-both rules start whole.closed more))
+          ∙ ap (λ (p : ℕ). slot_len rules (ends rules start (all_requests (whole.closed ++ more))) p) (ap (λ (p : ℕ). place_after p after) is.there ∙ sym (place-both place groups after) ∙ sym (ap (λ (g : List Group). place_after place g) (all-groups more)));
       over = stops.over;
     }
     stops-then Ended stops = absurd stops
@@ -146,17 +146,17 @@ module _ (rules : Rules) (place : ℕ) (start : SessionState) (whole : GroupCut)
 -- ---- what the devices stand for
 
 -- what a crash leaves at the first moment
-images-split : (P : List (List ℕ) → Type 0) (front back : List DiskHistory) (device : DiskHistory)
-    → ((image : List ℕ) → IsImage device.now image → (before behind : List (List ℕ)) → AreImages front before → AreImages back behind → P (before ++ (image ∷ behind)))
-    → AllLeave P (front ++ (device ∷ back))
+images-split : (P : List (List ℕ) → Type 0) (prefix back : List DiskHistory) (device : DiskHistory)
+    → ((image : List ℕ) → IsImage device.now image → (before after : List (List ℕ)) → AreImages prefix before → AreImages back after → P (before ++ (image ∷ after)))
+    → AllLeave P (prefix ++ (device ∷ back))
 images-split P [] back device has [] are = absurd are
 images-split P [] back device has (image ∷ images) are = has image are.0 [] images tt are.1
-images-split P (first ∷ front) back device has [] are = absurd are
-images-split P (first ∷ front) back device has (image ∷ images) are = images-split (λ rest. P (image ∷ rest)) front back device (λ own is before behind fronts backs. has own is (image ∷ before) behind (are.0, fronts) backs) images are.1
+images-split P (first ∷ prefix) back device has [] are = absurd are
+images-split P (first ∷ prefix) back device has (image ∷ images) are = images-split (λ rest. P (image ∷ rest)) prefix back device (λ own is before after prefixes backs. has own is (image ∷ before) after (are.0, prefixes) backs) images are.1
 
 run-start : (P : List (List ℕ) → Type 0) (x y : List DiskHistory) → RunLeaves P x y → AllLeave P x
 run-start P x y (rests devices here) = here
-run-start P x y (runs front back end old next run more) = images-split P front back old run.first
+run-start P x y (runs prefix back end old next run more) = images-split P prefix back old run.first
 
 own-image : (P : List ℕ → Type 0) (state : DiskState) → OneImage P state → IsImage state state.seen
 own-image P state one = subst (λ (s : DiskState). IsImage s state.seen) (sym one.one) (record { no_shorter = omega arith; no_longer = omega arith; stays = λ place below is. refl })
@@ -173,13 +173,13 @@ kept-executes text history longer b c (l ∷ x ∷ y ∷ d ∷ devices) w is kee
 
 -- the first step keeps the longer history too
 pub history-then : (text : List ℕ) (history more last : List Txn) (a b c : EngineParts) (x y z : List (Option DiskHistory)) → rules_of b.session ≡ rules_of a.session → OnlyGrows a b
-    → TellsWhere (StandsOn text history a) (KeepsHistory text (history ++ more) a b) x y → TellsWhere (StandsOn text history a) (λ was is. StandsOn text (history ++ more) b is) x y
-    → TellsWhere (StandsOn text (history ++ more) b) (KeepsHistory text ((history ++ more) ++ last) b c) y z → TellsWhere (StandsOn text history a) (KeepsHistory text (history ++ (more ++ last)) a c) x z
+    → WhileAllKnown (StandsOn text history a) (KeepsHistory text (history ++ more) a b) x y → WhileAllKnown (StandsOn text history a) (λ was is. StandsOn text (history ++ more) b is) x y
+    → WhileAllKnown (StandsOn text (history ++ more) b) (KeepsHistory text ((history ++ more) ++ last) b c) y z → WhileAllKnown (StandsOn text history a) (KeepsHistory text (history ++ (more ++ last)) a c) x z
 history-then text history more last a b c x y z same grown first stands second =
-    told-then (StandsOn text history a) (StandsOn text (history ++ more) b) (KeepsHistory text (history ++ more) a b) (KeepsHistory text ((history ++ more) ++ last) b c) (KeepsHistory text (history ++ (more ++ last)) a c)
+    known-then (StandsOn text history a) (StandsOn text (history ++ more) b) (KeepsHistory text (history ++ more) a b) (KeepsHistory text ((history ++ more) ++ last) b c) (KeepsHistory text (history ++ (more ++ last)) a c)
     (λ u v w p r q s. subst (λ (h : List Txn). KeepsHistory text h a c u w) (append_assoc history more last)
     (keeps-then text ((history ++ more) ++ last) a b c u v w catalogue_same grown.durable grown.saved (keeps-longer text (history ++ more) last a b u v (executes v w q s) r) s))
-    (all_told x) (all_told y) (all_told z) first stands second
+    (all_known x) (all_known y) (all_known z) first stands second
   where
     catalogue_same : b.session.catalogue ≡ a.session.catalogue
     catalogue_same = ap (λ (r : Rules). r.catalogue) same
@@ -188,8 +188,8 @@ history-then text history more last a b c x y z same grown first stands second =
     executes v w q s = subst (λ (cat : CatalogueState). IsHistory cat ((history ++ more) ++ last)) catalogue_same (kept-executes text (history ++ more) ((history ++ more) ++ last) b c v w q s)
 
 pub stands-then : (text : List ℕ) (history more last : List Txn) (a b c : EngineParts) (x y z : List (Option DiskHistory))
-    → TellsWhere (StandsOn text history a) (λ was is. StandsOn text (history ++ more) b is) x y → TellsWhere (StandsOn text (history ++ more) b) (λ was is. StandsOn text ((history ++ more) ++ last) c is) y z
-    → TellsWhere (StandsOn text history a) (λ was is. StandsOn text (history ++ (more ++ last)) c is) x z
+    → WhileAllKnown (StandsOn text history a) (λ was is. StandsOn text (history ++ more) b is) x y → WhileAllKnown (StandsOn text (history ++ more) b) (λ was is. StandsOn text ((history ++ more) ++ last) c is) y z
+    → WhileAllKnown (StandsOn text history a) (λ was is. StandsOn text (history ++ (more ++ last)) c is) x z
 stands-then text history more last a b c x y z first second =
-    told-then (StandsOn text history a) (StandsOn text (history ++ more) b) (λ was is. StandsOn text (history ++ more) b is) (λ was is. StandsOn text ((history ++ more) ++ last) c is) (λ was is. StandsOn text (history ++ (more ++ last)) c is)
-    (λ u v w p r q s. subst (λ (h : List Txn). StandsOn text h c w) (append_assoc history more last) s) (all_told x) (all_told y) (all_told z) first first second
+    known-then (StandsOn text history a) (StandsOn text (history ++ more) b) (λ was is. StandsOn text (history ++ more) b is) (λ was is. StandsOn text ((history ++ more) ++ last) c is) (λ was is. StandsOn text (history ++ (more ++ last)) c is)
+    (λ u v w p r q s. subst (λ (h : List Txn). StandsOn text h c w) (append_assoc history more last) s) (all_known x) (all_known y) (all_known z) first first second

@@ -4,7 +4,7 @@ pub mod CommitLemmas
 pub mod DeviceLemmas
 pub mod StandingLemmas
 pub mod SavingLemmas
-pub mod ToldLemmas
+pub mod KnownLemmas
 pub mod SaveLemmas
 pub mod MoveLemmas
 pub mod GroupLemmas

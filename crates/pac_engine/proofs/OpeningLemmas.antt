@@ -6,7 +6,7 @@ use Rattle.pac_ops.specs.declared.transaction.Txn.{Txn}
 use Rattle.pac_outside.specs.Disk.{DiskHistory}
 use Rattle.pac_types.specs.Fits.{TxnFits}
 use Rattle.pac_log.specs.Logs.{all_txns}
-use Rattle.pac_log.specs.Places.{IsBehind}
+use Rattle.pac_log.specs.Places.{IsAfter}
 use Rattle.pac_log.proofs.OneLog.{one_log}
 use Rattle.pac_store.specs.Stands.{StandsFor}
 use Rattle.pac_engine.specs.declared.parts.EngineParts.{EngineParts}
@@ -16,17 +16,17 @@ pub opened-stands : (text : List ℕ) (history : List Txn) (least : ℕ) (engine
 opened-stands text history least engine l a b stands opened =
     let cat = engine.session.catalogue in
     let one = one_log opened.text text cat cat opened.batches stands.batches l.now.seen opened.log stands.log in
-    let behind : IsBehind text stands.batches engine.log.gate = subst (λ (bs : List (List Txn)). IsBehind text bs engine.log.gate) one.2 (subst (λ (t : List ℕ). IsBehind t opened.batches engine.log.gate) one.0 opened.behind) in
-    let front : take engine.log.gate.txns history ≡ all_txns stands.batches = ap (λ (h : List Txn). take engine.log.gate.txns h) stands.front ∙ take_at (all_txns stands.batches) stands.later engine.log.gate.txns (sym behind.txns) in
+    let after : IsAfter text stands.batches engine.log.gate = subst (λ (bs : List (List Txn)). IsAfter text bs engine.log.gate) one.2 (subst (λ (t : List ℕ). IsAfter t opened.batches engine.log.gate) one.0 opened.after) in
+    let prefix : take engine.log.gate.txns history ≡ all_txns stands.batches = ap (λ (h : List Txn). take engine.log.gate.txns h) stands.prefix ∙ take_at (all_txns stands.batches) stands.later engine.log.gate.txns (sym after.txns) in
     record {
       batches = stands.batches;
       log = record { one = opened.log_settled; has = stands.log };
-      behind = behind;
+      after = after;
       slot_a = record { one = opened.a_settled; has = stands.slot_a };
       slot_b = record { one = opened.b_settled; has = stands.slot_b };
       known_a = opened.known_a;
       known_b = opened.known_b;
       fit = All-take (TxnFits cat) engine.log.gate.txns history stands.executes.fit;
       ends = opened.ends;
-      split = front ∙ sym (append-nil (all_txns stands.batches)) ∙ ap (λ (t : List Txn). all_txns stands.batches ++ t) (sym opened.none);
+      split = prefix ∙ sym (append-nil (all_txns stands.batches)) ∙ ap (λ (t : List Txn). all_txns stands.batches ++ t) (sym opened.none);
     }

@@ -4,8 +4,8 @@ use Rattle.std.specs.Option.{option_or}
 use Rattle.std.proofs.lemmas.Bool.{ltb-false}
 use Rattle.pac_value.specs.State.{Tables, keys_of}
 use Rattle.pac_ops.specs.declared.transaction.Txn.{Txn}
-use Rattle.pac_outside.specs.Disk.{DiskHistory, LeavesOnly, BothTell}
-use Rattle.pac_outside.specs.Devices.{all_told}
+use Rattle.pac_outside.specs.Disk.{DiskHistory, LeavesOnly, BothKnown}
+use Rattle.pac_outside.specs.Devices.{all_known}
 use Rattle.pac_outside.specs.GateByte.{OneImage}
 use Rattle.pac_types.specs.Execution.{first_over, if_over}
 use Rattle.pac_types.specs.Fits.{FitTables}
@@ -18,9 +18,9 @@ use Rattle.pac_check.specs.Replacing.{HasByte, IsOldShutOrNew}
 use Rattle.pac_check.specs.Saved.{checkpoint_of}
 use Rattle.pac_check.specs.SlotStates.{HoldsCheckpoint, HoldsRows, by_slot, saved_txns, spare_of}
 use Rattle.pac_engine.specs.declared.parts.EngineParts.{EngineParts}
-use Rattle.pac_engine.specs.Standing.{KeepsHistory, StandsOn, TellsWhere}
+use Rattle.pac_engine.specs.Standing.{KeepsHistory, StandsOn, WhileAllKnown}
 use Rattle.pac_check.specs.SlotStates.{newest_of}
-use Rattle.pac_engine.proofs.ToldLemmas.{NewIn, Replacing, refused-keeps, unsaved-keeps}
+use Rattle.pac_engine.proofs.KnownLemmas.{NewIn, Replacing, refused-keeps, unsaved-keeps}
 
 -- ---- no table is over the limit
 
@@ -66,30 +66,30 @@ module _ (e : EngineParts) (catalogue : CatalogueState) (txns place : ℕ) (held
       → IsCheckpoint e.session.catalogue.tables (checkpoint_of (length e.session.catalogue.tables) (head_with e.log.gate.txns e.log.gate.place) e.session.tables)
   form-here form = subst (λ (k : Checkpoint). IsCheckpoint e.session.catalogue.tables k) same-checkpoint (subst (λ (c : CatalogueState). IsCheckpoint c.tables (checkpoint_of (length catalogue.tables) (head_with txns place) held)) same_catalogue form)
 
-  pub any-here : (H : Type 0) (old new : Option DiskHistory) → (H → BothTell (λ o n. LeavesOnly (IsOldShutOrNew o.now.seen (checkpoint_bytes (checkpoint_of (length catalogue.tables) (head_with txns place) held))) o n) old new)
-      → H → BothTell (Replacing e) old new
-  any-here H old new any = subst (λ (k : Checkpoint). H → BothTell (λ o n. LeavesOnly (IsOldShutOrNew o.now.seen (checkpoint_bytes k)) o n) old new) same-checkpoint any
+  pub any-here : (H : Type 0) (old new : Option DiskHistory) → (H → BothKnown (λ o n. LeavesOnly (IsOldShutOrNew o.now.seen (checkpoint_bytes (checkpoint_of (length catalogue.tables) (head_with txns place) held))) o n) old new)
+      → H → BothKnown (Replacing e) old new
+  any-here H old new any = subst (λ (k : Checkpoint). H → BothKnown (λ o n. LeavesOnly (IsOldShutOrNew o.now.seen (checkpoint_bytes k)) o n) old new) same-checkpoint any
 
-  pub done-here : (old new : Option DiskHistory) → BothTell (λ o n. OneImage (HoldsRows catalogue.tables (head_with txns place) held) n.now) old new → BothTell (NewIn e) old new
-  done-here old new done = subst (λ (k : Checkpoint). BothTell (λ o n. OneImage (HoldsCheckpoint e.session.catalogue.tables k) n.now) old new) same-checkpoint
-      (subst (λ (c : CatalogueState). BothTell (λ o n. OneImage (HoldsCheckpoint c.tables (checkpoint_of (length catalogue.tables) (head_with txns place) held)) n.now) old new) same_catalogue done)
+  pub done-here : (old new : Option DiskHistory) → BothKnown (λ o n. OneImage (HoldsRows catalogue.tables (head_with txns place) held) n.now) old new → BothKnown (NewIn e) old new
+  done-here old new done = subst (λ (k : Checkpoint). BothKnown (λ o n. OneImage (HoldsCheckpoint e.session.catalogue.tables k) n.now) old new) same-checkpoint
+      (subst (λ (c : CatalogueState). BothKnown (λ o n. OneImage (HoldsCheckpoint c.tables (checkpoint_of (length catalogue.tables) (head_with txns place) held)) n.now) old new) same_catalogue done)
 
 -- ---- a save that fails
 
 unchanged : (text : List ℕ) (history : List Txn) (e : EngineParts) (l a b a' b' : Option DiskHistory) (slots : Slots) → (slots ≡ e.slots) × (a' ≡ a) × (b' ≡ b)
-    → TellsWhere (StandsOn text history e) (KeepsHistory text (history ++ []) e (record e { slots = slots })) (l ∷ a ∷ b ∷ []) (l ∷ a' ∷ b' ∷ [])
+    → WhileAllKnown (StandsOn text history e) (KeepsHistory text (history ++ []) e (record e { slots = slots })) (l ∷ a ∷ b ∷ []) (l ∷ a' ∷ b' ∷ [])
 unchanged text history e l a b a' b' slots same =
-    subst (λ (y : Option DiskHistory). TellsWhere (StandsOn text history e) (KeepsHistory text (history ++ []) e (record e { slots = slots })) (l ∷ a ∷ b ∷ []) (l ∷ a' ∷ y ∷ [])) (sym same.2)
-    (subst (λ (x : Option DiskHistory). TellsWhere (StandsOn text history e) (KeepsHistory text (history ++ []) e (record e { slots = slots })) (l ∷ a ∷ b ∷ []) (l ∷ x ∷ b ∷ [])) (sym same.1)
-    (refused-keeps text history e (record e { slots = slots }) (all_told (l ∷ a ∷ b ∷ [])) refl (ap (λ (s : Slots). saved_txns (newest_of s)) same.0)))
+    subst (λ (y : Option DiskHistory). WhileAllKnown (StandsOn text history e) (KeepsHistory text (history ++ []) e (record e { slots = slots })) (l ∷ a ∷ b ∷ []) (l ∷ a' ∷ y ∷ [])) (sym same.2)
+    (subst (λ (x : Option DiskHistory). WhileAllKnown (StandsOn text history e) (KeepsHistory text (history ++ []) e (record e { slots = slots })) (l ∷ a ∷ b ∷ []) (l ∷ x ∷ b ∷ [])) (sym same.1)
+    (refused-keeps text history e (record e { slots = slots }) (all_known (l ∷ a ∷ b ∷ [])) refl (ap (λ (s : Slots). saved_txns (newest_of s)) same.0)))
 
 pub save-fails : (text : List ℕ) (history : List Txn) (e : EngineParts) → e.session.txns ≡ [] → FitTables e.session.catalogue.tables e.session.tables → (l a b a' b' : Option DiskHistory)
-    → (HasByte (by_slot (spare_of e.slots) e.slots.a e.slots.b) → BothTell (Replacing e) (by_slot (spare_of e.slots) a b) (by_slot (spare_of e.slots) a' b'))
+    → (HasByte (by_slot (spare_of e.slots) e.slots.a e.slots.b) → BothKnown (Replacing e) (by_slot (spare_of e.slots) a b) (by_slot (spare_of e.slots) a' b'))
     → by_slot (spare_of e.slots) b' a' ≡ by_slot (spare_of e.slots) b a
     → (cause : SaveError) (slots : Slots)
     → (cause ≡ save.DiskFault → IsCheckpoint e.session.catalogue.tables (checkpoint_of (length e.session.catalogue.tables) (head_with e.log.gate.txns e.log.gate.place) e.session.tables) × (slots ≡ record { a = e.slots.a; b = e.slots.b; has_failed = true }))
     → ((cause ≡ save.DiskFault → ⊥) → (slots ≡ e.slots) × (a' ≡ a) × (b' ≡ b))
-    → TellsWhere (StandsOn text history e) (KeepsHistory text (history ++ []) e (record e { slots = slots })) (l ∷ a ∷ b ∷ []) (l ∷ a' ∷ b' ∷ [])
+    → WhileAllKnown (StandsOn text history e) (KeepsHistory text (history ++ []) e (record e { slots = slots })) (l ∷ a ∷ b ∷ []) (l ∷ a' ∷ b' ∷ [])
 save-fails text history e none fit l a b a' b' any other save.DiskFault slots failed refused =
     let facts = failed refl in
     unsaved-keeps text history e none fit l a b a' b' any other facts.0 (record e { slots = slots }) refl (ap (λ (s : Slots). saved_txns (newest_of s)) facts.1)

@@ -25,7 +25,7 @@ use Rattle.pac_check.specs.Saved.{checkpoint_of}
 use Rattle.pac_check.specs.SlotStates.{HoldsRows, IsSlot, by_slot, info_of, newest_of, saved_txns, spare_beside, spare_of, with_more}
 use Rattle.pac_check.proofs.SlotLemmas.{begins, read_held}
 use Rattle.pac_store.specs.Images.{Images}
-use Rattle.pac_store.specs.Stands.{EndsWith, HoldsSaved, IsShutOrFront}
+use Rattle.pac_store.specs.Stands.{EndsWith, HoldsSaved, IsShutOrPrefix}
 use Rattle.pac_store.proofs.StandsLemmas.{newest-one}
 use Rattle.pac_engine.specs.declared.parts.EngineParts.{EngineParts}
 use Rattle.pac_engine.specs.Moves.{saved_parts}
@@ -88,12 +88,12 @@ never-empty tables gate bytes known = begins-empty (begins tables Empty (gate �
     begins-empty : gate ∷ bytes ≡ [] → ⊥
     begins-empty e = cc
 
--- a slot that is shut, or open with a front, has a byte
-pub has-byte : (text : List ℕ) (catalogue : CatalogueState) (batches : List (List Txn)) (state : SlotState) (image : List ℕ) → IsShutOrFront text catalogue batches image → IsSlot catalogue.tables state image → HasByte state
+-- a slot that is shut, or open with a prefix, has a byte
+pub has-byte : (text : List ℕ) (catalogue : CatalogueState) (batches : List (List Txn)) (state : SlotState) (image : List ℕ) → IsShutOrPrefix text catalogue batches image → IsSlot catalogue.tables state image → HasByte state
 has-byte text catalogue batches Closed image is known = tt
 has-byte text catalogue batches (Open head) image is known = tt
 has-byte text catalogue batches Empty [] (inl shut) known = let no : [] ≡ shut.gate ∷ shut.rest = shut.split in absurd cc
-has-byte text catalogue batches Empty [] (inr front) known = let no : [] ≡ 1 ∷ (checkpoint_bytes (checkpoint_of (length catalogue.tables) front.head front.held) ++ front.rows.opens.rest) = front.rows.opens.split in absurd cc
+has-byte text catalogue batches Empty [] (inr prefix) known = let no : [] ≡ 1 ∷ (checkpoint_bytes (checkpoint_of (length catalogue.tables) prefix.head prefix.held) ++ prefix.rows.opens.rest) = prefix.rows.opens.split in absurd cc
 has-byte text catalogue batches Empty (gate ∷ bytes) is known = absurd (never-empty catalogue.tables gate bytes known)
 
 module _ (text : List ℕ) (history : List Txn) (e : EngineParts) (l a b : DiskHistory) (is : EngineStands text history e l a b) (none : e.session.txns ≡ []) (fit : FitTables e.session.catalogue.tables e.session.tables) where
@@ -103,14 +103,14 @@ module _ (text : List ℕ) (history : List Txn) (e : EngineParts) (l a b : DiskH
   whole : history ≡ all_txns is.batches
   whole = is.split ∙ ap (λ (t : List Txn). all_txns is.batches ++ t) none ∙ append-nil (all_txns is.batches)
 
-  -- the new checkpoint is one of the log's front
-  new-front : (image : List ℕ) → HoldsRows e.session.catalogue.tables (head_with e.log.gate.txns e.log.gate.place) e.session.tables image → IsShutOrFront text e.session.catalogue is.batches image
-  new-front image rows = inr (record {
+  -- the new checkpoint is one of the log's prefix
+  new-prefix : (image : List ℕ) → HoldsRows e.session.catalogue.tables (head_with e.log.gate.txns e.log.gate.place) e.session.tables image → IsShutOrPrefix text e.session.catalogue is.batches image
+  new-prefix image rows = inr (record {
     head = head_with e.log.gate.txns e.log.gate.place;
     held = e.session.tables;
     fit = fit;
     rows = rows;
-    gate = subst (λ (bs : List (List Txn)). HasGate text bs e.log.gate.place e.log.gate.txns) (append-nil is.batches) (next_is_gate text is.batches [] e.log.gate is.behind);
+    gate = subst (λ (bs : List (List Txn)). HasGate text bs e.log.gate.place e.log.gate.txns) (append-nil is.batches) (next_is_gate text is.batches [] e.log.gate is.after);
     ends = subst (λ (t : List Txn). EndsWith e.session.catalogue t e.session.tables) (whole ∙ sym (take_all e.log.gate.txns (all_txns is.batches) (omega (arith, durable-is text history e l a b is)))) is.ends;
   })
 
@@ -118,12 +118,12 @@ module _ (text : List ℕ) (history : List Txn) (e : EngineParts) (l a b : DiskH
   Left images = StandsWith text e.session.catalogue history (durable_of e) (saved_of e) images
 
   -- the slots, where the newest one stays
-  stays : (x y : List ℕ) → IsShutOrFront text e.session.catalogue is.batches x → IsShutOrFront text e.session.catalogue is.batches y → HoldsSaved e.session.catalogue (saved_of e) (three l.now.seen x y) → Left (three l.now.seen x y)
+  stays : (x y : List ℕ) → IsShutOrPrefix text e.session.catalogue is.batches x → IsShutOrPrefix text e.session.catalogue is.batches y → HoldsSaved e.session.catalogue (saved_of e) (three l.now.seen x y) → Left (three l.now.seen x y)
   stays x y is_x is_y saves = stands-at text history e l a b is is.batches e.session.txns (three l.now.seen x y) is.log.has is.split (omega (arith, durable-is text history e l a b is)) is_x is_y saves
 
   module _ (form : IsCheckpoint e.session.catalogue.tables (checkpoint_of (length e.session.catalogue.tables) (head_with e.log.gate.txns e.log.gate.place) e.session.tables)) where
-    replaced : (old image : List ℕ) → IsShutOrFront text e.session.catalogue is.batches old → IsOldShutOrNew old bytes image → IsShutOrFront text e.session.catalogue is.batches image
-    replaced old image was which = ⊎_elim (λ same. subst (λ (i : List ℕ). IsShutOrFront text e.session.catalogue is.batches i) (sym same) was) (λ other. ⊎_elim (λ shut. inl shut) (λ opens. new-front image (record { form = form; opens = opens })) other) which
+    replaced : (old image : List ℕ) → IsShutOrPrefix text e.session.catalogue is.batches old → IsOldShutOrNew old bytes image → IsShutOrPrefix text e.session.catalogue is.batches image
+    replaced old image was which = ⊎_elim (λ same. subst (λ (i : List ℕ). IsShutOrPrefix text e.session.catalogue is.batches i) (sym same) was) (λ other. ⊎_elim (λ shut. inl shut) (λ opens. new-prefix image (record { form = form; opens = opens })) other) which
 
     pub save-a-run : spare_of e.slots ≡ A → (n : DiskHistory) → LeavesOnly (IsOldShutOrNew a.now.seen bytes) a n → RunLeaves (MayLeave text e.session.catalogue history e) (l ∷ a ∷ b ∷ []) (l ∷ n ∷ b ∷ [])
     save-a-run spare n run = a-runs Left l a n b
@@ -157,8 +157,8 @@ module _ (text : List ℕ) (history : List Txn) (e : EngineParts) (l a b : DiskH
   save-a-stands n new = record {
     batches = is.batches;
     log = is.log;
-    behind = is.behind;
-    slot_a = record { one = new.one; has = new-front n.now.seen new.has };
+    after = is.after;
+    slot_a = record { one = new.one; has = new-prefix n.now.seen new.has };
     slot_b = is.slot_b;
     known_a = read_held e.session.catalogue.tables (tables-few text history e l a b is) n.now.seen (checkpoint_of (length e.session.catalogue.tables) (head_with e.log.gate.txns e.log.gate.place) e.session.tables) new.has;
     known_b = is.known_b;
@@ -172,9 +172,9 @@ module _ (text : List ℕ) (history : List Txn) (e : EngineParts) (l a b : DiskH
   save-b-stands n new = record {
     batches = is.batches;
     log = is.log;
-    behind = is.behind;
+    after = is.after;
     slot_a = is.slot_a;
-    slot_b = record { one = new.one; has = new-front n.now.seen new.has };
+    slot_b = record { one = new.one; has = new-prefix n.now.seen new.has };
     known_a = is.known_a;
     known_b = read_held e.session.catalogue.tables (tables-few text history e l a b is) n.now.seen (checkpoint_of (length e.session.catalogue.tables) (head_with e.log.gate.txns e.log.gate.place) e.session.tables) new.has;
     fit = is.fit;

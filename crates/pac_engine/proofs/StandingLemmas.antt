@@ -16,7 +16,7 @@ use Rattle.pac_types.specs.Typing.{CatalogueState}
 use Rattle.pac_serial.specs.declared.execute.ExecError.{ExecError}
 use Rattle.pac_request.specs.declared.request.Request.{Request}
 use Rattle.pac_log.specs.Logs.{HoldsLog, all_txns}
-use Rattle.pac_log.specs.Places.{IsBehind}
+use Rattle.pac_log.specs.Places.{IsAfter}
 use Rattle.pac_log.proofs.LogLemmas.{all_txns-append}
 use Rattle.pac_log.proofs.OneGate.{few, stays}
 use Rattle.pac_check.specs.declared.head.Head.{Head}
@@ -30,7 +30,7 @@ use Rattle.pac_check.specs.declared.state.SlotState.TheVariants.{Empty, Closed, 
 use Rattle.pac_check.specs.SlotStates.{info_of, newest_of, saved_txns, IsSlot}
 use Rattle.pac_check.specs.Saved.{checkpoint_of}
 use Rattle.pac_store.specs.Images.{Images}
-use Rattle.pac_store.specs.Stands.{EndsWith, HasSaved, HoldsSaved, IsHistory, IsShutOrFront}
+use Rattle.pac_store.specs.Stands.{EndsWith, HasSaved, HoldsSaved, IsHistory, IsShutOrPrefix}
 use Rattle.pac_store.proofs.StandsLemmas.{fewer, fewer-saved, longer, few-tables, newest-one, readable}
 use Rattle.pac_session.specs.Session.{Rules, SessionState, commits, commits_asked, committed_by, state_after, txn_of, txn_outcome}
 use Rattle.pac_session.specs.Open.{rules_of, state_now}
@@ -41,27 +41,27 @@ use Rattle.pac_engine.specs.Moves.{committed_parts, with_request}
 use Rattle.pac_engine.specs.Standing.{EngineStands, KeepsHistory, MayLeave, StandsWith, durable_of, saved_of}
 use Rattle.pac_engine.proofs.DeviceLemmas.{three, image-of, of-three, weaken-three, log-runs}
 
--- ---- a log with the transactions of a group behind it
+-- ---- a log with the transactions of a group after it
 
 pub all-with : (batches : List (List Txn)) (txns : List Txn) → all_txns (with_batch batches txns) ≡ all_txns batches ++ txns
 all-with batches [] = sym (append-nil (all_txns batches))
 all-with batches (txn ∷ txns) = all_txns-append batches ((txn ∷ txns) ∷ []) ∙ ap (λ (l : List Txn). all_txns batches ++ l) (append-nil (txn ∷ txns))
 
--- a checkpoint of a log's front is one of a longer log's
-pub front-more : (text : List ℕ) (catalogue : CatalogueState) (batches : List (List Txn)) (txns : List Txn) (image : List ℕ) → IsShutOrFront text catalogue batches image → IsShutOrFront text catalogue (with_batch batches txns) image
-front-more text catalogue batches [] image is = is
-front-more text catalogue batches (txn ∷ txns) image (inl shut) = inl shut
-front-more text catalogue batches (txn ∷ txns) image (inr front) =
+-- a checkpoint of a log's prefix is one of a longer log's
+pub prefix-more : (text : List ℕ) (catalogue : CatalogueState) (batches : List (List Txn)) (txns : List Txn) (image : List ℕ) → IsShutOrPrefix text catalogue batches image → IsShutOrPrefix text catalogue (with_batch batches txns) image
+prefix-more text catalogue batches [] image is = is
+prefix-more text catalogue batches (txn ∷ txns) image (inl shut) = inl shut
+prefix-more text catalogue batches (txn ∷ txns) image (inr prefix) =
     let more : List (List Txn) = (txn ∷ txns) ∷ [] in
-    let same : take front.head.txns (all_txns (batches ++ more)) ≡ take front.head.txns (all_txns batches)
-    = ap (λ (l : List Txn). take front.head.txns l) (all_txns-append batches more) ∙ take-append-le front.head.txns (all_txns batches) (all_txns more) (few text batches front.head.place front.head.txns front.gate) in
+    let same : take prefix.head.txns (all_txns (batches ++ more)) ≡ take prefix.head.txns (all_txns batches)
+    = ap (λ (l : List Txn). take prefix.head.txns l) (all_txns-append batches more) ∙ take-append-le prefix.head.txns (all_txns batches) (all_txns more) (few text batches prefix.head.place prefix.head.txns prefix.gate) in
     inr (record {
-      head = front.head;
-      held = front.held;
-      fit = front.fit;
-      rows = front.rows;
-      gate = stays text batches more front.head.place front.head.txns front.gate;
-      ends = subst (λ (l : List Txn). EndsWith catalogue l front.held) (sym same) front.ends;
+      head = prefix.head;
+      held = prefix.held;
+      fit = prefix.fit;
+      rows = prefix.rows;
+      gate = stays text batches more prefix.head.place prefix.head.txns prefix.gate;
+      ends = subst (λ (l : List Txn). EndsWith catalogue l prefix.held) (sym same) prefix.ends;
     })
 
 -- ---- what is saved
@@ -76,15 +76,15 @@ some-open slot (Open head) info e = let same : info ≡ record { slot = slot; tx
 
 module _ (text : List ℕ) (catalogue : CatalogueState) (few_tables : length catalogue.tables < 65536) (batches : List (List Txn)) where
   -- an open slot has a checkpoint with the number that is known of it
-  pub open-saved : (image : List ℕ) (state : SlotState) → IsShutOrFront text catalogue batches image → IsSlot catalogue.tables state image → (slot : SlotName) (info : SlotInfo) → info_of slot state ≡ Some info → HasSaved catalogue info.txns image
+  pub open-saved : (image : List ℕ) (state : SlotState) → IsShutOrPrefix text catalogue batches image → IsSlot catalogue.tables state image → (slot : SlotName) (info : SlotInfo) → info_of slot state ≡ Some info → HasSaved catalogue info.txns image
   open-saved image state is known slot info e =
       let read = readable text catalogue few_tables batches image is in
       let found = some-open slot state info e in
-      let front = read.front found.0 (same-state read.state state (sym read.is ∙ known) ∙ found.1) in
-      record { checkpoint = checkpoint_of (length catalogue.tables) found.0 front.0; holds = front.2; enough = omega (arith, found.2) }
+      let prefix = read.prefix found.0 (same-state read.state state (sym read.is ∙ known) ∙ found.1) in
+      record { checkpoint = checkpoint_of (length catalogue.tables) found.0 prefix.0; holds = prefix.2; enough = omega (arith, found.2) }
 
   -- so the newest slot has one
-  pub saved-now : (slots : Slots) (images : Images) → IsShutOrFront text catalogue batches images.slot_a → IsShutOrFront text catalogue batches images.slot_b
+  pub saved-now : (slots : Slots) (images : Images) → IsShutOrPrefix text catalogue batches images.slot_a → IsShutOrPrefix text catalogue batches images.slot_b
       → IsSlot catalogue.tables slots.a images.slot_a → IsSlot catalogue.tables slots.b images.slot_b → HoldsSaved catalogue (saved_txns (newest_of slots)) images
   saved-now slots images is_a is_b known_a known_b = go (newest_of slots) refl
     where
@@ -114,13 +114,13 @@ module _ (text : List ℕ) (history : List Txn) (e : EngineParts) (l a b : DiskH
   executes-it = record { fit = is.fit; held = e.session.tables; ends = is.ends }
 
   pub durable-is : durable_of e ≡ length (all_txns is.batches)
-  durable-is = is.behind.txns
+  durable-is = is.after.txns
 
-  -- the log has a front of the history, and each slot is shut or has a checkpoint of that
+  -- the log has a prefix of the history, and each slot is shut or has a checkpoint of that
   pub stands-at : (batches : List (List Txn)) (later : List Txn) (images : Images) → HoldsLog text cat batches images.log → history ≡ all_txns batches ++ later → durable_of e ≤ length (all_txns batches)
-      → IsShutOrFront text cat batches images.slot_a → IsShutOrFront text cat batches images.slot_b → HoldsSaved cat (saved_of e) images → Kept images
-  stands-at batches later images log front enough is_a is_b saves = record {
-    stands = record { executes = executes-it; batches = batches; log = log; later = later; front = front; enough = enough; slot_a = is_a; slot_b = is_b };
+      → IsShutOrPrefix text cat batches images.slot_a → IsShutOrPrefix text cat batches images.slot_b → HoldsSaved cat (saved_of e) images → Kept images
+  stands-at batches later images log prefix enough is_a is_b saves = record {
+    stands = record { executes = executes-it; batches = batches; log = log; later = later; prefix = prefix; enough = enough; slot_a = is_a; slot_b = is_b };
     saves = saves;
   }
 
@@ -160,7 +160,7 @@ module _ (text : List ℕ) (history : List Txn) (e : EngineParts) (l a b : DiskH
   old-or-new i which = ⊎_elim
       (λ old. stands-at text history e l a b is is.batches e.session.txns (three i a.now.seen b.now.seen) old is.split (omega (arith, durable-is text history e l a b is)) is.slot_a.has is.slot_b.has (saved-here text history e l a b is i))
       (λ new. stands-at text history e l a b is more [] (three i a.now.seen b.now.seen) new more-split more-enough
-      (front-more text e.session.catalogue is.batches e.session.txns a.now.seen is.slot_a.has) (front-more text e.session.catalogue is.batches e.session.txns b.now.seen is.slot_b.has) (saved-here text history e l a b is i)) which
+      (prefix-more text e.session.catalogue is.batches e.session.txns a.now.seen is.slot_a.has) (prefix-more text e.session.catalogue is.batches e.session.txns b.now.seen is.slot_b.has) (saved-here text history e l a b is i)) which
 
   pub commit-run : RunLeaves (MayLeave text e.session.catalogue history e) (l ∷ a ∷ b ∷ []) (n ∷ a ∷ b ∷ [])
   commit-run = log-runs Left l n a b
@@ -174,14 +174,14 @@ module _ (text : List ℕ) (history : List Txn) (e : EngineParts) (l a b : DiskH
     end = leave-same text e.session.catalogue history e now (n ∷ a ∷ b ∷ []) durable saved (run_end (MayLeave text e.session.catalogue history e) (l ∷ a ∷ b ∷ []) (n ∷ a ∷ b ∷ []) commit-run);
   }
 
-  module _ (added : HasAdded text e.session.catalogue is.batches e.session.txns l n) (behind : IsBehind text more (gate_past e.session.txns e.log.gate)) where
+  module _ (added : HasAdded text e.session.catalogue is.batches e.session.txns l n) (after : IsAfter text more (gate_past e.session.txns e.log.gate)) where
     pub commit-stands : EngineStands text history (committed_parts e) n a b
     commit-stands = record {
       batches = more;
       log = added is.log;
-      behind = behind;
-      slot_a = record { one = is.slot_a.one; has = front-more text e.session.catalogue is.batches e.session.txns a.now.seen is.slot_a.has };
-      slot_b = record { one = is.slot_b.one; has = front-more text e.session.catalogue is.batches e.session.txns b.now.seen is.slot_b.has };
+      after = after;
+      slot_a = record { one = is.slot_a.one; has = prefix-more text e.session.catalogue is.batches e.session.txns a.now.seen is.slot_a.has };
+      slot_b = record { one = is.slot_b.one; has = prefix-more text e.session.catalogue is.batches e.session.txns b.now.seen is.slot_b.has };
       known_a = is.known_a;
       known_b = is.known_b;
       fit = is.fit;
@@ -209,11 +209,11 @@ module _ (text : List ℕ) (history : List Txn) (e : EngineParts) (asked : Reque
 
   pub asked-stands : (l a b : DiskHistory) → EngineStands text history e l a b → EngineStands text (history ++ asks) (with_request asked e) l a b
   asked-stands l a b is =
-      let long : 1 + length history ≡ e.session.before + length e.session.txns + 1 = omega (arith, ap (λ (t : List Txn). length t) is.split, length-append (all_txns is.batches) e.session.txns, is.behind.txns, counted) in
+      let long : 1 + length history ≡ e.session.before + length e.session.txns + 1 = omega (arith, ap (λ (t : List Txn). length t) is.split, length-append (all_txns is.batches) e.session.txns, is.after.txns, counted) in
       record {
         batches = is.batches;
         log = is.log;
-        behind = is.behind;
+        after = is.after;
         slot_a = is.slot_a;
         slot_b = is.slot_b;
         known_a = is.known_a;

@@ -7,7 +7,7 @@ use Rattle.std.proofs.lemmas.List.{append-nil}
 use Rattle.pac_ops.specs.declared.transaction.Txn.{Txn}
 use Rattle.pac_ops.specs.declared.transaction.Txn.TheVariants.{Call, AdHoc}
 use Rattle.pac_outside.specs.Disk.{DiskHistory}
-use Rattle.pac_outside.specs.Devices.{all_told, each}
+use Rattle.pac_outside.specs.Devices.{all_known, each}
 use Rattle.pac_outside.specs.declared.devices.Devices.{Devices}
 use Rattle.pac_types.specs.Fits.{TxnFits}
 use Rattle.pac_request.specs.declared.request.Request.{Request}
@@ -25,10 +25,10 @@ use Rattle.pac_engine.specs.Committing.{HasRoomAt, IsCalledFor, IsOverFull}
 use Rattle.pac_check.specs.declared.limits.TheConstants.{MAX_SLOT_LEN}
 use Rattle.pac_engine.specs.Closing.{Closes, IsKept, StopsAt, slot_len}
 use Rattle.pac_engine.specs.Moves.{IsAsked, IsHeldBy, IsLive, IsWorking, committed_parts, saved_parts, with_request}
-use Rattle.pac_engine.specs.Standing.{EngineStands, KeepsHistory, KeepsMore, StandsForMore, StandsOn, TellsIf, durable_of, saved_of}
+use Rattle.pac_engine.specs.Standing.{EngineStands, KeepsHistory, KeepsMore, StandsForMore, StandsOn, WhileKnown, durable_of, saved_of}
 use Rattle.pac_engine.proofs.BodyLemmas.{txns-after}
 use Rattle.pac_engine.proofs.SavingLemmas.{saves-all}
-use Rattle.pac_engine.proofs.DeviceLemmas.{rest-told, told-then, told-weaken}
+use Rattle.pac_engine.proofs.DeviceLemmas.{rest-known, known-then, known-weaken}
 use Rattle.pac_engine.proofs.GroupLemmas.{close-stops, closed-state, closed-stops, closes-before, closes-closed, closes-none, closes-saved, cut-before, cut-closed, cut-later, group-asked, save-commits, save-stops}
 use Rattle.pac_engine.proofs.MoveLemmas.{all-held-kept, kept-and-saved, one-reply, run-asked, with_session}
 use Rattle.pac_engine.proofs.StandingLemmas.{asked-history, asked-keeps, asked-stands, keeps-as, keeps-longer, keeps-then}
@@ -51,27 +51,27 @@ module _ (before now : EngineParts) (asked : Request) (closing : Bool) (is : IsA
       ∙ ap (λ (h : List Reply). is_closing asked || nat_le before.session.most (length h)) more.answers)
 
   module _ (ends_here : Bool) (test : ends_here ≡ (closing || nat_le now.session.most (length now.session.held))) where
-    pub behind-later : ends_here ≡ false → (given : List Reply) → given ≡ [] → Closes (rules_of before.session) before.log.gate.place start (cut_one (rules_of before.session) start group asked) given now
-    behind-later not given none = subst (λ (e : EngineParts). Closes (rules_of before.session) before.log.gate.place start (cut_one (rules_of before.session) start group asked) given e) (sym is.becomes)
+    pub after-later : ends_here ≡ false → (given : List Reply) → given ≡ [] → Closes (rules_of before.session) before.log.gate.place start (cut_one (rules_of before.session) start group asked) given now
+    after-later not given none = subst (λ (e : EngineParts). Closes (rules_of before.session) before.log.gate.place start (cut_one (rules_of before.session) start group asked) given e) (sym is.becomes)
         (closes-none rules before.log.gate.place start (cut_one rules start group asked) (group ++ asked ∷ []) given (with_request asked before) (cut-later rules start group asked room-here (test-is ∙ sym test ∙ not)) none refl refl more)
 
     module _ (yes : ends_here ≡ true) where
       cut-is : cut_one rules start group asked ≡ record { closed = (group ++ asked ∷ []) ∷ []; rest = [] }
       cut-is = cut-closed rules start group asked room-here (test-is ∙ sym test ∙ yes)
 
-      pub behind-closed : (given : List Reply) (new : EngineParts) → given ≡ now.session.held → new ≡ committed_parts now → HasRoomAt now.log.gate.place now.session.txns
+      pub after-closed : (given : List Reply) (new : EngineParts) → given ≡ now.session.held → new ≡ committed_parts now → HasRoomAt now.log.gate.place now.session.txns
           → Closes (rules_of before.session) before.log.gate.place start (cut_one (rules_of before.session) start group asked) given new
-      behind-closed given new gave becomes room =
+      after-closed given new gave becomes room =
           closes-closed (with_request asked before) start (group ++ asked ∷ []) more (subst (λ (e : EngineParts). HasRoomAt e.log.gate.place e.session.txns) is.becomes room) (cut_one rules start group asked) given new cut-is
           (gave ∙ ap (λ (e : EngineParts). e.session.held) is.becomes) (becomes ∙ ap committed_parts is.becomes)
 
-      pub behind-stops : (cause : EngineCause) (given : List Reply) → given ≡ [] → ((bytes : ℕ) → cause ≡ TooLarge bytes → ⊥) → (cause ≡ Ended → ⊥) → ((need : ℕ) → cause ≡ LogFull need → IsOverFull now.log.gate.place now.session.txns need) → (cause ≡ DiskFault → IsCalledFor now.log.gate.place now.session.txns)
+      pub after-stops : (cause : EngineCause) (given : List Reply) → given ≡ [] → ((bytes : ℕ) → cause ≡ TooLarge bytes → ⊥) → (cause ≡ Ended → ⊥) → ((need : ℕ) → cause ≡ LogFull need → IsOverFull now.log.gate.place now.session.txns need) → (cause ≡ DiskFault → IsCalledFor now.log.gate.place now.session.txns)
           → StopsAt (rules_of before.session) before.log.gate.place start (cut_one (rules_of before.session) start group asked).closed given cause
-      behind-stops cause given none known on full called =
-          close-stops rules before.log.gate.place start (cut_one rules start group asked).closed (group ++ asked ∷ []) (ap (λ (cut : GroupCut). cut.closed) cut-is) (with_asked asked before.session).txns more.body cause given none known on
+      after-stops cause given none not_large on full called =
+          close-stops rules before.log.gate.place start (cut_one rules start group asked).closed (group ++ asked ∷ []) (ap (λ (cut : GroupCut). cut.closed) cut-is) (with_asked asked before.session).txns more.body cause given none not_large on
           (λ need e. subst (λ (p : EngineParts). IsOverFull p.log.gate.place p.session.txns need) is.becomes (full need e)) (λ e. subst (λ (p : EngineParts). IsCalledFor p.log.gate.place p.session.txns) is.becomes (called e))
 
--- what is told of a group that was closed is durable
+-- what is reported of a group that was closed is durable
 pub closed-kept : (e now : EngineParts) (given : List Reply) → IsWorking e → durable_of now ≡ durable_of (committed_parts e) → given ≡ e.session.held → AllByRecursion (IsKept now) given
 closed-kept e now given is durable gave = subst (λ (l : List Reply). AllByRecursion (IsKept now) l) (sym gave)
     (all-held-kept now (e.session.before + length e.session.txns) (omega (arith, durable, txns-after e.session.txns e.log.gate, is.counted)) e.session.held is.held)
@@ -90,20 +90,20 @@ module _ (text : List ℕ) (history : List Txn) (e : EngineParts) (asked : Reque
   abbrev asks : List Txn
   asks = commits (rules_of e.session) (state_now e.session) asked
 
-  pub asked-keeps-told : (now : EngineParts) → durable_of now ≡ durable_of e → saved_of now ≡ saved_of e → (told : Option (List DiskHistory))
-      → TellsIf (StandsOn text history e) (KeepsHistory text (history ++ commits (rules_of e.session) (state_now e.session) asked) e now) told told
-  asked-keeps-told now durable saved = rest-told (StandsOn text history e) (KeepsHistory text (history ++ asks) e now)
+  pub asked-keeps-known : (now : EngineParts) → durable_of now ≡ durable_of e → saved_of now ≡ saved_of e → (known : Option (List DiskHistory))
+      → WhileKnown (StandsOn text history e) (KeepsHistory text (history ++ commits (rules_of e.session) (state_now e.session) asked) e now) known known
+  asked-keeps-known now durable saved = rest-known (StandsOn text history e) (KeepsHistory text (history ++ asks) e now)
       (of-stands text history e (λ d. KeepsHistory text (history ++ asks) e now d d) (asked-keeps text history e asked fits counted now durable saved))
 
   stands-asked : (devices : List DiskHistory) → StandsOn text history e devices → StandsOn text (history ++ asks) (with_request asked e) devices
   stands-asked = of-stands text history e (λ d. StandsOn text (history ++ asks) (with_request asked e) d) (asked-stands text history e asked fits counted)
 
-  pub asked-stands-told : (now : EngineParts) → now ≡ with_request asked e → (told : Option (List DiskHistory))
-      → TellsIf (StandsOn text history e) (λ was is. StandsOn text (history ++ commits (rules_of e.session) (state_now e.session) asked) now is) told told
-  asked-stands-told now becomes = rest-told (StandsOn text history e) (λ was is. StandsOn text (history ++ asks) now is)
+  pub asked-stands-known : (now : EngineParts) → now ≡ with_request asked e → (known : Option (List DiskHistory))
+      → WhileKnown (StandsOn text history e) (λ was is. StandsOn text (history ++ commits (rules_of e.session) (state_now e.session) asked) now is) known known
+  asked-stands-known now becomes = rest-known (StandsOn text history e) (λ was is. StandsOn text (history ++ asks) now is)
       (λ devices is. subst (λ (p : EngineParts). StandsOn text (history ++ asks) p devices) (sym becomes) (stands-asked devices is))
 
-  -- the group is closed behind it
+  -- the group is closed after it
   module _ (now : EngineParts) (becomes : now ≡ with_request asked e) (new : EngineParts) (x y : Option (List DiskHistory)) where
     stands-before : (devices : List DiskHistory) → StandsOn text history e devices → StandsOn text (history ++ asks) now devices
     stands-before devices is = subst (λ (p : EngineParts). StandsOn text (history ++ asks) p devices) (sym becomes) (stands-asked devices is)
@@ -113,25 +113,25 @@ module _ (text : List ℕ) (history : List Txn) (e : EngineParts) (asked : Reque
         let here : KeepsHistory text (history ++ asks) (with_request asked e) new u v = subst (λ (p : EngineParts). KeepsHistory text (history ++ asks) p new u v) becomes (subst (λ (h : List Txn). KeepsHistory text h now new u v) (append-nil (history ++ asks)) keeps) in
         record { moments = here.moments; end = here.end }
 
-    pub behind-keeps : TellsIf (StandsOn text (history ++ asks) now) (KeepsHistory text ((history ++ asks) ++ []) now new) x y
-        → TellsIf (StandsOn text history e) (KeepsHistory text (history ++ commits (rules_of e.session) (state_now e.session) asked) e new) x y
-    behind-keeps told = told-weaken (StandsOn text (history ++ asks) now) (StandsOn text history e) (KeepsHistory text ((history ++ asks) ++ []) now new) (KeepsHistory text (history ++ asks) e new) stands-before (λ u v is keeps. as-before u v keeps) x y told
+    pub after-keeps : WhileKnown (StandsOn text (history ++ asks) now) (KeepsHistory text ((history ++ asks) ++ []) now new) x y
+        → WhileKnown (StandsOn text history e) (KeepsHistory text (history ++ commits (rules_of e.session) (state_now e.session) asked) e new) x y
+    after-keeps known = known-weaken (StandsOn text (history ++ asks) now) (StandsOn text history e) (KeepsHistory text ((history ++ asks) ++ []) now new) (KeepsHistory text (history ++ asks) e new) stands-before (λ u v is keeps. as-before u v keeps) x y known
 
-    pub behind-stands : TellsIf (StandsOn text (history ++ asks) now) (λ was is. StandsOn text ((history ++ asks) ++ []) new is) x y
-        → TellsIf (StandsOn text history e) (λ was is. StandsOn text (history ++ commits (rules_of e.session) (state_now e.session) asked) new is) x y
-    behind-stands told = told-weaken (StandsOn text (history ++ asks) now) (StandsOn text history e) (λ was is. StandsOn text ((history ++ asks) ++ []) new is) (λ was is. StandsOn text (history ++ asks) new is) stands-before
-        (λ u v is stands. subst (λ (h : List Txn). StandsOn text h new v) (append-nil (history ++ asks)) stands) x y told
+    pub after-stands : WhileKnown (StandsOn text (history ++ asks) now) (λ was is. StandsOn text ((history ++ asks) ++ []) new is) x y
+        → WhileKnown (StandsOn text history e) (λ was is. StandsOn text (history ++ commits (rules_of e.session) (state_now e.session) asked) new is) x y
+    after-stands known = known-weaken (StandsOn text (history ++ asks) now) (StandsOn text history e) (λ was is. StandsOn text ((history ++ asks) ++ []) new is) (λ was is. StandsOn text (history ++ asks) new is) stands-before
+        (λ u v is stands. subst (λ (h : List Txn). StandsOn text h new v) (append-nil (history ++ asks)) stands) x y known
 
   -- the group is closed before it is executed
-  module _ (mid : EngineParts) (x y : Option (List DiskHistory)) (first : TellsIf (StandsOn text history e) (KeepsHistory text (history ++ []) e mid) x y) where
+  module _ (mid : EngineParts) (x y : Option (List DiskHistory)) (first : WhileKnown (StandsOn text history e) (KeepsHistory text (history ++ []) e mid) x y) where
     pub anew-keeps : (new : EngineParts) → durable_of new ≡ durable_of mid → saved_of new ≡ saved_of mid
-        → TellsIf (StandsOn text history e) (KeepsHistory text (history ++ commits (rules_of e.session) (state_now e.session) asked) e new) x y
-    anew-keeps new durable saved = told-weaken (StandsOn text history e) (StandsOn text history e) (KeepsHistory text (history ++ []) e mid) (KeepsHistory text (history ++ asks) e new) (λ u is. is)
+        → WhileKnown (StandsOn text history e) (KeepsHistory text (history ++ commits (rules_of e.session) (state_now e.session) asked) e new) x y
+    anew-keeps new durable saved = known-weaken (StandsOn text history e) (StandsOn text history e) (KeepsHistory text (history ++ []) e mid) (KeepsHistory text (history ++ asks) e new) (λ u is. is)
         (λ u v is keeps.
         let executes : IsHistory e.session.catalogue (history ++ asks) = of-stands text history e (λ d. IsHistory e.session.catalogue (history ++ asks)) (asked-history text history e asked fits counted) u is in
         keeps-as text (history ++ asks) e mid new u v durable saved (keeps-longer text history asks e mid u v executes (subst (λ (h : List Txn). KeepsHistory text h e mid u v) (append-nil history) keeps))) x y first
 
-    module _ (closed : mid ≡ committed_parts e) (stands : TellsIf (StandsOn text history e) (λ was is. StandsOn text (history ++ []) mid is) x y) where
+    module _ (closed : mid ≡ committed_parts e) (stands : WhileKnown (StandsOn text history e) (λ was is. StandsOn text (history ++ []) mid is) x y) where
       mid-counted : mid.log.gate.txns ≡ mid.session.before
       mid-counted = ap (λ (p : EngineParts). p.log.gate.txns) closed ∙ txns-after e.session.txns e.log.gate ∙ ap (λ (n : ℕ). n + length e.session.txns) counted ∙ sym (ap (λ (p : EngineParts). p.session.before) closed)
 
@@ -142,8 +142,8 @@ module _ (text : List ℕ) (history : List Txn) (e : EngineParts) (asked : Reque
       mid-fits txn asks_it = subst (λ (p : EngineParts). TxnFits p.session.catalogue txn) (sym closed) (fits txn asks_it)
 
       pub anew-stands : (new : EngineParts) → new ≡ with_request asked mid
-          → TellsIf (StandsOn text history e) (λ was is. StandsOn text (history ++ commits (rules_of e.session) (state_now e.session) asked) new is) x y
-      anew-stands new becomes = told-weaken (StandsOn text history e) (StandsOn text history e) (λ was is. StandsOn text (history ++ []) mid is) (λ was is. StandsOn text (history ++ asks) new is) (λ u is. is)
+          → WhileKnown (StandsOn text history e) (λ was is. StandsOn text (history ++ commits (rules_of e.session) (state_now e.session) asked) new is) x y
+      anew-stands new becomes = known-weaken (StandsOn text history e) (StandsOn text history e) (λ was is. StandsOn text (history ++ []) mid is) (λ was is. StandsOn text (history ++ asks) new is) (λ u is. is)
           (λ u v is here.
           let now : StandsOn text history mid v = subst (λ (h : List Txn). StandsOn text h mid v) (append-nil history) here in
           let after : StandsOn text (history ++ commits (rules_of mid.session) (state_now mid.session) asked) (with_request asked mid) v
@@ -213,13 +213,13 @@ same-fits e asked txn asks_txn fits other is = let same : Some txn ≡ Some othe
 -- ---- a save
 
 -- replies that were given out, and that of the save
-pub told-saved : (e new : EngineParts) (replies given : List Reply) → AllByRecursion (IsHeldBy e.log.gate.txns) replies → new ≡ saved_parts e → given ≡ replies ++ reply.Saved e.log.gate.txns ∷ [] → AllByRecursion (IsKept new) given
-told-saved e new replies given held becomes told =
-    subst (λ (p : EngineParts). AllByRecursion (IsKept p) given) (sym becomes) (subst (λ (l : List Reply). AllByRecursion (IsKept (saved_parts e)) l) (sym told)
+pub known-saved : (e new : EngineParts) (replies given : List Reply) → AllByRecursion (IsHeldBy e.log.gate.txns) replies → new ≡ saved_parts e → given ≡ replies ++ reply.Saved e.log.gate.txns ∷ [] → AllByRecursion (IsKept new) given
+known-saved e new replies given held becomes known =
+    subst (λ (p : EngineParts). AllByRecursion (IsKept p) given) (sym becomes) (subst (λ (l : List Reply). AllByRecursion (IsKept (saved_parts e)) l) (sym known)
     (kept-and-saved (saved_parts e) e.log.gate.txns replies (saves-all e) (all-held-kept (saved_parts e) e.log.gate.txns (omega arith) replies held)))
 
-pub untold-saved : (e new : EngineParts) (replies given : List Reply) → AllByRecursion (IsHeldBy e.log.gate.txns) replies → durable_of new ≡ e.log.gate.txns → given ≡ replies → AllByRecursion (IsKept new) given
-untold-saved e new replies given held durable untold = subst (λ (l : List Reply). AllByRecursion (IsKept new) l) (sym untold) (all-held-kept new e.log.gate.txns (omega (arith, durable)) replies held)
+pub unknown-saved : (e new : EngineParts) (replies given : List Reply) → AllByRecursion (IsHeldBy e.log.gate.txns) replies → durable_of new ≡ e.log.gate.txns → given ≡ replies → AllByRecursion (IsKept new) given
+unknown-saved e new replies given held durable unknown = subst (λ (l : List Reply). AllByRecursion (IsKept new) l) (sym unknown) (all-held-kept new e.log.gate.txns (omega (arith, durable)) replies held)
 
 module _ (e : EngineParts) (counted : e.log.gate.txns ≡ e.session.before) (start : SessionState) (group : List Request) (within : IsInGroup start group e.session) where
   save-cut : cut_one (rules_of e.session) start group request.Save ≡ record { closed = (group ++ request.Save ∷ []) ∷ []; rest = [] }
@@ -227,10 +227,10 @@ module _ (e : EngineParts) (counted : e.log.gate.txns ≡ e.session.before) (sta
 
   pub checkpoint-closes : HasRoomAt e.log.gate.place e.session.txns → (mid new : EngineParts) (replies given : List Reply) → mid ≡ committed_parts e → new ≡ saved_parts mid → replies ≡ e.session.held → given ≡ replies ++ reply.Saved mid.log.gate.txns ∷ []
       → Closes (rules_of e.session) e.log.gate.place start (cut_one (rules_of e.session) start group request.Save) given new
-  checkpoint-closes room mid new replies given closed saved gave told =
+  checkpoint-closes room mid new replies given closed saved gave known =
       let number : mid.log.gate.txns ≡ e.session.before + length e.session.txns = ap (λ (p : EngineParts). p.log.gate.txns) closed ∙ txns-after e.session.txns e.log.gate ∙ ap (λ (n : ℕ). n + length e.session.txns) counted in
       closes-saved e start group within room (cut_one (rules_of e.session) start group request.Save) given mid.log.gate.txns new save-cut
-      (told ∙ ap (λ (l : List Reply). l ++ reply.Saved mid.log.gate.txns ∷ []) gave) number (saved ∙ ap saved_parts closed)
+      (known ∙ ap (λ (l : List Reply). l ++ reply.Saved mid.log.gate.txns ∷ []) gave) number (saved ∙ ap saved_parts closed)
 
   pub checkpoint-stops : (cause : EngineCause) (given : List Reply) → given ≡ [] → ((bytes : ℕ) → cause ≡ TooLarge bytes → ⊥) → (cause ≡ Ended → ⊥) → ((need : ℕ) → cause ≡ LogFull need → IsOverFull e.log.gate.place e.session.txns need) → (cause ≡ DiskFault → IsCalledFor e.log.gate.place e.session.txns)
       → StopsAt (rules_of e.session) e.log.gate.place start (cut_one (rules_of e.session) start group request.Save).closed given cause
@@ -242,40 +242,40 @@ module _ (e : EngineParts) (counted : e.log.gate.txns ≡ e.session.before) (sta
       → (cause : EngineCause) → (cause ≡ Ended → ⊥) → ((need : ℕ) → cause ≡ LogFull need → ⊥)
       → ((bytes : ℕ) → cause ≡ TooLarge bytes → (bytes ≡ slot_len (rules_of mid.session) (state_now mid.session) mid.log.gate.place) × (MAX_SLOT_LEN < bytes))
       → StopsAt (rules_of e.session) e.log.gate.place start (cut_one (rules_of e.session) start group request.Save).closed given cause
-  checkpoint-unsaved room mid replies given closed gave untold cause on full large =
-      save-stops e start group within room (cut_one (rules_of e.session) start group request.Save).closed (ap (λ (cut : GroupCut). cut.closed) save-cut) given (untold ∙ gave) cause on full
+  checkpoint-unsaved room mid replies given closed gave unknown cause on full large =
+      save-stops e start group within room (cut_one (rules_of e.session) start group request.Save).closed (ap (λ (cut : GroupCut). cut.closed) save-cut) given (unknown ∙ gave) cause on full
       (λ bytes is. let much = large bytes is in (much.0 ∙ ap (λ (m : EngineParts). slot_len (rules_of m.session) (state_now m.session) m.log.gate.place) closed, much.1))
 
-module _ (text : List ℕ) (history : List Txn) (e mid new : EngineParts) (closed : mid ≡ committed_parts e) (x y z : Option (List DiskHistory)) (stands : TellsIf (StandsOn text history e) (λ was is. StandsOn text (history ++ []) mid is) x y) where
-  pub checkpoint-keeps : TellsIf (StandsOn text history e) (KeepsHistory text (history ++ []) e mid) x y → TellsIf (StandsOn text (history ++ []) mid) (KeepsHistory text ((history ++ []) ++ []) mid new) y z
-      → TellsIf (StandsOn text history e) (KeepsHistory text (history ++ []) e new) x z
-  checkpoint-keeps first second = told-then (StandsOn text history e) (StandsOn text (history ++ []) mid) (KeepsHistory text (history ++ []) e mid) (KeepsHistory text ((history ++ []) ++ []) mid new) (KeepsHistory text (history ++ []) e new)
+module _ (text : List ℕ) (history : List Txn) (e mid new : EngineParts) (closed : mid ≡ committed_parts e) (x y z : Option (List DiskHistory)) (stands : WhileKnown (StandsOn text history e) (λ was is. StandsOn text (history ++ []) mid is) x y) where
+  pub checkpoint-keeps : WhileKnown (StandsOn text history e) (KeepsHistory text (history ++ []) e mid) x y → WhileKnown (StandsOn text (history ++ []) mid) (KeepsHistory text ((history ++ []) ++ []) mid new) y z
+      → WhileKnown (StandsOn text history e) (KeepsHistory text (history ++ []) e new) x z
+  checkpoint-keeps first second = known-then (StandsOn text history e) (StandsOn text (history ++ []) mid) (KeepsHistory text (history ++ []) e mid) (KeepsHistory text ((history ++ []) ++ []) mid new) (KeepsHistory text (history ++ []) e new)
       (λ u v w p r q s. keeps-then text (history ++ []) e mid new u v w (ap (λ (m : EngineParts). m.session.catalogue) closed)
       (omega (arith, ap (λ (m : EngineParts). m.log.gate.txns) closed, txns-after e.session.txns e.log.gate)) (omega (arith, ap saved_of closed)) r (subst (λ (h : List Txn). KeepsHistory text h mid new v w) (append-nil (history ++ [])) s))
       x y z first stands second
 
-  pub checkpoint-stands : TellsIf (StandsOn text (history ++ []) mid) (λ was is. StandsOn text ((history ++ []) ++ []) new is) y z → TellsIf (StandsOn text history e) (λ was is. StandsOn text (history ++ []) new is) x z
-  checkpoint-stands second = told-then (StandsOn text history e) (StandsOn text (history ++ []) mid) (λ was is. StandsOn text (history ++ []) mid is) (λ was is. StandsOn text ((history ++ []) ++ []) new is) (λ was is. StandsOn text (history ++ []) new is)
+  pub checkpoint-stands : WhileKnown (StandsOn text (history ++ []) mid) (λ was is. StandsOn text ((history ++ []) ++ []) new is) y z → WhileKnown (StandsOn text history e) (λ was is. StandsOn text (history ++ []) new is) x z
+  checkpoint-stands second = known-then (StandsOn text history e) (StandsOn text (history ++ []) mid) (λ was is. StandsOn text (history ++ []) mid is) (λ was is. StandsOn text ((history ++ []) ++ []) new is) (λ was is. StandsOn text (history ++ []) new is)
       (λ u v w p r q s. subst (λ (h : List Txn). StandsOn text h new w) (append-nil (history ++ [])) s) x y z stands stands second
 
 -- ---- the flag of an engine
 
-module _ {D : Type 0} (told : D → Option DiskHistory) (asked : Request) (inside e mid : EngineParts) (same : inside ≡ e) (old new : Devices D) where
-  pub flag-keeps : (now : EngineParts) → durable_of now ≡ durable_of mid → saved_of now ≡ saved_of mid → KeepsMore told (commits (rules_of inside.session) (state_now inside.session) asked) inside mid old new
-      → KeepsMore told (commits (rules_of e.session) (state_now e.session) asked) e now old new
+module _ {D : Type 0} (known : D → Option DiskHistory) (asked : Request) (inside e mid : EngineParts) (same : inside ≡ e) (old new : Devices D) where
+  pub flag-keeps : (now : EngineParts) → durable_of now ≡ durable_of mid → saved_of now ≡ saved_of mid → KeepsMore known (commits (rules_of inside.session) (state_now inside.session) asked) inside mid old new
+      → KeepsMore known (commits (rules_of e.session) (state_now e.session) asked) e now old new
   flag-keeps now durable saved keeps = λ text history.
-      let here : KeepsMore told (commits (rules_of e.session) (state_now e.session) asked) e mid old new = subst (λ (p : EngineParts). KeepsMore told (commits (rules_of p.session) (state_now p.session) asked) p mid old new) same keeps in
-      told-weaken (StandsOn text history e) (StandsOn text history e) (KeepsHistory text (history ++ commits (rules_of e.session) (state_now e.session) asked) e mid) (KeepsHistory text (history ++ commits (rules_of e.session) (state_now e.session) asked) e now)
-      (λ u is. is) (λ u v is k. keeps-as text (history ++ commits (rules_of e.session) (state_now e.session) asked) e mid now u v durable saved k) (all_told (each told old)) (all_told (each told new)) (here text history)
+      let here : KeepsMore known (commits (rules_of e.session) (state_now e.session) asked) e mid old new = subst (λ (p : EngineParts). KeepsMore known (commits (rules_of p.session) (state_now p.session) asked) p mid old new) same keeps in
+      known-weaken (StandsOn text history e) (StandsOn text history e) (KeepsHistory text (history ++ commits (rules_of e.session) (state_now e.session) asked) e mid) (KeepsHistory text (history ++ commits (rules_of e.session) (state_now e.session) asked) e now)
+      (λ u is. is) (λ u v is k. keeps-as text (history ++ commits (rules_of e.session) (state_now e.session) asked) e mid now u v durable saved k) (all_known (each known old)) (all_known (each known new)) (here text history)
 
-  pub flag-stands : (flag : Bool) → StandsForMore told (commits (rules_of inside.session) (state_now inside.session) asked) inside mid old new
-      → StandsForMore told (commits (rules_of e.session) (state_now e.session) asked) e (record mid { ended = flag }) old new
+  pub flag-stands : (flag : Bool) → StandsForMore known (commits (rules_of inside.session) (state_now inside.session) asked) inside mid old new
+      → StandsForMore known (commits (rules_of e.session) (state_now e.session) asked) e (record mid { ended = flag }) old new
   flag-stands flag stands = λ text history.
-      let here : StandsForMore told (commits (rules_of e.session) (state_now e.session) asked) e mid old new = subst (λ (p : EngineParts). StandsForMore told (commits (rules_of p.session) (state_now p.session) asked) p mid old new) same stands in
-      told-weaken (StandsOn text history e) (StandsOn text history e) (λ was is. StandsOn text (history ++ commits (rules_of e.session) (state_now e.session) asked) mid is)
+      let here : StandsForMore known (commits (rules_of e.session) (state_now e.session) asked) e mid old new = subst (λ (p : EngineParts). StandsForMore known (commits (rules_of p.session) (state_now p.session) asked) p mid old new) same stands in
+      known-weaken (StandsOn text history e) (StandsOn text history e) (λ was is. StandsOn text (history ++ commits (rules_of e.session) (state_now e.session) asked) mid is)
       (λ was is. StandsOn text (history ++ commits (rules_of e.session) (state_now e.session) asked) (record mid { ended = flag }) is) (λ u is. is)
-      (λ u v is s. flagged text (history ++ commits (rules_of e.session) (state_now e.session) asked) v s) (all_told (each told old)) (all_told (each told new)) (here text history)
+      (λ u v is s. flagged text (history ++ commits (rules_of e.session) (state_now e.session) asked) v s) (all_known (each known old)) (all_known (each known new)) (here text history)
     where
       flagged : (text : List ℕ) (history : List Txn) (devices : List DiskHistory) → StandsOn text history mid devices → StandsOn text history (record mid { ended = flag }) devices
       flagged text history = of-stands text history mid (λ d. StandsOn text history (record mid { ended = flag }) d)
-          (λ l a b is. record { batches = is.batches; log = is.log; behind = is.behind; slot_a = is.slot_a; slot_b = is.slot_b; known_a = is.known_a; known_b = is.known_b; fit = is.fit; ends = is.ends; split = is.split })
+          (λ l a b is. record { batches = is.batches; log = is.log; after = is.after; slot_a = is.slot_a; slot_b = is.slot_b; known_a = is.known_a; known_b = is.known_b; fit = is.fit; ends = is.ends; split = is.split })

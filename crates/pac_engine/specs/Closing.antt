@@ -1,7 +1,7 @@
--- Which replies a step gives out, and where it stops.
+-- Which replies a step returns, and where it stops.
 use Rattle.std.specs.Prelude.{◌≡◌, ◌⊎◌, ◌+◌, ◌<◌, ◌≤◌, ℕ, Bool, false, true, List, [], ◌∷◌, ◌++◌, length}
 use Rattle.std.specs.List.{AllByRecursion}
-use Rattle.pac_outside.specs.Devices.{OneRose}
+use Rattle.pac_outside.specs.Devices.{OneFaulted}
 use Rattle.pac_request.specs.declared.request.Request.{Request}
 use Rattle.pac_request.specs.declared.request.Request.TheVariants as request
 use Rattle.pac_request.specs.declared.request.Reply.{Reply}
@@ -10,7 +10,7 @@ use Rattle.pac_check.specs.declared.limits.TheConstants.{MAX_SLOT_LEN}
 use Rattle.pac_check.specs.Checkpoints.{checkpoint_bytes, head_with}
 use Rattle.pac_check.specs.Saved.{checkpoint_of}
 use Rattle.pac_session.specs.Session.{Rules, SessionState, ends}
-use Rattle.pac_session.specs.Groups.{Group, GroupCut, all_replies, all_requests, described, place_behind}
+use Rattle.pac_session.specs.Groups.{Group, GroupCut, all_replies, all_requests, described, place_after_group}
 use Rattle.pac_session.specs.Open.{IsInGroup, rules_of}
 use Rattle.pac_engine.specs.declared.fault.EngineCause.{EngineCause}
 use Rattle.pac_engine.specs.declared.fault.EngineCause.TheVariants.{DiskFault, LogFull, TooLarge, Ended, NoMemory}
@@ -24,10 +24,10 @@ use Rattle.pac_engine.specs.Standing.{durable_of, saved_of}
 abbrev pub GroupFits : Group → Type 0
 GroupFits group = HasRoomAt group.place group.txns
 
--- the place of the log's gate behind groups, where it stood here in front of them
+-- the offset of the log's gate after groups, where it stood here before them
 abbrev pub place_after : ℕ → List Group → ℕ
 place_after place [] = place
-place_after place (group ∷ more) = place_after (place_behind place group.txns) more
+place_after place (group ∷ more) = place_after (place_after_group place group.txns) more
 
 -- Groups were closed: each fits the log, and their replies were given out. The engine is within the next one, and goes by
 -- the same rules.
@@ -58,7 +58,7 @@ pub record IsUpToSome (groups : List Group) (given : List Reply) : Type 0 where
   pub split : groups ≡ before ++ rest
   pub replied : given ≡ all_replies before
 
--- they are those of the groups in front of one of which this is said, and each of those fits the log
+-- they are those of the groups before one of which this is said, and each of those fits the log
 pub record IsUpToGroup (P : Group → Type 0) (groups : List Group) (given : List Reply) : Type 0 where
   pub before : List Group
   pub group : Group
@@ -90,11 +90,11 @@ pub record IsUnsaved (groups : List Group) (given : List Reply) : Type 0 where
   pub replied : given ≡ all_replies before ++ held
   pub fit : AllByRecursion GroupFits groups
 
--- how many bytes a slot has with the checkpoint of these tables, the log's gate being at this place
+-- how many bytes a slot has with the checkpoint of these tables, the log's gate being at this offset
 abbrev pub slot_len : Rules → SessionState → ℕ → ℕ
 slot_len rules state place = 1 + length (checkpoint_bytes (checkpoint_of (length rules.catalogue.tables) (head_with state.number place) state.tables))
 
--- and with the checkpoint behind these groups a slot would have this many bytes, which is too many
+-- and with the checkpoint after these groups a slot would have this many bytes, which is too many
 pub record IsTooLarge (rules : Rules) (place : ℕ) (start : SessionState) (closed : List (List Request)) (bytes : ℕ) (given : List Reply) : Type 0 where
   pub unsaved : IsUnsaved (described rules place start closed) given
   pub is : bytes ≡ slot_len rules (ends rules start (all_requests closed)) (place_after place (described rules place start closed))
@@ -110,7 +110,7 @@ StopsAt rules place start closed given NoMemory = IsUpToSome (described rules pl
 
 -- Of a fault of a device the count of one device rose by one, and no call of any came after it. Else no call failed.
 abbrev pub CountsFault : EngineCause → List ℕ → List ℕ → Type 0
-CountsFault DiskFault before now = OneRose before now
+CountsFault DiskFault before now = OneFaulted before now
 CountsFault (LogFull need) before now = now ≡ before
 CountsFault (TooLarge bytes) before now = now ≡ before
 CountsFault Ended before now = now ≡ before

@@ -17,9 +17,9 @@ use Rattle.pac_engine.specs.Moves.{IsLive}
 use Rattle.pac_engine.specs.Standing.{HasDevices, KeepsMore, OnlyGrows, StandsForMore}
 
 -- The request was handled by the engine as it was before. The replies are those of the groups that it closes, or it stops at
--- one of these; what they tell of is durable; the devices stand for the history at each moment, and the engine for that with
+-- one of these; what they report is durable; the devices stand for the history at each moment, and the engine for that with
 -- the transactions of the request; and no call of a device comes after one that failed.
-pub record IsHandled {D : Type 0} (told : D → Option DiskHistory) (faults : D → ℕ) (asked : Request) (before now : EngineParts) (old new : Devices D) (result : Result (List Reply) EngineFault) : Type 0 where
+pub record IsHandled {D : Type 0} (known : D → Option DiskHistory) (faults : D → ℕ) (asked : Request) (before now : EngineParts) (old new : Devices D) (result : Result (List Reply) EngineFault) : Type 0 where
   pub closes : (start : SessionState) (group : List Request) → IsInGroup start group before.session
       → IfOk result (λ given. Closes (rules_of before.session) before.log.gate.place start (cut_one (rules_of before.session) start group asked) given now)
   pub stops : (start : SessionState) (group : List Request) → IsInGroup start group before.session
@@ -29,8 +29,8 @@ pub record IsHandled {D : Type 0} (told : D → Option DiskHistory) (faults : D 
   pub live : OnOk result (IsLive now)
   pub grows : OnlyGrows before now
   pub same : OnOk result (rules_of now.session ≡ rules_of before.session)
-  pub ready : OnOk result (HasDevices told now new)
-  pub keeps : KeepsMore told (commits (rules_of before.session) (state_now before.session) asked) before now old new
-  pub stands : OnOk result (StandsForMore told (commits (rules_of before.session) (state_now before.session) asked) before now old new)
+  pub ready : OnOk result (HasDevices known now new)
+  pub keeps : KeepsMore known (commits (rules_of before.session) (state_now before.session) asked) before now old new
+  pub stands : OnOk result (StandsForMore known (commits (rules_of before.session) (state_now before.session) asked) before now old new)
   pub goes_on : IfErr result (λ fault. ¬ (fault.cause ≡ Ended))
   pub counted : MatchResult result (λ _. each faults new ≡ each faults old) (λ fault. CountsFault fault.cause (each faults old) (each faults new))

@@ -17,7 +17,7 @@ use Rattle.pac_engine.specs.declared.parts.EngineParts.{EngineParts}
 use Rattle.pac_engine.specs.Committing.{gate_past}
 use Rattle.pac_engine.specs.Standing.{durable_of, saved_of}
 
--- a reply that is held: its transaction is among the first so many
+-- a reply that is held: its transaction is among the first n
 abbrev pub IsHeldBy : ℕ → Reply → Type 0
 IsHeldBy number (reply.Committed txn) = txn ≤ number
 IsHeldBy number (reply.Aborted op reason) = Unit {0}
@@ -48,7 +48,7 @@ pub record IsLive (engine : EngineParts) : Type 0 where
   pub working : IsWorking engine
   pub unfull : length engine.session.held < engine.session.most
 
--- a request behind those of the open group
+-- a request after those of the open group
 abbrev pub with_request : Request → EngineParts → EngineParts
 with_request asked engine = record engine { session = with_asked asked engine.session }
 
@@ -66,7 +66,7 @@ pub record IsUnmoved (before now : EngineParts) : Type 0 where
   pub slot_a : now.slots.a ≡ before.slots.a
   pub slot_b : now.slots.b ≡ before.slots.b
 
--- A request was executed behind those of the open group, which had room for its transaction; what is known of the request,
+-- A request was executed after those of the open group, which had room for its transaction; what is known of the request,
 -- and of whether it closes its group.
 pub record IsAsked (before : EngineParts) (asked : Request) (closing : Bool) (now : EngineParts) : Type 0 where
   pub live : IsLive before

@@ -2,17 +2,17 @@
 use Rattle.std.specs.Prelude.{◌≡◌, ◌≤◌, ℕ, List, [], ◌∷◌, ◌++◌, take, Option, Some, None}
 use Rattle.std.specs.List.{All}
 use Rattle.pac_ops.specs.declared.transaction.Txn.{Txn}
-use Rattle.pac_outside.specs.Devices.{AllLeave, RunLeaves, all_told, each}
+use Rattle.pac_outside.specs.Devices.{AllLeave, RunLeaves, all_known, each}
 use Rattle.pac_outside.specs.declared.devices.Devices.{Devices}
-use Rattle.pac_outside.specs.Disk.{DiskHistory, WhereTold, settled}
+use Rattle.pac_outside.specs.Disk.{DiskHistory, IfKnown, settled}
 use Rattle.pac_outside.specs.GateByte.{OneImage}
 use Rattle.pac_types.specs.Fits.{TxnFits}
 use Rattle.pac_types.specs.Typing.{CatalogueState}
 use Rattle.pac_log.specs.Logs.{HoldsLog, all_txns}
-use Rattle.pac_log.specs.Places.{IsBehind, LogEndsAt}
+use Rattle.pac_log.specs.Places.{IsAfter, LogEndsAt}
 use Rattle.pac_check.specs.SlotStates.{IsSlot, newest_of, saved_txns}
 use Rattle.pac_store.specs.Images.{Images, OfThree}
-use Rattle.pac_store.specs.Stands.{EndsWith, HoldsSaved, IsShutOrFront, StandsFor}
+use Rattle.pac_store.specs.Stands.{EndsWith, HoldsSaved, IsShutOrPrefix, StandsFor}
 use Rattle.pac_engine.specs.declared.parts.EngineParts.{EngineParts}
 
 -- how many transactions are durable: those of the log
@@ -28,34 +28,34 @@ pub record OnlyGrows (before now : EngineParts) : Type 0 where
   pub durable : durable_of before ≤ durable_of now
   pub saved : saved_of before ≤ saved_of now
 
--- Where the devices tell, a crash leaves of each one image: that of a log that ends at the engine's gate, and those of two
--- slots in the states that the engine knows. It is said of each device by itself: one may tell while others do not.
-pub record HasDevices {D : Type 0} (told : D → Option DiskHistory) (engine : EngineParts) (devices : Devices D) : Type 0 where
-  pub log : WhereTold (λ now. LogEndsAt engine.log.gate now.now) (told devices.log)
-  pub slot_a : WhereTold (λ now. OneImage (IsSlot engine.session.catalogue.tables engine.slots.a) now.now) (told devices.slot_a)
-  pub slot_b : WhereTold (λ now. OneImage (IsSlot engine.session.catalogue.tables engine.slots.b) now.now) (told devices.slot_b)
+-- Where the devices' histories are known, a crash leaves of each one image: that of a log that ends at the engine's gate, and those of two
+-- slots in the states that the engine knows. It is said of each device by itself: one may be known while others are not.
+pub record HasDevices {D : Type 0} (known : D → Option DiskHistory) (engine : EngineParts) (devices : Devices D) : Type 0 where
+  pub log : IfKnown (λ now. LogEndsAt engine.log.gate now.now) (known devices.log)
+  pub slot_a : IfKnown (λ now. OneImage (IsSlot engine.session.catalogue.tables engine.slots.a) now.now) (known devices.slot_a)
+  pub slot_b : IfKnown (λ now. OneImage (IsSlot engine.session.catalogue.tables engine.slots.b) now.now) (known devices.slot_b)
 
--- The devices stand for the history, of which the log has at least so many transactions and some slot at least so many.
+-- The devices stand for the history, of which the log has at least that many transactions and some slot at least that many.
 pub record StandsWith (text : List ℕ) (catalogue : CatalogueState) (history : List Txn) (least saved : ℕ) (images : Images) : Type 0 where
   pub stands : StandsFor text catalogue history least images
   pub saves : HoldsSaved catalogue saved images
 
 -- The engine stands for the history on the log, slot a and slot b: serial execution of the history ends with the engine's
 -- tables. The history ends with the open group's transactions, and a crash leaves what is before them in the log; of each
--- slot it leaves one image too, which is shut or has a checkpoint of the log's front.
+-- slot it leaves one image too, which is shut or has a checkpoint of the log's prefix.
 pub record EngineStands (text : List ℕ) (history : List Txn) (engine : EngineParts) (l a b : DiskHistory) : Type 0 where
   pub batches : List (List Txn)
   pub log : OneImage (HoldsLog text engine.session.catalogue batches) l.now
-  pub behind : IsBehind text batches engine.log.gate
-  pub slot_a : OneImage (IsShutOrFront text engine.session.catalogue batches) a.now
-  pub slot_b : OneImage (IsShutOrFront text engine.session.catalogue batches) b.now
+  pub after : IsAfter text batches engine.log.gate
+  pub slot_a : OneImage (IsShutOrPrefix text engine.session.catalogue batches) a.now
+  pub slot_b : OneImage (IsShutOrPrefix text engine.session.catalogue batches) b.now
   pub known_a : IsSlot engine.session.catalogue.tables engine.slots.a a.now.seen
   pub known_b : IsSlot engine.session.catalogue.tables engine.slots.b b.now.seen
   pub fit : All (TxnFits engine.session.catalogue) history
   pub ends : EndsWith engine.session.catalogue history engine.session.tables
   pub split : history ≡ all_txns batches ++ engine.session.txns
 
--- what is said of three devices, in the order in which devices are told
+-- what is said of three devices, in the fixed order of devices
 abbrev pub OfDevices : (DiskHistory → DiskHistory → DiskHistory → Type 0) → List DiskHistory → Type 0
 OfDevices P [] = ⊥
 OfDevices P (l ∷ []) = ⊥
@@ -76,23 +76,23 @@ pub record KeepsHistory (text : List ℕ) (history : List Txn) (before now : Eng
   pub moments : RunLeaves (MayLeave text before.session.catalogue history before) old new
   pub end : AllLeave (MayLeave text before.session.catalogue history now) new
 
--- what is told before, if it has P, and after has R; it is told after where it was before
-abbrev pub TellsIf : (List DiskHistory → Type 0) → (List DiskHistory → List DiskHistory → Type 0) → Option (List DiskHistory) → Option (List DiskHistory) → Type 0
-TellsIf P R None new = Unit {0}
-TellsIf P R (Some old) None = P old → ⊥
-TellsIf P R (Some old) (Some new) = P old → R old new
+-- what is reported before, if it has P, and after has R; it is reported after where it was before
+abbrev pub WhileKnown : (List DiskHistory → Type 0) → (List DiskHistory → List DiskHistory → Type 0) → Option (List DiskHistory) → Option (List DiskHistory) → Type 0
+WhileKnown P R None new = Unit {0}
+WhileKnown P R (Some old) None = P old → ⊥
+WhileKnown P R (Some old) (Some new) = P old → R old new
 
--- where the devices tell and have P before a call, they tell after it, and their histories have R
-abbrev pub TellsWhere : (List DiskHistory → Type 0) → (List DiskHistory → List DiskHistory → Type 0) → List (Option DiskHistory) → List (Option DiskHistory) → Type 0
-TellsWhere P R old new = TellsIf P R (all_told old) (all_told new)
+-- where the devices' histories are known and have P before a call, they are known after it, and their histories have R
+abbrev pub WhileAllKnown : (List DiskHistory → Type 0) → (List DiskHistory → List DiskHistory → Type 0) → List (Option DiskHistory) → List (Option DiskHistory) → Type 0
+WhileAllKnown P R old new = WhileKnown P R (all_known old) (all_known new)
 
--- where the devices tell, an engine that stands for some history keeps it with these transactions behind it
+-- where the devices' histories are known, an engine that stands for some history keeps it with these transactions after it
 abbrev pub KeepsMore : {D : Type 0} → (D → Option DiskHistory) → List Txn → EngineParts → EngineParts → Devices D → Devices D → Type 0
-KeepsMore told more before now old new = (text : List ℕ) (history : List Txn) → TellsWhere (StandsOn text history before) (KeepsHistory text (history ++ more) before now) (each told old) (each told new)
+KeepsMore known more before now old new = (text : List ℕ) (history : List Txn) → WhileAllKnown (StandsOn text history before) (KeepsHistory text (history ++ more) before now) (each known old) (each known new)
 
 -- and it stands for that afterwards
 abbrev pub StandsForMore : {D : Type 0} → (D → Option DiskHistory) → List Txn → EngineParts → EngineParts → Devices D → Devices D → Type 0
-StandsForMore told more before now old new = (text : List ℕ) (history : List Txn) → TellsWhere (StandsOn text history before) (λ was is. StandsOn text (history ++ more) now is) (each told old) (each told new)
+StandsForMore known more before now old new = (text : List ℕ) (history : List Txn) → WhileAllKnown (StandsOn text history before) (λ was is. StandsOn text (history ++ more) now is) (each known old) (each known new)
 
 -- what a read gives of three devices
 abbrev pub seen_of : DiskHistory → DiskHistory → DiskHistory → Images
@@ -107,7 +107,7 @@ pub record IsOpenedOn (history : List Txn) (engine : EngineParts) (l a b : DiskH
   pub text : List ℕ
   pub batches : List (List Txn)
   pub log : HoldsLog text engine.session.catalogue batches l.now.seen
-  pub behind : IsBehind text batches engine.log.gate
+  pub after : IsAfter text batches engine.log.gate
   pub known_a : IsSlot engine.session.catalogue.tables engine.slots.a a.now.seen
   pub known_b : IsSlot engine.session.catalogue.tables engine.slots.b b.now.seen
   pub none : engine.session.txns ≡ []

@@ -1,7 +1,7 @@
 // Commits the transactions of a group.
 ghost use Rattle.std.specs.Prelude.{◌≡◌, ◌<◌, ◌≤◌, ℕ, List, All, length, OnOk, OnErr, IsErrOf};
-ghost use Rattle.pac_outside.specs.Causes.{Rose, one_more};
-ghost use Rattle.pac_outside.specs.Disk.{BothTell, WhereTold};
+ghost use Rattle.pac_outside.specs.Causes.{Faulted, one_more};
+ghost use Rattle.pac_outside.specs.Disk.{BothKnown, IfKnown};
 ghost use Rattle.pac_ops.specs.declared.limits.TheConstants.{MAX_TXNS};
 ghost use Rattle.pac_ops.specs.declared.transaction.Txn.{Txn as ATxn};
 ghost use Rattle.pac_types.specs.Fits.{TxnFits};
@@ -9,7 +9,7 @@ ghost use Rattle.pac_entry.specs.declared.limits.TheConstants.{MAX_BODY_LEN};
 ghost use Rattle.pac_log.specs.declared.limits.TheConstants.{MAX_LOG_LEN};
 ghost use Rattle.pac_log.specs.declared.log.Stage.{Stage};
 ghost use Rattle.pac_log.specs.Bodies.{body_bytes};
-ghost use Rattle.pac_log.specs.Places.{IsBehind, IsPrepared, LogEndsAt, need_of};
+ghost use Rattle.pac_log.specs.Places.{IsAfter, IsPrepared, LogEndsAt, need_of};
 ghost use Rattle.pac_engine.specs.Committing.{HasAdded, HasRoomAt, IsCalledFor, IsOverFull, MayAdd, gate_past, with_batch};
 
 use crate::fault::EngineCause;
@@ -45,7 +45,7 @@ fn prepare(log: &mut Log, txns: Vec<Txn>) -> Result<(), EngineCause>
     }
 }
 
-/// Puts the transactions of a group behind the others of a log, and makes them durable; where there are none, the device is
+/// Puts the transactions of a group after the others of a log, and makes them durable; where there are none, the device is
 /// not called.
 ///
 /// # Errors
@@ -57,20 +57,20 @@ fn prepare(log: &mut Log, txns: Vec<Txn>) -> Result<(), EngineCause>
 ///   it.
 pub fn commit<D: Disk>(log: &mut Log, disk: &mut D, txns: Vec<Txn>) -> Result<(), EngineCause>
     requires waits { log.old.stage ≡ Stage.Waiting }
-    requires ends { WhereTold (λ old. LogEndsAt log.old.gate old.now) (D.told disk.old) }
+    requires ends { IfKnown (λ old. LogEndsAt log.old.gate old.now) (D.known disk.old) }
     requires few { length txns.items ≤ MAX_TXNS }
     requires fit { All (TxnFits log.old.gate.catalogue) txns.items }
     requires short { length (body_bytes txns.items) ≤ MAX_BODY_LEN }
 
     // At each moment a crash leaves the batches before, or these and the new one.
-    ensures moments { (text : List ℕ) (batches : List (List ATxn)) → IsBehind text batches log.old.gate
-        → BothTell (MayAdd text log.old.gate.catalogue batches txns.items) (D.told disk.old) (D.told disk.new) }
+    ensures moments { (text : List ℕ) (batches : List (List ATxn)) → IsAfter text batches log.old.gate
+        → BothKnown (MayAdd text log.old.gate.catalogue batches txns.items) (D.known disk.old) (D.known disk.new) }
 
-    // Afterwards it leaves the new one too, and the log stands behind it.
-    ensures added { OnOk result ((text : List ℕ) (batches : List (List ATxn)) → IsBehind text batches log.old.gate
-        → BothTell (HasAdded text log.old.gate.catalogue batches txns.items) (D.told disk.old) (D.told disk.new)) }
-    ensures behind { OnOk result ((text : List ℕ) (batches : List (List ATxn)) → IsBehind text batches log.old.gate → IsBehind text (with_batch batches txns.items) log.new.gate) }
-    ensures ends { OnOk result (WhereTold (λ new. LogEndsAt log.new.gate new.now) (D.told disk.new)) }
+    // Afterwards it leaves the new one too, and the log stands after it.
+    ensures added { OnOk result ((text : List ℕ) (batches : List (List ATxn)) → IsAfter text batches log.old.gate
+        → BothKnown (HasAdded text log.old.gate.catalogue batches txns.items) (D.known disk.old) (D.known disk.new)) }
+    ensures after { OnOk result ((text : List ℕ) (batches : List (List ATxn)) → IsAfter text batches log.old.gate → IsAfter text (with_batch batches txns.items) log.new.gate) }
+    ensures ends { OnOk result (IfKnown (λ new. LogEndsAt log.new.gate new.now) (D.known disk.new)) }
     ensures gate { OnOk result (log.new.gate ≡ gate_past txns.items log.old.gate) }
     ensures kept { OnErr result (log.new.gate ≡ log.old.gate) }
     ensures waits { OnOk result (log.new.stage ≡ Stage.Waiting) }
@@ -83,7 +83,7 @@ pub fn commit<D: Disk>(log: &mut Log, disk: &mut D, txns: Vec<Txn>) -> Result<()
     ensures goes_on { ¬ IsErrOf result EngineCause.Ended }
 
     // No call of the device comes after one that failed.
-    ensures cause { IsErrOf result EngineCause.DiskFault → Rose (D.faults disk.old) (D.faults disk.new) }
+    ensures cause { IsErrOf result EngineCause.DiskFault → Faulted (D.faults disk.old) (D.faults disk.new) }
     ensures once { IsErrOf result EngineCause.DiskFault → D.faults disk.new ≡ one_more (D.faults disk.old) }
     ensures quiet { ¬ IsErrOf result EngineCause.DiskFault → D.faults disk.new ≡ D.faults disk.old }
 {

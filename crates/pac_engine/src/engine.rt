@@ -11,7 +11,7 @@ ghost use Rattle.pac_check.specs.SlotStates.{newest_of, saved_txns};
 ghost use Rattle.pac_request.specs.declared.request.Request.{Request as ARequest};
 ghost use Rattle.pac_request.specs.RequestFits.{RequestFits};
 ghost use Rattle.pac_session.specs.Session.{SessionState, commits};
-ghost use Rattle.pac_session.specs.Groups.{cut_one, place_behind};
+ghost use Rattle.pac_session.specs.Groups.{cut_one, place_after_group};
 ghost use Rattle.pac_session.specs.Open.{IsInGroup, rules_of, state_now};
 ghost use Rattle.pac_engine.specs.Closing.{Closes, CountsFault, IsKept, StopsAt, is_stop, slot_len};
 ghost use Rattle.pac_engine.specs.Standing.{HasDevices, OnlyGrows, KeepsMore, StandsForMore};
@@ -123,7 +123,7 @@ impl Engine {
         devices: &mut Devices<D>,
     ) -> Result<Replies, EngineFault>
         requires fits { RequestFits self.old.session.catalogue request }
-        requires ready { self.old.ended ≡ false → HasDevices D.told self.old devices.old }
+        requires ready { self.old.ended ≡ false → HasDevices D.known self.old devices.old }
 
         // The replies are those of the group that the request closes, if it closes one; of a step that fails, of a group that was
         // closed before.
@@ -131,18 +131,18 @@ impl Engine {
             → IfOk result (λ given. Closes (rules_of self.old.session) self.old.log.gate.place start (cut_one (rules_of self.old.session) start group request) given self.new) }
         ensures stops { self.old.ended ≡ false → (start : SessionState) (group : List ARequest) → IsInGroup start group self.old.session
             → IfErr result (λ fault. StopsAt (rules_of self.old.session) self.old.log.gate.place start (cut_one (rules_of self.old.session) start group request).closed fault.replies fault.cause) }
-        ensures small { request ≡ ARequest.Save → OnOk result (slot_len (rules_of self.old.session) (state_now self.old.session) (place_behind self.old.log.gate.place self.old.session.txns) ≤ MAX_SLOT_LEN) }
+        ensures small { request ≡ ARequest.Save → OnOk result (slot_len (rules_of self.old.session) (state_now self.old.session) (place_after_group self.old.log.gate.place self.old.session.txns) ≤ MAX_SLOT_LEN) }
         ensures same { OnOk result (rules_of self.new.session ≡ rules_of self.old.session) }
 
-        // What they tell of is durable, and stays so.
+        // What they report is durable, and stays so.
         ensures grows { OnlyGrows self.old self.new }
         ensures kept { IfOk result (λ given. AllByRecursion (IsKept self.new) given) }
         ensures kept_before { IfErr result (λ fault. AllByRecursion (IsKept self.new) fault.replies) }
 
         // The devices stand for the history at each moment, and the engine stands for it with the transactions of the request.
-        ensures ready { OnOk result (HasDevices D.told self.new devices.new) }
-        ensures keeps { self.old.ended ≡ false → KeepsMore D.told (commits (rules_of self.old.session) (state_now self.old.session) request) self.old self.new devices.old devices.new }
-        ensures stands { OnOk result (StandsForMore D.told (commits (rules_of self.old.session) (state_now self.old.session) request) self.old self.new devices.old devices.new) }
+        ensures ready { OnOk result (HasDevices D.known self.new devices.new) }
+        ensures keeps { self.old.ended ≡ false → KeepsMore D.known (commits (rules_of self.old.session) (state_now self.old.session) request) self.old self.new devices.old devices.new }
+        ensures stands { OnOk result (StandsForMore D.known (commits (rules_of self.old.session) (state_now self.old.session) request) self.old self.new devices.old devices.new) }
 
         // It ends with a fault or a stop, and then no device is called.
         ensures over { self.old.ended ≡ true → IsErrAnd result (λ fault. (fault.cause ≡ EngineCause.Ended) × (fault.replies ≡ [])) × (self.new ≡ self.old) × (devices.new ≡ devices.old) }

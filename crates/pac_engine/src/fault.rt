@@ -14,10 +14,10 @@ pub enum EngineCause {
     /// A call of a device failed.
     #[error("a device failed")]
     DiskFault,
-    /// The log would have so many bytes.
+    /// The log would have that many bytes.
     #[error("the log would have {need} bytes")]
     LogFull { need: u64 },
-    /// A checkpoint's slot would have so many bytes.
+    /// A checkpoint's slot would have that many bytes.
     #[error("the slot would have {bytes} bytes")]
     TooLarge { bytes: u64 },
     /// An earlier step failed, or stopped the engine.

@@ -8,7 +8,7 @@ ghost use Rattle.pac_request.specs.declared.request.Request.{Request as ARequest
 ghost use Rattle.pac_request.specs.declared.request.Reply.{Reply as AReply};
 ghost use Rattle.pac_request.specs.RequestFits.{RequestFits};
 ghost use Rattle.pac_session.specs.Session.{txn_of};
-ghost use Rattle.pac_session.specs.Groups.{is_closing, lacks_room, place_behind};
+ghost use Rattle.pac_session.specs.Groups.{is_closing, lacks_room, place_after_group};
 ghost use Rattle.pac_session.specs.Open.{rules_of, state_now};
 ghost use Rattle.pac_engine.specs.Closing.{CountsFault, IsKept, slot_len};
 ghost use Rattle.pac_engine.specs.Handled.{IsHandled};
@@ -42,10 +42,10 @@ fn is_closing(request: &Request) -> bool
     matches!(request, Request::Flush | Request::Save | Request::Stop)
 }
 
-// The replies, and one more behind them.
+// The replies, and one more after them.
 fn with_reply(replies: Replies, reply: Reply) -> Result<Replies, EngineFault>
-    ensures told { IfOk result (λ given. given ≡ replies ++ reply ∷ []) }
-    ensures untold { IfErr result (λ fault. fault.replies ≡ replies) }
+    ensures known { IfOk result (λ given. given ≡ replies ++ reply ∷ []) }
+    ensures unknown { IfErr result (λ fault. fault.replies ≡ replies) }
     ensures cause { IfErr result (λ fault. fault.cause ≡ EngineCause.NoMemory) }
 {
     let mut given = replies.into_items();
@@ -59,23 +59,23 @@ fn with_reply(replies: Replies, reply: Reply) -> Result<Replies, EngineFault>
 }
 
 impl EngineParts {
-    // Whether the open group ends behind a request, which closes it or doesn't.
+    // Whether the open group ends after a request, which closes it or doesn't.
     fn ends_group(&self, closing: bool) -> bool
         ensures { result ≡ (closing || nat_le self.now.session.most (length self.now.session.held)) }
     {
         closing || self.session.is_full()
     }
 
-    // Closes the open group behind a request, where that closes it or the group is full.
-    fn close_behind<D: Disk>(
+    // Closes the open group after a request, where that closes it or the group is full.
+    fn close_after<D: Disk>(
         &mut self,
         alloc: Global,
         closing: bool,
         devices: &mut Devices<D>,
     ) -> Result<Replies, EngineFault>
         requires working { IsWorking self.old }
-        requires ready { HasDevices D.told self.old devices.old }
-        ensures { (before : AParts) (asked : ARequest) → IsAsked before asked closing self.old → IsHandled D.told D.faults asked before self.new devices.old devices.new result }
+        requires ready { HasDevices D.known self.old devices.old }
+        ensures { (before : AParts) (asked : ARequest) → IsAsked before asked closing self.old → IsHandled D.known D.faults asked before self.new devices.old devices.new result }
     {
         if !self.ends_group(closing) {
             return Ok(Replies::of(Vec::new(alloc)));
@@ -94,11 +94,11 @@ impl EngineParts {
         devices: &mut Devices<D>,
     ) -> Result<Replies, EngineFault>
         requires live { IsLive self.old }
-        requires ready { HasDevices D.told self.old devices.old }
+        requires ready { HasDevices D.known self.old devices.old }
         requires fits { TxnFits self.old.session.catalogue txn }
         requires full { lacks_room self.old.session.txns (ASome txn) ≡ true }
         requires alone { lacks_room [] (ASome txn) ≡ false }
-        ensures { (asked : ARequest) → txn_of asked ≡ ASome txn → IsHandled D.told D.faults asked self.old self.new devices.old devices.new result }
+        ensures { (asked : ARequest) → txn_of asked ≡ ASome txn → IsHandled D.known D.faults asked self.old self.new devices.old devices.new result }
     {
         let replies = match self.close(devices) {
             Ok(replies) => replies,
@@ -121,15 +121,15 @@ impl EngineParts {
         devices: &mut Devices<D>,
     ) -> Result<Replies, EngineFault>
         requires live { IsLive self.old }
-        requires ready { HasDevices D.told self.old devices.old }
+        requires ready { HasDevices D.known self.old devices.old }
         requires fits { TxnFits self.old.session.catalogue txn }
-        ensures { (asked : ARequest) → txn_of asked ≡ ASome txn → IsHandled D.told D.faults asked self.old self.new devices.old devices.new result }
+        ensures { (asked : ARequest) → txn_of asked ≡ ASome txn → IsHandled D.known D.faults asked self.old self.new devices.old devices.new result }
     {
         if self.session.lacks_room(&txn) {
             return self.execute_anew(alloc, txn, devices);
         }
         match self.session.run(txn) {
-            Ok(()) => self.close_behind(alloc, false, devices),
+            Ok(()) => self.close_after(alloc, false, devices),
             Err(NoMemory) => Err(fault(alloc, EngineCause::NoMemory)),
         }
     }
@@ -142,21 +142,21 @@ impl EngineParts {
         devices: &mut Devices<D>,
     ) -> Result<Replies, EngineFault>
         requires live { IsLive self.old }
-        requires ready { HasDevices D.told self.old devices.old }
+        requires ready { HasDevices D.known self.old devices.old }
         requires fits { RequestFits self.old.session.catalogue request }
         requires none { txn_of request ≡ ANone }
         requires unsaved { request ≢ ARequest.Save }
-        ensures { IsHandled D.told D.faults request self.old self.new devices.old devices.new result }
+        ensures { IsHandled D.known D.faults request self.old self.new devices.old devices.new result }
     {
         let closing = is_closing(&request);
         match self.session.answer(request) {
-            Ok(()) => self.close_behind(alloc, closing, devices),
+            Ok(()) => self.close_after(alloc, closing, devices),
             Err(NoMemory) => Err(fault(alloc, EngineCause::NoMemory)),
         }
     }
 
-    // Saves a checkpoint behind a group that was closed, and tells of it behind the group's replies.
-    fn save_and_tell<D: Disk>(
+    // Saves a checkpoint after a group that was closed, and says of it after the group's replies.
+    fn save_and_report<D: Disk>(
         &mut self,
         alloc: Global,
         replies: Replies,
@@ -165,16 +165,16 @@ impl EngineParts {
         requires working { IsWorking self.old }
         requires none { self.old.session.txns ≡ [] }
         requires held { AllByRecursion (IsHeldBy self.old.log.gate.txns) replies }
-        requires ready { HasDevices D.told self.old devices.old }
+        requires ready { HasDevices D.known self.old devices.old }
         ensures saved { OnOk result (self.new ≡ saved_parts self.old) }
         ensures grows { OnlyGrows self.old self.new }
-        ensures told { IfOk result (λ given. given ≡ replies ++ AReply.Saved self.old.log.gate.txns ∷ []) }
-        ensures untold { IfErr result (λ fault. fault.replies ≡ replies) }
+        ensures known { IfOk result (λ given. given ≡ replies ++ AReply.Saved self.old.log.gate.txns ∷ []) }
+        ensures unknown { IfErr result (λ fault. fault.replies ≡ replies) }
         ensures kept { IfOk result (λ given. AllByRecursion (IsKept self.new) given) }
         ensures kept_before { IfErr result (λ fault. AllByRecursion (IsKept self.new) fault.replies) }
-        ensures ready { OnOk result (HasDevices D.told self.new devices.new) }
-        ensures keeps { KeepsMore D.told [] self.old self.new devices.old devices.new }
-        ensures stands { OnOk result (StandsForMore D.told [] self.old self.new devices.old devices.new) }
+        ensures ready { OnOk result (HasDevices D.known self.new devices.new) }
+        ensures keeps { KeepsMore D.known [] self.old self.new devices.old devices.new }
+        ensures stands { OnOk result (StandsForMore D.known [] self.old self.new devices.old devices.new) }
         ensures large { IfErr result (λ fault. (bytes : ℕ) → fault.cause ≡ EngineCause.TooLarge bytes → (bytes ≡ slot_len (rules_of self.old.session) (state_now self.old.session) self.old.log.gate.place) × (MAX_SLOT_LEN < bytes)) }
         ensures small { OnOk result (slot_len (rules_of self.old.session) (state_now self.old.session) self.old.log.gate.place ≤ MAX_SLOT_LEN) }
         ensures full { IfErr result (λ fault. (need : ℕ) → ¬ (fault.cause ≡ EngineCause.LogFull need)) }
@@ -197,12 +197,12 @@ impl EngineParts {
         devices: &mut Devices<D>,
     ) -> Result<Replies, EngineFault>
         requires live { IsLive self.old }
-        requires ready { HasDevices D.told self.old devices.old }
-        ensures handled { IsHandled D.told D.faults ARequest.Save self.old self.new devices.old devices.new result }
-        ensures small { OnOk result (slot_len (rules_of self.old.session) (state_now self.old.session) (place_behind self.old.log.gate.place self.old.session.txns) ≤ MAX_SLOT_LEN) }
+        requires ready { HasDevices D.known self.old devices.old }
+        ensures handled { IsHandled D.known D.faults ARequest.Save self.old self.new devices.old devices.new result }
+        ensures small { OnOk result (slot_len (rules_of self.old.session) (state_now self.old.session) (place_after_group self.old.log.gate.place self.old.session.txns) ≤ MAX_SLOT_LEN) }
     {
         match self.close(devices) {
-            Ok(replies) => self.save_and_tell(alloc, replies, devices),
+            Ok(replies) => self.save_and_report(alloc, replies, devices),
             Err(cause) => Err(fault(alloc, cause)),
         }
     }
@@ -215,10 +215,10 @@ impl EngineParts {
         devices: &mut Devices<D>,
     ) -> Result<Replies, EngineFault>
         requires live { IsLive self.old }
-        requires ready { HasDevices D.told self.old devices.old }
+        requires ready { HasDevices D.known self.old devices.old }
         requires fits { RequestFits self.old.session.catalogue request }
-        ensures handled { IsHandled D.told D.faults request self.old self.new devices.old devices.new result }
-        ensures small { request ≡ ARequest.Save → OnOk result (slot_len (rules_of self.old.session) (state_now self.old.session) (place_behind self.old.log.gate.place self.old.session.txns) ≤ MAX_SLOT_LEN) }
+        ensures handled { IsHandled D.known D.faults request self.old self.new devices.old devices.new result }
+        ensures small { request ≡ ARequest.Save → OnOk result (slot_len (rules_of self.old.session) (state_now self.old.session) (place_after_group self.old.log.gate.place self.old.session.txns) ≤ MAX_SLOT_LEN) }
     {
         match transaction_of(request) {
             Ok(txn) => self.execute(alloc, txn, devices),

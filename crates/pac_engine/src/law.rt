@@ -9,7 +9,7 @@ ghost use Rattle.pac_session.specs.Session.{Rules, SessionState, ends};
 ghost use Rattle.pac_session.specs.Groups.{GroupCut, all_requests, cut_on, cut_one};
 ghost use Rattle.pac_session.specs.Open.{rules_of, state_now};
 ghost use Rattle.pac_engine.specs.Closing.{Closes, StopsAt};
-ghost use Rattle.pac_engine.specs.Standing.{IsOpenedOn, KeepsHistory, OnlyGrows, StandsOn, TellsWhere, seen_of};
+ghost use Rattle.pac_engine.specs.Standing.{IsOpenedOn, KeepsHistory, OnlyGrows, StandsOn, WhileAllKnown, seen_of};
 ghost use Rattle.pac_engine.specs.declared.fault.EngineCause.{EngineCause as ACause};
 ghost use Rattle.pac_engine.specs.declared.parts.EngineParts.{EngineParts as AParts};
 
@@ -25,18 +25,18 @@ pub fn steps_are_the_session()
         → StopsAt rules place start (cut_on rules start whole asked).closed (given ++ more) cause }
 {}
 
-/// An engine that stands for a history, and keeps it with some transactions behind it, in one step, and then with more of them
+/// An engine that stands for a history, and keeps it with some transactions after it, in one step, and then with more of them
 /// in the next, keeps it with all of them in both.
 pub fn steps_keep_the_history()
     ensures keeps { (text : List ℕ) (history more last : List ATxn) (first next end : AParts) (old middle new : List (Option DiskHistory)) → rules_of next.session ≡ rules_of first.session → OnlyGrows first next
-        → TellsWhere (StandsOn text history first) (KeepsHistory text (history ++ more) first next) old middle
-        → TellsWhere (StandsOn text history first) (λ was is. StandsOn text (history ++ more) next is) old middle
-        → TellsWhere (StandsOn text (history ++ more) next) (KeepsHistory text ((history ++ more) ++ last) next end) middle new
-        → TellsWhere (StandsOn text history first) (KeepsHistory text (history ++ (more ++ last)) first end) old new }
+        → WhileAllKnown (StandsOn text history first) (KeepsHistory text (history ++ more) first next) old middle
+        → WhileAllKnown (StandsOn text history first) (λ was is. StandsOn text (history ++ more) next is) old middle
+        → WhileAllKnown (StandsOn text (history ++ more) next) (KeepsHistory text ((history ++ more) ++ last) next end) middle new
+        → WhileAllKnown (StandsOn text history first) (KeepsHistory text (history ++ (more ++ last)) first end) old new }
     ensures stands { (text : List ℕ) (history more last : List ATxn) (first next end : AParts) (old middle new : List (Option DiskHistory))
-        → TellsWhere (StandsOn text history first) (λ was is. StandsOn text (history ++ more) next is) old middle
-        → TellsWhere (StandsOn text (history ++ more) next) (λ was is. StandsOn text ((history ++ more) ++ last) end is) middle new
-        → TellsWhere (StandsOn text history first) (λ was is. StandsOn text (history ++ (more ++ last)) end is) old new }
+        → WhileAllKnown (StandsOn text history first) (λ was is. StandsOn text (history ++ more) next is) old middle
+        → WhileAllKnown (StandsOn text (history ++ more) next) (λ was is. StandsOn text ((history ++ more) ++ last) end is) middle new
+        → WhileAllKnown (StandsOn text history first) (λ was is. StandsOn text (history ++ (more ++ last)) end is) old new }
 {}
 
 /// An engine that is opened over devices that stand for a history stands for as many transactions of it as the log has.

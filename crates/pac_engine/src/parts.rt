@@ -26,19 +26,19 @@ pub struct EngineParts {
 }
 
 impl EngineParts {
-    // Closes the open group: commits its transactions, and gives out its replies.
+    // Closes the open group: commits its transactions, and returns its replies.
     pub(crate) fn close<D: Disk>(
         &mut self,
         devices: &mut Devices<D>,
     ) -> Result<Replies, EngineCause>
         requires working { IsWorking self.old }
-        requires ready { HasDevices D.told self.old devices.old }
+        requires ready { HasDevices D.known self.old devices.old }
         ensures given { IfOk result (λ given. given ≡ self.old.session.held) }
         ensures closed { OnOk result (self.new ≡ committed_parts self.old) }
         ensures unmoved { OnErr result (IsUnmoved self.old self.new) }
-        ensures ready { OnOk result (HasDevices D.told self.new devices.new) }
-        ensures keeps { KeepsMore D.told [] self.old self.new devices.old devices.new }
-        ensures stands { OnOk result (StandsForMore D.told [] self.old self.new devices.old devices.new) }
+        ensures ready { OnOk result (HasDevices D.known self.new devices.new) }
+        ensures keeps { KeepsMore D.known [] self.old self.new devices.old devices.new }
+        ensures stands { OnOk result (StandsForMore D.known [] self.old self.new devices.old devices.new) }
         ensures full { (need : ℕ) → IsErrOf result (EngineCause.LogFull need) → IsOverFull self.old.log.gate.place self.old.session.txns need }
         ensures room { OnOk result (HasRoomAt self.old.log.gate.place self.old.session.txns) }
         ensures called { IsErrOf result EngineCause.DiskFault → IsCalledFor self.old.log.gate.place self.old.session.txns }
@@ -46,13 +46,13 @@ impl EngineParts {
         ensures goes_on { ¬ IsErrOf result EngineCause.Ended }
         ensures faults { MatchResult result (λ _. each D.faults devices.new ≡ each D.faults devices.old) (λ cause. CountsFault cause (each D.faults devices.old) (each D.faults devices.new)) }
     {
-        let _txns = self.log.gate().txns(); // so few that the numbers behind them have 64 bits
+        let _txns = self.log.gate().txns(); // so few that the numbers after them have 64 bits
         let (txns, replies) = self.session.close();
         commit(&mut self.log, &mut devices.log, txns)?;
         Ok(replies)
     }
 
-    // Saves a checkpoint of the tables, behind a group that was closed.
+    // Saves a checkpoint of the tables, after a group that was closed.
     pub(crate) fn save<D: Disk>(
         &mut self,
         alloc: Global,
@@ -60,12 +60,12 @@ impl EngineParts {
     ) -> Result<(), EngineCause>
         requires working { IsWorking self.old }
         requires none { self.old.session.txns ≡ [] }
-        requires ready { HasDevices D.told self.old devices.old }
+        requires ready { HasDevices D.known self.old devices.old }
         ensures saved { OnOk result (self.new ≡ saved_parts self.old) }
         ensures unmoved { OnErr result (IsUnmoved self.old self.new) }
-        ensures ready { OnOk result (HasDevices D.told self.new devices.new) }
-        ensures keeps { KeepsMore D.told [] self.old self.new devices.old devices.new }
-        ensures stands { OnOk result (StandsForMore D.told [] self.old self.new devices.old devices.new) }
+        ensures ready { OnOk result (HasDevices D.known self.new devices.new) }
+        ensures keeps { KeepsMore D.known [] self.old self.new devices.old devices.new }
+        ensures stands { OnOk result (StandsForMore D.known [] self.old self.new devices.old devices.new) }
         ensures large { (bytes : ℕ) → IsErrOf result (EngineCause.TooLarge bytes) → (bytes ≡ slot_len (rules_of self.old.session) (state_now self.old.session) self.old.log.gate.place) × (MAX_SLOT_LEN < bytes) }
         ensures small { OnOk result (slot_len (rules_of self.old.session) (state_now self.old.session) self.old.log.gate.place ≤ MAX_SLOT_LEN) }
         ensures full { (need : ℕ) → ¬ IsErrOf result (EngineCause.LogFull need) }

@@ -19,12 +19,12 @@ use Rattle.pac_ops.specs.Shapes.{KeyFits, ColumnsFit, ChangeFits, RecordsFit}
 use Rattle.pac_ops.specs.Sizes.{HasOneTo}
 use Rattle.pac_types.specs.declared.table.Table.{Table}
 use Rattle.pac_types.specs.Fits.{shape}
-use Rattle.pac_types.specs.Sound.{types}
-use Rattle.pac_bytes.specs.Reading.{Rest, told_as, times}
+use Rattle.pac_types.specs.WellFormed.{types}
+use Rattle.pac_bytes.specs.Reading.{Rest, reported_as, times}
 use Rattle.pac_bytes.specs.Values.{HasBytes}
 use Rattle.pac_bytes.specs.Typed.{key_bytes, KeyHasType, HaveTypes, next_key}
 use Rattle.pac_bytes.proofs.Results.{not_both}
-use Rattle.pac_bytes.proofs.Codec.{IsCodec, ended, seq, either, never, same, retold}
+use Rattle.pac_bytes.proofs.Codec.{IsCodec, ended, seq, either, never, same, reported_again}
 use Rattle.pac_bytes.proofs.Lists.{times_codec}
 use Rattle.pac_bytes.proofs.Numbers.{IsByte, one_byte}
 use Rattle.pac_bytes.proofs.TypedLemmas.{key_codec}
@@ -62,14 +62,14 @@ abbrev tag_of : Change → ℕ
 tag_of (Put t k r) = 1
 tag_of (Delete t k) = 2
 
--- what stands behind the table's number
-abbrev behind_table : Change → List ℕ
-behind_table (Put t k r) = key_bytes k ++ counted_bytes r
-behind_table (Delete t k) = key_bytes k
+-- what stands after the table's number
+abbrev after_table : Change → List ℕ
+after_table (Put t k r) = key_bytes k ++ counted_bytes r
+after_table (Delete t k) = key_bytes k
 
--- what stands behind the tag
-abbrev behind_tag : Change → List ℕ
-behind_tag c = to_le_bytes w16 (table_of c) ++ behind_table c
+-- what stands after the tag
+abbrev after_tag : Change → List ℕ
+after_tag c = to_le_bytes w16 (table_of c) ++ after_table c
 
 -- a record of this table that has bytes
 abbrev FitsHere : Option Table → Change → Type 0
@@ -111,7 +111,7 @@ within : (tables : List Table) (n : ℕ) (c : Change) (o : Option Table) → sli
 within tables n c None is h = absurd h
 within tables n c (Some table) is h = slice_get_within tables n table is
 
--- ---- behind the table's number
+-- ---- after the table's number
 
 -- a put, or a delete, of a table
 abbrev OfTable : ℕ → Option Table → Change → Type 0
@@ -148,7 +148,7 @@ put_joined : (table : Table) (c : Change) → tag_of c ≡ 1 → KeyHasType tabl
 put_joined table (Put t k r) tag a b = ((a, b), tag)
 put_joined table (Delete t k) tag a b = absurd (omega (arith, tag))
 
-put_words : (c : Change) → tag_of c ≡ 1 → key_bytes (key_of c) ++ counted_bytes (row_of c) ≡ behind_table c
+put_words : (c : Change) → tag_of c ≡ 1 → key_bytes (key_of c) ++ counted_bytes (row_of c) ≡ after_table c
 put_words (Put t k r) tag = refl
 put_words (Delete t k) tag = absurd (omega (arith, tag))
 
@@ -160,18 +160,18 @@ delete_joined : (table : Table) (c : Change) → tag_of c ≡ 2 → KeyHasType t
 delete_joined table (Put t k r) tag a = absurd (omega (arith, tag))
 delete_joined table (Delete t k) tag a = (a, tag)
 
-delete_words : (c : Change) → tag_of c ≡ 2 → key_bytes (key_of c) ≡ behind_table c
+delete_words : (c : Change) → tag_of c ≡ 2 → key_bytes (key_of c) ≡ after_table c
 delete_words (Put t k r) tag = absurd (omega (arith, tag))
 delete_words (Delete t k) tag = refl
 
-here_key_codec : (table : Table) → IsCodec (KeyHasType table.key) key_bytes (λ s. told_as (as_fault_of WrongRow) (next_key table.key s))
-here_key_codec table = retold _ _ (next_key table.key) (as_fault_of WrongRow) (key_codec table.key)
+here_key_codec : (table : Table) → IsCodec (KeyHasType table.key) key_bytes (λ s. reported_as (as_fault_of WrongRow) (next_key table.key s))
+here_key_codec table = reported_again _ _ (next_key table.key) (as_fault_of WrongRow) (key_codec table.key)
 
 -- the table is there, and the rest is read by its types
 of_table : (tables : List Table) (tag at n : ℕ) (rest : Table → Rest → Result (Change × Rest) EntryFault)
-    → ((table : Table) → slice_get tables n ≡ Some table → IsCodec (λ c. OfTable tag (Some table) c × (table_of c ≡ n)) behind_table (rest table))
+    → ((table : Table) → slice_get tables n ≡ Some table → IsCodec (λ c. OfTable tag (Some table) c × (table_of c ≡ n)) after_table (rest table))
     → (o : Option Table) → slice_get tables n ≡ o
-    → IsCodec (λ c. OfTable tag (slice_get tables (table_of c)) c × (table_of c ≡ n)) behind_table (λ s. ok_or o (fault_at UnknownTable at) >>= λ table. rest table s)
+    → IsCodec (λ c. OfTable tag (slice_get tables (table_of c)) c × (table_of c ≡ n)) after_table (λ s. ok_or o (fault_at UnknownTable at) >>= λ table. rest table s)
 of_table tables tag at n rest each None is = never _ _ (λ s. fault_at UnknownTable at) (λ c h. none c (subst (λ (o : Option Table). OfTable tag o c) (ap (λ (k : ℕ). slice_get tables k) h.1 ∙ is) h.0))
   where
     none : (c : Change) → OfTable tag None c → ⊥
@@ -182,20 +182,20 @@ of_table tables tag at n rest each (Some table) is = same _ _ _ _ (rest table)
     (λ c h. refl)
     (each table is)
 
--- a put of a table, behind the table's number
+-- a put of a table, after the table's number
 abbrev put_of : ℕ → Table → Rest → Result (Change × Rest) EntryFault
-put_of n table s = told_as (as_fault_of WrongRow) (next_key table.key s) >>= λ key. counted_values WrongRow table.columns key.1 >>= λ row. Ok (Put n key.0 row.0, row.1)
+put_of n table s = reported_as (as_fault_of WrongRow) (next_key table.key s) >>= λ key. counted_values WrongRow table.columns key.1 >>= λ row. Ok (Put n key.0 row.0, row.1)
 
--- a delete of a table, behind the table's number
+-- a delete of a table, after the table's number
 abbrev delete_of : ℕ → Table → Rest → Result (Change × Rest) EntryFault
-delete_of n table s = told_as (as_fault_of WrongRow) (next_key table.key s) >>= λ key. Ok (Delete n key.0, key.1)
+delete_of n table s = reported_as (as_fault_of WrongRow) (next_key table.key s) >>= λ key. Ok (Delete n key.0, key.1)
 
-put_rest : (n : ℕ) (table : Table) → length table.columns < 256 → IsCodec (λ c. OfTable 1 (Some table) c × (table_of c ≡ n)) behind_table (put_of n table)
+put_rest : (n : ℕ) (table : Table) → length table.columns < 256 → IsCodec (λ c. OfTable 1 (Some table) c × (table_of c ≡ n)) after_table (put_of n table)
 put_rest n table short = same _ _ _ _ _
     (λ c h. ((record { is_put = h.0.1; table = h.1; key_is = refl }, put_row table c h.0), put_key table c h.0))
     (λ c h. (put_joined table c h.0.0.is_put h.1 h.0.1, h.0.0.table))
     (λ c h. put_words c h.0.1)
-    (seq key_of (KeyHasType table.key) key_bytes (λ s. told_as (as_fault_of WrongRow) (next_key table.key s)) (λ c. PutIs n (key_of c) c × HaveTypes (types table.columns) (row_of c)) (λ c. counted_bytes (row_of c))
+    (seq key_of (KeyHasType table.key) key_bytes (λ s. reported_as (as_fault_of WrongRow) (next_key table.key s)) (λ c. PutIs n (key_of c) c × HaveTypes (types table.columns) (row_of c)) (λ c. counted_bytes (row_of c))
     (λ at key s. counted_values WrongRow table.columns s >>= λ row. Ok (Put n key row.0, row.1))
     (here_key_codec table)
     (λ at key is. same _ _ _ _ _
@@ -210,12 +210,12 @@ put_rest n table short = same _ _ _ _ _
     (λ c h. refl)
     (ended (Put n key row))))))
 
-delete_rest : (n : ℕ) (table : Table) → IsCodec (λ c. OfTable 2 (Some table) c × (table_of c ≡ n)) behind_table (delete_of n table)
+delete_rest : (n : ℕ) (table : Table) → IsCodec (λ c. OfTable 2 (Some table) c × (table_of c ≡ n)) after_table (delete_of n table)
 delete_rest n table = same _ _ _ _ _
     (λ c h. ((h.0.1, h.1), delete_key table c h.0))
     (λ c h. (delete_joined table c h.0.0 h.1, h.0.1))
     (λ c h. append-nil (key_bytes (key_of c)) ∙ delete_words c h.0.1)
-    (seq key_of (KeyHasType table.key) key_bytes (λ s. told_as (as_fault_of WrongRow) (next_key table.key s)) (λ c. (tag_of c ≡ 2) × (table_of c ≡ n)) (λ c. []) (λ at key s. Ok (Delete n key, s))
+    (seq key_of (KeyHasType table.key) key_bytes (λ s. reported_as (as_fault_of WrongRow) (next_key table.key s)) (λ c. (tag_of c ≡ 2) × (table_of c ≡ n)) (λ c. []) (λ at key s. Ok (Delete n key, s))
     (here_key_codec table)
     (λ at key is. same _ _ _ _ _
     (λ c h. delete_is n key c h.0.0 h.0.1 h.1)
@@ -223,29 +223,29 @@ delete_rest n table = same _ _ _ _ _
     (λ c h. refl)
     (ended (Delete n key))))
 
--- ---- behind the tag
+-- ---- after the tag
 
-abbrev Behind : List Table → ℕ → Change → Type 0
-Behind tables tag c = IsChange tables c × (tag_of c ≡ tag)
+abbrev After : List Table → ℕ → Change → Type 0
+After tables tag c = IsChange tables c × (tag_of c ≡ tag)
 
 -- what follows a tag is the number of a table that is there, and what follows that
 numbered : (tables : List Table) (tag : ℕ) (rest : ℕ → Table → Rest → Result (Change × Rest) EntryFault) → AreFewTables tables
-    → ((n : ℕ) (table : Table) → slice_get tables n ≡ Some table → IsCodec (λ c. OfTable tag (Some table) c × (table_of c ≡ n)) behind_table (rest n table))
-    → IsCodec (Behind tables tag) behind_tag (λ s. entry_number s >>= λ n. ok_or (slice_get tables n.0) (fault_at UnknownTable s.at) >>= λ table. rest n.0 table n.1)
+    → ((n : ℕ) (table : Table) → slice_get tables n ≡ Some table → IsCodec (λ c. OfTable tag (Some table) c × (table_of c ≡ n)) after_table (rest n table))
+    → IsCodec (After tables tag) after_tag (λ s. entry_number s >>= λ n. ok_or (slice_get tables n.0) (fault_at UnknownTable s.at) >>= λ table. rest n.0 table n.1)
 numbered tables tag rest few each = same _ _ _ _ _
     (λ c h. ((here tables c h.0, h.1), omega (arith, within tables (table_of c) c (slice_get tables (table_of c)) refl (here tables c h.0), few.count)))
     (λ c h. (there tables c h.0.0, h.0.1))
     (λ c h. refl)
-    (seq table_of (λ n. n < 65536) (to_le_bytes w16) entry_number (λ c. OfTable tag (slice_get tables (table_of c)) c) behind_table
+    (seq table_of (λ n. n < 65536) (to_le_bytes w16) entry_number (λ c. OfTable tag (slice_get tables (table_of c)) c) after_table
     (λ at n s. ok_or (slice_get tables n) (fault_at UnknownTable at) >>= λ table. rest n table s)
     entry_number_codec
     (λ at n lt. of_table tables tag at n (rest n) (each n) (slice_get tables n) refl))
 
-put_codec : (tables : List Table) → AreFewTables tables → IsCodec (Behind tables 1) behind_tag (next_put tables)
+put_codec : (tables : List Table) → AreFewTables tables → IsCodec (After tables 1) after_tag (next_put tables)
 unfolding next_put
 put_codec tables few = numbered tables 1 put_of few (λ n table is. put_rest n table (few.columns n table is))
 
-delete_codec : (tables : List Table) → AreFewTables tables → IsCodec (Behind tables 2) behind_tag (next_delete tables)
+delete_codec : (tables : List Table) → AreFewTables tables → IsCodec (After tables 2) after_tag (next_delete tables)
 unfolding next_delete
 delete_codec tables few = numbered tables 2 delete_of few (λ n table is. delete_rest n table)
 
@@ -257,7 +257,7 @@ small_tag : (c : Change) → IsByte (tag_of c)
 small_tag (Put t k r) = omega arith
 small_tag (Delete t k) = omega arith
 
-change_words : (c : Change) → tag_of c ∷ behind_tag c ≡ change_bytes c
+change_words : (c : Change) → tag_of c ∷ after_tag c ≡ change_bytes c
 change_words (Put t k r) = refl
 change_words (Delete t k) = refl
 
@@ -267,13 +267,13 @@ change_codec tables few = same _ _ _ _ _
     (λ c h. (h, small_tag c))
     (λ c h. h.0)
     (λ c h. change_words c)
-    (seq tag_of IsByte one_byte entry_byte (IsChange tables) behind_tag
+    (seq tag_of IsByte one_byte entry_byte (IsChange tables) after_tag
     (λ at tag s. cond (eqb tag 1) (next_put tables s) (cond (eqb tag 2) (next_delete tables s) (Err (fault_at Tag at))))
     entry_byte_codec
     (λ at tag lt. either _ _ (eqb tag 1) (next_put tables) (λ s. cond (eqb tag 2) (next_delete tables s) (Err (fault_at Tag at)))
-    (λ one. subst (λ (k : ℕ). IsCodec (Behind tables k) behind_tag (next_put tables)) (sym (eqb-true _ _ one)) (put_codec tables few))
+    (λ one. subst (λ (k : ℕ). IsCodec (After tables k) after_tag (next_put tables)) (sym (eqb-true _ _ one)) (put_codec tables few))
     (λ not_one. either _ _ (eqb tag 2) (next_delete tables) (λ s. Err (fault_at Tag at))
-    (λ two. subst (λ (k : ℕ). IsCodec (Behind tables k) behind_tag (next_delete tables)) (sym (eqb-true _ _ two)) (delete_codec tables few))
+    (λ two. subst (λ (k : ℕ). IsCodec (After tables k) after_tag (next_delete tables)) (sym (eqb-true _ _ two)) (delete_codec tables few))
     (λ not_two. never _ _ (λ s. fault_at Tag at) (λ c h. no_tag tag c not_one not_two h.1)))))
 
 -- ---- lists of records

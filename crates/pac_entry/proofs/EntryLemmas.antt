@@ -14,7 +14,7 @@ use Rattle.pac_ops.specs.declared.transaction.Txn.{Txn}
 use Rattle.pac_ops.specs.declared.transaction.Txn.TheVariants.{Call as ACall, AdHoc}
 use Rattle.pac_types.specs.declared.procedure.Proc.{Proc}
 use Rattle.pac_types.specs.Fits.{FitParams, FitsProcs}
-use Rattle.pac_types.specs.Sound.{types}
+use Rattle.pac_types.specs.WellFormed.{types}
 use Rattle.pac_types.specs.Typing.{CatalogueState}
 use Rattle.pac_bytes.specs.Reading.{Rest}
 use Rattle.pac_bytes.specs.Values.{HasBytes}
@@ -122,10 +122,10 @@ abbrev tag_of : Txn → ℕ
 tag_of (ACall call) = 1
 tag_of (AdHoc records) = 2
 
--- what stands behind the tag
-abbrev behind_tag : Txn → List ℕ
-behind_tag (ACall call) = call_bytes call
-behind_tag (AdHoc records) = length records ∷ flat_map change_bytes records
+-- what stands after the tag
+abbrev after_tag : Txn → List ℕ
+after_tag (ACall call) = call_bytes call
+after_tag (AdHoc records) = length records ∷ flat_map change_bytes records
 
 -- an entry with this tag
 abbrev Tagged : CatalogueState → ℕ → Txn → Type 0
@@ -140,7 +140,7 @@ module _ (catalogue : CatalogueState) where
   of_call (ACall call) h = (h.1, refl)
   of_call (AdHoc records) h = absurd (omega (arith, h.0))
 
-  call_words : (txn : Txn) → tag_of txn ≡ 1 → call_bytes (call_in txn) ++ [] ≡ behind_tag txn
+  call_words : (txn : Txn) → tag_of txn ≡ 1 → call_bytes (call_in txn) ++ [] ≡ after_tag txn
   call_words (ACall call) tag = append-nil (call_bytes call)
   call_words (AdHoc records) tag = absurd (omega (arith, tag))
 
@@ -148,7 +148,7 @@ module _ (catalogue : CatalogueState) where
   txn_of_call call (ACall c) h = ap (λ x. ACall x) h.1
   txn_of_call call (AdHoc records) h = absurd (omega (arith, h.0))
 
-  called_codec : AreFewProcs catalogue.procs → IsCodec (Tagged catalogue 1) behind_tag (called_entry catalogue)
+  called_codec : AreFewProcs catalogue.procs → IsCodec (Tagged catalogue 1) after_tag (called_entry catalogue)
   called_codec few = same _ _ _ _ _ is_call of_call (λ txn h. call_words txn h.1)
       (seq call_in (IsCall catalogue.procs) call_bytes (next_call catalogue.procs) (λ txn. tag_of txn ≡ 1) (λ txn. []) (λ at call s. Ok (ACall call, s))
       (call_codec catalogue.procs few)
@@ -166,7 +166,7 @@ module _ (catalogue : CatalogueState) where
   of_ad_hoc (ACall call) h = absurd (omega (arith, h.0))
   of_ad_hoc (AdHoc records) h = (h.1, refl)
 
-  ad_hoc_words : (txn : Txn) → tag_of txn ≡ 2 → (length (records_in txn) ∷ flat_map change_bytes (records_in txn)) ++ [] ≡ behind_tag txn
+  ad_hoc_words : (txn : Txn) → tag_of txn ≡ 2 → (length (records_in txn) ∷ flat_map change_bytes (records_in txn)) ++ [] ≡ after_tag txn
   ad_hoc_words (ACall call) tag = absurd (omega (arith, tag))
   ad_hoc_words (AdHoc records) tag = append-nil (length records ∷ flat_map change_bytes records)
 
@@ -174,7 +174,7 @@ module _ (catalogue : CatalogueState) where
   txn_of_records records (ACall c) h = absurd (omega (arith, h.0))
   txn_of_records records (AdHoc rs) h = ap (λ x. AdHoc x) h.1
 
-  ad_hoc_codec : AreFewTables catalogue.tables → IsCodec (Tagged catalogue 2) behind_tag (ad_hoc_entry catalogue)
+  ad_hoc_codec : AreFewTables catalogue.tables → IsCodec (Tagged catalogue 2) after_tag (ad_hoc_entry catalogue)
   ad_hoc_codec few = same _ _ _ _ _ is_ad_hoc of_ad_hoc (λ txn h. ad_hoc_words txn h.1)
       (seq records_in (AreChanges catalogue.tables) (λ rs. length rs ∷ flat_map change_bytes rs) (next_records catalogue.tables) (λ txn. tag_of txn ≡ 2) (λ txn. []) (λ at rs s. Ok (AdHoc rs, s))
       (records_codec catalogue.tables few)
@@ -192,7 +192,7 @@ small_tag : (txn : Txn) → IsByte (tag_of txn)
 small_tag (ACall call) = omega arith
 small_tag (AdHoc records) = omega arith
 
-txn_words : (txn : Txn) → tag_of txn ∷ behind_tag txn ≡ txn_bytes txn
+txn_words : (txn : Txn) → tag_of txn ∷ after_tag txn ≡ txn_bytes txn
 txn_words (ACall call) = refl
 txn_words (AdHoc records) = refl
 
@@ -202,11 +202,11 @@ entry_codec catalogue few_tables few_procs = same _ _ _ _ _
     (λ txn h. (h, small_tag txn))
     (λ txn h. h.0)
     (λ txn h. txn_words txn)
-    (seq tag_of IsByte one_byte entry_byte (IsEntry catalogue) behind_tag
+    (seq tag_of IsByte one_byte entry_byte (IsEntry catalogue) after_tag
     (λ at tag s. cond (eqb tag 1) (called_entry catalogue s) (cond (eqb tag 2) (ad_hoc_entry catalogue s) (Err (fault_at Tag at))))
     entry_byte_codec
     (λ at tag lt. either _ _ (eqb tag 1) (called_entry catalogue) (λ s. cond (eqb tag 2) (ad_hoc_entry catalogue s) (Err (fault_at Tag at)))
-    (λ one. subst (λ (k : ℕ). IsCodec (Tagged catalogue k) behind_tag (called_entry catalogue)) (sym (eqb-true _ _ one)) (called_codec catalogue few_procs))
+    (λ one. subst (λ (k : ℕ). IsCodec (Tagged catalogue k) after_tag (called_entry catalogue)) (sym (eqb-true _ _ one)) (called_codec catalogue few_procs))
     (λ not_one. either _ _ (eqb tag 2) (ad_hoc_entry catalogue) (λ s. Err (fault_at Tag at))
-    (λ two. subst (λ (k : ℕ). IsCodec (Tagged catalogue k) behind_tag (ad_hoc_entry catalogue)) (sym (eqb-true _ _ two)) (ad_hoc_codec catalogue few_tables))
+    (λ two. subst (λ (k : ℕ). IsCodec (Tagged catalogue k) after_tag (ad_hoc_entry catalogue)) (sym (eqb-true _ _ two)) (ad_hoc_codec catalogue few_tables))
     (λ not_two. never _ _ (λ s. fault_at Tag at) (λ txn h. no_tag tag txn not_one not_two h.1)))))

@@ -15,10 +15,10 @@ use Rattle.pac_ops.specs.declared.transaction.Txn.TheVariants.{Call as ACall, Ad
 use Rattle.pac_types.specs.declared.procedure.Proc.{Proc}
 use Rattle.pac_types.specs.declared.table.Column.{Column}
 use Rattle.pac_types.specs.declared.table.Table.{Table}
-use Rattle.pac_types.specs.Sound.{types}
-use Rattle.pac_types.specs.Typing.{CatalogueState, IsSoundTable, IsProc}
+use Rattle.pac_types.specs.WellFormed.{types}
+use Rattle.pac_types.specs.Typing.{CatalogueState, IsWellFormedTable, IsProc}
 use Rattle.pac_bytes.specs.declared.fault.TypedFault.{TypedFault}
-use Rattle.pac_bytes.specs.Reading.{Rest, told_as}
+use Rattle.pac_bytes.specs.Reading.{Rest, reported_as}
 use Rattle.pac_bytes.specs.Readers.{Finds}
 use Rattle.pac_bytes.specs.Typed.{next_values}
 use Rattle.pac_entry.specs.declared.fault.EntryFault.{EntryFault}
@@ -33,7 +33,7 @@ use Rattle.pac_entry.proofs.EntryLemmas.{AreFewProcs}
 -- ---- calls
 
 -- with a number of values that is that of the columns, the values follow
-counted_so : (wrong : EntryFaultKind) (columns : List Column) (s t : Rest) (count : ℕ) → entry_byte s ≡ Ok (count, t) → count ≡ length columns → counted_values wrong columns s ≡ told_as (as_fault_of wrong) (next_values (types columns) t)
+counted_so : (wrong : EntryFaultKind) (columns : List Column) (s t : Rest) (count : ℕ) → entry_byte s ≡ Ok (count, t) → count ≡ length columns → counted_values wrong columns s ≡ reported_as (as_fault_of wrong) (next_values (types columns) t)
 unfolding counted_values
 counted_so wrong columns s t count byte is =
     let same : eqb count (length columns) ≡ true = (Decides-eqb count (length columns)).1 is in
@@ -64,19 +64,19 @@ same_catalogue catalogue tables procs ts ps = ap₂ (λ (t : List Table) (p : Li
     the_catalogue : List Table → List Proc → CatalogueState
     the_catalogue t p = record { tables = t; procs = p }
 
-pub few_tables : (tables : List Table) → length tables < 65536 → All IsSoundTable tables → AreFewTables tables
-few_tables tables few sound = record {
+pub few_tables : (tables : List Table) → length tables < 65536 → All IsWellFormedTable tables → AreFewTables tables
+few_tables tables few well_formed = record {
   count = few;
   columns = λ n table is.
-      let here : IsSoundTable table = subst IsSoundTable (get_or_from_slice_get tables n table table is) (All-get_or IsSoundTable tables n table (slice_get_within tables n table is) sound) in
+      let here : IsWellFormedTable table = subst IsWellFormedTable (get_or_from_slice_get tables n table table is) (All-get_or IsWellFormedTable tables n table (slice_get_within tables n table is) well_formed) in
       omega (arith, here.few);
 }
 
 pub few_procs : (tables : List Table) (procs : List Proc) → length procs < 65536 → All (IsProc tables) procs → AreFewProcs procs
-few_procs tables procs few sound = record {
+few_procs tables procs few well_formed = record {
   count = few;
   params = λ n proc is.
-      let here : IsProc tables proc = subst (IsProc tables) (get_or_from_slice_get procs n proc proc is) (All-get_or (IsProc tables) procs n proc (slice_get_within procs n proc is) sound) in
+      let here : IsProc tables proc = subst (IsProc tables) (get_or_from_slice_get procs n proc proc is) (All-get_or (IsProc tables) procs n proc (slice_get_within procs n proc is) well_formed) in
       omega (arith, here.few);
 }
 
@@ -88,5 +88,5 @@ some_bytes (AdHoc records) = omega arith
 pub found_inside : (catalogue : CatalogueState) (bytes : List ℕ) (at : ℕ) (result : Result (Txn × ℕ) (Refusal EntryFault)) → Finds (IsEntry catalogue) txn_bytes bytes at result → IfOk result (λ found. found.1 ≤ length bytes)
 found_inside catalogue bytes at (Ok found) is =
     let parts : length (drop at bytes) ≡ length (txn_bytes found.0 ++ drop found.1 bytes) = ap (λ (x : List ℕ). length x) is.bytes in
-    omega (arith, parts, is.place, some_bytes found.0, length-append (txn_bytes found.0) (drop found.1 bytes), length-drop at bytes, length-drop found.1 bytes)
+    omega (arith, parts, is.offset, some_bytes found.0, length-append (txn_bytes found.0) (drop found.1 bytes), length-drop at bytes, length-drop found.1 bytes)
 found_inside catalogue bytes at (Err refusal) is = tt

@@ -24,7 +24,7 @@ abbrev pub change_bytes : Change → List ℕ
 change_bytes (Put table key row) = 1 ∷ (to_le_bytes w16 table ++ (key_bytes key ++ counted_bytes row))
 change_bytes (Delete table key) = 2 ∷ (to_le_bytes w16 table ++ key_bytes key)
 
--- a call is the tag 1, the procedure and the arguments; an ad-hoc transaction is the tag 2, the number of records, and they
+-- a call is the tag 1, the procedure and the arguments; an ad hoc transaction is the tag 2, the number of records, and they
 abbrev pub txn_bytes : Txn → List ℕ
 txn_bytes (Call call) = 1 ∷ (to_le_bytes w16 call.proc ++ counted_bytes call.args)
 txn_bytes (AdHoc records) = 2 ∷ (length records ∷ flat_map change_bytes records)

@@ -12,9 +12,9 @@ use Rattle.pac_ops.specs.declared.transaction.Txn.TheVariants.{Call as ACall, Ad
 use Rattle.pac_types.specs.declared.table.Column.{Column}
 use Rattle.pac_types.specs.declared.table.Table.{Table}
 use Rattle.pac_types.specs.declared.procedure.Proc.{Proc}
-use Rattle.pac_types.specs.Sound.{types}
+use Rattle.pac_types.specs.WellFormed.{types}
 use Rattle.pac_types.specs.Typing.{CatalogueState}
-use Rattle.pac_bytes.specs.Reading.{Rest, told_as, next_byte, next_uint, times}
+use Rattle.pac_bytes.specs.Reading.{Rest, reported_as, next_byte, next_uint, times}
 use Rattle.pac_bytes.specs.Typed.{next_key, next_values}
 use Rattle.pac_entry.specs.declared.fault.EntryFault.{EntryFault}
 use Rattle.pac_entry.specs.declared.fault.EntryFaultKind.{EntryFaultKind}
@@ -23,37 +23,37 @@ use Rattle.pac_entry.specs.Kinds.{fault_at, as_entry_fault, as_fault_of}
 
 -- a tag or a number of items
 abbrev pub entry_byte : Rest → Result (ℕ × Rest) EntryFault
-entry_byte s = told_as as_entry_fault (next_byte s)
+entry_byte s = reported_as as_entry_fault (next_byte s)
 
 -- the number of a procedure or of a table
 abbrev pub entry_number : Rest → Result (ℕ × Rest) EntryFault
-entry_number s = told_as as_entry_fault (next_uint w16 s)
+entry_number s = reported_as as_entry_fault (next_uint w16 s)
 
 -- the number of values, which is that of the columns, and a value of each one's type; this kind of fault where they are others
 unfoldable pub counted_values : EntryFaultKind → List Column → Rest → Result (List Value × Rest) EntryFault
 counted_values wrong columns s = entry_byte s
-    >>= λ n. if nat_eq n.0 (length columns) then told_as (as_fault_of wrong) (next_values (types columns) n.1) else Err (fault_at wrong s.at)
+    >>= λ n. if nat_eq n.0 (length columns) then reported_as (as_fault_of wrong) (next_values (types columns) n.1) else Err (fault_at wrong s.at)
 
--- a call behind its tag: a procedure that is there, and arguments of its parameters' types
+-- a call after its tag: a procedure that is there, and arguments of its parameters' types
 unfoldable pub next_call : List Proc → Rest → Result (Call × Rest) EntryFault
 next_call procs s = entry_number s
     >>= λ n. ok_or (slice_get procs n.0) (fault_at UnknownProc s.at)
     >>= λ proc. counted_values WrongArgs proc.params n.1
     >>= λ args. Ok (record { proc = n.0; args = args.0 }, args.1)
 
--- a put behind its tag: a table that is there, and a key and a row of its types
+-- a put after its tag: a table that is there, and a key and a row of its types
 unfoldable pub next_put : List Table → Rest → Result (Change × Rest) EntryFault
 next_put tables s = entry_number s
     >>= λ n. ok_or (slice_get tables n.0) (fault_at UnknownTable s.at)
-    >>= λ table. told_as (as_fault_of WrongRow) (next_key table.key n.1)
+    >>= λ table. reported_as (as_fault_of WrongRow) (next_key table.key n.1)
     >>= λ key. counted_values WrongRow table.columns key.1
     >>= λ row. Ok (Put n.0 key.0 row.0, row.1)
 
--- a delete behind its tag: a table that is there, and a key of its type
+-- a delete after its tag: a table that is there, and a key of its type
 unfoldable pub next_delete : List Table → Rest → Result (Change × Rest) EntryFault
 next_delete tables s = entry_number s
     >>= λ n. ok_or (slice_get tables n.0) (fault_at UnknownTable s.at)
-    >>= λ table. told_as (as_fault_of WrongRow) (next_key table.key n.1)
+    >>= λ table. reported_as (as_fault_of WrongRow) (next_key table.key n.1)
     >>= λ key. Ok (Delete n.0 key.0, key.1)
 
 -- a record: the tag 1 and a put, or the tag 2 and a delete
@@ -66,11 +66,11 @@ unfoldable pub next_records : List Table → Rest → Result (List Change × Res
 next_records tables s = entry_byte s
     >>= λ n. if nat_eq n.0 0 || nat_lt MAX_RECORDS n.0 then Err (fault_at TooMany s.at) else times (next_change tables) n.0 n.1
 
--- an entry that is a call, behind its tag
+-- an entry that is a call, after its tag
 abbrev pub called_entry : CatalogueState → Rest → Result (Txn × Rest) EntryFault
 called_entry catalogue s = next_call catalogue.procs s >>= λ call. Ok (ACall call.0, call.1)
 
--- an entry of records, behind its tag
+-- an entry of records, after its tag
 abbrev pub ad_hoc_entry : CatalogueState → Rest → Result (Txn × Rest) EntryFault
 ad_hoc_entry catalogue s = next_records catalogue.tables s >>= λ records. Ok (AdHoc records.0, records.1)
 

@@ -19,7 +19,7 @@ entry_kind_name UnknownTable = codes "UnknownTable"
 entry_kind_name WrongRow = codes "WrongRow"
 entry_kind_name TooMany = codes "TooMany"
 
--- a fault of this kind at this place
+-- a fault of this kind at this offset
 abbrev pub fault_at : EntryFaultKind → ℕ → EntryFault
 fault_at kind at = record { at = at; kind = kind }
 

@@ -8,24 +8,24 @@ use pac_bytes::{Short, TypedFault};
 use std::fmt;
 use thiserror::Error;
 
-/// What is wrong at a place of some bytes.
+/// What is wrong at an offset of some bytes.
 #[derive(Clone, Copy, Debug, PartialEq, Eq)]
 pub enum EntryFaultKind {
-    /// The bytes end inside the field at this place.
+    /// The bytes end inside the field at this offset.
     Short,
-    /// The byte at this place is none of the tags that an entry, a record or a value may have there.
+    /// The byte at this offset is none of the tags that an entry, a record or a value may have there.
     Tag,
-    /// No procedure has the number at this place.
+    /// No procedure has the number at this offset.
     UnknownProc,
-    /// The number of arguments at this place isn't that of the parameters; or the argument at this place has another
+    /// The number of arguments at this offset isn't that of the parameters; or the argument at this offset has another
     /// type than its parameter, or is a text that is too long or not printable.
     WrongArgs,
-    /// No table has the number at this place.
+    /// No table has the number at this offset.
     UnknownTable,
-    /// The number of values at this place isn't that of the columns; or the key or the value at this place has another
+    /// The number of values at this offset isn't that of the columns; or the key or the value at this offset has another
     /// type, or is a text that is too long or not printable.
     WrongRow,
-    /// The number of records at this place is 0 or above 64.
+    /// The number of records at this offset is 0 or above 64.
     TooMany,
 }
 
@@ -57,7 +57,7 @@ impl fmt::Display for EntryFaultKind {
     }
 }
 
-/// The first fault of some bytes from the left, at a place, an offset from 0.
+/// The first fault of some bytes from the left, at an offset, from 0.
 #[derive(Clone, Copy, Debug, PartialEq, Eq, Error)]
 #[error("{kind} at byte {at}")]
 pub struct EntryFault {
@@ -65,7 +65,7 @@ pub struct EntryFault {
     pub kind: EntryFaultKind,
 }
 
-/// Why no entry is read: the first fault of the bytes, or want of memory.
+/// Why no entry is read: the first fault of the bytes, or running out of memory.
 pub type EntryError = Refusal<EntryFault>;
 
 impl From<Short> for EntryFault {

@@ -1,11 +1,11 @@
 // Reads entries.
 ghost use Rattle.std.specs.Prelude.{◌≡◌, ◌≤◌, length, IfOk, All};
 ghost use Rattle.pac_base.specs.declared.refusal.Refusal.TheVariants.{Fault as AFault};
-ghost use Rattle.pac_base.specs.Refusals.{Tells};
+ghost use Rattle.pac_base.specs.Refusals.{Reports};
 ghost use Rattle.pac_value.specs.declared.limits.TheConstants.{MAX_PARAMS};
 ghost use Rattle.pac_ops.specs.declared.limits.TheConstants.{MAX_RECORDS};
-ghost use Rattle.pac_types.specs.Typing.{IsSoundTable};
-ghost use Rattle.pac_bytes.specs.Reading.{from, told_as, times};
+ghost use Rattle.pac_types.specs.Typing.{IsWellFormedTable};
+ghost use Rattle.pac_bytes.specs.Reading.{from, reported_as, times};
 ghost use Rattle.pac_bytes.specs.Readers.{Answers, AnswersUnlessMemory, Finds, FindsSpelledUnlessMemory};
 ghost use Rattle.pac_bytes.specs.Typed.{next_key};
 ghost use Rattle.pac_entry.specs.declared.fault.EntryFaultKind.TheVariants.{WrongRow};
@@ -23,7 +23,7 @@ use pac_types::{Catalogue, Proc, Table};
 use pac_value::{Key, Ty};
 use std::alloc::Global;
 
-/// The transaction whose entry stands at a place, and the place behind it. It fits the catalogue. Bytes behind the entry
+/// The transaction whose entry stands at an offset, and the offset after it. It fits the catalogue. Bytes after the entry
 /// are not looked at. It takes no memory but for the transaction's own lists.
 ///
 /// # Errors
@@ -34,7 +34,7 @@ use std::alloc::Global;
 /// - [`EntryFaultKind::Tag`] at a first byte of an entry, a record or a value that is none of its tags.
 /// - [`EntryFaultKind::UnknownProc`] and [`EntryFaultKind::UnknownTable`] at a number that is out of range.
 /// - [`EntryFaultKind::WrongArgs`] and [`EntryFaultKind::WrongRow`] at a number of values that isn't that of the
-///   parameters or columns, and at a value of another type, whatever is left behind its tag; also at a text whose length
+///   parameters or columns, and at a value of another type, whatever is left after its tag; also at a text whose length
 ///   is above 64, whatever is left, or that is whole and not printable.
 /// - [`EntryFaultKind::TooMany`] at a number of records that is 0 or above 64.
 pub fn read_entry(
@@ -49,7 +49,7 @@ pub fn read_entry(
     ensures found { Finds (IsEntry cat.now) txn_bytes bytes.now at result }
     // What fits the catalogue and is written so is found, whatever follows.
     ensures again { FindsSpelledUnlessMemory (IsEntry cat.now) txn_bytes bytes.now at result }
-    // The place behind it is no further than the end.
+    // The offset after it is no further than the end.
     ensures inside { IfOk result (λ found. found.1 ≤ length bytes.now) }
 {
     let tables = cat.tables();
@@ -57,7 +57,7 @@ pub fn read_entry(
     entry_at(alloc, tables, procs, bytes, at)
 }
 
-// The entry at a place, as reading gives it.
+// The entry at an offset, as reading gives it.
 #[tactic(auto, unfolding(crate::specs::EntryReading::next_entry))]
 fn entry_at(
     alloc: Global,
@@ -66,18 +66,18 @@ fn entry_at(
     bytes: &[u8],
     at: usize,
 ) -> Result<(Txn, usize), EntryError>
-    requires tables { All IsSoundTable tables.now }
+    requires tables { All IsWellFormedTable tables.now }
     requires procs { All (λ proc. length proc.params ≤ MAX_PARAMS) procs.now }
     ensures { AnswersUnlessMemory bytes.now result (next_entry (record { tables = tables.now; procs = procs.now }) (from bytes.now at)) }
 {
-    let (tag, behind) = byte_at(bytes, at)?;
+    let (tag, after) = byte_at(bytes, at)?;
     match tag {
         CALL => {
-            let (call, end) = call_at(alloc, procs, bytes, behind)?;
+            let (call, end) = call_at(alloc, procs, bytes, after)?;
             Ok((Txn::Call(call), end))
         }
         AD_HOC => {
-            let (records, end) = records_at(alloc, tables, bytes, behind)?;
+            let (records, end) = records_at(alloc, tables, bytes, after)?;
             Ok((Txn::AdHoc { records }, end))
         }
         _ => Err(refused(EntryFaultKind::Tag, at)),
@@ -102,7 +102,7 @@ fn number_at(bytes: &[u8], at: usize) -> Result<(u16, usize), EntryFault>
     Ok(u16_at(bytes, at)?)
 }
 
-// A call behind its tag.
+// A call after its tag.
 #[tactic(auto, unfolding(crate::specs::EntryReading::next_call, crate::specs::EntryReading::counted_values))]
 fn call_at(
     alloc: Global,
@@ -113,14 +113,14 @@ fn call_at(
     requires { All (λ proc. length proc.params ≤ MAX_PARAMS) procs.now }
     ensures { AnswersUnlessMemory bytes.now result (next_call procs.now (from bytes.now at)) }
 {
-    let (number, behind) = number_at(bytes, at)?;
+    let (number, after) = number_at(bytes, at)?;
     let Some(proc) = procs.get(usize::from(number)) else {
         return Err(refused(EntryFaultKind::UnknownProc, at));
     };
     let params = proc.params.as_slice();
-    let (count, first) = byte_at(bytes, behind)?;
+    let (count, first) = byte_at(bytes, after)?;
     if usize::from(count) != params.len() {
-        return Err(refused(EntryFaultKind::WrongArgs, behind));
+        return Err(refused(EntryFaultKind::WrongArgs, after));
     }
     match args_at(alloc, params, bytes, first) {
         Ok((args, end)) => Ok((Call { proc: number, args }, end)),
@@ -136,19 +136,19 @@ fn records_at(
     bytes: &[u8],
     at: usize,
 ) -> Result<(Records, usize), EntryError>
-    requires { All IsSoundTable tables.now }
+    requires { All IsWellFormedTable tables.now }
     ensures { AnswersUnlessMemory bytes.now result (next_records tables.now (from bytes.now at)) }
 {
-    let (count, behind) = byte_at(bytes, at)?;
+    let (count, after) = byte_at(bytes, at)?;
     let count = usize::from(count);
     if count == 0 || count > MAX_RECORDS {
         return Err(refused(EntryFaultKind::TooMany, at));
     }
-    let (changes, end) = changes_at(alloc, tables, count, bytes, behind)?;
+    let (changes, end) = changes_at(alloc, tables, count, bytes, after)?;
     Ok((Records::of(changes), end))
 }
 
-// So many records.
+// That many records.
 fn changes_at(
     alloc: Global,
     tables: &[Table],
@@ -156,18 +156,18 @@ fn changes_at(
     bytes: &[u8],
     at: usize,
 ) -> Result<(Vec<Change>, usize), EntryError>
-    requires { All IsSoundTable tables.now }
-    ensures exact { Tells (λ found. (found.0.items, from bytes.now found.1)) result (times (next_change tables.now) count (from bytes.now at)) }
+    requires { All IsWellFormedTable tables.now }
+    ensures exact { Reports (λ found. (found.0.items, from bytes.now found.1)) result (times (next_change tables.now) count (from bytes.now at)) }
     ensures count { IfOk result (λ found. length found.0.items ≡ count) }
 {
     let mut changes = Vec::with_capacity(alloc, count)?;
-    let mut place = at;
+    let mut offset = at;
     for _ in 0..count {
-        let (change, end) = change_at(alloc, tables, bytes, place)?;
+        let (change, end) = change_at(alloc, tables, bytes, offset)?;
         changes.push(change)?;
-        place = end;
+        offset = end;
     }
-    Ok((changes, place))
+    Ok((changes, offset))
 }
 
 #[tactic(auto, unfolding(crate::specs::EntryReading::next_change))]
@@ -177,18 +177,18 @@ fn change_at(
     bytes: &[u8],
     at: usize,
 ) -> Result<(Change, usize), EntryError>
-    requires { All IsSoundTable tables.now }
+    requires { All IsWellFormedTable tables.now }
     ensures { AnswersUnlessMemory bytes.now result (next_change tables.now (from bytes.now at)) }
 {
-    let (tag, behind) = byte_at(bytes, at)?;
+    let (tag, after) = byte_at(bytes, at)?;
     match tag {
-        PUT => put_at(alloc, tables, bytes, behind),
-        DELETE => Ok(delete_at(tables, bytes, behind)?),
+        PUT => put_at(alloc, tables, bytes, after),
+        DELETE => Ok(delete_at(tables, bytes, after)?),
         _ => Err(refused(EntryFaultKind::Tag, at)),
     }
 }
 
-// A put behind its tag.
+// A put after its tag.
 #[tactic(auto, unfolding(crate::specs::EntryReading::next_put, crate::specs::EntryReading::counted_values))]
 fn put_at(
     alloc: Global,
@@ -196,18 +196,18 @@ fn put_at(
     bytes: &[u8],
     at: usize,
 ) -> Result<(Change, usize), EntryError>
-    requires { All IsSoundTable tables.now }
+    requires { All IsWellFormedTable tables.now }
     ensures { AnswersUnlessMemory bytes.now result (next_put tables.now (from bytes.now at)) }
 {
-    let (table, behind) = number_at(bytes, at)?;
+    let (table, after) = number_at(bytes, at)?;
     let Some(types) = tables.get(usize::from(table)) else {
         return Err(refused(EntryFaultKind::UnknownTable, at));
     };
-    let (key, behind) = row_key_at(types.key, bytes, behind)?;
+    let (key, after) = row_key_at(types.key, bytes, after)?;
     let columns = types.columns.as_slice();
-    let (count, first) = byte_at(bytes, behind)?;
+    let (count, first) = byte_at(bytes, after)?;
     if usize::from(count) != columns.len() {
-        return Err(refused(EntryFaultKind::WrongRow, behind));
+        return Err(refused(EntryFaultKind::WrongRow, after));
     }
     match row_at(alloc, columns, bytes, first) {
         Ok((row, end)) => Ok((Change::Put { table, key, row }, end)),
@@ -215,25 +215,25 @@ fn put_at(
     }
 }
 
-// A delete behind its tag.
+// A delete after its tag.
 #[tactic(auto, unfolding(crate::specs::EntryReading::next_delete))]
 fn delete_at(tables: &[Table], bytes: &[u8], at: usize) -> Result<(Change, usize), EntryFault>
     ensures { Answers bytes.now result (next_delete tables.now (from bytes.now at)) }
 {
-    let (table, behind) = number_at(bytes, at)?;
+    let (table, after) = number_at(bytes, at)?;
     let Some(types) = tables.get(usize::from(table)) else {
         return Err(EntryFault {
             at,
             kind: EntryFaultKind::UnknownTable,
         });
     };
-    let (key, end) = row_key_at(types.key, bytes, behind)?;
+    let (key, end) = row_key_at(types.key, bytes, after)?;
     Ok((Change::Delete { table, key }, end))
 }
 
 // The key of a record, which has to be of this type.
 fn row_key_at(ty: Ty, bytes: &[u8], at: usize) -> Result<(Key, usize), EntryFault>
-    ensures { Answers bytes.now result (told_as (as_fault_of WrongRow) (next_key ty (from bytes.now at))) }
+    ensures { Answers bytes.now result (reported_as (as_fault_of WrongRow) (next_key ty (from bytes.now at))) }
 {
     match key_at(bytes, at, ty) {
         Ok(found) => Ok(found),

@@ -1,10 +1,10 @@
 // Reads the values of columns.
 ghost use Rattle.std.specs.Prelude.{◌≡◌, ◌≤◌, length, IsTrue, IfOk};
 ghost use Rattle.std.specs.List.{list_all};
-ghost use Rattle.pac_base.specs.Refusals.{Tells};
+ghost use Rattle.pac_base.specs.Refusals.{Reports};
 ghost use Rattle.pac_value.specs.declared.limits.TheConstants.{MAX_COLUMNS, MAX_PARAMS};
 ghost use Rattle.pac_value.specs.Values.{is_stored};
-ghost use Rattle.pac_types.specs.Sound.{types};
+ghost use Rattle.pac_types.specs.WellFormed.{types};
 ghost use Rattle.pac_bytes.specs.Reading.{from};
 ghost use Rattle.pac_bytes.specs.Readers.{AnswersUnlessMemory, Finds, FindsSpelledUnlessMemory};
 ghost use Rattle.pac_bytes.specs.Typed.{next_values, values_bytes, HaveTypes};
@@ -16,23 +16,23 @@ use pac_types::Column;
 use pac_value::{Row, Value};
 use std::alloc::Global;
 
-// A value of each column's type, one behind the other, as reading gives them.
+// A value of each column's type, one after another, as reading gives them.
 fn read_values(
     alloc: Global,
     columns: &[Column],
     bytes: &[u8],
     at: usize,
 ) -> Result<(Vec<Value>, usize), Refusal<TypedFault>>
-    ensures { Tells (λ found. (found.0.items, from bytes.now found.1)) result (next_values (types columns.now) (from bytes.now at)) }
+    ensures { Reports (λ found. (found.0.items, from bytes.now found.1)) result (next_values (types columns.now) (from bytes.now at)) }
 {
     let mut values = Vec::with_capacity(alloc, columns.len())?;
-    let mut place = at;
+    let mut offset = at;
     for column in columns {
-        let (value, end) = typed_at(bytes, place, column.ty)?;
+        let (value, end) = typed_at(bytes, offset, column.ty)?;
         values.push(value)?;
-        place = end;
+        offset = end;
     }
-    Ok((values, place))
+    Ok((values, offset))
 }
 
 // The same: they are as many as the columns, and none is a bool.
@@ -42,7 +42,7 @@ fn values_at(
     bytes: &[u8],
     at: usize,
 ) -> Result<(Vec<Value>, usize), Refusal<TypedFault>>
-    ensures exact { Tells (λ found. (found.0.items, from bytes.now found.1)) result (next_values (types columns.now) (from bytes.now at)) }
+    ensures exact { Reports (λ found. (found.0.items, from bytes.now found.1)) result (next_values (types columns.now) (from bytes.now at)) }
     ensures count { IfOk result (λ found. length found.0.items ≡ length columns.now) }
     ensures stored { IfOk result (λ found. IsTrue (list_all is_stored found.0.items)) }
 {
@@ -78,12 +78,12 @@ fn read_args(
     Ok((Args::of(values), end))
 }
 
-/// The row of these columns at a place, and the place behind it: a value of each column's type, one behind the other. It
+/// The row of these columns at an offset, and the offset after it: a value of each column's type, one after another. It
 /// takes memory for the row alone.
 ///
 /// # Errors
 ///
-/// The first fault from the left, as [`typed_at`] tells it of each value; or `NoMemory`.
+/// The first fault from the left, as [`typed_at`] reports it of each value; or `NoMemory`.
 pub fn row_at(
     alloc: Global,
     columns: &[Column],
@@ -102,7 +102,7 @@ pub fn row_at(
     read_row(alloc, columns, bytes, at)
 }
 
-/// The arguments for these parameters at a place, and the place behind them: a value of each parameter's type, one behind
+/// The arguments for these parameters at an offset, and the offset after them: a value of each parameter's type, one after
 /// the other. It takes memory for the arguments alone.
 ///
 /// # Errors

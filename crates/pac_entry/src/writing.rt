@@ -29,7 +29,7 @@ pub(crate) const DELETE: u8 = 2;
 ///
 /// `NoMemory` alone.
 pub fn write_entry(txn: &Txn, out: &mut Vec<u8>) -> Result<(), NoMemory>
-    // Behind the old bytes stand those of the transaction.
+    // After the old bytes stand those of the transaction.
     ensures bytes { OnOk result (Grew out.old.items out.new.items (txn_bytes txn.now)) }
     // It is one that is read again, where it fits the catalogue.
     ensures form { OnOk result (TxnHasBytes txn.now) }

@@ -1,6 +1,6 @@
 //! The examples that ship, run as a user runs them, over files. They lie in `data/`, where this runs.
 //!
-//! Each command stands in the output as in a shell, and behind it is what it writes. The store is made in the current folder.
+//! Each command stands in the output as in a shell, and after it is what it writes. The store is made in the current folder.
 //! The first command whose status isn't 0 is the last, and its status is that of the program.
 #![tactic(auto)]
 
@@ -29,9 +29,9 @@ fn run<RT: AllocGlobal + Files<File = File> + Threads + Wait + Sync, O: Sink, E:
     output: &mut O,
     errors: &mut E,
 ) -> io::Result<u8> {
-    let mut words = Vec::new(rt.alloc());
+    let mut arguments = Vec::new(rt.alloc());
     for word in line.split_whitespace() {
-        words.push(String::from_str(rt.alloc(), word)?)?;
+        arguments.push(String::from_str(rt.alloc(), word)?)?;
     }
     let mut input = Stream::new(fs::open(rt, input)?);
     let mut devices = Devices {
@@ -42,7 +42,7 @@ fn run<RT: AllocGlobal + Files<File = File> + Threads + Wait + Sync, O: Sink, E:
     Ok(pacman(
         rt,
         rt.alloc(),
-        &words,
+        &arguments,
         &mut input,
         output,
         errors,

@@ -27,7 +27,7 @@ use Rattle.pac_flat.proofs.KeptLemmas.{RunsOn, runs_on-range}
 use Rattle.pac_flat.proofs.MeetsLemmas.{BeginWith, Meets, meets}
 use Rattle.pac_flat.proofs.NoteLemmas.{Rises, first-rises, rises-notes, rises-replayed}
 
--- a procedure's variables run on from the first behind the parameters
+-- a procedure's variables run on from the first after the parameters
 abbrev pub IsNumbered : Proc → Type 0
 IsNumbered proc = RunsOn (length proc.params) (defined_variables proc.body)
 
@@ -57,7 +57,7 @@ all_mean_the_same (proc ∷ procs) all = (means_the_same proc all.0, all_mean_th
 
 -- ---- transactions
 
--- a transaction ends with the tables that are meant and leaves no note, or its first note tells the abort
+-- a transaction ends with the tables that are meant and leaves no note, or its first note reports the abort
 abbrev MeetsTables : ℕ → Result Tables Abort → State → List Note → Type 0
 MeetsTables txn (Ok tables) s notes = (s.tables ≡ tables) × (notes ≡ [])
 MeetsTables txn (Err abort) s notes = BeginWith [] txn abort notes

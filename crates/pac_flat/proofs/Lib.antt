@@ -6,5 +6,5 @@ pub mod NoteLemmas
 pub mod LawLemmas
 pub mod ExcessLemmas
 pub mod TypeLemmas
-pub mod FrontLemmas
-pub mod SoundProgram
+pub mod PrefixLemmas
+pub mod WellFormedProgram

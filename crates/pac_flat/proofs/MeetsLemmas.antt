@@ -43,7 +43,7 @@ module _ (vars : List Ty) (txn : ℕ) where
   abbrev pub BeginWith : Abort → List Note → Type 0
   BeginWith abort notes = (rest : List Note) × (notes ≡ record { txn = txn; op = abort.0; reason = abort.1 } ∷ rest)
 
-  -- operations, numbered from n, end in the state that is meant and leave no note, or their first note tells the abort
+  -- operations, numbered from n, end in the state that is meant and leave no note, or their first note reports the abort
   abbrev pub Meets : ℕ → List FlatOp → State → Result State Abort → Type 0
   Meets n ops s (Ok t) = (flat_meaning vars ops s ≡ t) × (notes_of vars txn n ops s ≡ [])
   Meets n ops s (Err abort) = BeginWith abort (notes_of vars txn n ops s)
@@ -77,9 +77,9 @@ module _ (vars : List Ty) (txn : ℕ) where
         ap (λ o. note_at txn n o ++ notes_of vars txn (n + 1) ops (flat_done vars op s)) here.1 ∙ ap (λ z. notes_of vars txn (n + 1) ops z) here.0 ∙ rest.1,
       )
 
-  -- such operations may stand in front, or behind
-  meets-behind_idle : (xs ys : List FlatOp) (n k : ℕ) (s : State) (m : Result State Abort) → n + length xs ≡ k → AllShut s.env xs → Meets k ys s m → Meets n (xs ++ ys) s m
-  meets-behind_idle xs ys n k s m on shut h =
+  -- such operations may stand before or after
+  meets-after_idle : (xs ys : List FlatOp) (n k : ℕ) (s : State) (m : Result State Abort) → n + length xs ≡ k → AllShut s.env xs → Meets k ys s m → Meets n (xs ++ ys) s m
+  meets-after_idle xs ys n k s m on shut h =
       meets-append xs ys n k s (Ok s) (λ t. m) on (idle xs n s shut) (λ t e. let same : s ≡ t = cc in subst (λ z. Meets k ys z m) same h)
 
   meets-before_idle : (xs ys : List FlatOp) (n : ℕ) (s : State) (m : Result State Abort) → Meets n xs s m → ((t : State) → m ≡ Ok t → AllShut t.env ys) → Meets n (xs ++ ys) s m
@@ -112,7 +112,7 @@ module _ (vars : List Ty) (txn : ℕ) where
   abbrev MeetsBlock : List Stmt → Type 0
   MeetsBlock ss = (conds : Conditions) (m n : ℕ) (s : State) → RunsOn m (defined_variables ss) → Below m conds → all_hold s.env conds ≡ true → Meets n (in_line (map flat ss) conds) s (runs (map code ss) n s)
 
-  -- behind operations that define none of them, lower variables have their values
+  -- after operations that define none of them, lower variables have their values
   low_kept : (ops : List FlatOp) (m : ℕ) (s t : State) (variables : List ℕ) → defined_in ops ≡ variables → RunsOn m variables → flat_meaning vars ops s ≡ t → (y : ℕ) → y < m → get t.env y ≡ get s.env y
   low_kept ops m s t variables are run ends y lt =
       ap (λ (z : State). get z.env y) (sym ends) ∙ kept y vars ops s (subst (Differs y) (sym are) (lower-differs y m variables lt run))
@@ -145,7 +145,7 @@ module _ (vars : List Ty) (txn : ℕ) where
     abbrev run_b : State → Result State Abort
     run_b t = runs (map code second) (n + 1 + operations first) t
 
-    -- behind the test its variable has this value, and the conditions still hold
+    -- after the test its variable has this value, and the conditions still hold
     module _ (v : Value) where
       abbrev t : State
       t = define x v s
@@ -174,7 +174,7 @@ module _ (vars : List Ty) (txn : ℕ) where
               shut_line second u.env (inside conds x false) (test_is false u (same x lt_x ∙ get-defined s x v) (all_hold-kept m conds t.env u.env below (λ y lt. same y (omega (arith, lt))) ∙ still) ∙ ap not yes_)
 
       met_second : is_true v ≡ false → Meets (n + 1) (a ++ b) t (run_b t)
-      met_second no_ = meets-behind_idle a b (n + 1) (n + 1 + operations first) t (run_b t) (ap (λ k. n + 1 + k) (length-line first (inside conds x true)))
+      met_second no_ = meets-after_idle a b (n + 1) (n + 1 + operations first) t (run_b t) (ap (λ k. n + 1 + k) (length-line first (inside conds x true)))
           (shut_line first t.env (inside conds x true) (test_is true t (get-defined s x v) still ∙ no_))
           (meets_block second others (inside conds x false) (m + 1 + length (defined_variables first)) (n + 1 + operations first) t parts.1
           (below-inside m (m + 1 + length (defined_variables first)) x false conds (omega arith) (omega (arith, run.0)) below) (test_is false t (get-defined s x v) still ∙ ap not no_))

@@ -18,7 +18,7 @@ use Rattle.pac_ops.specs.Programs.{key_type_in, row_type_in, column_type_in, IsR
 use Rattle.pac_ops.specs.Uses.{use_step, expr_uses, exprs_use, kind_uses, defined_variable}
 use Rattle.pac_types.specs.declared.table.Table.{Table}
 use Rattle.pac_types.specs.Fits.{shape}
-use Rattle.pac_types.specs.Sound.{key_type, column_types_of, column_types, column_type, if_so}
+use Rattle.pac_types.specs.WellFormed.{key_type, column_types_of, column_types, column_type, if_so}
 use Rattle.pac_types.proofs.PartLemmas.{equal}
 use Rattle.pac_types.proofs.ScopeLemmas.{Within, TypeWithin, type_in-within, is_wanted-within, is_bool-within, are_wanted-within}
 use Rattle.pac_flat.proofs.StmtShapes.{single_check}
@@ -113,7 +113,7 @@ module _ (tables : List Table) where
 
   -- ---- one operation
 
-  -- what is visible behind an operation and was not before is its variable, of the type that it gives
+  -- what is visible after an operation and was not before is its variable, of the type that it gives
   abbrev pub Adds : Scope → Scope → OpKind → Type 0
   Adds f g kind = (y : ℕ) (ty : Ty) → g y ≡ Some ty → (f y ≡ Some ty) ⊎ ((defined_variable kind ≡ Some y) × (given_type f kind ≡ Some ty))
 
@@ -131,33 +131,33 @@ module _ (tables : List Table) where
       go true e is = inr (defines ∙ ap Some (sym (equal y x e)), gives ∙ is)
       go false e is = inl is
 
-  pub single_sound : (kind : OpKind) (f g : Scope) → (single_check tables kind).after f ≡ Some g → IsWellTyped shapes f kind × Adds f g kind
-  single_sound (Let x e) f g h = go (type_in f e) refl h
+  pub single_well_formed : (kind : OpKind) (f g : Scope) → (single_check tables kind).after f ≡ Some g → IsWellTyped shapes f kind × Adds f g kind
+  single_well_formed (Let x e) f g h = go (type_in f e) refl h
     where
       go : (o : Option Ty) → type_in f e ≡ o → option_map (with_var f x) o ≡ Some g → IsWellTyped shapes f (Let x e) × Adds f g (Let x e)
       go None is k = absurd cc
       go (Some ty) is k = (ap is_some is, adds_one f g (Let x e) x ty (cc) refl is)
-  single_sound (Cond x e) f g h = absurd cc
-  single_sound (Read x t k c d) f g h =
+  single_well_formed (Cond x e) f g h = absurd cc
+  single_well_formed (Read x t k c d) f g h =
       let p = so_is (is_wanted (type_in f k) (key_type tables t) && is_wanted (Some (type_of d)) (column_type tables t c)) (with_var f x (type_of d)) g h in
       let q = both (is_wanted (type_in f k) (key_type tables t)) (is_wanted (Some (type_of d)) (column_type tables t c)) p.0 in
       ((subst (λ o. is_wanted (type_in f k) o ≡ true) (key_is t) q.0, subst (λ o. is_wanted (Some (type_of d)) o ≡ true) (column_is t c) q.1), adds_one f g (Read x t k c d) x (type_of d) p.1 refl refl)
-  single_sound (Has x t k) f g h =
+  single_well_formed (Has x t k) f g h =
       let p = so_is (is_wanted (type_in f k) (key_type tables t)) (with_var f x BoolTy) g h in
       (subst (λ o. is_wanted (type_in f k) o ≡ true) (key_is t) p.0, adds_one f g (Has x t k) x BoolTy p.1 refl refl)
-  single_sound (Put t k es) f g h =
+  single_well_formed (Put t k es) f g h =
       let p = so_is (is_wanted (type_in f k) (key_type tables t) && is_width (length es) && are_wanted (map (type_in f) es) (column_types tables t)) f g h in
       let q = both (is_wanted (type_in f k) (key_type tables t) && is_width (length es)) (are_wanted (map (type_in f) es) (column_types tables t)) p.0 in
       let r = both (is_wanted (type_in f k) (key_type tables t)) (is_width (length es)) q.0 in
       ((subst (λ o. is_wanted (type_in f k) o ≡ true) (key_is t) r.0, row_is f t es r.1 q.1), adds_none f g (Put t k es) p.1)
-  single_sound (SetCol t k c e) f g h =
+  single_well_formed (SetCol t k c e) f g h =
       let p = so_is (is_wanted (type_in f k) (key_type tables t) && is_wanted (type_in f e) (column_type tables t c)) f g h in
       let q = both (is_wanted (type_in f k) (key_type tables t)) (is_wanted (type_in f e) (column_type tables t c)) p.0 in
       ((subst (λ o. is_wanted (type_in f k) o ≡ true) (key_is t) q.0, subst (λ o. is_wanted (type_in f e) o ≡ true) (column_is t c) q.1), adds_none f g (SetCol t k c e) p.1)
-  single_sound (Delete t k) f g h =
+  single_well_formed (Delete t k) f g h =
       let p = so_is (is_wanted (type_in f k) (key_type tables t)) f g h in
       (subst (λ o. is_wanted (type_in f k) o ≡ true) (key_is t) p.0, adds_none f g (Delete t k) p.1)
-  single_sound (AbortIf e) f g h =
+  single_well_formed (AbortIf e) f g h =
       let p = so_is (is_bool (type_in f e)) f g h in
       (p.0, adds_none f g (AbortIf e) p.1)
 

@@ -14,7 +14,7 @@ use Rattle.pac_types.specs.Meaning.{meaning}
 use Rattle.pac_types.specs.Execution.{in_txn, serial}
 
 -- a state and notes are what is meant: where that is a state, it is this very state, hidden variables too, and no note is
--- left; where it is an abort, the first note tells it
+-- left; where it is an abort, the first note reports it
 abbrev pub Agrees : Result State Note → State → List Note → Type 0
 Agrees (Ok t) s notes = (s ≡ t) × (notes ≡ [])
 Agrees (Err note) s notes = first_note notes ≡ Some note
@@ -25,12 +25,12 @@ pub record MeansTheSame (proc : Proc) (program : Program) : Type 0 where
       → Agrees (in_txn txn (meaning proc.body 0 (opening args tables))) (flat_meaning program.vars program.ops (opening args tables)) (notes_of program.vars txn 0 program.ops (opening args tables))
 
 -- what is replayed is what serial execution gives: where that ends, the tables are the same and no note is left; where it
--- stops, the first note tells where and why
+-- stops, the first note says where and why
 abbrev pub AllAgree : Result Tables Note → Replayed → Type 0
 AllAgree (Ok tables) all = (all.tables ≡ tables) × (all.notes ≡ [])
 AllAgree (Err note) all = first_note all.notes ≡ Some note
 
--- replays of programs are serial executions of procedures, from any number and over all tables; ad-hoc transactions may
+-- replays of programs are serial executions of procedures, from any number and over all tables; ad hoc transactions may
 -- stand among the calls
 pub record ReplaysTheSame (procs : List Proc) (programs : List Program) : Type 0 where
   pub executed : (first : ℕ) (txns : List Txn) (tables : Tables) → AllAgree (serial procs first txns tables) (replayed programs first txns tables)

@@ -10,7 +10,7 @@ use Rattle.pac_types.specs.declared.procedure.Proc.{Proc}
 use Rattle.pac_types.specs.declared.statement.Stmt.{Stmt}
 use Rattle.pac_types.specs.declared.statement.Stmt.TheOpen.{Stmt-F, Let, Read, Has, Put, Set, Delete, AbortIf, If}
 use Rattle.pac_types.specs.declared.statement.Stmt.TheFolds.{fold-Stmt}
-use Rattle.pac_types.specs.Sound.{types}
+use Rattle.pac_types.specs.WellFormed.{types}
 
 -- conditions, those of the outermost conditional first
 abbrev pub Conditions : Type 0
@@ -60,11 +60,11 @@ abbrev pub with_type : List Ty → Option Ty → List Ty
 with_type vars None = vars
 with_type vars (Some ty) = vars ++ ty ∷ []
 
--- the types of the variables behind operations, from the types of those before them
-abbrev pub types_behind : List Ty → List FlatOp → List Ty
-types_behind vars [] = vars
-types_behind vars (op ∷ ops) = types_behind (with_type vars (given_type (scope_in vars) op.kind)) ops
+-- the types of the variables after operations, from the types of those before them
+abbrev pub types_after : List Ty → List FlatOp → List Ty
+types_after vars [] = vars
+types_after vars (op ∷ ops) = types_after (with_type vars (given_type (scope_in vars) op.kind)) ops
 
 -- a procedure in flat form
 abbrev pub program_of : Proc → Program
-program_of proc = record { ops = flat_form proc.body; params = types proc.params; vars = types_behind (types proc.params) (flat_form proc.body) }
+program_of proc = record { ops = flat_form proc.body; params = types proc.params; vars = types_after (types proc.params) (flat_form proc.body) }

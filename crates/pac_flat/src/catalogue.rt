@@ -3,7 +3,7 @@ ghost use Rattle.std.specs.Prelude.{◌≡◌, ◌<◌, ◌≤◌, ◌^◌, All,
 ghost use Rattle.std.specs.List.{AllZip};
 ghost use Rattle.pac_base.specs.Refusals.{OkUnlessMemory};
 ghost use Rattle.pac_base.specs.declared.refusal.Refusal.TheVariants.{Fault as AFault};
-ghost use Rattle.pac_ops.specs.Programs.{AreSoundPrograms, count_ops};
+ghost use Rattle.pac_ops.specs.Programs.{AreWellFormedPrograms, count_ops};
 ghost use Rattle.pac_ops.specs.declared.limits.TheConstants.{MAX_ALL_OPS};
 ghost use Rattle.pac_types.specs.Fits.{shape};
 ghost use Rattle.pac_types.specs.Meaning.{operations};
@@ -28,7 +28,7 @@ pub struct TooManyOps {
     pub count: u32,
 }
 
-/// Why a catalogue has no flat form, or want of memory.
+/// Why a catalogue has no flat form, or running out of memory.
 pub type FlatError = Refusal<TooManyOps>;
 
 impl From<TooManyOps> for FlatError {
@@ -52,7 +52,7 @@ pub fn flatten(alloc: Global, cat: &Catalogue) -> Result<Vec<Program>, FlatError
     ensures means { IfOk result (λ programs. AllZip MeansTheSame cat.now.procs programs.items) }
     ensures replays { IfOk result (λ programs. ReplaysTheSame cat.now.procs programs.items) }
 
-    ensures sound { IfOk result (λ programs. AreSoundPrograms (map shape cat.now.tables) programs.items) }
+    ensures well_formed { IfOk result (λ programs. AreWellFormedPrograms (map shape cat.now.tables) programs.items) }
     ensures few { IfOk result (λ _. HasFewOperations cat.now.procs) }
     ensures counted { IfOk result (λ programs. count_ops programs.items ≤ MAX_ALL_OPS) }
     ensures only { HasFewOperations cat.now.procs → OkUnlessMemory result (λ programs. programs.items ≡ map program_of cat.now.procs) }

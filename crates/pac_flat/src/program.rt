@@ -1,6 +1,6 @@
 // The program of a procedure.
 ghost use Rattle.std.specs.Prelude.{◌≡◌, IfOk};
-ghost use Rattle.pac_types.specs.Sound.{types};
+ghost use Rattle.pac_types.specs.WellFormed.{types};
 ghost use Rattle.pac_flat.specs.FlatForm.{program_of};
 
 use crate::block::flat_operations;

@@ -2,7 +2,7 @@
 ghost use Rattle.std.specs.Prelude.{◌≡◌, slice_get, IfOk};
 ghost use Rattle.pac_value.specs.Expressions.{operator_type, type_in};
 ghost use Rattle.pac_ops.specs.Programs.{given_type, scope_in};
-ghost use Rattle.pac_flat.specs.FlatForm.{types_behind};
+ghost use Rattle.pac_flat.specs.FlatForm.{types_after};
 
 use pac_base::NoMemory;
 use pac_ops::{FlatOp, OpKind};
@@ -15,7 +15,7 @@ pub(crate) fn variable_types(
     params: &[Ty],
     ops: &[FlatOp],
 ) -> Result<Vec<Ty>, NoMemory>
-    ensures { IfOk result (λ vars. vars.items ≡ types_behind params.now ops.now) }
+    ensures { IfOk result (λ vars. vars.items ≡ types_after params.now ops.now) }
 {
     let mut vars = Vec::new(alloc);
     for ty in params {

@@ -12,10 +12,10 @@ use Rattle.pac_graph.proofs.ItemLemmas.{there, item, inside}
 use Rattle.pac_graph.proofs.DrawingLemmas.{IsDrawing}
 use Rattle.pac_slice.specs.Dependent.{IsFlowAt}
 use Rattle.pac_slice.proofs.SliceLemmas.{flow_inside}
-use Rattle.pac_plan.specs.Nodes.{Node, Operation, VirtualWrite, IsNode, ComesBefore, Flows, NodeAccesses, Clashes, IsNodeLink}
+use Rattle.pac_plan.specs.Nodes.{Node, Operation, VirtualWrite, IsNode, ComesBefore, Flows, NodeAccesses, Conflicts, IsNodeLink}
 use Rattle.pac_ops.specs.Programs.{count_ops}
 use Rattle.pac_global.specs.Drawing.{first_of, number_in, IsBothWays, HasHomeEdge, HasEdgeOf}
-use Rattle.pac_global.proofs.PlaceLemmas.{first_within, first_later, placed}
+use Rattle.pac_global.proofs.OffsetLemmas.{first_within, first_later, placed}
 
 module _ (programs : List Program) (tables : ℕ) (in_range : (p i t : ℕ) (program : Program) → slice_get programs p ≡ Some program → Accesses program.ops i t → t < tables) (g : Graph) (nodes : g.nodes ≡ count_ops programs + tables) (edges : (u v : ℕ) → HasEdge g u v ↔ ((p : ℕ) × HasEdgeOf programs p u v)) where
   number : Node → ℕ
@@ -34,7 +34,7 @@ module _ (programs : List Program) (tables : ℕ) (in_range : (p i t : ℕ) (pro
   each : (u : ℕ) → u < g.nodes → (n : Node) × IsNode programs tables n × (number_in programs n ≡ u)
   each u lt = elim (cases_lt u (count_ops programs)) [
     | inl op ↦ (let r = placed programs u op in (Operation r.0 r.1, there programs r.0 r.2 (λ (q : Program). r.1 < length q.ops) r.3 r.4, r.5))
-    | inr behind ↦ (VirtualWrite (u - count_ops programs), omega (arith, lt, nodes, behind), omega (arith, behind))
+    | inr after ↦ (VirtualWrite (u - count_ops programs), omega (arith, lt, nodes, after), omega (arith, after))
   ]
 
   rises : (m n : Node) → IsNode programs tables m → IsNode programs tables n → ComesBefore m n → number_in programs m < number_in programs n
@@ -120,17 +120,17 @@ module _ (programs : List Program) (tables : ℕ) (in_range : (p i t : ℕ) (pro
       op_accesses : NodeAccesses programs tables (Operation p i) t
       op_accesses = there programs p q (λ (s : Program). Accesses s.ops i t) at accesses
 
-      to_clash : Clashes programs tables (Operation p i) (VirtualWrite t)
-      to_clash = ((t, op_accesses, (refl, in_tables)), inr tt)
+      to_conflict : Conflicts programs tables (Operation p i) (VirtualWrite t)
+      to_conflict = ((t, op_accesses, (refl, in_tables)), inr tt)
 
-      from_clash : Clashes programs tables (VirtualWrite t) (Operation p i)
-      from_clash = ((t, (refl, in_tables), op_accesses), inl tt)
+      from_conflict : Conflicts programs tables (VirtualWrite t) (Operation p i)
+      from_conflict = ((t, (refl, in_tables), op_accesses), inl tt)
 
       to : Reach (IsNodeLink programs tables) (Operation p i) (VirtualWrite t)
-      to = one_edge (Operation p i) (VirtualWrite t) (inr to_clash)
+      to = one_edge (Operation p i) (VirtualWrite t) (inr to_conflict)
 
       from : Reach (IsNodeLink programs tables) (VirtualWrite t) (Operation p i)
-      from = one_edge (VirtualWrite t) (Operation p i) (inr from_clash)
+      from = one_edge (VirtualWrite t) (Operation p i) (inr from_conflict)
 
   edge_is : (u v : ℕ) → HasEdge g u v → Drawn u v
   edge_is u v e =

@@ -1,4 +1,4 @@
-pub mod PlaceLemmas
+pub mod OffsetLemmas
 pub mod HomeLemmas
 pub mod BlockLemmas
 pub mod DrawnLemmas

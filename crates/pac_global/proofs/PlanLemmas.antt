@@ -5,14 +5,14 @@ use Rattle.std.proofs.lemmas.List.{length-map}
 use Rattle.std.proofs.lemmas.Option.{slice_get-map, slice_get_within, get_or_from_slice_get}
 use Rattle.pac_ops.specs.declared.program.Program.{Program}
 use Rattle.pac_ops.specs.Dependencies.{Accesses}
-use Rattle.pac_ops.specs.Programs.{AreSoundPrograms, AreSoundTables, IsSoundTableTypes, IsStoredType}
+use Rattle.pac_ops.specs.Programs.{AreWellFormedPrograms, AreWellFormedTables, IsWellFormedTableTypes, IsStoredType}
 use Rattle.pac_value.specs.declared.values.Ty.{Ty}
 use Rattle.pac_value.specs.declared.values.Ty.TheVariants.{Int as IntTy, Text as TextTy, Bool as BoolTy}
 use Rattle.pac_syntax.specs.Limits.{is_stored_type}
 use Rattle.pac_types.specs.declared.table.Column.{Column}
 use Rattle.pac_types.specs.declared.table.Table.{Table}
 use Rattle.pac_types.specs.Fits.{shape}
-use Rattle.pac_types.specs.Typing.{IsSoundTable}
+use Rattle.pac_types.specs.Typing.{IsWellFormedTable}
 use Rattle.pac_plan.proofs.BlockLemmas.{mapped_some}
 use Rattle.pac_graph.specs.Graph.{Graph, HasEdge, Reach, Here, Onward}
 use Rattle.pac_graph.specs.Groups.{AreGroups}
@@ -34,29 +34,29 @@ stored BoolTy h e = cc
 pub passes : {A : Type 0} (P : A → Type 0) (xs : List A) (i : ℕ) (x : A) → All P xs → slice_get xs i ≡ Some x → P x
 passes P xs i x all at = subst P (get_or_from_slice_get xs i x x at) (all i x (slice_get_within xs i x at))
 
--- the types of a catalogue's tables are sound
-pub sound_tables : (tables : List Table) → All IsSoundTable tables → AreSoundTables (map shape tables)
-sound_tables tables all t types at = subst IsSoundTableTypes table.2 (record {
-  some = omega (arith, sound.some, size);
-  few = omega (arith, sound.few, size);
-  key = stored table.0.key sound.key;
+-- the types of a catalogue's tables are well-formed
+pub well_formed_tables : (tables : List Table) → All IsWellFormedTable tables → AreWellFormedTables (map shape tables)
+well_formed_tables tables all t types at = subst IsWellFormedTableTypes table.2 (record {
+  some = omega (arith, well_formed.some, size);
+  few = omega (arith, well_formed.few, size);
+  key = stored table.0.key well_formed.key;
   columns = λ c ty in_columns. (
       let column = mapped_some (λ (column : Column). column.ty) (slice_get table.0.columns c) ty (sym (slice_get-map (λ (column : Column). column.ty) table.0.columns c) ∙ in_columns) in
-      subst IsStoredType column.2 (stored column.0.ty (passes (λ (column : Column). is_stored_type column.ty ≡ true) table.0.columns c column.0 sound.columns column.1)));
+      subst IsStoredType column.2 (stored column.0.ty (passes (λ (column : Column). is_stored_type column.ty ≡ true) table.0.columns c column.0 well_formed.columns column.1)));
 })
   where
     table : (table : Table) × (slice_get tables t ≡ Some table) × (shape table ≡ types)
     table = mapped_some shape (slice_get tables t) types (sym (slice_get-map shape tables t) ∙ at)
 
-    sound : IsSoundTable table.0
-    sound = passes IsSoundTable tables t table.0 all table.1
+    well_formed : IsWellFormedTable table.0
+    well_formed = passes IsWellFormedTable tables t table.0 all table.1
 
     size : length (shape table.0).columns ≡ length table.0.columns
     size = length-map table.0.columns (λ (column : Column). column.ty)
 
-module _ (parts : PlanParts) (g : Graph) (numbers : List ℕ) (sound : AreSoundPrograms parts.tables parts.programs) where
+module _ (parts : PlanParts) (g : Graph) (numbers : List ℕ) (well_formed : AreWellFormedPrograms parts.tables parts.programs) where
   in_range : (p i t : ℕ) (program : Program) → slice_get parts.programs p ≡ Some program → Accesses program.ops i t → t < length parts.tables
-  in_range p i t program at accesses = accessed_there parts.tables program i t (sound p program at) accesses
+  in_range p i t program at accesses = accessed_there parts.tables program i t (well_formed p program at) accesses
 
   pub is_analysis : g.nodes ≡ count_ops parts.programs + length parts.tables → ((u v : ℕ) → HasEdge g u v ↔ ((p : ℕ) × HasEdgeOf parts.programs p u v))
       → AreGroups (λ u. u < g.nodes) ◌<◌ (HasEdge g) (HasEdge g) (slice_index numbers) parts.blocks parts.edges

@@ -1,4 +1,4 @@
--- The graph in which blocks are found: its nodes are the operations, one procedure's behind another's, and behind all
+-- The graph in which blocks are found: its nodes are the operations, one procedure's after another's, and after all
 -- operations the virtual writes of the tables.
 use Rattle.std.specs.Prelude.{◌≡◌, ◌⊎◌, ℕ, zero, suc, ◌+◌, ◌<◌, List, [], ◌∷◌, length, slice_get, slice_index, slice_index_or, IsSomeAnd, map}
 use Rattle.pac_ops.specs.declared.program.FlatOp.{FlatOp}

@@ -2,7 +2,7 @@
 ghost use Rattle.std.specs.Prelude.{◌≡◌, ℕ, ◌<◌, ◌≤◌, length, map, IfOk};
 ghost use Rattle.pac_graph.specs.Graph.{Reach};
 ghost use Rattle.pac_ops.specs.declared.limits.TheConstants.{MAX_ALL_OPS};
-ghost use Rattle.pac_ops.specs.Programs.{AreSoundPrograms};
+ghost use Rattle.pac_ops.specs.Programs.{AreWellFormedPrograms};
 ghost use Rattle.pac_plan.specs.Analysis.{IsAnalysis, IsPlan, HasBlockEdge};
 ghost use Rattle.pac_types.specs.Fits.{shape};
 ghost use Rattle.pac_value.specs.declared.limits.TheConstants.{MAX_PROCS};
@@ -18,9 +18,9 @@ use pac_types::Catalogue;
 use std::alloc::Global;
 
 /// The plan of a catalogue, of which these are the programs of its procedures. Its blocks are those that flow and
-/// clashes make of all operations and of a virtual write for each table; the home of a table is the block of its virtual
+/// conflicts make of all operations and of a virtual write for each table; the home of a table is the block of its virtual
 /// write. A block is numbered once those with an edge into it are, and of those that are ready the one with the first
-/// operation is next, where virtual writes come behind all operations.
+/// operation is next, where virtual writes come after all operations.
 ///
 /// It takes time that grows with the operations of all procedures, and within a procedure with their square.
 ///
@@ -28,7 +28,7 @@ use std::alloc::Global;
 ///
 /// [`NoMemory`] where the plan, or what finds it, finds no room; the programs are given up then.
 pub fn global(alloc: Global, cat: &Catalogue, programs: Vec<Program>) -> Result<Plan, NoMemory>
-    requires sound { AreSoundPrograms (map shape cat.now.tables) programs.items }
+    requires well_formed { AreWellFormedPrograms (map shape cat.now.tables) programs.items }
     requires few { length programs.items ≤ MAX_PROCS }
     requires ops { count_ops programs.items ≤ MAX_ALL_OPS }
     ensures programs { IfOk result (λ plan. plan.programs ≡ programs.items) }
@@ -42,7 +42,7 @@ pub fn global(alloc: Global, cat: &Catalogue, programs: Vec<Program>) -> Result<
 
 // The parts of the plan: the groups of the graph of all operations and virtual writes.
 fn parts_of(alloc: Global, cat: &Catalogue, programs: Vec<Program>) -> Result<PlanParts, NoMemory>
-    requires sound { AreSoundPrograms (map shape cat.now.tables) programs.items }
+    requires well_formed { AreWellFormedPrograms (map shape cat.now.tables) programs.items }
     requires few { length programs.items ≤ MAX_PROCS }
     requires ops { count_ops programs.items ≤ MAX_ALL_OPS }
     ensures programs { IfOk result (λ parts. parts.programs ≡ programs.items) }

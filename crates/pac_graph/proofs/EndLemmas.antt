@@ -7,7 +7,7 @@ use Rattle.pac_graph.specs.declared.search.Mark.TheVariants.{Open, Done}
 use Rattle.pac_graph.specs.Graph.{Reach}
 use Rattle.pac_graph.specs.Search.{mark_of, changes_left, IsSearch, IsSeenFrom, IsVisited, GaveClass}
 use Rattle.pac_graph.proofs.GraphLemmas.{along}
-use Rattle.pac_graph.proofs.MarkLemmas.{open_not_done, same_place, same_class, mark_set, mark_kept}
+use Rattle.pac_graph.proofs.MarkLemmas.{open_not_done, same_offset, same_class, mark_set, mark_kept}
 use Rattle.pac_graph.proofs.VisitLemmas.{IsVisit, to_here}
 
 module _ (edge : ℕ → ℕ → Type 0) (nodes : ℕ) (marks_before : List Mark) (stack_before : List ℕ) (marks : List Mark) (stack : List ℕ) (count node low at : ℕ) (visit : IsVisit edge nodes marks_before stack_before marks stack count node low at) where
@@ -52,10 +52,10 @@ module _ (edge : ℕ → ℕ → Type 0) (nodes : ℕ) (marks_before : List Mark
       search = record {
         few = s.few;
         size = size ∙ s.size;
-        within = λ p lt. subst (λ x. x < nodes) (sym (at_place p (before p lt))) (s.within p (omega (arith, before p lt, visit.longer)));
-        opened = λ p lt. subst (λ x. mark_of marks' x ≡ Open p) (sym (at_place p (before p lt))) (open_stays (get_or stack p 0) p (s.opened p (omega (arith, before p lt, visit.longer))) (before p lt));
+        within = λ p lt. subst (λ x. x < nodes) (sym (at_offset p (before p lt))) (s.within p (omega (arith, before p lt, visit.longer)));
+        opened = λ p lt. subst (λ x. mark_of marks' x ≡ Open p) (sym (at_offset p (before p lt))) (open_stays (get_or stack p 0) p (s.opened p (omega (arith, before p lt, visit.longer))) (before p lt));
         on_stack = λ u p is. was_open u p is;
-        down = λ i j le lt. subst (λ x. Reach edge x (get_or stack' j 0)) (sym (at_place i (omega (arith, le, before j lt)))) (subst (λ x. Reach edge (get_or stack i 0) x) (sym (at_place j (before j lt))) (s.down i j le (omega (arith, before j lt, visit.longer))));
+        down = λ i j le lt. subst (λ x. Reach edge x (get_or stack' j 0)) (sym (at_offset i (omega (arith, le, before j lt)))) (subst (λ x. Reach edge (get_or stack i 0) x) (sym (at_offset j (before j lt))) (s.down i j le (omega (arith, before j lt, visit.longer))));
         below = λ u c is. elim (was_done u c is) [ inl (p, ge, lt, eu, ed) ↦ omega (arith, ed, ec) | inr old ↦ omega (arith, s.below u c old, ec) ];
         falls = λ u v c is uv. elim (was_done u c is) [
           | inl (p, ge, lt, eu, ed) ↦ seen_done v c ed (all_seen p v ge lt (subst (λ x. edge x v) (sym eu) uv))
@@ -78,7 +78,7 @@ module _ (edge : ℕ → ℕ → Type 0) (nodes : ℕ) (marks_before : List Mark
         room = omega (arith, s.room, lighter, ec, visit.longer, length_after);
       };
       longer = omega (arith, length_after);
-      prefix = λ p lt. at_place p lt ∙ visit.prefix p lt;
+      prefix = λ p lt. at_offset p lt ∙ visit.prefix p lt;
       kept = λ u c is. done_stays u c (visit.kept u c is);
       seen = inl (count, node_done);
       in_low = visit.in_low;
@@ -94,10 +94,10 @@ module _ (edge : ℕ → ℕ → Type 0) (nodes : ℕ) (marks_before : List Mark
         before : (p : ℕ) → p < length stack' → p < start
         before p lt = omega (arith, lt, length_after)
 
-        at_place : (p : ℕ) → p < start → get_or stack' p 0 ≡ get_or stack p 0
-        at_place p lt = ap (λ xs. get_or xs p 0) es ∙ get_or-take start stack p 0 lt
+        at_offset : (p : ℕ) → p < start → get_or stack' p 0 ≡ get_or stack p 0
+        at_offset p lt = ap (λ xs. get_or xs p 0) es ∙ get_or-take start stack p 0 lt
 
-        -- a node that was closed was open, at a place from the start on
+        -- a node that was closed was open, at a position from the start on
         was_at : (u p : ℕ) → start ≤ p → p < length stack → get_or stack p 0 ≡ u → mark_of marks u ≡ Open p
         was_at u p ge lt e = subst (λ x. mark_of marks x ≡ Open p) e (s.opened p lt)
 
@@ -109,7 +109,7 @@ module _ (edge : ℕ → ℕ → Type 0) (nodes : ℕ) (marks_before : List Mark
 
         open_stays : (u p : ℕ) → mark_of marks u ≡ Open p → p < start → mark_of marks' u ≡ Open p
         open_stays u p is lt = elim (each u) [
-          | inl (q, ge, lq, eu, ed) ↦ absurd (omega (arith, same_place q p (sym (was_at u q ge lq eu) ∙ is), ge, lt))
+          | inl (q, ge, lq, eu, ed) ↦ absurd (omega (arith, same_offset q p (sym (was_at u q ge lq eu) ∙ is), ge, lt))
           | inr (e, untouched) ↦ e ∙ is
         ]
 
@@ -123,7 +123,7 @@ module _ (edge : ℕ → ℕ → Type 0) (nodes : ℕ) (marks_before : List Mark
         was_open u p is = elim (each u) [
           | inl (q, ge, lq, eu, ed) ↦ absurd (open_not_done (sym is ∙ ed))
           | inr (e, untouched) ↦ (let r = s.on_stack u p (sym e ∙ is) in elim (cases_lt p start) [
-            | inl lt ↦ (omega (arith, lt, length_after), at_place p lt ∙ r.1)
+            | inl lt ↦ (omega (arith, lt, length_after), at_offset p lt ∙ r.1)
             | inr ge ↦ absurd (untouched p ge r.0 r.1)
           ])
         ]

@@ -1,4 +1,4 @@
--- The edges of a graph are listed one after another: those of one node behind those of the nodes before it.
+-- The edges of a graph are listed one after another: those of one node after those of the nodes before it.
 use Rattle.std.proofs.Common.{◌≡◌, ◌⊎◌, ◌↔◌, ℕ, ◌+◌, ◌<◌, ◌≤◌, List, [], ◌∷◌, ◌++◌, length, get_or, sym, ap, subst, inl, inr, arith, length-append}
 use Rattle.std.specs.Prelude.{Contains}
 use Rattle.std.proofs.lemmas.Bool.{cases_eq, cases_lt}
@@ -13,7 +13,7 @@ use Rattle.pac_graph.proofs.GraphLemmas.{leads_from}
 module _ (g : Graph) where
   pub none_listed : AreEdgesBelow g [] 0 0
   none_listed = record {
-    lists = λ b c. ((λ h. absurd (omega (arith, h.1))), (λ (edge, place). absurd (elim place [ inl lt ↦ omega (arith, lt) | inr (e, lt) ↦ omega (arith, lt) ])));
+    lists = λ b c. ((λ h. absurd (omega (arith, h.1))), (λ (edge, offset). absurd (elim offset [ inl lt ↦ omega (arith, lt) | inr (e, lt) ↦ omega (arith, lt) ])));
     ascends = λ i j d lt within. absurd (omega (arith, within));
   }
 

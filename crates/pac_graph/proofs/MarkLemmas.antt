@@ -19,8 +19,8 @@ fresh_not_done e = cc
 pub fresh_not_open : {p : ℕ} → Fresh ≡ Open p → ⊥
 fresh_not_open e = cc
 
-pub same_place : (a b : ℕ) → Open a ≡ Open b → a ≡ b
-same_place a b e = cc
+pub same_offset : (a b : ℕ) → Open a ≡ Open b → a ≡ b
+same_offset a b e = cc
 
 pub same_class : (a b : ℕ) → Done a ≡ Done b → a ≡ b
 same_class a b e = cc

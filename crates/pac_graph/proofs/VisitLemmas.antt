@@ -8,7 +8,7 @@ use Rattle.pac_graph.specs.declared.search.Mark.TheVariants.{Fresh, Open, Done}
 use Rattle.pac_graph.specs.Graph.{Reach, Here}
 use Rattle.pac_graph.specs.Search.{mark_of, changes_of, changes_left, IsSearch, IsSeenFrom, IsVisited}
 use Rattle.pac_graph.proofs.GraphLemmas.{along, one_edge}
-use Rattle.pac_graph.proofs.MarkLemmas.{open_not_done, same_place, mark_set, mark_kept, changes_set}
+use Rattle.pac_graph.proofs.MarkLemmas.{open_not_done, same_offset, mark_set, mark_kept, changes_set}
 
 -- a visit of `node`, whose edges to nodes below `at` are dealt with
 pub record IsVisit (edge : ℕ → ℕ → Type 0) (nodes : ℕ) (marks_before : List Mark) (stack_before : List ℕ) (marks : List Mark) (stack : List ℕ) (count : ℕ) (node low at : ℕ) : Type 0 where
@@ -44,7 +44,7 @@ module _ (edge : ℕ → ℕ → Type 0) (nodes : ℕ) where
         | inr new ↦ subst (λ x. mark_of after x ≡ Open p) (sym (top p lt new)) (this ∙ ap Open (omega (arith, size, lt)))
       ];
       on_stack = λ u p e. elim (cases_eq u node) [
-        | inl same ↦ (let q : n ≡ p = same_place n p (sym this ∙ (ap (mark_of after) (sym same) ∙ e)) in (omega (arith, size), subst (λ k. get_or stack' k 0 ≡ u) q (last ∙ sym same)))
+        | inl same ↦ (let q : n ≡ p = same_offset n p (sym this ∙ (ap (mark_of after) (sym same) ∙ e)) in (omega (arith, size), subst (λ k. get_or stack' k 0 ≡ u) q (last ∙ sym same)))
         | inr ne ↦ (let r = s.on_stack u p (sym (mark_kept marks node u (Open n) ne) ∙ e) in (omega (arith, size, r.0), below p r.0 ∙ r.1))
       ];
       down = λ i j le lt. elim (cases_lt j n) [

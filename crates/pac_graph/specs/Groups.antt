@@ -30,7 +30,7 @@ pub record AreGroups {N : Type 0} (IsNode : N → Type 0) (before link flow : N 
   -- the pairs are those between which there is flow, ascending
   pub edges : (b c : ℕ) → Contains pairs (b, c) ↔ IsEdgeBetween flow group b c
   pub ascending : ArePairsAscending pairs
-  -- a group is numbered behind those that lead to it
+  -- a group is numbered after those that lead to it
   pub rises : (b c : ℕ) → Contains pairs (b, c) → b < c
   -- of two groups that could both be next the one with the first node is
   pub first : (b c : ℕ) → b < c → c < count → ((d : ℕ) → Contains pairs (d, c) → d < b) → HasFirstNode IsNode before group b c

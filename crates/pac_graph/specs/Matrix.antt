@@ -5,7 +5,7 @@ use Rattle.std.specs.List.{range_with_len}
 use Rattle.pac_graph.specs.declared.matrix.Matrix.{Matrix}
 use Rattle.pac_graph.specs.Graph.{Graph}
 
--- bit b of the row of a, where a row has so many words
+-- bit b of the row of a, where a row has that many words
 abbrev pub bit_of : ℕ → List ℕ → ℕ → ℕ → ℕ
 bit_of width words a b = bit_at (slice_index words (a * width + b / 64)) (b % 64)
 

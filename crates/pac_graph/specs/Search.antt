@@ -12,7 +12,7 @@ mark_of marks u = slice_index_or marks u Fresh
 -- how often a mark changes yet
 abbrev pub changes_of : Mark → ℕ
 changes_of Fresh = 2
-changes_of (Open place) = 1
+changes_of (Open offset) = 1
 changes_of (Done class) = 0
 
 -- how often marks change yet
@@ -41,7 +41,7 @@ pub record IsSearched (edge : ℕ → ℕ → Type 0) (nodes : ℕ) (marks : Lis
   pub search : IsSearch edge nodes marks stack count
   pub done : (u : ℕ) → u < nodes → (c : ℕ) × (mark_of marks u ≡ Done c)
 
--- done, or open at a place on the stack that is no lower than `low`
+-- done, or open at a position on the stack that is no lower than `low`
 abbrev pub IsSeenFrom : List Mark → ℕ → ℕ → Type 0
 IsSeenFrom marks low u = ((c : ℕ) × (mark_of marks u ≡ Done c)) ⊎ ((p : ℕ) × (mark_of marks u ≡ Open p) × (low ≤ p))
 
@@ -59,6 +59,6 @@ pub record IsVisited (edge : ℕ → ℕ → Type 0) (nodes : ℕ) (marks_before
   pub closed : (p v : ℕ) → length stack_before ≤ p → p < length stack → edge (slice_index stack p) v → IsSeenFrom marks low v
   pub less : changes_left marks < changes_left marks_before
 
--- the nodes at these places on the stack were given a class, and no other mark changed
+-- the nodes at these positions on the stack were given a class, and no other mark changed
 abbrev pub GaveClass : List Mark → List Mark → List ℕ → ℕ → ℕ → ℕ → Type 0
 GaveClass marks_before marks stack from to class = (u : ℕ) → ((p : ℕ) × (from ≤ p) × (p < to) × (slice_index stack p ≡ u) × (mark_of marks u ≡ Done class)) ⊎ ((mark_of marks u ≡ mark_of marks_before u) × ((p : ℕ) → from ≤ p → p < to → slice_index stack p ≡ u → ⊥))

@@ -17,7 +17,7 @@ Waits queue rank class = tree.get nat_cmp queue.classes rank ≡ Some class
 abbrev pub RanksUpTo : List ℕ → ℕ → ℕ → Type 0
 RanksUpTo ranks c d = slice_index ranks c ≤ slice_index ranks d
 
--- how many of so many classes have no number yet; until then it is their count
+-- how many of that many classes have no number yet; until then it is their count
 unfoldable pub unnumbered : ℕ → List ℕ → ℕ
 unnumbered count numbers = sum_by (λ number. if number == count then 1 else 0) numbers
 

@@ -62,7 +62,7 @@ fn add_edges_from(graph: &Digraph, numbers: &[u16], from: usize, edges: &mut Two
     requires from { from < graph.now.nodes }
     ensures nodes { edges.new.nodes ≡ edges.old.nodes }
     ensures kept { (a b : ℕ) → HasEdge edges.old a b → HasEdge edges.new a b }
-    ensures sound { (a b : ℕ) → HasEdge edges.new a b → HasEdge edges.old a b ⊎ IsClassEdge graph.now numbers.now a b }
+    ensures well_formed { (a b : ℕ) → HasEdge edges.new a b → HasEdge edges.old a b ⊎ IsClassEdge graph.now numbers.now a b }
     ensures complete { (v : ℕ) → HasEdge graph.now from v → (slice_index numbers.now from ≡ slice_index numbers.now v → ⊥) → HasEdge edges.new (slice_index numbers.now from) (slice_index numbers.now v) }
 {
     let source = usize::from(numbers[from]);

@@ -31,7 +31,7 @@ impl Digraph {
     ghost use Rattle.pac_graph.specs.Graph.{HasEdge};
     ghost use Rattle.pac_graph.specs.declared.limits.TheConstants.{MAX_NODES};
 
-    /// So many nodes, with no edge.
+    /// That many nodes, with no edge.
     ///
     /// # Errors
     ///

@@ -26,7 +26,7 @@ impl Digraph {
     }
 }
 
-// Adds the edges of a node, behind those of the nodes before it.
+// Adds the edges of a node, after those of the nodes before it.
 fn push_edges_from(
     graph: &Digraph,
     from: usize,

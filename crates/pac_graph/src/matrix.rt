@@ -42,11 +42,11 @@ impl Matrix {
         self.nodes
     }
 
-    // The place of the word that has a bit.
+    // The index of the word that has a bit.
     fn word_of(&self, from: usize, to: usize) -> usize
         requires from { from < self.now.nodes }
         requires to { to < self.now.nodes }
-        ensures place { result ≡ from * self.now.width + to / 64 }
+        ensures offset { result ≡ from * self.now.width + to / 64 }
         ensures within { result < vec_len self.now.words }
     {
         from * self.width + to / 64
@@ -71,8 +71,8 @@ impl Matrix {
         let mut to = at;
         while to < self.nodes {
             let word = 64 * (to / 64);
-            if let Some(place) = lowest_from(self.words[self.word_of(from, to)], to % 64) {
-                let first = word + place;
+            if let Some(offset) = lowest_from(self.words[self.word_of(from, to)], to % 64) {
+                let first = word + offset;
                 return if first < self.nodes {
                     Some(first)
                 } else {
@@ -85,17 +85,17 @@ impl Matrix {
     }
 }
 
-// The lowest bit of a word that is set, from a place on. Where bits are dense it is mostly that place itself.
-fn lowest_from(word: u64, place: usize) -> Option<usize>
-    requires { place < 64 }
-    ensures { MatchOption result ((j : ℕ) → place ≤ j → bit_at word j ≡ 0) (λ k. (place ≤ k) × (k < 64) × (bit_at word k ≡ 1) × ((j : ℕ) → place ≤ j → j < k → bit_at word j ≡ 0)) }
+// The lowest bit of a word that is set, from a position on. Where bits are dense it is mostly that position itself.
+fn lowest_from(word: u64, offset: usize) -> Option<usize>
+    requires { offset < 64 }
+    ensures { MatchOption result ((j : ℕ) → offset ≤ j → bit_at word j ≡ 0) (λ k. (offset ≤ k) × (k < 64) × (bit_at word k ≡ 1) × ((j : ℕ) → offset ≤ j → j < k → bit_at word j ≡ 0)) }
 {
-    let rest = word >> place;
+    let rest = word >> offset;
     if rest & 1 == 1 {
-        return Some(place);
+        return Some(offset);
     }
     if rest == 0 {
         return None;
     }
-    Some(place + rest.trailing_zeros() as usize)
+    Some(offset + rest.trailing_zeros() as usize)
 }

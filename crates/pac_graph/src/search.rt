@@ -1,5 +1,5 @@
 // The search for classes, depth first. A node that is visited stands on a stack until its class is known. A visit
-// returns the lowest place on the stack that it has seen an edge to; where that is the visited node's own place, the
+// returns the lowest position on the stack that it has seen an edge to; where that is the visited node's own position, the
 // nodes from there on are a class.
 ghost use Rattle.std.specs.Prelude.{◌≡◌, ℕ, ◌+◌, ◌^◌, ◌<◌, ◌≤◌, ◌++◌, ◌∷◌, [], length, take, slice_index, slice_set, IfOk, OnOk, vec_len};
 ghost use Rattle.pac_graph.specs.Graph.{HasEdge, Reach};
@@ -14,7 +14,7 @@ use pac_base::NoMemory;
 pub(crate) enum Mark {
     // not visited
     Fresh,
-    // on the stack, at this place
+    // on the stack, at this position
     Open(usize),
     // of this class
     Done(usize),
@@ -56,17 +56,17 @@ impl Search {
     // Puts a node on the stack.
     fn open(&mut self, node: usize) -> Result<usize, NoMemory>
         requires { node < vec_len self.old.marks }
-        ensures place { IfOk result (λ place. (place ≡ length self.old.stack.items) × (self.new.marks.items ≡ slice_set self.old.marks.items node (Open place))) }
+        ensures offset { IfOk result (λ offset. (offset ≡ length self.old.stack.items) × (self.new.marks.items ≡ slice_set self.old.marks.items node (Open offset))) }
         ensures stack { OnOk result (self.new.stack.items ≡ self.old.stack.items ++ node ∷ []) }
         ensures count { self.new.count ≡ self.old.count }
     {
-        let place = self.stack.len();
+        let offset = self.stack.len();
         self.stack.push(node)?;
-        self.marks[node] = Mark::Open(place);
-        Ok(place)
+        self.marks[node] = Mark::Open(offset);
+        Ok(offset)
     }
 
-    // Takes the nodes from a place on off the stack: they are a class.
+    // Takes the nodes from a position on off the stack: they are a class.
     fn close(&mut self, from: usize)
         requires from { from < length self.old.stack.items }
         requires within { (p : ℕ) → p < length self.old.stack.items → slice_index self.old.stack.items p < vec_len self.old.marks }
@@ -78,8 +78,8 @@ impl Search {
         ensures marks { GaveClass self.old.marks.items self.new.marks.items self.old.stack.items from (length self.old.stack.items) self.old.count }
         ensures changes { changes_left self.new.marks.items + length self.old.stack.items ≤ changes_left self.old.marks.items + from }
     {
-        for place in from..self.stack.len() {
-            let node = self.stack[place];
+        for offset in from..self.stack.len() {
+            let node = self.stack[offset];
             self.marks[node] = Mark::Done(self.count);
         }
         self.stack.truncate(from);
@@ -95,8 +95,8 @@ impl Search {
         requires linked { (p : ℕ) → p < length self.old.stack.items → Reach (HasEdge graph.now) (slice_index self.old.stack.items p) node }
         ensures { IfOk result (λ low. IsVisited (HasEdge graph.now) graph.now.nodes self.old.marks.items self.old.stack.items self.new.marks.items self.new.stack.items self.new.count node low) }
     {
-        let place = self.open(node)?;
-        let mut low = place;
+        let offset = self.open(node)?;
+        let mut low = offset;
         let mut at = 0;
         while let Some(to) = graph.next(node, at) {
             at = to + 1;
@@ -111,8 +111,8 @@ impl Search {
                 Mark::Done(_) => {}
             }
         }
-        if low == place {
-            self.close(place);
+        if low == offset {
+            self.close(offset);
         }
         Ok(low)
     }

@@ -31,7 +31,7 @@ impl Model for TwoWay {
 impl TwoWay {
     ghost use Rattle.pac_graph.specs.declared.limits.TheConstants.{MAX_NODES};
 
-    // So many nodes, with no edge.
+    // That many nodes, with no edge.
     pub(crate) fn new(alloc: Global, nodes: usize) -> Result<TwoWay, NoMemory>
         requires { nodes ≤ MAX_NODES }
         ensures nodes { IfOk result (λ graph. graph.nodes ≡ nodes) }

@@ -1,4 +1,4 @@
--- The store that is made, and which device is told where one isn't empty.
+-- The store that is made, and which device is reported where one isn't empty.
 use Rattle.std.specs.Prelude.{◌≡◌, ◌<◌, ℕ, List, [], ◌∷◌, ◌++◌, length, codes}
 use Rattle.pac_outside.specs.Disk.{DiskHistory, settled}
 use Rattle.pac_log.specs.Logs.{header_bytes}
@@ -9,13 +9,13 @@ use Rattle.pac_init.specs.declared.device.DeviceName.TheVariants.{Log, SlotA, Sl
 use Rattle.pac_init.specs.declared.errors.MakeError.{MakeError}
 use Rattle.pac_init.specs.declared.errors.MakeError.TheVariants.{NotEmpty, DiskFault, NoMemory}
 
--- the name of a device, as a user is told it
+-- the name of a device, as it is shown to a user
 abbrev pub device_name : DeviceName → List ℕ
 device_name Log = codes "log"
 device_name SlotA = codes "a"
 device_name SlotB = codes "b"
 
--- a device has so many bytes
+-- a device has that many bytes
 abbrev pub HasLength : ℕ → DiskHistory → Type 0
 HasLength n device = length device.now.seen ≡ n
 
@@ -24,7 +24,7 @@ abbrev pub AreEmpty : List DiskHistory → Type 0
 AreEmpty [] = Unit {0}
 AreEmpty (device ∷ devices) = HasLength 0 device × AreEmpty devices
 
--- this device has so many bytes, and is the first of log, slot a and slot b that has any
+-- this device has that many bytes, and is the first of log, slot a and slot b that has any
 abbrev pub IsFirstInUse : DeviceName → ℕ → List DiskHistory → Type 0
 IsFirstInUse Log n (log ∷ a ∷ b ∷ []) = (0 < n) × HasLength n log
 IsFirstInUse SlotA n (log ∷ a ∷ b ∷ []) = (0 < n) × AreEmpty (log ∷ []) × HasLength n a
@@ -40,7 +40,7 @@ IsNewStore text _ = ⊥
 abbrev pub MakesStore : List ℕ → List DiskHistory → List DiskHistory → Type 0
 MakesStore text old new = AreEmpty old × IsNewStore text new
 
--- a device has so many bytes, and nothing was written
+-- a device has that many bytes, and nothing was written
 abbrev pub IsInUse : DeviceName → ℕ → List DiskHistory → List DiskHistory → Type 0
 IsInUse device n old new = IsFirstInUse device n old × (new ≡ old)
 

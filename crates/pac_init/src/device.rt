@@ -11,7 +11,7 @@ pub enum DeviceName {
 }
 
 impl DeviceName {
-    /// The name, as a user is told it. Takes no memory.
+    /// The name, as it is shown to a user. Takes no memory.
     pub fn name(&self) -> &'static str
         ensures { result.now ≡ device_name self.now }
     {

@@ -10,7 +10,7 @@ use pac_outside::Failed;
 /// Why a store isn't made.
 #[derive(Clone, Copy, Debug, PartialEq, Eq)]
 pub enum MakeError {
-    /// This device has so many bytes already.
+    /// This device has that many bytes already.
     NotEmpty { device: DeviceName, length: u64 },
     /// A call of a device failed.
     DiskFault,

@@ -4,7 +4,7 @@
 //! - [`DeviceName`] is a device of a store, as it is named to a user.
 //!
 //! What the log and the slots are stands in `pac_log` and `pac_check`; `specs/Made.antt` says what is made of the three
-//! together, and which device is told where one isn't empty.
+//! together, and which device is reported where one isn't empty.
 #![tactic(auto)]
 
 mod device;

@@ -1,8 +1,8 @@
 // Makes a store on empty devices.
 ghost use Rattle.std.specs.Prelude.{◌≡◌, ◌<◌, ℕ, List, [], ◌∷◌, length, Err, OnOk, OnErr, IsErrOf};
 ghost use Rattle.pac_outside.specs.Causes.{one_more};
-ghost use Rattle.pac_outside.specs.Devices.{OneRose, WhereAllTold, each};
-ghost use Rattle.pac_outside.specs.Disk.{BothTell, WhereTold, settled};
+ghost use Rattle.pac_outside.specs.Devices.{OneFaulted, IfAllKnown, each};
+ghost use Rattle.pac_outside.specs.Disk.{BothKnown, IfKnown, settled};
 ghost use Rattle.pac_types.specs.Typing.{CatalogueState};
 ghost use Rattle.pac_log.specs.Logs.{IsAccepted};
 ghost use Rattle.pac_init.specs.Made.{AreEmpty, IsInUse, MakesStore};
@@ -27,10 +27,10 @@ fn refuse(device: DeviceName, length: u64) -> Result<(), MakeError>
 
 // Refuses devices of which one has bytes.
 fn refuse_in_use<D: Disk>(devices: &mut Devices<D>) -> Result<(), MakeError>
-    ensures same { each D.told devices.new ≡ each D.told devices.old }
-    ensures empty { OnOk result (WhereAllTold (λ old new. AreEmpty old) (each D.told devices.old) (each D.told devices.new)) }
-    ensures in_use { (device : ADevice) (length : ℕ) → IsErrOf result (MakeError.NotEmpty device length) → WhereAllTold (IsInUse device length) (each D.told devices.old) (each D.told devices.new) }
-    ensures counted { IsErrOf result MakeError.DiskFault → OneRose (each D.faults devices.old) (each D.faults devices.new) }
+    ensures same { each D.known devices.new ≡ each D.known devices.old }
+    ensures empty { OnOk result (IfAllKnown (λ old new. AreEmpty old) (each D.known devices.old) (each D.known devices.new)) }
+    ensures in_use { (device : ADevice) (length : ℕ) → IsErrOf result (MakeError.NotEmpty device length) → IfAllKnown (IsInUse device length) (each D.known devices.old) (each D.known devices.new) }
+    ensures counted { IsErrOf result MakeError.DiskFault → OneFaulted (each D.faults devices.old) (each D.faults devices.new) }
     ensures quiet { ¬ IsErrOf result MakeError.DiskFault → each D.faults devices.new ≡ each D.faults devices.old }
 {
     let length = devices.log.len()?;
@@ -43,8 +43,8 @@ fn refuse_in_use<D: Disk>(devices: &mut Devices<D>) -> Result<(), MakeError>
 
 // Makes a slot.
 fn make_slot<D: Disk>(device: DeviceName, disk: &mut D) -> Result<(), MakeError>
-    ensures made { OnOk result (BothTell (λ old new. new.now ≡ settled (0 ∷ [])) (D.told disk.old) (D.told disk.new)) }
-    ensures not_empty { (named : ADevice) (len : ℕ) → IsErrOf result (MakeError.NotEmpty named len) → (0 < len) × WhereTold (λ old. len ≡ length old.now.seen) (D.told disk.old) }
+    ensures made { OnOk result (BothKnown (λ old new. new.now ≡ settled (0 ∷ [])) (D.known disk.old) (D.known disk.new)) }
+    ensures not_empty { (named : ADevice) (len : ℕ) → IsErrOf result (MakeError.NotEmpty named len) → (0 < len) × IfKnown (λ old. len ≡ length old.now.seen) (D.known disk.old) }
     ensures counted { IsErrOf result MakeError.DiskFault → D.faults disk.new ≡ one_more (D.faults disk.old) }
     ensures quiet { ¬ IsErrOf result MakeError.DiskFault → D.faults disk.new ≡ D.faults disk.old }
     ensures memory { ¬ IsErrOf result MakeError.NoMemory }
@@ -74,12 +74,12 @@ pub fn make_store<D: Disk>(
     requires { (catalogue : CatalogueState) × IsAccepted text.now catalogue }
 
     // From Ok on each crash leaves the store of the text, and the devices were empty.
-    ensures made { OnOk result (WhereAllTold (MakesStore text.now) (each D.told devices.old) (each D.told devices.new)) }
-    ensures in_use { (device : ADevice) (length : ℕ) → IsErrOf result (MakeError.NotEmpty device length) → WhereAllTold (IsInUse device length) (each D.told devices.old) (each D.told devices.new) }
-    ensures kept { OnErr result (¬ IsErrOf result MakeError.DiskFault → WhereAllTold (λ old new. new ≡ old) (each D.told devices.old) (each D.told devices.new)) }
+    ensures made { OnOk result (IfAllKnown (MakesStore text.now) (each D.known devices.old) (each D.known devices.new)) }
+    ensures in_use { (device : ADevice) (length : ℕ) → IsErrOf result (MakeError.NotEmpty device length) → IfAllKnown (IsInUse device length) (each D.known devices.old) (each D.known devices.new) }
+    ensures kept { OnErr result (¬ IsErrOf result MakeError.DiskFault → IfAllKnown (λ old new. new ≡ old) (each D.known devices.old) (each D.known devices.new)) }
 
     // No call of a device comes after one that failed.
-    ensures counted { IsErrOf result MakeError.DiskFault → OneRose (each D.faults devices.old) (each D.faults devices.new) }
+    ensures counted { IsErrOf result MakeError.DiskFault → OneFaulted (each D.faults devices.old) (each D.faults devices.new) }
     ensures quiet { ¬ IsErrOf result MakeError.DiskFault → each D.faults devices.new ≡ each D.faults devices.old }
 {
     refuse_in_use(devices)?;

@@ -12,7 +12,7 @@ use Rattle.pac_lines.specs.Calls.{AnswersLine, Calls, IsCall, known, IsChunk, Is
 use Rattle.pac_lines.specs.declared.line_error.LineError.{LineError}
 use Rattle.pac_lines.specs.declared.line_error.LineError.TheVariants.{Failed, TooLong, NoMemory}
 
--- reads alone: what the source gave stands behind what was ahead
+-- reads alone: what the source gave stands after what was ahead
 pub record IsReading (before now : ReaderState) (left left' : Option (List ℕ)) : Type 0 where
   pub given : List ℕ
   pub gave : Gave left given left'

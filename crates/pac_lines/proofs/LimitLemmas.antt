@@ -1,4 +1,4 @@
--- When a text is too long, and when that is told.
+-- When a text is too long, and when that is reported.
 use Rattle.std.proofs.Common.{◌≡◌, ◌+◌, ◌-◌, ◌<◌, ◌≤◌, ℕ, suc, Bool, true, false, ◌||◌, eqb, ltb, List, ◌∷◌, ◌++◌, take, length, Option, Some, None, Result, Ok, Err, MatchResult, refl, sym, ap, subst, ◌∙◌, append_assoc, append-nil, length-append, arith, inl, inr}
 use Rattle.std.proofs.Math.Seq.{take-append-add}
 use Rattle.std.proofs.lemmas.Bool.{ltb-true, ltb-false}
@@ -14,8 +14,8 @@ use Rattle.pac_lines.specs.declared.line_error.LineError.{LineError}
 use Rattle.pac_lines.specs.declared.line_error.LineError.TheVariants.{Failed, TooLong, NoMemory}
 use Rattle.pac_lines.proofs.CallLemmas.{known_before}
 
-feed_in_front : (line more : List ℕ) (n : ℕ) → HasFeed (take (length line + suc n) (line ++ line_feed ∷ more))
-feed_in_front line more n = ap has_feed (take-append-add line (line_feed ∷ more) (suc n)) ∙ list_any-append (λ b. eqb b 10) line (line_feed ∷ take n more) ∙ by (has_feed line)
+feed_before : (line more : List ℕ) (n : ℕ) → HasFeed (take (length line + suc n) (line ++ line_feed ∷ more))
+feed_before line more n = ap has_feed (take-append-add line (line_feed ∷ more) (suc n)) ∙ list_any-append (λ b. eqb b 10) line (line_feed ∷ take n more) ∙ by (has_feed line)
   where
     by : (b : Bool) → (b || true) ≡ true
     by true = refl
@@ -26,7 +26,7 @@ ended_within : (text line left : List ℕ) (room : ℕ) → text ≡ line ++ lin
 ended_within text line left room is within none =
     let n = room - length line - 1 in
     let whole : room ≡ length line + suc n = omega (arith, within) in
-    let feed : has_feed (take room text) ≡ true = rw (is, whole) (feed_in_front line left n) in
+    let feed : has_feed (take room text) ≡ true = rw (is, whole) (feed_before line left n) in
     absurd cc
 
 -- what was taken, where it isn't too long
@@ -61,20 +61,20 @@ module _ (before now : ReaderState) (left' : Option (List ℕ)) (given text : Li
       len : length (before.ahead ++ given) ≡ room before + 1
       len = omega (arith, over, most, counted, same, length-append before.ahead given, line.some)
 
-      front : room before ≡ length (before.ahead ++ given) - 1
-      front = omega (arith, len)
+      prefix : room before ≡ length (before.ahead ++ given) - 1
+      prefix = omega (arith, len)
 
       by : (end : Option (List ℕ)) → prepend_known (before.ahead ++ given) end ≡ Some text → HasTooMuch before text
       by None is = absurd cc
       by (Some rest) is =
           let all : (before.ahead ++ given) ++ rest ≡ text = cc in record {
             longer = omega (arith, len, length-append (before.ahead ++ given) rest, ap (λ (l : List ℕ). length l) all);
-            none = subst HasNoFeed (ap (λ (n : ℕ). take n (before.ahead ++ given)) (sym front) ∙ sym (take-append-le (room before) (before.ahead ++ given) rest (omega (arith, len))) ∙ ap (λ (l : List ℕ). take (room before) l) all) line.front;
+            none = subst HasNoFeed (ap (λ (n : ℕ). take n (before.ahead ++ given)) (sym prefix) ∙ sym (take-append-le (room before) (before.ahead ++ given) rest (omega (arith, len))) ∙ ap (λ (l : List ℕ). take (room before) l) all) line.prefix;
           }
 
-pub told_exactly : (text : List ℕ) (before now : ReaderState) (left left' : Option (List ℕ)) (result : Result Bool LineError) → IsCall before now left left' result → KeepsLimit now result → known before left ≡ Some text
+pub reported_exactly : (text : List ℕ) (before now : ReaderState) (left left' : Option (List ℕ)) (result : Result Bool LineError) → IsCall before now left left' result → KeepsLimit now result → known before left ≡ Some text
     → MatchResult result (λ _. ¬ HasTooMuch before text) (λ error. error ≡ TooLong → HasTooMuch before text)
-told_exactly text before now left left' result call limit is =
+reported_exactly text before now left left' result call limit is =
     by result call.answer limit
   where
     all : prepend_known (before.ahead ++ call.given) left' ≡ Some text

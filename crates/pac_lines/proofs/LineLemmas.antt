@@ -46,8 +46,8 @@ first_at-end (b ∷ bs) h = by (eqb b 10) refl (first_at-end bs) h
 abbrev no_place : Option ℕ
 no_place = None
 
-place_is : (a b : ℕ) → ◌≡◌ {A = Option ℕ} (Some a) (Some b) → a ≡ b
-place_is a b e = cc
+offset_is : (a b : ℕ) → ◌≡◌ {A = Option ℕ} (Some a) (Some b) → a ≡ b
+offset_is a b e = cc
 
 none_in : (text : List ℕ) → None ≡ position (λ b. eqb b 10) text → HasNoFeed text
 none_in text e = by (ltb (end text) (length text)) refl e
@@ -61,19 +61,19 @@ first_in text at e = by (ltb (end text) (length text)) refl e
   where
     by : (t : Bool) → ltb (end text) (length text) ≡ t → ◌≡◌ {A = Option ℕ} (Some at) (cond t (Some (end text)) None) → IsEndedLine text (take at text) (drop (at + 1) text)
     by false is e = absurd cc
-    by true is e = let same : at ≡ end text = place_is at (end text) e in rw same (first_at-end text (ltb-true _ _ is))
+    by true is e = let same : at ≡ end text = offset_is at (end text) e in rw same (first_at-end text (ltb-true _ _ is))
 
--- no line feed stands in the bytes that were searched before, and none behind them
+-- no line feed stands in the bytes that were searched before, and none after them
 pub none_in_all : (text : List ℕ) (searched : ℕ) → HasNoFeed (take searched text) → None ≡ position (λ b. eqb b 10) (drop searched text) → HasNoFeed text
-none_in_all text searched front e = rw (sym (take-append-drop searched text)) (no_feed-append (take searched text) (drop searched text) front (none_in (drop searched text) e))
+none_in_all text searched prefix e = rw (sym (take-append-drop searched text)) (no_feed-append (take searched text) (drop searched text) prefix (none_in (drop searched text) e))
 
-longer : (front text line left : List ℕ) → HasNoFeed front → IsEndedLine text line left → IsEndedLine (front ++ text) (front ++ line) left
-longer front text line left none first = record {
-  none = no_feed-append front line none first.none;
-  split = ap (λ l. front ++ l) first.split ∙ sym (append_assoc front line _);
+longer : (prefix text line left : List ℕ) → HasNoFeed prefix → IsEndedLine text line left → IsEndedLine (prefix ++ text) (prefix ++ line) left
+longer prefix text line left none first = record {
+  none = no_feed-append prefix line none first.none;
+  split = ap (λ l. prefix ++ l) first.split ∙ sym (append_assoc prefix line _);
 }
 
--- behind the bytes that were searched before stands the first line feed
+-- after the bytes that were searched before stands the first line feed
 pub first_in_all : (text : List ℕ) (searched at : ℕ) → HasNoFeed (take searched text) → Some at ≡ position (λ b. eqb b 10) (drop searched text)
     → IsEndedLine text (take (searched + at) text) (drop (searched + at + 1) text)
 first_in_all text searched at none e =
@@ -86,23 +86,23 @@ first_in_all text searched at none e =
 -- the same of a copy of a buffer, from the bytes on that were searched before
 found_in : (items copy : List ℕ) (next searched : ℕ) (found : Option ℕ) → copy ≡ items
     → found ≡ position (λ b. eqb b 10) (take (length copy - (next + searched)) (drop (next + searched) copy)) → found ≡ position (λ b. eqb b 10) (drop searched (drop next items))
-found_in items copy next searched found same place =
-    let of_items : found ≡ position (λ b. eqb b 10) (take (length items - (next + searched)) (drop (next + searched) items)) = rw same at place in
+found_in items copy next searched found same offset =
+    let of_items : found ≡ position (λ b. eqb b 10) (take (length items - (next + searched)) (drop (next + searched) items)) = rw same at offset in
     let rest : found ≡ position (λ b. eqb b 10) (drop (next + searched) items) = simp take_rest at of_items in
     rw (drop-drop searched next items) rest
 
 pub none_found : (items copy : List ℕ) (next searched : ℕ) (found : Option ℕ) → copy ≡ items
     → found ≡ position (λ b. eqb b 10) (take (length copy - (next + searched)) (drop (next + searched) copy)) → found ≡ None
     → HasNoFeed (take searched (drop next items)) → HasNoFeed (drop next items)
-none_found items copy next searched found same place is front = none_in_all (drop next items) searched front (sym is ∙ found_in items copy next searched found same place)
+none_found items copy next searched found same offset is prefix = none_in_all (drop next items) searched prefix (sym is ∙ found_in items copy next searched found same offset)
 
 pub one_found : (items copy : List ℕ) (next searched at : ℕ) (found : Option ℕ) → copy ≡ items
     → found ≡ position (λ b. eqb b 10) (take (length copy - (next + searched)) (drop (next + searched) copy)) → found ≡ Some at
     → HasNoFeed (take searched (drop next items)) → IsEndedLine (drop next items) (take (searched + at) (drop next items)) (drop (next + searched + at + 1) items)
-one_found items copy next searched at found same place is front =
+one_found items copy next searched at found same offset is prefix =
     let sum : next + (searched + at + 1) ≡ next + searched + at + 1 = omega arith in
-    let behind : drop (searched + at + 1) (drop next items) ≡ drop (next + searched + at + 1) items = drop-drop (searched + at + 1) next items ∙ ap (λ n. drop n items) sum in
-    rw (sym behind) (first_in_all (drop next items) searched at front (sym is ∙ found_in items copy next searched found same place))
+    let following : drop (searched + at + 1) (drop next items) ≡ drop (next + searched + at + 1) items = drop-drop (searched + at + 1) next items ∙ ap (λ n. drop n items) sum in
+    rw (sym following) (first_in_all (drop next items) searched at prefix (sym is ∙ found_in items copy next searched found same offset))
 
 -- ---- what the lines are
 

@@ -44,7 +44,7 @@ pub record KeepsLimit (now : ReaderState) (result : Result Bool LineError) : Typ
   pub most : now.taken ≤ now.limit + 1
   pub long : IsErrOf result TooLong ↔ (now.limit < now.taken)
 
--- a read of a reader: the source gave so many bytes, none only at its end
+-- a read of a reader: the source gave that many bytes, none only at its end
 pub record IsChunk (before now : ReaderState) (left left' : Option (List ℕ)) (count : ℕ) : Type 0 where
   pub given : List ℕ
   pub gave : Gave left given left'
@@ -53,7 +53,7 @@ pub record IsChunk (before now : ReaderState) (left left' : Option (List ℕ)) (
   pub end : count ≡ 0 → IsAtEnd left'
   pub grown : now ≡ record { line = []; ahead = before.ahead ++ given; taken = before.taken + length given; limit = before.limit }
 
--- what is ahead and then left, where the source tells that
+-- what is ahead and then left, where the source's bytes are known
 abbrev pub known : ReaderState → Option (List ℕ) → Option (List ℕ)
 known state left = prepend_known state.ahead left
 

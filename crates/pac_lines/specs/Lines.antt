@@ -13,7 +13,7 @@ HasFeed text = has_feed text ≡ true
 abbrev pub HasNoFeed : List ℕ → Type 0
 HasNoFeed text = has_feed text ≡ false
 
--- lines that each have a line feed behind them, and what stands behind the last of these
+-- lines that each have a line feed after them, and what stands after the last of these
 pub record Lines : Type 0 where
   pub whole : List (List ℕ)
   pub rest : List ℕ
@@ -28,7 +28,7 @@ pub record AreLines (text : List ℕ) (lines : Lines) : Type 0 where
   pub whole : AllByRecursion HasNoFeed lines.whole
   pub rest : HasNoFeed lines.rest
 
--- a byte more at the front of the first line, which is the rest where no line is whole
+-- a byte more at the start of the first line, which is the rest where no line is whole
 abbrev pub with_first_byte : ℕ → List (List ℕ) → List ℕ → Lines
 with_first_byte b [] rest = record { whole = []; rest = b ∷ rest }
 with_first_byte b (line ∷ others) rest = record { whole = (b ∷ line) ∷ others; rest = rest }
@@ -46,7 +46,7 @@ last_line (b ∷ bs) = (b ∷ bs) ∷ []
 abbrev pub all_lines : Lines → List (List ℕ)
 all_lines lines = lines.whole ++ last_line lines.rest
 
--- the line is the first of the text, and ended; what stands behind its line feed is left
+-- the line is the first of the text, and ended; what stands after its line feed is left
 pub record IsEndedLine (text line left : List ℕ) : Type 0 where
   pub none : HasNoFeed line
   pub split : text ≡ line ++ line_feed ∷ left

@@ -16,13 +16,13 @@ pub record ReaderState : Type 0 where
   pub taken : ℕ
   pub limit : ℕ
 
--- the last byte is one too many, and in front of it is no line feed
+-- the last byte is one too many, and before it is no line feed
 pub record HasNoLine (bytes : List ℕ) : Type 0 where
   pub some : 0 < length bytes
-  pub front : HasNoFeed (take (length bytes - 1) bytes)
+  pub prefix : HasNoFeed (take (length bytes - 1) bytes)
 
--- a read added so many bytes behind those ahead
-pub record IsReadBehind (old new : List ℕ) (left left' : Option (List ℕ)) (count : ℕ) : Type 0 where
+-- a read added that many bytes after those ahead
+pub record IsReadAfter (old new : List ℕ) (left left' : Option (List ℕ)) (count : ℕ) : Type 0 where
   pub given : List ℕ
   pub gave : Gave left given left'
   pub bytes : new ≡ old ++ given

@@ -1,10 +1,10 @@
 // The bytes that were taken from a source and not handed out.
 ghost use Rattle.std.specs.Prelude.{◌≡◌, ◌≤◌, ◌<◌, [], length, IfOk, IfSome, IsErrOf, IsTrue, IsFalse, MatchResult, nat_eq, nat_lt, position};
-ghost use Rattle.pac_outside.specs.Causes.{Rose};
+ghost use Rattle.pac_outside.specs.Causes.{Faulted};
 ghost use Rattle.pac_outside.specs.Content.{IsAtEnd};
 ghost use Rattle.pac_value.specs.Ascii.{line_feed};
 ghost use Rattle.pac_lines.specs.Lines.{HasNoFeed, IsEndedLine};
-ghost use Rattle.pac_lines.specs.Reading.{AheadState, IsReadBehind};
+ghost use Rattle.pac_lines.specs.Reading.{AheadState, IsReadAfter};
 
 use crate::LineError;
 use crate::limits::MAX_READ;
@@ -40,20 +40,20 @@ impl Model for Ahead {
 
 // Where the first line feed stands.
 fn feed_at(bytes: &[u8]) -> Option<usize>
-    ensures place { result ≡ position (λ b. nat_eq b line_feed) bytes.now }
+    ensures offset { result ≡ position (λ b. nat_eq b line_feed) bytes.now }
     ensures within { IfSome result (λ at. at < length bytes.now) }
 {
     bytes.iter().position(|byte| *byte == b'\n')
 }
 
-// Reads at most `most` bytes behind those of the buffer.
+// Reads at most `most` bytes after those of the buffer.
 fn append<S: Source>(buffer: &mut Vec<u8>, source: &mut S, most: usize) -> Result<usize, LineError>
     requires { most ≤ MAX_READ }
     ensures most { IfOk result (λ count. count ≤ most) }
-    ensures bytes { MatchResult result (λ count. IsReadBehind buffer.old.items buffer.new.items (S.left source.old) (S.left source.new) count) (λ _. (buffer.new.items ≡ buffer.old.items) × (S.left source.new ≡ S.left source.old)) }
+    ensures bytes { MatchResult result (λ count. IsReadAfter buffer.old.items buffer.new.items (S.left source.old) (S.left source.new) count) (λ _. (buffer.new.items ≡ buffer.old.items) × (S.left source.new ≡ S.left source.old)) }
     ensures end { IfOk result (λ count. count ≡ 0 → 0 < most → IsAtEnd (S.left source.new)) }
     ensures later { S.faults source.old ≤ S.faults source.new }
-    ensures cause { IsErrOf result LineError.Failed → Rose (S.faults source.old) (S.faults source.new) }
+    ensures cause { IsErrOf result LineError.Failed → Faulted (S.faults source.old) (S.faults source.new) }
     ensures long { ¬ IsErrOf result LineError.TooLong }
 {
     let old = buffer.len();
@@ -132,8 +132,8 @@ impl Ahead {
         self.len > 0
     }
 
-    // Moves the bytes ahead to the front of the buffer, if they don't stand there, and forgets the line.
-    fn move_to_front(&mut self)
+    // Moves the bytes ahead to the start of the buffer, if they don't stand there, and forgets the line.
+    fn move_to_start(&mut self)
         ensures { self.new ≡ record { line = []; bytes = self.old.bytes } }
     {
         self.line = 0;
@@ -147,7 +147,7 @@ impl Ahead {
         self.next = 0;
     }
 
-    /// Reads at most `most` bytes behind those ahead, and answers how many: 0 at the end of the source. The line is
+    /// Reads at most `most` bytes after those ahead, and answers how many: 0 at the end of the source. The line is
     /// forgotten.
     ///
     /// # Errors
@@ -158,13 +158,13 @@ impl Ahead {
         requires { most ≤ MAX_READ }
         ensures line { self.new.line ≡ [] }
         ensures most { IfOk result (λ count. count ≤ most) }
-        ensures bytes { MatchResult result (λ count. IsReadBehind self.old.bytes self.new.bytes (S.left source.old) (S.left source.new) count) (λ _. (self.new.bytes ≡ self.old.bytes) × (S.left source.new ≡ S.left source.old)) }
+        ensures bytes { MatchResult result (λ count. IsReadAfter self.old.bytes self.new.bytes (S.left source.old) (S.left source.new) count) (λ _. (self.new.bytes ≡ self.old.bytes) × (S.left source.new ≡ S.left source.old)) }
         ensures end { IfOk result (λ count. count ≡ 0 → 0 < most → IsAtEnd (S.left source.new)) }
         ensures later { S.faults source.old ≤ S.faults source.new }
-        ensures cause { IsErrOf result LineError.Failed → Rose (S.faults source.old) (S.faults source.new) }
+        ensures cause { IsErrOf result LineError.Failed → Faulted (S.faults source.old) (S.faults source.new) }
         ensures long { ¬ IsErrOf result LineError.TooLong }
     {
-        self.move_to_front();
+        self.move_to_start();
         append(&mut self.buffer, source, most)
     }
 }

@@ -13,13 +13,13 @@ pub fn each_text_has_its_lines()
 {}
 
 /// Where lines are handed out of a text one after another, they are its first ones, and the others are those of what is
-/// left of it. The rest behind the last line feed is the last one, if it isn't empty.
+/// left of it. The rest after the last line feed is the last one, if it isn't empty.
 pub fn lines_come_in_turn()
     ensures { (text left : List ℕ) (lines : List (List ℕ)) → HandsOut text lines left → all_lines (lines_of text) ≡ lines ++ all_lines (lines_of left) }
 {}
 
-/// Calls of a reader that hand out lines do so of the text that is ahead and then left of the source. One that hands out
-/// none was behind the whole text.
+/// Calls of a reader that hands out lines do so of the text that is ahead and then left of the source. One that hands out
+/// none was after the whole text.
 pub fn calls_hand_out_lines()
     ensures lines { (text : List ℕ) (before now : ReaderState) (left left' : Option (List ℕ)) (lines : List (List ℕ)) → Calls before left lines now left' → known before left ≡ Some text → (rest : List ℕ) × (known now left' ≡ Some rest) × HandsOut text lines rest }
     ensures end { (text : List ℕ) (before now : ReaderState) (left left' : Option (List ℕ)) → IsCall before now left left' (Ok false) → known before left ≡ Some text → text ≡ [] }
@@ -27,11 +27,11 @@ pub fn calls_hand_out_lines()
 
 /// Of a text that is ahead and then left of the source, a call answers that it is too long only where it is, and hands
 /// out a line, or none, only where it isn't: where more than may be taken is ahead and left, and no line feed in what may.
-pub fn too_long_is_told_exactly()
+pub fn too_long_is_reported_exactly()
     ensures { (text : List ℕ) (before now : ReaderState) (left left' : Option (List ℕ)) (result : Result Bool ALineError) → IsCall before now left left' result → KeepsLimit now result → known before left ≡ Some text → MatchResult result (λ _. ¬ HasTooMuch before text) (λ error. error ≡ TooLong → HasTooMuch before text) }
 {}
 
-/// Behind an error, what is ahead and then left of the source is what it was before the call.
+/// After an error, what is ahead and then left of the source is what it was before the call.
 pub fn no_byte_is_lost()
     ensures { (before now : ReaderState) (left left' : Option (List ℕ)) (error : ALineError) → IsCall before now left left' (Err error) → known now left' ≡ known before left }
 {}

@@ -7,12 +7,12 @@
 //!   whole line is ahead, so whoever types at a terminal has each line at once. It copies no line, and looks at each byte
 //!   once.
 //! - A reader takes no more of its source than a limit and one byte. Where the source gives that one, and no whole line
-//!   stands in front of it any more, the answer is [`LineError::TooLong`].
-//! - No answer loses a byte: what is ahead and then what is left of the source is, behind an error, what it was before.
+//!   stands before it any more, the answer is [`LineError::TooLong`].
+//! - No answer loses a byte: what is ahead and then what is left of the source is, after an error, what it was before.
 //!
 //! `specs/Lines.antt` says what the lines of a text are, and `specs/Calls.antt` what a call of a reader does. Laws stand
 //! over these: [`each_text_has_its_lines`], [`lines_come_in_turn`], [`calls_hand_out_lines`],
-//! [`too_long_is_told_exactly`] and [`no_byte_is_lost`].
+//! [`too_long_is_reported_exactly`] and [`no_byte_is_lost`].
 #![tactic(auto)]
 
 mod ahead;
@@ -23,7 +23,7 @@ mod reader;
 
 pub use laws::{
     calls_hand_out_lines, each_text_has_its_lines, lines_come_in_turn, no_byte_is_lost,
-    too_long_is_told_exactly,
+    too_long_is_reported_exactly,
 };
 pub use limits::MAX_READ;
 pub use line_error::LineError;

@@ -12,7 +12,7 @@ pub enum LineError {
     /// The source failed.
     #[error("a read failed")]
     Failed,
-    /// The source gave one byte more than the limit, and no whole line is left in front of it.
+    /// The source gave one byte more than the limit, and no whole line is left before it.
     #[error("the input is too long")]
     TooLong,
     /// There was no memory for more bytes.

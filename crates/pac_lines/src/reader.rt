@@ -1,6 +1,6 @@
 // Reading a source by lines.
 ghost use Rattle.std.specs.Prelude.{◌≡◌, ◌≤◌, ◌<◌, ◌+◌, ◌↔◌, [], Ok, true, IfOk, IsErrOf, IsTrue, IsFalse, MatchResult, length, nat_lt};
-ghost use Rattle.pac_outside.specs.Causes.{Rose};
+ghost use Rattle.pac_outside.specs.Causes.{Faulted};
 ghost use Rattle.pac_outside.specs.Content.{IsAtEnd};
 ghost use Rattle.pac_lines.specs.Lines.{HasFeed, HasNoFeed};
 ghost use Rattle.pac_lines.specs.Reading.{ReaderState};
@@ -35,7 +35,7 @@ impl Model for LineReader {
 }
 
 impl LineReader {
-    /// A reader that takes at most `limit` bytes of its source, and one more that it doesn't hand out.
+    /// A reader that takes at most `limit` bytes of its source, and one more that it doesn't hands out.
     pub fn new(alloc: Global, limit: u32) -> Self
         ensures { result ≡ record { line = []; ahead = []; taken = 0; limit = limit } }
     {
@@ -54,13 +54,13 @@ impl LineReader {
         self.ahead.line()
     }
 
-    /// Goes on to the next line, and answers whether there is one. The bytes behind the last line feed are one too, if
+    /// Goes on to the next line, and answers whether there is one. The bytes after the last line feed are one too, if
     /// there are any and the source is at its end. Reads only while no whole line is ahead.
     ///
     /// # Errors
     ///
     /// [`LineError::Failed`] only where the source's count of faults rose. [`LineError::TooLong`] exactly where the source
-    /// gave one byte more than the limit, in this call or before, and no whole line stands in front of it.
+    /// gave one byte more than the limit, in this call or before, and no whole line stands before it.
     /// [`LineError::NoMemory`] where there is no memory for more bytes. No byte is lost, so where the cause is gone the
     /// next call goes on.
     pub fn next_line<S: Source>(&mut self, source: &mut S) -> Result<bool, LineError>
@@ -78,7 +78,7 @@ impl LineReader {
 
         // The count never falls, and it rose where the source is said to have failed.
         ensures later { S.faults source.old ≤ S.faults source.new }
-        ensures cause { IsErrOf result LineError.Failed → Rose (S.faults source.old) (S.faults source.new) }
+        ensures cause { IsErrOf result LineError.Failed → Faulted (S.faults source.old) (S.faults source.new) }
     {
         while self.taken <= self.limit {
             if self.ahead.take_line() {
@@ -98,7 +98,7 @@ impl LineReader {
         requires none { HasNoFeed self.old.ahead }
         ensures chunk { MatchResult result (λ count. IsChunk self.old self.new (S.left source.old) (S.left source.new) count) (λ _. (self.new ≡ record self.old { line = [] }) × (S.left source.new ≡ S.left source.old)) }
         ensures later { S.faults source.old ≤ S.faults source.new }
-        ensures cause { IsErrOf result LineError.Failed → Rose (S.faults source.old) (S.faults source.new) }
+        ensures cause { IsErrOf result LineError.Failed → Faulted (S.faults source.old) (S.faults source.new) }
         ensures long { ¬ IsErrOf result LineError.TooLong }
     {
         let most = (self.limit - self.taken).clamp(1, MAX_READ);

@@ -23,7 +23,7 @@ impl Source for Typed {
     }
 }
 
-// What a reader gives: its lines, each with a bar behind it, and the error that ends them.
+// What a reader gives: its lines, each with a bar after it, and the error that ends them.
 type Given = (Vec<u8>, Option<LineError>);
 
 fn lines<S: Source>(alloc: Global, reader: &mut LineReader, source: &mut S) -> Result<Given, Fail> {

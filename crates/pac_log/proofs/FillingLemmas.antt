@@ -1,4 +1,4 @@
--- The steps by which what stands behind an open gate is read.
+-- The steps by which what stands after an open gate is read.
 use Rattle.std.proofs.Common.{◌≡◌, ◌∙◌, ℕ, ◌+◌, ◌<◌, ◌≤◌, Bool, true, false, eqb, ltb, List, length, take, drop, Result, Ok, Err, IfOk, refl, sym, ap, subst, arith}
 use Rattle.std.proofs.lemmas.Bool.{le-ltb, lt-ltb, eq-eqb, eqb-true}
 use Rattle.std.proofs.lemmas.List.{length-take, length-drop, drop-take, drop-drop}
@@ -8,7 +8,7 @@ use Rattle.pac_base.specs.Refusals.{Fails}
 use Rattle.pac_value.specs.Expressions.{◌>>=◌}
 use Rattle.pac_ops.specs.declared.transaction.Txn.{Txn}
 use Rattle.pac_types.specs.Typing.{CatalogueState}
-use Rattle.pac_bytes.specs.Reading.{Rest, from, told_as, times, all_read, within}
+use Rattle.pac_bytes.specs.Reading.{Rest, from, reported_as, times, all_read, within}
 use Rattle.pac_bytes.specs.Readers.{AnswersUnlessMemory}
 use Rattle.pac_entry.specs.declared.fault.EntryFault.{EntryFault}
 use Rattle.pac_entry.specs.EntryReading.{next_entry}
@@ -33,14 +33,14 @@ module _ {A F : Type 0} (short left : ℕ → F) (read : Rest → Result (A × R
       let cut : ltb (length (drop at bytes)) n ≡ true = lt-ltb _ _ (omega (arith, length-drop at bytes)) in
       rw cut refl
 
-  -- no byte is left behind it
+  -- no byte is left after it
   pub within_filled : (x : A) (place : ℕ) → at + n ≤ length bytes → at + n ≤ place → read (from (take (at + n) bytes) at) ≡ Ok (x, from (take (at + n) bytes) place)
       → within short left n read (from bytes at) ≡ Ok (x, from bytes (at + n))
   within_filled x place long filled is =
       let none : eqb (length (drop place (take (at + n) bytes))) 0 ≡ true = eq-eqb _ _ (omega (arith, length-drop place (take (at + n) bytes), length-take (at + n) bytes)) in
       within_from long ∙ (rw (is, none) refl)
 
-  -- the first byte that is left behind it
+  -- the first byte that is left after it
   pub within_left : (x : A) (place : ℕ) → at + n ≤ length bytes → place < at + n → read (from (take (at + n) bytes) at) ≡ Ok (x, from (take (at + n) bytes) place)
       → within short left n read (from bytes at) ≡ Err (left place)
   within_left x place long less is = within_from long ∙ (rw is (by (eqb (length (drop place (take (at + n) bytes))) 0) refl))
@@ -54,7 +54,7 @@ module _ {A F : Type 0} (short left : ℕ → F) (read : Rest → Result (A × R
   within_fails NoMemory long is = tt
   within_fails (Fault fault) long is = within_from long ∙ (rw is refl)
 
--- ---- the entries behind their length
+-- ---- the entries after their length
 
 module _ (catalogue : CatalogueState) (count at len first : ℕ) (bytes : List ℕ) (number : link_number (from bytes at) ≡ Ok (len, from bytes first)) (few : len ≤ MAX_ENTRIES_LEN) where
   counted_so : counted_link catalogue count (from bytes at) ≡ within short_from out_of_range (len + 1) (entries_and_gate catalogue count len) (from bytes first)
@@ -95,13 +95,13 @@ module _ (catalogue : CatalogueState) (count at len first : ℕ) (bytes : List �
 module _ (catalogue : CatalogueState) (count len at : ℕ) (bytes : List ℕ) (long : at + len ≤ length bytes) where
   pub entries_there : (txns : List Txn) (place : ℕ) → at + len ≤ place → times (next_entry catalogue) count (from (take (at + len) bytes) at) ≡ Ok (txns, from (take (at + len) bytes) place)
       → next_entries catalogue count len (from bytes at) ≡ Ok (txns, from bytes (at + len))
-  entries_there txns place filled is = within_filled short_from out_of_range (λ t. told_as of_entry (times (next_entry catalogue) count t)) bytes at len txns place long filled (rw is refl)
+  entries_there txns place filled is = within_filled short_from out_of_range (λ t. reported_as of_entry (times (next_entry catalogue) count t)) bytes at len txns place long filled (rw is refl)
 
   pub entries_left : (txns : List Txn) (place : ℕ) → place < at + len → times (next_entry catalogue) count (from (take (at + len) bytes) at) ≡ Ok (txns, from (take (at + len) bytes) place)
       → next_entries catalogue count len (from bytes at) ≡ Err (out_of_range place)
-  entries_left txns place less is = within_left short_from out_of_range (λ t. told_as of_entry (times (next_entry catalogue) count t)) bytes at len txns place long less (rw is refl)
+  entries_left txns place less is = within_left short_from out_of_range (λ t. reported_as of_entry (times (next_entry catalogue) count t)) bytes at len txns place long less (rw is refl)
 
   pub entries_fail : (refusal : Refusal EntryFault) (fault : EntryFault) → refusal ≡ Fault fault → Fails refusal (times (next_entry catalogue) count (from (take (at + len) bytes) at)) → next_entries catalogue count len (from bytes at) ≡ Err (of_entry fault)
   entries_fail refusal fault e is =
       let fails : times (next_entry catalogue) count (from (take (at + len) bytes) at) ≡ Err fault = subst (λ (r : Refusal EntryFault). Fails r (times (next_entry catalogue) count (from (take (at + len) bytes) at))) e is in
-      within_fails short_from out_of_range (λ t. told_as of_entry (times (next_entry catalogue) count t)) bytes at len (Fault (of_entry fault)) long (rw fails refl)
+      within_fails short_from out_of_range (λ t. reported_as of_entry (times (next_entry catalogue) count t)) bytes at len (Fault (of_entry fault)) long (rw fails refl)

@@ -9,7 +9,7 @@ use Rattle.pac_base.specs.declared.refusal.Refusal.{Refusal}
 use Rattle.pac_ops.specs.declared.transaction.Txn.{Txn}
 use Rattle.pac_types.specs.Fits.{TxnFits}
 use Rattle.pac_types.specs.Typing.{CatalogueState}
-use Rattle.pac_bytes.specs.Readers.{IsInFront, Finds}
+use Rattle.pac_bytes.specs.Readers.{IsAtStart, Finds}
 use Rattle.pac_bytes.specs.Reading.{Rest}
 use Rattle.pac_bytes.proofs.Numbers.{width32}
 use Rattle.pac_entry.specs.Entries.{IsEntry}
@@ -37,6 +37,6 @@ pub body_short : (catalogue : CatalogueState) (result : Result (Link × ℕ) (Re
 body_short catalogue (Ok found) is = short found.0.txns (omega (arith, is.short))
 body_short catalogue (Err refusal) is = tt
 
--- the place behind what was found is so far on that each transaction took two bytes
-pub end_far : (catalogue : CatalogueState) (s t : Rest) (link : Link) → IsInFront (IsLogLink catalogue) link_bytes s link t → 2 * length link.txns + 1 + s.at ≤ t.at
-end_far catalogue s t link is = omega (arith, is.place, length-append (body_bytes link.txns) (link.gate ∷ []), body_long link.txns)
+-- the offset after what was found is so far on that each transaction took two bytes
+pub end_far : (catalogue : CatalogueState) (s t : Rest) (link : Link) → IsAtStart (IsLogLink catalogue) link_bytes s link t → 2 * length link.txns + 1 + s.at ≤ t.at
+end_far catalogue s t link is = omega (arith, is.offset, length-append (body_bytes link.txns) (link.gate ∷ []), body_long link.txns)

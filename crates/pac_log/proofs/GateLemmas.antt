@@ -7,8 +7,8 @@ use Rattle.std.proofs.lemmas.List.Elements.{All-head, All-tail}
 use Rattle.pac_value.specs.Expressions.{◌>>=◌}
 use Rattle.pac_ops.specs.declared.transaction.Txn.{Txn}
 use Rattle.pac_types.specs.Typing.{CatalogueState, IsCatalogue}
-use Rattle.pac_types.proofs.TypingLemmas.{tables_few, tables_sound, procs_few, procs_sound}
-use Rattle.pac_bytes.specs.Reading.{Rest, told_as}
+use Rattle.pac_types.proofs.TypingLemmas.{tables_few, tables_well_formed, procs_few, procs_well_formed}
+use Rattle.pac_bytes.specs.Reading.{Rest, reported_as}
 use Rattle.pac_bytes.proofs.Codec.{IsCodec}
 use Rattle.pac_entry.proofs.EntryLemmas.{entry_codec}
 use Rattle.pac_entry.proofs.ReadingLemmas.{few_tables, few_procs}
@@ -17,10 +17,10 @@ use Rattle.pac_log.specs.declared.damage.LinkFault.{LinkFault}
 use Rattle.pac_log.specs.declared.link.Link.{Link}
 use Rattle.pac_log.specs.Bodies.{body_bytes, IsBody, link_bytes, IsLogLink}
 use Rattle.pac_log.specs.BodyReading.{next_link}
-use Rattle.pac_log.specs.Logs.{open_bodies, log_front, AreBatches, HoldsLog, IsAccepted}
+use Rattle.pac_log.specs.Logs.{open_bodies, log_prefix, AreBatches, HoldsLog, IsAccepted}
 use Rattle.pac_log.specs.Reading.{after_gate, at_gate, first_batch, further}
 use Rattle.pac_log.proofs.LinkLemmas.{link_codec}
-use Rattle.pac_log.proofs.LogLemmas.{log_front-append}
+use Rattle.pac_log.proofs.LogLemmas.{log_prefix-append}
 
 -- ---- from a gate on
 
@@ -29,10 +29,10 @@ codec_of : (text : List ℕ) (catalogue : CatalogueState) → IsAccepted text ca
 codec_of text catalogue accepted =
     let is : IsCatalogue catalogue = (accepted.has.tree, (text, accepted.has.reads), accepted.has.typed) in
     link_codec catalogue
-    (entry_codec catalogue (few_tables catalogue.tables (omega (arith, tables_few catalogue is)) (tables_sound catalogue is))
-    (few_procs catalogue.tables catalogue.procs (omega (arith, procs_few catalogue is)) (procs_sound catalogue is)))
+    (entry_codec catalogue (few_tables catalogue.tables (omega (arith, tables_few catalogue is)) (tables_well_formed catalogue is))
+    (few_procs catalogue.tables catalogue.procs (omega (arith, procs_few catalogue is)) (procs_well_formed catalogue is)))
 
--- a batch stands behind the open gate, whatever follows its own gate
+-- a batch stands after the open gate, whatever follows its own gate
 open_holds : (text : List ℕ) (catalogue : CatalogueState) (txns : List Txn) (gate : ℕ) (more : List ℕ) → IsAccepted text catalogue → IsBody catalogue txns → after_gate catalogue (1 ∷ (body_bytes txns ++ (gate ∷ more))) ≡ Ok (Some txns)
 open_holds text catalogue txns gate more accepted body =
     let link : Link = record { txns = txns; gate = gate } in
@@ -43,16 +43,16 @@ open_holds text catalogue txns gate more accepted body =
 shut_holds : (catalogue : CatalogueState) (gate : ℕ) (more : List ℕ) → gate ≢ 1 → after_gate catalogue (gate ∷ more) ≡ Ok None
 shut_holds catalogue gate more shut = rw (ne_eqb gate 1 shut) refl
 
-abbrev held_behind : Result (Link × Rest) LinkFault → Result (Option (List Txn)) LinkFault
-held_behind r = r >>= λ link. Ok (Some link.0.txns)
+abbrev held_after : Result (Link × Rest) LinkFault → Result (Option (List Txn)) LinkFault
+held_after r = r >>= λ link. Ok (Some link.0.txns)
 
-some_behind : (r : Result (Link × Rest) LinkFault) → held_behind r ≡ Ok None → ⊥
-some_behind (Ok link) e = cc
-some_behind (Err fault) e = cc
+some_after : (r : Result (Link × Rest) LinkFault) → held_after r ≡ Ok None → ⊥
+some_after (Ok link) e = cc
+some_after (Err fault) e = cc
 
 -- a gate at which nothing is held is shut
 pub held_none : (catalogue : CatalogueState) (gate : ℕ) (more : List ℕ) → after_gate catalogue (gate ∷ more) ≡ Ok None → gate ≢ 1
-held_none catalogue gate more e is = some_behind (next_link catalogue (record { at = 1; bytes = more })) (subst (λ (g : ℕ). after_gate catalogue (g ∷ more) ≡ Ok None) is e)
+held_none catalogue gate more e is = some_after (next_link catalogue (record { at = 1; bytes = more })) (subst (λ (g : ℕ). after_gate catalogue (g ∷ more) ≡ Ok None) is e)
 
 -- a gate at which there is a fault is open
 pub held_fault : (catalogue : CatalogueState) (gate : ℕ) (more : List ℕ) (fault : LinkFault) → after_gate catalogue (gate ∷ more) ≡ Err fault → gate ≡ 1
@@ -67,40 +67,40 @@ held_fault catalogue gate more fault e = by (eqb gate 1) refl
 
 -- ---- in an image
 
--- what stands behind a front
-behind_front : (image front rest : List ℕ) → image ≡ front ++ rest → drop (length front) image ≡ rest
-behind_front image front rest e = ap (λ (l : List ℕ). drop (length front) l) e ∙ drop_at front rest (length front) refl
+-- what stands after a prefix
+after_prefix : (image prefix rest : List ℕ) → image ≡ prefix ++ rest → drop (length prefix) image ≡ rest
+after_prefix image prefix rest e = ap (λ (l : List ℕ). drop (length prefix) l) e ∙ drop_at prefix rest (length prefix) refl
 
-pub at_front : (catalogue : CatalogueState) (image front rest : List ℕ) → image ≡ front ++ rest → at_gate catalogue image (length front) ≡ told_as (further (length front)) (after_gate catalogue rest)
-at_front catalogue image front rest e = ap (λ (l : List ℕ). told_as (further (length front)) (after_gate catalogue l)) (behind_front image front rest e)
+pub at_prefix : (catalogue : CatalogueState) (image prefix rest : List ℕ) → image ≡ prefix ++ rest → at_gate catalogue image (length prefix) ≡ reported_as (further (length prefix)) (after_gate catalogue rest)
+at_prefix catalogue image prefix rest e = ap (λ (l : List ℕ). reported_as (further (length prefix)) (after_gate catalogue l)) (after_prefix image prefix rest e)
 
 body_in : (P : List Txn → Type 0) (before after : List (List Txn)) (txns : List Txn) → All P (before ++ (txns ∷ after)) → P txns
 body_in P [] after txns h = All-head P txns after h
 body_in P (b ∷ before) after txns h = body_in P before after txns (All-tail P b (before ++ (txns ∷ after)) h)
 
--- some byte stands in front
+-- some byte comes first
 pub headed : (after : List (List Txn)) (gate : ℕ) (rest : List ℕ) → (first : ℕ) × (more : List ℕ) × (open_bodies after ++ (gate ∷ rest) ≡ first ∷ more)
 headed [] gate rest = (gate, rest, refl)
 headed (txns ∷ after) gate rest = (1, (body_bytes txns ++ open_bodies after) ++ (gate ∷ rest), refl)
 
 module _ (text : List ℕ) (catalogue : CatalogueState) (image : List ℕ) where
-  -- the next batch is held at the gate behind those before it
-  pub next_held : (before after : List (List Txn)) (txns : List Txn) (gate : ℕ) (rest : List ℕ) → AreBatches text catalogue (before ++ (txns ∷ after)) → image ≡ log_front text (before ++ (txns ∷ after)) ++ (gate ∷ rest)
-      → at_gate catalogue image (length (log_front text before)) ≡ Ok (Some txns)
+  -- the next batch is held at the gate after those before it
+  pub next_held : (before after : List (List Txn)) (txns : List Txn) (gate : ℕ) (rest : List ℕ) → AreBatches text catalogue (before ++ (txns ∷ after)) → image ≡ log_prefix text (before ++ (txns ∷ after)) ++ (gate ∷ rest)
+      → at_gate catalogue image (length (log_prefix text before)) ≡ Ok (Some txns)
   next_held before after txns gate rest are split =
       let more = headed after gate rest in
-      let parts : image ≡ log_front text before ++ (1 ∷ (body_bytes txns ++ (more.0 ∷ more.1)))
-      = split ∙ ap (λ (l : List ℕ). l ++ (gate ∷ rest)) (log_front-append text before (txns ∷ after)) ∙ append_assoc (log_front text before) (open_bodies (txns ∷ after)) (gate ∷ rest)
-      ∙ ap (λ (l : List ℕ). log_front text before ++ (1 ∷ l)) (append_assoc (body_bytes txns) (open_bodies after) (gate ∷ rest) ∙ ap (λ (l : List ℕ). body_bytes txns ++ l) more.2) in
-      at_front catalogue image (log_front text before) (1 ∷ (body_bytes txns ++ (more.0 ∷ more.1))) parts
-      ∙ ap (λ r. told_as (further (length (log_front text before))) r) (open_holds text catalogue txns more.0 more.1 are.accepted (body_in (IsBody catalogue) before after txns are.each))
+      let parts : image ≡ log_prefix text before ++ (1 ∷ (body_bytes txns ++ (more.0 ∷ more.1)))
+      = split ∙ ap (λ (l : List ℕ). l ++ (gate ∷ rest)) (log_prefix-append text before (txns ∷ after)) ∙ append_assoc (log_prefix text before) (open_bodies (txns ∷ after)) (gate ∷ rest)
+      ∙ ap (λ (l : List ℕ). log_prefix text before ++ (1 ∷ l)) (append_assoc (body_bytes txns) (open_bodies after) (gate ∷ rest) ∙ ap (λ (l : List ℕ). body_bytes txns ++ l) more.2) in
+      at_prefix catalogue image (log_prefix text before) (1 ∷ (body_bytes txns ++ (more.0 ∷ more.1))) parts
+      ∙ ap (λ r. reported_as (further (length (log_prefix text before))) r) (open_holds text catalogue txns more.0 more.1 are.accepted (body_in (IsBody catalogue) before after txns are.each))
 
-  -- at the gate behind all, nothing
-  pub last_held : (batches : List (List Txn)) → IsShut (log_front text batches) image → at_gate catalogue image (length (log_front text batches)) ≡ Ok None
+  -- at the gate after all, nothing
+  pub last_held : (batches : List (List Txn)) → IsShut (log_prefix text batches) image → at_gate catalogue image (length (log_prefix text batches)) ≡ Ok None
   last_held batches is =
-      at_front catalogue image (log_front text batches) (is.gate ∷ is.rest) is.split ∙ ap (λ r. told_as (further (length (log_front text batches))) r) (shut_holds catalogue is.gate is.rest is.shut)
+      at_prefix catalogue image (log_prefix text batches) (is.gate ∷ is.rest) is.split ∙ ap (λ r. reported_as (further (length (log_prefix text batches))) r) (shut_holds catalogue is.gate is.rest is.shut)
 
   -- so a log's batches are read again
-  pub held : (before after : List (List Txn)) → HoldsLog text catalogue (before ++ after) image → at_gate catalogue image (length (log_front text before)) ≡ Ok (first_batch after)
-  held before [] holds = last_held before (subst (λ (l : List (List Txn)). IsShut (log_front text l) image) (append-nil before) holds.shut)
+  pub held : (before after : List (List Txn)) → HoldsLog text catalogue (before ++ after) image → at_gate catalogue image (length (log_prefix text before)) ≡ Ok (first_batch after)
+  held before [] holds = last_held before (subst (λ (l : List (List Txn)). IsShut (log_prefix text l) image) (append-nil before) holds.shut)
   held before (txns ∷ after) holds = next_held before after txns holds.shut.gate holds.shut.rest holds.log holds.shut.split

@@ -1,4 +1,4 @@
--- A header and what stands behind it: its parts are found at their places.
+-- A header and what stands after it: its parts are found at their offsets.
 use Rattle.std.proofs.Common.{◌≡◌, ◌∙◌, ℕ, ◌+◌, ◌<◌, ◌≤◌, List, [], ◌∷◌, ◌++◌, length, take, drop, Option, Some, None, refl, sym, ap, ap₂, subst, arith, append_assoc}
 use Rattle.std.specs.Int.{w32, to_le_bytes, from_le_bytes}
 use Rattle.std.proofs.lemmas.List.{length-append, length-take, take_at, drop_at, length-drop, take-append-drop, take-take, append-nil}
@@ -6,14 +6,14 @@ use Rattle.std.proofs.lemmas.List.Elements.{All-nil}
 use Rattle.pac_base.specs.declared.refusal.Refusal.{Refusal}
 use Rattle.pac_base.specs.declared.refusal.Refusal.TheVariants.{Fault, NoMemory}
 use Rattle.pac_bytes.proofs.Numbers.{width32}
-use Rattle.pac_outside.specs.Disk.{DiskHistory, WhereTold}
+use Rattle.pac_outside.specs.Disk.{DiskHistory, IfKnown}
 use Rattle.pac_syntax.specs.declared.limits.TheConstants.{MAX_CATALOGUE}
 use Rattle.pac_types.specs.Typing.{CatalogueState}
 use Rattle.pac_log.specs.declared.position.NextGate.{NextGate}
 use Rattle.pac_log.specs.Logs.{IsAccepted, log_name, header_bytes}
-use Rattle.pac_log.specs.Reading.{IsStore, StandsBehind}
+use Rattle.pac_log.specs.Reading.{IsStore, StandsAfter}
 
--- the name and the length in front of the text
+-- the name and the length before the text
 abbrev pub head_bytes : ℕ → List ℕ
 head_bytes len = log_name ++ to_le_bytes w32 len
 
@@ -24,14 +24,14 @@ pub header_parts : (text rest : List ℕ) → header_bytes text ++ rest ≡ head
 header_parts text rest =
     append_assoc log_name (to_le_bytes w32 (length text) ++ text) rest ∙ ap (λ (x : List ℕ). log_name ++ x) (append_assoc (to_le_bytes w32 (length text)) text rest) ∙ sym (append_assoc log_name (to_le_bytes w32 (length text)) (text ++ rest))
 
--- one text's length is told by its header
+-- one text's length is determined by its header
 pub same_len : (a b : ℕ) → a ≤ MAX_CATALOGUE → b ≤ MAX_CATALOGUE → head_bytes a ≡ head_bytes b → a ≡ b
 same_len a b few few' e =
     let number : (n : ℕ) → n ≤ MAX_CATALOGUE → from_le_bytes w32 (to_le_bytes w32 n) ≡ n = λ n le. width32.number_of_bytes n (omega (arith, le)) in
     let bytes : to_le_bytes w32 a ≡ to_le_bytes w32 b = sym (drop_at log_name (to_le_bytes w32 a) 8 refl) ∙ ap (λ (x : List ℕ). drop 8 x) e ∙ drop_at log_name (to_le_bytes w32 b) 8 refl in
     sym (number a few) ∙ ap (λ (x : List ℕ). from_le_bytes w32 x) bytes ∙ number b few'
 
--- what a device has in front and behind, where a log's header stands there
+-- what a device has before and after, where a log's header stands there
 pub head_of_store : (text : List ℕ) (catalogue : CatalogueState) (image : List ℕ) → IsStore text catalogue image → take 12 image ≡ head_bytes (length text)
 head_of_store text catalogue image is =
     ap (λ (x : List ℕ). take 12 x) (is.split ∙ header_parts text (is.gate ∷ is.rest)) ∙ take_at (head_bytes (length text)) (text ++ (is.gate ∷ is.rest)) 12 (head_long (length text))
@@ -43,16 +43,16 @@ text_of_store text catalogue image is =
 -- the text and one byte more were there
 pub text_there : (text : List ℕ) (catalogue : CatalogueState) (image : List ℕ) (len : ℕ) → IsStore text catalogue image → length text ≡ len → (len < length (take (len + 1) (drop 12 image))) × (take len (take (len + 1) (drop 12 image)) ≡ text)
 text_there text catalogue image len is e =
-    let behind = text_of_store text catalogue image is in
-    let lens : length (drop 12 image) ≡ length (text ++ (is.gate ∷ is.rest)) = ap (λ (x : List ℕ). length x) behind in (
+    let after = text_of_store text catalogue image is in
+    let lens : length (drop 12 image) ≡ length (text ++ (is.gate ∷ is.rest)) = ap (λ (x : List ℕ). length x) after in (
       omega (arith, length-take (len + 1) (drop 12 image), lens, length-append text (is.gate ∷ is.rest), e),
-      take-take len (len + 1) (drop 12 image) (omega arith) ∙ ap (λ (x : List ℕ). take len x) behind ∙ take_at text (is.gate ∷ is.rest) len e,
+      take-take len (len + 1) (drop 12 image) (omega arith) ∙ ap (λ (x : List ℕ). take len x) after ∙ take_at text (is.gate ∷ is.rest) len e,
     )
 
 gate_there : (image rest : List ℕ) (len : ℕ) → len < length (take (len + 1) image) → (gate : ℕ) × (more : List ℕ) × (drop len image ≡ gate ∷ more)
 gate_there image rest len long = by (drop len image) refl
   where
-    by : (behind : List ℕ) → drop len image ≡ behind → (gate : ℕ) × (more : List ℕ) × (drop len image ≡ gate ∷ more)
+    by : (after : List ℕ) → drop len image ≡ after → (gate : ℕ) × (more : List ℕ) × (drop len image ≡ gate ∷ more)
     by [] e = absurd (omega (arith, long, length-take (len + 1) image, length-drop len image, ap (λ (x : List ℕ). length x) e))
     by (gate ∷ more) e = (gate, more, e)
 
@@ -60,24 +60,24 @@ gate_there image rest len long = by (drop len image) refl
 pub store_there : (catalogue : CatalogueState) (image : List ℕ) (len : ℕ) → take 12 image ≡ head_bytes len → len < length (take (len + 1) (drop 12 image)) → IsAccepted (take len (take (len + 1) (drop 12 image))) catalogue
     → IsStore (take len (take (len + 1) (drop 12 image))) catalogue image
 store_there catalogue image len head long accepted =
-    let behind = gate_there (drop 12 image) [] len long in
+    let after = gate_there (drop 12 image) [] len long in
     let text : take len (take (len + 1) (drop 12 image)) ≡ take len (drop 12 image) = take-take len (len + 1) (drop 12 image) (omega arith) in
     let lens : length (take len (take (len + 1) (drop 12 image))) ≡ len = omega (arith, length-take len (take (len + 1) (drop 12 image)), long) in
     record {
       accepted = accepted;
-      gate = behind.0;
-      rest = behind.1;
+      gate = after.0;
+      rest = after.1;
       split =
           sym (take-append-drop 12 image)
-          ∙ ap₂ (λ (a b : List ℕ). a ++ b) (head ∙ ap head_bytes (sym lens)) (sym (take-append-drop len (drop 12 image)) ∙ ap₂ (λ (a b : List ℕ). a ++ b) (sym text) behind.2)
-          ∙ sym (header_parts (take len (take (len + 1) (drop 12 image))) (behind.0 ∷ behind.1));
+          ∙ ap₂ (λ (a b : List ℕ). a ++ b) (head ∙ ap head_bytes (sym lens)) (sym (take-append-drop len (drop 12 image)) ∙ ap₂ (λ (a b : List ℕ). a ++ b) (sym text) after.2)
+          ∙ sym (header_parts (take len (take (len + 1) (drop 12 image))) (after.0 ∷ after.1));
     }
 
--- the reader of a header stands behind no batch
-pub first_stands : (text : List ℕ) (gate : NextGate) (image : List ℕ) (len : ℕ) → IsStore text gate.catalogue image → length text ≡ len → gate.place ≡ 12 + len → gate.txns ≡ 0 → StandsBehind text [] gate image
+-- the reader of a header stands after no batch
+pub first_stands : (text : List ℕ) (gate : NextGate) (image : List ℕ) (len : ℕ) → IsStore text gate.catalogue image → length text ≡ len → gate.place ≡ 12 + len → gate.txns ≡ 0 → StandsAfter text [] gate image
 first_stands text gate image len is lens placed none = record {
   log = record { accepted = is.accepted; each = All-nil _ };
-  behind = record {
+  after = record {
     place = omega (arith, placed, lens, length-append (header_bytes text) [], ap (λ (x : List ℕ). length x) (sym (append-nil (header_bytes text)) ∙ header_parts text []), length-append (head_bytes (length text)) (text ++ []), length-append text [], head_long (length text));
     txns = none;
   };
@@ -90,39 +90,39 @@ pub three_grew : (a b c d x y z : List ℕ) → b ≡ a ++ x → c ≡ b ++ y �
 three_grew a b c d x y z e f g =
     g ∙ ap (λ (l : List ℕ). l ++ z) (f ∙ ap (λ (l : List ℕ). l ++ y) e) ∙ append_assoc (a ++ x) y z ∙ append_assoc a x (y ++ z)
 
--- a fault is no want of memory
+-- a fault is no running out of memory
 pub no_want : {F : Type 0} (refusal : Refusal F) (fault : F) → refusal ≡ Fault fault → refusal ≡ NoMemory → ⊥
 no_want {F} refusal fault is want = no_same (sym is ∙ want)
   where
     no_same : ◌≡◌ {A = Refusal F} (Fault fault) NoMemory → ⊥
     no_same e = cc
 
--- ---- over what a disk tells
+-- ---- over what is known of a disk
 
--- a reader that found a header stands behind it
-pub attached : (told : Option DiskHistory) (head text : List ℕ) (len : ℕ) (gate : NextGate) → head ≡ head_bytes len → len < length text → IsAccepted (take len text) gate.catalogue → gate.place ≡ 12 + len → gate.txns ≡ 0
-    → WhereTold (λ old. head ≡ take 12 (drop 0 old.now.seen)) told → WhereTold (λ old. text ≡ take (len + 1) (drop 12 old.now.seen)) told
-    → WhereTold (λ old. (t : List ℕ) × IsStore t gate.catalogue old.now.seen × StandsBehind t [] gate old.now.seen) told
-attached None head text len gate is long accepted placed none front behind = tt
-attached (Some old) head text len gate is long accepted placed none front behind =
+-- a reader that found a header stands after it
+pub attached : (known : Option DiskHistory) (head text : List ℕ) (len : ℕ) (gate : NextGate) → head ≡ head_bytes len → len < length text → IsAccepted (take len text) gate.catalogue → gate.place ≡ 12 + len → gate.txns ≡ 0
+    → IfKnown (λ old. head ≡ take 12 (drop 0 old.now.seen)) known → IfKnown (λ old. text ≡ take (len + 1) (drop 12 old.now.seen)) known
+    → IfKnown (λ old. (t : List ℕ) × IsStore t gate.catalogue old.now.seen × StandsAfter t [] gate old.now.seen) known
+attached None head text len gate is long accepted placed none prefix after = tt
+attached (Some old) head text len gate is long accepted placed none prefix after =
     let image = old.now.seen in
     let store : IsStore (take len text) gate.catalogue image
-    = subst (λ (t : List ℕ). IsStore (take len t) gate.catalogue image) (sym behind)
-    (store_there gate.catalogue image len (sym front ∙ is) (subst (λ (t : List ℕ). len < length t) behind long) (subst (λ (t : List ℕ). IsAccepted (take len t) gate.catalogue) behind accepted)) in
+    = subst (λ (t : List ℕ). IsStore (take len t) gate.catalogue image) (sym after)
+    (store_there gate.catalogue image len (sym prefix ∙ is) (subst (λ (t : List ℕ). len < length t) after long) (subst (λ (t : List ℕ). IsAccepted (take len t) gate.catalogue) after accepted)) in
     (take len text, store, first_stands (take len text) gate image len store (omega (arith, length-take len text, long)) placed none)
 
--- no header where the front is none
-pub no_head : (told : Option DiskHistory) (head : List ℕ) → WhereTold (λ old. head ≡ take 12 (drop 0 old.now.seen)) told → ((text : List ℕ) → length text ≤ MAX_CATALOGUE → head ≡ head_bytes (length text) → ⊥)
-    → WhereTold (λ old. (text : List ℕ) (catalogue : CatalogueState) → IsStore text catalogue old.now.seen → ⊥) told
-no_head None head front none = tt
-no_head (Some old) head front none = λ text catalogue is. none text is.accepted.has.reads.short (front ∙ head_of_store text catalogue old.now.seen is)
+-- no header where the prefix is none
+pub no_head : (known : Option DiskHistory) (head : List ℕ) → IfKnown (λ old. head ≡ take 12 (drop 0 old.now.seen)) known → ((text : List ℕ) → length text ≤ MAX_CATALOGUE → head ≡ head_bytes (length text) → ⊥)
+    → IfKnown (λ old. (text : List ℕ) (catalogue : CatalogueState) → IsStore text catalogue old.now.seen → ⊥) known
+no_head None head prefix none = tt
+no_head (Some old) head prefix none = λ text catalogue is. none text is.accepted.has.reads.short (prefix ∙ head_of_store text catalogue old.now.seen is)
 
 -- no header where the text is cut short, or has no catalogue
-pub no_text : (told : Option DiskHistory) (head text : List ℕ) (len : ℕ) → head ≡ head_bytes len → len ≤ MAX_CATALOGUE → WhereTold (λ old. head ≡ take 12 (drop 0 old.now.seen)) told → WhereTold (λ old. text ≡ take (len + 1) (drop 12 old.now.seen)) told
+pub no_text : (known : Option DiskHistory) (head text : List ℕ) (len : ℕ) → head ≡ head_bytes len → len ≤ MAX_CATALOGUE → IfKnown (λ old. head ≡ take 12 (drop 0 old.now.seen)) known → IfKnown (λ old. text ≡ take (len + 1) (drop 12 old.now.seen)) known
     → (len < length text → (catalogue : CatalogueState) → IsAccepted (take len text) catalogue → ⊥)
-    → WhereTold (λ old. (t : List ℕ) (catalogue : CatalogueState) → IsStore t catalogue old.now.seen → ⊥) told
-no_text None head text len is few front behind none = tt
-no_text (Some old) head text len is few front behind none = λ t catalogue store.
-    let lens : length t ≡ len = same_len (length t) len store.accepted.has.reads.short few (sym (head_of_store t catalogue old.now.seen store) ∙ sym front ∙ is) in
+    → IfKnown (λ old. (t : List ℕ) (catalogue : CatalogueState) → IsStore t catalogue old.now.seen → ⊥) known
+no_text None head text len is few prefix after none = tt
+no_text (Some old) head text len is few prefix after none = λ t catalogue store.
+    let lens : length t ≡ len = same_len (length t) len store.accepted.has.reads.short few (sym (head_of_store t catalogue old.now.seen store) ∙ sym prefix ∙ is) in
     let there = text_there t catalogue old.now.seen len store lens in
-    none (subst (λ (x : List ℕ). len < length x) (sym behind) there.0) catalogue (subst (λ (x : List ℕ). IsAccepted x catalogue) (sym there.1 ∙ ap (λ (x : List ℕ). take len x) (sym behind)) store.accepted)
+    none (subst (λ (x : List ℕ). len < length x) (sym after) there.0) catalogue (subst (λ (x : List ℕ). IsAccepted x catalogue) (sym there.1 ∙ ap (λ (x : List ℕ). take len x) (sym after)) store.accepted)

@@ -1,4 +1,4 @@
--- What stands behind an open gate is a codec.
+-- What stands after an open gate is a codec.
 use Rattle.std.proofs.Common.{◌≡◌, ◌∙◌, ℕ, ◌+◌, ◌<◌, ◌≤◌, ◌^◌, ◌||◌, Bool, true, false, cond, eqb, ltb, List, [], ◌∷◌, ◌++◌, length, Ok, Err, refl, sym, ap, ap₂, arith, append_assoc}
 use Rattle.std.specs.List.{All, AllByRecursion}
 use Rattle.std.specs.Int.{w32, to_le_bytes}
@@ -10,8 +10,8 @@ use Rattle.pac_ops.specs.declared.limits.TheConstants.{MAX_TXNS}
 use Rattle.pac_ops.specs.declared.transaction.Txn.{Txn}
 use Rattle.pac_ops.specs.Sizes.{HasOneTo}
 use Rattle.pac_types.specs.Typing.{CatalogueState}
-use Rattle.pac_bytes.specs.Reading.{told_as, next_byte, next_uint, times, within}
-use Rattle.pac_bytes.proofs.Codec.{IsCodec, ended, seq, either, never, same, retold}
+use Rattle.pac_bytes.specs.Reading.{reported_as, next_byte, next_uint, times, within}
+use Rattle.pac_bytes.proofs.Codec.{IsCodec, ended, seq, either, never, same, reported_again}
 use Rattle.pac_bytes.proofs.Filling.{within_codec}
 use Rattle.pac_bytes.proofs.Lists.{times_codec}
 use Rattle.pac_bytes.proofs.Numbers.{one_byte, byte_codec, uint_codec, width32}
@@ -32,16 +32,16 @@ each_of P [] h = tt
 each_of P (x ∷ xs) h = (All-head P x xs h, each_of P xs (All-tail P x xs h))
 
 pub number_codec : IsCodec (λ n. n < 2 ^ 32) (to_le_bytes w32) link_number
-number_codec = retold _ _ (next_uint w32) as_link_fault (uint_codec w32 (2 ^ 32) width32)
+number_codec = reported_again _ _ (next_uint w32) as_link_fault (uint_codec w32 (2 ^ 32) width32)
 
 -- any number is read as a gate, and what is read as one is a byte where only bytes are there
 abbrev IsGate : ℕ → Type 0
 IsGate gate = Unit {0}
 
-gate_codec : IsCodec IsGate one_byte (λ s. told_as as_link_fault (next_byte s))
+gate_codec : IsCodec IsGate one_byte (λ s. reported_as as_link_fault (next_byte s))
 gate_codec = record {
   again = λ gate at more fits. refl;
-  found = λ s gate t are e. let is = (retold _ _ next_byte as_link_fault byte_codec).found s gate t are e in record { bytes = is.bytes; place = is.place; form = tt };
+  found = λ s gate t are e. let is = (reported_again _ _ next_byte as_link_fault byte_codec).found s gate t are e in record { bytes = is.bytes; offset = is.offset; form = tt };
 }
 
 link_is : (txns : List Txn) (gate : ℕ) (link : Link) → link.txns ≡ txns → link.gate ≡ gate → link ≡ record { txns = txns; gate = gate }
@@ -51,13 +51,13 @@ link_is txns gate link t g = ap₂ (λ (ts : List Txn) (n : ℕ). the_link ts n)
     the_link ts n = record { txns = ts; gate = n }
 
 module _ (catalogue : CatalogueState) (entry_codec : IsCodec (IsEntry catalogue) txn_bytes (next_entry catalogue)) where
-  -- so many entries of so many bytes
+  -- that many entries of that many bytes
   abbrev AreEntries : ℕ → ℕ → List Txn → Type 0
   AreEntries count len txns = (AllByRecursion (IsEntry catalogue) txns × (length txns ≡ count)) × (length (entries_bytes txns) ≡ len)
 
   pub entries_codec : (count len : ℕ) → IsCodec (AreEntries count len) entries_bytes (next_entries catalogue count len)
-  entries_codec count len = within_codec (λ txns. AllByRecursion (IsEntry catalogue) txns × (length txns ≡ count)) entries_bytes (λ t. told_as of_entry (times (next_entry catalogue) count t)) short_from out_of_range len
-      (retold _ _ (times (next_entry catalogue) count) of_entry (times_codec (IsEntry catalogue) txn_bytes (next_entry catalogue) entry_codec count))
+  entries_codec count len = within_codec (λ txns. AllByRecursion (IsEntry catalogue) txns × (length txns ≡ count)) entries_bytes (λ t. reported_as of_entry (times (next_entry catalogue) count t)) short_from out_of_range len
+      (reported_again _ _ (times (next_entry catalogue) count) of_entry (times_codec (IsEntry catalogue) txn_bytes (next_entry catalogue) entry_codec count))
 
   -- the same in a link, and its gate
   abbrev HasEntries : ℕ → ℕ → Link → Type 0
@@ -69,13 +69,13 @@ module _ (catalogue : CatalogueState) (entry_codec : IsCodec (IsEntry catalogue)
   entries_and_gate_codec : (count len : ℕ) → IsCodec (HasEntries count len) entries_gate (entries_and_gate catalogue count len)
   entries_and_gate_codec count len =
       seq (λ link. link.txns) (AreEntries count len) entries_bytes (next_entries catalogue count len) (λ link. IsGate link.gate) (λ link. link.gate ∷ [])
-      (λ at txns s. told_as as_link_fault (next_byte s) >>= λ gate. Ok (record { txns = txns; gate = gate.0 }, gate.1))
+      (λ at txns s. reported_as as_link_fault (next_byte s) >>= λ gate. Ok (record { txns = txns; gate = gate.0 }, gate.1))
       (entries_codec count len)
       (λ at txns are. same _ _ _ _ _
       (λ link h. (h.1, h.0))
       (λ link h. (h.1, h.0))
       (λ link h. refl)
-      (seq (λ link. link.gate) IsGate one_byte (λ s. told_as as_link_fault (next_byte s)) (λ link. link.txns ≡ txns) (λ link. []) (λ at2 gate s. Ok (record { txns = txns; gate = gate }, s))
+      (seq (λ link. link.gate) IsGate one_byte (λ s. reported_as as_link_fault (next_byte s)) (λ link. link.txns ≡ txns) (λ link. []) (λ at2 gate s. Ok (record { txns = txns; gate = gate }, s))
       gate_codec
       (λ at2 gate lt. same _ _ _ _ _
       (λ link h. link_is txns gate link h.0 h.1)
@@ -83,7 +83,7 @@ module _ (catalogue : CatalogueState) (entry_codec : IsCodec (IsEntry catalogue)
       (λ link h. refl)
       (ended (record { txns = txns; gate = gate })))))
 
-  -- so many entries, which are not too long, and a gate
+  -- that many entries, which are not too long, and a gate
   abbrev IsCounted : ℕ → Link → Type 0
   IsCounted count link = (IsGate link.gate × (AllByRecursion (IsEntry catalogue) link.txns × (length link.txns ≡ count))) × (length (entries_bytes link.txns) ≤ MAX_ENTRIES_LEN)
 

@@ -9,29 +9,29 @@ use Rattle.pac_ops.specs.declared.transaction.Txn.TheVariants.{Call, AdHoc}
 use Rattle.pac_bytes.proofs.Numbers.{width32}
 use Rattle.pac_entry.specs.Entries.{txn_bytes}
 use Rattle.pac_types.specs.Typing.{CatalogueState}
-use Rattle.pac_outside.specs.Disk.{DiskHistory, WhereTold, BothTell}
+use Rattle.pac_outside.specs.Disk.{DiskHistory, IfKnown, BothKnown}
 use Rattle.pac_outside.specs.GateByte.{IsShut, IsOpen, OneImage, ShutOrOpen, Opens}
 use Rattle.pac_outside.proofs.Histories.{both, weaken}
 use Rattle.pac_log.specs.declared.position.NextGate.{NextGate}
 use Rattle.pac_log.specs.declared.log.Stage.{Stage}
 use Rattle.pac_log.specs.declared.log.Stage.TheVariants.{Ready}
 use Rattle.pac_log.specs.Bodies.{entries_bytes, body_bytes, IsBody}
-use Rattle.pac_log.specs.Logs.{header_bytes, open_bodies, log_front, all_txns, AreBatches, HoldsLog, KeepsOrAdds, AddsBatch}
-use Rattle.pac_log.specs.Gates.{gate_behind}
-use Rattle.pac_log.specs.Places.{IsBehind, LogEndsAt}
+use Rattle.pac_log.specs.Logs.{header_bytes, open_bodies, log_prefix, all_txns, AreBatches, HoldsLog, KeepsOrAdds, AddsBatch}
+use Rattle.pac_log.specs.Gates.{gate_after}
+use Rattle.pac_log.specs.Places.{IsAfter, LogEndsAt}
 
 open_bodies-append : (a b : List (List Txn)) → open_bodies (a ++ b) ≡ open_bodies a ++ open_bodies b
 open_bodies-append [] b = refl
 open_bodies-append (txns ∷ a) b = ap (λ (l : List ℕ). 1 ∷ l) (ap (λ (l : List ℕ). body_bytes txns ++ l) (open_bodies-append a b) ∙ sym (append_assoc (body_bytes txns) (open_bodies a) (open_bodies b)))
 
-pub log_front-append : (text : List ℕ) (a b : List (List Txn)) → log_front text (a ++ b) ≡ log_front text a ++ open_bodies b
-log_front-append text a b = ap (λ (l : List ℕ). header_bytes text ++ l) (open_bodies-append a b) ∙ sym (append_assoc (header_bytes text) (open_bodies a) (open_bodies b))
+pub log_prefix-append : (text : List ℕ) (a b : List (List Txn)) → log_prefix text (a ++ b) ≡ log_prefix text a ++ open_bodies b
+log_prefix-append text a b = ap (λ (l : List ℕ). header_bytes text ++ l) (open_bodies-append a b) ∙ sym (append_assoc (header_bytes text) (open_bodies a) (open_bodies b))
 
--- with one batch more, its open gate and its body stand behind the others
-pub front_pushed : (text : List ℕ) (batches : List (List Txn)) (txns : List Txn) (rest : List ℕ) → log_front text (batches ++ txns ∷ []) ++ rest ≡ log_front text batches ++ (1 ∷ (body_bytes txns ++ rest))
-front_pushed text batches txns rest =
-    ap (λ (l : List ℕ). l ++ rest) (log_front-append text batches (txns ∷ [])) ∙ append_assoc (log_front text batches) (1 ∷ (body_bytes txns ++ [])) rest
-    ∙ ap (λ (l : List ℕ). log_front text batches ++ (1 ∷ (l ++ rest))) (append-nil (body_bytes txns))
+-- with one batch more, its open gate and its body stand after the others
+pub prefix_pushed : (text : List ℕ) (batches : List (List Txn)) (txns : List Txn) (rest : List ℕ) → log_prefix text (batches ++ txns ∷ []) ++ rest ≡ log_prefix text batches ++ (1 ∷ (body_bytes txns ++ rest))
+prefix_pushed text batches txns rest =
+    ap (λ (l : List ℕ). l ++ rest) (log_prefix-append text batches (txns ∷ [])) ∙ append_assoc (log_prefix text batches) (1 ∷ (body_bytes txns ++ [])) rest
+    ∙ ap (λ (l : List ℕ). log_prefix text batches ++ (1 ∷ (l ++ rest))) (append-nil (body_bytes txns))
 
 pub all_txns-append : (a b : List (List Txn)) → all_txns (a ++ b) ≡ all_txns a ++ all_txns b
 all_txns-append [] b = refl
@@ -46,43 +46,43 @@ with_batch text catalogue batches txns are is = record {
   each = All-append (IsBody catalogue) batches (txns ∷ []) are.each (All-cons (IsBody catalogue) txns [] is (All-nil (IsBody catalogue)));
 }
 
--- the gate that comes behind one batch more
-pub behind_more : (text : List ℕ) (batches : List (List Txn)) (txns : List Txn) (gate : NextGate) → IsBehind text batches gate
-    → IsBehind text (batches ++ txns ∷ []) (gate_behind (length txns) (1 + length (body_bytes txns)) gate)
-behind_more text batches txns gate is =
-    let lens : length (log_front text (batches ++ txns ∷ [])) ≡ length (log_front text batches ++ (1 ∷ (body_bytes txns ++ [])))
-    = ap (λ (l : List ℕ). length l) (sym (append-nil (log_front text (batches ++ txns ∷ []))) ∙ front_pushed text batches txns []) in
+-- the gate that comes after one batch more
+pub after_more : (text : List ℕ) (batches : List (List Txn)) (txns : List Txn) (gate : NextGate) → IsAfter text batches gate
+    → IsAfter text (batches ++ txns ∷ []) (gate_after (length txns) (1 + length (body_bytes txns)) gate)
+after_more text batches txns gate is =
+    let lens : length (log_prefix text (batches ++ txns ∷ [])) ≡ length (log_prefix text batches ++ (1 ∷ (body_bytes txns ++ [])))
+    = ap (λ (l : List ℕ). length l) (sym (append-nil (log_prefix text (batches ++ txns ∷ []))) ∙ prefix_pushed text batches txns []) in
     record {
-      place = omega (arith, is.place, lens, length-append (log_front text batches) (1 ∷ (body_bytes txns ++ [])), length-append (body_bytes txns) []);
+      place = omega (arith, is.place, lens, length-append (log_prefix text batches) (1 ∷ (body_bytes txns ++ [])), length-append (body_bytes txns) []);
       txns = omega (arith, is.txns, counted_more batches txns);
     }
 
 module _ (text : List ℕ) (catalogue : CatalogueState) (batches : List (List Txn)) (txns : List Txn) (piece : List ℕ) (framed : piece ≡ body_bytes txns ++ (0 ∷ [])) (body : IsBody catalogue txns) where
-  -- an open gate with the body and a shut gate behind it is one batch more
-  one_more : (image : List ℕ) → AreBatches text catalogue batches → IsOpen (log_front text batches) piece image → HoldsLog text catalogue (batches ++ txns ∷ []) image
+  -- an open gate with the body and a shut gate after it is one batch more
+  one_more : (image : List ℕ) → AreBatches text catalogue batches → IsOpen (log_prefix text batches) piece image → HoldsLog text catalogue (batches ++ txns ∷ []) image
   one_more image are is = record {
     log = with_batch text catalogue batches txns are body;
     shut = record {
       gate = 0;
       rest = is.rest;
-      split = is.split ∙ ap (λ (p : List ℕ). log_front text batches ++ (1 ∷ (p ++ is.rest))) framed ∙ ap (λ (l : List ℕ). log_front text batches ++ (1 ∷ l)) (append_assoc (body_bytes txns) (0 ∷ []) is.rest) ∙ sym (front_pushed text batches txns (0 ∷ is.rest));
+      split = is.split ∙ ap (λ (p : List ℕ). log_prefix text batches ++ (1 ∷ (p ++ is.rest))) framed ∙ ap (λ (l : List ℕ). log_prefix text batches ++ (1 ∷ l)) (append_assoc (body_bytes txns) (0 ∷ []) is.rest) ∙ sym (prefix_pushed text batches txns (0 ∷ is.rest));
       shut = omega arith;
     };
   }
 
-  keeps : (a b : DiskHistory) → ShutOrOpen (log_front text batches) piece a b → KeepsOrAdds text catalogue batches txns a b
-  keeps a b run alone = weaken (λ image. IsShut (log_front text batches) image ⊎ IsOpen (log_front text batches) piece image) (λ image. HoldsLog text catalogue batches image ⊎ HoldsLog text catalogue (batches ++ txns ∷ []) image) a b
+  keeps : (a b : DiskHistory) → ShutOrOpen (log_prefix text batches) piece a b → KeepsOrAdds text catalogue batches txns a b
+  keeps a b run alone = weaken (λ image. IsShut (log_prefix text batches) image ⊎ IsOpen (log_prefix text batches) piece image) (λ image. HoldsLog text catalogue batches image ⊎ HoldsLog text catalogue (batches ++ txns ∷ []) image) a b
       (λ image is. ⊎_elim (λ shut. inl (record { log = alone.has.log; shut = shut })) (λ opened. inr (one_more image alone.has.log opened)) is)
       (run (record { one = alone.one; has = alone.has.shut }))
 
-  adds : (a b : DiskHistory) → Opens (log_front text batches) piece a b → AddsBatch text catalogue batches txns a b
+  adds : (a b : DiskHistory) → Opens (log_prefix text batches) piece a b → AddsBatch text catalogue batches txns a b
   adds a b run alone = let opened = run (record { one = alone.one; has = alone.has.shut }) in record { one = opened.one; has = one_more b.now.seen alone.has.log opened.has }
 
-  pub keeps_or_adds : (a b : Option DiskHistory) → BothTell (ShutOrOpen (log_front text batches) piece) a b → BothTell (KeepsOrAdds text catalogue batches txns) a b
-  keeps_or_adds = both (ShutOrOpen (log_front text batches) piece) (KeepsOrAdds text catalogue batches txns) keeps
+  pub keeps_or_adds : (a b : Option DiskHistory) → BothKnown (ShutOrOpen (log_prefix text batches) piece) a b → BothKnown (KeepsOrAdds text catalogue batches txns) a b
+  keeps_or_adds = both (ShutOrOpen (log_prefix text batches) piece) (KeepsOrAdds text catalogue batches txns) keeps
 
-  pub adds_batch : (a b : Option DiskHistory) → BothTell (Opens (log_front text batches) piece) a b → BothTell (AddsBatch text catalogue batches txns) a b
-  adds_batch = both (Opens (log_front text batches) piece) (AddsBatch text catalogue batches txns) adds
+  pub adds_batch : (a b : Option DiskHistory) → BothKnown (Opens (log_prefix text batches) piece) a b → BothKnown (AddsBatch text catalogue batches txns) a b
+  adds_batch = both (Opens (log_prefix text batches) piece) (AddsBatch text catalogue batches txns) adds
 
 -- ---- what stands ready
 
@@ -116,30 +116,30 @@ ready_same a b m n e = (ready_piece e, ready_count e)
 pub ready_parts : (stage other : Stage) (piece body : List ℕ) (m n : ℕ) → stage ≡ Ready piece m → stage ≡ other → other ≡ Ready body n → (piece ≡ body) × (m ≡ n)
 ready_parts stage other piece body m n is view there = ready_same piece body m n (sym is ∙ view ∙ there)
 
-pub behind_so : (text : List ℕ) (batches : List (List Txn)) (txns : List Txn) (gate new : NextGate) (count len : ℕ) → count ≡ length txns → len ≡ 1 + length (body_bytes txns) → new ≡ gate_behind count len gate
-    → IsBehind text batches gate → IsBehind text (batches ++ txns ∷ []) new
-behind_so text batches txns gate new count len counted long e is =
-    let there : IsBehind text (batches ++ txns ∷ []) (gate_behind (length txns) (1 + length (body_bytes txns)) gate) = behind_more text batches txns gate is in
-    let with_count : IsBehind text (batches ++ txns ∷ []) (gate_behind count (1 + length (body_bytes txns)) gate) = subst (λ (n : ℕ). IsBehind text (batches ++ txns ∷ []) (gate_behind n (1 + length (body_bytes txns)) gate)) (sym counted) there in
-    let with_len : IsBehind text (batches ++ txns ∷ []) (gate_behind count len gate) = subst (λ (n : ℕ). IsBehind text (batches ++ txns ∷ []) (gate_behind count n gate)) (sym long) with_count in
-    subst (λ (g : NextGate). IsBehind text (batches ++ txns ∷ []) g) (sym e) with_len
+pub after_so : (text : List ℕ) (batches : List (List Txn)) (txns : List Txn) (gate new : NextGate) (count len : ℕ) → count ≡ length txns → len ≡ 1 + length (body_bytes txns) → new ≡ gate_after count len gate
+    → IsAfter text batches gate → IsAfter text (batches ++ txns ∷ []) new
+after_so text batches txns gate new count len counted long e is =
+    let there : IsAfter text (batches ++ txns ∷ []) (gate_after (length txns) (1 + length (body_bytes txns)) gate) = after_more text batches txns gate is in
+    let with_count : IsAfter text (batches ++ txns ∷ []) (gate_after count (1 + length (body_bytes txns)) gate) = subst (λ (n : ℕ). IsAfter text (batches ++ txns ∷ []) (gate_after n (1 + length (body_bytes txns)) gate)) (sym counted) there in
+    let with_len : IsAfter text (batches ++ txns ∷ []) (gate_after count len gate) = subst (λ (n : ℕ). IsAfter text (batches ++ txns ∷ []) (gate_after count n gate)) (sym long) with_count in
+    subst (λ (g : NextGate). IsAfter text (batches ++ txns ∷ []) g) (sym e) with_len
 
--- the gate behind what was ready
-pub gate_so : (txns : List Txn) (inside old new : NextGate) (count len : ℕ) → count ≡ length txns → len ≡ 1 + length (body_bytes txns) → new ≡ gate_behind count len inside → inside ≡ old
-    → new ≡ gate_behind (length txns) (1 + length (body_bytes txns)) old
+-- the gate after what was ready
+pub gate_so : (txns : List Txn) (inside old new : NextGate) (count len : ℕ) → count ≡ length txns → len ≡ 1 + length (body_bytes txns) → new ≡ gate_after count len inside → inside ≡ old
+    → new ≡ gate_after (length txns) (1 + length (body_bytes txns)) old
 gate_so txns inside old new count len counted long e same =
-    e ∙ ap (λ (n : ℕ). gate_behind n len inside) counted ∙ ap (λ (n : ℕ). gate_behind (length txns) n inside) long ∙ ap (λ (g : NextGate). gate_behind (length txns) (1 + length (body_bytes txns)) g) same
+    e ∙ ap (λ (n : ℕ). gate_after n len inside) counted ∙ ap (λ (n : ℕ). gate_after (length txns) n inside) long ∙ ap (λ (g : NextGate). gate_after (length txns) (1 + length (body_bytes txns)) g) same
 
 -- a log that ended at its gate ends at the next one, when a batch was added
-pub ends_again : (R : DiskHistory → DiskHistory → Type 0) (old new : NextGate) (before after : Option DiskHistory) (txns : List Txn) → BothTell R before after → WhereTold (λ h. LogEndsAt old h.now) before
-    → ((text : List ℕ) (batches : List (List Txn)) → IsBehind text batches old → BothTell (AddsBatch text old.catalogue batches txns) before after)
-    → ((text : List ℕ) (batches : List (List Txn)) → IsBehind text batches old → IsBehind text (batches ++ txns ∷ []) new) → new.catalogue ≡ old.catalogue → WhereTold (λ h. LogEndsAt new h.now) after
-ends_again R old new None None txns both ends adds behind same = tt
-ends_again R old new None (Some b) txns both ends adds behind same = absurd both
-ends_again R old new (Some a) None txns both ends adds behind same = absurd both
-ends_again R old new (Some a) (Some b) txns both ends adds behind same = record {
+pub ends_again : (R : DiskHistory → DiskHistory → Type 0) (old new : NextGate) (before after : Option DiskHistory) (txns : List Txn) → BothKnown R before after → IfKnown (λ h. LogEndsAt old h.now) before
+    → ((text : List ℕ) (batches : List (List Txn)) → IsAfter text batches old → BothKnown (AddsBatch text old.catalogue batches txns) before after)
+    → ((text : List ℕ) (batches : List (List Txn)) → IsAfter text batches old → IsAfter text (batches ++ txns ∷ []) new) → new.catalogue ≡ old.catalogue → IfKnown (λ h. LogEndsAt new h.now) after
+ends_again R old new None None txns both ends adds following same = tt
+ends_again R old new None (Some b) txns both ends adds following same = absurd both
+ends_again R old new (Some a) None txns both ends adds following same = absurd both
+ends_again R old new (Some a) (Some b) txns both ends adds following same = record {
   text = ends.text;
   batches = ends.batches ++ txns ∷ [];
-  holds = subst (λ (c : CatalogueState). OneImage (HoldsLog ends.text c (ends.batches ++ txns ∷ [])) b.now) (sym same) (adds ends.text ends.batches ends.behind ends.holds);
-  behind = behind ends.text ends.batches ends.behind;
+  holds = subst (λ (c : CatalogueState). OneImage (HoldsLog ends.text c (ends.batches ++ txns ∷ [])) b.now) (sym same) (adds ends.text ends.batches ends.after ends.holds);
+  after = following ends.text ends.batches ends.after;
 }

@@ -1,11 +1,11 @@
--- A place in a log is that of one gate, and that has one number of transactions in front of it.
+-- An offset in a log is that of one gate, and that has one number of transactions before it.
 use Rattle.std.proofs.Common.{◌≡◌, ◌∙◌, ℕ, ◌≤◌, List, [], ◌∷◌, ◌++◌, length, take, drop, refl, sym, ap, ap₂, arith, append_assoc}
 use Rattle.std.proofs.lemmas.List.{length-append, take_at, drop_at}
 use Rattle.pac_ops.specs.declared.transaction.Txn.{Txn}
 use Rattle.pac_log.specs.declared.position.NextGate.{NextGate}
 use Rattle.pac_log.specs.Bodies.{body_bytes}
 use Rattle.pac_log.specs.Logs.{header_bytes, open_bodies, all_txns, HasGate}
-use Rattle.pac_log.specs.Places.{IsBehind}
+use Rattle.pac_log.specs.Places.{IsAfter}
 use Rattle.pac_log.proofs.LogLemmas.{all_txns-append}
 
 others_of : (x y : List Txn) (a b : List (List Txn)) → x ∷ a ≡ y ∷ b → (x ≡ y) × (a ≡ b)
@@ -17,23 +17,23 @@ others_of x y a b e = (first e, rest e)
     rest : x ∷ a ≡ y ∷ b → a ≡ b
     rest h = cc
 
--- fronts of one list that are as long are one
-same_front : (a b c d : List (List Txn)) → a ++ c ≡ b ++ d → length (open_bodies a) ≡ length (open_bodies b) → a ≡ b
-same_front [] [] c d e long = refl
-same_front [] (y ∷ b) c d e long = absurd (omega (arith, long))
-same_front (x ∷ a) [] c d e long = absurd (omega (arith, long))
-same_front (x ∷ a) (y ∷ b) c d e long =
+-- prefixes of one list that are as long are one
+same_prefix : (a b c d : List (List Txn)) → a ++ c ≡ b ++ d → length (open_bodies a) ≡ length (open_bodies b) → a ≡ b
+same_prefix [] [] c d e long = refl
+same_prefix [] (y ∷ b) c d e long = absurd (omega (arith, long))
+same_prefix (x ∷ a) [] c d e long = absurd (omega (arith, long))
+same_prefix (x ∷ a) (y ∷ b) c d e long =
     let parts = others_of x y (a ++ c) (b ++ d) e in
     let one : length (body_bytes x) ≡ length (body_bytes y) = ap (λ (t : List Txn). length (body_bytes t)) parts.0 in
-    ap₂ (λ (t : List Txn) (ts : List (List Txn)). t ∷ ts) parts.0 (same_front a b c d parts.1 (omega (arith, long, one, length-append (body_bytes x) (open_bodies a), length-append (body_bytes y) (open_bodies b))))
+    ap₂ (λ (t : List Txn) (ts : List (List Txn)). t ∷ ts) parts.0 (same_prefix a b c d parts.1 (omega (arith, long, one, length-append (body_bytes x) (open_bodies a), length-append (body_bytes y) (open_bodies b))))
 
 pub one_number : (text : List ℕ) (batches : List (List Txn)) (place m n : ℕ) → HasGate text batches place m → HasGate text batches place n → m ≡ n
 one_number text batches place m n is other =
     let long : length (open_bodies is.before) ≡ length (open_bodies other.before) = omega (arith, is.there, other.there, length-append (header_bytes text) (open_bodies is.before), length-append (header_bytes text) (open_bodies other.before)) in
-    let same : is.before ≡ other.before = same_front is.before other.before is.after other.after (sym is.split ∙ other.split) long in
+    let same : is.before ≡ other.before = same_prefix is.before other.before is.after other.after (sym is.split ∙ other.split) long in
     is.counted ∙ ap (λ (b : List (List Txn)). length (all_txns b)) same ∙ sym other.counted
 
--- the transactions in front of a gate, and those behind it
+-- the transactions before a gate, and those after it
 txns_of_gate : (text : List ℕ) (batches : List (List Txn)) (place n : ℕ) → (is : HasGate text batches place n) → all_txns batches ≡ all_txns is.before ++ all_txns is.after
 txns_of_gate text batches place n is = ap (λ (b : List (List Txn)). all_txns b) is.split ∙ all_txns-append is.before is.after
 
@@ -55,6 +55,6 @@ stays text batches more place n is = record {
   counted = is.counted;
 }
 
--- the gate that comes next is one of the log's, whatever stands behind it
-pub next_is_gate : (text : List ℕ) (before after : List (List Txn)) (gate : NextGate) → IsBehind text before gate → HasGate text (before ++ after) gate.place gate.txns
+-- the gate that comes next is one of the log's, whatever stands after it
+pub next_is_gate : (text : List ℕ) (before after : List (List Txn)) (gate : NextGate) → IsAfter text before gate → HasGate text (before ++ after) gate.place gate.txns
 next_is_gate text before after gate is = record { before = before; after = after; split = refl; there = is.place; counted = is.txns }

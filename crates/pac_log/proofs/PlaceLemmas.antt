@@ -1,4 +1,4 @@
--- A fault of what stands behind an open gate stands no further than the end of the bytes.
+-- A fault of what stands after an open gate stands no further than the end of the bytes.
 --
 -- Each reading ends by the end of its bytes, or its fault stands by there: this is shown of readings one by one, of those
 -- that are made of others by `step`, from what is said of these.
@@ -19,14 +19,14 @@ use Rattle.pac_ops.specs.declared.limits.TheConstants.{MAX_RECORDS, MAX_TXNS}
 use Rattle.pac_types.specs.declared.procedure.Proc.{Proc}
 use Rattle.pac_types.specs.declared.table.Column.{Column}
 use Rattle.pac_types.specs.declared.table.Table.{Table}
-use Rattle.pac_types.specs.Sound.{types}
+use Rattle.pac_types.specs.WellFormed.{types}
 use Rattle.pac_types.specs.Typing.{CatalogueState}
 use Rattle.pac_bytes.specs.declared.fault.Short.{Short}
 use Rattle.pac_bytes.specs.declared.fault.TypedFault.{TypedFault}
 use Rattle.pac_bytes.specs.declared.fault.TypedFault.TheVariants as typed
 use Rattle.pac_bytes.specs.declared.fault.ValueFault.{ValueFault}
 use Rattle.pac_bytes.specs.declared.fault.ValueFault.TheVariants as value
-use Rattle.pac_bytes.specs.Reading.{Rest, from, behind, told_as, short_at, byte_in_front, next_byte, next_bytes, next_uint, times, along, all_read, within}
+use Rattle.pac_bytes.specs.Reading.{Rest, from, after, reported_as, short_at, leading_byte, next_byte, next_bytes, next_uint, times, along, all_read, within}
 use Rattle.pac_bytes.specs.Typed.{as_typed_fault, same_type, next_typed, next_key, next_values}
 use Rattle.pac_bytes.specs.Values.{as_value_fault, type_of_tag, next_type, int_body, printable_text, text_of_length, text_body, value_body, next_value}
 use Rattle.pac_entry.specs.declared.fault.EntryFault.{EntryFault}
@@ -52,9 +52,9 @@ step : {A B F : Type 0} (place : F → ℕ) (end : ℕ) (P : A → Type 0) (Q : 
 step place end P Q (Ok x) f is next = next x is
 step place end P Q (Err fault) f is next = is
 
-retold : {A F G : Type 0} (place : F → ℕ) (other : G → ℕ) (end : ℕ) (P : A → Type 0) (tell : F → G) (r : Result A F) → ((fault : F) → other (tell fault) ≡ place fault) → ByEnd place end P r → ByEnd other end P (told_as tell r)
-retold place other end P tell (Ok x) same is = is
-retold place other end P tell (Err fault) same is = omega (arith, same fault, is)
+reported_again : {A F G : Type 0} (place : F → ℕ) (other : G → ℕ) (end : ℕ) (P : A → Type 0) (report : F → G) (r : Result A F) → ((fault : F) → other (report fault) ≡ place fault) → ByEnd place end P r → ByEnd other end P (reported_as report r)
+reported_again place other end P report (Ok x) same is = is
+reported_again place other end P report (Err fault) same is = omega (arith, same fault, is)
 
 either : {A F : Type 0} (place : F → ℕ) (end : ℕ) (P : A → Type 0) (test : Bool) (one other : Result A F) → (test ≡ true → ByEnd place end P one) → (test ≡ false → ByEnd place end P other) → ByEnd place end P (cond test one other)
 either place end P true one other if_true if_false = if_true refl
@@ -66,20 +66,20 @@ found_or place end (Some x) fault le = tt
 
 -- ---- fields
 
--- the place of a field that is cut short
+-- the offset of a field that is cut short
 abbrev short_place : Short → ℕ
 short_place short = short.at
 
-front_ends : (at end : ℕ) (bytes : List ℕ) → at + length bytes ≤ end → ByEnd short_place end (EndsBy end) (byte_in_front at bytes)
-front_ends at end [] le = omega arith
-front_ends at end (b ∷ bs) le = omega arith
+prefix_ends : (at end : ℕ) (bytes : List ℕ) → at + length bytes ≤ end → ByEnd short_place end (EndsBy end) (leading_byte at bytes)
+prefix_ends at end [] le = omega arith
+prefix_ends at end (b ∷ bs) le = omega arith
 
 byte_ends : (s : Rest) (end : ℕ) → s.at + length s.bytes ≤ end → ByEnd short_place end (EndsBy end) (next_byte s)
-byte_ends s end le = front_ends s.at end s.bytes le
+byte_ends s end le = prefix_ends s.at end s.bytes le
 
 bytes_end : {F : Type 0} (place : F → ℕ) (fault : F) (n : ℕ) (s : Rest) (end : ℕ) → place fault ≤ end → s.at + length s.bytes ≤ end → ByEnd place end (EndsBy end) (next_bytes fault n s)
 bytes_end place fault n s end low le =
-    either place end (EndsBy end) (ltb (length s.bytes) n) (Err fault) (Ok (take n s.bytes, behind n s)) (λ cut. low)
+    either place end (EndsBy end) (ltb (length s.bytes) n) (Err fault) (Ok (take n s.bytes, after n s)) (λ cut. low)
     (λ there. let many : n ≤ length s.bytes = ltb-false _ _ there in omega (arith, many, le, length-drop n s.bytes))
 
 uint_ends : (w : Width) (s : Rest) (end : ℕ) → s.at + length s.bytes ≤ end → ByEnd short_place end (EndsBy end) (next_uint w s)
@@ -105,17 +105,17 @@ typed_same (value.Bad at) = refl
 abbrev Any : {A : Type 0} → A → Type 0
 Any x = Unit {0}
 
-value_byte_ends : (s : Rest) (end : ℕ) → s.at + length s.bytes ≤ end → ByEnd value_place end (EndsBy end) (told_as as_value_fault (next_byte s))
-value_byte_ends s end le = retold short_place value_place end (EndsBy end) as_value_fault (next_byte s) (λ fault. refl) (byte_ends s end le)
+value_byte_ends : (s : Rest) (end : ℕ) → s.at + length s.bytes ≤ end → ByEnd value_place end (EndsBy end) (reported_as as_value_fault (next_byte s))
+value_byte_ends s end le = reported_again short_place value_place end (EndsBy end) as_value_fault (next_byte s) (λ fault. refl) (byte_ends s end le)
 
 tag_ends : (at tag end : ℕ) → at ≤ end → ByEnd value_place end Any (type_of_tag at tag)
 tag_ends at tag end le = either value_place end Any (eqb tag 1) _ _ (λ e. tt) (λ e. either value_place end Any (eqb tag 2) _ _ (λ e. tt) (λ e. le))
 
 type_ends : (s : Rest) (end : ℕ) → s.at + length s.bytes ≤ end → ByEnd value_place end Any (next_type s)
-type_ends s end le = step value_place end (EndsBy end) Any (told_as as_value_fault (next_byte s)) _ (value_byte_ends s end le) (λ tag is. tag_ends s.at tag.0 end (omega (arith, le)))
+type_ends s end le = step value_place end (EndsBy end) Any (reported_as as_value_fault (next_byte s)) _ (value_byte_ends s end le) (λ tag is. tag_ends s.at tag.0 end (omega (arith, le)))
 
 int_ends : (s : Rest) (end : ℕ) → s.at + length s.bytes ≤ end → ByEnd value_place end (EndsBy end) (int_body s)
-int_ends s end le = step value_place end (EndsBy end) (EndsBy end) (told_as as_value_fault (next_uint w64 s)) _ (retold short_place value_place end (EndsBy end) as_value_fault (next_uint w64 s) (λ fault. refl) (uint_ends w64 s end le)) (λ n is. is)
+int_ends s end le = step value_place end (EndsBy end) (EndsBy end) (reported_as as_value_fault (next_uint w64 s)) _ (reported_again short_place value_place end (EndsBy end) as_value_fault (next_uint w64 s) (λ fault. refl) (uint_ends w64 s end le)) (λ n is. is)
 
 printable_ends : (tag end : ℕ) (bytes : List ℕ) (s : Rest) → tag ≤ end → s.at + length s.bytes ≤ end → ByEnd value_place end (EndsBy end) (printable_text tag bytes s)
 printable_ends tag end bytes s low le = either value_place end (EndsBy end) (list_all is_printable bytes) _ _ (λ e. le) (λ e. low)
@@ -126,7 +126,7 @@ length_ends tag field len end s low field_low le =
     (λ e. step value_place end (EndsBy end) (EndsBy end) (next_bytes (value.Short field) len s) _ (bytes_end value_place (value.Short field) len s end field_low le) (λ t is. printable_ends tag end t.0 t.1 low is))
 
 text_ends : (tag end : ℕ) (s : Rest) → tag ≤ end → s.at + length s.bytes ≤ end → ByEnd value_place end (EndsBy end) (text_body tag s)
-text_ends tag end s low le = step value_place end (EndsBy end) (EndsBy end) (told_as as_value_fault (next_byte s)) _ (value_byte_ends s end le) (λ len is. length_ends tag s.at len.0 end len.1 low (omega (arith, le)) is)
+text_ends tag end s low le = step value_place end (EndsBy end) (EndsBy end) (reported_as as_value_fault (next_byte s)) _ (value_byte_ends s end le) (λ len is. length_ends tag s.at len.0 end len.1 low (omega (arith, le)) is)
 
 body_ends : (at tag end : ℕ) (s : Rest) → at ≤ end → s.at + length s.bytes ≤ end → ByEnd value_place end (EndsBy end) (value_body at tag s)
 body_ends at tag end s low le =
@@ -134,19 +134,19 @@ body_ends at tag end s low le =
 
 value_ends : (s : Rest) (end : ℕ) → s.at + length s.bytes ≤ end → ByEnd value_place end (EndsBy end) (next_value s)
 unfolding next_value
-value_ends s end le = step value_place end (EndsBy end) (EndsBy end) (told_as as_value_fault (next_byte s)) _ (value_byte_ends s end le) (λ tag is. body_ends s.at tag.0 end tag.1 (omega (arith, le)) is)
+value_ends s end le = step value_place end (EndsBy end) (EndsBy end) (reported_as as_value_fault (next_byte s)) _ (value_byte_ends s end le) (λ tag is. body_ends s.at tag.0 end tag.1 (omega (arith, le)) is)
 
 typed_ends : (ty : Ty) (s : Rest) (end : ℕ) → s.at + length s.bytes ≤ end → ByEnd typed_place end (EndsBy end) (next_typed ty s)
 unfolding next_typed
 typed_ends ty s end le =
-    step typed_place end Any (EndsBy end) (told_as as_typed_fault (next_type s)) _ (retold value_place typed_place end Any as_typed_fault (next_type s) typed_same (type_ends s end le))
-    (λ found is. either typed_place end (EndsBy end) (same_type found ty) _ _ (λ e. retold value_place typed_place end (EndsBy end) as_typed_fault (next_value s) typed_same (value_ends s end le)) (λ e. omega (arith, le)))
+    step typed_place end Any (EndsBy end) (reported_as as_typed_fault (next_type s)) _ (reported_again value_place typed_place end Any as_typed_fault (next_type s) typed_same (type_ends s end le))
+    (λ found is. either typed_place end (EndsBy end) (same_type found ty) _ _ (λ e. reported_again value_place typed_place end (EndsBy end) as_typed_fault (next_value s) typed_same (value_ends s end le)) (λ e. omega (arith, le)))
 
 key_ends : (ty : Ty) (s : Rest) (end : ℕ) → s.at + length s.bytes ≤ end → ByEnd typed_place end (EndsBy end) (next_key ty s)
 unfolding next_key
 key_ends ty s end le = step typed_place end (EndsBy end) (EndsBy end) (next_typed ty s) _ (typed_ends ty s end le) (λ v is. is)
 
--- ---- one behind the other
+-- ---- one after another
 
 times_end : {A F : Type 0} (place : F → ℕ) (end : ℕ) (read : Rest → Result (A × Rest) F) → ((s : Rest) → s.at + length s.bytes ≤ end → ByEnd place end (EndsBy end) (read s))
     → (n : ℕ) (s : Rest) → s.at + length s.bytes ≤ end → ByEnd place end (EndsBy end) (times read n s)
@@ -173,17 +173,17 @@ entry_same wrong (typed.Tag at) = refl
 entry_same wrong (typed.Wrong at) = refl
 
 entry_byte_ends : (s : Rest) (end : ℕ) → s.at + length s.bytes ≤ end → ByEnd entry_place end (EndsBy end) (entry_byte s)
-entry_byte_ends s end le = retold short_place entry_place end (EndsBy end) as_entry_fault (next_byte s) (λ fault. refl) (byte_ends s end le)
+entry_byte_ends s end le = reported_again short_place entry_place end (EndsBy end) as_entry_fault (next_byte s) (λ fault. refl) (byte_ends s end le)
 
 entry_number_ends : (s : Rest) (end : ℕ) → s.at + length s.bytes ≤ end → ByEnd entry_place end (EndsBy end) (entry_number s)
-entry_number_ends s end le = retold short_place entry_place end (EndsBy end) as_entry_fault (next_uint w16 s) (λ fault. refl) (uint_ends w16 s end le)
+entry_number_ends s end le = reported_again short_place entry_place end (EndsBy end) as_entry_fault (next_uint w16 s) (λ fault. refl) (uint_ends w16 s end le)
 
 values_end : (wrong : EntryFaultKind) (columns : List Column) (s : Rest) (end : ℕ) → s.at + length s.bytes ≤ end → ByEnd entry_place end (EndsBy end) (counted_values wrong columns s)
 unfolding counted_values
 values_end wrong columns s end le =
     step entry_place end (EndsBy end) (EndsBy end) (entry_byte s) _ (entry_byte_ends s end le)
     (λ n is. either entry_place end (EndsBy end) (eqb n.0 (length columns)) _ _
-    (λ e. retold typed_place entry_place end (EndsBy end) (as_fault_of wrong) (next_values (types columns) n.1) (entry_same wrong) (along_end typed_place end next_typed (λ ty t. typed_ends ty t end) (types columns) n.1 is))
+    (λ e. reported_again typed_place entry_place end (EndsBy end) (as_fault_of wrong) (next_values (types columns) n.1) (entry_same wrong) (along_end typed_place end next_typed (λ ty t. typed_ends ty t end) (types columns) n.1 is))
     (λ e. omega (arith, le)))
 
 call_ends : (procs : List Proc) (s : Rest) (end : ℕ) → s.at + length s.bytes ≤ end → ByEnd entry_place end (EndsBy end) (next_call procs s)
@@ -193,15 +193,15 @@ call_ends procs s end le =
     (λ n is. step entry_place end Any (EndsBy end) (ok_or (slice_get procs n.0) (fault_at UnknownProc s.at)) _ (found_or entry_place end (slice_get procs n.0) (fault_at UnknownProc s.at) (omega (arith, le)))
     (λ proc any. step entry_place end (EndsBy end) (EndsBy end) (counted_values WrongArgs proc.params n.1) _ (values_end WrongArgs proc.params n.1 end is) (λ args done. done)))
 
-key_in_ends : (ty : Ty) (s : Rest) (end : ℕ) → s.at + length s.bytes ≤ end → ByEnd entry_place end (EndsBy end) (told_as (as_fault_of WrongRow) (next_key ty s))
-key_in_ends ty s end le = retold typed_place entry_place end (EndsBy end) (as_fault_of WrongRow) (next_key ty s) (entry_same WrongRow) (key_ends ty s end le)
+key_in_ends : (ty : Ty) (s : Rest) (end : ℕ) → s.at + length s.bytes ≤ end → ByEnd entry_place end (EndsBy end) (reported_as (as_fault_of WrongRow) (next_key ty s))
+key_in_ends ty s end le = reported_again typed_place entry_place end (EndsBy end) (as_fault_of WrongRow) (next_key ty s) (entry_same WrongRow) (key_ends ty s end le)
 
 put_ends : (tables : List Table) (s : Rest) (end : ℕ) → s.at + length s.bytes ≤ end → ByEnd entry_place end (EndsBy end) (next_put tables s)
 unfolding next_put
 put_ends tables s end le =
     step entry_place end (EndsBy end) (EndsBy end) (entry_number s) _ (entry_number_ends s end le)
     (λ n is. step entry_place end Any (EndsBy end) (ok_or (slice_get tables n.0) (fault_at UnknownTable s.at)) _ (found_or entry_place end (slice_get tables n.0) (fault_at UnknownTable s.at) (omega (arith, le)))
-    (λ table any. step entry_place end (EndsBy end) (EndsBy end) (told_as (as_fault_of WrongRow) (next_key table.key n.1)) _ (key_in_ends table.key n.1 end is)
+    (λ table any. step entry_place end (EndsBy end) (EndsBy end) (reported_as (as_fault_of WrongRow) (next_key table.key n.1)) _ (key_in_ends table.key n.1 end is)
     (λ key done. step entry_place end (EndsBy end) (EndsBy end) (counted_values WrongRow table.columns key.1) _ (values_end WrongRow table.columns key.1 end done) (λ row all. all))))
 
 delete_ends : (tables : List Table) (s : Rest) (end : ℕ) → s.at + length s.bytes ≤ end → ByEnd entry_place end (EndsBy end) (next_delete tables s)
@@ -209,7 +209,7 @@ unfolding next_delete
 delete_ends tables s end le =
     step entry_place end (EndsBy end) (EndsBy end) (entry_number s) _ (entry_number_ends s end le)
     (λ n is. step entry_place end Any (EndsBy end) (ok_or (slice_get tables n.0) (fault_at UnknownTable s.at)) _ (found_or entry_place end (slice_get tables n.0) (fault_at UnknownTable s.at) (omega (arith, le)))
-    (λ table any. step entry_place end (EndsBy end) (EndsBy end) (told_as (as_fault_of WrongRow) (next_key table.key n.1)) _ (key_in_ends table.key n.1 end is) (λ key done. done)))
+    (λ table any. step entry_place end (EndsBy end) (EndsBy end) (reported_as (as_fault_of WrongRow) (next_key table.key n.1)) _ (key_in_ends table.key n.1 end is) (λ key done. done)))
 
 change_ends : (tables : List Table) (s : Rest) (end : ℕ) → s.at + length s.bytes ≤ end → ByEnd entry_place end (EndsBy end) (next_change tables s)
 unfolding next_change
@@ -237,9 +237,9 @@ abbrev link_place : LinkFault → ℕ
 link_place fault = fault.at
 
 number_ends : (s : Rest) (end : ℕ) → s.at + length s.bytes ≤ end → ByEnd link_place end (EndsBy end) (link_number s)
-number_ends s end le = retold short_place link_place end (EndsBy end) as_link_fault (next_uint w32 s) (λ fault. refl) (uint_ends w32 s end le)
+number_ends s end le = reported_again short_place link_place end (EndsBy end) as_link_fault (next_uint w32 s) (λ fault. refl) (uint_ends w32 s end le)
 
-filled_ends : {A : Type 0} (end n : ℕ) (s : Rest) (x : A × Rest) → n ≤ length s.bytes → s.at + length s.bytes ≤ end → EndsBy end x → ByEnd link_place end (EndsBy end) (all_read out_of_range (behind n s) x)
+filled_ends : {A : Type 0} (end n : ℕ) (s : Rest) (x : A × Rest) → n ≤ length s.bytes → s.at + length s.bytes ≤ end → EndsBy end x → ByEnd link_place end (EndsBy end) (all_read out_of_range (after n s) x)
 filled_ends end n s x many le is = either link_place end (EndsBy end) (eqb (length x.1.bytes) 0) _ _ (λ e. omega (arith, many, le, length-drop n s.bytes)) (λ e. omega (arith, is))
 
 within_ends : {A : Type 0} (end n : ℕ) (read : Rest → Result (A × Rest) LinkFault) (s : Rest) → ((t : Rest) → t.at + length t.bytes ≤ end → ByEnd link_place end (EndsBy end) (read t)) → s.at + length s.bytes ≤ end
@@ -251,16 +251,16 @@ within_ends end n read s each le =
 
 entries_end : (catalogue : CatalogueState) (count len : ℕ) (s : Rest) (end : ℕ) → s.at + length s.bytes ≤ end → ByEnd link_place end (EndsBy end) (next_entries catalogue count len s)
 entries_end catalogue count len s end le =
-    within_ends end len (λ t. told_as of_entry (times (next_entry catalogue) count t)) s
-    (λ t there. retold entry_place link_place end (EndsBy end) of_entry (times (next_entry catalogue) count t) (λ fault. refl) (times_end entry_place end (next_entry catalogue) (λ u. entry_ends catalogue u end) count t there)) le
+    within_ends end len (λ t. reported_as of_entry (times (next_entry catalogue) count t)) s
+    (λ t there. reported_again entry_place link_place end (EndsBy end) of_entry (times (next_entry catalogue) count t) (λ fault. refl) (times_end entry_place end (next_entry catalogue) (λ u. entry_ends catalogue u end) count t there)) le
 
-gate_ends : (s : Rest) (end : ℕ) → s.at + length s.bytes ≤ end → ByEnd link_place end (EndsBy end) (told_as as_link_fault (next_byte s))
-gate_ends s end le = retold short_place link_place end (EndsBy end) as_link_fault (next_byte s) (λ fault. refl) (byte_ends s end le)
+gate_ends : (s : Rest) (end : ℕ) → s.at + length s.bytes ≤ end → ByEnd link_place end (EndsBy end) (reported_as as_link_fault (next_byte s))
+gate_ends s end le = reported_again short_place link_place end (EndsBy end) as_link_fault (next_byte s) (λ fault. refl) (byte_ends s end le)
 
 entries_and_gate_end : (catalogue : CatalogueState) (count len : ℕ) (s : Rest) (end : ℕ) → s.at + length s.bytes ≤ end → ByEnd link_place end (EndsBy end) (entries_and_gate catalogue count len s)
 entries_and_gate_end catalogue count len s end le =
     step link_place end (EndsBy end) (EndsBy end) (next_entries catalogue count len s) _ (entries_end catalogue count len s end le)
-    (λ txns is. step link_place end (EndsBy end) (EndsBy end) (told_as as_link_fault (next_byte txns.1)) _ (gate_ends txns.1 end is) (λ gate done. done))
+    (λ txns is. step link_place end (EndsBy end) (EndsBy end) (reported_as as_link_fault (next_byte txns.1)) _ (gate_ends txns.1 end is) (λ gate done. done))
 
 counted_ends : (catalogue : CatalogueState) (count : ℕ) (s : Rest) (end : ℕ) → s.at + length s.bytes ≤ end → ByEnd link_place end (EndsBy end) (counted_link catalogue count s)
 unfolding counted_link
@@ -278,6 +278,6 @@ link_ends catalogue s end le =
 pub fault_inside : (catalogue : CatalogueState) (s : Rest) (fault : LinkFault) → next_link catalogue s ≡ Err fault → fault.at ≤ s.at + length s.bytes
 fault_inside catalogue s fault e = subst (λ r. ByEnd link_place (s.at + length s.bytes) (EndsBy (s.at + length s.bytes)) r) e (link_ends catalogue s (s.at + length s.bytes) (omega arith))
 
--- the same of what a reader of a list of bytes tells
+-- the same of what a reader of a list of bytes says
 pub fault_there : (catalogue : CatalogueState) (bytes : List ℕ) (at : ℕ) (refusal : Refusal LinkFault) (fault : LinkFault) → refusal ≡ Fault fault → Fails refusal (next_link catalogue (from bytes at)) → fault.at ≤ at + length (drop at bytes)
 fault_there catalogue bytes at refusal fault is fails = fault_inside catalogue (from bytes at) fault (subst (λ (r : Refusal LinkFault). Fails r (next_link catalogue (from bytes at))) is fails)

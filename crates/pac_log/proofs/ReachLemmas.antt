@@ -1,4 +1,4 @@
--- How far reading looks from a gate on: what stands behind the body and the next gate is not looked at.
+-- How far reading looks from a gate on: what stands after the body and the next gate is not looked at.
 use Rattle.std.proofs.Common.{◌≡◌, ◌∙◌, ℕ, suc, ◌+◌, ◌-◌, ◌<◌, ◌≤◌, ◌||◌, Bool, true, false, cond, eqb, ltb, List, [], ◌∷◌, length, take, drop, Option, Some, None, Result, Ok, Err, refl, sym, ap, ap₂, arith}
 use Rattle.std.specs.Int.{w32, from_le_bytes}
 use Rattle.std.proofs.lemmas.Bool.{ltb-true, ltb-false, le-ltb, lt-ltb, eqb-true}
@@ -49,20 +49,20 @@ within_alike {A} {B} {F} f short left n m at read bytes enough = by (ltb (length
         let many_too : ltb (length (take m bytes)) n ≡ false = le-ltb _ _ (omega (arith, many, length-take m bytes)) in
         rw (e, many_too, take-take n m bytes enough) (filled_alike f left _ _ (read (record { at = at; bytes = take n bytes })))
 
--- what stands behind n bytes of a front
-rest_of_front : (n m : ℕ) (bytes : List ℕ) → n ≤ m → drop n (take m bytes) ≡ take (m - n) (drop n bytes)
-rest_of_front n m bytes le =
+-- what stands after n bytes of a prefix
+rest_of_prefix : (n m : ℕ) (bytes : List ℕ) → n ≤ m → drop n (take m bytes) ≡ take (m - n) (drop n bytes)
+rest_of_prefix n m bytes le =
     let parts : m ≡ n + (m - n) = omega arith in
     ap (λ (k : ℕ). drop n (take k bytes)) parts ∙ drop-take n (m - n) bytes
 
-front_long : (n m : ℕ) (bytes : List ℕ) → n ≤ m → n ≤ length bytes → n ≤ length (take m bytes)
-front_long n m bytes le long = omega (arith, length-take m bytes)
+prefix_long : (n m : ℕ) (bytes : List ℕ) → n ≤ m → n ≤ length bytes → n ≤ length (take m bytes)
+prefix_long n m bytes le long = omega (arith, length-take m bytes)
 
 -- the transactions of a link
 abbrev txns_of : Link → Option (List Txn)
 txns_of link = Some link.txns
 
--- the number that stands in front
+-- the number that comes first
 abbrev len_in : List ℕ → ℕ
 len_in bytes = from_le_bytes w32 (take 4 bytes)
 
@@ -78,7 +78,7 @@ counted_alike catalogue count at m bytes long four enough = by (ltb MAX_ENTRIES_
     same_len = ap (λ (b : List ℕ). from_le_bytes w32 b) (take-take 4 m bytes four)
 
     cut_number : link_number (record { at = at; bytes = take m bytes }) ≡ Ok (len, record { at = at + 4; bytes = take (m - 4) (drop 4 bytes) })
-    cut_number = number_there at (take m bytes) (front_long 4 m bytes four long) ∙ ap₂ (λ (n : ℕ) (b : List ℕ). Ok (n, record { at = at + 4; bytes = b })) same_len (rest_of_front 4 m bytes four)
+    cut_number = number_there at (take m bytes) (prefix_long 4 m bytes four long) ∙ ap₂ (λ (n : ℕ) (b : List ℕ). Ok (n, record { at = at + 4; bytes = b })) same_len (rest_of_prefix 4 m bytes four)
 
     whole_number : link_number (record { at = at; bytes = bytes }) ≡ Ok (len, record { at = at + 4; bytes = drop 4 bytes })
     whole_number = number_there at bytes long
@@ -100,8 +100,8 @@ link_alike catalogue at m bytes long eight enough = by (eqb count 0 || ltb MAX_T
 
     cut_number : link_number (record { at = at; bytes = take m bytes }) ≡ Ok (count, record { at = at + 4; bytes = take (m - 4) (drop 4 bytes) })
     cut_number =
-        number_there at (take m bytes) (front_long 4 m bytes (omega arith) (omega arith))
-        ∙ ap₂ (λ (n : ℕ) (b : List ℕ). Ok (n, record { at = at + 4; bytes = b })) (ap (λ (b : List ℕ). from_le_bytes w32 b) (take-take 4 m bytes (omega arith))) (rest_of_front 4 m bytes (omega arith))
+        number_there at (take m bytes) (prefix_long 4 m bytes (omega arith) (omega arith))
+        ∙ ap₂ (λ (n : ℕ) (b : List ℕ). Ok (n, record { at = at + 4; bytes = b })) (ap (λ (b : List ℕ). from_le_bytes w32 b) (take-take 4 m bytes (omega arith))) (rest_of_prefix 4 m bytes (omega arith))
 
     whole_number : link_number (record { at = at; bytes = bytes }) ≡ Ok (count, record { at = at + 4; bytes = drop 4 bytes })
     whole_number = number_there at bytes (omega arith)
@@ -113,14 +113,14 @@ link_alike catalogue at m bytes long eight enough = by (eqb count 0 || ltb MAX_T
 
 -- ---- from a gate on
 
--- the length of the entries, behind the gate and the number of transactions
+-- the length of the entries, after the gate and the number of transactions
 abbrev pub entries_len_in : List ℕ → ℕ
 entries_len_in bytes = from_le_bytes w32 (take 4 (drop 5 bytes))
 
 -- the two numbers are enough where the gate is shut, or where they end the bytes, or where the entries are too long
-front_alike : (catalogue : CatalogueState) (gate n : ℕ) (bytes : List ℕ) → (gate ≡ 1 → 8 ≤ length bytes → entries_len_in (gate ∷ bytes) ≤ MAX_ENTRIES_LEN → 9 + entries_len_in (gate ∷ bytes) ≤ n) → 8 ≤ n
+prefix_alike : (catalogue : CatalogueState) (gate n : ℕ) (bytes : List ℕ) → (gate ≡ 1 → 8 ≤ length bytes → entries_len_in (gate ∷ bytes) ≤ MAX_ENTRIES_LEN → 9 + entries_len_in (gate ∷ bytes) ≤ n) → 8 ≤ n
     → after_gate catalogue (gate ∷ take n bytes) ≡ after_gate catalogue (gate ∷ bytes)
-front_alike catalogue gate n bytes enough eight = by (eqb gate 1) refl (ltb (length bytes) 8) refl
+prefix_alike catalogue gate n bytes enough eight = by (eqb gate 1) refl (ltb (length bytes) 8) refl
   where
     by : (b : Bool) → eqb gate 1 ≡ b → (c : Bool) → ltb (length bytes) 8 ≡ c → after_gate catalogue (gate ∷ take n bytes) ≡ after_gate catalogue (gate ∷ bytes)
     by false e c f = rw e refl
@@ -131,21 +131,21 @@ front_alike catalogue gate n bytes enough eight = by (eqb gate 1) refl (ltb (len
         let many : 8 ≤ length bytes = ltb-false _ _ f in
         ap (λ r. cond (eqb gate 1) r (Ok None)) (link_alike catalogue 1 n bytes many eight (enough (eqb-true _ _ e) many))
 
--- so many bytes behind a gate and the two numbers are enough
+-- that many bytes after a gate and the two numbers are enough
 pub reach_enough : (catalogue : CatalogueState) (all : List ℕ) (n : ℕ)
     → ((rest : List ℕ) → all ≡ 1 ∷ rest → 9 ≤ length all → entries_len_in all ≤ MAX_ENTRIES_LEN → entries_len_in all < n) → after_gate catalogue (take (9 + n) all) ≡ after_gate catalogue all
 reach_enough catalogue [] n enough = ap (λ (l : List ℕ). after_gate catalogue l) (take_all (9 + n) [] (omega arith))
 reach_enough catalogue (gate ∷ bytes) n enough =
     let nine : 9 + n ≡ suc (8 + n) = omega arith in
-    rw nine (front_alike catalogue gate (8 + n) bytes (λ is many few. omega (arith, enough bytes (ap (λ (g : ℕ). g ∷ bytes) is) (omega (arith, many)) few)) (omega arith))
+    rw nine (prefix_alike catalogue gate (8 + n) bytes (λ is many few. omega (arith, enough bytes (ap (λ (g : ℕ). g ∷ bytes) is) (omega (arith, many)) few)) (omega arith))
 
 -- ---- by the length that was read
 
--- the length is that of all, where it was read from its front
-len_read : (front all : List ℕ) (len : ℕ) (t : Rest) → front ≡ take 9 all → next_uint w32 (from front 5) ≡ Ok (len, t) → entries_len_in all ≡ len
-len_read front all len t is read = by (ltb (length (drop 5 front)) 4) refl
+-- the length is that of all, where it was read from its prefix
+len_read : (prefix all : List ℕ) (len : ℕ) (t : Rest) → prefix ≡ take 9 all → next_uint w32 (from prefix 5) ≡ Ok (len, t) → entries_len_in all ≡ len
+len_read prefix all len t is read = by (ltb (length (drop 5 prefix)) 4) refl
   where
-    bytes : take 4 (drop 5 front) ≡ take 4 (drop 5 all)
+    bytes : take 4 (drop 5 prefix) ≡ take 4 (drop 5 all)
     bytes = ap (λ (l : List ℕ). take 4 (drop 5 l)) is ∙ ap (λ (l : List ℕ). take 4 l) (drop-take 5 4 all) ∙ take-take 4 4 (drop 5 all) (omega arith)
 
     ok_len : (n : ℕ) (s : Rest) → ◌≡◌ {A = Result (ℕ × Rest) Short} (Ok (n, s)) (Ok (len, t)) → n ≡ len
@@ -154,12 +154,12 @@ len_read front all len t is read = by (ltb (length (drop 5 front)) 4) refl
     no_ok : (short : Short) → ◌≡◌ {A = Result (ℕ × Rest) Short} (Err short) (Ok (len, t)) → ⊥
     no_ok short e = cc
 
-    by : (b : Bool) → ltb (length (drop 5 front)) 4 ≡ b → entries_len_in all ≡ len
+    by : (b : Bool) → ltb (length (drop 5 prefix)) 4 ≡ b → entries_len_in all ≡ len
     by true e = absurd (no_ok (short_at 5) (rw e at read))
     by false e = sym (ap (λ (l : List ℕ). from_le_bytes w32 l) bytes) ∙ ok_len _ _ (rw e at read)
 
-pub len_enough : (front : List ℕ) (len : ℕ) (t : Rest) → next_uint w32 (from front 5) ≡ Ok (len, t) → (catalogue : CatalogueState) (all : List ℕ) → front ≡ take 9 all → after_gate catalogue (take (9 + (len + 1)) all) ≡ after_gate catalogue all
-len_enough front len t read catalogue all is = reach_enough catalogue all (len + 1) (λ rest starts many few. omega (arith, len_read front all len t is read))
+pub len_enough : (prefix : List ℕ) (len : ℕ) (t : Rest) → next_uint w32 (from prefix 5) ≡ Ok (len, t) → (catalogue : CatalogueState) (all : List ℕ) → prefix ≡ take 9 all → after_gate catalogue (take (9 + (len + 1)) all) ≡ after_gate catalogue all
+len_enough prefix len t read catalogue all is = reach_enough catalogue all (len + 1) (λ rest starts many few. omega (arith, len_read prefix all len t is read))
 
-pub too_long : (front : List ℕ) (len : ℕ) (t : Rest) → next_uint w32 (from front 5) ≡ Ok (len, t) → MAX_ENTRIES_LEN < len → (catalogue : CatalogueState) (all : List ℕ) → front ≡ take 9 all → after_gate catalogue (take 9 all) ≡ after_gate catalogue all
-too_long front len t read long catalogue all is = reach_enough catalogue all 0 (λ rest starts many few. omega (arith, few, long, len_read front all len t is read))
+pub too_long : (prefix : List ℕ) (len : ℕ) (t : Rest) → next_uint w32 (from prefix 5) ≡ Ok (len, t) → MAX_ENTRIES_LEN < len → (catalogue : CatalogueState) (all : List ℕ) → prefix ≡ take 9 all → after_gate catalogue (take 9 all) ≡ after_gate catalogue all
+too_long prefix len t read long catalogue all is = reach_enough catalogue all 0 (λ rest starts many few. omega (arith, few, long, len_read prefix all len t is read))

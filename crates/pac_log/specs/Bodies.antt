@@ -1,4 +1,4 @@
--- The bytes of the transactions of a batch, as they stand behind an open gate.
+-- The bytes of the transactions of a batch, as they stand after an open gate.
 use Rattle.std.specs.Prelude.{◌≤◌, ℕ, List, [], ◌∷◌, ◌++◌, length}
 use Rattle.std.specs.Int.{w32, to_le_bytes}
 use Rattle.std.specs.List.{flat_map, All}
@@ -10,7 +10,7 @@ use Rattle.pac_entry.specs.Entries.{txn_bytes, IsEntry}
 use Rattle.pac_log.specs.declared.limits.TheConstants.{MAX_ENTRIES_LEN}
 use Rattle.pac_log.specs.declared.link.Link.{Link}
 
--- the entries of transactions, one behind the other
+-- the entries of transactions, one after another
 abbrev pub entries_bytes : List Txn → List ℕ
 entries_bytes txns = flat_map txn_bytes txns
 
@@ -24,10 +24,10 @@ pub record IsBody (catalogue : CatalogueState) (txns : List Txn) : Type 0 where
   pub short : length (entries_bytes txns) ≤ MAX_ENTRIES_LEN
   pub each : All (IsEntry catalogue) txns
 
--- what stands behind an open gate: a body, and the next gate
+-- what stands after an open gate: a body, and the next gate
 abbrev pub link_bytes : Link → List ℕ
 link_bytes link = body_bytes link.txns ++ (link.gate ∷ [])
 
--- a body of the catalogue, whatever gate stands behind it
+-- a body of the catalogue, whatever gate stands after it
 abbrev pub IsLogLink : CatalogueState → Link → Type 0
 IsLogLink catalogue link = IsBody catalogue link.txns

@@ -13,11 +13,11 @@ abbrev pub damage_name : DamageKind → List ℕ
 damage_name Range = codes "Range"
 damage_name (Entry kind) = entry_kind_name kind
 
--- the bytes end inside the field, or the entries, at this place
+-- the bytes end inside the field, or the entries, at this offset
 abbrev pub short_from : ℕ → LinkFault
 short_from at = record { at = at; kind = Entry entry.Short }
 
--- a number out of its range, or the first byte that is left behind the entries
+-- a number out of its range, or the first byte that is left after the entries
 abbrev pub out_of_range : ℕ → LinkFault
 out_of_range at = record { at = at; kind = Range }
 

@@ -23,14 +23,14 @@ log_name = codes "PACMLOG1"
 abbrev pub header_bytes : List ℕ → List ℕ
 header_bytes text = log_name ++ (to_le_bytes w32 (length text) ++ text)
 
--- each batch behind an open gate
+-- each batch after an open gate
 abbrev pub open_bodies : List (List Txn) → List ℕ
 open_bodies [] = []
 open_bodies (txns ∷ batches) = 1 ∷ (body_bytes txns ++ open_bodies batches)
 
--- what stands in front of the gate that comes behind these batches
-abbrev pub log_front : List ℕ → List (List Txn) → List ℕ
-log_front text batches = header_bytes text ++ open_bodies batches
+-- what stands before the gate that comes after these batches
+abbrev pub log_prefix : List ℕ → List (List Txn) → List ℕ
+log_prefix text batches = header_bytes text ++ open_bodies batches
 
 -- the transactions of these batches, one after another
 abbrev pub all_txns : List (List Txn) → List Txn
@@ -45,14 +45,14 @@ pub record AreBatches (text : List ℕ) (catalogue : CatalogueState) (batches : 
 -- the image is that of a log with this catalogue, in which these batches stand and no other
 pub record HoldsLog (text : List ℕ) (catalogue : CatalogueState) (batches : List (List Txn)) (image : List ℕ) : Type 0 where
   pub log : AreBatches text catalogue batches
-  pub shut : IsShut (log_front text batches) image
+  pub shut : IsShut (log_prefix text batches) image
 
--- behind some of these batches, which have so many transactions, stands the gate at this place
+-- after some of these batches, which have that many transactions, stands the gate at this offset
 pub record HasGate (text : List ℕ) (batches : List (List Txn)) (place count : ℕ) : Type 0 where
   pub before : List (List Txn)
   pub after : List (List Txn)
   pub split : batches ≡ before ++ after
-  pub there : place ≡ length (log_front text before)
+  pub there : place ≡ length (log_prefix text before)
   pub counted : count ≡ length (all_txns before)
 
 -- at each moment a crash leaves these batches, or these and the new one

@@ -5,7 +5,7 @@ use Rattle.pac_types.specs.Typing.{CatalogueState}
 use Rattle.pac_log.specs.Bodies.{body_bytes}
 use Rattle.pac_log.specs.Reading.{after_gate}
 
--- the piece stands in front of all, and nothing behind it is looked at from a gate on
+-- the piece stands before all, and nothing after it is looked at from a gate on
 pub record IsLookedAt (piece all : List ℕ) : Type 0 where
   pub rest : List ℕ
   pub split : all ≡ piece ++ rest

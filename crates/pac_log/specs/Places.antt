@@ -9,14 +9,14 @@ use Rattle.pac_log.specs.declared.log.Stage.{Stage}
 use Rattle.pac_log.specs.declared.log.Stage.TheVariants.{Waiting, Ready, Failed}
 use Rattle.pac_log.specs.declared.log.LogParts.{LogParts}
 use Rattle.pac_log.specs.Bodies.{body_bytes, IsBody}
-use Rattle.pac_log.specs.Logs.{log_front, all_txns, HoldsLog}
+use Rattle.pac_log.specs.Logs.{log_prefix, all_txns, HoldsLog}
 
--- the gate that comes behind these batches
-pub record IsBehind (text : List ℕ) (batches : List (List Txn)) (gate : NextGate) : Type 0 where
-  pub place : gate.place ≡ length (log_front text batches)
+-- the gate that comes after these batches
+pub record IsAfter (text : List ℕ) (batches : List (List Txn)) (gate : NextGate) : Type 0 where
+  pub place : gate.place ≡ length (log_prefix text batches)
   pub txns : gate.txns ≡ length (all_txns batches)
 
--- these transactions are a body of the log's catalogue, and it stands ready, with a closed gate behind it
+-- these transactions are a body of the log's catalogue, and it stands ready, with a closed gate after it
 pub record IsPrepared (log : LogParts) (txns : List Txn) : Type 0 where
   pub body : IsBody log.gate.catalogue txns
   pub ready : log.stage ≡ Ready (body_bytes txns ++ (0 ∷ [])) (length txns)
@@ -43,9 +43,9 @@ HasFailed Failed = Unit {0}
 abbrev pub need_of : ℕ → List Txn → ℕ
 need_of place txns = place + 1 + length (body_bytes txns) + 1
 
--- a crash leaves one image, that of a log with this catalogue, and the gate that comes next is the one behind its batches
+-- a crash leaves one image, that of a log with this catalogue, and the gate that comes next is the one after its batches
 pub record LogEndsAt (gate : NextGate) (state : DiskState) : Type 0 where
   pub text : List ℕ
   pub batches : List (List Txn)
   pub holds : OneImage (HoldsLog text gate.catalogue batches) state
-  pub behind : IsBehind text batches gate
+  pub after : IsAfter text batches gate

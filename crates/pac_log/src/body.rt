@@ -39,7 +39,7 @@ fn entries_len(txns: &[Txn]) -> usize
 ///
 /// `NoMemory` alone.
 pub fn write_body(batch: &Batch, out: &mut Vec<u8>) -> Result<(), NoMemory>
-    // Behind the old bytes stands the body.
+    // After the old bytes stands the body.
     ensures bytes { OnOk result (Grew out.old.items out.new.items (body_bytes batch.now.txns)) }
     // Its transactions are some that are read again, where they fit the catalogue.
     ensures form { OnOk result (All TxnHasBytes batch.now.txns) }

@@ -1,7 +1,7 @@
 // Makes a log.
 ghost use Rattle.std.specs.Prelude.{◌≡◌, ◌<◌, ◌≤◌, ℕ, [], ◌∷◌, ◌++◌, length, OnOk, OnErr, IsErrOf, MatchResult};
-ghost use Rattle.pac_outside.specs.Causes.{EndsAtFault, Rose, one_more};
-ghost use Rattle.pac_outside.specs.Disk.{BothTell, WhereTold, settled};
+ghost use Rattle.pac_outside.specs.Causes.{EndsAtFault, Faulted, one_more};
+ghost use Rattle.pac_outside.specs.Disk.{BothKnown, IfKnown, settled};
 ghost use Rattle.pac_types.specs.Typing.{CatalogueState};
 ghost use Rattle.pac_log.specs.Logs.{HoldsLog, IsAccepted, header_bytes};
 ghost use Rattle.pac_outside.specs.GateByte.{OneImage};
@@ -24,12 +24,12 @@ pub fn create<D: Disk>(alloc: Global, disk: &mut D, text: &[u8]) -> Result<(), C
     requires { (catalogue : CatalogueState) × IsAccepted text.now catalogue }
 
     // From Ok on each crash leaves the header and a closed gate, which are the log of this text, without a batch.
-    ensures bytes { OnOk result (BothTell (λ old new. new.now ≡ settled (header_bytes text.now ++ 0 ∷ [])) (D.told disk.old) (D.told disk.new)) }
-    ensures made { OnOk result ((catalogue : CatalogueState) → IsAccepted text.now catalogue → BothTell (λ old new. OneImage (HoldsLog text.now catalogue []) new.now) (D.told disk.old) (D.told disk.new)) }
-    ensures empty { OnOk result (WhereTold (λ old. length old.now.seen ≡ 0) (D.told disk.old)) }
-    ensures not_empty { (len : ℕ) → IsErrOf result (CreateError.NotEmpty len) → (0 < len) × WhereTold (λ old. len ≡ length old.now.seen) (D.told disk.old) }
-    ensures kept { OnErr result (¬ IsErrOf result CreateError.DiskFault → D.told disk.new ≡ D.told disk.old) }
-    ensures cause { IsErrOf result CreateError.DiskFault → Rose (D.faults disk.old) (D.faults disk.new) }
+    ensures bytes { OnOk result (BothKnown (λ old new. new.now ≡ settled (header_bytes text.now ++ 0 ∷ [])) (D.known disk.old) (D.known disk.new)) }
+    ensures made { OnOk result ((catalogue : CatalogueState) → IsAccepted text.now catalogue → BothKnown (λ old new. OneImage (HoldsLog text.now catalogue []) new.now) (D.known disk.old) (D.known disk.new)) }
+    ensures empty { OnOk result (IfKnown (λ old. length old.now.seen ≡ 0) (D.known disk.old)) }
+    ensures not_empty { (len : ℕ) → IsErrOf result (CreateError.NotEmpty len) → (0 < len) × IfKnown (λ old. len ≡ length old.now.seen) (D.known disk.old) }
+    ensures kept { OnErr result (¬ IsErrOf result CreateError.DiskFault → D.known disk.new ≡ D.known disk.old) }
+    ensures cause { IsErrOf result CreateError.DiskFault → Faulted (D.faults disk.old) (D.faults disk.new) }
     ensures counted { IsErrOf result CreateError.DiskFault → D.faults disk.new ≡ one_more (D.faults disk.old) }
     ensures quiet { ¬ IsErrOf result CreateError.DiskFault → D.faults disk.new ≡ D.faults disk.old }
 {

@@ -9,12 +9,12 @@ use pac_entry::{EntryFault, EntryFaultKind};
 use std::fmt;
 use thiserror::Error;
 
-/// What is wrong at a place of a log.
+/// What is wrong at an offset of a log.
 #[derive(Clone, Copy, Debug, PartialEq, Eq)]
 pub enum DamageKind {
-    /// The number at this place is out of its range, or bytes are left from this place on behind the last entry.
+    /// The number at this offset is out of its range, or bytes are left from this offset on after the last entry.
     Range,
-    /// What stands at this place is no entry, or no number: the bytes end inside of it, or it is refused as an entry.
+    /// What stands at this offset is no entry, or no number: the bytes end inside of it, or it is refused as an entry.
     Entry(EntryFaultKind),
 }
 
@@ -41,7 +41,7 @@ impl fmt::Display for DamageKind {
     }
 }
 
-/// The first fault of what stands behind an open gate, at a place, an offset from 0.
+/// The first fault of what stands after an open gate, at an offset, from 0.
 #[derive(Clone, Copy, Debug, PartialEq, Eq, Error)]
 #[error("{kind} at byte {at}")]
 pub struct LinkFault {
@@ -49,7 +49,7 @@ pub struct LinkFault {
     pub kind: DamageKind,
 }
 
-/// Why no body is read: the first fault of the bytes, or want of memory.
+/// Why no body is read: the first fault of the bytes, or running out of memory.
 pub type LinkError = Refusal<LinkFault>;
 
 impl From<Short> for LinkFault {
@@ -79,7 +79,7 @@ impl From<LinkFault> for LinkError {
     }
 }
 
-/// The bytes end inside what stands at this place.
+/// The bytes end inside what stands at this offset.
 pub(crate) fn short_at(at: usize) -> LinkFault
     ensures { result ≡ short_from at }
 {

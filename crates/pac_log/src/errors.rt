@@ -10,7 +10,7 @@ use thiserror::Error;
 /// Why a log isn't made.
 #[derive(Clone, Copy, Debug, PartialEq, Eq, Error)]
 pub enum CreateError {
-    /// The device has so many bytes already.
+    /// The device has that many bytes already.
     #[error("the device has {length} bytes")]
     NotEmpty { length: u64 },
     /// A call of the device failed.
@@ -27,7 +27,7 @@ pub enum LogError {
     /// The device doesn't begin as a log does.
     #[error("no log")]
     NoStore,
-    /// An open gate isn't followed by a batch and a gate: the first fault, at this place.
+    /// An open gate isn't followed by a batch and a gate: the first fault, at this offset.
     #[error("{kind} at byte {at}")]
     Damaged { at: u64, kind: DamageKind },
     /// A call of the device failed.
@@ -41,7 +41,7 @@ pub enum LogError {
 /// Why a batch isn't made ready.
 #[derive(Clone, Copy, Debug, PartialEq, Eq, Error)]
 pub enum PrepareError {
-    /// The log would have so many bytes.
+    /// The log would have that many bytes.
     #[error("the log would have {need} bytes")]
     LogFull { need: u64 },
     /// An earlier commit failed.

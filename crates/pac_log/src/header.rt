@@ -18,10 +18,10 @@ use std::alloc::Global;
 // What a log begins with.
 const NAME: &[u8; 8] = b"PACMLOG1";
 
-/// How many bytes a header has in front of the catalogue's text.
+/// How many bytes a header has before the catalogue's text.
 pub(crate) const HEADER_LEN: usize = 12;
 
-/// How many bytes the catalogue's text has, by the front of a header. `None`: no header begins so.
+/// How many bytes the catalogue's text has, by the start of a header. `None`: no header begins so.
 pub(crate) fn text_len(head: &[u8]) -> Option<usize>
     requires { length head.now ≤ 12 }
     ensures some { IfSome result (λ len. head.now ≡ log_name ++ to_le_bytes w32 len) }

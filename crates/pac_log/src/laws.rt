@@ -6,7 +6,7 @@ ghost use Rattle.pac_log.specs.declared.damage.LinkFault.{LinkFault as AFault};
 ghost use Rattle.pac_log.specs.Logs.{HasGate, HoldsLog, all_txns};
 ghost use Rattle.pac_log.specs.Reading.{IsDamaged};
 
-/// An image is that of one log: of one text and its catalogue, with one list of batches, or with these in front of one
+/// An image is that of one log: of one text and its catalogue, with one list of batches, or with these before one
 /// first damage.
 pub fn one_log()
     ensures batches { (image s t : List ℕ) (c d : CatalogueState) (a b : List (List ATxn)) → HoldsLog s c a image → HoldsLog t d b image → (s ≡ t) × (c ≡ d) × (a ≡ b) }
@@ -14,7 +14,7 @@ pub fn one_log()
     ensures damage { (image s t : List ℕ) (c d : CatalogueState) (a b : List (List ATxn)) (fault other : AFault) → IsDamaged s c a fault image → IsDamaged t d b other image → (a ≡ b) × (fault ≡ other) }
 {}
 
-/// A gate of a log has one number of transactions in front of it: the first so many of the log's. Its place and its number
+/// A gate of a log has one number of transactions before it: the first n of the log's. Its offset and its number
 /// stay where batches are added.
 pub fn one_gate()
     ensures number { (text : List ℕ) (batches : List (List ATxn)) (place m n : ℕ) → HasGate text batches place m → HasGate text batches place n → m ≡ n }

@@ -1,15 +1,15 @@
 //! The command log: what makes the database durable. It is a header with the text of its catalogue, and then a gate byte,
-//! and behind each gate that is open a batch and the next gate. A commit is all or nothing, at every moment.
+//! and after each gate that is open a batch and the next gate. A commit is all or nothing, at every moment.
 //!
 //! - [`create`] makes the log of a catalogue's text on an empty device. [`LogReader::attach`] finds the header of a log, and
 //!   its catalogue.
-//! - [`Log`] stands at the end of a log. [`Log::prepare`] makes a batch ready, in memory. [`Log::commit`] writes it behind the
+//! - [`Log`] stands at the end of a log. [`Log::prepare`] makes a batch ready, in memory. [`Log::commit`] writes it after the
 //!   shut gate, syncs, opens the gate, and syncs; it takes no memory.
 //! - [`write_body`]: appends the body of a batch. [`body_len`]: how many bytes that takes.
-//! - [`read_link`]: the transactions whose body stands at a place, with the gate behind them, a [`Link`]; or its first fault
+//! - [`read_link`]: the transactions whose body stands at an offset, with the gate after them, a [`Link`]; or its first fault
 //!   from the left, a [`LinkFault`] of some [`DamageKind`].
 //!
-//! A gate is open where its byte is 1, and else it ends the log, whatever stands behind it. A body is the number of
+//! A gate is open where its byte is 1, and else it ends the log, whatever stands after it. A body is the number of
 //! transactions in four bytes, the length of their entries in four bytes, and the entries, those of `pac_entry`. Bodies are
 //! read against a catalogue: what is read fits it.
 //!

@@ -1,8 +1,8 @@
-// Reads what stands behind an open gate.
+// Reads what stands after an open gate.
 ghost use Rattle.std.specs.Prelude.{◌≡◌, ◌≤◌, ◌+◌, length, All, IfOk};
-ghost use Rattle.pac_base.specs.Refusals.{Tells};
+ghost use Rattle.pac_base.specs.Refusals.{Reports};
 ghost use Rattle.pac_ops.specs.declared.limits.TheConstants.{MAX_TXNS};
-ghost use Rattle.pac_bytes.specs.Reading.{from, next_byte, told_as, times};
+ghost use Rattle.pac_bytes.specs.Reading.{from, next_byte, reported_as, times};
 ghost use Rattle.pac_bytes.specs.Readers.{Answers, AnswersUnlessMemory, Finds, FindsSpelledUnlessMemory};
 ghost use Rattle.pac_entry.specs.EntryReading.{next_entry};
 ghost use Rattle.pac_types.specs.Fits.{TxnFits};
@@ -21,25 +21,25 @@ use pac_ops::{MAX_TXNS, Txn, Txns};
 use pac_types::Catalogue;
 use std::alloc::Global;
 
-/// What stands behind an open gate of a log: the transactions of a batch, and the next gate.
+/// What stands after an open gate of a log: the transactions of a batch, and the next gate.
 #[derive(Drop)]
 pub struct Link {
     pub txns: Txns,
     pub gate: u8,
 }
 
-/// The transactions whose body stands at a place, with the gate behind them, and the place behind that. They fit the
-/// catalogue. Bytes behind the gate are not looked at. It takes no memory but for the transactions.
+/// The transactions whose body stands at an offset, with the gate after them, and the offset after that. They fit the
+/// catalogue. Bytes after the gate are not looked at. It takes no memory but for the transactions.
 ///
 /// # Errors
 ///
 /// The first fault from the left, or `NoMemory`:
 ///
-/// - `Short` at one of the two numbers in front that is cut short, and `Range` at one that is out of its range: 1 to
+/// - `Short` at one of the two numbers at the start that is cut short, and `Range` at one that is out of its range: 1 to
 ///   1,024 transactions, and at most 4,194,296 bytes of entries.
 /// - `Short` at the first entry, where the bytes end before the entries and the gate.
-/// - The fault of an entry, as [`read_entry`] tells it where nothing stands behind the entries.
-/// - `Range` at the first byte that is left behind the last entry, within the length of the entries.
+/// - The fault of an entry, as [`read_entry`] reports it where nothing stands after the entries.
+/// - `Range` at the first byte that is left after the last entry, within the length of the entries.
 pub fn read_link(
     alloc: Global,
     cat: &Catalogue,
@@ -61,7 +61,7 @@ pub fn read_link(
     link_at(alloc, cat, bytes, at)
 }
 
-// What stands behind an open gate, as reading gives it.
+// What stands after an open gate, as reading gives it.
 #[tactic(auto, unfolding(crate::specs::BodyReading::next_link))]
 fn link_at(
     alloc: Global,
@@ -71,12 +71,12 @@ fn link_at(
 ) -> Result<(Link, usize), LinkError>
     ensures { AnswersUnlessMemory bytes.now result (next_link cat.now (from bytes.now at)) }
 {
-    let (count, behind) = number_at(bytes, at)?;
+    let (count, after) = number_at(bytes, at)?;
     let count = count as usize;
     if count == 0 || count > MAX_TXNS {
         return Err(refused(range_at(at)));
     }
-    counted_at(alloc, cat, count, bytes, behind)
+    counted_at(alloc, cat, count, bytes, after)
 }
 
 fn refused(fault: LinkFault) -> LinkError
@@ -91,7 +91,7 @@ fn number_at(bytes: &[u8], at: usize) -> Result<(u32, usize), LinkFault>
     Ok(u32_at(bytes, at)?)
 }
 
-// So many entries behind their length, and the next gate.
+// That many entries after their length, and the next gate.
 #[tactic(auto, unfolding(crate::specs::BodyReading::counted_link))]
 fn counted_at(
     alloc: Global,
@@ -115,7 +115,7 @@ fn counted_at(
     entries_and_gate_at(alloc, cat, count, len, &bytes[..first + len + 1], first)
 }
 
-// So many entries, which fill so many bytes, and the next gate.
+// That many entries, which fill that many bytes, and the next gate.
 fn entries_and_gate_at(
     alloc: Global,
     cat: &Catalogue,
@@ -137,13 +137,13 @@ fn entries_and_gate_at(
 }
 
 fn gate_at(bytes: &[u8], at: usize) -> Result<(u8, usize), LinkFault>
-    ensures exact { Answers bytes.now result (told_as as_link_fault (next_byte (from bytes.now at))) }
+    ensures exact { Answers bytes.now result (reported_as as_link_fault (next_byte (from bytes.now at))) }
     ensures end { IfOk result (λ found. found.1 ≡ at + 1) }
 {
     Ok(u8_at(bytes, at)?)
 }
 
-// So many entries, which fill so many bytes.
+// That many entries, which fill that many bytes.
 fn entries_within(
     alloc: Global,
     cat: &Catalogue,
@@ -153,7 +153,7 @@ fn entries_within(
     at: usize,
 ) -> Result<Vec<Txn>, LinkError>
     requires there { at + len ≤ length bytes.now }
-    ensures exact { Tells (λ txns. (txns.items, from bytes.now (at + len))) result (next_entries cat.now count len (from bytes.now at)) }
+    ensures exact { Reports (λ txns. (txns.items, from bytes.now (at + len))) result (next_entries cat.now count len (from bytes.now at)) }
     ensures count { IfOk result (λ txns. length txns.items ≡ count) }
 {
     let end = at + len;
@@ -165,7 +165,7 @@ fn entries_within(
     }
 }
 
-// So many entries.
+// That many entries.
 fn entries_at(
     alloc: Global,
     cat: &Catalogue,
@@ -173,7 +173,7 @@ fn entries_at(
     bytes: &[u8],
     at: usize,
 ) -> Result<(Vec<Txn>, usize), EntryError>
-    ensures exact { Tells (λ found. (found.0.items, from bytes.now found.1)) result (times (next_entry cat.now) count (from bytes.now at)) }
+    ensures exact { Reports (λ found. (found.0.items, from bytes.now found.1)) result (times (next_entry cat.now) count (from bytes.now at)) }
     ensures count { IfOk result (λ found. length found.0.items ≡ count) }
 {
     let mut txns = Vec::with_capacity(alloc, count)?;

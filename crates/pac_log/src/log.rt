@@ -1,21 +1,21 @@
 // Writes a log.
 ghost use Rattle.std.specs.Prelude.{◌≡◌, ◌↔◌, ◌<◌, ◌≤◌, ◌+◌, ◌-◌, ◌^◌, ◌∷◌, ◌++◌, [], ℕ, List, length, min, All, OnOk, OnErr, IsErrOf, true};
 ghost use Rattle.pac_outside.specs.Causes.{EndsAtFault, HasCause};
-ghost use Rattle.pac_outside.specs.Disk.{BothTell, WhereTold};
+ghost use Rattle.pac_outside.specs.Disk.{BothKnown, IfKnown};
 ghost use Rattle.pac_ops.specs.declared.transaction.Txn.{Txn as ATxn};
 ghost use Rattle.pac_types.specs.Fits.{TxnFits};
 ghost use Rattle.pac_entry.specs.declared.limits.TheConstants.{MAX_BODY_LEN};
 ghost use Rattle.pac_log.specs.declared.limits.TheConstants.{MAX_LOG_LEN};
 ghost use Rattle.pac_log.specs.Bodies.{body_bytes};
 ghost use Rattle.pac_log.specs.Logs.{AddsBatch, KeepsOrAdds};
-ghost use Rattle.pac_log.specs.Gates.{gate_behind};
-ghost use Rattle.pac_log.specs.Places.{LogEndsAt, HasFailed, IsBehind, IsPrepared, HasReady, need_of};
+ghost use Rattle.pac_log.specs.Gates.{gate_after};
+ghost use Rattle.pac_log.specs.Places.{LogEndsAt, HasFailed, IsAfter, IsPrepared, HasReady, need_of};
 
 use crate::position::Position;
 use crate::{LogReader, MAX_LOG_LEN, PrepareError, body_len, write_body};
 use pac_base::{Listed, listed};
 use pac_ops::Batch;
-use pac_outside::{Disk, Failed, GATE_SHUT, open_behind};
+use pac_outside::{Disk, Failed, GATE_SHUT, open_after};
 use std::alloc::Global;
 use std::marker::Model;
 
@@ -24,7 +24,7 @@ use std::marker::Model;
 pub enum Stage {
     /// It waits for a batch.
     Waiting,
-    /// The body of a batch of so many transactions, and the closed gate behind it, are ready to be written.
+    /// The body of a batch of that many transactions, and the closed gate after it, are ready to be written.
     Ready { piece: Listed<u8>, txns: u64 },
     /// A commit failed. Nothing is written any more.
     Failed,
@@ -123,8 +123,8 @@ impl Log {
         Ok(())
     }
 
-    /// Puts the batch that is ready behind the others. It makes four device calls: it writes the body and the closed gate
-    /// behind it, syncs, opens the gate in front of it, and syncs. From Ok on each crash leaves the batch; at each moment
+    /// Puts the batch that is ready after the others. It makes four device calls: it writes the body and the closed gate
+    /// after it, syncs, opens the gate before it, and syncs. From Ok on each crash leaves the batch; at each moment
     /// before, a crash leaves the batches before it, with the new one or without. Takes no memory.
     ///
     /// # Errors
@@ -133,19 +133,19 @@ impl Log {
     /// log has failed.
     pub fn commit<D: Disk>(&mut self, disk: &mut D) -> Result<(), Failed>
         requires ready { HasReady self.old.stage }
-        requires ends { WhereTold (λ old. LogEndsAt self.old.gate old.now) (D.told disk.old) }
+        requires ends { IfKnown (λ old. LogEndsAt self.old.gate old.now) (D.known disk.old) }
 
         // At each moment a crash leaves the batches before, or these and the new one.
-        ensures any_moment { (text : List ℕ) (batches : List (List ATxn)) (txns : List ATxn) → IsBehind text batches self.old.gate → IsPrepared self.old txns
-            → BothTell (KeepsOrAdds text self.old.gate.catalogue batches txns) (D.told disk.old) (D.told disk.new) }
+        ensures any_moment { (text : List ℕ) (batches : List (List ATxn)) (txns : List ATxn) → IsAfter text batches self.old.gate → IsPrepared self.old txns
+            → BothKnown (KeepsOrAdds text self.old.gate.catalogue batches txns) (D.known disk.old) (D.known disk.new) }
 
-        // Afterwards it leaves the new one too, and the log stands behind it.
-        ensures committed { OnOk result ((text : List ℕ) (batches : List (List ATxn)) (txns : List ATxn) → IsBehind text batches self.old.gate → IsPrepared self.old txns
-            → BothTell (AddsBatch text self.old.gate.catalogue batches txns) (D.told disk.old) (D.told disk.new)) }
-        ensures behind { OnOk result ((text : List ℕ) (batches : List (List ATxn)) (txns : List ATxn) → IsBehind text batches self.old.gate → IsPrepared self.old txns
-            → IsBehind text (batches ++ txns ∷ []) self.new.gate) }
-        ensures gate { OnOk result ((txns : List ATxn) → IsPrepared self.old txns → self.new.gate ≡ gate_behind (length txns) (1 + length (body_bytes txns)) self.old.gate) }
-        ensures still_ends { OnOk result ((txns : List ATxn) → IsPrepared self.old txns → WhereTold (λ new. LogEndsAt self.new.gate new.now) (D.told disk.new)) }
+        // Afterwards it leaves the new one too, and the log stands after it.
+        ensures committed { OnOk result ((text : List ℕ) (batches : List (List ATxn)) (txns : List ATxn) → IsAfter text batches self.old.gate → IsPrepared self.old txns
+            → BothKnown (AddsBatch text self.old.gate.catalogue batches txns) (D.known disk.old) (D.known disk.new)) }
+        ensures after { OnOk result ((text : List ℕ) (batches : List (List ATxn)) (txns : List ATxn) → IsAfter text batches self.old.gate → IsPrepared self.old txns
+            → IsAfter text (batches ++ txns ∷ []) self.new.gate) }
+        ensures gate { OnOk result ((txns : List ATxn) → IsPrepared self.old txns → self.new.gate ≡ gate_after (length txns) (1 + length (body_bytes txns)) self.old.gate) }
+        ensures still_ends { OnOk result ((txns : List ATxn) → IsPrepared self.old txns → IfKnown (λ new. LogEndsAt self.new.gate new.now) (D.known disk.new)) }
         ensures catalogue { self.new.gate.catalogue ≡ self.old.gate.catalogue }
         ensures waits { OnOk result (self.new.stage ≡ Stage.Waiting) }
         ensures failed { OnErr result (self.new ≡ record { gate = self.old.gate; stage = Stage.Failed }) }
@@ -158,7 +158,7 @@ impl Log {
             unreachable!();
         };
         let (len, txns) = (piece.as_slice().len() as u64, *txns);
-        match open_behind(disk, self.parts.gate.place(), piece.as_slice()) {
+        match open_after(disk, self.parts.gate.place(), piece.as_slice()) {
             Ok(()) => {
                 self.parts.stage = Stage::Waiting;
                 self.parts.gate.advance(txns, len);

@@ -1,7 +1,7 @@
 // The gate of a log that comes next.
 ghost use Rattle.std.specs.Prelude.{◌≡◌, ◌<◌, ◌≤◌, ◌+◌, ◌*◌, ◌^◌};
 ghost use Rattle.pac_types.specs.OperationLimits.{HasFewOperations};
-ghost use Rattle.pac_log.specs.Gates.{gate_behind};
+ghost use Rattle.pac_log.specs.Gates.{gate_after};
 
 use pac_types::Catalogue;
 use std::marker::Model;
@@ -10,9 +10,9 @@ use std::marker::Model;
 #[derive(Drop)]
 pub struct NextGate {
     pub catalogue: Catalogue,
-    /// The gate's place, an offset from 0.
+    /// The gate's offset, an offset from 0.
     pub place: u64,
-    /// How many transactions stand in front of it.
+    /// How many transactions stand before it.
     pub txns: u64,
 }
 
@@ -25,7 +25,7 @@ pub struct Position {
 impl Model for Position {
     ghost use Rattle.pac_log.specs.declared.position.NextGate.{NextGate};
     ghost use Rattle.pac_log.specs.contracts.position.NextGate as coding;
-    ghost use Rattle.pac_log.specs.Gates.{IsSoundGate};
+    ghost use Rattle.pac_log.specs.Gates.{IsWellFormedGate};
 
     ghost Value = { NextGate };
 
@@ -33,11 +33,11 @@ impl Model for Position {
 
     ghost view = { λ position. position.gate };
 
-    ghost invariant = { λ position. IsSoundGate position.gate };
+    ghost invariant = { λ position. IsWellFormedGate position.gate };
 }
 
 impl Position {
-    /// The first gate of a log, at this place.
+    /// The first gate of a log, at this offset.
     pub(crate) fn first(catalogue: Catalogue, place: u64) -> Position
         requires { HasFewOperations catalogue.procs }
         ensures { result ≡ record { catalogue = catalogue; place = place; txns = 0 } }
@@ -58,14 +58,14 @@ impl Position {
         &self.gate.catalogue
     }
 
-    /// The gate's place, an offset from 0.
+    /// The gate's offset, an offset from 0.
     pub fn place(&self) -> u64
         ensures { result ≡ self.now.place }
     {
         self.gate.place
     }
 
-    /// How many transactions stand in front of the gate, at most 2^63.
+    /// How many transactions stand before the gate, at most 2^63.
     pub fn txns(&self) -> u64
         ensures value { result ≡ self.now.txns }
         ensures few { result ≤ 2 ^ 63 }
@@ -73,11 +73,11 @@ impl Position {
         self.gate.txns
     }
 
-    /// The gate behind so many transactions, so many bytes on.
+    /// The gate after that many transactions, that many bytes on.
     pub(crate) fn advance(&mut self, txns: u64, len: u64)
         requires few { 2 * txns ≤ len }
         requires inside { self.old.place + len < 2 ^ 64 }
-        ensures { self.new ≡ gate_behind txns len self.old }
+        ensures { self.new ≡ gate_after txns len self.old }
     {
         self.gate.place += len;
         self.gate.txns += txns;

@@ -1,17 +1,17 @@
 // Reads a log.
 ghost use Rattle.std.specs.Prelude.{◌≡◌, ◌≢◌, ◌≤◌, ◌<◌, ◌+◌, ◌^◌, ◌∷◌, ◌++◌, [], ℕ, List, All, None, Ok, false, true, drop, length, IfOk, IfSome, IsErrOf, OnErr};
-ghost use Rattle.pac_outside.specs.Causes.{Rose, one_more};
-ghost use Rattle.pac_outside.specs.Disk.{WhereTold};
+ghost use Rattle.pac_outside.specs.Causes.{Faulted, one_more};
+ghost use Rattle.pac_outside.specs.Disk.{IfKnown};
 ghost use Rattle.pac_ops.specs.declared.transaction.Txn.{Txn as ATxn};
 ghost use Rattle.pac_types.specs.Fits.{TxnFits};
 ghost use Rattle.pac_types.specs.OperationLimits.{HasFewOperations};
 ghost use Rattle.pac_types.specs.Typing.{CatalogueState};
-ghost use Rattle.pac_bytes.specs.Reading.{told_as};
+ghost use Rattle.pac_bytes.specs.Reading.{reported_as};
 ghost use Rattle.pac_log.specs.declared.damage.DamageKind.{DamageKind as ADamageKind};
 ghost use Rattle.pac_log.specs.Logs.{HoldsLog};
-ghost use Rattle.pac_log.specs.Places.{IsBehind};
+ghost use Rattle.pac_log.specs.Places.{IsAfter};
 ghost use Rattle.pac_log.specs.Looked.{IsSpelled};
-ghost use Rattle.pac_log.specs.Reading.{IsNextBatch, IsStore, TellsOfImage, StandsBehind, TellsHeld, after_gate, at_gate, first_batch, further};
+ghost use Rattle.pac_log.specs.Reading.{IsNextBatch, IsStore, ReportsOfImage, StandsAfter, ReportsHeld, after_gate, at_gate, first_batch, further};
 
 use crate::damage::short_at;
 use crate::gate_bytes::bytes_from;
@@ -61,18 +61,18 @@ impl LogReader {
     /// - [`LogError::DiskFault`] where the device failed, so only where its count of faults rose.
     /// - [`LogError::NoMemory`] where there was no memory for the catalogue.
     ///
-    /// No damage is told: no batch is read.
+    /// No damage is reported: no batch is read.
     pub fn attach<D: Disk>(alloc: Global, disk: &mut D) -> Result<LogReader, LogError>
-        // The header is right, and the reader stands in front of the first batch.
-        ensures store { IfOk result (λ reader. WhereTold (λ old. (text : List ℕ) × IsStore text reader.gate.catalogue old.now.seen × StandsBehind text [] reader.gate old.now.seen) (D.told disk.old)) }
+        // The header is right, and the reader stands before the first batch.
+        ensures store { IfOk result (λ reader. IfKnown (λ old. (text : List ℕ) × IsStore text reader.gate.catalogue old.now.seen × StandsAfter text [] reader.gate old.now.seen) (D.known disk.old)) }
         ensures first { IfOk result (λ reader. reader.gate.txns ≡ 0) }
-        ensures no_store { IsErrOf result LogError.NoStore → WhereTold (λ old. (text : List ℕ) (catalogue : CatalogueState) → ¬ IsStore text catalogue old.now.seen) (D.told disk.old) }
+        ensures no_store { IsErrOf result LogError.NoStore → IfKnown (λ old. (text : List ℕ) (catalogue : CatalogueState) → ¬ IsStore text catalogue old.now.seen) (D.known disk.old) }
         ensures whole { (at : ℕ) (kind : ADamageKind) → ¬ IsErrOf result (LogError.Damaged at kind) }
 
         // The device is only read, and no call of it comes after one that failed.
-        ensures same { D.told disk.new ≡ D.told disk.old }
+        ensures same { D.known disk.new ≡ D.known disk.old }
         ensures later { D.faults disk.old ≤ D.faults disk.new }
-        ensures cause { IsErrOf result LogError.DiskFault → Rose (D.faults disk.old) (D.faults disk.new) }
+        ensures cause { IsErrOf result LogError.DiskFault → Faulted (D.faults disk.old) (D.faults disk.new) }
         ensures counted { IsErrOf result LogError.DiskFault → D.faults disk.new ≡ one_more (D.faults disk.old) }
         ensures kept { ¬ IsErrOf result LogError.DiskFault → D.faults disk.new ≡ D.faults disk.old }
     {
@@ -102,29 +102,29 @@ impl LogReader {
         &self.parts.gate
     }
 
-    /// The batch behind the gate that comes next, or `None` where that is shut. Each byte is read once, by three calls of
+    /// The batch after the gate that comes next, or `None` where that is shut. Each byte is read once, by three calls of
     /// the device for a batch. It takes memory for one body and its transactions.
     ///
     /// # Errors
     ///
     /// The reader stands where it stood.
     ///
-    /// - [`LogError::Damaged`] exactly where the gate is open and no batch and no gate stands behind it: the first fault, as
-    ///   [`read_link`] tells it; and where the device ends in front of the gate, at the gate, as `Short`.
+    /// - [`LogError::Damaged`] exactly where the gate is open and no batch and no gate stands after it: the first fault, as
+    ///   [`read_link`] reports it; and where the device ends before the gate, at the gate, as `Short`.
     /// - [`LogError::DiskFault`] where a call of the device failed, so only where its count of faults rose; no call comes
     ///   after it.
     /// - [`LogError::NoMemory`] where there was no memory for the batch.
     pub fn next_batch<D: Disk>(&mut self, disk: &mut D) -> Result<Option<Batch>, LogError>
         // It is what the device holds at the gate, or the first damage.
-        ensures exact { WhereTold (λ old. TellsHeld result (at_gate self.old.gate.catalogue old.now.seen self.old.gate.place)) (D.told disk.old) }
+        ensures exact { IfKnown (λ old. ReportsHeld result (at_gate self.old.gate.catalogue old.now.seen self.old.gate.place)) (D.known disk.old) }
 
-        // Behind batches that stand in the image it is the next one, or these are all, or the image is damaged there.
-        ensures reads_on { (text : List ℕ) (batches : List (List ATxn)) → WhereTold (λ old. StandsBehind text batches self.old.gate old.now.seen → TellsOfImage text batches self.old.gate self.new.gate old.now.seen result) (D.told disk.old) }
+        // After batches that stand in the image it is the next one, or these are all, or the image is damaged there.
+        ensures reads_on { (text : List ℕ) (batches : List (List ATxn)) → IfKnown (λ old. StandsAfter text batches self.old.gate old.now.seen → ReportsOfImage text batches self.old.gate self.new.gate old.now.seen result) (D.known disk.old) }
 
         // The batches that the image holds are read again.
-        ensures again { (text : List ℕ) (before after : List (List ATxn)) → WhereTold (λ old. HoldsLog text self.old.gate.catalogue (before ++ after) old.now.seen → IsBehind text before self.old.gate → TellsHeld result (Ok (first_batch after))) (D.told disk.old) }
+        ensures again { (text : List ℕ) (before after : List (List ATxn)) → IfKnown (λ old. HoldsLog text self.old.gate.catalogue (before ++ after) old.now.seen → IsAfter text before self.old.gate → ReportsHeld result (Ok (first_batch after))) (D.known disk.old) }
 
-        // On every device the batch runs on and fits the catalogue, and the reader stands behind it.
+        // On every device the batch runs on and fits the catalogue, and the reader stands after it.
         ensures batch { IfOk result (λ found. IfSome found (IsNextBatch self.old.gate self.new.gate)) }
         ensures fits { IfOk result (λ found. IfSome found (λ batch. All (TxnFits self.old.gate.catalogue) batch.txns)) }
         ensures end { result ≡ Ok None → self.new ≡ record { gate = self.old.gate; is_at_end = true } }
@@ -132,27 +132,27 @@ impl LogReader {
         ensures known { ¬ IsErrOf result LogError.NoStore }
 
         // The device is only read, and no call of it comes after one that failed.
-        ensures same { D.told disk.new ≡ D.told disk.old }
+        ensures same { D.known disk.new ≡ D.known disk.old }
         ensures later { D.faults disk.old ≤ D.faults disk.new }
-        ensures cause { IsErrOf result LogError.DiskFault → Rose (D.faults disk.old) (D.faults disk.new) }
+        ensures cause { IsErrOf result LogError.DiskFault → Faulted (D.faults disk.old) (D.faults disk.new) }
         ensures counted { IsErrOf result LogError.DiskFault → D.faults disk.new ≡ one_more (D.faults disk.old) }
         ensures kept { ¬ IsErrOf result LogError.DiskFault → D.faults disk.new ≡ D.faults disk.old }
     {
         self.batch_at_gate(disk)
     }
 
-    // The same, without what it tells of the batches in an image.
+    // The same, without what it says of the batches in an image.
     fn batch_at_gate<D: Disk>(&mut self, disk: &mut D) -> Result<Option<Batch>, LogError>
-        ensures exact { WhereTold (λ old. TellsHeld result (at_gate self.old.gate.catalogue old.now.seen self.old.gate.place)) (D.told disk.old) }
-        ensures spelled { IfOk result (λ found. IfSome found (λ batch. WhereTold (λ old. IsSpelled batch.txns (drop self.old.gate.place old.now.seen)) (D.told disk.old))) }
+        ensures exact { IfKnown (λ old. ReportsHeld result (at_gate self.old.gate.catalogue old.now.seen self.old.gate.place)) (D.known disk.old) }
+        ensures spelled { IfOk result (λ found. IfSome found (λ batch. IfKnown (λ old. IsSpelled batch.txns (drop self.old.gate.place old.now.seen)) (D.known disk.old))) }
         ensures batch { IfOk result (λ found. IfSome found (IsNextBatch self.old.gate self.new.gate)) }
         ensures fits { IfOk result (λ found. IfSome found (λ batch. All (TxnFits self.old.gate.catalogue) batch.txns)) }
         ensures end { result ≡ Ok None → self.new ≡ record { gate = self.old.gate; is_at_end = true } }
         ensures refused { OnErr result (self.new ≡ record { gate = self.old.gate; is_at_end = false }) }
         ensures known { ¬ IsErrOf result LogError.NoStore }
-        ensures same { D.told disk.new ≡ D.told disk.old }
+        ensures same { D.known disk.new ≡ D.known disk.old }
         ensures later { D.faults disk.old ≤ D.faults disk.new }
-        ensures cause { IsErrOf result LogError.DiskFault → Rose (D.faults disk.old) (D.faults disk.new) }
+        ensures cause { IsErrOf result LogError.DiskFault → Faulted (D.faults disk.old) (D.faults disk.new) }
         ensures counted { IsErrOf result LogError.DiskFault → D.faults disk.new ≡ one_more (D.faults disk.old) }
         ensures kept { ¬ IsErrOf result LogError.DiskFault → D.faults disk.new ≡ D.faults disk.old }
     {
@@ -169,11 +169,11 @@ impl LogReader {
         self.take_batch(&bytes)
     }
 
-    // The batch behind the open gate that these bytes begin with.
+    // The batch after the open gate that these bytes begin with.
     fn take_batch(&mut self, bytes: &[u8]) -> Result<Option<Batch>, LogError>
         requires open { (rest : List ℕ) × (bytes.now ≡ 1 ∷ rest) }
         requires inside { self.old.gate.place + length bytes.now < 2 ^ 64 }
-        ensures exact { TellsHeld result (told_as (further self.old.gate.place) (after_gate self.old.gate.catalogue bytes.now)) }
+        ensures exact { ReportsHeld result (reported_as (further self.old.gate.place) (after_gate self.old.gate.catalogue bytes.now)) }
         ensures spelled { IfOk result (λ found. IfSome found (λ batch. IsSpelled batch.txns bytes.now)) }
         ensures batch { IfOk result (λ found. IfSome found (IsNextBatch self.old.gate self.new.gate)) }
         ensures fits { IfOk result (λ found. IfSome found (λ batch. All (TxnFits self.old.gate.catalogue) batch.txns)) }
@@ -194,7 +194,7 @@ impl LogReader {
     }
 }
 
-// A fault of what stands from a gate on, at its place on the device.
+// A fault of what stands from a gate on, at its offset on the device.
 fn damaged(gate: u64, fault: LinkFault) -> LogError
     requires { gate + fault.at < 2 ^ 64 }
     ensures { result ≡ LogError.Damaged (gate + fault.at) fault.kind }

@@ -87,7 +87,7 @@ const FILLS: &[Fill] = &[
     Fill::Byte(7),
 ];
 
-// Whether each image of a disk holds no transaction, or no more than so many.
+// Whether each image of a disk holds no transaction, or no more than that many.
 fn hold_at_most(alloc: Global, disk: &MemDisk, most: u64) -> Result<bool, Fail> {
     for &fill in FILLS {
         for grown in [false, true] {

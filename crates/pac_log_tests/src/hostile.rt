@@ -17,9 +17,9 @@ fn count(alloc: Global, bytes: Vec<u8>) -> Result<u64, LogError> {
     Ok(reader.gate().txns())
 }
 
-// What is told of the log with this byte at a place, so long: how many transactions it has, or the place and the kind of
+// What is reported of the log with this byte at an offset, so long: how many transactions it has, or the offset and the kind of
 // its damage.
-fn told(alloc: Global, place: usize, byte: u8, len: usize) -> Result<(u64, &'static str), Fail> {
+fn known(alloc: Global, place: usize, byte: u8, len: usize) -> Result<(u64, &'static str), Fail> {
     match count(alloc, changed(alloc, place, byte, len)?) {
         Ok(txns) => Ok((txns, "txns")),
         Err(LogError::NoStore) => Ok((0, "no store")),
@@ -35,10 +35,10 @@ const HEADERS: &[(usize, u8)] = &[(7, b'2'), (8, 23), (9, 1), (10, 1), (12, b'T'
 fn other_headers_are_no_store(rt: HostRuntime) -> Result<(), Fail> {
     let alloc = rt.alloc();
     for len in 0..37 {
-        assert_eq!(rt; told(alloc, 0, b'P', len)?, (0, "no store"));
+        assert_eq!(rt; known(alloc, 0, b'P', len)?, (0, "no store"));
     }
     for &(place, byte) in HEADERS {
-        assert_eq!(rt; told(alloc, place, byte, 70)?, (0, "no store"));
+        assert_eq!(rt; known(alloc, place, byte, 70)?, (0, "no store"));
     }
     Ok(())
 }
@@ -48,13 +48,13 @@ fn each_byte_but_1_shuts_a_gate(rt: HostRuntime) -> Result<(), Fail> {
     let alloc = rt.alloc();
     for byte in 0..=255 {
         if byte != 1 {
-            assert_eq!(rt; told(alloc, 36, byte, 70)?, (0, "txns"));
-            assert_eq!(rt; told(alloc, 69, byte, 70)?, (1, "txns"));
+            assert_eq!(rt; known(alloc, 36, byte, 70)?, (0, "txns"));
+            assert_eq!(rt; known(alloc, 69, byte, 70)?, (1, "txns"));
         }
     }
-    // Whatever stands behind it.
+    // Whatever stands after it.
     for len in 37..71 {
-        assert_eq!(rt; told(alloc, 36, 7, len)?, (0, "txns"));
+        assert_eq!(rt; known(alloc, 36, 7, len)?, (0, "txns"));
     }
     Ok(())
 }
@@ -69,12 +69,12 @@ fn a_cut_log_is_damaged(rt: HostRuntime) -> Result<(), Fail> {
             41..=44 => 41,
             _ => 45,
         };
-        assert_eq!(rt; told(alloc, 36, 1, len)?, (place, "Short"));
+        assert_eq!(rt; known(alloc, 36, 1, len)?, (place, "Short"));
     }
     Ok(())
 }
 
-// The byte that is put at a place, the length, and what is told.
+// The byte that is put at an offset, the length, and what is reported.
 const CHANGES: &[(usize, u8, usize, (u64, &str))] = &[
     (36, 1, 70, (1, "txns")),
     (36, 1, 90, (1, "txns")),
@@ -96,10 +96,10 @@ const CHANGES: &[(usize, u8, usize, (u64, &str))] = &[
 ];
 
 #[test]
-fn changed_bytes_are_told(rt: HostRuntime) -> Result<(), Fail> {
+fn changed_bytes_are_known(rt: HostRuntime) -> Result<(), Fail> {
     let alloc = rt.alloc();
     for &(place, byte, len, answer) in CHANGES {
-        assert_eq!(rt; told(alloc, place, byte, len)?, answer);
+        assert_eq!(rt; known(alloc, place, byte, len)?, answer);
     }
     Ok(())
 }

@@ -1,6 +1,6 @@
 // Worked logs of one table, and how they are made, opened and written on.
 ghost use Rattle.std.specs.Prelude.{◌≤◌, All, IfOk, OnOk, length};
-ghost use Rattle.pac_outside.specs.Disk.{WhereTold};
+ghost use Rattle.pac_outside.specs.Disk.{IfKnown};
 ghost use Rattle.pac_types.specs.Fits.{TxnFits};
 ghost use Rattle.pac_entry.specs.declared.limits.TheConstants.{MAX_BODY_LEN};
 ghost use Rattle.pac_log.specs.Bodies.{body_bytes};
@@ -47,7 +47,7 @@ pub(crate) fn make<D: Disk>(alloc: Global, disk: &mut D) -> Result<Result<(), Cr
 
 /// The log on a device, which is synced first and read to its end. It has fewer than nine batches.
 pub(crate) fn opened<D: Disk>(alloc: Global, disk: &mut D) -> Result<Log, Fail>
-    ensures ends { IfOk result (λ log. WhereTold (λ new. LogEndsAt log.gate new.now) (D.told disk.new)) }
+    ensures ends { IfOk result (λ log. IfKnown (λ new. LogEndsAt log.gate new.now) (D.known disk.new)) }
 {
     let Ok(()) = disk.sync() else {
         return Err(Fail::from("not synced"));
@@ -89,14 +89,14 @@ pub(crate) fn prepare_put(alloc: Global, log: &mut Log) -> Result<Result<(), Pre
     Ok(log.prepare(&batch))
 }
 
-/// Commits that batch behind the others of a log.
+/// Commits that batch after the others of a log.
 pub(crate) fn commit_put<D: Disk>(
     alloc: Global,
     log: &mut Log,
     disk: &mut D,
 ) -> Result<Result<(), Failed>, Fail>
-    requires { WhereTold (λ old. LogEndsAt log.old.gate old.now) (D.told disk.old) }
-    ensures { IfOk result (λ done. OnOk done (WhereTold (λ new. LogEndsAt log.new.gate new.now) (D.told disk.new))) }
+    requires { IfKnown (λ old. LogEndsAt log.old.gate old.now) (D.known disk.old) }
+    ensures { IfOk result (λ done. OnOk done (IfKnown (λ new. LogEndsAt log.new.gate new.now) (D.known disk.new))) }
 {
     let batch = put_batch(alloc, log.gate().catalogue())?;
     if log.prepare(&batch).is_err() {
@@ -105,7 +105,7 @@ pub(crate) fn commit_put<D: Disk>(
     Ok(log.commit(disk))
 }
 
-/// The log with this byte at a place, so long; longer than it is, with bytes 0.
+/// The log with this byte at an offset, so long; longer than it is, with bytes 0.
 pub(crate) fn changed(
     alloc: Global,
     place: usize,

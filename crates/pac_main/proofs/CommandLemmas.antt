@@ -1,10 +1,10 @@
--- What the words say decides which command ends, and whether the status is that of words that name none.
+-- What the arguments say decides which command ends, and whether the status is that of arguments that name none.
 use Rattle.std.proofs.Common.{◌≡◌, ◌↔◌, ℕ, Bool, true, false, List, [], ◌∷◌, Option, Some, refl, sym, subst, ◌∙◌, arith}
 use Rattle.std.specs.Prelude.{IsSomeAnd, String}
 use Rattle.std.specs.Global.{Global}
-use Rattle.pac_words.specs.declared.order.Order.{Order}
-use Rattle.pac_words.specs.declared.order.Order.TheVariants.{Init, Run, Recover, Explain, Replay}
-use Rattle.pac_main.specs.Commands.{order_in, AsksRecover, AsksRun, IsExplain, IsInit, IsRecover, IsReplay, IsRunOf, NamesCommand, Runs}
+use Rattle.pac_arguments.specs.declared.command.Command.{Command}
+use Rattle.pac_arguments.specs.declared.command.Command.TheVariants.{Init, Run, Recover, Explain, Replay}
+use Rattle.pac_main.specs.Commands.{command_in, AsksRecover, AsksRun, IsExplain, IsInit, IsRecover, IsReplay, IsRunOf, NamesCommand, Runs}
 use Rattle.pac_main.specs.Explained.{ExplainEnds}
 use Rattle.pac_main.specs.Init.{AreUntouched, InitEnds}
 use Rattle.pac_main.specs.Recover.{RecoverEnds}
@@ -28,138 +28,138 @@ not-usage-of-recover n h one = let no : ◌≡◌ {A = Bool} false true = subst 
 pub not-usage-of-run : (n : ℕ) → IsOneOf n (0 ∷ 3 ∷ 4 ∷ 5 ∷ 6 ∷ 7 ∷ 8 ∷ 9 ∷ 10 ∷ 11 ∷ 12 ∷ []) → n ≡ 1 → ⊥
 not-usage-of-run n h one = let no : ◌≡◌ {A = Bool} false true = subst (λ (k : ℕ). IsOneOf k (0 ∷ 3 ∷ 4 ∷ 5 ∷ 6 ∷ 7 ∷ 8 ∷ 9 ∷ 10 ∷ 11 ∷ 12 ∷ [])) one h in absurd cc
 
-module _ (words : List (String Global)) where
-  -- words that name a command that runs, with a status that isn't 1
-  pub named : (order : Order) (n : ℕ) → Some order ≡ order_in words → Runs order → (n ≡ 1 → ⊥) → (n ≡ 1) ↔ ¬ NamesCommand words
-  named order n is runs other = (λ one. absurd (other one), λ none. absurd (none (subst (λ (o : Option Order). IsSomeAnd o Runs) is runs)))
+module _ (arguments : List (String Global)) where
+  -- arguments that name a command that runs, with a status that isn't 1
+  pub named : (command_of : Command) (n : ℕ) → Some command_of ≡ command_in arguments → Runs command_of → (n ≡ 1 → ⊥) → (n ≡ 1) ↔ ¬ NamesCommand arguments
+  named command_of n is runs other = (λ one. absurd (other one), λ none. absurd (none (subst (λ (o : Option Command). IsSomeAnd o Runs) is runs)))
 
-  -- words that name none, with the status 1
-  pub unnamed : (said : Option Order) → said ≡ order_in words → (IsSomeAnd said Runs → ⊥) → ¬ NamesCommand words
-  unnamed said is none = λ h. none (subst (λ (o : Option Order). IsSomeAnd o Runs) (sym is) h)
+  -- arguments that name none, with the status 1
+  pub unnamed : (said : Option Command) → said ≡ command_in arguments → (IsSomeAnd said Runs → ⊥) → ¬ NamesCommand arguments
+  unnamed said is none = λ h. none (subst (λ (o : Option Command). IsSomeAnd o Runs) (sym is) h)
 
-  limit_is : (workers most limit : ℕ) (said : Option Order) → Some (Replay workers most) ≡ said → (w : ℕ) → said ≡ Some (Replay w limit) → most ≡ limit
+  limit_is : (workers most limit : ℕ) (said : Option Command) → Some (Replay workers most) ≡ said → (w : ℕ) → said ≡ Some (Replay w limit) → most ≡ limit
   limit_is workers most limit said is w h = let both : Some (Replay workers most) ≡ Some (Replay w limit) = is ∙ h in cc
 
-  pub replay-is : (workers most limit status : ℕ) (input output errors : Observed) → Some (Replay workers most) ≡ order_in words → IsReplay words limit → ReplayEnds most status input output errors → ReplayEnds limit status input output errors
-  replay-is workers most limit status input output errors is asks = subst (λ (n : ℕ). ReplayEnds n status input output errors) (limit_is workers most limit (order_in words) is asks.0 asks.1)
+  pub replay-is : (workers most limit status : ℕ) (input output errors : Observed) → Some (Replay workers most) ≡ command_in arguments → IsReplay arguments limit → ReplayEnds most status input output errors → ReplayEnds limit status input output errors
+  replay-is workers most limit status input output errors is asks = subst (λ (n : ℕ). ReplayEnds n status input output errors) (limit_is workers most limit (command_in arguments) is asks.0 asks.1)
 
-  text_is : (a b : Bool) (said : Option Order) → Some (Explain a) ≡ said → said ≡ Some (Explain b) → a ≡ b
+  text_is : (a b : Bool) (said : Option Command) → Some (Explain a) ≡ said → said ≡ Some (Explain b) → a ≡ b
   text_is a b said is h = let both : Some (Explain a) ≡ Some (Explain b) = is ∙ h in cc
 
-  pub explain-is : (a b : Bool) (status : ℕ) (input output errors : Observed) → Some (Explain a) ≡ order_in words → IsExplain words b → ExplainEnds a status input output errors → ExplainEnds b status input output errors
-  explain-is a b status input output errors is asks = subst (λ (t : Bool). ExplainEnds t status input output errors) (text_is a b (order_in words) is asks)
+  pub explain-is : (a b : Bool) (status : ℕ) (input output errors : Observed) → Some (Explain a) ≡ command_in arguments → IsExplain arguments b → ExplainEnds a status input output errors → ExplainEnds b status input output errors
+  explain-is a b status input output errors is asks = subst (λ (t : Bool). ExplainEnds t status input output errors) (text_is a b (command_in arguments) is asks)
 
-  differ : (a : Bool) (workers limit : ℕ) (said : Option Order) → Some (Explain a) ≡ said → said ≡ Some (Replay workers limit) → ⊥
+  differ : (a : Bool) (workers limit : ℕ) (said : Option Command) → Some (Explain a) ≡ said → said ≡ Some (Replay workers limit) → ⊥
   differ a workers limit said is h = let both : Some (Explain a) ≡ Some (Replay workers limit) = is ∙ h in absurd cc
 
-  pub no-replay : (a : Bool) (limit : ℕ) → Some (Explain a) ≡ order_in words → IsReplay words limit → ⊥
-  no-replay a limit is asks = differ a asks.0 limit (order_in words) is asks.1
+  pub no-replay : (a : Bool) (limit : ℕ) → Some (Explain a) ≡ command_in arguments → IsReplay arguments limit → ⊥
+  no-replay a limit is asks = differ a asks.0 limit (command_in arguments) is asks.1
 
-  pub no-explain : (a : Bool) (workers limit : ℕ) → Some (Replay workers limit) ≡ order_in words → IsExplain words a → ⊥
-  no-explain a workers limit is asks = differ a workers limit (order_in words) (sym asks) (sym is)
+  pub no-explain : (a : Bool) (workers limit : ℕ) → Some (Replay workers limit) ≡ command_in arguments → IsExplain arguments a → ⊥
+  no-explain a workers limit is asks = differ a workers limit (command_in arguments) (sym asks) (sym is)
 
-  no_init : (said : Option Order) → said ≡ Some Init → (a : Bool) → Some (Explain a) ≡ said → ⊥
+  no_init : (said : Option Command) → said ≡ Some Init → (a : Bool) → Some (Explain a) ≡ said → ⊥
   no_init said h a is = let both : Some (Explain a) ≡ Some Init = is ∙ h in absurd cc
 
-  no_init_replay : (said : Option Order) → said ≡ Some Init → (workers limit : ℕ) → Some (Replay workers limit) ≡ said → ⊥
+  no_init_replay : (said : Option Command) → said ≡ Some Init → (workers limit : ℕ) → Some (Replay workers limit) ≡ said → ⊥
   no_init_replay said h workers limit is = let both : Some (Replay workers limit) ≡ Some Init = is ∙ h in absurd cc
 
-  pub no-init-in-explain : (a : Bool) → Some (Explain a) ≡ order_in words → IsInit words → ⊥
-  no-init-in-explain a is asks = no_init (order_in words) asks a is
+  pub no-init-in-explain : (a : Bool) → Some (Explain a) ≡ command_in arguments → IsInit arguments → ⊥
+  no-init-in-explain a is asks = no_init (command_in arguments) asks a is
 
-  pub no-init-in-replay : (workers limit : ℕ) → Some (Replay workers limit) ≡ order_in words → IsInit words → ⊥
-  no-init-in-replay workers limit is asks = no_init_replay (order_in words) asks workers limit is
+  pub no-init-in-replay : (workers limit : ℕ) → Some (Replay workers limit) ≡ command_in arguments → IsInit arguments → ⊥
+  no-init-in-replay workers limit is asks = no_init_replay (command_in arguments) asks workers limit is
 
-  pub no-explain-in-init : (a : Bool) → Some Init ≡ order_in words → IsExplain words a → ⊥
-  no-explain-in-init a is asks = no_init (order_in words) (sym is) a (sym asks)
+  pub no-explain-in-init : (a : Bool) → Some Init ≡ command_in arguments → IsExplain arguments a → ⊥
+  no-explain-in-init a is asks = no_init (command_in arguments) (sym is) a (sym asks)
 
-  pub no-replay-in-init : (limit : ℕ) → Some Init ≡ order_in words → IsReplay words limit → ⊥
-  no-replay-in-init limit is asks = no_init_replay (order_in words) (sym is) asks.0 limit (sym asks.1)
+  pub no-replay-in-init : (limit : ℕ) → Some Init ≡ command_in arguments → IsReplay arguments limit → ⊥
+  no-replay-in-init limit is asks = no_init_replay (command_in arguments) (sym is) asks.0 limit (sym asks.1)
 
-  most_is : (workers most limit : ℕ) (said : Option Order) → Some (Recover workers most) ≡ said → (w : ℕ) → said ≡ Some (Recover w limit) → most ≡ limit
+  most_is : (workers most limit : ℕ) (said : Option Command) → Some (Recover workers most) ≡ said → (w : ℕ) → said ≡ Some (Recover w limit) → most ≡ limit
   most_is workers most limit said is w h = let both : Some (Recover workers most) ≡ Some (Recover w limit) = is ∙ h in cc
 
-  pub recover-is : (workers most limit status : ℕ) (devices : ObservedDevices) (output errors : Observed) → Some (Recover workers most) ≡ order_in words → IsRecover words limit → RecoverEnds most status devices output errors → RecoverEnds limit status devices output errors
-  recover-is workers most limit status devices output errors is asks = subst (λ (n : ℕ). RecoverEnds n status devices output errors) (most_is workers most limit (order_in words) is asks.0 asks.1)
+  pub recover-is : (workers most limit status : ℕ) (devices : ObservedDevices) (output errors : Observed) → Some (Recover workers most) ≡ command_in arguments → IsRecover arguments limit → RecoverEnds most status devices output errors → RecoverEnds limit status devices output errors
+  recover-is workers most limit status devices output errors is asks = subst (λ (n : ℕ). RecoverEnds n status devices output errors) (most_is workers most limit (command_in arguments) is asks.0 asks.1)
 
-  pub asks-recover : (workers limit : ℕ) → Some (Recover workers limit) ≡ order_in words → AsksRecover words
+  pub asks-recover : (workers limit : ℕ) → Some (Recover workers limit) ≡ command_in arguments → AsksRecover arguments
   asks-recover workers limit is = (limit, (workers, sym is))
 
-  no_recover : (workers limit : ℕ) (said : Option Order) → said ≡ Some (Recover workers limit) → (other : Order) → (other ≡ Recover workers limit → ⊥) → Some other ≡ said → ⊥
+  no_recover : (workers limit : ℕ) (said : Option Command) → said ≡ Some (Recover workers limit) → (other : Command) → (other ≡ Recover workers limit → ⊥) → Some other ≡ said → ⊥
   no_recover workers limit said h other differs is = let both : Some other ≡ Some (Recover workers limit) = is ∙ h in differs cc
 
-  pub no-recover-in-init : (limit : ℕ) → Some Init ≡ order_in words → IsRecover words limit → ⊥
-  no-recover-in-init limit is asks = no_recover asks.0 limit (order_in words) asks.1 Init (λ e. absurd cc) is
+  pub no-recover-in-init : (limit : ℕ) → Some Init ≡ command_in arguments → IsRecover arguments limit → ⊥
+  no-recover-in-init limit is asks = no_recover asks.0 limit (command_in arguments) asks.1 Init (λ e. absurd cc) is
 
-  pub no-recover-in-explain : (a : Bool) (limit : ℕ) → Some (Explain a) ≡ order_in words → IsRecover words limit → ⊥
-  no-recover-in-explain a limit is asks = no_recover asks.0 limit (order_in words) asks.1 (Explain a) (λ e. absurd cc) is
+  pub no-recover-in-explain : (a : Bool) (limit : ℕ) → Some (Explain a) ≡ command_in arguments → IsRecover arguments limit → ⊥
+  no-recover-in-explain a limit is asks = no_recover asks.0 limit (command_in arguments) asks.1 (Explain a) (λ e. absurd cc) is
 
-  pub no-recover-in-replay : (workers most limit : ℕ) → Some (Replay workers most) ≡ order_in words → IsRecover words limit → ⊥
-  no-recover-in-replay workers most limit is asks = no_recover asks.0 limit (order_in words) asks.1 (Replay workers most) (λ e. absurd cc) is
+  pub no-recover-in-replay : (workers most limit : ℕ) → Some (Replay workers most) ≡ command_in arguments → IsRecover arguments limit → ⊥
+  no-recover-in-replay workers most limit is asks = no_recover asks.0 limit (command_in arguments) asks.1 (Replay workers most) (λ e. absurd cc) is
 
-  pub no-init-in-recover : (workers limit : ℕ) → Some (Recover workers limit) ≡ order_in words → IsInit words → ⊥
-  no-init-in-recover workers limit is asks = no_recover workers limit (order_in words) (sym is) Init (λ e. absurd cc) (sym asks)
+  pub no-init-in-recover : (workers limit : ℕ) → Some (Recover workers limit) ≡ command_in arguments → IsInit arguments → ⊥
+  no-init-in-recover workers limit is asks = no_recover workers limit (command_in arguments) (sym is) Init (λ e. absurd cc) (sym asks)
 
-  pub no-explain-in-recover : (a : Bool) (workers limit : ℕ) → Some (Recover workers limit) ≡ order_in words → IsExplain words a → ⊥
-  no-explain-in-recover a workers limit is asks = no_recover workers limit (order_in words) (sym is) (Explain a) (λ e. absurd cc) (sym asks)
+  pub no-explain-in-recover : (a : Bool) (workers limit : ℕ) → Some (Recover workers limit) ≡ command_in arguments → IsExplain arguments a → ⊥
+  no-explain-in-recover a workers limit is asks = no_recover workers limit (command_in arguments) (sym is) (Explain a) (λ e. absurd cc) (sym asks)
 
-  pub no-replay-in-recover : (workers most limit : ℕ) → Some (Recover workers most) ≡ order_in words → IsReplay words limit → ⊥
-  no-replay-in-recover workers most limit is asks = no_recover workers most (order_in words) (sym is) (Replay asks.0 limit) (λ e. absurd cc) (sym asks.1)
+  pub no-replay-in-recover : (workers most limit : ℕ) → Some (Recover workers most) ≡ command_in arguments → IsReplay arguments limit → ⊥
+  no-replay-in-recover workers most limit is asks = no_recover workers most (command_in arguments) (sym is) (Replay asks.0 limit) (λ e. absurd cc) (sym asks.1)
 
-  run_is : (b m batch limit : ℕ) (said : Option Order) → Some (Run b m) ≡ said → said ≡ Some (Run batch limit) → (b ≡ batch) × (m ≡ limit)
-  run_is b m batch limit said is h = let both : Some (Run b m) ≡ Some (Run batch limit) = is ∙ h in (cc, cc)
+  run_is : (b m group_size limit : ℕ) (said : Option Command) → Some (Run b m) ≡ said → said ≡ Some (Run group_size limit) → (b ≡ group_size) × (m ≡ limit)
+  run_is b m group_size limit said is h = let both : Some (Run b m) ≡ Some (Run group_size limit) = is ∙ h in (cc, cc)
 
-  pub run-is : (b m batch limit status : ℕ) (input output errors : Observed) (devices : ObservedDevices) → Some (Run b m) ≡ order_in words → IsRunOf words batch limit → RunEnds b m status input output errors devices → RunEnds batch limit status input output errors devices
-  run-is b m batch limit status input output errors devices is asks h =
-      let same = run_is b m batch limit (order_in words) is asks in
+  pub run-is : (b m group_size limit status : ℕ) (input output errors : Observed) (devices : ObservedDevices) → Some (Run b m) ≡ command_in arguments → IsRunOf arguments group_size limit → RunEnds b m status input output errors devices → RunEnds group_size limit status input output errors devices
+  run-is b m group_size limit status input output errors devices is asks h =
+      let same = run_is b m group_size limit (command_in arguments) is asks in
       subst (λ (n : ℕ). RunEnds n limit status input output errors devices) same.0 (subst (λ (n : ℕ). RunEnds b n status input output errors devices) same.1 h)
 
-  pub asks-run : (batch limit : ℕ) → Some (Run batch limit) ≡ order_in words → AsksRun words
-  asks-run batch limit is = (batch, limit, sym is)
+  pub asks-run : (group_size limit : ℕ) → Some (Run group_size limit) ≡ command_in arguments → AsksRun arguments
+  asks-run group_size limit is = (group_size, limit, sym is)
 
-  no_run : (batch limit : ℕ) (said : Option Order) → said ≡ Some (Run batch limit) → (other : Order) → (other ≡ Run batch limit → ⊥) → Some other ≡ said → ⊥
-  no_run batch limit said h other differs is = let both : Some other ≡ Some (Run batch limit) = is ∙ h in differs cc
+  no_run : (group_size limit : ℕ) (said : Option Command) → said ≡ Some (Run group_size limit) → (other : Command) → (other ≡ Run group_size limit → ⊥) → Some other ≡ said → ⊥
+  no_run group_size limit said h other differs is = let both : Some other ≡ Some (Run group_size limit) = is ∙ h in differs cc
 
-  pub no-run-in-init : (batch limit : ℕ) → Some Init ≡ order_in words → IsRunOf words batch limit → ⊥
-  no-run-in-init batch limit is asks = no_run batch limit (order_in words) asks Init (λ e. absurd cc) is
+  pub no-run-in-init : (group_size limit : ℕ) → Some Init ≡ command_in arguments → IsRunOf arguments group_size limit → ⊥
+  no-run-in-init group_size limit is asks = no_run group_size limit (command_in arguments) asks Init (λ e. absurd cc) is
 
-  pub no-run-in-recover : (batch limit workers most : ℕ) → Some (Recover workers most) ≡ order_in words → IsRunOf words batch limit → ⊥
-  no-run-in-recover batch limit workers most is asks = no_run batch limit (order_in words) asks (Recover workers most) (λ e. absurd cc) is
+  pub no-run-in-recover : (group_size limit workers most : ℕ) → Some (Recover workers most) ≡ command_in arguments → IsRunOf arguments group_size limit → ⊥
+  no-run-in-recover group_size limit workers most is asks = no_run group_size limit (command_in arguments) asks (Recover workers most) (λ e. absurd cc) is
 
-  pub no-run-in-explain : (a : Bool) (batch limit : ℕ) → Some (Explain a) ≡ order_in words → IsRunOf words batch limit → ⊥
-  no-run-in-explain a batch limit is asks = no_run batch limit (order_in words) asks (Explain a) (λ e. absurd cc) is
+  pub no-run-in-explain : (a : Bool) (group_size limit : ℕ) → Some (Explain a) ≡ command_in arguments → IsRunOf arguments group_size limit → ⊥
+  no-run-in-explain a group_size limit is asks = no_run group_size limit (command_in arguments) asks (Explain a) (λ e. absurd cc) is
 
-  pub no-run-in-replay : (batch limit workers most : ℕ) → Some (Replay workers most) ≡ order_in words → IsRunOf words batch limit → ⊥
-  no-run-in-replay batch limit workers most is asks = no_run batch limit (order_in words) asks (Replay workers most) (λ e. absurd cc) is
+  pub no-run-in-replay : (group_size limit workers most : ℕ) → Some (Replay workers most) ≡ command_in arguments → IsRunOf arguments group_size limit → ⊥
+  no-run-in-replay group_size limit workers most is asks = no_run group_size limit (command_in arguments) asks (Replay workers most) (λ e. absurd cc) is
 
-  pub no-init-in-run : (batch limit : ℕ) → Some (Run batch limit) ≡ order_in words → IsInit words → ⊥
-  no-init-in-run batch limit is asks = no_run batch limit (order_in words) (sym is) Init (λ e. absurd cc) (sym asks)
+  pub no-init-in-run : (group_size limit : ℕ) → Some (Run group_size limit) ≡ command_in arguments → IsInit arguments → ⊥
+  no-init-in-run group_size limit is asks = no_run group_size limit (command_in arguments) (sym is) Init (λ e. absurd cc) (sym asks)
 
-  pub no-recover-in-run : (batch limit most : ℕ) → Some (Run batch limit) ≡ order_in words → IsRecover words most → ⊥
-  no-recover-in-run batch limit most is asks = no_run batch limit (order_in words) (sym is) (Recover asks.0 most) (λ e. absurd cc) (sym asks.1)
+  pub no-recover-in-run : (group_size limit most : ℕ) → Some (Run group_size limit) ≡ command_in arguments → IsRecover arguments most → ⊥
+  no-recover-in-run group_size limit most is asks = no_run group_size limit (command_in arguments) (sym is) (Recover asks.0 most) (λ e. absurd cc) (sym asks.1)
 
-  pub no-explain-in-run : (a : Bool) (batch limit : ℕ) → Some (Run batch limit) ≡ order_in words → IsExplain words a → ⊥
-  no-explain-in-run a batch limit is asks = no_run batch limit (order_in words) (sym is) (Explain a) (λ e. absurd cc) (sym asks)
+  pub no-explain-in-run : (a : Bool) (group_size limit : ℕ) → Some (Run group_size limit) ≡ command_in arguments → IsExplain arguments a → ⊥
+  no-explain-in-run a group_size limit is asks = no_run group_size limit (command_in arguments) (sym is) (Explain a) (λ e. absurd cc) (sym asks)
 
-  pub no-replay-in-run : (batch limit most : ℕ) → Some (Run batch limit) ≡ order_in words → IsReplay words most → ⊥
-  no-replay-in-run batch limit most is asks = no_run batch limit (order_in words) (sym is) (Replay asks.0 most) (λ e. absurd cc) (sym asks.1)
+  pub no-replay-in-run : (group_size limit most : ℕ) → Some (Run group_size limit) ≡ command_in arguments → IsReplay arguments most → ⊥
+  no-replay-in-run group_size limit most is asks = no_run group_size limit (command_in arguments) (sym is) (Replay asks.0 most) (λ e. absurd cc) (sym asks.1)
 
-  pub run-names : (batch limit : ℕ) → IsRunOf words batch limit → NamesCommand words
-  run-names batch limit asks = subst (λ (o : Option Order). IsSomeAnd o Runs) (sym asks) tt
+  pub run-names : (group_size limit : ℕ) → IsRunOf arguments group_size limit → NamesCommand arguments
+  run-names group_size limit asks = subst (λ (o : Option Command). IsSomeAnd o Runs) (sym asks) tt
 
-  pub recover-names : (limit : ℕ) → IsRecover words limit → NamesCommand words
-  recover-names limit asks = subst (λ (o : Option Order). IsSomeAnd o Runs) (sym asks.1) tt
+  pub recover-names : (limit : ℕ) → IsRecover arguments limit → NamesCommand arguments
+  recover-names limit asks = subst (λ (o : Option Command). IsSomeAnd o Runs) (sym asks.1) tt
 
-  pub init-names : IsInit words → NamesCommand words
-  init-names asks = subst (λ (o : Option Order). IsSomeAnd o Runs) (sym asks) tt
+  pub init-names : IsInit arguments → NamesCommand arguments
+  init-names asks = subst (λ (o : Option Command). IsSomeAnd o Runs) (sym asks) tt
 
-  pub replay-names : (limit : ℕ) → IsReplay words limit → NamesCommand words
-  replay-names limit asks = subst (λ (o : Option Order). IsSomeAnd o Runs) (sym asks.1) tt
+  pub replay-names : (limit : ℕ) → IsReplay arguments limit → NamesCommand arguments
+  replay-names limit asks = subst (λ (o : Option Command). IsSomeAnd o Runs) (sym asks.1) tt
 
-  pub explain-names : (a : Bool) → IsExplain words a → NamesCommand words
-  explain-names a asks = subst (λ (o : Option Order). IsSomeAnd o Runs) (sym asks) tt
+  pub explain-names : (a : Bool) → IsExplain arguments a → NamesCommand arguments
+  explain-names a asks = subst (λ (o : Option Command). IsSomeAnd o Runs) (sym asks) tt
 
--- want of memory has no cause
+-- running out of memory has no cause
 pub replay-memory : (limit status : ℕ) (input output errors : Observed) → status ≡ 9 → ReplayEnds limit status input output errors
 replay-memory limit status input output errors is = record {
   statuses = subst (λ (n : ℕ). IsOneOf n (0 ∷ 2 ∷ 4 ∷ 5 ∷ 6 ∷ 7 ∷ 9 ∷ 11 ∷ [])) (sym is) refl;

@@ -24,7 +24,7 @@ use Rattle.pac_request.specs.ScriptReading.{IsExcessFault}
 use Rattle.pac_request.proofs.OneScript.{faults_once, few_or_excess}
 use Rattle.pac_main.specs.Causes.{GivesNoExplanation}
 use Rattle.pac_main.specs.Inputs.{input_of_read, input_of_script}
-use Rattle.pac_main.specs.Streams.{Observed, FaultsRose}
+use Rattle.pac_main.specs.Streams.{Observed, AnyFaulted}
 use Rattle.pac_main.specs.Explained.{AreSlicesOf, IsTreeExplanation, IsExplanation, IsUnexplainedTree, IsUnexplained, IsTheCause, IsUnexplainedAs}
 
 -- ---- a tree and its text
@@ -91,9 +91,9 @@ input-unexplained old new items fault gave at_end is = subst (λ (o : Option (Li
 
 -- ---- why nothing is explained
 
-pub catalogue-unread : {T : Type 0} (source : Observed) (error : ReadError) → (◌≡◌ {A = Result T ReadError} (Err error) (Err read.Failed) → FaultsRose source) → GivesNoExplanation source (input_of_read error)
-catalogue-unread source read.Failed rose = rose refl
-catalogue-unread source read.NoMemory rose = tt
+pub catalogue-unread : {T : Type 0} (source : Observed) (error : ReadError) → (◌≡◌ {A = Result T ReadError} (Err error) (Err read.Failed) → AnyFaulted source) → GivesNoExplanation source (input_of_read error)
+catalogue-unread source read.Failed faulted = faulted refl
+catalogue-unread source read.NoMemory faulted = tt
 
 pub no-explanation : {T : Type 0} (source : Observed) (new : Option (List ℕ)) (items : List ℕ) (error : Refusal ScriptFault) → Gave source.before items new → (length items ≤ 65536 → IsAtEnd new)
     → ((fault : ScriptFault) → ◌≡◌ {A = Result T (Refusal ScriptFault)} (Err error) (Err (refusal.Fault fault)) → IsUnexplained items fault) → GivesNoExplanation source (input_of_script error)
@@ -113,7 +113,7 @@ one_more programs i program within at = rw add-one (take-suc programs i program 
 
 pub slices_push : (programs : List Program) (graphs : List LocalGraph) (i : ℕ) (program : Program) (graph : LocalGraph) → i < length programs → program ≡ get_or programs i program → AreSlicesOf (take i programs) graphs → AreSlices program.ops graph → AreSlicesOf (take (i + 1) programs) (graphs ++ graph ∷ [])
 slices_push programs graphs i program graph within at so_far slices =
-    subst (λ (front : List Program). AreSlicesOf front (graphs ++ graph ∷ [])) (sym (one_more programs i program within at))
+    subst (λ (prefix : List Program). AreSlicesOf prefix (graphs ++ graph ∷ [])) (sym (one_more programs i program within at))
     (zip_push (λ (p : Program) (g : LocalGraph). AreSlices p.ops g) (take i programs) graphs program graph so_far slices)
 
 -- ---- too many operations

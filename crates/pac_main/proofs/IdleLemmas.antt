@@ -11,29 +11,29 @@ use Rattle.pac_types.specs.Typing.{CatalogueState}
 use Rattle.pac_request.specs.declared.request.Request.{Request}
 use Rattle.pac_session.specs.Session.{Rules, SessionState}
 use Rattle.pac_run.specs.Asked.{TookAtMost}
-use Rattle.pac_run.specs.Run.{AtExit, AtMoments, IsBegun, IsRun, WhereAllStand, WhereSeen}
+use Rattle.pac_run.specs.Run.{AtExit, AtMoments, IsBegun, IsRun, WhileAllStand, IfSeenKnown}
 use Rattle.pac_run.specs.declared.limits.TheConstants.{MAX_INPUT}
 use Rattle.pac_run.specs.declared.stop.RunStop.{RunStop}
 use Rattle.pac_run.specs.declared.stop.RunStop.TheVariants as run
 
 -- what is taken, by how the run ends
 few_taken : (left left' : Option (List ℕ)) → TookAtMost MAX_INPUT left left' → GaveAtMost 67108865 left left'
-few_taken left left' took = record { bytes = took.bytes; within = omega (arith, took.few); front = took.gave }
+few_taken left left' took = record { bytes = took.bytes; within = omega (arith, took.few); prefix = took.gave }
 
-pub run-taken : (batch limit : ℕ) (left left' held held' : Option (List ℕ)) (told told' : List (Option DiskHistory)) (rose : Type 0) (end : Result (Unit {0}) RunStop)
-    → IsRun batch limit left left' held held' told told' rose end → GaveAtMost 67108865 left left'
-run-taken batch limit left left' held held' told told' rose (Ok done) ran = few_taken left left' (ran.few (λ e. absurd cc))
-run-taken batch limit left left' held held' told told' rose (Err run.NoStore) ran = few_taken left left' (ran.few (λ e. absurd cc))
-run-taken batch limit left left' held held' told told' rose (Err (run.Damaged damage)) ran = few_taken left left' (ran.few (λ e. absurd cc))
-run-taken batch limit left left' held held' told told' rose (Err (run.AbortInLog note)) ran = few_taken left left' (ran.few (λ e. absurd cc))
-run-taken batch limit left left' held held' told told' rose (Err (run.RowsOver name rows most)) ran = few_taken left left' (ran.few (λ e. absurd cc))
-run-taken batch limit left left' held held' told told' rose (Err run.InputFault) ran = few_taken left left' (ran.few (λ e. absurd cc))
-run-taken batch limit left left' held held' told told' rose (Err run.OutputFault) ran = few_taken left left' (ran.few (λ e. absurd cc))
-run-taken batch limit left left' held held' told told' rose (Err run.DiskFault) ran = few_taken left left' (ran.few (λ e. absurd cc))
-run-taken batch limit left left' held held' told told' rose (Err run.NoMemory) ran = few_taken left left' (ran.few (λ e. absurd cc))
-run-taken batch limit left left' held held' told told' rose (Err (run.LogFull need)) ran = few_taken left left' (ran.few (λ e. absurd cc))
-run-taken batch limit left left' held held' told told' rose (Err run.TooLong) ran = let long = ran.long refl in record { bytes = long.bytes; within = omega (arith, long.more); front = long.gave }
-run-taken batch limit left left' held held' told told' rose (Err (run.TooLarge bytes)) ran = few_taken left left' (ran.few (λ e. absurd cc))
+pub run-taken : (group_size limit : ℕ) (left left' held held' : Option (List ℕ)) (known known' : List (Option DiskHistory)) (faulted : Type 0) (end : Result (Unit {0}) RunStop)
+    → IsRun group_size limit left left' held held' known known' faulted end → GaveAtMost 67108865 left left'
+run-taken group_size limit left left' held held' known known' faulted (Ok done) ran = few_taken left left' (ran.few (λ e. absurd cc))
+run-taken group_size limit left left' held held' known known' faulted (Err run.NoStore) ran = few_taken left left' (ran.few (λ e. absurd cc))
+run-taken group_size limit left left' held held' known known' faulted (Err (run.Damaged damage)) ran = few_taken left left' (ran.few (λ e. absurd cc))
+run-taken group_size limit left left' held held' known known' faulted (Err (run.AbortInLog note)) ran = few_taken left left' (ran.few (λ e. absurd cc))
+run-taken group_size limit left left' held held' known known' faulted (Err (run.RowsOver name rows most)) ran = few_taken left left' (ran.few (λ e. absurd cc))
+run-taken group_size limit left left' held held' known known' faulted (Err run.InputFault) ran = few_taken left left' (ran.few (λ e. absurd cc))
+run-taken group_size limit left left' held held' known known' faulted (Err run.OutputFault) ran = few_taken left left' (ran.few (λ e. absurd cc))
+run-taken group_size limit left left' held held' known known' faulted (Err run.DiskFault) ran = few_taken left left' (ran.few (λ e. absurd cc))
+run-taken group_size limit left left' held held' known known' faulted (Err run.NoMemory) ran = few_taken left left' (ran.few (λ e. absurd cc))
+run-taken group_size limit left left' held held' known known' faulted (Err (run.LogFull need)) ran = few_taken left left' (ran.few (λ e. absurd cc))
+run-taken group_size limit left left' held held' known known' faulted (Err run.TooLong) ran = let long = ran.long refl in record { bytes = long.bytes; within = omega (arith, long.more); prefix = long.gave }
+run-taken group_size limit left left' held held' known known' faulted (Err (run.TooLarge bytes)) ran = few_taken left left' (ran.few (λ e. absurd cc))
 
 -- ---- nothing is read and no device is called
 
@@ -54,37 +54,37 @@ no_catalogue = record { tables = []; procs = [] }
 
 -- of a run that reads nothing it makes no difference which session would begin
 abbrev idle_rules : ℕ → ℕ → Rules
-idle_rules batch limit = record { catalogue = no_catalogue; limit = limit; most = batch }
+idle_rules group_size limit = record { catalogue = no_catalogue; limit = limit; most = group_size }
 
 abbrev idle_start : SessionState
 idle_start = record { tables = empty; number = 0 }
 
-idle_begun : (rules : Rules) (place : ℕ) (start : SessionState) (log a b : Option DiskHistory) → WhereSeen (λ images. ◌≡◌ {A = List Request} [] [] ⊎ IsBegun rules place start images) (log ∷ a ∷ b ∷ [])
+idle_begun : (rules : Rules) (place : ℕ) (start : SessionState) (log a b : Option DiskHistory) → IfSeenKnown (λ images. ◌≡◌ {A = List Request} [] [] ⊎ IsBegun rules place start images) (log ∷ a ∷ b ∷ [])
 idle_begun rules place start None a b = tt
 idle_begun rules place start (Some l) None b = tt
 idle_begun rules place start (Some l) (Some x) None = tt
 idle_begun rules place start (Some l) (Some x) (Some y) = inl refl
 
-idle_exit : (rules : Rules) (start : SessionState) (log a b : Option DiskHistory) → WhereAllStand (λ text catalogue history least. AtExit text catalogue history rules start [] []) (log ∷ a ∷ b ∷ []) (log ∷ a ∷ b ∷ [])
+idle_exit : (rules : Rules) (start : SessionState) (log a b : Option DiskHistory) → WhileAllStand (λ text catalogue history least. AtExit text catalogue history rules start [] []) (log ∷ a ∷ b ∷ []) (log ∷ a ∷ b ∷ [])
 idle_exit rules start None a b = λ text catalogue history least. tt
 idle_exit rules start (Some l) None b = λ text catalogue history least. tt
 idle_exit rules start (Some l) (Some x) None = λ text catalogue history least. tt
 idle_exit rules start (Some l) (Some x) (Some y) = λ text catalogue history least stand images are. inl (refl, are)
 
-idle_moments : (rules : Rules) (start : SessionState) (log a b : Option DiskHistory) → WhereAllStand (λ text catalogue history least. AtMoments text catalogue history least rules start []) (log ∷ a ∷ b ∷ []) (log ∷ a ∷ b ∷ [])
+idle_moments : (rules : Rules) (start : SessionState) (log a b : Option DiskHistory) → WhileAllStand (λ text catalogue history least. AtMoments text catalogue history least rules start []) (log ∷ a ∷ b ∷ []) (log ∷ a ∷ b ∷ [])
 idle_moments rules start None a b = λ text catalogue history least. tt
 idle_moments rules start (Some l) None b = λ text catalogue history least. tt
 idle_moments rules start (Some l) (Some x) None = λ text catalogue history least. tt
 idle_moments rules start (Some l) (Some x) (Some y) = λ text catalogue history least stand. rests (l ∷ x ∷ y ∷ []) (λ images are. inl are)
 
-pub idle-run : (batch limit : ℕ) (left held : Option (List ℕ)) (log a b : Option DiskHistory) (rose : Type 0) → IsRun batch limit left left held held (log ∷ a ∷ b ∷ []) (log ∷ a ∷ b ∷ []) rose (Err run.NoMemory)
-idle-run batch limit left held log a b rose = record {
+pub idle-run : (group_size limit : ℕ) (left held : Option (List ℕ)) (log a b : Option DiskHistory) (faulted : Type 0) → IsRun group_size limit left left held held (log ∷ a ∷ b ∷ []) (log ∷ a ∷ b ∷ []) faulted (Err run.NoMemory)
+idle-run group_size limit left held log a b faulted = record {
   lines = [];
   ahead = [];
   handled = idle_handled left;
   few = λ other. record { bytes = []; gave = prepend_none left; few = omega arith };
   long = λ e. absurd cc;
-  rules = idle_rules batch limit;
+  rules = idle_rules group_size limit;
   requests = [];
   asked = inl refl;
   last = tt;
@@ -94,11 +94,11 @@ idle-run batch limit left held log a b rose = record {
   most = refl;
   start = idle_start;
   place = 0;
-  begun = idle_begun (idle_rules batch limit) 0 idle_start log a b;
-  front = record { count = 0; is = refl };
+  begun = idle_begun (idle_rules group_size limit) 0 idle_start log a b;
+  prefix = record { count = 0; is = refl };
   whole = tt;
-  exit = idle_exit (idle_rules batch limit) idle_start log a b;
-  moments = idle_moments (idle_rules batch limit) idle_start log a b;
+  exit = idle_exit (idle_rules group_size limit) idle_start log a b;
+  moments = idle_moments (idle_rules group_size limit) idle_start log a b;
   given = [];
   written = record { count = 0; is = refl };
   all = inl refl;

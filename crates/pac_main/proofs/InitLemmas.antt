@@ -4,7 +4,7 @@ use Rattle.std.specs.Io.KnownBytes.{prepend_known}
 use Rattle.pac_base.specs.declared.refusal.Refusal.{Refusal}
 use Rattle.pac_base.specs.declared.refusal.Refusal.TheVariants as refusal
 use Rattle.pac_outside.specs.Content.{Gave, IsAtEnd}
-use Rattle.pac_outside.specs.Devices.{OneRose, TellsOn, WhereAllTold, all_told}
+use Rattle.pac_outside.specs.Devices.{OneFaulted, OnceKnown, IfAllKnown, all_known}
 use Rattle.pac_outside.specs.Disk.{DiskHistory}
 use Rattle.pac_outside.specs.declared.failed.ReadError.{ReadError}
 use Rattle.pac_outside.specs.declared.failed.ReadError.TheVariants as read
@@ -23,7 +23,7 @@ use Rattle.pac_main.specs.Explained.{IsUnexplained}
 use Rattle.pac_main.specs.Init.{AreUntouched, IsNoStoreFor, IsNoStoreText, IsStoreText}
 use Rattle.pac_main.specs.Inputs.{input_of_read, input_of_script}
 use Rattle.pac_main.specs.Stop.{stop_of_make}
-use Rattle.pac_main.specs.Streams.{Observed, ObservedDevices, FaultsRose}
+use Rattle.pac_main.specs.Streams.{Observed, ObservedDevices, AnyFaulted}
 use Rattle.pac_main.proofs.ExplainLemmas.{the_cause, unexplained_longer}
 use Rattle.pac_main.proofs.InputLemmas.{whole-input}
 
@@ -54,9 +54,9 @@ no_store_known items None fault at_end is = tt
 no_store_known items (Some rest) fault at_end is = no_store (items ++ rest) fault (unexplained_longer items rest fault at_end is)
 
 -- an input that wasn't read has failed, or there was no memory for it
-pub text-unread : {T : Type 0} (source : Observed) (error : ReadError) → (◌≡◌ {A = Result T ReadError} (Err error) (Err read.Failed) → FaultsRose source) → GivesNoText source (input_of_read error)
-text-unread source read.Failed rose = rose refl
-text-unread source read.NoMemory rose = tt
+pub text-unread : {T : Type 0} (source : Observed) (error : ReadError) → (◌≡◌ {A = Result T ReadError} (Err error) (Err read.Failed) → AnyFaulted source) → GivesNoText source (input_of_read error)
+text-unread source read.Failed faulted = faulted refl
+text-unread source read.NoMemory faulted = tt
 
 -- a text that is refused, is refused of the input
 pub text-refused : {T : Type 0} (source : Observed) (new : Option (List ℕ)) (items : List ℕ) (error : Refusal ScriptFault) → Gave source.before items new → (length items ≤ 65536 → IsAtEnd new)
@@ -66,20 +66,20 @@ text-refused source new items refusal.NoMemory gave at_end is = tt
 
 -- ---- the devices
 
-same_told : (told : Option (List DiskHistory)) → TellsOn (λ old new. new ≡ old) told told
-same_told None = tt
-same_told (Some histories) = refl
+same_reported : (reported : Option (List DiskHistory)) → OnceKnown (λ old new. new ≡ old) reported reported
+same_reported None = tt
+same_reported (Some histories) = refl
 
 -- devices that are not called are untouched
-pub not-called : (tolds : List (Option DiskHistory)) (faults : List ℕ) → AreUntouched (record { before = tolds; behind = tolds; faults_before = faults; faults_behind = faults })
-not-called tolds faults = record { kept = same_told (all_told tolds); quiet = refl }
+pub not-called : (knowns : List (Option DiskHistory)) (faults : List ℕ) → AreUntouched (record { before = knowns; after = knowns; faults_before = faults; faults_after = faults })
+not-called knowns faults = record { kept = same_reported (all_known knowns); quiet = refl }
 
 -- why a store isn't made
 pub not-made : {T : Type 0} (source : Observed) (devices : ObservedDevices) (error : MakeError)
-    → ((device : DeviceName) (length : ℕ) → ◌≡◌ {A = Result T MakeError} (Err error) (Err (NotEmpty device length)) → WhereAllTold (IsInUse device length) devices.before devices.behind)
-    → ((◌≡◌ {A = Result T MakeError} (Err error) (Err DiskFault) → ⊥) → WhereAllTold (λ old new. new ≡ old) devices.before devices.behind)
-    → (◌≡◌ {A = Result T MakeError} (Err error) (Err DiskFault) → OneRose devices.faults_before devices.faults_behind)
-    → ((◌≡◌ {A = Result T MakeError} (Err error) (Err DiskFault) → ⊥) → devices.faults_behind ≡ devices.faults_before) → InitStops source devices (stop_of_make error)
+    → ((device : DeviceName) (length : ℕ) → ◌≡◌ {A = Result T MakeError} (Err error) (Err (NotEmpty device length)) → IfAllKnown (IsInUse device length) devices.before devices.after)
+    → ((◌≡◌ {A = Result T MakeError} (Err error) (Err DiskFault) → ⊥) → IfAllKnown (λ old new. new ≡ old) devices.before devices.after)
+    → (◌≡◌ {A = Result T MakeError} (Err error) (Err DiskFault) → OneFaulted devices.faults_before devices.faults_after)
+    → ((◌≡◌ {A = Result T MakeError} (Err error) (Err DiskFault) → ⊥) → devices.faults_after ≡ devices.faults_before) → InitStops source devices (stop_of_make error)
 not-made source devices (NotEmpty device length) in_use kept counted quiet = (record { kept = kept (λ is. absurd cc); quiet = quiet (λ is. absurd cc) }, in_use device length refl)
 not-made source devices DiskFault in_use kept counted quiet = counted refl
 not-made source devices NoMemory in_use kept counted quiet = record { kept = kept (λ is. absurd cc); quiet = quiet (λ is. absurd cc) }

@@ -1,4 +1,4 @@
--- What the bytes that were read tell of the input.
+-- What the bytes that were read say of the input.
 use Rattle.std.proofs.Common.{◌≡◌, ◌≤◌, ◌<◌, ℕ, List, ◌++◌, length, Option, Some, None, Result, Ok, Err, refl, sym, ap, subst, ◌∙◌, arith, length-append}
 use Rattle.std.specs.Prelude.{IfSome, IfErr}
 use Rattle.std.specs.Io.KnownBytes.{prepend_known}
@@ -17,7 +17,7 @@ use Rattle.pac_main.specs.Causes.{GivesNoScript}
 use Rattle.pac_main.specs.Inputs.{input_of_read, input_of_script}
 use Rattle.pac_recover.specs.Gates.{RunOn}
 use Rattle.pac_main.specs.Replay.{IsReadAs}
-use Rattle.pac_main.specs.Streams.{Observed, FaultsRose}
+use Rattle.pac_main.specs.Streams.{Observed, AnyFaulted}
 use Rattle.pac_main.proofs.BatchLemmas.{running-batches}
 
 -- a result holds one error
@@ -34,7 +34,7 @@ if_err {T} {E} P r error is h = subst (λ (q : Result T E). IfErr q P) (sym is) 
 
 -- what is at most this is at most more
 pub gave-more : (few many : ℕ) (old new : Option (List ℕ)) → few ≤ many → GaveAtMost few old new → GaveAtMost many old new
-gave-more few many old new le gave = record { bytes = gave.bytes; within = omega (arith, le, gave.within); front = gave.front }
+gave-more few many old new le gave = record { bytes = gave.bytes; within = omega (arith, le, gave.within); prefix = gave.prefix }
 
 -- ---- the bytes that were read are the whole input, or more than it may have
 
@@ -58,9 +58,9 @@ of-input P None items whole h = tt
 of-input P (Some all) items whole h = subst P (sym whole) h
 
 -- an input that wasn't read has failed, or there was no memory for it
-pub not-read : {T : Type 0} (source : Observed) (error : ReadError) → (◌≡◌ {A = Result T ReadError} (Err error) (Err read.Failed) → FaultsRose source) → GivesNoScript source (input_of_read error)
-not-read source read.Failed rose = rose refl
-not-read source read.NoMemory rose = tt
+pub not-read : {T : Type 0} (source : Observed) (error : ReadError) → (◌≡◌ {A = Result T ReadError} (Err error) (Err read.Failed) → AnyFaulted source) → GivesNoScript source (input_of_read error)
+not-read source read.Failed faulted = faulted refl
+not-read source read.NoMemory faulted = tt
 
 -- ---- a script is what the whole input is read as
 

@@ -1,49 +1,49 @@
--- What is recovered of devices, why nothing is, and how the command ends by the stop that is told.
+-- What is recovered of devices, why nothing is, and how the command ends by the stop that is reported.
 use Rattle.std.proofs.Common.{◌≡◌, ◌≢◌, ℕ, Bool, true, false, List, [], ◌∷◌, length, Option, Some, None, Result, Ok, Err, inl, inr, refl, sym, subst, arith}
 use Rattle.std.specs.Prelude.{IsTrue}
 use Rattle.pac_ops.specs.declared.note.Note.{Note}
 use Rattle.pac_ops.specs.declared.transaction.Txn.{Txn}
-use Rattle.pac_outside.specs.Devices.{OneRose}
-use Rattle.pac_outside.specs.Disk.{DiskHistory, WhereTold}
+use Rattle.pac_outside.specs.Devices.{OneFaulted}
+use Rattle.pac_outside.specs.Disk.{DiskHistory, IfKnown}
 use Rattle.pac_types.specs.Execution.{first_over}
 use Rattle.pac_types.specs.Typing.{CatalogueState}
 use Rattle.pac_log.specs.declared.damage.DamageKind.{DamageKind}
 use Rattle.pac_check.specs.declared.damage.SlotDamageKind.{SlotDamageKind}
 use Rattle.pac_check.specs.declared.info.SlotName.{SlotName}
-use Rattle.pac_store.specs.Images.{Images, WhereRead}
+use Rattle.pac_store.specs.Images.{Images, IfReadKnown}
 use Rattle.pac_store.specs.Stands.{StandsFor}
 use Rattle.pac_recover.specs.declared.errors.Damage.TheVariants.{Log, Slot}
 use Rattle.pac_recover.specs.declared.errors.RecoverError.{RecoverError}
 use Rattle.pac_recover.specs.declared.errors.RecoverError.TheVariants as recover
 use Rattle.pac_recover.specs.declared.recovery.Recovered.{Recovered}
 use Rattle.pac_recover.specs.Damages.{IsDamagedLog, IsDamagedSlot}
-use Rattle.pac_recover.specs.Recovering.{AbortsIn, IsFrontOverLimit, IsOverIn, IsRecoveredFrom, IsRecoveredFront, Recovers}
-use Rattle.pac_recover.specs.Refusals.{HasNoStore, WhereHeld}
+use Rattle.pac_recover.specs.Recovering.{AbortsIn, IsPrefixOverLimit, IsOverIn, IsRecoveredFrom, IsRecoveredPrefix, Recovers}
+use Rattle.pac_recover.specs.Refusals.{HasNoStore, IfImagesKnown}
 use Rattle.pac_report.specs.Dump.{tables_text}
-use Rattle.pac_main.specs.Causes.{IsFrontUnrecovered, IsRecovered, IsUnrecovered, RecoverStops}
-use Rattle.pac_main.specs.Recover.{IsDumpOfFront, IsFaultless, IsRecovery, IsRefusedStore, RecoverEnds, RecoversFront, StaysInLimit}
+use Rattle.pac_main.specs.Causes.{IsPrefixUnrecovered, IsRecovered, IsUnrecovered, RecoverStops}
+use Rattle.pac_main.specs.Recover.{IsDumpOfPrefix, IsFaultless, IsRecovery, IsRefusedStore, RecoverEnds, RecoversPrefix, StaysInLimit}
 use Rattle.pac_main.specs.Stop.{line_of, status_of, stop_of_recover, takes_memory}
-use Rattle.pac_main.specs.Streams.{IsOneOf, IsTaken, IsTold, Observed, ObservedDevices}
+use Rattle.pac_main.specs.Streams.{IsOneOf, IsTaken, IsReported, Observed, ObservedDevices}
 use Rattle.pac_main.specs.declared.stop.Stop.{Stop}
 use Rattle.pac_main.specs.declared.stop.Stop.TheVariants.{Usage, Script as ScriptStop, NotEmpty, NoStore, Damaged, Aborted, RowsOver, InputFault, OutputFault, DiskFault, NoMemory, LogFull, TooLong, TooLarge}
 use Rattle.pac_main.proofs.StatusLemmas.{ADeviceRefusal, aborted_of, device_of, disk_of, never_done, output_of, over_of}
-use Rattle.pac_main.proofs.StopLemmas.{Told}
+use Rattle.pac_main.proofs.StopLemmas.{Reported}
 
--- ---- where the devices tell
+-- ---- where the devices' histories are known
 
-read_weaker : (P Q : Images → Type 0) → ((images : Images) → P images → Q images) → (log a b : Option DiskHistory) → WhereRead P log a b → WhereRead Q log a b
+read_weaker : (P Q : Images → Type 0) → ((images : Images) → P images → Q images) → (log a b : Option DiskHistory) → IfReadKnown P log a b → IfReadKnown Q log a b
 read_weaker P Q f None a b h = tt
 read_weaker P Q f (Some l) None b h = tt
 read_weaker P Q f (Some l) (Some x) None h = tt
 read_weaker P Q f (Some l) (Some x) (Some y) h = f _ h
 
-read_free : (P : Images → Type 0) → ((images : Images) → P images) → (log a b : Option DiskHistory) → WhereRead P log a b
+read_free : (P : Images → Type 0) → ((images : Images) → P images) → (log a b : Option DiskHistory) → IfReadKnown P log a b
 read_free P f None a b = tt
 read_free P f (Some l) None b = tt
 read_free P f (Some l) (Some x) None = tt
 read_free P f (Some l) (Some x) (Some y) = f _
 
-held_weaker : (P Q : Images → Type 0) → ((images : Images) → P images → Q images) → (devices : List (Option DiskHistory)) → WhereHeld P devices → WhereHeld Q devices
+held_weaker : (P Q : Images → Type 0) → ((images : Images) → P images → Q images) → (devices : List (Option DiskHistory)) → IfImagesKnown P devices → IfImagesKnown Q devices
 held_weaker P Q f [] h = absurd h
 held_weaker P Q f (log ∷ []) h = absurd h
 held_weaker P Q f (log ∷ a ∷ []) h = absurd h
@@ -57,21 +57,21 @@ abbrev pub IsError : RecoverError → RecoverError → Type 0
 IsError error other = ◌≡◌ {A = Result Recovered RecoverError} (Err error) (Err other)
 
 module _ (limit : ℕ) (log a b : Option DiskHistory) (was is : List ℕ) where
-  -- what a recovery tells with its error
+  -- what a recovery says with its error
   pub record Unrecovered (error : RecoverError) : Type 0 where
     pub no_store : IsError error recover.NoStore → HasNoStore (log ∷ a ∷ b ∷ [])
-    pub log_damage : (at : ℕ) (kind : DamageKind) → IsError error (recover.Damaged (Log at kind)) → WhereTold (λ told. IsDamagedLog at kind told.now.seen) log
-    pub slot_damage : (slot : SlotName) (at : ℕ) (kind : SlotDamageKind) → IsError error (recover.Damaged (Slot slot at kind)) → WhereRead (IsDamagedSlot slot at kind) log a b
-    pub abort : (note : Note) → IsError error (recover.AbortInLog note) → WhereRead (AbortsIn note) log a b
-    pub over : (table : List ℕ) (rows most : ℕ) → IsError error (recover.RowsOver table rows most) → (most ≡ limit) × WhereRead (IsOverIn table rows limit) log a b
-    pub stands : (text : List ℕ) (catalogue : CatalogueState) (history : List Txn) (least : ℕ) → WhereRead (λ images. StandsFor text catalogue history least images → Recovers catalogue history least (Err error)) log a b
-    pub disk_fault : IsError error recover.DiskFault → OneRose was is
+    pub log_damage : (at : ℕ) (kind : DamageKind) → IsError error (recover.Damaged (Log at kind)) → IfKnown (λ reported. IsDamagedLog at kind reported.now.seen) log
+    pub slot_damage : (slot : SlotName) (at : ℕ) (kind : SlotDamageKind) → IsError error (recover.Damaged (Slot slot at kind)) → IfReadKnown (IsDamagedSlot slot at kind) log a b
+    pub abort : (note : Note) → IsError error (recover.AbortInLog note) → IfReadKnown (AbortsIn note) log a b
+    pub over : (table : List ℕ) (rows most : ℕ) → IsError error (recover.RowsOver table rows most) → (most ≡ limit) × IfReadKnown (IsOverIn table rows limit) log a b
+    pub stands : (text : List ℕ) (catalogue : CatalogueState) (history : List Txn) (least : ℕ) → IfReadKnown (λ images. StandsFor text catalogue history least images → Recovers catalogue history least (Err error)) log a b
+    pub disk_fault : IsError error recover.DiskFault → OneFaulted was is
     pub quiet : (IsError error recover.DiskFault → ⊥) → is ≡ was
 
-  module _ (behind : List (Option DiskHistory)) (sink : Observed) where
+  module _ (after : List (Option DiskHistory)) (sink : Observed) where
     -- the devices, as they are observed
     abbrev devices : ObservedDevices
-    devices = record { before = log ∷ a ∷ b ∷ []; behind = behind; faults_before = was; faults_behind = is }
+    devices = record { before = log ∷ a ∷ b ∷ []; after = after; faults_before = was; faults_after = is }
 
     cause : (error : RecoverError) → Unrecovered error → IsUnrecovered limit devices sink (stop_of_recover error)
     cause recover.NoStore h = h.no_store refl
@@ -82,13 +82,13 @@ module _ (limit : ℕ) (log a b : Option DiskHistory) (was is : List ℕ) where
     cause recover.DiskFault h = h.disk_fault refl
     cause recover.NoMemory h = tt
 
-    front : (error : RecoverError) → Unrecovered error → (catalogue : CatalogueState) (history : List Txn) (least : ℕ) → Recovers catalogue history least (Err error) → IsFrontUnrecovered limit catalogue history least sink (stop_of_recover error)
-    front recover.NoStore h catalogue history least f = absurd f
-    front (recover.Damaged damage) h catalogue history least f = absurd f
-    front (recover.AbortInLog note) h catalogue history least f = absurd f
-    front (recover.RowsOver name rows most) h catalogue history least f = subst (λ (n : ℕ). IsFrontOverLimit catalogue history least name rows n) (h.over name rows most refl).0 f
-    front recover.DiskFault h catalogue history least f = tt
-    front recover.NoMemory h catalogue history least f = tt
+    prefix : (error : RecoverError) → Unrecovered error → (catalogue : CatalogueState) (history : List Txn) (least : ℕ) → Recovers catalogue history least (Err error) → IsPrefixUnrecovered limit catalogue history least sink (stop_of_recover error)
+    prefix recover.NoStore h catalogue history least f = absurd f
+    prefix (recover.Damaged damage) h catalogue history least f = absurd f
+    prefix (recover.AbortInLog note) h catalogue history least f = absurd f
+    prefix (recover.RowsOver name rows most) h catalogue history least f = subst (λ (n : ℕ). IsPrefixOverLimit catalogue history least name rows n) (h.over name rows most refl).0 f
+    prefix recover.DiskFault h catalogue history least f = tt
+    prefix recover.NoMemory h catalogue history least f = tt
 
     no_fault : (error : RecoverError) → Unrecovered error → stop_of_recover error ≢ DiskFault → is ≡ was
     no_fault recover.NoStore h other = h.quiet (λ e. absurd cc)
@@ -102,8 +102,8 @@ module _ (limit : ℕ) (log a b : Option DiskHistory) (was is : List ℕ) where
     not-recovered error h = record {
       cause = cause error h;
       stands = λ text catalogue history least.
-          read_weaker (λ images. StandsFor text catalogue history least images → Recovers catalogue history least (Err error)) (λ images. StandsFor text catalogue history least images → IsFrontUnrecovered limit catalogue history least sink (stop_of_recover error))
-          (λ images f stands. front error h catalogue history least (f stands)) log a b (h.stands text catalogue history least);
+          read_weaker (λ images. StandsFor text catalogue history least images → Recovers catalogue history least (Err error)) (λ images. StandsFor text catalogue history least images → IsPrefixUnrecovered limit catalogue history least sink (stop_of_recover error))
+          (λ images f stands. prefix error h catalogue history least (f stands)) log a b (h.stands text catalogue history least);
       quiet = no_fault error h;
     }
 
@@ -113,33 +113,33 @@ module _ (limit : ℕ) (log a b : Option DiskHistory) (was is : List ℕ) where
 
 -- ---- what is recovered
 
--- what a recovery tells of its tables
+-- what a recovery says of its tables
 pub record IsFound (limit : ℕ) (log a b : Option DiskHistory) (recovered : Recovered) : Type 0 where
-  pub is : WhereRead (IsRecoveredFrom recovered.catalogue recovered.tables.rows recovered.txns) log a b
+  pub is : IfReadKnown (IsRecoveredFrom recovered.catalogue recovered.tables.rows recovered.txns) log a b
   pub within : first_over limit (length recovered.catalogue.tables) recovered.tables.rows ≡ None
-  pub stands : (text : List ℕ) (catalogue : CatalogueState) (history : List Txn) (least : ℕ) → WhereRead (λ images. StandsFor text catalogue history least images → Recovers catalogue history least (Ok recovered)) log a b
+  pub stands : (text : List ℕ) (catalogue : CatalogueState) (history : List Txn) (least : ℕ) → IfReadKnown (λ images. StandsFor text catalogue history least images → Recovers catalogue history least (Ok recovered)) log a b
 
 -- the limit is handed down as another number type
-pub found_of : (limit number : ℕ) (log a b : Option DiskHistory) (recovered : Recovered) → number ≡ limit → WhereRead (IsRecoveredFrom recovered.catalogue recovered.tables.rows recovered.txns) log a b → first_over number (length recovered.catalogue.tables) recovered.tables.rows ≡ None
-    → ((text : List ℕ) (catalogue : CatalogueState) (history : List Txn) (least : ℕ) → WhereRead (λ images. StandsFor text catalogue history least images → Recovers catalogue history least (Ok recovered)) log a b) → IsFound limit log a b recovered
+pub found_of : (limit number : ℕ) (log a b : Option DiskHistory) (recovered : Recovered) → number ≡ limit → IfReadKnown (IsRecoveredFrom recovered.catalogue recovered.tables.rows recovered.txns) log a b → first_over number (length recovered.catalogue.tables) recovered.tables.rows ≡ None
+    → ((text : List ℕ) (catalogue : CatalogueState) (history : List Txn) (least : ℕ) → IfReadKnown (λ images. StandsFor text catalogue history least images → Recovers catalogue history least (Ok recovered)) log a b) → IsFound limit log a b recovered
 found_of limit number log a b recovered same is within stands = record { is = is; within = subst (λ (n : ℕ). first_over n (length recovered.catalogue.tables) recovered.tables.rows ≡ None) same within; stands = stands }
 
 module _ (limit : ℕ) (log a b : Option DiskHistory) (recovered : Recovered) (found : IsFound limit log a b recovered) (P : List ℕ → Type 0) (has : P (tables_text recovered.tables.rows 0 recovered.catalogue.tables)) where
   pub is-recovery : IsRecovery limit (log ∷ a ∷ b ∷ []) P
   is-recovery = record { catalogue = recovered.catalogue; tables = recovered.tables.rows; txns = recovered.txns; is = found.is; within = found.within; has = has }
 
-  one_front : (catalogue : CatalogueState) (history : List Txn) (least : ℕ) → IsRecoveredFront catalogue history least recovered → IsDumpOfFront limit catalogue history least P
-  one_front catalogue history least f = record {
+  one_prefix : (catalogue : CatalogueState) (history : List Txn) (least : ℕ) → IsRecoveredPrefix catalogue history least recovered → IsDumpOfPrefix limit catalogue history least P
+  one_prefix catalogue history least f = record {
     tables = recovered.tables.rows;
     are = record { count = recovered.txns; enough = f.enough; within = f.within; ends = f.ends };
     within = subst (λ (c : CatalogueState). first_over limit (length c.tables) recovered.tables.rows ≡ None) f.same found.within;
     has = subst (λ (c : CatalogueState). P (tables_text recovered.tables.rows 0 c.tables)) f.same has;
   }
 
-  pub is-front-dump : (text : List ℕ) (catalogue : CatalogueState) (history : List Txn) (least : ℕ) → WhereRead (λ images. StandsFor text catalogue history least images → IsDumpOfFront limit catalogue history least P) log a b
-  is-front-dump text catalogue history least =
-      read_weaker (λ images. StandsFor text catalogue history least images → Recovers catalogue history least (Ok recovered)) (λ images. StandsFor text catalogue history least images → IsDumpOfFront limit catalogue history least P)
-      (λ images f stands. one_front catalogue history least (f stands)) log a b (found.stands text catalogue history least)
+  pub is-prefix-dump : (text : List ℕ) (catalogue : CatalogueState) (history : List Txn) (least : ℕ) → IfReadKnown (λ images. StandsFor text catalogue history least images → IsDumpOfPrefix limit catalogue history least P) log a b
+  is-prefix-dump text catalogue history least =
+      read_weaker (λ images. StandsFor text catalogue history least images → Recovers catalogue history least (Ok recovered)) (λ images. StandsFor text catalogue history least images → IsDumpOfPrefix limit catalogue history least P)
+      (λ images f stands. one_prefix catalogue history least (f stands)) log a b (found.stands text catalogue history least)
 
 -- ---- the statuses
 
@@ -160,22 +160,22 @@ module _ (limit : ℕ) (devices : ObservedDevices) (sink errors : Observed) wher
   status (LogFull need) h = absurd h
   status (TooLarge bytes) h = absurd h
 
-  -- a device's refusal is told
-  refused : (stop : Stop) → ADeviceRefusal stop → IsUnrecovered limit devices sink stop → IsTold errors (line_of stop) → IsRefusedStore devices.before errors
+  -- a device's refusal is reported
+  refused : (stop : Stop) → ADeviceRefusal stop → IsUnrecovered limit devices sink stop → IsReported errors (line_of stop) → IsRefusedStore devices.before errors
   refused stop (inl d) h line = absurd (subst (IsUnrecovered limit devices sink) d.is h)
-  refused stop (inr (inl is)) h line = inl (subst (IsUnrecovered limit devices sink) is h, subst (λ (s : Stop). IsTold errors (line_of s)) is line)
-  refused stop (inr (inr d)) h line = inr (d.damage, subst (IsUnrecovered limit devices sink) d.is h, subst (λ (s : Stop). IsTold errors (line_of s)) d.is line)
+  refused stop (inr (inl is)) h line = inl (subst (IsUnrecovered limit devices sink) is h, subst (λ (s : Stop). IsReported errors (line_of s)) is line)
+  refused stop (inr (inr d)) h line = inr (d.damage, subst (IsUnrecovered limit devices sink) d.is h, subst (λ (s : Stop). IsReported errors (line_of s)) d.is line)
 
   module _ (catalogue : CatalogueState) (history : List Txn) (least : ℕ) where
-    not_refused : (stop : Stop) → ADeviceRefusal stop → IsUnrecovered limit devices sink stop → IsFrontUnrecovered limit catalogue history least sink stop → ⊥
+    not_refused : (stop : Stop) → ADeviceRefusal stop → IsUnrecovered limit devices sink stop → IsPrefixUnrecovered limit catalogue history least sink stop → ⊥
     not_refused stop (inl d) h f = subst (IsUnrecovered limit devices sink) d.is h
-    not_refused stop (inr (inl is)) h f = subst (IsFrontUnrecovered limit catalogue history least sink) is f
-    not_refused stop (inr (inr d)) h f = subst (IsFrontUnrecovered limit catalogue history least sink) d.is f
+    not_refused stop (inr (inl is)) h f = subst (IsPrefixUnrecovered limit catalogue history least sink) is f
+    not_refused stop (inr (inr d)) h f = subst (IsPrefixUnrecovered limit catalogue history least sink) d.is f
 
-    over : (name : List ℕ) (rows : ℕ) → IsFrontOverLimit catalogue history least name rows limit → StaysInLimit limit catalogue history least → ⊥
+    over : (name : List ℕ) (rows : ℕ) → IsPrefixOverLimit catalogue history least name rows limit → StaysInLimit limit catalogue history least → ⊥
     over name rows f stays = let none = stays f.held (record { count = f.count; enough = f.enough; within = f.within; ends = f.ends }) in let some = f.over.1 in absurd cc
 
-    complete : (stop : Stop) → IsUnrecovered limit devices sink stop → IsFrontUnrecovered limit catalogue history least sink stop → IsFaultless devices sink → StaysInLimit limit catalogue history least → IsOneOf (status_of stop) (0 ∷ 9 ∷ [])
+    complete : (stop : Stop) → IsUnrecovered limit devices sink stop → IsPrefixUnrecovered limit catalogue history least sink stop → IsFaultless devices sink → StaysInLimit limit catalogue history least → IsOneOf (status_of stop) (0 ∷ 9 ∷ [])
     complete NoStore h f none stays = absurd f
     complete (Damaged damage) h f none stays = absurd f
     complete (Aborted note) h f none stays = absurd f
@@ -191,17 +191,17 @@ module _ (limit : ℕ) (devices : ObservedDevices) (sink errors : Observed) wher
     complete (LogFull need) h f none stays = absurd h
     complete (TooLarge bytes) h f none stays = absurd h
 
-    stopped : (stop : Stop) → IsUnrecovered limit devices sink stop → IsFrontUnrecovered limit catalogue history least sink stop → RecoversFront limit (status_of stop) catalogue history least devices sink
+    stopped : (stop : Stop) → IsUnrecovered limit devices sink stop → IsPrefixUnrecovered limit catalogue history least sink stop → RecoversPrefix limit (status_of stop) catalogue history least devices sink
     stopped stop h f = record {
       done = λ zero. absurd (never_done stop zero);
       undamaged = λ three. not_refused stop (device_of stop three) h f;
-      executes = λ four. subst (IsFrontUnrecovered limit catalogue history least sink) (aborted_of stop four).is f;
-      over_limit = λ five. let o = over_of stop five in (o.name, o.rows, subst (IsFrontUnrecovered limit catalogue history least sink) o.is f);
-      output_fault = λ seven. subst (IsFrontUnrecovered limit catalogue history least sink) (output_of stop seven) f;
+      executes = λ four. subst (IsPrefixUnrecovered limit catalogue history least sink) (aborted_of stop four).is f;
+      over_limit = λ five. let o = over_of stop five in (o.name, o.rows, subst (IsPrefixUnrecovered limit catalogue history least sink) o.is f);
+      output_fault = λ seven. subst (IsPrefixUnrecovered limit catalogue history least sink) (output_of stop seven) f;
       complete = complete stop h f;
     }
 
-    finished : IsDumpOfFront limit catalogue history least (IsTaken sink) → RecoversFront limit 0 catalogue history least devices sink
+    finished : IsDumpOfPrefix limit catalogue history least (IsTaken sink) → RecoversPrefix limit 0 catalogue history least devices sink
     finished dump = record {
       done = λ zero. dump;
       undamaged = λ three. absurd (omega (arith, three));
@@ -211,47 +211,47 @@ module _ (limit : ℕ) (devices : ObservedDevices) (sink errors : Observed) wher
       complete = λ none stays. refl;
     }
 
-  ends_told : (stop : Stop) → RecoverStops limit devices sink stop → devices.behind ≡ devices.before → IsTold errors (line_of stop) → RecoverEnds limit (status_of stop) devices sink errors
-  ends_told stop h same line = record {
+  ends_reported : (stop : Stop) → RecoverStops limit devices sink stop → devices.after ≡ devices.before → IsReported errors (line_of stop) → RecoverEnds limit (status_of stop) devices sink errors
+  ends_reported stop h same line = record {
     statuses = status stop h.cause;
     stands = λ text catalogue history least.
-        held_weaker (λ images. StandsFor text catalogue history least images → IsFrontUnrecovered limit catalogue history least sink stop) (λ images. StandsFor text catalogue history least images → RecoversFront limit (status_of stop) catalogue history least devices sink)
+        held_weaker (λ images. StandsFor text catalogue history least images → IsPrefixUnrecovered limit catalogue history least sink stop) (λ images. StandsFor text catalogue history least images → RecoversPrefix limit (status_of stop) catalogue history least devices sink)
         (λ images f stands. stopped catalogue history least stop h.cause (f stands)) devices.before (h.stands text catalogue history least);
     done = λ zero. absurd (never_done stop zero);
     refused = λ three. refused stop (device_of stop three) h.cause line;
-    aborted = λ four. let a = aborted_of stop four in (a.note, subst (IsUnrecovered limit devices sink) a.is h.cause, subst (λ (s : Stop). IsTold errors (line_of s)) a.is line);
+    aborted = λ four. let a = aborted_of stop four in (a.note, subst (IsUnrecovered limit devices sink) a.is h.cause, subst (λ (s : Stop). IsReported errors (line_of s)) a.is line);
     over_limit = λ five.
         let o = over_of stop five in
         let why = subst (IsUnrecovered limit devices sink) o.is h.cause in
-        (o.name, o.rows, why.1, subst (λ (n : ℕ). IsTold errors (line_of (RowsOver o.name o.rows n))) why.0 (subst (λ (s : Stop). IsTold errors (line_of s)) o.is line));
+        (o.name, o.rows, why.1, subst (λ (n : ℕ). IsReported errors (line_of (RowsOver o.name o.rows n))) why.0 (subst (λ (s : Stop). IsReported errors (line_of s)) o.is line));
     output_fault = λ seven. subst (IsUnrecovered limit devices sink) (output_of stop seven) h.cause;
     disk_fault = λ eight. subst (IsUnrecovered limit devices sink) (disk_of stop eight) h.cause;
     untouched = same;
     quiet = λ other. h.quiet (λ is. other (subst (λ (s : Stop). status_of s ≡ 8) (sym is) refl));
   }
 
-  -- want of memory for a line is no fault of a device, which has a line that takes none
+  -- running out of memory for a line is no fault of a device, which has a line that takes none
   no_line : (stop : Stop) → IsTrue (takes_memory stop) → RecoverStops limit devices sink stop → RecoverStops limit devices sink NoMemory
   no_line stop memory h = record {
     cause = tt;
     stands = λ text catalogue history least.
-        held_weaker (λ images. StandsFor text catalogue history least images → IsFrontUnrecovered limit catalogue history least sink stop) (λ images. StandsFor text catalogue history least images → Unit {0}) (λ images f stands. tt) devices.before (h.stands text catalogue history least);
+        held_weaker (λ images. StandsFor text catalogue history least images → IsPrefixUnrecovered limit catalogue history least sink stop) (λ images. StandsFor text catalogue history least images → Unit {0}) (λ images f stands. tt) devices.before (h.stands text catalogue history least);
     quiet = λ other. h.quiet (λ is. let no : ◌≡◌ {A = Bool} false true = subst (λ (s : Stop). IsTrue (takes_memory s)) is memory in absurd cc);
   }
 
-  which : (stop told : Stop) → Told stop told → RecoverStops limit devices sink stop → RecoverStops limit devices sink told
-  which stop told (inl e) h = subst (RecoverStops limit devices sink) (sym e) h
-  which stop told (inr e) h = subst (RecoverStops limit devices sink) (sym e.0) (no_line stop e.1 h)
+  which : (stop reported : Stop) → Reported stop reported → RecoverStops limit devices sink stop → RecoverStops limit devices sink reported
+  which stop reported (inl e) h = subst (RecoverStops limit devices sink) (sym e) h
+  which stop reported (inr e) h = subst (RecoverStops limit devices sink) (sym e.0) (no_line stop e.1 h)
 
-  pub recover-ends : (stop told : Stop) (n : ℕ) → n ≡ status_of told → Told stop told → RecoverStops limit devices sink stop → devices.behind ≡ devices.before → IsTold errors (line_of told) → RecoverEnds limit n devices sink errors
-  recover-ends stop told n is same h untouched line =
-      subst (λ (m : ℕ). RecoverEnds limit m devices sink errors) (sym is) (ends_told told (which stop told same h) untouched line)
+  pub recover-ends : (stop reported : Stop) (n : ℕ) → n ≡ status_of reported → Reported stop reported → RecoverStops limit devices sink stop → devices.after ≡ devices.before → IsReported errors (line_of reported) → RecoverEnds limit n devices sink errors
+  recover-ends stop reported n is same h untouched line =
+      subst (λ (m : ℕ). RecoverEnds limit m devices sink errors) (sym is) (ends_reported reported (which stop reported same h) untouched line)
 
-  pub recover-done : IsRecovered limit devices sink → devices.behind ≡ devices.before → RecoverEnds limit 0 devices sink errors
+  pub recover-done : IsRecovered limit devices sink → devices.after ≡ devices.before → RecoverEnds limit 0 devices sink errors
   recover-done h same = record {
     statuses = refl;
     stands = λ text catalogue history least.
-        held_weaker (λ images. StandsFor text catalogue history least images → IsDumpOfFront limit catalogue history least (IsTaken sink)) (λ images. StandsFor text catalogue history least images → RecoversFront limit 0 catalogue history least devices sink)
+        held_weaker (λ images. StandsFor text catalogue history least images → IsDumpOfPrefix limit catalogue history least (IsTaken sink)) (λ images. StandsFor text catalogue history least images → RecoversPrefix limit 0 catalogue history least devices sink)
         (λ images f stands. finished catalogue history least (f stands)) devices.before (h.stands text catalogue history least);
     done = λ zero. h.dump;
     refused = λ three. absurd (omega (arith, three));
@@ -263,9 +263,9 @@ module _ (limit : ℕ) (devices : ObservedDevices) (sink errors : Observed) wher
     quiet = λ other. h.quiet;
   }
 
--- ---- want of memory has no cause
+-- ---- running out of memory has no cause
 
-no_memory : (limit n : ℕ) (devices : ObservedDevices) (sink : Observed) (catalogue : CatalogueState) (history : List Txn) (least : ℕ) → n ≡ 9 → RecoversFront limit n catalogue history least devices sink
+no_memory : (limit n : ℕ) (devices : ObservedDevices) (sink : Observed) (catalogue : CatalogueState) (history : List Txn) (least : ℕ) → n ≡ 9 → RecoversPrefix limit n catalogue history least devices sink
 no_memory limit n devices sink catalogue history least is = record {
   done = λ zero. absurd (omega (arith, is, zero));
   undamaged = λ three. absurd (omega (arith, is, three));
@@ -277,13 +277,13 @@ no_memory limit n devices sink catalogue history least is = record {
 
 -- devices that are not called
 abbrev pub uncalled : Option DiskHistory → Option DiskHistory → Option DiskHistory → List ℕ → ObservedDevices
-uncalled log a b faults = record { before = log ∷ a ∷ b ∷ []; behind = log ∷ a ∷ b ∷ []; faults_before = faults; faults_behind = faults }
+uncalled log a b faults = record { before = log ∷ a ∷ b ∷ []; after = log ∷ a ∷ b ∷ []; faults_before = faults; faults_after = faults }
 
 pub recover-memory : (limit n : ℕ) (log a b : Option DiskHistory) (faults : List ℕ) (sink errors : Observed) → n ≡ 9 → RecoverEnds limit n (uncalled log a b faults) sink errors
 recover-memory limit n log a b faults sink errors is = record {
   statuses = subst (λ (m : ℕ). IsOneOf m (0 ∷ 3 ∷ 4 ∷ 5 ∷ 7 ∷ 8 ∷ 9 ∷ [])) (sym is) refl;
   stands = λ text catalogue history least.
-      read_free (λ images. StandsFor text catalogue history least images → RecoversFront limit n catalogue history least (uncalled log a b faults) sink) (λ images stands. no_memory limit n (uncalled log a b faults) sink catalogue history least is) log a b;
+      read_free (λ images. StandsFor text catalogue history least images → RecoversPrefix limit n catalogue history least (uncalled log a b faults) sink) (λ images stands. no_memory limit n (uncalled log a b faults) sink catalogue history least is) log a b;
   done = λ zero. absurd (omega (arith, is, zero));
   refused = λ three. absurd (omega (arith, is, three));
   aborted = λ four. absurd (omega (arith, is, four));

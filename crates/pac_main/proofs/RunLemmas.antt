@@ -1,40 +1,40 @@
--- Why a run stops, and how the command ends by the stop that is told.
+-- Why a run stops, and how the command ends by the stop that is reported.
 use Rattle.std.proofs.Common.{◌≡◌, ◌≢◌, ◌⊎◌, ℕ, Bool, true, false, List, [], ◌∷◌, take, Option, Some, None, Result, Ok, Err, inl, inr, refl, sym, ap, subst, ◌∙◌, arith}
 use Rattle.std.proofs.Math.Seq.{take-nil}
 use Rattle.pac_ops.specs.declared.note.Note.{Note}
 use Rattle.pac_ops.specs.declared.transaction.Txn.{Txn}
-use Rattle.pac_outside.specs.Devices.{OneRose}
-use Rattle.pac_outside.specs.Disk.{DiskHistory, WhereTold}
+use Rattle.pac_outside.specs.Devices.{OneFaulted}
+use Rattle.pac_outside.specs.Disk.{DiskHistory, IfKnown}
 use Rattle.pac_types.specs.Typing.{CatalogueState}
 use Rattle.pac_log.specs.declared.damage.DamageKind.{DamageKind}
 use Rattle.pac_check.specs.declared.damage.SlotDamageKind.{SlotDamageKind}
 use Rattle.pac_check.specs.declared.info.SlotName.{SlotName}
-use Rattle.pac_store.specs.Images.{Images, WhereRead}
+use Rattle.pac_store.specs.Images.{Images, IfReadKnown}
 use Rattle.pac_store.specs.Stands.{StandsFor}
 use Rattle.pac_recover.specs.declared.errors.Damage.TheVariants.{Log, Slot}
 use Rattle.pac_recover.specs.Damages.{IsDamagedLog, IsDamagedSlot}
-use Rattle.pac_recover.specs.Recovering.{AbortsIn, IsFrontOverLimit, IsOverIn}
+use Rattle.pac_recover.specs.Recovering.{AbortsIn, IsPrefixOverLimit, IsOverIn}
 use Rattle.pac_recover.specs.Refusals.{HasNoStore}
-use Rattle.pac_recover.proofs.StandsLemmas.{is-store, no-abort, no-log-damage, no-slot-damage, over-front}
+use Rattle.pac_recover.proofs.StandsLemmas.{is-store, no-abort, no-log-damage, no-slot-damage, over-prefix}
 use Rattle.pac_session.specs.Session.{Rules, SessionState}
 use Rattle.pac_request.specs.declared.request.Request.{Request}
 use Rattle.pac_request.specs.declared.request.Reply.{Reply}
 use Rattle.pac_run.specs.Run.{IsRun}
 use Rattle.pac_run.specs.Stopping.{IsStopped}
-use Rattle.pac_run.specs.Texts.{IsTextFront, texts}
+use Rattle.pac_run.specs.Texts.{IsTextPrefix, texts}
 use Rattle.pac_run.specs.declared.stop.RunStop.{RunStop}
 use Rattle.pac_run.specs.declared.stop.RunStop.TheVariants as run
 use Rattle.pac_main.specs.Causes.{RunCause}
 use Rattle.pac_main.specs.Recover.{IsRefusedStore}
-use Rattle.pac_main.specs.Run.{RunEnds, RunsOnFront}
+use Rattle.pac_main.specs.Run.{RunEnds, RunsOnPrefix}
 use Rattle.pac_main.specs.Stop.{line_of, status_of, stop_of_run}
-use Rattle.pac_main.specs.Streams.{FaultsRose, IsOneOf, IsTold, Observed, ObservedDevices}
+use Rattle.pac_main.specs.Streams.{AnyFaulted, IsOneOf, IsReported, Observed, ObservedDevices}
 use Rattle.pac_main.specs.declared.stop.Stop.{Stop}
 use Rattle.pac_main.specs.declared.stop.Stop.TheVariants as stop
 use Rattle.pac_main.proofs.IdleLemmas.{idle-run}
 use Rattle.pac_main.proofs.RecoverLemmas.{uncalled}
 use Rattle.pac_main.proofs.RunStatusLemmas.{RunDamage, run_aborted_of, run_disk_of, run_full_of, run_input_of, run_large_of, run_long_of, run_never_done, run_output_of, run_over_of, run_refused_of}
-use Rattle.pac_main.proofs.StopLemmas.{Told}
+use Rattle.pac_main.proofs.StopLemmas.{Reported}
 
 -- ---- why a run stops
 
@@ -43,19 +43,19 @@ abbrev pub IsStop : RunStop → RunStop → Type 0
 IsStop why other = ◌≡◌ {A = Result (Unit {0}) RunStop} (Err why) (Err other)
 
 module _ (limit : ℕ) (source sink : Observed) (log a b : Option DiskHistory) (was is : List ℕ) where
-  -- what a run tells with its stop
-  pub record TellsStop (why : RunStop) : Type 0 where
+  -- what a run says with its stop
+  pub record ReportsStop (why : RunStop) : Type 0 where
     pub no_store : IsStop why run.NoStore → HasNoStore (log ∷ a ∷ b ∷ [])
-    pub log_damage : (at : ℕ) (kind : DamageKind) → IsStop why (run.Damaged (Log at kind)) → WhereTold (λ told. IsDamagedLog at kind told.now.seen) log
-    pub slot_damage : (slot : SlotName) (at : ℕ) (kind : SlotDamageKind) → IsStop why (run.Damaged (Slot slot at kind)) → WhereRead (IsDamagedSlot slot at kind) log a b
-    pub abort : (note : Note) → IsStop why (run.AbortInLog note) → WhereRead (AbortsIn note) log a b
-    pub over : (table : List ℕ) (rows most : ℕ) → IsStop why (run.RowsOver table rows most) → (most ≡ limit) × WhereRead (IsOverIn table rows limit) log a b
-    pub input_fault : IsStop why run.InputFault → FaultsRose source
-    pub output_fault : IsStop why run.OutputFault → FaultsRose sink
-    pub disk_fault : IsStop why run.DiskFault → OneRose was is
+    pub log_damage : (at : ℕ) (kind : DamageKind) → IsStop why (run.Damaged (Log at kind)) → IfKnown (λ reported. IsDamagedLog at kind reported.now.seen) log
+    pub slot_damage : (slot : SlotName) (at : ℕ) (kind : SlotDamageKind) → IsStop why (run.Damaged (Slot slot at kind)) → IfReadKnown (IsDamagedSlot slot at kind) log a b
+    pub abort : (note : Note) → IsStop why (run.AbortInLog note) → IfReadKnown (AbortsIn note) log a b
+    pub over : (table : List ℕ) (rows most : ℕ) → IsStop why (run.RowsOver table rows most) → (most ≡ limit) × IfReadKnown (IsOverIn table rows limit) log a b
+    pub input_fault : IsStop why run.InputFault → AnyFaulted source
+    pub output_fault : IsStop why run.OutputFault → AnyFaulted sink
+    pub disk_fault : IsStop why run.DiskFault → OneFaulted was is
 
-  module _ (behind : List (Option DiskHistory)) where
-    pub run-cause : (why : RunStop) → TellsStop why → RunCause limit source sink (record { before = log ∷ a ∷ b ∷ []; behind = behind; faults_before = was; faults_behind = is }) why
+  module _ (after : List (Option DiskHistory)) where
+    pub run-cause : (why : RunStop) → ReportsStop why → RunCause limit source sink (record { before = log ∷ a ∷ b ∷ []; after = after; faults_before = was; faults_after = is }) why
     run-cause run.NoStore h = h.no_store refl
     run-cause (run.Damaged (Log at kind)) h = h.log_damage at kind refl
     run-cause (run.Damaged (Slot slot at kind)) h = h.slot_damage slot at kind refl
@@ -72,69 +72,69 @@ module _ (limit : ℕ) (source sink : Observed) (log a b : Option DiskHistory) (
 -- ---- on devices that stand for a history
 
 -- why a run stops there
-abbrev pub IsFrontStop : ℕ → CatalogueState → List Txn → ℕ → RunStop → Type 0
-IsFrontStop limit catalogue history least run.NoStore = ⊥
-IsFrontStop limit catalogue history least (run.Damaged damage) = ⊥
-IsFrontStop limit catalogue history least (run.AbortInLog note) = ⊥
-IsFrontStop limit catalogue history least (run.RowsOver name rows most) = IsFrontOverLimit catalogue history least name rows limit
-IsFrontStop limit catalogue history least _ = Unit {0}
+abbrev pub IsPrefixStop : ℕ → CatalogueState → List Txn → ℕ → RunStop → Type 0
+IsPrefixStop limit catalogue history least run.NoStore = ⊥
+IsPrefixStop limit catalogue history least (run.Damaged damage) = ⊥
+IsPrefixStop limit catalogue history least (run.AbortInLog note) = ⊥
+IsPrefixStop limit catalogue history least (run.RowsOver name rows most) = IsPrefixOverLimit catalogue history least name rows limit
+IsPrefixStop limit catalogue history least _ = Unit {0}
 
-module _ (limit : ℕ) (source sink : Observed) (behind : List (Option DiskHistory)) (was is : List ℕ) (text : List ℕ) (catalogue : CatalogueState) (history : List Txn) (least : ℕ) where
+module _ (limit : ℕ) (source sink : Observed) (after : List (Option DiskHistory)) (was is : List ℕ) (text : List ℕ) (catalogue : CatalogueState) (history : List Txn) (least : ℕ) where
   abbrev held_by : Option DiskHistory → Option DiskHistory → Option DiskHistory → ObservedDevices
-  held_by log a b = record { before = log ∷ a ∷ b ∷ []; behind = behind; faults_before = was; faults_behind = is }
+  held_by log a b = record { before = log ∷ a ∷ b ∷ []; after = after; faults_before = was; faults_after = is }
 
-  front_here : (l x y : DiskHistory) (why : RunStop) → RunCause limit source sink (held_by (Some l) (Some x) (Some y)) why
-      → StandsFor text catalogue history least (record { log = l.now.seen; slot_a = x.now.seen; slot_b = y.now.seen }) → IsFrontStop limit catalogue history least why
-  front_here l x y run.NoStore h stands = is-store text catalogue history least (record { log = l.now.seen; slot_a = x.now.seen; slot_b = y.now.seen }) stands h
-  front_here l x y (run.Damaged (Log at kind)) h stands = no-log-damage text catalogue history least (record { log = l.now.seen; slot_a = x.now.seen; slot_b = y.now.seen }) stands at kind h
-  front_here l x y (run.Damaged (Slot slot at kind)) h stands = no-slot-damage text catalogue history least (record { log = l.now.seen; slot_a = x.now.seen; slot_b = y.now.seen }) stands slot at kind h
-  front_here l x y (run.AbortInLog note) h stands = no-abort text catalogue history least (record { log = l.now.seen; slot_a = x.now.seen; slot_b = y.now.seen }) stands note h
-  front_here l x y (run.RowsOver name rows most) h stands = over-front text catalogue history least (record { log = l.now.seen; slot_a = x.now.seen; slot_b = y.now.seen }) stands name rows limit h.1
-  front_here l x y run.InputFault h stands = tt
-  front_here l x y run.OutputFault h stands = tt
-  front_here l x y run.DiskFault h stands = tt
-  front_here l x y run.NoMemory h stands = tt
-  front_here l x y (run.LogFull need) h stands = tt
-  front_here l x y run.TooLong h stands = tt
-  front_here l x y (run.TooLarge bytes) h stands = tt
+  prefix_here : (l x y : DiskHistory) (why : RunStop) → RunCause limit source sink (held_by (Some l) (Some x) (Some y)) why
+      → StandsFor text catalogue history least (record { log = l.now.seen; slot_a = x.now.seen; slot_b = y.now.seen }) → IsPrefixStop limit catalogue history least why
+  prefix_here l x y run.NoStore h stands = is-store text catalogue history least (record { log = l.now.seen; slot_a = x.now.seen; slot_b = y.now.seen }) stands h
+  prefix_here l x y (run.Damaged (Log at kind)) h stands = no-log-damage text catalogue history least (record { log = l.now.seen; slot_a = x.now.seen; slot_b = y.now.seen }) stands at kind h
+  prefix_here l x y (run.Damaged (Slot slot at kind)) h stands = no-slot-damage text catalogue history least (record { log = l.now.seen; slot_a = x.now.seen; slot_b = y.now.seen }) stands slot at kind h
+  prefix_here l x y (run.AbortInLog note) h stands = no-abort text catalogue history least (record { log = l.now.seen; slot_a = x.now.seen; slot_b = y.now.seen }) stands note h
+  prefix_here l x y (run.RowsOver name rows most) h stands = over-prefix text catalogue history least (record { log = l.now.seen; slot_a = x.now.seen; slot_b = y.now.seen }) stands name rows limit h.1
+  prefix_here l x y run.InputFault h stands = tt
+  prefix_here l x y run.OutputFault h stands = tt
+  prefix_here l x y run.DiskFault h stands = tt
+  prefix_here l x y run.NoMemory h stands = tt
+  prefix_here l x y (run.LogFull need) h stands = tt
+  prefix_here l x y run.TooLong h stands = tt
+  prefix_here l x y (run.TooLarge bytes) h stands = tt
 
-  pub run-front : (log a b : Option DiskHistory) (why : RunStop) → RunCause limit source sink (held_by log a b) why
-      → WhereRead (λ images. StandsFor text catalogue history least images → IsFrontStop limit catalogue history least why) log a b
-  run-front None a b why h = tt
-  run-front (Some l) None b why h = tt
-  run-front (Some l) (Some x) None why h = tt
-  run-front (Some l) (Some x) (Some y) why h = front_here l x y why h
+  pub run-prefix : (log a b : Option DiskHistory) (why : RunStop) → RunCause limit source sink (held_by log a b) why
+      → IfReadKnown (λ images. StandsFor text catalogue history least images → IsPrefixStop limit catalogue history least why) log a b
+  run-prefix None a b why h = tt
+  run-prefix (Some l) None b why h = tt
+  run-prefix (Some l) (Some x) None why h = tt
+  run-prefix (Some l) (Some x) (Some y) why h = prefix_here l x y why h
 
 -- ---- how the command ends
 
-read_then : (P Q : Images → Type 0) → ((images : Images) → P images → Q images) → (log a b : Option DiskHistory) → WhereRead P log a b → WhereRead Q log a b
+read_then : (P Q : Images → Type 0) → ((images : Images) → P images → Q images) → (log a b : Option DiskHistory) → IfReadKnown P log a b → IfReadKnown Q log a b
 read_then P Q f None a b h = tt
 read_then P Q f (Some l) None b h = tt
 read_then P Q f (Some l) (Some x) None h = tt
 read_then P Q f (Some l) (Some x) (Some y) h = f _ h
 
-read_any : (P : Images → Type 0) → ((images : Images) → P images) → (log a b : Option DiskHistory) → WhereRead P log a b
+read_any : (P : Images → Type 0) → ((images : Images) → P images) → (log a b : Option DiskHistory) → IfReadKnown P log a b
 read_any P f None a b = tt
 read_any P f (Some l) None b = tt
 read_any P f (Some l) (Some x) None = tt
 read_any P f (Some l) (Some x) (Some y) = f _
 
 -- a status that no stored cause has
-other_front : (limit n : ℕ) (catalogue : CatalogueState) (history : List Txn) (least : ℕ) → n ≢ 3 → n ≢ 4 → n ≢ 5 → RunsOnFront limit n catalogue history least
-other_front limit n catalogue history least three four five = record { undamaged = three; executes = four; over_limit = λ e. absurd (five e) }
+other_prefix : (limit n : ℕ) (catalogue : CatalogueState) (history : List Txn) (least : ℕ) → n ≢ 3 → n ≢ 4 → n ≢ 5 → RunsOnPrefix limit n catalogue history least
+other_prefix limit n catalogue history least three four five = record { undamaged = three; executes = four; over_limit = λ e. absurd (five e) }
 
-front_of : (limit : ℕ) (catalogue : CatalogueState) (history : List Txn) (least : ℕ) (why : RunStop) → IsFrontStop limit catalogue history least why → RunsOnFront limit (status_of (stop_of_run why)) catalogue history least
-front_of limit catalogue history least run.NoStore h = absurd h
-front_of limit catalogue history least (run.Damaged damage) h = absurd h
-front_of limit catalogue history least (run.AbortInLog note) h = absurd h
-front_of limit catalogue history least (run.RowsOver name rows most) h = record { undamaged = λ e. absurd (omega (arith, e)); executes = λ e. absurd (omega (arith, e)); over_limit = λ e. (name, rows, h) }
-front_of limit catalogue history least run.InputFault h = other_front limit 6 catalogue history least (λ e. absurd (omega (arith, e))) (λ e. absurd (omega (arith, e))) (λ e. absurd (omega (arith, e)))
-front_of limit catalogue history least run.OutputFault h = other_front limit 7 catalogue history least (λ e. absurd (omega (arith, e))) (λ e. absurd (omega (arith, e))) (λ e. absurd (omega (arith, e)))
-front_of limit catalogue history least run.DiskFault h = other_front limit 8 catalogue history least (λ e. absurd (omega (arith, e))) (λ e. absurd (omega (arith, e))) (λ e. absurd (omega (arith, e)))
-front_of limit catalogue history least run.NoMemory h = other_front limit 9 catalogue history least (λ e. absurd (omega (arith, e))) (λ e. absurd (omega (arith, e))) (λ e. absurd (omega (arith, e)))
-front_of limit catalogue history least (run.LogFull need) h = other_front limit 10 catalogue history least (λ e. absurd (omega (arith, e))) (λ e. absurd (omega (arith, e))) (λ e. absurd (omega (arith, e)))
-front_of limit catalogue history least run.TooLong h = other_front limit 11 catalogue history least (λ e. absurd (omega (arith, e))) (λ e. absurd (omega (arith, e))) (λ e. absurd (omega (arith, e)))
-front_of limit catalogue history least (run.TooLarge bytes) h = other_front limit 12 catalogue history least (λ e. absurd (omega (arith, e))) (λ e. absurd (omega (arith, e))) (λ e. absurd (omega (arith, e)))
+prefix_of : (limit : ℕ) (catalogue : CatalogueState) (history : List Txn) (least : ℕ) (why : RunStop) → IsPrefixStop limit catalogue history least why → RunsOnPrefix limit (status_of (stop_of_run why)) catalogue history least
+prefix_of limit catalogue history least run.NoStore h = absurd h
+prefix_of limit catalogue history least (run.Damaged damage) h = absurd h
+prefix_of limit catalogue history least (run.AbortInLog note) h = absurd h
+prefix_of limit catalogue history least (run.RowsOver name rows most) h = record { undamaged = λ e. absurd (omega (arith, e)); executes = λ e. absurd (omega (arith, e)); over_limit = λ e. (name, rows, h) }
+prefix_of limit catalogue history least run.InputFault h = other_prefix limit 6 catalogue history least (λ e. absurd (omega (arith, e))) (λ e. absurd (omega (arith, e))) (λ e. absurd (omega (arith, e)))
+prefix_of limit catalogue history least run.OutputFault h = other_prefix limit 7 catalogue history least (λ e. absurd (omega (arith, e))) (λ e. absurd (omega (arith, e))) (λ e. absurd (omega (arith, e)))
+prefix_of limit catalogue history least run.DiskFault h = other_prefix limit 8 catalogue history least (λ e. absurd (omega (arith, e))) (λ e. absurd (omega (arith, e))) (λ e. absurd (omega (arith, e)))
+prefix_of limit catalogue history least run.NoMemory h = other_prefix limit 9 catalogue history least (λ e. absurd (omega (arith, e))) (λ e. absurd (omega (arith, e))) (λ e. absurd (omega (arith, e)))
+prefix_of limit catalogue history least (run.LogFull need) h = other_prefix limit 10 catalogue history least (λ e. absurd (omega (arith, e))) (λ e. absurd (omega (arith, e))) (λ e. absurd (omega (arith, e)))
+prefix_of limit catalogue history least run.TooLong h = other_prefix limit 11 catalogue history least (λ e. absurd (omega (arith, e))) (λ e. absurd (omega (arith, e))) (λ e. absurd (omega (arith, e)))
+prefix_of limit catalogue history least (run.TooLarge bytes) h = other_prefix limit 12 catalogue history least (λ e. absurd (omega (arith, e))) (λ e. absurd (omega (arith, e))) (λ e. absurd (omega (arith, e)))
 
 run_status : (why : RunStop) → IsOneOf (status_of (stop_of_run why)) (0 ∷ 3 ∷ 4 ∷ 5 ∷ 6 ∷ 7 ∷ 8 ∷ 9 ∷ 10 ∷ 11 ∷ 12 ∷ [])
 run_status run.NoStore = refl
@@ -150,8 +150,8 @@ run_status run.TooLong = refl
 run_status (run.TooLarge bytes) = refl
 
 -- nothing was given out where the store wasn't opened
-no_text : (catalogue : CatalogueState) (given : List Reply) (out : List ℕ) → given ≡ [] → IsTextFront out (texts catalogue given) → out ≡ []
-no_text catalogue given out none front = front.is ∙ ap (λ (g : List Reply). take front.count (texts catalogue g)) none ∙ take-nil front.count
+no_text : (catalogue : CatalogueState) (given : List Reply) (out : List ℕ) → given ≡ [] → IsTextPrefix out (texts catalogue given) → out ≡ []
+no_text catalogue given out none prefix = prefix.is ∙ ap (λ (g : List Reply). take prefix.count (texts catalogue g)) none ∙ take-nil prefix.count
 
 none_given : (rules : Rules) (place : ℕ) (start : SessionState) (requests : List Request) (given : List Reply) (why : RunStop)
     → IsOneOf (status_of (stop_of_run why)) (3 ∷ 4 ∷ 5 ∷ []) → IsStopped rules place start requests given why → given ≡ []
@@ -168,59 +168,59 @@ none_given rules place start requests given (run.LogFull need) early (inr at) = 
 none_given rules place start requests given run.TooLong early (inr at) = let no : ◌≡◌ {A = Bool} false true = early in absurd cc
 none_given rules place start requests given (run.TooLarge bytes) early (inr at) = let no : ◌≡◌ {A = Bool} false true = early in absurd cc
 
-module _ (batch limit : ℕ) (source sink errors : Observed) (log a b : Option DiskHistory) (behind : List (Option DiskHistory)) (was is : List ℕ) where
+module _ (group_size limit : ℕ) (source sink errors : Observed) (log a b : Option DiskHistory) (after : List (Option DiskHistory)) (was is : List ℕ) where
   abbrev devices : ObservedDevices
-  devices = record { before = log ∷ a ∷ b ∷ []; behind = behind; faults_before = was; faults_behind = is }
+  devices = record { before = log ∷ a ∷ b ∷ []; after = after; faults_before = was; faults_after = is }
 
   abbrev Ran : Result (Unit {0}) RunStop → Type 0
-  Ran end = IsRun batch limit source.before source.behind sink.before sink.behind devices.before devices.behind (FaultsRose sink) end
+  Ran end = IsRun group_size limit source.before source.after sink.before sink.after devices.before devices.after (AnyFaulted sink) end
 
   abbrev Cause : RunStop → Type 0
   Cause = RunCause limit source sink devices
 
-  abbrev LineTold : RunStop → Type 0
-  LineTold why = IsTold errors (line_of (stop_of_run why))
+  abbrev LineReported : RunStop → Type 0
+  LineReported why = IsReported errors (line_of (stop_of_run why))
 
-  refused : (why : RunStop) → (why ≡ run.NoStore) ⊎ RunDamage why → Cause why → LineTold why → IsRefusedStore devices.before errors
-  refused why (inl e) h line = inl (subst Cause e h, subst LineTold e line)
-  refused why (inr d) h line = inr (d.damage, subst Cause d.is h, subst LineTold d.is line)
+  refused : (why : RunStop) → (why ≡ run.NoStore) ⊎ RunDamage why → Cause why → LineReported why → IsRefusedStore devices.before errors
+  refused why (inl e) h line = inl (subst Cause e h, subst LineReported e line)
+  refused why (inr d) h line = inr (d.damage, subst Cause d.is h, subst LineReported d.is line)
 
   end_is : (why other : RunStop) → why ≡ other → ◌≡◌ {A = Result (Unit {0}) RunStop} (Err why) (Err other)
   end_is why other e = cc
 
-  itself : (why : RunStop) → Ran (Err why) → Cause why → LineTold why → RunEnds batch limit (status_of (stop_of_run why)) source sink errors devices
+  itself : (why : RunStop) → Ran (Err why) → Cause why → LineReported why → RunEnds group_size limit (status_of (stop_of_run why)) source sink errors devices
   itself why ran h line = record {
     statuses = run_status why;
     end = Err why;
     is = ran;
     stands = λ text catalogue history least.
-        read_then (λ images. StandsFor text catalogue history least images → IsFrontStop limit catalogue history least why) (λ images. StandsFor text catalogue history least images → RunsOnFront limit (status_of (stop_of_run why)) catalogue history least)
-        (λ images f stands. front_of limit catalogue history least why (f stands)) log a b (run-front limit source sink behind was is text catalogue history least log a b why h);
+        read_then (λ images. StandsFor text catalogue history least images → IsPrefixStop limit catalogue history least why) (λ images. StandsFor text catalogue history least images → RunsOnPrefix limit (status_of (stop_of_run why)) catalogue history least)
+        (λ images f stands. prefix_of limit catalogue history least why (f stands)) log a b (run-prefix limit source sink after was is text catalogue history least log a b why h);
     done = λ zero. absurd (run_never_done why zero);
     refused = λ three. refused why (run_refused_of why three) h line;
-    aborted = λ four. let t = run_aborted_of why four in (t.note, subst Cause t.is h, subst LineTold t.is line);
+    aborted = λ four. let t = run_aborted_of why four in (t.note, subst Cause t.is h, subst LineReported t.is line);
     over_limit = λ five.
         let t = run_over_of why five in
         let cause = subst Cause t.is h in
-        (t.name, t.rows, cause.1, subst (λ (n : ℕ). IsTold errors (line_of (stop.RowsOver t.name t.rows n))) cause.0 (subst LineTold t.is line));
+        (t.name, t.rows, cause.1, subst (λ (n : ℕ). IsReported errors (line_of (stop.RowsOver t.name t.rows n))) cause.0 (subst LineReported t.is line));
     unserved = λ early. no_text ran.rules.catalogue ran.given ran.out (none_given ran.rules ran.place ran.start ran.requests ran.given why early ran.stopped) ran.written;
     input_fault = λ six. (end_is why run.InputFault (run_input_of why six), subst Cause (run_input_of why six) h);
     output_fault = λ seven. (end_is why run.OutputFault (run_output_of why seven), subst Cause (run_output_of why seven) h);
     disk_fault = λ eight. (end_is why run.DiskFault (run_disk_of why eight), subst Cause (run_disk_of why eight) h);
-    log_full = λ ten. let t = run_full_of why ten in (t.need, end_is why (run.LogFull t.need) t.is, subst LineTold t.is line);
+    log_full = λ ten. let t = run_full_of why ten in (t.need, end_is why (run.LogFull t.need) t.is, subst LineReported t.is line);
     too_long = λ eleven. end_is why run.TooLong (run_long_of why eleven);
-    too_large = λ twelve. let t = run_large_of why twelve in (t.bytes, end_is why (run.TooLarge t.bytes) t.is, subst LineTold t.is line);
+    too_large = λ twelve. let t = run_large_of why twelve in (t.bytes, end_is why (run.TooLarge t.bytes) t.is, subst LineReported t.is line);
   }
 
-  -- want of memory has no cause
-  pub run-memory : (end : Result (Unit {0}) RunStop) (n : ℕ) → n ≡ 9 → Ran end → RunEnds batch limit n source sink errors devices
+  -- running out of memory has no cause
+  pub run-memory : (end : Result (Unit {0}) RunStop) (n : ℕ) → n ≡ 9 → Ran end → RunEnds group_size limit n source sink errors devices
   run-memory end n nine ran = record {
     statuses = subst (λ (m : ℕ). IsOneOf m (0 ∷ 3 ∷ 4 ∷ 5 ∷ 6 ∷ 7 ∷ 8 ∷ 9 ∷ 10 ∷ 11 ∷ 12 ∷ [])) (sym nine) refl;
     end = end;
     is = ran;
     stands = λ text catalogue history least.
-        read_any (λ images. StandsFor text catalogue history least images → RunsOnFront limit n catalogue history least)
-        (λ images stands. other_front limit n catalogue history least (λ e. absurd (omega (arith, nine, e))) (λ e. absurd (omega (arith, nine, e))) (λ e. absurd (omega (arith, nine, e)))) log a b;
+        read_any (λ images. StandsFor text catalogue history least images → RunsOnPrefix limit n catalogue history least)
+        (λ images stands. other_prefix limit n catalogue history least (λ e. absurd (omega (arith, nine, e))) (λ e. absurd (omega (arith, nine, e))) (λ e. absurd (omega (arith, nine, e)))) log a b;
     done = λ e. absurd (omega (arith, nine, e));
     refused = λ e. absurd (omega (arith, nine, e));
     aborted = λ e. absurd (omega (arith, nine, e));
@@ -234,19 +234,19 @@ module _ (batch limit : ℕ) (source sink errors : Observed) (log a b : Option D
     too_large = λ e. absurd (omega (arith, nine, e));
   }
 
-  pub run-ends : (why : RunStop) (told : Stop) (n : ℕ) → n ≡ status_of told → Told (stop_of_run why) told → Ran (Err why) → Cause why → IsTold errors (line_of told) → RunEnds batch limit n source sink errors devices
-  run-ends why told n same (inl e) ran h line =
-      subst (λ (m : ℕ). RunEnds batch limit m source sink errors devices) (sym (same ∙ ap status_of e)) (itself why ran h (subst (λ (s : Stop). IsTold errors (line_of s)) e line))
-  run-ends why told n same (inr e) ran h line = run-memory (Err why) n (same ∙ ap status_of e.0) ran
+  pub run-ends : (why : RunStop) (reported : Stop) (n : ℕ) → n ≡ status_of reported → Reported (stop_of_run why) reported → Ran (Err why) → Cause why → IsReported errors (line_of reported) → RunEnds group_size limit n source sink errors devices
+  run-ends why reported n same (inl e) ran h line =
+      subst (λ (m : ℕ). RunEnds group_size limit m source sink errors devices) (sym (same ∙ ap status_of e)) (itself why ran h (subst (λ (s : Stop). IsReported errors (line_of s)) e line))
+  run-ends why reported n same (inr e) ran h line = run-memory (Err why) n (same ∙ ap status_of e.0) ran
 
-  pub run-done : Ran (Ok tt) → RunEnds batch limit 0 source sink errors devices
+  pub run-done : Ran (Ok tt) → RunEnds group_size limit 0 source sink errors devices
   run-done ran = record {
     statuses = refl;
     end = Ok tt;
     is = ran;
     stands = λ text catalogue history least.
-        read_any (λ images. StandsFor text catalogue history least images → RunsOnFront limit 0 catalogue history least)
-        (λ images stands. other_front limit 0 catalogue history least (λ e. absurd (omega (arith, e))) (λ e. absurd (omega (arith, e))) (λ e. absurd (omega (arith, e)))) log a b;
+        read_any (λ images. StandsFor text catalogue history least images → RunsOnPrefix limit 0 catalogue history least)
+        (λ images stands. other_prefix limit 0 catalogue history least (λ e. absurd (omega (arith, e))) (λ e. absurd (omega (arith, e))) (λ e. absurd (omega (arith, e)))) log a b;
     done = λ e. refl;
     refused = λ e. absurd (omega (arith, e));
     aborted = λ e. absurd (omega (arith, e));
@@ -260,12 +260,12 @@ module _ (batch limit : ℕ) (source sink errors : Observed) (log a b : Option D
     too_large = λ e. absurd (omega (arith, e));
   }
 
--- ---- want of memory for the words: no stream and no device is called
+-- ---- running out of memory for the arguments: no stream and no device is called
 
 -- a stream that is not called
 abbrev pub still : Option (List ℕ) → ℕ → Observed
-still bytes faults = record { before = bytes; behind = bytes; faults_before = faults; faults_behind = faults }
+still bytes faults = record { before = bytes; after = bytes; faults_before = faults; faults_after = faults }
 
-pub run-idle : (batch limit n : ℕ) (left held : Option (List ℕ)) (reads writes : ℕ) (log a b : Option DiskHistory) (faults : List ℕ) (errors : Observed) → n ≡ 9 → RunEnds batch limit n (still left reads) (still held writes) errors (uncalled log a b faults)
-run-idle batch limit n left held reads writes log a b faults errors nine =
-    run-memory batch limit (still left reads) (still held writes) errors log a b (log ∷ a ∷ b ∷ []) faults faults (Err run.NoMemory) n nine (idle-run batch limit left held log a b (FaultsRose (still held writes)))
+pub run-idle : (group_size limit n : ℕ) (left held : Option (List ℕ)) (reads writes : ℕ) (log a b : Option DiskHistory) (faults : List ℕ) (errors : Observed) → n ≡ 9 → RunEnds group_size limit n (still left reads) (still held writes) errors (uncalled log a b faults)
+run-idle group_size limit n left held reads writes log a b faults errors nine =
+    run-memory group_size limit (still left reads) (still held writes) errors log a b (log ∷ a ∷ b ∷ []) faults faults (Err run.NoMemory) n nine (idle-run group_size limit left held log a b (AnyFaulted (still held writes)))

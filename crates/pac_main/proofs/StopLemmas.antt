@@ -1,4 +1,4 @@
--- A stop has the cause of what came before it, and the command ends by the stop that is told.
+-- A stop has the cause of what came before it, and the command ends by the stop that is reported.
 use Rattle.std.proofs.Common.{◌≡◌, ◌⊎◌, ℕ, Bool, [], ◌∷◌, Ok, Err, inl, inr, refl, sym, subst, arith}
 use Rattle.std.specs.Prelude.{IsTrue}
 use Rattle.pac_value.specs.State.{Tables}
@@ -12,21 +12,21 @@ use Rattle.pac_main.specs.Explained.{ExplainEnds}
 use Rattle.pac_main.specs.Init.{AreUntouched, InitEnds}
 use Rattle.pac_main.specs.Replay.{DoesEnd, IsScriptOf, ReplayEnds, outcome}
 use Rattle.pac_main.specs.Stop.{line_of, status_of, stop_of_excess, stop_of_input, stop_of_serial, takes_memory}
-use Rattle.pac_main.specs.Streams.{IsOneOf, IsTold, Observed, ObservedDevices}
+use Rattle.pac_main.specs.Streams.{IsOneOf, IsReported, Observed, ObservedDevices}
 use Rattle.pac_main.specs.declared.input.InputError.{InputError}
 use Rattle.pac_main.specs.declared.input.InputError.TheVariants as input
 use Rattle.pac_main.specs.declared.stop.Stop.{Stop}
 use Rattle.pac_main.specs.declared.stop.Stop.TheVariants.{Usage, Script as ScriptStop, NotEmpty, NoStore, Damaged, Aborted, RowsOver, InputFault, OutputFault, DiskFault, NoMemory, LogFull, TooLong, TooLarge}
 use Rattle.pac_main.proofs.StatusLemmas.{ADeviceRefusal, AFullDevice, aborted_of, device_of, disk_of, input_of, long_of, never_done, output_of, over_of, refused_of}
 
--- a stop is told itself, or there was no memory for its line
-abbrev pub Told : Stop → Stop → Type 0
-Told stop told = (told ≡ stop) ⊎ ((told ≡ NoMemory) × IsTrue (takes_memory stop))
+-- a stop is reported itself, or there was no memory for its line
+abbrev pub Reported : Stop → Stop → Type 0
+Reported stop reported = (reported ≡ stop) ⊎ ((reported ≡ NoMemory) × IsTrue (takes_memory stop))
 
--- what is told has a cause, where want of memory needs none
-pub told_cause : (P : Stop → Type 0) (stop told : Stop) → Told stop told → P NoMemory → P stop → P told
-told_cause P stop told (inl e) free h = subst P (sym e) h
-told_cause P stop told (inr e) free h = subst P (sym e.0) free
+-- what is reported has a cause, where running out of memory needs none
+pub reported_cause : (P : Stop → Type 0) (stop reported : Stop) → Reported stop reported → P NoMemory → P stop → P reported
+reported_cause P stop reported (inl e) free h = subst P (sym e) h
+reported_cause P stop reported (inr e) free h = subst P (sym e.0) free
 
 -- ---- `replay`
 
@@ -69,26 +69,26 @@ module _ (limit : ℕ) (source sink : Observed) where
   replay_status (LogFull need) h = absurd h
   replay_status (TooLarge bytes) h = absurd h
 
-  ends_told : (errors : Observed) (stop : Stop) → ReplayStops limit source sink stop → IsTold errors (line_of stop) → ReplayEnds limit (status_of stop) source sink errors
-  ends_told errors stop cause line = record {
+  ends_reported : (errors : Observed) (stop : Stop) → ReplayStops limit source sink stop → IsReported errors (line_of stop) → ReplayEnds limit (status_of stop) source sink errors
+  ends_reported errors stop cause line = record {
     statuses = replay_status stop cause;
     done = λ zero. absurd (never_done stop zero);
-    refused = λ two. let r = refused_of stop two in (r.fault, subst (ReplayStops limit source sink) r.is cause, subst (λ (s : Stop). IsTold errors (line_of s)) r.is line);
-    aborted = λ four. let a = aborted_of stop four in (a.note, subst (ReplayStops limit source sink) a.is cause, subst (λ (s : Stop). IsTold errors (line_of s)) a.is line);
+    refused = λ two. let r = refused_of stop two in (r.fault, subst (ReplayStops limit source sink) r.is cause, subst (λ (s : Stop). IsReported errors (line_of s)) r.is line);
+    aborted = λ four. let a = aborted_of stop four in (a.note, subst (ReplayStops limit source sink) a.is cause, subst (λ (s : Stop). IsReported errors (line_of s)) a.is line);
     over_limit = λ five.
         let o = over_of stop five in
         let why = subst (ReplayStops limit source sink) o.is cause in
-        (o.name, o.rows, why.0, subst (λ (n : ℕ). IsTold errors (line_of (RowsOver o.name o.rows n))) why.1 (subst (λ (s : Stop). IsTold errors (line_of s)) o.is line));
+        (o.name, o.rows, why.0, subst (λ (n : ℕ). IsReported errors (line_of (RowsOver o.name o.rows n))) why.1 (subst (λ (s : Stop). IsReported errors (line_of s)) o.is line));
     input_fault = λ six. subst (ReplayStops limit source sink) (input_of stop six) cause;
     output_fault = λ seven. subst (ReplayStops limit source sink) (output_of stop seven) cause;
     too_long = λ eleven. subst (ReplayStops limit source sink) (long_of stop eleven) cause;
   }
 
-  pub replay-ends : (errors : Observed) (stop told : Stop) (status : ℕ) → status ≡ status_of told → Told stop told → ReplayStops limit source sink stop → IsTold errors (line_of told) → ReplayEnds limit status source sink errors
-  replay-ends errors stop told status is which cause line =
-      subst (λ (n : ℕ). ReplayEnds limit n source sink errors) (sym is) (ends_told errors told (told_cause (ReplayStops limit source sink) stop told which tt cause) line)
+  pub replay-ends : (errors : Observed) (stop reported : Stop) (status : ℕ) → status ≡ status_of reported → Reported stop reported → ReplayStops limit source sink stop → IsReported errors (line_of reported) → ReplayEnds limit status source sink errors
+  replay-ends errors stop reported status is which cause line =
+      subst (λ (n : ℕ). ReplayEnds limit n source sink errors) (sym is) (ends_reported errors reported (reported_cause (ReplayStops limit source sink) stop reported which tt cause) line)
 
--- execution stops for an abort, or for want of memory
+-- execution stops for an abort, or for running out of memory
 pub execution-stops : (limit : ℕ) (script : Script) (error : AllError) → DoesEnd (Err error) (outcome script) → ScriptStops limit script (stop_of_serial error)
 execution-stops limit script (serial.Abort note) h = h
 execution-stops limit script serial.NoMemory h = tt
@@ -122,18 +122,18 @@ module _ (with_text : Bool) (source sink : Observed) where
   explain_status (LogFull need) h = absurd h
   explain_status (TooLarge bytes) h = absurd h
 
-  explained_told : (errors : Observed) (stop : Stop) → ExplainStops with_text source sink stop → IsTold errors (line_of stop) → ExplainEnds with_text (status_of stop) source sink errors
-  explained_told errors stop cause line = record {
+  explained_reported : (errors : Observed) (stop : Stop) → ExplainStops with_text source sink stop → IsReported errors (line_of stop) → ExplainEnds with_text (status_of stop) source sink errors
+  explained_reported errors stop cause line = record {
     statuses = explain_status stop cause;
     done = λ zero. absurd (never_done stop zero);
-    refused = λ two. let r = refused_of stop two in (r.fault, subst (ExplainStops with_text source sink) r.is cause, subst (λ (s : Stop). IsTold errors (line_of s)) r.is line);
+    refused = λ two. let r = refused_of stop two in (r.fault, subst (ExplainStops with_text source sink) r.is cause, subst (λ (s : Stop). IsReported errors (line_of s)) r.is line);
     input_fault = λ six. subst (ExplainStops with_text source sink) (input_of stop six) cause;
     output_fault = λ seven. subst (ExplainStops with_text source sink) (output_of stop seven) cause;
   }
 
-  pub explain-ends : (errors : Observed) (stop told : Stop) (status : ℕ) → status ≡ status_of told → Told stop told → ExplainStops with_text source sink stop → IsTold errors (line_of told) → ExplainEnds with_text status source sink errors
-  explain-ends errors stop told status is which cause line =
-      subst (λ (n : ℕ). ExplainEnds with_text n source sink errors) (sym is) (explained_told errors told (told_cause (ExplainStops with_text source sink) stop told which tt cause) line)
+  pub explain-ends : (errors : Observed) (stop reported : Stop) (status : ℕ) → status ≡ status_of reported → Reported stop reported → ExplainStops with_text source sink stop → IsReported errors (line_of reported) → ExplainEnds with_text status source sink errors
+  explain-ends errors stop reported status is which cause line =
+      subst (λ (n : ℕ). ExplainEnds with_text n source sink errors) (sym is) (explained_reported errors reported (reported_cause (ExplainStops with_text source sink) stop reported which tt cause) line)
 
 -- ---- `init`
 
@@ -181,22 +181,22 @@ module _ (source : Observed) (devices : ObservedDevices) where
   full_device stop (inr (inl is)) h = absurd (subst (InitStops source devices) is h)
   full_device stop (inr (inr d)) h = absurd (subst (InitStops source devices) d.is h)
 
-  init_told : (errors : Observed) (stop : Stop) → InitStops source devices stop → IsTold errors (line_of stop) → InitEnds (status_of stop) source errors devices
-  init_told errors stop cause line = record {
+  init_reported : (errors : Observed) (stop : Stop) → InitStops source devices stop → IsReported errors (line_of stop) → InitEnds (status_of stop) source errors devices
+  init_reported errors stop cause line = record {
     statuses = init_status stop cause;
     done = λ zero. absurd (never_done stop zero);
-    refused = λ two. let r = refused_of stop two in (r.fault, (subst (InitStops source devices) r.is cause).1, subst (λ (s : Stop). IsTold errors (line_of s)) r.is line);
-    not_empty = λ three. let d = full_device stop (device_of stop three) cause in (d.device, d.length, (subst (InitStops source devices) d.is cause).1, subst (λ (s : Stop). IsTold errors (line_of s)) d.is line);
+    refused = λ two. let r = refused_of stop two in (r.fault, (subst (InitStops source devices) r.is cause).1, subst (λ (s : Stop). IsReported errors (line_of s)) r.is line);
+    not_empty = λ three. let d = full_device stop (device_of stop three) cause in (d.device, d.length, (subst (InitStops source devices) d.is cause).1, subst (λ (s : Stop). IsReported errors (line_of s)) d.is line);
     input_fault = λ six. (subst (InitStops source devices) (input_of stop six) cause).1;
     disk_fault = λ eight. subst (InitStops source devices) (disk_of stop eight) cause;
     untouched = λ zero eight. init_untouched stop cause eight;
     quiet = λ zero. absurd (never_done stop zero);
   }
 
-  -- what was written may not be told where there is no memory, but then nothing was: a failed device takes none
-  init_cause : (stop told : Stop) → Told stop told → InitStops source devices stop → InitStops source devices told
-  init_cause stop told (inl e) h = subst (InitStops source devices) (sym e) h
-  init_cause stop told (inr e) h = subst (InitStops source devices) (sym e.0) (init_untouched stop h (no_disk stop e.1))
+  -- what was written may not be reported where there is no memory, but then nothing was: a failed device takes none
+  init_cause : (stop reported : Stop) → Reported stop reported → InitStops source devices stop → InitStops source devices reported
+  init_cause stop reported (inl e) h = subst (InitStops source devices) (sym e) h
+  init_cause stop reported (inr e) h = subst (InitStops source devices) (sym e.0) (init_untouched stop h (no_disk stop e.1))
     where
       no_disk : (s : Stop) → IsTrue (takes_memory s) → status_of s ≡ 8 → ⊥
       no_disk DiskFault memory eight = absurd cc
@@ -214,6 +214,6 @@ module _ (source : Observed) (devices : ObservedDevices) where
       no_disk (LogFull need) memory eight = omega (arith, eight)
       no_disk (TooLarge bytes) memory eight = omega (arith, eight)
 
-  pub init-ends : (errors : Observed) (stop told : Stop) (status : ℕ) → status ≡ status_of told → Told stop told → InitStops source devices stop → IsTold errors (line_of told) → InitEnds status source errors devices
-  init-ends errors stop told status is which cause line =
-      subst (λ (n : ℕ). InitEnds n source errors devices) (sym is) (init_told errors told (init_cause stop told which cause) line)
+  pub init-ends : (errors : Observed) (stop reported : Stop) (status : ℕ) → status ≡ status_of reported → Reported stop reported → InitStops source devices stop → IsReported errors (line_of reported) → InitEnds status source errors devices
+  init-ends errors stop reported status is which cause line =
+      subst (λ (n : ℕ). InitEnds n source errors devices) (sym is) (init_reported errors reported (init_cause stop reported which cause) line)

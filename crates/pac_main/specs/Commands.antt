@@ -1,55 +1,55 @@
--- What the words of the command line say is to be done, and which commands run.
+-- What the arguments of the command line say is to be done, and which commands run.
 use Rattle.std.specs.Prelude.{◌≡◌, ℕ, List, map, Option, Some, IsSomeAnd, Bool, String, string_bytes}
 use Rattle.std.specs.Global.{Global}
-use Rattle.pac_words.specs.Orders.{order}
-use Rattle.pac_words.specs.declared.order.Order.{Order}
-use Rattle.pac_words.specs.declared.order.Order.TheVariants.{Init, Run, Recover, Explain, Replay}
+use Rattle.pac_arguments.specs.Commands.{command_of}
+use Rattle.pac_arguments.specs.declared.command.Command.{Command}
+use Rattle.pac_arguments.specs.declared.command.Command.TheVariants.{Init, Run, Recover, Explain, Replay}
 
--- what the words say is to be done, if they are a command
-abbrev pub order_in : List (String Global) → Option Order
-order_in words = order (map string_bytes words)
+-- what the arguments say is to be done, if they are a command
+abbrev pub command_in : List (String Global) → Option Command
+command_in arguments = command_of (map string_bytes arguments)
 
--- the words are `init`
+-- the arguments are `init`
 abbrev pub IsInit : List (String Global) → Type 0
-IsInit words = order_in words ≡ Some Init
+IsInit arguments = command_in arguments ≡ Some Init
 
--- the words are `run`, with so many replies in a group at most, and this limit on the rows of a table
+-- the arguments are `run`, with that many replies in a group at most, and this limit on the rows of a table
 abbrev pub IsRunOf : List (String Global) → ℕ → ℕ → Type 0
-IsRunOf words batch limit = order_in words ≡ Some (Run batch limit)
+IsRunOf arguments group_size limit = command_in arguments ≡ Some (Run group_size limit)
 
--- the words ask for a run
+-- the arguments ask for a run
 abbrev pub AsksRun : List (String Global) → Type 0
-AsksRun words = (batch : ℕ) × (limit : ℕ) × IsRunOf words batch limit
+AsksRun arguments = (group_size : ℕ) × (limit : ℕ) × IsRunOf arguments group_size limit
 
--- the words are `recover`, with this limit on the rows of a table and any number of workers
+-- the arguments are `recover`, with this limit on the rows of a table and any number of workers
 abbrev pub IsRecover : List (String Global) → ℕ → Type 0
-IsRecover words limit = (workers : ℕ) × (order_in words ≡ Some (Recover workers limit))
+IsRecover arguments limit = (workers : ℕ) × (command_in arguments ≡ Some (Recover workers limit))
 
--- the words ask for a recovery
+-- the arguments ask for a recovery
 abbrev pub AsksRecover : List (String Global) → Type 0
-AsksRecover words = (limit : ℕ) × IsRecover words limit
+AsksRecover arguments = (limit : ℕ) × IsRecover arguments limit
 
--- the words are `explain`, with `--text` where the canonical text is wanted
+-- the arguments are `explain`, with `--text` where the canonical text is wanted
 abbrev pub IsExplain : List (String Global) → Bool → Type 0
-IsExplain words with_text = order_in words ≡ Some (Explain with_text)
+IsExplain arguments with_text = command_in arguments ≡ Some (Explain with_text)
 
--- the words ask for an explanation
+-- the arguments ask for an explanation
 abbrev pub AsksExplain : List (String Global) → Type 0
-AsksExplain words = (with_text : Bool) × IsExplain words with_text
+AsksExplain arguments = (with_text : Bool) × IsExplain arguments with_text
 
--- the words are `replay`, with this limit on the rows of a table and any number of workers
+-- the arguments are `replay`, with this limit on the rows of a table and any number of workers
 abbrev pub IsReplay : List (String Global) → ℕ → Type 0
-IsReplay words limit = (workers : ℕ) × (order_in words ≡ Some (Replay workers limit))
+IsReplay arguments limit = (workers : ℕ) × (command_in arguments ≡ Some (Replay workers limit))
 
 -- a command that runs: `stress` doesn't run yet
-abbrev pub Runs : Order → Type 0
+abbrev pub Runs : Command → Type 0
 Runs Init = Unit {0}
-Runs (Run batch limit) = Unit {0}
+Runs (Run group_size limit) = Unit {0}
 Runs (Recover workers limit) = Unit {0}
 Runs (Explain with_text) = Unit {0}
 Runs (Replay workers limit) = Unit {0}
 Runs _ = ⊥
 
--- the words name a command that runs
+-- the arguments name a command that runs
 abbrev pub NamesCommand : List (String Global) → Type 0
-NamesCommand words = IsSomeAnd (order_in words) Runs
+NamesCommand arguments = IsSomeAnd (command_in arguments) Runs

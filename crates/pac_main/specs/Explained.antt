@@ -21,7 +21,7 @@ use Rattle.pac_request.specs.declared.script_fault.ScriptFault.{ScriptFault}
 use Rattle.pac_request.specs.declared.script_fault.ScriptFault.TheVariants.{Catalogue, TooManyOps, Line}
 use Rattle.pac_request.specs.Script.{IsExcess}
 use Rattle.pac_main.specs.declared.stop.Stop.TheVariants as stop
-use Rattle.pac_main.specs.Streams.{Observed, FaultsRose, IsTaken, IsFrontTaken, IsTold, IsOneOf}
+use Rattle.pac_main.specs.Streams.{Observed, AnyFaulted, IsTaken, IsPrefixTaken, IsReported, IsOneOf}
 use Rattle.pac_main.specs.Stop.{line_of}
 
 -- ---- what explains a catalogue
@@ -42,7 +42,7 @@ pub record IsGraph (catalogue : CatalogueState) (graphs : List LocalGraph) (plan
 abbrev pub IsGraphText : CatalogueState → List ℕ → Type 0
 IsGraphText catalogue text = (graphs : List LocalGraph) × (plan : PlanParts) × IsGraph catalogue graphs plan × (text ≡ explain_text catalogue graphs plan)
 
--- the text of the graph of a tree's catalogue, behind the tree's canonical text where that is wanted
+-- the text of the graph of a tree's catalogue, after the tree's canonical text where that is wanted
 pub record IsTreeExplanation (with_text : Bool) (tree : Tree) (written : List ℕ) : Type 0 where
   pub catalogue : CatalogueState
   pub typed : Types tree catalogue
@@ -54,7 +54,7 @@ pub record IsTreeExplanation (with_text : Bool) (tree : Tree) (written : List �
 abbrev pub IsExplanation : Bool → List ℕ → List ℕ → Type 0
 IsExplanation with_text text written = (tree : Tree) × Reads text tree × IsTreeExplanation with_text tree written
 
--- the input is explained by a text with this property, where the source tells it
+-- the input is explained by a text with this property, where the source's bytes are known
 abbrev pub IsExplanationOf : Bool → Option (List ℕ) → (List ℕ → Type 0) → Type 0
 IsExplanationOf with_text input P = (written : List ℕ) × IfSome input (λ text. IsExplanation with_text text written) × P written
 
@@ -79,7 +79,7 @@ pub record IsTheCause (text : List ℕ) (fault : ScriptFault) : Type 0 where
   pub only : (other : ScriptFault) → IsUnexplained text other → other ≡ fault
   pub none : (with_text : Bool) (written : List ℕ) → IsExplanation with_text text written → ⊥
 
--- the input isn't explained for this cause, where the source tells it
+-- the input isn't explained for this cause, where the source's bytes are known
 abbrev pub IsUnexplainedAs : Option (List ℕ) → ScriptFault → Type 0
 IsUnexplainedAs input fault = IfSome input (λ text. IsTheCause text fault)
 
@@ -89,6 +89,6 @@ IsUnexplainedAs input fault = IfSome input (λ text. IsTheCause text fault)
 pub record ExplainEnds (with_text : Bool) (status : ℕ) (input output errors : Observed) : Type 0 where
   pub statuses : IsOneOf status (0 ∷ 2 ∷ 6 ∷ 7 ∷ 9 ∷ [])
   pub done : status ≡ 0 → IsExplanationOf with_text input.before (IsTaken output)
-  pub refused : status ≡ 2 → (fault : ScriptFault) × IsUnexplainedAs input.before fault × IsTold errors (line_of (stop.Script fault))
-  pub input_fault : status ≡ 6 → FaultsRose input
-  pub output_fault : status ≡ 7 → FaultsRose output × IsExplanationOf with_text input.before (IsFrontTaken output)
+  pub refused : status ≡ 2 → (fault : ScriptFault) × IsUnexplainedAs input.before fault × IsReported errors (line_of (stop.Script fault))
+  pub input_fault : status ≡ 6 → AnyFaulted input
+  pub output_fault : status ≡ 7 → AnyFaulted output × IsExplanationOf with_text input.before (IsPrefixTaken output)

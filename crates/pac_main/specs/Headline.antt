@@ -1,8 +1,8 @@
--- Runs one after another, and what is recovered behind them.
+-- Runs one after another, and what is recovered after them.
 use Rattle.std.specs.Prelude.{◌≡◌, ◌≤◌, ◌⊎◌, ℕ, List, [], ◌∷◌, take, Some}
 use Rattle.std.specs.List.{AllZip}
 use Rattle.pac_ops.specs.declared.transaction.Txn.{Txn}
-use Rattle.pac_outside.specs.Devices.{AreImages, all_told}
+use Rattle.pac_outside.specs.Devices.{AreImages, all_known}
 use Rattle.pac_outside.specs.Disk.{DiskHistory, settled}
 use Rattle.pac_types.specs.Typing.{CatalogueState}
 use Rattle.pac_store.specs.Images.{OfThree}
@@ -18,20 +18,20 @@ use Rattle.pac_main.specs.Streams.{Observed, ObservedDevices}
 abbrev pub HoldImages : List (List ℕ) → List DiskHistory → Type 0
 HoldImages images devices = AllZip (λ image device. device.now ≡ settled image) images devices
 
--- A run, however it ended, over devices that tell. A stop at any moment is a run whose devices fail from that call on.
+-- A run, however it ended, over devices whose histories are known. A stop at any moment is a run whose devices fail from that call on.
 pub record OneRun : Type 0 where
-  pub batch : ℕ
+  pub group_size : ℕ
   pub limit : ℕ
   pub status : ℕ
   pub input : Observed
   pub output : Observed
   pub errors : Observed
   pub devices : ObservedDevices
-  pub ends : RunEnds batch limit status input output errors devices
+  pub ends : RunEnds group_size limit status input output errors devices
   pub entry : List DiskHistory
   pub exit : List DiskHistory
-  pub told : all_told devices.before ≡ Some entry
-  pub told_behind : all_told devices.behind ≡ Some exit
+  pub known : all_known devices.before ≡ Some entry
+  pub known_after : all_known devices.after ≡ Some exit
 
 -- Each run is over devices that hold what the one before it may have left. The first holds these images, and the last may
 -- have left those.
@@ -41,12 +41,12 @@ AreRuns images (run ∷ runs) left = HoldImages images run.entry × ((next : Lis
 
 -- ---- what is committed
 
--- The transactions that are committed behind a run: those before it, where it wrote nothing; or else the first of those before
+-- The transactions that are committed after a run: those before it, where it wrote nothing; or else the first of those before
 -- it, which its log had, and then those that its session commits.
 abbrev pub IsNextRun : List Txn → OneRun → List Txn → Type 0
 IsNextRun history run next = ((run.ends.is.out ≡ []) × (next ≡ history)) ⊎ (next ≡ history_after history run.ends.is.rules run.ends.is.start run.ends.is.requests)
 
--- behind each of the runs, and in the end
+-- after each of the runs, and in the end
 abbrev pub AreNext : List Txn → List OneRun → List (List Txn) → List Txn → Type 0
 AreNext history [] nexts last = (nexts ≡ []) × (last ≡ history)
 AreNext history (run ∷ runs) [] last = ⊥
@@ -54,8 +54,8 @@ AreNext history (run ∷ runs) (next ∷ nexts) last = IsNextRun history run nex
 
 -- ---- what is kept
 
--- each transaction that the run's output acknowledges is among the first so many of the last history, and is there what it was
--- behind that run
+-- each transaction that the run's output acknowledges is among the first n of the last history, and is there what it was
+-- after that run
 abbrev pub IsKeptFrom : ℕ → List Txn → OneRun → List Txn → Type 0
 IsKeptFrom kept last run next = (number : ℕ) → Acknowledges run.ends.is.out number → (number ≤ kept) × (take number last ≡ take number next)
 

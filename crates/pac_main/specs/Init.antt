@@ -1,6 +1,6 @@
 -- How `init` ends.
 use Rattle.std.specs.Prelude.{◌≡◌, ◌≢◌, ℕ, List, [], ◌∷◌, Option, IfSome}
-use Rattle.pac_outside.specs.Devices.{OneRose, WhereAllTold}
+use Rattle.pac_outside.specs.Devices.{OneFaulted, IfAllKnown}
 use Rattle.pac_types.specs.Typing.{CatalogueState}
 use Rattle.pac_log.specs.Logs.{IsAccepted}
 use Rattle.pac_init.specs.Made.{IsInUse, MakesStore}
@@ -8,10 +8,10 @@ use Rattle.pac_init.specs.declared.device.DeviceName.{DeviceName}
 use Rattle.pac_request.specs.declared.script_fault.ScriptFault.{ScriptFault}
 use Rattle.pac_main.specs.declared.stop.Stop.TheVariants as stop
 use Rattle.pac_main.specs.Explained.{IsUnexplained}
-use Rattle.pac_main.specs.Streams.{Observed, ObservedDevices, FaultsRose, IsTold, IsOneOf}
+use Rattle.pac_main.specs.Streams.{Observed, ObservedDevices, AnyFaulted, IsReported, IsOneOf}
 use Rattle.pac_main.specs.Stop.{line_of, not_empty_line}
 
--- the input is this text, of which a store can be made, where the source tells it
+-- the input is this text, of which a store can be made, where the source's bytes are known
 abbrev pub IsStoreText : List ℕ → Option (List ℕ) → Type 0
 IsStoreText text input = IfSome input (λ whole. (whole ≡ text) × ((catalogue : CatalogueState) × IsAccepted text catalogue))
 
@@ -21,26 +21,26 @@ pub record IsNoStoreText (text : List ℕ) (fault : ScriptFault) : Type 0 where
   pub only : (other : ScriptFault) → IsUnexplained text other → other ≡ fault
   pub none : (catalogue : CatalogueState) → IsAccepted text catalogue → ⊥
 
--- none can be made of the input, for this cause, where the source tells it
+-- none can be made of the input, for this cause, where the source's bytes are known
 abbrev pub IsNoStoreFor : Option (List ℕ) → ScriptFault → Type 0
 IsNoStoreFor input fault = IfSome input (λ text. IsNoStoreText text fault)
 
 -- the input was such a text, and the devices have its store
 abbrev pub IsStoreOf : Option (List ℕ) → ObservedDevices → Type 0
-IsStoreOf input devices = (text : List ℕ) × IsStoreText text input × WhereAllTold (MakesStore text) devices.before devices.behind
+IsStoreOf input devices = (text : List ℕ) × IsStoreText text input × IfAllKnown (MakesStore text) devices.before devices.after
 
 -- nothing was written to a device, and no call of one failed
 pub record AreUntouched (devices : ObservedDevices) : Type 0 where
-  pub kept : WhereAllTold (λ old new. new ≡ old) devices.before devices.behind
-  pub quiet : devices.faults_behind ≡ devices.faults_before
+  pub kept : IfAllKnown (λ old new. new ≡ old) devices.before devices.after
+  pub quiet : devices.faults_after ≡ devices.faults_before
 
 -- how `init` ends: the statuses that it may have, and a line for each that has a cause
 pub record InitEnds (status : ℕ) (input errors : Observed) (devices : ObservedDevices) : Type 0 where
   pub statuses : IsOneOf status (0 ∷ 2 ∷ 3 ∷ 6 ∷ 8 ∷ 9 ∷ [])
   pub done : status ≡ 0 → IsStoreOf input.before devices
-  pub refused : status ≡ 2 → (fault : ScriptFault) × IsNoStoreFor input.before fault × IsTold errors (line_of (stop.Script fault))
-  pub not_empty : status ≡ 3 → (device : DeviceName) × (length : ℕ) × WhereAllTold (IsInUse device length) devices.before devices.behind × IsTold errors (not_empty_line device length)
-  pub input_fault : status ≡ 6 → FaultsRose input
-  pub disk_fault : status ≡ 8 → OneRose devices.faults_before devices.faults_behind
+  pub refused : status ≡ 2 → (fault : ScriptFault) × IsNoStoreFor input.before fault × IsReported errors (line_of (stop.Script fault))
+  pub not_empty : status ≡ 3 → (device : DeviceName) × (length : ℕ) × IfAllKnown (IsInUse device length) devices.before devices.after × IsReported errors (not_empty_line device length)
+  pub input_fault : status ≡ 6 → AnyFaulted input
+  pub disk_fault : status ≡ 8 → OneFaulted devices.faults_before devices.faults_after
   pub untouched : status ≢ 0 → status ≢ 8 → AreUntouched devices
-  pub quiet : status ≡ 0 → devices.faults_behind ≡ devices.faults_before
+  pub quiet : status ≡ 0 → devices.faults_after ≡ devices.faults_before

@@ -15,7 +15,7 @@ use Rattle.pac_request.specs.declared.script_fault.ScriptFault.{ScriptFault}
 use Rattle.pac_request.specs.Script.{ScriptSays}
 use Rattle.pac_run.specs.declared.limits.TheConstants.{MAX_INPUT}
 use Rattle.pac_main.specs.declared.stop.Stop.TheVariants as stop
-use Rattle.pac_main.specs.Streams.{Observed, FaultsRose, IsTaken, IsFrontTaken, IsTold, IsOneOf}
+use Rattle.pac_main.specs.Streams.{Observed, AnyFaulted, IsTaken, IsPrefixTaken, IsReported, IsOneOf}
 use Rattle.pac_main.specs.Stop.{line_of, abort_line, rows_line}
 
 -- ---- what the input is
@@ -26,15 +26,15 @@ pub record IsReadAs (text : List ℕ) (answer : Result Script ScriptFault) : Typ
   pub says : ScriptSays text answer
   pub only : (other : Result Script ScriptFault) → ScriptSays text other → other ≡ answer
 
--- the input is this script, where the source tells it
+-- the input is this script, where the source's bytes are known
 abbrev pub IsScriptOf : Script → Option (List ℕ) → Type 0
 IsScriptOf script input = IfSome input (λ text. IsReadAs text (Ok script))
 
--- the input is no script, and this is its first fault, where the source tells it
+-- the input is no script, and this is its first fault, where the source's bytes are known
 abbrev pub IsRefusedAs : Option (List ℕ) → ScriptFault → Type 0
 IsRefusedAs input fault = IfSome input (λ text. IsReadAs text (Err fault))
 
--- the input has more than 67,108,864 bytes, where the source tells it
+-- the input has more than 67,108,864 bytes, where the source's bytes are known
 abbrev pub IsLongScript : Option (List ℕ) → Type 0
 IsLongScript input = IfSome input (λ text. MAX_INPUT < length text)
 
@@ -73,7 +73,7 @@ pub record IsDumpOf (limit : ℕ) (input : Option (List ℕ)) (P : List ℕ → 
 abbrev pub IsAbortOf : Option (List ℕ) → Note → Type 0
 IsAbortOf input note = (script : Script) × IsScriptOf script input × (outcome script ≡ Err note)
 
--- the input is a script whose transactions end with tables of which the first over the limit has this name and so many rows
+-- the input is a script whose transactions end with tables of which the first over the limit has this name and that many rows
 pub record IsOverOf (limit : ℕ) (input : Option (List ℕ)) (name : List ℕ) (rows : ℕ) : Type 0 where
   pub script : Script
   pub tables : Tables
@@ -85,9 +85,9 @@ pub record IsOverOf (limit : ℕ) (input : Option (List ℕ)) (name : List ℕ) 
 pub record ReplayEnds (limit status : ℕ) (input output errors : Observed) : Type 0 where
   pub statuses : IsOneOf status (0 ∷ 2 ∷ 4 ∷ 5 ∷ 6 ∷ 7 ∷ 9 ∷ 11 ∷ [])
   pub done : status ≡ 0 → IsDumpOf limit input.before (IsTaken output)
-  pub refused : status ≡ 2 → (fault : ScriptFault) × IsRefusedAs input.before fault × IsTold errors (line_of (stop.Script fault))
-  pub aborted : status ≡ 4 → (note : Note) × IsAbortOf input.before note × IsTold errors (abort_line note)
-  pub over_limit : status ≡ 5 → (name : List ℕ) × (rows : ℕ) × IsOverOf limit input.before name rows × IsTold errors (rows_line name rows limit)
-  pub input_fault : status ≡ 6 → FaultsRose input
-  pub output_fault : status ≡ 7 → FaultsRose output × IsDumpOf limit input.before (IsFrontTaken output)
+  pub refused : status ≡ 2 → (fault : ScriptFault) × IsRefusedAs input.before fault × IsReported errors (line_of (stop.Script fault))
+  pub aborted : status ≡ 4 → (note : Note) × IsAbortOf input.before note × IsReported errors (abort_line note)
+  pub over_limit : status ≡ 5 → (name : List ℕ) × (rows : ℕ) × IsOverOf limit input.before name rows × IsReported errors (rows_line name rows limit)
+  pub input_fault : status ≡ 6 → AnyFaulted input
+  pub output_fault : status ≡ 7 → AnyFaulted output × IsDumpOf limit input.before (IsPrefixTaken output)
   pub too_long : status ≡ 11 → IsLongScript input.before

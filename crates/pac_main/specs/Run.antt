@@ -2,43 +2,43 @@
 use Rattle.std.specs.Prelude.{◌≡◌, ◌≢◌, ℕ, List, [], ◌∷◌, Result, Ok, IsErrOf}
 use Rattle.pac_ops.specs.declared.note.Note.{Note}
 use Rattle.pac_ops.specs.declared.transaction.Txn.{Txn}
-use Rattle.pac_outside.specs.Devices.{OneRose}
+use Rattle.pac_outside.specs.Devices.{OneFaulted}
 use Rattle.pac_types.specs.Typing.{CatalogueState}
 use Rattle.pac_store.specs.Stands.{StandsFor}
-use Rattle.pac_recover.specs.Recovering.{AbortsIn, IsFrontOverLimit, IsOverIn}
-use Rattle.pac_recover.specs.Refusals.{WhereHeld}
+use Rattle.pac_recover.specs.Recovering.{AbortsIn, IsPrefixOverLimit, IsOverIn}
+use Rattle.pac_recover.specs.Refusals.{IfImagesKnown}
 use Rattle.pac_run.specs.Run.{IsRun}
 use Rattle.pac_run.specs.declared.stop.RunStop.{RunStop}
 use Rattle.pac_run.specs.declared.stop.RunStop.TheVariants as run
 use Rattle.pac_main.specs.Recover.{IsRefusedStore}
 use Rattle.pac_main.specs.Stop.{abort_line, full_line, rows_line, too_large_line}
-use Rattle.pac_main.specs.Streams.{Observed, ObservedDevices, FaultsRose, IsTold, IsOneOf}
+use Rattle.pac_main.specs.Streams.{Observed, ObservedDevices, AnyFaulted, IsReported, IsOneOf}
 
--- How `run` ends on devices that stand for a history of at least so many transactions. Nothing is damaged, nothing that is
--- stored aborts, and a table over the limit is one of a front of the history.
-pub record RunsOnFront (limit status : ℕ) (catalogue : CatalogueState) (history : List Txn) (least : ℕ) : Type 0 where
+-- How `run` ends on devices that stand for a history of at least that many transactions. Nothing is damaged, nothing that is
+-- stored aborts, and a table over the limit is one of a prefix of the history.
+pub record RunsOnPrefix (limit status : ℕ) (catalogue : CatalogueState) (history : List Txn) (least : ℕ) : Type 0 where
   pub undamaged : status ≢ 3
   pub executes : status ≢ 4
-  pub over_limit : status ≡ 5 → (name : List ℕ) × (rows : ℕ) × IsFrontOverLimit catalogue history least name rows limit
+  pub over_limit : status ≡ 5 → (name : List ℕ) × (rows : ℕ) × IsPrefixOverLimit catalogue history least name rows limit
 
--- How `run` ends, with so many replies in a group at most and under a limit of rows: the statuses that it may have, what was
+-- How `run` ends, with that many replies in a group at most and under a limit of rows: the statuses that it may have, what was
 -- read, written and left on the devices, and a line for each status that has a cause.
-pub record RunEnds (batch limit status : ℕ) (input output errors : Observed) (devices : ObservedDevices) : Type 0 where
+pub record RunEnds (group_size limit status : ℕ) (input output errors : Observed) (devices : ObservedDevices) : Type 0 where
   pub statuses : IsOneOf status (0 ∷ 3 ∷ 4 ∷ 5 ∷ 6 ∷ 7 ∷ 8 ∷ 9 ∷ 10 ∷ 11 ∷ 12 ∷ [])
-  -- why the run stopped before its end, if it did, and its parts; one of them tells by this where it stopped
+  -- why the run stopped before its end, if it did, and its parts; one of them says by this where it stopped
   pub end : Result (Unit {0}) RunStop
-  pub is : IsRun batch limit input.before input.behind output.before output.behind devices.before devices.behind (FaultsRose output) end
+  pub is : IsRun group_size limit input.before input.after output.before output.after devices.before devices.after (AnyFaulted output) end
   pub stands : (text : List ℕ) (catalogue : CatalogueState) (history : List Txn) (least : ℕ)
-      → WhereHeld (λ images. StandsFor text catalogue history least images → RunsOnFront limit status catalogue history least) devices.before
+      → IfImagesKnown (λ images. StandsFor text catalogue history least images → RunsOnPrefix limit status catalogue history least) devices.before
   -- the cause of each status, and its line; with 3, 4 and 5 nothing was written
   pub done : status ≡ 0 → end ≡ Ok tt
   pub refused : status ≡ 3 → IsRefusedStore devices.before errors
-  pub aborted : status ≡ 4 → (note : Note) × WhereHeld (AbortsIn note) devices.before × IsTold errors (abort_line note)
-  pub over_limit : status ≡ 5 → (name : List ℕ) × (rows : ℕ) × WhereHeld (IsOverIn name rows limit) devices.before × IsTold errors (rows_line name rows limit)
+  pub aborted : status ≡ 4 → (note : Note) × IfImagesKnown (AbortsIn note) devices.before × IsReported errors (abort_line note)
+  pub over_limit : status ≡ 5 → (name : List ℕ) × (rows : ℕ) × IfImagesKnown (IsOverIn name rows limit) devices.before × IsReported errors (rows_line name rows limit)
   pub unserved : IsOneOf status (3 ∷ 4 ∷ 5 ∷ []) → is.out ≡ []
-  pub input_fault : status ≡ 6 → IsErrOf end run.InputFault × FaultsRose input
-  pub output_fault : status ≡ 7 → IsErrOf end run.OutputFault × FaultsRose output
-  pub disk_fault : status ≡ 8 → IsErrOf end run.DiskFault × OneRose devices.faults_before devices.faults_behind
-  pub log_full : status ≡ 10 → (need : ℕ) × IsErrOf end (run.LogFull need) × IsTold errors (full_line need)
+  pub input_fault : status ≡ 6 → IsErrOf end run.InputFault × AnyFaulted input
+  pub output_fault : status ≡ 7 → IsErrOf end run.OutputFault × AnyFaulted output
+  pub disk_fault : status ≡ 8 → IsErrOf end run.DiskFault × OneFaulted devices.faults_before devices.faults_after
+  pub log_full : status ≡ 10 → (need : ℕ) × IsErrOf end (run.LogFull need) × IsReported errors (full_line need)
   pub too_long : status ≡ 11 → IsErrOf end run.TooLong
-  pub too_large : status ≡ 12 → (bytes : ℕ) × IsErrOf end (run.TooLarge bytes) × IsTold errors (too_large_line bytes)
+  pub too_large : status ≡ 12 → (bytes : ℕ) × IsErrOf end (run.TooLarge bytes) × IsReported errors (too_large_line bytes)

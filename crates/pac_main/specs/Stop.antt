@@ -1,7 +1,7 @@
--- The exit status of each stop, and what the error sink is told.
+-- The exit status of each stop, and what is reported.
 use Rattle.std.specs.Prelude.{ℕ, Bool, true, false, List, codes}
 use Rattle.pac_types.specs.declared.text.CatalogueFault.{CatalogueFault}
-use Rattle.pac_types.specs.CatalogueText.{fault_place, fault_kind}
+use Rattle.pac_types.specs.CatalogueText.{fault_offset, fault_kind}
 use Rattle.pac_ops.specs.declared.note.Note.{Note}
 use Rattle.pac_ops.specs.Reasons.{reason_name}
 use Rattle.pac_serial.specs.declared.serial.AllError.{AllError}
@@ -31,8 +31,8 @@ use Rattle.pac_main.specs.declared.input.InputError.{InputError}
 use Rattle.pac_main.specs.declared.input.InputError.TheVariants as input
 use Rattle.pac_main.specs.declared.stop.Stop.{Stop}
 use Rattle.pac_main.specs.declared.stop.Stop.TheVariants.{Usage, Script, NotEmpty, NoStore, Damaged, Aborted, RowsOver, InputFault, OutputFault, DiskFault, NoMemory, LogFull, TooLong, TooLarge}
-use Rattle.pac_main.specs.declared.tell.WordsError.{WordsError}
-use Rattle.pac_main.specs.declared.tell.WordsError.TheVariants as words
+use Rattle.pac_main.specs.declared.reporting.ArgumentsError.{ArgumentsError}
+use Rattle.pac_main.specs.declared.reporting.ArgumentsError.TheVariants as arguments
 
 -- the exit status of a stop
 abbrev pub status_of : Stop → ℕ
@@ -55,15 +55,15 @@ status_of (TooLarge bytes) = 12
 abbrev pub abort_line : Note → List ℕ
 abort_line note = as_line (abort_words note.txn note.op (reason_name note.reason))
 
--- the place of a catalogue's fault, and its kind
+-- the offset of a catalogue's fault, and its kind
 abbrev pub catalogue_line : CatalogueFault → List ℕ
-catalogue_line fault = as_line (catalogue_words (fault_place fault) (fault_kind fault))
+catalogue_line fault = as_line (catalogue_words (fault_offset fault) (fault_kind fault))
 
 -- the name of a procedure, and how many operations are too many there
 abbrev pub operations_line : List ℕ → ℕ → List ℕ
 operations_line name count = as_line (operations_words name count)
 
--- the number of a refused line, the place of its fault in it, and the kind
+-- the number of a refused line, the offset of its fault in it, and the kind
 abbrev pub script_line : ℕ → LineFault → List ℕ
 script_line number fault = as_line (script_words number fault.at (line_kind_name fault.kind))
 
@@ -80,7 +80,7 @@ abbrev pub slot_device : SlotName → DeviceName
 slot_device A = SlotA
 slot_device B = SlotB
 
--- the name of a damaged device, the place of its first damage, and the kind
+-- the name of a damaged device, the offset of its first damage, and the kind
 abbrev pub damaged_at : DeviceName → ℕ → List ℕ → List ℕ
 damaged_at device at kind = as_line (damage_words (device_name device) at kind)
 
@@ -114,7 +114,7 @@ script_fault_line (Catalogue fault) = catalogue_line fault
 script_fault_line (TooManyOps name count) = operations_line name count
 script_fault_line (Line number fault) = script_line number fault
 
--- the line that the error sink is told of a stop
+-- the line that is reported for a stop
 abbrev pub line_of : Stop → List ℕ
 line_of Usage = as_line (codes "usage: pacman init, run, recover, explain, replay or stress")
 line_of (Script fault) = script_fault_line fault
@@ -131,10 +131,10 @@ line_of (LogFull need) = full_line need
 line_of TooLong = as_line (codes "input too long")
 line_of (TooLarge bytes) = too_large_line bytes
 
--- words that can't be read are no command's, or there was no memory for them
-abbrev pub stop_of_words : WordsError → Stop
-stop_of_words words.Usage = Usage
-stop_of_words words.NoMemory = NoMemory
+-- arguments that can't be read are no command's, or there was no memory for them
+abbrev pub stop_of_arguments : ArgumentsError → Stop
+stop_of_arguments arguments.Usage = Usage
+stop_of_arguments arguments.NoMemory = NoMemory
 
 -- an input that holds no script stops with its cause
 abbrev pub stop_of_input : InputError → Stop

@@ -1,4 +1,4 @@
-// The commands, by the words of the command line.
+// The commands, by the arguments of the command line.
 ghost use Rattle.std.specs.Prelude.{◌≡◌, ◌≢◌, ◌↔◌, ◌∷◌, ℕ, [], Bool, ◌+◌};
 ghost use Rattle.pac_outside.specs.Content.{GaveAtMost};
 ghost use Rattle.pac_main.specs.Commands.{AsksRecover, AsksRun, IsExplain, IsInit, IsRecover, IsReplay, IsRunOf, NamesCommand};
@@ -8,7 +8,7 @@ ghost use Rattle.pac_main.specs.Recover.{RecoverEnds};
 ghost use Rattle.pac_main.specs.Replay.{ReplayEnds};
 ghost use Rattle.pac_main.specs.Run.{RunEnds};
 ghost use Rattle.pac_main.specs.Stop.{status_of, line_of};
-ghost use Rattle.pac_main.specs.Streams.{IsOneOf, IsTold, observed, observed_devices};
+ghost use Rattle.pac_main.specs.Streams.{IsOneOf, IsReported, observed, observed_devices};
 ghost use Rattle.pac_main.specs.declared.stop.Stop.{Stop as AStop};
 ghost use Rattle.pac_run.specs.declared.limits.TheConstants.{MAX_INPUT};
 
@@ -16,16 +16,16 @@ use crate::explain::explain_input;
 use crate::init::init_input;
 use crate::recover::recover_devices;
 use crate::replay::replay_input;
+use crate::reporting::{ArgumentsError, refuse_arguments};
 use crate::run::run_devices;
-use crate::tell::{WordsError, refuse_words};
+use pac_arguments::{Command, parse_args};
 use pac_base::NoMemory;
 use pac_outside::{Devices, Disk, Gate, Sink, Source};
-use pac_words::{Order, order_of};
 use std::alloc::Global;
 use std::sync::Wait;
 use std::thread::Threads;
 
-/// Does what the words say, and answers the program's exit status.
+/// Does what the arguments say, and answers the program's exit status.
 ///
 /// - `replay [--workers N] [--rows N]` reads a script from the input, to its end or to 67,108,865 bytes, executes its
 ///   transactions one after another from no rows on, and writes the tables where none has more rows than `--rows` says, or
@@ -33,36 +33,36 @@ use std::thread::Threads;
 ///   that its transactions execute.
 /// - `explain` and `explain --text` do what [`crate::explain_command`] says.
 /// - `init` does what [`crate::init_command`] says.
-/// - `recover [--workers N] [--rows N]` reads the devices, executes the stored transactions behind the newest slot over that
+/// - `recover [--workers N] [--rows N]` reads the devices, executes the stored transactions after the newest slot over that
 ///   one's tables, and writes the tables where none has more rows than `--rows` says, or 1,000,000. The number of workers,
 ///   from 1 to 64, changes nothing. It reads no input, and no device is written or synced. All batches of the log are held in
 ///   memory.
 /// - `run [--batch N] [--rows N]` does what [`crate::run_command`] says.
-/// - `stress` is read, and answered as words that are no command: it doesn't run yet.
+/// - `stress` is read, and answered as arguments that are no command: it doesn't run yet.
 ///
 /// | status | comes | the error sink takes |
 /// |---|---|---|
 /// | 0 | else: the output took the dump of a replay or a recovery, or the explanation, or all replies of a run; or the store is there | nothing |
-/// | 1 | exactly where the words name no command that runs, unless there was no memory to read them | `usage: pacman init, run, recover, explain, replay or stress` |
+/// | 1 | exactly where the arguments name no command that runs, unless there was no memory to read them | `usage: pacman init, run, recover, explain, replay or stress` |
 /// | 2 | only where the input is no script, or its catalogue is refused | its first fault: `catalogue AT KIND` where the catalogue's text isn't read, or isn't typed; `operations PROC COUNT` where its operations are too many: the first procedure at which they are, and how many; else, of `replay` alone, `script LINE AT KIND`: the first line that is refused, from 1 on, and its fault |
 /// | 3 | only where a device of a store that is to be made has a byte; the first of the log, slot a and slot b | `not empty DEVICE LENGTH` |
 /// | 3 | only where the log of a store that is to be recovered or run doesn't begin as one | `no store` |
-/// | 3 | or where it is damaged: its first damage, of the log, slot a and slot b, and then of the slots' places in the log | `damaged DEVICE AT KIND` |
+/// | 3 | or where it is damaged: its first damage, of the log, slot a and slot b, and then of the slots' offsets in the log | `damaged DEVICE AT KIND` |
 /// | 4 | only where serial execution of the transactions of a replay, or of those that are stored, aborts | `abort TXN OP REASON` |
 /// | 5 | only where they end with a table that has more rows than the limit; the first | `rows TABLE ROWS LIMIT` |
 /// | 6 | only where the input's count of faults rose | `input fault` |
-/// | 7 | only where the output's count of faults rose; the output took a front of its text | `output fault` |
+/// | 7 | only where the output's count of faults rose; the output took a prefix of its text | `output fault` |
 /// | 8 | only where a device's count of faults rose | `disk fault` |
 /// | 9 | where an allocation was refused | `no memory` |
-/// | 10 | only where the log has no room for a group of a run, with which it would have so many bytes | `log full NEED` |
+/// | 10 | only where the log has no room for a group of a run, with which it would have that many bytes | `log full NEED` |
 /// | 11 | only where the input of a replay has more than 67,108,864 bytes, or more are read in a run before a line `stop` | `input too long` |
-/// | 12 | only where a slot has no room for a checkpoint of a run, with which it would have so many bytes | `checkpoint too large BYTES` |
+/// | 12 | only where a slot has no room for a checkpoint of a run, with which it would have that many bytes | `checkpoint too large BYTES` |
 ///
 /// A failing error sink changes no status. The call waits for nobody: it enters no gate, and hands the runtime to nothing.
 pub fn pacman<RT: Threads + Wait + Sync, I: Source, O: Sink, E: Sink, D: Disk, G: Gate + Sync>(
     _rt: &RT,
     alloc: Global,
-    words: &[String],
+    arguments: &[String],
     input: &mut I,
     output: &mut O,
     errors: &mut E,
@@ -71,45 +71,45 @@ pub fn pacman<RT: Threads + Wait + Sync, I: Source, O: Sink, E: Sink, D: Disk, G
 ) -> u8
     ensures status { IsOneOf result (0 ∷ 1 ∷ 2 ∷ 3 ∷ 4 ∷ 5 ∷ 6 ∷ 7 ∷ 8 ∷ 9 ∷ 10 ∷ 11 ∷ 12 ∷ []) }
 
-    // Each command ends so, by its status; where the words name none that runs, it is 1.
-    ensures usage { result ≢ 9 → (result ≡ 1) ↔ ¬ NamesCommand words.now }
-    ensures init { IsInit words.now → InitEnds result
-        (observed I.left I.faults input.old input.new) (observed E.held E.faults errors.old errors.new) (observed_devices D.told D.faults devices.old devices.new) }
-    ensures run { (batch limit : ℕ) → IsRunOf words.now batch limit → RunEnds batch limit result
-        (observed I.left I.faults input.old input.new) (observed O.held O.faults output.old output.new) (observed E.held E.faults errors.old errors.new) (observed_devices D.told D.faults devices.old devices.new) }
-    ensures recover { (limit : ℕ) → IsRecover words.now limit → RecoverEnds limit result
-        (observed_devices D.told D.faults devices.old devices.new) (observed O.held O.faults output.old output.new) (observed E.held E.faults errors.old errors.new) }
-    ensures replay { (limit : ℕ) → IsReplay words.now limit → ReplayEnds limit result
+    // Each command ends so, by its status; where the arguments name none that runs, it is 1.
+    ensures usage { result ≢ 9 → (result ≡ 1) ↔ ¬ NamesCommand arguments.now }
+    ensures init { IsInit arguments.now → InitEnds result
+        (observed I.left I.faults input.old input.new) (observed E.held E.faults errors.old errors.new) (observed_devices D.known D.faults devices.old devices.new) }
+    ensures run { (group_size limit : ℕ) → IsRunOf arguments.now group_size limit → RunEnds group_size limit result
+        (observed I.left I.faults input.old input.new) (observed O.held O.faults output.old output.new) (observed E.held E.faults errors.old errors.new) (observed_devices D.known D.faults devices.old devices.new) }
+    ensures recover { (limit : ℕ) → IsRecover arguments.now limit → RecoverEnds limit result
+        (observed_devices D.known D.faults devices.old devices.new) (observed O.held O.faults output.old output.new) (observed E.held E.faults errors.old errors.new) }
+    ensures replay { (limit : ℕ) → IsReplay arguments.now limit → ReplayEnds limit result
         (observed I.left I.faults input.old input.new) (observed O.held O.faults output.old output.new) (observed E.held E.faults errors.old errors.new) }
-    ensures explain { (with_text : Bool) → IsExplain words.now with_text → ExplainEnds with_text result
+    ensures explain { (with_text : Bool) → IsExplain arguments.now with_text → ExplainEnds with_text result
         (observed I.left I.faults input.old input.new) (observed O.held O.faults output.old output.new) (observed E.held E.faults errors.old errors.new) }
 
     // But in a run, the output takes something with the statuses 0 and 7 alone. It takes nothing from `init`.
-    ensures kept { ¬ AsksRun words.now → result ≢ 0 → result ≢ 7 → output.new ≡ output.old }
-    ensures silent { IsInit words.now → output.new ≡ output.old }
+    ensures kept { ¬ AsksRun arguments.now → result ≢ 0 → result ≢ 7 → output.new ≡ output.old }
+    ensures silent { IsInit arguments.now → output.new ≡ output.old }
 
     // The error sink takes the status's line.
     ensures quiet { result ≡ 0 → errors.new ≡ errors.old }
-    ensures told { result ≢ 0 → (stop : AStop) × (result ≡ status_of stop) × IsTold (observed E.held E.faults errors.old errors.new) (line_of stop) }
+    ensures reported { result ≢ 0 → (stop : AStop) × (result ≡ status_of stop) × IsReported (observed E.held E.faults errors.old errors.new) (line_of stop) }
 
-    // It reads at most one byte more than an input may have, and nothing where the words are wrong or ask for a recovery. No
+    // It reads at most one byte more than an input may have, and nothing where the arguments are wrong or ask for a recovery. No
     // other command calls a device.
     ensures taken { GaveAtMost (MAX_INPUT + 1) (I.left input.old) (I.left input.new) }
-    ensures unread { ¬ NamesCommand words.now → input.new ≡ input.old }
-    ensures no_input { AsksRecover words.now → input.new ≡ input.old }
-    ensures devices { ¬ IsInit words.now → ¬ AsksRun words.now → ¬ AsksRecover words.now → devices.new ≡ devices.old }
+    ensures unread { ¬ NamesCommand arguments.now → input.new ≡ input.old }
+    ensures no_input { AsksRecover arguments.now → input.new ≡ input.old }
+    ensures devices { ¬ IsInit arguments.now → ¬ AsksRun arguments.now → ¬ AsksRecover arguments.now → devices.new ≡ devices.old }
 {
-    match order_of(alloc, words) {
-        Ok(Some(Order::Init)) => init_input(alloc, input, errors, devices),
-        Ok(Some(Order::Run { batch, rows })) => {
-            run_devices(alloc, batch, rows, input, output, errors, devices)
+    match parse_args(alloc, arguments) {
+        Ok(Some(Command::Init)) => init_input(alloc, input, errors, devices),
+        Ok(Some(Command::Run { group_size, rows })) => {
+            run_devices(alloc, group_size, rows, input, output, errors, devices)
         }
-        Ok(Some(Order::Recover { workers, rows })) => {
+        Ok(Some(Command::Recover { workers, rows })) => {
             recover_devices(alloc, workers, rows, output, errors, devices, gate)
         }
-        Ok(Some(Order::Explain { text })) => explain_input(alloc, text, input, output, errors),
-        Ok(Some(Order::Replay { rows, .. })) => replay_input(alloc, rows, input, output, errors),
-        Ok(_) => refuse_words(WordsError::Usage, errors),
-        Err(NoMemory) => refuse_words(WordsError::NoMemory, errors),
+        Ok(Some(Command::Explain { text })) => explain_input(alloc, text, input, output, errors),
+        Ok(Some(Command::Replay { rows, .. })) => replay_input(alloc, rows, input, output, errors),
+        Ok(_) => refuse_arguments(ArgumentsError::Usage, errors),
+        Err(NoMemory) => refuse_arguments(ArgumentsError::NoMemory, errors),
     }
 }

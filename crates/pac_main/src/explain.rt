@@ -6,17 +6,17 @@ ghost use Rattle.pac_main.specs.Causes.{ExplainStops, GivesNoExplanation};
 ghost use Rattle.pac_main.specs.Commands.{AsksExplain, IsExplain};
 ghost use Rattle.pac_main.specs.Explained.{ExplainEnds, IsExplanation, IsExplanationOf};
 ghost use Rattle.pac_main.specs.Stop.{status_of, line_of};
-ghost use Rattle.pac_main.specs.Streams.{IsOneOf, IsTaken, IsTold, observed};
+ghost use Rattle.pac_main.specs.Streams.{IsOneOf, IsTaken, IsReported, observed};
 ghost use Rattle.pac_main.specs.declared.stop.Stop.{Stop as AStop};
 
 use crate::explanation::explain;
 use crate::input::InputError;
+use crate::reporting::{ArgumentsError, refuse_arguments, report};
 use crate::stop::Stop;
-use crate::tell::{WordsError, refuse_words, told};
+use pac_arguments::{Command, parse_args};
 use pac_base::NoMemory;
 use pac_outside::{Sink, Source, read_up_to, write_all};
 use pac_syntax::MAX_CATALOGUE;
-use pac_words::{Order, order_of};
 use std::alloc::Global;
 
 // What is written of the catalogue that the source holds.
@@ -49,45 +49,45 @@ fn write_explanation<I: Source, O: Sink>(
     Ok(write_all(output, &text)?)
 }
 
-/// Does what the words `explain` or `explain --text` say, and answers the program's exit status: reads a catalogue's text
+/// Does what the arguments `explain` or `explain --text` say, and answers the program's exit status: reads a catalogue's text
 /// from the input, to its end or to 65,537 bytes, and writes the slices of its procedures and the blocks of its plan, with
-/// `--text` behind the canonical text.
+/// `--text` after the canonical text.
 ///
 /// | status | comes | the error sink takes |
 /// |---|---|---|
 /// | 0 | else: the output took the text | nothing |
-/// | 1 | exactly where the words are neither `explain` nor `explain --text`, unless there was no memory to read them | the usage |
+/// | 1 | exactly where the arguments are neither `explain` nor `explain --text`, unless there was no memory to read them | the usage |
 /// | 2 | only where the catalogue is refused: its first fault, or the first procedure at which operations are too many | `catalogue AT KIND` or `operations PROC COUNT` |
 /// | 6 | only where the input's count of faults rose | `input fault` |
-/// | 7 | only where the output's count of faults rose; the output took a front of the text | `output fault` |
+/// | 7 | only where the output's count of faults rose; the output took a prefix of the text | `output fault` |
 /// | 9 | where an allocation was refused | `no memory` |
 ///
 /// A failing error sink changes no status.
 pub fn explain_command<I: Source, O: Sink, E: Sink>(
     alloc: Global,
-    words: &[String],
+    arguments: &[String],
     input: &mut I,
     output: &mut O,
     errors: &mut E,
 ) -> u8
     ensures status { IsOneOf result (0 ∷ 1 ∷ 2 ∷ 6 ∷ 7 ∷ 9 ∷ []) }
-    ensures usage { result ≢ 9 → (result ≡ 1) ↔ ¬ AsksExplain words.now }
-    ensures ends { (with_text : Bool) → IsExplain words.now with_text → ExplainEnds with_text result
+    ensures usage { result ≢ 9 → (result ≡ 1) ↔ ¬ AsksExplain arguments.now }
+    ensures ends { (with_text : Bool) → IsExplain arguments.now with_text → ExplainEnds with_text result
         (observed I.left I.faults input.old input.new) (observed O.held O.faults output.old output.new) (observed E.held E.faults errors.old errors.new) }
     ensures kept { result ≢ 0 → result ≢ 7 → output.new ≡ output.old }
     ensures quiet { result ≡ 0 → errors.new ≡ errors.old }
-    ensures told { result ≢ 0 → (stop : AStop) × (result ≡ status_of stop) × IsTold (observed E.held E.faults errors.old errors.new) (line_of stop) }
+    ensures reported { result ≢ 0 → (stop : AStop) × (result ≡ status_of stop) × IsReported (observed E.held E.faults errors.old errors.new) (line_of stop) }
     ensures taken { GaveAtMost (MAX_CATALOGUE + 1) (I.left input.old) (I.left input.new) }
-    ensures unread { ¬ AsksExplain words.now → input.new ≡ input.old }
+    ensures unread { ¬ AsksExplain arguments.now → input.new ≡ input.old }
 {
-    match order_of(alloc, words) {
-        Ok(Some(Order::Explain { text })) => explain_input(alloc, text, input, output, errors),
-        Ok(_) => refuse_words(WordsError::Usage, errors),
-        Err(NoMemory) => refuse_words(WordsError::NoMemory, errors),
+    match parse_args(alloc, arguments) {
+        Ok(Some(Command::Explain { text })) => explain_input(alloc, text, input, output, errors),
+        Ok(_) => refuse_arguments(ArgumentsError::Usage, errors),
+        Err(NoMemory) => refuse_arguments(ArgumentsError::NoMemory, errors),
     }
 }
 
-/// Writes what explains the catalogue whose text the input holds, behind its canonical text where that is wanted, and tells
+/// Writes what explains the catalogue whose text the input holds, after its canonical text where that is wanted, and says
 /// why where that stops before its end.
 pub(crate) fn explain_input<I: Source, O: Sink, E: Sink>(
     alloc: Global,
@@ -100,11 +100,11 @@ pub(crate) fn explain_input<I: Source, O: Sink, E: Sink>(
         (observed I.left I.faults input.old input.new) (observed O.held O.faults output.old output.new) (observed E.held E.faults errors.old errors.new) }
     ensures kept { result ≢ 0 → result ≢ 7 → output.new ≡ output.old }
     ensures quiet { result ≡ 0 → errors.new ≡ errors.old }
-    ensures told { result ≢ 0 → (stop : AStop) × (result ≡ status_of stop) × IsTold (observed E.held E.faults errors.old errors.new) (line_of stop) }
+    ensures reported { result ≢ 0 → (stop : AStop) × (result ≡ status_of stop) × IsReported (observed E.held E.faults errors.old errors.new) (line_of stop) }
     ensures taken { GaveAtMost (MAX_CATALOGUE + 1) (I.left input.old) (I.left input.new) }
 {
     match write_explanation(alloc, with_text, input, output) {
         Ok(()) => 0,
-        Err(stop) => told(alloc, stop, errors).status(),
+        Err(stop) => report(alloc, stop, errors).status(),
     }
 }

@@ -1,7 +1,7 @@
 // What `explain` writes of a catalogue's text.
 ghost use Rattle.std.specs.Prelude.{◌≡◌, ℕ, [], ◌≤◌, length, map, slice_get, Some, IfOk, IsErrOf, if◌then◌else◌};
 ghost use Rattle.pac_base.specs.declared.refusal.Refusal.TheVariants as error;
-ghost use Rattle.pac_ops.specs.Programs.{AreSoundPrograms, count_ops};
+ghost use Rattle.pac_ops.specs.Programs.{AreWellFormedPrograms, count_ops};
 ghost use Rattle.pac_ops.specs.declared.program.Program.{Program as AProgram};
 ghost use Rattle.pac_ops.specs.declared.limits.TheConstants.{MAX_OPS, MAX_ALL_OPS};
 ghost use Rattle.pac_flat.specs.FlatForm.{program_of};
@@ -26,7 +26,7 @@ use pac_syntax::{Tree, parse_catalogue};
 use pac_types::{Catalogue, CatalogueFault, check};
 use std::alloc::Global;
 
-/// The text of the graph of the catalogue that a text has, behind its canonical text where that is wanted.
+/// The text of the graph of the catalogue that a text has, after its canonical text where that is wanted.
 ///
 /// # Errors
 ///
@@ -50,7 +50,7 @@ fn explain_tree(alloc: Global, with_text: bool, tree: Tree) -> Result<Vec<u8>, S
     ensures ok { IfOk result (λ written. IsTreeExplanation with_text tree written.items) }
     ensures fault { (fault : AFault) → IsErrOf result (error.Fault fault) → IsUnexplainedTree tree fault }
 {
-    let mut out = front_text(alloc, with_text, &tree)?;
+    let mut out = leading_text(alloc, with_text, &tree)?;
     match check(alloc, tree) {
         Ok(catalogue) => {
             let graph = graph_text(alloc, &catalogue)?;
@@ -65,7 +65,7 @@ fn explain_tree(alloc: Global, with_text: bool, tree: Tree) -> Result<Vec<u8>, S
 }
 
 // The canonical text, where that is wanted.
-fn front_text(alloc: Global, with_text: bool, tree: &Tree) -> Result<Vec<u8>, NoMemory>
+fn leading_text(alloc: Global, with_text: bool, tree: &Tree) -> Result<Vec<u8>, NoMemory>
     ensures { IfOk result (λ text. text.items ≡ (if with_text then canonical tree.now else [])) }
 {
     if with_text {
@@ -106,7 +106,7 @@ fn planned_text(
 ) -> Result<Vec<u8>, NoMemory>
     requires few { HasFewOperations catalogue.now.procs }
     requires programs { programs.items ≡ map program_of catalogue.now.procs }
-    requires sound { AreSoundPrograms (map shape catalogue.now.tables) programs.items }
+    requires well_formed { AreWellFormedPrograms (map shape catalogue.now.tables) programs.items }
     requires counted { count_ops programs.items ≤ MAX_ALL_OPS }
     ensures { IfOk result (λ text. IsGraphText catalogue.now text.items) }
 {

@@ -1,4 +1,4 @@
-// The line that tells a stop.
+// The line that reports a stop.
 ghost use Rattle.std.specs.Prelude.{◌≡◌, IsTrue};
 ghost use Rattle.pac_report.specs.Status.{fault_text, is_made};
 ghost use Rattle.pac_main.specs.Stop.{damaged_line, line_of, script_fault_line, slot_device, takes_memory};
@@ -61,7 +61,7 @@ fn damage_status(damage: Damage) -> StatusLine<'static>
     }
 }
 
-/// The line that the error sink is told of a stop.
+/// The line that is reported for a stop.
 pub(crate) fn status_line(stop: &Stop) -> StatusLine<'_>
     ensures line { fault_text result ≡ line_of stop.now }
     ensures made { is_made result ≡ takes_memory stop.now }

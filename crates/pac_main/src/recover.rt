@@ -4,11 +4,11 @@ ghost use Rattle.pac_outside.specs.Devices.{each};
 ghost use Rattle.pac_main.specs.Causes.{IsRecovered, RecoverStops};
 ghost use Rattle.pac_main.specs.Recover.{RecoverEnds};
 ghost use Rattle.pac_main.specs.Stop.{line_of, status_of};
-ghost use Rattle.pac_main.specs.Streams.{IsTold, observed, observed_devices};
+ghost use Rattle.pac_main.specs.Streams.{IsReported, observed, observed_devices};
 ghost use Rattle.pac_main.specs.declared.stop.Stop.{Stop as AStop};
 
+use crate::reporting::report;
 use crate::stop::Stop;
-use crate::tell::told;
 use pac_outside::{Devices, Disk, Gate, Sink, write_all};
 use pac_recover::recover;
 use pac_report::dump;
@@ -23,17 +23,17 @@ fn write_recovered<O: Sink, D: Disk, G: Gate>(
     devices: &mut Devices<D>,
     gate: &G,
 ) -> Result<(), Stop>
-    ensures done { OnOk result (IsRecovered limit (observed_devices D.told D.faults devices.old devices.new) (observed O.held O.faults output.old output.new)) }
-    ensures stops { IfErr result (RecoverStops limit (observed_devices D.told D.faults devices.old devices.new) (observed O.held O.faults output.old output.new)) }
+    ensures done { OnOk result (IsRecovered limit (observed_devices D.known D.faults devices.old devices.new) (observed O.held O.faults output.old output.new)) }
+    ensures stops { IfErr result (RecoverStops limit (observed_devices D.known D.faults devices.old devices.new) (observed O.held O.faults output.old output.new)) }
     ensures kept { IfErr result (λ stop. stop ≢ Stop.OutputFault → output.new ≡ output.old) }
-    ensures untouched { each D.told devices.new ≡ each D.told devices.old }
+    ensures untouched { each D.known devices.new ≡ each D.known devices.old }
 {
     let recovered = recover(alloc, workers, u64::from(limit), devices, gate)?;
     let text = dump(alloc, &recovered.catalogue, &recovered.tables)?;
     Ok(write_all(output, &text)?)
 }
 
-/// Writes the dump of the tables that are recovered of the devices, and tells why where that stops before its end. The
+/// Writes the dump of the tables that are recovered of the devices, and reports why where that stops before its end. The
 /// devices are only read. The number of workers has no effect, and no gate is entered.
 pub(crate) fn recover_devices<O: Sink, E: Sink, D: Disk, G: Gate>(
     alloc: Global,
@@ -45,13 +45,13 @@ pub(crate) fn recover_devices<O: Sink, E: Sink, D: Disk, G: Gate>(
     gate: &G,
 ) -> u8
     ensures ends { RecoverEnds limit result
-        (observed_devices D.told D.faults devices.old devices.new) (observed O.held O.faults output.old output.new) (observed E.held E.faults errors.old errors.new) }
+        (observed_devices D.known D.faults devices.old devices.new) (observed O.held O.faults output.old output.new) (observed E.held E.faults errors.old errors.new) }
     ensures kept { result ≢ 0 → result ≢ 7 → output.new ≡ output.old }
     ensures quiet { result ≡ 0 → errors.new ≡ errors.old }
-    ensures told { result ≢ 0 → (stop : AStop) × (result ≡ status_of stop) × IsTold (observed E.held E.faults errors.old errors.new) (line_of stop) }
+    ensures reported { result ≢ 0 → (stop : AStop) × (result ≡ status_of stop) × IsReported (observed E.held E.faults errors.old errors.new) (line_of stop) }
 {
     match write_recovered(alloc, workers, limit, output, devices, gate) {
         Ok(()) => 0,
-        Err(stop) => told(alloc, stop, errors).status(),
+        Err(stop) => report(alloc, stop, errors).status(),
     }
 }

@@ -7,13 +7,13 @@ ghost use Rattle.pac_recover.specs.Gates.{RunOn};
 ghost use Rattle.pac_run.specs.declared.limits.TheConstants.{MAX_INPUT};
 ghost use Rattle.pac_main.specs.Replay.{IsDumpOf, IsScriptOf, IsLongScript, ReplayEnds, first_over_in, outcome};
 ghost use Rattle.pac_main.specs.Stop.{line_of, status_of};
-ghost use Rattle.pac_main.specs.Streams.{IsTaken, IsTold, observed};
+ghost use Rattle.pac_main.specs.Streams.{IsTaken, IsReported, observed};
 ghost use Rattle.pac_main.specs.declared.stop.Stop.{Stop as AStop};
 
 use crate::execution::executed;
 use crate::input::InputError;
+use crate::reporting::report;
 use crate::stop::Stop;
-use crate::tell::told;
 use pac_outside::{Sink, Source, read_up_to, write_all};
 use pac_recover::test_rows;
 use pac_report::dump;
@@ -83,7 +83,7 @@ fn replay<I: Source, O: Sink>(
     Ok(write_all(output, &text)?)
 }
 
-/// Replays the script that the input holds, and tells why where that stops before its end.
+/// Replays the script that the input holds, and reports why where that stops before its end.
 pub(crate) fn replay_input<I: Source, O: Sink, E: Sink>(
     alloc: Global,
     limit: u32,
@@ -95,11 +95,11 @@ pub(crate) fn replay_input<I: Source, O: Sink, E: Sink>(
         (observed I.left I.faults input.old input.new) (observed O.held O.faults output.old output.new) (observed E.held E.faults errors.old errors.new) }
     ensures kept { result ≢ 0 → result ≢ 7 → output.new ≡ output.old }
     ensures quiet { result ≡ 0 → errors.new ≡ errors.old }
-    ensures told { result ≢ 0 → (stop : AStop) × (result ≡ status_of stop) × IsTold (observed E.held E.faults errors.old errors.new) (line_of stop) }
+    ensures reported { result ≢ 0 → (stop : AStop) × (result ≡ status_of stop) × IsReported (observed E.held E.faults errors.old errors.new) (line_of stop) }
     ensures taken { GaveAtMost (MAX_INPUT + 1) (I.left input.old) (I.left input.new) }
 {
     match replay(alloc, limit, input, output) {
         Ok(()) => 0,
-        Err(stop) => told(alloc, stop, errors).status(),
+        Err(stop) => report(alloc, stop, errors).status(),
     }
 }

@@ -1,7 +1,7 @@
 // Why a command stops before its end.
 ghost use Rattle.std.specs.Prelude.{◌≡◌};
 ghost use Rattle.pac_main.specs.Stop.{status_of, takes_memory, stop_of_excess, stop_of_input, stop_of_make, stop_of_recover, stop_of_run, stop_of_serial};
-ghost use Rattle.pac_main.specs.declared.stop.Stop.TheVariants.{OutputFault, NoMemory as WantOfMemory};
+ghost use Rattle.pac_main.specs.declared.stop.Stop.TheVariants.{OutputFault, NoMemory as OutOfMemory};
 
 use crate::input::InputError;
 use pac_base::NoMemory;
@@ -17,11 +17,11 @@ use pac_value::Name;
 /// Why a command stops before its end.
 #[derive(Clone, Copy, Debug, PartialEq, Eq)]
 pub(crate) enum Stop {
-    /// The words name no command that runs.
+    /// The arguments name no command that runs.
     Usage,
     /// The input is no script, or its catalogue isn't explained.
     Script(ScriptFault),
-    /// This device of a store that is to be made has so many bytes already.
+    /// This device of a store that is to be made has that many bytes already.
     NotEmpty { device: DeviceName, length: u64 },
     /// The log's device holds no log.
     NoStore,
@@ -39,16 +39,16 @@ pub(crate) enum Stop {
     DiskFault,
     /// An allocation was refused.
     NoMemory,
-    /// The log would have so many bytes, and has no room for them.
+    /// The log would have that many bytes, and has no room for them.
     LogFull { need: u64 },
     /// The input has more bytes than it may.
     TooLong,
-    /// A checkpoint's slot would have so many bytes, and has no room for them.
+    /// A checkpoint's slot would have that many bytes, and has no room for them.
     TooLarge { bytes: u64 },
 }
 
 impl From<NoMemory> for Stop {
-    ghost from_gives = { λ _ stop. stop ≡ WantOfMemory };
+    ghost from_gives = { λ _ stop. stop ≡ OutOfMemory };
 
     fn from(_: NoMemory) -> Self {
         Stop::NoMemory

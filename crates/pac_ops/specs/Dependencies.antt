@@ -1,4 +1,4 @@
--- What depends on what: flow and clash of operations.
+-- What depends on what: flow and conflict of operations.
 use Rattle.std.specs.Prelude.{◌≡◌, ◌⊎◌, ℕ, ◌<◌, IsTrue, List, slice_get, Some, IsSomeAnd}
 use Rattle.pac_ops.specs.declared.program.FlatOp.{FlatOp}
 use Rattle.pac_ops.specs.Uses.{op_uses, Defines, accessed_table, modifies}
@@ -19,6 +19,6 @@ Accesses ops i t = IsSomeAnd (slice_get ops i) (λ op. accessed_table op.kind �
 abbrev pub Modifies : List FlatOp → ℕ → Type 0
 Modifies ops i = IsSomeAnd (slice_get ops i) (λ op. IsTrue (modifies op.kind))
 
--- clash: two operations access one table, and at least one of them modifies it
-abbrev pub IsClash : List FlatOp → ℕ → ℕ → Type 0
-IsClash ops i j = ((t : ℕ) × Accesses ops i t × Accesses ops j t) × (Modifies ops i ⊎ Modifies ops j)
+-- conflict: two operations access one table, and at least one of them modifies it
+abbrev pub IsConflict : List FlatOp → ℕ → ℕ → Type 0
+IsConflict ops i j = ((t : ℕ) × Accesses ops i t × Accesses ops j t) × (Modifies ops i ⊎ Modifies ops j)

@@ -1,5 +1,5 @@
 -- The flat meaning: operations in one list, each of which does something only where its conditions hold, and none of
--- which stops those behind it.
+-- which stops those after it.
 use Rattle.std.specs.Prelude.{pos, ◌+◌, ℕ, Bool, true, false, not, ◌&&◌, if◌then◌else◌, List, [], ◌∷◌, ◌++◌, slice_get, Option, Some, None, Result, Ok, Err}
 use Rattle.std.specs.FinMap.{get}
 use Rattle.pac_value.specs.declared.values.Ty.{Ty}
@@ -47,7 +47,7 @@ abbrev pub with_default : List Ty → Option ℕ → State → State
 with_default vars None s = s
 with_default vars (Some x) s = given_default x (slice_get vars x) s
 
--- the state behind an operation: the one that it means, or where it would abort, one in which its variable alone changes
+-- the state after an operation: the one that it means, or where it would abort, one in which its variable alone changes
 abbrev pub done_or_default : List Ty → OpKind → State → Result State Reason → State
 done_or_default vars kind s (Ok t) = t
 done_or_default vars kind s (Err reason) = with_default vars (defined_variable kind) s
@@ -57,7 +57,7 @@ abbrev pub reason_in : Result State Reason → Option Reason
 reason_in (Ok t) = None
 reason_in (Err reason) = Some reason
 
--- the state behind a flat operation; where some condition does not hold, nothing changes
+-- the state after a flat operation; where some condition does not hold, nothing changes
 abbrev pub flat_done : List Ty → FlatOp → State → State
 flat_done vars op s = if all_hold s.env op.conds then done_or_default vars op.kind s (done op.kind s) else s
 
@@ -65,7 +65,7 @@ flat_done vars op s = if all_hold s.env op.conds then done_or_default vars op.ki
 abbrev pub flat_reason : FlatOp → State → Option Reason
 flat_reason op s = if all_hold s.env op.conds then reason_in (done op.kind s) else None
 
--- the state behind flat operations, one after another
+-- the state after flat operations, one after another
 abbrev pub flat_meaning : List Ty → List FlatOp → State → State
 flat_meaning vars [] s = s
 flat_meaning vars (op ∷ ops) s = flat_meaning vars ops (flat_done vars op s)

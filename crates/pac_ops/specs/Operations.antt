@@ -93,13 +93,13 @@ effect (AbortIf e) env row = or_abort (value e env) >>= λ v. unless_asked v
 abbrev pub row_at : Tables → Option Cell → Option RowValues
 row_at tables cell = option_and_then (get tables) cell
 
--- the state behind an operation that touches this cell and does this
+-- the state after an operation that touches this cell and does this
 abbrev pub with_effect : Option Cell → Effect → State → State
 with_effect cell Nothing s = s
 with_effect cell (Gives x v) s = define x v s
 with_effect None (Leaves row) s = s
 with_effect (Some cell) (Leaves row) s = write cell row s
 
--- the state behind an operation, or why it aborts: its key is evaluated first, then its values, then the row is looked for
+-- the state after an operation, or why it aborts: its key is evaluated first, then its values, then the row is looked for
 abbrev pub done : OpKind → State → Result State Reason
 done kind s = or_abort (touched kind s.env) >>= λ cell. effect kind s.env (row_at s.tables cell) >>= λ e. Ok (with_effect cell e s)

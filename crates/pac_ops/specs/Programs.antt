@@ -1,4 +1,4 @@
--- When a program is sound over the tables that it accesses.
+-- When a program is well-formed over the tables that it accesses.
 use Rattle.std.specs.Prelude.{◌≡◌, ◌⊎◌, ℕ, ◌+◌, ◌<◌, ◌≤◌, Bool, IsTrue, List, [], ◌∷◌, ◌++◌, map, length, slice_get, Option, Some, None, is_some, IsSomeAnd, Contains}
 use Rattle.std.specs.Option.{option_map, option_and_then}
 use Rattle.pac_value.specs.declared.limits.TheConstants.{MAX_COLUMNS}
@@ -17,8 +17,8 @@ use Rattle.pac_ops.specs.declared.program.Program.{Program}
 use Rattle.pac_ops.specs.Uses.{op_uses, defined_variable, Defines}
 
 -- a list begins with the items of another
-abbrev pub IsFrontOf : {A : Type 0} → List A → List A → Type 0
-IsFrontOf {A} front items = (rest : List A) × (items ≡ front ++ rest)
+abbrev pub IsPrefixOf : {A : Type 0} → List A → List A → Type 0
+IsPrefixOf {A} prefix items = (rest : List A) × (items ≡ prefix ++ rest)
 
 -- the type of a table's keys, where there is such a table
 abbrev pub key_type_in : List TableTypes → ℕ → Option Ty
@@ -36,7 +36,7 @@ column_type_in tables t c = option_and_then (λ columns. slice_get columns c) (r
 abbrev pub IsRowWanted : List (Option Ty) → Option (List Ty) → Type 0
 IsRowWanted given columns = IsSomeAnd columns (λ types. IsTrue (is_width (length given)) × IsTrue (are_wanted given types))
 
--- the expressions of an operation have the types that their places want; in particular its table and column are there
+-- the expressions of an operation have the types that their positions want; in particular its table and column are there
 abbrev pub IsWellTyped : List TableTypes → Scope → OpKind → Type 0
 IsWellTyped tables scope (Let x e) = IsTrue (is_some (type_in scope e))
 IsWellTyped tables scope (Cond x e) = IsTrue (is_bool (type_in scope e))
@@ -64,21 +64,21 @@ scope_in vars x = slice_get vars x
 
 -- an operation before j defines the variable, and its conditions are the first ones of those of j
 abbrev pub IsDefinedBefore : List FlatOp → ℕ → FlatOp → ℕ → Type 0
-IsDefinedBefore ops j user x = (i : ℕ) × (i < j) × IsSomeAnd (slice_get ops i) (λ op. (defined_variable op.kind ≡ Some x) × IsFrontOf op.conds user.conds)
+IsDefinedBefore ops j user x = (i : ℕ) × (i < j) × IsSomeAnd (slice_get ops i) (λ op. (defined_variable op.kind ≡ Some x) × IsPrefixOf op.conds user.conds)
 
 -- some operation is a condition and defines the variable
 abbrev pub IsCondition : List FlatOp → ℕ → Type 0
 IsCondition ops x = (i : ℕ) × IsSomeAnd (slice_get ops i) (λ op. (test : Expr) × (op.kind ≡ Cond x test))
 
--- a program is sound over the types of tables
-pub record IsSoundProgram (tables : List TableTypes) (program : Program) : Type 0 where
+-- a program is well-formed over the types of tables
+pub record IsWellFormedProgram (tables : List TableTypes) (program : Program) : Type 0 where
   pub few : length program.ops ≤ MAX_OPS
   -- the parameters are the first variables
-  pub params : IsFrontOf program.params program.vars
+  pub params : IsPrefixOf program.params program.vars
   -- each other variable is defined by an operation, and by no more than one; no parameter is defined
   pub defined : (x : ℕ) → length program.params ≤ x → x < length program.vars → (i : ℕ) × Defines program.ops i x
   pub once : (i j x : ℕ) → Defines program.ops i x → Defines program.ops j x → i ≡ j
-  pub behind : (i x : ℕ) → Defines program.ops i x → length program.params ≤ x
+  pub after : (i x : ℕ) → Defines program.ops i x → length program.params ≤ x
   -- a variable has the type that its operation gives it
   pub given : (i x : ℕ) (op : FlatOp) → slice_get program.ops i ≡ Some op → defined_variable op.kind ≡ Some x
       → IsSomeAnd (slice_get program.vars x) (λ ty. given_type (scope_in program.vars) op.kind ≡ Some ty)
@@ -88,9 +88,9 @@ pub record IsSoundProgram (tables : List TableTypes) (program : Program) : Type 
   pub conditions : (i : ℕ) (op : FlatOp) (c : ℕ × Bool) → slice_get program.ops i ≡ Some op → Contains op.conds c → IsCondition program.ops c.0
   pub typed : (i : ℕ) (op : FlatOp) → slice_get program.ops i ≡ Some op → IsWellTyped tables (scope_in program.vars) op.kind
 
--- each program is sound
-abbrev pub AreSoundPrograms : List TableTypes → List Program → Type 0
-AreSoundPrograms tables programs = (p : ℕ) (program : Program) → slice_get programs p ≡ Some program → IsSoundProgram tables program
+-- each program is well-formed
+abbrev pub AreWellFormedPrograms : List TableTypes → List Program → Type 0
+AreWellFormedPrograms tables programs = (p : ℕ) (program : Program) → slice_get programs p ≡ Some program → IsWellFormedProgram tables program
 
 -- how many operations programs have
 abbrev pub count_ops : List Program → ℕ
@@ -102,12 +102,12 @@ abbrev pub IsStoredType : Ty → Type 0
 IsStoredType ty = ty ≡ BoolTy → ⊥
 
 -- a table has 1 to 8 columns; its key and they are ints or texts
-pub record IsSoundTableTypes (table : TableTypes) : Type 0 where
+pub record IsWellFormedTableTypes (table : TableTypes) : Type 0 where
   pub some : 1 ≤ length table.columns
   pub few : length table.columns ≤ MAX_COLUMNS
   pub key : IsStoredType table.key
   pub columns : (c : ℕ) (ty : Ty) → slice_get table.columns c ≡ Some ty → IsStoredType ty
 
--- each table is sound
-abbrev pub AreSoundTables : List TableTypes → Type 0
-AreSoundTables tables = (t : ℕ) (table : TableTypes) → slice_get tables t ≡ Some table → IsSoundTableTypes table
+-- each table is well-formed
+abbrev pub AreWellFormedTables : List TableTypes → Type 0
+AreWellFormedTables tables = (t : ℕ) (table : TableTypes) → slice_get tables t ≡ Some table → IsWellFormedTableTypes table

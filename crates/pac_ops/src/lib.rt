@@ -13,7 +13,7 @@
 //!   of such types, whether a catalogue or a plan has them.
 //!
 //! `specs/Uses.antt` says which variables an operation uses and defines and which table it accesses,
-//! `specs/Dependencies.antt` what depends on what, and `specs/Programs.antt` when a program is sound over tables of
+//! `specs/Dependencies.antt` what depends on what, and `specs/Programs.antt` when a program is well-formed over tables of
 //! given types: each operation finds what it uses.
 //!
 //! `specs/Operations.antt` says what an operation means, by the cell that it touches and what it does there; every

@@ -1,6 +1,6 @@
 // How long lists may be.
 
-/// The most records of an ad-hoc transaction.
+/// The most records of an ad hoc transaction.
 pub const MAX_RECORDS: usize = 64;
 
 /// The most transactions of a batch.

@@ -35,7 +35,7 @@ pub enum Change {
     Delete { table: u16, key: Key },
 }
 
-/// The records of an ad-hoc transaction, in order: 1 to 64 changes.
+/// The records of an ad hoc transaction, in order: 1 to 64 changes.
 pub type Records = Ruled<RecordsRule>;
 
 /// What the changes of [`Records`] keep.

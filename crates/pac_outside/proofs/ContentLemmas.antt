@@ -24,12 +24,12 @@ Gave-append a b c xs ys first next = first ∙ ap (prepend_known xs) next ∙ pr
 pub Took-take_more : (a b c : Option (List ℕ)) (text : List ℕ) (i n : ℕ) → Took a (take i text) b → Took b (take n (drop i text)) c → Took a (take (i + n) text) c
 Took-take_more a b c text i n first next = Took-append a b c (take i text) (take n (drop i text)) first next ∙ ap (append_known a) (sym (take-add i n text))
 
--- what is left after a read of a front, where the read was from a copy of the bytes
+-- what is left after a read of a prefix, where the read was from a copy of the bytes
 pub left_after : (left bytes copy buf : List ℕ) (at n : ℕ) → drop at bytes ≡ left → copy ≡ bytes → take n buf ≡ take n (take (length copy - at) (drop at copy)) → Gave (Some left) (take n buf) (Some (drop (at + n) bytes))
 left_after left bytes copy buf at n from same copied =
     let copied' : take n buf ≡ take n (take (length bytes - at) (drop at bytes)) = rw same at copied in
-    let front : take n buf ≡ take n (drop at bytes) = simp take_rest at copied' in
-    sym (ap Some from) ∙ ap Some (rw front (sym (ap (λ rest. take n (drop at bytes) ++ rest) (sym (drop-drop n at bytes)) ∙ take-append-drop n (drop at bytes))))
+    let prefix : take n buf ≡ take n (drop at bytes) = simp take_rest at copied' in
+    sym (ap Some from) ∙ ap Some (rw prefix (sym (ap (λ rest. take n (drop at bytes) ++ rest) (sym (drop-drop n at bytes)) ∙ take-append-drop n (drop at bytes))))
 
 -- a read of nothing into room comes at the end
 pub none_left : (bytes copy : List ℕ) (at n room : ℕ) → copy ≡ bytes → n ≡ min (length (take (length copy - at) (drop at copy))) room → n ≡ 0 → 0 < room → drop (at + n) bytes ≡ []
@@ -40,5 +40,5 @@ pub GaveAtMost-read : (a b c : Option (List ℕ)) (text buffer : List ℕ) (coun
 GaveAtMost-read a b c text buffer count most first next fits = record {
   bytes = text ++ take count buffer;
   within = grind (arith, common_steps);
-  front = Gave-append a b c text (take count buffer) first next;
+  prefix = Gave-append a b c text (take count buffer) first next;
 }

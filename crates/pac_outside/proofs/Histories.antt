@@ -1,7 +1,7 @@
 -- Calls of a disk one after another.
 use Rattle.std.proofs.Common.{List, [], ◌∷◌, ◌++◌, ℕ, Option, Some, None, Result, Ok, Err, OnOk, ap, ◌∙◌, append_assoc}
 use Rattle.std.specs.List.{AllByRecursion}
-use Rattle.pac_outside.specs.Disk.{DiskState, DiskHistory, Leaves, LeavesOnly, BothTell}
+use Rattle.pac_outside.specs.Disk.{DiskState, DiskHistory, Leaves, LeavesOnly, BothKnown}
 
 all_append : (P : DiskState → Type 0) (xs ys : List DiskState) → AllByRecursion P xs → AllByRecursion P ys → AllByRecursion P (xs ++ ys)
 all_append P [] ys left right = right
@@ -30,14 +30,14 @@ weaken P Q a b weaker run = record {
   last = λ image is. weaker image (run.last image is);
 }
 
--- where both tell, one relation leads to another
-pub both : (R S : DiskHistory → DiskHistory → Type 0) → ((a b : DiskHistory) → R a b → S a b) → (a b : Option DiskHistory) → BothTell R a b → BothTell S a b
+-- where both are known, one relation leads to another
+pub both : (R S : DiskHistory → DiskHistory → Type 0) → ((a b : DiskHistory) → R a b → S a b) → (a b : Option DiskHistory) → BothKnown R a b → BothKnown S a b
 both R S step None None run = tt
 both R S step None (Some b) run = absurd run
 both R S step (Some a) None run = absurd run
 both R S step (Some a) (Some b) run = step a b run
 
-pub both_then : (R S T : DiskHistory → DiskHistory → Type 0) → ((a b c : DiskHistory) → R a b → S b c → T a c) → (a b c : Option DiskHistory) → BothTell R a b → BothTell S b c → BothTell T a c
+pub both_then : (R S T : DiskHistory → DiskHistory → Type 0) → ((a b c : DiskHistory) → R a b → S b c → T a c) → (a b c : Option DiskHistory) → BothKnown R a b → BothKnown S b c → BothKnown T a c
 both_then R S T step None None None first second = tt
 both_then R S T step None None (Some c) first second = absurd second
 both_then R S T step None (Some b) c first second = absurd first
@@ -45,7 +45,7 @@ both_then R S T step (Some a) None c first second = absurd first
 both_then R S T step (Some a) (Some b) None first second = absurd second
 both_then R S T step (Some a) (Some b) (Some c) first second = step a b c first second
 
-pub both_and : (R S : DiskHistory → DiskHistory → Type 0) (a b : Option DiskHistory) → BothTell R a b → BothTell S a b → BothTell (λ old new. R old new × S old new) a b
+pub both_and : (R S : DiskHistory → DiskHistory → Type 0) (a b : Option DiskHistory) → BothKnown R a b → BothKnown S a b → BothKnown (λ old new. R old new × S old new) a b
 both_and R S None None first second = tt
 both_and R S None (Some b) first second = absurd first
 both_and R S (Some a) None first second = absurd first

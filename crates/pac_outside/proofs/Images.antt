@@ -5,11 +5,11 @@ use Rattle.std.proofs.lemmas.Bool.Decides.{nat_tests}
 use Rattle.std.proofs.lemmas.List.{ext_get_or, get_or-take, get_or-drop}
 use Rattle.pac_outside.specs.Disk.{IsImage, is_within, wrote, settled, spliced}
 
-before_range : (at count place : ℕ) → place < at → is_within (at, count) place ≡ false
-before_range at count place before = grind (arith, nat_tests)
+before_range : (at count offset : ℕ) → offset < at → is_within (at, count) offset ≡ false
+before_range at count offset before = grind (arith, nat_tests)
 
-behind_range : (at count place : ℕ) → at + count ≤ place → is_within (at, count) place ≡ false
-behind_range at count place behind = grind (arith, nat_tests)
+after_range : (at count offset : ℕ) → at + count ≤ offset → is_within (at, count) offset ≡ false
+after_range at count offset after = grind (arith, nat_tests)
 
 take_same : (n : ℕ) (xs ys : List ℕ) → n ≤ length xs → n ≤ length ys → ((i : ℕ) → i < n → get_or xs i 0 ≡ get_or ys i 0) → take n xs ≡ take n ys
 take_same n xs ys long long' same = ext_get_or 0 (take n xs) (take n ys) (omega (arith, length-take n xs, length-take n ys)) (λ i below.
@@ -21,16 +21,16 @@ drop_same n xs ys long same = ext_get_or 0 (drop n xs) (drop n ys) (omega (arith
     get_or-drop n xs i 0 ∙ same (n + i) (omega arith) (omega (arith, length-drop n xs, below, long)) ∙ sym (get_or-drop n ys i 0))
 
 module _ (at : ℕ) (piece old image : List ℕ) (is : IsImage (wrote at piece (settled old)) image) where
-  -- what stands in front of the write stays
-  pub front_stays : at ≤ length old → take at image ≡ take at old
-  front_stays within = take_same at image old (omega (arith, within, is.no_shorter)) within (λ i below. is.stays i (omega (arith, within, below)) (or_from _ _ (before_range at (length piece) i below) refl))
+  -- what stands before the write stays
+  pub prefix_stays : at ≤ length old → take at image ≡ take at old
+  prefix_stays within = take_same at image old (omega (arith, within, is.no_shorter)) within (λ i below. is.stays i (omega (arith, within, below)) (or_from _ _ (before_range at (length piece) i below) refl))
 
-  -- a write within the bytes keeps their number, and what stands behind it
+  -- a write within the bytes keeps their number, and what stands after it
   pub length_stays : at + length piece ≤ length old → length image ≡ length old
   length_stays within = omega (arith, within, is.no_shorter, (let longer : length image ≤ length (spliced at piece old) = is.no_longer in longer), length-append (take at old) (piece ++ drop (at + length piece) old), length-append piece (drop (at + length piece) old), length-take at old, length-drop (at + length piece) old)
 
   pub back_stays : at + length piece ≤ length old → drop (at + length piece) image ≡ drop (at + length piece) old
-  back_stays within = drop_same (at + length piece) image old (length_stays within) (λ i from below. is.stays i below (or_from _ _ (behind_range at (length piece) i from) refl))
+  back_stays within = drop_same (at + length piece) image old (length_stays within) (λ i from below. is.stays i below (or_from _ _ (after_range at (length piece) i from) refl))
 
 -- a disk that was synced has one image
 pub one_image : (seen image : List ℕ) → IsImage (settled seen) image → image ≡ seen

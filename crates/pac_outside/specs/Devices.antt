@@ -8,21 +8,21 @@ use Rattle.pac_outside.specs.declared.devices.Devices.{Devices}
 abbrev pub each : {D A : Type 0} → (D → A) → Devices D → List A
 each view devices = view devices.log ∷ view devices.slot_a ∷ view devices.slot_b ∷ []
 
--- what the devices tell, where all of them do
-abbrev pub all_told : List (Option DiskHistory) → Option (List DiskHistory)
-all_told [] = Some []
-all_told (None ∷ rest) = None
-all_told (Some history ∷ rest) = option_map (λ histories. history ∷ histories) (all_told rest)
+-- what is known of the devices, where all of it is
+abbrev pub all_known : List (Option DiskHistory) → Option (List DiskHistory)
+all_known [] = Some []
+all_known (None ∷ rest) = None
+all_known (Some history ∷ rest) = option_map (λ histories. history ∷ histories) (all_known rest)
 
--- what is told before and after has R; it is told after where it was before
-abbrev pub TellsOn : (List DiskHistory → List DiskHistory → Type 0) → Option (List DiskHistory) → Option (List DiskHistory) → Type 0
-TellsOn R None new = Unit {0}
-TellsOn R (Some old) None = ⊥
-TellsOn R (Some old) (Some new) = R old new
+-- what is known before and after has R; it is known after where it was before
+abbrev pub OnceKnown : (List DiskHistory → List DiskHistory → Type 0) → Option (List DiskHistory) → Option (List DiskHistory) → Type 0
+OnceKnown R None new = Unit {0}
+OnceKnown R (Some old) None = ⊥
+OnceKnown R (Some old) (Some new) = R old new
 
--- where all devices tell before a call, they do after it, and their histories have R
-abbrev pub WhereAllTold : (List DiskHistory → List DiskHistory → Type 0) → List (Option DiskHistory) → List (Option DiskHistory) → Type 0
-WhereAllTold R old new = TellsOn R (all_told old) (all_told new)
+-- where all devices' histories are known before a call, they are after it, and their histories have R
+abbrev pub IfAllKnown : (List DiskHistory → List DiskHistory → Type 0) → List (Option DiskHistory) → List (Option DiskHistory) → Type 0
+IfAllKnown R old new = OnceKnown R (all_known old) (all_known new)
 
 -- one image of each device
 abbrev pub AreImages : List DiskHistory → List (List ℕ) → Type 0
@@ -36,14 +36,14 @@ abbrev pub AllLeave : (List (List ℕ) → Type 0) → List DiskHistory → Type
 AllLeave P devices = (images : List (List ℕ)) → AreImages devices images → P images
 
 -- A run of calls, one device after another, while a crash at any moment leaves only images that have P. The moments of
--- each device are exact. No device tells which of two devices' moments comes first, so it is some order of them that has
+-- each device are exact. No device says which of two devices' moments comes first, so it is some order of them that has
 -- P. A call that says this at each exit says it of each moment: a device may fail from any call on, and be the last that
 -- is called, as `EndsAtOneFault` says; the exit is that moment then.
 pub data RunLeaves (P : List (List ℕ) → Type 0) : List DiskHistory → List DiskHistory → Type 0 where
   rests : (devices : List DiskHistory) → AllLeave P devices → RunLeaves P devices devices
-  runs : (front back end : List DiskHistory) (old next : DiskHistory)
-      → LeavesOnly (λ image. (before behind : List (List ℕ)) → AreImages front before → AreImages back behind → P (before ++ (image ∷ behind))) old next
-      → RunLeaves P (front ++ (next ∷ back)) end → RunLeaves P (front ++ (old ∷ back)) end
+  runs : (prefix back end : List DiskHistory) (old next : DiskHistory)
+      → LeavesOnly (λ image. (before after : List (List ℕ)) → AreImages prefix before → AreImages back after → P (before ++ (image ∷ after))) old next
+      → RunLeaves P (prefix ++ (next ∷ back)) end → RunLeaves P (prefix ++ (old ∷ back)) end
 
 -- a crash at any moment leaves images that it might have left before
 abbrev pub RunsAsBefore : List DiskHistory → List DiskHistory → Type 0
@@ -57,12 +57,12 @@ AreSettled (old ∷ olds) [] = ⊥
 AreSettled (old ∷ olds) (new ∷ news) = (new.now ≡ settled old.now.seen) × AreSettled olds news
 
 -- one device's count of faults rose by one, and no other did
-abbrev pub OneRose : List ℕ → List ℕ → Type 0
-OneRose [] [] = ⊥
-OneRose [] (now ∷ nows) = ⊥
-OneRose (before ∷ befores) [] = ⊥
-OneRose (before ∷ befores) (now ∷ nows) = ((now ≡ one_more before) × (nows ≡ befores)) ⊎ ((now ≡ before) × OneRose befores nows)
+abbrev pub OneFaulted : List ℕ → List ℕ → Type 0
+OneFaulted [] [] = ⊥
+OneFaulted [] (now ∷ nows) = ⊥
+OneFaulted (before ∷ befores) [] = ⊥
+OneFaulted (before ∷ befores) (now ∷ nows) = ((now ≡ one_more before) × (nows ≡ befores)) ⊎ ((now ≡ before) × OneFaulted befores nows)
 
 -- Calls of several devices of which none comes after one that failed, and no failure is dropped.
 abbrev pub EndsAtOneFault : {T E : Type 0} → List ℕ → List ℕ → Result T E → Type 0
-EndsAtOneFault before now result = MatchResult result (λ _. now ≡ before) (λ _. OneRose before now)
+EndsAtOneFault before now result = MatchResult result (λ _. now ≡ before) (λ _. OneFaulted before now)

@@ -2,29 +2,29 @@
 use Rattle.std.specs.Prelude.{◌≡◌, ℕ, ◌+◌, ◌<◌, ◌≤◌, Bool, false, ◌&&◌, List, [], ◌∷◌, ◌++◌, length, take, drop, slice_index, nat_le, nat_lt, Option, Some, None}
 use Rattle.std.specs.List.{list_any, AllByRecursion}
 
--- a disk at one moment: the bytes at the last sync that succeeded, place and length of each write since then, the
+-- a disk at one moment: the bytes at the last sync that succeeded, offset and length of each write since then, the
 -- latest first, and what a read gives
 pub record DiskState : Type 0 where
   pub synced : List ℕ
   pub written : List (ℕ × ℕ)
   pub seen : List ℕ
 
--- the place lies in the range, which is told by its place and its length
+-- the offset lies in the range, which is known by its offset and its length
 abbrev pub is_within : ℕ × ℕ → ℕ → Bool
-is_within range place = nat_le range.0 place && nat_lt place (range.0 + range.1)
+is_within range offset = nat_le range.0 offset && nat_lt offset (range.0 + range.1)
 
--- the place was written since the last sync
+-- the offset was written since the last sync
 abbrev pub is_unsynced : DiskState → ℕ → Bool
-is_unsynced state place = list_any (λ range. is_within range place) state.written
+is_unsynced state offset = list_any (λ range. is_within range offset) state.written
 
--- A crash at this moment may leave these bytes. Places that were written since the last sync, and so all behind the
+-- A crash at this moment may leave these bytes. Offsets that were written since the last sync, and so all after the
 -- bytes of that sync, may hold anything; the length may be any from the one at the sync to the present one.
 pub record IsImage (state : DiskState) (image : List ℕ) : Type 0 where
   pub no_shorter : length state.synced ≤ length image
   pub no_longer : length image ≤ length state.seen
-  pub stays : (place : ℕ) → place < length state.synced → is_unsynced state place ≡ false → slice_index image place ≡ slice_index state.synced place
+  pub stays : (offset : ℕ) → offset < length state.synced → is_unsynced state offset ≡ false → slice_index image offset ≡ slice_index state.synced offset
 
--- a piece from a place on, over what stood there
+-- a piece from an offset on, over what stood there
 abbrev pub spliced : ℕ → List ℕ → List ℕ → List ℕ
 spliced at piece bytes = take at bytes ++ (piece ++ drop (at + length piece) bytes)
 
@@ -36,7 +36,7 @@ wrote at piece state = record { synced = state.synced; written = (at, length pie
 abbrev pub settled : List ℕ → DiskState
 settled bytes = record { synced = bytes; written = []; seen = bytes }
 
--- what a disk tells: how it is now, and how it was at each moment before, the oldest first
+-- what is known of a disk: how it is now, and how it was at each moment before, the oldest first
 pub record DiskHistory : Type 0 where
   pub past : List DiskState
   pub now : DiskState
@@ -68,19 +68,19 @@ pub record LeavesOnly (P : List ℕ → Type 0) (old new : DiskHistory) : Type 0
 -- what a read gives stays but for this range, and isn't cut
 pub record SeenOutside (at count : ℕ) (old new : DiskHistory) : Type 0 where
   pub no_shorter : length old.now.seen ≤ length new.now.seen
-  pub stays : (place : ℕ) → place < length old.now.seen → is_within (at, count) place ≡ false → slice_index new.now.seen place ≡ slice_index old.now.seen place
+  pub stays : (offset : ℕ) → offset < length old.now.seen → is_within (at, count) offset ≡ false → slice_index new.now.seen offset ≡ slice_index old.now.seen offset
 
--- where the disk tells, its history has P
-abbrev pub WhereTold : (DiskHistory → Type 0) → Option DiskHistory → Type 0
-WhereTold P None = Unit {0}
-WhereTold P (Some history) = P history
+-- where the disk's history is known, its history has P
+abbrev pub IfKnown : (DiskHistory → Type 0) → Option DiskHistory → Type 0
+IfKnown P None = Unit {0}
+IfKnown P (Some history) = P history
 
--- whether the disk tells stays the same, and where it does the histories have R
-abbrev pub BothTell : (DiskHistory → DiskHistory → Type 0) → Option DiskHistory → Option DiskHistory → Type 0
-BothTell R None None = Unit {0}
-BothTell R (Some old) (Some new) = R old new
-BothTell R None (Some new) = ⊥
-BothTell R (Some old) None = ⊥
+-- whether the disk is known stays the same, and where it is the histories have R
+abbrev pub BothKnown : (DiskHistory → DiskHistory → Type 0) → Option DiskHistory → Option DiskHistory → Type 0
+BothKnown R None None = Unit {0}
+BothKnown R (Some old) (Some new) = R old new
+BothKnown R None (Some new) = ⊥
+BothKnown R (Some old) None = ⊥
 
 -- after a write of this piece, or while it goes on, a crash leaves what it may leave of such a write
 abbrev pub LeavesTorn : ℕ → List ℕ → DiskHistory → DiskHistory → Type 0

@@ -1,18 +1,18 @@
--- A gate byte with a piece behind it: the gate is open where the byte is 1, and else shut.
+-- A gate byte with a piece after it: the gate is open where the byte is 1, and else shut.
 use Rattle.std.specs.Prelude.{◌≡◌, ◌≢◌, ◌⊎◌, ℕ, List, ◌∷◌, ◌++◌}
 use Rattle.pac_outside.specs.Disk.{DiskState, DiskHistory, LeavesOnly, settled}
 
--- behind this front stands a gate that is shut
-pub record IsShut (front image : List ℕ) : Type 0 where
+-- after this prefix stands a gate that is shut
+pub record IsShut (prefix image : List ℕ) : Type 0 where
   pub gate : ℕ
   pub rest : List ℕ
-  pub split : image ≡ front ++ (gate ∷ rest)
+  pub split : image ≡ prefix ++ (gate ∷ rest)
   pub shut : gate ≢ 1
 
--- behind this front stands an open gate, and the whole piece behind it
-pub record IsOpen (front piece image : List ℕ) : Type 0 where
+-- after this prefix stands an open gate, and the whole piece after it
+pub record IsOpen (prefix piece image : List ℕ) : Type 0 where
   pub rest : List ℕ
-  pub split : image ≡ front ++ (1 ∷ (piece ++ rest))
+  pub split : image ≡ prefix ++ (1 ∷ (piece ++ rest))
 
 -- a crash leaves one image, what a read gives, and it has P
 pub record OneImage (P : List ℕ → Type 0) (state : DiskState) : Type 0 where
@@ -21,8 +21,8 @@ pub record OneImage (P : List ℕ → Type 0) (state : DiskState) : Type 0 where
 
 -- from a shut gate on, each image is shut, or open with the whole piece
 abbrev pub ShutOrOpen : List ℕ → List ℕ → DiskHistory → DiskHistory → Type 0
-ShutOrOpen front piece old new = OneImage (IsShut front) old.now → LeavesOnly (λ image. IsShut front image ⊎ IsOpen front piece image) old new
+ShutOrOpen prefix piece old new = OneImage (IsShut prefix) old.now → LeavesOnly (λ image. IsShut prefix image ⊎ IsOpen prefix piece image) old new
 
 -- from a shut gate on, the one image is open with the whole piece in the end
 abbrev pub Opens : List ℕ → List ℕ → DiskHistory → DiskHistory → Type 0
-Opens front piece old new = OneImage (IsShut front) old.now → OneImage (IsOpen front piece) new.now
+Opens prefix piece old new = OneImage (IsShut prefix) old.now → OneImage (IsOpen prefix piece) new.now

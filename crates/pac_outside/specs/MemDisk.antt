@@ -1,4 +1,4 @@
--- What a disk in memory tells.
+-- What is known of a disk in memory.
 use Rattle.std.specs.Prelude.{◌≡◌, ◌⊎◌, ℕ, Bool, IsTrue, List, map}
 use Rattle.pac_outside.specs.Calls.{CallState}
 use Rattle.pac_outside.specs.Disk.{DiskHistory, after_write}

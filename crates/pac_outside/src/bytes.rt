@@ -8,13 +8,13 @@ use crate::Failed;
 
 /// Where bytes come from.
 pub trait Source {
-    // What is left to read, where the source tells that.
+    // What is left to read, where the source's bytes are known.
     ghost left: { Self → Option (List ℕ) };
 
     // How many calls failed.
     ghost faults: { Self → ℕ };
 
-    /// Reads the next bytes into the front of `buf`, and answers how many: for a `buf` that isn't empty, 0 at the end
+    /// Reads the next bytes into the start of `buf`, and answers how many: for a `buf` that isn't empty, 0 at the end
     /// of the input and otherwise 1 to `buf.len()`.
     ///
     /// # Errors
@@ -28,7 +28,7 @@ pub trait Source {
 
 /// Where bytes go to.
 pub trait Sink {
-    // What was taken so far, where the sink tells that.
+    // What was taken so far, where the sink's bytes are known.
     ghost held: { Self → Option (List ℕ) };
 
     // How many calls failed.

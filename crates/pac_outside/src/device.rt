@@ -2,18 +2,18 @@
 ghost use Rattle.std.specs.Prelude.{◌≡◌, ◌≤◌, ℕ, Option, None, IfOk, IsErr, OnOk, drop, length, option_map, take};
 ghost use Rattle.std.specs.Io.{ReadsAtMost};
 ghost use Rattle.pac_outside.specs.Causes.{EndsAtFault, HasCause, one_more};
-ghost use Rattle.pac_outside.specs.Disk.{BothTell, DiskHistory, LeavesAsBefore, LeavesTorn, SeenIsImage, SeenOutside, WhereTold, after_sync, after_write};
+ghost use Rattle.pac_outside.specs.Disk.{BothKnown, DiskHistory, LeavesAsBefore, LeavesTorn, SeenIsImage, SeenOutside, IfKnown, after_sync, after_write};
 
 use crate::Failed;
 use crate::faults::Faults;
 
-/// One device: bytes with places, which outlast a crash once they are synced.
+/// One device: bytes with offsets, which outlast a crash once they are synced.
 ///
-/// Where it tells, the contracts say what a read gives, what a crash now may leave, and what a crash at each moment
+/// Where that is known, the contracts say what a read gives, what a crash now may leave, and what a crash at each moment
 /// since an earlier one might have left. A failed call is counted once, and no other.
 pub trait Disk {
-    // What it holds, and what it has held, where it tells that.
-    ghost told: { Self → Option DiskHistory };
+    // What it holds, and what it has held, where that is known.
+    ghost known: { Self → Option DiskHistory };
 
     // How many calls failed.
     ghost faults: { Self → ℕ };
@@ -24,12 +24,12 @@ pub trait Disk {
     ///
     /// [`Failed`] only where the count of faults rose.
     fn len(&mut self) -> Result<u64, Failed>
-        ensures len { IfOk result (λ len. WhereTold (λ old. len ≡ length old.now.seen) (told self.old)) }
-        ensures same { told self.new ≡ told self.old }
+        ensures len { IfOk result (λ len. IfKnown (λ old. len ≡ length old.now.seen) (known self.old)) }
+        ensures same { known self.new ≡ known self.old }
         ensures cause { HasCause (faults self.old) (faults self.new) result }
         ensures counted { EndsAtFault (faults self.old) (faults self.new) result };
 
-    /// Reads the bytes from place `at` on into the front of `buf`, all that there are and have room, and answers how
+    /// Reads the bytes from offset `at` on into the start of `buf`, all that there are and have room, and answers how
     /// many.
     ///
     /// # Errors
@@ -37,22 +37,22 @@ pub trait Disk {
     /// [`Failed`] only where the count of faults rose.
     fn read(&mut self, at: u64, buf: &mut [u8]) -> Result<usize, Failed>
         ensures bound { ReadsAtMost result buf.new }
-        ensures bytes { IfOk result (λ count. WhereTold (λ old. take count buf.new ≡ take (length buf.old) (drop at old.now.seen)) (told self.old)) }
-        ensures same { told self.new ≡ told self.old }
+        ensures bytes { IfOk result (λ count. IfKnown (λ old. take count buf.new ≡ take (length buf.old) (drop at old.now.seen)) (known self.old)) }
+        ensures same { known self.new ≡ known self.old }
         ensures cause { HasCause (faults self.old) (faults self.new) result }
         ensures counted { EndsAtFault (faults self.old) (faults self.new) result };
 
-    /// Writes the whole piece from place `at` on, which is at most the length: over what stands there, and past the end.
+    /// Writes the whole piece from offset `at` on, which is at most the length: over what stands there, and past the end.
     ///
     /// # Errors
     ///
     /// [`Failed`] only where the count of faults rose. The write may have been made in part, and a read in its range
     /// may give any bytes.
     fn write_at(&mut self, at: u64, piece: &[u8]) -> Result<(), Failed>
-        requires { WhereTold (λ old. at ≤ length old.now.seen) (told self.old) }
-        ensures written { OnOk result (told self.new ≡ option_map (after_write at piece.now) (told self.old)) }
-        ensures moments { BothTell (LeavesTorn at piece.now) (told self.old) (told self.new) }
-        ensures elsewhere { BothTell (SeenOutside at (length piece.now)) (told self.old) (told self.new) }
+        requires { IfKnown (λ old. at ≤ length old.now.seen) (known self.old) }
+        ensures written { OnOk result (known self.new ≡ option_map (after_write at piece.now) (known self.old)) }
+        ensures moments { BothKnown (LeavesTorn at piece.now) (known self.old) (known self.new) }
+        ensures elsewhere { BothKnown (SeenOutside at (length piece.now)) (known self.old) (known self.new) }
         ensures cause { HasCause (faults self.old) (faults self.new) result }
         ensures counted { EndsAtFault (faults self.old) (faults self.new) result };
 
@@ -62,16 +62,16 @@ pub trait Disk {
     ///
     /// [`Failed`] only where the count of faults rose. A crash may leave what it might have left before.
     fn sync(&mut self) -> Result<(), Failed>
-        ensures durable { OnOk result (told self.new ≡ option_map after_sync (told self.old)) }
-        ensures moments { BothTell LeavesAsBefore (told self.old) (told self.new) }
+        ensures durable { OnOk result (known self.new ≡ option_map after_sync (known self.old)) }
+        ensures moments { BothKnown LeavesAsBefore (known self.old) (known self.new) }
         ensures cause { HasCause (faults self.old) (faults self.new) result }
         ensures counted { EndsAtFault (faults self.old) (faults self.new) result };
 
     // What a read gives is one of the images that a crash now may leave.
-    ghost seen_is_image: { (disk : Self) → WhereTold SeenIsImage (told disk) };
+    ghost seen_is_image: { (disk : Self) → IfKnown SeenIsImage (known disk) };
 }
 
-/// A disk that isn't there: each call fails and is counted. It tells nothing.
+/// A disk that isn't there: each call fails and is counted. Nothing is known of it.
 #[derive(Drop)]
 pub struct NoDisk {
     faults: Faults,
@@ -89,7 +89,7 @@ impl NoDisk {
 }
 
 impl Disk for NoDisk {
-    ghost told = { λ _. None };
+    ghost known = { λ _. None };
 
     ghost faults = { λ disk. disk.faults };
 

@@ -12,7 +12,7 @@ pub struct Devices<D> {
 }
 
 impl<D: Disk> Devices<D> {
-    ghost use Rattle.pac_outside.specs.Devices.{AreSettled, EndsAtOneFault, RunsAsBefore, WhereAllTold, each};
+    ghost use Rattle.pac_outside.specs.Devices.{AreSettled, EndsAtOneFault, RunsAsBefore, IfAllKnown, each};
 
     /// Syncs each device. After Ok a crash leaves of each what a read gives. At each moment a crash leaves images that it
     /// might have left before.
@@ -22,8 +22,8 @@ impl<D: Disk> Devices<D> {
     /// [`Failed`] where a call of a device failed, so only where the count of faults of one rose; no call of any device
     /// comes after it.
     pub fn sync(&mut self) -> Result<(), Failed>
-        ensures settled { OnOk result (WhereAllTold AreSettled (each D.told self.old) (each D.told self.new)) }
-        ensures moments { WhereAllTold RunsAsBefore (each D.told self.old) (each D.told self.new) }
+        ensures settled { OnOk result (IfAllKnown AreSettled (each D.known self.old) (each D.known self.new)) }
+        ensures moments { IfAllKnown RunsAsBefore (each D.known self.old) (each D.known self.new) }
 
         // No call of a device comes after one that failed.
         ensures once { EndsAtOneFault (each D.faults self.old) (each D.faults self.new) result }

@@ -9,7 +9,7 @@ use std::os::fd::AsRawFd;
 use std::os::unix::fs::FileExt;
 use std::path::Path;
 
-/// A disk over one file. It tells nothing of what the file holds: that a real file keeps the contracts of [`Disk`] is
+/// A disk over one file. Nothing is known of what the file holds: that a real file keeps the contracts of [`Disk`] is
 /// trusted.
 ///
 /// Until the first write or sync the file is opened for reading alone, and a missing one reads as an empty disk. The
@@ -39,7 +39,7 @@ impl<'a, R: Files<File = File>> FileDisk<'a, R> {
 }
 
 impl<'a, R: Files<File = File>> Disk for FileDisk<'a, R> {
-    ghost told = { λ _. None };
+    ghost known = { λ _. None };
 
     ghost faults = { λ disk. disk.faults };
 
@@ -137,7 +137,7 @@ impl<'a, R: Files<File = File>> OneFile<'a, R> {
     }
 }
 
-// After a sync that failed none succeeds any more: what was written before it may be lost, and the system may tell that
+// After a sync that failed none succeeds any more: what was written before it may be lost, and the system may say that
 // once only.
 fn sync_or_doubt(file: &File, is_doubtful: &mut bool) -> io::Result<()> {
     if *is_doubtful {

@@ -1,6 +1,6 @@
 // What a worker passes before each piece of work.
 
-/// A place where a worker may be held between taking a piece of work and running it, so that a test can choose which
+/// A point where a worker may be held between taking a piece of work and running it, so that a test can choose which
 /// of several pieces runs first.
 pub trait Gate {
     /// Returns when the worker may run the piece of transaction `txn` in block `block`.

@@ -2,20 +2,20 @@
 //!
 //! Later layers are generic over these traits and know the outside by them alone. Each object counts its faults, and
 //! the count never falls: [`Failed`] is answered only where the count of that very object rose in that very call (a
-//! count that stands at the greatest `u64` counts as risen). Where an object tells what it has left or holds, as the
-//! ones in memory do, the contracts say which bytes moved; an object that doesn't tell never does, and one that tells
-//! goes on telling.
+//! count that stands at the greatest `u64` counts as risen). Where an object says what it has left or holds, as the
+//! ones in memory do, the contracts say which bytes moved; an object of which that is not known never becomes known, and one of which it is known
+//! stays known.
 //!
 //! - [`Source`] gives bytes, [`Sink`] takes bytes. [`read_up_to`] reads a whole input, [`write_all`] writes a whole text.
-//! - [`Disk`] is one device of bytes with places, which outlast a crash once they are synced; `specs/Disk.antt` says what
+//! - [`Disk`] is one device of bytes with offsets, which outlast a crash once they are synced; `specs/Disk.antt` says what
 //!   a crash may leave at each moment. [`Devices`] are those of a store, which [`Devices::sync`] syncs.
-//! - [`write_and_sync`] has a piece synced before it answers. [`open_behind`] writes a piece behind a shut gate byte and
+//! - [`write_and_sync`] has a piece synced before it answers. [`open_after`] writes a piece after a shut gate byte and
 //!   opens the gate: the argument that a crash leaves all of the piece or none stands there, once. [`read_piece`] reads.
 //! - [`Gate`] is passed by a worker before each piece of work. [`OpenGate`] holds nobody.
-//! - [`MemSource`], [`MemSink`] and [`MemDisk`] are in memory, and fail at the calls that they are told.
+//! - [`MemSource`], [`MemSink`] and [`MemDisk`] are in memory, and fail at the calls that they are given.
 //!   [`MemDisk::image`] gives what a crash may leave, by a [`Fill`].
 //! - [`Stream`] stands over a reader or a writer of std, as the standard streams, and [`FileDisk`] over a file. Of their
-//!   content no contract tells. [`NoDisk`] isn't there.
+//!   content no contract describes. [`NoDisk`] isn't there.
 #![tactic(auto)]
 
 mod bytes;
@@ -38,7 +38,7 @@ mod whole;
 pub use bytes::{Sink, Source};
 pub use device::{Disk, NoDisk};
 pub use devices::Devices;
-pub use durable::{open_behind, write_and_sync};
+pub use durable::{open_after, write_and_sync};
 pub use failed::{Failed, ReadError};
 pub use file_disk::FileDisk;
 pub use gate::{Gate, OpenGate};

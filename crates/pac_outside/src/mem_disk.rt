@@ -8,7 +8,7 @@ ghost use Rattle.pac_outside.specs.Disk.{IsImage, LeavesAsBefore, LeavesTorn, Se
 ghost use Rattle.pac_outside.specs.Fills.{IsFilled};
 
 use crate::calls::Calls;
-use crate::memory::copy_front;
+use crate::memory::copy_prefix;
 use crate::moment::Moment;
 use crate::{Disk, Failed, Fill};
 use pac_base::NoMemory;
@@ -16,7 +16,7 @@ use std::alloc::AllocError;
 use std::mem;
 
 /// A disk in memory. Some of its calls fail. It keeps a copy of its bytes for each moment that it was in, so that what a
-/// crash might have left is told.
+/// crash might have left is known.
 #[derive(Drop)]
 pub struct MemDisk {
     present: Moment,
@@ -32,7 +32,7 @@ impl MemDisk {
 
     /// A disk with these bytes, all synced. Its calls with the numbers in `failing`, from 1 on, fail.
     pub fn new(bytes: Vec<u8>, failing: Vec<u64>) -> Self
-        ensures told { history_of result ≡ record { past = []; now = settled bytes.items } }
+        ensures known { history_of result ≡ record { past = []; now = settled bytes.items } }
         ensures calls { calls_of result ≡ record { made = 0; failing = failing.items; faults = 0 } }
         ensures whole { has_lost result ≡ false }
     {
@@ -45,7 +45,7 @@ impl MemDisk {
         }
     }
 
-    /// One of the images that a crash now may leave: the places that were written since the last sync that succeeded are
+    /// One of the images that a crash now may leave: the offsets that were written since the last sync that succeeded are
     /// filled by `fill`. It has the present length where it has `grown`, and otherwise the length at that sync. A write
     /// that failed counts as a write for both; making the disk counts as a sync.
     ///
@@ -105,13 +105,13 @@ impl MemDisk {
 impl Disk for MemDisk {
     ghost use Rattle.pac_outside.specs.MemDisk.{IsMade, calls_of, has_lost, history_of};
 
-    ghost told = { λ disk. Some (history_of disk) };
+    ghost known = { λ disk. Some (history_of disk) };
 
     ghost faults = { λ disk. (calls_of disk).faults };
 
     ghost seen_is_image = { λ disk. disk.present.image };
 
-    /// How many bytes a read gives from place 0 on.
+    /// How many bytes a read gives from offset 0 on.
     ///
     /// # Errors
     ///
@@ -130,7 +130,7 @@ impl Disk for MemDisk {
         Ok(self.present.seen().len() as u64)
     }
 
-    /// Gives all that stands from place `at` on and has room.
+    /// Gives all that stands from offset `at` on and has room.
     ///
     /// # Errors
     ///
@@ -149,7 +149,7 @@ impl Disk for MemDisk {
         self.calls.begin()?;
         let seen = self.present.seen();
         let from = seen.len().min(at as usize);
-        Ok(copy_front(buf, &seen[from..]))
+        Ok(copy_prefix(buf, &seen[from..]))
     }
 
     /// Writes the piece, also where the call is one of those that are to fail.

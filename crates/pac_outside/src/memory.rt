@@ -11,7 +11,7 @@ use crate::{Failed, Sink, Source};
 use std::marker::Model;
 
 // Copies as many bytes as there are and have room, and answers their number.
-pub(crate) fn copy_front(buf: &mut [u8], bytes: &[u8]) -> usize
+pub(crate) fn copy_prefix(buf: &mut [u8], bytes: &[u8]) -> usize
     ensures count { result ≡ min (length bytes.now) (length buf.old) }
     ensures copied { take result buf.new ≡ take result bytes.now }
     ensures rest { drop result buf.new ≡ drop result buf.old }
@@ -75,7 +75,7 @@ impl Source for MemSource {
         ensures counted { self.new.calls ≡ (if is_ok result then after_passed self.old.calls else after_failed self.old.calls) }
     {
         self.calls.begin()?;
-        let count = copy_front(buf, &self.bytes[self.at..]);
+        let count = copy_prefix(buf, &self.bytes[self.at..]);
         self.at += count;
         Ok(count)
     }
@@ -108,7 +108,7 @@ impl MemSink {
         }
     }
 
-    /// The bytes that it was made of, and behind them those that it took.
+    /// The bytes that it was made of, and after them those that it took.
     pub fn bytes(&self) -> &[u8]
         ensures { result.now ≡ self.now.held }
     {
@@ -131,7 +131,7 @@ impl Sink for MemSink {
         ensures bytes { IsWrite (Some self.old.held) (Some self.new.held) result piece.now }
         ensures cause { HasCause self.old.calls.faults self.new.calls.faults result }
 
-        // It fails where it is to, else only for want of memory, and else takes all.
+        // It fails where it is to, else only for running out of memory, and else takes all.
         ensures failed { IsTrue (is_next_failing self.old.calls) → IsErr result }
         ensures memory { IsErr result → IsTrue (is_next_failing self.old.calls) ⊎ (self.old.room < length piece.now) }
         ensures all { IfOk result (λ count. count ≡ length piece.now) }

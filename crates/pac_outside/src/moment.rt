@@ -5,7 +5,7 @@ ghost use Rattle.pac_outside.specs.Fills.{IsFilled, byte_left};
 
 use std::alloc::{AllocError, Global};
 
-/// What the places hold, in an image, that were written since the last sync that succeeded.
+/// What the offsets hold, in an image, that were written since the last sync that succeeded.
 #[derive(Clone, Copy, Debug, PartialEq, Eq)]
 pub enum Fill {
     /// Their bytes at that sync, and 0 where there was none.
@@ -21,7 +21,7 @@ pub enum Fill {
 pub(crate) struct Moment {
     // The bytes at the last sync, where they aren't those that a read gives.
     synced: Option<Vec<u8>>,
-    // Place and length of each write since then.
+    // Offset and length of each write since then.
     written: Vec<(usize, usize)>,
     seen: Vec<u8>,
     ghost image: { IsImage (record { synced = unwrap_or (option_map (λ bytes. bytes.items) synced) seen.items; written = written.items; seen = seen.items }) seen.items },
@@ -79,25 +79,25 @@ impl Moment {
         }
     }
 
-    fn is_unsynced(&self, place: usize) -> bool
-        ensures { result ≡ is_unsynced (moment_state self.now) place }
+    fn is_unsynced(&self, offset: usize) -> bool
+        ensures { result ≡ is_unsynced (moment_state self.now) offset }
     {
         self.written
             .iter()
-            .any(|&(at, count)| at <= place && place - at < count)
+            .any(|&(at, count)| at <= offset && offset - at < count)
     }
 
-    fn byte_left(&self, fill: Fill, place: usize) -> u8
-        requires { place < length self.now.seen.items }
-        ensures { result ≡ byte_left fill (moment_state self.now) place }
+    fn byte_left(&self, fill: Fill, offset: usize) -> u8
+        requires { offset < length self.now.seen.items }
+        ensures { result ≡ byte_left fill (moment_state self.now) offset }
     {
-        let at_sync = self.synced().get(place).copied().unwrap_or(0);
-        if !self.is_unsynced(place) {
+        let at_sync = self.synced().get(offset).copied().unwrap_or(0);
+        if !self.is_unsynced(offset) {
             return at_sync;
         }
         match fill {
             Fill::Old => at_sync,
-            Fill::New => self.seen[place],
+            Fill::New => self.seen[offset],
             Fill::Byte(byte) => byte,
         }
     }
@@ -113,23 +113,23 @@ impl Moment {
             self.synced().len()
         };
         let mut image = Vec::new(*self.seen.allocator());
-        for place in 0..len {
-            image.push(self.byte_left(fill, place))?;
+        for offset in 0..len {
+            image.push(self.byte_left(fill, offset))?;
         }
         Ok(image)
     }
 }
 
-// The piece over what stands from a place on.
+// The piece over what stands from an offset on.
 fn splice(alloc: Global, at: usize, piece: &[u8], bytes: &[u8]) -> Result<Vec<u8>, AllocError>
     requires { at ≤ length bytes.now }
     ensures { IfOk result (λ all. all.items ≡ spliced at piece.now bytes.now) }
 {
     let mut all = bytes[..at].to_vec(alloc)?;
     all.extend_from_slice(piece)?;
-    let behind = &bytes[at..];
-    if piece.len() < behind.len() {
-        all.extend_from_slice(&behind[piece.len()..])?;
+    let after = &bytes[at..];
+    if piece.len() < after.len() {
+        all.extend_from_slice(&after[piece.len()..])?;
     }
     Ok(all)
 }

@@ -1,12 +1,12 @@
 // Reads of a part of a disk.
 ghost use Rattle.std.specs.Prelude.{◌≡◌, ◌≤◌, IfOk, IsErrOf, drop, length, take};
-ghost use Rattle.pac_outside.specs.Causes.{Rose, one_more};
-ghost use Rattle.pac_outside.specs.Disk.{WhereTold};
+ghost use Rattle.pac_outside.specs.Causes.{Faulted, one_more};
+ghost use Rattle.pac_outside.specs.Disk.{IfKnown};
 
 use crate::{Disk, ReadError};
 use std::alloc::Global;
 
-/// Reads the bytes from place `at` on, at most `count`, and fewer only where the disk ends. It takes the memory for
+/// Reads the bytes from offset `at` on, at most `count`, and fewer only where the disk ends. It takes the memory for
 /// `count` bytes.
 ///
 /// # Errors
@@ -19,13 +19,13 @@ pub fn read_piece<D: Disk>(
     at: u64,
     count: usize,
 ) -> Result<Vec<u8>, ReadError>
-    ensures bytes { IfOk result (λ piece. WhereTold (λ old. piece.items ≡ take count (drop at old.now.seen)) (D.told disk.old)) }
+    ensures bytes { IfOk result (λ piece. IfKnown (λ old. piece.items ≡ take count (drop at old.now.seen)) (D.known disk.old)) }
     ensures bound { IfOk result (λ piece. length piece.items ≤ count) }
-    ensures same { D.told disk.new ≡ D.told disk.old }
+    ensures same { D.known disk.new ≡ D.known disk.old }
 
     // The count rose once where the disk is said to have failed, and else stays.
     ensures later { D.faults disk.old ≤ D.faults disk.new }
-    ensures cause { IsErrOf result ReadError.Failed → Rose (D.faults disk.old) (D.faults disk.new) }
+    ensures cause { IsErrOf result ReadError.Failed → Faulted (D.faults disk.old) (D.faults disk.new) }
     ensures counted { IsErrOf result ReadError.Failed → D.faults disk.new ≡ one_more (D.faults disk.old) }
     ensures kept { ¬ IsErrOf result ReadError.Failed → D.faults disk.new ≡ D.faults disk.old }
 {

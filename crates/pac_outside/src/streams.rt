@@ -12,7 +12,7 @@ use std::io::{Read, Write};
 use std::marker::Model;
 
 /// A stream of the system and a count of its faults: over a reader, as standard input, it is a source, and over a
-/// writer, as standard output, a sink. Callers that are generic over sources or sinks are told nothing of its content.
+/// writer, as standard output, a sink. Callers that are generic over sources or sinks are given nothing of its content.
 #[derive(Drop)]
 pub struct Stream<S> {
     stream: S,
@@ -80,7 +80,7 @@ impl<W: Write> Sink for Stream<W> {
         ensures bytes { IsWrite None None result piece.now }
         ensures cause { HasCause self.old.faults self.new.faults result }
 
-        // What the writer took is the front of the piece, where it says what it holds.
+        // What the writer took is the prefix of the piece, where it says what it holds.
         ensures passed { WriteAppends (W.contents self.old.stream) (W.contents self.new.stream) result piece.now }
         ensures counted { self.new.faults ≡ (if is_ok result then self.old.faults else one_more self.old.faults) }
     {

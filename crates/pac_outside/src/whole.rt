@@ -1,19 +1,19 @@
 // Whole inputs and whole texts.
 ghost use Rattle.std.specs.Prelude.{◌≡◌, ◌≤◌, ◌+◌, length, IfOk, OnOk, IsErrOf};
-ghost use Rattle.pac_outside.specs.Causes.{HasCause, Rose};
-ghost use Rattle.pac_outside.specs.Content.{Gave, GaveAtMost, IsAtEnd, Took, TookFront};
+ghost use Rattle.pac_outside.specs.Causes.{HasCause, Faulted};
+ghost use Rattle.pac_outside.specs.Content.{Gave, GaveAtMost, IsAtEnd, Took, TookPrefix};
 
 use crate::{Failed, ReadError, Sink, Source};
 use std::alloc::Global;
 
-/// Writes the whole text, or fails and has written a front of it.
+/// Writes the whole text, or fails and has written a prefix of it.
 ///
 /// # Errors
 ///
 /// [`Failed`] where a write failed, so only where the sink's count of faults rose.
 pub fn write_all<K: Sink>(sink: &mut K, text: &[u8]) -> Result<(), Failed>
     ensures ok { OnOk result (Took (K.held sink.old) text.now (K.held sink.new)) }
-    ensures front { TookFront (K.held sink.old) text.now (K.held sink.new) }
+    ensures prefix { TookPrefix (K.held sink.old) text.now (K.held sink.new) }
     ensures cause { HasCause (K.faults sink.old) (K.faults sink.new) result }
 {
     let mut at = 0;
@@ -47,7 +47,7 @@ pub fn read_up_to<S: Source>(
 
     // The count never falls, and it rose where the source is said to have failed.
     ensures later { S.faults source.old ≤ S.faults source.new }
-    ensures cause { IsErrOf result ReadError.Failed → Rose (S.faults source.old) (S.faults source.new) }
+    ensures cause { IsErrOf result ReadError.Failed → Faulted (S.faults source.old) (S.faults source.new) }
 {
     let mut text = Vec::new(alloc);
     while text.len() <= limit {

@@ -14,14 +14,14 @@ use Rattle.pac_ops.specs.declared.program.FlatOp.{FlatOp}
 use Rattle.pac_ops.specs.declared.program.Program.{Program}
 use Rattle.pac_ops.specs.Uses.{op_uses, defined_variable, accessed_table, Defines}
 use Rattle.pac_ops.specs.Dependencies.{Uses, Accesses, IsFlow}
-use Rattle.pac_ops.specs.Programs.{IsSoundProgram, IsWellTyped, IsDefinedBefore, IsFrontOf, key_type_in, scope_in}
+use Rattle.pac_ops.specs.Programs.{IsWellFormedProgram, IsWellTyped, IsDefinedBefore, IsPrefixOf, key_type_in, scope_in}
 use Rattle.pac_graph.specs.Groups.{AreGroups}
 use Rattle.pac_graph.proofs.GraphLemmas.{one_edge}
 use Rattle.pac_graph.proofs.ItemLemmas.{there, item, inside}
 use Rattle.pac_plan.specs.declared.parts.PlanParts.{PlanParts}
-use Rattle.pac_plan.specs.Nodes.{Node, Operation, VirtualWrite, IsNode, ComesBefore, Flows, NodeAccesses, Clashes, IsNodeLink}
+use Rattle.pac_plan.specs.Nodes.{Node, Operation, VirtualWrite, IsNode, ComesBefore, Flows, NodeAccesses, Conflicts, IsNodeLink}
 use Rattle.pac_plan.specs.Analysis.{IsPlan, block_in, HasBlockEdge}
-use Rattle.pac_plan.specs.Sound.{KeepsOrder}
+use Rattle.pac_plan.specs.WellFormed.{KeepsOrder}
 use Rattle.pac_plan.proofs.BlockLemmas.{mapped_some}
 
 -- what is wanted is a type
@@ -52,11 +52,11 @@ table_there tables scope (SetCol s k c e) t typed is = subst (λ n. n < length t
 table_there tables scope (Delete s k) t typed is = subst (λ n. n < length tables) (same_Some s t is) (key_there tables s (type_in scope k) typed)
 table_there tables scope (AbortIf e) t typed is = cc
 
--- the table that an operation of a sound program accesses is there
-pub accessed_there : (tables : List TableTypes) (program : Program) (i t : ℕ) → IsSoundProgram tables program → Accesses program.ops i t → t < length tables
-accessed_there tables program i t sound accesses =
+-- the table that an operation of a well-formed program accesses is there
+pub accessed_there : (tables : List TableTypes) (program : Program) (i t : ℕ) → IsWellFormedProgram tables program → Accesses program.ops i t → t < length tables
+accessed_there tables program i t well_formed accesses =
     let op = item program.ops i (λ (op : FlatOp). accessed_table op.kind ≡ Some t) accesses in
-    table_there tables (scope_in program.vars) op.0.kind t (sound.typed i op.0 op.1) op.2
+    table_there tables (scope_in program.vars) op.0.kind t (well_formed.typed i op.0 op.1) op.2
 
 module _ (parts : PlanParts) (is : IsPlan parts) where
   links : Node → Node → Type 0
@@ -73,21 +73,21 @@ module _ (parts : PlanParts) (is : IsPlan parts) where
   ]
 
   module _ (p : ℕ) (program : Program) (at : slice_get parts.programs p ≡ Some program) where
-    sound : IsSoundProgram parts.tables program
-    sound = is.programs p program at
+    well_formed : IsWellFormedProgram parts.tables program
+    well_formed = is.programs p program at
 
     -- what defines a variable comes before what uses it
     before : (i j x : ℕ) → Defines program.ops i x → Uses program.ops j x → i < j
-    before i j x defines uses = go (sound.used j x user.0 user.1 user.2)
+    before i j x defines uses = go (well_formed.used j x user.0 user.1 user.2)
       where
         user : (op : FlatOp) × (slice_get program.ops j ≡ Some op) × (op_uses x op ≡ true)
         user = item program.ops j (λ (op : FlatOp). op_uses x op ≡ true) uses
 
         go : (x < length program.params) ⊎ IsDefinedBefore program.ops j user.0 x → i < j
-        go (inl param) = absurd (let behind : length program.params ≤ x = sound.behind i x defines in omega (arith, behind, param))
+        go (inl param) = absurd (let after : length program.params ≤ x = well_formed.after i x defines in omega (arith, after, param))
         go (inr (k, lt, found)) =
-            let op = item program.ops k (λ (op : FlatOp). (defined_variable op.kind ≡ Some x) × IsFrontOf op.conds user.0.conds) found in
-            let same : k ≡ i = sound.once k i x (there program.ops k op.0 (λ (o : FlatOp). defined_variable o.kind ≡ Some x) op.1 op.2.0) defines in
+            let op = item program.ops k (λ (op : FlatOp). (defined_variable op.kind ≡ Some x) × IsPrefixOf op.conds user.0.conds) found in
+            let same : k ≡ i = well_formed.once k i x (there program.ops k op.0 (λ (o : FlatOp). defined_variable o.kind ≡ Some x) op.1 op.2.0) defines in
             omega (arith, lt, same)
 
     flow : (i j x : ℕ) → Defines program.ops i x → Uses program.ops j x → Flows parts.programs (Operation p i) (Operation p j)
@@ -100,15 +100,15 @@ module _ (parts : PlanParts) (is : IsPlan parts) where
     home i t accesses = (groups.same (Operation p i) (VirtualWrite t) (node i (inside program.ops i (λ (op : FlatOp). accessed_table op.kind ≡ Some t) accesses)) in_tables).1 (one_edge (Operation p i) (VirtualWrite t) (inr to), one_edge (VirtualWrite t) (Operation p i) (inr from))
       where
         in_tables : t < length parts.tables
-        in_tables = accessed_there parts.tables program i t sound accesses
+        in_tables = accessed_there parts.tables program i t well_formed accesses
 
         op_accesses : NodeAccesses parts.programs (length parts.tables) (Operation p i) t
         op_accesses = there parts.programs p program (λ (q : Program). Accesses q.ops i t) at accesses
 
-        to : Clashes parts.programs (length parts.tables) (Operation p i) (VirtualWrite t)
+        to : Conflicts parts.programs (length parts.tables) (Operation p i) (VirtualWrite t)
         to = ((t, op_accesses, (refl, in_tables)), inr tt)
 
-        from : Clashes parts.programs (length parts.tables) (VirtualWrite t) (Operation p i)
+        from : Conflicts parts.programs (length parts.tables) (VirtualWrite t) (Operation p i)
         from = ((t, (refl, in_tables), op_accesses), inl tt)
 
   pub order_kept : KeepsOrder parts

@@ -1,7 +1,7 @@
 -- The blocks of all procedures, and what a plan is.
 use Rattle.std.specs.Prelude.{◌≡◌, ℕ, ◌≤◌, [], length, map, slice_index, slice_index_or, Contains}
 use Rattle.pac_graph.specs.Groups.{AreGroups}
-use Rattle.pac_ops.specs.Programs.{AreSoundPrograms, AreSoundTables}
+use Rattle.pac_ops.specs.Programs.{AreWellFormedPrograms, AreWellFormedTables}
 use Rattle.pac_value.specs.declared.limits.TheConstants.{MAX_PROCS, MAX_TABLES}
 use Rattle.pac_plan.specs.declared.parts.PlanParts.{PlanParts}
 use Rattle.pac_plan.specs.Nodes.{Node, Operation, VirtualWrite, IsNode, ComesBefore, Flows, IsNodeLink}
@@ -22,8 +22,8 @@ pub record IsAnalysis (parts : PlanParts) : Type 0 where
 pub record IsPlan (parts : PlanParts) : Type 0 where
   pub few_programs : length parts.programs ≤ MAX_PROCS
   pub few_tables : length parts.tables ≤ MAX_TABLES
-  pub tables : AreSoundTables parts.tables
-  pub programs : AreSoundPrograms parts.tables parts.programs
+  pub tables : AreWellFormedTables parts.tables
+  pub programs : AreWellFormedPrograms parts.tables parts.programs
   pub analysis : IsAnalysis parts
 
 -- an edge leads from a block to another

@@ -1,3 +1,3 @@
 pub mod Nodes
 pub mod Analysis
-pub mod Sound
+pub mod WellFormed

@@ -14,7 +14,7 @@ abbrev pub IsNode : List Program → ℕ → Node → Type 0
 IsNode programs tables (Operation p i) = IsSomeAnd (slice_get programs p) (λ program. i < length program.ops)
 IsNode programs tables (VirtualWrite t) = t < tables
 
--- nodes come by procedure and then by operation; virtual writes come behind all procedures, by table
+-- nodes come by procedure and then by operation; virtual writes come after all procedures, by table
 abbrev pub ComesBefore : Node → Node → Type 0
 ComesBefore (Operation p i) (Operation q j) = (p < q) ⊎ ((p ≡ q) × (i < j))
 ComesBefore (Operation p i) (VirtualWrite t) = Unit {0}
@@ -38,9 +38,9 @@ NodeModifies programs (Operation p i) = IsSomeAnd (slice_get programs p) (λ pro
 NodeModifies programs (VirtualWrite t) = Unit {0}
 
 -- two nodes access one table, and at least one of them modifies it
-abbrev pub Clashes : List Program → ℕ → Node → Node → Type 0
-Clashes programs tables m n = ((t : ℕ) × NodeAccesses programs tables m t × NodeAccesses programs tables n t) × (NodeModifies programs m ⊎ NodeModifies programs n)
+abbrev pub Conflicts : List Program → ℕ → Node → Node → Type 0
+Conflicts programs tables m n = ((t : ℕ) × NodeAccesses programs tables m t × NodeAccesses programs tables n t) × (NodeModifies programs m ⊎ NodeModifies programs n)
 
--- a link leads from a node to another by flow, and both ways between two that clash
+-- a link leads from a node to another by flow, and both ways between two that conflict
 abbrev pub IsNodeLink : List Program → ℕ → Node → Node → Type 0
-IsNodeLink programs tables m n = Flows programs m n ⊎ Clashes programs tables m n
+IsNodeLink programs tables m n = Flows programs m n ⊎ Conflicts programs tables m n

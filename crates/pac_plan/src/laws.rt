@@ -1,6 +1,6 @@
 // What holds of every plan. Each law is a function that does nothing.
 ghost use Rattle.pac_plan.specs.Analysis.{IsPlan};
-ghost use Rattle.pac_plan.specs.Sound.{KeepsOrder};
+ghost use Rattle.pac_plan.specs.WellFormed.{KeepsOrder};
 
 use crate::Plan;
 

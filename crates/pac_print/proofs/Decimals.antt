@@ -15,9 +15,9 @@ digit_range b h = grind arith
 digit_passes : (b : ℕ) → 48 ≤ b → b ≤ 57 → is_digit b ≡ true
 digit_passes b low high = grind arith
 
-tells : IsDigitsTest AreDigits
+reports : IsDigitsTest AreDigits
 unfolding AreDigits
-tells = record {
+reports = record {
   empty = refl;
   parts = λ c cs h. (digit_range c (first_so (is_digit c) (list_all is_digit cs) h), second_so (is_digit c) (list_all is_digit cs) h);
   more = λ c cs k h. rw (digit_passes c k.0 k.1) h;
@@ -27,7 +27,7 @@ folds : FoldsDigits (fold (λ n digit. n * 10 + (digit - 48)))
 folds = record { empty = λ n. refl; more = λ n c cs k. refl }
 
 model : IsNumeralModel AreDigits digits_value
-model = numerals_by_fold AreDigits tells (fold (λ n digit. n * 10 + (digit - 48))) folds
+model = numerals_by_fold AreDigits reports (fold (λ n digit. n * 10 + (digit - 48))) folds
 
 some_digits : (ds : List ℕ) → AreDigits ds → 0 < length ds → IsDigits ds
 unfolding AreDigits

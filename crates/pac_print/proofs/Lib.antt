@@ -1,8 +1,8 @@
 pub mod SameText
 pub mod Decimals
 pub mod TokenFacts
-pub mod Fronts
-pub mod SignFronts
+pub mod Prefixes
+pub mod SymbolPrefixes
 pub mod Proper
 pub mod ProperWithin
 pub mod PrintedExprs

@@ -9,11 +9,11 @@ use Rattle.pac_syntax.specs.declared.tree.NameNode.{NameNode}
 use Rattle.pac_tokens.specs.Spelling.{keyword_spelling, symbol_spelling}
 use Rattle.pac_tokens.specs.Tokens.{is_name, after, Lexed}
 use Rattle.pac_syntax.specs.Grammar.{Role, Plain, Marked, keyword_mark, symbol_mark, name_mark, tokens_of}
-use Rattle.pac_print.proofs.Fronts.{Stops, AreSpaces, spaces_first, line_first, keyword_first, name_first}
-use Rattle.pac_print.proofs.SignFronts.{is_equals, is_minus, sign_first}
+use Rattle.pac_print.proofs.Prefixes.{Stops, AreSpaces, spaces_first, line_first, keyword_first, name_first}
+use Rattle.pac_print.proofs.SymbolPrefixes.{is_equals, is_minus, symbol_first}
 use Rattle.pac_print.proofs.TokenFacts.{IsNameToken}
 
--- This text, from one place to the next, is these tokens before those of what follows, which has to be such that it
+-- This text, from one offset to the next, is these tokens before those of what follows, which has to be such that it
 -- doesn't go on with the last of them.
 pub record Piece (b c : Before) (at next : ℕ) (text : List ℕ) (marks : List Marked → List Marked) (Ends : List ℕ → Type 0) : Type 0 where
   pub lexes : (ms : List Marked) (rest : List ℕ) → Ends rest → Lexed c next rest (tokens_of ms) None → Lexed b at (text ++ rest) (tokens_of (marks ms)) None
@@ -22,7 +22,7 @@ pub record Piece (b c : Before) (at next : ℕ) (text : List ℕ) (marks : List 
 abbrev pub Free : List ℕ → Type 0
 Free rest = Unit {0}
 
--- one piece behind another
+-- one piece after another
 pub joined : {b c d : Before} {at middle next : ℕ} {text more : List ℕ} {f g : List Marked → List Marked} {P Q : List ℕ → Type 0}
     → Piece b c at middle text f P → Piece c d middle next more g Q → ((rest : List ℕ) → Q rest → P (more ++ rest)) → Piece b d at next (text ++ more) (λ ms. f (g ms)) Q
 joined {b = b} {at = at} {text = text} {more = more} {f = f} {g = g} p q ends = record {
@@ -45,22 +45,22 @@ pub word : (b : Before) (at : ℕ) (k : Keyword) (role : Role) → Piece b (afte
 word b at k role = record { lexes = λ ms rest e h. keyword_first b at k rest (tokens_of ms) None e h }
 
 pub sign : (b : Before) (at : ℕ) (s : Symbol) → is_minus s ≡ false → Piece b (after b (token.Symbol s)) at (at + length (symbol_spelling s)) (symbol_spelling s) (λ ms. symbol_mark s at Plain ∷ ms) (Stops is_equals)
-sign b at s other = record { lexes = λ ms rest e h. sign_first b at s rest (tokens_of ms) None other e h }
+sign b at s other = record { lexes = λ ms rest e h. symbol_first b at s rest (tokens_of ms) None other e h }
 
--- a name at another place
+-- a name at another offset
 abbrev pub placed : NameNode → ℕ → NameNode
 placed x at = record { at = at; name = x.name }
 
 pub name : (b : Before) (at : ℕ) (x : NameNode) (role : Role) → IsNameToken x.name → Piece b Value at (at + length x.name) x.name (λ ms. name_mark (placed x at) role ∷ ms) (Stops is_name)
 name b at x role is = record { lexes = λ ms rest e h. name_first b at x.name rest (tokens_of ms) None is.0 is.1 is.2 e h }
 
--- a reserved word and a space
+-- a keyword and a space
 pub word_space : (b : Before) (at : ℕ) (k : Keyword) (role : Role) → Piece b (after b (token.Keyword k)) at (at + length (keyword_spelling k) + 1) (keyword_spelling k ++ codes " ") (λ ms. keyword_mark k at role ∷ ms) Free
 word_space b at k role = joined (word b at k role) (space (after b (token.Keyword k)) (at + length (keyword_spelling k))) (λ rest e. refl)
 
--- a sign between spaces
-pub spaced_sign : (b : Before) (at : ℕ) (s : Symbol) → is_minus s ≡ false → Piece b (after b (token.Symbol s)) at (at + 1 + length (symbol_spelling s) + 1) (codes " " ++ symbol_spelling s ++ codes " ") (λ ms. symbol_mark s (at + 1) Plain ∷ ms) Free
-spaced_sign b at s other = joined (joined (space b at) (sign b (at + 1) s other) (λ rest e. tt)) (space (after b (token.Symbol s)) (at + 1 + length (symbol_spelling s))) (λ rest e. refl)
+-- a symbol between spaces
+pub spaced_symbol : (b : Before) (at : ℕ) (s : Symbol) → is_minus s ≡ false → Piece b (after b (token.Symbol s)) at (at + 1 + length (symbol_spelling s) + 1) (codes " " ++ symbol_spelling s ++ codes " ") (λ ms. symbol_mark s (at + 1) Plain ∷ ms) Free
+spaced_symbol b at s other = joined (joined (space b at) (sign b (at + 1) s other) (λ rest e. tt)) (space (after b (token.Symbol s)) (at + 1 + length (symbol_spelling s))) (λ rest e. refl)
 
 -- a piece of a text is one of an equal text, and one of equal tokens
 pub as_text : {b c : Before} {at next : ℕ} {f : List Marked → List Marked} {P : List ℕ → Type 0} → (x y : List ℕ) → x ≡ y → Piece b c at next y f P → Piece b c at next x f P

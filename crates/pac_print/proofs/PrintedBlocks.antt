@@ -10,14 +10,14 @@ use Rattle.pac_syntax.specs.declared.tree.StmtNode.TheOpen as form
 use Rattle.pac_syntax.specs.Grammar.{ExprForm, StmtsForm, NoStmt, ALet, ARead, AHas, APut, ASet, ADelete, AnAbort, AnIf, AnIfElse, expr_node, stmt_nodes, Plain, Nested, keyword_mark, symbol_mark, whole_before, stmts_before}
 use Rattle.pac_print.specs.Canonical.{expr_text, Indented, deeper, stmt_step, stmt_text, stmts_text}
 use Rattle.pac_print.specs.Unplaced.{unplaced_expr, unplaced_stmt_step, unplaced_stmt}
-use Rattle.pac_print.proofs.Fronts.{AreSpaces}
+use Rattle.pac_print.proofs.Prefixes.{AreSpaces}
 use Rattle.pac_syntax.proofs.NodeForms.{fold-If}
 use Rattle.pac_print.proofs.Pieces.{Piece, Free, joined, nothing, spaces, space, line, sign, word_space, as_text, as_marks}
 use Rattle.pac_print.proofs.PrintedExprs.{PrintedWhole, whole}
 use Rattle.pac_print.proofs.PrintedStmts.{expr_piece, PrintedStmt, at_indent, let_stmt, read_stmt, has_stmt, put_stmt, set_stmt, delete_stmt, abort_stmt}
 use Rattle.pac_print.proofs.Proper.{AreProperStmts}
 
--- The same statements at this place, spelled by their canonical lines behind this indent.
+-- The same statements at this offset, spelled by their canonical lines after this indent.
 pub record PrintedStmts (nodes : List StmtNode) (d : ℕ) (indent : List ℕ) (at : ℕ) : Type 0 where
   pub form : StmtsForm
   pub proper : AreProperStmts d form
@@ -64,11 +64,11 @@ else_start indent at all =
     (joined (joined (joined (joined (sign Other brace symbol.CloseBrace refl) (space Other (brace + 1)) (λ rest k. refl)) (word_space Other (brace + 1 + 1) keyword.Else Plain) (λ rest k. tt)) (sign Other (brace + 1 + 1 + 4 + 1) symbol.OpenBrace refl) (λ rest k. tt))
     (line Other (brace + 1 + 1 + 4 + 1 + 1)) (λ rest k. refl)) (λ rest k. tt)
 
-abbrev behind_else : ℕ → List ℕ → ℕ
-behind_else at indent = at + length indent + 1 + 1 + 4 + 1 + 1 + 1
+abbrev after_else : ℕ → List ℕ → ℕ
+after_else at indent = at + length indent + 1 + 1 + 4 + 1 + 1 + 1
 
 two_branches : (e : ExprForm) (first : List StmtNode) (s2 : StmtNode) (more : List StmtNode) (d : ℕ) (indent : List ℕ) (at : ℕ) → suc d ≤ 16 → AreSpaces indent → (w : PrintedWhole e (at + 2 + 1)) → (one : PrintedStmts first (suc d) (deeper indent) (w.next + 1 + 1 + 1))
-    → PrintedStmts (s2 ∷ more) (suc d) (deeper indent) (behind_else one.next indent) → PrintedStmt (stmt.If (expr_node e) first (s2 ∷ more)) d indent at
+    → PrintedStmts (s2 ∷ more) (suc d) (deeper indent) (after_else one.next indent) → PrintedStmt (stmt.If (expr_node e) first (s2 ∷ more)) d indent at
 two_branches e first s2 more d indent at le all w one two =
     let brace : ℕ = one.next + length indent in
     record {
@@ -91,7 +91,7 @@ two_branches e first s2 more d indent at le all w one two =
 
 -- an `else` with no statements is left out
 if_else : (e : ExprForm) (first second : List StmtNode) (d : ℕ) (indent : List ℕ) (at : ℕ) → suc d ≤ 16 → AreSpaces indent → (w : PrintedWhole e (at + 2 + 1)) → (one : PrintedStmts first (suc d) (deeper indent) (w.next + 1 + 1 + 1))
-    → PrintedStmts second (suc d) (deeper indent) (behind_else one.next indent) → PrintedStmt (stmt.If (expr_node e) first second) d indent at
+    → PrintedStmts second (suc d) (deeper indent) (after_else one.next indent) → PrintedStmt (stmt.If (expr_node e) first second) d indent at
 if_else e first [] d indent at le all w one two = one_branch e first d indent at le all w one
 if_else e first (s ∷ more) d indent at le all w one two = two_branches e first s more d indent at le all w one two
 
@@ -142,6 +142,6 @@ stmts (AnIf p0 e p1 first p2 s) d indent at all p =
 stmts (AnIfElse p0 e p1 first p2 p3 p4 second p5 s) d indent at all p =
     let test = whole e p.1 (at + length indent + 2 + 1) in
     let one = stmts first (suc d) (deeper indent) (test.next + 1 + 1 + 1) (spaces_deeper indent all) p.2 in
-    let two = stmts second (suc d) (deeper indent) (behind_else one.next indent) (spaces_deeper indent all) p.3 in
+    let two = stmts second (suc d) (deeper indent) (after_else one.next indent) (spaces_deeper indent all) p.3 in
     let w = if_else e (stmt_nodes first) (stmt_nodes second) d indent (at + length indent) p.0 all test one two in
     and_more _ (stmt_nodes s) d indent at all w (stmts s d indent (w.next + 1) all p.4)

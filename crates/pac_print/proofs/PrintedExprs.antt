@@ -13,15 +13,15 @@ use Rattle.pac_syntax.specs.declared.tree.ExprNode.{ExprNode, Literal, Binary, N
 use Rattle.pac_tokens.specs.Spelling.{symbol_spelling}
 use Rattle.pac_value.specs.Literals.{quoted}
 use Rattle.pac_tokens.specs.Tokens.{is_letter, is_name, IsWord, Lexed}
-use Rattle.pac_syntax.specs.Grammar.{LiteralForm, AnInt, ANegative, AText, ATrue, AFalse, ExprForm, ALiteral, AName, ANot, AParen, ABinary, sign_of, tier, left_level, AtLevel, literal_node, expr_place, expr_node, Plain, Operator, Marked, symbol_mark, counted, literal_before, expr_before, whole_before, tokens_of}
+use Rattle.pac_syntax.specs.Grammar.{LiteralForm, AnInt, ANegative, AText, ATrue, AFalse, ExprForm, ALiteral, AName, ANot, AParen, ABinary, operator_symbol, precedence, left_level, AtLevel, literal_node, expr_offset, expr_node, Plain, Operator, Marked, symbol_mark, counted, literal_before, expr_before, whole_before, tokens_of}
 use Rattle.pac_print.specs.Canonical.{Spelled, operand_text, binary_text, expr_step, spelled, expr_text}
 use Rattle.pac_value.specs.Literals.{value_text}
 use Rattle.pac_print.specs.Unplaced.{unplaced_literal, unplaced_expr_step, unplaced_expr}
 use Rattle.pac_print.proofs.Decimals.{decimal_is_digits}
-use Rattle.pac_print.proofs.Fronts.{Stops, space_first, keyword_first, name_first, int_first, text_first}
+use Rattle.pac_print.proofs.Prefixes.{Stops, space_first, keyword_first, name_first, int_first, text_first}
 use Rattle.pac_syntax.proofs.NodeForms.{fold-Literal, fold-Name, fold-Binary, fold-Not}
 use Rattle.pac_print.proofs.Proper.{IsProperLiteral, IsProper, IsProperWhole}
-use Rattle.pac_print.proofs.SignFronts.{is_equals, minus_first, digits_open, sign_first, operator_first}
+use Rattle.pac_print.proofs.SymbolPrefixes.{is_equals, minus_first, digits_open, symbol_first, operator_first}
 use Rattle.pac_print.proofs.TokenFacts.{IsNameToken}
 
 -- a byte that goes on with a token that stands before it
@@ -36,9 +36,9 @@ name_end (b ∷ rest) h = neither (is_name b) (is_equals b) h
     neither true q e = e
     neither false q e = refl
 
-pub sign_end : (rest : List ℕ) → Stops goes_on rest → Stops is_equals rest
-sign_end [] h = tt
-sign_end (b ∷ rest) h = neither (is_name b) (is_equals b) h
+pub symbol_end : (rest : List ℕ) → Stops goes_on rest → Stops is_equals rest
+symbol_end [] h = tt
+symbol_end (b ∷ rest) h = neither (is_name b) (is_equals b) h
   where
     neither : (p q : Bool) → (p || q) ≡ false → q ≡ false
     neither true q e = absurd cc
@@ -54,7 +54,7 @@ word_open (b ∷ n) rest word = letter b word.0
 
 -- ---- literals
 
--- a literal of the same value at this place, spelled by this text
+-- a literal of the same value at this offset, spelled by this text
 pub record PrintedLiteral (l : LiteralForm) (at : ℕ) (text : List ℕ) : Type 0 where
   pub form : LiteralForm
   pub proper : IsProperLiteral form
@@ -121,7 +121,7 @@ literal (AFalse p) h at = record {
 
 -- ---- expressions
 
--- The same expression at this place, spelled by this text: of a level, and proper in so many parentheses.
+-- The same expression at this offset, spelled by this text: of a level, and proper in that many parentheses.
 pub record Printed (e : ExprForm) (d n at : ℕ) (text : List ℕ) : Type 0 where
   pub form : ExprForm
   pub level : AtLevel n form
@@ -167,26 +167,26 @@ shallower (ANot at e) c d le h = shallower e c d le h
 shallower (AParen opening e closing) c d le h = (omega (arith, h.0), shallower e (suc c) (suc d) (omega arith) h.1)
 shallower (ABinary op at l r) c d le h = (shallower l c d le h.0, shallower r c d le h.1)
 
-tier_most : (op : BinOp) → tier op ≤ 4
-tier_most op.Mul = omega arith
-tier_most op.Div = omega arith
-tier_most op.Rem = omega arith
-tier_most op.Add = omega arith
-tier_most op.Sub = omega arith
-tier_most op.Eq = omega arith
-tier_most op.Ne = omega arith
-tier_most op.Lt = omega arith
-tier_most op.Le = omega arith
-tier_most op.Gt = omega arith
-tier_most op.Ge = omega arith
-tier_most op.And = omega arith
-tier_most op.Or = omega arith
+precedence_most : (op : BinOp) → precedence op ≤ 4
+precedence_most op.Mul = omega arith
+precedence_most op.Div = omega arith
+precedence_most op.Rem = omega arith
+precedence_most op.Add = omega arith
+precedence_most op.Sub = omega arith
+precedence_most op.Eq = omega arith
+precedence_most op.Ne = omega arith
+precedence_most op.Lt = omega arith
+precedence_most op.Le = omega arith
+precedence_most op.Gt = omega arith
+precedence_most op.Ge = omega arith
+precedence_most op.And = omega arith
+precedence_most op.Or = omega arith
 
 level_is : (e : ExprForm) (s : Spelled) → spelling e ≡ s → (spelling e).level ≡ s.level
 level_is e s h = ap (λ x. x.level) h
 
 abbrev binary_spelling : BinOp → ExprForm → ExprForm → Spelled
-binary_spelling op l r = record { level = suc (tier op); text = binary_text op (spelling l) (spelling r) }
+binary_spelling op l r = record { level = suc (precedence op); text = binary_text op (spelling l) (spelling r) }
 
 abbrev not_spelling : ExprForm → Spelled
 not_spelling e = record { level = 0; text = codes "!" ++ operand_text 0 (spelling e) }
@@ -198,7 +198,7 @@ not_is : (at : ℕ) (e : ExprForm) → spelling (ANot at e) ≡ not_spelling e
 not_is at e = fold-Not Spelled expr_step at (expr_node e)
 
 binary_is : (op : BinOp) (at : ℕ) (l r : ExprForm) → spelling (ABinary op at l r) ≡ binary_spelling op l r
-binary_is op at l r = fold-Binary Spelled expr_step (expr_place l) op (expr_node l) (expr_node r)
+binary_is op at l r = fold-Binary Spelled expr_step (expr_offset l) op (expr_node l) (expr_node r)
 
 -- no level is looser than the last
 level_most : (e : ExprForm) → (spelling e).level ≤ 5
@@ -206,9 +206,9 @@ level_most (ALiteral l) = omega (arith, level_is (ALiteral l) _ (literal_is l))
 level_most (AName x) = omega (arith, level_is (AName x) _ (fold-Name Spelled expr_step x))
 level_most (ANot at e) = omega (arith, level_is (ANot at e) (not_spelling e) (not_is at e))
 level_most (AParen opening e closing) = level_most e
-level_most (ABinary op at l r) = omega (arith, level_is (ABinary op at l r) (binary_spelling op l r) (binary_is op at l r), tier_most op)
+level_most (ABinary op at l r) = omega (arith, level_is (ABinary op at l r) (binary_spelling op l r) (binary_is op at l r), precedence_most op)
 
--- an operand that is too loose for its place stood in parentheses
+-- an operand that is too loose for its position stood in parentheses
 record Enclosed (e : ExprForm) (d : ℕ) : Type 0 where
   is : room d e ≡ suc d
   few : suc d ≤ 16
@@ -230,8 +230,8 @@ in_parens e n d at level text le k w = record {
   next = w.next + 1;
   opens = λ rest. refl;
   lexes = λ c o ms rest stops h. subst (λ (x : List ℕ). Lexed Other at (40 ∷ x) (tokens_of (expr_before c o (AParen at w.form w.next) ms)) None) (sym (append_assoc text (41 ∷ []) rest))
-      (sign_first Other at symbol.OpenParen (text ++ (41 ∷ rest)) (tokens_of (expr_before (suc c) o w.form (symbol_mark symbol.CloseParen w.next Plain ∷ ms))) None refl (w.opens (41 ∷ rest))
-      (w.lexes (suc c) o (symbol_mark symbol.CloseParen w.next Plain ∷ ms) (41 ∷ rest) refl (sign_first Value w.next symbol.CloseParen rest (tokens_of ms) None refl (sign_end rest stops) h)));
+      (symbol_first Other at symbol.OpenParen (text ++ (41 ∷ rest)) (tokens_of (expr_before (suc c) o w.form (symbol_mark symbol.CloseParen w.next Plain ∷ ms))) None refl (w.opens (41 ∷ rest))
+      (w.lexes (suc c) o (symbol_mark symbol.CloseParen w.next Plain ∷ ms) (41 ∷ rest) refl (symbol_first Value w.next symbol.CloseParen rest (tokens_of ms) None refl (symbol_end rest stops) h)));
 }
 
 as_it_is : (e : ExprForm) (n d at : ℕ) (level : ℕ) (text : List ℕ) → level ≤ n → Printed e (room d e) level at text → Printed e d n at text
@@ -246,7 +246,7 @@ as_it_is e n d at level text le w = record {
   lexes = w.lexes;
 }
 
--- an operand, in parentheses where its place needs them
+-- an operand, in parentheses where its position needs them
 operand : (e : ExprForm) (n d at : ℕ) → AtLevel n e → IsProper d e → ((at : ℕ) → Bare e d at) → Printed e d n at (operand_text n (spelling e))
 operand e n d at lv p bare = by_test (nat_le (spelling e).level n) refl
   where
@@ -290,32 +290,32 @@ bare_not q e d at text w = record {
   counts = λ o. w.counts (suc o);
   next = w.next;
   opens = λ rest. refl;
-  lexes = λ c o ms rest stops h. sign_first Other at symbol.Not (text ++ rest) (tokens_of (expr_before c (suc o) w.form ms)) None refl (w.opens rest) (w.lexes c (suc o) ms rest stops h);
+  lexes = λ c o ms rest stops h. symbol_first Other at symbol.Not (text ++ rest) (tokens_of (expr_before c (suc o) w.form ms)) None refl (w.opens rest) (w.lexes c (suc o) ms rest stops h);
 }
 
 apart : (l sign r rest : List ℕ) → (l ++ codes " " ++ sign ++ codes " " ++ r) ++ rest ≡ l ++ (32 ∷ (sign ++ (32 ∷ (r ++ rest))))
 apart l sign r rest = simp append_assoc
 
-bare_binary : (op : BinOp) (q : ℕ) (l r : ExprForm) (d at : ℕ) (before behind : List ℕ) → (w : Printed l d (left_level (tier op)) at before) → Printed r d (tier op) (w.next + 1 + length (symbol_spelling (sign_of op)) + 1) behind
-    → Printed (ABinary op q l r) d (suc (tier op)) at (before ++ codes " " ++ symbol_spelling (sign_of op) ++ codes " " ++ behind)
-bare_binary op q l r d at before behind w v = record {
+bare_binary : (op : BinOp) (q : ℕ) (l r : ExprForm) (d at : ℕ) (before after : List ℕ) → (w : Printed l d (left_level (precedence op)) at before) → Printed r d (precedence op) (w.next + 1 + length (symbol_spelling (operator_symbol op)) + 1) after
+    → Printed (ABinary op q l r) d (suc (precedence op)) at (before ++ codes " " ++ symbol_spelling (operator_symbol op) ++ codes " " ++ after)
+bare_binary op q l r d at before after w v = record {
   form = ABinary op (w.next + 1) w.form v.form;
   level = (omega arith, w.level, v.level);
   proper = (w.proper, v.proper);
-  same = fold-Binary ExprNode unplaced_expr_step (expr_place w.form) op (expr_node w.form) (expr_node v.form)
+  same = fold-Binary ExprNode unplaced_expr_step (expr_offset w.form) op (expr_node w.form) (expr_node v.form)
       ∙ ap (λ (x : ExprNode). Binary 0 op x (unplaced_expr (expr_node v.form))) w.same ∙ ap (λ (x : ExprNode). Binary 0 op (unplaced_expr (expr_node l)) x) v.same
-      ∙ sym (fold-Binary ExprNode unplaced_expr_step (expr_place l) op (expr_node l) (expr_node r));
+      ∙ sym (fold-Binary ExprNode unplaced_expr_step (expr_offset l) op (expr_node l) (expr_node r));
   counts = λ o. ap (λ (k : ℕ). counted (suc k) v.form) (w.counts o) ∙ v.counts (suc (counted o l));
   next = v.next;
-  opens = λ rest. subst (λ (x : List ℕ). Stops is_equals x) (sym (apart before (symbol_spelling (sign_of op)) behind rest)) (w.opens (32 ∷ (symbol_spelling (sign_of op) ++ (32 ∷ (behind ++ rest)))));
+  opens = λ rest. subst (λ (x : List ℕ). Stops is_equals x) (sym (apart before (symbol_spelling (operator_symbol op)) after rest)) (w.opens (32 ∷ (symbol_spelling (operator_symbol op) ++ (32 ∷ (after ++ rest)))));
   lexes = λ c o ms rest stops h.
       let right = expr_before c (suc (counted o w.form)) v.form ms in
-      let sign = symbol_mark (sign_of op) (w.next + 1) (Operator (suc (counted o w.form))) in
-      subst (λ (x : List ℕ). Lexed Other at x (tokens_of (expr_before c o (ABinary op (w.next + 1) w.form v.form) ms)) None) (sym (apart before (symbol_spelling (sign_of op)) behind rest))
-      (w.lexes c o (sign ∷ right) (32 ∷ (symbol_spelling (sign_of op) ++ (32 ∷ (behind ++ rest)))) refl
-      (space_first Value w.next (symbol_spelling (sign_of op) ++ (32 ∷ (behind ++ rest))) (tokens_of (sign ∷ right)) None
-      (operator_first (w.next + 1) op (32 ∷ (behind ++ rest)) (tokens_of right) None refl
-      (space_first Other (w.next + 1 + length (symbol_spelling (sign_of op))) (behind ++ rest) (tokens_of right) None
+      let sign = symbol_mark (operator_symbol op) (w.next + 1) (Operator (suc (counted o w.form))) in
+      subst (λ (x : List ℕ). Lexed Other at x (tokens_of (expr_before c o (ABinary op (w.next + 1) w.form v.form) ms)) None) (sym (apart before (symbol_spelling (operator_symbol op)) after rest))
+      (w.lexes c o (sign ∷ right) (32 ∷ (symbol_spelling (operator_symbol op) ++ (32 ∷ (after ++ rest)))) refl
+      (space_first Value w.next (symbol_spelling (operator_symbol op) ++ (32 ∷ (after ++ rest))) (tokens_of (sign ∷ right)) None
+      (operator_first (w.next + 1) op (32 ∷ (after ++ rest)) (tokens_of right) None refl
+      (space_first Other (w.next + 1 + length (symbol_spelling (operator_symbol op))) (after ++ rest) (tokens_of right) None
       (v.lexes c (suc (counted o w.form)) ms rest stops h)))));
 }
 
@@ -327,12 +327,12 @@ bare (AParen opening e closing) n d at lv p =
     let w = bare e 5 (suc d) at lv p.1 in
     record { form = w.form; level = w.level; proper = shallower w.form (suc d) (room (suc d) e) (room_grows (suc d) e) w.proper; same = w.same; counts = w.counts; next = w.next; opens = w.opens; lexes = w.lexes }
 bare (ABinary op q l r) n d at lv p =
-    let w = operand l (left_level (tier op)) d at lv.1 p.0 (λ at. bare l (left_level (tier op)) d at lv.1 p.0) in
+    let w = operand l (left_level (precedence op)) d at lv.1 p.0 (λ at. bare l (left_level (precedence op)) d at lv.1 p.0) in
     as_spelled (ABinary op q l r) d at (binary_spelling op l r) (binary_is op q l r)
-    (bare_binary op q l r d at (operand_text (left_level (tier op)) (spelling l)) (operand_text (tier op) (spelling r)) w
-    (operand r (tier op) d (w.next + 1 + length (symbol_spelling (sign_of op)) + 1) lv.2 p.1 (λ at. bare r (tier op) d at lv.2 p.1)))
+    (bare_binary op q l r d at (operand_text (left_level (precedence op)) (spelling l)) (operand_text (precedence op) (spelling r)) w
+    (operand r (precedence op) d (w.next + 1 + length (symbol_spelling (operator_symbol op)) + 1) lv.2 p.1 (λ at. bare r (precedence op) d at lv.2 p.1)))
 
--- the same whole expression at this place, spelled by its canonical text
+-- the same whole expression at this offset, spelled by its canonical text
 pub record PrintedWhole (e : ExprForm) (at : ℕ) : Type 0 where
   pub form : ExprForm
   pub proper : IsProperWhole form

@@ -14,12 +14,12 @@ use Rattle.pac_syntax.specs.Grammar.{LiteralForm, ExprForm, ValuesForm, NoValue,
 use Rattle.pac_print.specs.Canonical.{expr_text, further_text, cell_text, field_text, Indented, stmt_step, stmt_text}
 use Rattle.pac_value.specs.Literals.{value_text}
 use Rattle.pac_print.specs.Unplaced.{unplaced_name, unplaced_literal, unplaced_expr, unplaced_stmt_step, unplaced_stmt}
-use Rattle.pac_print.proofs.Fronts.{Stops}
+use Rattle.pac_print.proofs.Prefixes.{Stops}
 use Rattle.pac_syntax.proofs.NodeForms.{fold-Let, fold-Read, fold-Has, fold-Put, fold-Set, fold-Delete, fold-AbortIf}
-use Rattle.pac_print.proofs.Pieces.{Piece, joined, nothing, space, sign, name, placed, word_space, spaced_sign, as_text}
+use Rattle.pac_print.proofs.Pieces.{Piece, joined, nothing, space, sign, name, placed, word_space, spaced_symbol, as_text}
 use Rattle.pac_print.proofs.PrintedExprs.{goes_on, word_open, PrintedLiteral, literal, PrintedWhole, whole}
 use Rattle.pac_print.proofs.Proper.{IsProperLiteral, IsProperWhole, AreProperValues, AreProperStmts}
-use Rattle.pac_print.proofs.SignFronts.{is_equals}
+use Rattle.pac_print.proofs.SymbolPrefixes.{is_equals}
 use Rattle.pac_print.proofs.TokenFacts.{IsNameToken}
 
 -- ---- parts of statements
@@ -47,7 +47,7 @@ name_open x is rest = word_open x.name rest is.0
 cell : (t : NameNode) (e : ExprForm) (c : NameNode) (at : ℕ) → IsNameToken t.name → IsNameToken c.name → (w : PrintedWhole e (at + length t.name + 1)) → Piece Other Value at (w.next + 1 + 1 + length c.name) (field_text t (expr_node e) c) (cell_marks t at w.form w.next c) (Stops is_name)
 cell t e c at is column w = joined (joined (row t e at is w) (sign Other (w.next + 1) symbol.Dot refl) (λ rest k. refl)) (name Other (w.next + 1 + 1) c Plain column) (λ rest k. name_open c column rest)
 
--- values behind the first
+-- values after the first
 record PrintedValues (vs : ValuesForm) (at : ℕ) : Type 0 where
   form : ValuesForm
   proper : AreProperValues form
@@ -74,7 +74,7 @@ values (AValue comma e vs) at p =
 
 -- ---- a statement
 
--- The same statement at this place, in front of others, spelled by its canonical text behind this indent.
+-- The same statement at this offset, before others, spelled by its canonical text after this indent.
 pub record PrintedStmt (node : StmtNode) (d : ℕ) (indent : List ℕ) (at : ℕ) : Type 0 where
   pub add : StmtsForm → StmtsForm
   pub again : StmtNode
@@ -92,32 +92,32 @@ at_indent indent f g e = ap (λ (h : Indented). h indent) e
 pub let_stmt : (x : NameNode) (e : ExprForm) (d : ℕ) (indent : List ℕ) (at : ℕ) → IsNameToken x.name → IsProperWhole e → PrintedStmt (stmt.Let x (expr_node e)) d indent at
 let_stmt x e d indent at is p =
     let at_x : ℕ = at + 3 + 1 in
-    let at_sign : ℕ = at_x + length x.name in
-    let w = whole e p (at_sign + 1 + 1 + 1) in
+    let at_symbol : ℕ = at_x + length x.name in
+    let w = whole e p (at_symbol + 1 + 1 + 1) in
     record {
-      add = λ s. ALet at (placed x at_x) (at_sign + 1) w.form w.next s;
+      add = λ s. ALet at (placed x at_x) (at_symbol + 1) w.form w.next s;
       again = stmt.Let (placed x at_x) (expr_node w.form);
       nodes = λ s. refl;
       same = fold-Let StmtNode unplaced_stmt_step (placed x at_x) (expr_node w.form) ∙ ap (λ (y : ExprNode). stmt.Let (unplaced_name x) y) w.same ∙ sym (fold-Let StmtNode unplaced_stmt_step x (expr_node e));
       proper = λ s h. (is, w.proper, h);
       next = w.next + 1;
-      marks = λ c ms. keyword_mark keyword.Let at Plain ∷ name_mark (placed x at_x) Plain ∷ symbol_mark symbol.Assign (at_sign + 1) Plain ∷ whole_before w.form (symbol_mark symbol.Semicolon w.next Plain ∷ ms);
+      marks = λ c ms. keyword_mark keyword.Let at Plain ∷ name_mark (placed x at_x) Plain ∷ symbol_mark symbol.Assign (at_symbol + 1) Plain ∷ whole_before w.form (symbol_mark symbol.Semicolon w.next Plain ∷ ms);
       before = λ c s ms. refl;
       piece = λ c. as_text (stmt_text (stmt.Let x (expr_node e)) indent) (stmt_step (form.Let x (expr_node e)) indent) (at_indent indent _ _ (fold-Let Indented stmt_step x (expr_node e)))
-          (joined (joined (joined (joined (word_space Other at keyword.Let Plain) (name Other at_x x Plain is) (λ rest k. tt)) (spaced_sign Value at_sign symbol.Assign refl) (λ rest k. refl)) (expr_piece w) (λ rest k. tt)) (sign Value w.next symbol.Semicolon refl) (λ rest k. refl));
+          (joined (joined (joined (joined (word_space Other at keyword.Let Plain) (name Other at_x x Plain is) (λ rest k. tt)) (spaced_symbol Value at_symbol symbol.Assign refl) (λ rest k. refl)) (expr_piece w) (λ rest k. tt)) (sign Value w.next symbol.Semicolon refl) (λ rest k. refl));
     }
 
 pub read_stmt : (x t : NameNode) (e : ExprForm) (column : NameNode) (l : LiteralForm) (d : ℕ) (indent : List ℕ) (at : ℕ)
     → IsNameToken x.name → IsNameToken t.name → IsProperWhole e → IsNameToken column.name → IsProperLiteral l → PrintedStmt (stmt.Read x t (expr_node e) column (literal_node l)) d indent at
 read_stmt x t e column l d indent at is is_t p is_column is_l =
     let at_x : ℕ = at + 4 + 1 in
-    let at_sign : ℕ = at_x + length x.name in
-    let at_t : ℕ = at_sign + 1 + 1 + 1 in
+    let at_symbol : ℕ = at_x + length x.name in
+    let at_t : ℕ = at_symbol + 1 + 1 + 1 in
     let w = whole e p (at_t + length t.name + 1) in
     let at_default : ℕ = w.next + 1 + 1 + length column.name + 1 in
     let v = literal l is_l (at_default + 7 + 1) in
     record {
-      add = λ s. ARead at (placed x at_x) (at_sign + 1) (placed t at_t) (at_t + length t.name) w.form w.next (w.next + 1) (placed column (w.next + 1 + 1)) at_default v.form v.next s;
+      add = λ s. ARead at (placed x at_x) (at_symbol + 1) (placed t at_t) (at_t + length t.name) w.form w.next (w.next + 1) (placed column (w.next + 1 + 1)) at_default v.form v.next s;
       again = stmt.Read (placed x at_x) (placed t at_t) (expr_node w.form) (placed column (w.next + 1 + 1)) (literal_node v.form);
       nodes = λ s. refl;
       same = fold-Read StmtNode unplaced_stmt_step (placed x at_x) (placed t at_t) (expr_node w.form) (placed column (w.next + 1 + 1)) (literal_node v.form)
@@ -126,42 +126,42 @@ read_stmt x t e column l d indent at is is_t p is_column is_l =
           ∙ sym (fold-Read StmtNode unplaced_stmt_step x t (expr_node e) column (literal_node l));
       proper = λ s h. (is, is_t, w.proper, is_column, v.proper, h);
       next = v.next + 1;
-      marks = λ c ms. keyword_mark keyword.Read at Plain ∷ name_mark (placed x at_x) Plain ∷ symbol_mark symbol.Assign (at_sign + 1) Plain
+      marks = λ c ms. keyword_mark keyword.Read at Plain ∷ name_mark (placed x at_x) Plain ∷ symbol_mark symbol.Assign (at_symbol + 1) Plain
           ∷ cell_marks t at_t w.form w.next column (keyword_mark keyword.Default at_default Plain ∷ literal_before v.form (symbol_mark symbol.Semicolon v.next Plain ∷ ms));
       before = λ c s ms. refl;
       piece = λ c. as_text (stmt_text (stmt.Read x t (expr_node e) column (literal_node l)) indent) (stmt_step (form.Read x t (expr_node e) column (literal_node l)) indent) (at_indent indent _ _ (fold-Read Indented stmt_step x t (expr_node e) column (literal_node l)))
-          (joined (joined (joined (joined (joined (joined (word_space Other at keyword.Read Plain) (name Other at_x x Plain is) (λ rest k. tt)) (spaced_sign Value at_sign symbol.Assign refl) (λ rest k. refl))
+          (joined (joined (joined (joined (joined (joined (word_space Other at keyword.Read Plain) (name Other at_x x Plain is) (λ rest k. tt)) (spaced_symbol Value at_symbol symbol.Assign refl) (λ rest k. refl))
           (cell t e column at_t is_t is_column w) (λ rest k. tt)) (joined (space Value (w.next + 1 + 1 + length column.name)) (word_space Value at_default keyword.Default Plain) (λ rest k. tt)) (λ rest k. refl)) (literal_piece v) (λ rest k. tt)) (sign Value v.next symbol.Semicolon refl) (λ rest k. refl));
     }
 
 pub has_stmt : (x t : NameNode) (e : ExprForm) (d : ℕ) (indent : List ℕ) (at : ℕ) → IsNameToken x.name → IsNameToken t.name → IsProperWhole e → PrintedStmt (stmt.Has x t (expr_node e)) d indent at
 has_stmt x t e d indent at is is_t p =
     let at_x : ℕ = at + 3 + 1 in
-    let at_sign : ℕ = at_x + length x.name in
-    let at_t : ℕ = at_sign + 1 + 1 + 1 in
+    let at_symbol : ℕ = at_x + length x.name in
+    let at_t : ℕ = at_symbol + 1 + 1 + 1 in
     let w = whole e p (at_t + length t.name + 1) in
     record {
-      add = λ s. AHas at (placed x at_x) (at_sign + 1) (placed t at_t) (at_t + length t.name) w.form w.next (w.next + 1) s;
+      add = λ s. AHas at (placed x at_x) (at_symbol + 1) (placed t at_t) (at_t + length t.name) w.form w.next (w.next + 1) s;
       again = stmt.Has (placed x at_x) (placed t at_t) (expr_node w.form);
       nodes = λ s. refl;
       same = fold-Has StmtNode unplaced_stmt_step (placed x at_x) (placed t at_t) (expr_node w.form) ∙ ap (λ (y : ExprNode). stmt.Has (unplaced_name x) (unplaced_name t) y) w.same ∙ sym (fold-Has StmtNode unplaced_stmt_step x t (expr_node e));
       proper = λ s h. (is, is_t, w.proper, h);
       next = w.next + 1 + 1;
-      marks = λ c ms. keyword_mark keyword.Has at Plain ∷ name_mark (placed x at_x) Plain ∷ symbol_mark symbol.Assign (at_sign + 1) Plain ∷ row_marks t at_t w.form w.next (symbol_mark symbol.Semicolon (w.next + 1) Plain ∷ ms);
+      marks = λ c ms. keyword_mark keyword.Has at Plain ∷ name_mark (placed x at_x) Plain ∷ symbol_mark symbol.Assign (at_symbol + 1) Plain ∷ row_marks t at_t w.form w.next (symbol_mark symbol.Semicolon (w.next + 1) Plain ∷ ms);
       before = λ c s ms. refl;
       piece = λ c. as_text (stmt_text (stmt.Has x t (expr_node e)) indent) (stmt_step (form.Has x t (expr_node e)) indent) (at_indent indent _ _ (fold-Has Indented stmt_step x t (expr_node e)))
-          (joined (joined (joined (joined (word_space Other at keyword.Has Plain) (name Other at_x x Plain is) (λ rest k. tt)) (spaced_sign Value at_sign symbol.Assign refl) (λ rest k. refl)) (row t e at_t is_t w) (λ rest k. tt)) (sign Other (w.next + 1) symbol.Semicolon refl) (λ rest k. refl));
+          (joined (joined (joined (joined (word_space Other at keyword.Has Plain) (name Other at_x x Plain is) (λ rest k. tt)) (spaced_symbol Value at_symbol symbol.Assign refl) (λ rest k. refl)) (row t e at_t is_t w) (λ rest k. tt)) (sign Other (w.next + 1) symbol.Semicolon refl) (λ rest k. refl));
     }
 
 pub put_stmt : (t : NameNode) (e v : ExprForm) (vs : ValuesForm) (d : ℕ) (indent : List ℕ) (at : ℕ) → IsNameToken t.name → IsProperWhole e → IsProperWhole v → AreProperValues vs → PrintedStmt (stmt.Put t (expr_node e) (expr_node v ∷ value_nodes vs)) d indent at
 put_stmt t e v vs d indent at is p p_v p_vs =
     let at_t : ℕ = at + 3 + 1 in
     let w = whole e p (at_t + length t.name + 1) in
-    let at_sign : ℕ = w.next + 1 in
-    let first = whole v p_v (at_sign + 1 + 1 + 1 + 1) in
+    let at_symbol : ℕ = w.next + 1 in
+    let first = whole v p_v (at_symbol + 1 + 1 + 1 + 1) in
     let more = values vs first.next p_vs in
     record {
-      add = λ s. APut at (placed t at_t) (at_t + length t.name) w.form w.next (at_sign + 1) (at_sign + 1 + 1 + 1) first.form more.form more.next (more.next + 1) s;
+      add = λ s. APut at (placed t at_t) (at_t + length t.name) w.form w.next (at_symbol + 1) (at_symbol + 1 + 1 + 1) first.form more.form more.next (more.next + 1) s;
       again = stmt.Put (placed t at_t) (expr_node w.form) (expr_node first.form ∷ value_nodes more.form);
       nodes = λ s. refl;
       same = fold-Put StmtNode unplaced_stmt_step (placed t at_t) (expr_node w.form) (expr_node first.form ∷ value_nodes more.form)
@@ -171,11 +171,11 @@ put_stmt t e v vs d indent at is p p_v p_vs =
           ∙ sym (fold-Put StmtNode unplaced_stmt_step t (expr_node e) (expr_node v ∷ value_nodes vs));
       proper = λ s h. (is, w.proper, first.proper, more.proper, h);
       next = more.next + 1 + 1;
-      marks = λ c ms. keyword_mark keyword.Put at Plain ∷ row_marks t at_t w.form w.next (symbol_mark symbol.Assign (at_sign + 1) Plain ∷ symbol_mark symbol.OpenParen (at_sign + 1 + 1 + 1) Plain
+      marks = λ c ms. keyword_mark keyword.Put at Plain ∷ row_marks t at_t w.form w.next (symbol_mark symbol.Assign (at_symbol + 1) Plain ∷ symbol_mark symbol.OpenParen (at_symbol + 1 + 1 + 1) Plain
           ∷ whole_before first.form (values_before more.form (symbol_mark symbol.CloseParen more.next Plain ∷ symbol_mark symbol.Semicolon (more.next + 1) Plain ∷ ms)));
       before = λ c s ms. refl;
       piece = λ c. as_text (stmt_text (stmt.Put t (expr_node e) (expr_node v ∷ value_nodes vs)) indent) (stmt_step (form.Put t (expr_node e) (expr_node v ∷ value_nodes vs)) indent) (at_indent indent _ _ (fold-Put Indented stmt_step t (expr_node e) (expr_node v ∷ value_nodes vs)))
-          (joined (joined (joined (joined (word_space Other at keyword.Put Plain) (row t e at_t is w) (λ rest k. tt)) (joined (spaced_sign Other at_sign symbol.Assign refl) (sign Other (at_sign + 1 + 1 + 1) symbol.OpenParen refl) (λ rest k. tt)) (λ rest k. refl))
+          (joined (joined (joined (joined (word_space Other at keyword.Put Plain) (row t e at_t is w) (λ rest k. tt)) (joined (spaced_symbol Other at_symbol symbol.Assign refl) (sign Other (at_symbol + 1 + 1 + 1) symbol.OpenParen refl) (λ rest k. tt)) (λ rest k. refl))
           (joined (expr_piece first) more.piece (λ rest k. values_end vs rest k)) (λ rest k. subst (λ (x : List ℕ). Stops is_equals x) (sym (append_assoc (expr_text (expr_node v)) (flat_map further_text (value_nodes vs)) rest)) (first.opens (flat_map further_text (value_nodes vs) ++ rest))))
           (joined (sign Value more.next symbol.CloseParen refl) (sign Value (more.next + 1) symbol.Semicolon refl) (λ rest k. refl)) (λ rest k. refl));
     }
@@ -184,10 +184,10 @@ pub set_stmt : (t : NameNode) (e : ExprForm) (column : NameNode) (v : ExprForm) 
 set_stmt t e column v d indent at is p is_column p_v =
     let at_t : ℕ = at + 3 + 1 in
     let w = whole e p (at_t + length t.name + 1) in
-    let at_sign : ℕ = w.next + 1 + 1 + length column.name in
-    let value = whole v p_v (at_sign + 1 + 1 + 1) in
+    let at_symbol : ℕ = w.next + 1 + 1 + length column.name in
+    let value = whole v p_v (at_symbol + 1 + 1 + 1) in
     record {
-      add = λ s. ASet at (placed t at_t) (at_t + length t.name) w.form w.next (w.next + 1) (placed column (w.next + 1 + 1)) (at_sign + 1) value.form value.next s;
+      add = λ s. ASet at (placed t at_t) (at_t + length t.name) w.form w.next (w.next + 1) (placed column (w.next + 1 + 1)) (at_symbol + 1) value.form value.next s;
       again = stmt.Set (placed t at_t) (expr_node w.form) (placed column (w.next + 1 + 1)) (expr_node value.form);
       nodes = λ s. refl;
       same = fold-Set StmtNode unplaced_stmt_step (placed t at_t) (expr_node w.form) (placed column (w.next + 1 + 1)) (expr_node value.form)
@@ -196,10 +196,10 @@ set_stmt t e column v d indent at is p is_column p_v =
           ∙ sym (fold-Set StmtNode unplaced_stmt_step t (expr_node e) column (expr_node v));
       proper = λ s h. (is, w.proper, is_column, value.proper, h);
       next = value.next + 1;
-      marks = λ c ms. keyword_mark keyword.Set at Plain ∷ cell_marks t at_t w.form w.next column (symbol_mark symbol.Assign (at_sign + 1) Plain ∷ whole_before value.form (symbol_mark symbol.Semicolon value.next Plain ∷ ms));
+      marks = λ c ms. keyword_mark keyword.Set at Plain ∷ cell_marks t at_t w.form w.next column (symbol_mark symbol.Assign (at_symbol + 1) Plain ∷ whole_before value.form (symbol_mark symbol.Semicolon value.next Plain ∷ ms));
       before = λ c s ms. refl;
       piece = λ c. as_text (stmt_text (stmt.Set t (expr_node e) column (expr_node v)) indent) (stmt_step (form.Set t (expr_node e) column (expr_node v)) indent) (at_indent indent _ _ (fold-Set Indented stmt_step t (expr_node e) column (expr_node v)))
-          (joined (joined (joined (joined (word_space Other at keyword.Set Plain) (cell t e column at_t is is_column w) (λ rest k. tt)) (spaced_sign Value at_sign symbol.Assign refl) (λ rest k. refl)) (expr_piece value) (λ rest k. tt)) (sign Value value.next symbol.Semicolon refl) (λ rest k. refl));
+          (joined (joined (joined (joined (word_space Other at keyword.Set Plain) (cell t e column at_t is is_column w) (λ rest k. tt)) (spaced_symbol Value at_symbol symbol.Assign refl) (λ rest k. refl)) (expr_piece value) (λ rest k. tt)) (sign Value value.next symbol.Semicolon refl) (λ rest k. refl));
     }
 
 pub delete_stmt : (t : NameNode) (e : ExprForm) (d : ℕ) (indent : List ℕ) (at : ℕ) → IsNameToken t.name → IsProperWhole e → PrintedStmt (stmt.Delete t (expr_node e)) d indent at

@@ -13,18 +13,18 @@ use Rattle.pac_syntax.specs.declared.tree.ProcNode.{ProcNode}
 use Rattle.pac_tokens.specs.Tokens.{is_name, IsLexed}
 use Rattle.pac_syntax.specs.Grammar.{TypeForm, AnIntType, ATextType, ColumnsForm, NoColumn, AColumn, ParamsForm, NoParam, AParam, TablesForm, NoTable, ATable, ProcsForm, NoProc, AProc, CatalogueForm, stmt_nodes, type_of_form, column_node, column_nodes, param_nodes, table_nodes, proc_nodes, tree_of, Role, Plain, TableWord, ProcWord, ColumnName, ParamName, Marked, name_mark, type_mark, columns_before, params_before, tables_before, procs_before, marks_of, tokens_of}
 use Rattle.pac_print.specs.Canonical.{type_text, column_text, further_column_text, params_text, table_text, proc_text, deeper, canonical}
-use Rattle.pac_print.specs.Unplaced.{unplaced_name, unplaced_column, unplaced_stmt, unplaced_table, unplaced_proc, without_places}
-use Rattle.pac_print.proofs.Fronts.{Stops}
+use Rattle.pac_print.specs.Unplaced.{unplaced_name, unplaced_column, unplaced_stmt, unplaced_table, unplaced_proc, without_offsets}
+use Rattle.pac_print.proofs.Prefixes.{Stops}
 use Rattle.pac_print.proofs.Pieces.{Piece, Free, joined, nothing, space, line, word, sign, name, placed, word_space}
 use Rattle.pac_print.proofs.PrintedBlocks.{stmts}
-use Rattle.pac_print.proofs.PrintedExprs.{goes_on, name_end, sign_end, word_open}
+use Rattle.pac_print.proofs.PrintedExprs.{goes_on, name_end, symbol_end, word_open}
 use Rattle.pac_print.proofs.Proper.{AreProperColumns, AreProperParams, AreProperTables, AreProperProcs, IsProperCatalogue}
-use Rattle.pac_print.proofs.SignFronts.{is_equals}
+use Rattle.pac_print.proofs.SymbolPrefixes.{is_equals}
 use Rattle.pac_print.proofs.TokenFacts.{IsNameToken}
 
 -- ---- columns and parameters
 
--- a type at another place
+-- a type at another offset
 abbrev type_at : TypeForm → ℕ → TypeForm
 type_at (AnIntType p) at = AnIntType at
 type_at (ATextType p) at = ATextType at
@@ -37,12 +37,12 @@ type_piece : (b : Before) (at : ℕ) (t : TypeForm) → Piece b Other at (at + l
 type_piece b at (AnIntType p) = word b at keyword.Int Plain
 type_piece b at (ATextType p) = word b at keyword.Text Plain
 
-abbrev behind_column : ℕ → NameNode → TypeForm → ℕ
-behind_column at n t = at + length n.name + 1 + length (type_text (type_of_form t))
+abbrev after_column : ℕ → NameNode → TypeForm → ℕ
+after_column at n t = at + length n.name + 1 + length (type_text (type_of_form t))
 
 -- NAME TYPE
 column : (b : Before) (at : ℕ) (n : NameNode) (t : TypeForm) (role : Role) → IsNameToken n.name
-    → Piece b Other at (behind_column at n t) (column_text (column_node n t)) (λ ms. name_mark (placed n at) role ∷ type_mark (type_at t (at + length n.name + 1)) ∷ ms) (Stops is_name)
+    → Piece b Other at (after_column at n t) (column_text (column_node n t)) (λ ms. name_mark (placed n at) role ∷ type_mark (type_at t (at + length n.name + 1)) ∷ ms) (Stops is_name)
 column b at n t role is = joined (joined (name b at n role is) (space Value (at + length n.name)) (λ rest k. refl)) (type_piece Value (at + length n.name + 1) t) (λ rest k. tt)
 
 same_column : (n : NameNode) (t : TypeForm) (at p : ℕ) → unplaced_column (column_node (placed n at) (type_at t p)) ≡ unplaced_column (column_node n t)
@@ -51,7 +51,7 @@ same_column n t at p = ap (λ (y : Ty). record { name = unplaced_name n; ty = y 
 same_cons : (a b : ColumnNode) (xs ys : List ColumnNode) → unplaced_column a ≡ unplaced_column b → map unplaced_column xs ≡ map unplaced_column ys → map unplaced_column (a ∷ xs) ≡ map unplaced_column (b ∷ ys)
 same_cons a b xs ys e es = ap (λ (x : ColumnNode). x ∷ map unplaced_column xs) e ∙ ap (λ (zs : List ColumnNode). unplaced_column b ∷ zs) es
 
--- columns behind others
+-- columns after others
 record PrintedColumns (most i : ℕ) (role : ℕ → Role) (cs : ColumnsForm) (at : ℕ) : Type 0 where
   form : ColumnsForm
   proper : AreProperColumns most i form
@@ -67,7 +67,7 @@ columns : (most i : ℕ) (role : ℕ → Role) (cs : ColumnsForm) (at : ℕ) →
 columns most i role NoColumn at p = record { form = NoColumn; proper = tt; same = refl; next = at; piece = nothing Other at (Stops is_name) }
 columns most i role (AColumn comma n t cs) at p =
     let at_name : ℕ = at + 1 + 1 in
-    let more = columns most (suc i) role cs (behind_column at_name n t) p.2 in
+    let more = columns most (suc i) role cs (after_column at_name n t) p.2 in
     record {
       form = AColumn at (placed n at_name) (type_at t (at_name + length n.name + 1)) more.form;
       proper = (p.0, p.1, more.proper);
@@ -96,7 +96,7 @@ weaker p = record { lexes = λ ms rest k h. p.lexes ms rest (name_end rest k) h 
 params : (ps : ParamsForm) (at : ℕ) → AreProperParams ps → PrintedParams ps at
 params NoParam at p = record { form = NoParam; proper = tt; same = refl; next = at; opens = λ rest k. k; piece = nothing Other at (Stops goes_on) }
 params (AParam n t cs) at p =
-    let more = columns 16 1 ParamName cs (behind_column at n t) p.1 in
+    let more = columns 16 1 ParamName cs (after_column at n t) p.1 in
     record {
       form = AParam (placed n at) (type_at t (at + length n.name + 1)) more.form;
       proper = (p.0, more.proper);
@@ -123,7 +123,7 @@ tables i (ATable p0 n p1 p2 k p3 c t cs p4 p5 ts) at p =
     let at_type : ℕ = at_key + 3 + 1 in
     let at_comma : ℕ = at_type + length (type_text (type_of_form k)) in
     let at_first : ℕ = at_comma + 1 + 1 in
-    let more = columns 8 1 ColumnName cs (behind_column at_first c t) p.3 in
+    let more = columns 8 1 ColumnName cs (after_column at_first c t) p.3 in
     let others = tables (suc i) ts (more.next + 1 + 1 + 1) p.4 in
     record {
       form = ATable at (placed n at_name) (at_name + length n.name) at_key (type_at k at_type) at_comma (placed c at_first) (type_at t (at_first + length c.name + 1)) more.form more.next (more.next + 1) others.form;
@@ -170,7 +170,7 @@ procs i (AProc p0 n p1 ps p2 p3 s p4 more) at p =
       same = same_proc n (param_nodes w.form) (param_nodes ps) (stmt_nodes body.form) (stmt_nodes s) at_name (proc_nodes others.form) (proc_nodes more) w.same body.same others.same;
       next = others.next;
       piece = joined
-          (joined (joined (joined (joined (joined (joined (word_space Other at keyword.Proc (ProcWord (suc i))) (name Other at_name n Plain p.1) (λ rest k. tt)) (sign Value at_open symbol.OpenParen refl) (λ rest k. refl)) w.piece (λ rest k. w.opens rest (sign_end rest k)))
+          (joined (joined (joined (joined (joined (joined (word_space Other at keyword.Proc (ProcWord (suc i))) (name Other at_name n Plain p.1) (λ rest k. tt)) (sign Value at_open symbol.OpenParen refl) (λ rest k. refl)) w.piece (λ rest k. w.opens rest (symbol_end rest k)))
           (joined (joined (joined (sign Other w.next symbol.CloseParen refl) (space Value (w.next + 1)) (λ rest k. refl)) (sign Value (w.next + 1 + 1) symbol.OpenBrace refl) (λ rest k. tt)) (line Other (w.next + 1 + 1 + 1)) (λ rest k. refl)) (λ rest k. refl))
           (body.piece 0) (λ rest k. tt)) (joined (sign Other body.next symbol.CloseBrace refl) (line Other (body.next + 1)) (λ rest k. refl)) (λ rest k. tt))
           others.piece (λ rest k. tt);
@@ -182,7 +182,7 @@ procs i (AProc p0 n p1 ps p2 p3 s p4 more) at p =
 pub record PrintedCatalogue (form : CatalogueForm) : Type 0 where
   pub again : CatalogueForm
   pub proper : IsProperCatalogue again
-  pub same : without_places (tree_of again) ≡ without_places (tree_of form)
+  pub same : without_offsets (tree_of again) ≡ without_offsets (tree_of form)
   pub lexed : IsLexed (canonical (tree_of form)) (tokens_of (marks_of again)) None
 
 pub catalogue : (form : CatalogueForm) → IsProperCatalogue form → PrintedCatalogue form

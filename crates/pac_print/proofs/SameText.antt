@@ -1,4 +1,4 @@
--- The canonical text of a tree doesn't look at places.
+-- The canonical text of a tree doesn't look at offsets.
 use Rattle.std.proofs.Common.{◌≡◌, ℕ, List, [], ◌∷◌, ◌++◌, map, flat_map, refl, sym, ap, subst, ◌∙◌, ◌≤◌, drop, length, append-nil}
 use Rattle.std.proofs.lemmas.List.{drop_all}
 use Rattle.std.specs.Prelude.{codes}
@@ -18,7 +18,7 @@ use Rattle.pac_syntax.specs.declared.tree.ProcNode.{ProcNode}
 use Rattle.pac_syntax.specs.declared.tree.Tree.{Tree}
 use Rattle.pac_print.specs.Canonical.{Spelled, expr_step, spelled, expr_text, further_text, exprs_text, Indented, deeper, statement_lines, else_text, stmt_step, stmt_text, column_text, further_column_text, params_text, table_text, proc_text, canonical}
 use Rattle.pac_value.specs.Literals.{value_text}
-use Rattle.pac_print.specs.Unplaced.{unplaced_name, unplaced_literal, unplaced_column, unplaced_expr, unplaced_expr_step, unplaced_stmt, unplaced_stmt_step, unplaced_table, unplaced_proc, without_places}
+use Rattle.pac_print.specs.Unplaced.{unplaced_name, unplaced_literal, unplaced_column, unplaced_expr, unplaced_expr_step, unplaced_stmt, unplaced_stmt_step, unplaced_table, unplaced_proc, without_offsets}
 use Rattle.pac_syntax.proofs.NodeForms.{by_nodes, fold-Literal, fold-Name, fold-Binary, fold-Not, fold-Let, fold-Read, fold-Has, fold-Put, fold-Set, fold-Delete, fold-AbortIf, fold-If}
 
 -- ---- expressions
@@ -47,7 +47,7 @@ same_exprs (e ∷ es) = ap (λ x. x ++ flat_map further_text (map unplaced_expr 
 
 -- ---- statements
 
--- the same text behind any indent
+-- the same text after any indent
 abbrev SameLines : StmtNode → Type 0
 SameLines s = stmt_text (unplaced_stmt s) ≡ stmt_text s
 
@@ -125,11 +125,11 @@ same_procs : (ps : List ProcNode) → flat_map proc_text (map unplaced_proc ps) 
 same_procs [] = refl
 same_procs (p ∷ ps) = ap (λ x. x ++ flat_map proc_text (map unplaced_proc ps)) (same_proc p) ∙ ap (λ x. proc_text p ++ x) (same_procs ps)
 
-same_tree : (tree : Tree) → canonical (without_places tree) ≡ canonical tree
+same_tree : (tree : Tree) → canonical (without_offsets tree) ≡ canonical tree
 same_tree tree = ap (λ x. x ++ flat_map proc_text (map unplaced_proc tree.procs)) (same_tables tree.tables) ∙ ap (λ x. flat_map table_text tree.tables ++ x) (same_procs tree.procs)
 
--- trees that are the same but for places have the same text
-pub same_text : (a b : Tree) → without_places a ≡ without_places b → canonical a ≡ canonical b
+-- trees that are the same but for offsets have the same text
+pub same_text : (a b : Tree) → without_offsets a ≡ without_offsets b → canonical a ≡ canonical b
 same_text a b is = sym (same_tree a) ∙ ap canonical is ∙ same_tree b
 
 -- where all procedures are written

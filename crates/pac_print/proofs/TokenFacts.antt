@@ -36,8 +36,8 @@ next_token before bytes (token.Symbol s) len h = tt
 next_token before bytes (token.Name n) len h =
     let s = h.longest.spells in
     (subst IsWord s.0 s.1, ap keyword_of (sym s.0) ∙ s.2, ltb-false 32 (length n) h.short)
-next_token before bytes (token.Int z) len h = (digits_value h.front, h.longest.spells.1, leb-false (2 ^ 63) (digits_value h.front) h.short)
-next_token before bytes (token.Negative z) len h = (digits_value h.front, h.longest.spells.1, ltb-false (2 ^ 63) (digits_value h.front) h.short)
+next_token before bytes (token.Int z) len h = (digits_value h.prefix, h.longest.spells.1, leb-false (2 ^ 63) (digits_value h.prefix) h.short)
+next_token before bytes (token.Negative z) len h = (digits_value h.prefix, h.longest.spells.1, ltb-false (2 ^ 63) (digits_value h.prefix) h.short)
 next_token before bytes (token.Text x) len h = (h.longest.spells.1, ltb-false 64 (length x) h.short)
 
 -- each token of the bytes is one

@@ -17,7 +17,7 @@ use Rattle.pac_syntax.specs.declared.tree.ProcNode.{ProcNode}
 use Rattle.pac_syntax.specs.declared.tree.Tree.{Tree}
 use Rattle.pac_tokens.specs.Spelling.{symbol_spelling}
 use Rattle.pac_value.specs.Literals.{value_text}
-use Rattle.pac_syntax.specs.Grammar.{sign_of, tier, left_level}
+use Rattle.pac_syntax.specs.Grammar.{operator_symbol, precedence, left_level}
 
 -- ---- types
 
@@ -41,12 +41,12 @@ operand_text most e = if nat_le e.level most then e.text else codes "(" ++ e.tex
 -- an operator between its operands
 abbrev pub binary_text : BinOp → Spelled → Spelled → List ℕ
 binary_text op left right =
-    operand_text (left_level (tier op)) left ++ codes " " ++ symbol_spelling (sign_of op) ++ codes " " ++ operand_text (tier op) right
+    operand_text (left_level (precedence op)) left ++ codes " " ++ symbol_spelling (operator_symbol op) ++ codes " " ++ operand_text (precedence op) right
 
 abbrev pub expr_step : ExprNode-F Spelled → Spelled
 expr_step (Literal literal) = record { level = 0; text = value_text literal.value }
 expr_step (Name name) = record { level = 0; text = name.name }
-expr_step (Binary at op left right) = record { level = suc (tier op); text = binary_text op left right }
+expr_step (Binary at op left right) = record { level = suc (precedence op); text = binary_text op left right }
 expr_step (Not at operand) = record { level = 0; text = codes "!" ++ operand_text 0 operand }
 
 abbrev pub spelled : ExprNode → Spelled
@@ -75,7 +75,7 @@ cell_text table key = table.name ++ codes "[" ++ expr_text key ++ codes "]"
 abbrev pub field_text : NameNode → ExprNode → NameNode → List ℕ
 field_text table key column = cell_text table key ++ codes "." ++ column.name
 
--- Statements are texts by their indent: what stands in front of each of their lines but the first.
+-- Statements are texts by their indent: what stands before each of their lines but the first.
 abbrev pub Indented : Type 0
 Indented = List ℕ → List ℕ
 
@@ -93,7 +93,7 @@ abbrev pub else_text : List Indented → Indented
 else_text [] indent = []
 else_text (stmt ∷ stmts) indent = indent ++ codes "} else {\n" ++ statement_lines (stmt ∷ stmts) (deeper indent)
 
--- from its first word to its last sign
+-- from its first word to its last symbol
 abbrev pub stmt_step : StmtNode-F Indented → Indented
 stmt_step (Let name expr) indent = codes "let " ++ name.name ++ codes " = " ++ expr_text expr ++ codes ";"
 stmt_step (Read name table key column default) indent =
@@ -109,7 +109,7 @@ stmt_step (If test first second) indent =
 abbrev pub stmt_text : StmtNode → Indented
 stmt_text = fold-StmtNode Indented stmt_step
 
--- the lines of statements behind this indent
+-- the lines of statements after this indent
 abbrev pub stmts_text : List ℕ → List StmtNode → List ℕ
 stmts_text indent stmts = statement_lines (map stmt_text stmts) indent
 

@@ -1,4 +1,4 @@
--- A tree without the places of its nodes: what is left of it in its canonical text.
+-- A tree without the offsets of its nodes: what is left of it in its canonical text.
 use Rattle.std.specs.Prelude.{◌≡◌, ℕ, List, map}
 use Rattle.pac_syntax.specs.declared.tree.NameNode.{NameNode}
 use Rattle.pac_syntax.specs.declared.tree.LiteralNode.{LiteralNode}
@@ -16,7 +16,7 @@ use Rattle.pac_syntax.specs.declared.tree.ProcNode.{ProcNode}
 use Rattle.pac_syntax.specs.declared.tree.Tree.{Tree}
 use Rattle.pac_syntax.specs.Reading.{Reads}
 
--- each place is 0
+-- each offset is 0
 abbrev pub unplaced_name : NameNode → NameNode
 unplaced_name name = record { at = 0; name = name.name }
 
@@ -55,9 +55,9 @@ unplaced_table table = record { name = unplaced_name table.name; key = table.key
 abbrev pub unplaced_proc : ProcNode → ProcNode
 unplaced_proc proc = record { name = unplaced_name proc.name; params = map unplaced_column proc.params; body = map unplaced_stmt proc.body }
 
-abbrev pub without_places : Tree → Tree
-without_places tree = record { tables = map unplaced_table tree.tables; procs = map unplaced_proc tree.procs }
+abbrev pub without_offsets : Tree → Tree
+without_offsets tree = record { tables = map unplaced_table tree.tables; procs = map unplaced_proc tree.procs }
 
--- the text reads as a tree that is the same but for places
-abbrev pub ReadsButForPlaces : List ℕ → Tree → Type 0
-ReadsButForPlaces text tree = (again : Tree) × Reads text again × (without_places again ≡ without_places tree)
+-- the text reads as a tree that is the same but for offsets
+abbrev pub ReadsButForOffsets : List ℕ → Tree → Type 0
+ReadsButForOffsets text tree = (again : Tree) × Reads text again × (without_offsets again ≡ without_offsets tree)

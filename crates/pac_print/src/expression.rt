@@ -1,23 +1,23 @@
 // Writes expressions.
 ghost use Rattle.std.specs.Prelude.{◌≡◌, OnOk};
 ghost use Rattle.pac_value.specs.Growth.{Grew};
-ghost use Rattle.pac_syntax.specs.Grammar.{tier, left_level};
+ghost use Rattle.pac_syntax.specs.Grammar.{precedence, left_level};
 ghost use Rattle.pac_print.specs.Canonical.{spelled, operand_text, expr_text, further_text, exprs_text};
 
 use pac_base::NoMemory;
-use pac_syntax::{COMPARISONS, ExprNode, sign_of, tier_of};
+use pac_syntax::{COMPARISONS, ExprNode, operator_symbol, precedence_of};
 use pac_value::{BinOp, push_value};
 
 // The level of what has no operator at its top.
 const UNARY: u8 = 0;
 
 // The loosest level of a left operand. Comparisons do not follow one another.
-fn loosest_left(op: BinOp) -> u8
-    ensures { result ≡ left_level (tier op) }
+fn least_left_precedence(op: BinOp) -> u8
+    ensures { result ≡ left_level (precedence op) }
 {
-    match tier_of(op) {
+    match precedence_of(op) {
         COMPARISONS => COMPARISONS,
-        tier => tier + 1,
+        precedence => precedence + 1,
     }
 }
 
@@ -26,7 +26,7 @@ fn level_of(expr: &ExprNode) -> u8
 {
     match expr {
         ExprNode::Literal(_) | ExprNode::Name(_) | ExprNode::Not { .. } => UNARY,
-        ExprNode::Binary { op, .. } => tier_of(*op) + 1,
+        ExprNode::Binary { op, .. } => precedence_of(*op) + 1,
     }
 }
 
@@ -43,12 +43,12 @@ pub(crate) fn push_expr(out: &mut Vec<u8>, expr: &ExprNode) -> Result<(), NoMemo
             right,
             ..
         } => {
-            push_operand(out, left.get(), loosest_left(*op))?;
+            push_operand(out, left.get(), least_left_precedence(*op))?;
             out.extend_from_slice(b" ")?;
-            out.extend_from_slice(sign_of(*op).spelling())?;
+            out.extend_from_slice(operator_symbol(*op).spelling())?;
             out.extend_from_slice(b" ")?;
             // Operators group from the left.
-            push_operand(out, right.get(), tier_of(*op))
+            push_operand(out, right.get(), precedence_of(*op))
         }
         ExprNode::Not { operand, .. } => {
             out.extend_from_slice(b"!")?;

@@ -51,7 +51,7 @@ pub(crate) fn deeper(alloc: Global, indent: &[u8]) -> Result<Vec<u8>, NoMemory>
     Ok(inner)
 }
 
-// A statement from its first word to its last sign. Its further lines stand behind the indent.
+// A statement from its first word to its last symbol. Its further lines stand after the indent.
 #[cycle(statement)]
 fn push_stmt(
     alloc: Global,
@@ -158,7 +158,7 @@ fn push_else(
     push_stmts(alloc, out, inner, stmts)
 }
 
-/// Statements, each on a line behind the indent.
+/// Statements, each on a line after the indent.
 #[cycle(statement)]
 pub(crate) fn push_stmts(
     alloc: Global,

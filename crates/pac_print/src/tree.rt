@@ -2,8 +2,8 @@
 ghost use Rattle.std.specs.Prelude.{◌≡◌, ◌≤◌, length, flat_map, OnOk, IfOk};
 ghost use Rattle.pac_value.specs.Growth.{Grew};
 ghost use Rattle.pac_print.specs.Canonical.{type_text, column_text, further_column_text, params_text, table_text, proc_text, canonical};
-ghost use Rattle.pac_print.specs.Unplaced.{without_places};
-ghost use Rattle.pac_print.specs.Unplaced.{ReadsButForPlaces};
+ghost use Rattle.pac_print.specs.Unplaced.{without_offsets};
+ghost use Rattle.pac_print.specs.Unplaced.{ReadsButForOffsets};
 ghost use Rattle.pac_syntax.specs.Reading.{Reads, IsTree};
 ghost use Rattle.pac_syntax.specs.declared.tree.Tree.{Tree as ATree};
 
@@ -80,7 +80,7 @@ fn push_proc(alloc: Global, out: &mut Vec<u8>, proc: &ProcNode) -> Result<(), No
     Ok(())
 }
 
-/// The canonical text of a tree, which the places of its nodes are no part of. The text of a tree that was read reads as
+/// The canonical text of a tree, which the offsets of its nodes are no part of. The text of a tree that was read reads as
 /// that tree again, where it has at most 65,536 bytes. Linear in the text.
 ///
 /// # Errors
@@ -88,9 +88,9 @@ fn push_proc(alloc: Global, out: &mut Vec<u8>, proc: &ProcNode) -> Result<(), No
 /// `NoMemory` alone.
 pub fn print(alloc: Global, tree: &Tree) -> Result<Vec<u8>, NoMemory>
     ensures text { IfOk result (λ text. text.items ≡ canonical tree.now) }
-    ensures reads { IsTree tree.now → IfOk result (λ text. length text.items ≤ MAX_CATALOGUE → ReadsButForPlaces text.items tree.now) }
+    ensures reads { IsTree tree.now → IfOk result (λ text. length text.items ≤ MAX_CATALOGUE → ReadsButForOffsets text.items tree.now) }
     ensures again { (other : ATree) → IsTree tree.now → IfOk result (λ text. Reads text.items other → text.items ≡ canonical other) }
-    ensures places { (other : ATree) → without_places other ≡ without_places tree.now → IfOk result (λ text. text.items ≡ canonical other) }
+    ensures offsets { (other : ATree) → without_offsets other ≡ without_offsets tree.now → IfOk result (λ text. text.items ≡ canonical other) }
 {
     let mut out = Vec::new(alloc);
     for table in tree.tables.as_slice() {

@@ -1,15 +1,15 @@
--- What an error that was handed on tells of its cause.
+-- What an error that was handed on says of its cause.
 use Rattle.std.proofs.Common.{◌≡◌, ◌∙◌, Result, Ok, Err, Option, Some, sym, ap, subst}
 use Rattle.std.specs.Prelude.{IfSome, IsErrOf}
 
 -- the error of an answer is the one that it is said to be
 pub the-error : {T E : Type 0} (result : Result T E) (error said : E) → result ≡ Err error → IsErrOf result said → error ≡ said
-the-error (Ok x) error said is told = absurd cc
-the-error (Err other) error said is told = cc
+the-error (Ok x) error said is known = absurd cc
+the-error (Err other) error said is known = cc
 
 -- the same of an error that was handed on as it was
 pub the-cause : {T E : Type 0} (result : Result T E) (error cause said : E) → result ≡ Err error → error ≡ cause → IsErrOf result said → cause ≡ said
-the-cause result error cause said is from told = sym from ∙ the-error result error said is told
+the-cause result error cause said is from known = sym from ∙ the-error result error said is known
 
 -- an answer with this error is one with the error that it is
 pub as-error : {T E : Type 0} (cause said : E) → cause ≡ said → IsErrOf {T = T} (Err cause) said

@@ -1,33 +1,33 @@
--- The gates of a log: where they are, and what stands in front of them.
+-- The gates of a log: where they are, and what stands before them.
 use Rattle.std.proofs.Common.{◌≡◌, ◌∙◌, ℕ, zero, suc, ◌≤◌, ◌+◌, List, [], ◌∷◌, ◌++◌, length, take, drop, Option, Some, refl, sym, ap, ap₂, subst, arith, append_assoc}
 use Rattle.std.specs.Prelude.{slice_get}
 use Rattle.std.proofs.lemmas.List.{append-nil, length-append, length-map, map-append, take-append-drop, drop_at}
 use Rattle.pac_ops.specs.declared.batch.Batch.{Batch}
 use Rattle.pac_ops.specs.declared.transaction.Txn.{Txn}
 use Rattle.pac_log.specs.Bodies.{body_bytes}
-use Rattle.pac_log.specs.Logs.{log_front, all_txns}
-use Rattle.pac_log.proofs.LogLemmas.{front_pushed, all_txns-append}
+use Rattle.pac_log.specs.Logs.{log_prefix, all_txns}
+use Rattle.pac_log.proofs.LogLemmas.{prefix_pushed, all_txns-append}
 use Rattle.pac_check.specs.declared.head.Head.{Head}
 use Rattle.pac_recover.specs.declared.gates.GatePlace.{GatePlace}
 use Rattle.pac_recover.specs.Damages.{IsAmongGates, IsAtGate}
-use Rattle.pac_recover.specs.Gates.{gate_behind_txns, gate_after, gates_from, last_gate, txns_in, txns_by_batch, RunOn}
+use Rattle.pac_recover.specs.Gates.{gate_after_txns, gate_after, gates_from, last_gate, txns_in, txns_by_batch, RunOn}
 
 -- ---- one batch more
 
-pub gates-push : (g : GatePlace) (bs : List (List Txn)) (t : List Txn) → gates_from g (bs ++ t ∷ []) ≡ gates_from g bs ++ gate_behind_txns (last_gate g bs) t ∷ []
+pub gates-push : (g : GatePlace) (bs : List (List Txn)) (t : List Txn) → gates_from g (bs ++ t ∷ []) ≡ gates_from g bs ++ gate_after_txns (last_gate g bs) t ∷ []
 gates-push g [] t = refl
-gates-push g (b ∷ bs) t = ap (λ (l : List GatePlace). g ∷ l) (gates-push (gate_behind_txns g b) bs t)
+gates-push g (b ∷ bs) t = ap (λ (l : List GatePlace). g ∷ l) (gates-push (gate_after_txns g b) bs t)
 
-pub last-push : (g : GatePlace) (bs : List (List Txn)) (t : List Txn) → last_gate g (bs ++ t ∷ []) ≡ gate_behind_txns (last_gate g bs) t
+pub last-push : (g : GatePlace) (bs : List (List Txn)) (t : List Txn) → last_gate g (bs ++ t ∷ []) ≡ gate_after_txns (last_gate g bs) t
 last-push g [] t = refl
-last-push g (b ∷ bs) t = last-push (gate_behind_txns g b) bs t
+last-push g (b ∷ bs) t = last-push (gate_after_txns g b) bs t
 
 pub txns-push : (bs : List Batch) (b : Batch) → txns_by_batch (bs ++ b ∷ []) ≡ txns_by_batch bs ++ b.txns ∷ []
 txns-push bs b = map-append (λ (x : Batch). x.txns) bs (b ∷ [])
 
 pub last-number : (g : GatePlace) (bs : List (List Txn)) → (last_gate g bs).txns ≡ g.txns + length (all_txns bs)
 last-number g [] = omega arith
-last-number g (t ∷ bs) = omega (arith, last-number (gate_behind_txns g t) bs, length-append t (all_txns bs))
+last-number g (t ∷ bs) = omega (arith, last-number (gate_after_txns g t) bs, length-append t (all_txns bs))
 
 pub run-push : (n : ℕ) (bs : List Batch) (b : Batch) → RunOn n bs → b.first ≡ n + length (txns_in bs) + 1 → RunOn n (bs ++ b ∷ [])
 run-push n [] b runs first = (omega (arith, first), tt)
@@ -42,12 +42,12 @@ pub gate-at : (g : GatePlace) (bs : List (List Txn)) (i : ℕ) (gate : GatePlace
 gate-at g [] zero gate e = (omega arith, sym (some-same g gate e))
 gate-at g [] (suc i) gate e = absurd cc
 gate-at g (t ∷ bs) zero gate e = (omega arith, sym (some-same g gate e))
-gate-at g (t ∷ bs) (suc i) gate e = let rest = gate-at (gate_behind_txns g t) bs i gate e in (omega (arith, rest.0), rest.1)
+gate-at g (t ∷ bs) (suc i) gate e = let rest = gate-at (gate_after_txns g t) bs i gate e in (omega (arith, rest.0), rest.1)
 
 pub gate-there : (g : GatePlace) (before after : List (List Txn)) → slice_get (gates_from g (before ++ after)) (length before) ≡ Some (last_gate g before)
 gate-there g [] [] = refl
 gate-there g [] (t ∷ after) = refl
-gate-there g (t ∷ before) after = gate-there (gate_behind_txns g t) before after
+gate-there g (t ∷ before) after = gate-there (gate_after_txns g t) before after
 
 -- ---- the gates of a log
 
@@ -57,20 +57,20 @@ same-gate p q n m e f = ap₂ the_gate e f
     the_gate : ℕ → ℕ → GatePlace
     the_gate x y = record { place = x; txns = y }
 
-behind-after : (text : List ℕ) (before : List (List Txn)) (t : List Txn) → gate_behind_txns (gate_after text before) t ≡ gate_after text (before ++ t ∷ [])
-behind-after text before t =
-    let lens : length (log_front text (before ++ t ∷ [])) ≡ length (log_front text before ++ (1 ∷ (body_bytes t ++ [])))
-    = ap (λ (l : List ℕ). length l) (sym (append-nil (log_front text (before ++ t ∷ []))) ∙ front_pushed text before t []) in
+after-after : (text : List ℕ) (before : List (List Txn)) (t : List Txn) → gate_after_txns (gate_after text before) t ≡ gate_after text (before ++ t ∷ [])
+after-after text before t =
+    let lens : length (log_prefix text (before ++ t ∷ [])) ≡ length (log_prefix text before ++ (1 ∷ (body_bytes t ++ [])))
+    = ap (λ (l : List ℕ). length l) (sym (append-nil (log_prefix text (before ++ t ∷ []))) ∙ prefix_pushed text before t []) in
     let counted : length (all_txns (before ++ t ∷ [])) ≡ length (all_txns before) + length t
     = omega (arith, ap (λ (l : List Txn). length l) (all_txns-append before (t ∷ [])), length-append (all_txns before) (t ++ []), length-append t []) in
     same-gate _ _ _ _
-    (omega (arith, lens, length-append (log_front text before) (1 ∷ (body_bytes t ++ [])), length-append (body_bytes t) []))
+    (omega (arith, lens, length-append (log_prefix text before) (1 ∷ (body_bytes t ++ [])), length-append (body_bytes t) []))
     (sym counted)
 
 pub last-after : (text : List ℕ) (before bs : List (List Txn)) → last_gate (gate_after text before) bs ≡ gate_after text (before ++ bs)
 last-after text before [] = ap (λ (l : List (List Txn)). gate_after text l) (sym (append-nil before))
 last-after text before (t ∷ bs) =
-    ap (λ (g : GatePlace). last_gate g bs) (behind-after text before t) ∙ last-after text (before ++ t ∷ []) bs
+    ap (λ (g : GatePlace). last_gate g bs) (after-after text before t) ∙ last-after text (before ++ t ∷ []) bs
     ∙ ap (λ (l : List (List Txn)). gate_after text l) (append_assoc before (t ∷ []) bs)
 
 -- a gate among those of a log is one of it, and the other way round
@@ -97,20 +97,20 @@ gate-among text bs head is = (
     the_some : GatePlace → Option GatePlace
     the_some g = Some g
 
--- ---- the batches behind a gate
+-- ---- the batches after a gate
 
-pub runs-behind : (n i : ℕ) (bs : List Batch) → RunOn n bs → i ≤ length bs → RunOn (n + length (txns_in (take i bs))) (drop i bs)
-runs-behind n zero bs runs le = subst (λ (k : ℕ). RunOn k bs) (omega arith) runs
-runs-behind n (suc i) [] runs le = absurd (omega (arith, le))
-runs-behind n (suc i) (b ∷ bs) runs le =
-    subst (λ (k : ℕ). RunOn k (drop i bs)) (omega (arith, length-append b.txns (txns_in (take i bs)))) (runs-behind (n + length b.txns) i bs runs.1 (omega (arith, le)))
+pub runs-after : (n i : ℕ) (bs : List Batch) → RunOn n bs → i ≤ length bs → RunOn (n + length (txns_in (take i bs))) (drop i bs)
+runs-after n zero bs runs le = subst (λ (k : ℕ). RunOn k bs) (omega arith) runs
+runs-after n (suc i) [] runs le = absurd (omega (arith, le))
+runs-after n (suc i) (b ∷ bs) runs le =
+    subst (λ (k : ℕ). RunOn k (drop i bs)) (omega (arith, length-append b.txns (txns_in (take i bs)))) (runs-after (n + length b.txns) i bs runs.1 (omega (arith, le)))
 
 txns-take : (i : ℕ) (bs : List Batch) → txns_by_batch (take i bs) ≡ take i (txns_by_batch bs)
 txns-take zero bs = refl
 txns-take (suc i) [] = refl
 txns-take (suc i) (b ∷ bs) = ap (λ (l : List (List Txn)). b.txns ∷ l) (txns-take i bs)
 
--- the transactions in front of a gate, by its number
+-- the transactions before a gate, by its number
 pub number-at : (n i : ℕ) (start : ℕ) (bs : List Batch) (gate : GatePlace) → slice_get (gates_from (record { place = start; txns = n }) (txns_by_batch bs)) i ≡ Some gate
     → (i ≤ length bs) × (gate.txns ≡ n + length (txns_in (take i bs)))
 number-at n i start bs gate e =
@@ -125,5 +125,5 @@ txns-split i bs =
     ∙ ap (λ (l : List (List Txn)). all_txns l) (map-append (λ (b : Batch). b.txns) (take i bs) (drop i bs))
     ∙ all_txns-append (txns_by_batch (take i bs)) (txns_by_batch (drop i bs))
 
-pub txns-behind : (i : ℕ) (bs : List Batch) → txns_in (drop i bs) ≡ drop (length (txns_in (take i bs))) (txns_in bs)
-txns-behind i bs = sym (ap (λ (l : List Txn). drop (length (txns_in (take i bs))) l) (txns-split i bs) ∙ drop_at (txns_in (take i bs)) (txns_in (drop i bs)) (length (txns_in (take i bs))) refl)
+pub txns-after : (i : ℕ) (bs : List Batch) → txns_in (drop i bs) ≡ drop (length (txns_in (take i bs))) (txns_in bs)
+txns-after i bs = sym (ap (λ (l : List Txn). drop (length (txns_in (take i bs))) l) (txns-split i bs) ∙ drop_at (txns_in (take i bs)) (txns_in (drop i bs)) (length (txns_in (take i bs))) refl)

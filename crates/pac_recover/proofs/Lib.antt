@@ -6,4 +6,4 @@ pub mod SlotLemmas
 pub mod LoadLemmas
 pub mod RecoverLemmas
 pub mod StandsLemmas
-pub mod TellLemmas
+pub mod ReportLemmas

@@ -5,13 +5,13 @@ use Rattle.std.specs.List.{AllByRecursion}
 use Rattle.std.proofs.lemmas.List.{length-append}
 use Rattle.pac_ops.specs.declared.batch.Batch.{Batch}
 use Rattle.pac_ops.specs.declared.transaction.Txn.{Txn}
-use Rattle.pac_outside.specs.Disk.{DiskHistory, WhereTold}
+use Rattle.pac_outside.specs.Disk.{DiskHistory, IfKnown}
 use Rattle.pac_types.specs.Fits.{TxnFits}
 use Rattle.pac_types.specs.Typing.{CatalogueState}
 use Rattle.pac_log.specs.declared.position.NextGate.{NextGate}
 use Rattle.pac_log.specs.Logs.{HoldsLog}
-use Rattle.pac_log.specs.Places.{IsBehind}
-use Rattle.pac_log.specs.Reading.{IsStore, StandsBehind}
+use Rattle.pac_log.specs.Places.{IsAfter}
+use Rattle.pac_log.specs.Reading.{IsStore, StandsAfter}
 use Rattle.pac_check.specs.declared.damage.SlotDamageKind.{SlotDamageKind}
 use Rattle.pac_check.specs.declared.head.Head.{Head}
 use Rattle.pac_check.specs.declared.info.SlotInfo.{SlotInfo}
@@ -20,7 +20,7 @@ use Rattle.pac_check.specs.declared.info.SlotName.TheVariants.{A, B}
 use Rattle.pac_check.specs.declared.state.SlotState.{SlotState}
 use Rattle.pac_check.specs.declared.state.SlotState.TheVariants.{Empty, Closed, Open}
 use Rattle.pac_check.specs.SlotStates.{info_of, newest_of, saved_txns, with_more, IsSlot}
-use Rattle.pac_store.specs.Images.{Images, WhereRead}
+use Rattle.pac_store.specs.Images.{Images, IfReadKnown}
 use Rattle.pac_store.specs.Stored.{AreNewest, IsStored}
 use Rattle.pac_store.proofs.StandsLemmas.{newest-one}
 use Rattle.pac_recover.specs.declared.gates.GatePlace.{GatePlace}
@@ -30,7 +30,7 @@ use Rattle.pac_recover.specs.Damages.{IsAmongGates, IsAtGate, IsDamagedSlot, IsS
 use Rattle.pac_recover.specs.Gates.{gate_after, gates_from, last_gate, place_of, txns_in, txns_by_batch, RunOn}
 use Rattle.pac_recover.specs.Loading.{AreNewestOf, IsInfoAmong, IsLoadedFrom, IsPlaced, stored_of}
 use Rattle.pac_recover.specs.Logs.{FitBatches, HoldsBatches, HoldsLogUpTo, HoldsWhole, IsReadUpTo, IsWhole, ReadsTo}
-use Rattle.pac_recover.proofs.GateLemmas.{among-gate, gate-among, last-number, number-at, runs-behind, txns-behind, txns-split}
+use Rattle.pac_recover.proofs.GateLemmas.{among-gate, gate-among, last-number, number-at, runs-after, txns-after, txns-split}
 
 -- ---- the log
 
@@ -50,16 +50,16 @@ whole log first none end read =
     the_gate n = record { place = first.place; txns = n }
 
 abbrev pub IsAttached : NextGate → List ℕ → Type 0
-IsAttached first image = (text : List ℕ) × IsStore text first.catalogue image × StandsBehind text [] first image
+IsAttached first image = (text : List ℕ) × IsStore text first.catalogue image × StandsAfter text [] first image
 
-pub holds-whole : (log : WholeLog) (first : NextGate) (told : Option DiskHistory) → IsReadUpTo first log.reader.gate log.batches.items log.gates.items
-    → WhereTold (λ h. IsAttached first h.now.seen) told → ((text : List ℕ) → WhereTold (λ h. ReadsTo text first log.reader.gate log.batches.items h.now.seen) told)
-    → WhereTold (λ h. HoldsWhole log h.now.seen) told
+pub holds-whole : (log : WholeLog) (first : NextGate) (known : Option DiskHistory) → IsReadUpTo first log.reader.gate log.batches.items log.gates.items
+    → IfKnown (λ h. IsAttached first h.now.seen) known → ((text : List ℕ) → IfKnown (λ h. ReadsTo text first log.reader.gate log.batches.items h.now.seen) known)
+    → IfKnown (λ h. HoldsWhole log h.now.seen) known
 holds-whole log first None read attached reads = tt
 holds-whole log first (Some h) read attached reads =
     let text = attached.0 in
     let there = reads text attached.2 in
-    let start : place_of first ≡ gate_after text [] = ap₂ the_gate attached.2.behind.place attached.2.behind.txns in
+    let start : place_of first ≡ gate_after text [] = ap₂ the_gate attached.2.after.place attached.2.after.txns in
     record {
       text = text;
       holds = subst (λ (c : CatalogueState). HoldsBatches text c log.batches.items log.reader.gate h.now.seen) (sym read.catalogue) there;
@@ -69,18 +69,18 @@ holds-whole log first (Some h) read attached reads =
     the_gate : ℕ → ℕ → GatePlace
     the_gate p n = record { place = p; txns = n }
 
--- ---- the batches behind the newest slot
+-- ---- the batches after the newest slot
 
--- so many batches stand in front of the newest slot's gate, and its number is that of their transactions
-pub record IsFront (batches : List Batch) (newest : Option SlotInfo) (count : ℕ) : Type 0 where
+-- that many batches stand before the newest slot's gate, and its number is that of their transactions
+pub record IsPrefix (batches : List Batch) (newest : Option SlotInfo) (count : ℕ) : Type 0 where
   pub within : count ≤ length batches
   pub number : saved_txns newest ≡ length (txns_in (take count batches))
 
-pub front-of : (start : ℕ) (batches : List Batch) (gates : List GatePlace) (newest : Option SlotInfo) (count : ℕ) → gates ≡ gates_from (record { place = start; txns = 0 }) (txns_by_batch batches)
-    → (newest ≡ None → count ≡ 0) → ((info : SlotInfo) → newest ≡ Some info → slice_get gates count ≡ Some (record { place = info.place; txns = info.txns })) → IsFront batches newest count
-front-of start batches gates None count are none there =
-    subst (λ (n : ℕ). IsFront batches None n) (sym (none refl)) (record { within = omega arith; number = refl })
-front-of start batches gates (Some info) count are none there =
+pub prefix-of : (start : ℕ) (batches : List Batch) (gates : List GatePlace) (newest : Option SlotInfo) (count : ℕ) → gates ≡ gates_from (record { place = start; txns = 0 }) (txns_by_batch batches)
+    → (newest ≡ None → count ≡ 0) → ((info : SlotInfo) → newest ≡ Some info → slice_get gates count ≡ Some (record { place = info.place; txns = info.txns })) → IsPrefix batches newest count
+prefix-of start batches gates None count are none there =
+    subst (λ (n : ℕ). IsPrefix batches None n) (sym (none refl)) (record { within = omega arith; number = refl })
+prefix-of start batches gates (Some info) count are none there =
     let found = number-at 0 count start batches (record { place = info.place; txns = info.txns }) (ap (λ (l : List GatePlace). slice_get l count) (sym are) ∙ there info refl) in
     record { within = found.0; number = omega (arith, found.1) }
 
@@ -140,12 +140,12 @@ damaged-beside log images slot at kind holds damage = record {
       },
     )
 
-module _ (log : WholeLog) (loaded : Loaded) (count : ℕ) (is : IsWhole log) (front : IsFront log.batches.items (newest_of loaded.slots) count)
+module _ (log : WholeLog) (loaded : Loaded) (count : ℕ) (is : IsWhole log) (prefix : IsPrefix log.batches.items (newest_of loaded.slots) count)
     (same : loaded.catalogue ≡ log.reader.gate.catalogue) (batches : loaded.batches ≡ drop count log.batches.items) (number : loaded.txns ≡ saved_txns (newest_of loaded.slots)) (reader : loaded.reader ≡ log.reader) where
   pub runs-loaded : RunOn loaded.txns loaded.batches
   runs-loaded =
-      let at : 0 + length (txns_in (take count log.batches.items)) ≡ loaded.txns = omega (arith, number, front.number) in
-      subst (λ (l : List Batch). RunOn loaded.txns l) (sym batches) (subst (λ (n : ℕ). RunOn n (drop count log.batches.items)) at (runs-behind 0 count log.batches.items is.runs front.within))
+      let at : 0 + length (txns_in (take count log.batches.items)) ≡ loaded.txns = omega (arith, number, prefix.number) in
+      subst (λ (l : List Batch). RunOn loaded.txns l) (sym batches) (subst (λ (n : ℕ). RunOn n (drop count log.batches.items)) at (runs-after 0 count log.batches.items is.runs prefix.within))
 
   pub fit-loaded : FitBatches loaded.catalogue loaded.batches
   fit-loaded =
@@ -165,12 +165,12 @@ module _ (log : WholeLog) (loaded : Loaded) (count : ℕ) (is : IsWhole log) (fr
         ap (λ (l : List Txn). length l) (txns-split count log.batches.items),
         length-append (txns_in (take count log.batches.items)) (txns_in (drop count log.batches.items)),
         number,
-        front.number,
+        prefix.number,
         ap (λ (l : List Batch). length (txns_in l)) batches,
       )
 
-  pub behind-loaded : txns_in loaded.batches ≡ drop loaded.txns (txns_in log.batches.items)
-  behind-loaded = ap txns_in batches ∙ txns-behind count log.batches.items ∙ ap (λ (n : ℕ). drop n (txns_in log.batches.items)) (sym (number ∙ front.number))
+  pub after-loaded : txns_in loaded.batches ≡ drop loaded.txns (txns_in log.batches.items)
+  after-loaded = ap txns_in batches ∙ txns-after count log.batches.items ∙ ap (λ (n : ℕ). drop n (txns_in log.batches.items)) (sym (number ∙ prefix.number))
 
   -- on these images, where the slots are in these states
   pub from-images : (images : Images) → IsInfoAmong log.gates.items (info_of A loaded.slots.a) → IsInfoAmong log.gates.items (info_of B loaded.slots.b) → HoldsWhole log images.log
@@ -179,29 +179,29 @@ module _ (log : WholeLog) (loaded : Loaded) (count : ℕ) (is : IsWhole log) (fr
     text = holds.text;
     batches = txns_by_batch log.batches.items;
     log = subst (λ (c : CatalogueState). HoldsLog holds.text c (txns_by_batch log.batches.items) images.log) (sym same) holds.holds.log;
-    end = subst (λ (g : NextGate). IsBehind holds.text (txns_by_batch log.batches.items) g) (ap (λ r. r.gate) (sym reader)) holds.holds.end;
+    end = subst (λ (g : NextGate). IsAfter holds.text (txns_by_batch log.batches.items) g) (ap (λ r. r.gate) (sym reader)) holds.holds.end;
     is_a = is_a;
     is_b = is_b;
     place_a = placed holds.text (txns_by_batch log.batches.items) log.gates.items A loaded.slots.a holds.gates at_a;
     place_b = placed holds.text (txns_by_batch log.batches.items) log.gates.items B loaded.slots.b holds.gates at_b;
     newest = subst (λ (n : ℕ). AreNewest loaded.catalogue images.slot_a images.slot_b (newest_of loaded.slots) loaded.tables.rows n) (sym number) newest;
-    behind = behind-loaded;
+    after = after-loaded;
   }
 
--- ---- over what the devices tell
+-- ---- over what is known of the devices
 
-pub told-together : (P Q R : List ℕ → Type 0) (S : List ℕ → List ℕ → Type 0) (T : Images → Type 0) → ((images : Images) → P images.log → Q images.slot_a → R images.slot_b → S images.slot_a images.slot_b → T images)
-    → (log a b : Option DiskHistory) → WhereTold (λ h. P h.now.seen) log → WhereTold (λ h. Q h.now.seen) a → WhereTold (λ h. R h.now.seen) b → WhereTold (λ x. WhereTold (λ y. S x.now.seen y.now.seen) b) a → WhereRead T log a b
-told-together P Q R S T join None a b p q r s = tt
-told-together P Q R S T join (Some l) None b p q r s = tt
-told-together P Q R S T join (Some l) (Some x) None p q r s = tt
-told-together P Q R S T join (Some l) (Some x) (Some y) p q r s = join (record { log = l.now.seen; slot_a = x.now.seen; slot_b = y.now.seen }) p q r s
+pub known-together : (P Q R : List ℕ → Type 0) (S : List ℕ → List ℕ → Type 0) (T : Images → Type 0) → ((images : Images) → P images.log → Q images.slot_a → R images.slot_b → S images.slot_a images.slot_b → T images)
+    → (log a b : Option DiskHistory) → IfKnown (λ h. P h.now.seen) log → IfKnown (λ h. Q h.now.seen) a → IfKnown (λ h. R h.now.seen) b → IfKnown (λ x. IfKnown (λ y. S x.now.seen y.now.seen) b) a → IfReadKnown T log a b
+known-together P Q R S T join None a b p q r s = tt
+known-together P Q R S T join (Some l) None b p q r s = tt
+known-together P Q R S T join (Some l) (Some x) None p q r s = tt
+known-together P Q R S T join (Some l) (Some x) (Some y) p q r s = join (record { log = l.now.seen; slot_a = x.now.seen; slot_b = y.now.seen }) p q r s
 
-pub told-weaker : (P Q : Images → Type 0) → ((images : Images) → P images → Q images) → (log a b : Option DiskHistory) → WhereRead P log a b → WhereRead Q log a b
-told-weaker P Q weaker None a b p = tt
-told-weaker P Q weaker (Some l) None b p = tt
-told-weaker P Q weaker (Some l) (Some x) None p = tt
-told-weaker P Q weaker (Some l) (Some x) (Some y) p = weaker (record { log = l.now.seen; slot_a = x.now.seen; slot_b = y.now.seen }) p
+pub known-weaker : (P Q : Images → Type 0) → ((images : Images) → P images → Q images) → (log a b : Option DiskHistory) → IfReadKnown P log a b → IfReadKnown Q log a b
+known-weaker P Q weaker None a b p = tt
+known-weaker P Q weaker (Some l) None b p = tt
+known-weaker P Q weaker (Some l) (Some x) None p = tt
+known-weaker P Q weaker (Some l) (Some x) (Some y) p = weaker (record { log = l.now.seen; slot_a = x.now.seen; slot_b = y.now.seen }) p
 
 -- what is loaded is stored
 pub loaded-stored : (loaded : Loaded) (images : Images) → IsLoadedFrom loaded images → IsStored images (stored_of loaded)
@@ -214,36 +214,36 @@ loaded-stored loaded images is = record {
   is_a = is.is_a;
   is_b = is.is_b;
   newest = is.newest;
-  behind = is.behind;
+  after = is.after;
 }
 
-pub told-beside : (P : List ℕ → Type 0) (S : List ℕ → List ℕ → Type 0) (T : Images → Type 0) → ((images : Images) → P images.log → S images.slot_a images.slot_b → T images)
-    → (log a b : Option DiskHistory) → WhereTold (λ h. P h.now.seen) log → WhereTold (λ x. WhereTold (λ y. S x.now.seen y.now.seen) b) a → WhereRead T log a b
-told-beside P S T join None a b p s = tt
-told-beside P S T join (Some l) None b p s = tt
-told-beside P S T join (Some l) (Some x) None p s = tt
-told-beside P S T join (Some l) (Some x) (Some y) p s = join (record { log = l.now.seen; slot_a = x.now.seen; slot_b = y.now.seen }) p s
+pub known-beside : (P : List ℕ → Type 0) (S : List ℕ → List ℕ → Type 0) (T : Images → Type 0) → ((images : Images) → P images.log → S images.slot_a images.slot_b → T images)
+    → (log a b : Option DiskHistory) → IfKnown (λ h. P h.now.seen) log → IfKnown (λ x. IfKnown (λ y. S x.now.seen y.now.seen) b) a → IfReadKnown T log a b
+known-beside P S T join None a b p s = tt
+known-beside P S T join (Some l) None b p s = tt
+known-beside P S T join (Some l) (Some x) None p s = tt
+known-beside P S T join (Some l) (Some x) (Some y) p s = join (record { log = l.now.seen; slot_a = x.now.seen; slot_b = y.now.seen }) p s
 
-pub told-never : (T : Images → Type 0) (log a b : Option DiskHistory) → WhereTold (λ x. WhereTold (λ y. ⊥) b) a → WhereRead T log a b
-told-never T None a b none = tt
-told-never T (Some l) None b none = tt
-told-never T (Some l) (Some x) None none = tt
-told-never T (Some l) (Some x) (Some y) none = absurd none
+pub known-never : (T : Images → Type 0) (log a b : Option DiskHistory) → IfKnown (λ x. IfKnown (λ y. ⊥) b) a → IfReadKnown T log a b
+known-never T None a b none = tt
+known-never T (Some l) None b none = tt
+known-never T (Some l) (Some x) None none = tt
+known-never T (Some l) (Some x) (Some y) none = absurd none
 
 -- the first damage of slots that were read beside a whole log
 pub first-damage : (log : WholeLog) (catalogue : CatalogueState) (gates : List GatePlace) (slot : SlotName) (at : ℕ) (kind : SlotDamageKind) → catalogue ≡ log.reader.gate.catalogue → gates ≡ log.gates.items → (l a b : Option DiskHistory)
-    → WhereTold (λ h. HoldsWhole log h.now.seen) l → WhereTold (λ x. WhereTold (λ y. IsSlotDamage (IsAmongGates gates) catalogue.tables slot at kind x.now.seen y.now.seen) b) a → WhereRead (IsDamagedSlot slot at kind) l a b
+    → IfKnown (λ h. HoldsWhole log h.now.seen) l → IfKnown (λ x. IfKnown (λ y. IsSlotDamage (IsAmongGates gates) catalogue.tables slot at kind x.now.seen y.now.seen) b) a → IfReadKnown (IsDamagedSlot slot at kind) l a b
 first-damage log catalogue gates slot at kind same are l a b holds damage =
-    told-beside (HoldsWhole log) (IsSlotDamage (IsAmongGates gates) catalogue.tables slot at kind) (IsDamagedSlot slot at kind)
+    known-beside (HoldsWhole log) (IsSlotDamage (IsAmongGates gates) catalogue.tables slot at kind) (IsDamagedSlot slot at kind)
     (λ images whole here. damaged-beside log images slot at kind whole
     (subst (λ (c : CatalogueState). IsSlotDamage (IsAmongGates log.gates.items) c.tables slot at kind images.slot_a images.slot_b) same
     (subst (λ (gs : List GatePlace). IsSlotDamage (IsAmongGates gs) catalogue.tables slot at kind images.slot_a images.slot_b) are here)))
     l a b holds damage
 
--- what is told of slots that were read meanwhile is told of them as they were
-pub moved-told : (S : List ℕ → List ℕ → Type 0) (a b x y : Option DiskHistory) → x ≡ a → y ≡ b → WhereTold (λ h. WhereTold (λ k. S h.now.seen k.now.seen) y) x → WhereTold (λ h. WhereTold (λ k. S h.now.seen k.now.seen) b) a
-moved-told S a b x y same_a same_b told =
-    subst (λ (t : Option DiskHistory). WhereTold (λ h. WhereTold (λ k. S h.now.seen k.now.seen) b) t) same_a (subst (λ (u : Option DiskHistory). WhereTold (λ h. WhereTold (λ k. S h.now.seen k.now.seen) u) x) same_b told)
+-- what is known of slots that were read meanwhile is known of them as they were
+pub moved-known : (S : List ℕ → List ℕ → Type 0) (a b x y : Option DiskHistory) → x ≡ a → y ≡ b → IfKnown (λ h. IfKnown (λ k. S h.now.seen k.now.seen) y) x → IfKnown (λ h. IfKnown (λ k. S h.now.seen k.now.seen) b) a
+moved-known S a b x y same_a same_b known =
+    subst (λ (t : Option DiskHistory). IfKnown (λ h. IfKnown (λ k. S h.now.seen k.now.seen) b) t) same_a (subst (λ (u : Option DiskHistory). IfKnown (λ h. IfKnown (λ k. S h.now.seen k.now.seen) u) x) same_b known)
 
 pub three-same : (l a b m x y : ℕ) → l ≡ m → a ≡ x → b ≡ y → l ∷ a ∷ b ∷ [] ≡ m ∷ x ∷ y ∷ []
 three-same l a b m x y e f g = cc
@@ -251,9 +251,9 @@ three-same l a b m x y e f g = cc
 -- ---- each device by itself
 
 -- the log of what was read is that of the reader that is loaded
-pub reader-told : (log : WholeLog) (loaded : Loaded) (told : Option DiskHistory) → loaded.reader ≡ log.reader → WhereTold (λ h. HoldsWhole log h.now.seen) told → WhereTold (λ h. HoldsLogUpTo loaded.reader.gate h.now.seen) told
-reader-told log loaded None same whole = tt
-reader-told log loaded (Some h) same whole =
+pub reader-known : (log : WholeLog) (loaded : Loaded) (known : Option DiskHistory) → loaded.reader ≡ log.reader → IfKnown (λ h. HoldsWhole log h.now.seen) known → IfKnown (λ h. HoldsLogUpTo loaded.reader.gate h.now.seen) known
+reader-known log loaded None same whole = tt
+reader-known log loaded (Some h) same whole =
     let holds = whole.holds in
     ap-gate (record { text = whole.text; batches = txns_by_batch log.batches.items; log = holds.log; end = holds.end })
   where
@@ -261,7 +261,7 @@ reader-told log loaded (Some h) same whole =
     ap-gate up = subst (λ g. HoldsLogUpTo g h.now.seen) (ap (λ r. r.gate) (sym same)) up
 
 -- the slot of what was read is the one that is loaded
-pub slot-told : (catalogue other : CatalogueState) (state same_state : SlotState) (told : Option DiskHistory) → other ≡ catalogue → same_state ≡ state → WhereTold (λ h. IsSlot catalogue.tables state h.now.seen) told → WhereTold (λ h. IsSlot other.tables same_state h.now.seen) told
-slot-told catalogue other state same_state None same equal is = tt
-slot-told catalogue other state same_state (Some h) same equal is =
+pub slot-known : (catalogue other : CatalogueState) (state same_state : SlotState) (known : Option DiskHistory) → other ≡ catalogue → same_state ≡ state → IfKnown (λ h. IsSlot catalogue.tables state h.now.seen) known → IfKnown (λ h. IsSlot other.tables same_state h.now.seen) known
+slot-known catalogue other state same_state None same equal is = tt
+slot-known catalogue other state same_state (Some h) same equal is =
     subst (λ (c : CatalogueState). IsSlot c.tables same_state h.now.seen) (sym same) (subst (λ (s : SlotState). IsSlot catalogue.tables s h.now.seen) (sym equal) is)

@@ -4,7 +4,7 @@ use Rattle.std.specs.List.{All, AllByRecursion}
 use Rattle.std.proofs.lemmas.List.Elements.{recursion_from_All}
 use Rattle.pac_ops.specs.declared.batch.Batch.{Batch}
 use Rattle.pac_ops.specs.declared.transaction.Txn.{Txn}
-use Rattle.pac_outside.specs.Disk.{DiskHistory, WhereTold}
+use Rattle.pac_outside.specs.Disk.{DiskHistory, IfKnown}
 use Rattle.pac_types.specs.Fits.{TxnFits}
 use Rattle.pac_types.specs.Typing.{CatalogueState}
 use Rattle.pac_log.specs.declared.damage.DamageKind.{DamageKind}
@@ -12,11 +12,11 @@ use Rattle.pac_log.specs.declared.errors.LogError.{LogError}
 use Rattle.pac_log.specs.declared.errors.LogError.TheVariants as error
 use Rattle.pac_log.specs.declared.position.NextGate.{NextGate}
 use Rattle.pac_log.specs.Logs.{HoldsLog}
-use Rattle.pac_log.specs.Places.{IsBehind}
-use Rattle.pac_log.specs.Reading.{IsNextBatch, IsStore, StandsBehind, TellsOfImage}
+use Rattle.pac_log.specs.Places.{IsAfter}
+use Rattle.pac_log.specs.Reading.{IsNextBatch, IsStore, StandsAfter, ReportsOfImage}
 use Rattle.pac_recover.specs.declared.gates.GatePlace.{GatePlace}
 use Rattle.pac_recover.specs.Damages.{IsDamagedLog}
-use Rattle.pac_recover.specs.Gates.{gate_behind_txns, gates_from, last_gate, place_of, txns_in, txns_by_batch}
+use Rattle.pac_recover.specs.Gates.{gate_after_txns, gates_from, last_gate, place_of, txns_in, txns_by_batch}
 use Rattle.pac_recover.specs.Logs.{IsReadUpTo, ReadsTo}
 use Rattle.pac_recover.proofs.GateLemmas.{gates-push, last-push, last-number, run-push, txns-push}
 
@@ -34,7 +34,7 @@ pub one-more-read : (old mid new : NextGate) (bs : List Batch) (gs : List GatePl
 one-more-read old mid new bs gs batch read next fits =
     let last : last_gate (place_of old) (txns_by_batch (bs ++ batch ∷ [])) ≡ place_of new
     = ap (λ (l : List (List Txn)). last_gate (place_of old) l) (txns-push bs batch) ∙ last-push (place_of old) (txns_by_batch bs) batch.txns
-    ∙ ap (λ (g : GatePlace). gate_behind_txns g batch.txns) read.last ∙ ap (λ (g : NextGate). place_of g) (sym next.gate) in
+    ∙ ap (λ (g : GatePlace). gate_after_txns g batch.txns) read.last ∙ ap (λ (g : NextGate). place_of g) (sym next.gate) in
     let number : mid.txns ≡ old.txns + length (txns_in bs) = sym (ap (λ (g : GatePlace). g.txns) read.last) ∙ last-number (place_of old) (txns_by_batch bs) in
     record {
       catalogue = ap (λ (g : NextGate). g.catalogue) next.gate ∙ read.catalogue;
@@ -42,7 +42,7 @@ one-more-read old mid new bs gs batch read next fits =
       fit = all-push (λ (b : Batch). AllByRecursion (TxnFits old.catalogue) b.txns) bs batch read.fit
           (subst (λ (c : CatalogueState). AllByRecursion (TxnFits c) batch.txns) read.catalogue (recursion_from_All (TxnFits mid.catalogue) batch.txns fits));
       are = ap (λ (l : List GatePlace). l ++ place_of new ∷ []) read.are
-          ∙ ap (λ (g : GatePlace). gates_from (place_of old) (txns_by_batch bs) ++ g ∷ []) (ap (λ (g : NextGate). place_of g) next.gate ∙ ap (λ (g : GatePlace). gate_behind_txns g batch.txns) (sym read.last))
+          ∙ ap (λ (g : GatePlace). gates_from (place_of old) (txns_by_batch bs) ++ g ∷ []) (ap (λ (g : NextGate). place_of g) next.gate ∙ ap (λ (g : GatePlace). gate_after_txns g batch.txns) (sym read.last))
           ∙ sym (gates-push (place_of old) (txns_by_batch bs) batch.txns)
           ∙ ap (λ (l : List (List Txn)). gates_from (place_of old) l) (sym (txns-push bs batch));
       last = last;
@@ -59,47 +59,47 @@ pushed-read old mid new gate bs more gs pushed batch place grown pushes placed s
 pub more-txns : (old new : NextGate) (batch : Batch) → IsNextBatch old new batch → old.txns + 1 ≤ new.txns
 more-txns old new batch next = omega (arith, ap (λ (g : NextGate). g.txns) next.gate, next.body.count.0)
 
--- ---- what is read where the device tells
+-- ---- what is read where the device's history is known
 
 -- the image holds what was read so far
-abbrev pub ReadsBehind : List ℕ → NextGate → NextGate → List Batch → List ℕ → Type 0
-ReadsBehind text old new batches image = StandsBehind text [] old image → StandsBehind text (txns_by_batch batches) new image
+abbrev pub ReadsAfter : List ℕ → NextGate → NextGate → List Batch → List ℕ → Type 0
+ReadsAfter text old new batches image = StandsAfter text [] old image → StandsAfter text (txns_by_batch batches) new image
 
-abbrev pub TellsNext : NextGate → NextGate → Result (Option Batch) LogError → Option DiskHistory → Type 0
-TellsNext old new result told = (text : List ℕ) (batches : List (List Txn)) → WhereTold (λ h. StandsBehind text batches old h.now.seen → TellsOfImage text batches old new h.now.seen result) told
+abbrev pub ReportsNext : NextGate → NextGate → Result (Option Batch) LogError → Option DiskHistory → Type 0
+ReportsNext old new result known = (text : List ℕ) (batches : List (List Txn)) → IfKnown (λ h. StandsAfter text batches old h.now.seen → ReportsOfImage text batches old new h.now.seen result) known
 
-pub reads-more : (text : List ℕ) (old mid new : NextGate) (bs : List Batch) (batch : Batch) (told : Option DiskHistory)
-    → WhereTold (λ h. ReadsBehind text old mid bs h.now.seen) told → TellsNext mid new (Ok (Some batch)) told → WhereTold (λ h. ReadsBehind text old new (bs ++ batch ∷ []) h.now.seen) told
-reads-more text old mid new bs batch None so_far tells = tt
-reads-more text old mid new bs batch (Some h) so_far tells = λ stands.
-    subst (λ (l : List (List Txn)). StandsBehind text l new h.now.seen) (sym (txns-push bs batch)) (tells text (txns_by_batch bs) (so_far stands))
+pub reads-more : (text : List ℕ) (old mid new : NextGate) (bs : List Batch) (batch : Batch) (known : Option DiskHistory)
+    → IfKnown (λ h. ReadsAfter text old mid bs h.now.seen) known → ReportsNext mid new (Ok (Some batch)) known → IfKnown (λ h. ReadsAfter text old new (bs ++ batch ∷ []) h.now.seen) known
+reads-more text old mid new bs batch None so_far knows = tt
+reads-more text old mid new bs batch (Some h) so_far knows = λ stands.
+    subst (λ (l : List (List Txn)). StandsAfter text l new h.now.seen) (sym (txns-push bs batch)) (knows text (txns_by_batch bs) (so_far stands))
 
-pub reads-all : (text : List ℕ) (old mid new : NextGate) (bs : List Batch) (told : Option DiskHistory) → mid.catalogue ≡ old.catalogue → new ≡ mid
-    → WhereTold (λ h. ReadsBehind text old mid bs h.now.seen) told → TellsNext mid new (Ok None) told → WhereTold (λ h. ReadsTo text old new bs h.now.seen) told
-reads-all text old mid new bs None same end so_far tells = tt
-reads-all text old mid new bs (Some h) same end so_far tells = λ stands. record {
-  log = subst (λ (c : CatalogueState). HoldsLog text c (txns_by_batch bs) h.now.seen) same (tells text (txns_by_batch bs) (so_far stands));
-  end = subst (λ (g : NextGate). IsBehind text (txns_by_batch bs) g) (sym end) (so_far stands).behind;
+pub reads-all : (text : List ℕ) (old mid new : NextGate) (bs : List Batch) (known : Option DiskHistory) → mid.catalogue ≡ old.catalogue → new ≡ mid
+    → IfKnown (λ h. ReadsAfter text old mid bs h.now.seen) known → ReportsNext mid new (Ok None) known → IfKnown (λ h. ReadsTo text old new bs h.now.seen) known
+reads-all text old mid new bs None same end so_far knows = tt
+reads-all text old mid new bs (Some h) same end so_far knows = λ stands. record {
+  log = subst (λ (c : CatalogueState). HoldsLog text c (txns_by_batch bs) h.now.seen) same (knows text (txns_by_batch bs) (so_far stands));
+  end = subst (λ (g : NextGate). IsAfter text (txns_by_batch bs) g) (sym end) (so_far stands).after;
 }
 
-pub reads-damage : (text : List ℕ) (old mid new : NextGate) (bs : List Batch) (at : ℕ) (kind : DamageKind) (told : Option DiskHistory)
-    → WhereTold (λ h. ReadsBehind text old mid bs h.now.seen) told → TellsNext mid new (Err (error.Damaged at kind)) told
-    → WhereTold (λ h. StandsBehind text [] old h.now.seen → IsDamagedLog at kind h.now.seen) told
-reads-damage text old mid new bs at kind None so_far tells = tt
-reads-damage text old mid new bs at kind (Some h) so_far tells = λ stands. record {
+pub reads-damage : (text : List ℕ) (old mid new : NextGate) (bs : List Batch) (at : ℕ) (kind : DamageKind) (known : Option DiskHistory)
+    → IfKnown (λ h. ReadsAfter text old mid bs h.now.seen) known → ReportsNext mid new (Err (error.Damaged at kind)) known
+    → IfKnown (λ h. StandsAfter text [] old h.now.seen → IsDamagedLog at kind h.now.seen) known
+reads-damage text old mid new bs at kind None so_far knows = tt
+reads-damage text old mid new bs at kind (Some h) so_far knows = λ stands. record {
   text = text;
   catalogue = mid.catalogue;
   batches = txns_by_batch bs;
-  damage = tells text (txns_by_batch bs) (so_far stands);
+  damage = knows text (txns_by_batch bs) (so_far stands);
 }
 
-pub reads-nothing : (text : List ℕ) (gate : NextGate) (told : Option DiskHistory) → WhereTold (λ h. ReadsBehind text gate gate [] h.now.seen) told
+pub reads-nothing : (text : List ℕ) (gate : NextGate) (known : Option DiskHistory) → IfKnown (λ h. ReadsAfter text gate gate [] h.now.seen) known
 reads-nothing text gate None = tt
 reads-nothing text gate (Some h) = λ stands. stands
 
--- damage behind a first gate is damage of the log that begins there
-pub damage-behind : (first : NextGate) (at : ℕ) (kind : DamageKind) (told now : Option DiskHistory) → now ≡ told → WhereTold (λ h. (text : List ℕ) × IsStore text first.catalogue h.now.seen × StandsBehind text [] first h.now.seen) told
-    → ((text : List ℕ) → WhereTold (λ h. StandsBehind text [] first h.now.seen → IsDamagedLog at kind h.now.seen) now) → WhereTold (λ h. IsDamagedLog at kind h.now.seen) told
-damage-behind first at kind None now same attached damaged = tt
-damage-behind first at kind (Some h) now same attached damaged =
-    (subst (λ (t : Option DiskHistory). WhereTold (λ k. StandsBehind attached.0 [] first k.now.seen → IsDamagedLog at kind k.now.seen) t) same (damaged attached.0)) attached.2
+-- damage after a first gate is damage of the log that begins there
+pub damage-after : (first : NextGate) (at : ℕ) (kind : DamageKind) (known now : Option DiskHistory) → now ≡ known → IfKnown (λ h. (text : List ℕ) × IsStore text first.catalogue h.now.seen × StandsAfter text [] first h.now.seen) known
+    → ((text : List ℕ) → IfKnown (λ h. StandsAfter text [] first h.now.seen → IsDamagedLog at kind h.now.seen) now) → IfKnown (λ h. IsDamagedLog at kind h.now.seen) known
+damage-after first at kind None now same attached damaged = tt
+damage-after first at kind (Some h) now same attached damaged =
+    (subst (λ (t : Option DiskHistory). IfKnown (λ k. StandsAfter attached.0 [] first k.now.seen → IsDamagedLog at kind k.now.seen) t) same (damaged attached.0)) attached.2

@@ -15,7 +15,7 @@ use Rattle.pac_recover.specs.Logs.{FitBatches}
 
 -- ---- batch by batch
 
--- the first so many batches are executed, and those behind them run on
+-- the first n batches are executed, and those after them run on
 pub record IsExecuted (catalogue : CatalogueState) (before : ℕ) (batches : List Batch) (count : ℕ) (old new : Tables) : Type 0 where
   pub number : ℕ
   pub runs : RunOn number (drop count batches)

@@ -1,6 +1,6 @@
 -- The first damage of two slots, beside gates that were read.
 use Rattle.std.proofs.Common.{◌≡◌, ◌∙◌, inl, inr, ℕ, List, Option, Some, None, Err, refl, sym, ap, subst}
-use Rattle.pac_outside.specs.Disk.{DiskHistory, WhereTold}
+use Rattle.pac_outside.specs.Disk.{DiskHistory, IfKnown}
 use Rattle.pac_types.specs.declared.table.Table.{Table}
 use Rattle.pac_check.specs.declared.damage.SlotDamageKind.{SlotDamageKind}
 use Rattle.pac_check.specs.declared.damage.SlotDamageKind.TheVariants.{Place}
@@ -24,7 +24,7 @@ use Rattle.pac_recover.specs.Loading.{IsInfoAmong}
 
 -- ---- the bytes of a slot
 
--- what is told as damage of a slot is damage of it
+-- what is reported as damage of a slot is damage of it
 pub slot-cause : (cause : SlotError) (name : SlotName) (at : ℕ) (kind : SlotDamageKind) → slot_not_loaded cause ≡ load.Damaged (Slot name at kind) → cause ≡ slot.Damaged name at kind
 slot-cause slot.DiskFault name at kind e = absurd cc
 slot-cause (slot.Damaged other place what) name at kind e = cc
@@ -34,15 +34,15 @@ not-b : A ≡ B → ⊥
 not-b e = cc
 
 pub broken : (gates : List GatePlace) (tables : List Table) (name : SlotName) (at : ℕ) (kind : SlotDamageKind) (a b : Option DiskHistory)
-    → WhereTold (λ h. slot_read tables h.now.seen ≡ Err (slot_fault kind at)) (by_slot name a b)
-    → (name ≡ B → WhereTold (λ h. (state : SlotState) × IsSlot tables state h.now.seen) a)
-    → WhereTold (λ x. WhereTold (λ y. IsSlotDamage (IsAmongGates gates) tables name at kind x.now.seen y.now.seen) b) a
+    → IfKnown (λ h. slot_read tables h.now.seen ≡ Err (slot_fault kind at)) (by_slot name a b)
+    → (name ≡ B → IfKnown (λ h. (state : SlotState) × IsSlot tables state h.now.seen) a)
+    → IfKnown (λ x. IfKnown (λ y. IsSlotDamage (IsAmongGates gates) tables name at kind x.now.seen y.now.seen) b) a
 broken gates tables name at kind None b fault first = tt
 broken gates tables name at kind (Some x) None fault first = tt
 broken gates tables A at kind (Some x) (Some y) fault first = inl (record { fault_of = fault; first = λ e. absurd (not-b e) })
 broken gates tables B at kind (Some x) (Some y) fault first = inl (record { fault_of = fault; first = first })
 
--- ---- the place of a slot
+-- ---- the offset of a slot
 
 abbrev slot_in : SlotName → Option SlotInfo → SlotName
 slot_in name None = name
@@ -57,14 +57,14 @@ open-at name (Open head) info e = (head, refl, sym (ap (slot_in name) e))
 same-damage : (s t : SlotName) (m n : ℕ) (k l : SlotDamageKind) → load.Damaged (Slot s m k) ≡ load.Damaged (Slot t n l) → (s ≡ t) × (m ≡ n) × (k ≡ l)
 same-damage s t m n k l e = (cc, cc, cc)
 
--- an open slot that is at none of the gates, behind one that is at one
+-- an open slot that is at none of the gates, after one that is at one
 module _ (gates : List GatePlace) (tables : List Table) (name : SlotName) (state_a state_b : SlotState) (info : Option SlotInfo) (found : SlotInfo)
-    (is : info ≡ info_of name (by_slot name state_a state_b)) (there : info ≡ Some found) (misfit : IsInfoAmong gates info → ⊥) (front : name ≡ B → IsInfoAmong gates (info_of A state_a)) where
+    (is : info ≡ info_of name (by_slot name state_a state_b)) (there : info ≡ Some found) (misfit : IsInfoAmong gates info → ⊥) (prefix : name ≡ B → IsInfoAmong gates (info_of A state_a)) where
   opens : (head : Head) × (by_slot name state_a state_b ≡ Open head) × (found.slot ≡ name)
   opens = open-at name (by_slot name state_a state_b) found (sym is ∙ there)
 
-  beside : (a b : Option DiskHistory) → WhereTold (λ h. IsSlot tables state_a h.now.seen × OpensExactly tables state_a h.now.seen) a → WhereTold (λ h. IsSlot tables state_b h.now.seen × OpensExactly tables state_b h.now.seen) b
-      → WhereTold (λ x. WhereTold (λ y. IsSlotDamage (IsAmongGates gates) tables name 9 Place x.now.seen y.now.seen) b) a
+  beside : (a b : Option DiskHistory) → IfKnown (λ h. IsSlot tables state_a h.now.seen × OpensExactly tables state_a h.now.seen) a → IfKnown (λ h. IsSlot tables state_b h.now.seen × OpensExactly tables state_b h.now.seen) b
+      → IfKnown (λ x. IfKnown (λ y. IsSlotDamage (IsAmongGates gates) tables name 9 Place x.now.seen y.now.seen) b) a
   beside None b is_a is_b = tt
   beside (Some x) None is_a is_b = tt
   beside (Some x) (Some y) is_a is_b = inr (
@@ -78,23 +78,23 @@ module _ (gates : List GatePlace) (tables : List Table) (name : SlotName) (state
       head = opens.0;
       opens = opens.1;
       misfit = λ among. misfit (subst (λ (o : Option SlotInfo). IsInfoAmong gates o) (sym is) (subst (λ (s : SlotState). IsInfoAmong gates (info_of name s)) (sym opens.1) among));
-      first = λ b other open_a. subst (λ (s : SlotState). IsInfoAmong gates (info_of A s)) open_a (front b);
+      first = λ b other open_a. subst (λ (s : SlotState). IsInfoAmong gates (info_of A s)) open_a (prefix b);
     },
   )
 
   pub misplaced : (error : LoadError) → error ≡ load.Damaged (Slot found.slot 9 Place) → (slot : SlotName) (at : ℕ) (kind : SlotDamageKind) → error ≡ load.Damaged (Slot slot at kind)
-      → (a b : Option DiskHistory) → WhereTold (λ h. IsSlot tables state_a h.now.seen × OpensExactly tables state_a h.now.seen) a → WhereTold (λ h. IsSlot tables state_b h.now.seen × OpensExactly tables state_b h.now.seen) b
-      → WhereTold (λ x. WhereTold (λ y. IsSlotDamage (IsAmongGates gates) tables slot at kind x.now.seen y.now.seen) b) a
-  misplaced error made slot at kind told a b is_a is_b =
-      let same = same-damage found.slot slot 9 at Place kind (sym made ∙ told) in
-      subst (λ (s : SlotName). WhereTold (λ x. WhereTold (λ y. IsSlotDamage (IsAmongGates gates) tables s at kind x.now.seen y.now.seen) b) a) (sym opens.2 ∙ same.0)
-      (subst (λ (n : ℕ). WhereTold (λ x. WhereTold (λ y. IsSlotDamage (IsAmongGates gates) tables name n kind x.now.seen y.now.seen) b) a) same.1
-      (subst (λ (k : SlotDamageKind). WhereTold (λ x. WhereTold (λ y. IsSlotDamage (IsAmongGates gates) tables name 9 k x.now.seen y.now.seen) b) a) same.2 (beside a b is_a is_b)))
+      → (a b : Option DiskHistory) → IfKnown (λ h. IsSlot tables state_a h.now.seen × OpensExactly tables state_a h.now.seen) a → IfKnown (λ h. IsSlot tables state_b h.now.seen × OpensExactly tables state_b h.now.seen) b
+      → IfKnown (λ x. IfKnown (λ y. IsSlotDamage (IsAmongGates gates) tables slot at kind x.now.seen y.now.seen) b) a
+  misplaced error made slot at kind known a b is_a is_b =
+      let same = same-damage found.slot slot 9 at Place kind (sym made ∙ known) in
+      subst (λ (s : SlotName). IfKnown (λ x. IfKnown (λ y. IsSlotDamage (IsAmongGates gates) tables s at kind x.now.seen y.now.seen) b) a) (sym opens.2 ∙ same.0)
+      (subst (λ (n : ℕ). IfKnown (λ x. IfKnown (λ y. IsSlotDamage (IsAmongGates gates) tables name n kind x.now.seen y.now.seen) b) a) same.1
+      (subst (λ (k : SlotDamageKind). IfKnown (λ x. IfKnown (λ y. IsSlotDamage (IsAmongGates gates) tables name 9 k x.now.seen y.now.seen) b) a) same.2 (beside a b is_a is_b)))
 
 -- ---- slots that are whole
 
-pub told-whole : (name : SlotName) (a b : Option DiskHistory) → WhereTold (λ h. ⊥) (by_slot name a b) → WhereTold (λ x. WhereTold (λ y. ⊥) b) a
-told-whole A None b none = tt
-told-whole A (Some x) b none = absurd none
-told-whole B None b none = tt
-told-whole B (Some x) b none = none
+pub known-whole : (name : SlotName) (a b : Option DiskHistory) → IfKnown (λ h. ⊥) (by_slot name a b) → IfKnown (λ x. IfKnown (λ y. ⊥) b) a
+known-whole A None b none = tt
+known-whole A (Some x) b none = absurd none
+known-whole B None b none = tt
+known-whole B (Some x) b none = none

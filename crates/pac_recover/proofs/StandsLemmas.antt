@@ -1,10 +1,10 @@
--- Where the devices stand for a history, nothing is damaged, and the tables are those of a front of it.
+-- Where the devices stand for a history, nothing is damaged, and the tables are those of a prefix of it.
 use Rattle.std.proofs.Common.{◌≡◌, ◌∙◌, inl, inr, ℕ, ◌≤◌, ◌+◌, List, ◌∷◌, ◌++◌, length, take, Option, Some, None, Result, Ok, Err, refl, sym, ap, subst, append_assoc}
 use Rattle.std.specs.Prelude.{IfOk, IsErrOf}
 use Rattle.pac_value.specs.State.{Tables}
 use Rattle.pac_ops.specs.declared.note.Note.{Note}
 use Rattle.pac_ops.specs.declared.transaction.Txn.{Txn}
-use Rattle.pac_outside.specs.Disk.{DiskHistory, WhereTold}
+use Rattle.pac_outside.specs.Disk.{DiskHistory, IfKnown}
 use Rattle.pac_types.specs.Execution.{serial}
 use Rattle.pac_types.specs.Typing.{CatalogueState}
 use Rattle.pac_log.specs.declared.damage.DamageKind.{DamageKind}
@@ -20,7 +20,7 @@ use Rattle.pac_check.specs.declared.info.SlotName.TheVariants.{A, B}
 use Rattle.pac_check.specs.declared.state.SlotState.{SlotState}
 use Rattle.pac_check.specs.declared.state.SlotState.TheVariants.{Open}
 use Rattle.pac_check.specs.SlotStates.{by_slot, slot_read}
-use Rattle.pac_store.specs.Images.{Images, WhereRead}
+use Rattle.pac_store.specs.Images.{Images, IfReadKnown}
 use Rattle.pac_store.specs.Stands.{EndsWith, StandsFor}
 use Rattle.pac_store.proofs.StandsLemmas.{few-tables, goes-on, readable, IsReadable}
 use Rattle.pac_recover.specs.declared.errors.Damage.TheVariants.{Log, Slot}
@@ -29,7 +29,7 @@ use Rattle.pac_recover.specs.declared.errors.RecoverError.TheVariants as error
 use Rattle.pac_recover.specs.declared.recovery.Recovered.{Recovered}
 use Rattle.pac_recover.specs.Damages.{IsAtGate, IsDamagedLog, IsDamagedSlot, IsMisplacedSlot, IsSlotDamage}
 use Rattle.pac_recover.specs.Limits.{IsFirstOver}
-use Rattle.pac_recover.specs.Recovering.{AbortsIn, IsRecoveredFront, IsFrontOverLimit, IsOverIn, IsRecoveredFrom, Recovers}
+use Rattle.pac_recover.specs.Recovering.{AbortsIn, IsRecoveredPrefix, IsPrefixOverLimit, IsOverIn, IsRecoveredFrom, Recovers}
 
 -- ---- no damage
 
@@ -66,11 +66,11 @@ module _ (text : List ℕ) (catalogue : CatalogueState) (history : List Txn) (le
   -- the slots fit the log
   no-misplaced : (slot : SlotName) → IsMisplacedSlot (IsAtGate text is.batches) catalogue.tables slot images.slot_a images.slot_b → ⊥
   no-misplaced A wrong =
-      let front = readable-a.front wrong.head (same-open readable-a.state wrong.state_a wrong.head (sym readable-a.is ∙ wrong.is_a) wrong.opens) in
-      wrong.misfit front.3
+      let prefix = readable-a.prefix wrong.head (same-open readable-a.state wrong.state_a wrong.head (sym readable-a.is ∙ wrong.is_a) wrong.opens) in
+      wrong.misfit prefix.3
   no-misplaced B wrong =
-      let front = readable-b.front wrong.head (same-open readable-b.state wrong.state_b wrong.head (sym readable-b.is ∙ wrong.is_b) wrong.opens) in
-      wrong.misfit front.3
+      let prefix = readable-b.prefix wrong.head (same-open readable-b.state wrong.state_b wrong.head (sym readable-b.is ∙ wrong.is_b) wrong.opens) in
+      wrong.misfit prefix.3
 
   no-broken : (slot : SlotName) (fault : SlotFault) → slot_read catalogue.tables (by_slot slot images.slot_a images.slot_b) ≡ Err fault → ⊥
   no-broken A fault e = ok-err readable-a.state fault (sym readable-a.is ∙ e)
@@ -89,8 +89,8 @@ module _ (text : List ℕ) (catalogue : CatalogueState) (history : List Txn) (le
 
   -- ---- what is recovered
 
-  pub recovers-front : (recovered : Recovered) → IsRecoveredFrom recovered.catalogue recovered.tables.rows recovered.txns images → IsRecoveredFront catalogue history least recovered
-  recovers-front recovered from_stored =
+  pub recovers-prefix : (recovered : Recovered) → IsRecoveredFrom recovered.catalogue recovered.tables.rows recovered.txns images → IsRecoveredPrefix catalogue history least recovered
+  recovers-prefix recovered from_stored =
       let on = goes-on text catalogue history least images from_stored.stored is from_stored.is in
       let held : on.held ≡ recovered.tables.rows
       = same-ok on.held recovered.tables.rows (sym on.from_base ∙ ap (λ (c : CatalogueState). serial c.procs (from_stored.stored.number + 1) from_stored.stored.rest from_stored.stored.base) (sym on.same) ∙ from_stored.ends) in
@@ -110,8 +110,8 @@ module _ (text : List ℕ) (catalogue : CatalogueState) (history : List Txn) (le
       let on = goes-on text catalogue history least images aborts.stored is aborts.is in
       ok-err on.held note (sym on.from_base ∙ ap (λ (c : CatalogueState). serial c.procs (aborts.stored.number + 1) aborts.stored.rest aborts.stored.base) (sym on.same) ∙ aborts.stops)
 
-  pub over-front : (table : List ℕ) (rows limit : ℕ) → IsOverIn table rows limit images → IsFrontOverLimit catalogue history least table rows limit
-  over-front table rows limit over =
+  pub over-prefix : (table : List ℕ) (rows limit : ℕ) → IsOverIn table rows limit images → IsPrefixOverLimit catalogue history least table rows limit
+  over-prefix table rows limit over =
       let on = goes-on text catalogue history least images over.stored is over.is in
       let held : on.held ≡ over.held
       = same-ok on.held over.held (sym on.from_base ∙ ap (λ (c : CatalogueState). serial c.procs (over.stored.number + 1) over.stored.rest over.stored.base) (sym on.same) ∙ over.ends) in
@@ -127,36 +127,36 @@ module _ (text : List ℕ) (catalogue : CatalogueState) (history : List Txn) (le
       same-ok : (s t : Tables) → ◌≡◌ {A = Result Tables Note} (Ok s) (Ok t) → s ≡ t
       same-ok s t e = cc
 
--- ---- over what the devices tell
+-- ---- over what is known of the devices
 
--- what is told of each answer
-pub record TellsAnswer (limit : ℕ) (result : Result Recovered RecoverError) (log a b : Option DiskHistory) : Type 0 where
-  pub recovered : IfOk result (λ recovered. WhereRead (IsRecoveredFrom recovered.catalogue recovered.tables.rows recovered.txns) log a b)
-  pub no_store : IsErrOf result error.NoStore → WhereTold (λ h. (text : List ℕ) (catalogue : CatalogueState) → IsStore text catalogue h.now.seen → ⊥) log
-  pub log_damage : (at : ℕ) (kind : DamageKind) → IsErrOf result (error.Damaged (Log at kind)) → WhereTold (λ h. IsDamagedLog at kind h.now.seen) log
-  pub slot_damage : (slot : SlotName) (at : ℕ) (kind : SlotDamageKind) → IsErrOf result (error.Damaged (Slot slot at kind)) → WhereRead (IsDamagedSlot slot at kind) log a b
-  pub abort : (note : Note) → IsErrOf result (error.AbortInLog note) → WhereRead (AbortsIn note) log a b
-  pub over : (table : List ℕ) (rows most : ℕ) → IsErrOf result (error.RowsOver table rows most) → (most ≡ limit) × WhereRead (IsOverIn table rows limit) log a b
+-- what is reported of each answer
+pub record ReportsAnswer (limit : ℕ) (result : Result Recovered RecoverError) (log a b : Option DiskHistory) : Type 0 where
+  pub recovered : IfOk result (λ recovered. IfReadKnown (IsRecoveredFrom recovered.catalogue recovered.tables.rows recovered.txns) log a b)
+  pub no_store : IsErrOf result error.NoStore → IfKnown (λ h. (text : List ℕ) (catalogue : CatalogueState) → IsStore text catalogue h.now.seen → ⊥) log
+  pub log_damage : (at : ℕ) (kind : DamageKind) → IsErrOf result (error.Damaged (Log at kind)) → IfKnown (λ h. IsDamagedLog at kind h.now.seen) log
+  pub slot_damage : (slot : SlotName) (at : ℕ) (kind : SlotDamageKind) → IsErrOf result (error.Damaged (Slot slot at kind)) → IfReadKnown (IsDamagedSlot slot at kind) log a b
+  pub abort : (note : Note) → IsErrOf result (error.AbortInLog note) → IfReadKnown (AbortsIn note) log a b
+  pub over : (table : List ℕ) (rows most : ℕ) → IsErrOf result (error.RowsOver table rows most) → (most ≡ limit) × IfReadKnown (IsOverIn table rows limit) log a b
 
 module _ (limit : ℕ) (l x y : DiskHistory) (text : List ℕ) (catalogue : CatalogueState) (history : List Txn) (least : ℕ) where
   abbrev images : Images
   images = record { log = l.now.seen; slot_a = x.now.seen; slot_b = y.now.seen }
 
-  recovers-here : (result : Result Recovered RecoverError) → TellsAnswer limit result (Some l) (Some x) (Some y) → StandsFor text catalogue history least images → Recovers catalogue history least result
-  recovers-here (Ok recovered) tells is = recovers-front text catalogue history least images is recovered tells.recovered
-  recovers-here (Err error.NoStore) tells is = is-store text catalogue history least images is (tells.no_store refl)
-  recovers-here (Err (error.Damaged (Log at kind))) tells is = no-log-damage text catalogue history least images is at kind (tells.log_damage at kind refl)
-  recovers-here (Err (error.Damaged (Slot slot at kind))) tells is = no-slot-damage text catalogue history least images is slot at kind (tells.slot_damage slot at kind refl)
-  recovers-here (Err (error.AbortInLog note)) tells is = no-abort text catalogue history least images is note (tells.abort note refl)
-  recovers-here (Err (error.RowsOver table rows most)) tells is =
-      let over = tells.over table rows most refl in
-      subst (λ (n : ℕ). IsFrontOverLimit catalogue history least table rows n) (sym over.0) (over-front text catalogue history least images is table rows limit over.1)
-  recovers-here (Err error.DiskFault) tells is = tt
-  recovers-here (Err error.NoMemory) tells is = tt
+  recovers-here : (result : Result Recovered RecoverError) → ReportsAnswer limit result (Some l) (Some x) (Some y) → StandsFor text catalogue history least images → Recovers catalogue history least result
+  recovers-here (Ok recovered) knows is = recovers-prefix text catalogue history least images is recovered knows.recovered
+  recovers-here (Err error.NoStore) knows is = is-store text catalogue history least images is (knows.no_store refl)
+  recovers-here (Err (error.Damaged (Log at kind))) knows is = no-log-damage text catalogue history least images is at kind (knows.log_damage at kind refl)
+  recovers-here (Err (error.Damaged (Slot slot at kind))) knows is = no-slot-damage text catalogue history least images is slot at kind (knows.slot_damage slot at kind refl)
+  recovers-here (Err (error.AbortInLog note)) knows is = no-abort text catalogue history least images is note (knows.abort note refl)
+  recovers-here (Err (error.RowsOver table rows most)) knows is =
+      let over = knows.over table rows most refl in
+      subst (λ (n : ℕ). IsPrefixOverLimit catalogue history least table rows n) (sym over.0) (over-prefix text catalogue history least images is table rows limit over.1)
+  recovers-here (Err error.DiskFault) knows is = tt
+  recovers-here (Err error.NoMemory) knows is = tt
 
-pub recovers : (limit : ℕ) (result : Result Recovered RecoverError) (log a b : Option DiskHistory) → TellsAnswer limit result log a b → (text : List ℕ) (catalogue : CatalogueState) (history : List Txn) (least : ℕ)
-    → WhereRead (λ images. StandsFor text catalogue history least images → Recovers catalogue history least result) log a b
-recovers limit result None a b tells text catalogue history least = tt
-recovers limit result (Some l) None b tells text catalogue history least = tt
-recovers limit result (Some l) (Some x) None tells text catalogue history least = tt
-recovers limit result (Some l) (Some x) (Some y) tells text catalogue history least = recovers-here limit l x y text catalogue history least result tells
+pub recovers : (limit : ℕ) (result : Result Recovered RecoverError) (log a b : Option DiskHistory) → ReportsAnswer limit result log a b → (text : List ℕ) (catalogue : CatalogueState) (history : List Txn) (least : ℕ)
+    → IfReadKnown (λ images. StandsFor text catalogue history least images → Recovers catalogue history least result) log a b
+recovers limit result None a b knows text catalogue history least = tt
+recovers limit result (Some l) None b knows text catalogue history least = tt
+recovers limit result (Some l) (Some x) None knows text catalogue history least = tt
+recovers limit result (Some l) (Some x) (Some y) knows text catalogue history least = recovers-here limit l x y text catalogue history least result knows

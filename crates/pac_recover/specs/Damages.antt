@@ -47,7 +47,7 @@ pub record IsMisplacedSlot (FitsLog : Head → Type 0) (tables : List Table) (sl
 abbrev pub IsSlotDamage : (Head → Type 0) → List Table → SlotName → ℕ → SlotDamageKind → List ℕ → List ℕ → Type 0
 IsSlotDamage FitsLog tables slot at kind a b = IsBrokenSlot tables slot (slot_fault kind at) a b ⊎ ((at ≡ 9) × (kind ≡ Place) × IsMisplacedSlot FitsLog tables slot a b)
 
--- the head is at a gate of the log, with as many transactions as stand in front of it
+-- the head is at a gate of the log, with as many transactions as stand before it
 abbrev pub IsAtGate : List ℕ → List (List Txn) → Head → Type 0
 IsAtGate text batches head = HasGate text batches head.place head.txns
 

@@ -4,7 +4,7 @@ use Rattle.pac_ops.specs.declared.batch.Batch.{Batch}
 use Rattle.pac_ops.specs.declared.transaction.Txn.{Txn}
 use Rattle.pac_log.specs.declared.position.NextGate.{NextGate}
 use Rattle.pac_log.specs.Bodies.{body_bytes}
-use Rattle.pac_log.specs.Logs.{log_front, all_txns}
+use Rattle.pac_log.specs.Logs.{log_prefix, all_txns}
 use Rattle.pac_recover.specs.declared.gates.GatePlace.{GatePlace}
 
 -- the transactions of each batch
@@ -19,25 +19,25 @@ txns_in batches = all_txns (txns_by_batch batches)
 abbrev pub place_of : NextGate → GatePlace
 place_of gate = record { place = gate.place; txns = gate.txns }
 
--- the gate behind a gate and these transactions
-abbrev pub gate_behind_txns : GatePlace → List Txn → GatePlace
-gate_behind_txns gate txns = record { place = gate.place + (1 + length (body_bytes txns)); txns = gate.txns + length txns }
+-- the gate after a gate and these transactions
+abbrev pub gate_after_txns : GatePlace → List Txn → GatePlace
+gate_after_txns gate txns = record { place = gate.place + (1 + length (body_bytes txns)); txns = gate.txns + length txns }
 
--- a gate, and the gates behind each of the batches that follow it
+-- a gate, and the gates after each of the batches that follow it
 abbrev pub gates_from : GatePlace → List (List Txn) → List GatePlace
 gates_from gate [] = gate ∷ []
-gates_from gate (txns ∷ batches) = gate ∷ gates_from (gate_behind_txns gate txns) batches
+gates_from gate (txns ∷ batches) = gate ∷ gates_from (gate_after_txns gate txns) batches
 
 -- the last of these
 abbrev pub last_gate : GatePlace → List (List Txn) → GatePlace
 last_gate gate [] = gate
-last_gate gate (txns ∷ batches) = last_gate (gate_behind_txns gate txns) batches
+last_gate gate (txns ∷ batches) = last_gate (gate_after_txns gate txns) batches
 
--- the gate that comes behind these batches of a log
+-- the gate that comes after these batches of a log
 abbrev pub gate_after : List ℕ → List (List Txn) → GatePlace
-gate_after text batches = record { place = length (log_front text batches); txns = length (all_txns batches) }
+gate_after text batches = record { place = length (log_prefix text batches); txns = length (all_txns batches) }
 
--- each batch begins behind the transactions of the one before, and the first behind so many
+-- each batch begins after the transactions of the one before, and the first after that many
 abbrev pub RunOn : ℕ → List Batch → Type 0
 RunOn before [] = Unit {0}
 RunOn before (batch ∷ batches) = (batch.first ≡ before + 1) × RunOn (before + length batch.txns) batches

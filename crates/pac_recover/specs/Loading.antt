@@ -7,7 +7,7 @@ use Rattle.pac_types.specs.Typing.{CatalogueState}
 use Rattle.pac_flat.specs.FlatForm.{program_of}
 use Rattle.pac_plan.specs.Analysis.{IsAnalysis}
 use Rattle.pac_log.specs.Logs.{HoldsLog, all_txns}
-use Rattle.pac_log.specs.Places.{IsBehind}
+use Rattle.pac_log.specs.Places.{IsAfter}
 use Rattle.pac_check.specs.declared.info.SlotInfo.{SlotInfo}
 use Rattle.pac_check.specs.declared.slots.Slots.{Slots}
 use Rattle.pac_check.specs.declared.state.SlotState.{SlotState}
@@ -38,7 +38,7 @@ IsPlaced text batches Closed = Unit {0}
 IsPlaced text batches (Open head) = IsAtGate text batches head
 
 -- What is loaded, on whatever devices: the plan is that of the catalogue, of its flat programs; the tables fit it, and so do the transactions of
--- the batches, which run on behind the number of the newest slot, to the reader's; the reader is at its end, and reads a
+-- the batches, which run on after the number of the newest slot, to the reader's; the reader is at its end, and reads a
 -- log of this catalogue; the slots take a save.
 pub record IsLoaded (loaded : Loaded) : Type 0 where
   pub programs : loaded.plan.programs ≡ map program_of loaded.catalogue.procs
@@ -53,19 +53,19 @@ pub record IsLoaded (loaded : Loaded) : Type 0 where
   pub same : loaded.reader.gate.catalogue ≡ loaded.catalogue
   pub works : loaded.slots.has_failed ≡ false
 
--- What is loaded of these images: the log is whole and the reader stands behind its batches; the slots are in these states,
--- and each open one is at a gate; the tables are those of the newest, and the batches hold the transactions behind these.
+-- What is loaded of these images: the log is whole and the reader stands after its batches; the slots are in these states,
+-- and each open one is at a gate; the tables are those of the newest, and the batches hold the transactions after these.
 pub record IsLoadedFrom (loaded : Loaded) (images : Images) : Type 0 where
   pub text : List ℕ
   pub batches : List (List Txn)
   pub log : HoldsLog text loaded.catalogue batches images.log
-  pub end : IsBehind text batches loaded.reader.gate
+  pub end : IsAfter text batches loaded.reader.gate
   pub is_a : IsSlot loaded.catalogue.tables loaded.slots.a images.slot_a
   pub is_b : IsSlot loaded.catalogue.tables loaded.slots.b images.slot_b
   pub place_a : IsPlaced text batches loaded.slots.a
   pub place_b : IsPlaced text batches loaded.slots.b
   pub newest : AreNewest loaded.catalogue images.slot_a images.slot_b (newest_of loaded.slots) loaded.tables.rows loaded.txns
-  pub behind : txns_in loaded.batches ≡ drop loaded.txns (all_txns batches)
+  pub after : txns_in loaded.batches ≡ drop loaded.txns (all_txns batches)
 
 -- what is stored, where this is loaded
 abbrev pub stored_of : Loaded → Stored

@@ -7,8 +7,8 @@ use Rattle.pac_types.specs.Fits.{TxnFits}
 use Rattle.pac_types.specs.Typing.{CatalogueState}
 use Rattle.pac_log.specs.declared.position.NextGate.{NextGate}
 use Rattle.pac_log.specs.Logs.{HoldsLog}
-use Rattle.pac_log.specs.Places.{IsBehind}
-use Rattle.pac_log.specs.Reading.{StandsBehind}
+use Rattle.pac_log.specs.Places.{IsAfter}
+use Rattle.pac_log.specs.Reading.{StandsAfter}
 use Rattle.pac_recover.specs.declared.gates.GatePlace.{GatePlace}
 use Rattle.pac_recover.specs.declared.log.WholeLog.{WholeLog}
 use Rattle.pac_recover.specs.Gates.{gates_from, gate_after, last_gate, place_of, txns_by_batch, RunOn}
@@ -34,23 +34,23 @@ pub record IsWhole (log : WholeLog) : Type 0 where
   pub gates : log.gates.items ≡ gates_from (record { place = start; txns = 0 }) (txns_by_batch log.batches.items)
   pub last : last_gate (record { place = start; txns = 0 }) (txns_by_batch log.batches.items) ≡ place_of log.reader.gate
 
--- the image holds these batches and no other, and the gate is the one behind them
+-- the image holds these batches and no other, and the gate is the one after them
 pub record HoldsBatches (text : List ℕ) (catalogue : CatalogueState) (batches : List Batch) (gate : NextGate) (image : List ℕ) : Type 0 where
   pub log : HoldsLog text catalogue (txns_by_batch batches) image
-  pub end : IsBehind text (txns_by_batch batches) gate
+  pub end : IsAfter text (txns_by_batch batches) gate
 
--- the image is that of a log with the gate's catalogue, and the gate is the one behind its batches
+-- the image is that of a log with the gate's catalogue, and the gate is the one after its batches
 pub record HoldsLogUpTo (gate : NextGate) (image : List ℕ) : Type 0 where
   pub text : List ℕ
   pub batches : List (List Txn)
   pub log : HoldsLog text gate.catalogue batches image
-  pub end : IsBehind text batches gate
+  pub end : IsAfter text batches gate
 
 -- where the first gate is the log's first, the image holds the batches that were read from there on
 abbrev pub ReadsTo : List ℕ → NextGate → NextGate → List Batch → List ℕ → Type 0
-ReadsTo text old new batches image = StandsBehind text [] old image → HoldsBatches text old.catalogue batches new image
+ReadsTo text old new batches image = StandsAfter text [] old image → HoldsBatches text old.catalogue batches new image
 
--- the image is that of the whole log, and the gates are at their places
+-- the image is that of the whole log, and the gates are at their offsets
 pub record HoldsWhole (log : WholeLog) (image : List ℕ) : Type 0 where
   pub text : List ℕ
   pub holds : HoldsBatches text log.reader.gate.catalogue log.batches.items log.reader.gate image

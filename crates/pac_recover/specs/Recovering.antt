@@ -17,7 +17,7 @@ use Rattle.pac_recover.specs.declared.recovery.Recovered.{Recovered}
 abbrev pub stored_outcome : Stored → Result Tables Note
 stored_outcome stored = serial stored.catalogue.procs (stored.number + 1) stored.rest stored.base
 
--- what is stored in these images is executed to the end: these are the tables, after so many transactions
+-- what is stored in these images is executed to the end: these are the tables, after that many transactions
 pub record IsRecoveredFrom (catalogue : CatalogueState) (tables : Tables) (txns : ℕ) (images : Images) : Type 0 where
   pub stored : Stored
   pub is : IsStored images stored
@@ -39,15 +39,15 @@ pub record IsOverIn (table : List ℕ) (rows limit : ℕ) (images : Images) : Ty
   pub ends : stored_outcome stored ≡ Ok held
   pub over : IsFirstOver limit stored.catalogue.tables held table rows
 
--- the tables are those after the first so many transactions of the history, which are at least so many
-pub record IsRecoveredFront (catalogue : CatalogueState) (history : List Txn) (least : ℕ) (recovered : Recovered) : Type 0 where
+-- the tables are those after the first n transactions of the history, which are at least that many
+pub record IsRecoveredPrefix (catalogue : CatalogueState) (history : List Txn) (least : ℕ) (recovered : Recovered) : Type 0 where
   pub same : recovered.catalogue ≡ catalogue
   pub enough : least ≤ recovered.txns
   pub within : recovered.txns ≤ length history
   pub ends : EndsWith catalogue (take recovered.txns history) recovered.tables.rows
 
--- the first table over the limit, after some front of the history of at least so many transactions, has this name
-pub record IsFrontOverLimit (catalogue : CatalogueState) (history : List Txn) (least : ℕ) (table : List ℕ) (rows limit : ℕ) : Type 0 where
+-- the first table over the limit, after some prefix of the history of at least that many transactions, has this name
+pub record IsPrefixOverLimit (catalogue : CatalogueState) (history : List Txn) (least : ℕ) (table : List ℕ) (rows limit : ℕ) : Type 0 where
   pub count : ℕ
   pub held : Tables
   pub enough : least ≤ count
@@ -55,13 +55,13 @@ pub record IsFrontOverLimit (catalogue : CatalogueState) (history : List Txn) (l
   pub ends : EndsWith catalogue (take count history) held
   pub over : IsFirstOver limit catalogue.tables held table rows
 
--- What recovery of a history answers: tables of a front of it, or a table of these over the limit. Nothing is damaged and
+-- What recovery of a history answers: tables of a prefix of it, or a table of these over the limit. Nothing is damaged and
 -- nothing aborts.
 abbrev pub Recovers : CatalogueState → List Txn → ℕ → Result Recovered RecoverError → Type 0
-Recovers catalogue history least (Ok recovered) = IsRecoveredFront catalogue history least recovered
+Recovers catalogue history least (Ok recovered) = IsRecoveredPrefix catalogue history least recovered
 Recovers catalogue history least (Err error.NoStore) = ⊥
 Recovers catalogue history least (Err (error.Damaged damage)) = ⊥
 Recovers catalogue history least (Err (error.AbortInLog note)) = ⊥
-Recovers catalogue history least (Err (error.RowsOver table rows limit)) = IsFrontOverLimit catalogue history least table rows limit
+Recovers catalogue history least (Err (error.RowsOver table rows limit)) = IsPrefixOverLimit catalogue history least table rows limit
 Recovers catalogue history least (Err error.DiskFault) = Unit {0}
 Recovers catalogue history least (Err error.NoMemory) = Unit {0}

@@ -12,7 +12,7 @@ use pac_tables::Rows;
 use pac_types::Catalogue;
 use std::alloc::Global;
 
-/// Executes batches that run on behind so many transactions, one after another, up to the first transaction that aborts.
+/// Executes batches that run on after that many transactions, one after another, up to the first transaction that aborts.
 ///
 /// # Errors
 ///

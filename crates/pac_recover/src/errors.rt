@@ -11,7 +11,7 @@ use pac_value::Name;
 use std::alloc::{AllocError, AllocFailed};
 use thiserror::Error;
 
-/// What is wrong on a device, at a place, an offset from 0.
+/// What is wrong on a device, at an offset, from 0.
 #[derive(Clone, Copy, Debug, PartialEq, Eq, Error)]
 pub enum Damage {
     /// In the log.
@@ -20,7 +20,7 @@ pub enum Damage {
         at: u64,
         kind: DamageKind,
     },
-    /// In a slot. Where its number of transactions and its place don't fit the log, it is `Place` at 9.
+    /// In a slot. Where its number of transactions and its offset don't fit the log, it is `Place` at 9.
     #[error("slot: {kind} at byte {at}")]
     Slot {
         slot: SlotName,
@@ -35,7 +35,7 @@ pub enum LoadError {
     /// The first device doesn't begin as a log does.
     #[error("no store")]
     NoStore,
-    /// This is the first damage: of the log, or else of slot a, of slot b, or of the place that one of them has in the log.
+    /// This is the first damage: of the log, or else of slot a, of slot b, or of the offset that one of them has in the log.
     #[error("damaged {0}")]
     Damaged(Damage),
     /// A call of a device failed.

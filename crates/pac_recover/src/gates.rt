@@ -1,4 +1,4 @@
-// The gates of a log, by their places.
+// The gates of a log, by their offsets.
 ghost use Rattle.std.specs.Prelude.{◌≡◌, ◌≢◌, ℕ, IfSome, slice_get, Some as HasIt, None as NoPlace};
 
 use pac_log::Position;
@@ -6,9 +6,9 @@ use pac_log::Position;
 /// A gate of a log.
 #[derive(Clone, Copy, Debug, PartialEq, Eq)]
 pub(crate) struct GatePlace {
-    /// Its place, an offset from 0.
+    /// Its offset, from 0.
     pub place: u64,
-    /// How many transactions stand in front of it.
+    /// How many transactions stand before it.
     pub txns: u64,
 }
 

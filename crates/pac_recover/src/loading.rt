@@ -1,7 +1,7 @@
 // Loads a store.
 ghost use Rattle.std.specs.Prelude.{◌≡◌, ◌≤◌, ℕ, IfOk, IsErrOf, drop, false, length, map};
-ghost use Rattle.pac_outside.specs.Devices.{OneRose, each};
-ghost use Rattle.pac_outside.specs.Disk.{WhereTold};
+ghost use Rattle.pac_outside.specs.Devices.{OneFaulted, each};
+ghost use Rattle.pac_outside.specs.Disk.{IfKnown};
 ghost use Rattle.pac_types.specs.Fits.{FitsCatalogue, shape};
 ghost use Rattle.pac_types.specs.OperationLimits.{HasFewOperations};
 ghost use Rattle.pac_flat.specs.FlatForm.{program_of};
@@ -9,7 +9,7 @@ ghost use Rattle.pac_plan.specs.Analysis.{IsAnalysis};
 ghost use Rattle.pac_log.specs.declared.damage.DamageKind.{DamageKind as ALogDamage};
 ghost use Rattle.pac_check.specs.declared.damage.SlotDamageKind.{SlotDamageKind as ASlotDamage};
 ghost use Rattle.pac_check.specs.declared.info.SlotName.{SlotName as ASlotName};
-ghost use Rattle.pac_store.specs.Images.{Images, WhereRead};
+ghost use Rattle.pac_store.specs.Images.{Images, IfReadKnown};
 ghost use Rattle.pac_store.specs.Stored.{IsStored};
 ghost use Rattle.pac_recover.specs.declared.errors.Damage.TheVariants.{Log as InLog, Slot as InSlot};
 ghost use Rattle.pac_check.specs.SlotStates.{IsSlot, info_of, saved_txns};
@@ -43,7 +43,7 @@ pub struct Loaded {
     pub tables: OrderedRows,
     /// How many transactions are in them.
     pub txns: u64,
-    /// The transactions of the log behind these.
+    /// The transactions of the log after these.
     pub batches: Batches,
     /// The reader of the log, at its end.
     pub reader: LogReader,
@@ -57,32 +57,32 @@ pub struct Loaded {
 ///
 /// - [`LoadError::NoStore`] exactly where the first device doesn't begin with the header of a log and one byte more.
 /// - [`LoadError::Damaged`] exactly where something else is wrong: the first damage, in the order of the log's batches, the
-///   bytes of slot a, those of slot b, and the place of slot a and that of slot b, each of which is to be a gate of the log
-///   with exactly the slot's number of transactions in front of it.
+///   bytes of slot a, those of slot b, and the offset of slot a and that of slot b, each of which is to be a gate of the log
+///   with exactly the slot's number of transactions before it.
 /// - [`LoadError::DiskFault`] where a call of a device failed, so only where the count of faults of one rose; no call of any
 ///   device comes after it.
 /// - [`LoadError::NoMemory`] where there was no memory for what is read.
 pub fn load<D: Disk>(alloc: Global, devices: &mut Devices<D>) -> Result<Loaded, LoadError>
     // On every device.
-    ensures sound { IfOk result IsLoaded }
+    ensures well_formed { IfOk result IsLoaded }
 
-    // What stands on each device that tells.
-    ensures log { IfOk result (λ loaded. WhereTold (λ old. HoldsLogUpTo loaded.reader.gate old.now.seen) (D.told devices.old.log)) }
-    ensures slot_a { IfOk result (λ loaded. WhereTold (λ old. IsSlot loaded.catalogue.tables loaded.slots.a old.now.seen) (D.told devices.old.slot_a)) }
-    ensures slot_b { IfOk result (λ loaded. WhereTold (λ old. IsSlot loaded.catalogue.tables loaded.slots.b old.now.seen) (D.told devices.old.slot_b)) }
+    // What stands on each known device.
+    ensures log { IfOk result (λ loaded. IfKnown (λ old. HoldsLogUpTo loaded.reader.gate old.now.seen) (D.known devices.old.log)) }
+    ensures slot_a { IfOk result (λ loaded. IfKnown (λ old. IsSlot loaded.catalogue.tables loaded.slots.a old.now.seen) (D.known devices.old.slot_a)) }
+    ensures slot_b { IfOk result (λ loaded. IfKnown (λ old. IsSlot loaded.catalogue.tables loaded.slots.b old.now.seen) (D.known devices.old.slot_b)) }
 
     // What is stored.
-    ensures loaded { IfOk result (λ loaded. WhereRead (IsLoadedFrom loaded) (D.told devices.old.log) (D.told devices.old.slot_a) (D.told devices.old.slot_b)) }
-    ensures stored { IfOk result (λ loaded. WhereRead (λ images. IsStored images (stored_of loaded)) (D.told devices.old.log) (D.told devices.old.slot_a) (D.told devices.old.slot_b)) }
+    ensures loaded { IfOk result (λ loaded. IfReadKnown (IsLoadedFrom loaded) (D.known devices.old.log) (D.known devices.old.slot_a) (D.known devices.old.slot_b)) }
+    ensures stored { IfOk result (λ loaded. IfReadKnown (λ images. IsStored images (stored_of loaded)) (D.known devices.old.log) (D.known devices.old.slot_a) (D.known devices.old.slot_b)) }
 
     // When each refusal comes.
-    ensures no_store { IsErrOf result LoadError.NoStore → HasNoStore (each D.told devices.old) }
-    ensures log_damage { (at : ℕ) (kind : ALogDamage) → IsErrOf result (LoadError.Damaged (InLog at kind)) → HasDamage (InLog at kind) (each D.told devices.old) }
-    ensures slot_damage { (slot : ASlotName) (at : ℕ) (kind : ASlotDamage) → IsErrOf result (LoadError.Damaged (InSlot slot at kind)) → HasDamage (InSlot slot at kind) (each D.told devices.old) }
+    ensures no_store { IsErrOf result LoadError.NoStore → HasNoStore (each D.known devices.old) }
+    ensures log_damage { (at : ℕ) (kind : ALogDamage) → IsErrOf result (LoadError.Damaged (InLog at kind)) → HasDamage (InLog at kind) (each D.known devices.old) }
+    ensures slot_damage { (slot : ASlotName) (at : ℕ) (kind : ASlotDamage) → IsErrOf result (LoadError.Damaged (InSlot slot at kind)) → HasDamage (InSlot slot at kind) (each D.known devices.old) }
 
     // The devices are only read, and no call of one comes after one that failed.
-    ensures same { each D.told devices.new ≡ each D.told devices.old }
-    ensures disk_fault { IsErrOf result LoadError.DiskFault → OneRose (each D.faults devices.old) (each D.faults devices.new) }
+    ensures same { each D.known devices.new ≡ each D.known devices.old }
+    ensures disk_fault { IsErrOf result LoadError.DiskFault → OneFaulted (each D.faults devices.old) (each D.faults devices.new) }
     ensures quiet { ¬ IsErrOf result LoadError.DiskFault → each D.faults devices.new ≡ each D.faults devices.old }
 {
     let log = read_log(alloc, &mut devices.log)?;
@@ -122,7 +122,7 @@ fn join_parts(
     requires works { slots.has_failed ≡ false }
     requires among_a { IsInfoAmong log.gates.items (info_of SlotName.A slots.a) }
     requires among_b { IsInfoAmong log.gates.items (info_of SlotName.B slots.b) }
-    ensures sound { IfOk result IsLoaded }
+    ensures well_formed { IfOk result IsLoaded }
     ensures reader { IfOk result (λ loaded. loaded.reader ≡ log.reader) }
     ensures catalogue { IfOk result (λ loaded. loaded.catalogue ≡ catalogue) }
     ensures slots { IfOk result (λ loaded. loaded.slots ≡ slots) }
@@ -134,7 +134,7 @@ fn join_parts(
         gates,
     } = log;
     let newest = slots.newest();
-    let batches = behind(batches, batches_before(&gates, newest))?;
+    let batches = after(batches, batches_before(&gates, newest))?;
     Ok(Loaded {
         catalogue,
         plan,
@@ -156,8 +156,8 @@ fn txns_in(info: Option<SlotInfo>) -> u64
     }
 }
 
-// The batches behind so many.
-fn behind(mut batches: Vec<Batch>, count: usize) -> Result<Batches, NoMemory>
+// The batches after that many.
+fn after(mut batches: Vec<Batch>, count: usize) -> Result<Batches, NoMemory>
     requires { count ≤ length batches.items }
     ensures { IfOk result (λ rest. rest ≡ drop count batches.items) }
 {

@@ -1,10 +1,10 @@
 // Reads a whole log.
 ghost use Rattle.std.specs.Prelude.{◌≡◌, ◌∷◌, ◌++◌, [], ℕ, List, true, IfOk, IsErrOf, OnErr, OnOk};
 ghost use Rattle.pac_outside.specs.Causes.{one_more};
-ghost use Rattle.pac_outside.specs.Disk.{WhereTold};
+ghost use Rattle.pac_outside.specs.Disk.{IfKnown};
 ghost use Rattle.pac_types.specs.Typing.{CatalogueState};
 ghost use Rattle.pac_log.specs.declared.damage.DamageKind.{DamageKind as ADamageKind};
-ghost use Rattle.pac_log.specs.Reading.{IsStore, StandsBehind};
+ghost use Rattle.pac_log.specs.Reading.{IsStore, StandsAfter};
 ghost use Rattle.pac_recover.specs.Damages.{IsDamagedLog};
 ghost use Rattle.pac_recover.specs.Logs.{HoldsWhole, IsReadUpTo, IsWhole, ReadsTo};
 
@@ -19,7 +19,7 @@ use std::alloc::Global;
 pub(crate) struct WholeLog {
     pub reader: LogReader,
     pub batches: Vec<Batch>,
-    /// The first gate, and the one behind each batch.
+    /// The first gate, and the one after each batch.
     pub gates: Vec<GatePlace>,
 }
 
@@ -30,10 +30,10 @@ pub(crate) struct WholeLog {
 /// Those of [`LogReader::attach`] and [`LogReader::next_batch`].
 pub(crate) fn read_log<D: Disk>(alloc: Global, disk: &mut D) -> Result<WholeLog, LogError>
     ensures whole { IfOk result IsWhole }
-    ensures holds { IfOk result (λ log. WhereTold (λ old. HoldsWhole log old.now.seen) (D.told disk.old)) }
-    ensures no_store { IsErrOf result LogError.NoStore → WhereTold (λ old. (text : List ℕ) (catalogue : CatalogueState) → ¬ IsStore text catalogue old.now.seen) (D.told disk.old) }
-    ensures damaged { (at : ℕ) (kind : ADamageKind) → IsErrOf result (LogError.Damaged at kind) → WhereTold (λ old. IsDamagedLog at kind old.now.seen) (D.told disk.old) }
-    ensures same { D.told disk.new ≡ D.told disk.old }
+    ensures holds { IfOk result (λ log. IfKnown (λ old. HoldsWhole log old.now.seen) (D.known disk.old)) }
+    ensures no_store { IsErrOf result LogError.NoStore → IfKnown (λ old. (text : List ℕ) (catalogue : CatalogueState) → ¬ IsStore text catalogue old.now.seen) (D.known disk.old) }
+    ensures damaged { (at : ℕ) (kind : ADamageKind) → IsErrOf result (LogError.Damaged at kind) → IfKnown (λ old. IsDamagedLog at kind old.now.seen) (D.known disk.old) }
+    ensures same { D.known disk.new ≡ D.known disk.old }
     ensures counted { IsErrOf result LogError.DiskFault → D.faults disk.new ≡ one_more (D.faults disk.old) }
     ensures kept { ¬ IsErrOf result LogError.DiskFault → D.faults disk.new ≡ D.faults disk.old }
 {
@@ -46,7 +46,7 @@ pub(crate) fn read_log<D: Disk>(alloc: Global, disk: &mut D) -> Result<WholeLog,
     })
 }
 
-// All batches from the reader's gate on, and that gate and those behind each of them.
+// All batches from the reader's gate on, and that gate and those after each of them.
 fn read_batches<D: Disk>(
     alloc: Global,
     reader: &mut LogReader,
@@ -54,10 +54,10 @@ fn read_batches<D: Disk>(
 ) -> Result<(Vec<Batch>, Vec<GatePlace>), LogError>
     ensures read { IfOk result (λ read. IsReadUpTo reader.old.gate reader.new.gate read.0.items read.1.items) }
     ensures end { IfOk result (λ _. reader.new.is_at_end ≡ true) }
-    ensures holds { IfOk result (λ read. (text : List ℕ) → WhereTold (λ old. ReadsTo text reader.old.gate reader.new.gate read.0.items old.now.seen) (D.told disk.old)) }
-    ensures damaged { (at : ℕ) (kind : ADamageKind) → IsErrOf result (LogError.Damaged at kind) → (text : List ℕ) → WhereTold (λ old. StandsBehind text [] reader.old.gate old.now.seen → IsDamagedLog at kind old.now.seen) (D.told disk.old) }
+    ensures holds { IfOk result (λ read. (text : List ℕ) → IfKnown (λ old. ReadsTo text reader.old.gate reader.new.gate read.0.items old.now.seen) (D.known disk.old)) }
+    ensures damaged { (at : ℕ) (kind : ADamageKind) → IsErrOf result (LogError.Damaged at kind) → (text : List ℕ) → IfKnown (λ old. StandsAfter text [] reader.old.gate old.now.seen → IsDamagedLog at kind old.now.seen) (D.known disk.old) }
     ensures known { ¬ IsErrOf result LogError.NoStore }
-    ensures same { D.told disk.new ≡ D.told disk.old }
+    ensures same { D.known disk.new ≡ D.known disk.old }
     ensures counted { IsErrOf result LogError.DiskFault → D.faults disk.new ≡ one_more (D.faults disk.old) }
     ensures kept { ¬ IsErrOf result LogError.DiskFault → D.faults disk.new ≡ D.faults disk.old }
 {
@@ -77,7 +77,7 @@ fn read_batches<D: Disk>(
     unreachable!()
 }
 
-// Puts an item behind the others.
+// Puts an item after the others.
 fn push<T: Drop>(items: &mut Vec<T>, item: T) -> Result<(), LogError>
     ensures items { OnOk result (items.new.items ≡ items.old.items ++ item ∷ []) }
     ensures memory { OnErr result (IsErrOf result LogError.NoMemory) }

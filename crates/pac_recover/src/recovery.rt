@@ -1,6 +1,6 @@
 // Recovers the tables of a store.
 ghost use Rattle.std.specs.Prelude.{◌≡◌, ◌+◌, ℕ, List, IfOk, IsErrOf, None, length};
-ghost use Rattle.pac_outside.specs.Devices.{OneRose, each};
+ghost use Rattle.pac_outside.specs.Devices.{OneFaulted, each};
 ghost use Rattle.pac_ops.specs.declared.note.Note.{Note as ANote};
 ghost use Rattle.pac_ops.specs.declared.transaction.Txn.{Txn as ATxn};
 ghost use Rattle.pac_types.specs.Execution.{first_over};
@@ -9,11 +9,11 @@ ghost use Rattle.pac_types.specs.Typing.{CatalogueState};
 ghost use Rattle.pac_log.specs.declared.damage.DamageKind.{DamageKind as ALogDamage};
 ghost use Rattle.pac_check.specs.declared.damage.SlotDamageKind.{SlotDamageKind as ASlotDamage};
 ghost use Rattle.pac_check.specs.declared.info.SlotName.{SlotName as ASlotName};
-ghost use Rattle.pac_store.specs.Images.{WhereRead};
+ghost use Rattle.pac_store.specs.Images.{IfReadKnown};
 ghost use Rattle.pac_store.specs.Stands.{StandsFor};
 ghost use Rattle.pac_recover.specs.declared.errors.Damage.TheVariants.{Log as InLog, Slot as InSlot};
 ghost use Rattle.pac_recover.specs.Recovering.{AbortsIn, IsOverIn, IsRecoveredFrom, Recovers};
-ghost use Rattle.pac_recover.specs.Refusals.{HasDamage, HasNoStore, WhereHeld};
+ghost use Rattle.pac_recover.specs.Refusals.{HasDamage, HasNoStore, IfImagesKnown};
 
 use crate::batches::execute;
 use crate::{Loaded, RecoverError, load, test_rows};
@@ -31,7 +31,7 @@ pub struct Recovered {
     pub txns: u64,
 }
 
-/// Recovers the tables of a store, on devices that are only read: executes the transactions of the log behind the newest
+/// Recovers the tables of a store, on devices that are only read: executes the transactions of the log after the newest
 /// slot over that one's tables, one after another, and then tests the limit of rows. The number of workers has no effect,
 /// and no gate is entered.
 ///
@@ -50,21 +50,21 @@ pub fn recover<D: Disk, G: Gate>(
     _gate: &G,
 ) -> Result<Recovered, RecoverError>
     // What is recovered, and when each refusal comes.
-    ensures recovered { IfOk result (λ recovered. WhereRead (IsRecoveredFrom recovered.catalogue recovered.tables.rows recovered.txns) (D.told devices.old.log) (D.told devices.old.slot_a) (D.told devices.old.slot_b)) }
+    ensures recovered { IfOk result (λ recovered. IfReadKnown (IsRecoveredFrom recovered.catalogue recovered.tables.rows recovered.txns) (D.known devices.old.log) (D.known devices.old.slot_a) (D.known devices.old.slot_b)) }
     ensures within { IfOk result (λ recovered. first_over limit (length recovered.catalogue.tables) recovered.tables.rows ≡ None) }
     ensures fits { IfOk result (λ recovered. FitsCatalogue recovered.catalogue recovered.tables.tables recovered.tables.rows) }
-    ensures no_store { IsErrOf result RecoverError.NoStore → HasNoStore (each D.told devices.old) }
-    ensures log_damage { (at : ℕ) (kind : ALogDamage) → IsErrOf result (RecoverError.Damaged (InLog at kind)) → HasDamage (InLog at kind) (each D.told devices.old) }
-    ensures slot_damage { (slot : ASlotName) (at : ℕ) (kind : ASlotDamage) → IsErrOf result (RecoverError.Damaged (InSlot slot at kind)) → HasDamage (InSlot slot at kind) (each D.told devices.old) }
-    ensures abort { (note : ANote) → IsErrOf result (RecoverError.AbortInLog note) → WhereHeld (AbortsIn note) (each D.told devices.old) }
-    ensures over { (table : List ℕ) (rows most : ℕ) → IsErrOf result (RecoverError.RowsOver table rows most) → (most ≡ limit) × WhereHeld (IsOverIn table rows limit) (each D.told devices.old) }
+    ensures no_store { IsErrOf result RecoverError.NoStore → HasNoStore (each D.known devices.old) }
+    ensures log_damage { (at : ℕ) (kind : ALogDamage) → IsErrOf result (RecoverError.Damaged (InLog at kind)) → HasDamage (InLog at kind) (each D.known devices.old) }
+    ensures slot_damage { (slot : ASlotName) (at : ℕ) (kind : ASlotDamage) → IsErrOf result (RecoverError.Damaged (InSlot slot at kind)) → HasDamage (InSlot slot at kind) (each D.known devices.old) }
+    ensures abort { (note : ANote) → IsErrOf result (RecoverError.AbortInLog note) → IfImagesKnown (AbortsIn note) (each D.known devices.old) }
+    ensures over { (table : List ℕ) (rows most : ℕ) → IsErrOf result (RecoverError.RowsOver table rows most) → (most ≡ limit) × IfImagesKnown (IsOverIn table rows limit) (each D.known devices.old) }
 
-    // Where the devices stand for a history, it is a front of it that is recovered.
-    ensures stands { (text : List ℕ) (catalogue : CatalogueState) (history : List ATxn) (least : ℕ) → WhereRead (λ images. StandsFor text catalogue history least images → Recovers catalogue history least result) (D.told devices.old.log) (D.told devices.old.slot_a) (D.told devices.old.slot_b) }
+    // Where the devices stand for a history, it is a prefix of it that is recovered.
+    ensures stands { (text : List ℕ) (catalogue : CatalogueState) (history : List ATxn) (least : ℕ) → IfReadKnown (λ images. StandsFor text catalogue history least images → Recovers catalogue history least result) (D.known devices.old.log) (D.known devices.old.slot_a) (D.known devices.old.slot_b) }
 
     // The devices are only read, and no call of one comes after one that failed.
-    ensures same { each D.told devices.new ≡ each D.told devices.old }
-    ensures disk_fault { IsErrOf result RecoverError.DiskFault → OneRose (each D.faults devices.old) (each D.faults devices.new) }
+    ensures same { each D.known devices.new ≡ each D.known devices.old }
+    ensures disk_fault { IsErrOf result RecoverError.DiskFault → OneFaulted (each D.faults devices.old) (each D.faults devices.new) }
     ensures quiet { ¬ IsErrOf result RecoverError.DiskFault → each D.faults devices.new ≡ each D.faults devices.old }
 {
     let Loaded {

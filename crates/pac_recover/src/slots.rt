@@ -1,7 +1,7 @@
 // Reads the slots of a store.
 ghost use Rattle.std.specs.Prelude.{◌≡◌, ◌∷◌, [], ℕ, false, IfOk, IfSome, IsErrOf, OnOk, Some as HasInfo, None as NoInfo, slice_get};
-ghost use Rattle.pac_outside.specs.Devices.{OneRose};
-ghost use Rattle.pac_outside.specs.Disk.{WhereTold};
+ghost use Rattle.pac_outside.specs.Devices.{OneFaulted};
+ghost use Rattle.pac_outside.specs.Disk.{IfKnown};
 ghost use Rattle.pac_types.specs.Fits.{FitsCatalogue};
 ghost use Rattle.pac_log.specs.declared.damage.DamageKind.{DamageKind as ALogDamage};
 ghost use Rattle.pac_check.specs.declared.damage.SlotDamageKind.{SlotDamageKind as ASlotDamage};
@@ -23,7 +23,7 @@ use pac_tables::OrderedRows;
 use pac_types::Catalogue;
 use std::alloc::Global;
 
-// Where the number of transactions and the place stand in a slot.
+// Where the number of transactions and the offset stand in a slot.
 const PLACE: u64 = 9;
 
 /// What stands in two slots, each open one of which is at one of these gates.
@@ -38,18 +38,18 @@ pub(crate) fn read_slots<D: Disk>(
     a: &mut D,
     b: &mut D,
 ) -> Result<Slots, LoadError>
-    ensures a { IfOk result (λ slots. WhereTold (λ old. IsSlot cat.now.tables slots.a old.now.seen) (D.told a.old)) }
-    ensures b { IfOk result (λ slots. WhereTold (λ old. IsSlot cat.now.tables slots.b old.now.seen) (D.told b.old)) }
+    ensures a { IfOk result (λ slots. IfKnown (λ old. IsSlot cat.now.tables slots.a old.now.seen) (D.known a.old)) }
+    ensures b { IfOk result (λ slots. IfKnown (λ old. IsSlot cat.now.tables slots.b old.now.seen) (D.known b.old)) }
     ensures works { IfOk result (λ slots. slots.has_failed ≡ false) }
     ensures among_a { IfOk result (λ slots. IsInfoAmong gates.now (info_of SlotName.A slots.a)) }
     ensures among_b { IfOk result (λ slots. IsInfoAmong gates.now (info_of SlotName.B slots.b)) }
     ensures damaged { (slot : ASlotName) (at : ℕ) (kind : ASlotDamage) → IsErrOf result (LoadError.Damaged (InSlot slot at kind))
-        → WhereTold (λ x. WhereTold (λ y. IsSlotDamage (IsAmongGates gates.now) cat.now.tables slot at kind x.now.seen y.now.seen) (D.told b.old)) (D.told a.old) }
+        → IfKnown (λ x. IfKnown (λ y. IsSlotDamage (IsAmongGates gates.now) cat.now.tables slot at kind x.now.seen y.now.seen) (D.known b.old)) (D.known a.old) }
     ensures no_log { (at : ℕ) (kind : ALogDamage) → ¬ IsErrOf result (LoadError.Damaged (InLog at kind)) }
     ensures no_store { ¬ IsErrOf result LoadError.NoStore }
-    ensures same_a { D.told a.new ≡ D.told a.old }
-    ensures same_b { D.told b.new ≡ D.told b.old }
-    ensures disk_fault { IsErrOf result LoadError.DiskFault → OneRose (D.faults a.old ∷ D.faults b.old ∷ []) (D.faults a.new ∷ D.faults b.new ∷ []) }
+    ensures same_a { D.known a.new ≡ D.known a.old }
+    ensures same_b { D.known b.new ≡ D.known b.old }
+    ensures disk_fault { IsErrOf result LoadError.DiskFault → OneFaulted (D.faults a.old ∷ D.faults b.old ∷ []) (D.faults a.new ∷ D.faults b.new ∷ []) }
     ensures quiet_a { ¬ IsErrOf result LoadError.DiskFault → D.faults a.new ≡ D.faults a.old }
     ensures quiet_b { ¬ IsErrOf result LoadError.DiskFault → D.faults b.new ≡ D.faults b.old }
 {
@@ -87,7 +87,7 @@ fn place_in(info: &SlotInfo) -> GatePlace
     }
 }
 
-/// How many batches stand in front of the gate that the newest slot names; none where no slot is open.
+/// How many batches stand before the gate that the newest slot names; none where no slot is open.
 pub(crate) fn batches_before(gates: &[GatePlace], newest: Option<SlotInfo>) -> usize
     requires { IsInfoAmong gates.now newest }
     ensures none { newest ≡ NoInfo → result ≡ 0 }
@@ -114,16 +114,16 @@ pub(crate) fn read_tables<D: Disk>(
     a: &mut D,
     b: &mut D,
 ) -> Result<OrderedRows, LoadError>
-    requires holds_a { WhereTold (λ old. IsSlot cat.now.tables slots.now.a old.now.seen) (D.told a.old) }
-    requires holds_b { WhereTold (λ old. IsSlot cat.now.tables slots.now.b old.now.seen) (D.told b.old) }
+    requires holds_a { IfKnown (λ old. IsSlot cat.now.tables slots.now.a old.now.seen) (D.known a.old) }
+    requires holds_b { IfKnown (λ old. IsSlot cat.now.tables slots.now.b old.now.seen) (D.known b.old) }
     ensures fits { IfOk result (λ rows. FitsCatalogue cat.now rows.tables rows.rows) }
-    ensures newest { IfOk result (λ rows. WhereTold (λ x. WhereTold (λ y. AreNewestOf cat.now slots.now rows.rows x.now.seen y.now.seen) (D.told b.old)) (D.told a.old)) }
-    ensures whole { (slot : ASlotName) (at : ℕ) (kind : ASlotDamage) → IsErrOf result (LoadError.Damaged (InSlot slot at kind)) → WhereTold (λ x. WhereTold (λ y. ⊥) (D.told b.old)) (D.told a.old) }
+    ensures newest { IfOk result (λ rows. IfKnown (λ x. IfKnown (λ y. AreNewestOf cat.now slots.now rows.rows x.now.seen y.now.seen) (D.known b.old)) (D.known a.old)) }
+    ensures whole { (slot : ASlotName) (at : ℕ) (kind : ASlotDamage) → IsErrOf result (LoadError.Damaged (InSlot slot at kind)) → IfKnown (λ x. IfKnown (λ y. ⊥) (D.known b.old)) (D.known a.old) }
     ensures no_log { (at : ℕ) (kind : ALogDamage) → ¬ IsErrOf result (LoadError.Damaged (InLog at kind)) }
     ensures no_store { ¬ IsErrOf result LoadError.NoStore }
-    ensures same_a { D.told a.new ≡ D.told a.old }
-    ensures same_b { D.told b.new ≡ D.told b.old }
-    ensures disk_fault { IsErrOf result LoadError.DiskFault → OneRose (D.faults a.old ∷ D.faults b.old ∷ []) (D.faults a.new ∷ D.faults b.new ∷ []) }
+    ensures same_a { D.known a.new ≡ D.known a.old }
+    ensures same_b { D.known b.new ≡ D.known b.old }
+    ensures disk_fault { IsErrOf result LoadError.DiskFault → OneFaulted (D.faults a.old ∷ D.faults b.old ∷ []) (D.faults a.new ∷ D.faults b.new ∷ []) }
     ensures quiet_a { ¬ IsErrOf result LoadError.DiskFault → D.faults a.new ≡ D.faults a.old }
     ensures quiet_b { ¬ IsErrOf result LoadError.DiskFault → D.faults b.new ≡ D.faults b.old }
 {

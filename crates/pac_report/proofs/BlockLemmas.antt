@@ -15,14 +15,14 @@ use Rattle.pac_report.specs.GroupTexts.{Hold, listed_members, first_nodes, with_
 use Rattle.pac_report.proofs.GroupLemmas.{IsLed, listed_more, hold_put, members_in, members_out}
 
 -- no node's text is empty
-led_behind : (name rest : List ℕ) (texts : List (List ℕ)) → IsLed ((name ++ codes "." ++ rest) ∷ texts)
-led_behind [] rest texts = tt
-led_behind (b ∷ bs) rest texts = tt
+led_after : (name rest : List ℕ) (texts : List (List ℕ)) → IsLed ((name ++ codes "." ++ rest) ∷ texts)
+led_after [] rest texts = tt
+led_after (b ∷ bs) rest texts = tt
 
 nodes_led : (cat : CatalogueState) (nodes : List Node) → IsLed (map (node_text cat) nodes)
 nodes_led cat [] = tt
 nodes_led cat (VirtualWrite t ∷ nodes) = tt
-nodes_led cat (Operation p i ∷ nodes) = led_behind (slice_index_or (map (λ (proc : Proc). proc.name) cat.procs) p []) (decimal i) (map (node_text cat) nodes)
+nodes_led cat (Operation p i ∷ nodes) = led_after (slice_index_or (map (λ (proc : Proc). proc.name) cat.procs) p []) (decimal i) (map (node_text cat) nodes)
 
 -- a node more stands in its block's text
 pub node_put : (cat : CatalogueState) (plan : PlanParts) (nodes : List Node) (n : Node) (texts : List (Vec ℕ Global)) (count block : ℕ) (text : Vec ℕ Global) → Hold texts (listed_members cat plan nodes) count → block ≡ block_in plan n → block < count → text.items ≡ with_listed (listed_members cat plan nodes block) (node_text cat n) → Hold (set texts block text) (listed_members cat plan (nodes ++ n ∷ [])) count

@@ -30,7 +30,7 @@ put_text F G first (suc n) (suc k) y lt is same =
     put_text F G (first + 1) n k y (omega (arith, lt)) (is ∙ ap G at) (λ i other. same i (λ e. other (e ∙ at))) in
     λ i. here i ∷ more i
 
--- one text is put in the place of another
+-- one text is put instead of another
 pub hold_put : (texts : List (Vec ℕ Global)) (F G : ℕ → List ℕ) (count k : ℕ) (text : Vec ℕ Global) → Hold texts F count → k < count → text.items ≡ G k → ((i : ℕ) → (i ≡ k → ⊥) → G i ≡ F i) → Hold (set texts k text) G count
 hold_put texts F G count k text hold lt is same =
     map-set (λ (v : Vec ℕ Global). v.items) texts k text

@@ -8,7 +8,7 @@ use Rattle.pac_plan.specs.Analysis.{block_in}
 use Rattle.pac_types.specs.Typing.{CatalogueState}
 use Rattle.pac_report.specs.Explain.{members, slice_member, operation_nodes, node_text, listed_texts}
 
--- so many lists hold the texts of the groups from 0 on
+-- that many lists hold the texts of the groups from 0 on
 abbrev pub Hold : List (Vec ℕ Global) → (ℕ → List ℕ) → ℕ → Type 0
 Hold texts text count = map (λ list. list.items) texts ≡ map text (range_with_len 0 count)
 
@@ -28,7 +28,7 @@ listed_members cat plan nodes block = listed_texts (map (node_text cat) (members
 abbrev pub first_nodes : PlanParts → ℕ → List Node
 first_nodes plan count = map VirtualWrite (range_with_len 0 (length plan.tables)) ++ operation_nodes 0 (take count plan.programs)
 
--- a text behind those that stand in a list
+-- a text after those that stand in a list
 abbrev pub with_listed : List ℕ → List ℕ → List ℕ
 with_listed [] text = text
 with_listed (b ∷ bs) text = (b ∷ bs) ++ codes ", " ++ text

@@ -1,4 +1,4 @@
--- The lines that the error sink is told of a status.
+-- The line that is reported for a status.
 use Rattle.std.specs.Prelude.{ℕ, Bool, true, false, List, ◌++◌, codes}
 use Rattle.std.specs.Fmt.{decimal}
 use Rattle.pac_report.specs.declared.status.StatusLine.{StatusLine}
@@ -6,7 +6,7 @@ use Rattle.pac_report.specs.declared.status.StatusLine.TheVariants.{Usage, Catal
 
 -- ---- the words of lines with names and numbers
 
--- the place of a catalogue's first fault, and its kind
+-- the offset of a catalogue's first fault, and its kind
 abbrev pub catalogue_words : ℕ → List ℕ → List ℕ
 catalogue_words at kind = codes "catalogue " ++ decimal at ++ codes " " ++ kind
 
@@ -14,7 +14,7 @@ catalogue_words at kind = codes "catalogue " ++ decimal at ++ codes " " ++ kind
 abbrev pub operations_words : List ℕ → ℕ → List ℕ
 operations_words proc count = codes "operations " ++ proc ++ codes " " ++ decimal count
 
--- the number of a refused line, the place of its fault in it, and the kind
+-- the number of a refused line, the offset of its fault in it, and the kind
 abbrev pub script_words : ℕ → ℕ → List ℕ → List ℕ
 script_words line at kind = codes "script " ++ decimal line ++ codes " " ++ decimal at ++ codes " " ++ kind
 
@@ -22,7 +22,7 @@ script_words line at kind = codes "script " ++ decimal line ++ codes " " ++ deci
 abbrev pub not_empty_words : List ℕ → ℕ → List ℕ
 not_empty_words device length = codes "not empty " ++ device ++ codes " " ++ decimal length
 
--- the name of a damaged device, the place of its first damage, and the kind
+-- the name of a damaged device, the offset of its first damage, and the kind
 abbrev pub damage_words : List ℕ → ℕ → List ℕ → List ℕ
 damage_words device at kind = codes "damaged " ++ device ++ codes " " ++ decimal at ++ codes " " ++ kind
 
@@ -44,7 +44,7 @@ too_large_words bytes = codes "checkpoint too large " ++ decimal bytes
 
 -- ---- the lines
 
--- words with a line feed behind them
+-- words with a line feed after them
 abbrev pub as_line : List ℕ → List ℕ
 as_line words = words ++ codes "\n"
 

@@ -118,7 +118,7 @@ fn push_operation(text: &mut Vec<u8>, name: Name, op: usize) -> Result<(), NoMem
     push_count(text, op as u64)
 }
 
-// A comma and a space behind what stands there.
+// A comma and a space after what stands there.
 fn separate(text: &mut Vec<u8>) -> Result<(), NoMemory>
     ensures { OnOk result ((added : List ℕ) → text.new.items ++ added ≡ with_listed text.old.items added) }
 {

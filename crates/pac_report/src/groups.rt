@@ -9,7 +9,7 @@ use pac_base::NoMemory;
 use pac_value::push_count;
 use std::alloc::Global;
 
-// So many texts, with nothing in them.
+// That many texts, with nothing in them.
 pub(crate) fn empty_texts(alloc: Global, count: usize) -> Result<Vec<Vec<u8>>, NoMemory>
     ensures { IfOk result (λ texts. Hold texts.items no_text count) }
 {
@@ -20,7 +20,7 @@ pub(crate) fn empty_texts(alloc: Global, count: usize) -> Result<Vec<Vec<u8>>, N
     Ok(texts)
 }
 
-// Two groups, behind the words of their line.
+// Two groups, after the words of their line.
 pub(crate) fn push_ends(out: &mut Vec<u8>, edge: (u16, u16)) -> Result<(), NoMemory>
     ensures { OnOk result (Grew out.old.items out.new.items (codes " " ++ decimal edge.0 ++ codes " " ++ decimal edge.1 ++ codes "\n")) }
 {

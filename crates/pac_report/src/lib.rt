@@ -3,8 +3,8 @@
 //! - [`dump`]: the text of all tables, each with its rows in the order of their keys.
 //! - [`explain_text`]: the text of the graph of a catalogue, which are the slices of its procedures and the blocks of its
 //!   plan, with the edges between them.
-//! - [`reply_text`]: the line that tells a reply to a request.
-//! - [`fault_text`]: the line that tells a status, a [`StatusLine`]; [`StatusLine::text`]: the same without memory, where the
+//! - [`reply_text`]: the line that reports a reply to a request.
+//! - [`fault_text`]: the line that reports a status, a [`StatusLine`]; [`StatusLine::text`]: the same without memory, where the
 //!   line is one text.
 //!
 //! `specs/Dump.antt`, `specs/Explain.antt`, `specs/Replies.antt` and `specs/Status.antt` say which texts these are, by the

@@ -15,7 +15,7 @@ use pac_types::Catalogue;
 use pac_value::{Key, Row, push_count, push_key, push_values};
 use std::alloc::Global;
 
-/// The line that tells a reply: `committed N`, `aborted OP REASON`, `aborted Full TABLE`, `T[KEY] = (V1, V2)`,
+/// The line that reports a reply: `committed N`, `aborted OP REASON`, `aborted Full TABLE`, `T[KEY] = (V1, V2)`,
 /// `T[KEY] absent`, `refused AT KIND` or `saved N`. A table that isn't in the catalogue has no name in it.
 ///
 /// # Errors
@@ -90,7 +90,7 @@ fn push_shown(
     push_row(out, row)
 }
 
-// What stands at a cell, behind its name.
+// What stands at a cell, after its name.
 fn push_row(out: &mut Vec<u8>, row: &Option<Row>) -> Result<(), NoMemory>
     ensures { OnOk result (Grew out.old.items out.new.items (shown_row row.now)) }
 {

@@ -9,7 +9,7 @@ use pac_base::NoMemory;
 use pac_value::push_count;
 use std::alloc::Global;
 
-/// What the error sink is told of a status other than 0. Names of procedures and tables are their bytes, as a
+/// What is reported for a status other than 0. Names of procedures and tables are their bytes, as a
 /// [`Name`](pac_value::Name) lends them; a device is `log`, `a` or `b`; kinds and reasons are as they are printed.
 #[derive(Clone, Copy, Debug)]
 pub enum StatusLine<'a> {
@@ -31,7 +31,7 @@ pub enum StatusLine<'a> {
         at: u64,
         kind: &'a str,
     },
-    /// A device has so many bytes, and was to have none.
+    /// A device has that many bytes, and was to have none.
     NotEmpty {
         device: &'a str,
         length: u64,
@@ -64,13 +64,13 @@ pub enum StatusLine<'a> {
     DiskFault,
     /// An allocation was refused.
     NoMemory,
-    /// The log would have so many bytes.
+    /// The log would have that many bytes.
     LogFull {
         need: u64,
     },
     /// The input has too many bytes.
     InputTooLong,
-    /// A checkpoint's slot would have so many bytes.
+    /// A checkpoint's slot would have that many bytes.
     TooLarge {
         bytes: u64,
     },
@@ -104,7 +104,7 @@ impl StatusLine<'_> {
     }
 }
 
-/// The line that the error sink is told of a status.
+/// The line that is reported for a status.
 ///
 /// # Errors
 ///
@@ -154,7 +154,7 @@ fn push_counted(out: &mut Vec<u8>, words: &[u8], count: u64) -> Result<(), NoMem
     push_number(out, count)
 }
 
-// Words, a place, and a kind.
+// Words, an offset, and a kind.
 fn push_fault(out: &mut Vec<u8>, words: &[u8], at: u64, kind: &str) -> Result<(), NoMemory>
     ensures { OnOk result (Grew out.old.items out.new.items (words.now ++ codes " " ++ decimal at ++ codes " " ++ kind.now)) }
 {

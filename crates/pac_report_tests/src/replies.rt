@@ -16,16 +16,16 @@ fn catalogue(alloc: Global) -> Result<Catalogue, Fail> {
     }
 }
 
-fn is_told(alloc: Global, reply: &Reply, text: &str) -> Result<bool, Fail> {
+fn is_reported(alloc: Global, reply: &Reply, text: &str) -> Result<bool, Fail> {
     let catalogue = catalogue(alloc)?;
     match reply_text(alloc, &catalogue, reply) {
-        Ok(told) => Ok(told.as_slice() == text.as_bytes()),
+        Ok(reported) => Ok(reported.as_slice() == text.as_bytes()),
         Err(_) => Err(Fail::from("no memory")),
     }
 }
 
 #[test]
-fn transactions_are_told_by_their_numbers(rt: HostRuntime) -> Result<(), Fail> {
+fn transactions_are_reported_by_their_numbers(rt: HostRuntime) -> Result<(), Fail> {
     let alloc = rt.alloc();
     for (reply, text) in [
         (Reply::Committed { txn: 15 }, "committed 15\n"),
@@ -46,13 +46,13 @@ fn transactions_are_told_by_their_numbers(rt: HostRuntime) -> Result<(), Fail> {
         ),
         (Reply::Saved { txns: 10 }, "saved 10\n"),
     ] {
-        assert!(rt; is_told(alloc, &reply, text)?);
+        assert!(rt; is_reported(alloc, &reply, text)?);
     }
     Ok(())
 }
 
 #[test]
-fn rows_are_told_by_their_cells(rt: HostRuntime) -> Result<(), Fail> {
+fn rows_are_reported_by_their_cells(rt: HostRuntime) -> Result<(), Fail> {
     let alloc = rt.alloc();
     let quoted = match Text::from_bytes(b"a\"c") {
         Some(text) => text,
@@ -70,7 +70,7 @@ fn rows_are_told_by_their_cells(rt: HostRuntime) -> Result<(), Fail> {
             "N[\"a\\\"c\"] = (-3, \"a\\\"c\")\n",
         ),
     ] {
-        assert!(rt; is_told(alloc, &Reply::Shown { table, key, row }, text)?);
+        assert!(rt; is_reported(alloc, &Reply::Shown { table, key, row }, text)?);
     }
     Ok(())
 }

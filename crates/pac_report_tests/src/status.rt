@@ -3,9 +3,9 @@ use pac_report::{StatusLine, fault_text};
 use std::alloc::Global;
 use std::test::Fail;
 
-fn is_told(alloc: Global, line: &StatusLine<'_>, text: &str) -> Result<bool, Fail> {
+fn is_reported(alloc: Global, line: &StatusLine<'_>, text: &str) -> Result<bool, Fail> {
     match fault_text(alloc, line) {
-        Ok(told) => Ok(told.as_slice() == text.as_bytes()),
+        Ok(reported) => Ok(reported.as_slice() == text.as_bytes()),
         Err(_) => Err(Fail::from("no memory")),
     }
 }
@@ -27,7 +27,7 @@ const PLAIN: &[(StatusLine<'_>, &str)] = &[
 fn statuses_without_numbers_have_their_lines(rt: HostRuntime) -> Result<(), Fail> {
     let alloc = rt.alloc();
     for &(line, text) in PLAIN {
-        assert!(rt; is_told(alloc, &line, text)?);
+        assert!(rt; is_reported(alloc, &line, text)?);
     }
     Ok(())
 }
@@ -100,7 +100,7 @@ const NUMBERED: &[(StatusLine<'_>, &str)] = &[
 fn statuses_with_numbers_have_their_lines(rt: HostRuntime) -> Result<(), Fail> {
     let alloc = rt.alloc();
     for &(line, text) in NUMBERED {
-        assert!(rt; is_told(alloc, &line, text)?);
+        assert!(rt; is_reported(alloc, &line, text)?);
     }
     Ok(())
 }

@@ -12,8 +12,8 @@ use Rattle.pac_request.specs.Answers.{AnswersBy}
 use Rattle.pac_request.specs.Batches.{asked_in, steps, first_run, other_runs, flush_runs, AreLongest, as_batches}
 use Rattle.pac_request.specs.Lines.{lines, with_first}
 use Rattle.pac_request.specs.RequestFits.{AskedFits, BatchesFit, BatchesHaveNumbers}
-use Rattle.pac_request.specs.RequestMeaning.{asked_by}
-use Rattle.pac_request.specs.Script.{text_behind, lines_behind, Accepts, HasBatches, ScriptSays}
+use Rattle.pac_request.specs.RequestMeaning.{request_of_tokens}
+use Rattle.pac_request.specs.Script.{text_after, lines_after, Accepts, HasBatches, ScriptSays}
 use Rattle.pac_request.specs.ScriptLines.{ScriptLineSays}
 use Rattle.pac_request.specs.declared.fault.LineFault.{LineFault}
 use Rattle.pac_request.specs.declared.node.LineNode.{LineNode}
@@ -28,7 +28,7 @@ use Rattle.pac_request.proofs.RequestFitLemmas.{asked_fits}
 
 -- ---- lines
 
-tokens_fit : (catalogue : CatalogueState) (asked : Option Request) (said : Result LineNode LineFault) → asked_by catalogue said ≡ Ok asked → AskedFits catalogue asked
+tokens_fit : (catalogue : CatalogueState) (asked : Option Request) (said : Result LineNode LineFault) → request_of_tokens catalogue said ≡ Ok asked → AskedFits catalogue asked
 tokens_fit catalogue asked (Ok node) e = asked_fits catalogue node asked e
 tokens_fit catalogue asked (Err fault) e = absurd cc
 
@@ -84,9 +84,9 @@ others_fit catalogue (Flush ∷ more) h = (first_fits catalogue more h.1, others
 -- ---- batches
 
 -- what holds of all items of two lists
-two_fronts : {A : Type 0} (P : A → Type 0) (xs ys : List A) → AllByRecursion P (xs ++ ys) → AllByRecursion P xs × AllByRecursion P ys
-two_fronts P [] ys h = (tt, h)
-two_fronts P (x ∷ xs) ys h = let more = two_fronts P xs ys h.1 in ((h.0, more.0), more.1)
+two_prefixes : {A : Type 0} (P : A → Type 0) (xs ys : List A) → AllByRecursion P (xs ++ ys) → AllByRecursion P xs × AllByRecursion P ys
+two_prefixes P [] ys h = (tt, h)
+two_prefixes P (x ∷ xs) ys h = let more = two_prefixes P xs ys h.1 in ((h.0, more.0), more.1)
 
 both_hold : {A : Type 0} (P : A → Type 0) (xs ys : List A) → AllByRecursion P xs → AllByRecursion P ys → AllByRecursion P (xs ++ ys)
 both_hold P [] ys h k = k
@@ -95,7 +95,7 @@ both_hold P (x ∷ xs) ys h k = (h.0, both_hold P xs ys h.1 k)
 longest_fit : (catalogue : CatalogueState) (txns : List Txn) (parts : Parts) → AreLongest txns parts → AllFit catalogue txns → PartsFit catalogue parts
 longest_fit catalogue txns [] longest h = tt
 longest_fit catalogue txns (part ∷ parts) longest h =
-    let two = two_fronts (TxnFits catalogue) part longest.0 (subst (AllFit catalogue) longest.1 h) in
+    let two = two_prefixes (TxnFits catalogue) part longest.0 (subst (AllFit catalogue) longest.1 h) in
     (two.0, longest_fit catalogue longest.0 parts longest.5 two.1)
 
 all_parts_fit : (catalogue : CatalogueState) (runs : List (List Txn)) (parts : List Parts) → AllZip AreLongest runs parts → PartsFit catalogue runs → PartsFit catalogue (all_of parts)
@@ -116,7 +116,7 @@ batches_fit catalogue ls made h =
     subst (BatchesFit catalogue) h.cut.are (batches_of_parts catalogue 1 (all_of h.cut.parts) parts)
 
 pub script_fits : (text : List ℕ) (r : Result Script (Refusal ScriptFault)) → AnswersBy (ScriptSays text) r → IfOk r (λ script. BatchesFit script.catalogue script.batches)
-script_fits text (Ok script) h = batches_fit script.catalogue (lines_behind (text_behind text h.mark)) script.batches h.parts.batches
+script_fits text (Ok script) h = batches_fit script.catalogue (lines_after (text_after text h.mark)) script.batches h.parts.batches
 script_fits text (Err e) h = tt
 
 -- ---- numbers
@@ -182,11 +182,11 @@ lines_few (b ∷ bs) = by (eqb b 10) (lines_few bs)
     by true few = omega (arith, few)
     by false few = with_first_few b (lines bs) (length (b ∷ bs) + 1) (omega (arith, few)) (omega arith)
 
-behind_few : (behind : List ℕ) → length (lines_behind behind) ≤ length behind
-behind_few [] = omega arith
-behind_few (feed ∷ text) = let few = lines_few text in omega (arith, few)
+after_few : (after : List ℕ) → length (lines_after after) ≤ length after
+after_few [] = omega arith
+after_few (feed ∷ text) = let few = lines_few text in omega (arith, few)
 
-text_few : (text : List ℕ) (mark : Option ℕ) → length (text_behind text mark) ≤ length text
+text_few : (text : List ℕ) (mark : Option ℕ) → length (text_after text mark) ≤ length text
 text_few text None = omega arith
 text_few text (Some at) = omega (arith, length-drop (at + 3) text)
 
@@ -204,6 +204,6 @@ batches_numbered catalogue ls made few h =
 
 pub script_numbered : (text : List ℕ) (r : Result Script (Refusal ScriptFault)) → length text < 2 ^ 63 → AnswersBy (ScriptSays text) r → IfOk r (λ script. BatchesHaveNumbers script.batches)
 script_numbered text (Ok script) short h =
-    let behind = text_behind text h.mark in
-    batches_numbered script.catalogue (lines_behind behind) script.batches (omega (arith, short, behind_few behind, text_few text h.mark)) h.parts.batches
+    let after = text_after text h.mark in
+    batches_numbered script.catalogue (lines_after after) script.batches (omega (arith, short, after_few after, text_few text h.mark)) h.parts.batches
 script_numbered text (Err e) short h = tt

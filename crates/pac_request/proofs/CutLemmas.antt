@@ -1,4 +1,4 @@
--- Cutting one step after another gives the longest fronts between flushes.
+-- Cutting one step after another gives the longest prefixes between flushes.
 use Rattle.std.proofs.Common.{◌≡◌, ◌∙◌, ◌+◌, ℕ, Bool, true, false, cond, leb, List, [], ◌∷◌, ◌++◌, length, refl, sym, ap, subst, append_assoc, arith}
 use Rattle.std.specs.List.{AllZip, flat_map}
 use Rattle.std.proofs.lemmas.List.{append-nil}

@@ -1,4 +1,4 @@
--- The first line of a text, and those behind it.
+-- The first line of a text, and those after it.
 use Rattle.std.proofs.Common.{◌≡◌, ◌+◌, ◌<◌, ◌≤◌, ℕ, suc, Bool, true, false, cond, not, List, [], ◌∷◌, take, drop, length, Option, Some, None, eqb, ltb, refl, ap, arith}
 use Rattle.std.specs.List.{position_or_len, position}
 use Rattle.std.proofs.lemmas.Bool.{ltb-true, ltb-false}
@@ -32,8 +32,8 @@ lines-end (b ∷ bs) h = by (eqb b 10) (lines-end bs) h
 abbrev no_place : Option ℕ
 no_place = None
 
-place_is : (a b : ℕ) → ◌≡◌ {A = Option ℕ} (Some a) (Some b) → a ≡ b
-place_is a b e = cc
+offset_is : (a b : ℕ) → ◌≡◌ {A = Option ℕ} (Some a) (Some b) → a ≡ b
+offset_is a b e = cc
 
 pub lines-none : (text : List ℕ) → None ≡ position (λ b. eqb b 10) text → lines text ≡ text ∷ []
 lines-none text e = by (ltb (end text) (length text)) refl e
@@ -47,4 +47,4 @@ lines-some text at e = by (ltb (end text) (length text)) refl e
   where
     by : (t : Bool) → ltb (end text) (length text) ≡ t → ◌≡◌ {A = Option ℕ} (Some at) (cond t (Some (end text)) None) → lines text ≡ take at text ∷ lines (drop (at + 1) text)
     by false is e = absurd cc
-    by true is e = let same : at ≡ end text = place_is at (end text) e in rw same (lines-feed text (ltb-true _ _ is))
+    by true is e = let same : at ≡ end text = offset_is at (end text) e in rw same (lines-feed text (ltb-true _ _ is))

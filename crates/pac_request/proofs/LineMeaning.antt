@@ -1,4 +1,4 @@
--- What steps of the reading want, said by derivations; where a token leads to, what is wanted behind it is wanted.
+-- What steps of the reading want, said by derivations; where a token leads to, what is wanted after it is wanted.
 use Rattle.std.proofs.Common.{◌≡◌, ◌≤◌, ◌<◌, ◌+◌, ℕ, suc, ℤ, Bool, true, false, cond, Option, List, [], ◌∷◌, ◌++◌, length, Some, None, refl, sym, ap, subst, ◌∙◌, append_assoc, arith, ltb}
 use Rattle.std.specs.Prelude.{bytes_eq}
 use Rattle.std.specs.Option.{option_map}
@@ -14,18 +14,18 @@ use Rattle.pac_tokens.specs.declared.token.Spanned.{Spanned}
 use Rattle.pac_syntax.specs.declared.tree.NameNode.{NameNode}
 use Rattle.pac_request.specs.declared.node.PlacedLiteral.{PlacedLiteral}
 use Rattle.pac_syntax.specs.Grammar.{LiteralForm, AnInt, ANegative, AText, ATrue, AFalse}
-use Rattle.pac_syntax.specs.Machine.{is_same_word_or_sign, name_in}
+use Rattle.pac_syntax.specs.Machine.{is_same_keyword_or_symbol, name_in}
 use Rattle.pac_syntax.specs.Views.{name_token}
-use Rattle.pac_syntax.proofs.Marks.{is_same_word_or_sign-true}
+use Rattle.pac_syntax.proofs.Marks.{is_same_keyword_or_symbol-true}
 use Rattle.pac_request.specs.declared.node.RecordNode.{RecordNode}
 use Rattle.pac_request.specs.declared.node.LineNode.{LineNode}
 use Rattle.pac_request.specs.declared.node.LineNode.TheVariants as line
 use Rattle.pac_request.specs.declared.node.Verb.{Verb}
 use Rattle.pac_request.specs.declared.node.Verb.TheVariants as verb
-use Rattle.pac_request.specs.LineForms.{LiteralsForm, NoLiteral, OneLiteral, ArgumentsForm, NoArgument, SomeArguments, RecordForm, PutForm, DeleteForm, RecordsForm, NoRecord, OneRecord, EmptyForm, CallForm, AdHocForm, ShowForm, FlushForm, SaveForm, StopForm, verb_word, verb_token, keyword_token, sign_token, literal_front, literals_front, arguments_front, record_front, records_tokens, literals_nodes, arguments_nodes, record_node, records_nodes, placed_literal, records_count, IsWritten}
-use Rattle.pac_request.specs.LineSteps.{LineSteps, LineEnds, ThisSign, SomeName, SomeLiteral, SomeNegative, MoreLiterals, AllArguments, SomeRecord, MoreRecords, AnyLine, first_some, literal_steps, placed_int, negative_steps, put_record_steps, delete_record_steps, verb_named, verb_in, verb_steps, record_word, record_steps, steps_behind, said_at_end}
+use Rattle.pac_request.specs.LineForms.{LiteralsForm, NoLiteral, OneLiteral, ArgumentsForm, NoArgument, SomeArguments, RecordForm, PutForm, DeleteForm, RecordsForm, NoRecord, OneRecord, EmptyForm, CallForm, AdHocForm, ShowForm, FlushForm, SaveForm, StopForm, verb_word, verb_token, keyword_token, symbol_token, literal_before, literals_before, arguments_before, record_before, records_tokens, literals_nodes, arguments_nodes, record_node, records_nodes, placed_literal, records_count, IsWritten}
+use Rattle.pac_request.specs.LineSteps.{LineSteps, LineEnds, ThisSymbol, SomeName, SomeLiteral, SomeNegative, MoreLiterals, AllArguments, SomeRecord, MoreRecords, AnyLine, first_some, literal_steps, placed_int, negative_steps, put_record_steps, delete_record_steps, verb_named, verb_in, verb_steps, record_word, record_steps, steps_after, said_at_end}
 
--- so many records and these are no more than 64
+-- that many records and these are no more than 64
 abbrev pub HasRoom : ℕ → RecordsForm → Type 0
 HasRoom n NoRecord = Unit {0}
 HasRoom n (OneRecord semicolon r rs) = (n < 64) × HasRoom (suc n) rs
@@ -33,13 +33,13 @@ HasRoom n (OneRecord semicolon r rs) = (n < 64) × HasRoom (suc n) rs
 -- the tokens are what these steps want, and the line then says this
 abbrev pub Wants : LineSteps → List Spanned → LineNode → Type 0
 Wants (LineEnds node) q said = (q ≡ []) × (said ≡ node)
-Wants (ThisSign s k) q said = (at : ℕ) × (more : List Spanned) × (q ≡ sign_token s at ∷ more) × Wants k more said
+Wants (ThisSymbol s k) q said = (at : ℕ) × (more : List Spanned) × (q ≡ symbol_token s at ∷ more) × Wants k more said
 Wants (SomeName k) q said = (name : NameNode) × (more : List Spanned) × (q ≡ name_token name ∷ more) × Wants (k name) more said
-Wants (SomeLiteral k) q said = (l : LiteralForm) × (more : List Spanned) × (q ≡ literal_front l more) × Wants (k (placed_literal l)) more said
+Wants (SomeLiteral k) q said = (l : LiteralForm) × (more : List Spanned) × (q ≡ literal_before l more) × Wants (k (placed_literal l)) more said
 Wants (SomeNegative minus k) q said = (at : ℕ) × (z : ℤ) × (more : List Spanned) × (q ≡ record { token = token.Negative z; at = at } ∷ more) × Wants (k (placed_int minus z)) more said
-Wants (MoreLiterals ls k) q said = (m : LiteralsForm) × (close : ℕ) × (more : List Spanned) × (q ≡ literals_front m (sign_token symbol.CloseParen close ∷ more)) × Wants (k (ls ++ literals_nodes m)) more said
-Wants (AllArguments k) q said = (m : ArgumentsForm) × (close : ℕ) × (more : List Spanned) × (q ≡ arguments_front m (sign_token symbol.CloseParen close ∷ more)) × Wants (k (arguments_nodes m)) more said
-Wants (SomeRecord k) q said = (r : RecordForm) × (more : List Spanned) × (q ≡ record_front r more) × Wants (k (record_node r)) more said
+Wants (MoreLiterals ls k) q said = (m : LiteralsForm) × (close : ℕ) × (more : List Spanned) × (q ≡ literals_before m (symbol_token symbol.CloseParen close ∷ more)) × Wants (k (ls ++ literals_nodes m)) more said
+Wants (AllArguments k) q said = (m : ArgumentsForm) × (close : ℕ) × (more : List Spanned) × (q ≡ arguments_before m (symbol_token symbol.CloseParen close ∷ more)) × Wants (k (arguments_nodes m)) more said
+Wants (SomeRecord k) q said = (r : RecordForm) × (more : List Spanned) × (q ≡ record_before r more) × Wants (k (record_node r)) more said
 Wants (MoreRecords rs) q said = (m : RecordsForm) × HasRoom (length rs) m × (q ≡ records_tokens m) × (said ≡ line.AdHoc (rs ++ records_nodes m))
 Wants AnyLine q said = IsWritten q said
 
@@ -61,10 +61,10 @@ few_room (OneRecord semicolon r rs) n h = (omega arith, few_room rs (suc n) (ome
 
 -- ---- one token
 
-sign_leads : (s : Symbol) (t : Token) (at : ℕ) (k next : LineSteps) (q : List Spanned) (said : LineNode) (b : Bool) → is_same_word_or_sign (token.Symbol s) t ≡ b
-    → cond b (Some k) None ≡ Some next → Wants next q said → Wants (ThisSign s k) (record { token = t; at = at } ∷ q) said
-sign_leads s t at k next q said true is e m = (at, q, ap (λ (x : Token). record { token = x; at = at } ∷ q) (is_same_word_or_sign-true (token.Symbol s) t is), wants_along k next q said e m)
-sign_leads s t at k next q said false is e m = absurd cc
+symbol_leads : (s : Symbol) (t : Token) (at : ℕ) (k next : LineSteps) (q : List Spanned) (said : LineNode) (b : Bool) → is_same_keyword_or_symbol (token.Symbol s) t ≡ b
+    → cond b (Some k) None ≡ Some next → Wants next q said → Wants (ThisSymbol s k) (record { token = t; at = at } ∷ q) said
+symbol_leads s t at k next q said true is e m = (at, q, ap (λ (x : Token). record { token = x; at = at } ∷ q) (is_same_keyword_or_symbol-true (token.Symbol s) t is), wants_along k next q said e m)
+symbol_leads s t at k next q said false is e m = absurd cc
 
 name_leads : (t : Token) (at : ℕ) (k : NameNode → LineSteps) (next : LineSteps) (q : List Spanned) (said : LineNode) → option_map k (name_in t at) ≡ Some next
     → Wants next q said → Wants (SomeName k) (record { token = t; at = at } ∷ q) said
@@ -79,7 +79,7 @@ literal_leads (token.Keyword keyword.True) at k next q said e m = (ATrue at, q, 
 literal_leads (token.Keyword keyword.False) at k next q said e m = (AFalse at, q, refl, wants_along _ next q said e m)
 literal_leads (token.Symbol symbol.Minus) at k next q said e m =
     let n = wants_along (SomeNegative at k) next q said e m in
-    (ANegative at n.0 n.1, n.2, ap (λ (x : List Spanned). sign_token symbol.Minus at ∷ x) n.3, n.4)
+    (ANegative at n.0 n.1, n.2, ap (λ (x : List Spanned). symbol_token symbol.Minus at ∷ x) n.3, n.4)
 literal_leads _ at k next q said e m = absurd cc
 
 negative_leads : (t : Token) (minus at : ℕ) (k : PlacedLiteral → LineSteps) (next : LineSteps) (q : List Spanned) (said : LineNode) → negative_steps t minus k ≡ Some next
@@ -87,40 +87,40 @@ negative_leads : (t : Token) (minus at : ℕ) (k : PlacedLiteral → LineSteps) 
 negative_leads (token.Negative z) minus at k next q said e m = (at, z, q, refl, wants_along _ next q said e m)
 negative_leads _ minus at k next q said e m = absurd cc
 
--- a literal behind a comma, in front of the others
+-- a literal after a comma, before the others
 comma_wants : (ls : List PlacedLiteral) (k : List PlacedLiteral → LineSteps) (at : ℕ) (q : List Spanned) (said : LineNode)
-    → Wants (SomeLiteral (λ l. MoreLiterals (ls ++ (l ∷ [])) k)) q said → Wants (MoreLiterals ls k) (sign_token symbol.Comma at ∷ q) said
+    → Wants (SomeLiteral (λ l. MoreLiterals (ls ++ (l ∷ [])) k)) q said → Wants (MoreLiterals ls k) (symbol_token symbol.Comma at ∷ q) said
 comma_wants ls k at q said m = (
   OneLiteral at m.0 m.3.0,
   m.3.1,
   m.3.2,
-  ap (λ (x : List Spanned). sign_token symbol.Comma at ∷ x) (m.2 ∙ ap (literal_front m.0) m.3.3),
+  ap (λ (x : List Spanned). symbol_token symbol.Comma at ∷ x) (m.2 ∙ ap (literal_before m.0) m.3.3),
   subst (λ (x : List PlacedLiteral). Wants (k x) m.3.2 said) (append_assoc ls (placed_literal m.0 ∷ []) (literals_nodes m.3.0)) m.3.4,
 )
 
 close_wants : (ls : List PlacedLiteral) (k : List PlacedLiteral → LineSteps) (at : ℕ) (q : List Spanned) (said : LineNode)
-    → Wants (k ls) q said → Wants (MoreLiterals ls k) (sign_token symbol.CloseParen at ∷ q) said
+    → Wants (k ls) q said → Wants (MoreLiterals ls k) (symbol_token symbol.CloseParen at ∷ q) said
 close_wants ls k at q said m = (NoLiteral, at, q, refl, subst (λ (x : List PlacedLiteral). Wants (k x) q said) (sym (append-nil ls)) m)
 
 literals_lead : (ls : List PlacedLiteral) (k : List PlacedLiteral → LineSteps) (t : Token) (at : ℕ) (next : LineSteps) (q : List Spanned) (said : LineNode) (b c : Bool)
-    → is_same_word_or_sign (token.Symbol symbol.Comma) t ≡ b → is_same_word_or_sign (token.Symbol symbol.CloseParen) t ≡ c
+    → is_same_keyword_or_symbol (token.Symbol symbol.Comma) t ≡ b → is_same_keyword_or_symbol (token.Symbol symbol.CloseParen) t ≡ c
     → first_some (cond b (Some (SomeLiteral (λ l. MoreLiterals (ls ++ (l ∷ [])) k))) None) (cond c (Some (k ls)) None) ≡ Some next
     → Wants next q said → Wants (MoreLiterals ls k) (record { token = t; at = at } ∷ q) said
 literals_lead ls k t at next q said true c is close e m =
-    subst (λ (x : Token). Wants (MoreLiterals ls k) (record { token = x; at = at } ∷ q) said) (sym (is_same_word_or_sign-true (token.Symbol symbol.Comma) t is)) (comma_wants ls k at q said (wants_along _ next q said e m))
+    subst (λ (x : Token). Wants (MoreLiterals ls k) (record { token = x; at = at } ∷ q) said) (sym (is_same_keyword_or_symbol-true (token.Symbol symbol.Comma) t is)) (comma_wants ls k at q said (wants_along _ next q said e m))
 literals_lead ls k t at next q said false true is close e m =
-    subst (λ (x : Token). Wants (MoreLiterals ls k) (record { token = x; at = at } ∷ q) said) (sym (is_same_word_or_sign-true (token.Symbol symbol.CloseParen) t close)) (close_wants ls k at q said (wants_along _ next q said e m))
+    subst (λ (x : Token). Wants (MoreLiterals ls k) (record { token = x; at = at } ∷ q) said) (sym (is_same_keyword_or_symbol-true (token.Symbol symbol.CloseParen) t close)) (close_wants ls k at q said (wants_along _ next q said e m))
 literals_lead ls k t at next q said false false is close e m = absurd cc
 
 arguments_lead : (k : List PlacedLiteral → LineSteps) (t : Token) (at : ℕ) (next : LineSteps) (q : List Spanned) (said : LineNode) (b : Bool)
-    → is_same_word_or_sign (token.Symbol symbol.CloseParen) t ≡ b
+    → is_same_keyword_or_symbol (token.Symbol symbol.CloseParen) t ≡ b
     → first_some (cond b (Some (k [])) None) (literal_steps t at (λ l. MoreLiterals (l ∷ []) k)) ≡ Some next
     → Wants next q said → Wants (AllArguments k) (record { token = t; at = at } ∷ q) said
 arguments_lead k t at next q said true is e m =
-    subst (λ (x : Token). Wants (AllArguments k) (record { token = x; at = at } ∷ q) said) (sym (is_same_word_or_sign-true (token.Symbol symbol.CloseParen) t is)) (NoArgument, at, q, refl, wants_along _ next q said e m)
+    subst (λ (x : Token). Wants (AllArguments k) (record { token = x; at = at } ∷ q) said) (sym (is_same_keyword_or_symbol-true (token.Symbol symbol.CloseParen) t is)) (NoArgument, at, q, refl, wants_along _ next q said e m)
 arguments_lead k t at next q said false is e m =
     let l = literal_leads t at (λ l. MoreLiterals (l ∷ []) k) next q said e m in
-    (SomeArguments l.0 l.3.0, l.3.1, l.3.2, l.2 ∙ ap (literal_front l.0) l.3.3, l.3.4)
+    (SomeArguments l.0 l.3.0, l.3.1, l.3.2, l.2 ∙ ap (literal_before l.0) l.3.3, l.3.4)
 
 -- ---- records
 
@@ -138,7 +138,7 @@ record_leads k (token.Keyword keyword.Delete) at next q said e m = delete_wants 
 record_leads k _ at next q said e m = absurd cc
 
 records_lead : (rs : List RecordNode) (t : Token) (at : ℕ) (next : LineSteps) (q : List Spanned) (said : LineNode) (b c : Bool)
-    → ltb (length rs) 64 ≡ b → is_same_word_or_sign (token.Symbol symbol.Semicolon) t ≡ c
+    → ltb (length rs) 64 ≡ b → is_same_keyword_or_symbol (token.Symbol symbol.Semicolon) t ≡ c
     → cond b (cond c (Some (SomeRecord (λ r. MoreRecords (rs ++ (r ∷ []))))) None) None ≡ Some next
     → Wants next q said → Wants (MoreRecords rs) (record { token = t; at = at } ∷ q) said
 records_lead rs t at next q said true true few is e m =
@@ -146,7 +146,7 @@ records_lead rs t at next q said true true few is e m =
     let one_more : length (rs ++ (record_node w.0 ∷ [])) ≡ suc (length rs) = length-append rs (record_node w.0 ∷ []) ∙ omega arith in (
       OneRecord at w.0 w.3.0,
       (ltb-true _ _ few, subst (λ (n : ℕ). HasRoom n w.3.0) one_more w.3.1),
-      ap (λ (x : Token). record { token = x; at = at } ∷ q) (is_same_word_or_sign-true (token.Symbol symbol.Semicolon) t is) ∙ ap (λ (x : List Spanned). sign_token symbol.Semicolon at ∷ x) (w.2 ∙ ap (record_front w.0) w.3.2),
+      ap (λ (x : Token). record { token = x; at = at } ∷ q) (is_same_keyword_or_symbol-true (token.Symbol symbol.Semicolon) t is) ∙ ap (λ (x : List Spanned). symbol_token symbol.Semicolon at ∷ x) (w.2 ∙ ap (record_before w.0) w.3.2),
       w.3.3 ∙ ap (λ (x : List RecordNode). line.AdHoc x) (append_assoc rs (record_node w.0 ∷ []) (records_nodes w.3.0)),
     )
 records_lead rs t at next q said true false few is e m = absurd cc
@@ -188,10 +188,10 @@ line_leads _ at next q said e m = absurd cc
 
 -- ---- all
 
-pub leads : (k next : LineSteps) (t : Spanned) (q : List Spanned) (said : LineNode) → steps_behind k t ≡ Some next → Wants next q said → Wants k (t ∷ q) said
-unfolding steps_behind
+pub leads : (k next : LineSteps) (t : Spanned) (q : List Spanned) (said : LineNode) → steps_after k t ≡ Some next → Wants next q said → Wants k (t ∷ q) said
+unfolding steps_after
 leads (LineEnds node) next t q said e m = absurd cc
-leads (ThisSign s k) next t q said e m = sign_leads s t.token t.at k next q said _ refl e m
+leads (ThisSymbol s k) next t q said e m = symbol_leads s t.token t.at k next q said _ refl e m
 leads (SomeName k) next t q said e m = name_leads t.token t.at k next q said e m
 leads (SomeLiteral k) next t q said e m = literal_leads t.token t.at k next q said e m
 leads (SomeNegative minus k) next t q said e m = negative_leads t.token minus t.at k next q said e m
@@ -226,15 +226,15 @@ a_literal = ATrue 0
 
 pub something : (k : LineSteps) → Wanted k
 something (LineEnds node) = record { tokens = []; said = node; wanted = (refl, refl) }
-something (ThisSign s k) = let w = something k in record { tokens = sign_token s 0 ∷ w.tokens; said = w.said; wanted = (0, w.tokens, refl, w.wanted) }
+something (ThisSymbol s k) = let w = something k in record { tokens = symbol_token s 0 ∷ w.tokens; said = w.said; wanted = (0, w.tokens, refl, w.wanted) }
 something (SomeName k) = let w = something (k a_name) in record { tokens = name_token a_name ∷ w.tokens; said = w.said; wanted = (a_name, w.tokens, refl, w.wanted) }
-something (SomeLiteral k) = let w = something (k (placed_literal a_literal)) in record { tokens = literal_front a_literal w.tokens; said = w.said; wanted = (a_literal, w.tokens, refl, w.wanted) }
+something (SomeLiteral k) = let w = something (k (placed_literal a_literal)) in record { tokens = literal_before a_literal w.tokens; said = w.said; wanted = (a_literal, w.tokens, refl, w.wanted) }
 something (SomeNegative minus k) = let w = something (k (placed_int minus (ℤ.pos 0))) in
     record { tokens = record { token = token.Negative (ℤ.pos 0); at = 0 } ∷ w.tokens; said = w.said; wanted = (0, ℤ.pos 0, w.tokens, refl, w.wanted) }
-something (MoreLiterals ls k) = let w = something (k (ls ++ [])) in record { tokens = sign_token symbol.CloseParen 0 ∷ w.tokens; said = w.said; wanted = (NoLiteral, 0, w.tokens, refl, w.wanted) }
-something (AllArguments k) = let w = something (k []) in record { tokens = sign_token symbol.CloseParen 0 ∷ w.tokens; said = w.said; wanted = (NoArgument, 0, w.tokens, refl, w.wanted) }
+something (MoreLiterals ls k) = let w = something (k (ls ++ [])) in record { tokens = symbol_token symbol.CloseParen 0 ∷ w.tokens; said = w.said; wanted = (NoLiteral, 0, w.tokens, refl, w.wanted) }
+something (AllArguments k) = let w = something (k []) in record { tokens = symbol_token symbol.CloseParen 0 ∷ w.tokens; said = w.said; wanted = (NoArgument, 0, w.tokens, refl, w.wanted) }
 something (SomeRecord k) =
     let r : RecordForm = DeleteForm 0 a_name 0 a_literal 0 in
-    let w = something (k (record_node r)) in record { tokens = record_front r w.tokens; said = w.said; wanted = (r, w.tokens, refl, w.wanted) }
+    let w = something (k (record_node r)) in record { tokens = record_before r w.tokens; said = w.said; wanted = (r, w.tokens, refl, w.wanted) }
 something (MoreRecords rs) = record { tokens = []; said = line.AdHoc (rs ++ []); wanted = (NoRecord, tt, refl, refl) }
 something AnyLine = record { tokens = []; said = line.Empty; wanted = record { form = EmptyForm; few = tt; text = refl; says = refl } }

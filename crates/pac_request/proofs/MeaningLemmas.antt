@@ -3,7 +3,7 @@ use Rattle.std.proofs.Common.{◌≡◌, true, List, [], ◌∷◌, ◌++◌, le
 use Rattle.std.specs.Prelude.{IfOk, IsTrue, ok_or}
 use Rattle.std.specs.List.{list_all}
 use Rattle.std.proofs.lemmas.List.{append-nil, length-map}
-use Rattle.pac_base.specs.Refusals.{Tells, Fails}
+use Rattle.pac_base.specs.Refusals.{Reports, Fails}
 use Rattle.pac_base.specs.declared.refusal.Refusal.TheVariants.{Fault, NoMemory}
 use Rattle.pac_ops.specs.declared.transaction.Change.{Change}
 use Rattle.pac_types.specs.declared.table.Table.{Table}
@@ -16,7 +16,7 @@ use Rattle.pac_value.specs.declared.values.Value.TheVariants as value
 use Rattle.pac_value.specs.Values.{type_of, is_stored}
 use Rattle.pac_value.specs.Expressions.{◌>>=◌}
 use Rattle.pac_types.specs.declared.table.Column.{Column}
-use Rattle.pac_types.specs.Sound.{types}
+use Rattle.pac_types.specs.WellFormed.{types}
 use Rattle.pac_request.specs.declared.fault.LineFaultKind.TheVariants.{WrongType}
 use Rattle.pac_request.specs.LineKinds.{line_fault}
 use Rattle.pac_request.specs.declared.node.PlacedLiteral.{PlacedLiteral}
@@ -26,37 +26,37 @@ use Rattle.pac_request.specs.RequestMeaning.{value_of, asked_value, asked_values
 abbrev Values : Type 0
 Values = Result (List Value) LineFault
 
--- these values in front of those that follow
-abbrev pub in_front : List Value → Values → Values
-in_front vs r = r >>= λ ws. Ok (vs ++ ws)
+-- these values before those that follow
+abbrev pub preceding : List Value → Values → Values
+preceding vs r = r >>= λ ws. Ok (vs ++ ws)
 
-more_in_front : (vs : List Value) (v : Value) (r : Values) → in_front vs (r >>= λ ws. Ok (v ∷ ws)) ≡ in_front (vs ++ (v ∷ [])) r
-more_in_front vs v (Ok ws) = ap (λ (x : List Value). ok x) (sym (append_assoc vs (v ∷ []) ws))
+more_preceding : (vs : List Value) (v : Value) (r : Values) → preceding vs (r >>= λ ws. Ok (v ∷ ws)) ≡ preceding (vs ++ (v ∷ [])) r
+more_preceding vs v (Ok ws) = ap (λ (x : List Value). ok x) (sym (append_assoc vs (v ∷ []) ws))
   where
     ok : List Value → Values
     ok x = Ok x
-more_in_front vs v (Err f) = refl
+more_preceding vs v (Err f) = refl
 
-nothing_in_front : (r : Values) → in_front [] r ≡ r
-nothing_in_front (Ok ws) = refl
-nothing_in_front (Err f) = refl
+nothing_preceding : (r : Values) → preceding [] r ≡ r
+nothing_preceding (Ok ws) = refl
+nothing_preceding (Err f) = refl
 
-pub values_start : (tys : List Ty) (ls : List PlacedLiteral) (vs : List Value) → vs ≡ [] → in_front vs (asked_values tys ls) ≡ asked_values tys ls
-values_start tys ls vs e = rw e (nothing_in_front (asked_values tys ls))
+pub values_start : (tys : List Ty) (ls : List PlacedLiteral) (vs : List Value) → vs ≡ [] → preceding vs (asked_values tys ls) ≡ asked_values tys ls
+values_start tys ls vs e = rw e (nothing_preceding (asked_values tys ls))
 
 pub values_on : (vs ws : List Value) (t : Ty) (tys us : List Ty) (l : PlacedLiteral) (ls ks : List PlacedLiteral) (v : Value) (all : Values) → us ≡ t ∷ tys → ks ≡ l ∷ ls → ws ≡ vs ++ (v ∷ []) → Ok v ≡ asked_value t l
-    → in_front vs (asked_values us ks) ≡ all → in_front ws (asked_values tys ls) ≡ all
+    → preceding vs (asked_values us ks) ≡ all → preceding ws (asked_values tys ls) ≡ all
 unfolding asked_values
 values_on vs ws t tys us l ls ks v all e f g is h =
-    let there = rw (e, f, sym is) at h in rw g (sym (more_in_front vs v (asked_values tys ls)) ∙ there)
+    let there = rw (e, f, sym is) at h in rw g (sym (more_preceding vs v (asked_values tys ls)) ∙ there)
 
 pub values_fail : (vs : List Value) (t : Ty) (tys us : List Ty) (l : PlacedLiteral) (ls ks : List PlacedLiteral) (fault : LineFault) (all : Values) → us ≡ t ∷ tys → ks ≡ l ∷ ls → Err fault ≡ asked_value t l
-    → in_front vs (asked_values us ks) ≡ all → all ≡ Err fault
+    → preceding vs (asked_values us ks) ≡ all → all ≡ Err fault
 unfolding asked_values
 values_fail vs t tys us l ls ks fault all e f is h =
     let there = rw (e, f, sym is) at h in sym there
 
-pub values_done : (vs : List Value) (r all : Values) → r ≡ Ok [] → in_front vs r ≡ all → all ≡ Ok vs
+pub values_done : (vs : List Value) (r all : Values) → r ≡ Ok [] → preceding vs r ≡ all → all ≡ Ok vs
 values_done vs r all e h = sym h ∙ rw e (ap (λ (x : List Value). ok x) (append-nil vs))
   where
     ok : List Value → Values
@@ -112,13 +112,13 @@ values_fit (t ∷ tys) (l ∷ ls) vs same e = by (λ ws is. values_fit tys ls ws
     by inner None is e = absurd cc
     by inner (Some v) is e = rest inner v (asked_values tys ls) refl is e
 
-pub count_of : {V : Type 0} (view : V → List Value) (columns : List Column) (ls : List PlacedLiteral) (result : Result V (Refusal LineFault)) → length (types columns) ≡ length ls → Tells view result (asked_values (types columns) ls)
+pub count_of : {V : Type 0} (view : V → List Value) (columns : List Column) (ls : List PlacedLiteral) (result : Result V (Refusal LineFault)) → length (types columns) ≡ length ls → Reports view result (asked_values (types columns) ls)
     → IfOk result (λ values. length (view values) ≡ length columns)
 count_of view columns ls (Ok values) same e = let all = values_fit (types columns) ls (view values) same e in
     sym (length-map (view values) type_of) ∙ ap (λ (x : List Ty). length x) all.are ∙ length-map columns (λ column. column.ty)
 count_of view columns ls (Err refusal) same e = tt
 
-pub stored_of : {V : Type 0} (view : V → List Value) (columns : List Column) (ls : List PlacedLiteral) (result : Result V (Refusal LineFault)) → length (types columns) ≡ length ls → Tells view result (asked_values (types columns) ls)
+pub stored_of : {V : Type 0} (view : V → List Value) (columns : List Column) (ls : List PlacedLiteral) (result : Result V (Refusal LineFault)) → length (types columns) ≡ length ls → Reports view result (asked_values (types columns) ls)
     → IfOk result (λ values. IsTrue (list_all is_stored (view values)))
 stored_of view columns ls (Ok values) same e = (values_fit (types columns) ls (view values) same e).stored
 stored_of view columns ls (Err refusal) same e = tt
@@ -128,38 +128,38 @@ stored_of view columns ls (Err refusal) same e = tt
 abbrev Changes : Type 0
 Changes = Result (List Change) LineFault
 
--- these changes in front of those that follow
-abbrev pub changes_front : List Change → Changes → Changes
-changes_front cs r = r >>= λ ds. Ok (cs ++ ds)
+-- these changes before those that follow
+abbrev pub changes_before : List Change → Changes → Changes
+changes_before cs r = r >>= λ ds. Ok (cs ++ ds)
 
 abbrev changed : List Change → Changes
 changed x = Ok x
 
-more_changes : (cs : List Change) (c : Change) (r : Changes) → changes_front cs (r >>= λ ds. Ok (c ∷ ds)) ≡ changes_front (cs ++ (c ∷ [])) r
+more_changes : (cs : List Change) (c : Change) (r : Changes) → changes_before cs (r >>= λ ds. Ok (c ∷ ds)) ≡ changes_before (cs ++ (c ∷ [])) r
 more_changes cs c (Ok ds) = ap changed (sym (append_assoc cs (c ∷ []) ds))
 more_changes cs c (Err f) = refl
 
-no_changes : (r : Changes) → changes_front [] r ≡ r
+no_changes : (r : Changes) → changes_before [] r ≡ r
 no_changes (Ok ds) = refl
 no_changes (Err f) = refl
 
-pub changes_start : (tables : List Table) (rs : List RecordNode) (cs : List Change) → cs ≡ [] → changes_front cs (asked_changes tables rs) ≡ asked_changes tables rs
+pub changes_start : (tables : List Table) (rs : List RecordNode) (cs : List Change) → cs ≡ [] → changes_before cs (asked_changes tables rs) ≡ asked_changes tables rs
 changes_start tables rs cs e = rw e (no_changes (asked_changes tables rs))
 
 pub changes_on : (tables : List Table) (cs ds : List Change) (r : RecordNode) (rs all_rs : List RecordNode) (c : Change) (all : Changes) → all_rs ≡ r ∷ rs → ds ≡ cs ++ (c ∷ []) → asked_change tables r ≡ Ok c
-    → changes_front cs (asked_changes tables all_rs) ≡ all → changes_front ds (asked_changes tables rs) ≡ all
+    → changes_before cs (asked_changes tables all_rs) ≡ all → changes_before ds (asked_changes tables rs) ≡ all
 unfolding asked_changes
 changes_on tables cs ds r rs all_rs c all e g is h =
     let there = rw (e, is) at h in rw g (sym (more_changes cs c (asked_changes tables rs)) ∙ there)
 
 pub changes_fail : (tables : List Table) (cs : List Change) (r : RecordNode) (rs all_rs : List RecordNode) (refusal : Refusal LineFault) (all : Changes) → all_rs ≡ r ∷ rs → Fails refusal (asked_change tables r)
-    → changes_front cs (asked_changes tables all_rs) ≡ all → Fails refusal all
+    → changes_before cs (asked_changes tables all_rs) ≡ all → Fails refusal all
 unfolding asked_changes
 changes_fail tables cs r rs all_rs NoMemory all e is h = tt
 changes_fail tables cs r rs all_rs (Fault fault) all e is h =
     let there = rw (e, is) at h in sym there
 
-pub changes_done : (tables : List Table) (cs : List Change) (rs : List RecordNode) (all : Changes) → rs ≡ [] → changes_front cs (asked_changes tables rs) ≡ all → all ≡ Ok cs
+pub changes_done : (tables : List Table) (cs : List Change) (rs : List RecordNode) (all : Changes) → rs ≡ [] → changes_before cs (asked_changes tables rs) ≡ all → all ≡ Ok cs
 unfolding asked_changes
 changes_done tables cs rs all e h =
     let there = rw e at h in sym there ∙ ap changed (append-nil cs)

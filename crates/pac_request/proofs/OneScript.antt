@@ -27,7 +27,7 @@ use Rattle.pac_request.specs.declared.step.ScriptStep.{ScriptStep}
 use Rattle.pac_request.specs.Batches.{body_len, fits, flush_runs, steps, Ends, HasSome, AreLongest, as_batches, AreCutInto}
 use Rattle.pac_request.specs.Lines.{IsMark}
 use Rattle.pac_request.specs.LineReading.{LineAnswer}
-use Rattle.pac_request.specs.Script.{MarkOf, text_before, text_behind, lines_behind, Accepts, HasBatches, IsFirstRefused, HasParts, IsExcess, IsPartsFault, PartsSay, ScriptSays}
+use Rattle.pac_request.specs.Script.{MarkOf, text_before, text_after, lines_after, Accepts, HasBatches, IsFirstRefused, HasParts, IsExcess, IsPartsFault, PartsSay, ScriptSays}
 use Rattle.pac_request.specs.ScriptLines.{ScriptLineSays}
 use Rattle.pac_request.proofs.LineOnce.{script_line_once}
 
@@ -87,32 +87,32 @@ refused_in c (n ∷ ns) (w ∷ ws) l m x y (o ∷ os) (u ∷ us) f g e h k p q =
 
 refused_once : (c : CatalogueState) (ls : List (List ℕ)) (m n : ℕ) (f g : LineFault) → IsFirstRefused c ls m f → IsFirstRefused c ls n g → (m ≡ n) × (f ≡ g)
 refused_once c ls m n f g a b =
-    let r = refused_in c a.before b.before a.line b.line a.behind b.behind a.said b.said f g (sym a.parts ∙ b.parts) a.accepted b.accepted a.refused b.refused in
+    let r = refused_in c a.before b.before a.line b.line a.after b.after a.said b.said f g (sym a.parts ∙ b.parts) a.accepted b.accepted a.refused b.refused in
     (a.counted ∙ ap (λ (i : ℕ). i + 1) r.0 ∙ sym b.counted, r.1)
 
-accepted_line : (c : CatalogueState) (before : List (List ℕ)) (line : List ℕ) (behind : List (List ℕ)) (said : List (Option Request)) (f : LineFault) → Accepts c (before ++ (line ∷ behind)) said → ScriptLineSays c line (Err f) → ⊥
-accepted_line c [] line behind [] f h says = h
-accepted_line c [] line behind (s ∷ ss) f h says = not_both c line s f h.0 says
-accepted_line c (b ∷ bs) line behind [] f h says = h
-accepted_line c (b ∷ bs) line behind (s ∷ ss) f h says = accepted_line c bs line behind ss f h.1 says
+accepted_line : (c : CatalogueState) (before : List (List ℕ)) (line : List ℕ) (after : List (List ℕ)) (said : List (Option Request)) (f : LineFault) → Accepts c (before ++ (line ∷ after)) said → ScriptLineSays c line (Err f) → ⊥
+accepted_line c [] line after [] f h says = h
+accepted_line c [] line after (s ∷ ss) f h says = not_both c line s f h.0 says
+accepted_line c (b ∷ bs) line after [] f h says = h
+accepted_line c (b ∷ bs) line after (s ∷ ss) f h says = accepted_line c bs line after ss f h.1 says
 
 -- lines with a refused one have no batches
 accepted_or_refused : (c : CatalogueState) (ls : List (List ℕ)) (made : List Batch) (number : ℕ) (f : LineFault) → HasBatches c ls made → IsFirstRefused c ls number f → ⊥
-accepted_or_refused c ls made number f h r = accepted_line c r.before r.line r.behind h.said f (subst (λ (x : List (List ℕ)). Accepts c x h.said) r.parts h.accepted) r.refused
+accepted_or_refused c ls made number f h r = accepted_line c r.before r.line r.after h.said f (subst (λ (x : List (List ℕ)). Accepts c x h.said) r.parts h.accepted) r.refused
 
 -- ---- the batches
 
--- one of two fronts of a list goes on where the other ends
-data Fronts (b r c q : List Txn) : Type 0 where
-  alike : b ≡ c → r ≡ q → Fronts b r c q
-  longer : (t : Txn) (m : List Txn) → c ≡ b ++ (t ∷ m) → (more : List Txn) → r ≡ t ∷ more → Fronts b r c q
-  shorter : (t : Txn) (m : List Txn) → b ≡ c ++ (t ∷ m) → (more : List Txn) → q ≡ t ∷ more → Fronts b r c q
+-- one of two prefixes of a list goes on where the other ends
+data Prefixes (b r c q : List Txn) : Type 0 where
+  alike : b ≡ c → r ≡ q → Prefixes b r c q
+  longer : (t : Txn) (m : List Txn) → c ≡ b ++ (t ∷ m) → (more : List Txn) → r ≡ t ∷ more → Prefixes b r c q
+  shorter : (t : Txn) (m : List Txn) → b ≡ c ++ (t ∷ m) → (more : List Txn) → q ≡ t ∷ more → Prefixes b r c q
 
-fronts : (b r c q : List Txn) → b ++ r ≡ c ++ q → Fronts b r c q
-fronts [] r [] q e = alike refl e
-fronts [] r (t ∷ m) q e = longer t m refl (m ++ q) e
-fronts (t ∷ m) r [] q e = shorter t m refl (m ++ r) (sym e)
-fronts (x ∷ b) r (y ∷ c) q e = on (fronts b r c q (tail_is e)) (head_is e)
+prefixes : (b r c q : List Txn) → b ++ r ≡ c ++ q → Prefixes b r c q
+prefixes [] r [] q e = alike refl e
+prefixes [] r (t ∷ m) q e = longer t m refl (m ++ q) e
+prefixes (t ∷ m) r [] q e = shorter t m refl (m ++ r) (sym e)
+prefixes (x ∷ b) r (y ∷ c) q e = on (prefixes b r c q (tail_is e)) (head_is e)
   where
     head_is : x ∷ (b ++ r) ≡ y ∷ (c ++ q) → x ≡ y
     head_is h = cc
@@ -120,31 +120,31 @@ fronts (x ∷ b) r (y ∷ c) q e = on (fronts b r c q (tail_is e)) (head_is e)
     tail_is : x ∷ (b ++ r) ≡ y ∷ (c ++ q) → b ++ r ≡ c ++ q
     tail_is h = cc
 
-    on : Fronts b r c q → x ≡ y → Fronts (x ∷ b) r (y ∷ c) q
+    on : Prefixes b r c q → x ≡ y → Prefixes (x ∷ b) r (y ∷ c) q
     on (alike i j) h = alike (ap₂ (λ (a : Txn) (l : List Txn). a ∷ l) h i) j
     on (longer t m i more j) h = longer t m (ap₂ (λ (a : Txn) (l : List Txn). a ∷ l) (sym h) i) more j
     on (shorter t m i more j) h = shorter t m (ap₂ (λ (a : Txn) (l : List Txn). a ∷ l) h i) more j
 
-body_front : (b m : List Txn) (t : Txn) → body_len (b ++ (t ∷ [])) ≤ body_len (b ++ (t ∷ m))
-body_front b m t = omega (arith, sum_by-append (λ txn. length (txn_bytes txn)) b (t ∷ []), sum_by-append (λ txn. length (txn_bytes txn)) b (t ∷ m), sum_by-append (λ txn. length (txn_bytes txn)) (t ∷ []) m)
+body_prefix : (b m : List Txn) (t : Txn) → body_len (b ++ (t ∷ [])) ≤ body_len (b ++ (t ∷ m))
+body_prefix b m t = omega (arith, sum_by-append (λ txn. length (txn_bytes txn)) b (t ∷ []), sum_by-append (λ txn. length (txn_bytes txn)) b (t ∷ m), sum_by-append (λ txn. length (txn_bytes txn)) (t ∷ []) m)
 
 both_true : (a b : Bool) → (a && b) ≡ true → (a ≡ true) × (b ≡ true)
 both_true true b h = (refl, h)
 both_true false b h = absurd cc
 
--- what fits has fronts that fit
-fits_front : (b m : List Txn) (t : Txn) → fits (b ++ (t ∷ m)) ≡ true → fits (b ++ (t ∷ [])) ≡ true
-fits_front b m t h =
+-- what fits has prefixes that fit
+fits_prefix : (b m : List Txn) (t : Txn) → fits (b ++ (t ∷ m)) ≡ true → fits (b ++ (t ∷ [])) ≡ true
+fits_prefix b m t h =
     let two = both_true (leb (length (b ++ (t ∷ m))) 1024) (leb (body_len (b ++ (t ∷ m))) 4194304) h in
     let count = leb-true _ _ two.0 in
     let size = leb-true _ _ two.1 in
     let few : leb (length (b ++ (t ∷ []))) 1024 ≡ true = le-leb _ _ (omega (arith, length-append b (t ∷ []), length-append b (t ∷ m), count)) in
-    let small : leb (body_len (b ++ (t ∷ []))) 4194304 ≡ true = le-leb _ _ (omega (arith, body_front b m t, size)) in
+    let small : leb (body_len (b ++ (t ∷ []))) 4194304 ≡ true = le-leb _ _ (omega (arith, body_prefix b m t, size)) in
     rw (few, small) refl
 
 not_longer : (b r c : List Txn) (t : Txn) (m more : List Txn) → c ≡ b ++ (t ∷ m) → r ≡ t ∷ more → fits c ≡ true → Ends b r → ⊥
 not_longer b r c t m more i j fit ends =
-    let goes_on : fits (b ++ (t ∷ [])) ≡ true = fits_front b m t (ap fits (sym i) ∙ fit) in
+    let goes_on : fits (b ++ (t ∷ [])) ≡ true = fits_prefix b m t (ap fits (sym i) ∙ fit) in
     let stops : fits (b ++ (t ∷ [])) ≡ false = subst (λ (l : List Txn). Ends b l) j ends in
     differ (sym goes_on ∙ stops)
   where
@@ -159,9 +159,9 @@ longest_one : (ts us : List Txn) (p q : List (List Txn)) → ts ≡ us → AreLo
 longest_one ts us [] [] e h k = refl
 longest_one ts us [] (c ∷ cs) e h k = absurd (no_batch c k.0 k.2 (sym h ∙ e ∙ k.1))
 longest_one ts us (b ∷ bs) [] e h k = absurd (no_batch b h.0 h.2 (sym k ∙ sym e ∙ h.1))
-longest_one ts us (b ∷ bs) (c ∷ cs) e h k = by (fronts b h.0 c k.0 (sym h.1 ∙ e ∙ k.1)) (λ is. longest_one h.0 k.0 bs cs is h.5 k.5)
+longest_one ts us (b ∷ bs) (c ∷ cs) e h k = by (prefixes b h.0 c k.0 (sym h.1 ∙ e ∙ k.1)) (λ is. longest_one h.0 k.0 bs cs is h.5 k.5)
   where
-    by : Fronts b h.0 c k.0 → (h.0 ≡ k.0 → bs ≡ cs) → b ∷ bs ≡ c ∷ cs
+    by : Prefixes b h.0 c k.0 → (h.0 ≡ k.0 → bs ≡ cs) → b ∷ bs ≡ c ∷ cs
     by (alike i j) next = ap₂ (λ (x : List Txn) (xs : List (List Txn)). x ∷ xs) i (next j)
     by (longer t m i more j) next = absurd (not_longer b h.0 c t m more i j k.3 h.4)
     by (shorter t m i more j) next = absurd (not_longer c k.0 b t m more i j h.3 k.4)
@@ -200,8 +200,8 @@ one_excess procs f g a b h k =
     λ i. TooManyOps (names i) (counts i)
 
 -- an excess is none of the same catalogue where operations are few
-pub few_or_excess : (front : List ℕ) (c d : CatalogueState) (f : List ℕ) (a : ℕ) → HasCatalogue front c → HasFewOperations c.procs → HasCatalogue front d → IsExcess d.procs f a → ⊥
-few_or_excess front c d f a h few k e = within-none d.procs e.number a (subst (λ (x : CatalogueState). HasFewOperations x.procs) (one_catalogue front c d h k) few) e.first.here
+pub few_or_excess : (prefix : List ℕ) (c d : CatalogueState) (f : List ℕ) (a : ℕ) → HasCatalogue prefix c → HasFewOperations c.procs → HasCatalogue prefix d → IsExcess d.procs f a → ⊥
+few_or_excess prefix c d f a h few k e = within-none d.procs e.number a (subst (λ (x : CatalogueState). HasFewOperations x.procs) (one_catalogue prefix c d h k) few) e.first.here
 
 -- ---- the parts of a text
 
@@ -214,50 +214,50 @@ ok_answer script = Ok script
 abbrev fault_answer : ScriptFault → Answer
 fault_answer fault = Err fault
 
-lines_over : (behind : List ℕ) (c d : CatalogueState) (number : ℕ) (f : LineFault) → c ≡ d → IsFirstRefused c (lines_behind behind) number f → IsFirstRefused d (lines_behind behind) number f
-lines_over behind c d number f same h = subst (λ (x : CatalogueState). IsFirstRefused x (lines_behind behind) number f) same h
+lines_over : (after : List ℕ) (c d : CatalogueState) (number : ℕ) (f : LineFault) → c ≡ d → IsFirstRefused c (lines_after after) number f → IsFirstRefused d (lines_after after) number f
+lines_over after c d number f same h = subst (λ (x : CatalogueState). IsFirstRefused x (lines_after after) number f) same h
 
-scripts_once : (front behind : List ℕ) (a b : Script) → HasParts front behind a → HasParts front behind b → a ≡ b
-scripts_once front behind a b h k =
-    let same : a.catalogue ≡ b.catalogue = one_catalogue front a.catalogue b.catalogue h.catalogue k.catalogue in
-    let made : a.batches ≡ b.batches = made_once b.catalogue (lines_behind behind) a.batches b.batches (subst (λ (c : CatalogueState). HasBatches c (lines_behind behind) a.batches) same h.batches) k.batches in
+scripts_once : (prefix after : List ℕ) (a b : Script) → HasParts prefix after a → HasParts prefix after b → a ≡ b
+scripts_once prefix after a b h k =
+    let same : a.catalogue ≡ b.catalogue = one_catalogue prefix a.catalogue b.catalogue h.catalogue k.catalogue in
+    let made : a.batches ≡ b.batches = made_once b.catalogue (lines_after after) a.batches b.batches (subst (λ (c : CatalogueState). HasBatches c (lines_after after) a.batches) same h.batches) k.batches in
     λ i. record { catalogue = same i; batches = made i }
 
-script_or_fault : (front behind : List ℕ) (s : Script) (f : ScriptFault) → HasParts front behind s → IsPartsFault front behind f → ⊥
-script_or_fault front behind s (Catalogue f) h k = catalogue_or_fault front s.catalogue f h.catalogue k
-script_or_fault front behind s (TooManyOps name count) h k = few_or_excess front s.catalogue k.0 name count h.catalogue h.few k.1 k.2
-script_or_fault front behind s (Line number f) h k =
-    accepted_or_refused s.catalogue (lines_behind behind) s.batches number f h.batches (lines_over behind k.0 s.catalogue number f (one_catalogue front k.0 s.catalogue k.1.has h.catalogue) k.2)
+script_or_fault : (prefix after : List ℕ) (s : Script) (f : ScriptFault) → HasParts prefix after s → IsPartsFault prefix after f → ⊥
+script_or_fault prefix after s (Catalogue f) h k = catalogue_or_fault prefix s.catalogue f h.catalogue k
+script_or_fault prefix after s (TooManyOps name count) h k = few_or_excess prefix s.catalogue k.0 name count h.catalogue h.few k.1 k.2
+script_or_fault prefix after s (Line number f) h k =
+    accepted_or_refused s.catalogue (lines_after after) s.batches number f h.batches (lines_over after k.0 s.catalogue number f (one_catalogue prefix k.0 s.catalogue k.1.has h.catalogue) k.2)
 
-line_faults_once : (behind : List ℕ) (c : CatalogueState) (m n : ℕ) (f g : LineFault) → IsFirstRefused c (lines_behind behind) m f → IsFirstRefused c (lines_behind behind) n g → ◌≡◌ {A = ScriptFault} (Line m f) (Line n g)
-line_faults_once behind c m n f g h k = let same = refused_once c (lines_behind behind) m n f g h k in λ i. Line (same.0 i) (same.1 i)
+line_faults_once : (after : List ℕ) (c : CatalogueState) (m n : ℕ) (f g : LineFault) → IsFirstRefused c (lines_after after) m f → IsFirstRefused c (lines_after after) n g → ◌≡◌ {A = ScriptFault} (Line m f) (Line n g)
+line_faults_once after c m n f g h k = let same = refused_once c (lines_after after) m n f g h k in λ i. Line (same.0 i) (same.1 i)
 
-pub faults_once : (front behind : List ℕ) (f g : ScriptFault) → IsPartsFault front behind f → IsPartsFault front behind g → f ≡ g
-faults_once front behind (Catalogue f) (Catalogue g) h k = ap (λ (x : CatalogueFault). Catalogue x) (one_catalogue_fault front f g h k)
-faults_once front behind (Catalogue f) (TooManyOps name count) h k = absurd (catalogue_or_fault front k.0 f k.1 h)
-faults_once front behind (Catalogue f) (Line number g) h k = absurd (catalogue_or_fault front k.0 f k.1.has h)
-faults_once front behind (TooManyOps name count) (Catalogue g) h k = absurd (catalogue_or_fault front h.0 g h.1 k)
-faults_once front behind (TooManyOps f a) (TooManyOps g b) h k = one_excess k.0.procs f g a b (subst (λ (x : CatalogueState). IsExcess x.procs f a) (one_catalogue front h.0 k.0 h.1 k.1) h.2) k.2
-faults_once front behind (TooManyOps name count) (Line number g) h k = absurd (few_or_excess front k.0 h.0 name count k.1.has k.1.few h.1 h.2)
-faults_once front behind (Line number f) (Catalogue g) h k = absurd (catalogue_or_fault front h.0 g h.1.has k)
-faults_once front behind (Line number f) (TooManyOps name count) h k = absurd (few_or_excess front h.0 k.0 name count h.1.has h.1.few k.1 k.2)
-faults_once front behind (Line m f) (Line n g) h k = line_faults_once behind k.0 m n f g (lines_over behind h.0 k.0 m f (one_catalogue front h.0 k.0 h.1.has k.1.has) h.2) k.2
+pub faults_once : (prefix after : List ℕ) (f g : ScriptFault) → IsPartsFault prefix after f → IsPartsFault prefix after g → f ≡ g
+faults_once prefix after (Catalogue f) (Catalogue g) h k = ap (λ (x : CatalogueFault). Catalogue x) (one_catalogue_fault prefix f g h k)
+faults_once prefix after (Catalogue f) (TooManyOps name count) h k = absurd (catalogue_or_fault prefix k.0 f k.1 h)
+faults_once prefix after (Catalogue f) (Line number g) h k = absurd (catalogue_or_fault prefix k.0 f k.1.has h)
+faults_once prefix after (TooManyOps name count) (Catalogue g) h k = absurd (catalogue_or_fault prefix h.0 g h.1 k)
+faults_once prefix after (TooManyOps f a) (TooManyOps g b) h k = one_excess k.0.procs f g a b (subst (λ (x : CatalogueState). IsExcess x.procs f a) (one_catalogue prefix h.0 k.0 h.1 k.1) h.2) k.2
+faults_once prefix after (TooManyOps name count) (Line number g) h k = absurd (few_or_excess prefix k.0 h.0 name count k.1.has k.1.few h.1 h.2)
+faults_once prefix after (Line number f) (Catalogue g) h k = absurd (catalogue_or_fault prefix h.0 g h.1.has k)
+faults_once prefix after (Line number f) (TooManyOps name count) h k = absurd (few_or_excess prefix h.0 k.0 name count h.1.has h.1.few k.1 k.2)
+faults_once prefix after (Line m f) (Line n g) h k = line_faults_once after k.0 m n f g (lines_over after h.0 k.0 m f (one_catalogue prefix h.0 k.0 h.1.has k.1.has) h.2) k.2
 
-parts_once : (front behind : List ℕ) (a b : Answer) → PartsSay front behind a → PartsSay front behind b → a ≡ b
-parts_once front behind (Ok s) (Ok t) h k = ap ok_answer (scripts_once front behind s t h k)
-parts_once front behind (Ok s) (Err g) h k = absurd (script_or_fault front behind s g h k)
-parts_once front behind (Err f) (Ok t) h k = absurd (script_or_fault front behind t f k h)
-parts_once front behind (Err f) (Err g) h k = ap fault_answer (faults_once front behind f g h k)
+parts_once : (prefix after : List ℕ) (a b : Answer) → PartsSay prefix after a → PartsSay prefix after b → a ≡ b
+parts_once prefix after (Ok s) (Ok t) h k = ap ok_answer (scripts_once prefix after s t h k)
+parts_once prefix after (Ok s) (Err g) h k = absurd (script_or_fault prefix after s g h k)
+parts_once prefix after (Err f) (Ok t) h k = absurd (script_or_fault prefix after t f k h)
+parts_once prefix after (Err f) (Err g) h k = ap fault_answer (faults_once prefix after f g h k)
 
 -- ---- the mark
 
 no_earlier : (text : List ℕ) (i j : ℕ) → IsMark text i → IsMark text j → i < j → ⊥
-no_earlier text i j a b less = let clash : true ≡ false = sym a.mark ∙ b.first i less in absurd cc
+no_earlier text i j a b less = let conflict : true ≡ false = sym a.mark ∙ b.first i less in absurd cc
 
 mark_once : (text : List ℕ) (a b : Option ℕ) → MarkOf text a → MarkOf text b → a ≡ b
 mark_once text None None h k = refl
-mark_once text None (Some j) h k = let clash : true ≡ false = sym k.mark ∙ h j in absurd cc
-mark_once text (Some i) None h k = let clash : true ≡ false = sym h.mark ∙ k i in absurd cc
+mark_once text None (Some j) h k = let conflict : true ≡ false = sym k.mark ∙ h j in absurd cc
+mark_once text (Some i) None h k = let conflict : true ≡ false = sym h.mark ∙ k i in absurd cc
 mark_once text (Some i) (Some j) h k = ap (λ (n : ℕ). Some n) (by_order (cases_order i j))
   where
     by_order : (i ≡ j) ⊎ ((i < j) ⊎ (j < i)) → i ≡ j
@@ -266,5 +266,5 @@ mark_once text (Some i) (Some j) h k = ap (λ (n : ℕ). Some n) (by_order (case
     by_order (inr (inr more)) = absurd (no_earlier text j i k h more)
 
 pub script_once : (text : List ℕ) (a b : Answer) → ScriptSays text a → ScriptSays text b → a ≡ b
-script_once text a b h k = parts_once (text_before text k.mark) (text_behind text k.mark) a b
-    (subst (λ (m : Option ℕ). PartsSay (text_before text m) (text_behind text m) a) (mark_once text h.mark k.mark h.is_mark k.is_mark) h.parts) k.parts
+script_once text a b h k = parts_once (text_before text k.mark) (text_after text k.mark) a b
+    (subst (λ (m : Option ℕ). PartsSay (text_before text m) (text_after text m) a) (mark_once text h.mark k.mark h.is_mark k.is_mark) h.parts) k.parts

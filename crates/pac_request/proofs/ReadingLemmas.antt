@@ -19,7 +19,7 @@ use Rattle.pac_request.specs.declared.step.ScriptStep.{ScriptStep}
 use Rattle.pac_request.specs.declared.step.ScriptStep.TheVariants.{Add, Flush}
 use Rattle.pac_request.specs.Batches.{fits, step_of, steps, AreCutInto}
 use Rattle.pac_request.specs.Cutting.{Cut, flushed, with_last, cut_all, nothing_cut, next_txn}
-use Rattle.pac_request.specs.Script.{Accepts, HasBatches, HasFewIn, IsPartsFault, PartsSay, lines_behind}
+use Rattle.pac_request.specs.Script.{Accepts, HasBatches, HasFewIn, IsPartsFault, PartsSay, lines_after}
 use Rattle.pac_request.specs.ScriptLines.{ScriptLineSays}
 use Rattle.pac_request.specs.ScriptReading.{step_cut, asked_cut, IsSmallStep, IsSmallAsked, IsExcessFault, IsLineFault, IsLinesFault}
 use Rattle.pac_request.proofs.CutLemmas.{AllSmall, are_batches}
@@ -119,10 +119,10 @@ first_of (Some r) f lines line is = (f r, is)
 
 pub refused-here : (catalogue : CatalogueState) (all rest others : List (List ℕ)) (line : List ℕ) (number : ℕ) (c : Cut) (fault : ScriptFault) → Reading catalogue all rest number c → rest ≡ line ∷ others
     → IsLineFault catalogue line number fault → IsLinesFault catalogue all fault
-refused-here catalogue all rest others line number c (Line told fault) r is says = record {
+refused-here catalogue all rest others line number c (Line reported fault) r is says = record {
   before = r.before;
   line = line;
-  behind = others;
+  after = others;
   parts = r.parts ∙ ap (λ (ls : List (List ℕ)). r.before ++ ls) is;
   counted = says.0 ∙ r.counted;
   said = r.said;
@@ -139,20 +139,20 @@ all-read catalogue all number c made r is = record {
   cut = subst (λ (b : List Batch). AreCutInto (steps r.said) b) (sym (is ∙ ap (λ (d : Cut). (flushed d).closed) (r.cut ∙ cut_said-steps r.said nothing_cut))) (are_batches (steps r.said) (small-steps r.said r.small));
 }
 
--- ---- behind the mark
+-- ---- after the mark
 
 -- no lines have no batches
-pub none-behind : (catalogue : CatalogueState) (text : List ℕ) (made : List Batch) → length text < 1 → made ≡ [] → HasBatches catalogue (lines_behind text) made
-none-behind catalogue [] made few none = record {
+pub none-after : (catalogue : CatalogueState) (text : List ℕ) (made : List Batch) → length text < 1 → made ≡ [] → HasBatches catalogue (lines_after text) made
+none-after catalogue [] made few none = record {
   said = [];
   accepted = tt;
   cut = subst (λ (b : List Batch). AreCutInto [] b) (sym none) (are_batches [] tt);
 }
-none-behind catalogue (b ∷ bs) made few none = absurd (omega (arith, few))
+none-after catalogue (b ∷ bs) made few none = absurd (omega (arith, few))
 
-pub some-behind : (catalogue : CatalogueState) (text : List ℕ) (fault : ScriptFault) → 1 ≤ length text → IsLinesFault catalogue (lines (drop 1 text)) fault → IsLinesFault catalogue (lines_behind text) fault
-some-behind catalogue [] fault some h = absurd (omega (arith, some))
-some-behind catalogue (b ∷ bs) fault some h = h
+pub some-after : (catalogue : CatalogueState) (text : List ℕ) (fault : ScriptFault) → 1 ≤ length text → IsLinesFault catalogue (lines (drop 1 text)) fault → IsLinesFault catalogue (lines_after text) fault
+some-after catalogue [] fault some h = absurd (omega (arith, some))
+some-after catalogue (b ∷ bs) fault some h = h
 
 -- ---- the parts of a text
 
@@ -166,24 +166,24 @@ as_error {S} {T} e fault is = ap failed (error_is is)
     error_is : ◌≡◌ {A = Result S (Refusal ScriptFault)} (Err e) (Err (Fault fault)) → e ≡ Fault fault
     error_is h = cc
 
-line-parts : (front behind : List ℕ) (catalogue : CatalogueState) (fault : ScriptFault) → HasFewIn front catalogue → IsLinesFault catalogue (lines_behind behind) fault → IsPartsFault front behind fault
-line-parts front behind catalogue (Line number fault) few is = (catalogue, few, is)
-line-parts front behind catalogue (Catalogue fault) few is = absurd is
-line-parts front behind catalogue (TooManyOps name count) few is = absurd is
+line-parts : (prefix following : List ℕ) (catalogue : CatalogueState) (fault : ScriptFault) → HasFewIn prefix catalogue → IsLinesFault catalogue (lines_after following) fault → IsPartsFault prefix following fault
+line-parts prefix following catalogue (Line number fault) few is = (catalogue, few, is)
+line-parts prefix following catalogue (Catalogue fault) few is = absurd is
+line-parts prefix following catalogue (TooManyOps name count) few is = absurd is
 
-pub excess-parts : (front behind : List ℕ) (catalogue : CatalogueState) (fault : ScriptFault) → HasCatalogue front catalogue → IsExcessFault catalogue fault → IsPartsFault front behind fault
-excess-parts front behind catalogue (TooManyOps name count) has is = (catalogue, has, is)
-excess-parts front behind catalogue (Catalogue fault) has is = absurd is
-excess-parts front behind catalogue (Line number fault) has is = absurd is
+pub excess-parts : (prefix following : List ℕ) (catalogue : CatalogueState) (fault : ScriptFault) → HasCatalogue prefix catalogue → IsExcessFault catalogue fault → IsPartsFault prefix following fault
+excess-parts prefix following catalogue (TooManyOps name count) has is = (catalogue, has, is)
+excess-parts prefix following catalogue (Catalogue fault) has is = absurd is
+excess-parts prefix following catalogue (Line number fault) has is = absurd is
 
 -- the parts of a text whose catalogue has few operations
-pub few-parts : (front behind : List ℕ) (catalogue : CatalogueState) (r : Result Script (Refusal ScriptFault)) → HasFewIn front catalogue
-    → IfOk r (λ script. (script.catalogue ≡ catalogue) × HasBatches catalogue (lines_behind behind) script.batches)
-    → ((fault : ScriptFault) → IsErrOf r (Fault fault) → IsLinesFault catalogue (lines_behind behind) fault) → AnswersBy (PartsSay front behind) r
-few-parts front behind catalogue (Ok script) few ok refused = record {
-  catalogue = subst (λ (c : CatalogueState). HasCatalogue front c) (sym ok.0) few.has;
+pub few-parts : (prefix following : List ℕ) (catalogue : CatalogueState) (r : Result Script (Refusal ScriptFault)) → HasFewIn prefix catalogue
+    → IfOk r (λ script. (script.catalogue ≡ catalogue) × HasBatches catalogue (lines_after following) script.batches)
+    → ((fault : ScriptFault) → IsErrOf r (Fault fault) → IsLinesFault catalogue (lines_after following) fault) → AnswersBy (PartsSay prefix following) r
+few-parts prefix following catalogue (Ok script) few ok refused = record {
+  catalogue = subst (λ (c : CatalogueState). HasCatalogue prefix c) (sym ok.0) few.has;
   few = subst (λ (c : CatalogueState). HasFewOperations c.procs) (sym ok.0) few.few;
-  batches = subst (λ (c : CatalogueState). HasBatches c (lines_behind behind) script.batches) (sym ok.0) ok.1;
+  batches = subst (λ (c : CatalogueState). HasBatches c (lines_after following) script.batches) (sym ok.0) ok.1;
 }
-few-parts front behind catalogue (Err (Fault fault)) few ok refused = line-parts front behind catalogue fault few (refused fault refl)
-few-parts front behind catalogue (Err NoMemory) few ok refused = tt
+few-parts prefix following catalogue (Err (Fault fault)) few ok refused = line-parts prefix following catalogue fault few (refused fault refl)
+few-parts prefix following catalogue (Err NoMemory) few ok refused = tt

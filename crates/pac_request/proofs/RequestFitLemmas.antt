@@ -4,7 +4,7 @@ use Rattle.std.specs.Prelude.{slice_get, ok_or, IfOk}
 use Rattle.std.specs.Option.{option_map}
 use Rattle.std.proofs.lemmas.Bool.{eqb-true}
 use Rattle.std.proofs.lemmas.Option.{slice_get-map}
-use Rattle.pac_base.specs.Refusals.{Tells}
+use Rattle.pac_base.specs.Refusals.{Reports}
 use Rattle.pac_base.specs.declared.refusal.Refusal.{Refusal}
 use Rattle.pac_value.specs.declared.values.Ty.{Ty}
 use Rattle.pac_value.specs.declared.values.Ty.TheVariants as ty
@@ -23,7 +23,7 @@ use Rattle.pac_syntax.specs.declared.tree.NameNode.{NameNode}
 use Rattle.pac_types.specs.declared.table.Table.{Table}
 use Rattle.pac_types.specs.declared.procedure.Proc.{Proc}
 use Rattle.pac_types.specs.Fits.{FitParams, FitsCall, shape}
-use Rattle.pac_types.specs.Sound.{types}
+use Rattle.pac_types.specs.WellFormed.{types}
 use Rattle.pac_types.specs.Typing.{CatalogueState}
 use Rattle.pac_request.specs.declared.fault.LineFault.{LineFault}
 use Rattle.pac_request.specs.declared.fault.LineFaultKind.TheVariants.{UnknownName, WrongCount, WrongType}
@@ -168,6 +168,6 @@ asked_fits catalogue line.Flush said e = subst (AskedFits catalogue) (ok_is (Som
 asked_fits catalogue line.Save said e = subst (AskedFits catalogue) (ok_is (Some request.Save) said e) tt
 asked_fits catalogue line.Stop said e = subst (AskedFits catalogue) (ok_is (Some request.Stop) said e) tt
 
-pub answer_fits : (catalogue : CatalogueState) (node : LineNode) (result : Result (Option Request) (Refusal LineFault)) → Tells (λ said. said) result (asked catalogue node) → IfOk result (AskedFits catalogue)
+pub answer_fits : (catalogue : CatalogueState) (node : LineNode) (result : Result (Option Request) (Refusal LineFault)) → Reports (λ said. said) result (asked catalogue node) → IfOk result (AskedFits catalogue)
 answer_fits catalogue node (Ok said) e = asked_fits catalogue node said e
 answer_fits catalogue node (Err refusal) e = tt

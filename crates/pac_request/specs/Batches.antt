@@ -1,4 +1,4 @@
--- The batches of a script: between flushes, the longest fronts of the transactions that fit.
+-- The batches of a script: between flushes, the longest prefixes of the transactions that fit.
 use Rattle.std.specs.Prelude.{◌≡◌, ◌+◌, ℕ, Bool, false, true, ◌&&◌, nat_le, List, [], ◌∷◌, ◌++◌, length, sum_by, Option, Some, None}
 use Rattle.std.specs.List.{AllZip, flat_map}
 use Rattle.pac_ops.specs.declared.batch.Batch.{Batch}
@@ -14,19 +14,19 @@ use Rattle.pac_request.specs.declared.step.ScriptStep.TheVariants.{Add, Flush}
 
 -- ---- what lines are to the batches
 
--- a call and ad-hoc records are transactions; a flush ends a batch; nothing else is for scripts
+-- a call and ad hoc records are transactions; a flush ends a batch; nothing else is for scripts
 abbrev pub step_of : Request → Option ScriptStep
 step_of (request.Call proc args) = Some (Add (Call (record { proc = proc; args = args })))
 step_of (request.AdHoc records) = Some (Add (AdHoc records))
 step_of request.Flush = Some Flush
 step_of _ = None
 
--- a step in front of others, if there is one
+-- a step before others, if there is one
 abbrev pub step_in : Option ScriptStep → List ScriptStep → List ScriptStep
 step_in None rest = rest
 step_in (Some step) rest = step ∷ rest
 
--- what a line asks, in front of others
+-- what a line asks, before others
 abbrev pub asked_in : Option Request → List ScriptStep → List ScriptStep
 asked_in None rest = rest
 asked_in (Some asked) rest = step_in (step_of asked) rest
@@ -44,7 +44,7 @@ first_run [] = []
 first_run (Add txn ∷ more) = txn ∷ first_run more
 first_run (Flush ∷ more) = []
 
--- those behind each of the flushes, up to the next
+-- those after each of the flushes, up to the next
 abbrev pub other_runs : List ScriptStep → List (List Txn)
 other_runs [] = []
 other_runs (Add txn ∷ more) = other_runs more
@@ -73,7 +73,7 @@ abbrev pub HasSome : List Txn → Type 0
 HasSome [] = ⊥
 HasSome (txn ∷ more) = Unit {0}
 
--- the parts of transactions, each the longest front of what is left that fits
+-- the parts of transactions, each the longest prefix of what is left that fits
 abbrev pub AreLongest : List Txn → List (List Txn) → Type 0
 AreLongest txns [] = txns ≡ []
 AreLongest txns (part ∷ parts) = (rest : List Txn) × (txns ≡ part ++ rest) × HasSome part × (fits part ≡ true) × Ends part rest × AreLongest rest parts

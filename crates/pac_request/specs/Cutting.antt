@@ -24,7 +24,7 @@ flushed cut = record { closed = closed_with cut.closed cut.first cut.held; first
 abbrev pub with_last : Txn → Cut → Cut
 with_last txn cut = record cut { held = cut.held ++ (txn ∷ []) }
 
--- a transaction joins the open batch, or the one behind it where it doesn't fit in
+-- a transaction joins the open batch, or the one after it where it doesn't fit in
 abbrev pub added : Txn → Cut → Cut
 added txn cut = if fits (cut.held ++ (txn ∷ [])) then with_last txn cut else with_last txn (flushed cut)
 

@@ -23,19 +23,19 @@ pub record IsUnexpectedToken (ts : List Spanned) (fault : LineFault) : Type 0 wh
   pub parts : ts ≡ before ++ (token ∷ rest)
   pub begins : BeginsLine before
   pub ends : BeginsLine (before ++ (token ∷ [])) → ⊥
-  pub told : fault ≡ line_fault Expected token.at
+  pub reported : fault ≡ line_fault Expected token.at
 
 -- the tokens are no line
 abbrev pub IsNoLine : List Spanned → Type 0
 IsNoLine ts = (said : LineNode) → IsWritten ts said → ⊥
 
--- What is told of tokens with which a line begins: the fault of a token that ends them; or, at the end of a line with so
+-- What is reported of tokens with which a line begins: the fault of a token that ends them; or, at the end of a line with so
 -- many bytes, that it ends too early.
-abbrev pub IsToldBehind : ℕ → List Spanned → Option Fault → LineFault → Type 0
-IsToldBehind end ts None fault = IsNoLine ts × (fault ≡ line_fault Expected end)
-IsToldBehind end ts (Some lexical) fault = fault ≡ as_line_fault lexical
+abbrev pub IsReportedAfter : ℕ → List Spanned → Option Fault → LineFault → Type 0
+IsReportedAfter end ts None fault = IsNoLine ts × (fault ≡ line_fault Expected end)
+IsReportedAfter end ts (Some lexical) fault = fault ≡ as_line_fault lexical
 
--- what the tokens of a line with so many bytes say, which are ended by this fault of a token if any, or their first fault
+-- what the tokens of a line with that many bytes say, which are ended by this fault of a token if any, or their first fault
 abbrev pub TokensRead : ℕ → List Spanned → Option Fault → Result LineNode LineFault → Type 0
 TokensRead end ts lexical (Ok said) = (lexical ≡ None) × IsWritten ts said
-TokensRead end ts lexical (Err fault) = IsUnexpectedToken ts fault ⊎ (BeginsLine ts × IsToldBehind end ts lexical fault)
+TokensRead end ts lexical (Err fault) = IsUnexpectedToken ts fault ⊎ (BeginsLine ts × IsReportedAfter end ts lexical fault)

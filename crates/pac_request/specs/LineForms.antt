@@ -1,4 +1,4 @@
--- How request lines are written: derivations with the place of each token, their tokens, and what each says.
+-- How request lines are written: derivations with the offset of each token, their tokens, and what each says.
 use Rattle.std.specs.Prelude.{◌≡◌, ℕ, suc, ◌≤◌, ◌+◌, List, [], ◌∷◌, codes, true, false}
 use Rattle.pac_value.specs.declared.values.Value.TheVariants as value
 use Rattle.pac_tokens.specs.declared.token.Keyword.{Keyword}
@@ -19,7 +19,7 @@ use Rattle.pac_request.specs.declared.node.RecordNode.TheVariants as record_
 use Rattle.pac_request.specs.declared.node.LineNode.{LineNode}
 use Rattle.pac_request.specs.declared.node.LineNode.TheVariants as line
 
--- ---- derivations; their numbers are the places of the signs and words, in the order of the line
+-- ---- derivations; their numbers are the offsets of the symbols and words, in the order of the line
 
 -- { "," lit }
 pub data LiteralsForm : Type 0 where
@@ -56,7 +56,7 @@ pub data LineForm : Type 0 where
   SaveForm : (p0 : ℕ) → LineForm
   StopForm : (p0 : ℕ) → LineForm
 
--- ---- the tokens of each, in front of others
+-- ---- the tokens of each, before others
 
 -- the word that a line begins with
 abbrev pub verb_word : Verb → List ℕ
@@ -73,48 +73,48 @@ verb_token v at = record { token = token.Name (verb_word v); at = at }
 abbrev pub keyword_token : Keyword → ℕ → Spanned
 keyword_token k at = record { token = token.Keyword k; at = at }
 
-abbrev pub sign_token : Symbol → ℕ → Spanned
-sign_token s at = record { token = token.Symbol s; at = at }
+abbrev pub symbol_token : Symbol → ℕ → Spanned
+symbol_token s at = record { token = token.Symbol s; at = at }
 
-abbrev pub literal_front : LiteralForm → List Spanned → List Spanned
-literal_front (AnInt at z) rest = record { token = token.Int z; at = at } ∷ rest
-literal_front (ANegative minus at z) rest = sign_token symbol.Minus minus ∷ record { token = token.Negative z; at = at } ∷ rest
-literal_front (AText at text) rest = record { token = token.Text text; at = at } ∷ rest
-literal_front (ATrue at) rest = keyword_token keyword.True at ∷ rest
-literal_front (AFalse at) rest = keyword_token keyword.False at ∷ rest
+abbrev pub literal_before : LiteralForm → List Spanned → List Spanned
+literal_before (AnInt at z) rest = record { token = token.Int z; at = at } ∷ rest
+literal_before (ANegative minus at z) rest = symbol_token symbol.Minus minus ∷ record { token = token.Negative z; at = at } ∷ rest
+literal_before (AText at text) rest = record { token = token.Text text; at = at } ∷ rest
+literal_before (ATrue at) rest = keyword_token keyword.True at ∷ rest
+literal_before (AFalse at) rest = keyword_token keyword.False at ∷ rest
 
-abbrev pub literals_front : LiteralsForm → List Spanned → List Spanned
-literals_front NoLiteral rest = rest
-literals_front (OneLiteral comma l ls) rest = sign_token symbol.Comma comma ∷ literal_front l (literals_front ls rest)
+abbrev pub literals_before : LiteralsForm → List Spanned → List Spanned
+literals_before NoLiteral rest = rest
+literals_before (OneLiteral comma l ls) rest = symbol_token symbol.Comma comma ∷ literal_before l (literals_before ls rest)
 
-abbrev pub arguments_front : ArgumentsForm → List Spanned → List Spanned
-arguments_front NoArgument rest = rest
-arguments_front (SomeArguments l ls) rest = literal_front l (literals_front ls rest)
+abbrev pub arguments_before : ArgumentsForm → List Spanned → List Spanned
+arguments_before NoArgument rest = rest
+arguments_before (SomeArguments l ls) rest = literal_before l (literals_before ls rest)
 
-abbrev pub record_front : RecordForm → List Spanned → List Spanned
-record_front (PutForm p0 name p1 key p2 p3 p4 l ls p5) rest =
-    keyword_token keyword.Put p0 ∷ name_token name ∷ sign_token symbol.OpenBracket p1 ∷ literal_front key (sign_token symbol.CloseBracket p2
-    ∷ sign_token symbol.Assign p3 ∷ sign_token symbol.OpenParen p4 ∷ literal_front l (literals_front ls (sign_token symbol.CloseParen p5 ∷ rest)))
-record_front (DeleteForm p0 name p1 key p2) rest =
-    keyword_token keyword.Delete p0 ∷ name_token name ∷ sign_token symbol.OpenBracket p1 ∷ literal_front key (sign_token symbol.CloseBracket p2 ∷ rest)
+abbrev pub record_before : RecordForm → List Spanned → List Spanned
+record_before (PutForm p0 name p1 key p2 p3 p4 l ls p5) rest =
+    keyword_token keyword.Put p0 ∷ name_token name ∷ symbol_token symbol.OpenBracket p1 ∷ literal_before key (symbol_token symbol.CloseBracket p2
+    ∷ symbol_token symbol.Assign p3 ∷ symbol_token symbol.OpenParen p4 ∷ literal_before l (literals_before ls (symbol_token symbol.CloseParen p5 ∷ rest)))
+record_before (DeleteForm p0 name p1 key p2) rest =
+    keyword_token keyword.Delete p0 ∷ name_token name ∷ symbol_token symbol.OpenBracket p1 ∷ literal_before key (symbol_token symbol.CloseBracket p2 ∷ rest)
 
 abbrev pub records_tokens : RecordsForm → List Spanned
 records_tokens NoRecord = []
-records_tokens (OneRecord semicolon r rs) = sign_token symbol.Semicolon semicolon ∷ record_front r (records_tokens rs)
+records_tokens (OneRecord semicolon r rs) = symbol_token symbol.Semicolon semicolon ∷ record_before r (records_tokens rs)
 
 -- the tokens of a line
 abbrev pub line_tokens : LineForm → List Spanned
 line_tokens EmptyForm = []
-line_tokens (CallForm p0 name p1 args p2) = verb_token verb.Call p0 ∷ name_token name ∷ sign_token symbol.OpenParen p1 ∷ arguments_front args (sign_token symbol.CloseParen p2 ∷ [])
-line_tokens (AdHocForm p0 r rs) = verb_token verb.AdHoc p0 ∷ record_front r (records_tokens rs)
-line_tokens (ShowForm p0 name p1 key p2) = verb_token verb.Show p0 ∷ name_token name ∷ sign_token symbol.OpenBracket p1 ∷ literal_front key (sign_token symbol.CloseBracket p2 ∷ [])
+line_tokens (CallForm p0 name p1 args p2) = verb_token verb.Call p0 ∷ name_token name ∷ symbol_token symbol.OpenParen p1 ∷ arguments_before args (symbol_token symbol.CloseParen p2 ∷ [])
+line_tokens (AdHocForm p0 r rs) = verb_token verb.AdHoc p0 ∷ record_before r (records_tokens rs)
+line_tokens (ShowForm p0 name p1 key p2) = verb_token verb.Show p0 ∷ name_token name ∷ symbol_token symbol.OpenBracket p1 ∷ literal_before key (symbol_token symbol.CloseBracket p2 ∷ [])
 line_tokens (FlushForm p0) = verb_token verb.Flush p0 ∷ []
 line_tokens (SaveForm p0) = verb_token verb.Save p0 ∷ []
 line_tokens (StopForm p0) = verb_token verb.Stop p0 ∷ []
 
 -- ---- what each says
 
--- a literal and the place of its first token
+-- a literal and the offset of its first token
 abbrev pub placed_literal : LiteralForm → PlacedLiteral
 placed_literal (AnInt at z) = record { at = at; value = value.Int z }
 placed_literal (ANegative minus at z) = record { at = minus; value = value.Int z }
@@ -153,7 +153,7 @@ abbrev pub records_count : RecordsForm → ℕ
 records_count NoRecord = 0
 records_count (OneRecord semicolon r rs) = suc (records_count rs)
 
--- an ad-hoc line has at most 64 records
+-- an ad hoc line has at most 64 records
 abbrev pub HasFewRecords : LineForm → Type 0
 HasFewRecords (AdHocForm p0 r rs) = records_count rs + 1 ≤ MAX_RECORDS
 HasFewRecords _ = Unit {0}

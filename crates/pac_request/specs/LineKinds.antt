@@ -17,7 +17,7 @@ line_kind_name WrongCount = codes "WrongCount"
 line_kind_name WrongType = codes "WrongType"
 line_kind_name NotHere = codes "NotHere"
 
--- a fault of this kind at this place
+-- a fault of this kind at this offset
 abbrev pub line_fault : LineFaultKind → ℕ → LineFault
 line_fault kind at = record { at = at; kind = kind }
 

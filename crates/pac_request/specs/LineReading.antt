@@ -11,7 +11,7 @@ use Rattle.pac_request.specs.declared.node.LineNode.{LineNode}
 use Rattle.pac_request.specs.declared.request.Request.{Request}
 use Rattle.pac_request.specs.LineKinds.{line_fault}
 use Rattle.pac_request.specs.LineFaults.{TokensRead}
-use Rattle.pac_request.specs.RequestMeaning.{asked_by}
+use Rattle.pac_request.specs.RequestMeaning.{request_of_tokens}
 
 -- what a line asks, None for white space and comment; or its fault
 abbrev pub LineAnswer : Type 0
@@ -29,7 +29,7 @@ pub record TokensAsk (catalogue : CatalogueState) (line : List ℕ) (answer : Li
   pub are : HasTokens line tokens lexical
   pub said : Result LineNode LineFault
   pub read : TokensRead (length line) tokens lexical said
-  pub answers : answer ≡ asked_by catalogue said
+  pub answers : answer ≡ request_of_tokens catalogue said
 
 -- the line has more than 4,096 bytes: that is its first fault, whatever else is wrong
 abbrev pub IsLongLine : List ℕ → LineAnswer → Type 0

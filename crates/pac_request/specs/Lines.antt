@@ -3,7 +3,7 @@ use Rattle.std.specs.Prelude.{◌≡◌, ◌<◌, ℕ, zero, suc, Bool, true, fa
 use Rattle.std.specs.Cmp.Lexicographic.{pointwise}
 use Rattle.pac_value.specs.Ascii.{line_feed}
 
--- a byte more at the front of the first line
+-- a byte more at the start of the first line
 abbrev pub with_first : ℕ → List (List ℕ) → List (List ℕ)
 with_first b [] = (b ∷ []) ∷ []
 with_first b (line ∷ others) = (b ∷ line) ∷ others
@@ -18,11 +18,11 @@ abbrev pub ends_line : List ℕ → Bool
 ends_line [] = true
 ends_line (b ∷ bs) = nat_eq b line_feed
 
--- a line that is exactly `---` is in front
+-- a line that is exactly `---` comes first
 abbrev pub begins_with_mark : List ℕ → Bool
 begins_with_mark text = pointwise nat_eq (take 3 text) (codes "---") && ends_line (drop 3 text)
 
--- a line begins at this place
+-- a line begins at this offset
 abbrev pub begins_line : List ℕ → ℕ → Bool
 begins_line text zero = true
 begins_line text (suc i) = ends_with_feed (slice_get text i)
@@ -31,7 +31,7 @@ begins_line text (suc i) = ends_with_feed (slice_get text i)
     ends_with_feed None = false
     ends_with_feed (Some b) = nat_eq b line_feed
 
--- the line at this place is exactly `---`
+-- the line at this offset is exactly `---`
 abbrev pub is_mark_at : List ℕ → ℕ → Bool
 is_mark_at text i = begins_line text i && begins_with_mark (drop i text)
 

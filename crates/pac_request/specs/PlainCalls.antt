@@ -17,7 +17,7 @@ use Rattle.pac_request.specs.LineSteps.{LineSteps, LineEnds, SomeLiteral, MoreLi
 use Rattle.pac_request.specs.RequestMeaning.{proc_at, asked_values, asked}
 use Rattle.pac_request.specs.ScriptLines.{out_of_place}
 
--- The line's tokens, of which the first is a word that a script has a place for, say this, whatever is told at their end.
+-- The line's tokens, of which the first is a word that a script allows, say this, whatever is reported at their end.
 pub record SaysAs (text : List ℕ) (said : LineFault → Result LineNode LineFault) : Type 0 where
   pub tokens : List Spanned
   pub lexed : IsLexed text tokens None
@@ -28,7 +28,7 @@ pub record SaysAs (text : List ℕ) (said : LineFault → Result LineNode LineFa
 abbrev pub LineGoesOn : List ℕ → Before → ℕ → List ℕ → LineSteps → Type 0
 LineGoesOn text before at rest steps = (ts : List Spanned) → Lexed before at rest ts None → SaysAs text (λ end. line_run end steps ts)
 
--- the same from some place, where no `-` of a literal stands before
+-- the same from some offset, where no `-` of a literal stands before
 pub record LineReadsTo (text rest : List ℕ) (steps : LineSteps) : Type 0 where
   pub before : Before
   pub other : is_literal_minus before ≡ false
@@ -41,12 +41,12 @@ pub record IsCalled (catalogue : CatalogueState) (text : List ℕ) (number : ℕ
   pub is : proc_at catalogue.procs name ≡ Ok (number, proc)
   pub left : LineReadsTo text rest (AllArguments (λ args. LineEnds (line.Call name args)))
 
--- what is to come behind these arguments
-abbrev pub arguments_behind : List PlacedLiteral → (List PlacedLiteral → LineSteps) → LineSteps
-arguments_behind [] k = AllArguments k
-arguments_behind ls k = MoreLiterals ls k
+-- what is to come after these arguments
+abbrev pub arguments_after : List PlacedLiteral → (List PlacedLiteral → LineSteps) → LineSteps
+arguments_after [] k = AllArguments k
+arguments_after ls k = MoreLiterals ls k
 
--- what is to come where the next argument begins, behind these and a comma
+-- what is to come where the next argument begins, after these and a comma
 abbrev pub argument_at : List PlacedLiteral → (List PlacedLiteral → LineSteps) → LineSteps
 argument_at [] k = AllArguments k
 argument_at ls k = SomeLiteral (λ l. MoreLiterals (ls ++ (l ∷ [])) k)
@@ -55,25 +55,25 @@ abbrev pub is_none : List PlacedLiteral → Bool
 is_none [] = true
 is_none _ = false
 
--- from the bytes one reads to the rest, where an argument begins, the first or one behind others
+-- from the bytes one reads to the rest, where an argument begins, the first or one after others
 abbrev pub TakesLiteral : Bool → List ℕ → List ℕ → Type 0
 TakesLiteral is_first bytes rest = (text : List ℕ) (ls : List PlacedLiteral) (k : List PlacedLiteral → LineSteps) → is_first ≡ is_none ls
-    → LineReadsTo text bytes (arguments_behind ls k) → LineReadsTo text rest (argument_at ls k)
+    → LineReadsTo text bytes (arguments_after ls k) → LineReadsTo text rest (argument_at ls k)
 
--- an argument that was read, with its place, and where it stands among those before it
+-- an argument that was read, with its offset, and where it stands among those before it
 pub record IsArgumentRead (text rest : List ℕ) (ls : List PlacedLiteral) (k : List PlacedLiteral → LineSteps) (v : Value) : Type 0 where
-  pub place : ℕ
-  pub left : LineReadsTo text rest (MoreLiterals (ls ++ (record { at = place; value = v } ∷ [])) k)
+  pub offset : ℕ
+  pub left : LineReadsTo text rest (MoreLiterals (ls ++ (record { at = offset; value = v } ∷ [])) k)
 
 -- from the bytes, where an argument begins, one reads this one to the rest
 abbrev pub IsLiteralRead : List ℕ → Value → List ℕ → Type 0
 IsLiteralRead bytes v rest = (text : List ℕ) (ls : List PlacedLiteral) (k : List PlacedLiteral → LineSteps) → LineReadsTo text bytes (argument_at ls k) → IsArgumentRead text rest ls k v
 
--- from the bytes, behind arguments, one reads to the end of the line
+-- from the bytes, after arguments, one reads to the end of the line
 abbrev pub IsEndRead : List ℕ → Type 0
-IsEndRead bytes = (text : List ℕ) (ls : List PlacedLiteral) (k : List PlacedLiteral → LineSteps) → LineReadsTo text bytes (arguments_behind ls k) → SaysAs text (λ end. line_run end (k ls) [])
+IsEndRead bytes = (text : List ℕ) (ls : List PlacedLiteral) (k : List PlacedLiteral → LineSteps) → LineReadsTo text bytes (arguments_after ls k) → SaysAs text (λ end. line_run end (k ls) [])
 
--- the line ends behind arguments of these types, which have these values
+-- the line ends after arguments of these types, which have these values
 pub record LineEndsWith (text : List ℕ) (k : List PlacedLiteral → LineSteps) (tys : List Ty) (vs : List Value) : Type 0 where
   pub literals : List PlacedLiteral
   pub many : length tys ≡ length literals

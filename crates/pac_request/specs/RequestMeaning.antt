@@ -13,7 +13,7 @@ use Rattle.pac_ops.specs.Sizes.{HasOneTo}
 use Rattle.pac_ops.specs.declared.limits.TheConstants.{MAX_RECORDS}
 use Rattle.pac_types.specs.declared.table.Table.{Table}
 use Rattle.pac_types.specs.declared.procedure.Proc.{Proc}
-use Rattle.pac_types.specs.Sound.{types}
+use Rattle.pac_types.specs.WellFormed.{types}
 use Rattle.pac_types.specs.Numbering.{number_of}
 use Rattle.pac_types.specs.Typing.{CatalogueState}
 use Rattle.pac_syntax.specs.declared.tree.NameNode.{NameNode}
@@ -51,7 +51,7 @@ unfoldable pub asked_values : List Ty → List PlacedLiteral → Result (List Va
 asked_values (wanted ∷ more) (l ∷ ls) = asked_value wanted l >>= λ v. asked_values more ls >>= λ vs. Ok (v ∷ vs)
 asked_values _ _ = Ok []
 
--- the same where they have to be as many; if not, that is told at the name before them
+-- the same where they have to be as many; if not, that is reported at the name before them
 abbrev pub counted_literals : NameNode → List Ty → List PlacedLiteral → Result (List PlacedLiteral) LineFault
 counted_literals name wanted ls = if nat_eq (length wanted) (length ls) then Ok ls else Err (line_fault WrongCount name.at)
 
@@ -109,11 +109,11 @@ asked catalogue line.Flush = Ok (Some request.Flush)
 asked catalogue line.Save = Ok (Some request.Save)
 asked catalogue line.Stop = Ok (Some request.Stop)
 
--- an ad-hoc line has 1 to 64 records
+-- an ad hoc line has 1 to 64 records
 abbrev pub HoldsRecords : LineNode → Type 0
 HoldsRecords (line.AdHoc rs) = HasOneTo MAX_RECORDS rs
 HoldsRecords _ = Unit {0}
 
 -- the same of a line, or its fault where it is none
-abbrev pub asked_by : CatalogueState → Result LineNode LineFault → Result (Option Request) LineFault
-asked_by catalogue said = said >>= λ node. asked catalogue node
+abbrev pub request_of_tokens : CatalogueState → Result LineNode LineFault → Result (Option Request) LineFault
+request_of_tokens catalogue said = said >>= λ node. asked catalogue node

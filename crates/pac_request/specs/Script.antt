@@ -1,4 +1,4 @@
--- What a script is: a catalogue of few operations, and behind a line that is exactly `---` its request lines.
+-- What a script is: a catalogue of few operations, and after a line that is exactly `---` its request lines.
 use Rattle.std.specs.Prelude.{◌≡◌, ◌+◌, ℕ, List, [], ◌∷◌, ◌++◌, take, drop, length, slice_get, Option, Some, None, MatchOption, Result, Ok, Err}
 use Rattle.std.specs.List.{AllZip}
 use Rattle.std.specs.Option.{option_map}
@@ -27,15 +27,15 @@ abbrev pub text_before : List ℕ → Option ℕ → List ℕ
 text_before text None = text
 text_before text (Some at) = take at text
 
--- the text behind the mark
-abbrev pub text_behind : List ℕ → Option ℕ → List ℕ
-text_behind text None = []
-text_behind text (Some at) = drop (at + 3) text
+-- the text after the mark
+abbrev pub text_after : List ℕ → Option ℕ → List ℕ
+text_after text None = []
+text_after text (Some at) = drop (at + 3) text
 
--- the lines behind a line feed, where there is one
-abbrev pub lines_behind : List ℕ → List (List ℕ)
-lines_behind [] = []
-lines_behind (feed ∷ text) = lines text
+-- the lines after a line feed, where there is one
+abbrev pub lines_after : List ℕ → List (List ℕ)
+lines_after [] = []
+lines_after (feed ∷ text) = lines text
 
 -- ---- its lines
 
@@ -53,8 +53,8 @@ pub record HasBatches (catalogue : CatalogueState) (ls : List (List ℕ)) (batch
 pub record IsFirstRefused (catalogue : CatalogueState) (ls : List (List ℕ)) (number : ℕ) (fault : LineFault) : Type 0 where
   pub before : List (List ℕ)
   pub line : List ℕ
-  pub behind : List (List ℕ)
-  pub parts : ls ≡ before ++ (line ∷ behind)
+  pub after : List (List ℕ)
+  pub parts : ls ≡ before ++ (line ∷ after)
   pub counted : number ≡ length before + 1
   pub said : List (Option Request)
   pub accepted : Accepts catalogue before said
@@ -62,38 +62,38 @@ pub record IsFirstRefused (catalogue : CatalogueState) (ls : List (List ℕ)) (n
 
 -- ---- scripts
 
--- the text in front is the catalogue's, whose procedures have few operations, and the lines behind have the batches
-pub record HasParts (front behind : List ℕ) (script : Script) : Type 0 where
-  pub catalogue : HasCatalogue front script.catalogue
+-- the text before the mark is the catalogue's, whose procedures have few operations, and the lines after it have the batches
+pub record HasParts (prefix after : List ℕ) (script : Script) : Type 0 where
+  pub catalogue : HasCatalogue prefix script.catalogue
   pub few : HasFewOperations script.catalogue.procs
-  pub batches : HasBatches script.catalogue (lines_behind behind) script.batches
+  pub batches : HasBatches script.catalogue (lines_after after) script.batches
 
--- the procedure with this name is the first at which operations are too many, and so many are
+-- the procedure with this name is the first at which operations are too many, and that many are
 pub record IsExcess (procs : List Proc) (name : List ℕ) (count : ℕ) : Type 0 where
   pub number : ℕ
   pub first : IsFirstExcess procs number count
   pub named : option_map (λ proc. proc.name) (slice_get procs number) ≡ Some name
 
--- the text in front has this catalogue, of few operations
-pub record HasFewIn (front : List ℕ) (catalogue : CatalogueState) : Type 0 where
-  pub has : HasCatalogue front catalogue
+-- the text before the mark has this catalogue, of few operations
+pub record HasFewIn (prefix : List ℕ) (catalogue : CatalogueState) : Type 0 where
+  pub has : HasCatalogue prefix catalogue
   pub few : HasFewOperations catalogue.procs
 
--- The first fault of the text in front and of the lines behind: that of the catalogue's text; where that has a catalogue, the
+-- The first fault of the text before the mark and of the lines after it: that of the catalogue's text; where that has a catalogue, the
 -- first procedure at which operations are too many; and where they are few, the first line that is refused.
 abbrev pub IsPartsFault : List ℕ → List ℕ → ScriptFault → Type 0
-IsPartsFault front behind (Catalogue fault) = IsCatalogueFault front fault
-IsPartsFault front behind (TooManyOps name count) = (catalogue : CatalogueState) × HasCatalogue front catalogue × IsExcess catalogue.procs name count
-IsPartsFault front behind (Line number fault) = (catalogue : CatalogueState) × HasFewIn front catalogue × IsFirstRefused catalogue (lines_behind behind) number fault
+IsPartsFault prefix after (Catalogue fault) = IsCatalogueFault prefix fault
+IsPartsFault prefix after (TooManyOps name count) = (catalogue : CatalogueState) × HasCatalogue prefix catalogue × IsExcess catalogue.procs name count
+IsPartsFault prefix after (Line number fault) = (catalogue : CatalogueState) × HasFewIn prefix catalogue × IsFirstRefused catalogue (lines_after after) number fault
 
 -- what the parts of a text are read as: this script, or this first fault
 abbrev pub PartsSay : List ℕ → List ℕ → Result Script ScriptFault → Type 0
-PartsSay front behind (Ok script) = HasParts front behind script
-PartsSay front behind (Err fault) = IsPartsFault front behind fault
+PartsSay prefix after (Ok script) = HasParts prefix after script
+PartsSay prefix after (Err fault) = IsPartsFault prefix after fault
 
 -- what a text is read as: what stands before the first line that is `---`, or all of it, is the catalogue's text, and the
--- lines behind are the request lines
+-- lines after are the request lines
 pub record ScriptSays (text : List ℕ) (answer : Result Script ScriptFault) : Type 0 where
   pub mark : Option ℕ
   pub is_mark : MarkOf text mark
-  pub parts : PartsSay (text_before text mark) (text_behind text mark) answer
+  pub parts : PartsSay (text_before text mark) (text_after text mark) answer

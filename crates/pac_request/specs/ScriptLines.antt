@@ -11,7 +11,7 @@ use Rattle.pac_request.specs.LineKinds.{line_fault}
 use Rattle.pac_request.specs.LineForms.{verb_word}
 use Rattle.pac_request.specs.LineReading.{LineAnswer, HasTokens, TokensAsk, IsLongLine}
 
--- a word that a script has no place for: `show`, `save` or `stop`
+-- a word that a script does not allow: `show`, `save` or `stop`
 abbrev pub is_out_of_place : Token → Bool
 is_out_of_place (token.Name n) = bytes_eq n (verb_word verb.Show) || (bytes_eq n (verb_word verb.Save) || bytes_eq n (verb_word verb.Stop))
 is_out_of_place _ = false
@@ -21,7 +21,7 @@ abbrev pub out_of_place : List Spanned → Option ℕ
 out_of_place [] = None
 out_of_place (first ∷ rest) = if is_out_of_place first.token then Some first.at else None
 
--- the line begins with such a word, at this place
+-- the line begins with such a word, at this offset
 pub record IsOutOfPlace (line : List ℕ) (at : ℕ) : Type 0 where
   pub tokens : List Spanned
   pub lexical : Option Fault
@@ -36,7 +36,7 @@ IsNotHere line answer = (at : ℕ) × IsOutOfPlace line at × (answer ≡ Err (l
 abbrev pub IsInPlace : List ℕ → Type 0
 IsInPlace line = (at : ℕ) → IsOutOfPlace line at → ⊥
 
--- What a line of a script asks, or its first fault: its length comes first, then a word that a script has no place for,
+-- What a line of a script asks, or its first fault: its length comes first, then a word that a script does not allow,
 -- and then what its tokens ask.
 abbrev pub ScriptLineSays : CatalogueState → List ℕ → LineAnswer → Type 0
 ScriptLineSays catalogue line answer = IsLongLine line answer ⊎ (IsNotHere line answer ⊎ (IsInPlace line × TokensAsk catalogue line answer))

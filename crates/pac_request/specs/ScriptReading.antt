@@ -10,7 +10,7 @@ use Rattle.pac_request.specs.Cutting.{Cut, cut_more, IsSmall}
 use Rattle.pac_request.specs.Script.{IsExcess, IsFirstRefused}
 use Rattle.pac_request.specs.ScriptLines.{ScriptLineSays}
 
--- the batches behind a line that asks this
+-- the batches after a line that asks this
 abbrev pub step_cut : Option ScriptStep → Cut → Cut
 step_cut None cut = cut
 step_cut (Some step) cut = cut_more step cut
@@ -28,17 +28,17 @@ abbrev pub IsSmallAsked : Option Request → Type 0
 IsSmallAsked None = Unit {0}
 IsSmallAsked (Some asked) = IsSmallStep (step_of asked)
 
--- what is told of a catalogue is the first procedure at which operations are too many
+-- what is reported of a catalogue is the first procedure at which operations are too many
 abbrev pub IsExcessFault : CatalogueState → ScriptFault → Type 0
 IsExcessFault catalogue (TooManyOps name count) = IsExcess catalogue.procs name count
 IsExcessFault catalogue _ = ⊥
 
--- what is told of the line with this number is its own fault
+-- what is reported of the line with this number is its own fault
 abbrev pub IsLineFault : CatalogueState → List ℕ → ℕ → ScriptFault → Type 0
-IsLineFault catalogue line number (Line told fault) = (told ≡ number) × ScriptLineSays catalogue line (Err fault)
+IsLineFault catalogue line number (Line reported fault) = (reported ≡ number) × ScriptLineSays catalogue line (Err fault)
 IsLineFault catalogue line number _ = ⊥
 
--- what is told of lines is the first that is refused
+-- what is reported of lines is the first that is refused
 abbrev pub IsLinesFault : CatalogueState → List (List ℕ) → ScriptFault → Type 0
 IsLinesFault catalogue ls (Line number fault) = IsFirstRefused catalogue ls number fault
 IsLinesFault catalogue ls _ = ⊥

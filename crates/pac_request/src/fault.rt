@@ -8,7 +8,7 @@ use pac_tokens::{Fault, FaultKind};
 use std::fmt;
 use thiserror::Error;
 
-/// What is wrong at a place of a request line.
+/// What is wrong at an offset of a request line.
 #[derive(Clone, Copy, Debug, PartialEq, Eq)]
 pub enum LineFaultKind {
     /// A byte that begins no token, or a text that isn't well formed.
@@ -21,7 +21,7 @@ pub enum LineFaultKind {
     UnknownName,
     /// The procedure or the table with this name has another number of parameters or columns.
     WrongCount,
-    /// The literal has another type than its place wants.
+    /// The literal has another type than its position wants.
     WrongType,
     /// A script can't ask for this.
     NotHere,
@@ -55,7 +55,7 @@ impl fmt::Display for LineFaultKind {
     }
 }
 
-/// The first fault of a request line, at a place, a byte offset in the line.
+/// The first fault of a request line, at an offset, a byte offset in the line.
 #[derive(Clone, Copy, Debug, PartialEq, Eq, Error)]
 #[error("{kind} at byte {at}")]
 pub struct LineFault {

@@ -1,25 +1,25 @@
 //! Request lines: what people ask of a database, one request a line; and scripts, which are a catalogue and request lines.
 //!
 //! - [`read_line`]: what a line asks of a catalogue, a [`Request`] that fits it; nothing, for white space and comment; or its
-//!   first [`LineFault`], at a place (a byte offset in the line) and of one of seven [`LineFaultKind`]s.
-//! - [`read_script_line`]: the same of a line of a script, which has no place for `show`, `save` and `stop`.
+//!   first [`LineFault`], at an offset (a byte offset in the line) and of one of seven [`LineFaultKind`]s.
+//! - [`read_script_line`]: the same of a line of a script, which does not allow `show`, `save` and `stop`.
 //! - [`read_script`]: the [`Script`] that a text is, a catalogue and batches of transactions that fit it; or its first
 //!   [`ScriptFault`].
 //! - [`stress_txn`]: the transactions of the stress test.
 //! - [`Reply`], [`Replies`]: what requests are answered.
 //!
-//! What a line says stands in `specs/`, without any parser: `LineForms` (derivations with the place of each token, their
+//! What a line says stands in `specs/`, without any parser: `LineForms` (derivations with the offset of each token, their
 //! tokens, and what each says), `LineFaults` (the first token that can't follow: a line begins with those before it, and
 //! none with those up to it), `RequestMeaning` (what that asks, with the faults from left to right), `LineReading` (the
 //! line as a whole), `ScriptLines` (the same in a script), `RequestFits` (requests that fit a catalogue) and `LineKinds` (how
 //! kinds of faults are printed). What a script is stands in `Lines` (the lines of a text, and the mark), `Batches` (between
-//! flushes, the longest fronts of the transactions that a batch can hold) and `Script` (the whole, with its first fault).
+//! flushes, the longest prefixes of the transactions that a batch can hold) and `Script` (the whole, with its first fault).
 //!
 //! The parser stands against a machine that is fed one token at a time (`specs/LineSteps.antt`), which the public clauses
 //! don't name: `proofs/LineMeaning.antt` and `proofs/LineRuns.antt` show that it takes just the derivations,
 //! `proofs/LineMeets.antt` that it stops at the first fault, and `proofs/LineOnce.antt` that a line says one thing. So do
 //! `specs/Cutting.antt` and `specs/ScriptReading.antt`, a script taken one line after another: `proofs/CutLemmas.antt` shows
-//! that this gives the longest fronts, `proofs/ReadingLemmas.antt` that all lines are read, and `proofs/OneScript.antt` that
+//! that this gives the longest prefixes, `proofs/ReadingLemmas.antt` that all lines are read, and `proofs/OneScript.antt` that
 //! a text is read as one thing.
 //!
 //! A line that is a call, as most are, is read from its bytes first (`plain_call`), and only where that finds something else
@@ -27,7 +27,7 @@
 //! `proofs/PlainLemmas.antt` that both read the same.
 #![tactic(auto)]
 
-mod cutter;
+mod batcher;
 mod fault;
 mod limits;
 mod line;

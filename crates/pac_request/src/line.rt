@@ -1,12 +1,12 @@
 // Reads request lines.
 ghost use Rattle.std.specs.Prelude.{◌≡◌, length, Err, IfOk};
-ghost use Rattle.pac_base.specs.Refusals.{Tells};
+ghost use Rattle.pac_base.specs.Refusals.{Reports};
 ghost use Rattle.pac_base.specs.declared.refusal.Refusal.TheVariants as error;
 ghost use Rattle.pac_request.specs.Answers.{AnswersBy};
 ghost use Rattle.pac_request.specs.LineKinds.{line_fault};
 ghost use Rattle.pac_request.specs.LineSteps.{tokens_read};
 ghost use Rattle.pac_request.specs.LineReading.{LineAnswer, LineSays};
-ghost use Rattle.pac_request.specs.RequestMeaning.{asked_by};
+ghost use Rattle.pac_request.specs.RequestMeaning.{request_of_tokens};
 ghost use Rattle.pac_request.specs.RequestFits.{AskedFits};
 ghost use Rattle.pac_request.specs.ScriptLines.{ScriptLineSays, is_out_of_place, out_of_place};
 
@@ -28,14 +28,14 @@ fn refused(at: usize, kind: LineFaultKind) -> Refusal<LineFault>
     Refusal::Fault(LineFault { at, kind })
 }
 
-// What the tokens of a line with so many bytes ask.
+// What the tokens of a line with that many bytes ask.
 fn answer_of(
     alloc: Global,
     catalogue: &Catalogue,
     lexed: &Lexed,
     end: usize,
 ) -> Result<Option<Request>, Refusal<LineFault>>
-    ensures exact { Tells (λ said. said) result (asked_by catalogue.now (tokens_read end lexed.now.items.items lexed.now.fault)) }
+    ensures exact { Reports (λ said. said) result (request_of_tokens catalogue.now (tokens_read end lexed.now.items.items lexed.now.fault)) }
     ensures fits { IfOk result (AskedFits catalogue.now) }
 {
     let node = parse_line(alloc, lexed, end)?;
@@ -64,7 +64,7 @@ pub fn read_line(
     // What is answered is what the line says.
     ensures says { AnswersBy (LineSays catalogue.now line.now) result }
     // What the line says is answered, and nothing else.
-    ensures only { (answer : LineAnswer) → LineSays catalogue.now line.now answer → Tells (λ said. said) result answer }
+    ensures only { (answer : LineAnswer) → LineSays catalogue.now line.now answer → Reports (λ said. said) result answer }
     // What is asked fits the catalogue.
     ensures fits { IfOk result (AskedFits catalogue.now) }
 {
@@ -78,7 +78,7 @@ pub fn read_line(
     answer_of(alloc, catalogue, &lexed, line.len())
 }
 
-// Whether a script has no place for a word.
+// Whether a script does not allow a word.
 fn is_out_of_place(token: &Token) -> bool
     ensures { result ≡ is_out_of_place token.now }
 {
@@ -99,7 +99,7 @@ fn out_of_place(tokens: &[Spanned]) -> Option<usize>
     }
 }
 
-/// What a line of a script asks of a catalogue, as [`read_line`] tells it of any line. But a script shows no rows, saves no
+/// What a line of a script asks of a catalogue, as [`read_line`] reports it of any line. But a script shows no rows, saves no
 /// checkpoint and isn't stopped.
 ///
 /// # Errors
@@ -115,7 +115,7 @@ pub fn read_script_line(
     // What is answered is what the line says in a script.
     ensures says { AnswersBy (ScriptLineSays catalogue.now line.now) result }
     // What the line says there is answered, and nothing else.
-    ensures only { (answer : LineAnswer) → ScriptLineSays catalogue.now line.now answer → Tells (λ said. said) result answer }
+    ensures only { (answer : LineAnswer) → ScriptLineSays catalogue.now line.now answer → Reports (λ said. said) result answer }
     // What is asked fits the catalogue.
     ensures fits { IfOk result (AskedFits catalogue.now) }
 {

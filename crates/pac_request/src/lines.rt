@@ -40,13 +40,13 @@ pub(crate) fn find_mark(text: &[u8]) -> Option<usize>
 
 // Where the first line feed stands.
 fn feed_at(text: &[u8]) -> Option<usize>
-    ensures place { result ≡ position (λ b. nat_eq b line_feed) text.now }
+    ensures offset { result ≡ position (λ b. nat_eq b line_feed) text.now }
     ensures within { IfSome result (λ at. at < length text.now) }
 {
     text.iter().position(|byte| *byte == b'\n')
 }
 
-/// The first line of a text, and the text behind its line feed, if it has one.
+/// The first line of a text, and the text after its line feed, if it has one.
 pub(crate) fn first_line(text: &[u8]) -> (&[u8], Option<&[u8]>)
     ensures within { IfSome result.1 (λ rest. length rest.now < length text.now) }
     ensures lines { MatchOption result.1 (lines text.now ≡ result.0.now ∷ []) (λ rest. lines text.now ≡ result.0.now ∷ lines rest.now) }

@@ -1,11 +1,11 @@
 // What a line asks of a catalogue.
 ghost use Rattle.std.specs.Prelude.{◌≡◌, ◌≤◌, ◌<◌, ◌∷◌, [], length, IfOk, IfSome, IsTrue, MatchOption, MatchResult, Ok, Err};
 ghost use Rattle.std.specs.List.{list_all};
-ghost use Rattle.pac_base.specs.Refusals.{Tells};
+ghost use Rattle.pac_base.specs.Refusals.{Reports};
 ghost use Rattle.pac_value.specs.Values.{is_stored};
 ghost use Rattle.pac_value.specs.declared.limits.TheConstants.{MAX_PARAMS};
-ghost use Rattle.pac_types.specs.Sound.{types};
-ghost use Rattle.pac_types.specs.Typing.{IsSoundTable};
+ghost use Rattle.pac_types.specs.WellFormed.{types};
+ghost use Rattle.pac_types.specs.Typing.{IsWellFormedTable};
 ghost use Rattle.pac_syntax.specs.declared.tree.NameNode.{NameNode as ANameNode};
 ghost use Rattle.pac_request.specs.declared.fault.LineFaultKind.TheVariants.{UnknownName};
 ghost use Rattle.pac_request.specs.LineKinds.{line_fault};
@@ -47,7 +47,7 @@ fn key_of(wanted: Ty, literal: &PlacedLiteral) -> Result<Key, LineFault>
     }
 }
 
-// The first column's type and the first literal, and those behind them.
+// The first column's type and the first literal, and those after them.
 fn split_pair<'a>(
     columns: &'a [Column],
     literals: &'a [PlacedLiteral],
@@ -70,7 +70,7 @@ fn values_of(
     columns: &[Column],
     literals: &[PlacedLiteral],
 ) -> Result<Vec<Value>, Refusal<LineFault>>
-    ensures { Tells (λ values. values.items) result (asked_values (types columns.now) literals.now) }
+    ensures { Reports (λ values. values.items) result (asked_values (types columns.now) literals.now) }
 {
     let mut values = Vec::with_capacity(alloc, columns.len())?;
     let mut columns = columns;
@@ -93,7 +93,7 @@ fn stored_values(
     literals: &[PlacedLiteral],
 ) -> Result<Vec<Value>, Refusal<LineFault>>
     requires { length (types columns.now) ≡ length literals.now }
-    ensures exact { Tells (λ values. values.items) result (asked_values (types columns.now) literals.now) }
+    ensures exact { Reports (λ values. values.items) result (asked_values (types columns.now) literals.now) }
     ensures count { IfOk result (λ values. length values.items ≡ length columns.now) }
     ensures stored { IfOk result (λ values. IsTrue (list_all is_stored values.items)) }
 {
@@ -135,7 +135,7 @@ fn proc_of<'a>(catalogue: &'a Catalogue, name: &NameNode) -> Result<(u16, &'a Pr
 // The table with a name, and its number.
 fn table_of<'a>(catalogue: &'a Catalogue, name: &NameNode) -> Result<(u16, &'a Table), LineFault>
     ensures found { MatchResult result (λ p. table_at catalogue.now.tables name.now ≡ Ok (p.0, p.1.now)) (λ fault. table_at catalogue.now.tables name.now ≡ Err fault) }
-    ensures sound { IfOk result (λ p. IsSoundTable p.1.now) }
+    ensures well_formed { IfOk result (λ p. IsWellFormedTable p.1.now) }
 {
     let Some(number) = catalogue.table_named(name.name.bytes()) else {
         return Err(refused(name.at, LineFaultKind::UnknownName));
@@ -153,7 +153,7 @@ fn call_of(
     name: &NameNode,
     literals: &[PlacedLiteral],
 ) -> Result<Request, Refusal<LineFault>>
-    ensures { Tells (λ request. request) result (asked_call catalogue.now.procs name.now literals.now) }
+    ensures { Reports (λ request. request) result (asked_call catalogue.now.procs name.now literals.now) }
 {
     let (number, proc) = proc_of(catalogue, name)?;
     let params = proc.params.as_slice();
@@ -171,7 +171,7 @@ fn put_of(
     key: &PlacedLiteral,
     literals: &[PlacedLiteral],
 ) -> Result<Change, Refusal<LineFault>>
-    ensures { Tells (λ change. change) result (asked_put catalogue.now.tables name.now key.now literals.now) }
+    ensures { Reports (λ change. change) result (asked_put catalogue.now.tables name.now key.now literals.now) }
 {
     let (number, table) = table_of(catalogue, name)?;
     let columns = table.columns.as_slice();
@@ -204,7 +204,7 @@ fn change_of(
     catalogue: &Catalogue,
     node: &RecordNode,
 ) -> Result<Change, Refusal<LineFault>>
-    ensures { Tells (λ change. change) result (asked_change catalogue.now.tables node.now) }
+    ensures { Reports (λ change. change) result (asked_change catalogue.now.tables node.now) }
 {
     match node {
         RecordNode::Put { table, key, values } => {
@@ -232,7 +232,7 @@ fn changes_of(
     catalogue: &Catalogue,
     records: &[RecordNode],
 ) -> Result<Vec<Change>, Refusal<LineFault>>
-    ensures exact { Tells (λ changes. changes.items) result (asked_changes catalogue.now.tables records.now) }
+    ensures exact { Reports (λ changes. changes.items) result (asked_changes catalogue.now.tables records.now) }
     ensures count { IfOk result (λ changes. length changes.items ≡ length records.now) }
 {
     let mut changes = Vec::with_capacity(alloc, records.len())?;
@@ -256,7 +256,7 @@ pub(crate) fn request_of(
     node: &LineNode,
 ) -> Result<Option<Request>, Refusal<LineFault>>
     requires { HoldsRecords node.now }
-    ensures { Tells (λ said. said) result (asked catalogue.now node.now) }
+    ensures { Reports (λ said. said) result (asked catalogue.now node.now) }
 {
     match node {
         LineNode::Empty => Ok(None),

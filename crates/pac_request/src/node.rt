@@ -1,4 +1,4 @@
-// A request line as it is written: its names and literals with their places.
+// A request line as it is written: its names and literals with their offsets.
 ghost use Rattle.std.specs.Prelude.{◌≡◌};
 ghost use Rattle.pac_request.specs.LineForms.{verb_word};
 
@@ -33,14 +33,14 @@ impl Verb {
     }
 }
 
-/// A literal and the place of its first token.
+/// A literal and the offset of its first token.
 #[derive(Clone, Copy, Debug)]
 pub(crate) struct PlacedLiteral {
     pub at: usize,
     pub value: Value,
 }
 
-/// A record of an ad-hoc transaction.
+/// A record of an ad hoc transaction.
 #[derive(Debug, Drop)]
 pub(crate) enum RecordNode {
     /// `put TABLE[KEY] = (VALUES)`

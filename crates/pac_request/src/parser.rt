@@ -1,6 +1,6 @@
 // Reads the tokens of a request line from left to right, and stops at the first that can't follow.
 ghost use Rattle.std.specs.Prelude.{◌≡◌, ◌∷◌, [], MatchOption, OnOk, IfOk, Ok};
-ghost use Rattle.pac_base.specs.Refusals.{Gives, Tells};
+ghost use Rattle.pac_base.specs.Refusals.{Gives, Reports};
 ghost use Rattle.pac_base.specs.declared.refusal.Refusal.TheVariants as error;
 ghost use Rattle.pac_tokens.specs.declared.token.Token.TheVariants as token;
 ghost use Rattle.pac_syntax.specs.Views.{Begins, IsNot, IsNoName, name_token};
@@ -9,13 +9,13 @@ ghost use Rattle.pac_request.specs.declared.node.Verb.TheVariants as verb;
 ghost use Rattle.pac_syntax.specs.declared.tree.NameNode.{NameNode as ANameNode};
 ghost use Rattle.pac_request.specs.declared.node.PlacedLiteral.{PlacedLiteral as APlacedLiteral};
 ghost use Rattle.pac_request.specs.RequestMeaning.{HoldsRecords};
-ghost use Rattle.pac_request.specs.LineSteps.{LineSteps, LineEnds, ThisSign, SomeName, SomeLiteral, MoreLiterals, AllArguments, SomeRecord, AnyLine, verb_in, verb_steps, record_word, named_cell_steps, row_steps, put_record_steps, delete_record_steps, fault_here, line_run, tokens_read, LeavesNoMore, ReadsOn, ReadsAllOn};
+ghost use Rattle.pac_request.specs.LineSteps.{LineSteps, LineEnds, ThisSymbol, SomeName, SomeLiteral, MoreLiterals, AllArguments, SomeRecord, AnyLine, verb_in, verb_steps, record_word, named_cell_steps, row_steps, put_record_steps, delete_record_steps, fault_here, line_run, tokens_read, LeavesNoMore, ReadsOn, ReadsAllOn};
 
 use crate::fault::{LineFault, LineFaultKind, line_fault};
 use crate::node::{LineNode, PlacedLiteral, RecordNode, Verb};
 use pac_base::{Refusal, listed};
 use pac_ops::MAX_RECORDS;
-use pac_syntax::{NameNode, bool_of, is_same_word_or_sign, name_of, split_first};
+use pac_syntax::{NameNode, bool_of, is_same_keyword_or_symbol, name_of, split_first};
 use pac_tokens::{Keyword, Lexed, Spanned, Symbol, Token, int_or_text};
 use pac_value::Value;
 use std::alloc::Global;
@@ -25,7 +25,7 @@ use std::alloc::Global;
 pub(crate) struct LineParser<'a> {
     pub alloc: Global,
     pub rest: &'a [Spanned],
-    /// What is told where the tokens end too early: that at the line's end, or the fault of a token that ends them.
+    /// What is reported where the tokens end too early: that at the line's end, or the fault of a token that ends them.
     pub end: LineFault,
 }
 
@@ -88,7 +88,7 @@ impl<'a> LineParser<'a> {
         }
     }
 
-    // Takes this sign and answers its place, where it comes next.
+    // Takes this symbol and answers its offset, where it comes next.
     fn takes(&mut self, sign: Symbol) -> Option<usize>
         ensures end { self.new.end ≡ self.old.end }
         ensures token { MatchOption result ((self.new.rest ≡ self.old.rest) × IsNot (token.Symbol sign) self.old.rest.now) (λ at. Begins (token.Symbol sign) at self.old.rest.now self.new.rest.now) }
@@ -96,7 +96,7 @@ impl<'a> LineParser<'a> {
         let Some((first, rest)) = split_first(self.rest) else {
             return None;
         };
-        if !is_same_word_or_sign(&Token::Symbol(sign), &first.token) {
+        if !is_same_keyword_or_symbol(&Token::Symbol(sign), &first.token) {
             return None;
         }
         self.rest = rest;
@@ -105,7 +105,7 @@ impl<'a> LineParser<'a> {
 
     fn sign(&mut self, sign: Symbol) -> Result<(), Refusal<LineFault>>
         ensures left { LeavesNoMore self.old self.new }
-        ensures run { (k : LineSteps) → Gives (λ _. line_run self.new.end k self.new.rest.now) result (line_run self.old.end (ThisSign sign k) self.old.rest.now) }
+        ensures run { (k : LineSteps) → Gives (λ _. line_run self.new.end k self.new.rest.now) result (line_run self.old.end (ThisSymbol sign k) self.old.rest.now) }
     {
         match self.takes(sign) {
             None => Err(self.refuse()),
@@ -143,7 +143,7 @@ impl<'a> LineParser<'a> {
         ensures left { LeavesNoMore self.old self.new }
         ensures run { ReadsOn SomeLiteral self.old self.new result }
     {
-        let Some((first, behind)) = split_first(self.rest) else {
+        let Some((first, after)) = split_first(self.rest) else {
             return Err(self.refuse());
         };
         let at = first.at;
@@ -152,16 +152,16 @@ impl<'a> LineParser<'a> {
             return Ok(PlacedLiteral { at, value });
         }
         if let Some(truth) = bool_of(&first.token) {
-            self.rest = behind;
+            self.rest = after;
             let value = Value::Bool(truth);
             return Ok(PlacedLiteral { at, value });
         }
-        // Behind a `-` the fault is that of the next token.
+        // After a `-` the fault is that of the next token.
         let _minus = self.takes(Symbol::Minus);
         Err(self.refuse())
     }
 
-    // { "," lit } ")" behind a first one.
+    // { "," lit } ")" after a first one.
     fn more_literals(
         &mut self,
         at: usize,
@@ -235,13 +235,13 @@ impl<'a> LineParser<'a> {
         ensures left { OnOk result (LeavesNoMore self.old self.new) }
         ensures run { ReadsOn SomeRecord self.old self.new result }
     {
-        let Some((first, behind)) = split_first(self.rest) else {
+        let Some((first, after)) = split_first(self.rest) else {
             return Err(self.refuse());
         };
         let Some(word) = record_word(&first.token) else {
             return Err(self.refuse());
         };
-        self.rest = behind;
+        self.rest = after;
         match word {
             RecordWord::Put => self.put(),
             RecordWord::Delete => self.delete(),
@@ -276,8 +276,8 @@ impl<'a> LineParser<'a> {
         Ok(LineNode::Call { proc, args })
     }
 
-    // A line behind its word.
-    fn behind(&mut self, verb: Verb) -> Result<LineNode, Refusal<LineFault>>
+    // A line after its word.
+    fn after(&mut self, verb: Verb) -> Result<LineNode, Refusal<LineFault>>
         ensures run { Gives (λ node. line_run self.new.end (LineEnds node) self.new.rest.now) result (line_run self.old.end (verb_steps verb) self.old.rest.now) }
     {
         match verb {
@@ -300,14 +300,14 @@ impl<'a> LineParser<'a> {
     pub fn line(&mut self) -> Result<LineNode, Refusal<LineFault>>
         ensures { Gives (λ node. Ok node) result (line_run self.old.end AnyLine self.old.rest.now) }
     {
-        let Some((first, behind)) = split_first(self.rest) else {
+        let Some((first, after)) = split_first(self.rest) else {
             return Ok(LineNode::Empty);
         };
         let Some(verb) = verb_of(&first.token) else {
             return Err(self.refuse());
         };
-        self.rest = behind;
-        let said = self.behind(verb)?;
+        self.rest = after;
+        let said = self.after(verb)?;
         match split_first(self.rest) {
             None => Ok(said),
             Some(_) => Err(self.refuse()),
@@ -315,9 +315,9 @@ impl<'a> LineParser<'a> {
     }
 }
 
-// What the tokens of a line with so many bytes say.
+// What the tokens of a line with that many bytes say.
 fn said_by(alloc: Global, lexed: &Lexed, end: usize) -> Result<LineNode, Refusal<LineFault>>
-    ensures { Tells (λ node. node) result (tokens_read end lexed.now.items.items lexed.now.fault) }
+    ensures { Reports (λ node. node) result (tokens_read end lexed.now.items.items lexed.now.fault) }
 {
     match lexed.fault {
         None => {
@@ -338,7 +338,7 @@ fn run_parser(
     tokens: &[Spanned],
     end: LineFault,
 ) -> Result<LineNode, Refusal<LineFault>>
-    ensures { Tells (λ node. node) result (line_run end AnyLine tokens.now) }
+    ensures { Reports (λ node. node) result (line_run end AnyLine tokens.now) }
 {
     let mut parser = LineParser {
         alloc,
@@ -348,7 +348,7 @@ fn run_parser(
     parser.line()
 }
 
-/// What the tokens of a line with so many bytes say.
+/// What the tokens of a line with that many bytes say.
 ///
 /// # Errors
 ///
@@ -358,7 +358,7 @@ pub(crate) fn parse_line(
     lexed: &Lexed,
     end: usize,
 ) -> Result<LineNode, Refusal<LineFault>>
-    ensures read { Tells (λ node. node) result (tokens_read end lexed.now.items.items lexed.now.fault) }
+    ensures read { Reports (λ node. node) result (tokens_read end lexed.now.items.items lexed.now.fault) }
     ensures records { IfOk result HoldsRecords }
 {
     said_by(alloc, lexed, end)

@@ -2,7 +2,7 @@
 ghost use Rattle.std.specs.Prelude.{◌≡◌, ◌≤◌, ◌<◌, ◌∷◌, [], length, drop, IfOk, IfSome, IsTrue, MatchOption, Some};
 ghost use Rattle.pac_tokens.specs.Tokens.{gap};
 ghost use Rattle.pac_value.specs.declared.limits.TheConstants.{MAX_PARAMS};
-ghost use Rattle.pac_types.specs.Sound.{types};
+ghost use Rattle.pac_types.specs.WellFormed.{types};
 ghost use Rattle.pac_request.specs.RequestMeaning.{value_of};
 ghost use Rattle.pac_request.specs.PlainCalls.{IsCalled, HasArguments, AsksPlainly, TakesLiteral, IsLiteralRead, IsEndRead};
 
@@ -11,20 +11,20 @@ use crate::node::Verb;
 use crate::request::Request;
 use pac_base::NoMemory;
 use pac_ops::Args;
-use pac_tokens::{gap_len, literal_in_front, name_in_front};
+use pac_tokens::{gap_len, leading_literal, leading_name};
 use pac_types::{Catalogue, Column, Proc};
 use pac_value::{Ty, Value};
 use std::alloc::Global;
 
-// The bytes behind white space and comments.
-fn behind_gap(bytes: &[u8]) -> &[u8]
+// The bytes after white space and comments.
+fn after_gap(bytes: &[u8]) -> &[u8]
     ensures { result.now ≡ drop (gap bytes.now) bytes.now }
 {
     &bytes[gap_len(bytes)..]
 }
 
-// The bytes behind this one.
-fn behind_byte(byte: u8, bytes: &[u8]) -> Option<&[u8]>
+// The bytes after this one.
+fn after_byte(byte: u8, bytes: &[u8]) -> Option<&[u8]>
     ensures { IfSome result (λ rest. bytes.now ≡ byte ∷ rest.now) }
 {
     match bytes {
@@ -33,42 +33,42 @@ fn behind_byte(byte: u8, bytes: &[u8]) -> Option<&[u8]>
     }
 }
 
-// The procedure that is called, and the bytes behind `call NAME (`. `None`: the line is no call, or none of a procedure
+// The procedure that is called, and the bytes after `call NAME (`. `None`: the line is no call, or none of a procedure
 // of the catalogue.
 fn called<'a, 'b>(catalogue: &'a Catalogue, line: &'b [u8]) -> Option<(u16, &'a Proc, &'b [u8])>
     ensures called { IfSome result (λ p. IsCalled catalogue.now line.now p.0 p.1.now p.2.now) }
     ensures few { IfSome result (λ p. length p.1.now.params ≤ MAX_PARAMS) }
 {
-    let word = behind_gap(line);
-    let len = name_in_front(word)?;
+    let word = after_gap(line);
+    let len = leading_name(word)?;
     if &word[..len] != Verb::Call.word() {
         return None;
     }
-    let name = behind_gap(&word[len..]);
-    let len = name_in_front(name)?;
+    let name = after_gap(&word[len..]);
+    let len = leading_name(name)?;
     let (number, proc) = proc_named(catalogue, &name[..len])?;
-    let behind = behind_byte(b'(', behind_gap(&name[len..]))?;
-    Some((number, proc, behind))
+    let after = after_byte(b'(', after_gap(&name[len..]))?;
+    Some((number, proc, after))
 }
 
-// The bytes from which on an argument is read: the first one here, and each other behind a comma.
+// The bytes from which on an argument is read: the first one here, and each other after a comma.
 fn to_argument(is_first: bool, bytes: &[u8]) -> Option<&[u8]>
     ensures { IfSome result (λ rest. TakesLiteral is_first bytes.now rest.now) }
 {
     if is_first {
         Some(bytes)
     } else {
-        behind_byte(b',', behind_gap(bytes))
+        after_byte(b',', after_gap(bytes))
     }
 }
 
-// An int or a text of this type, and the bytes behind it.
+// An int or a text of this type, and the bytes after it.
 fn argument(wanted: Ty, bytes: &[u8]) -> Option<(Value, &[u8])>
     ensures read { IfSome result (λ p. IsLiteralRead bytes.now p.0 p.1.now) }
     ensures value { IfSome result (λ p. value_of wanted p.0 ≡ Some p.0) }
 {
-    let literal = behind_gap(bytes);
-    let (value, len) = literal_in_front(literal)?;
+    let literal = after_gap(bytes);
+    let (value, len) = leading_literal(literal)?;
     if !is_of(wanted, &value) {
         return None;
     }
@@ -88,13 +88,13 @@ fn is_of(wanted: Ty, value: &Value) -> bool
 fn ends(bytes: &[u8]) -> bool
     ensures { IsTrue result → IsEndRead bytes.now }
 {
-    match behind_byte(b')', behind_gap(bytes)) {
+    match after_byte(b')', after_gap(bytes)) {
         None => false,
-        Some(behind) => gap_len(behind) == behind.len(),
+        Some(after) => gap_len(after) == after.len(),
     }
 }
 
-// The first column's type, and the columns behind it.
+// The first column's type, and the columns after it.
 fn split_column(columns: &[Column]) -> Option<(Ty, &[Column])>
     ensures types { MatchOption result (types columns.now ≡ []) (λ p. types columns.now ≡ p.0 ∷ types p.1.now) }
     ensures within { IfSome result (λ p. length p.1.now < length columns.now) }
@@ -117,12 +117,12 @@ fn arguments(alloc: Global, params: &[Column], bytes: &[u8]) -> Result<Option<Ve
         let Some(here) = to_argument(is_first, rest) else {
             return Ok(None);
         };
-        let Some((value, behind)) = argument(wanted, here) else {
+        let Some((value, after)) = argument(wanted, here) else {
             return Ok(None);
         };
         values.push(value)?;
         params = more;
-        rest = behind;
+        rest = after;
         is_first = false;
     }
     if ends(rest) {
@@ -133,7 +133,7 @@ fn arguments(alloc: Global, params: &[Column], bytes: &[u8]) -> Result<Option<Ve
 }
 
 /// The call that a line is, where it is one of a procedure of the catalogue, and each argument is an int that isn't below
-/// zero or a text, of its parameter's type. `None`: the line asks something else, or is refused; its tokens tell.
+/// zero or a text, of its parameter's type. `None`: the line asks something else, or is refused; its tokens say.
 ///
 /// # Errors
 ///
@@ -145,10 +145,10 @@ pub(crate) fn plain_call(
 ) -> Result<Option<Request>, NoMemory>
     ensures { IfOk result (λ found. IfSome found (AsksPlainly catalogue.now line.now)) }
 {
-    let Some((proc, called, behind)) = called(catalogue, line) else {
+    let Some((proc, called, after)) = called(catalogue, line) else {
         return Ok(None);
     };
-    let Some(values) = arguments(alloc, called.params.as_slice(), behind)? else {
+    let Some(values) = arguments(alloc, called.params.as_slice(), after)? else {
         return Ok(None);
     };
     let args = Args::of(values);

@@ -19,7 +19,7 @@ pub enum Request {
     Save,
     /// To close the batch and to end.
     Stop,
-    /// A line that is refused: nothing but to tell so.
+    /// A line that is refused: nothing but to report that.
     Refused(LineFault),
 }
 
@@ -47,7 +47,7 @@ pub enum Reply {
     },
     /// The line was refused.
     Refused(LineFault),
-    /// A checkpoint of so many transactions was saved.
+    /// A checkpoint of that many transactions was saved.
     Saved {
         txns: u64,
     },

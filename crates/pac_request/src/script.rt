@@ -1,18 +1,18 @@
 // Scripts: a catalogue, and transactions of it in batches.
 ghost use Rattle.std.specs.Prelude.{◌≡◌, ℕ, List, Option, IfOk, IsOk, IsErrOf, Some, None, Result, Ok, Err};
-ghost use Rattle.pac_base.specs.Refusals.{Tells};
+ghost use Rattle.pac_base.specs.Refusals.{Reports};
 ghost use Rattle.pac_base.specs.declared.refusal.Refusal.TheVariants as error;
 ghost use Rattle.pac_types.specs.OperationLimits.{HasFewOperations};
 ghost use Rattle.pac_request.specs.Answers.{AnswersBy};
 ghost use Rattle.pac_request.specs.Lines.{lines};
 ghost use Rattle.pac_request.specs.RequestFits.{BatchesFit, BatchesHaveNumbers};
-ghost use Rattle.pac_request.specs.Script.{HasBatches, PartsSay, ScriptSays, lines_behind};
+ghost use Rattle.pac_request.specs.Script.{HasBatches, PartsSay, ScriptSays, lines_after};
 ghost use Rattle.pac_request.specs.ScriptLines.{ScriptLineSays};
 ghost use Rattle.pac_request.specs.declared.script.Script.{Script as AScript};
 ghost use Rattle.pac_request.specs.declared.script_fault.ScriptFault.{ScriptFault as AFault};
 ghost use Rattle.pac_request.specs.ScriptReading.{IsExcessFault, IsLineFault, IsLinesFault};
 
-use crate::cutter::Cutter;
+use crate::batcher::Batcher;
 use crate::line::read_script_line;
 use crate::lines::{find_mark, first_line};
 use crate::request::Request;
@@ -55,15 +55,15 @@ fn read_lines(alloc: Global, catalogue: &Catalogue, text: &[u8]) -> Result<Vec<B
     ensures ok { IfOk result (λ batches. HasBatches catalogue.now (lines text.now) batches.items) }
     ensures fault { (fault : AFault) → IsErrOf result (error.Fault fault) → IsLinesFault catalogue.now (lines text.now) fault }
 {
-    let mut cutter = Cutter::new(alloc);
+    let mut batcher = Batcher::new(alloc);
     let mut number = 1;
     let mut rest = text;
     loop {
-        let (line, behind) = first_line(rest);
+        let (line, after) = first_line(rest);
         let said = read_numbered(alloc, catalogue, number, line)?;
-        cutter.take(alloc, said)?;
-        match behind {
-            None => return Ok(cutter.end(alloc)?),
+        batcher.take(alloc, said)?;
+        match after {
+            None => return Ok(batcher.end(alloc)?),
             Some(next) => {
                 rest = next;
                 number += 1;
@@ -72,10 +72,10 @@ fn read_lines(alloc: Global, catalogue: &Catalogue, text: &[u8]) -> Result<Vec<B
     }
 }
 
-// The same of the lines behind the mark's line feed, where there is one.
-fn read_behind(alloc: Global, catalogue: &Catalogue, text: &[u8]) -> Result<Vec<Batch>, ScriptError>
-    ensures ok { IfOk result (λ batches. HasBatches catalogue.now (lines_behind text.now) batches.items) }
-    ensures fault { (fault : AFault) → IsErrOf result (error.Fault fault) → IsLinesFault catalogue.now (lines_behind text.now) fault }
+// The same of the lines after the mark's line feed, where there is one.
+fn read_after(alloc: Global, catalogue: &Catalogue, text: &[u8]) -> Result<Vec<Batch>, ScriptError>
+    ensures ok { IfOk result (λ batches. HasBatches catalogue.now (lines_after text.now) batches.items) }
+    ensures fault { (fault : AFault) → IsErrOf result (error.Fault fault) → IsLinesFault catalogue.now (lines_after text.now) fault }
 {
     match text {
         [] => Ok(Vec::new(alloc)),
@@ -83,12 +83,12 @@ fn read_behind(alloc: Global, catalogue: &Catalogue, text: &[u8]) -> Result<Vec<
     }
 }
 
-// The script of a catalogue, and of the text behind the mark.
-fn with_batches(alloc: Global, catalogue: Catalogue, behind: &[u8]) -> Result<Script, ScriptError>
-    ensures ok { IfOk result (λ script. (script.catalogue ≡ catalogue) × HasBatches catalogue (lines_behind behind.now) script.batches) }
-    ensures fault { (fault : AFault) → IsErrOf result (error.Fault fault) → IsLinesFault catalogue (lines_behind behind.now) fault }
+// The script of a catalogue, and of the text after the mark.
+fn with_batches(alloc: Global, catalogue: Catalogue, after: &[u8]) -> Result<Script, ScriptError>
+    ensures ok { IfOk result (λ script. (script.catalogue ≡ catalogue) × HasBatches catalogue (lines_after after.now) script.batches) }
+    ensures fault { (fault : AFault) → IsErrOf result (error.Fault fault) → IsLinesFault catalogue (lines_after after.now) fault }
 {
-    let batches = listed(read_behind(alloc, &catalogue, behind)?);
+    let batches = listed(read_after(alloc, &catalogue, after)?);
     Ok(Script { catalogue, batches })
 }
 
@@ -106,13 +106,13 @@ fn test_limits(catalogue: &Catalogue) -> Result<(), ScriptFault>
     }
 }
 
-// The script of the catalogue's text, and of the text behind the mark.
-fn read_parts(alloc: Global, front: &[u8], behind: &[u8]) -> Result<Script, ScriptError>
-    ensures { AnswersBy (PartsSay front.now behind.now) result }
+// The script of the catalogue's text, and of the text after the mark.
+fn read_parts(alloc: Global, prefix: &[u8], after: &[u8]) -> Result<Script, ScriptError>
+    ensures { AnswersBy (PartsSay prefix.now after.now) result }
 {
-    match read_catalogue(alloc, front) {
+    match read_catalogue(alloc, prefix) {
         Ok(catalogue) => match test_limits(&catalogue) {
-            Ok(()) => with_batches(alloc, catalogue, behind),
+            Ok(()) => with_batches(alloc, catalogue, after),
             Err(fault) => Err(Refusal::Fault(fault)),
         },
         Err(Refusal::Fault(fault)) => Err(Refusal::Fault(ScriptFault::Catalogue(fault))),
@@ -136,12 +136,12 @@ fn read_text(alloc: Global, text: &[u8]) -> Result<Script, ScriptError>
 ///
 /// The first fault, or `NoMemory`: [`ScriptFault::Catalogue`] where the text before the first line that is `---`, or all of
 /// it, has no catalogue; then [`ScriptFault::TooManyOps`] where that has more operations than it may; and then
-/// [`ScriptFault::Line`], the first line behind that is refused, as [`read_script_line`] refuses it.
+/// [`ScriptFault::Line`], the first line after that is refused, as [`read_script_line`] refuses it.
 pub fn read_script(alloc: Global, text: &[u8]) -> Result<Script, ScriptError>
     // What is answered is what the text is read as.
     ensures says { AnswersBy (ScriptSays text.now) result }
     // What the text is read as is answered, and nothing else.
-    ensures only { (answer : Result AScript AFault) → ScriptSays text.now answer → Tells (λ said. said) result answer }
+    ensures only { (answer : Result AScript AFault) → ScriptSays text.now answer → Reports (λ said. said) result answer }
     // The transactions fit the catalogue, and have numbers of 64 bits.
     ensures fits { IfOk result (λ script. BatchesFit script.catalogue script.batches) }
     ensures numbers { IfOk result (λ script. BatchesHaveNumbers script.batches) }

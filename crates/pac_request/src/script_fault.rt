@@ -15,7 +15,7 @@ pub enum ScriptFault {
     /// else at which all up to its end are more than 4,096, and how many these are.
     #[error("{count} operations")]
     TooManyOps { proc: Name, count: u32 },
-    /// The first line that is refused, by its number behind the mark, from 1 on, and its fault.
+    /// The first line that is refused, by its number after the mark, from 1 on, and its fault.
     #[error("line {line}: {fault}")]
     Line { line: usize, fault: LineFault },
 }

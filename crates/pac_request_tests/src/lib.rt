@@ -1,4 +1,4 @@
-//! Tests of request lines, of scripts and of the words of the command line, by their public calls: what each is read as, and
+//! Tests of request lines, of scripts and of the arguments of the command line, by their public calls: what each is read as, and
 //! its first fault. It has no calls of its own.
 //!
 //! They stand here and not beside what they test, so that those crates are proved once.

@@ -28,8 +28,8 @@ fn word_of(request: &Request) -> &'static str {
     }
 }
 
-// What became of a line: what it asks, or the place and the kind of its first fault.
-fn told(alloc: Global, catalogue: &Catalogue, line: &[u8]) -> (usize, &'static str) {
+// What became of a line: what it asks, or the offset and the kind of its first fault.
+fn reported(alloc: Global, catalogue: &Catalogue, line: &[u8]) -> (usize, &'static str) {
     match read_line(alloc, catalogue, line) {
         Ok(None) => (0, "nothing"),
         Ok(Some(request)) => (0, word_of(&request)),
@@ -38,7 +38,7 @@ fn told(alloc: Global, catalogue: &Catalogue, line: &[u8]) -> (usize, &'static s
     }
 }
 
-// One row of a table: a place, a kind or a word, and behind a `|` the line.
+// One row of a table: an offset, a kind or a word, and after a `|` the line.
 #[derive(Clone, Copy)]
 struct Row<'a> {
     at: usize,
@@ -54,15 +54,15 @@ fn row_of(text: &str) -> Option<Row<'_>> {
     Some(Row { at, kind, line })
 }
 
-// How many rows in front are told so.
-fn count_told(alloc: Global, table: &str) -> Result<usize, Fail> {
+// How many rows at the start are reported so.
+fn count_reported(alloc: Global, table: &str) -> Result<usize, Fail> {
     let catalogue = catalogue(alloc)?;
     let mut count = 0usize;
     for text in table.lines() {
         let Some(row) = row_of(text) else {
             return Err(Fail::from("no row"));
         };
-        let (at, kind) = told(alloc, &catalogue, row.line.as_bytes());
+        let (at, kind) = reported(alloc, &catalogue, row.line.as_bytes());
         if at != row.at || kind != row.kind {
             return Ok(count);
         }
@@ -203,17 +203,17 @@ const ASKED: &str = "0 nothing|
 0 stop|stop#";
 
 #[test]
-fn lines_are_told_as_they_ask_or_by_their_first_fault(rt: HostRuntime) -> Result<(), Fail> {
+fn lines_are_reported_as_they_ask_or_by_their_first_fault(rt: HostRuntime) -> Result<(), Fail> {
     let alloc = rt.alloc();
-    assert_eq!(rt; count_told(alloc, TOKENS)?, 15);
-    assert_eq!(rt; count_told(alloc, SYNTAX)?, 56);
-    assert_eq!(rt; count_told(alloc, MEANING)?, 27);
-    assert_eq!(rt; count_told(alloc, PAIRS)?, 13);
-    assert_eq!(rt; count_told(alloc, ASKED)?, 10);
+    assert_eq!(rt; count_reported(alloc, TOKENS)?, 15);
+    assert_eq!(rt; count_reported(alloc, SYNTAX)?, 56);
+    assert_eq!(rt; count_reported(alloc, MEANING)?, 27);
+    assert_eq!(rt; count_reported(alloc, PAIRS)?, 13);
+    assert_eq!(rt; count_reported(alloc, ASKED)?, 10);
     Ok(())
 }
 
-// So many deletes in one line.
+// That many deletes in one line.
 fn deletes(alloc: Global, count: usize) -> Result<Vec<u8>, AllocError> {
     let mut line = b"adhoc delete T[1]".to_vec(alloc)?;
     for _ in 1..count {
@@ -222,7 +222,7 @@ fn deletes(alloc: Global, count: usize) -> Result<Vec<u8>, AllocError> {
     Ok(line)
 }
 
-// A comment of so many bytes, with the `\r` of a line end.
+// A comment of that many bytes, with the `\r` of a line end.
 fn comment(alloc: Global, len: usize) -> Result<Vec<u8>, AllocError> {
     let mut line = b"\r#".to_vec(alloc)?;
     line.resize(len, b'x')?;
@@ -239,9 +239,9 @@ fn a_line_has_at_most_64_records_and_4096_bytes(rt: HostRuntime) -> Result<(), F
         comment(alloc, 4096)?,
         comment(alloc, 5000)?,
     ];
-    assert_eq!(rt; told(alloc, &catalogue, &lines[0]), (0, "adhoc"));
-    assert_eq!(rt; told(alloc, &catalogue, &lines[1]), (836, "Expected"));
-    assert_eq!(rt; told(alloc, &catalogue, &lines[2]), (0, "nothing"));
-    assert_eq!(rt; told(alloc, &catalogue, &lines[3]), (4096, "TooLong"));
+    assert_eq!(rt; reported(alloc, &catalogue, &lines[0]), (0, "adhoc"));
+    assert_eq!(rt; reported(alloc, &catalogue, &lines[1]), (836, "Expected"));
+    assert_eq!(rt; reported(alloc, &catalogue, &lines[2]), (0, "nothing"));
+    assert_eq!(rt; reported(alloc, &catalogue, &lines[3]), (4096, "TooLong"));
     Ok(())
 }

@@ -15,9 +15,9 @@ fn text_of(alloc: Global, lines: &str) -> Result<Vec<u8>, AllocError> {
     Ok(text)
 }
 
-// What is told of a text: the number of a line, a place and a kind; or how many operations are too many; or how many batches
+// What is reported of a text: the number of a line, an offset and a kind; or how many operations are too many; or how many batches
 // it has.
-fn told(alloc: Global, text: &[u8]) -> (usize, usize, &'static str) {
+fn reported(alloc: Global, text: &[u8]) -> (usize, usize, &'static str) {
     match read_script(alloc, text) {
         Ok(script) => (0, script.batches.len(), "script"),
         Err(Refusal::Fault(ScriptFault::Catalogue(CatalogueFault::Syntax(fault)))) => {
@@ -40,16 +40,16 @@ fn told(alloc: Global, text: &[u8]) -> (usize, usize, &'static str) {
 
 const TABLE: &str = "table T(key int, v int); proc Add(k int, n int) { }~";
 
-// How many rows in front are told so, of texts with this in front.
-fn count_told(alloc: Global, front: &str, table: &str) -> Result<usize, Fail> {
+// How many rows at the start are reported so, of texts with this at the start.
+fn count_reported(alloc: Global, prefix: &str, table: &str) -> Result<usize, Fail> {
     let mut count = 0usize;
     for line in table.lines() {
         let Some(row) = row_of(line) else {
             return Err(Fail::from("no row"));
         };
-        let mut text = text_of(alloc, front)?;
+        let mut text = text_of(alloc, prefix)?;
         text.extend_from_slice(&text_of(alloc, row.text)?)?;
-        if told(alloc, &text) != (row.first, row.second, row.word) {
+        if reported(alloc, &text) != (row.first, row.second, row.word) {
             return Ok(count);
         }
         count = count.saturating_add(1);
@@ -57,7 +57,7 @@ fn count_told(alloc: Global, front: &str, table: &str) -> Result<usize, Fail> {
     Ok(count)
 }
 
-// Behind a catalogue: where the mark stands, and the first line that is refused.
+// After a catalogue: where the mark stands, and the first line that is refused.
 const LINES: &str = "0 0 script|
 0 0 script|---
 0 0 script|---~
@@ -89,14 +89,14 @@ const CATALOGUES: &str = "0 6 syntax|table ---~---~show
 0 0 script|# ---";
 
 #[test]
-fn scripts_are_told_by_their_first_fault(rt: HostRuntime) -> Result<(), Fail> {
+fn scripts_are_reported_by_their_first_fault(rt: HostRuntime) -> Result<(), Fail> {
     let alloc = rt.alloc();
-    assert_eq!(rt; count_told(alloc, TABLE, LINES)?, 21);
-    assert_eq!(rt; count_told(alloc, "", CATALOGUES)?, 6);
+    assert_eq!(rt; count_reported(alloc, TABLE, LINES)?, 21);
+    assert_eq!(rt; count_reported(alloc, "", CATALOGUES)?, 6);
     Ok(())
 }
 
-// A procedure of so many operations, and a line that is refused.
+// A procedure of that many operations, and a line that is refused.
 fn operations(alloc: Global, count: usize) -> Result<Vec<u8>, AllocError> {
     let mut text = b"table T(key int, v int); proc P(k int) {".to_vec(alloc)?;
     for _ in 0..count {
@@ -111,12 +111,12 @@ fn operations_come_before_lines(rt: HostRuntime) -> Result<(), Fail> {
     let alloc = rt.alloc();
     let few = operations(alloc, 256)?;
     let many = operations(alloc, 257)?;
-    assert_eq!(rt; told(alloc, &few), (1, 0, "NotHere"));
-    assert_eq!(rt; told(alloc, &many), (0, 257, "operations"));
+    assert_eq!(rt; reported(alloc, &few), (1, 0, "NotHere"));
+    assert_eq!(rt; reported(alloc, &many), (0, 257, "operations"));
     Ok(())
 }
 
-// A comment of so many bytes behind the mark.
+// A comment of that many bytes after the mark.
 fn comment(alloc: Global, len: usize) -> Result<Vec<u8>, AllocError> {
     let mut text = b"---\n#".to_vec(alloc)?;
     text.resize(len.saturating_add(4), b'x')?;
@@ -128,7 +128,7 @@ fn a_comment_has_at_most_4096_bytes(rt: HostRuntime) -> Result<(), Fail> {
     let alloc = rt.alloc();
     let short = comment(alloc, 4096)?;
     let long = comment(alloc, 5000)?;
-    assert_eq!(rt; told(alloc, &short), (0, 0, "script"));
-    assert_eq!(rt; told(alloc, &long), (1, 4096, "TooLong"));
+    assert_eq!(rt; reported(alloc, &short), (0, 0, "script"));
+    assert_eq!(rt; reported(alloc, &long), (1, 4096, "TooLong"));
     Ok(())
 }

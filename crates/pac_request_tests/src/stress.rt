@@ -24,7 +24,7 @@ fn txn_at(script: &Script, index: usize) -> Option<&Txn> {
     batch.txns.items().get(index)
 }
 
-// How many transactions in front are those of the stress test, numbered from 1.
+// How many transactions at the start are those of the stress test, numbered from 1.
 fn count_same(alloc: Global, script: &Script) -> Result<u64, Fail> {
     for count in 0..8 {
         let made = stress_txn(alloc, count + 1)?;

@@ -1,6 +1,6 @@
-// The words of the command line: what they say, and what they don't.
+// The arguments of the command line: what they say, and what they don't.
 use crate::rows::row_of;
-use pac_words::{Order, order_of};
+use pac_arguments::{Order, parse_args};
 use std::alloc::{AllocError, Global};
 use std::test::Fail;
 
@@ -25,7 +25,7 @@ fn words_of(alloc: Global, line: &str) -> Result<Vec<String>, AllocError> {
     Ok(words)
 }
 
-// How many rows in front are said so.
+// How many rows at the start are said so.
 fn count_said(alloc: Global, table: &str) -> Result<usize, Fail> {
     let mut count = 0usize;
     for line in table.lines() {
@@ -33,7 +33,7 @@ fn count_said(alloc: Global, table: &str) -> Result<usize, Fail> {
             return Err(Fail::from("no row"));
         };
         let words = words_of(alloc, row.text)?;
-        let Ok(order) = order_of(alloc, &words) else {
+        let Ok(order) = parse_args(alloc, &words) else {
             return Err(Fail::from("no memory"));
         };
         if said(order) != (row.first, row.second, row.word) {

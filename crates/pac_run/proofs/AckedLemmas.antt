@@ -1,4 +1,4 @@
--- What a front of the texts of replies acknowledges.
+-- What a prefix of the texts of replies acknowledges.
 use Rattle.std.proofs.Common.{◌≡◌, ◌∙◌, ◌⊎◌, inl, inr, ℕ, zero, suc, ◌^◌, ◌<◌, ◌≤◌, Bool, true, false, ◌||◌, List, [], ◌∷◌, ◌++◌, take, map, refl, sym, ap, subst, arith, append_assoc}
 use Rattle.std.specs.Prelude.{codes, nat_eq, slice_index_or, if◌then◌else◌}
 use Rattle.std.specs.List.{AllByRecursion, list_all}
@@ -22,8 +22,8 @@ use Rattle.pac_report.specs.Replies.{reply_words, shown_row, table_name}
 use Rattle.pac_engine.specs.declared.parts.EngineParts.{EngineParts}
 use Rattle.pac_engine.specs.Closing.{IsKept}
 use Rattle.pac_engine.specs.Standing.{durable_of, saved_of}
-use Rattle.pac_run.specs.Acked.{Acknowledges, IsOneOfLines, TellsSaved, whole_lines}
-use Rattle.pac_run.specs.Texts.{IsTextFront, IsPlain, texts}
+use Rattle.pac_run.specs.Acked.{Acknowledges, IsOneOfLines, ReportsSaved, whole_lines}
+use Rattle.pac_run.specs.Texts.{IsTextPrefix, IsPlain, texts}
 use Rattle.pac_run.proofs.NameLemmas.{AreNamed}
 use Rattle.pac_run.proofs.PlainLemmas.{cons_no_feed, decimal_no_feed, no_feed_both}
 
@@ -37,12 +37,12 @@ second-none : (a b : Bool) → (a || b) ≡ false → b ≡ false
 second-none true b e = absurd cc
 second-none false b e = e
 
--- a front of a line and more has no whole line, or this one and then those of a front of the rest
-front-lines : (line rest : List ℕ) (i : ℕ) → HasNoFeed line → (whole_lines (take i (line ++ 10 ∷ rest)) ≡ []) ⊎ ((j : ℕ) × (whole_lines (take i (line ++ 10 ∷ rest)) ≡ line ∷ whole_lines (take j rest)))
-front-lines [] rest zero none = inl refl
-front-lines [] rest (suc i) none = inr (i, refl)
-front-lines (b ∷ line) rest zero none = inl refl
-front-lines (b ∷ line) rest (suc i) none = go (nat_eq b 10) refl (front-lines line rest i (second-none (nat_eq b 10) (has_feed line) none))
+-- a prefix of a line and more has no whole line, or this one and then those of a prefix of the rest
+prefix-lines : (line rest : List ℕ) (i : ℕ) → HasNoFeed line → (whole_lines (take i (line ++ 10 ∷ rest)) ≡ []) ⊎ ((j : ℕ) × (whole_lines (take i (line ++ 10 ∷ rest)) ≡ line ∷ whole_lines (take j rest)))
+prefix-lines [] rest zero none = inl refl
+prefix-lines [] rest (suc i) none = inr (i, refl)
+prefix-lines (b ∷ line) rest zero none = inl refl
+prefix-lines (b ∷ line) rest (suc i) none = go (nat_eq b 10) refl (prefix-lines line rest i (second-none (nat_eq b 10) (has_feed line) none))
   where
     bytes : List ℕ
     bytes = take i (line ++ 10 ∷ rest)
@@ -66,13 +66,13 @@ front-lines (b ∷ line) rest (suc i) none = go (nat_eq b 10) refl (front-lines 
     go false e (inr is) = inr (is.0, whole-is e ∙ more _ (whole_lines (take is.0 rest)) _ is.1)
 
 module _ (P : List ℕ → Type 0) (catalogue : CatalogueState) where
-  -- each whole line of a front of the texts is that of one of the replies
+  -- each whole line of a prefix of the texts is that of one of the replies
   pub each-line : (replies : List Reply) → AllByRecursion (λ r. HasNoFeed (reply_words catalogue r)) replies → AllByRecursion (λ r. P (reply_words catalogue r)) replies → (i : ℕ) → AllByRecursion P (whole_lines (take i (texts catalogue replies)))
   each-line [] plain each zero = tt
   each-line [] plain each (suc i) = tt
   each-line (r ∷ replies) plain each i =
       let text : texts catalogue (r ∷ replies) ≡ reply_words catalogue r ++ 10 ∷ texts catalogue replies = append_assoc (reply_words catalogue r) (10 ∷ []) (texts catalogue replies) in
-      subst (λ (t : List ℕ). AllByRecursion P (whole_lines (take i t))) (sym text) (by (λ j. each-line replies plain.1 each.1 j) (front-lines (reply_words catalogue r) (texts catalogue replies) i plain.0))
+      subst (λ (t : List ℕ). AllByRecursion P (whole_lines (take i t))) (sym text) (by (λ j. each-line replies plain.1 each.1 j) (prefix-lines (reply_words catalogue r) (texts catalogue replies) i plain.0))
     where
       by : ((j : ℕ) → AllByRecursion P (whole_lines (take j (texts catalogue replies)))) → (whole_lines (take i (reply_words catalogue r ++ 10 ∷ texts catalogue replies)) ≡ []) ⊎ ((j : ℕ) × (whole_lines (take i (reply_words catalogue r ++ 10 ∷ texts catalogue replies)) ≡ reply_words catalogue r ∷ whole_lines (take j (texts catalogue replies))))
           → AllByRecursion P (whole_lines (take i (reply_words catalogue r ++ 10 ∷ texts catalogue replies)))
@@ -94,7 +94,7 @@ name-no-feed (b ∷ name) all = cons_no_feed b name (λ e. wrong (subst (λ (x :
     wrong : is_name 10 ≡ true → ⊥
     wrong e = cc
 
--- two names with another byte behind each: that is the same one
+-- two names with another byte after each: that is the same one
 heads : (x y : ℕ) (xs ys : List ℕ) → ◌≡◌ {A = List ℕ} (x ∷ xs) (y ∷ ys) → x ≡ y
 heads x y xs ys same = cc
 
@@ -104,43 +104,43 @@ tails x y xs ys same = cc
 no-bool : ◌≡◌ {A = Bool} true false → ⊥
 no-bool x = cc
 
-behind-name : (v w : List ℕ) (x y : ℕ) (r s : List ℕ) → list_all is_name v ≡ true → list_all is_name w ≡ true → is_name x ≡ false → is_name y ≡ false → v ++ x ∷ r ≡ w ++ y ∷ s → x ≡ y
-behind-name [] [] x y r s all other none still same = heads x y r s same
-behind-name [] (c ∷ w) x y r s all other none still same = absurd (no-bool (sym (first_so (is_name c) (list_all is_name w) other) ∙ ap is_name (sym (heads x c r (w ++ y ∷ s) same)) ∙ none))
-behind-name (b ∷ v) [] x y r s all other none still same = absurd (no-bool (sym (first_so (is_name b) (list_all is_name v) all) ∙ ap is_name (heads b y (v ++ x ∷ r) s same) ∙ still))
-behind-name (b ∷ v) (c ∷ w) x y r s all other none still same = behind-name v w x y r s (second_so (is_name b) (list_all is_name v) all) (second_so (is_name c) (list_all is_name w) other) none still (tails b c (v ++ x ∷ r) (w ++ y ∷ s) same)
+after-name : (v w : List ℕ) (x y : ℕ) (r s : List ℕ) → list_all is_name v ≡ true → list_all is_name w ≡ true → is_name x ≡ false → is_name y ≡ false → v ++ x ∷ r ≡ w ++ y ∷ s → x ≡ y
+after-name [] [] x y r s all other none still same = heads x y r s same
+after-name [] (c ∷ w) x y r s all other none still same = absurd (no-bool (sym (first_so (is_name c) (list_all is_name w) other) ∙ ap is_name (sym (heads x c r (w ++ y ∷ s) same)) ∙ none))
+after-name (b ∷ v) [] x y r s all other none still same = absurd (no-bool (sym (first_so (is_name b) (list_all is_name v) all) ∙ ap is_name (heads b y (v ++ x ∷ r) s same) ∙ still))
+after-name (b ∷ v) (c ∷ w) x y r s all other none still same = after-name v w x y r s (second_so (is_name b) (list_all is_name v) all) (second_so (is_name c) (list_all is_name w) other) none still (tails b c (v ++ x ∷ r) (w ++ y ∷ s) same)
 
--- ---- what lines tell
+-- ---- what lines say
 
-abbrev pub TellsAtMost : List ℕ → ℕ → List ℕ → Type 0
-TellsAtMost word most line = (number : ℕ) → number < 2 ^ 64 → word ++ decimal number ≡ line → number ≤ most
+abbrev pub ReportsAtMost : List ℕ → ℕ → List ℕ → Type 0
+ReportsAtMost word most line = (number : ℕ) → number < 2 ^ 64 → word ++ decimal number ≡ line → number ≤ most
 
-same-number : (front : List ℕ) (m n : ℕ) → m < 2 ^ 64 → n < 2 ^ 64 → front ++ decimal m ≡ front ++ decimal n → m ≡ n
+same-number : (prefix : List ℕ) (m n : ℕ) → m < 2 ^ 64 → n < 2 ^ 64 → prefix ++ decimal m ≡ prefix ++ decimal n → m ≡ n
 same-number [] m n small small' same = decimal_injective m n small small' same
-same-number (x ∷ front) m n small small' same = same-number front m n small small' (tails x x (front ++ decimal m) (front ++ decimal n) same)
+same-number (x ∷ prefix) m n small small' same = same-number prefix m n small small' (tails x x (prefix ++ decimal m) (prefix ++ decimal n) same)
 
 -- the line of a row that is shown begins with a name and `[`, and not with one and a space
 shown-other : (word name more : List ℕ) (number : ℕ) → list_all is_name word ≡ true → list_all is_name name ≡ true → (word ++ 32 ∷ []) ++ decimal number ≡ name ++ 91 ∷ more → ⊥
 shown-other word name more number all named same =
-    let x : 32 ≡ 91 = behind-name word name 32 91 (decimal number) more all named refl refl (sym (append_assoc word (32 ∷ []) (decimal number)) ∙ same) in
+    let x : 32 ≡ 91 = after-name word name 32 91 (decimal number) more all named refl refl (sym (append_assoc word (32 ∷ []) (decimal number)) ∙ same) in
     omega (arith, x)
 
--- the line of a row that is shown is a name, and `[` behind it
+-- the line of a row that is shown is a name, and `[` after it
 shown-split : (name key row : List ℕ) → name ++ codes "[" ++ key ++ codes "]" ++ row ≡ name ++ 91 ∷ ((key ++ 93 ∷ []) ++ row)
 shown-split name key row = ap (λ (l : List ℕ). (l ++ (93 ∷ [])) ++ row) (append_assoc name (91 ∷ []) key) ∙ ap (λ (l : List ℕ). l ++ row) (append_assoc name (91 ∷ key) (93 ∷ [])) ∙ append_assoc name ((91 ∷ key) ++ (93 ∷ [])) row
 
-kept-tells : (catalogue : CatalogueState) → AreNamed catalogue.tables → (engine : EngineParts) (r : Reply) → IsPlain r → IsKept engine r → TellsAtMost (codes "committed ") (durable_of engine) (reply_words catalogue r)
-kept-tells catalogue names engine (Committed txn) plain kept number few same =
+kept-knows : (catalogue : CatalogueState) → AreNamed catalogue.tables → (engine : EngineParts) (r : Reply) → IsPlain r → IsKept engine r → ReportsAtMost (codes "committed ") (durable_of engine) (reply_words catalogue r)
+kept-knows catalogue names engine (Committed txn) plain kept number few same =
     let is = same-number (codes "committed ") number txn few plain same in
     let k : txn ≤ durable_of engine = kept in
     omega (arith, is, k)
-kept-tells catalogue names engine (Aborted op reason) plain kept number few same = let h : 99 ≡ 97 = heads _ _ _ _ same in omega (arith, h)
-kept-tells catalogue names engine (AbortedFull table) plain kept number few same = let h : 99 ≡ 97 = heads _ _ _ _ same in omega (arith, h)
-kept-tells catalogue names engine (Shown table key row) plain kept number few same = absurd (shown-other (codes "committed") (table_name catalogue table) ((key_text key ++ 93 ∷ []) ++ shown_row row) number refl (name-at catalogue.tables table names) (same ∙ shown-split (table_name catalogue table) (key_text key) (shown_row row)))
-kept-tells catalogue names engine (Refused fault) plain kept number few same = let h : 99 ≡ 114 = heads _ _ _ _ same in omega (arith, h)
-kept-tells catalogue names engine (Saved txns) plain kept number few same = let h : 99 ≡ 115 = heads _ _ _ _ same in omega (arith, h)
+kept-knows catalogue names engine (Aborted op reason) plain kept number few same = let h : 99 ≡ 97 = heads _ _ _ _ same in omega (arith, h)
+kept-knows catalogue names engine (AbortedFull table) plain kept number few same = let h : 99 ≡ 97 = heads _ _ _ _ same in omega (arith, h)
+kept-knows catalogue names engine (Shown table key row) plain kept number few same = absurd (shown-other (codes "committed") (table_name catalogue table) ((key_text key ++ 93 ∷ []) ++ shown_row row) number refl (name-at catalogue.tables table names) (same ∙ shown-split (table_name catalogue table) (key_text key) (shown_row row)))
+kept-knows catalogue names engine (Refused fault) plain kept number few same = let h : 99 ≡ 114 = heads _ _ _ _ same in omega (arith, h)
+kept-knows catalogue names engine (Saved txns) plain kept number few same = let h : 99 ≡ 115 = heads _ _ _ _ same in omega (arith, h)
 
-kept-saved : (catalogue : CatalogueState) → AreNamed catalogue.tables → (engine : EngineParts) (r : Reply) → IsPlain r → IsKept engine r → TellsAtMost (codes "saved ") (saved_of engine) (reply_words catalogue r)
+kept-saved : (catalogue : CatalogueState) → AreNamed catalogue.tables → (engine : EngineParts) (r : Reply) → IsPlain r → IsKept engine r → ReportsAtMost (codes "saved ") (saved_of engine) (reply_words catalogue r)
 kept-saved catalogue names engine (Saved txns) plain kept number few same =
     let is = same-number (codes "saved ") number txns few plain same in
     let k : txns ≤ saved_of engine = kept in
@@ -190,21 +190,21 @@ one-among P line [] each is = absurd is
 one-among P line (first ∷ lines) each (inl same) = (first, same, each.0)
 one-among P line (first ∷ lines) each (inr is) = one-among P line lines each.1 is
 
-module _ (catalogue : CatalogueState) (names : AreNamed catalogue.tables) (engine : EngineParts) (replies : List Reply) (output : List ℕ) (plain : AllByRecursion IsPlain replies) (kept : AllByRecursion (IsKept engine) replies) (front : IsTextFront output (texts catalogue replies)) where
-  tells : (word : List ℕ) (most : ℕ) → AllByRecursion (λ r. TellsAtMost word most (reply_words catalogue r)) replies → (number : ℕ) → (number < 2 ^ 64) × IsOneOfLines (word ++ decimal number) (whole_lines output) → number ≤ most
-  tells word most each number is =
+module _ (catalogue : CatalogueState) (names : AreNamed catalogue.tables) (engine : EngineParts) (replies : List Reply) (output : List ℕ) (plain : AllByRecursion IsPlain replies) (kept : AllByRecursion (IsKept engine) replies) (prefix : IsTextPrefix output (texts catalogue replies)) where
+  knows : (word : List ℕ) (most : ℕ) → AllByRecursion (λ r. ReportsAtMost word most (reply_words catalogue r)) replies → (number : ℕ) → (number < 2 ^ 64) × IsOneOfLines (word ++ decimal number) (whole_lines output) → number ≤ most
+  knows word most each number is =
       let feeds = each-of IsPlain (λ r. Unit {0}) (λ r. HasNoFeed (reply_words catalogue r)) (λ r p u. words-no-feed catalogue names r p) replies plain (all-unit replies) in
-      let lines = subst (λ (t : List ℕ). AllByRecursion (TellsAtMost word most) (whole_lines t)) (sym front.is) (each-line (TellsAtMost word most) catalogue replies feeds each front.count) in
-      let one = one-among (TellsAtMost word most) (word ++ decimal number) (whole_lines output) lines is.1 in
+      let lines = subst (λ (t : List ℕ). AllByRecursion (ReportsAtMost word most) (whole_lines t)) (sym prefix.is) (each-line (ReportsAtMost word most) catalogue replies feeds each prefix.count) in
+      let one = one-among (ReportsAtMost word most) (word ++ decimal number) (whole_lines output) lines is.1 in
       one.2 number is.0 one.1
     where
       all-unit : (rs : List Reply) → AllByRecursion (λ r. Unit {0}) rs
       all-unit [] = tt
       all-unit (r ∷ rs) = (tt, all-unit rs)
 
-  -- an output that is a front of the texts of kept replies acknowledges nothing but what is durable
+  -- an output that is a prefix of the texts of kept replies acknowledges nothing but what is durable
   pub acknowledged : (number : ℕ) → Acknowledges output number → number ≤ durable_of engine
-  acknowledged = tells (codes "committed ") (durable_of engine) (each-of IsPlain (IsKept engine) (λ r. TellsAtMost (codes "committed ") (durable_of engine) (reply_words catalogue r)) (λ r p k. kept-tells catalogue names engine r p k) replies plain kept)
+  acknowledged = knows (codes "committed ") (durable_of engine) (each-of IsPlain (IsKept engine) (λ r. ReportsAtMost (codes "committed ") (durable_of engine) (reply_words catalogue r)) (λ r p k. kept-knows catalogue names engine r p k) replies plain kept)
 
-  pub told-saved : (number : ℕ) → TellsSaved output number → number ≤ saved_of engine
-  told-saved = tells (codes "saved ") (saved_of engine) (each-of IsPlain (IsKept engine) (λ r. TellsAtMost (codes "saved ") (saved_of engine) (reply_words catalogue r)) (λ r p k. kept-saved catalogue names engine r p k) replies plain kept)
+  pub known-saved : (number : ℕ) → ReportsSaved output number → number ≤ saved_of engine
+  known-saved = knows (codes "saved ") (saved_of engine) (each-of IsPlain (IsKept engine) (λ r. ReportsAtMost (codes "saved ") (saved_of engine) (reply_words catalogue r)) (λ r p k. kept-saved catalogue names engine r p k) replies plain kept)

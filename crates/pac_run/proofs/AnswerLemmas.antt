@@ -4,7 +4,7 @@ use Rattle.std.specs.Prelude.{IsErrOf, OnErr}
 use Rattle.std.specs.List.{AllByRecursion}
 use Rattle.std.proofs.lemmas.List.{append-nil}
 use Rattle.pac_ops.specs.declared.transaction.Txn.{Txn}
-use Rattle.pac_outside.specs.Devices.{all_told}
+use Rattle.pac_outside.specs.Devices.{all_known}
 use Rattle.pac_outside.specs.Disk.{DiskHistory}
 use Rattle.pac_types.specs.Typing.{CatalogueState}
 use Rattle.pac_check.specs.declared.limits.TheConstants.{MAX_SLOT_LEN}
@@ -12,20 +12,20 @@ use Rattle.pac_request.specs.declared.request.Request.{Request}
 use Rattle.pac_request.specs.declared.request.Request.TheVariants as request
 use Rattle.pac_request.specs.declared.request.Reply.{Reply}
 use Rattle.pac_session.specs.Session.{Rules, SessionState, commits, committed, ends}
-use Rattle.pac_session.specs.Groups.{all_requests, cut_one, place_behind}
+use Rattle.pac_session.specs.Groups.{all_requests, cut_one, place_after_group}
 use Rattle.pac_session.specs.Open.{IsInGroup, rules_of, state_now}
 use Rattle.pac_engine.specs.declared.parts.EngineParts.{EngineParts}
 use Rattle.pac_engine.specs.Closing.{Closes, IsKept, slot_len}
 use Rattle.pac_engine.specs.Standing.{OnlyGrows, StandsOn}
-use Rattle.pac_engine.proofs.DeviceLemmas.{rest-told}
+use Rattle.pac_engine.proofs.DeviceLemmas.{rest-known}
 use Rattle.pac_engine.proofs.LawLemmas.{closes-then}
 use Rattle.pac_run.specs.declared.stop.RunStop.{RunStop}
 use Rattle.pac_run.specs.declared.stop.RunStop.TheVariants.{NoMemory}
 use Rattle.pac_run.specs.Serving.{Answered, Broke, KeepsEach, StandsForEach, StepStops}
-use Rattle.pac_run.specs.Texts.{IsTextFront, IsPlain, SaysUnlessFault, texts}
-use Rattle.pac_run.proofs.ServeLemmas.{took-nothing, whole-front}
+use Rattle.pac_run.specs.Texts.{IsTextPrefix, IsPlain, SaysUnlessFault, texts}
+use Rattle.pac_run.proofs.ServeLemmas.{took-nothing, whole-prefix}
 use Rattle.pac_run.proofs.StepLemmas.{nothing-keeps}
-use Rattle.pac_run.proofs.StopLemmas.{none-told}
+use Rattle.pac_run.proofs.StopLemmas.{none-known}
 
 -- an error is the only one that the answer may have
 pub only-err : {T E : Type 0} (r : Result T E) (a b : E) → OnErr r (IsErrOf r a) → IsErrOf r b → b ≡ a
@@ -35,39 +35,39 @@ only-err (Err e) a b only is = same only is
     same : {T E : Type 0} {e a b : E} → ◌≡◌ {A = Result T E} (Err e) (Err a) → ◌≡◌ {A = Result T E} (Err e) (Err b) → b ≡ a
     same f g = cc
 
-module _ (asked : Request) (old new : EngineParts) (told told' : List (Option DiskHistory)) where
-  keeps-one : KeepsEach (commits (rules_of old.session) (state_now old.session) asked) old new told told' → KeepsEach (committed (rules_of old.session) (state_now old.session) (asked ∷ [])) old new told told'
-  keeps-one keeps = subst (λ (t : List Txn). KeepsEach t old new told told') (sym (append-nil (commits (rules_of old.session) (state_now old.session) asked))) keeps
+module _ (asked : Request) (old new : EngineParts) (known known' : List (Option DiskHistory)) where
+  keeps-one : KeepsEach (commits (rules_of old.session) (state_now old.session) asked) old new known known' → KeepsEach (committed (rules_of old.session) (state_now old.session) (asked ∷ [])) old new known known'
+  keeps-one keeps = subst (λ (t : List Txn). KeepsEach t old new known known') (sym (append-nil (commits (rules_of old.session) (state_now old.session) asked))) keeps
 
-  stands-one : StandsForEach (commits (rules_of old.session) (state_now old.session) asked) old new told told' → StandsForEach (committed (rules_of old.session) (state_now old.session) (asked ∷ [])) old new told told'
-  stands-one stands = subst (λ (t : List Txn). StandsForEach t old new told told') (sym (append-nil (commits (rules_of old.session) (state_now old.session) asked))) stands
+  stands-one : StandsForEach (commits (rules_of old.session) (state_now old.session) asked) old new known known' → StandsForEach (committed (rules_of old.session) (state_now old.session) (asked ∷ [])) old new known known'
+  stands-one stands = subst (λ (t : List Txn). StandsForEach t old new known known') (sym (append-nil (commits (rules_of old.session) (state_now old.session) asked))) stands
 
   -- nothing was written, since there was no memory for the text
-  pub no-text : (catalogue : CatalogueState) (held : Option (List ℕ)) (rose : Type 0) (stop : RunStop) → stop ≡ NoMemory → KeepsEach (commits (rules_of old.session) (state_now old.session) asked) old new told told' → OnlyGrows old new
-      → Broke catalogue asked old new held held told told' rose stop
-  no-text catalogue held rose stop is keeps grows = record {
+  pub no-text : (catalogue : CatalogueState) (held : Option (List ℕ)) (faulted : Type 0) (stop : RunStop) → stop ≡ NoMemory → KeepsEach (commits (rules_of old.session) (state_now old.session) asked) old new known known' → OnlyGrows old new
+      → Broke catalogue asked old new held held known known' faulted stop
+  no-text catalogue held faulted stop is keeps grows = record {
     more = [];
     out = [];
     took = took-nothing held;
-    front = record { count = 0; is = refl };
+    prefix = record { count = 0; is = refl };
     whole = inl refl;
     stops = λ start group within. subst (λ (s : RunStop). StepStops (rules_of old.session) old.log.gate.place start (cut_one (rules_of old.session) start group asked).closed [] s) (sym is)
-        (none-told (rules_of old.session) old.log.gate.place start (cut_one (rules_of old.session) start group asked).closed);
+        (none-known (rules_of old.session) old.log.gate.place start (cut_one (rules_of old.session) start group asked).closed);
     keeps = keeps-one keeps;
     grows = grows;
     kept = tt;
     plain = tt;
   }
 
-  pub broke-of : (catalogue : CatalogueState) (held held' : Option (List ℕ)) (rose : Type 0) (stop : RunStop) (more : List Reply) (text : List ℕ) → text ≡ texts catalogue more → SaysUnlessFault held text held' rose
-      → KeepsEach (commits (rules_of old.session) (state_now old.session) asked) old new told told' → OnlyGrows old new → AllByRecursion (IsKept new) more → AllByRecursion IsPlain more
+  pub broke-of : (catalogue : CatalogueState) (held held' : Option (List ℕ)) (faulted : Type 0) (stop : RunStop) (more : List Reply) (text : List ℕ) → text ≡ texts catalogue more → SaysUnlessFault held text held' faulted
+      → KeepsEach (commits (rules_of old.session) (state_now old.session) asked) old new known known' → OnlyGrows old new → AllByRecursion (IsKept new) more → AllByRecursion IsPlain more
       → ((start : SessionState) (group : List Request) → IsInGroup start group old.session → StepStops (rules_of old.session) old.log.gate.place start (cut_one (rules_of old.session) start group asked).closed more stop)
-      → Broke catalogue asked old new held held' told told' rose stop
-  broke-of catalogue held held' rose stop more text is (inl took) keeps grows kept plain stops = record {
+      → Broke catalogue asked old new held held' known known' faulted stop
+  broke-of catalogue held held' faulted stop more text is (inl took) keeps grows kept plain stops = record {
     more = more;
     out = text;
     took = took;
-    front = subst (λ (t : List ℕ). IsTextFront t (texts catalogue more)) (sym is) (whole-front (texts catalogue more));
+    prefix = subst (λ (t : List ℕ). IsTextPrefix t (texts catalogue more)) (sym is) (whole-prefix (texts catalogue more));
     whole = inl is;
     stops = stops;
     keeps = keeps-one keeps;
@@ -75,11 +75,11 @@ module _ (asked : Request) (old new : EngineParts) (told told' : List (Option Di
     kept = kept;
     plain = plain;
   }
-  broke-of catalogue held held' rose stop more text is (inr fault) keeps grows kept plain stops = record {
+  broke-of catalogue held held' faulted stop more text is (inr fault) keeps grows kept plain stops = record {
     more = more;
     out = take fault.1.count text;
-    took = fault.1.front;
-    front = record { count = fault.1.count; is = ap (take fault.1.count) is };
+    took = fault.1.prefix;
+    prefix = record { count = fault.1.count; is = ap (take fault.1.count) is };
     whole = inr fault.0;
     stops = stops;
     keeps = keeps-one keeps;
@@ -90,10 +90,10 @@ module _ (asked : Request) (old new : EngineParts) (told told' : List (Option Di
 
   -- a request was answered
   pub answered-one : (more : List Reply) → ((start : SessionState) (group : List Request) → IsInGroup start group old.session → Closes (rules_of old.session) old.log.gate.place start (cut_one (rules_of old.session) start group asked) more new)
-      → KeepsEach (commits (rules_of old.session) (state_now old.session) asked) old new told told' → StandsForEach (commits (rules_of old.session) (state_now old.session) asked) old new told told'
+      → KeepsEach (commits (rules_of old.session) (state_now old.session) asked) old new known known' → StandsForEach (commits (rules_of old.session) (state_now old.session) asked) old new known known'
       → rules_of new.session ≡ rules_of old.session → OnlyGrows old new → AllByRecursion (IsKept new) more → AllByRecursion IsPlain more
-      → (asked ≡ request.Save → slot_len (rules_of old.session) (state_now old.session) (place_behind old.log.gate.place old.session.txns) ≤ MAX_SLOT_LEN)
-      → Answered (asked ∷ []) more old new told told'
+      → (asked ≡ request.Save → slot_len (rules_of old.session) (state_now old.session) (place_after_group old.log.gate.place old.session.txns) ≤ MAX_SLOT_LEN)
+      → Answered (asked ∷ []) more old new known known'
   answered-one more closes keeps stands same grows kept plain small = record {
     closes = λ rules place start whole given is.
         let middle = ends rules start (all_requests whole.closed) in
@@ -113,10 +113,10 @@ module _ (asked : Request) (old new : EngineParts) (told told' : List (Option Di
       first-same e = cc
 
 -- nothing was asked
-pub answered-none : (e : EngineParts) (told : List (Option DiskHistory)) → StandsForEach [] e e told told → Answered [] [] e e told told
-answered-none e told stands = record {
+pub answered-none : (e : EngineParts) (known : List (Option DiskHistory)) → StandsForEach [] e e known known → Answered [] [] e e known known
+answered-none e known stands = record {
   closes = λ rules place start whole given is. subst (λ (l : List Reply). Closes rules place start whole l e) (sym (append-nil given)) is;
-  keeps = nothing-keeps e told;
+  keeps = nothing-keeps e known;
   stands = stands;
   same = refl;
   grows = record { durable = omega arith; saved = omega arith };
@@ -129,5 +129,5 @@ answered-none e told stands = record {
     none : [] ≡ request.Save ∷ [] → ⊥
     none e = cc
 
-pub nothing-stands : (e : EngineParts) (told : List (Option DiskHistory)) → StandsForEach [] e e told told
-nothing-stands e told = λ text history. rest-told (StandsOn text history e) (λ was is. StandsOn text (history ++ []) e is) (λ devices is. subst (λ (h : List Txn). StandsOn text h e devices) (sym (append-nil history)) is) (all_told told)
+pub nothing-stands : (e : EngineParts) (known : List (Option DiskHistory)) → StandsForEach [] e e known known
+nothing-stands e known = λ text history. rest-known (StandsOn text history e) (λ was is. StandsOn text (history ++ []) e is) (λ devices is. subst (λ (h : List Txn). StandsOn text h e devices) (sym (append-nil history)) is) (all_known known)

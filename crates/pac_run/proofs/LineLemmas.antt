@@ -2,7 +2,7 @@
 use Rattle.std.proofs.Common.{◌≡◌, ◌∙◌, ℕ, ◌+◌, ◌-◌, ◌<◌, ◌≤◌, Bool, true, false, List, [], ◌∷◌, length, Option, Some, None, Result, Ok, Err, OnOk, inr, refl, sym, ap, subst, arith}
 use Rattle.std.specs.Prelude.{IsErrOf}
 use Rattle.std.proofs.KnownBytes.{prepend_known-nil}
-use Rattle.pac_outside.specs.Causes.{Rose}
+use Rattle.pac_outside.specs.Causes.{Faulted}
 use Rattle.pac_outside.specs.Disk.{DiskHistory}
 use Rattle.pac_lines.specs.Calls.{IsCall, KeepsLimit}
 use Rattle.pac_lines.specs.Reading.{ReaderState}
@@ -18,7 +18,7 @@ use Rattle.pac_run.specs.declared.limits.TheConstants.{MAX_INPUT}
 use Rattle.pac_run.specs.declared.stop.RunStop.{RunStop}
 use Rattle.pac_run.specs.declared.stop.RunStop.TheVariants.{InputFault, NoMemory}
 use Rattle.pac_run.specs.Asked.{WereHandled}
-use Rattle.pac_run.specs.Causes.{not_read}
+use Rattle.pac_run.specs.Causes.{stop_of_read}
 use Rattle.pac_run.specs.Serving.{Broke, HasRead, LineBroke, LineServed, Replied, Served, Serving}
 use Rattle.pac_run.proofs.AnswerLemmas.{nothing-stands}
 use Rattle.pac_run.proofs.LoopLemmas.{end-broke, end-served, line-broke, line-stopped, read-stopped}
@@ -27,9 +27,9 @@ use Rattle.pac_run.proofs.ServeLemmas.{serving-more, still-served, took-nothing}
 use Rattle.pac_run.proofs.StepLemmas.{goes-first}
 
 -- before the first line
-abbrev pub first-serving : (engine : EngineParts) (left held : Option (List ℕ)) (told : List (Option DiskHistory)) (reader : ReaderState) → engine.session.txns ≡ [] → engine.session.held ≡ [] → reader ≡ record { line = []; ahead = []; taken = 0; limit = MAX_INPUT }
-    → Serving engine engine left left reader held held told told
-first-serving engine left held told reader none empty is = record {
+abbrev pub first-serving : (engine : EngineParts) (left held : Option (List ℕ)) (known : List (Option DiskHistory)) (reader : ReaderState) → engine.session.txns ≡ [] → engine.session.held ≡ [] → reader ≡ record { line = []; ahead = []; taken = 0; limit = MAX_INPUT }
+    → Serving engine engine left left reader held held known known
+first-serving engine left held known reader none empty is = record {
   lines = [];
   read = subst (λ (r : ReaderState). HasRead left left r []) (sym is) (first-read left);
   requests = [];
@@ -37,19 +37,19 @@ first-serving engine left held told reader none empty is = record {
   unstopped = tt;
   given = [];
   took = took-nothing held;
-  goes = goes-first engine told none empty (nothing-stands engine told);
+  goes = goes-first engine known none empty (nothing-stands engine known);
 }
 
-module _ (first now : EngineParts) (left mid left' : Option (List ℕ)) (reader next : ReaderState) (held held' held'' : Option (List ℕ)) (told told' told'' : List (Option DiskHistory)) (serving : Serving first now left mid reader held held' told told') (new : EngineParts)
+module _ (first now : EngineParts) (left mid left' : Option (List ℕ)) (reader next : ReaderState) (held held' held'' : Option (List ℕ)) (known known' known'' : List (Option DiskHistory)) (serving : Serving first now left mid reader held held' known known') (new : EngineParts)
     (catalogue : CatalogueState) (same : catalogue ≡ first.session.catalogue) where
-  pub end-any : (b : Bool) → b ≡ false → IsCall reader next mid left' (Ok b) → KeepsLimit next (Ok b) → (rose rose' : Type 0) → (rose' → rose) → (result : Result (Unit {0}) RunStop) → OnOk result (Replied catalogue (request.Stop ∷ []) now new held' held'' told' told'')
-      → ((stop : RunStop) → IsErrOf result stop → Broke catalogue request.Stop now new held' held'' told' told'' rose' stop) → Served first new left left' held held'' told told'' rose result
-  end-any b is call keeps rose rose' later (Ok x) ok err =
-      end-served first now left mid reader held held' told told' serving left' next rose held'' told'' new (subst (λ (t : Bool). IsCall reader next mid left' (Ok t)) is call) (subst (λ (t : Bool). KeepsLimit next (Ok t)) is keeps)
-      (subst (λ (c : CatalogueState). Replied c (request.Stop ∷ []) now new held' held'' told' told'') same ok)
-  end-any b is call keeps rose rose' later (Err stop) ok err =
-      end-broke first now left mid reader held held' told told' serving left' next rose held'' told'' new (subst (λ (t : Bool). IsCall reader next mid left' (Ok t)) is call) (subst (λ (t : Bool). KeepsLimit next (Ok t)) is keeps)
-      rose' stop later (subst (λ (c : CatalogueState). Broke c request.Stop now new held' held'' told' told'' rose' stop) same (err stop refl))
+  pub end-any : (b : Bool) → b ≡ false → IsCall reader next mid left' (Ok b) → KeepsLimit next (Ok b) → (faulted faulted' : Type 0) → (faulted' → faulted) → (result : Result (Unit {0}) RunStop) → OnOk result (Replied catalogue (request.Stop ∷ []) now new held' held'' known' known'')
+      → ((stop : RunStop) → IsErrOf result stop → Broke catalogue request.Stop now new held' held'' known' known'' faulted' stop) → Served first new left left' held held'' known known'' faulted result
+  end-any b is call keeps faulted faulted' later (Ok x) ok err =
+      end-served first now left mid reader held held' known known' serving left' next faulted held'' known'' new (subst (λ (t : Bool). IsCall reader next mid left' (Ok t)) is call) (subst (λ (t : Bool). KeepsLimit next (Ok t)) is keeps)
+      (subst (λ (c : CatalogueState). Replied c (request.Stop ∷ []) now new held' held'' known' known'') same ok)
+  end-any b is call keeps faulted faulted' later (Err stop) ok err =
+      end-broke first now left mid reader held held' known known' serving left' next faulted held'' known'' new (subst (λ (t : Bool). IsCall reader next mid left' (Ok t)) is call) (subst (λ (t : Bool). KeepsLimit next (Ok t)) is keeps)
+      faulted' stop later (subst (λ (c : CatalogueState). Broke c request.Stop now new held' held'' known' known'' faulted' stop) same (err stop refl))
 
   module _ (b : Bool) (is : b ≡ true) (call : IsCall reader next mid left' (Ok b)) (keeps : KeepsLimit next (Ok b)) (text : List ℕ) (line : text ≡ next.line) where
     call-is : IsCall reader next mid left' (Ok true)
@@ -58,21 +58,21 @@ module _ (first now : EngineParts) (left mid left' : Option (List ℕ)) (reader 
     keeps-is : KeepsLimit next (Ok true)
     keeps-is = subst (λ (t : Bool). KeepsLimit next (Ok t)) is keeps
 
-    pub broke-any : (rose rose' : Type 0) → (rose' → rose) → (result : Result (Unit {0}) RunStop) (stop : RunStop) → result ≡ Err stop → LineBroke catalogue text now new held' held'' told' told'' rose' stop → Served first new left left' held held'' told told'' rose result
-    broke-any rose rose' later result stop gives broke = subst (λ (r : Result (Unit {0}) RunStop). Served first new left left' held held'' told told'' rose r) (sym gives)
-        (line-broke first now left mid reader held held' told told' serving left' next rose held'' told'' new call-is keeps-is rose' stop later
-        (subst (λ (l : List ℕ). LineBroke first.session.catalogue l now new held' held'' told' told'' rose' stop) line (subst (λ (c : CatalogueState). LineBroke c text now new held' held'' told' told'' rose' stop) same broke)))
+    pub broke-any : (faulted faulted' : Type 0) → (faulted' → faulted) → (result : Result (Unit {0}) RunStop) (stop : RunStop) → result ≡ Err stop → LineBroke catalogue text now new held' held'' known' known'' faulted' stop → Served first new left left' held held'' known known'' faulted result
+    broke-any faulted faulted' later result stop gives broke = subst (λ (r : Result (Unit {0}) RunStop). Served first new left left' held held'' known known'' faulted r) (sym gives)
+        (line-broke first now left mid reader held held' known known' serving left' next faulted held'' known'' new call-is keeps-is faulted' stop later
+        (subst (λ (l : List ℕ). LineBroke first.session.catalogue l now new held' held'' known' known'' faulted' stop) line (subst (λ (c : CatalogueState). LineBroke c text now new held' held'' known' known'' faulted' stop) same broke)))
 
-    line-is : (stops : Bool) → LineServed catalogue text stops now new held' held'' told' told'' → LineServed first.session.catalogue next.line stops now new held' held'' told' told''
-    line-is stops served = subst (λ (l : List ℕ). LineServed first.session.catalogue l stops now new held' held'' told' told'') line (subst (λ (c : CatalogueState). LineServed c text stops now new held' held'' told' told'') same served)
+    line-is : (stops : Bool) → LineServed catalogue text stops now new held' held'' known' known'' → LineServed first.session.catalogue next.line stops now new held' held'' known' known''
+    line-is stops served = subst (λ (l : List ℕ). LineServed first.session.catalogue l stops now new held' held'' known' known'') line (subst (λ (c : CatalogueState). LineServed c text stops now new held' held'' known' known'') same served)
 
-    pub stopped-any : (rose : Type 0) (stops : Bool) → stops ≡ true → LineServed catalogue text stops now new held' held'' told' told'' → Served first new left left' held held'' told told'' rose (Ok tt)
-    stopped-any rose stops stopping served = line-stopped first now left mid reader held held' told told' serving left' next rose held'' told'' new call-is keeps-is
-        (subst (λ (t : Bool). LineServed first.session.catalogue next.line t now new held' held'' told' told'') stopping (line-is stops served))
+    pub stopped-any : (faulted : Type 0) (stops : Bool) → stops ≡ true → LineServed catalogue text stops now new held' held'' known' known'' → Served first new left left' held held'' known known'' faulted (Ok tt)
+    stopped-any faulted stops stopping served = line-stopped first now left mid reader held held' known known' serving left' next faulted held'' known'' new call-is keeps-is
+        (subst (λ (t : Bool). LineServed first.session.catalogue next.line t now new held' held'' known' known'') stopping (line-is stops served))
 
-    pub more-any : (stops : Bool) → stops ≡ false → LineServed catalogue text stops now new held' held'' told' told'' → Serving first new left left' next held held'' told told''
-    more-any stops going served = serving-more first now left mid reader held held' told told' serving left' held'' told'' next new call-is keeps-is
-        (subst (λ (t : Bool). LineServed first.session.catalogue next.line t now new held' held'' told' told'') going (line-is stops served))
+    pub more-any : (stops : Bool) → stops ≡ false → LineServed catalogue text stops now new held' held'' known' known'' → Serving first new left left' next held held'' known known''
+    more-any stops going served = serving-more first now left mid reader held held' known known' serving left' held'' known'' next new call-is keeps-is
+        (subst (λ (t : Bool). LineServed first.session.catalogue next.line t now new held' held'' known' known'') going (line-is stops served))
 
     pub falls-any : length next.ahead + next.limit - next.taken < length reader.ahead + reader.limit - reader.taken
     falls-any =
@@ -80,33 +80,33 @@ module _ (first now : EngineParts) (left mid left' : Option (List ℕ)) (reader 
         omega (arith, falls left mid left' reader next serving.lines serving.read call-is, read.within, read.limit, serving.read.within, serving.read.limit)
 
 -- the catalogue stays the same
-pub catalogue-stays : (catalogue : CatalogueState) (old new : EngineParts) (text : List ℕ) (stops : Bool) (c : CatalogueState) (held held' : Option (List ℕ)) (told told' : List (Option DiskHistory)) → catalogue ≡ old.session.catalogue → LineServed c text stops old new held held' told told' → catalogue ≡ new.session.catalogue
-catalogue-stays catalogue old new text stops c held held' told told' same served = same ∙ ap (λ (r : Rules). r.catalogue) (sym served.replied.answered.same)
+pub catalogue-stays : (catalogue : CatalogueState) (old new : EngineParts) (text : List ℕ) (stops : Bool) (c : CatalogueState) (held held' : Option (List ℕ)) (known known' : List (Option DiskHistory)) → catalogue ≡ old.session.catalogue → LineServed c text stops old new held held' known known' → catalogue ≡ new.session.catalogue
+catalogue-stays catalogue old new text stops c held held' known known' same served = same ∙ ap (λ (r : Rules). r.catalogue) (sym served.replied.answered.same)
 
 -- where nothing could be served
-pub nothing-served : (engine : EngineParts) (left held : Option (List ℕ)) (told : List (Option DiskHistory)) (rose : Type 0) (result : Result (Unit {0}) RunStop) (stop : RunStop) → engine.session.txns ≡ [] → engine.session.held ≡ [] → result ≡ Err stop → stop ≡ NoMemory
-    → Served engine engine left left held held told told rose result
-nothing-served engine left held told rose result stop none empty gives is =
+pub nothing-served : (engine : EngineParts) (left held : Option (List ℕ)) (known : List (Option DiskHistory)) (faulted : Type 0) (result : Result (Unit {0}) RunStop) (stop : RunStop) → engine.session.txns ≡ [] → engine.session.held ≡ [] → result ≡ Err stop → stop ≡ NoMemory
+    → Served engine engine left left held held known known faulted result
+nothing-served engine left held known faulted result stop none empty gives is =
     let reader : ReaderState = record { line = []; ahead = []; taken = 0; limit = MAX_INPUT } in
-    let serving = first-serving engine left held told reader none empty refl in
-    subst (λ (r : Result (Unit {0}) RunStop). Served engine engine left left held held told told rose r) (sym (gives ∙ ap (λ (s : RunStop). Err s) is))
-    (still-served engine engine left left reader held held told told serving left rose NoMemory [] (none-handled left) (λ other. record { bytes = []; gave = sym (prepend_known-nil left); few = omega arith }) (λ long. absurd cc) (inr (inr refl)))
+    let serving = first-serving engine left held known reader none empty refl in
+    subst (λ (r : Result (Unit {0}) RunStop). Served engine engine left left held held known known faulted r) (sym (gives ∙ ap (λ (s : RunStop). Err s) is))
+    (still-served engine engine left left reader held held known known serving left faulted NoMemory [] (none-handled left) (λ other. record { bytes = []; gave = sym (prepend_known-nil left); few = omega arith }) (λ long. absurd cc) (inr (inr refl)))
   where
     none-handled : (l : Option (List ℕ)) → WereHandled l [] [] l
     none-handled None = tt
     none-handled (Some t) = (t, refl, refl)
 
-pub rose-later : (a b c : ℕ) → a ≤ b → Rose b c → Rose a c
-rose-later a b c later rose = omega (arith, later, rose)
+pub faulted-later : (a b c : ℕ) → a ≤ b → Faulted b c → Faulted a c
+faulted-later a b c later faulted = omega (arith, later, faulted)
 
-pub read-any : (first now : EngineParts) (left mid left' : Option (List ℕ)) (reader next : ReaderState) (held held' : Option (List ℕ)) (told told' : List (Option DiskHistory)) → Serving first now left mid reader held held' told told' → (rose : Type 0) (error : LineError) (stop : RunStop) → stop ≡ not_read error
-    → IsCall reader next mid left' (Err error) → KeepsLimit next (Err error) → Served first now left left' held held' told told' rose (Err stop)
-read-any first now left mid left' reader next held held' told told' serving rose error stop is call keeps =
-    subst (λ (s : RunStop). Served first now left left' held held' told told' rose (Err s)) (sym is) (read-stopped first now left mid reader held held' told told' serving left' next rose error call keeps)
+pub read-any : (first now : EngineParts) (left mid left' : Option (List ℕ)) (reader next : ReaderState) (held held' : Option (List ℕ)) (known known' : List (Option DiskHistory)) → Serving first now left mid reader held held' known known' → (faulted : Type 0) (error : LineError) (stop : RunStop) → stop ≡ stop_of_read error
+    → IsCall reader next mid left' (Err error) → KeepsLimit next (Err error) → Served first now left left' held held' known known' faulted (Err stop)
+read-any first now left mid left' reader next held held' known known' serving faulted error stop is call keeps =
+    subst (λ (s : RunStop). Served first now left left' held held' known known' faulted (Err s)) (sym is) (read-stopped first now left mid reader held held' known known' serving left' next faulted error call keeps)
 
 -- a request is never refused by the input
-pub never-input : (first now : EngineParts) (left mid : Option (List ℕ)) (reader : ReaderState) (held held' held'' : Option (List ℕ)) (told told' told'' : List (Option DiskHistory)) → Serving first now left mid reader held held' told told' → (catalogue : CatalogueState) (asked : Request) (new : EngineParts) (rose : Type 0)
-    → Broke catalogue asked now new held' held'' told' told'' rose InputFault → ⊥
-never-input first now left mid reader held held' held'' told told' told'' serving catalogue asked new rose broke =
+pub never-input : (first now : EngineParts) (left mid : Option (List ℕ)) (reader : ReaderState) (held held' held'' : Option (List ℕ)) (known known' known'' : List (Option DiskHistory)) → Serving first now left mid reader held held' known known' → (catalogue : CatalogueState) (asked : Request) (new : EngineParts) (faulted : Type 0)
+    → Broke catalogue asked now new held' held'' known' known'' faulted InputFault → ⊥
+never-input first now left mid reader held held' held'' known known' known'' serving catalogue asked new faulted broke =
     let whole : GroupCut = cut (rules_of first.session) (state_now first.session) serving.requests in
     broke.stops (ends (rules_of first.session) (state_now first.session) (all_requests whole.closed)) whole.rest serving.goes.closes.within

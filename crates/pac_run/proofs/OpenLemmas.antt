@@ -7,8 +7,8 @@ use Rattle.std.specs.List.{All}
 use Rattle.std.specs.Prelude.{IfOk}
 use Rattle.pac_ops.specs.declared.transaction.Txn.{Txn}
 use Rattle.pac_outside.specs.declared.devices.Devices.{Devices}
-use Rattle.pac_outside.specs.Devices.{AreImages, AreSettled, RunsAsBefore, WhereAllTold, each}
-use Rattle.pac_outside.specs.Disk.{DiskHistory, IsImage, WhereTold, after_sync, settled}
+use Rattle.pac_outside.specs.Devices.{AreImages, AreSettled, RunsAsBefore, IfAllKnown, each}
+use Rattle.pac_outside.specs.Disk.{DiskHistory, IsImage, IfKnown, after_sync, settled}
 use Rattle.pac_outside.specs.GateByte.{OneImage}
 use Rattle.pac_outside.proofs.Runs.{run_end}
 use Rattle.pac_types.specs.declared.table.Table.{Table}
@@ -16,40 +16,40 @@ use Rattle.pac_types.specs.Fits.{TxnFits}
 use Rattle.pac_types.specs.Typing.{CatalogueState}
 use Rattle.pac_log.specs.declared.position.NextGate.{NextGate}
 use Rattle.pac_log.specs.Logs.{HoldsLog, all_txns}
-use Rattle.pac_log.specs.Places.{IsBehind, LogEndsAt}
+use Rattle.pac_log.specs.Places.{IsAfter, LogEndsAt}
 use Rattle.pac_log.proofs.OneLog.{one_log}
 use Rattle.pac_check.specs.declared.state.SlotState.{SlotState}
 use Rattle.pac_check.specs.SlotStates.{IsSlot}
-use Rattle.pac_store.specs.Images.{Images, WhereRead}
-use Rattle.pac_store.specs.Stands.{EndsWith, IsShutOrFront, StandsFor}
+use Rattle.pac_store.specs.Images.{Images, IfReadKnown}
+use Rattle.pac_store.specs.Stands.{EndsWith, IsShutOrPrefix, StandsFor}
 use Rattle.pac_recover.specs.declared.errors.RecoverError.{RecoverError}
 use Rattle.pac_recover.specs.declared.recovery.Recovered.{Recovered}
 use Rattle.pac_recover.specs.Logs.{HoldsLogUpTo}
-use Rattle.pac_recover.specs.Recovering.{IsRecoveredFront}
-use Rattle.pac_recover.proofs.StandsLemmas.{recovers-front}
+use Rattle.pac_recover.specs.Recovering.{IsRecoveredPrefix}
+use Rattle.pac_recover.proofs.StandsLemmas.{recovers-prefix}
 use Rattle.pac_engine.specs.declared.parts.EngineParts.{EngineParts}
 use Rattle.pac_engine.specs.Standing.{EngineStands, HasDevices, durable_of}
-use Rattle.pac_run.specs.Opening.{BeginsOver, IsFresh, IsOpenedFrom, StandsForFront}
+use Rattle.pac_run.specs.Opening.{BeginsOver, IsFresh, IsOpenedFrom, StandsForPrefix}
 
 -- ---- each device by itself
 
 -- what a log holds after a sync is its one image
-pub one-log : (gate : NextGate) (old mid now : Option DiskHistory) → mid ≡ option_map after_sync old → now ≡ mid → WhereTold (λ h. HoldsLogUpTo gate h.now.seen) mid → WhereTold (λ h. LogEndsAt gate h.now) now
-one-log gate None mid now synced same told = subst (λ (t : Option DiskHistory). WhereTold (λ h. LogEndsAt gate h.now) t) (sym (same ∙ synced)) tt
-one-log gate (Some h) mid now synced same told =
-    let up : HoldsLogUpTo gate h.now.seen = subst (λ (t : Option DiskHistory). WhereTold (λ x. HoldsLogUpTo gate x.now.seen) t) synced told in
-    let ends : LogEndsAt gate (settled h.now.seen) = record { text = up.text; batches = up.batches; holds = record { one = refl; has = up.log }; behind = up.end } in
-    subst (λ (t : Option DiskHistory). WhereTold (λ x. LogEndsAt gate x.now) t) (sym (same ∙ synced)) ends
+pub one-log : (gate : NextGate) (old mid now : Option DiskHistory) → mid ≡ option_map after_sync old → now ≡ mid → IfKnown (λ h. HoldsLogUpTo gate h.now.seen) mid → IfKnown (λ h. LogEndsAt gate h.now) now
+one-log gate None mid now synced same known = subst (λ (t : Option DiskHistory). IfKnown (λ h. LogEndsAt gate h.now) t) (sym (same ∙ synced)) tt
+one-log gate (Some h) mid now synced same known =
+    let up : HoldsLogUpTo gate h.now.seen = subst (λ (t : Option DiskHistory). IfKnown (λ x. HoldsLogUpTo gate x.now.seen) t) synced known in
+    let ends : LogEndsAt gate (settled h.now.seen) = record { text = up.text; batches = up.batches; holds = record { one = refl; has = up.log }; after = up.end } in
+    subst (λ (t : Option DiskHistory). IfKnown (λ x. LogEndsAt gate x.now) t) (sym (same ∙ synced)) ends
 
 -- and so it is of a slot
-pub one-slot : (tables : List Table) (state : SlotState) (old mid now : Option DiskHistory) → mid ≡ option_map after_sync old → now ≡ mid → WhereTold (λ h. IsSlot tables state h.now.seen) mid → WhereTold (λ h. OneImage (IsSlot tables state) h.now) now
-one-slot tables state None mid now synced same told = subst (λ (t : Option DiskHistory). WhereTold (λ h. OneImage (IsSlot tables state) h.now) t) (sym (same ∙ synced)) tt
-one-slot tables state (Some h) mid now synced same told =
-    let is : IsSlot tables state h.now.seen = subst (λ (t : Option DiskHistory). WhereTold (λ x. IsSlot tables state x.now.seen) t) synced told in
+pub one-slot : (tables : List Table) (state : SlotState) (old mid now : Option DiskHistory) → mid ≡ option_map after_sync old → now ≡ mid → IfKnown (λ h. IsSlot tables state h.now.seen) mid → IfKnown (λ h. OneImage (IsSlot tables state) h.now) now
+one-slot tables state None mid now synced same known = subst (λ (t : Option DiskHistory). IfKnown (λ h. OneImage (IsSlot tables state) h.now) t) (sym (same ∙ synced)) tt
+one-slot tables state (Some h) mid now synced same known =
+    let is : IsSlot tables state h.now.seen = subst (λ (t : Option DiskHistory). IfKnown (λ x. IsSlot tables state x.now.seen) t) synced known in
     let one : OneImage (IsSlot tables state) (settled h.now.seen) = record { one = refl; has = is } in
-    subst (λ (t : Option DiskHistory). WhereTold (λ x. OneImage (IsSlot tables state) x.now) t) (sym (same ∙ synced)) one
+    subst (λ (t : Option DiskHistory). IfKnown (λ x. OneImage (IsSlot tables state) x.now) t) (sym (same ∙ synced)) one
 
--- what three devices tell
+-- what is known of three devices
 pub first-same : (l a b m x y : Option DiskHistory) → l ∷ a ∷ b ∷ [] ≡ m ∷ x ∷ y ∷ [] → l ≡ m
 first-same l a b m x y same = cc
 
@@ -83,112 +83,112 @@ module _ (engine : EngineParts) (l a b : DiskHistory) (none : engine.session.txn
     abbrev recovered : Recovered
     recovered = record { catalogue = engine.session.catalogue; tables = record { tables = 0; rows = engine.session.tables }; txns = durable_of engine }
 
-    front : IsRecoveredFront catalogue history least recovered
-    front = recovers-front text catalogue history least images is recovered opened.recovered
+    prefix : IsRecoveredPrefix catalogue history least recovered
+    prefix = recovers-prefix text catalogue history least images is recovered opened.recovered
 
     counted : durable_of engine ≡ length (all_txns is.batches)
-    counted = opened.behind.txns ∙ ap (λ (bs : List (List Txn)). length (all_txns bs)) (sym same-log.2)
+    counted = opened.after.txns ∙ ap (λ (bs : List (List Txn)). length (all_txns bs)) (sym same-log.2)
 
-    front-is : take (durable_of engine) history ≡ all_txns is.batches
-    front-is = ap (λ (n : ℕ). take n history) counted ∙ ap (take (length (all_txns is.batches))) is.front ∙ take-append_seam (all_txns is.batches) is.later
+    prefix-is : take (durable_of engine) history ≡ all_txns is.batches
+    prefix-is = ap (λ (n : ℕ). take n history) counted ∙ ap (take (length (all_txns is.batches))) is.prefix ∙ take-append_seam (all_txns is.batches) is.later
 
     pub here : EngineStands text (take (durable_of engine) history) engine (after_sync l) (after_sync a) (after_sync b)
     here = record {
       batches = is.batches;
       log = record { one = refl; has = subst (λ (c : CatalogueState). HoldsLog text c is.batches l.now.seen) same-log.1 is.log };
-      behind = subst (λ (t : List ℕ). IsBehind t is.batches engine.log.gate) (sym same-log.0) (subst (λ (bs : List (List Txn)). IsBehind opened.text bs engine.log.gate) (sym same-log.2) opened.behind);
-      slot_a = record { one = refl; has = subst (λ (c : CatalogueState). IsShutOrFront text c is.batches a.now.seen) same-log.1 is.slot_a };
-      slot_b = record { one = refl; has = subst (λ (c : CatalogueState). IsShutOrFront text c is.batches b.now.seen) same-log.1 is.slot_b };
+      after = subst (λ (t : List ℕ). IsAfter t is.batches engine.log.gate) (sym same-log.0) (subst (λ (bs : List (List Txn)). IsAfter opened.text bs engine.log.gate) (sym same-log.2) opened.after);
+      slot_a = record { one = refl; has = subst (λ (c : CatalogueState). IsShutOrPrefix text c is.batches a.now.seen) same-log.1 is.slot_a };
+      slot_b = record { one = refl; has = subst (λ (c : CatalogueState). IsShutOrPrefix text c is.batches b.now.seen) same-log.1 is.slot_b };
       known_a = slot_a;
       known_b = slot_b;
       fit = subst (λ (c : CatalogueState). All (TxnFits c) (take (durable_of engine) history)) same-log.1 (All-take (TxnFits catalogue) (durable_of engine) history is.executes.fit);
-      ends = subst (λ (c : CatalogueState). EndsWith c (take (durable_of engine) history) engine.session.tables) same-log.1 front.ends;
-      split = front-is ∙ sym (append-nil (all_txns is.batches)) ∙ ap (λ (t : List Txn). all_txns is.batches ++ t) (sym none);
+      ends = subst (λ (c : CatalogueState). EndsWith c (take (durable_of engine) history) engine.session.tables) same-log.1 prefix.ends;
+      split = prefix-is ∙ sym (append-nil (all_txns is.batches)) ∙ ap (λ (t : List Txn). all_txns is.batches ++ t) (sym none);
     }
 
-    pub for-front : StandsForFront text catalogue history least engine (after_sync l ∷ after_sync a ∷ after_sync b ∷ [])
-    for-front = record { same = sym same-log.1; enough = front.enough; within = front.within; stands = here }
+    pub for-prefix : StandsForPrefix text catalogue history least engine (after_sync l ∷ after_sync a ∷ after_sync b ∷ [])
+    for-prefix = record { same = sym same-log.1; enough = prefix.enough; within = prefix.within; stands = here }
 
   begins-all : RunsAsBefore (l ∷ a ∷ b ∷ []) (after_sync l ∷ after_sync a ∷ after_sync b ∷ []) → IsOpenedFrom engine (record { log = l.now.seen; slot_a = a.now.seen; slot_b = b.now.seen })
       → IsSlot engine.session.catalogue.tables engine.slots.a a.now.seen → IsSlot engine.session.catalogue.tables engine.slots.b b.now.seen → BeginsOver engine (l ∷ a ∷ b ∷ []) (after_sync l ∷ after_sync a ∷ after_sync b ∷ [])
   begins-all moments opened slot_a slot_b = λ text catalogue history least every.
       let seen : List (List ℕ) = l.now.seen ∷ a.now.seen ∷ b.now.seen ∷ [] in
       let are : AreImages entry seen = run_end (AreImages entry) entry now moments seen (own-image l.now.seen, (own-image a.now.seen, (own-image b.now.seen, tt))) in
-      for-front opened slot_a slot_b text catalogue history least (every seen are)
+      for-prefix opened slot_a slot_b text catalogue history least (every seen are)
 
--- ---- where they tell
+-- ---- where they are known
 
 -- what an engine is read from
 pub record IsReadFrom (engine : EngineParts) (l a b m x y : Option DiskHistory) : Type 0 where
-  pub runs : WhereAllTold RunsAsBefore (l ∷ a ∷ b ∷ []) (m ∷ x ∷ y ∷ [])
-  pub opened : WhereRead (IsOpenedFrom engine) m x y
-  pub slot_a : WhereTold (λ h. IsSlot engine.session.catalogue.tables engine.slots.a h.now.seen) x
-  pub slot_b : WhereTold (λ h. IsSlot engine.session.catalogue.tables engine.slots.b h.now.seen) y
+  pub runs : IfAllKnown RunsAsBefore (l ∷ a ∷ b ∷ []) (m ∷ x ∷ y ∷ [])
+  pub opened : IfReadKnown (IsOpenedFrom engine) m x y
+  pub slot_a : IfKnown (λ h. IsSlot engine.session.catalogue.tables engine.slots.a h.now.seen) x
+  pub slot_b : IfKnown (λ h. IsSlot engine.session.catalogue.tables engine.slots.b h.now.seen) y
 
 begins-synced : (engine : EngineParts) (l a b : Option DiskHistory) → engine.session.txns ≡ [] → IsReadFrom engine l a b (option_map after_sync l) (option_map after_sync a) (option_map after_sync b)
-    → WhereAllTold (BeginsOver engine) (l ∷ a ∷ b ∷ []) (option_map after_sync l ∷ option_map after_sync a ∷ option_map after_sync b ∷ [])
+    → IfAllKnown (BeginsOver engine) (l ∷ a ∷ b ∷ []) (option_map after_sync l ∷ option_map after_sync a ∷ option_map after_sync b ∷ [])
 begins-synced engine None a b none is = tt
 begins-synced engine (Some l) None b none is = tt
 begins-synced engine (Some l) (Some a) None none is = tt
 begins-synced engine (Some l) (Some a) (Some b) none is = begins-all engine l a b none is.runs is.opened is.slot_a is.slot_b
 
-pub begins-told : (engine : EngineParts) (l a b m x y : Option DiskHistory) (now : List (Option DiskHistory)) → engine.session.txns ≡ [] → m ≡ option_map after_sync l → x ≡ option_map after_sync a → y ≡ option_map after_sync b → now ≡ m ∷ x ∷ y ∷ []
-    → IsReadFrom engine l a b m x y → WhereAllTold (BeginsOver engine) (l ∷ a ∷ b ∷ []) now
-begins-told engine l a b m x y now none is_m is_x is_y same is =
+pub begins-known : (engine : EngineParts) (l a b m x y : Option DiskHistory) (now : List (Option DiskHistory)) → engine.session.txns ≡ [] → m ≡ option_map after_sync l → x ≡ option_map after_sync a → y ≡ option_map after_sync b → now ≡ m ∷ x ∷ y ∷ []
+    → IsReadFrom engine l a b m x y → IfAllKnown (BeginsOver engine) (l ∷ a ∷ b ∷ []) now
+begins-known engine l a b m x y now none is_m is_x is_y same is =
     let there = begins-synced engine l a b none (subst (λ (t : Option DiskHistory). IsReadFrom engine l a b (option_map after_sync l) (option_map after_sync a) t) is_y
     (subst (λ (t : Option DiskHistory). IsReadFrom engine l a b (option_map after_sync l) t y) is_x (subst (λ (t : Option DiskHistory). IsReadFrom engine l a b t x y) is_m is))) in
     let all : now ≡ option_map after_sync l ∷ option_map after_sync a ∷ option_map after_sync b ∷ [] = cc in
-    subst (λ (t : List (Option DiskHistory)). WhereAllTold (BeginsOver engine) (l ∷ a ∷ b ∷ []) t) (sym all) there
+    subst (λ (t : List (Option DiskHistory)). IfAllKnown (BeginsOver engine) (l ∷ a ∷ b ∷ []) t) (sym all) there
 
 -- a crash now leaves what a read gave at entry
-pub settled-told : (l a b : Option DiskHistory) (now : List (Option DiskHistory)) → now ≡ option_map after_sync l ∷ option_map after_sync a ∷ option_map after_sync b ∷ [] → WhereAllTold AreSettled (l ∷ a ∷ b ∷ []) now
-settled-told l a b after same = subst (λ (t : List (Option DiskHistory)). WhereAllTold AreSettled (l ∷ a ∷ b ∷ []) t) (sym same) (go l a b)
+pub settled-known : (l a b : Option DiskHistory) (now : List (Option DiskHistory)) → now ≡ option_map after_sync l ∷ option_map after_sync a ∷ option_map after_sync b ∷ [] → IfAllKnown AreSettled (l ∷ a ∷ b ∷ []) now
+settled-known l a b after same = subst (λ (t : List (Option DiskHistory)). IfAllKnown AreSettled (l ∷ a ∷ b ∷ []) t) (sym same) (go l a b)
   where
-    go : (l a b : Option DiskHistory) → WhereAllTold AreSettled (l ∷ a ∷ b ∷ []) (option_map after_sync l ∷ option_map after_sync a ∷ option_map after_sync b ∷ [])
+    go : (l a b : Option DiskHistory) → IfAllKnown AreSettled (l ∷ a ∷ b ∷ []) (option_map after_sync l ∷ option_map after_sync a ∷ option_map after_sync b ∷ [])
     go None a b = tt
     go (Some l) None b = tt
     go (Some l) (Some a) None = tt
     go (Some l) (Some a) (Some b) = (refl, (refl, (refl, tt)))
 
 -- what is read after a sync is what was read before
-pub told-before : (P : DiskHistory → Type 0) → ((h : DiskHistory) → P (after_sync h) → P h) → (old new : Option DiskHistory) → new ≡ option_map after_sync old → WhereTold P new → WhereTold P old
-told-before P back None new same told = tt
-told-before P back (Some h) new same told = back h (subst (λ (t : Option DiskHistory). WhereTold P t) same told)
+pub known-before : (P : DiskHistory → Type 0) → ((h : DiskHistory) → P (after_sync h) → P h) → (old new : Option DiskHistory) → new ≡ option_map after_sync old → IfKnown P new → IfKnown P old
+known-before P back None new same known = tt
+known-before P back (Some h) new same known = back h (subst (λ (t : Option DiskHistory). IfKnown P t) same known)
 
-pub read-before : (P : Images → Type 0) (l a b m x y : Option DiskHistory) → m ≡ option_map after_sync l → x ≡ option_map after_sync a → y ≡ option_map after_sync b → WhereRead P m x y → WhereRead P l a b
-read-before P l a b m x y is_m is_x is_y told =
-    go l a b (subst (λ (t : Option DiskHistory). WhereRead P (option_map after_sync l) (option_map after_sync a) t) is_y (subst (λ (t : Option DiskHistory). WhereRead P (option_map after_sync l) t y) is_x (subst (λ (t : Option DiskHistory). WhereRead P t x y) is_m told)))
+pub read-before : (P : Images → Type 0) (l a b m x y : Option DiskHistory) → m ≡ option_map after_sync l → x ≡ option_map after_sync a → y ≡ option_map after_sync b → IfReadKnown P m x y → IfReadKnown P l a b
+read-before P l a b m x y is_m is_x is_y known =
+    go l a b (subst (λ (t : Option DiskHistory). IfReadKnown P (option_map after_sync l) (option_map after_sync a) t) is_y (subst (λ (t : Option DiskHistory). IfReadKnown P (option_map after_sync l) t y) is_x (subst (λ (t : Option DiskHistory). IfReadKnown P t x y) is_m known)))
   where
-    go : (l a b : Option DiskHistory) → WhereRead P (option_map after_sync l) (option_map after_sync a) (option_map after_sync b) → WhereRead P l a b
-    go None a b told = tt
-    go (Some l) None b told = tt
-    go (Some l) (Some a) None told = tt
-    go (Some l) (Some a) (Some b) told = told
+    go : (l a b : Option DiskHistory) → IfReadKnown P (option_map after_sync l) (option_map after_sync a) (option_map after_sync b) → IfReadKnown P l a b
+    go None a b known = tt
+    go (Some l) None b known = tt
+    go (Some l) (Some a) None known = tt
+    go (Some l) (Some a) (Some b) known = known
 
 -- ---- what is opened
 
-module _ {D : Type 0} (told : D → Option DiskHistory) (devices : Devices D) (l a b m x y : Option DiskHistory) (is_m : m ≡ option_map after_sync l) (is_x : x ≡ option_map after_sync a) (is_y : y ≡ option_map after_sync b) (same : each told devices ≡ m ∷ x ∷ y ∷ []) where
-  pub opened-ready : (r : Result EngineParts RecoverError) → IfOk r (λ e. WhereTold (λ h. HoldsLogUpTo e.log.gate h.now.seen) m) → IfOk r (λ e. WhereTold (λ h. IsSlot e.session.catalogue.tables e.slots.a h.now.seen) x)
-      → IfOk r (λ e. WhereTold (λ h. IsSlot e.session.catalogue.tables e.slots.b h.now.seen) y) → IfOk r (λ e. HasDevices told e devices)
+module _ {D : Type 0} (known : D → Option DiskHistory) (devices : Devices D) (l a b m x y : Option DiskHistory) (is_m : m ≡ option_map after_sync l) (is_x : x ≡ option_map after_sync a) (is_y : y ≡ option_map after_sync b) (same : each known devices ≡ m ∷ x ∷ y ∷ []) where
+  pub opened-ready : (r : Result EngineParts RecoverError) → IfOk r (λ e. IfKnown (λ h. HoldsLogUpTo e.log.gate h.now.seen) m) → IfOk r (λ e. IfKnown (λ h. IsSlot e.session.catalogue.tables e.slots.a h.now.seen) x)
+      → IfOk r (λ e. IfKnown (λ h. IsSlot e.session.catalogue.tables e.slots.b h.now.seen) y) → IfOk r (λ e. HasDevices known e devices)
   opened-ready (Err error) log slot_a slot_b = tt
   opened-ready (Ok e) log slot_a slot_b = record {
-    log = one-log e.log.gate l m (told devices.log) is_m (first-same _ _ _ _ _ _ same) log;
-    slot_a = one-slot e.session.catalogue.tables e.slots.a a x (told devices.slot_a) is_x (second-same _ _ _ _ _ _ same) slot_a;
-    slot_b = one-slot e.session.catalogue.tables e.slots.b b y (told devices.slot_b) is_y (third-same _ _ _ _ _ _ same) slot_b;
+    log = one-log e.log.gate l m (known devices.log) is_m (first-same _ _ _ _ _ _ same) log;
+    slot_a = one-slot e.session.catalogue.tables e.slots.a a x (known devices.slot_a) is_x (second-same _ _ _ _ _ _ same) slot_a;
+    slot_b = one-slot e.session.catalogue.tables e.slots.b b y (known devices.slot_b) is_y (third-same _ _ _ _ _ _ same) slot_b;
   }
 
-  pub opened-begins : (batch limit : ℕ) (r : Result EngineParts RecoverError) → IfOk r (IsFresh batch limit) → WhereAllTold RunsAsBefore (l ∷ a ∷ b ∷ []) (m ∷ x ∷ y ∷ []) → IfOk r (λ e. WhereRead (IsOpenedFrom e) m x y)
-      → IfOk r (λ e. WhereTold (λ h. IsSlot e.session.catalogue.tables e.slots.a h.now.seen) x) → IfOk r (λ e. WhereTold (λ h. IsSlot e.session.catalogue.tables e.slots.b h.now.seen) y)
-      → IfOk r (λ e. WhereAllTold (BeginsOver e) (l ∷ a ∷ b ∷ []) (each told devices))
+  pub opened-begins : (batch limit : ℕ) (r : Result EngineParts RecoverError) → IfOk r (IsFresh batch limit) → IfAllKnown RunsAsBefore (l ∷ a ∷ b ∷ []) (m ∷ x ∷ y ∷ []) → IfOk r (λ e. IfReadKnown (IsOpenedFrom e) m x y)
+      → IfOk r (λ e. IfKnown (λ h. IsSlot e.session.catalogue.tables e.slots.a h.now.seen) x) → IfOk r (λ e. IfKnown (λ h. IsSlot e.session.catalogue.tables e.slots.b h.now.seen) y)
+      → IfOk r (λ e. IfAllKnown (BeginsOver e) (l ∷ a ∷ b ∷ []) (each known devices))
   opened-begins batch limit (Err error) fresh moments opened slot_a slot_b = tt
-  opened-begins batch limit (Ok e) fresh moments opened slot_a slot_b = begins-told e l a b m x y (each told devices) fresh.txns is_m is_x is_y same (record { runs = moments; opened = opened; slot_a = slot_a; slot_b = slot_b })
+  opened-begins batch limit (Ok e) fresh moments opened slot_a slot_b = begins-known e l a b m x y (each known devices) fresh.txns is_m is_x is_y same (record { runs = moments; opened = opened; slot_a = slot_a; slot_b = slot_b })
 
-  pub opened-before : (r : Result EngineParts RecoverError) → IfOk r (λ e. WhereRead (IsOpenedFrom e) m x y) → IfOk r (λ e. WhereRead (IsOpenedFrom e) l a b)
+  pub opened-before : (r : Result EngineParts RecoverError) → IfOk r (λ e. IfReadKnown (IsOpenedFrom e) m x y) → IfOk r (λ e. IfReadKnown (IsOpenedFrom e) l a b)
   opened-before (Err error) opened = tt
   opened-before (Ok e) opened = read-before (IsOpenedFrom e) l a b m x y is_m is_x is_y opened
 
-  pub settled-before : WhereAllTold AreSettled (l ∷ a ∷ b ∷ []) (each told devices)
-  settled-before = settled-told l a b (each told devices) (all-same (each told devices) m x y l a b same is_m is_x is_y)
+  pub settled-before : IfAllKnown AreSettled (l ∷ a ∷ b ∷ []) (each known devices)
+  settled-before = settled-known l a b (each known devices) (all-same (each known devices) m x y l a b same is_m is_x is_y)
     where
       all-same : (t : List (Option DiskHistory)) (m x y l a b : Option DiskHistory) → t ≡ m ∷ x ∷ y ∷ [] → m ≡ option_map after_sync l → x ≡ option_map after_sync a → y ≡ option_map after_sync b → t ≡ option_map after_sync l ∷ option_map after_sync a ∷ option_map after_sync b ∷ []
       all-same t m x y l a b e is_m is_x is_y = cc

@@ -7,12 +7,12 @@ use Rattle.std.proofs.lemmas.Grind.{flat_map-append}
 use Rattle.std.proofs.Math.Seq.{take-append_seam}
 use Rattle.std.proofs.lemmas.List.{take-append-drop}
 use Rattle.pac_ops.specs.declared.transaction.Txn.{Txn}
-use Rattle.pac_outside.specs.Devices.{AreImages, RunsAsBefore, TellsOn, WhereAllTold, all_told}
+use Rattle.pac_outside.specs.Devices.{AreImages, RunsAsBefore, OnceKnown, IfAllKnown, all_known}
 use Rattle.pac_outside.specs.Disk.{DiskHistory}
 use Rattle.pac_outside.proofs.Runs.{run_end, run_then, weaken_run}
 use Rattle.pac_types.specs.CatalogueText.{HasCatalogue}
 use Rattle.pac_types.specs.Typing.{CatalogueState}
-use Rattle.pac_store.specs.Images.{Images, OfThree, WhereRead}
+use Rattle.pac_store.specs.Images.{Images, OfThree, IfReadKnown}
 use Rattle.pac_store.specs.Stands.{StandsFor}
 use Rattle.pac_request.specs.declared.request.Request.{Request}
 use Rattle.pac_request.specs.declared.request.Reply.{Reply}
@@ -23,38 +23,38 @@ use Rattle.pac_recover.specs.declared.errors.RecoverError.{RecoverError}
 use Rattle.pac_recover.specs.declared.errors.RecoverError.TheVariants as error
 use Rattle.pac_recover.specs.Recovering.{IsRecoveredFrom}
 use Rattle.pac_engine.specs.declared.parts.EngineParts.{EngineParts}
-use Rattle.pac_engine.specs.Standing.{KeepsHistory, MayLeave, StandsOn, StandsWith, TellsIf, durable_of, saved_of}
+use Rattle.pac_engine.specs.Standing.{KeepsHistory, MayLeave, StandsOn, StandsWith, WhileKnown, durable_of, saved_of}
 use Rattle.pac_engine.proofs.DeviceLemmas.{weaken-three}
 use Rattle.pac_run.specs.declared.stop.RunStop.{RunStop}
 use Rattle.pac_run.specs.declared.stop.RunStop.TheVariants.{TooLong}
 use Rattle.pac_run.specs.Asked.{WereHandled}
-use Rattle.pac_run.specs.Causes.{not_opened}
-use Rattle.pac_run.specs.Opening.{AllStand, BeginsOver, IsFresh, IsOpenedFrom, StandsForFront}
-use Rattle.pac_run.specs.Run.{AtExit, AtMoments, IsBegun, IsExit, IsRun, IsWholeRun, WhereSeen, history_after}
+use Rattle.pac_run.specs.Causes.{stop_of_opening}
+use Rattle.pac_run.specs.Opening.{AllStand, BeginsOver, IsFresh, IsOpenedFrom, StandsForPrefix}
+use Rattle.pac_run.specs.Run.{AtExit, AtMoments, IsBegun, IsExit, IsRun, IsWholeRun, IfSeenKnown, history_after}
 use Rattle.pac_run.specs.Serving.{IsDone, Served}
 use Rattle.pac_run.specs.Stopping.{AreFirst, IsStopped, IsStoppedAt}
-use Rattle.pac_run.specs.Texts.{IsTextFront, texts}
-use Rattle.pac_run.proofs.AckedLemmas.{acknowledged, told-saved}
+use Rattle.pac_run.specs.Texts.{IsTextPrefix, texts}
+use Rattle.pac_run.proofs.AckedLemmas.{acknowledged, known-saved}
 use Rattle.pac_run.proofs.NameLemmas.{names-of}
 use Rattle.pac_run.proofs.ServeLemmas.{took-nothing}
 
--- ---- a front of a front
+-- ---- a prefix of a prefix
 
-pub front-longer : (out xs ys : List ℕ) → IsTextFront out xs → IsTextFront out (xs ++ ys)
-front-longer out xs ys front =
-    let split : xs ≡ out ++ drop front.count xs = sym (take-append-drop front.count xs) ∙ ap (λ (l : List ℕ). l ++ drop front.count xs) (sym front.is) in
+pub prefix-longer : (out xs ys : List ℕ) → IsTextPrefix out xs → IsTextPrefix out (xs ++ ys)
+prefix-longer out xs ys prefix =
+    let split : xs ≡ out ++ drop prefix.count xs = sym (take-append-drop prefix.count xs) ∙ ap (λ (l : List ℕ). l ++ drop prefix.count xs) (sym prefix.is) in
     record {
       count = length out;
-      is = sym (ap (λ (l : List ℕ). take (length out) (l ++ ys)) split ∙ ap (take (length out)) (append_assoc out (drop front.count xs) ys) ∙ take-append_seam out (drop front.count xs ++ ys));
+      is = sym (ap (λ (l : List ℕ). take (length out) (l ++ ys)) split ∙ ap (take (length out)) (append_assoc out (drop prefix.count xs) ys) ∙ take-append_seam out (drop prefix.count xs ++ ys));
     }
 
-front-of-all : (catalogue : CatalogueState) (given all : List Reply) (out : List ℕ) → IsTextFront out (texts catalogue given) → AreFirst given all → IsTextFront out (texts catalogue all)
-front-of-all catalogue given all out front firsts =
-    subst (λ (l : List ℕ). IsTextFront out l) (sym (ap (texts catalogue) firsts.split ∙ flat_map-append (reply_text catalogue) given firsts.rest)) (front-longer out (texts catalogue given) (texts catalogue firsts.rest) front)
+prefix-of-all : (catalogue : CatalogueState) (given all : List Reply) (out : List ℕ) → IsTextPrefix out (texts catalogue given) → AreFirst given all → IsTextPrefix out (texts catalogue all)
+prefix-of-all catalogue given all out prefix firsts =
+    subst (λ (l : List ℕ). IsTextPrefix out l) (sym (ap (texts catalogue) firsts.split ∙ flat_map-append (reply_text catalogue) given firsts.rest)) (prefix-longer out (texts catalogue given) (texts catalogue firsts.rest) prefix)
 
 -- ---- a store that isn't opened
 
-opening-long : (error : RecoverError) → not_opened error ≡ TooLong → ⊥
+opening-long : (error : RecoverError) → stop_of_opening error ≡ TooLong → ⊥
 opening-long error.NoStore is = cc
 opening-long (error.Damaged damage) is = cc
 opening-long (error.AbortInLog note) is = cc
@@ -65,7 +65,7 @@ opening-long error.NoMemory is = cc
 same-stop : (a b : RunStop) → ◌≡◌ {A = Result (Unit {0}) RunStop} (Err a) (Err b) → a ≡ b
 same-stop a b e = cc
 
-none-begun : (P : Images → Type 0) (l a b : Option DiskHistory) → WhereSeen (λ images. (◌≡◌ {A = List Request} [] []) ⊎ P images) (l ∷ a ∷ b ∷ [])
+none-begun : (P : Images → Type 0) (l a b : Option DiskHistory) → IfSeenKnown (λ images. (◌≡◌ {A = List Request} [] []) ⊎ P images) (l ∷ a ∷ b ∷ [])
 none-begun P None a b = tt
 none-begun P (Some l) None b = tt
 none-begun P (Some l) (Some a) None = tt
@@ -75,14 +75,14 @@ none-handled : (left : Option (List ℕ)) → WereHandled left [] [] left
 none-handled None = tt
 none-handled (Some text) = (text, refl, refl)
 
-as-before : (P : List DiskHistory → Type 0) (R : List DiskHistory → List DiskHistory → Type 0) → ((u v : List DiskHistory) → RunsAsBefore u v → P u → R u v) → (x y : Option (List DiskHistory)) → TellsOn RunsAsBefore x y → TellsIf P R x y
+as-before : (P : List DiskHistory → Type 0) (R : List DiskHistory → List DiskHistory → Type 0) → ((u v : List DiskHistory) → RunsAsBefore u v → P u → R u v) → (x y : Option (List DiskHistory)) → OnceKnown RunsAsBefore x y → WhileKnown P R x y
 as-before P R step None y runs = tt
 as-before P R step (Some x) None runs = absurd runs
 as-before P R step (Some x) (Some y) runs = λ is. step x y runs is
 
-pub not-opened : (batch limit : ℕ) (left held : Option (List ℕ)) (l a b : Option DiskHistory) (told' : List (Option DiskHistory)) (rose : Type 0) (error : RecoverError) (stop : RunStop) → stop ≡ not_opened error → WhereAllTold RunsAsBefore (l ∷ a ∷ b ∷ []) told'
-    → IsRun batch limit left left held held (l ∷ a ∷ b ∷ []) told' rose (Err stop)
-not-opened batch limit left held l a b told' rose error stop is runs =
+pub not-opened : (batch limit : ℕ) (left held : Option (List ℕ)) (l a b : Option DiskHistory) (known' : List (Option DiskHistory)) (faulted : Type 0) (error : RecoverError) (stop : RunStop) → stop ≡ stop_of_opening error → IfAllKnown RunsAsBefore (l ∷ a ∷ b ∷ []) known'
+    → IsRun batch limit left left held held (l ∷ a ∷ b ∷ []) known' faulted (Err stop)
+not-opened batch limit left held l a b known' faulted error stop is runs =
     let rules : Rules = record { catalogue = record { tables = []; procs = [] }; limit = limit; most = batch } in
     let start : SessionState = record { tables = empty; number = 0 } in
     record {
@@ -102,7 +102,7 @@ not-opened batch limit left held l a b told' rose error stop is runs =
       start = start;
       place = 0;
       begun = none-begun (IsBegun rules 0 start) l a b;
-      front = record { count = 0; is = refl };
+      prefix = record { count = 0; is = refl };
       whole = tt;
       exit = λ text catalogue history least. as-before (AllStand text catalogue history least) (AtExit text catalogue history rules start [] []) (λ u v run stands images are. inl (refl, run_end (AreImages u) u v run images are)) _ _ runs;
       moments = λ text catalogue history least. as-before (AllStand text catalogue history least) (AtMoments text catalogue history least rules start [])
@@ -123,9 +123,9 @@ stops-part : (run : Result (Unit {0}) RunStop) (P : Type 0) (R S : RunStop → T
 stops-part (Ok x) P R S is step = tt
 stops-part (Err stop) P R S is step = step stop is
 
-module _ (batch limit : ℕ) (engine new : EngineParts) (left left' held held' : Option (List ℕ)) (l a b : Option DiskHistory) (middle told' : List (Option DiskHistory)) (rose : Type 0) (result : Result (Unit {0}) RunStop) (fresh : IsFresh batch limit engine)
-    (opened : WhereRead (IsOpenedFrom engine) l a b) (begins : WhereAllTold (BeginsOver engine) (l ∷ a ∷ b ∷ []) middle) (runs : WhereAllTold RunsAsBefore (l ∷ a ∷ b ∷ []) middle)
-    (served : Served engine new left left' held held' middle told' rose result) where
+module _ (batch limit : ℕ) (engine new : EngineParts) (left left' held held' : Option (List ℕ)) (l a b : Option DiskHistory) (middle known' : List (Option DiskHistory)) (faulted : Type 0) (result : Result (Unit {0}) RunStop) (fresh : IsFresh batch limit engine)
+    (opened : IfReadKnown (IsOpenedFrom engine) l a b) (begins : IfAllKnown (BeginsOver engine) (l ∷ a ∷ b ∷ []) middle) (runs : IfAllKnown RunsAsBefore (l ∷ a ∷ b ∷ []) middle)
+    (served : Served engine new left left' held held' middle known' faulted result) where
   abbrev rules : Rules
   rules = rules_of engine.session
 
@@ -141,14 +141,14 @@ module _ (batch limit : ℕ) (engine new : EngineParts) (left left' held held' :
     text = is.text;
     batches = is.batches;
     log = is.log;
-    there = is.behind.place;
+    there = is.after.place;
   }
 
-  begun-told : (l a b : Option DiskHistory) → WhereRead (IsOpenedFrom engine) l a b → WhereSeen (λ images. (served.requests ≡ []) ⊎ IsBegun (rules_of engine.session) engine.log.gate.place (state_now engine.session) images) (l ∷ a ∷ b ∷ [])
-  begun-told None a b is = tt
-  begun-told (Some l) None b is = tt
-  begun-told (Some l) (Some a) None is = tt
-  begun-told (Some l) (Some a) (Some b) is = inr (begun-here (record { log = l.now.seen; slot_a = a.now.seen; slot_b = b.now.seen }) is)
+  begun-known : (l a b : Option DiskHistory) → IfReadKnown (IsOpenedFrom engine) l a b → IfSeenKnown (λ images. (served.requests ≡ []) ⊎ IsBegun (rules_of engine.session) engine.log.gate.place (state_now engine.session) images) (l ∷ a ∷ b ∷ [])
+  begun-known None a b is = tt
+  begun-known (Some l) None b is = tt
+  begun-known (Some l) (Some a) None is = tt
+  begun-known (Some l) (Some a) (Some b) is = inr (begun-here (record { log = l.now.seen; slot_a = a.now.seen; slot_b = b.now.seen }) is)
 
   module _ (text : List ℕ) (catalogue : CatalogueState) (history : List Txn) (least : ℕ) where
     abbrev after : List Txn
@@ -160,7 +160,7 @@ module _ (batch limit : ℕ) (engine new : EngineParts) (left left' held held' :
     same-history : take (durable_of engine) history ++ committed (rules_of engine.session) (state_now engine.session) served.requests ≡ history_after history (rules_of engine.session) (state_now engine.session) served.requests
     same-history = ap (λ (n : ℕ). take n history ++ committed rules start served.requests) (sym number-is)
 
-    module _ (entry mid now : List DiskHistory) (begin : StandsForFront text catalogue history least engine mid) (names : HasCatalogue text engine.session.catalogue)
+    module _ (entry mid now : List DiskHistory) (begin : StandsForPrefix text catalogue history least engine mid) (names : HasCatalogue text engine.session.catalogue)
         (keeps : KeepsHistory text (take (durable_of engine) history ++ committed (rules_of engine.session) (state_now engine.session) served.requests) engine new mid now) where
       exit-one : (images : Images) → StandsWith text engine.session.catalogue (take (durable_of engine) history ++ committed (rules_of engine.session) (state_now engine.session) served.requests) (durable_of new) (saved_of new) images
           → IsExit text catalogue (history_after history (rules_of engine.session) (state_now engine.session) served.requests) (state_now engine.session).number served.out images
@@ -168,8 +168,8 @@ module _ (batch limit : ℕ) (engine new : EngineParts) (left left' held held' :
         least = durable_of new;
         saved = saved_of new;
         more = omega (arith, number-is, served.grows.durable);
-        acknowledged = acknowledged engine.session.catalogue (names-of text engine.session.catalogue names) new served.given served.out served.plain served.kept served.front;
-        kept = told-saved engine.session.catalogue (names-of text engine.session.catalogue names) new served.given served.out served.plain served.kept served.front;
+        acknowledged = acknowledged engine.session.catalogue (names-of text engine.session.catalogue names) new served.given served.out served.plain served.kept served.prefix;
+        kept = known-saved engine.session.catalogue (names-of text engine.session.catalogue names) new served.given served.out served.plain served.kept served.prefix;
         stands = subst (λ (h : List Txn). StandsWith text catalogue h (durable_of new) (saved_of new) images) same-history (subst (λ (c : CatalogueState). StandsWith text c kept-as (durable_of new) (saved_of new) images) begin.same is);
       }
 
@@ -181,7 +181,7 @@ module _ (batch limit : ℕ) (engine new : EngineParts) (left left' held held' :
       stands-one images is =
           let s = is.stands in
           let fewer : StandsFor text engine.session.catalogue kept-as least images
-          = record { executes = s.executes; batches = s.batches; log = s.log; later = s.later; front = s.front; enough = omega (arith, begin.enough, s.enough); slot_a = s.slot_a; slot_b = s.slot_b } in
+          = record { executes = s.executes; batches = s.batches; log = s.log; later = s.later; prefix = s.prefix; enough = omega (arith, begin.enough, s.enough); slot_a = s.slot_a; slot_b = s.slot_b } in
           subst (λ (h : List Txn). StandsFor text catalogue h least images) same-history (subst (λ (c : CatalogueState). StandsFor text c kept-as least images) begin.same fewer)
 
       pub each-moment : RunsAsBefore entry mid → AtMoments text catalogue history least (rules_of engine.session) (state_now engine.session) served.requests entry now
@@ -191,7 +191,7 @@ module _ (batch limit : ℕ) (engine new : EngineParts) (left left' held held' :
           (weaken_run (MayLeave text engine.session.catalogue kept-as engine) P
           (λ images may. inr (weaken-three (StandsWith text engine.session.catalogue kept-as (durable_of engine) (saved_of engine)) (StandsFor text catalogue after least) stands-one images may)) mid now keeps.moments)
 
-    -- what the engine stands for tells the catalogue's text
+    -- what the engine stands for says the catalogue's text
     text-of : (h : List Txn) (devices : List DiskHistory) → StandsOn text h engine devices → HasCatalogue text engine.session.catalogue
     text-of h [] is = absurd is
     text-of h (l ∷ []) is = absurd is
@@ -199,21 +199,21 @@ module _ (batch limit : ℕ) (engine new : EngineParts) (left left' held held' :
     text-of h (l ∷ a ∷ b ∷ []) is = is.log.has.log.accepted.has
     text-of h (l ∷ a ∷ b ∷ d ∷ devices) is = absurd is
 
-    exit-told : (t m n : Option (List DiskHistory)) → TellsOn (BeginsOver engine) t m → TellsIf (StandsOn text (take (durable_of engine) history) engine) (KeepsHistory text (take (durable_of engine) history ++ committed (rules_of engine.session) (state_now engine.session) served.requests) engine new) m n
-        → TellsIf (AllStand text catalogue history least) (AtExit text catalogue history (rules_of engine.session) (state_now engine.session) served.requests served.out) t n
-    exit-told None m n begin keep = tt
-    exit-told (Some t) None n begin keep = absurd begin
-    exit-told (Some t) (Some m) None begin keep = λ all. keep (begin text catalogue history least all).stands
-    exit-told (Some t) (Some m) (Some n) begin keep = λ all. let front = begin text catalogue history least all in exits t m n front (text-of (take (durable_of engine) history) m front.stands) (keep front.stands)
+    exit-known : (t m n : Option (List DiskHistory)) → OnceKnown (BeginsOver engine) t m → WhileKnown (StandsOn text (take (durable_of engine) history) engine) (KeepsHistory text (take (durable_of engine) history ++ committed (rules_of engine.session) (state_now engine.session) served.requests) engine new) m n
+        → WhileKnown (AllStand text catalogue history least) (AtExit text catalogue history (rules_of engine.session) (state_now engine.session) served.requests served.out) t n
+    exit-known None m n begin keep = tt
+    exit-known (Some t) None n begin keep = absurd begin
+    exit-known (Some t) (Some m) None begin keep = λ all. keep (begin text catalogue history least all).stands
+    exit-known (Some t) (Some m) (Some n) begin keep = λ all. let prefix = begin text catalogue history least all in exits t m n prefix (text-of (take (durable_of engine) history) m prefix.stands) (keep prefix.stands)
 
-    moments-told : (t m n : Option (List DiskHistory)) → TellsOn (BeginsOver engine) t m → TellsOn RunsAsBefore t m → TellsIf (StandsOn text (take (durable_of engine) history) engine) (KeepsHistory text (take (durable_of engine) history ++ committed (rules_of engine.session) (state_now engine.session) served.requests) engine new) m n
-        → TellsIf (AllStand text catalogue history least) (AtMoments text catalogue history least (rules_of engine.session) (state_now engine.session) served.requests) t n
-    moments-told None m n begin run keep = tt
-    moments-told (Some t) None n begin run keep = absurd begin
-    moments-told (Some t) (Some m) None begin run keep = λ all. keep (begin text catalogue history least all).stands
-    moments-told (Some t) (Some m) (Some n) begin run keep = λ all. let front = begin text catalogue history least all in each-moment t m n front (text-of (take (durable_of engine) history) m front.stands) (keep front.stands) run
+    moments-known : (t m n : Option (List DiskHistory)) → OnceKnown (BeginsOver engine) t m → OnceKnown RunsAsBefore t m → WhileKnown (StandsOn text (take (durable_of engine) history) engine) (KeepsHistory text (take (durable_of engine) history ++ committed (rules_of engine.session) (state_now engine.session) served.requests) engine new) m n
+        → WhileKnown (AllStand text catalogue history least) (AtMoments text catalogue history least (rules_of engine.session) (state_now engine.session) served.requests) t n
+    moments-known None m n begin run keep = tt
+    moments-known (Some t) None n begin run keep = absurd begin
+    moments-known (Some t) (Some m) None begin run keep = λ all. keep (begin text catalogue history least all).stands
+    moments-known (Some t) (Some m) (Some n) begin run keep = λ all. let prefix = begin text catalogue history least all in each-moment t m n prefix (text-of (take (durable_of engine) history) m prefix.stands) (keep prefix.stands) run
 
-  pub is-run : IsRun batch limit left left' held held' (l ∷ a ∷ b ∷ []) told' rose result
+  pub is-run : IsRun batch limit left left' held held' (l ∷ a ∷ b ∷ []) known' faulted result
   is-run = record {
     lines = served.lines;
     ahead = served.ahead;
@@ -230,14 +230,14 @@ module _ (batch limit : ℕ) (engine new : EngineParts) (left left' held held' :
     most = fresh.most;
     start = start;
     place = engine.log.gate.place;
-    begun = begun-told l a b opened;
-    front = front-of-all engine.session.catalogue served.given (replies rules start served.requests) served.out served.front served.firsts;
+    begun = begun-known l a b opened;
+    prefix = prefix-of-all engine.session.catalogue served.given (replies rules start served.requests) served.out served.prefix served.firsts;
     whole = three-parts result (IsDone rules engine.log.gate.place start served.requests served.given served.out) (IsWholeRun rules engine.log.gate.place start served.requests served.out) (λ stop. IsStoppedAt rules engine.log.gate.place start served.requests served.given stop) served.ending
         (λ done. record { before = done.before; stops = done.stops; written = done.written ∙ ap (texts engine.session.catalogue) done.replied; fit = done.fit; saves = done.saves });
-    exit = λ text catalogue history least. exit-told text catalogue history least (all_told (l ∷ a ∷ b ∷ [])) (all_told middle) (all_told told') begins (served.keeps text (take (durable_of engine) history));
-    moments = λ text catalogue history least. moments-told text catalogue history least (all_told (l ∷ a ∷ b ∷ [])) (all_told middle) (all_told told') begins runs (served.keeps text (take (durable_of engine) history));
+    exit = λ text catalogue history least. exit-known text catalogue history least (all_known (l ∷ a ∷ b ∷ [])) (all_known middle) (all_known known') begins (served.keeps text (take (durable_of engine) history));
+    moments = λ text catalogue history least. moments-known text catalogue history least (all_known (l ∷ a ∷ b ∷ [])) (all_known middle) (all_known known') begins runs (served.keeps text (take (durable_of engine) history));
     given = served.given;
-    written = served.front;
+    written = served.prefix;
     all = served.whole;
     stopped = stops-part result (IsDone rules engine.log.gate.place start served.requests served.given served.out) (λ stop. IsStoppedAt rules engine.log.gate.place start served.requests served.given stop) (λ stop. IsStopped rules engine.log.gate.place start served.requests served.given stop) served.ending (λ stop at. inr at);
   }

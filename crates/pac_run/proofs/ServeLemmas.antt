@@ -26,7 +26,7 @@ use Rattle.pac_run.specs.declared.stop.RunStop.TheVariants.{InputFault, NoMemory
 use Rattle.pac_run.specs.Asked.{WereAsked, IsOverLong, TookAtMost, WereHandled}
 use Rattle.pac_run.specs.Serving.{Broke, LineServed, Replied, Served, Serving, StepStops}
 use Rattle.pac_run.specs.Stopping.{IsStoppedAt}
-use Rattle.pac_run.specs.Texts.{IsTextFront, IsPlain, texts}
+use Rattle.pac_run.specs.Texts.{IsTextPrefix, IsPlain, texts}
 use Rattle.pac_run.proofs.ReadLemmas.{lines-ask, more-read}
 use Rattle.pac_run.proofs.StepLemmas.{all-both, goes-more, grown-then, keeps-more, kept-grows}
 use Rattle.pac_run.proofs.StopLemmas.{all-replied, never-stops, no-stop-both, stopped-first, stopped-more, stopped-reading, stops-last}
@@ -40,19 +40,19 @@ took-nothing (Some bytes) = ap Some (sym (append-nil bytes))
 texts-both : (catalogue : CatalogueState) (xs ys : List Reply) → texts catalogue (xs ++ ys) ≡ texts catalogue xs ++ texts catalogue ys
 texts-both catalogue xs ys = flat_map-append (reply_text catalogue) xs ys
 
-front-more : (catalogue : CatalogueState) (given more : List Reply) (out : List ℕ) → IsTextFront out (texts catalogue more) → IsTextFront (texts catalogue given ++ out) (texts catalogue (given ++ more))
-front-more catalogue given more out front = record {
-  count = length (texts catalogue given) + front.count;
-  is = ap (λ (l : List ℕ). texts catalogue given ++ l) front.is ∙ sym (take-append-add (texts catalogue given) (texts catalogue more) front.count)
-      ∙ ap (take (length (texts catalogue given) + front.count)) (sym (texts-both catalogue given more));
+prefix-more : (catalogue : CatalogueState) (given more : List Reply) (out : List ℕ) → IsTextPrefix out (texts catalogue more) → IsTextPrefix (texts catalogue given ++ out) (texts catalogue (given ++ more))
+prefix-more catalogue given more out prefix = record {
+  count = length (texts catalogue given) + prefix.count;
+  is = ap (λ (l : List ℕ). texts catalogue given ++ l) prefix.is ∙ sym (take-append-add (texts catalogue given) (texts catalogue more) prefix.count)
+      ∙ ap (take (length (texts catalogue given) + prefix.count)) (sym (texts-both catalogue given more));
 }
 
-pub whole-front : (text : List ℕ) → IsTextFront text text
-whole-front text = record { count = length text; is = sym (ap (take (length text)) (sym (append-nil text)) ∙ take-append_seam text []) }
+pub whole-prefix : (text : List ℕ) → IsTextPrefix text text
+whole-prefix text = record { count = length text; is = sym (ap (take (length text)) (sym (append-nil text)) ∙ take-append_seam text []) }
 
-whole-more : (catalogue : CatalogueState) (given more : List Reply) (out : List ℕ) (rose : Type 0) → (out ≡ texts catalogue more) ⊎ rose → (texts catalogue given ++ out ≡ texts catalogue (given ++ more)) ⊎ rose
-whole-more catalogue given more out rose (inl is) = inl (ap (λ (l : List ℕ). texts catalogue given ++ l) is ∙ sym (texts-both catalogue given more))
-whole-more catalogue given more out rose (inr r) = inr r
+whole-more : (catalogue : CatalogueState) (given more : List Reply) (out : List ℕ) (faulted : Type 0) → (out ≡ texts catalogue more) ⊎ faulted → (texts catalogue given ++ out ≡ texts catalogue (given ++ more)) ⊎ faulted
+whole-more catalogue given more out faulted (inl is) = inl (ap (λ (l : List ℕ). texts catalogue given ++ l) is ∙ sym (texts-both catalogue given more))
+whole-more catalogue given more out faulted (inr r) = inr r
 
 -- a step isn't stopped by the length of the input
 never-long : (rules : Rules) (place : ℕ) (start : SessionState) (closed : List (List Request)) (more : List Reply) (stop : RunStop) → StepStops rules place start closed more stop → stop ≡ TooLong → ⊥
@@ -60,7 +60,7 @@ never-long rules place start closed more stop stops is = subst (λ (s : RunStop)
 
 -- ---- an end
 
-module _ (first now : EngineParts) (left mid : Option (List ℕ)) (reader : ReaderState) (held held' : Option (List ℕ)) (told told' : List (Option DiskHistory)) (serving : Serving first now left mid reader held held' told told') where
+module _ (first now : EngineParts) (left mid : Option (List ℕ)) (reader : ReaderState) (held held' : Option (List ℕ)) (known known' : List (Option DiskHistory)) (serving : Serving first now left mid reader held held' known known') where
   abbrev rules : Rules
   rules = rules_of first.session
 
@@ -74,14 +74,14 @@ module _ (first now : EngineParts) (left mid : Option (List ℕ)) (reader : Read
   catalogue = first.session.catalogue
 
   -- no more was served
-  module _ (left' : Option (List ℕ)) (rose : Type 0) (stop : RunStop) (ahead : List ℕ) (handled : WereHandled left serving.lines ahead left')
+  module _ (left' : Option (List ℕ)) (faulted : Type 0) (stop : RunStop) (ahead : List ℕ) (handled : WereHandled left serving.lines ahead left')
       (few : (stop ≡ TooLong → ⊥) → TookAtMost MAX_INPUT left left') (long : stop ≡ TooLong → IsOverLong ahead left left') where
     same-stop : ◌≡◌ {A = Result (Unit {0}) RunStop} (Err stop) (Err TooLong) → stop ≡ TooLong
     same-stop e = cc
 
-    pub still-served : (stop ≡ InputFault) ⊎ ((stop ≡ TooLong) ⊎ (stop ≡ NoMemory)) → Served first now left left' held held' told told' rose (Err stop)
+    pub still-served : (stop ≡ InputFault) ⊎ ((stop ≡ TooLong) ⊎ (stop ≡ NoMemory)) → Served first now left left' held held' known known' faulted (Err stop)
     still-served why =
-        let stopped = stopped-reading first now serving.requests serving.given told told' serving.goes stop why serving.unstopped in
+        let stopped = stopped-reading first now serving.requests serving.given known known' serving.goes stop why serving.unstopped in
         record {
           lines = serving.lines;
           ahead = ahead;
@@ -94,7 +94,7 @@ module _ (first now : EngineParts) (left mid : Option (List ℕ)) (reader : Read
           given = serving.given;
           out = texts catalogue serving.given;
           took = serving.took;
-          front = whole-front (texts catalogue serving.given);
+          prefix = whole-prefix (texts catalogue serving.given);
           whole = inl refl;
           keeps = serving.goes.keeps;
           grows = serving.goes.grows;
@@ -105,9 +105,9 @@ module _ (first now : EngineParts) (left mid : Option (List ℕ)) (reader : Read
         }
 
   -- a request was not answered
-  module _ (left' held'' : Option (List ℕ)) (told'' : List (Option DiskHistory)) (new : EngineParts) (asks : Request) (rose rose' : Type 0) (stop : RunStop) (lines : List (List ℕ)) (ahead : List ℕ)
-      (handled : WereHandled left lines ahead left') (few : TookAtMost MAX_INPUT left left') (asked : WereAsked first.session.catalogue lines (prepend_known ahead left') (serving.requests ++ asks ∷ [])) (later : rose' → rose)
-      (broke : Broke first.session.catalogue asks now new held' held'' told' told'' rose' stop) where
+  module _ (left' held'' : Option (List ℕ)) (known'' : List (Option DiskHistory)) (new : EngineParts) (asks : Request) (faulted faulted' : Type 0) (stop : RunStop) (lines : List (List ℕ)) (ahead : List ℕ)
+      (handled : WereHandled left lines ahead left') (few : TookAtMost MAX_INPUT left left') (asked : WereAsked first.session.catalogue lines (prepend_known ahead left') (serving.requests ++ asks ∷ [])) (later : faulted' → faulted)
+      (broke : Broke first.session.catalogue asks now new held' held'' known' known'' faulted' stop) where
     abbrev whole : GroupCut
     whole = cut (rules_of first.session) (state_now first.session) serving.requests
 
@@ -115,12 +115,12 @@ module _ (first now : EngineParts) (left mid : Option (List ℕ)) (reader : Read
     middle = ends (rules_of first.session) (state_now first.session) (all_requests (cut (rules_of first.session) (state_now first.session) serving.requests).closed)
 
     stopped : IsStoppedAt (rules_of first.session) first.log.gate.place (state_now first.session) (serving.requests ++ asks ∷ []) (serving.given ++ broke.more) stop
-    stopped = stopped-more first now serving.requests serving.given told told' serving.goes asks broke.more stop broke.stops
+    stopped = stopped-more first now serving.requests serving.given known known' serving.goes asks broke.more stop broke.stops
 
     same-too : ◌≡◌ {A = Result (Unit {0}) RunStop} (Err stop) (Err TooLong) → stop ≡ TooLong
     same-too e = cc
 
-    pub broke-served : Served first new left left' held held'' told told'' rose (Err stop)
+    pub broke-served : Served first new left left' held held'' known known'' faulted (Err stop)
     broke-served = record {
       lines = lines;
       ahead = ahead;
@@ -133,9 +133,9 @@ module _ (first now : EngineParts) (left mid : Option (List ℕ)) (reader : Read
       given = serving.given ++ broke.more;
       out = texts catalogue serving.given ++ broke.out;
       took = Took-append held held' held'' (texts catalogue serving.given) broke.out serving.took broke.took;
-      front = front-more catalogue serving.given broke.more broke.out broke.front;
-      whole = whole-more catalogue serving.given broke.more broke.out rose (risen broke.whole);
-      keeps = keeps-more first now serving.requests serving.given told told' serving.goes new told'' (asks ∷ []) broke.keeps;
+      prefix = prefix-more catalogue serving.given broke.more broke.out broke.prefix;
+      whole = whole-more catalogue serving.given broke.more broke.out faulted (risen broke.whole);
+      keeps = keeps-more first now serving.requests serving.given known known' serving.goes new known'' (asks ∷ []) broke.keeps;
       grows = grown-then first now new serving.goes.grows broke.grows;
       kept = all-both (IsKept new) serving.given broke.more (kept-grows now new broke.grows serving.given serving.goes.kept) broke.kept;
       plain = all-both IsPlain serving.given broke.more serving.goes.plain broke.plain;
@@ -143,16 +143,16 @@ module _ (first now : EngineParts) (left mid : Option (List ℕ)) (reader : Read
       ending = stopped;
     }
       where
-        risen : (broke.out ≡ texts catalogue broke.more) ⊎ rose' → (broke.out ≡ texts catalogue broke.more) ⊎ rose
+        risen : (broke.out ≡ texts catalogue broke.more) ⊎ faulted' → (broke.out ≡ texts catalogue broke.more) ⊎ faulted
         risen (inl is) = inl is
         risen (inr r) = inr (later r)
 
   -- a stop was answered
-  pub stop-served : (left' held'' : Option (List ℕ)) (told'' : List (Option DiskHistory)) (new : EngineParts) (rose : Type 0) (lines : List (List ℕ)) (ahead : List ℕ) → WereHandled left lines ahead left' → TookAtMost MAX_INPUT left left'
-      → WereAsked first.session.catalogue lines (prepend_known ahead left') (serving.requests ++ request.Stop ∷ []) → Replied first.session.catalogue (request.Stop ∷ []) now new held' held'' told' told''
-      → Served first new left left' held held'' told told'' rose (Ok tt)
-  stop-served left' held'' told'' new rose lines ahead handled few asked replied =
-      let goes = goes-more first now serving.requests serving.given told told' serving.goes new told'' (request.Stop ∷ []) replied.more replied.answered in
+  pub stop-served : (left' held'' : Option (List ℕ)) (known'' : List (Option DiskHistory)) (new : EngineParts) (faulted : Type 0) (lines : List (List ℕ)) (ahead : List ℕ) → WereHandled left lines ahead left' → TookAtMost MAX_INPUT left left'
+      → WereAsked first.session.catalogue lines (prepend_known ahead left') (serving.requests ++ request.Stop ∷ []) → Replied first.session.catalogue (request.Stop ∷ []) now new held' held'' known' known''
+      → Served first new left left' held held'' known known'' faulted (Ok tt)
+  stop-served left' held'' known'' new faulted lines ahead handled few asked replied =
+      let goes = goes-more first now serving.requests serving.given known known' serving.goes new known'' (request.Stop ∷ []) replied.more replied.answered in
       let requests = serving.requests ++ request.Stop ∷ [] in
       let given = serving.given ++ replied.more in
       let out = texts catalogue serving.given ++ texts catalogue replied.more in
@@ -170,7 +170,7 @@ module _ (first now : EngineParts) (left mid : Option (List ℕ)) (reader : Read
         given = given;
         out = out;
         took = Took-append held held' held'' (texts catalogue serving.given) (texts catalogue replied.more) serving.took replied.took;
-        front = subst (λ (l : List ℕ). IsTextFront l (texts catalogue given)) (sym written) (whole-front (texts catalogue given));
+        prefix = subst (λ (l : List ℕ). IsTextPrefix l (texts catalogue given)) (sym written) (whole-prefix (texts catalogue given));
         whole = inl written;
         keeps = goes.keeps;
         grows = goes.grows;
@@ -187,9 +187,9 @@ module _ (first now : EngineParts) (left mid : Option (List ℕ)) (reader : Read
       stop-closes rules start before = ap (λ (c : GroupCut). c.rest) (fold-append (cut_on rules start) (record { closed = []; rest = [] }) before (request.Stop ∷ []))
 
   -- a line was served, and is no stop
-  pub serving-more : (left' held'' : Option (List ℕ)) (told'' : List (Option DiskHistory)) (next : ReaderState) (new : EngineParts) → IsCall reader next mid left' (Ok true) → KeepsLimit next (Ok true)
-      → LineServed first.session.catalogue next.line false now new held' held'' told' told'' → Serving first new left left' next held held'' told told''
-  serving-more left' held'' told'' next new call keeps served = record {
+  pub serving-more : (left' held'' : Option (List ℕ)) (known'' : List (Option DiskHistory)) (next : ReaderState) (new : EngineParts) → IsCall reader next mid left' (Ok true) → KeepsLimit next (Ok true)
+      → LineServed first.session.catalogue next.line false now new held' held'' known' known'' → Serving first new left left' next held held'' known known''
+  serving-more left' held'' known'' next new call keeps served = record {
     lines = serving.lines ++ next.line ∷ [];
     read = more-read left mid left' reader next serving.lines serving.read call keeps;
     requests = serving.requests ++ served.asked;
@@ -197,5 +197,5 @@ module _ (first now : EngineParts) (left mid : Option (List ℕ)) (reader : Read
     unstopped = no-stop-both serving.requests served.asked serving.unstopped served.stop;
     given = serving.given ++ served.replied.more;
     took = subst (λ (l : List ℕ). Took held l held'') (sym (texts-both catalogue serving.given served.replied.more)) (Took-append held held' held'' (texts catalogue serving.given) (texts catalogue served.replied.more) serving.took served.replied.took);
-    goes = goes-more first now serving.requests serving.given told told' serving.goes new told'' served.asked served.replied.more served.replied.answered;
+    goes = goes-more first now serving.requests serving.given known known' serving.goes new known'' served.asked served.replied.more served.replied.answered;
   }

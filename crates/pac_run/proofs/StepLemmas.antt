@@ -1,4 +1,4 @@
--- One line is served behind others.
+-- One line is served after others.
 use Rattle.std.proofs.Common.{◌≡◌, ◌∙◌, ◌⊎◌, inl, inr, ℕ, ◌≤◌, List, [], ◌∷◌, ◌++◌, length, Option, refl, sym, ap, ap₂, subst, arith}
 use Rattle.std.specs.List.{AllByRecursion, fold}
 use Rattle.std.proofs.lemmas.List.{append-nil}
@@ -11,15 +11,15 @@ use Rattle.pac_request.specs.declared.request.Request.TheVariants as request
 use Rattle.pac_request.specs.declared.request.Reply.{Reply}
 use Rattle.pac_request.specs.declared.request.Reply.TheVariants as reply
 use Rattle.pac_session.specs.Session.{Rules, SessionState, committed, ends}
-use Rattle.pac_session.specs.Groups.{GroupCut, all_requests, cut, cut_on, place_behind}
+use Rattle.pac_session.specs.Groups.{GroupCut, all_requests, cut, cut_on, place_after_group}
 use Rattle.pac_session.specs.Open.{rules_of, state_now}
 use Rattle.pac_session.proofs.SessionLemmas.{committed-append, ends-append}
 use Rattle.pac_session.proofs.CutLemmas.{whole-cut}
 use Rattle.pac_engine.specs.declared.parts.EngineParts.{EngineParts}
 use Rattle.pac_engine.specs.Closing.{Closes, IsKept, place_after, slot_len}
-use Rattle.pac_engine.specs.Standing.{OnlyGrows, KeepsHistory, StandsOn, TellsWhere, durable_of, saved_of}
+use Rattle.pac_engine.specs.Standing.{OnlyGrows, KeepsHistory, StandsOn, WhileAllKnown, durable_of, saved_of}
 use Rattle.pac_engine.proofs.LawLemmas.{begins, history-then, stands-then}
-use Rattle.pac_engine.proofs.ToldLemmas.{refused-keeps}
+use Rattle.pac_engine.proofs.KnownLemmas.{refused-keeps}
 use Rattle.pac_run.specs.Serving.{Answered, GoesFrom, KeepsEach, StandsForEach}
 use Rattle.pac_run.specs.Stopping.{SaveFits, closed_groups}
 use Rattle.pac_run.specs.Texts.{IsPlain}
@@ -80,13 +80,13 @@ data-free (z ∷ zs) (b ∷ bs) rest x y same = go (data-free zs bs rest x y (ta
 
 -- ---- nothing is asked
 
-pub nothing-keeps : (e : EngineParts) (told : List (Option DiskHistory)) → KeepsEach [] e e told told
-nothing-keeps e told = λ text history. refused-keeps text history e e _ refl refl
+pub nothing-keeps : (e : EngineParts) (known : List (Option DiskHistory)) → KeepsEach [] e e known known
+nothing-keeps e known = λ text history. refused-keeps text history e e _ refl refl
 
--- ---- behind what was served
+-- ---- after what was served
 
 -- the engine is at the end of the requests
-module _ (first now : EngineParts) (requests : List Request) (given : List Reply) (told told' : List (Option DiskHistory)) (goes : GoesFrom first now requests given told told') where
+module _ (first now : EngineParts) (requests : List Request) (given : List Reply) (known known' : List (Option DiskHistory)) (goes : GoesFrom first now requests given known known') where
   abbrev rules : Rules
   rules = rules_of first.session
 
@@ -111,34 +111,34 @@ module _ (first now : EngineParts) (requests : List Request) (given : List Reply
   pub cut-more : (asked : List Request) → cut (rules_of first.session) (state_now first.session) (requests ++ asked) ≡ fold (cut_on (rules_of first.session) (state_now first.session)) (cut (rules_of first.session) (state_now first.session) requests) asked
   cut-more asked = fold-append (cut_on rules start) (record { closed = []; rest = [] }) requests asked
 
-  module _ (new : EngineParts) (told'' : List (Option DiskHistory)) where
-    pub keeps-more : (asked : List Request) → KeepsEach (committed (rules_of now.session) (state_now now.session) asked) now new told' told''
-        → KeepsEach (committed (rules_of first.session) (state_now first.session) (requests ++ asked)) first new told told''
-    keeps-more asked keeps = λ text history. subst (λ (t : List Txn). TellsWhere (StandsOn text history first) (KeepsHistory text (history ++ t) first new) told told'') (committed-more asked)
-        (history-then text history (committed rules start requests) (committed (rules_of now.session) (state_now now.session) asked) first now new told told' told'' goes.closes.same goes.grows (goes.keeps text history) (goes.stands text history) (keeps text (history ++ committed rules start requests)))
+  module _ (new : EngineParts) (known'' : List (Option DiskHistory)) where
+    pub keeps-more : (asked : List Request) → KeepsEach (committed (rules_of now.session) (state_now now.session) asked) now new known' known''
+        → KeepsEach (committed (rules_of first.session) (state_now first.session) (requests ++ asked)) first new known known''
+    keeps-more asked keeps = λ text history. subst (λ (t : List Txn). WhileAllKnown (StandsOn text history first) (KeepsHistory text (history ++ t) first new) known known'') (committed-more asked)
+        (history-then text history (committed rules start requests) (committed (rules_of now.session) (state_now now.session) asked) first now new known known' known'' goes.closes.same goes.grows (goes.keeps text history) (goes.stands text history) (keeps text (history ++ committed rules start requests)))
 
-    stands-more : (asked : List Request) → StandsForEach (committed (rules_of now.session) (state_now now.session) asked) now new told' told''
-        → StandsForEach (committed (rules_of first.session) (state_now first.session) (requests ++ asked)) first new told told''
-    stands-more asked stands = λ text history. subst (λ (t : List Txn). TellsWhere (StandsOn text history first) (λ was is. StandsOn text (history ++ t) new is) told told'') (committed-more asked)
-        (stands-then text history (committed rules start requests) (committed (rules_of now.session) (state_now now.session) asked) first now new told told' told'' (goes.stands text history) (stands text (history ++ committed rules start requests)))
+    stands-more : (asked : List Request) → StandsForEach (committed (rules_of now.session) (state_now now.session) asked) now new known' known''
+        → StandsForEach (committed (rules_of first.session) (state_now first.session) (requests ++ asked)) first new known known''
+    stands-more asked stands = λ text history. subst (λ (t : List Txn). WhileAllKnown (StandsOn text history first) (λ was is. StandsOn text (history ++ t) new is) known known'') (committed-more asked)
+        (stands-then text history (committed rules start requests) (committed (rules_of now.session) (state_now now.session) asked) first now new known known' known'' (goes.stands text history) (stands text (history ++ committed rules start requests)))
 
-    module _ (asked : List Request) (more : List Reply) (answered : Answered asked more now new told' told'') where
+    module _ (asked : List Request) (more : List Reply) (answered : Answered asked more now new known' known'') where
       closes-more : Closes (rules_of first.session) first.log.gate.place (state_now first.session) (cut (rules_of first.session) (state_now first.session) (requests ++ asked)) (given ++ more) new
       closes-more = subst (λ (c : GroupCut). Closes rules place start c (given ++ more) new) (sym (cut-more asked)) (answered.closes rules place start whole given goes.closes)
 
       -- a save that was answered had room
       save-fits : asked ≡ request.Save ∷ [] → SaveFits (rules_of first.session) first.log.gate.place (state_now first.session) requests
       save-fits is =
-          let saves : Answered (request.Save ∷ []) more now new told' told'' = subst (λ (l : List Request). Answered l more now new told' told'') is answered in
+          let saves : Answered (request.Save ∷ []) more now new known' known'' = subst (λ (l : List Request). Answered l more now new known' known'') is answered in
           let alone : Closes rules now.log.gate.place middle (record { closed = []; rest = whole.rest }) [] now = record { replied = refl; fit = tt; there = refl; same = goes.closes.same; within = goes.closes.within } in
           let one = saves.closes rules now.log.gate.place middle (record { closed = []; rest = whole.rest }) [] alone in
           let all : Closes rules place start (cut rules start (requests ++ request.Save ∷ [])) (given ++ more) new = subst (λ (c : GroupCut). Closes rules place start c (given ++ more) new) (sym (cut-more (request.Save ∷ []))) (saves.closes rules place start whole given goes.closes) in
           let txns : committed rules middle (whole.rest ++ request.Save ∷ []) ≡ now.session.txns
           = committed-append rules middle whole.rest (request.Save ∷ []) ∙ append-nil (committed rules middle whole.rest) ∙ ap (λ (r : Rules). committed r middle whole.rest) (sym goes.closes.same) ∙ sym goes.closes.within.body in
-          let there : place_behind now.log.gate.place now.session.txns ≡ place_after place (closed_groups rules place start (requests ++ request.Save ∷ []))
-          = ap (place_behind now.log.gate.place) (sym txns) ∙ sym one.there ∙ all.there in
-          let room : slot_len rules (ends rules start requests) (place_behind now.log.gate.place now.session.txns) ≤ MAX_SLOT_LEN
-          = subst (λ (s : SessionState). slot_len rules s (place_behind now.log.gate.place now.session.txns) ≤ MAX_SLOT_LEN) reached (subst (λ (r : Rules). slot_len r (state_now now.session) (place_behind now.log.gate.place now.session.txns) ≤ MAX_SLOT_LEN) goes.closes.same (saves.saves refl)) in
+          let there : place_after_group now.log.gate.place now.session.txns ≡ place_after place (closed_groups rules place start (requests ++ request.Save ∷ []))
+          = ap (place_after_group now.log.gate.place) (sym txns) ∙ sym one.there ∙ all.there in
+          let room : slot_len rules (ends rules start requests) (place_after_group now.log.gate.place now.session.txns) ≤ MAX_SLOT_LEN
+          = subst (λ (s : SessionState). slot_len rules s (place_after_group now.log.gate.place now.session.txns) ≤ MAX_SLOT_LEN) reached (subst (λ (r : Rules). slot_len r (state_now now.session) (place_after_group now.log.gate.place now.session.txns) ≤ MAX_SLOT_LEN) goes.closes.same (saves.saves refl)) in
           subst (λ (p : ℕ). slot_len rules (ends rules start requests) p ≤ MAX_SLOT_LEN) there room
 
       saves-more : (before rest : List Request) → requests ++ asked ≡ before ++ request.Save ∷ rest → SaveFits (rules_of first.session) first.log.gate.place (state_now first.session) before
@@ -153,7 +153,7 @@ module _ (first now : EngineParts) (requests : List Request) (given : List Reply
           by (asks ∷ []) is = one asks is (data-free requests before rest asks request.Save (ap (λ (l : List Request). requests ++ l) (sym is) ∙ same))
           by (asks ∷ next ∷ others) is = absurd (omega (arith, answered.few, ap (λ (l : List Request). length l) is))
 
-      pub goes-more : GoesFrom first new (requests ++ asked) (given ++ more) told told''
+      pub goes-more : GoesFrom first new (requests ++ asked) (given ++ more) known known''
       goes-more = record {
         closes = closes-more;
         keeps = keeps-more asked answered.keeps;
@@ -166,11 +166,11 @@ module _ (first now : EngineParts) (requests : List Request) (given : List Reply
 
 -- ---- from the beginning
 
-pub goes-first : (first : EngineParts) (told : List (Option DiskHistory)) → first.session.txns ≡ [] → first.session.held ≡ [] → ((text : List ℕ) (history : List Txn) → TellsWhere (StandsOn text history first) (λ was is. StandsOn text (history ++ []) first is) told told)
-    → GoesFrom first first [] [] told told
-goes-first first told txns held stands = record {
+pub goes-first : (first : EngineParts) (known : List (Option DiskHistory)) → first.session.txns ≡ [] → first.session.held ≡ [] → ((text : List ℕ) (history : List Txn) → WhileAllKnown (StandsOn text history first) (λ was is. StandsOn text (history ++ []) first is) known known)
+    → GoesFrom first first [] [] known known
+goes-first first known txns held stands = record {
   closes = begins first txns held;
-  keeps = nothing-keeps first told;
+  keeps = nothing-keeps first known;
   stands = stands;
   grows = record { durable = omega arith; saved = omega arith };
   kept = tt;

@@ -17,7 +17,7 @@ use Rattle.pac_engine.specs.declared.parts.EngineParts.{EngineParts}
 use Rattle.pac_engine.specs.Closing.{Closes, IsUnsaved, StopsAt, is_stop}
 use Rattle.pac_engine.proofs.LawLemmas.{stops-then}
 use Rattle.pac_run.specs.Asked.{NoStop, StopsLast}
-use Rattle.pac_run.specs.Causes.{not_answered}
+use Rattle.pac_run.specs.Causes.{stop_of_engine}
 use Rattle.pac_run.specs.Serving.{GoesFrom, StepStops}
 use Rattle.pac_run.specs.Stopping.{AreFirst, IsStoppedAt, closed_groups}
 use Rattle.pac_run.specs.declared.stop.RunStop.{RunStop}
@@ -80,21 +80,21 @@ stopped-first rules place start requests given (TooLarge bytes) is = groups-firs
 -- ---- one request that is not answered
 
 -- a step's cause is the run's
-pub step-stops : (rules : Rules) (place : ℕ) (start : SessionState) (closed : List (List Request)) (given : List Reply) (why : EngineCause) (stop : RunStop) → stop ≡ not_answered why → StopsAt rules place start closed given why → StepStops rules place start closed given stop
+pub step-stops : (rules : Rules) (place : ℕ) (start : SessionState) (closed : List (List Request)) (given : List Reply) (why : EngineCause) (stop : RunStop) → stop ≡ stop_of_engine why → StopsAt rules place start closed given why → StepStops rules place start closed given stop
 step-stops rules place start closed given why stop is stops = subst (λ (s : RunStop). StepStops rules place start closed given s) (sym is) (go why stops)
   where
-    go : (why : EngineCause) → StopsAt rules place start closed given why → StepStops rules place start closed given (not_answered why)
+    go : (why : EngineCause) → StopsAt rules place start closed given why → StepStops rules place start closed given (stop_of_engine why)
     go cause.DiskFault at = at
     go (cause.LogFull need) at = at
     go (cause.TooLarge bytes) at = at
     go cause.Ended at = absurd at
     go cause.NoMemory at = at
 
--- where nothing was written for want of memory, no group's replies were
-pub none-told : (rules : Rules) (place : ℕ) (start : SessionState) (closed : List (List Request)) → StepStops rules place start closed [] NoMemory
-none-told rules place start closed = inl (record { before = []; rest = described rules place start closed; split = refl; replied = refl })
+-- where nothing was written for running out of memory, no group's replies were
+pub none-known : (rules : Rules) (place : ℕ) (start : SessionState) (closed : List (List Request)) → StepStops rules place start closed [] NoMemory
+none-known rules place start closed = inl (record { before = []; rest = described rules place start closed; split = refl; replied = refl })
 
-module _ (first now : EngineParts) (requests : List Request) (given : List Reply) (told told' : List (Option DiskHistory)) (goes : GoesFrom first now requests given told told') where
+module _ (first now : EngineParts) (requests : List Request) (given : List Reply) (known known' : List (Option DiskHistory)) (goes : GoesFrom first now requests given known known') where
   abbrev rules : Rules
   rules = rules_of first.session
 
@@ -115,10 +115,10 @@ module _ (first now : EngineParts) (requests : List Request) (given : List Reply
     one = (cut_one rules middle whole.rest asked).closed
 
     closed-is : (cut rules start (requests ++ asked ∷ [])).closed ≡ whole.closed ++ one
-    closed-is = ap (λ (c : GroupCut). c.closed) (cut-more first now requests given told told' goes (asked ∷ []))
+    closed-is = ap (λ (c : GroupCut). c.closed) (cut-more first now requests given known known' goes (asked ∷ []))
 
-    all-told : more ≡ all_replies (described rules now.log.gate.place middle one) → given ++ more ≡ all_replies (closed_groups rules place start (requests ++ asked ∷ []))
-    all-told is = ap₂ (λ (a b : List Reply). a ++ b) (goes.closes.replied ∙ described-replies rules place start whole.closed) (is ∙ described-replies rules now.log.gate.place middle one)
+    all-known : more ≡ all_replies (described rules now.log.gate.place middle one) → given ++ more ≡ all_replies (closed_groups rules place start (requests ++ asked ∷ []))
+    all-known is = ap₂ (λ (a b : List Reply). a ++ b) (goes.closes.replied ∙ described-replies rules place start whole.closed) (is ∙ described-replies rules now.log.gate.place middle one)
         ∙ sym (replies-append rules start (all_requests whole.closed) (all_requests one)) ∙ ap (replies rules start) (sym (joined-append whole.closed one))
         ∙ sym (described-replies rules place start (whole.closed ++ one)) ∙ ap (λ (c : List (List Request)). all_replies (described rules place start c)) (sym closed-is)
 
@@ -132,7 +132,7 @@ module _ (first now : EngineParts) (requests : List Request) (given : List Reply
     stopped-there (RowsOver table rows limit) stops = absurd stops
     stopped-there InputFault stops = absurd stops
     stopped-there TooLong stops = absurd stops
-    stopped-there OutputFault stops = all-told stops
+    stopped-there OutputFault stops = all-known stops
     stopped-there DiskFault stops = then-stops cause.DiskFault stops
     stopped-there NoMemory stops = then-stops cause.NoMemory stops
     stopped-there (LogFull need) stops = then-stops (cause.LogFull need) stops
@@ -177,7 +177,7 @@ stop-is request.Save is = absurd cc
 stop-is request.Stop is = refl
 stop-is (request.Refused fault) is = absurd cc
 
--- behind a stop no request is left
+-- after a stop no request is left
 pub all-replied : (rules : Rules) (place : ℕ) (start : SessionState) (before : List Request) (given : List Reply) (now : EngineParts) → Closes rules place start (cut rules start (before ++ request.Stop ∷ [])) given now → (cut rules start (before ++ request.Stop ∷ [])).rest ≡ []
     → given ≡ replies rules start (before ++ request.Stop ∷ [])
 all-replied rules place start before given now closes none =

@@ -1,4 +1,4 @@
--- What an output tells whoever reads it.
+-- What an output says whoever reads it.
 use Rattle.std.specs.Prelude.{◌⊎◌, ◌≡◌, ℕ, ◌^◌, ◌<◌, List, [], ◌∷◌, ◌++◌, codes}
 use Rattle.std.specs.Fmt.{decimal}
 use Rattle.pac_lines.specs.Lines.{lines_of}
@@ -17,5 +17,5 @@ abbrev pub Acknowledges : List ℕ → ℕ → Type 0
 Acknowledges output number = (number < 2 ^ 64) × IsOneOfLines (codes "committed " ++ decimal number) (whole_lines output)
 
 -- the output has the whole line `saved NUMBER`
-abbrev pub TellsSaved : List ℕ → ℕ → Type 0
-TellsSaved output number = (number < 2 ^ 64) × IsOneOfLines (codes "saved " ++ decimal number) (whole_lines output)
+abbrev pub ReportsSaved : List ℕ → ℕ → Type 0
+ReportsSaved output number = (number < 2 ^ 64) × IsOneOfLines (codes "saved " ++ decimal number) (whole_lines output)

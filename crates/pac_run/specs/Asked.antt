@@ -17,7 +17,7 @@ abbrev pub listed_asked : Option Request → List Request
 listed_asked None = []
 listed_asked (Some asked) = asked ∷ []
 
--- the request of a line: none of one that asks nothing, and one that tells so of one that is refused
+-- the request of a line: none of one that asks nothing, and one that reports so of one that is refused
 abbrev pub asked_of : LineAnswer → List Request
 asked_of (Ok asked) = listed_asked asked
 asked_of (Err fault) = request.Refused fault ∷ []
@@ -33,7 +33,7 @@ abbrev pub LinesAsk : CatalogueState → List (List ℕ) → List Request → Ty
 LinesAsk catalogue [] requests = requests ≡ []
 LinesAsk catalogue (line ∷ lines) requests = (asked : List Request) × (rest : List Request) × LineAsks catalogue line asked × LinesAsk catalogue lines rest × (requests ≡ asked ++ rest)
 
--- What was asked: what the lines ask, and a stop behind it where the end of the input was met.
+-- What was asked: what the lines ask, and a stop after it where the end of the input was met.
 abbrev pub WereAsked : CatalogueState → List (List ℕ) → Option (List ℕ) → List Request → Type 0
 WereAsked catalogue lines left requests = LinesAsk catalogue lines requests ⊎ ((before : List Request) × LinesAsk catalogue lines before × (requests ≡ before ++ request.Stop ∷ []) × IsAtEnd left)
 
@@ -46,18 +46,18 @@ StopsLast [] = Unit {0}
 StopsLast (asked ∷ []) = Unit {0}
 StopsLast (asked ∷ next ∷ requests) = (is_stop asked ≡ false) × StopsLast (next ∷ requests)
 
--- Where the source tells, the lines were handed out one after another from the front of what it had left, each as a whole or
+-- Where the source's bytes are known, the lines were handed out one after another from the start of what it had left, each as a whole or
 -- the last one up to its end. These bytes of the rest were taken too.
 abbrev pub WereHandled : Option (List ℕ) → List (List ℕ) → List ℕ → Option (List ℕ) → Type 0
 WereHandled left lines ahead left' = IfSome left (λ text. (rest : List ℕ) × (prepend_known ahead left' ≡ Some rest) × HandsOut text lines rest)
 
--- at most so many bytes were taken from the input
+-- at most that many bytes were taken from the input
 pub record TookAtMost (most : ℕ) (left left' : Option (List ℕ)) : Type 0 where
   pub bytes : List ℕ
   pub gave : Gave left bytes left'
   pub few : length bytes ≤ most
 
--- one byte too many was taken from the input, and of what wasn't handled no line is whole in front of it
+-- one byte too many was taken from the input, and of what wasn't handled no line is whole before it
 pub record IsOverLong (ahead : List ℕ) (left left' : Option (List ℕ)) : Type 0 where
   pub bytes : List ℕ
   pub gave : Gave left bytes left'

@@ -9,24 +9,24 @@ use Rattle.pac_run.specs.declared.stop.RunStop.{RunStop}
 use Rattle.pac_run.specs.declared.stop.RunStop.TheVariants.{NoStore, Damaged, AbortInLog, RowsOver, InputFault, DiskFault, NoMemory, LogFull, TooLong, TooLarge}
 
 -- why the store isn't opened
-abbrev pub not_opened : RecoverError → RunStop
-not_opened recover.NoStore = NoStore
-not_opened (recover.Damaged damage) = Damaged damage
-not_opened (recover.AbortInLog note) = AbortInLog note
-not_opened (recover.RowsOver table rows limit) = RowsOver table rows limit
-not_opened recover.DiskFault = DiskFault
-not_opened recover.NoMemory = NoMemory
+abbrev pub stop_of_opening : RecoverError → RunStop
+stop_of_opening recover.NoStore = NoStore
+stop_of_opening (recover.Damaged damage) = Damaged damage
+stop_of_opening (recover.AbortInLog note) = AbortInLog note
+stop_of_opening (recover.RowsOver table rows limit) = RowsOver table rows limit
+stop_of_opening recover.DiskFault = DiskFault
+stop_of_opening recover.NoMemory = NoMemory
 
 -- why the next line isn't read
-abbrev pub not_read : LineError → RunStop
-not_read line.Failed = InputFault
-not_read line.TooLong = TooLong
-not_read line.NoMemory = NoMemory
+abbrev pub stop_of_read : LineError → RunStop
+stop_of_read line.Failed = InputFault
+stop_of_read line.TooLong = TooLong
+stop_of_read line.NoMemory = NoMemory
 
 -- why a request isn't answered; an engine that goes on never says that it has ended
-abbrev pub not_answered : EngineCause → RunStop
-not_answered engine.DiskFault = DiskFault
-not_answered (engine.LogFull need) = LogFull need
-not_answered (engine.TooLarge bytes) = TooLarge bytes
-not_answered engine.Ended = NoMemory
-not_answered engine.NoMemory = NoMemory
+abbrev pub stop_of_engine : EngineCause → RunStop
+stop_of_engine engine.DiskFault = DiskFault
+stop_of_engine (engine.LogFull need) = LogFull need
+stop_of_engine (engine.TooLarge bytes) = TooLarge bytes
+stop_of_engine engine.Ended = NoMemory
+stop_of_engine engine.NoMemory = NoMemory

@@ -5,7 +5,7 @@ use Rattle.pac_outside.specs.Devices.{AllLeave}
 use Rattle.pac_outside.specs.Disk.{DiskHistory}
 use Rattle.pac_types.specs.Typing.{CatalogueState}
 use Rattle.pac_log.specs.Logs.{HoldsLog}
-use Rattle.pac_log.specs.Places.{IsBehind}
+use Rattle.pac_log.specs.Places.{IsAfter}
 use Rattle.pac_store.specs.Images.{Images, OfThree}
 use Rattle.pac_store.specs.Stands.{StandsFor}
 use Rattle.pac_recover.specs.Recovering.{IsRecoveredFrom}
@@ -22,25 +22,25 @@ pub record IsFresh (batch limit : ℕ) (engine : EngineParts) : Type 0 where
   pub goes_on : engine.ended ≡ false
 
 -- What is stored in these images is executed to the end: the engine has the tables after it, and as many transactions. Its
--- log goes on at the gate behind the batches that are stored.
+-- log goes on at the gate after the batches that are stored.
 pub record IsOpenedFrom (engine : EngineParts) (images : Images) : Type 0 where
   pub recovered : IsRecoveredFrom engine.session.catalogue engine.session.tables (durable_of engine) images
   pub text : List ℕ
   pub batches : List (List Txn)
   pub log : HoldsLog text engine.session.catalogue batches images.log
-  pub behind : IsBehind text batches engine.log.gate
+  pub after : IsAfter text batches engine.log.gate
 
 -- each image that a crash may leave stands for the history
 abbrev pub AllStand : List ℕ → CatalogueState → List Txn → ℕ → List DiskHistory → Type 0
 AllStand text catalogue history least devices = AllLeave (λ images. OfThree (StandsFor text catalogue history least) images) devices
 
--- the engine is one of the catalogue, and stands for the first transactions of the history, at least so many
-pub record StandsForFront (text : List ℕ) (catalogue : CatalogueState) (history : List Txn) (least : ℕ) (engine : EngineParts) (devices : List DiskHistory) : Type 0 where
+-- the engine is one of the catalogue, and stands for the first transactions of the history, at least that many
+pub record StandsForPrefix (text : List ℕ) (catalogue : CatalogueState) (history : List Txn) (least : ℕ) (engine : EngineParts) (devices : List DiskHistory) : Type 0 where
   pub same : engine.session.catalogue ≡ catalogue
   pub enough : least ≤ durable_of engine
   pub within : durable_of engine ≤ length history
   pub stands : StandsOn text (take (durable_of engine) history) engine devices
 
--- where each image that a crash might have left at entry stands for a history, the engine stands for a front of it
+-- where each image that a crash might have left at entry stands for a history, the engine stands for a prefix of it
 abbrev pub BeginsOver : EngineParts → List DiskHistory → List DiskHistory → Type 0
-BeginsOver engine entry now = (text : List ℕ) (catalogue : CatalogueState) (history : List Txn) (least : ℕ) → AllStand text catalogue history least entry → StandsForFront text catalogue history least engine now
+BeginsOver engine entry now = (text : List ℕ) (catalogue : CatalogueState) (history : List Txn) (least : ℕ) → AllStand text catalogue history least entry → StandsForPrefix text catalogue history least engine now

@@ -4,10 +4,10 @@ use Rattle.std.specs.Io.KnownBytes.{prepend_known}
 use Rattle.std.specs.List.{AllByRecursion}
 use Rattle.pac_ops.specs.declared.transaction.Txn.{Txn}
 use Rattle.pac_outside.specs.Content.{Took}
-use Rattle.pac_outside.specs.Devices.{AllLeave, AreImages, RunLeaves, all_told}
+use Rattle.pac_outside.specs.Devices.{AllLeave, AreImages, RunLeaves, all_known}
 use Rattle.pac_outside.specs.Disk.{DiskHistory}
 use Rattle.pac_types.specs.Typing.{CatalogueState}
-use Rattle.pac_log.specs.Logs.{HoldsLog, log_front}
+use Rattle.pac_log.specs.Logs.{HoldsLog, log_prefix}
 use Rattle.pac_store.specs.Images.{Images, OfThree}
 use Rattle.pac_store.specs.Stands.{StandsFor}
 use Rattle.pac_request.specs.declared.request.Request.{Request}
@@ -16,30 +16,30 @@ use Rattle.pac_request.specs.declared.request.Reply.{Reply}
 use Rattle.pac_session.specs.Session.{Rules, SessionState, committed, replies}
 use Rattle.pac_recover.specs.Recovering.{IsRecoveredFrom}
 use Rattle.pac_engine.specs.Closing.{GroupFits}
-use Rattle.pac_engine.specs.Standing.{StandsWith, TellsWhere}
+use Rattle.pac_engine.specs.Standing.{StandsWith, WhileAllKnown}
 use Rattle.pac_run.specs.declared.limits.TheConstants.{MAX_INPUT}
 use Rattle.pac_run.specs.declared.stop.RunStop.{RunStop}
 use Rattle.pac_run.specs.declared.stop.RunStop.TheVariants.{TooLong}
-use Rattle.pac_run.specs.Acked.{Acknowledges, TellsSaved}
+use Rattle.pac_run.specs.Acked.{Acknowledges, ReportsSaved}
 use Rattle.pac_run.specs.Asked.{WereAsked, IsOverLong, StopsLast, TookAtMost, WereHandled}
 use Rattle.pac_run.specs.Opening.{AllStand}
 use Rattle.pac_run.specs.Stopping.{IsStopped, SaveFits, closed_groups}
-use Rattle.pac_run.specs.Texts.{IsTextFront, texts}
+use Rattle.pac_run.specs.Texts.{IsTextPrefix, texts}
 
 -- ---- where the session begins
 
 -- The session begins with what is stored in these images: with the tables after it and as many transactions, and with the
--- log's gate behind the batches that are stored.
+-- log's gate after the batches that are stored.
 pub record IsBegun (rules : Rules) (place : ℕ) (start : SessionState) (images : Images) : Type 0 where
   pub recovered : IsRecoveredFrom rules.catalogue start.tables start.number images
   pub text : List ℕ
   pub batches : List (List Txn)
   pub log : HoldsLog text rules.catalogue batches images.log
-  pub there : place ≡ length (log_front text batches)
+  pub there : place ≡ length (log_prefix text batches)
 
--- where all devices tell, what a read gives of them has P
-abbrev pub WhereSeen : (Images → Type 0) → List (Option DiskHistory) → Type 0
-WhereSeen P told = IfSome (all_told told) (λ devices. OfThree P (map (λ device. device.now.seen) devices))
+-- where all devices' histories are known, what a read gives of them has P
+abbrev pub IfSeenKnown : (Images → Type 0) → List (Option DiskHistory) → Type 0
+IfSeenKnown P known = IfSome (all_known known) (λ devices. OfThree P (map (λ device. device.now.seen) devices))
 
 -- ---- what the devices hold
 
@@ -48,13 +48,13 @@ abbrev pub history_after : List Txn → Rules → SessionState → List Request 
 history_after history rules start requests = take start.number history ++ committed rules start requests
 
 -- An image at the exit stands for the history. Its log has what the log had at entry, and each transaction that the
--- output acknowledges; some slot has a checkpoint of as many as the output tells that one has.
+-- output acknowledges; some slot has a checkpoint of as many as the output says that one has.
 pub record IsExit (text : List ℕ) (catalogue : CatalogueState) (history : List Txn) (entered : ℕ) (out : List ℕ) (images : Images) : Type 0 where
   pub least : ℕ
   pub saved : ℕ
   pub more : entered ≤ least
   pub acknowledged : (number : ℕ) → Acknowledges out number → number ≤ least
-  pub kept : (number : ℕ) → TellsSaved out number → number ≤ saved
+  pub kept : (number : ℕ) → ReportsSaved out number → number ≤ saved
   pub stands : StandsWith text catalogue history least saved images
 
 -- an image at the exit is one of entry, and nothing was written, or it stands for the history with what the session commits
@@ -67,9 +67,9 @@ abbrev pub AtMoments : List ℕ → CatalogueState → List Txn → ℕ → Rule
 AtMoments text catalogue history least rules start requests entry now =
     RunLeaves (λ images. AreImages entry images ⊎ OfThree (StandsFor text catalogue (history_after history rules start requests) least) images) entry now
 
--- where the devices tell, and each image at entry stands for a history, this is so of what they hold then and now
-abbrev pub WhereAllStand : (List ℕ → CatalogueState → List Txn → ℕ → List DiskHistory → List DiskHistory → Type 0) → List (Option DiskHistory) → List (Option DiskHistory) → Type 0
-WhereAllStand R told told' = (text : List ℕ) (catalogue : CatalogueState) (history : List Txn) (least : ℕ) → TellsWhere (AllStand text catalogue history least) (R text catalogue history least) told told'
+-- where the devices' histories are known, and each image at entry stands for a history, this is so of what they hold then and now
+abbrev pub WhileAllStand : (List ℕ → CatalogueState → List Txn → ℕ → List DiskHistory → List DiskHistory → Type 0) → List (Option DiskHistory) → List (Option DiskHistory) → Type 0
+WhileAllStand R known known' = (text : List ℕ) (catalogue : CatalogueState) (history : List Txn) (least : ℕ) → WhileAllKnown (AllStand text catalogue history least) (R text catalogue history least) known known'
 
 -- ---- the run
 
@@ -82,7 +82,7 @@ pub record IsWholeRun (rules : Rules) (place : ℕ) (start : SessionState) (requ
   pub saves : (first rest : List Request) → requests ≡ first ++ request.Save ∷ rest → SaveFits rules place start first
 
 -- A run, whatever its answer.
-pub record IsRun (batch limit : ℕ) (left left' held held' : Option (List ℕ)) (told told' : List (Option DiskHistory)) (rose : Type 0) (result : Result (Unit {0}) RunStop) : Type 0 where
+pub record IsRun (batch limit : ℕ) (left left' held held' : Option (List ℕ)) (known known' : List (Option DiskHistory)) (faulted : Type 0) (result : Result (Unit {0}) RunStop) : Type 0 where
   -- what it read and wrote
   pub lines : List (List ℕ)
   pub ahead : List ℕ  -- taken, and not handled
@@ -100,15 +100,15 @@ pub record IsRun (batch limit : ℕ) (left left' held held' : Option (List ℕ))
   pub most : rules.most ≡ batch
   pub start : SessionState
   pub place : ℕ
-  pub begun : WhereSeen (λ images. (requests ≡ []) ⊎ IsBegun rules place start images) told
-  -- (a) the output is a front of the texts of its replies, and all of them with Ok
-  pub front : IsTextFront out (texts rules.catalogue (replies rules start requests))
+  pub begun : IfSeenKnown (λ images. (requests ≡ []) ⊎ IsBegun rules place start images) known
+  -- (a) the output is a prefix of the texts of its replies, and all of them with Ok
+  pub prefix : IsTextPrefix out (texts rules.catalogue (replies rules start requests))
   pub whole : OnOk result (IsWholeRun rules place start requests out)
   -- (b) and (e) what the devices hold at the exit, (c) and at each moment
-  pub exit : WhereAllStand (λ text catalogue history least. AtExit text catalogue history rules start requests out) told told'
-  pub moments : WhereAllStand (λ text catalogue history least. AtMoments text catalogue history least rules start requests) told told'
+  pub exit : WhileAllStand (λ text catalogue history least. AtExit text catalogue history rules start requests out) known known'
+  pub moments : WhileAllStand (λ text catalogue history least. AtMoments text catalogue history least rules start requests) known known'
   -- (d) where it stopped: the output is the texts of these replies, unless the output's count of faults rose
   pub given : List Reply
-  pub written : IsTextFront out (texts rules.catalogue given)
-  pub all : (out ≡ texts rules.catalogue given) ⊎ rose
+  pub written : IsTextPrefix out (texts rules.catalogue given)
+  pub all : (out ≡ texts rules.catalogue given) ⊎ faulted
   pub stopped : IfErr result (λ stop. IsStopped rules place start requests given stop)

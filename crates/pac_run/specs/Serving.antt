@@ -13,47 +13,47 @@ use Rattle.pac_request.specs.declared.request.Request.{Request}
 use Rattle.pac_request.specs.declared.request.Request.TheVariants as request
 use Rattle.pac_request.specs.declared.request.Reply.{Reply}
 use Rattle.pac_session.specs.Session.{Rules, SessionState, committed, replies}
-use Rattle.pac_session.specs.Groups.{GroupCut, all_replies, cut, cut_on, cut_one, described, place_behind}
+use Rattle.pac_session.specs.Groups.{GroupCut, all_replies, cut, cut_on, cut_one, described, place_after_group}
 use Rattle.pac_session.specs.Open.{IsInGroup, rules_of, state_now}
 use Rattle.pac_check.specs.declared.limits.TheConstants.{MAX_SLOT_LEN}
 use Rattle.pac_engine.specs.declared.fault.EngineCause.TheVariants as cause
 use Rattle.pac_engine.specs.declared.parts.EngineParts.{EngineParts}
 use Rattle.pac_engine.specs.Closing.{Closes, GroupFits, IsKept, StopsAt, slot_len}
-use Rattle.pac_engine.specs.Standing.{OnlyGrows, KeepsHistory, StandsOn, TellsWhere}
+use Rattle.pac_engine.specs.Standing.{OnlyGrows, KeepsHistory, StandsOn, WhileAllKnown}
 use Rattle.pac_run.specs.declared.limits.TheConstants.{MAX_INPUT}
 use Rattle.pac_run.specs.declared.stop.RunStop.{RunStop}
 use Rattle.pac_run.specs.declared.stop.RunStop.TheVariants.{NoStore, Damaged, AbortInLog, RowsOver, InputFault, OutputFault, DiskFault, NoMemory, LogFull, TooLong, TooLarge}
 use Rattle.pac_run.specs.Asked.{WereAsked, IsOverLong, LineAsks, LinesAsk, NoStop, StopsLast, TookAtMost, WereHandled}
 use Rattle.pac_run.specs.Stopping.{AreFirst, IsStoppedAt, SaveFits, closed_groups}
-use Rattle.pac_run.specs.Texts.{IsTextFront, IsPlain, texts}
+use Rattle.pac_run.specs.Texts.{IsTextPrefix, IsPlain, texts}
 
 -- ---- one line
 
--- the engine keeps each history with these transactions behind it, and stands for it afterwards
+-- the engine keeps each history with these transactions after it, and stands for it afterwards
 abbrev pub KeepsEach : List Txn → EngineParts → EngineParts → List (Option DiskHistory) → List (Option DiskHistory) → Type 0
-KeepsEach more old new told told' = (text : List ℕ) (history : List Txn) → TellsWhere (StandsOn text history old) (KeepsHistory text (history ++ more) old new) told told'
+KeepsEach more old new histories histories' = (text : List ℕ) (history : List Txn) → WhileAllKnown (StandsOn text history old) (KeepsHistory text (history ++ more) old new) histories histories'
 
 abbrev pub StandsForEach : List Txn → EngineParts → EngineParts → List (Option DiskHistory) → List (Option DiskHistory) → Type 0
-StandsForEach more old new told told' = (text : List ℕ) (history : List Txn) → TellsWhere (StandsOn text history old) (λ was is. StandsOn text (history ++ more) new is) told told'
+StandsForEach more old new histories histories' = (text : List ℕ) (history : List Txn) → WhileAllKnown (StandsOn text history old) (λ was is. StandsOn text (history ++ more) new is) histories histories'
 
 -- Requests were answered, of one line and so at most one, with these replies.
-pub record Answered (asked : List Request) (more : List Reply) (old new : EngineParts) (told told' : List (Option DiskHistory)) : Type 0 where
+pub record Answered (asked : List Request) (more : List Reply) (old new : EngineParts) (histories histories' : List (Option DiskHistory)) : Type 0 where
   pub closes : (rules : Rules) (place : ℕ) (start : SessionState) (whole : GroupCut) (given : List Reply) → Closes rules place start whole given old
       → Closes rules place start (fold (cut_on rules start) whole asked) (given ++ more) new
-  pub keeps : KeepsEach (committed (rules_of old.session) (state_now old.session) asked) old new told told'
-  pub stands : StandsForEach (committed (rules_of old.session) (state_now old.session) asked) old new told told'
+  pub keeps : KeepsEach (committed (rules_of old.session) (state_now old.session) asked) old new histories histories'
+  pub stands : StandsForEach (committed (rules_of old.session) (state_now old.session) asked) old new histories histories'
   pub same : rules_of new.session ≡ rules_of old.session
   pub grows : OnlyGrows old new
   pub kept : AllByRecursion (IsKept new) more
   pub plain : AllByRecursion IsPlain more
   pub few : length asked ≤ 1
-  pub saves : asked ≡ request.Save ∷ [] → slot_len (rules_of old.session) (state_now old.session) (place_behind old.log.gate.place old.session.txns) ≤ MAX_SLOT_LEN
+  pub saves : asked ≡ request.Save ∷ [] → slot_len (rules_of old.session) (state_now old.session) (place_after_group old.log.gate.place old.session.txns) ≤ MAX_SLOT_LEN
 
 -- and their texts were written
-pub record Replied (catalogue : CatalogueState) (asked : List Request) (old new : EngineParts) (held held' : Option (List ℕ)) (told told' : List (Option DiskHistory)) : Type 0 where
+pub record Replied (catalogue : CatalogueState) (asked : List Request) (old new : EngineParts) (held held' : Option (List ℕ)) (histories histories' : List (Option DiskHistory)) : Type 0 where
   pub more : List Reply
   pub took : Took held (texts catalogue more) held'
-  pub answered : Answered asked more old new told told'
+  pub answered : Answered asked more old new histories histories'
 
 -- which replies were to be written where a request was not answered, and these groups were to be closed
 abbrev pub StepStops : Rules → ℕ → SessionState → List (List Request) → List Reply → RunStop → Type 0
@@ -69,31 +69,31 @@ StepStops rules place start closed more (TooLarge bytes) = StopsAt rules place s
 StepStops rules place start closed more DiskFault = StopsAt rules place start closed more cause.DiskFault
 StepStops rules place start closed more NoMemory = StopsAt rules place start closed more cause.NoMemory
 
--- One request was not answered, and a front of the texts of those replies was written, all of it unless the sink's count rose.
-pub record Broke (catalogue : CatalogueState) (asked : Request) (old new : EngineParts) (held held' : Option (List ℕ)) (told told' : List (Option DiskHistory)) (rose : Type 0) (stop : RunStop) : Type 0 where
+-- One request was not answered, and a prefix of the texts of those replies was written, all of it unless the sink's count rose.
+pub record Broke (catalogue : CatalogueState) (asked : Request) (old new : EngineParts) (held held' : Option (List ℕ)) (histories histories' : List (Option DiskHistory)) (faulted : Type 0) (stop : RunStop) : Type 0 where
   pub more : List Reply
   pub out : List ℕ
   pub took : Took held out held'
-  pub front : IsTextFront out (texts catalogue more)
-  pub whole : (out ≡ texts catalogue more) ⊎ rose
+  pub prefix : IsTextPrefix out (texts catalogue more)
+  pub whole : (out ≡ texts catalogue more) ⊎ faulted
   pub stops : (start : SessionState) (group : List Request) → IsInGroup start group old.session
       → StepStops (rules_of old.session) old.log.gate.place start (cut_one (rules_of old.session) start group asked).closed more stop
-  pub keeps : KeepsEach (committed (rules_of old.session) (state_now old.session) (asked ∷ [])) old new told told'
+  pub keeps : KeepsEach (committed (rules_of old.session) (state_now old.session) (asked ∷ [])) old new histories histories'
   pub grows : OnlyGrows old new
   pub kept : AllByRecursion (IsKept new) more
   pub plain : AllByRecursion IsPlain more
 
 -- all is as it was: there was no memory to know what the line asks
-pub record IsUntouched (old new : EngineParts) (held held' : Option (List ℕ)) (told told' : List (Option DiskHistory)) (stop : RunStop) : Type 0 where
+pub record IsUntouched (old new : EngineParts) (held held' : Option (List ℕ)) (histories histories' : List (Option DiskHistory)) (stop : RunStop) : Type 0 where
   pub stopped : stop ≡ NoMemory
   pub engine : new ≡ old
   pub output : held' ≡ held
-  pub devices : told' ≡ told
+  pub devices : histories' ≡ histories
 
 -- a line was not served: it wasn't known what it asks, or that was not answered
 abbrev pub LineBroke : CatalogueState → List ℕ → EngineParts → EngineParts → Option (List ℕ) → Option (List ℕ) → List (Option DiskHistory) → List (Option DiskHistory) → Type 0 → RunStop → Type 0
-LineBroke catalogue line old new held held' told told' rose stop =
-    IsUntouched old new held held' told told' stop ⊎ ((asked : Request) × LineAsks catalogue line (asked ∷ []) × Broke catalogue asked old new held held' told told' rose stop)
+LineBroke catalogue line old new held held' histories histories' faulted stop =
+    IsUntouched old new held held' histories histories' stop ⊎ ((asked : Request) × LineAsks catalogue line (asked ∷ []) × Broke catalogue asked old new held held' histories histories' faulted stop)
 
 -- the requests are one stop; none of them is one
 abbrev pub StopsWhere : Bool → List Request → Type 0
@@ -101,25 +101,25 @@ StopsWhere true asked = asked ≡ request.Stop ∷ []
 StopsWhere false asked = NoStop asked
 
 -- a line was served, and is a stop or not
-pub record LineServed (catalogue : CatalogueState) (line : List ℕ) (stops : Bool) (old new : EngineParts) (held held' : Option (List ℕ)) (told told' : List (Option DiskHistory)) : Type 0 where
+pub record LineServed (catalogue : CatalogueState) (line : List ℕ) (stops : Bool) (old new : EngineParts) (held held' : Option (List ℕ)) (histories histories' : List (Option DiskHistory)) : Type 0 where
   pub asked : List Request
   pub asks : LineAsks catalogue line asked
   pub stop : StopsWhere stops asked
-  pub replied : Replied catalogue asked old new held held' told told'
+  pub replied : Replied catalogue asked old new held held' histories histories'
 
 -- ---- all lines
 
 -- An engine that began so has served these requests, and has given these replies.
-pub record GoesFrom (first now : EngineParts) (requests : List Request) (given : List Reply) (told told' : List (Option DiskHistory)) : Type 0 where
+pub record GoesFrom (first now : EngineParts) (requests : List Request) (given : List Reply) (histories histories' : List (Option DiskHistory)) : Type 0 where
   pub closes : Closes (rules_of first.session) first.log.gate.place (state_now first.session) (cut (rules_of first.session) (state_now first.session) requests) given now
-  pub keeps : KeepsEach (committed (rules_of first.session) (state_now first.session) requests) first now told told'
-  pub stands : StandsForEach (committed (rules_of first.session) (state_now first.session) requests) first now told told'
+  pub keeps : KeepsEach (committed (rules_of first.session) (state_now first.session) requests) first now histories histories'
+  pub stands : StandsForEach (committed (rules_of first.session) (state_now first.session) requests) first now histories histories'
   pub grows : OnlyGrows first now
   pub kept : AllByRecursion (IsKept now) given
   pub plain : AllByRecursion IsPlain given
   pub saves : (before rest : List Request) → requests ≡ before ++ request.Save ∷ rest → SaveFits (rules_of first.session) first.log.gate.place (state_now first.session) before
 
--- lines were handed out, and so many bytes were taken, not too many
+-- lines were handed out, and that many bytes were taken, not too many
 pub record HasRead (left left' : Option (List ℕ)) (reader : ReaderState) (lines : List (List ℕ)) : Type 0 where
   pub handed : IfSome left (λ text. (rest : List ℕ) × (known reader left' ≡ Some rest) × HandsOut text lines rest)
   pub bytes : List ℕ
@@ -129,7 +129,7 @@ pub record HasRead (left left' : Option (List ℕ)) (reader : ReaderState) (line
   pub within : reader.taken ≤ MAX_INPUT
 
 -- between two lines
-pub record Serving (first now : EngineParts) (left left' : Option (List ℕ)) (reader : ReaderState) (held held' : Option (List ℕ)) (told told' : List (Option DiskHistory)) : Type 0 where
+pub record Serving (first now : EngineParts) (left left' : Option (List ℕ)) (reader : ReaderState) (held held' : Option (List ℕ)) (histories histories' : List (Option DiskHistory)) : Type 0 where
   pub lines : List (List ℕ)
   pub read : HasRead left left' reader lines
   pub requests : List Request
@@ -137,7 +137,7 @@ pub record Serving (first now : EngineParts) (left left' : Option (List ℕ)) (r
   pub unstopped : NoStop requests
   pub given : List Reply
   pub took : Took held (texts first.session.catalogue given) held'
-  pub goes : GoesFrom first now requests given told told'
+  pub goes : GoesFrom first now requests given histories histories'
 
 -- all was done: the last request is a stop, and all replies were written
 pub record IsDone (rules : Rules) (place : ℕ) (start : SessionState) (requests : List Request) (given : List Reply) (out : List ℕ) : Type 0 where
@@ -149,7 +149,7 @@ pub record IsDone (rules : Rules) (place : ℕ) (start : SessionState) (requests
   pub saves : (first rest : List Request) → requests ≡ first ++ request.Save ∷ rest → SaveFits rules place start first
 
 -- What was served, whatever the end.
-pub record Served (first now : EngineParts) (left left' held held' : Option (List ℕ)) (told told' : List (Option DiskHistory)) (rose : Type 0) (result : Result (Unit {0}) RunStop) : Type 0 where
+pub record Served (first now : EngineParts) (left left' held held' : Option (List ℕ)) (histories histories' : List (Option DiskHistory)) (faulted : Type 0) (result : Result (Unit {0}) RunStop) : Type 0 where
   pub lines : List (List ℕ)
   pub ahead : List ℕ  -- taken, and not handled
   pub handled : WereHandled left lines ahead left'
@@ -161,9 +161,9 @@ pub record Served (first now : EngineParts) (left left' held held' : Option (Lis
   pub given : List Reply
   pub out : List ℕ
   pub took : Took held out held'
-  pub front : IsTextFront out (texts first.session.catalogue given)
-  pub whole : (out ≡ texts first.session.catalogue given) ⊎ rose
-  pub keeps : KeepsEach (committed (rules_of first.session) (state_now first.session) requests) first now told told'
+  pub prefix : IsTextPrefix out (texts first.session.catalogue given)
+  pub whole : (out ≡ texts first.session.catalogue given) ⊎ faulted
+  pub keeps : KeepsEach (committed (rules_of first.session) (state_now first.session) requests) first now histories histories'
   pub grows : OnlyGrows first now
   pub kept : AllByRecursion (IsKept now) given
   pub plain : AllByRecursion IsPlain given

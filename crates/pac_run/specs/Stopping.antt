@@ -41,7 +41,7 @@ IsStoppedAt rules place start requests given NoMemory = StopsAt rules place star
 abbrev pub IsStopped : Rules → ℕ → SessionState → List Request → List Reply → RunStop → Type 0
 IsStopped rules place start requests given stop = ((requests ≡ []) × (given ≡ [])) ⊎ IsStoppedAt rules place start requests given stop
 
--- a save behind these requests has room in a slot
+-- a save after these requests has room in a slot
 abbrev pub SaveFits : Rules → ℕ → SessionState → List Request → Type 0
 SaveFits rules place start before = slot_len rules (ends rules start before) (place_after place (closed_groups rules place start (before ++ request.Save ∷ []))) ≤ MAX_SLOT_LEN
 

@@ -2,15 +2,15 @@
 ghost use Rattle.std.specs.Prelude.{◌≡◌, ◌≤◌, ℕ, List, IsErrOf};
 ghost use Rattle.pac_ops.specs.declared.limits.TheConstants.{MAX_TXNS};
 ghost use Rattle.pac_ops.specs.declared.note.Note.{Note as ANote};
-ghost use Rattle.pac_outside.specs.Causes.{Rose};
-ghost use Rattle.pac_outside.specs.Devices.{OneRose, each};
+ghost use Rattle.pac_outside.specs.Causes.{Faulted};
+ghost use Rattle.pac_outside.specs.Devices.{OneFaulted, each};
 ghost use Rattle.pac_log.specs.declared.damage.DamageKind.{DamageKind as ALogDamage};
 ghost use Rattle.pac_check.specs.declared.damage.SlotDamageKind.{SlotDamageKind as ASlotDamage};
 ghost use Rattle.pac_check.specs.declared.info.SlotName.{SlotName as ASlotName};
 ghost use Rattle.pac_check.specs.declared.limits.TheConstants.{MAX_SAVED_ROWS};
 ghost use Rattle.pac_recover.specs.declared.errors.Damage.TheVariants.{Log as InLog, Slot as InSlot};
 ghost use Rattle.pac_recover.specs.Recovering.{AbortsIn, IsOverIn};
-ghost use Rattle.pac_recover.specs.Refusals.{HasDamage, HasNoStore, WhereHeld};
+ghost use Rattle.pac_recover.specs.Refusals.{HasDamage, HasNoStore, IfImagesKnown};
 ghost use Rattle.pac_run.specs.Run.{IsRun};
 
 use crate::opening::open;
@@ -38,17 +38,17 @@ pub fn run<I: Source, O: Sink, D: Disk>(
     requires limit { limit ≤ MAX_SAVED_ROWS }
 
     // What was read and written, and what the devices hold, at the exit and at each moment.
-    ensures run { IsRun batch limit (I.left input.old) (I.left input.new) (O.held output.old) (O.held output.new) (each D.told devices.old) (each D.told devices.new) (Rose (O.faults output.old) (O.faults output.new)) result }
+    ensures run { IsRun batch limit (I.left input.old) (I.left input.new) (O.held output.old) (O.held output.new) (each D.known devices.old) (each D.known devices.new) (Faulted (O.faults output.old) (O.faults output.new)) result }
 
     // Each refusal comes only where its cause holds.
-    ensures no_store { IsErrOf result RunStop.NoStore → HasNoStore (each D.told devices.old) }
-    ensures log_damage { (at : ℕ) (kind : ALogDamage) → IsErrOf result (RunStop.Damaged (InLog at kind)) → HasDamage (InLog at kind) (each D.told devices.old) }
-    ensures slot_damage { (slot : ASlotName) (at : ℕ) (kind : ASlotDamage) → IsErrOf result (RunStop.Damaged (InSlot slot at kind)) → HasDamage (InSlot slot at kind) (each D.told devices.old) }
-    ensures abort { (note : ANote) → IsErrOf result (RunStop.AbortInLog note) → WhereHeld (AbortsIn note) (each D.told devices.old) }
-    ensures over { (table : List ℕ) (rows most : ℕ) → IsErrOf result (RunStop.RowsOver table rows most) → (most ≡ limit) × WhereHeld (IsOverIn table rows limit) (each D.told devices.old) }
-    ensures input_fault { IsErrOf result RunStop.InputFault → Rose (I.faults input.old) (I.faults input.new) }
-    ensures output_fault { IsErrOf result RunStop.OutputFault → Rose (O.faults output.old) (O.faults output.new) }
-    ensures disk_fault { IsErrOf result RunStop.DiskFault → OneRose (each D.faults devices.old) (each D.faults devices.new) }
+    ensures no_store { IsErrOf result RunStop.NoStore → HasNoStore (each D.known devices.old) }
+    ensures log_damage { (at : ℕ) (kind : ALogDamage) → IsErrOf result (RunStop.Damaged (InLog at kind)) → HasDamage (InLog at kind) (each D.known devices.old) }
+    ensures slot_damage { (slot : ASlotName) (at : ℕ) (kind : ASlotDamage) → IsErrOf result (RunStop.Damaged (InSlot slot at kind)) → HasDamage (InSlot slot at kind) (each D.known devices.old) }
+    ensures abort { (note : ANote) → IsErrOf result (RunStop.AbortInLog note) → IfImagesKnown (AbortsIn note) (each D.known devices.old) }
+    ensures over { (table : List ℕ) (rows most : ℕ) → IsErrOf result (RunStop.RowsOver table rows most) → (most ≡ limit) × IfImagesKnown (IsOverIn table rows limit) (each D.known devices.old) }
+    ensures input_fault { IsErrOf result RunStop.InputFault → Faulted (I.faults input.old) (I.faults input.new) }
+    ensures output_fault { IsErrOf result RunStop.OutputFault → Faulted (O.faults output.old) (O.faults output.new) }
+    ensures disk_fault { IsErrOf result RunStop.DiskFault → OneFaulted (each D.faults devices.old) (each D.faults devices.new) }
 {
     match open(alloc, batch, limit, devices) {
         Ok(mut engine) => serve(alloc, &mut engine, input, output, devices),

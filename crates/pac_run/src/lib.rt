@@ -9,14 +9,14 @@
 //! What a run is, whatever its answer, is `IsRun` of `specs/Run.antt`. Over the lines that were handled, the requests that
 //! these ask and their session it says
 //!
-//! - (a) that the output is a front of the session's replies, and with Ok all of them;
-//! - (b) what the devices hold at the exit: what they held and nothing is told, or the history with what the session commits,
+//! - (a) that the output is a prefix of the session's replies, and with Ok all of them;
+//! - (b) what the devices hold at the exit: what they held and nothing is reported, or the history with what the session commits,
 //!   and in the log each transaction that was acknowledged;
 //! - (c) what a crash at each moment leaves: what was there, or the same history;
-//! - (d) behind the replies of which groups a run stops that stops before its end;
-//! - (e) that a slot has a checkpoint of at least as many transactions as the output tells that one has.
+//! - (d) after the replies of which groups a run stops that stops before its end;
+//! - (e) that a slot has a checkpoint of at least as many transactions as the output says that one has.
 //!
-//! `specs/Asked.antt` says what the lines of an input ask, `specs/Acked.antt` what an output tells its reader,
+//! `specs/Asked.antt` says what the lines of an input ask, `specs/Acked.antt` what an output says its reader,
 //! `specs/Opening.antt` what an engine is that begins over a store, and `specs/Stopping.antt` where a run stops.
 //! `specs/Serving.antt` says what is kept from one line to the next.
 #![tactic(auto)]

@@ -2,18 +2,18 @@
 ghost use Rattle.std.specs.Prelude.{◌≡◌, ◌≤◌, ℕ, List, IfOk, IsErrOf, OnOk, option_map};
 ghost use Rattle.pac_ops.specs.declared.limits.TheConstants.{MAX_TXNS};
 ghost use Rattle.pac_ops.specs.declared.note.Note.{Note as ANote};
-ghost use Rattle.pac_outside.specs.Devices.{AreSettled, EndsAtOneFault, OneRose, RunsAsBefore, WhereAllTold, each};
-ghost use Rattle.pac_outside.specs.Disk.{WhereTold, after_sync};
+ghost use Rattle.pac_outside.specs.Devices.{AreSettled, EndsAtOneFault, OneFaulted, RunsAsBefore, IfAllKnown, each};
+ghost use Rattle.pac_outside.specs.Disk.{IfKnown, after_sync};
 ghost use Rattle.pac_log.specs.declared.damage.DamageKind.{DamageKind as ALogDamage};
 ghost use Rattle.pac_check.specs.declared.damage.SlotDamageKind.{SlotDamageKind as ASlotDamage};
 ghost use Rattle.pac_check.specs.declared.info.SlotName.{SlotName as ASlotName};
 ghost use Rattle.pac_check.specs.declared.limits.TheConstants.{MAX_SAVED_ROWS};
 ghost use Rattle.pac_check.specs.SlotStates.{IsSlot};
-ghost use Rattle.pac_store.specs.Images.{WhereRead};
+ghost use Rattle.pac_store.specs.Images.{IfReadKnown};
 ghost use Rattle.pac_recover.specs.declared.errors.Damage.TheVariants.{Log as InLog, Slot as InSlot};
 ghost use Rattle.pac_recover.specs.Logs.{HoldsLogUpTo};
 ghost use Rattle.pac_recover.specs.Recovering.{AbortsIn, IsOverIn};
-ghost use Rattle.pac_recover.specs.Refusals.{HasDamage, HasNoStore, WhereHeld};
+ghost use Rattle.pac_recover.specs.Refusals.{HasDamage, HasNoStore, IfImagesKnown};
 ghost use Rattle.pac_engine.specs.Standing.{HasDevices};
 ghost use Rattle.pac_run.specs.Opening.{BeginsOver, IsFresh, IsOpenedFrom};
 
@@ -23,12 +23,12 @@ use pac_outside::{Devices, Disk, Failed};
 use pac_recover::{Loaded, RecoverError, execute, load, test_rows};
 use std::alloc::Global;
 
-// Syncs each device. What each tells is said of it by itself.
+// Syncs each device. What is known of each is said of it by itself.
 fn settle<D: Disk>(devices: &mut Devices<D>) -> Result<(), Failed>
-    ensures log { OnOk result (D.told devices.new.log ≡ option_map after_sync (D.told devices.old.log)) }
-    ensures slot_a { OnOk result (D.told devices.new.slot_a ≡ option_map after_sync (D.told devices.old.slot_a)) }
-    ensures slot_b { OnOk result (D.told devices.new.slot_b ≡ option_map after_sync (D.told devices.old.slot_b)) }
-    ensures moments { WhereAllTold RunsAsBefore (each D.told devices.old) (each D.told devices.new) }
+    ensures log { OnOk result (D.known devices.new.log ≡ option_map after_sync (D.known devices.old.log)) }
+    ensures slot_a { OnOk result (D.known devices.new.slot_a ≡ option_map after_sync (D.known devices.old.slot_a)) }
+    ensures slot_b { OnOk result (D.known devices.new.slot_b ≡ option_map after_sync (D.known devices.old.slot_b)) }
+    ensures moments { IfAllKnown RunsAsBefore (each D.known devices.old) (each D.known devices.new) }
     ensures once { EndsAtOneFault (each D.faults devices.old) (each D.faults devices.new) result }
 {
     devices.log.sync()?;
@@ -46,18 +46,18 @@ fn engine_over<D: Disk>(
     requires some { 1 ≤ batch }
     requires few { batch ≤ MAX_TXNS }
     requires limit { limit ≤ MAX_SAVED_ROWS }
-    ensures opened { IfOk result (λ engine. WhereRead (IsOpenedFrom engine) (D.told devices.old.log) (D.told devices.old.slot_a) (D.told devices.old.slot_b)) }
+    ensures opened { IfOk result (λ engine. IfReadKnown (IsOpenedFrom engine) (D.known devices.old.log) (D.known devices.old.slot_a) (D.known devices.old.slot_b)) }
     ensures fresh { IfOk result (IsFresh batch limit) }
-    ensures log { IfOk result (λ engine. WhereTold (λ old. HoldsLogUpTo engine.log.gate old.now.seen) (D.told devices.old.log)) }
-    ensures slot_a { IfOk result (λ engine. WhereTold (λ old. IsSlot engine.session.catalogue.tables engine.slots.a old.now.seen) (D.told devices.old.slot_a)) }
-    ensures slot_b { IfOk result (λ engine. WhereTold (λ old. IsSlot engine.session.catalogue.tables engine.slots.b old.now.seen) (D.told devices.old.slot_b)) }
-    ensures no_store { IsErrOf result RecoverError.NoStore → HasNoStore (each D.told devices.old) }
-    ensures log_damage { (at : ℕ) (kind : ALogDamage) → IsErrOf result (RecoverError.Damaged (InLog at kind)) → HasDamage (InLog at kind) (each D.told devices.old) }
-    ensures slot_damage { (slot : ASlotName) (at : ℕ) (kind : ASlotDamage) → IsErrOf result (RecoverError.Damaged (InSlot slot at kind)) → HasDamage (InSlot slot at kind) (each D.told devices.old) }
-    ensures abort { (note : ANote) → IsErrOf result (RecoverError.AbortInLog note) → WhereHeld (AbortsIn note) (each D.told devices.old) }
-    ensures over { (table : List ℕ) (rows most : ℕ) → IsErrOf result (RecoverError.RowsOver table rows most) → (most ≡ limit) × WhereHeld (IsOverIn table rows limit) (each D.told devices.old) }
-    ensures same { each D.told devices.new ≡ each D.told devices.old }
-    ensures disk_fault { IsErrOf result RecoverError.DiskFault → OneRose (each D.faults devices.old) (each D.faults devices.new) }
+    ensures log { IfOk result (λ engine. IfKnown (λ old. HoldsLogUpTo engine.log.gate old.now.seen) (D.known devices.old.log)) }
+    ensures slot_a { IfOk result (λ engine. IfKnown (λ old. IsSlot engine.session.catalogue.tables engine.slots.a old.now.seen) (D.known devices.old.slot_a)) }
+    ensures slot_b { IfOk result (λ engine. IfKnown (λ old. IsSlot engine.session.catalogue.tables engine.slots.b old.now.seen) (D.known devices.old.slot_b)) }
+    ensures no_store { IsErrOf result RecoverError.NoStore → HasNoStore (each D.known devices.old) }
+    ensures log_damage { (at : ℕ) (kind : ALogDamage) → IsErrOf result (RecoverError.Damaged (InLog at kind)) → HasDamage (InLog at kind) (each D.known devices.old) }
+    ensures slot_damage { (slot : ASlotName) (at : ℕ) (kind : ASlotDamage) → IsErrOf result (RecoverError.Damaged (InSlot slot at kind)) → HasDamage (InSlot slot at kind) (each D.known devices.old) }
+    ensures abort { (note : ANote) → IsErrOf result (RecoverError.AbortInLog note) → IfImagesKnown (AbortsIn note) (each D.known devices.old) }
+    ensures over { (table : List ℕ) (rows most : ℕ) → IsErrOf result (RecoverError.RowsOver table rows most) → (most ≡ limit) × IfImagesKnown (IsOverIn table rows limit) (each D.known devices.old) }
+    ensures same { each D.known devices.new ≡ each D.known devices.old }
+    ensures disk_fault { IsErrOf result RecoverError.DiskFault → OneFaulted (each D.faults devices.old) (each D.faults devices.new) }
     ensures quiet { ¬ IsErrOf result RecoverError.DiskFault → each D.faults devices.new ≡ each D.faults devices.old }
 {
     let Loaded {
@@ -96,22 +96,22 @@ pub fn open<D: Disk>(
     requires limit { limit ≤ MAX_SAVED_ROWS }
 
     // What is opened, and when each refusal comes.
-    ensures opened { IfOk result (λ engine. WhereRead (IsOpenedFrom engine) (D.told devices.old.log) (D.told devices.old.slot_a) (D.told devices.old.slot_b)) }
+    ensures opened { IfOk result (λ engine. IfReadKnown (IsOpenedFrom engine) (D.known devices.old.log) (D.known devices.old.slot_a) (D.known devices.old.slot_b)) }
     ensures fresh { IfOk result (IsFresh batch limit) }
-    ensures no_store { IsErrOf result RecoverError.NoStore → HasNoStore (each D.told devices.old) }
-    ensures log_damage { (at : ℕ) (kind : ALogDamage) → IsErrOf result (RecoverError.Damaged (InLog at kind)) → HasDamage (InLog at kind) (each D.told devices.old) }
-    ensures slot_damage { (slot : ASlotName) (at : ℕ) (kind : ASlotDamage) → IsErrOf result (RecoverError.Damaged (InSlot slot at kind)) → HasDamage (InSlot slot at kind) (each D.told devices.old) }
-    ensures abort { (note : ANote) → IsErrOf result (RecoverError.AbortInLog note) → WhereHeld (AbortsIn note) (each D.told devices.old) }
-    ensures over { (table : List ℕ) (rows most : ℕ) → IsErrOf result (RecoverError.RowsOver table rows most) → (most ≡ limit) × WhereHeld (IsOverIn table rows limit) (each D.told devices.old) }
+    ensures no_store { IsErrOf result RecoverError.NoStore → HasNoStore (each D.known devices.old) }
+    ensures log_damage { (at : ℕ) (kind : ALogDamage) → IsErrOf result (RecoverError.Damaged (InLog at kind)) → HasDamage (InLog at kind) (each D.known devices.old) }
+    ensures slot_damage { (slot : ASlotName) (at : ℕ) (kind : ASlotDamage) → IsErrOf result (RecoverError.Damaged (InSlot slot at kind)) → HasDamage (InSlot slot at kind) (each D.known devices.old) }
+    ensures abort { (note : ANote) → IsErrOf result (RecoverError.AbortInLog note) → IfImagesKnown (AbortsIn note) (each D.known devices.old) }
+    ensures over { (table : List ℕ) (rows most : ℕ) → IsErrOf result (RecoverError.RowsOver table rows most) → (most ≡ limit) × IfImagesKnown (IsOverIn table rows limit) (each D.known devices.old) }
 
     // The engine stands for what was stored, and at each moment a crash leaves what it might have left at entry.
-    ensures ready { IfOk result (λ engine. HasDevices D.told engine devices.new) }
-    ensures begins { IfOk result (λ engine. WhereAllTold (BeginsOver engine) (each D.told devices.old) (each D.told devices.new)) }
-    ensures moments { WhereAllTold RunsAsBefore (each D.told devices.old) (each D.told devices.new) }
+    ensures ready { IfOk result (λ engine. HasDevices D.known engine devices.new) }
+    ensures begins { IfOk result (λ engine. IfAllKnown (BeginsOver engine) (each D.known devices.old) (each D.known devices.new)) }
+    ensures moments { IfAllKnown RunsAsBefore (each D.known devices.old) (each D.known devices.new) }
 
     // No device is written, and no call of one comes after one that failed.
-    ensures settled { ¬ IsErrOf result RecoverError.DiskFault → WhereAllTold AreSettled (each D.told devices.old) (each D.told devices.new) }
-    ensures disk_fault { IsErrOf result RecoverError.DiskFault → OneRose (each D.faults devices.old) (each D.faults devices.new) }
+    ensures settled { ¬ IsErrOf result RecoverError.DiskFault → IfAllKnown AreSettled (each D.known devices.old) (each D.known devices.new) }
+    ensures disk_fault { IsErrOf result RecoverError.DiskFault → OneFaulted (each D.faults devices.old) (each D.faults devices.new) }
     ensures quiet { ¬ IsErrOf result RecoverError.DiskFault → each D.faults devices.new ≡ each D.faults devices.old }
 {
     match settle(devices) {

@@ -1,9 +1,9 @@
 // Request lines served one after another.
 ghost use Rattle.std.specs.Prelude.{◌≡◌, ◌≤◌, ◌∷◌, ℕ, List, [], Bool, false, true, IfOk, OnOk, OnErr, IsErrOf};
 ghost use Rattle.std.specs.List.{AllByRecursion};
-ghost use Rattle.pac_outside.specs.Causes.{Rose};
+ghost use Rattle.pac_outside.specs.Causes.{Faulted};
 ghost use Rattle.pac_outside.specs.Content.{Took};
-ghost use Rattle.pac_outside.specs.Devices.{OneRose, each};
+ghost use Rattle.pac_outside.specs.Devices.{OneFaulted, each};
 ghost use Rattle.pac_request.specs.declared.request.Request.{Request as ARequest};
 ghost use Rattle.pac_request.specs.RequestFits.{AskedFits, RequestFits};
 ghost use Rattle.pac_engine.specs.Closing.{is_stop};
@@ -14,7 +14,7 @@ ghost use Rattle.pac_run.specs.Texts.{IsPlain, SaysUnlessFault, texts};
 ghost use Rattle.pac_run.specs.declared.stop.RunStop.{RunStop as AStop};
 
 use crate::limits::MAX_INPUT;
-use crate::stop::{RunStop, not_answered, not_read};
+use crate::stop::{RunStop, stop_of_engine, stop_of_read};
 use crate::text::reply_texts;
 use pac_base::{Exact, NoMemory, Refusal};
 use pac_engine::Engine;
@@ -27,9 +27,9 @@ use std::alloc::Global;
 // Writes a text.
 fn write<O: Sink>(output: &mut O, text: &[u8]) -> Result<(), RunStop>
     ensures ok { OnOk result (Took (O.held output.old) text.now (O.held output.new)) }
-    ensures says { SaysUnlessFault (O.held output.old) text.now (O.held output.new) (Rose (O.faults output.old) (O.faults output.new)) }
+    ensures says { SaysUnlessFault (O.held output.old) text.now (O.held output.new) (Faulted (O.faults output.old) (O.faults output.new)) }
     ensures only { OnErr result (IsErrOf result RunStop.OutputFault) }
-    ensures cause { OnErr result (Rose (O.faults output.old) (O.faults output.new)) }
+    ensures cause { OnErr result (Faulted (O.faults output.old) (O.faults output.new)) }
     ensures later { O.faults output.old ≤ O.faults output.new }
 {
     match write_all(output, text) {
@@ -38,8 +38,12 @@ fn write<O: Sink>(output: &mut O, text: &[u8]) -> Result<(), RunStop>
     }
 }
 
-// What a line asks, if it asks anything. A line that is refused is a request to tell so.
-fn asked_by(alloc: Global, catalogue: &Catalogue, line: &[u8]) -> Result<Option<Request>, NoMemory>
+// What a line asks, if it asks anything. A line that is refused is a request to report that.
+fn request_of(
+    alloc: Global,
+    catalogue: &Catalogue,
+    line: &[u8],
+) -> Result<Option<Request>, NoMemory>
     ensures asks { IfOk result (λ asked. LineAsks catalogue.now line.now (listed_asked asked)) }
     ensures fits { IfOk result (AskedFits catalogue.now) }
 {
@@ -69,14 +73,14 @@ fn answer<O: Sink, D: Disk>(
     requires same { catalogue.now ≡ engine.old.session.catalogue }
     requires fits { RequestFits catalogue.now asked }
     requires goes_on { engine.old.ended ≡ false }
-    requires ready { HasDevices D.told engine.old devices.old }
-    ensures ok { OnOk result (Replied catalogue.now (asked ∷ []) engine.old engine.new (O.held output.old) (O.held output.new) (each D.told devices.old) (each D.told devices.new)) }
-    ensures err { (stop : AStop) → IsErrOf result stop → Broke catalogue.now asked engine.old engine.new (O.held output.old) (O.held output.new) (each D.told devices.old) (each D.told devices.new) (Rose (O.faults output.old) (O.faults output.new)) stop }
+    requires ready { HasDevices D.known engine.old devices.old }
+    ensures ok { OnOk result (Replied catalogue.now (asked ∷ []) engine.old engine.new (O.held output.old) (O.held output.new) (each D.known devices.old) (each D.known devices.new)) }
+    ensures err { (stop : AStop) → IsErrOf result stop → Broke catalogue.now asked engine.old engine.new (O.held output.old) (O.held output.new) (each D.known devices.old) (each D.known devices.new) (Faulted (O.faults output.old) (O.faults output.new)) stop }
     ensures stopped { OnOk result (engine.new.ended ≡ is_stop asked) }
-    ensures ready { OnOk result (HasDevices D.told engine.new devices.new) }
+    ensures ready { OnOk result (HasDevices D.known engine.new devices.new) }
     ensures later { O.faults output.old ≤ O.faults output.new }
-    ensures output_fault { IsErrOf result RunStop.OutputFault → Rose (O.faults output.old) (O.faults output.new) }
-    ensures disk_fault { IsErrOf result RunStop.DiskFault → OneRose (each D.faults devices.old) (each D.faults devices.new) }
+    ensures output_fault { IsErrOf result RunStop.OutputFault → Faulted (O.faults output.old) (O.faults output.new) }
+    ensures disk_fault { IsErrOf result RunStop.DiskFault → OneFaulted (each D.faults devices.old) (each D.faults devices.new) }
     ensures quiet { OnOk result (each D.faults devices.new ≡ each D.faults devices.old) }
 {
     match engine.step(asked, devices) {
@@ -87,7 +91,7 @@ fn answer<O: Sink, D: Disk>(
         Err(fault) => {
             let text = reply_texts(alloc, catalogue, fault.replies.items())?;
             let _ = write(output, &text);
-            Err(not_answered(fault.cause))
+            Err(stop_of_engine(fault.cause))
         }
     }
 }
@@ -103,17 +107,17 @@ fn serve_line<O: Sink, D: Disk>(
 ) -> Result<bool, RunStop>
     requires same { catalogue.now ≡ engine.old.session.catalogue }
     requires goes_on { engine.old.ended ≡ false }
-    requires ready { HasDevices D.told engine.old devices.old }
-    ensures ok { IfOk result (λ stops. LineServed catalogue.now line.now stops engine.old engine.new (O.held output.old) (O.held output.new) (each D.told devices.old) (each D.told devices.new)) }
-    ensures err { (stop : AStop) → IsErrOf result stop → LineBroke catalogue.now line.now engine.old engine.new (O.held output.old) (O.held output.new) (each D.told devices.old) (each D.told devices.new) (Rose (O.faults output.old) (O.faults output.new)) stop }
+    requires ready { HasDevices D.known engine.old devices.old }
+    ensures ok { IfOk result (λ stops. LineServed catalogue.now line.now stops engine.old engine.new (O.held output.old) (O.held output.new) (each D.known devices.old) (each D.known devices.new)) }
+    ensures err { (stop : AStop) → IsErrOf result stop → LineBroke catalogue.now line.now engine.old engine.new (O.held output.old) (O.held output.new) (each D.known devices.old) (each D.known devices.new) (Faulted (O.faults output.old) (O.faults output.new)) stop }
     ensures stopped { IfOk result (λ stops. engine.new.ended ≡ stops) }
-    ensures ready { OnOk result (HasDevices D.told engine.new devices.new) }
+    ensures ready { OnOk result (HasDevices D.known engine.new devices.new) }
     ensures later { O.faults output.old ≤ O.faults output.new }
-    ensures output_fault { IsErrOf result RunStop.OutputFault → Rose (O.faults output.old) (O.faults output.new) }
-    ensures disk_fault { IsErrOf result RunStop.DiskFault → OneRose (each D.faults devices.old) (each D.faults devices.new) }
+    ensures output_fault { IsErrOf result RunStop.OutputFault → Faulted (O.faults output.old) (O.faults output.new) }
+    ensures disk_fault { IsErrOf result RunStop.DiskFault → OneFaulted (each D.faults devices.old) (each D.faults devices.new) }
     ensures quiet { OnOk result (each D.faults devices.new ≡ each D.faults devices.old) }
 {
-    let Some(asked) = asked_by(alloc, catalogue, line)? else {
+    let Some(asked) = request_of(alloc, catalogue, line)? else {
         return Ok(false);
     };
     let stops = is_stop(&asked);
@@ -134,11 +138,11 @@ fn serve_lines<I: Source, O: Sink, D: Disk>(
     requires none { engine.old.session.txns ≡ [] }
     requires held { engine.old.session.held ≡ [] }
     requires goes_on { engine.old.ended ≡ false }
-    requires ready { HasDevices D.told engine.old devices.old }
-    ensures served { Served engine.old engine.new (I.left input.old) (I.left input.new) (O.held output.old) (O.held output.new) (each D.told devices.old) (each D.told devices.new) (Rose (O.faults output.old) (O.faults output.new)) result }
-    ensures input_fault { IsErrOf result RunStop.InputFault → Rose (I.faults input.old) (I.faults input.new) }
-    ensures output_fault { IsErrOf result RunStop.OutputFault → Rose (O.faults output.old) (O.faults output.new) }
-    ensures disk_fault { IsErrOf result RunStop.DiskFault → OneRose (each D.faults devices.old) (each D.faults devices.new) }
+    requires ready { HasDevices D.known engine.old devices.old }
+    ensures served { Served engine.old engine.new (I.left input.old) (I.left input.new) (O.held output.old) (O.held output.new) (each D.known devices.old) (each D.known devices.new) (Faulted (O.faults output.old) (O.faults output.new)) result }
+    ensures input_fault { IsErrOf result RunStop.InputFault → Faulted (I.faults input.old) (I.faults input.new) }
+    ensures output_fault { IsErrOf result RunStop.OutputFault → Faulted (O.faults output.old) (O.faults output.new) }
+    ensures disk_fault { IsErrOf result RunStop.DiskFault → OneFaulted (each D.faults devices.old) (each D.faults devices.new) }
 {
     let mut reader = LineReader::new(alloc, MAX_INPUT);
     loop {
@@ -147,7 +151,7 @@ fn serve_lines<I: Source, O: Sink, D: Disk>(
             Ok(false) => {
                 return answer(alloc, catalogue, engine, Request::Stop, output, devices);
             }
-            Err(error) => return Err(not_read(error)),
+            Err(error) => return Err(stop_of_read(error)),
         }
         if serve_line(alloc, catalogue, engine, reader.line(), output, devices)? {
             return Ok(());
@@ -163,7 +167,7 @@ fn serve_lines<I: Source, O: Sink, D: Disk>(
 /// - [`RunStop::InputFault`] and [`RunStop::OutputFault`] only where the count of faults of the input or of the output rose.
 /// - [`RunStop::DiskFault`], [`RunStop::LogFull`] and [`RunStop::TooLarge`] where a step of the engine answers them. The
 ///   replies that became durable before are written then.
-/// - [`RunStop::TooLong`] exactly where the input has a byte more than [`MAX_INPUT`], and no stop in front of it.
+/// - [`RunStop::TooLong`] exactly where the input has a byte more than [`MAX_INPUT`], and no stop before it.
 /// - [`RunStop::NoMemory`] where there was no memory.
 pub fn serve<I: Source, O: Sink, D: Disk>(
     alloc: Global,
@@ -175,11 +179,11 @@ pub fn serve<I: Source, O: Sink, D: Disk>(
     requires none { engine.old.session.txns ≡ [] }
     requires held { engine.old.session.held ≡ [] }
     requires goes_on { engine.old.ended ≡ false }
-    requires ready { HasDevices D.told engine.old devices.old }
-    ensures served { Served engine.old engine.new (I.left input.old) (I.left input.new) (O.held output.old) (O.held output.new) (each D.told devices.old) (each D.told devices.new) (Rose (O.faults output.old) (O.faults output.new)) result }
-    ensures input_fault { IsErrOf result RunStop.InputFault → Rose (I.faults input.old) (I.faults input.new) }
-    ensures output_fault { IsErrOf result RunStop.OutputFault → Rose (O.faults output.old) (O.faults output.new) }
-    ensures disk_fault { IsErrOf result RunStop.DiskFault → OneRose (each D.faults devices.old) (each D.faults devices.new) }
+    requires ready { HasDevices D.known engine.old devices.old }
+    ensures served { Served engine.old engine.new (I.left input.old) (I.left input.new) (O.held output.old) (O.held output.new) (each D.known devices.old) (each D.known devices.new) (Faulted (O.faults output.old) (O.faults output.new)) result }
+    ensures input_fault { IsErrOf result RunStop.InputFault → Faulted (I.faults input.old) (I.faults input.new) }
+    ensures output_fault { IsErrOf result RunStop.OutputFault → Faulted (O.faults output.old) (O.faults output.new) }
+    ensures disk_fault { IsErrOf result RunStop.DiskFault → OneFaulted (each D.faults devices.old) (each D.faults devices.new) }
 {
     let catalogue = engine.catalogue().copy(alloc)?;
     serve_lines(alloc, &catalogue, engine, input, output, devices)

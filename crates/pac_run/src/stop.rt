@@ -1,8 +1,8 @@
 // Why a run stops before its end.
 ghost use Rattle.std.specs.Prelude.{◌≡◌};
 ghost use Rattle.pac_engine.specs.declared.fault.EngineCause.TheVariants.{Ended};
-ghost use Rattle.pac_run.specs.Causes.{not_answered, not_opened, not_read};
-ghost use Rattle.pac_run.specs.declared.stop.RunStop.TheVariants.{NoMemory as WantOfMemory};
+ghost use Rattle.pac_run.specs.Causes.{stop_of_engine, stop_of_opening, stop_of_read};
+ghost use Rattle.pac_run.specs.declared.stop.RunStop.TheVariants.{NoMemory as OutOfMemory};
 
 use pac_base::NoMemory;
 use pac_engine::EngineCause;
@@ -39,19 +39,19 @@ pub enum RunStop {
     /// An allocation was refused.
     #[error("out of memory")]
     NoMemory,
-    /// The log would have so many bytes.
+    /// The log would have that many bytes.
     #[error("the log would have {need} bytes")]
     LogFull { need: u64 },
     /// The input has a byte more than a run handles.
     #[error("the input is too long")]
     TooLong,
-    /// A checkpoint's slot would have so many bytes.
+    /// A checkpoint's slot would have that many bytes.
     #[error("the slot would have {bytes} bytes")]
     TooLarge { bytes: u64 },
 }
 
 impl From<NoMemory> for RunStop {
-    ghost from_gives = { λ _ stop. stop ≡ WantOfMemory };
+    ghost from_gives = { λ _ stop. stop ≡ OutOfMemory };
 
     fn from(_: NoMemory) -> Self {
         RunStop::NoMemory
@@ -60,7 +60,7 @@ impl From<NoMemory> for RunStop {
 
 // The store isn't opened.
 impl From<RecoverError> for RunStop {
-    ghost from_gives = { λ error stop. stop ≡ not_opened error };
+    ghost from_gives = { λ error stop. stop ≡ stop_of_opening error };
 
     fn from(error: RecoverError) -> Self {
         match error {
@@ -77,8 +77,8 @@ impl From<RecoverError> for RunStop {
 }
 
 /// The next line isn't read.
-pub(crate) fn not_read(error: LineError) -> RunStop
-    ensures { result ≡ not_read error }
+pub(crate) fn stop_of_read(error: LineError) -> RunStop
+    ensures { result ≡ stop_of_read error }
 {
     match error {
         LineError::Failed => RunStop::InputFault,
@@ -88,9 +88,9 @@ pub(crate) fn not_read(error: LineError) -> RunStop
 }
 
 /// A request isn't answered by an engine that goes on.
-pub(crate) fn not_answered(cause: EngineCause) -> RunStop
+pub(crate) fn stop_of_engine(cause: EngineCause) -> RunStop
     requires { ¬ (cause ≡ Ended) }
-    ensures { result ≡ not_answered cause }
+    ensures { result ≡ stop_of_engine cause }
 {
     match cause {
         EngineCause::DiskFault => RunStop::DiskFault,

@@ -63,7 +63,7 @@ fn plain_row(row: &Option<Row>)
     }
 }
 
-// A place has 64 bits. This does nothing.
+// An offset has 64 bits. This does nothing.
 fn plain_place(at: usize)
     ensures { at < 2 ^ 64 }
 {

@@ -9,7 +9,7 @@ use std::sync::Wait;
 use std::test::Fail;
 use std::thread::Threads;
 
-// A store of a text, behind a run of these lines with these replies.
+// A store of a text, after a run of these lines with these replies.
 fn run_of<RT: Threads + Wait + Sync>(
     rt: &RT,
     alloc: Global,
@@ -76,7 +76,7 @@ fn a_cut_log_counts_up_to_its_gate(rt: HostRuntime) -> Result<(), Fail> {
     Ok(())
 }
 
-// The place and its byte, and how a recovery ends. With the gate at 0 shut, the slot is none.
+// The offset and its byte, and how a recovery ends. With the gate at 0 shut, the slot is none.
 const PLACES: &[(usize, u8, End)] = &[
     (0, 1, (0, ONE_ROW, "")),
     (0, 7, (0, ONE_ROW, "")),
@@ -109,7 +109,7 @@ const ABORTED: &[StoreStep] = &[
     ("run", "", (4, "", "abort 2 2 Overflow\n")),
 ];
 
-// The log of one store and the slot of another: behind the slot's transaction the log has one that aborts without it.
+// The log of one store and the slot of another: after the slot's transaction the log has one that aborts without it.
 #[test]
 fn transactions_of_a_slot_are_not_executed(rt: HostRuntime) -> Result<(), Fail> {
     let alloc = rt.alloc();

@@ -1,4 +1,4 @@
-// Runs of the database over stores in memory, and what is recovered behind them.
+// Runs of the database over stores in memory, and what is recovered after them.
 use pac_outside::{Devices, MemDisk};
 use pac_testing::{
     ADD, BANK, BANK_DUMP, LOG, NO_ROW, ONE_ROW, ONE_TABLE, SHUT, SLOT, StoreStep, USAGE, changed,
@@ -33,7 +33,7 @@ fn goes_new<RT: Threads + Wait + Sync>(
     steps: &[(&str, &str, (u8, &str, &str))],
 ) -> Result<Devices<MemDisk>, Fail> {
     let store = store_of(rt, alloc, ONE_TABLE)?;
-    behind(rt, alloc, store, steps)
+    after(rt, alloc, store, steps)
 }
 
 // What they leave of a store of these bytes, if they end so.
@@ -44,11 +44,11 @@ fn goes_from<RT: Threads + Wait + Sync>(
     steps: &[(&str, &str, (u8, &str, &str))],
 ) -> Result<Devices<MemDisk>, Fail> {
     let store = devices(alloc, bytes)?;
-    behind(rt, alloc, store, steps)
+    after(rt, alloc, store, steps)
 }
 
 // What they leave of a store, if they end so.
-fn behind<RT: Threads + Wait + Sync>(
+fn after<RT: Threads + Wait + Sync>(
     rt: &RT,
     alloc: Global,
     mut store: Devices<MemDisk>,
@@ -119,7 +119,7 @@ const STOPS: &[(&str, &str, &str)] = &[
     ("", "", NO_ROW),
 ];
 
-// The end of the input is a stop, and its last line needs no line feed; behind a stop nothing is looked at.
+// The end of the input is a stop, and its last line needs no line feed; after a stop nothing is looked at.
 #[test]
 fn a_run_ends_at_a_stop(rt: HostRuntime) -> Result<(), Fail> {
     let alloc = rt.alloc();
@@ -130,12 +130,12 @@ fn a_run_ends_at_a_stop(rt: HostRuntime) -> Result<(), Fail> {
     Ok(())
 }
 
-// A deposit so many times, and a line behind that.
-fn push_deposits(lines: &mut String, count: usize, behind: &str) -> Result<(), Fail> {
+// A deposit that many times, and a line after that.
+fn push_deposits(lines: &mut String, count: usize, after: &str) -> Result<(), Fail> {
     for _ in 0..count {
         lines.push_str("call Deposit(1, 1, 7)\n")?;
     }
-    lines.push_str(behind)?;
+    lines.push_str(after)?;
     Ok(())
 }
 
@@ -179,7 +179,7 @@ fn a_commit_writes_these_bytes(rt: HostRuntime) -> Result<(), Fail> {
     let mut store = goes_new(&rt, alloc, FIRST)?;
     assert!(rt; hold(&store, [LOG, SHUT, SHUT])?);
     assert!(rt; goes(&rt, alloc, &mut store, FULL)?);
-    // A gate that is no 1 is shut: the batch behind it is written over.
+    // A gate that is no 1 is shut: the batch after it is written over.
     let log = changed(alloc, LOG, 36, 7, 70)?;
     goes_from(&rt, alloc, [&log, SHUT, SHUT], OVER)?;
     Ok(())
@@ -251,7 +251,7 @@ fn a_store_that_cannot_be_read_is_not_run(rt: HostRuntime) -> Result<(), Fail> {
     Ok(())
 }
 
-// What an open group holds is dropped, and nothing of it was told.
+// What an open group holds is dropped, and nothing of it was reported.
 #[test]
 fn an_input_that_fails_drops_the_open_group(rt: HostRuntime) -> Result<(), Fail> {
     let alloc = rt.alloc();
@@ -281,7 +281,7 @@ const LENGTHS: &[(usize, (u8, &str, &str), &str)] = &[
     ),
 ];
 
-// These lines, and one of blanks behind them.
+// These lines, and one of blanks after them.
 #[test]
 fn an_input_that_is_too_long_drops_the_open_group(rt: HostRuntime) -> Result<(), Fail> {
     let alloc = rt.alloc();

@@ -62,7 +62,7 @@ fn the_canonical_text_comes_first_where_it_is_wanted(rt: HostRuntime) -> Result<
     let alloc = rt.alloc();
     let input = BANK.as_bytes().to_vec(alloc)?;
     let answer = run_apart(&rt, alloc, "explain --text", input, [0, 0])?;
-    assert!(rt; answer.tells(0, ""));
+    assert!(rt; answer.knows(0, ""));
     assert!(rt; answer.writes(&joined(alloc, BANK, BANK_GRAPH)?));
     Ok(())
 }
@@ -78,7 +78,7 @@ const FAULTS: &[(&str, [u64; 2], u8, &str)] = &[
 ];
 
 #[test]
-fn other_words_and_faults_are_told(rt: HostRuntime) -> Result<(), Fail> {
+fn other_words_and_faults_are_known(rt: HostRuntime) -> Result<(), Fail> {
     let alloc = rt.alloc();
     for row in FAULTS {
         let text = BANK.as_bytes().to_vec(alloc)?;

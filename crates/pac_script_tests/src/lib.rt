@@ -1,4 +1,4 @@
-//! Tests of `replay`, `explain` and the words of the command line, by the top call over streams in memory. It has no calls of
+//! Tests of `replay`, `explain` and the arguments of the command line, by the top call over streams in memory. It has no calls of
 //! its own.
 //!
 //! They stand here and not beside what they test, so that it is proved once.

@@ -2,7 +2,7 @@
 use pac_testing::{ends_apart, of_operations};
 use std::test::Fail;
 
-// The word, how many blanks and what stands behind them; the status and the line.
+// The word, how many blanks and what stands after them; the status and the line.
 const LENGTHS: &[(&str, usize, &str, u8, &str)] = &[
     ("replay", 65_535, "?", 2, "catalogue 65535 Token\n"),
     ("replay", 65_536, "?", 2, "catalogue 65536 TooLong\n"),
@@ -22,7 +22,7 @@ fn a_longer_catalogue_is_refused_by_its_length(rt: HostRuntime) -> Result<(), Fa
     Ok(())
 }
 
-// The word, and what stands behind the catalogue. A line that is no request isn't looked at.
+// The word, and what stands after the catalogue. A line that is no request isn't looked at.
 const BEHIND: &[(&str, &str)] = &[("replay", "\n---\nno call\n"), ("explain", "")];
 
 #[test]

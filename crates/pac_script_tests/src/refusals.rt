@@ -2,11 +2,11 @@
 use pac_testing::{ADD_SCRIPT as ADD, BANK, BANK_DUMP, ends_apart, joined};
 use std::test::Fail;
 
-// The catalogue with the mark, the lines behind it; the status, and the line of the error sink.
+// The catalogue with the mark, the lines after it; the status, and the line of the error sink.
 type Row = (&'static str, &'static str, u8, &'static str);
 
 const ROWS: &[Row] = &[
-    // Of a line, its number from 1 on, the place in it, and the kind.
+    // Of a line, its number from 1 on, the offset in it, and the kind.
     (ADD, "call Nobody(1)", 2, "script 1 5 UnknownName\n"),
     (ADD, "call Add(1)", 2, "script 1 5 WrongCount\n"),
     (ADD, "call Add(1, 2", 2, "script 1 13 Expected\n"),
@@ -118,7 +118,7 @@ const ROWS: &[Row] = &[
 ];
 
 #[test]
-fn the_first_fault_or_abort_is_told(rt: HostRuntime) -> Result<(), Fail> {
+fn the_first_fault_or_abort_is_known(rt: HostRuntime) -> Result<(), Fail> {
     let alloc = rt.alloc();
     for row in ROWS {
         let script = joined(alloc, row.0, row.1)?;
@@ -131,7 +131,7 @@ fn the_first_fault_or_abort_is_told(rt: HostRuntime) -> Result<(), Fail> {
 const DEPOSITED: &str =
     "---\nadhoc put Family[1] = (2)\ncall Deposit(1, 10500, 7)\ncall Transfer(1, 500)";
 
-// The words, the catalogue with the mark, the lines behind it; the status, the output and the line of the error sink.
+// The words, the catalogue with the mark, the lines after it; the status, the output and the line of the error sink.
 type Limited = (
     &'static str,
     &'static str,
@@ -151,7 +151,7 @@ const LIMITED: &[Limited] = &[
         "rows Current 2 1\n",
     ),
     ("replay --rows=2", BANK, DEPOSITED, 0, BANK_DUMP, ""),
-    // The first table over the limit is told.
+    // The first table over the limit is reported.
     (
         "replay --rows=2",
         "table A(key int, v int); table B(key int, v int); table C(key int, v int);\n---\n",

@@ -3,7 +3,7 @@ use pac_testing::{ADD_SCRIPT as ADD, BANK, ends_apart, joined, run_apart};
 use std::alloc::Global;
 use std::test::Fail;
 
-// The catalogue with the mark, the lines behind it, and the dump.
+// The catalogue with the mark, the lines after it, and the dump.
 type Row = (&'static str, &'static str, &'static str);
 
 const ROWS: &[Row] = &[
@@ -152,17 +152,17 @@ fn calls_of_many(alloc: Global) -> Result<(Vec<u8>, Vec<u8>), Fail> {
     Ok((script, rows))
 }
 
-// Puts a number between two texts behind a text.
+// Puts a number between two texts after a text.
 fn push_number(
     alloc: Global,
     text: &mut Vec<u8>,
-    front: &[u8],
+    prefix: &[u8],
     number: u32,
-    behind: &[u8],
+    after: &[u8],
 ) -> Result<(), Fail> {
-    text.extend_from_slice(front)?;
+    text.extend_from_slice(prefix)?;
     text.extend_from_slice(number.to_string(alloc)?.as_bytes())?;
-    text.extend_from_slice(behind)?;
+    text.extend_from_slice(after)?;
     Ok(())
 }
 

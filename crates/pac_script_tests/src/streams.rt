@@ -16,7 +16,7 @@ const FAULTS: &[(&str, [u64; 2], u8, &str)] = &[
 ];
 
 #[test]
-fn faults_of_streams_are_told(rt: HostRuntime) -> Result<(), Fail> {
+fn faults_of_streams_are_known(rt: HostRuntime) -> Result<(), Fail> {
     let alloc = rt.alloc();
     for row in FAULTS {
         let script = joined(alloc, ADD_SCRIPT, "call Add(1, 5)")?;
@@ -50,7 +50,7 @@ impl OneByte {
     }
 }
 
-// Whether the word ends with this status and output and this front of its line, over sinks of one byte a call. This read of
+// Whether the word ends with this status and output and this prefix of its line, over sinks of one byte a call. This read of
 // the input and this write of the error sink fail.
 fn writes_so<RT: Threads + Wait + Sync>(
     rt: &RT,
@@ -79,7 +79,7 @@ fn writes_so<RT: Threads + Wait + Sync>(
     )
 }
 
-// The lines behind the catalogue; the status, the output and the line.
+// The lines after the catalogue; the status, the output and the line.
 const WRITTEN: &[(&str, u8, &str, &str)] = &[
     ("call Add(1, 5)", 0, "table T 1\n1 (5)\n", ""),
     (

@@ -11,8 +11,8 @@ use Rattle.pac_value.specs.State.{Cell, cell_cmp, RowValues, Tables, with_row, k
 use Rattle.pac_value.proofs.CellLemmas.{cells_total, cells_antisymmetric, tied_same, same-cell, get-with_row}
 use Rattle.pac_tables.proofs.WriteLemmas.{remove-absent}
 use Rattle.pac_serial.specs.declared.pending.Pending.{Pending}
-use Rattle.pac_serial.specs.Drafts.{Change, Changes, laid, drafted, KnowsTables, gains, loses, gained, lost}
-use Rattle.pac_serial.proofs.DraftLemmas.{row_or, get-laid}
+use Rattle.pac_serial.specs.WriteSets.{Change, Changes, laid, written, KnowsTables, gains, loses, gained, lost}
+use Rattle.pac_serial.proofs.WriteSetLemmas.{row_or, get-laid}
 
 module _ (x : ℕ) where
   -- how many entries are of the table
@@ -125,24 +125,24 @@ below-none k [] h = refl
 below-none k (c ∷ cs) h =
     ap (λ b. cond b (Some c.1) (find cell_cmp k cs)) (less_no_tie (cell_cmp k c.0) (first _ _ h)) ∙ below-none k cs (second _ _ h)
 
--- a change in front is the one at its cell, and those behind it stay where they are
+-- a change at the start is the one at its cell, and those after it stay where they are
 module _ (c : Change) (cs : List Change) where
   pub find-first : find cell_cmp c.0 (c ∷ cs) ≡ Some c.1
   find-first = ap (λ b. cond b (Some c.1) (find cell_cmp c.0 cs)) (same-cell c.0)
 
   module _ (sorted : T (is_sorted cell_cmp (c ∷ cs))) where
-    pub sorted-behind : T (is_sorted cell_cmp cs)
-    sorted-behind = second _ _ sorted
+    pub sorted-after : T (is_sorted cell_cmp cs)
+    sorted-after = second _ _ sorted
 
-    pub none-behind : find cell_cmp c.0 cs ≡ None
-    none-behind = below-none c.0 cs (first _ _ sorted)
+    pub none-after : find cell_cmp c.0 cs ≡ None
+    none-after = below-none c.0 cs (first _ _ sorted)
 
-    pub find-behind : (q : Cell) (pending : Pending) → find cell_cmp q cs ≡ Some pending → find cell_cmp q (c ∷ cs) ≡ Some pending
-    find-behind q pending found = ap (λ b. cond b (Some c.1) (find cell_cmp q cs)) (other (eq_by_cmp cell_cmp q c.0) refl) ∙ found
+    pub find-after : (q : Cell) (pending : Pending) → find cell_cmp q cs ≡ Some pending → find cell_cmp q (c ∷ cs) ≡ Some pending
+    find-after q pending found = ap (λ b. cond b (Some c.1) (find cell_cmp q cs)) (other (eq_by_cmp cell_cmp q c.0) refl) ∙ found
       where
         other : (b : Bool) → eq_by_cmp cell_cmp q c.0 ≡ b → eq_by_cmp cell_cmp q c.0 ≡ false
         other true e =
-            let none : ◌≡◌ {A = Option Pending} None (Some pending) = sym none-behind ∙ ap (λ p. find cell_cmp p cs) (sym (tied_same q c.0 e)) ∙ found in
+            let none : ◌≡◌ {A = Option Pending} None (Some pending) = sym none-after ∙ ap (λ p. find cell_cmp p cs) (sym (tied_same q c.0 e)) ∙ found in
             let no_way : ⊥ = cc in
             absurd no_way
         other false e = e
@@ -157,11 +157,11 @@ module _ (x : ℕ) (t : Tables) where
   balanced [] sorted known = refl
   balanced (c ∷ cs) sorted known =
       let here : c.1.stands ≡ is_some (get t c.0) = known c.0 c.1 (find-first c cs) in
-      let still : c.1.stands ≡ is_some (get (laid t cs) c.0) = here ∙ sym (ap is_some (get-laid t cs c.0 ∙ ap (λ (o : Option Pending). row_or o (get t c.0)) (none-behind c cs sorted))) in
-      omega (arith, change-count x (laid t cs) c.0 c.1.row (c.0.0 == x) c.1.stands refl still, balanced cs (sorted-behind c cs sorted) (λ q pending found. known q pending (find-behind c cs sorted q pending found)))
+      let still : c.1.stands ≡ is_some (get (laid t cs) c.0) = here ∙ sym (ap is_some (get-laid t cs c.0 ∙ ap (λ (o : Option Pending). row_or o (get t c.0)) (none-after c cs sorted))) in
+      omega (arith, change-count x (laid t cs) c.0 c.1.row (c.0.0 == x) c.1.stands refl still, balanced cs (sorted-after c cs sorted) (λ q pending found. known q pending (find-after c cs sorted q pending found)))
 
 -- a table's rows as a transaction sees them
-pub seen-count : (n : ℕ) (x : ℕ) (t : Tables) (cs : Changes) → KnowsTables n t cs → length (keys_of (drafted t cs) x) + lost x (entries cs) ≡ length (keys_of t x) + gained x (entries cs)
+pub seen-count : (n : ℕ) (x : ℕ) (t : Tables) (cs : Changes) → KnowsTables n t cs → length (keys_of (written t cs) x) + lost x (entries cs) ≡ length (keys_of t x) + gained x (entries cs)
 unfolding AreKnown
 seen-count n x t cs knows = balanced x t (entries cs) (entries_sorted cs) (λ q pending found. (knows q pending (get-entries cs q ∙ found)).1)
 

@@ -18,10 +18,10 @@ use Rattle.pac_serial.specs.declared.operation.Halt.{Halt}
 use Rattle.pac_serial.specs.declared.operation.Halt.TheVariants.{Abort, NoMemory}
 use Rattle.pac_serial.specs.declared.execute.ExecError.{ExecError}
 use Rattle.pac_serial.specs.declared.execute.ExecError.TheVariants.{Abort as AbortAt}
-use Rattle.pac_serial.specs.Drafts.{Changes, drafted}
+use Rattle.pac_serial.specs.WriteSets.{Changes, written}
 use Rattle.pac_serial.specs.Outcomes.{Executes, RunsFrom, error_of, limited}
 use Rattle.pac_serial.specs.Transactions.{RunsOver}
-use Rattle.pac_serial.proofs.DraftLemmas.{seen-none, knows-none}
+use Rattle.pac_serial.proofs.WriteSetLemmas.{seen-none, knows-none}
 
 -- the procedure that a call names, and its arguments
 pub at-call : (procs : List Proc) (n : ℕ) (args : List Value) (i : ℕ) (proc : Proc) → FitsCall procs n args → i ≡ n → proc ≡ get_or procs i proc → (slice_get procs n ≡ Some proc) × FitParams proc.params args
@@ -34,7 +34,7 @@ at-call procs n args i proc fits same is = go (slice_get procs n) refl fits
         let one : p ≡ proc = let both : Some p ≡ Some proc = sym e ∙ found in cc in
         (found, subst (λ (q : Proc). FitParams q.params args) one h)
 
--- which is sound
+-- which is well-formed
 pub is-proc : (tables : List Table) (procs : List Proc) (n : ℕ) (proc : Proc) → slice_get procs n ≡ Some proc → All (IsProc tables) procs → IsProc tables proc
 is-proc tables procs n proc found all =
     let within : n < length procs = slice_get_within procs n proc found in
@@ -42,32 +42,32 @@ is-proc tables procs n proc found all =
     subst (λ (p : Proc). IsProc tables p) same (all n proc within)
 
 -- where it begins, it has changed nothing
-pub runs-begun : (tables : List Table) (n : ℕ) (held : Tables) (draft : Changes) → n ≡ length tables → FitTables tables held → draft ≡ empty → RunsOver tables n held draft
-runs-begun tables n held draft count fits begun = subst (λ (d : Changes). RunsOver tables n held d) (sym begun) (record {
+pub runs-begun : (tables : List Table) (n : ℕ) (held : Tables) (write_set : Changes) → n ≡ length tables → FitTables tables held → write_set ≡ empty → RunsOver tables n held write_set
+runs-begun tables n held write_set count fits begun = subst (λ (d : Changes). RunsOver tables n held d) (sym begun) (record {
   count = count;
   knows = knows-none n held;
   fits = subst (λ (t : Tables). FitTables tables t) (sym (seen-none held)) fits;
 })
 
 -- what a call means is what its statements mean from there
-pub called-is : (procs : List Proc) (n : ℕ) (proc : Proc) (args : List Value) (held : Tables) (env : Values) (draft : Changes) → slice_get procs n ≡ Some proc → env ≡ with_values 0 args empty → draft ≡ empty
-    → called_at (slice_get procs n) args held ≡ (meaning proc.body 0 (record { env = env; tables = drafted held draft }) >>= λ s. Ok s.tables)
-called-is procs n proc args held env draft found opened begun =
+pub called-is : (procs : List Proc) (n : ℕ) (proc : Proc) (args : List Value) (held : Tables) (env : Values) (write_set : Changes) → slice_get procs n ≡ Some proc → env ≡ with_values 0 args empty → write_set ≡ empty
+    → called_at (slice_get procs n) args held ≡ (meaning proc.body 0 (record { env = env; tables = written held write_set }) >>= λ s. Ok s.tables)
+called-is procs n proc args held env write_set found opened begun =
     ap (λ o. called_at o args held) found
-    ∙ ap (λ (s : State). meaning proc.body 0 s >>= λ t. Ok t.tables) (λ i. record { env = sym opened i; tables = (sym (seen-none held) ∙ ap (drafted held) (sym begun)) i })
+    ∙ ap (λ (s : State). meaning proc.body 0 s >>= λ t. Ok t.tables) (λ i. record { env = sym opened i; tables = (sym (seen-none held) ∙ ap (written held) (sym begun)) i })
 
 -- operations that halt refuse the transaction
 pub halted : (limit : Option ℕ) (n : ℕ) (m : Result State AnAbort) (halt : Halt) (now : State) (held : Tables) (r : Result (Unit {0}) Halt) (error : Result (Unit {0}) ExecError) → r ≡ Err halt → error ≡ Err (error_of halt) → RunsFrom 0 r m now → Executes (limited limit n (m >>= λ s. Ok s.tables)) held held error
-halted limit n m halt now held r error is told h =
-    subst (λ (e : Result (Unit {0}) ExecError). Executes (limited limit n (m >>= λ s. Ok s.tables)) held held e) (sym told) (go halt (subst (λ (q : Result (Unit {0}) Halt). RunsFrom 0 q m now) is h))
+halted limit n m halt now held r error is reported h =
+    subst (λ (e : Result (Unit {0}) ExecError). Executes (limited limit n (m >>= λ s. Ok s.tables)) held held e) (sym reported) (go halt (subst (λ (q : Result (Unit {0}) Halt). RunsFrom 0 q m now) is h))
   where
     Failed : Halt → Result (Unit {0}) Halt
     Failed halt = Err halt
 
-    Told : Halt → Result (Unit {0}) ExecError
-    Told halt = Err (error_of halt)
+    Reported : Halt → Result (Unit {0}) ExecError
+    Reported halt = Err (error_of halt)
 
-    go : (halt : Halt) → RunsFrom 0 (Failed halt) m now → Executes (limited limit n (m >>= λ s. Ok s.tables)) held held (Told halt)
+    go : (halt : Halt) → RunsFrom 0 (Failed halt) m now → Executes (limited limit n (m >>= λ s. Ok s.tables)) held held (Reported halt)
     go (Abort op reason) h =
         let first : 0 + op ≡ op = omega arith in
         (ap (λ (r : Result State AnAbort). limited limit n (r >>= λ s. Ok s.tables)) h ∙ ap (λ k. Err (AbortAt k reason)) first, refl)

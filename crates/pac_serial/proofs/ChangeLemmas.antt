@@ -9,16 +9,16 @@ use Rattle.std.specs.FinMap.Entries.{is_sorted-put}
 use Rattle.pac_value.specs.State.{Cell, cell_cmp}
 use Rattle.pac_value.proofs.CellLemmas.{cells_total}
 use Rattle.pac_serial.specs.declared.pending.Pending.{Pending}
-use Rattle.pac_serial.specs.Drafts.{Change, Changes, IsPlaceOf, IsGapFor}
-use Rattle.pac_serial.proofs.PlaceLemmas.{put-found, put-gap, find-found, find-gap, from-put}
+use Rattle.pac_serial.specs.WriteSets.{Change, Changes, IsOffsetOf, IsGapFor}
+use Rattle.pac_serial.proofs.OffsetLemmas.{put-found, put-gap, find-found, find-gap, from-put}
 
 module _ (changes : List Change) (sorted : T (is_sorted cell_cmp changes)) (cell : Cell) (at : ℕ) where
-  module _ (place : IsPlaceOf changes cell at) (d : Change) where
+  module _ (offset : IsOffsetOf changes cell at) (d : Change) where
     ties : cell_cmp (get_or changes at d).0 cell ≡ Equal
-    ties = subst (λ (q : Cell). cell_cmp q cell ≡ Equal) (sym (place.same d)) (tied_itself cells_total cell)
+    ties = subst (λ (q : Cell). cell_cmp q cell ≡ Equal) (sym (offset.same d)) (tied_itself cells_total cell)
 
     set-put : (pending : Pending) → set changes at ((get_or changes at d).0, pending) ≡ put cell_cmp cell pending changes
-    set-put pending = sym (put-found cells_total cell pending changes at d sorted place.within ties)
+    set-put pending = sym (put-found cells_total cell pending changes at d sorted offset.within ties)
 
     pub found-sorted : (pending : Pending) → T (is_sorted cell_cmp (set changes at ((get_or changes at d).0, pending)))
     found-sorted pending = subst (λ (es : List Change). T (is_sorted cell_cmp es)) (sym (set-put pending)) (is_sorted-put cell_cmp cells_total cell pending changes sorted)
@@ -27,7 +27,7 @@ module _ (changes : List Change) (sorted : T (is_sorted cell_cmp changes)) (cell
     found-map pending = ap from_sorted (set-put pending) ∙ from-put cells_total changes cell pending sorted
 
     pub found-get : get {R = cell_cmp} (from_sorted changes) cell ≡ Some (get_or changes at d).1
-    found-get = get-from_sorted cell_cmp changes cell sorted ∙ find-found cells_total cell changes at d sorted place.within ties
+    found-get = get-from_sorted cell_cmp changes cell sorted ∙ find-found cells_total cell changes at d sorted offset.within ties
 
   module _ (gap : IsGapFor changes cell at) where
     insert-put : (pending : Pending) → insert changes at (cell, pending) ≡ put cell_cmp cell pending changes

@@ -8,11 +8,11 @@ use Rattle.std.specs.FinMap.Entries.{below_all}
 use Rattle.pac_value.specs.State.{Cell, cell_cmp, RowValues, Tables, with_row}
 use Rattle.pac_value.proofs.CellLemmas.{cells_total, cells_antisymmetric, tied_same, same-cell, get-with_row}
 use Rattle.pac_serial.specs.declared.pending.Pending.{Pending}
-use Rattle.pac_serial.specs.Drafts.{Change, laid, KnowsTable, KnowsAll}
+use Rattle.pac_serial.specs.WriteSets.{Change, laid, KnowsTable, KnowsAll}
 use Rattle.pac_serial.specs.Commits.{cells, AreIn, AreThere, IsThere, with_new_row, with_moved, without_row, emptied, with_new, without_new, with_made, with_rest}
-use Rattle.pac_serial.proofs.DraftLemmas.{row_or, get-laid}
-use Rattle.pac_serial.proofs.PlaceLemmas.{below_at, flipped-Less}
-use Rattle.pac_serial.proofs.BalanceLemmas.{find-first, find-behind, none-behind, sorted-behind}
+use Rattle.pac_serial.proofs.WriteSetLemmas.{row_or, get-laid}
+use Rattle.pac_serial.proofs.OffsetLemmas.{below_at, flipped-Less}
+use Rattle.pac_serial.proofs.BalanceLemmas.{find-first, find-after, none-after, sorted-after}
 
 -- a row that is moved to a cell, or what stood there
 abbrev new_or : Option RowValues → Option RowValues → Option RowValues
@@ -74,12 +74,12 @@ module _ (after : Option Pending → Option RowValues → Option RowValues) (not
   each_once : (t : Tables) (cs : List Change) (q : Cell) → T (is_sorted cell_cmp cs) → get (steps t cs) q ≡ after (find cell_cmp q cs) (get t q)
   each_once t [] q sorted = ap (λ m. get m q) (ends t) ∙ sym (nothing (get t q))
   each_once t (c ∷ cs) q sorted =
-      ap (λ m. get m q) (goes_on t c cs) ∙ each_once (step t c) cs q (sorted-behind c cs sorted)
+      ap (λ m. get m q) (goes_on t c cs) ∙ each_once (step t c) cs q (sorted-after c cs sorted)
       ∙ ap (after (find cell_cmp q cs)) (at_step t c q) ∙ go (eq_by_cmp cell_cmp q c.0) refl
     where
       go : (b : Bool) → eq_by_cmp cell_cmp q c.0 ≡ b → after (find cell_cmp q cs) (cond b (after (Some c.1) (get t q)) (get t q)) ≡ after (cond b (Some c.1) (find cell_cmp q cs)) (get t q)
       go true e =
-          ap (λ p. after p (after (Some c.1) (get t q))) (ap (λ p. find cell_cmp p cs) (tied_same q c.0 e) ∙ none-behind c cs sorted)
+          ap (λ p. after p (after (Some c.1) (get t q))) (ap (λ p. find cell_cmp p cs) (tied_same q c.0 e) ∙ none-after c cs sorted)
           ∙ nothing (after (Some c.1) (get t q))
       go false e = refl
 
@@ -174,7 +174,7 @@ cells-moved (c ∷ cs) = ap (λ ps. c.0 ∷ ps) (cells-moved cs)
 all_known : (P : Change → Type 0) (cs : List Change) → T (is_sorted cell_cmp cs) → ((q : Cell) (pending : Pending) → find cell_cmp q cs ≡ Some pending → P (q, pending)) → All P cs
 all_known P [] sorted known = All-nil P
 all_known P (c ∷ cs) sorted known =
-    All-cons P c cs (known c.0 c.1 (find-first c cs)) (all_known P cs (sorted-behind c cs sorted) (λ q pending found. known q pending (find-behind c cs sorted q pending found)))
+    All-cons P c cs (known c.0 c.1 (find-first c cs)) (all_known P cs (sorted-after c cs sorted) (λ q pending found. known q pending (find-after c cs sorted q pending found)))
 
 pub are_in : (n : ℕ) (t : Tables) (cs : List Change) → T (is_sorted cell_cmp cs) → KnowsAll n t cs → AreIn n cs
 are_in n t cs sorted knows = all_known (λ c. c.0.0 < n) cs sorted (λ q pending found. (knows q pending found).0)
@@ -206,8 +206,8 @@ find-take (suc n) [] q pending found = found
 find-take (suc n) (c ∷ cs) q pending found = go (eq_by_cmp cell_cmp q c.0) (find-take n cs q pending) found
   where
     go : (b : Bool) → (find cell_cmp q (take n cs) ≡ Some pending → find cell_cmp q cs ≡ Some pending) → cond b (Some c.1) (find cell_cmp q (take n cs)) ≡ Some pending → cond b (Some c.1) (find cell_cmp q cs) ≡ Some pending
-    go true behind h = h
-    go false behind h = behind h
+    go true following h = h
+    go false following h = following h
 
 first : (a b : Bool) → T (a && b) → T a
 first true b p = tt
@@ -242,9 +242,9 @@ sorted-drop zero cs h = h
 sorted-drop (suc n) [] h = h
 sorted-drop (suc n) (c ∷ cs) h = sorted-drop n cs (second _ _ h)
 
--- a change leaves what stands at the cells behind
-pub there-behind : (t : Tables) (c : Change) (cs : List Change) → T (is_sorted cell_cmp (c ∷ cs)) → AreThere t (c ∷ cs) → AreThere (with_made t c) cs
-there-behind t c cs sorted there = All-from_get_or (IsThere (with_made t c)) cs c (λ i lt stands.
+-- a change leaves what stands at the cells after
+pub there-after : (t : Tables) (c : Change) (cs : List Change) → T (is_sorted cell_cmp (c ∷ cs)) → AreThere t (c ∷ cs) → AreThere (with_made t c) cs
+there-after t c cs sorted there = All-from_get_or (IsThere (with_made t c)) cs c (λ i lt stands.
     let other : Change = get_or cs i c in
     let apart : eq_by_cmp cell_cmp other.0 c.0 ≡ false = ap is_eq (flipped-Less cells_total c.0 other.0 (below_at cells_total c.0 cs i c (first _ _ sorted) lt)) in
     let same : get (with_made t c) other.0 ≡ get t other.0 = get-with_made t c other.0 ∙ ap (λ b. cond b (after_rest (Some c.1) (get t other.0)) (get t other.0)) apart in

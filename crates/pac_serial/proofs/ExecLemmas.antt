@@ -13,9 +13,9 @@ use Rattle.pac_value.specs.declared.values.Value.{Value}
 use Rattle.pac_value.specs.declared.expr.Expr.{Expr}
 use Rattle.pac_value.specs.Values.{type_of}
 use Rattle.pac_types.proofs.StmtForms.{at-Let, at-Read, at-Has, at-Put, at-Set, at-If}
-use Rattle.pac_types.specs.Sound.{without, if_so, Check, check_step, check, any_defines, in_order, scope_after, scope_behind}
+use Rattle.pac_types.specs.WellFormed.{without, if_so, Check, check_step, check, any_defines, in_order, scope_after, scope_after_all}
 use Rattle.pac_value.specs.Scopes.{Scope, with_var}
-use Rattle.pac_types.proofs.SoundLemmas.{ScopeWithin, scope_behind-within}
+use Rattle.pac_types.proofs.WellFormedLemmas.{ScopeWithin, scope_after_all-within}
 use Rattle.pac_serial.specs.Outcomes.{Sees, KeepsTypes}
 
 pub sees-if_so : (b : Bool) (f : Scope) (env : Values) → IsSome (if_so b f) → types_of env ≡ f → Sees (if_so b f) env
@@ -55,11 +55,11 @@ visible some f y ty h = go (some y) refl h
     go true e h = let no_way : ⊥ = cc in absurd no_way
     go false e h = (e, h)
 
--- behind a conditional what no block defines is visible
-pub sees-behind : (b : Bool) (first second : ℕ → Bool) (g : Scope) (mid new : Values) → IsSome (if_so b (without first (without second g))) → types_of mid ≡ g
+-- after a conditional what no block defines is visible
+pub sees-after : (b : Bool) (first second : ℕ → Bool) (g : Scope) (mid new : Values) → IsSome (if_so b (without first (without second g))) → types_of mid ≡ g
     → ((y : ℕ) → first y ≡ false → second y ≡ false → types_of new y ≡ types_of mid y) → Sees (if_so b (without first (without second g))) new
-sees-behind false first second g mid new some e k = let no_way : ⊥ = cc in absurd no_way
-sees-behind true first second g mid new some e k = λ y ty h.
+sees-after false first second g mid new some e k = let no_way : ⊥ = cc in absurd no_way
+sees-after true first second g mid new some e k = λ y ty h.
     let one : (first y ≡ false) × (without second g y ≡ Some ty) = visible first (without second g) y ty h in
     let two : (second y ≡ false) × (g y ≡ Some ty) = visible second g y ty one.1 in
     k y one.0 two.0 ∙ ap (λ (f : Scope). f y) e ∙ two.1
@@ -69,14 +69,14 @@ some-within None b w h = cc
 some-within (Some f) None w h = absurd w
 some-within (Some f) (Some g) w h = refl
 
--- what comes behind a sound statement is sound where it ended
-pub rest-sound : (tables : List Table) (stmt : Stmt) (rest : List Stmt) (types : Scope) (env : Values)
-    → IsSome (scope_behind tables (stmt ∷ rest) types) → Sees (scope_after tables stmt types) env → IsSome (scope_behind tables rest (types_of env))
-rest-sound tables stmt rest types env sound sees = go (scope_after tables stmt types) sound sees
+-- what comes after a well-formed statement is well-formed where it ended
+pub rest-well_formed : (tables : List Table) (stmt : Stmt) (rest : List Stmt) (types : Scope) (env : Values)
+    → IsSome (scope_after_all tables (stmt ∷ rest) types) → Sees (scope_after tables stmt types) env → IsSome (scope_after_all tables rest (types_of env))
+rest-well_formed tables stmt rest types env well_formed sees = go (scope_after tables stmt types) well_formed sees
   where
-    go : (o : Option Scope) → IsSome (option_and_then (in_order (map (check tables) rest)) o) → Sees o env → IsSome (scope_behind tables rest (types_of env))
-    go None sound sees = absurd sees
-    go (Some f) sound sees = some-within (scope_behind tables rest f) (scope_behind tables rest (types_of env)) (scope_behind-within tables rest f (types_of env) sees) sound
+    go : (o : Option Scope) → IsSome (option_and_then (in_order (map (check tables) rest)) o) → Sees o env → IsSome (scope_after_all tables rest (types_of env))
+    go None well_formed sees = absurd sees
+    go (Some f) well_formed sees = some-within (scope_after_all tables rest f) (scope_after_all tables rest (types_of env)) (scope_after_all-within tables rest f (types_of env) sees) well_formed
 
 pub defines-at : (tables : List Table) (stmts : List Stmt) (i : ℕ) (d : Stmt) (y : ℕ) → any_defines (map (check tables) stmts) y ≡ false → i < length stmts → (check tables (get_or stmts i d)).defines y ≡ false
 defines-at tables [] i d y h inside = absurd (omega arith)
@@ -121,7 +121,7 @@ module _ (tables : List Table) (s : Stmt) (old new : Values) where
       → ((y : ℕ) → any_defines (map (check tables) first) y ≡ false → any_defines (map (check tables) second) y ≡ false → types_of new y ≡ types_of mid y)
       → IsSome (scope_after tables s (types_of old)) → Sees (scope_after tables s (types_of old)) new
   sees-If x e first second mid is h k = sees_formed (form.If x e (map (check tables) first) (map (check tables) second)) (at-If Check (check_step tables) s x e first second is)
-      (λ some. sees-behind _ (any_defines (map (check tables) first)) (any_defines (map (check tables) second)) (with_var (types_of old) x BoolTy) mid new some h k)
+      (λ some. sees-after _ (any_defines (map (check tables) first)) (any_defines (map (check tables) second)) (with_var (types_of old) x BoolTy) mid new some h k)
 
 module _ (tables : List Table) (s : Stmt) (env : Values) where
   pub sees-Put : (t : ℕ) (k : Expr) (es : List Expr) → s ≡ Put t k es → IsSome (scope_after tables s (types_of env)) → Sees (scope_after tables s (types_of env)) env

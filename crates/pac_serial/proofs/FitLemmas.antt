@@ -18,14 +18,14 @@ use Rattle.pac_value.specs.State.{Cell, cell_cmp, RowValues, Tables, with_row}
 use Rattle.pac_types.specs.declared.table.Table.{Table}
 use Rattle.pac_ops.specs.Shapes.{RowFits}
 use Rattle.pac_ops.specs.Operations.{column_or}
-use Rattle.pac_types.specs.Sound.{column_types}
+use Rattle.pac_types.specs.WellFormed.{column_types}
 use Rattle.pac_tables.specs.Joined.{Held}
 use Rattle.pac_types.specs.Typing.{CatalogueState}
 use Rattle.pac_types.specs.Fits.{shape, FitTables, FitsCatalogue}
 use Rattle.pac_types.proofs.ShapeLemmas.{columns-of_fit}
 use Rattle.pac_value.specs.Scopes.{with_var, is_wanted, are_wanted}
 use Rattle.pac_value.proofs.CellLemmas.{get-with_row, tied_same}
-use Rattle.pac_serial.specs.Drafts.{Changes, drafted, KnowsTables}
+use Rattle.pac_serial.specs.WriteSets.{Changes, written, KnowsTables}
 use Rattle.pac_serial.specs.Transactions.{RunsOver}
 
 and-left : (a b : Bool) → (a && b) ≡ true → a ≡ true
@@ -146,11 +146,11 @@ FitTables-empty tables rows e cell row found =
 -- a transaction that has made one more change still runs over the rows
 pub runs-changed : (tables : List Table) (n : ℕ) (held : Tables) (old new : Changes) (p : Cell) (row : Option RowValues)
     → RunsOver tables n held old → ((r : RowValues) → row ≡ Some r → RowFits (map shape tables) p r)
-    → drafted held new ≡ with_row (drafted held old) p row → KnowsTables n held new → RunsOver tables n held new
+    → written held new ≡ with_row (written held old) p row → KnowsTables n held new → RunsOver tables n held new
 runs-changed tables n held old new p row over fits is knows = record {
   count = over.count;
   knows = knows;
-  fits = subst (λ (t : Tables). FitTables tables t) (sym is) (FitTables-with_row tables (drafted held old) p row over.fits fits);
+  fits = subst (λ (t : Tables). FitTables tables t) (sym is) (FitTables-with_row tables (written held old) p row over.fits fits);
 }
 
 pub on-ok-both : {A E : Type 0} (r : Result A E) {P Q : Type 0} → OnOk r P → (P → Q) → OnOk r Q

@@ -1,6 +1,6 @@
-pub mod DraftLemmas
+pub mod WriteSetLemmas
 pub mod BalanceLemmas
-pub mod PlaceLemmas
+pub mod OffsetLemmas
 pub mod ChangeLemmas
 pub mod CommitLemmas
 pub mod LimitLemmas

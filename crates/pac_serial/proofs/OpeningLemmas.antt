@@ -12,11 +12,11 @@ use Rattle.pac_value.specs.Expressions.{Values, types_of}
 use Rattle.pac_types.specs.declared.table.Column.{Column}
 use Rattle.pac_types.specs.declared.table.Table.{Table}
 use Rattle.pac_types.specs.declared.procedure.Proc.{Proc}
-use Rattle.pac_types.specs.Sound.{scope_of, scope_behind, IsSoundProc}
+use Rattle.pac_types.specs.WellFormed.{scope_of, scope_after_all, IsWellFormedProc}
 use Rattle.pac_types.specs.Fits.{FitParams}
 use Rattle.pac_ops.specs.Operations.{with_values}
 use Rattle.pac_types.proofs.ScopeLemmas.{Within}
-use Rattle.pac_types.proofs.SoundLemmas.{scope_behind-within}
+use Rattle.pac_types.proofs.WellFormedLemmas.{scope_after_all-within}
 use Rattle.pac_serial.proofs.ExecLemmas.{some-within}
 
 other : (x n : ℕ) → x < n → (x == n) ≡ false
@@ -54,9 +54,9 @@ opening-within params args fit x ty h = go (slice_get args x) refl
         ap (λ n. option_map type_of (get (with_values 0 args empty) n)) cell
         ∙ ap (option_map type_of) (at 0 args empty x v e ∙ sym e) ∙ found
 
--- a sound procedure is sound where it begins
-pub opening-sound : (tables : List Table) (proc : Proc) (args : List Value) (env : Values) → IsSoundProc tables proc → FitParams proc.params args → env ≡ with_values 0 args empty → IsSome (scope_behind tables proc.body (types_of env))
-opening-sound tables proc args env sound fit e =
-    subst (λ (m : Values). IsSome (scope_behind tables proc.body (types_of m))) (sym e)
-    (some-within (scope_behind tables proc.body (scope_of proc.params)) (scope_behind tables proc.body (types_of (with_values 0 args empty)))
-    (scope_behind-within tables proc.body (scope_of proc.params) (types_of (with_values 0 args empty)) (opening-within proc.params args fit)) sound)
+-- a well-formed procedure is well-formed where it begins
+pub opening-well_formed : (tables : List Table) (proc : Proc) (args : List Value) (env : Values) → IsWellFormedProc tables proc → FitParams proc.params args → env ≡ with_values 0 args empty → IsSome (scope_after_all tables proc.body (types_of env))
+opening-well_formed tables proc args env well_formed fit e =
+    subst (λ (m : Values). IsSome (scope_after_all tables proc.body (types_of m))) (sym e)
+    (some-within (scope_after_all tables proc.body (scope_of proc.params)) (scope_after_all tables proc.body (types_of (with_values 0 args empty)))
+    (scope_after_all-within tables proc.body (scope_of proc.params) (types_of (with_values 0 args empty)) (opening-within proc.params args fit)) well_formed)

@@ -33,7 +33,7 @@ operations-append (x ∷ xs) s = omega (arith, operations-append xs s)
 pub operations-more : (stmts : List Stmt) (i : ℕ) (s : Stmt) → i < length stmts → s ≡ get_or stmts i s → operations (take (i + 1) stmts) ≡ operations (take i stmts) + (code s).count
 operations-more stmts i s inside is = ap operations (take_more stmts i s inside ∙ ap (λ z. take i stmts ++ z ∷ []) (sym is)) ∙ operations-append (take i stmts) s
 
--- what is behind a statement goes on from the state that it leaves
+-- what is after a statement goes on from the state that it leaves
 pub runs-on : (s : Stmt) (rest : List Stmt) (n m : ℕ) (before after : State) → (code s).run (n + m) before ≡ Ok after → meaning rest (n + (m + (code s).count)) after ≡ meaning (s ∷ rest) (n + m) before
 runs-on s rest n m before after h =
     let same : n + (m + (code s).count) ≡ n + m + (code s).count = omega arith in

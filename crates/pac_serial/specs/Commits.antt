@@ -4,13 +4,13 @@ use Rattle.std.specs.List.{All}
 use Rattle.std.specs.FinMap.{get, insert, remove}
 use Rattle.pac_value.specs.State.{Cell, RowValues, Tables, with_row}
 use Rattle.pac_serial.specs.declared.pending.Pending.{Pending}
-use Rattle.pac_serial.specs.Drafts.{Change}
+use Rattle.pac_serial.specs.WriteSets.{Change}
 
 -- the cells that are changed
 abbrev pub cells : List Change → List Cell
 cells changes = map (λ change. change.0) changes
 
--- each is of one of so many tables
+-- each is of one of that many tables
 abbrev pub AreIn : ℕ → List Change → Type 0
 AreIn tables changes = All (λ change. change.0.0 < tables) changes
 

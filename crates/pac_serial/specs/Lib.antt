@@ -1,4 +1,4 @@
-pub mod Drafts
+pub mod WriteSets
 pub mod Commits
 pub mod Outcomes
 pub mod Transactions

@@ -18,7 +18,7 @@ use Rattle.pac_serial.specs.declared.execute.ExecError.TheVariants.{Abort as Abo
 use Rattle.pac_serial.specs.declared.serial.AllError.{AllError}
 use Rattle.pac_serial.specs.declared.serial.AllError.TheVariants.{Abort as AbortOf, NoMemory as NoMemoryForAll}
 
--- what a transaction is to give under a limit of rows: its tables; or its abort, or else the first of so many tables
+-- what a transaction is to give under a limit of rows: its tables; or its abort, or else the first of that many tables
 -- that is over the limit
 abbrev pub unless_over : Option (ℕ × ℕ) → Tables → Result Tables ExecError
 unless_over None tables = Ok tables
@@ -74,12 +74,12 @@ abbrev pub IsTrapOf : {A : Type 0} → Halt → Result A Trap → Type 0
 IsTrapOf halt (Ok x) = ⊥
 IsTrapOf halt (Err trap) = halt ≡ Abort 0 (reason_of trap)
 
--- an abort is at one of so many operations
+-- an abort is at one of that many operations
 abbrev pub IsHaltWithin : ℕ → Halt → Type 0
 IsHaltWithin count (Abort op reason) = op < count
 IsHaltWithin count NoMemory = Unit {0}
 
--- a halt behind so many operations
+-- a halt after that many operations
 abbrev pub moved : ℕ → Halt → Halt
 moved before (Abort op reason) = Abort (before + op) reason
 moved before NoMemory = NoMemory

@@ -2,10 +2,10 @@
 ghost use Rattle.std.specs.Prelude.{◌≡◌, ◌<◌, T, OnOk, OnErr, map};
 ghost use Rattle.std.specs.FinMap.{is_sorted};
 ghost use Rattle.pac_value.specs.State.{cell_cmp};
-ghost use Rattle.pac_serial.specs.Drafts.{KnowsAll};
+ghost use Rattle.pac_serial.specs.WriteSets.{KnowsAll};
 ghost use Rattle.pac_serial.specs.Commits.{AreIn, AreThere, IsThere, emptied, with_moved, with_new, without_new, with_made, with_rest, cells};
 
-use crate::draft::CellChange;
+use crate::write_set::CellChange;
 use pac_base::NoMemory;
 use pac_tables::Rows;
 
@@ -23,7 +23,7 @@ pub(crate) fn move_new<R: Rows>(rows: &mut R, changes: &mut [CellChange]) -> Res
         match move_row(rows, &mut changes[at]) {
             Ok(()) => {}
             Err(NoMemory) => {
-                take_back(rows, &changes[..at]);
+                roll_back(rows, &changes[..at]);
                 return Err(NoMemory);
             }
         }
@@ -51,7 +51,7 @@ fn move_row<R: Rows>(rows: &mut R, change: &mut CellChange) -> Result<(), NoMemo
 }
 
 // Takes out the rows at the cells where none stood.
-fn take_back<R: Rows>(rows: &mut R, changes: &[CellChange])
+fn roll_back<R: Rows>(rows: &mut R, changes: &[CellChange])
     requires { AreIn (R.tables rows.old) changes.now }
     ensures rows { R.held rows.new ≡ without_new (R.held rows.old) changes.now }
     ensures tables { R.tables rows.new ≡ R.tables rows.old }
@@ -64,7 +64,7 @@ fn take_back<R: Rows>(rows: &mut R, changes: &[CellChange])
 }
 
 /// Makes the changes at the cells where a row stands. None takes memory, and none keeps its row.
-pub(crate) fn make_rest<R: Rows>(rows: &mut R, changes: &mut [CellChange])
+pub(crate) fn apply_rest<R: Rows>(rows: &mut R, changes: &mut [CellChange])
     requires within { AreIn (R.tables rows.old) changes.old }
     requires sorted { T (is_sorted cell_cmp changes.old) }
     requires there { AreThere (R.held rows.old) changes.old }

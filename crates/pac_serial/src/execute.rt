@@ -4,7 +4,7 @@ ghost use Rattle.pac_ops.specs.Shapes.{ChangeFits, RecordsFit};
 ghost use Rattle.pac_ops.specs.Transactions.{with_change, with_changes};
 ghost use Rattle.pac_types.specs.Execution.{called_at, txn_meaning};
 ghost use Rattle.pac_types.specs.Fits.{shape, FitsCatalogue, FitsCall, TxnFits};
-ghost use Rattle.pac_serial.specs.Drafts.{drafted, KnowsTables};
+ghost use Rattle.pac_serial.specs.WriteSets.{written, KnowsTables};
 ghost use Rattle.pac_serial.specs.Outcomes.{Executes, limited};
 ghost use Rattle.pac_serial.specs.Transactions.{RunsOver};
 
@@ -61,18 +61,18 @@ impl From<Halt> for ExecError {
 
 // Makes what the transaction has changed, where no table is over the limit then.
 fn finish<R: Rows>(limit: Option<u64>, rows: &mut R, txn: &mut RunningTxn) -> Result<(), ExecError>
-    requires { KnowsTables (R.tables rows.old) (R.held rows.old) txn.old.draft }
-    ensures does { Executes (limited limit (R.tables rows.old) (Ok (drafted (R.held rows.old) txn.old.draft))) (R.held rows.old) (R.held rows.new) result }
-    ensures made { OnOk result (R.held rows.new ≡ drafted (R.held rows.old) txn.old.draft) }
+    requires { KnowsTables (R.tables rows.old) (R.held rows.old) txn.old.write_set }
+    ensures does { Executes (limited limit (R.tables rows.old) (Ok (written (R.held rows.old) txn.old.write_set))) (R.held rows.old) (R.held rows.new) result }
+    ensures made { OnOk result (R.held rows.new ≡ written (R.held rows.old) txn.old.write_set) }
     ensures kept { OnErr result (R.held rows.new ≡ R.held rows.old) }
     ensures tables { R.tables rows.new ≡ R.tables rows.old }
 {
     if let Some(limit) = limit {
-        if let Some(table) = over_limit(rows, &txn.draft, limit) {
+        if let Some(table) = over_limit(rows, &txn.write_set, limit) {
             return Err(ExecError::Full { table });
         }
     }
-    Ok(txn.draft.commit(rows)?)
+    Ok(txn.write_set.commit(rows)?)
 }
 
 // Executes a call in a transaction that is made already.
@@ -104,16 +104,16 @@ fn make<R: Rows>(
     txn: &mut RunningTxn,
 ) -> Result<(), NoMemory>
     requires change { ChangeFits (map shape tables.now) change.now }
-    requires over { RunsOver tables.now (R.tables rows.now) (R.held rows.now) txn.old.draft }
-    ensures made { OnOk result (drafted (R.held rows.now) txn.new.draft ≡ with_change (drafted (R.held rows.now) txn.old.draft) change.now) }
-    ensures over { OnOk result (RunsOver tables.now (R.tables rows.now) (R.held rows.now) txn.new.draft) }
+    requires over { RunsOver tables.now (R.tables rows.now) (R.held rows.now) txn.old.write_set }
+    ensures made { OnOk result (written (R.held rows.now) txn.new.write_set ≡ with_change (written (R.held rows.now) txn.old.write_set) change.now) }
+    ensures over { OnOk result (RunsOver tables.now (R.tables rows.now) (R.held rows.now) txn.new.write_set) }
 {
     match change {
         Change::Put { table, key, row } => {
             let row = row.copy(txn.alloc)?;
-            txn.draft.change(rows, *table, *key, Some(row))
+            txn.write_set.change(rows, *table, *key, Some(row))
         }
-        Change::Delete { table, key } => txn.draft.change(rows, *table, *key, None),
+        Change::Delete { table, key } => txn.write_set.change(rows, *table, *key, None),
     }
 }
 

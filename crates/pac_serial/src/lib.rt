@@ -7,13 +7,12 @@
 //! - [`no_rows`]: the tables of a catalogue, with no rows.
 //! - [`first_over`]: the first table that has more rows than a limit.
 //!
-//! A transaction's changes stand apart in a draft until it ends. Then the limit is tested, by counts that the tables keep,
+//! A transaction's changes stand apart in a write set until it ends. Then the limit is tested, by counts that the tables keep,
 //! and the changes are made, all or none; so whatever refuses it, the tables are as they were. A read looks up its cell
-//! in the draft first.
+//! in the write set first.
 #![tactic(auto)]
 
 mod commit;
-mod draft;
 mod execute;
 mod limit;
 mod opening;
@@ -23,6 +22,7 @@ mod pending;
 mod serial;
 mod statement;
 mod transaction;
+mod write_set;
 
 pub use execute::{ExecError, exec, exec_adhoc};
 pub use opening::no_rows;

@@ -3,29 +3,29 @@ ghost use Rattle.std.specs.Prelude.{◌≡◌, ◌<◌, length, nat_lt};
 ghost use Rattle.std.specs.Option.{option_map};
 ghost use Rattle.pac_value.specs.State.{keys_of};
 ghost use Rattle.pac_types.specs.Execution.{first_over};
-ghost use Rattle.pac_serial.specs.Drafts.{drafted, KnowsTables};
+ghost use Rattle.pac_serial.specs.WriteSets.{written, KnowsTables};
 
-use crate::draft::Draft;
+use crate::write_set::WriteSet;
 use pac_tables::Rows;
 
 // Whether a table would have more rows than the limit once the changes are made.
-fn is_over<R: Rows>(rows: &R, draft: &Draft, limit: u64, table: u16) -> bool
+fn is_over<R: Rows>(rows: &R, write_set: &WriteSet, limit: u64, table: u16) -> bool
     requires within { table < R.tables rows.now }
-    requires knows { KnowsTables (R.tables rows.now) (R.held rows.now) draft.now }
-    ensures { result ≡ nat_lt limit (length (keys_of (drafted (R.held rows.now) draft.now) table)) }
+    requires knows { KnowsTables (R.tables rows.now) (R.held rows.now) write_set.now }
+    ensures { result ≡ nat_lt limit (length (keys_of (written (R.held rows.now) write_set.now) table)) }
 {
-    let (gained, lost) = draft.balance(table);
+    let (gained, lost) = write_set.balance(table);
     u128::from(limit) + u128::from(lost) < u128::from(rows.count(table)) + u128::from(gained)
 }
 
 /// The first table that would have more rows than the limit once the changes are made. It asks each table for its count
 /// and looks at each change once a table, and at no row.
-pub(crate) fn over_limit<R: Rows>(rows: &R, draft: &Draft, limit: u64) -> Option<u16>
-    requires { KnowsTables (R.tables rows.now) (R.held rows.now) draft.now }
-    ensures { result ≡ option_map (λ found. found.0) (first_over limit (R.tables rows.now) (drafted (R.held rows.now) draft.now)) }
+pub(crate) fn over_limit<R: Rows>(rows: &R, write_set: &WriteSet, limit: u64) -> Option<u16>
+    requires { KnowsTables (R.tables rows.now) (R.held rows.now) write_set.now }
+    ensures { result ≡ option_map (λ found. found.0) (first_over limit (R.tables rows.now) (written (R.held rows.now) write_set.now)) }
 {
     for table in 0..rows.tables() {
-        if is_over(rows, draft, limit, table) {
+        if is_over(rows, write_set, limit, table) {
             return Some(table);
         }
     }

@@ -10,7 +10,7 @@ ghost use Rattle.pac_value.specs.declared.values.Ty.TheVariants.{Bool as BoolTy}
 ghost use Rattle.pac_ops.specs.Operations.{values, cell_at, column_or, done};
 ghost use Rattle.pac_ops.specs.declared.program.OpKind.TheVariants as kind;
 ghost use Rattle.pac_ops.specs.Reasons.{or_abort};
-ghost use Rattle.pac_types.specs.Sound.{key_type, column_type, column_types};
+ghost use Rattle.pac_types.specs.WellFormed.{key_type, column_type, column_types};
 ghost use Rattle.pac_serial.specs.Outcomes.{Does, DoesGive};
 ghost use Rattle.pac_serial.specs.Transactions.{state_of, RunsOver};
 
@@ -133,13 +133,13 @@ pub(crate) fn read<R: Rows>(
 ) -> Result<(), Halt>
     requires key { IsTrue (is_wanted (type_in (types_of txn.old.env) target.now.key.now) (key_type tables.now target.now.table)) }
     requires column { IsTrue (is_wanted (Some (type_of default.now)) (column_type tables.now target.now.table column)) }
-    requires over { RunsOver tables.now (R.tables rows.now) (R.held rows.now) txn.old.draft }
+    requires over { RunsOver tables.now (R.tables rows.now) (R.held rows.now) txn.old.write_set }
     ensures does { Does result (done (kind.Read var target.now.table target.now.key.now column default.now) (state_of (R.held rows.now) txn.old)) (state_of (R.held rows.now) txn.new) }
     ensures types { OnOk result (types_of txn.new.env ≡ with_var (types_of txn.old.env) var (type_of default.now)) }
-    ensures draft { txn.new.draft ≡ txn.old.draft }
+    ensures write_set { txn.new.write_set ≡ txn.old.write_set }
 {
     let key = key_of(tables, target, &txn.env)?;
-    let value = column_or(txn.draft.get(rows, target.table, &key), column, default);
+    let value = column_or(txn.write_set.get(rows, target.table, &key), column, default);
     Ok(define(&mut txn.env, var, value)?)
 }
 
@@ -152,13 +152,13 @@ pub(crate) fn has<R: Rows>(
     txn: &mut RunningTxn,
 ) -> Result<(), Halt>
     requires key { IsTrue (is_wanted (type_in (types_of txn.old.env) target.now.key.now) (key_type tables.now target.now.table)) }
-    requires over { RunsOver tables.now (R.tables rows.now) (R.held rows.now) txn.old.draft }
+    requires over { RunsOver tables.now (R.tables rows.now) (R.held rows.now) txn.old.write_set }
     ensures does { Does result (done (kind.Has var target.now.table target.now.key.now) (state_of (R.held rows.now) txn.old)) (state_of (R.held rows.now) txn.new) }
     ensures types { OnOk result (types_of txn.new.env ≡ with_var (types_of txn.old.env) var BoolTy) }
-    ensures draft { txn.new.draft ≡ txn.old.draft }
+    ensures write_set { txn.new.write_set ≡ txn.old.write_set }
 {
     let key = key_of(tables, target, &txn.env)?;
-    let found = txn.draft.get(rows, target.table, &key).is_some();
+    let found = txn.write_set.get(rows, target.table, &key).is_some();
     Ok(define(&mut txn.env, var, Value::Bool(found))?)
 }
 
@@ -170,13 +170,13 @@ pub(crate) fn delete<R: Rows>(
     txn: &mut RunningTxn,
 ) -> Result<(), Halt>
     requires key { IsTrue (is_wanted (type_in (types_of txn.old.env) target.now.key.now) (key_type tables.now target.now.table)) }
-    requires over { RunsOver tables.now (R.tables rows.now) (R.held rows.now) txn.old.draft }
+    requires over { RunsOver tables.now (R.tables rows.now) (R.held rows.now) txn.old.write_set }
     ensures does { Does result (done (kind.Delete target.now.table target.now.key.now) (state_of (R.held rows.now) txn.old)) (state_of (R.held rows.now) txn.new) }
     ensures env { txn.new.env ≡ txn.old.env }
-    ensures over { OnOk result (RunsOver tables.now (R.tables rows.now) (R.held rows.now) txn.new.draft) }
+    ensures over { OnOk result (RunsOver tables.now (R.tables rows.now) (R.held rows.now) txn.new.write_set) }
 {
     let key = key_of(tables, target, &txn.env)?;
-    txn.draft.change(rows, target.table, key, None)?;
+    txn.write_set.change(rows, target.table, key, None)?;
     Ok(())
 }
 
@@ -211,14 +211,14 @@ pub(crate) fn put<R: Rows>(
     requires key { IsTrue (is_wanted (type_in (types_of txn.old.env) target.now.key.now) (key_type tables.now target.now.table)) }
     requires width { IsTrue (is_width (length exprs.now)) }
     requires typed { IsTrue (are_wanted (map (type_in (types_of txn.old.env)) exprs.now) (column_types tables.now target.now.table)) }
-    requires over { RunsOver tables.now (R.tables rows.now) (R.held rows.now) txn.old.draft }
+    requires over { RunsOver tables.now (R.tables rows.now) (R.held rows.now) txn.old.write_set }
     ensures does { Does result (done (kind.Put target.now.table target.now.key.now exprs.now) (state_of (R.held rows.now) txn.old)) (state_of (R.held rows.now) txn.new) }
     ensures env { txn.new.env ≡ txn.old.env }
-    ensures over { OnOk result (RunsOver tables.now (R.tables rows.now) (R.held rows.now) txn.new.draft) }
+    ensures over { OnOk result (RunsOver tables.now (R.tables rows.now) (R.held rows.now) txn.new.write_set) }
 {
     let key = key_of(tables, target, &txn.env)?; // before the values
     let row = row_of(txn.alloc, tables, target.table, exprs, &txn.env)?;
-    txn.draft.change(rows, target.table, key, Some(row))?;
+    txn.write_set.change(rows, target.table, key, Some(row))?;
     Ok(())
 }
 
@@ -244,18 +244,18 @@ pub(crate) fn set<R: Rows>(
 ) -> Result<(), Halt>
     requires key { IsTrue (is_wanted (type_in (types_of txn.old.env) target.now.key.now) (key_type tables.now target.now.table)) }
     requires column { IsTrue (is_wanted (type_in (types_of txn.old.env) value.now) (column_type tables.now target.now.table column)) }
-    requires over { RunsOver tables.now (R.tables rows.now) (R.held rows.now) txn.old.draft }
+    requires over { RunsOver tables.now (R.tables rows.now) (R.held rows.now) txn.old.write_set }
     ensures does { Does result (done (kind.SetCol target.now.table target.now.key.now column value.now) (state_of (R.held rows.now) txn.old)) (state_of (R.held rows.now) txn.new) }
     ensures env { txn.new.env ≡ txn.old.env }
-    ensures over { OnOk result (RunsOver tables.now (R.tables rows.now) (R.held rows.now) txn.new.draft) }
+    ensures over { OnOk result (RunsOver tables.now (R.tables rows.now) (R.held rows.now) txn.new.write_set) }
 {
     let key = key_of(tables, target, &txn.env)?;
     let value = eval(value, &txn.env)?;
-    let Some(row) = txn.draft.get(rows, target.table, &key) else {
+    let Some(row) = txn.write_set.get(rows, target.table, &key) else {
         return Err(Halt::from(Reason::Missing));
     };
     let row = with_column(txn.alloc, row, column, value)?;
-    txn.draft.change(rows, target.table, key, Some(row))?;
+    txn.write_set.change(rows, target.table, key, Some(row))?;
     Ok(())
 }
 
@@ -264,7 +264,7 @@ pub(crate) fn assign(var: u16, value: &Expr, txn: &mut RunningTxn) -> Result<(),
     requires { IsSome (type_in (types_of txn.old.env) value.now) }
     ensures does { (held : Tables) → Does result (done (kind.Let var value.now) (state_of held txn.old)) (state_of held txn.new) }
     ensures types { OnOk result (option_map (with_var (types_of txn.old.env) var) (type_in (types_of txn.old.env) value.now) ≡ Some (types_of txn.new.env)) }
-    ensures draft { txn.new.draft ≡ txn.old.draft }
+    ensures write_set { txn.new.write_set ≡ txn.old.write_set }
 {
     let value = eval(value, &txn.env)?;
     define(&mut txn.env, var, value)?;

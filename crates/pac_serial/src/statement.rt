@@ -3,7 +3,7 @@ ghost use Rattle.std.specs.Prelude.{◌≡◌, ◌+◌, ◌-◌, ◌<◌, ◌^�
 ghost use Rattle.pac_value.specs.Expressions.{types_of, type_in, value};
 ghost use Rattle.pac_value.specs.Scopes.{is_bool};
 ghost use Rattle.pac_value.specs.declared.values.Value.TheVariants.{Bool as Truth};
-ghost use Rattle.pac_types.specs.Sound.{check, any_defines, scope_after, scope_behind};
+ghost use Rattle.pac_types.specs.WellFormed.{check, any_defines, scope_after, scope_after_all};
 ghost use Rattle.pac_types.specs.Meaning.{code, operations, meaning};
 ghost use Rattle.pac_serial.specs.Outcomes.{RunsFrom, IsHaltWithin, IsTrapOf, moved, Sees, KeepsTypes};
 ghost use Rattle.pac_serial.specs.Transactions.{state_of, RunsOver};
@@ -14,8 +14,8 @@ use pac_tables::Rows;
 use pac_types::{Stmt, Table, count_operations};
 use pac_value::{Env, Expr, Value, eval};
 
-// The halt of operations that stand behind so many others.
-fn behind(before: u16, halt: Halt) -> Halt
+// The halt of operations that stand after that many others.
+fn after(before: u16, halt: Halt) -> Halt
     requires { IsHaltWithin (2 ^ 16 - before) halt }
     ensures { result ≡ moved before halt }
 {
@@ -48,14 +48,14 @@ fn exec_stmt<R: Rows>(
     stmt: &Stmt,
     txn: &mut RunningTxn,
 ) -> Result<(), Halt>
-    requires sound { IsSome (scope_after tables.now stmt.now (types_of txn.old.env)) }
+    requires well_formed { IsSome (scope_after tables.now stmt.now (types_of txn.old.env)) }
     requires numbers { (code stmt.now).count < 2 ^ 16 }
-    requires over { RunsOver tables.now (R.tables rows.now) (R.held rows.now) txn.old.draft }
+    requires over { RunsOver tables.now (R.tables rows.now) (R.held rows.now) txn.old.write_set }
     ensures runs { (n : ℕ) → RunsFrom n result ((code stmt.now).run n (state_of (R.held rows.now) txn.old)) (state_of (R.held rows.now) txn.new) }
     ensures within { IfErr result (IsHaltWithin (code stmt.now).count) }
     ensures sees { OnOk result (Sees (scope_after tables.now stmt.now (types_of txn.old.env)) txn.new.env) }
     ensures keeps { OnOk result (KeepsTypes (check tables.now stmt.now).defines txn.old.env txn.new.env) }
-    ensures over { OnOk result (RunsOver tables.now (R.tables rows.now) (R.held rows.now) txn.new.draft) }
+    ensures over { OnOk result (RunsOver tables.now (R.tables rows.now) (R.held rows.now) txn.new.write_set) }
 {
     match stmt {
         Stmt::Let { var, value } => assign(*var, value, txn),
@@ -102,12 +102,12 @@ fn exec_stmt<R: Rows>(
             if truth {
                 match exec_block(tables, rows, first.as_slice(), txn) {
                     Ok(()) => Ok(()),
-                    Err(halt) => Err(behind(1, halt)),
+                    Err(halt) => Err(after(1, halt)),
                 }
             } else {
                 match exec_block(tables, rows, second.as_slice(), txn) {
                     Ok(()) => Ok(()),
-                    Err(halt) => Err(behind(1 + count_operations(first.as_slice()), halt)),
+                    Err(halt) => Err(after(1 + count_operations(first.as_slice()), halt)),
                 }
             }
         }
@@ -122,18 +122,18 @@ pub(crate) fn exec_block<R: Rows>(
     stmts: &[Stmt],
     txn: &mut RunningTxn,
 ) -> Result<(), Halt>
-    requires sound { IsSome (scope_behind tables.now stmts.now (types_of txn.old.env)) }
+    requires well_formed { IsSome (scope_after_all tables.now stmts.now (types_of txn.old.env)) }
     requires numbers { operations stmts.now < 2 ^ 16 }
-    requires over { RunsOver tables.now (R.tables rows.now) (R.held rows.now) txn.old.draft }
+    requires over { RunsOver tables.now (R.tables rows.now) (R.held rows.now) txn.old.write_set }
     ensures runs { (n : ℕ) → RunsFrom n result (meaning stmts.now n (state_of (R.held rows.now) txn.old)) (state_of (R.held rows.now) txn.new) }
     ensures within { IfErr result (IsHaltWithin (operations stmts.now)) }
     ensures keeps { OnOk result (KeepsTypes (any_defines (map (check tables.now) stmts.now)) txn.old.env txn.new.env) }
-    ensures over { OnOk result (RunsOver tables.now (R.tables rows.now) (R.held rows.now) txn.new.draft) }
+    ensures over { OnOk result (RunsOver tables.now (R.tables rows.now) (R.held rows.now) txn.new.write_set) }
 {
     for (i, stmt) in stmts.iter().enumerate() {
         match exec_stmt(tables, rows, stmt, txn) {
             Ok(()) => {}
-            Err(halt) => return Err(behind(count_operations(&stmts[..i]), halt)),
+            Err(halt) => return Err(after(count_operations(&stmts[..i]), halt)),
         }
     }
     Ok(())

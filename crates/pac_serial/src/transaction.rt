@@ -3,7 +3,7 @@ ghost use Rattle.std.specs.Prelude.{◌≡◌, ◌≤◌, length, OnOk};
 ghost use Rattle.std.specs.FinMap as map;
 ghost use Rattle.pac_ops.specs.Operations.{with_values};
 
-use crate::draft::Draft;
+use crate::write_set::WriteSet;
 use pac_base::NoMemory;
 use pac_value::{Env, Expr, Value};
 use std::alloc::Global;
@@ -14,7 +14,7 @@ use std::alloc::Global;
 pub(crate) struct RunningTxn {
     pub(crate) alloc: Global,
     pub(crate) env: Env,
-    pub(crate) draft: Draft,
+    pub(crate) write_set: WriteSet,
 }
 
 /// Where a statement reads or writes: a table, and the expression of a key.
@@ -30,7 +30,7 @@ impl RunningTxn {
         RunningTxn {
             alloc,
             env: Env::new(alloc),
-            draft: Draft::new(alloc),
+            write_set: WriteSet::new(alloc),
         }
     }
 
@@ -38,9 +38,9 @@ impl RunningTxn {
     pub(crate) fn begin(&mut self, args: &[Value]) -> Result<(), NoMemory>
         requires { length args.now ≤ 65536 }
         ensures env { OnOk result (self.new.env ≡ with_values 0 args.now map.empty) }
-        ensures draft { OnOk result (self.new.draft ≡ map.empty) }
+        ensures write_set { OnOk result (self.new.write_set ≡ map.empty) }
     {
-        self.draft.clear();
+        self.write_set.clear();
         self.env.clear();
         for (i, value) in args.iter().enumerate() {
             self.env.set(i as u16, *value)?;

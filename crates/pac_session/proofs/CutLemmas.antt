@@ -1,4 +1,4 @@
--- Groups are a cut of the requests, and tell what the session replies.
+-- Groups are a cut of the requests, and say what the session replies.
 use Rattle.std.proofs.Common.{◌≡◌, ℕ, Bool, true, false, List, [], ◌∷◌, ◌++◌, refl, sym, ap, ◌∙◌, append_assoc}
 use Rattle.std.specs.Prelude.{◌||◌, nat_le, if◌then◌else◌, length}
 use Rattle.std.specs.List.{fold}
@@ -6,7 +6,7 @@ use Rattle.std.proofs.lemmas.List.{append-nil}
 use Rattle.pac_request.specs.declared.request.Request.{Request}
 use Rattle.pac_request.specs.declared.request.Reply.{Reply}
 use Rattle.pac_session.specs.Session.{Rules, SessionState, txn_of, ends, replies, committed}
-use Rattle.pac_session.specs.Groups.{GroupCut, all_requests, is_closing, lacks_room, room_made, cut_with, cut_behind, cut_one, cut_on, cut, place_behind, described, all_replies}
+use Rattle.pac_session.specs.Groups.{GroupCut, all_requests, is_closing, lacks_room, room_made, cut_with, cut_after, cut_one, cut_on, cut, place_after_group, described, all_replies}
 use Rattle.pac_session.proofs.SessionLemmas.{replies-append}
 
 pub joined-append : (xs ys : List (List Request)) → all_requests (xs ++ ys) ≡ all_requests xs ++ all_requests ys
@@ -29,8 +29,8 @@ whole-taken : (rules : Rules) (start : SessionState) (group : List Request) (ask
 whole-taken rules start group asked = choice (is_closing asked || nat_le rules.most (length (replies rules start (group ++ asked ∷ [])))) (group ++ asked ∷ [])
 
 -- a cut whose rest is cut further
-whole-behind : (one two : GroupCut) (more : List Request) → whole two ≡ one.rest ++ more → whole (cut_behind one two) ≡ whole one ++ more
-whole-behind one two more is =
+whole-after : (one two : GroupCut) (more : List Request) → whole two ≡ one.rest ++ more → whole (cut_after one two) ≡ whole one ++ more
+whole-after one two more is =
     ap (λ (l : List Request). l ++ two.rest) (joined-append one.closed two.closed)
     ∙ append_assoc (all_requests one.closed) (all_requests two.closed) two.rest
     ∙ ap (λ (l : List Request). all_requests one.closed ++ l) is
@@ -39,12 +39,12 @@ whole-behind one two more is =
 whole-one : (rules : Rules) (start : SessionState) (group : List Request) (asked : Request) → whole (cut_one rules start group asked) ≡ group ++ asked ∷ []
 whole-one rules start group asked =
     let room = room_made rules start group asked in
-    whole-behind room (cut_with rules (ends rules start (all_requests room.closed)) room.rest asked) (asked ∷ []) (whole-taken rules (ends rules start (all_requests room.closed)) room.rest asked)
+    whole-after room (cut_with rules (ends rules start (all_requests room.closed)) room.rest asked) (asked ∷ []) (whole-taken rules (ends rules start (all_requests room.closed)) room.rest asked)
     ∙ ap (λ (l : List Request). l ++ asked ∷ []) (whole-room rules start group asked)
 
 whole-more : (rules : Rules) (start : SessionState) (so_far : GroupCut) (asked : Request) → whole (cut_on rules start so_far asked) ≡ whole so_far ++ asked ∷ []
 whole-more rules start so_far asked =
-    whole-behind so_far (cut_one rules (ends rules start (all_requests so_far.closed)) so_far.rest asked) (asked ∷ []) (whole-one rules (ends rules start (all_requests so_far.closed)) so_far.rest asked)
+    whole-after so_far (cut_one rules (ends rules start (all_requests so_far.closed)) so_far.rest asked) (asked ∷ []) (whole-one rules (ends rules start (all_requests so_far.closed)) so_far.rest asked)
 
 whole-fold : (rules : Rules) (start : SessionState) (so_far : GroupCut) (requests : List Request) → whole (fold (cut_on rules start) so_far requests) ≡ whole so_far ++ requests
 whole-fold rules start so_far [] = sym (append-nil (whole so_far))
@@ -59,5 +59,5 @@ whole-cut rules start requests = whole-fold rules start (record { closed = []; r
 pub described-replies : (rules : Rules) (place : ℕ) (start : SessionState) (groups : List (List Request)) → all_replies (described rules place start groups) ≡ replies rules start (all_requests groups)
 described-replies rules place start [] = refl
 described-replies rules place start (group ∷ more) =
-    ap (λ (l : List Reply). replies rules start group ++ l) (described-replies rules (place_behind place (committed rules start group)) (ends rules start group) more)
+    ap (λ (l : List Reply). replies rules start group ++ l) (described-replies rules (place_after_group place (committed rules start group)) (ends rules start group) more)
     ∙ sym (replies-append rules start group (all_requests more))

@@ -1,5 +1,5 @@
 -- Where requests are cut into groups. The transactions of a group are committed together, and the replies of a group are
--- held until then. The end of the input is a stop behind the requests.
+-- held until then. The end of the input is a stop after the requests.
 use Rattle.std.specs.Prelude.{ℕ, ◌+◌, Bool, true, false, List, [], ◌∷◌, ◌++◌, length, nat_le, nat_lt, ◌||◌, if◌then◌else◌, Option, Some, None}
 use Rattle.std.specs.List.{fold}
 use Rattle.pac_ops.specs.declared.transaction.Txn.{Txn}
@@ -15,7 +15,7 @@ abbrev pub all_requests : List (List Request) → List Request
 all_requests [] = []
 all_requests (group ∷ groups) = group ++ all_requests groups
 
--- groups that were closed, and the requests behind them
+-- groups that were closed, and the requests after them
 pub record GroupCut : Type 0 where
   pub closed : List (List Request)
   pub rest : List Request
@@ -40,26 +40,26 @@ abbrev pub room_made : Rules → SessionState → List Request → Request → G
 room_made rules start group asked =
     if lacks_room (committed rules start group) (txn_of asked) then record { closed = group ∷ []; rest = [] } else record { closed = []; rest = group }
 
--- the request goes behind these, which began at this state, and ends their group where it closes it, or where the group
+-- the request goes after these, which began at this state, and ends their group where it closes it, or where the group
 -- has as many replies as it may hold
 abbrev pub cut_with : Rules → SessionState → List Request → Request → GroupCut
 cut_with rules start group asked =
     let all = group ++ asked ∷ [] in
     if is_closing asked || nat_le rules.most (length (replies rules start all)) then record { closed = all ∷ []; rest = [] } else record { closed = []; rest = all }
 
--- one cut behind another
-abbrev pub cut_behind : GroupCut → GroupCut → GroupCut
-cut_behind one two = record { closed = one.closed ++ two.closed; rest = two.rest }
+-- one cut after another
+abbrev pub cut_after : GroupCut → GroupCut → GroupCut
+cut_after one two = record { closed = one.closed ++ two.closed; rest = two.rest }
 
--- one request more, behind a group that began at this state
+-- one request more, after a group that began at this state
 abbrev pub cut_one : Rules → SessionState → List Request → Request → GroupCut
 cut_one rules start group asked =
     let room = room_made rules start group asked in
-    cut_behind room (cut_with rules (ends rules start (all_requests room.closed)) room.rest asked)
+    cut_after room (cut_with rules (ends rules start (all_requests room.closed)) room.rest asked)
 
--- one request more, behind a cut of requests that began at this state
+-- one request more, after a cut of requests that began at this state
 abbrev pub cut_on : Rules → SessionState → GroupCut → Request → GroupCut
-cut_on rules start whole asked = cut_behind whole (cut_one rules (ends rules start (all_requests whole.closed)) whole.rest asked)
+cut_on rules start whole asked = cut_after whole (cut_one rules (ends rules start (all_requests whole.closed)) whole.rest asked)
 
 -- the groups that closings cut off these requests
 abbrev pub cut : Rules → SessionState → List Request → GroupCut
@@ -67,25 +67,25 @@ cut rules start requests = fold (cut_on rules start) (record { closed = []; rest
 
 -- ---- what groups are
 
--- a group: its requests, the transactions that it commits, its replies, and the place of the log's gate in front of it
+-- a group: its requests, the transactions that it commits, its replies, and the offset of the log's gate before it
 pub record Group : Type 0 where
   pub requests : List Request
   pub txns : List Txn
   pub replies : List Reply
   pub place : ℕ
 
--- the place of the log's gate behind transactions that are committed together; where there are none nothing is written
-abbrev pub place_behind : ℕ → List Txn → ℕ
-place_behind place [] = place
-place_behind place (txn ∷ txns) = place + (1 + body_len (txn ∷ txns))
+-- the offset of the log's gate after transactions that are committed together; where there are none nothing is written
+abbrev pub place_after_group : ℕ → List Txn → ℕ
+place_after_group place [] = place
+place_after_group place (txn ∷ txns) = place + (1 + body_len (txn ∷ txns))
 
--- lists of requests as groups, one behind the other, where the first begins at this place and this state
+-- lists of requests as groups, one after another, where the first begins at this offset and this state
 abbrev pub described : Rules → ℕ → SessionState → List (List Request) → List Group
 described rules place start [] = []
 described rules place start (group ∷ more) =
     let txns = committed rules start group in
     record { requests = group; txns = txns; replies = replies rules start group; place = place }
-    ∷ described rules (place_behind place txns) (ends rules start group) more
+    ∷ described rules (place_after_group place txns) (ends rules start group) more
 
 -- the groups that closings cut off requests, up to the first stop; what the end of the requests alone would cut off is none
 abbrev pub groups : Rules → ℕ → SessionState → List Request → List Group

@@ -44,7 +44,7 @@ rules_of now = record { catalogue = now.catalogue; limit = now.limit; most = now
 abbrev pub state_now : Open → SessionState
 state_now now = record { tables = now.tables; number = now.before + length now.txns }
 
--- a request goes behind those of the group: its transaction, where that is committed, and its reply
+-- a request goes after those of the group: its transaction, where that is committed, and its reply
 abbrev pub with_asked : Request → Open → Open
 with_asked asked now = record now {
   tables = (state_after (rules_of now) (state_now now) asked).tables;
@@ -76,7 +76,7 @@ pub record IsInGroup (start : SessionState) (group : List Request) (now : Open) 
 
 -- The rows fit the catalogue and stand within the limit; the transactions of the group fit the catalogue and a body, whose
 -- length is kept; each has a reply, and there are no more replies than a group may hold.
-pub record IsSound (now : Open) (count len : ℕ) : Type 0 where
+pub record IsWellFormed (now : Open) (count len : ℕ) : Type 0 where
   pub rows : FitsCatalogue now.catalogue count now.tables
   pub within : first_over now.limit (length now.catalogue.tables) now.tables ≡ None
   pub fit : All (TxnFits now.catalogue) now.txns

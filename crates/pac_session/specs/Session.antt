@@ -104,7 +104,7 @@ committed rules state (asked ∷ more) = commits rules state asked ++ committed 
 
 -- ---- a session
 
--- the requests up to the first stop; what stands behind it is not looked at
+-- the requests up to the first stop; what stands after it is not looked at
 abbrev pub up_to_stop : List Request → List Request
 up_to_stop [] = []
 up_to_stop (request.Call proc args ∷ more) = request.Call proc args ∷ up_to_stop more

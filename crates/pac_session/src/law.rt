@@ -9,7 +9,7 @@ ghost use Rattle.pac_session.specs.Groups.{all_replies, cut, described, all_requ
 /// the first of the session's.
 pub fn groups_are_a_cut()
     ensures whole { (rules : Rules) (start : SessionState) (requests : List ARequest) → all_requests (cut rules start requests).closed ++ (cut rules start requests).rest ≡ requests }
-    ensures told { (rules : Rules) (place : ℕ) (start : SessionState) (groups : List (List ARequest)) → all_replies (described rules place start groups) ≡ replies rules start (all_requests groups) }
+    ensures known { (rules : Rules) (place : ℕ) (start : SessionState) (groups : List (List ARequest)) → all_replies (described rules place start groups) ≡ replies rules start (all_requests groups) }
 {}
 
 /// Serial execution of what a session commits ends with the session's tables, and the session's number counts it.

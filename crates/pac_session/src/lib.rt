@@ -1,7 +1,7 @@
 //! Sessions: requests that are executed one after another over tables, and are cut into groups. No device is known here.
 //!
 //! - [`Session`]: the tables, and the open group's transactions and replies. [`Session::run`] executes a transaction,
-//!   [`Session::answer`] answers another request, [`Session::close`] gives out a group.
+//!   [`Session::answer`] answers another request, [`Session::close`] returns a group.
 //! - [`transaction_of`]: the transaction that a request asks for, if any.
 //!
 //! `specs/Session.antt` says what requests come to: their replies, the transactions that are committed, and the tables.

@@ -43,7 +43,7 @@ pub struct Session {
 }
 
 impl Model for Session {
-    ghost use Rattle.pac_session.specs.Open.{Open, open_code, IsSound};
+    ghost use Rattle.pac_session.specs.Open.{Open, open_code, IsWellFormed};
 
     ghost Value = { Open };
 
@@ -51,11 +51,11 @@ impl Model for Session {
 
     ghost view = { λ s. record { catalogue = s.catalogue; limit = s.limit; most = s.most; tables = s.rows.rows; before = s.before; txns = s.txns.items; held = s.held.items } };
 
-    ghost invariant = { λ s. IsSound (record { catalogue = s.catalogue; limit = s.limit; most = s.most; tables = s.rows.rows; before = s.before; txns = s.txns.items; held = s.held.items }) s.rows.tables s.len };
+    ghost invariant = { λ s. IsWellFormed (record { catalogue = s.catalogue; limit = s.limit; most = s.most; tables = s.rows.rows; before = s.before; txns = s.txns.items; held = s.held.items }) s.rows.tables s.len };
 }
 
 impl Session {
-    /// The session over these tables, with so many transactions committed before it. A group holds at most `most` replies,
+    /// The session over these tables, with that many transactions committed before it. A group holds at most `most` replies,
     /// and each table has at most `limit` rows. Takes no memory.
     pub fn new(
         alloc: Global,
@@ -201,7 +201,7 @@ impl Session {
         }
     }
 
-    /// Closes the open group, and gives out its transactions and replies. Takes no memory.
+    /// Closes the open group, and returns its transactions and replies. Takes no memory.
     pub fn close(&mut self) -> (Vec<Txn>, Replies)
         requires { self.old.before ≤ 2 ^ 63 }
         ensures closed { self.new ≡ with_closed self.old }

@@ -1,4 +1,4 @@
 pub mod FlowLemmas
-pub mod ClashLemmas
+pub mod ConflictLemmas
 pub mod SliceLemmas
 pub mod PairLemmas

@@ -4,7 +4,7 @@ use Rattle.std.specs.Prelude.{slice_index}
 use Rattle.std.proofs.lemmas.Bool.{cases_eq, cases_lt}
 use Rattle.pac_ops.specs.declared.program.FlatOp.{FlatOp}
 use Rattle.pac_ops.specs.Uses.{op_uses, defined_variable}
-use Rattle.pac_ops.specs.Dependencies.{IsFlow, IsClash}
+use Rattle.pac_ops.specs.Dependencies.{IsFlow, IsConflict}
 use Rattle.pac_graph.specs.Graph.{Graph, HasEdge}
 use Rattle.pac_graph.specs.Classes.{class_count}
 use Rattle.pac_graph.specs.Groups.{AreGroups}
@@ -13,26 +13,26 @@ use Rattle.pac_graph.proofs.AddLemmas.{adds_then}
 use Rattle.pac_graph.proofs.GraphLemmas.{one_edge, leads_from, leads_to}
 use Rattle.pac_graph.proofs.ClassLemmas.{is_count}
 use Rattle.pac_graph.proofs.DrawingLemmas.{IsDrawing, drawn_groups}
-use Rattle.pac_slice.specs.Dependent.{IsFlowAt, IsClashFrom}
+use Rattle.pac_slice.specs.Dependent.{IsFlowAt, IsConflictFrom}
 use Rattle.pac_slice.specs.Slices.{IsLink}
 use Rattle.pac_slice.proofs.FlowLemmas.{flow_zero}
 use Rattle.pac_slice.proofs.PairLemmas.{only_added}
 use Rattle.pac_graph.proofs.ItemLemmas.{inside}
-use Rattle.pac_slice.proofs.ClashLemmas.{clash_all}
+use Rattle.pac_slice.proofs.ConflictLemmas.{conflict_all}
 
 module _ (ops : List FlatOp) where
   pub flow_inside : (i j : ℕ) → IsFlow ops i j → (i < length ops) × (j < length ops)
   flow_inside i j (lt, x) = (inside ops i (λ op. defined_variable op.kind ≡ Some x.0) x.1, inside ops j (λ op. op_uses x.0 op ≡ true) x.2)
 
-  clash_back : (i j : ℕ) → IsClash ops i j → IsClash ops j i
-  clash_back i j (t, which) = ((t.0, t.2, t.1), ⊎_elim (λ m. inr m) (λ m. inl m) which)
+  conflict_back : (i j : ℕ) → IsConflict ops i j → IsConflict ops j i
+  conflict_back i j (t, which) = ((t.0, t.2, t.1), ⊎_elim (λ m. inr m) (λ m. inl m) which)
 
-  -- flow was added to a graph without edges, and then the clashes
-  pub linked : (old flow g : Graph) (n : ℕ) → length ops ≤ n → ((u v : ℕ) → HasEdge old u v → ⊥) → Adds old (IsFlowAt ops 0) flow → Adds flow (IsUpTo (IsClashFrom ops 0) n) g → (u v : ℕ) → HasEdge g u v ↔ IsLink ops u v
-  linked old flow g n le none first second u v = only_added old g (λ a b. IsFlowAt ops 0 a b ⊎ IsUpTo (IsClashFrom ops 0) n a b) (IsLink ops) none (adds_then old flow g (IsFlowAt ops 0) (IsUpTo (IsClashFrom ops 0) n) first second)
+  -- flow was added to a graph without edges, and then the conflicts
+  pub linked : (old flow g : Graph) (n : ℕ) → length ops ≤ n → ((u v : ℕ) → HasEdge old u v → ⊥) → Adds old (IsFlowAt ops 0) flow → Adds flow (IsUpTo (IsConflictFrom ops 0) n) g → (u v : ℕ) → HasEdge g u v ↔ IsLink ops u v
+  linked old flow g n le none first second u v = only_added old g (λ a b. IsFlowAt ops 0 a b ⊎ IsUpTo (IsConflictFrom ops 0) n a b) (IsLink ops) none (adds_then old flow g (IsFlowAt ops 0) (IsUpTo (IsConflictFrom ops 0) n) first second)
       (λ a b. (
-        (λ s. ⊎_elim (λ f. inl ((flow_zero ops a b).0 f)) (λ c. inr ((clash_all ops n le a b).0 c)) s),
-        (λ s. ⊎_elim (λ f. inl ((flow_zero ops a b).1 f)) (λ c. inr ((clash_all ops n le a b).1 c)) s),
+        (λ s. ⊎_elim (λ f. inl ((flow_zero ops a b).0 f)) (λ c. inr ((conflict_all ops n le a b).0 c)) s),
+        (λ s. ⊎_elim (λ f. inl ((flow_zero ops a b).1 f)) (λ c. inr ((conflict_all ops n le a b).1 c)) s),
       )) u v
 
   module _ (g : Graph) (nodes : g.nodes ≡ length ops) (is : (i j : ℕ) → HasEdge g i j ↔ IsLink ops i j) where
@@ -53,7 +53,7 @@ module _ (ops : List FlatOp) where
         omega (arith, leads_to g u v e, nodes),
         refl,
         refl,
-        ⊎_elim (λ flow. inl flow) (λ clash. inr (one_edge u v (inr clash), one_edge v u (inr (clash_back u v clash)))) ((is u v).0 e),
+        ⊎_elim (λ flow. inl flow) (λ conflict. inr (one_edge u v (inr conflict), one_edge v u (inr (conflict_back u v conflict)))) ((is u v).0 e),
       );
     }
 

@@ -5,9 +5,9 @@ ghost use Rattle.pac_graph.specs.Graph.{HasEdge};
 ghost use Rattle.pac_graph.specs.Adding.{Adds};
 ghost use Rattle.pac_ops.specs.declared.limits.TheConstants.{MAX_OPS};
 ghost use Rattle.pac_ops.specs.Dependencies.{IsFlow};
-ghost use Rattle.pac_slice.specs.Dependent.{ArePairsOf, IsClashPair, IsFlowAt, IsFlowFrom};
+ghost use Rattle.pac_slice.specs.Dependent.{ArePairsOf, IsConflictPair, IsFlowAt, IsFlowFrom};
 
-use crate::clashes::add_clashes_from;
+use crate::conflicts::add_conflicts_from;
 use pac_base::NoMemory;
 use pac_graph::Digraph;
 use pac_ops::{FlatOp, Pairs, Program};
@@ -19,7 +19,7 @@ pub struct Deps {
     /// The first defines a variable that the second uses.
     pub flow: Pairs,
     /// Both access one table, and at least one modifies it. The first has the lower number.
-    pub clash: Pairs,
+    pub conflict: Pairs,
 }
 
 /// The dependencies of a procedure.
@@ -30,18 +30,18 @@ pub struct Deps {
 pub fn dependencies(alloc: Global, program: &Program) -> Result<Deps, NoMemory>
     requires { length program.now.ops ≤ MAX_OPS }
     ensures flow { IfOk result (λ deps. ArePairsOf (IsFlow program.now.ops) deps.flow) }
-    ensures clash { IfOk result (λ deps. ArePairsOf (IsClashPair program.now.ops) deps.clash) }
+    ensures conflict { IfOk result (λ deps. ArePairsOf (IsConflictPair program.now.ops) deps.conflict) }
 {
     let ops = program.ops.as_slice();
     let mut flow = Digraph::new(alloc, ops.len())?;
     add_flow(ops, 0, &mut flow);
-    let mut clash = Digraph::new(alloc, ops.len())?;
+    let mut conflict = Digraph::new(alloc, ops.len())?;
     for from in 0..ops.len() {
-        add_clashes_from(ops, from, from + 1, &mut clash);
+        add_conflicts_from(ops, from, from + 1, &mut conflict);
     }
     Ok(Deps {
         flow: flow.edges()?,
-        clash: clash.edges()?,
+        conflict: conflict.edges()?,
     })
 }
 

@@ -4,7 +4,7 @@ ghost use Rattle.pac_graph.specs.Adding.{Adds};
 ghost use Rattle.pac_ops.specs.declared.limits.TheConstants.{MAX_OPS};
 ghost use Rattle.pac_slice.specs.Slices.{AreSlices};
 
-use crate::clashes::add_clashes_from;
+use crate::conflicts::add_conflicts_from;
 use crate::deps::add_flow;
 use pac_base::NoMemory;
 use pac_graph::Digraph;
@@ -21,7 +21,7 @@ pub struct LocalGraph {
 }
 
 /// The slices of a procedure: two operations are in one exactly where each is reached from the other, by flow and, both
-/// ways, by clashes. A slice is numbered once those with an edge into it are, and of those that are ready the one with
+/// ways, by conflicts. A slice is numbered once those with an edge into it are, and of those that are ready the one with
 /// the first operation is next.
 ///
 /// # Errors
@@ -35,7 +35,7 @@ pub fn slices(alloc: Global, program: &Program) -> Result<LocalGraph, NoMemory>
     let mut links = Digraph::new(alloc, ops.len())?;
     add_flow(ops, 0, &mut links);
     for from in 0..ops.len() {
-        add_clashes_from(ops, from, 0, &mut links);
+        add_conflicts_from(ops, from, 0, &mut links);
     }
     let groups = links.groups()?;
     Ok(LocalGraph {

@@ -1,4 +1,4 @@
-// Runs that are stopped one behind the other, each on what a crash left of the one before.
+// Runs that are stopped one after another, each on what a crash left of the one before.
 use pac_outside::{Devices, Fill, MemDisk};
 use pac_testing::{ADD, Outage, left, run_lines, run_struck, store_of};
 use std::alloc::Global;
@@ -6,11 +6,11 @@ use std::sync::Wait;
 use std::test::Fail;
 use std::thread::Threads;
 
-// Each transaction adds 1 to one row, which so tells how many there were.
+// Each transaction adds 1 to one row, which so says how many there were.
 const LINES: &str =
     "call Add(1, 1)\ncall Add(1, 1)\nsave\ncall Add(1, 1)\nflush\ncall Add(1, 1)\nsave\n";
 
-// Its replies: a word, and how many of these transactions stand behind it.
+// Its replies: a word, and how many of these transactions stand after it.
 const REPLIES: &[(&str, u64)] = &[
     ("committed ", 1),
     ("committed ", 2),
@@ -47,7 +47,7 @@ impl Numbers {
     }
 }
 
-// Puts a line of a word and a number behind a text.
+// Puts a line of a word and a number after a text.
 fn push_line(alloc: Global, text: &mut Vec<u8>, word: &str, number: u64) -> Result<(), Fail> {
     text.extend_from_slice(word.as_bytes())?;
     text.extend_from_slice(number.to_string(alloc)?.as_bytes())?;
@@ -55,7 +55,7 @@ fn push_line(alloc: Global, text: &mut Vec<u8>, word: &str, number: u64) -> Resu
     Ok(())
 }
 
-// How many transactions the output of a run acknowledges, where so many were stored before it.
+// How many transactions the output of a run acknowledges, where that many were stored before it.
 fn acknowledged(alloc: Global, output: &[u8], stored: u64) -> Result<u64, Fail> {
     let mut replies = Vec::new(alloc);
     let mut count = stored;
@@ -73,7 +73,7 @@ fn acknowledged(alloc: Global, output: &[u8], stored: u64) -> Result<u64, Fail> 
     }
 }
 
-// How many transactions a dump tells: at least so many, and at most four more than were stored before.
+// How many transactions a dump says: at least that many, and at most four more than were stored before.
 fn recovered(alloc: Global, dump: &[u8], stored: u64, least: u64) -> Result<u64, Fail> {
     for more in 0..5 {
         let count = stored.saturating_add(more);

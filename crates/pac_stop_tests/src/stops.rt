@@ -13,7 +13,7 @@ const LINES: &str = "adhoc put T[1] = (2)\nsave\nadhoc put T[2] = (3)\nsave\n";
 
 const TWO_ROWS: &str = "table T 2\n1 (2)\n2 (3)\n";
 
-// What stands behind so many of its transactions.
+// What stands after that many of its transactions.
 const DUMPS: &[&str] = &[NO_ROW, ONE_ROW, TWO_ROWS];
 
 // What the output may have taken of its replies, and how many transactions are acknowledged by that.
@@ -44,7 +44,7 @@ fn acknowledged(answer: &Answer) -> Result<usize, Fail> {
     Err(Fail::from("these are no first replies"))
 }
 
-// Whether `recover` writes the tables behind at least so many transactions, whatever a crash leaves of the devices.
+// Whether `recover` writes the tables after at least that many transactions, whatever a crash leaves of the devices.
 fn keeps<RT: Threads + Wait + Sync>(
     rt: &RT,
     alloc: Global,
@@ -58,8 +58,8 @@ fn keeps<RT: Threads + Wait + Sync>(
         for grown in [false, true] {
             let mut image = left(alloc, store, *fill, grown)?;
             let answer = run_lines(rt, alloc, "recover", "", [1, 0], &mut image)?;
-            let told = answer.output.bytes();
-            if answer.status != 0 || !dumps.iter().any(|dump| told == dump.as_bytes()) {
+            let known = answer.output.bytes();
+            if answer.status != 0 || !dumps.iter().any(|dump| known == dump.as_bytes()) {
                 return Ok(false);
             }
         }
@@ -82,7 +82,7 @@ fn is_struck<RT: Threads + Wait + Sync>(
     Ok(answer.status != 0)
 }
 
-// Each call of a device in turn fails, alone or with all behind it, up to a run that makes no such call.
+// Each call of a device in turn fails, alone or with all after it, up to a run that makes no such call.
 #[test]
 fn what_is_acknowledged_is_recovered(rt: HostRuntime) -> Result<(), Fail> {
     let alloc = rt.alloc();
@@ -105,7 +105,7 @@ fn a_commit_is_there_once_its_gate_is_open(rt: HostRuntime) -> Result<(), Fail> 
 
 const TWO: &str = "adhoc put T[1] = (2)\nadhoc put T[2] = (3)\n";
 
-// Whether the second commit is there behind an outage of all calls from this one on: nowhere, or where a gate was opened in
+// Whether the second commit is there after an outage of all calls from this one on: nowhere, or where a gate was opened in
 // the images that have its byte.
 fn opens<RT: Threads + Wait + Sync>(
     rt: &RT,
@@ -127,7 +127,7 @@ fn opens<RT: Threads + Wait + Sync>(
     Ok(answer.writes(b"committed 1\n"))
 }
 
-// What the output doesn't take is on the devices, or not: it was told to nobody.
+// What the output doesn't take is on the devices, or not: it was reported to nobody.
 #[test]
 fn an_output_that_fails_ends_the_run(rt: HostRuntime) -> Result<(), Fail> {
     let alloc = rt.alloc();
@@ -135,7 +135,7 @@ fn an_output_that_fails_ends_the_run(rt: HostRuntime) -> Result<(), Fail> {
         let mut store = store_of(&rt, alloc, ONE_TABLE)?;
         let answer = run_lines(&rt, alloc, "run --batch 1", LINES, [0, write], &mut store)?;
         let count = acknowledged(&answer)?;
-        assert!(rt; answer.tells(7, "output fault\n"));
+        assert!(rt; answer.knows(7, "output fault\n"));
         assert!(rt; keeps(&rt, alloc, &store, count)?, "write {write}");
     }
     Ok(())
@@ -148,8 +148,8 @@ const GONE_ON: &[StoreStep] = &[
     ("recover", "", (0, "table T 2\n1 (2)\n5 (6)\n", "")),
 ];
 
-// Whether an outage at this call ends the run. One that comes behind the first reply is counted, and the numbers of a second
-// run, over the image that has nothing of the lost group, go on behind what the image has.
+// Whether an outage at this call ends the run. One that comes after the first reply is counted, and the numbers of a second
+// run, over the image that has nothing of the lost group, go on after what the image has.
 fn loses_at<RT: Threads + Wait + Sync>(
     rt: &RT,
     alloc: Global,
@@ -180,7 +180,7 @@ fn a_lost_group_has_no_numbers(rt: HostRuntime) -> Result<(), Fail> {
     Ok(())
 }
 
-// How many outages, of each call in turn, lose a group behind the first reply.
+// How many outages, of each call in turn, lose a group after the first reply.
 fn count_lost<RT: Threads + Wait + Sync>(rt: &RT, alloc: Global) -> Result<u64, Fail> {
     let mut lost = 0;
     for passing in 0..100 {

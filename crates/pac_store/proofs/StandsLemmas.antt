@@ -1,4 +1,4 @@
--- What the devices stand for: a history is told by its front, and what is stored goes on in it.
+-- What the devices stand for: a history is known by its prefix, and what is stored goes on in it.
 use Rattle.std.proofs.Common.{◌≡◌, ◌∙◌, inl, inr, ◌⊎◌, ℕ, ◌≤◌, ◌<◌, ◌+◌, List, [], ◌∷◌, ◌++◌, length, take, drop, Option, Some, None, Result, Ok, Err, refl, sym, ap, ap₂, subst, arith, append_assoc}
 use Rattle.std.specs.Prelude.{Bool, true, false, nat_lt, if◌then◌else◌, eqb}
 use Rattle.std.specs.FinMap.{empty}
@@ -33,8 +33,8 @@ use Rattle.pac_check.proofs.OnceLemmas.{one-checkpoint, one-state}
 use Rattle.pac_check.proofs.SlotLemmas.{read_held}
 use Rattle.pac_store.specs.Images.{Images}
 use Rattle.pac_store.specs.Stored.{Stored, IsStored, AreNewest, newest_among}
-use Rattle.pac_store.specs.Stands.{EndsWith, IsHistory, HasSaved, HoldsSaved, IsShutOrFront, StandsFor}
-use Rattle.pac_store.specs.Fronts.{GoesOn}
+use Rattle.pac_store.specs.Stands.{EndsWith, IsHistory, HasSaved, HoldsSaved, IsShutOrPrefix, StandsFor}
+use Rattle.pac_store.specs.Prefixes.{GoesOn}
 
 -- ---- more and fewer
 
@@ -44,7 +44,7 @@ fewer text catalogue history least lesser images le is = record {
   batches = is.batches;
   log = is.log;
   later = is.later;
-  front = is.front;
+  prefix = is.prefix;
   enough = omega (arith, le, is.enough);
   slot_a = is.slot_a;
   slot_b = is.slot_b;
@@ -64,7 +64,7 @@ longer text catalogue history more least images executes is = record {
   batches = is.batches;
   log = is.log;
   later = is.later ++ more;
-  front = ap (λ (h : List Txn). h ++ more) is.front ∙ append_assoc (all_txns is.batches) is.later more;
+  prefix = ap (λ (h : List Txn). h ++ more) is.prefix ∙ append_assoc (all_txns is.batches) is.later more;
   enough = is.enough;
   slot_a = is.slot_a;
   slot_b = is.slot_b;
@@ -72,18 +72,18 @@ longer text catalogue history more least images executes is = record {
 
 -- ---- one history
 
--- the first so many of the history are those of the log
-told-front : (text : List ℕ) (catalogue : CatalogueState) (history : List Txn) (least : ℕ) (images : Images) → (is : StandsFor text catalogue history least images) → take least history ≡ take least (all_txns is.batches)
-told-front text catalogue history least images is = ap (λ (h : List Txn). take least h) is.front ∙ take-append-le least (all_txns is.batches) is.later is.enough
+-- the first n of the history are those of the log
+known-prefix : (text : List ℕ) (catalogue : CatalogueState) (history : List Txn) (least : ℕ) (images : Images) → (is : StandsFor text catalogue history least images) → take least history ≡ take least (all_txns is.batches)
+known-prefix text catalogue history least images is = ap (λ (h : List Txn). take least h) is.prefix ∙ take-append-le least (all_txns is.batches) is.later is.enough
 
-pub one-front : (s t : List ℕ) (c d : CatalogueState) (h g : List Txn) (least : ℕ) (images : Images) → StandsFor s c h least images → StandsFor t d g least images → (s ≡ t) × (c ≡ d) × (take least h ≡ take least g)
-one-front s t c d h g least images is other =
+pub one-prefix : (s t : List ℕ) (c d : CatalogueState) (h g : List Txn) (least : ℕ) (images : Images) → StandsFor s c h least images → StandsFor t d g least images → (s ≡ t) × (c ≡ d) × (take least h ≡ take least g)
+one-prefix s t c d h g least images is other =
     let one = one_log s t c d is.batches other.batches images.log is.log other.log in
-    (one.0, one.1, told-front s c h least images is ∙ ap (λ (b : List (List Txn)). take least (all_txns b)) one.2 ∙ sym (told-front t d g least images other))
+    (one.0, one.1, known-prefix s c h least images is ∙ ap (λ (b : List (List Txn)). take least (all_txns b)) one.2 ∙ sym (known-prefix t d g least images other))
 
 pub one-whole : (s t : List ℕ) (c d : CatalogueState) (h g : List Txn) (images : Images) → length h ≡ length g → StandsFor s c h (length h) images → StandsFor t d g (length g) images → h ≡ g
 one-whole s t c d h g images long is other =
-    let same = one-front s t c d h g (length h) images is (subst (λ (n : ℕ). StandsFor t d g n images) (sym long) other) in
+    let same = one-prefix s t c d h g (length h) images is (subst (λ (n : ℕ). StandsFor t d g n images) (sym long) other) in
     sym (take_all (length h) h (omega arith)) ∙ same.2 ∙ take_all (length h) g (omega (arith, long))
 
 -- ---- one checkpoint
@@ -105,43 +105,43 @@ open-shut piece image opens shut = shut.shut (heads (sym shut.split ∙ opens.sp
     heads : {x y : ℕ} {xs ys : List ℕ} → x ∷ xs ≡ y ∷ ys → x ≡ y
     heads e = cc
 
--- the tables of an open slot are those of the front that it is of
-record IsFrontTables (text : List ℕ) (catalogue : CatalogueState) (batches : List (List Txn)) (number : ℕ) (base : Tables) : Type 0 where
+-- the tables of an open slot are those of the prefix that it is of
+record IsPrefixTables (text : List ℕ) (catalogue : CatalogueState) (batches : List (List Txn)) (number : ℕ) (base : Tables) : Type 0 where
   within : number ≤ length (all_txns batches)
   ends : EndsWith catalogue (take number (all_txns batches)) base
 
-open-front : (text : List ℕ) (catalogue : CatalogueState) → length catalogue.tables < 65536 → (batches : List (List Txn)) (image : List ℕ) (head : Head) (base : Tables)
-    → IsShutOrFront text catalogue batches image → FitTables catalogue.tables base → HoldsRows catalogue.tables head base image → IsFrontTables text catalogue batches head.txns base
-open-front text catalogue few_tables batches image head base (inl shut) fits rows = absurd (open-shut _ image rows.opens shut)
-open-front text catalogue few_tables batches image head base (inr front) fits rows =
-    let same = one-saved catalogue.tables few_tables image front.head head front.held base front.fit fits front.rows rows in
-    let number : front.head.txns ≡ head.txns = ap (λ (h : Head). h.txns) same.0 in
+open-prefix : (text : List ℕ) (catalogue : CatalogueState) → length catalogue.tables < 65536 → (batches : List (List Txn)) (image : List ℕ) (head : Head) (base : Tables)
+    → IsShutOrPrefix text catalogue batches image → FitTables catalogue.tables base → HoldsRows catalogue.tables head base image → IsPrefixTables text catalogue batches head.txns base
+open-prefix text catalogue few_tables batches image head base (inl shut) fits rows = absurd (open-shut _ image rows.opens shut)
+open-prefix text catalogue few_tables batches image head base (inr prefix) fits rows =
+    let same = one-saved catalogue.tables few_tables image prefix.head head prefix.held base prefix.fit fits prefix.rows rows in
+    let number : prefix.head.txns ≡ head.txns = ap (λ (h : Head). h.txns) same.0 in
     record {
-      within = subst (λ (n : ℕ). n ≤ length (all_txns batches)) number (few text batches front.head.place front.head.txns front.gate);
-      ends = subst (λ (t : Tables). EndsWith catalogue (take head.txns (all_txns batches)) t) same.1 (subst (λ (n : ℕ). EndsWith catalogue (take n (all_txns batches)) front.held) number front.ends);
+      within = subst (λ (n : ℕ). n ≤ length (all_txns batches)) number (few text batches prefix.head.place prefix.head.txns prefix.gate);
+      ends = subst (λ (t : Tables). EndsWith catalogue (take head.txns (all_txns batches)) t) same.1 (subst (λ (n : ℕ). EndsWith catalogue (take n (all_txns batches)) prefix.held) number prefix.ends);
     }
 
-newest-front : (text : List ℕ) (catalogue : CatalogueState) → length catalogue.tables < 65536 → (batches : List (List Txn)) (images : Images)
-    → IsShutOrFront text catalogue batches images.slot_a → IsShutOrFront text catalogue batches images.slot_b
-    → (newest : Option SlotInfo) (base : Tables) (number : ℕ) → AreNewest catalogue images.slot_a images.slot_b newest base number → IsFrontTables text catalogue batches number base
-newest-front text catalogue few_tables batches images a b None base number are = record {
+newest-prefix : (text : List ℕ) (catalogue : CatalogueState) → length catalogue.tables < 65536 → (batches : List (List Txn)) (images : Images)
+    → IsShutOrPrefix text catalogue batches images.slot_a → IsShutOrPrefix text catalogue batches images.slot_b
+    → (newest : Option SlotInfo) (base : Tables) (number : ℕ) → AreNewest catalogue images.slot_a images.slot_b newest base number → IsPrefixTables text catalogue batches number base
+newest-prefix text catalogue few_tables batches images a b None base number are = record {
   within = omega (arith, are.1);
   ends = subst (λ (n : ℕ). EndsWith catalogue (take n (all_txns batches)) base) (sym are.1) (ap (λ (t : Tables). the_end t) (sym are.0));
 }
   where
     the_end : Tables → Result Tables Note
     the_end t = Ok t
-newest-front text catalogue few_tables batches images a b (Some info) base number are = subst (λ (n : ℕ). IsFrontTables text catalogue batches n base) (sym are.2) (go info.slot are.1)
+newest-prefix text catalogue few_tables batches images a b (Some info) base number are = subst (λ (n : ℕ). IsPrefixTables text catalogue batches n base) (sym are.2) (go info.slot are.1)
   where
-    go : (slot : SlotName) → HoldsRows catalogue.tables (head_with info.txns info.place) base (by_slot slot images.slot_a images.slot_b) → IsFrontTables text catalogue batches info.txns base
-    go A rows = open-front text catalogue few_tables batches images.slot_a (head_with info.txns info.place) base a are.0 rows
-    go B rows = open-front text catalogue few_tables batches images.slot_b (head_with info.txns info.place) base b are.0 rows
+    go : (slot : SlotName) → HoldsRows catalogue.tables (head_with info.txns info.place) base (by_slot slot images.slot_a images.slot_b) → IsPrefixTables text catalogue batches info.txns base
+    go A rows = open-prefix text catalogue few_tables batches images.slot_a (head_with info.txns info.place) base a are.0 rows
+    go B rows = open-prefix text catalogue few_tables batches images.slot_b (head_with info.txns info.place) base b are.0 rows
 
 -- ---- what is stored goes on
 
--- where the whole ends, its front does
-front-ends : (procs : List Proc) (n : ℕ) (xs ys : List Txn) (t u : Tables) → serial procs n (xs ++ ys) t ≡ Ok u → (v : Tables) × (serial procs n xs t ≡ Ok v)
-front-ends procs n xs ys t u e = go (serial procs n xs t) refl
+-- where the whole ends, its prefix does
+prefix-ends : (procs : List Proc) (n : ℕ) (xs ys : List Txn) (t u : Tables) → serial procs n (xs ++ ys) t ≡ Ok u → (v : Tables) × (serial procs n xs t ≡ Ok v)
+prefix-ends procs n xs ys t u e = go (serial procs n xs t) refl
   where
     go : (r : Result Tables Note) → serial procs n xs t ≡ r → (v : Tables) × (serial procs n xs t ≡ Ok v)
     go (Ok v) is = (v, is)
@@ -149,12 +149,12 @@ front-ends procs n xs ys t u e = go (serial procs n xs t) refl
         let no : ◌≡◌ {A = Result Tables Note} (Err note) (Ok u) = ap (λ (r : Result Tables Note). r >>= λ w. serial procs (n + length xs) ys w) (sym is) ∙ sym (serial-parts procs n xs ys t) ∙ e in
         absurd cc
 
--- behind a front goes on what is behind it
-behind-front : (procs : List Proc) (k : ℕ) (txns : List Txn) (base end : Tables) → k ≤ length txns → serial procs 1 (take k txns) empty ≡ Ok base → serial procs 1 txns empty ≡ Ok end → serial procs (k + 1) (drop k txns) base ≡ Ok end
-behind-front procs k txns base end le front whole =
+-- after a prefix goes on what is after it
+after-prefix : (procs : List Proc) (k : ℕ) (txns : List Txn) (base end : Tables) → k ≤ length txns → serial procs 1 (take k txns) empty ≡ Ok base → serial procs 1 txns empty ≡ Ok end → serial procs (k + 1) (drop k txns) base ≡ Ok end
+after-prefix procs k txns base end le prefix whole =
     let counted : 1 + length (take k txns) ≡ k + 1 = omega (arith, length-take-le k txns le) in
     ap (λ (n : ℕ). serial procs n (drop k txns) base) (sym counted)
-    ∙ sym (ap (λ (r : Result Tables Note). r >>= λ u. serial procs (1 + length (take k txns)) (drop k txns) u) front)
+    ∙ sym (ap (λ (r : Result Tables Note). r >>= λ u. serial procs (1 + length (take k txns)) (drop k txns) u) prefix)
     ∙ sym (serial-parts procs 1 (take k txns) (drop k txns) empty)
     ∙ ap (λ (l : List Txn). serial procs 1 l empty) (take-append-drop k txns)
     ∙ whole
@@ -162,19 +162,19 @@ behind-front procs k txns base end le front whole =
 -- what is stored on devices that stand for a history, of one text, one catalogue and one list of batches
 goes-on-here : (text : List ℕ) (catalogue : CatalogueState) → length catalogue.tables < 65536 → (history : List Txn) (least : ℕ) (images : Images) → (is : StandsFor text catalogue history least images)
     → (stored : Stored) → stored.catalogue ≡ catalogue → (newest : Option SlotInfo) → AreNewest catalogue images.slot_a images.slot_b newest stored.base stored.number → stored.rest ≡ drop stored.number (all_txns is.batches) → GoesOn catalogue history least stored
-goes-on-here text catalogue few_tables history least images is stored same newest are behind =
+goes-on-here text catalogue few_tables history least images is stored same newest are after =
     let txns = all_txns is.batches in
-    let front = newest-front text catalogue few_tables is.batches images is.slot_a is.slot_b newest stored.base stored.number are in
-    let all : stored.number + length stored.rest ≡ length txns = omega (arith, ap (λ (l : List Txn). length l) behind, length-drop stored.number txns, front.within) in
-    let whole = front-ends catalogue.procs 1 txns is.later empty is.executes.held (ap (λ (h : List Txn). serial catalogue.procs 1 h empty) (sym is.front) ∙ is.executes.ends) in
-    let first : take (stored.number + length stored.rest) history ≡ txns = ap₂ (λ (n : ℕ) (h : List Txn). take n h) all is.front ∙ take_at txns is.later (length txns) refl in
+    let prefix = newest-prefix text catalogue few_tables is.batches images is.slot_a is.slot_b newest stored.base stored.number are in
+    let all : stored.number + length stored.rest ≡ length txns = omega (arith, ap (λ (l : List Txn). length l) after, length-drop stored.number txns, prefix.within) in
+    let whole = prefix-ends catalogue.procs 1 txns is.later empty is.executes.held (ap (λ (h : List Txn). serial catalogue.procs 1 h empty) (sym is.prefix) ∙ is.executes.ends) in
+    let first : take (stored.number + length stored.rest) history ≡ txns = ap₂ (λ (n : ℕ) (h : List Txn). take n h) all is.prefix ∙ take_at txns is.later (length txns) refl in
     record {
       same = same;
       held = whole.0;
       enough = subst (λ (n : ℕ). least ≤ n) (sym all) is.enough;
-      within = omega (arith, all, ap (λ (h : List Txn). length h) is.front, length-append txns is.later);
+      within = omega (arith, all, ap (λ (h : List Txn). length h) is.prefix, length-append txns is.later);
       ends = ap (λ (h : List Txn). serial catalogue.procs 1 h empty) first ∙ whole.1;
-      from_base = ap (λ (l : List Txn). serial catalogue.procs (stored.number + 1) l stored.base) behind ∙ behind-front catalogue.procs stored.number txns stored.base whole.0 front.within front.ends whole.1;
+      from_base = ap (λ (l : List Txn). serial catalogue.procs (stored.number + 1) l stored.base) after ∙ after-prefix catalogue.procs stored.number txns stored.base whole.0 prefix.within prefix.ends whole.1;
     }
 
 pub goes-on : (text : List ℕ) (catalogue : CatalogueState) (history : List Txn) (least : ℕ) (images : Images) (stored : Stored) → StandsFor text catalogue history least images → IsStored images stored → GoesOn catalogue history least stored
@@ -183,7 +183,7 @@ goes-on text catalogue history least images stored is there =
     let one = one_log text there.text catalogue stored.catalogue is.batches there.batches images.log is.log there.log in
     goes-on-here text catalogue few_tables history least images is stored (sym one.1) (newest_among there.a there.b)
     (subst (λ (c : CatalogueState). AreNewest c images.slot_a images.slot_b (newest_among there.a there.b) stored.base stored.number) (sym one.1) there.newest)
-    (there.behind ∙ ap (λ (b : List (List Txn)). drop stored.number (all_txns b)) (sym one.2))
+    (there.after ∙ ap (λ (b : List (List Txn)). drop stored.number (all_txns b)) (sym one.2))
 
 -- ---- what stands is stored
 
@@ -197,11 +197,11 @@ newest-one (Some a) (Some b) info e = go (nat_lt a.txns b.txns) e
     go true h = inr h
     go false h = inl h
 
--- a slot that is shut, or open with a front, is read as such
+-- a slot that is shut, or open with a prefix, is read as such
 pub record IsReadable (text : List ℕ) (catalogue : CatalogueState) (batches : List (List Txn)) (image : List ℕ) : Type 0 where
   pub state : SlotState
   pub is : IsSlot catalogue.tables state image
-  pub front : (head : Head) → state ≡ Open head → (held : Tables) × FitTables catalogue.tables held × HoldsRows catalogue.tables head held image × HasGate text batches head.place head.txns
+  pub prefix : (head : Head) → state ≡ Open head → (held : Tables) × FitTables catalogue.tables held × HoldsRows catalogue.tables head held image × HasGate text batches head.place head.txns
 
 shut-read : (tables : List Table) (image : List ℕ) → IsShut [] image → slot_read tables image ≡ Ok Closed
 shut-read tables image shut = ap (slot_read tables) shut.split ∙ go (eqb shut.gate 1) refl
@@ -216,18 +216,18 @@ same-head a b e = cc
 no-open : (head : Head) → Closed ≡ Open head → ⊥
 no-open head e = cc
 
-pub readable : (text : List ℕ) (catalogue : CatalogueState) → length catalogue.tables < 65536 → (batches : List (List Txn)) (image : List ℕ) → IsShutOrFront text catalogue batches image → IsReadable text catalogue batches image
+pub readable : (text : List ℕ) (catalogue : CatalogueState) → length catalogue.tables < 65536 → (batches : List (List Txn)) (image : List ℕ) → IsShutOrPrefix text catalogue batches image → IsReadable text catalogue batches image
 readable text catalogue few_tables batches image (inl shut) = record {
   state = Closed;
   is = shut-read catalogue.tables image shut;
-  front = λ head e. absurd (no-open head e);
+  prefix = λ head e. absurd (no-open head e);
 }
-readable text catalogue few_tables batches image (inr front) = record {
-  state = Open front.head;
-  is = read_held catalogue.tables few_tables image (checkpoint_of (length catalogue.tables) front.head front.held) front.rows;
-  front = λ head e.
-      let same = same-head front.head head e in
-      (front.held, front.fit, subst (λ (h : Head). HoldsRows catalogue.tables h front.held image) same front.rows, subst (λ (h : Head). HasGate text batches h.place h.txns) same front.gate);
+readable text catalogue few_tables batches image (inr prefix) = record {
+  state = Open prefix.head;
+  is = read_held catalogue.tables few_tables image (checkpoint_of (length catalogue.tables) prefix.head prefix.held) prefix.rows;
+  prefix = λ head e.
+      let same = same-head prefix.head head e in
+      (prefix.held, prefix.fit, subst (λ (h : Head). HoldsRows catalogue.tables h prefix.held image) same prefix.rows, subst (λ (h : Head). HasGate text batches h.place h.txns) same prefix.gate);
 }
 
 -- an open slot by its name
@@ -243,14 +243,14 @@ module _ (text : List ℕ) (catalogue : CatalogueState) (batches : List (List Tx
   tables-a : (info : SlotInfo) → info_of A ra.state ≡ Some info → IsTablesOf catalogue a b info
   tables-a info e =
       let found = same-info A ra.state info e in
-      let front = ra.front found.0 found.1 in
-      subst (λ (i : SlotInfo). IsTablesOf catalogue a b i) (sym found.2) (front.0, front.1, front.2)
+      let prefix = ra.prefix found.0 found.1 in
+      subst (λ (i : SlotInfo). IsTablesOf catalogue a b i) (sym found.2) (prefix.0, prefix.1, prefix.2)
 
   tables-b : (info : SlotInfo) → info_of B rb.state ≡ Some info → IsTablesOf catalogue a b info
   tables-b info e =
       let found = same-info B rb.state info e in
-      let front = rb.front found.0 found.1 in
-      subst (λ (i : SlotInfo). IsTablesOf catalogue a b i) (sym found.2) (front.0, front.1, front.2)
+      let prefix = rb.prefix found.0 found.1 in
+      subst (λ (i : SlotInfo). IsTablesOf catalogue a b i) (sym found.2) (prefix.0, prefix.1, prefix.2)
 
   newest-tables : (newest : Option SlotInfo) → newest_among ra.state rb.state ≡ newest → (base : Tables) × (number : ℕ) × AreNewest catalogue a b newest base number
   newest-tables None e = (empty, 0, (refl, refl))
@@ -279,6 +279,6 @@ is-stored text catalogue history least images is =
         is_a = ra.is;
         is_b = rb.is;
         newest = found.2;
-        behind = refl;
+        after = refl;
       },
     )

@@ -1,4 +1,4 @@
 pub mod Images
 pub mod Stored
 pub mod Stands
-pub mod Fronts
+pub mod Prefixes

@@ -24,9 +24,9 @@ pub record IsHistory (catalogue : CatalogueState) (history : List Txn) : Type 0 
   pub held : Tables
   pub ends : EndsWith catalogue history held
 
--- a slot is open with a checkpoint of a log's front: at the place of a gate, with the number of the transactions in front
+-- a slot is open with a checkpoint of a log's prefix: at the offset of a gate, with the number of the transactions at the start
 -- of it, and the tables with which serial execution of these ends
-pub record HoldsFront (text : List ℕ) (catalogue : CatalogueState) (batches : List (List Txn)) (image : List ℕ) : Type 0 where
+pub record HoldsPrefix (text : List ℕ) (catalogue : CatalogueState) (batches : List (List Txn)) (image : List ℕ) : Type 0 where
   pub head : Head
   pub held : Tables
   pub fit : FitTables catalogue.tables held
@@ -34,24 +34,24 @@ pub record HoldsFront (text : List ℕ) (catalogue : CatalogueState) (batches : 
   pub gate : HasGate text batches head.place head.txns
   pub ends : EndsWith catalogue (take head.txns (all_txns batches)) held
 
--- a slot's device has a byte; the slot is shut, or open with a checkpoint of the log's front
-abbrev pub IsShutOrFront : List ℕ → CatalogueState → List (List Txn) → List ℕ → Type 0
-IsShutOrFront text catalogue batches image = IsShut [] image ⊎ HoldsFront text catalogue batches image
+-- a slot's device has a byte; the slot is shut, or open with a checkpoint of the log's prefix
+abbrev pub IsShutOrPrefix : List ℕ → CatalogueState → List (List Txn) → List ℕ → Type 0
+IsShutOrPrefix text catalogue batches image = IsShut [] image ⊎ HoldsPrefix text catalogue batches image
 
--- The devices stand for a history of at least so many transactions: the log is one of this catalogue's text and has no
--- damage, its transactions are the first of the history, at least so many, and each slot is shut, or open with a
--- checkpoint of the log's front.
+-- The devices stand for a history of at least that many transactions: the log is one of this catalogue's text and has no
+-- damage, its transactions are the first of the history, at least that many, and each slot is shut, or open with a
+-- checkpoint of the log's prefix.
 pub record StandsFor (text : List ℕ) (catalogue : CatalogueState) (history : List Txn) (least : ℕ) (images : Images) : Type 0 where
   pub executes : IsHistory catalogue history
   pub batches : List (List Txn)
   pub log : HoldsLog text catalogue batches images.log
   pub later : List Txn
-  pub front : history ≡ all_txns batches ++ later
+  pub prefix : history ≡ all_txns batches ++ later
   pub enough : least ≤ length (all_txns batches)
-  pub slot_a : IsShutOrFront text catalogue batches images.slot_a
-  pub slot_b : IsShutOrFront text catalogue batches images.slot_b
+  pub slot_a : IsShutOrPrefix text catalogue batches images.slot_a
+  pub slot_b : IsShutOrPrefix text catalogue batches images.slot_b
 
--- a slot is open with a checkpoint of at least so many transactions
+-- a slot is open with a checkpoint of at least that many transactions
 pub record HasSaved (catalogue : CatalogueState) (saved : ℕ) (image : List ℕ) : Type 0 where
   pub checkpoint : Checkpoint
   pub holds : HoldsCheckpoint catalogue.tables checkpoint image

@@ -13,7 +13,7 @@ use Rattle.pac_check.specs.Checkpoints.{head_with}
 use Rattle.pac_check.specs.SlotStates.{by_slot, info_of, with_more, IsSlot, HoldsRows}
 use Rattle.pac_store.specs.Images.{Images}
 
--- a catalogue, tables and how many transactions are in them, and the transactions behind these
+-- a catalogue, tables and how many transactions are in them, and the transactions after these
 pub record Stored : Type 0 where
   pub catalogue : CatalogueState
   pub base : Tables
@@ -30,7 +30,7 @@ AreNewest catalogue a b None base number = (base ≡ empty) × (number ≡ 0)
 AreNewest catalogue a b (Some info) base number = FitTables catalogue.tables base × HoldsRows catalogue.tables (head_with info.txns info.place) base (by_slot info.slot a b) × (number ≡ info.txns)
 
 -- What is stored: the catalogue of the log, the tables and the number of the newest open slot, and the log's transactions
--- behind so many, up to the first gate that is shut.
+-- after that many, up to the first gate that is shut.
 pub record IsStored (images : Images) (stored : Stored) : Type 0 where
   pub text : List ℕ
   pub batches : List (List Txn)
@@ -40,4 +40,4 @@ pub record IsStored (images : Images) (stored : Stored) : Type 0 where
   pub is_a : IsSlot stored.catalogue.tables a images.slot_a
   pub is_b : IsSlot stored.catalogue.tables b images.slot_b
   pub newest : AreNewest stored.catalogue images.slot_a images.slot_b (newest_among a b) stored.base stored.number
-  pub behind : stored.rest ≡ drop stored.number (all_txns batches)
+  pub after : stored.rest ≡ drop stored.number (all_txns batches)

@@ -2,13 +2,13 @@
 ghost use Rattle.std.specs.Prelude.{◌≡◌, ◌≤◌, ◌++◌, ℕ, List, length, take};
 ghost use Rattle.pac_ops.specs.declared.transaction.Txn.{Txn as ATxn};
 ghost use Rattle.pac_types.specs.Typing.{CatalogueState};
-ghost use Rattle.pac_store.specs.Fronts.{GoesOn};
+ghost use Rattle.pac_store.specs.Prefixes.{GoesOn};
 ghost use Rattle.pac_store.specs.Images.{Images};
 ghost use Rattle.pac_store.specs.Stands.{HoldsSaved, IsHistory, StandsFor};
 ghost use Rattle.pac_store.specs.Stored.{IsStored, Stored};
 
 /// Where devices stand for a history, serial execution of what is stored on them, from the tables of the newest slot on,
-/// ends with the tables of a front of the history, which has at least as many transactions as they stand for.
+/// ends with the tables of a prefix of the history, which has at least as many transactions as they stand for.
 pub fn stored_goes_on()
     ensures { (text : List ℕ) (c : CatalogueState) (history : List ATxn) (least : ℕ) (images : Images) (stored : Stored) → StandsFor text c history least images → IsStored images stored → GoesOn c history least stored }
 {}
@@ -21,11 +21,11 @@ pub fn what_stands_is_stored()
 /// Devices stand for one text, one catalogue, and one list of as many transactions: two histories that they stand for
 /// begin with the same ones.
 pub fn one_history()
-    ensures front { (s t : List ℕ) (c d : CatalogueState) (h g : List ATxn) (least : ℕ) (images : Images) → StandsFor s c h least images → StandsFor t d g least images → (s ≡ t) × (c ≡ d) × (take least h ≡ take least g) }
+    ensures prefix { (s t : List ℕ) (c d : CatalogueState) (h g : List ATxn) (least : ℕ) (images : Images) → StandsFor s c h least images → StandsFor t d g least images → (s ≡ t) × (c ≡ d) × (take least h ≡ take least g) }
     ensures whole { (s t : List ℕ) (c d : CatalogueState) (h g : List ATxn) (images : Images) → length h ≡ length g → StandsFor s c h (length h) images → StandsFor t d g (length g) images → h ≡ g }
 {}
 
-/// Devices that stand for a history of at least so many transactions stand for it with fewer.
+/// Devices that stand for a history of at least that many transactions stand for it with fewer.
 pub fn fewer_stand()
     ensures log { (text : List ℕ) (c : CatalogueState) (history : List ATxn) (least lesser : ℕ) (images : Images) → lesser ≤ least → StandsFor text c history least images → StandsFor text c history lesser images }
     ensures slots { (c : CatalogueState) (saved lesser : ℕ) (images : Images) → lesser ≤ saved → HoldsSaved c saved images → HoldsSaved c lesser images }

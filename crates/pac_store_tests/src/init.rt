@@ -47,7 +47,7 @@ const USED: &[([&[u8]; 3], &str)] = &[
     ([LONG, b"\0", b"bytes"], "not empty log 70\n"),
 ];
 
-// The first device that has a byte is told, and none is written.
+// The first device that has a byte is reported, and none is written.
 #[test]
 fn devices_in_use_are_refused(rt: HostRuntime) -> Result<(), Fail> {
     let alloc = rt.alloc();
@@ -103,9 +103,9 @@ fn is_struck<RT: Threads + Wait + Sync>(
     Ok(answer.status != 0)
 }
 
-// No call of a device comes behind one that failed.
+// No call of a device comes after one that failed.
 #[test]
-fn a_failing_device_is_told(rt: HostRuntime) -> Result<(), Fail> {
+fn a_failing_device_is_known(rt: HostRuntime) -> Result<(), Fail> {
     let alloc = rt.alloc();
     strike_in_turn(|outage| is_struck(&rt, alloc, outage))
 }

@@ -22,27 +22,27 @@ use Rattle.pac_syntax.specs.declared.tree.StmtNode.TheVariants as stmt
 use Rattle.pac_syntax.specs.declared.tree.TableNode.{TableNode}
 use Rattle.pac_syntax.specs.declared.tree.ProcNode.{ProcNode}
 use Rattle.pac_syntax.specs.declared.tree.Tree.{Tree}
-use Rattle.pac_syntax.specs.Grammar.{LiteralForm, AnInt, ANegative, AText, ATrue, AFalse, ExprForm, ALiteral, AName, ANot, AParen, ABinary, ValuesForm, NoValue, AValue, StmtsForm, NoStmt, ALet, ARead, AHas, APut, ASet, ADelete, AnAbort, AnIf, AnIfElse, TypeForm, AnIntType, ATextType, ColumnsForm, NoColumn, AColumn, ParamsForm, NoParam, AParam, TablesForm, NoTable, ATable, ProcsForm, NoProc, AProc, sign_of, tier, left_level, AtLevel, AreValues, AreStmts, AreProcs, literal_node, expr_node, value_nodes, stmt_nodes, type_of_form, column_node, column_nodes, param_nodes, table_nodes, proc_nodes, Role, Plain, TableWord, ProcWord, ParamName, Operator, Paren, Nested, Marked, marked, keyword_mark, symbol_mark, name_mark, type_mark, literal_before, counted, expr_before, whole_before, values_before, stmts_before, columns_before, params_before, tables_before, procs_before, Whole}
-use Rattle.pac_syntax.specs.Machine.{Begun, Steps, Done, Want, WantName, WantType, WantLiteral, WantNegative, Level, Rest, MoreValues, MoreStmts, MaybeElse, MoreColumns, SomeParams, MoreTables, MoreProcs, Next, next, want_expr, begun_name, begun_literal, begun_binary, top, lay, negation_steps, paren_steps, stmt_steps, block_steps, if_steps, column_steps, typed_steps, table_steps, proc_steps, start, literal_at, is_same_word_or_sign, name_in, type_of_token, operator_of, operator_in, operator_at, of_tier, or_else, where_true, where_some, literal_begins, negative_in, operand_begins, stmt_begins, feed, finish}
-use Rattle.pac_syntax.proofs.Marks.{is_same_word_or_sign-true}
+use Rattle.pac_syntax.specs.Grammar.{LiteralForm, AnInt, ANegative, AText, ATrue, AFalse, ExprForm, ALiteral, AName, ANot, AParen, ABinary, ValuesForm, NoValue, AValue, StmtsForm, NoStmt, ALet, ARead, AHas, APut, ASet, ADelete, AnAbort, AnIf, AnIfElse, TypeForm, AnIntType, ATextType, ColumnsForm, NoColumn, AColumn, ParamsForm, NoParam, AParam, TablesForm, NoTable, ATable, ProcsForm, NoProc, AProc, operator_symbol, precedence, left_level, AtLevel, AreValues, AreStmts, AreProcs, literal_node, expr_node, value_nodes, stmt_nodes, type_of_form, column_node, column_nodes, param_nodes, table_nodes, proc_nodes, Role, Plain, TableWord, ProcWord, ParamName, Operator, Paren, Nested, Marked, marked, keyword_mark, symbol_mark, name_mark, type_mark, literal_before, counted, expr_before, whole_before, values_before, stmts_before, columns_before, params_before, tables_before, procs_before, Whole}
+use Rattle.pac_syntax.specs.Machine.{Begun, Steps, Done, Want, WantName, WantType, WantLiteral, WantNegative, Level, Rest, MoreValues, MoreStmts, MaybeElse, MoreColumns, SomeParams, MoreTables, MoreProcs, Next, next, want_expr, begun_name, begun_literal, begun_binary, top, lay, negation_steps, paren_steps, stmt_steps, block_steps, if_steps, column_steps, typed_steps, table_steps, proc_steps, start, literal_at, is_same_keyword_or_symbol, name_in, type_of_token, operator_of, operator_in, operator_at, of_precedence, or_else, where_true, where_some, literal_begins, negative_in, operand_begins, stmt_begins, feed, finish}
+use Rattle.pac_syntax.proofs.Marks.{is_same_keyword_or_symbol-true}
 use Rattle.pac_syntax.proofs.Running.{Runs}
 use Rattle.pac_syntax.proofs.Words.{begun}
 
--- ---- operators of a tier and their right operands, behind an expression
+-- ---- operators of a precedence and their right operands, after an expression
 
 pub record Turn : Type 0 where
   pub op : BinOp
   pub at : ℕ
   pub right : ExprForm
 
--- the operators are of the tier, and of comparisons there is one at most
+-- the operators are of the precedence, and of comparisons there is one at most
 abbrev pub AreTurns : ℕ → List Turn → Type 0
 AreTurns n [] = Unit {0}
-AreTurns n (t ∷ ts) = (tier t.op ≡ n) × AtLevel n t.right × (n ≡ 2 → ts ≡ []) × AreTurns n ts
+AreTurns n (t ∷ ts) = (precedence t.op ≡ n) × AtLevel n t.right × (n ≡ 2 → ts ≡ []) × AreTurns n ts
 
 abbrev pub turns_before : ℕ → ℕ → List Turn → List Marked → List Marked
 turns_before d o [] rest = rest
-turns_before d o (t ∷ ts) rest = symbol_mark (sign_of t.op) t.at (Operator (suc o)) ∷ expr_before d (suc o) t.right (turns_before d (counted (suc o) t.right) ts rest)
+turns_before d o (t ∷ ts) rest = symbol_mark (operator_symbol t.op) t.at (Operator (suc o)) ∷ expr_before d (suc o) t.right (turns_before d (counted (suc o) t.right) ts rest)
 
 abbrev pub counted_turns : ℕ → List Turn → ℕ
 counted_turns o [] = o
@@ -76,7 +76,7 @@ level_up n (AParen opening e closing) h = h
 level_up n (ABinary op at a b) h = (omega (arith, h.0), h.1, h.2)
 
 -- one operator more
-binary_level : (n : ℕ) (op : BinOp) (at : ℕ) (e right : ExprForm) → tier op ≡ n → AtLevel (left_level n) e → AtLevel n right → AtLevel (suc n) (ABinary op at e right)
+binary_level : (n : ℕ) (op : BinOp) (at : ℕ) (e right : ExprForm) → precedence op ≡ n → AtLevel (left_level n) e → AtLevel n right → AtLevel (suc n) (ABinary op at e right)
 binary_level n op at e right is l r =
     (omega (arith, is), subst (λ (j : ℕ). AtLevel (left_level j) e) (sym is) l, subst (λ (j : ℕ). AtLevel j right) (sym is) r)
 
@@ -96,7 +96,7 @@ turns_level (suc zero) e ts l h = chain_level 1 e ts refl (level_up 1 e l) h
 turns_level (suc (suc zero)) e ts l h = comparison_level e ts l h
 turns_level (suc (suc (suc n))) e ts l h = chain_level (suc (suc (suc n))) e ts refl (level_up (suc (suc (suc n))) e l) h
 
--- ---- what may stand behind a block
+-- ---- what may stand after a block
 
 pub data ElseForm : Type 0 where
   NoElse : ElseForm
@@ -192,20 +192,20 @@ some x = Some x
 some_is : {A : Type 0} (x y : A) → some x ≡ some y → x ≡ y
 some_is x y e = cc
 
--- one more token in front
-behind : {m : Marked} {a b c : List Marked} → a ≡ m ∷ b → b ≡ c → a ≡ m ∷ c
-behind {m = m} e f = e ∙ ap (λ y. m ∷ y) f
+-- one more token at the start
+after : {m : Marked} {a b c : List Marked} → a ≡ m ∷ b → b ≡ c → a ≡ m ∷ c
+after {m = m} e f = e ∙ ap (λ y. m ∷ y) f
 
--- a token that leads on, where what is behind it ends
+-- a token that leads on, where what is after it ends
 abbrev Leads : Steps → Token → ℕ → Next → Type 0
 Leads k t at n = (z : List Marked) (r : Tree) → Finishes n.steps z r → Finishes k (marked t at n.role ∷ z) r
 
 by_next : (k : Steps) (t : Token) (at : ℕ) (m n : Next) → some m ≡ some n → Leads k t at m → Leads k t at n
 by_next k t at m n e h = subst (λ (n : Next). Leads k t at n) (some_is m n e) h
 
-want_leads : (w t : Token) (at : ℕ) (k : Steps) (n : Next) (b : Bool) → is_same_word_or_sign w t ≡ b → where_true b (next k Plain) ≡ Some n → Leads (Want w k) t at n
+want_leads : (w t : Token) (at : ℕ) (k : Steps) (n : Next) (b : Bool) → is_same_keyword_or_symbol w t ≡ b → where_true b (next k Plain) ≡ Some n → Leads (Want w k) t at n
 want_leads w t at k n false is e = absurd cc
-want_leads w t at k n true is e = by_next (Want w k) t at (next k Plain) n e (λ z r f. rw (is_same_word_or_sign-true w t is) (at, z, refl, f))
+want_leads w t at k n true is e = by_next (Want w k) t at (next k Plain) n e (λ z r f. rw (is_same_keyword_or_symbol-true w t is) (at, z, refl, f))
 
 name_leads : (t : Token) (at : ℕ) (role : Role) (k : NameNode → Steps) (n : Next) → where_some (name_in t at) (λ x. next (k x) role) ≡ Some n → Leads (WantName role k) t at n
 name_leads (token.Name x) at role k n e = by_next (WantName role k) (token.Name x) at (next (k (record { at = at; name = x })) role) n e (λ z r f. (record { at = at; name = x }, z, refl, f))
@@ -256,49 +256,49 @@ operand_leads (token.Symbol symbol.OpenParen) at d m k o n e =
     rw (f.3, close.2) (in_level d m k o (AParen at f.0 close.0) close.1 r (made d m k o (AParen at f.0 close.0) close.1 r f.2 close.3)))
 operand_leads t at d m k o n e = literal_operand_leads t at d m k o n e
 
--- a repetition goes on with one more, or ends and the token belongs to what is behind it
+-- a repetition goes on with one more, or ends and the token belongs to what is after it
 abbrev Others : Steps → Spanned → Next → Type 0
 Others k t n = feed k t ≡ Some n → Leads k t.token t.at n
 
 -- ---- operators
 
-operator_of-is : (s : Symbol) (op : BinOp) → operator_of s ≡ Some op → s ≡ sign_of op
-operator_of-is symbol.Plus o e = ap sign_of (some_is op.Add o e)
-operator_of-is symbol.Minus o e = ap sign_of (some_is op.Sub o e)
-operator_of-is symbol.Star o e = ap sign_of (some_is op.Mul o e)
-operator_of-is symbol.Slash o e = ap sign_of (some_is op.Div o e)
-operator_of-is symbol.Percent o e = ap sign_of (some_is op.Rem o e)
-operator_of-is symbol.Equal o e = ap sign_of (some_is op.Eq o e)
-operator_of-is symbol.NotEqual o e = ap sign_of (some_is op.Ne o e)
-operator_of-is symbol.Less o e = ap sign_of (some_is op.Lt o e)
-operator_of-is symbol.LessEqual o e = ap sign_of (some_is op.Le o e)
-operator_of-is symbol.Greater o e = ap sign_of (some_is op.Gt o e)
-operator_of-is symbol.GreaterEqual o e = ap sign_of (some_is op.Ge o e)
-operator_of-is symbol.And o e = ap sign_of (some_is op.And o e)
-operator_of-is symbol.Or o e = ap sign_of (some_is op.Or o e)
+operator_of-is : (s : Symbol) (op : BinOp) → operator_of s ≡ Some op → s ≡ operator_symbol op
+operator_of-is symbol.Plus o e = ap operator_symbol (some_is op.Add o e)
+operator_of-is symbol.Minus o e = ap operator_symbol (some_is op.Sub o e)
+operator_of-is symbol.Star o e = ap operator_symbol (some_is op.Mul o e)
+operator_of-is symbol.Slash o e = ap operator_symbol (some_is op.Div o e)
+operator_of-is symbol.Percent o e = ap operator_symbol (some_is op.Rem o e)
+operator_of-is symbol.Equal o e = ap operator_symbol (some_is op.Eq o e)
+operator_of-is symbol.NotEqual o e = ap operator_symbol (some_is op.Ne o e)
+operator_of-is symbol.Less o e = ap operator_symbol (some_is op.Lt o e)
+operator_of-is symbol.LessEqual o e = ap operator_symbol (some_is op.Le o e)
+operator_of-is symbol.Greater o e = ap operator_symbol (some_is op.Gt o e)
+operator_of-is symbol.GreaterEqual o e = ap operator_symbol (some_is op.Ge o e)
+operator_of-is symbol.And o e = ap operator_symbol (some_is op.And o e)
+operator_of-is symbol.Or o e = ap operator_symbol (some_is op.Or o e)
 operator_of-is _ o e = absurd cc
 
-operator_in-is : (t : Token) (op : BinOp) → operator_in t ≡ Some op → t ≡ token.Symbol (sign_of op)
+operator_in-is : (t : Token) (op : BinOp) → operator_in t ≡ Some op → t ≡ token.Symbol (operator_symbol op)
 operator_in-is (token.Symbol s) op e = ap (λ s. token.Symbol s) (operator_of-is s op e)
 operator_in-is _ op e = absurd cc
 
 record IsOperator (n : ℕ) (t : Token) (op : BinOp) : Type 0 where
-  tier : tier op ≡ n
-  sign : t ≡ token.Symbol (sign_of op)
+  precedence : precedence op ≡ n
+  sign : t ≡ token.Symbol (operator_symbol op)
 
 operator_is : (n : ℕ) (t : Token) (op : BinOp) → operator_at n t ≡ Some op → IsOperator n t op
 operator_is n t op e = by_token (operator_in t) refl e
   where
-    by_tier : (found : BinOp) (b : Bool) → eqb (tier found) n ≡ b → operator_in t ≡ Some found → (if b then some found else None) ≡ Some op → IsOperator n t op
-    by_tier found true same is e = let one = some_is found op e in record {
-      tier = ap tier (sym one) ∙ eqb-true (tier found) n same;
-      sign = operator_in-is t found is ∙ ap (λ p. token.Symbol (sign_of p)) one;
+    by_precedence : (found : BinOp) (b : Bool) → eqb (precedence found) n ≡ b → operator_in t ≡ Some found → (if b then some found else None) ≡ Some op → IsOperator n t op
+    by_precedence found true same is e = let one = some_is found op e in record {
+      precedence = ap precedence (sym one) ∙ eqb-true (precedence found) n same;
+      sign = operator_in-is t found is ∙ ap (λ p. token.Symbol (operator_symbol p)) one;
     }
-    by_tier found false same is e = absurd cc
+    by_precedence found false same is e = absurd cc
 
-    by_token : (found : Option BinOp) → operator_in t ≡ found → of_tier n found ≡ Some op → IsOperator n t op
+    by_token : (found : Option BinOp) → operator_in t ≡ found → of_precedence n found ≡ Some op → IsOperator n t op
     by_token None is e = absurd cc
-    by_token (Some found) is e = by_tier found (eqb (tier found) n) refl is e
+    by_token (Some found) is e = by_precedence found (eqb (precedence found) n) refl is e
 
 -- what follows an operator's right operand
 record Tail (d n : ℕ) (x : Begun) (o : ℕ) (k : Begun → ℕ → Steps) (z : List Marked) (r : Tree) : Type 0 where
@@ -327,20 +327,20 @@ rest_leads (Some op) d m x o k t n is e others =
     let turn : Turn = record { op = op; at = t.at; right = f.0 } in (
       turn ∷ g.turns,
       g.rest,
-      (which.tier, f.2, g.one, g.are),
-      ap (λ y. symbol_mark (sign_of op) t.at (Operator (suc o)) ∷ y) (f.3 ∙ ap (expr_before d (suc o) f.0) g.text),
+      (which.precedence, f.2, g.one, g.are),
+      ap (λ y. symbol_mark (operator_symbol op) t.at (Operator (suc o)) ∷ y) (f.3 ∙ ap (expr_before d (suc o) f.0) g.text),
       g.ends,
     )))
 
 -- ---- values
 
-values_lead : (vs : List ExprNode) (k : List ExprNode → Steps) (t : Spanned) (n : Next) (b : Bool) → is_same_word_or_sign (token.Symbol symbol.Comma) t.token ≡ b
+values_lead : (vs : List ExprNode) (k : List ExprNode → Steps) (t : Spanned) (n : Next) (b : Bool) → is_same_keyword_or_symbol (token.Symbol symbol.Comma) t.token ≡ b
     → or_else (where_true b (next (want_expr (λ v. MoreValues (vs ++ (v ∷ [])) k)) Plain)) (feed (k vs) t) ≡ Some n
     → Others (k vs) t n → Leads (MoreValues vs k) t.token t.at n
 values_lead vs k t n false is e others = λ z r f. (NoValue, marked t.token t.at n.role ∷ z, tt, refl, subst (λ (xs : List ExprNode). Finishes (k xs) (marked t.token t.at n.role ∷ z) r) (sym (append-nil vs)) (others e z r f))
 values_lead vs k t n true is e others =
     by_next (MoreValues vs k) t.token t.at (next (want_expr (λ v. MoreValues (vs ++ (v ∷ [])) k)) Plain) n e
-    (λ z r f. rw (is_same_word_or_sign-true (token.Symbol symbol.Comma) t.token is) (
+    (λ z r f. rw (is_same_keyword_or_symbol-true (token.Symbol symbol.Comma) t.token is) (
     let g = f.4 in (
       AValue t.at f.0 g.0,
       g.1,
@@ -364,7 +364,7 @@ let_leads d ss k at z r f =
       ALet at x.0 assign.0 e.0 semicolon.0 g.0,
       g.1,
       (e.2, g.2),
-      ap (λ y. keyword_mark keyword.Let at Plain ∷ y) (behind x.2 (behind assign.2 (e.3 ∙ ap (whole_before e.0) (behind semicolon.2 g.3)))),
+      ap (λ y. keyword_mark keyword.Let at Plain ∷ y) (after x.2 (after assign.2 (e.3 ∙ ap (whole_before e.0) (after semicolon.2 g.3)))),
       subst (λ (xs : List StmtNode). Finishes (k xs) g.1 r) (append_assoc ss (stmt.Let x.0 (expr_node e.0) ∷ []) (stmt_nodes g.0)) g.4,
     )
 
@@ -385,7 +385,7 @@ read_leads d ss k at z r f =
       ARead at x.0 assign.0 table.0 bracket.0 e.0 close.0 dot.0 column.0 default.0 literal.0 semicolon.0 g.0,
       g.1,
       (e.2, g.2),
-      ap (λ y. keyword_mark keyword.Read at Plain ∷ y) (behind x.2 (behind assign.2 (behind table.2 (behind bracket.2 (e.3 ∙ ap (whole_before e.0) (behind close.2 (behind dot.2 (behind column.2 (behind default.2 (literal.2 ∙ ap (literal_before literal.0) (behind semicolon.2 g.3))))))))))),
+      ap (λ y. keyword_mark keyword.Read at Plain ∷ y) (after x.2 (after assign.2 (after table.2 (after bracket.2 (e.3 ∙ ap (whole_before e.0) (after close.2 (after dot.2 (after column.2 (after default.2 (literal.2 ∙ ap (literal_before literal.0) (after semicolon.2 g.3))))))))))),
       subst (λ (xs : List StmtNode). Finishes (k xs) g.1 r) (append_assoc ss (stmt.Read x.0 table.0 (expr_node e.0) column.0 (literal_node literal.0) ∷ []) (stmt_nodes g.0)) g.4,
     )
 
@@ -402,7 +402,7 @@ has_leads d ss k at z r f =
       AHas at x.0 assign.0 table.0 bracket.0 e.0 close.0 semicolon.0 g.0,
       g.1,
       (e.2, g.2),
-      ap (λ y. keyword_mark keyword.Has at Plain ∷ y) (behind x.2 (behind assign.2 (behind table.2 (behind bracket.2 (e.3 ∙ ap (whole_before e.0) (behind close.2 (behind semicolon.2 g.3))))))),
+      ap (λ y. keyword_mark keyword.Has at Plain ∷ y) (after x.2 (after assign.2 (after table.2 (after bracket.2 (e.3 ∙ ap (whole_before e.0) (after close.2 (after semicolon.2 g.3))))))),
       subst (λ (xs : List StmtNode). Finishes (k xs) g.1 r) (append_assoc ss (stmt.Has x.0 table.0 (expr_node e.0) ∷ []) (stmt_nodes g.0)) g.4,
     )
 
@@ -422,7 +422,7 @@ put_leads d ss k at z r f =
       APut at table.0 bracket.0 e.0 close.0 assign.0 paren.0 v.0 values.0 shut.0 semicolon.0 g.0,
       g.1,
       (e.2, v.2, values.2, g.2),
-      ap (λ y. keyword_mark keyword.Put at Plain ∷ y) (behind table.2 (behind bracket.2 (e.3 ∙ ap (whole_before e.0) (behind close.2 (behind assign.2 (behind paren.2 (v.3 ∙ ap (whole_before v.0) (values.3 ∙ ap (values_before values.0) (behind shut.2 (behind semicolon.2 g.3)))))))))),
+      ap (λ y. keyword_mark keyword.Put at Plain ∷ y) (after table.2 (after bracket.2 (e.3 ∙ ap (whole_before e.0) (after close.2 (after assign.2 (after paren.2 (v.3 ∙ ap (whole_before v.0) (values.3 ∙ ap (values_before values.0) (after shut.2 (after semicolon.2 g.3)))))))))),
       subst (λ (xs : List StmtNode). Finishes (k xs) g.1 r) (append_assoc ss (stmt.Put table.0 (expr_node e.0) (expr_node v.0 ∷ value_nodes values.0) ∷ []) (stmt_nodes g.0)) g.4,
     )
 
@@ -441,7 +441,7 @@ set_leads d ss k at z r f =
       ASet at table.0 bracket.0 e.0 close.0 dot.0 column.0 assign.0 v.0 semicolon.0 g.0,
       g.1,
       (e.2, v.2, g.2),
-      ap (λ y. keyword_mark keyword.Set at Plain ∷ y) (behind table.2 (behind bracket.2 (e.3 ∙ ap (whole_before e.0) (behind close.2 (behind dot.2 (behind column.2 (behind assign.2 (v.3 ∙ ap (whole_before v.0) (behind semicolon.2 g.3))))))))),
+      ap (λ y. keyword_mark keyword.Set at Plain ∷ y) (after table.2 (after bracket.2 (e.3 ∙ ap (whole_before e.0) (after close.2 (after dot.2 (after column.2 (after assign.2 (v.3 ∙ ap (whole_before v.0) (after semicolon.2 g.3))))))))),
       subst (λ (xs : List StmtNode). Finishes (k xs) g.1 r) (append_assoc ss (stmt.Set table.0 (expr_node e.0) column.0 (expr_node v.0) ∷ []) (stmt_nodes g.0)) g.4,
     )
 
@@ -456,7 +456,7 @@ delete_leads d ss k at z r f =
       ADelete at table.0 bracket.0 e.0 close.0 semicolon.0 g.0,
       g.1,
       (e.2, g.2),
-      ap (λ y. keyword_mark keyword.Delete at Plain ∷ y) (behind table.2 (behind bracket.2 (e.3 ∙ ap (whole_before e.0) (behind close.2 (behind semicolon.2 g.3))))),
+      ap (λ y. keyword_mark keyword.Delete at Plain ∷ y) (after table.2 (after bracket.2 (e.3 ∙ ap (whole_before e.0) (after close.2 (after semicolon.2 g.3))))),
       subst (λ (xs : List StmtNode). Finishes (k xs) g.1 r) (append_assoc ss (stmt.Delete table.0 (expr_node e.0) ∷ []) (stmt_nodes g.0)) g.4,
     )
 
@@ -469,7 +469,7 @@ abort_leads d ss k at z r f =
       AnAbort at asks.0 e.0 semicolon.0 g.0,
       g.1,
       (e.2, g.2),
-      ap (λ y. keyword_mark keyword.Abort at Plain ∷ y) (behind asks.2 (e.3 ∙ ap (whole_before e.0) (behind semicolon.2 g.3))),
+      ap (λ y. keyword_mark keyword.Abort at Plain ∷ y) (after asks.2 (e.3 ∙ ap (whole_before e.0) (after semicolon.2 g.3))),
       subst (λ (xs : List StmtNode). Finishes (k xs) g.1 r) (append_assoc ss (stmt.AbortIf (expr_node e.0) ∷ []) (stmt_nodes g.0)) g.4,
     )
 
@@ -490,7 +490,7 @@ if_leads d ss k at z r f =
     let shut = first.4 in
     let other = shut.3 in
     let g = other.4 in
-    let text = e.3 ∙ ap (whole_before e.0) (behind brace.2 (first.3 ∙ ap (stmts_before (suc d) first.0) (behind shut.2 (other.3 ∙ ap (else_before (suc d) other.0) g.3)))) in
+    let text = e.3 ∙ ap (whole_before e.0) (after brace.2 (first.3 ∙ ap (stmts_before (suc d) first.0) (after shut.2 (other.3 ∙ ap (else_before (suc d) other.0) g.3)))) in
     rw text (if_leads_as other.0 d at ss k e.0 brace.0 first.0 shut.0 g.0 g.1 r e.2 first.2 other.2 g.2 g.4)
 
 stmts_lead : (t : Token) (at : ℕ) (whole : Spanned) (d : ℕ) (ss : List StmtNode) (k : List StmtNode → Steps) (n : Next)
@@ -506,31 +506,31 @@ stmts_lead (token.Keyword keyword.Abort) at whole d ss k n e others = by_next (M
 stmts_lead (token.Keyword keyword.If) at whole d ss k n e others = by_next (MoreStmts d ss k) (token.Keyword keyword.If) at (next (if_steps d (λ s. MoreStmts d (ss ++ (s ∷ [])) k)) (Nested (suc d))) n e (if_leads d ss k at)
 stmts_lead t at whole d ss k n e others = λ z r f. (NoStmt, marked t at n.role ∷ z, tt, refl, subst (λ (xs : List StmtNode). Finishes (k xs) (marked t at n.role ∷ z) r) (sym (append-nil ss)) (others e z r f))
 
-else_leads : (d : ℕ) (k : List StmtNode → Steps) (t : Spanned) (n : Next) (b : Bool) → is_same_word_or_sign (token.Keyword keyword.Else) t.token ≡ b
+else_leads : (d : ℕ) (k : List StmtNode → Steps) (t : Spanned) (n : Next) (b : Bool) → is_same_keyword_or_symbol (token.Keyword keyword.Else) t.token ≡ b
     → or_else (where_true b (next (block_steps d k) Plain)) (feed (k []) t) ≡ Some n
     → Others (k []) t n → Leads (MaybeElse d k) t.token t.at n
 else_leads d k t n false is e others = λ z r f. (NoElse, marked t.token t.at n.role ∷ z, tt, refl, others e z r f)
 else_leads d k t n true is e others =
     by_next (MaybeElse d k) t.token t.at (next (block_steps d k) Plain) n e
-    (λ z r f. rw (is_same_word_or_sign-true (token.Keyword keyword.Else) t.token is) (
+    (λ z r f. rw (is_same_keyword_or_symbol-true (token.Keyword keyword.Else) t.token is) (
     let s = f.3 in
     let shut = s.4 in (
       AnElse t.at f.0 s.0 shut.0,
       shut.1,
       s.2,
-      ap (λ y. keyword_mark keyword.Else t.at Plain ∷ y) (behind f.2 (s.3 ∙ ap (stmts_before d s.0) shut.2)),
+      ap (λ y. keyword_mark keyword.Else t.at Plain ∷ y) (after f.2 (s.3 ∙ ap (stmts_before d s.0) shut.2)),
       shut.3,
     )))
 
 -- ---- columns, tables and procedures
 
-columns_lead : (role : ℕ → Role) (i : ℕ) (cs : List ColumnNode) (k : List ColumnNode → Steps) (t : Spanned) (n : Next) (b : Bool) → is_same_word_or_sign (token.Symbol symbol.Comma) t.token ≡ b
+columns_lead : (role : ℕ → Role) (i : ℕ) (cs : List ColumnNode) (k : List ColumnNode → Steps) (t : Spanned) (n : Next) (b : Bool) → is_same_keyword_or_symbol (token.Symbol symbol.Comma) t.token ≡ b
     → or_else (where_true b (next (column_steps (role (suc i)) (λ c. MoreColumns role (suc i) (cs ++ (c ∷ [])) k)) Plain)) (feed (k cs) t) ≡ Some n
     → Others (k cs) t n → Leads (MoreColumns role i cs k) t.token t.at n
 columns_lead role i cs k t n false is e others = λ z r f. (NoColumn, marked t.token t.at n.role ∷ z, refl, subst (λ (xs : List ColumnNode). Finishes (k xs) (marked t.token t.at n.role ∷ z) r) (sym (append-nil cs)) (others e z r f))
 columns_lead role i cs k t n true is e others =
     by_next (MoreColumns role i cs k) t.token t.at (next (column_steps (role (suc i)) (λ c. MoreColumns role (suc i) (cs ++ (c ∷ [])) k)) Plain) n e
-    (λ z r f. rw (is_same_word_or_sign-true (token.Symbol symbol.Comma) t.token is) (
+    (λ z r f. rw (is_same_keyword_or_symbol-true (token.Symbol symbol.Comma) t.token is) (
     let g = f.3 in
     let h = g.3 in (
       AColumn t.at f.0 g.0 h.0,
@@ -548,13 +548,13 @@ params_lead (token.Name x) at whole k n e others =
     (λ z r f. let g = f.3 in (AParam name f.0 g.0, g.1, ap (λ y. name_mark name (ParamName 1) ∷ y) (f.2 ∙ ap (λ y. type_mark f.0 ∷ y) g.2), g.3))
 params_lead t at whole k n e others = λ z r f. (NoParam, marked t at n.role ∷ z, refl, others e z r f)
 
-tables_lead : (i : ℕ) (ts : List TableNode) (k : List TableNode → Steps) (t : Spanned) (n : Next) (b : Bool) → is_same_word_or_sign (token.Keyword keyword.Table) t.token ≡ b
+tables_lead : (i : ℕ) (ts : List TableNode) (k : List TableNode → Steps) (t : Spanned) (n : Next) (b : Bool) → is_same_keyword_or_symbol (token.Keyword keyword.Table) t.token ≡ b
     → or_else (where_true b (next (table_steps (λ table. MoreTables (suc i) (ts ++ (table ∷ [])) k)) (TableWord (suc i)))) (feed (k ts) t) ≡ Some n
     → Others (k ts) t n → Leads (MoreTables i ts k) t.token t.at n
 tables_lead i ts k t n false is e others = λ z r f. (NoTable, marked t.token t.at n.role ∷ z, refl, subst (λ (xs : List TableNode). Finishes (k xs) (marked t.token t.at n.role ∷ z) r) (sym (append-nil ts)) (others e z r f))
 tables_lead i ts k t n true is e others =
     by_next (MoreTables i ts k) t.token t.at (next (table_steps (λ table. MoreTables (suc i) (ts ++ (table ∷ [])) k)) (TableWord (suc i))) n e
-    (λ z r f. rw (is_same_word_or_sign-true (token.Keyword keyword.Table) t.token is) (
+    (λ z r f. rw (is_same_keyword_or_symbol-true (token.Keyword keyword.Table) t.token is) (
     let paren = f.3 in
     let word = paren.3 in
     let key = word.3 in
@@ -572,13 +572,13 @@ tables_lead i ts k t n true is e others =
       subst (λ (xs : List TableNode). Finishes (k xs) g.1 r) (append_assoc ts (node ∷ []) (table_nodes g.0)) g.3,
     )))
 
-procs_lead : (i : ℕ) (ps : List ProcNode) (k : List ProcNode → Steps) (t : Spanned) (n : Next) (b : Bool) → is_same_word_or_sign (token.Keyword keyword.Proc) t.token ≡ b
+procs_lead : (i : ℕ) (ps : List ProcNode) (k : List ProcNode → Steps) (t : Spanned) (n : Next) (b : Bool) → is_same_keyword_or_symbol (token.Keyword keyword.Proc) t.token ≡ b
     → or_else (where_true b (next (proc_steps (λ proc. MoreProcs (suc i) (ps ++ (proc ∷ [])) k)) (ProcWord (suc i)))) (feed (k ps) t) ≡ Some n
     → Others (k ps) t n → Leads (MoreProcs i ps k) t.token t.at n
 procs_lead i ps k t n false is e others = λ z r f. (NoProc, marked t.token t.at n.role ∷ z, tt, refl, subst (λ (xs : List ProcNode). Finishes (k xs) (marked t.token t.at n.role ∷ z) r) (sym (append-nil ps)) (others e z r f))
 procs_lead i ps k t n true is e others =
     by_next (MoreProcs i ps k) t.token t.at (next (proc_steps (λ proc. MoreProcs (suc i) (ps ++ (proc ∷ [])) k)) (ProcWord (suc i))) n e
-    (λ z r f. rw (is_same_word_or_sign-true (token.Keyword keyword.Proc) t.token is) (
+    (λ z r f. rw (is_same_keyword_or_symbol-true (token.Keyword keyword.Proc) t.token is) (
     let paren = f.3 in
     let params = paren.3 in
     let close = params.3 in
@@ -594,24 +594,24 @@ procs_lead i ps k t n true is e others =
       subst (λ (xs : List ProcNode). Finishes (k xs) g.1 r) (append_assoc ps (node ∷ []) (proc_nodes g.0)) g.4,
     )))
 
--- what ends behind a token that was taken ended before it
+-- what ends after a token that was taken ended before it
 pub feeds : (k : Steps) (t : Spanned) (n : Next) → feed k t ≡ Some n → Leads k t.token t.at n
 unfolding feed
 feeds (Done tree) t n e = absurd cc
-feeds (Want w k) t n e = want_leads w t.token t.at k n (is_same_word_or_sign w t.token) refl e
+feeds (Want w k) t n e = want_leads w t.token t.at k n (is_same_keyword_or_symbol w t.token) refl e
 feeds (WantName role k) t n e = name_leads t.token t.at role k n e
 feeds (WantType k) t n e = type_leads t.token t.at k n e
 feeds (WantLiteral k) t n e = literal_leads t.token t.at k n e
 feeds (WantNegative minus k) t n e = negative_leads t.token t.at minus k n e
 feeds (Level d m o k) t n e = operand_leads t.token t.at d m k o n e
 feeds (Rest d m x o k) t n e = rest_leads (operator_at m t.token) d m x o k t n refl e (feeds (k x o) t n)
-feeds (MoreValues vs k) t n e = values_lead vs k t n (is_same_word_or_sign (token.Symbol symbol.Comma) t.token) refl e (feeds (k vs) t n)
+feeds (MoreValues vs k) t n e = values_lead vs k t n (is_same_keyword_or_symbol (token.Symbol symbol.Comma) t.token) refl e (feeds (k vs) t n)
 feeds (MoreStmts d ss k) t n e = stmts_lead t.token t.at t d ss k n e (feeds (k ss) t n)
-feeds (MaybeElse d k) t n e = else_leads d k t n (is_same_word_or_sign (token.Keyword keyword.Else) t.token) refl e (feeds (k []) t n)
-feeds (MoreColumns role i cs k) t n e = columns_lead role i cs k t n (is_same_word_or_sign (token.Symbol symbol.Comma) t.token) refl e (feeds (k cs) t n)
+feeds (MaybeElse d k) t n e = else_leads d k t n (is_same_keyword_or_symbol (token.Keyword keyword.Else) t.token) refl e (feeds (k []) t n)
+feeds (MoreColumns role i cs k) t n e = columns_lead role i cs k t n (is_same_keyword_or_symbol (token.Symbol symbol.Comma) t.token) refl e (feeds (k cs) t n)
 feeds (SomeParams k) t n e = params_lead t.token t.at t k n e (feeds (k []) t n)
-feeds (MoreTables i ts k) t n e = tables_lead i ts k t n (is_same_word_or_sign (token.Keyword keyword.Table) t.token) refl e (feeds (k ts) t n)
-feeds (MoreProcs i ps k) t n e = procs_lead i ps k t n (is_same_word_or_sign (token.Keyword keyword.Proc) t.token) refl e (feeds (k ps) t n)
+feeds (MoreTables i ts k) t n e = tables_lead i ts k t n (is_same_keyword_or_symbol (token.Keyword keyword.Table) t.token) refl e (feeds (k ts) t n)
+feeds (MoreProcs i ps k) t n e = procs_lead i ps k t n (is_same_keyword_or_symbol (token.Keyword keyword.Proc) t.token) refl e (feeds (k ps) t n)
 
 -- what ends with the text ends so
 pub finish_ends : (k : Steps) (r : Tree) → finish k ≡ Some r → Finishes k [] r

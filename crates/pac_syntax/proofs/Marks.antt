@@ -1,4 +1,4 @@
--- Two tokens that are one word or one sign are equal.
+-- Two tokens that are one word or one symbol are equal.
 use Rattle.std.proofs.Common.{◌≡◌, true, get_or, refl, sym, ap, ◌∙◌}
 use Rattle.std.proofs.lemmas.Bool.{eqb-true}
 use Rattle.pac_tokens.specs.declared.token.Keyword.{Keyword}
@@ -8,7 +8,7 @@ use Rattle.pac_tokens.specs.declared.token.Symbol.TheVariants as symbol
 use Rattle.pac_tokens.specs.declared.token.Token.{Token}
 use Rattle.pac_tokens.specs.declared.token.Token.TheVariants as token
 use Rattle.pac_tokens.specs.declared.token.TheConstants.{KEYWORDS, SYMBOLS}
-use Rattle.pac_syntax.specs.Machine.{keyword_code, symbol_code, is_same_word_or_sign}
+use Rattle.pac_syntax.specs.Machine.{keyword_code, symbol_code, is_same_keyword_or_symbol}
 
 keyword_decoded : (word : Keyword) → get_or KEYWORDS (keyword_code word) keyword.Table ≡ word
 keyword_decoded keyword.Table = refl
@@ -63,7 +63,7 @@ keyword_code-injective a b e = sym (keyword_decoded a) ∙ ap (λ n. get_or KEYW
 pub symbol_code-injective : (a b : Symbol) → symbol_code a ≡ symbol_code b → a ≡ b
 symbol_code-injective a b e = sym (symbol_decoded a) ∙ ap (λ n. get_or SYMBOLS n symbol.Plus) e ∙ symbol_decoded b
 
-pub is_same_word_or_sign-true : (w t : Token) → is_same_word_or_sign w t ≡ true → t ≡ w
-is_same_word_or_sign-true (token.Keyword a) (token.Keyword b) e = ap (λ x. token.Keyword x) (sym (keyword_code-injective a b (eqb-true _ _ e)))
-is_same_word_or_sign-true (token.Symbol a) (token.Symbol b) e = ap (λ x. token.Symbol x) (sym (symbol_code-injective a b (eqb-true _ _ e)))
-is_same_word_or_sign-true _ _ e = absurd cc
+pub is_same_keyword_or_symbol-true : (w t : Token) → is_same_keyword_or_symbol w t ≡ true → t ≡ w
+is_same_keyword_or_symbol-true (token.Keyword a) (token.Keyword b) e = ap (λ x. token.Keyword x) (sym (keyword_code-injective a b (eqb-true _ _ e)))
+is_same_keyword_or_symbol-true (token.Symbol a) (token.Symbol b) e = ap (λ x. token.Symbol x) (sym (symbol_code-injective a b (eqb-true _ _ e)))
+is_same_keyword_or_symbol-true _ _ e = absurd cc

@@ -9,7 +9,7 @@ use Rattle.pac_tokens.specs.declared.fault.FaultKind.TheVariants.{Expected, TooD
 use Rattle.pac_tokens.specs.declared.fault.Fault.{Fault}
 use Rattle.pac_syntax.specs.declared.tree.Tree.{Tree}
 use Rattle.pac_syntax.specs.Grammar.{Role, Plain, TableWord, ProcWord, ColumnName, ParamName, Operator, Paren, Nested, Marked, Whole, tokens_of}
-use Rattle.pac_syntax.specs.Faults.{fault_of, over_role, over, IsWithin, ReadsTokens, IsViable, IsUnexpected, IsOverAt, FaultAt, IsFirst, place, rank}
+use Rattle.pac_syntax.specs.Faults.{fault_of, over_role, over, IsWithin, ReadsTokens, IsViable, IsUnexpected, IsOverAt, FaultAt, IsFirst, offset, rank}
 use Rattle.pac_syntax.specs.Machine.{Steps, Next, Stop, scan, finish, feed, unexpected, ended, bar, go, start}
 use Rattle.pac_syntax.proofs.Running.{Runs}
 use Rattle.pac_syntax.proofs.Words.{whole_runs}
@@ -106,7 +106,7 @@ CanGoOn k ms = (z : List Marked) × (r : Tree) × Finishes k (ms ++ z) r
 
 -- why it stopped: the token, or the end, can't follow; or the token is over a limit
 abbrev Reason : ℕ → Steps → List Marked → Stop → Type 0
-Reason end k ms s = (s.fault ≡ fault_of Expected (place end s.rest)) ⊎ OverEnds k ms s.rest s.fault
+Reason end k ms s = (s.fault ≡ fault_of Expected (offset end s.rest)) ⊎ OverEnds k ms s.rest s.fault
 
 record StopsAt (end : ℕ) (k : Steps) (ts : List Spanned) (s : Stop) : Type 0 where
   marks : List Marked
@@ -145,7 +145,7 @@ limit_expected : (kind : FaultKind) → IsLimit kind → kind ≡ Expected → �
 limit_expected kind (inl deep) e = not_deep (sym e ∙ deep)
 limit_expected kind (inr many) e = not_many (sym e ∙ many)
 
--- what is over a limit comes behind what can't follow
+-- what is over a limit comes after what can't follow
 limit_rank : (kind : FaultKind) → IsLimit kind → rank Expected ≤ rank kind
 limit_rank kind (inl deep) = rw deep (omega arith)
 limit_rank kind (inr many) = rw many (omega arith)
@@ -194,7 +194,7 @@ unfolding scan
 stops end [] k s e = stops_end end k s (finish k) e
 stops end (t ∷ ts) k s e = stops_go end (feed k t) k t ts s refl (λ n h. stops end ts n.steps s h) e
 
--- ---- a stop within the first tokens doesn't depend on those behind
+-- ---- a stop within the first tokens doesn't depend on those after
 
 record Within (end : ℕ) (k : Steps) (a x y : List Spanned) (s : Stop) : Type 0 where
   stop : Stop
@@ -249,8 +249,8 @@ guard_stops (b ∷ before) after m fault r h = by_bar (guard_stops before after 
           here = λ e. absurd (omega (arith, len, e));
         }
 
-viable_front : (p q : List Spanned) → IsViable (p ++ q) → IsViable p
-viable_front p q h = (h.0, h.1, q ++ h.2, h.3, h.4 ∙ append_assoc p q h.2)
+viable_prefix : (p q : List Spanned) → IsViable (p ++ q) → IsViable p
+viable_prefix p q h = (h.0, h.1, q ++ h.2, h.3, h.4 ∙ append_assoc p q h.2)
 
 viable_at : (ms : List Marked) → CanGoOn start ms → IsViable (tokens_of ms)
 viable_at ms g = (ms ++ g.0, g.1, tokens_of g.0, finishes_whole (ms ++ g.0) g.1 g.2, tokens_append ms g.0)
@@ -311,17 +311,17 @@ least_unexpected : (ts p rest p' rest' : List Spanned) → ts ≡ p ++ rest → 
 least_unexpected ts p rest p' [] parts viable parts' f = omega (arith, ap length parts, ap length parts', length-append p rest, length-append p' [])
 least_unexpected ts p rest p' (t ∷ r) parts viable parts' f = elim (cases_lt (length p') (length p)) [
   | inl lt ↦ let l = longer p p' rest r t (sym parts ∙ parts') lt in
-      absurd (f.1 (viable_front (p' ++ (t ∷ [])) l.0 (subst (λ (x : List Spanned). IsViable x) l.1 viable)))
+      absurd (f.1 (viable_prefix (p' ++ (t ∷ [])) l.0 (subst (λ (x : List Spanned). IsViable x) l.1 viable)))
   | inr le ↦ le
 ]
 
-place_of : (ts p rest p' : List Spanned) → ts ≡ p ++ rest → length ts ≤ length p' + length rest → length p ≤ length p'
-place_of ts p rest p' parts h = omega (arith, ap length parts, length-append p rest)
+offset_of : (ts p rest p' : List Spanned) → ts ≡ p ++ rest → length ts ≤ length p' + length rest → length p ≤ length p'
+offset_of ts p rest p' parts h = omega (arith, ap length parts, length-append p rest)
 
 least_of : (end : ℕ) (ts : List Spanned) (s : Stop) (p : List Spanned) → scan end start ts ≡ Err s → ts ≡ p ++ s.rest → IsViable p
     → (p' rest' : List Spanned) (fault' : Fault) → ts ≡ p' ++ rest' → FaultAt end p' rest' fault' → length p ≤ length p'
 least_of end ts s p e parts viable p' rest' fault' parts' (inl f) = least_unexpected ts p s.rest p' rest' parts viable parts' f.1
-least_of end ts s p e parts viable p' rest' fault' parts' (inr f) = place_of ts p s.rest p' parts (overs end ts p' rest' fault' s e parts' f).enough
+least_of end ts s p e parts viable p' rest' fault' parts' (inr f) = offset_of ts p s.rest p' parts (overs end ts p' rest' fault' s e parts' f).enough
 
 guard_limit : (ms : List Marked) (r : Tree) (s : Stop) → guard ms (Ok r) ≡ Err s → IsLimit s.fault.kind
 guard_limit [] r s e = absurd cc

@@ -13,9 +13,9 @@ use Rattle.pac_syntax.proofs.Meets.{reads_ok, ok_reads, first_fault, over_stops,
 
 -- ---- the tokens of a text
 
--- two fronts of one length are equal, and so are the rests
-front_is : (p q rest more : List Spanned) → p ++ rest ≡ q ++ more → length p ≡ length q → p ≡ q
-front_is p q rest more e len = sym (take-append_seam p rest) ∙ ap (take (length p)) e ∙ ap (λ n. take n (q ++ more)) len ∙ take-append_seam q more
+-- two prefixes of one length are equal, and so are the rests
+prefix_is : (p q rest more : List Spanned) → p ++ rest ≡ q ++ more → length p ≡ length q → p ≡ q
+prefix_is p q rest more e len = sym (take-append_seam p rest) ∙ ap (take (length p)) e ∙ ap (λ n. take n (q ++ more)) len ∙ take-append_seam q more
 
 rest_is : (p q rest more : List Spanned) → p ++ rest ≡ q ++ more → length p ≡ length q → rest ≡ more
 rest_is p q rest more e len = sym (drop-append_seam p rest) ∙ ap (drop (length p)) e ∙ ap (λ n. drop n (q ++ more)) len ∙ drop-append_seam q more
@@ -35,7 +35,7 @@ is_stop end ts s f e (q, rest, h) =
     let more : length q ≤ length p = h.least p s.rest s.fault stop.1.parts stop.1.stands in
     let len : length q ≡ length p = omega (arith, less, more) in
     let same : q ++ rest ≡ p ++ s.rest = sym h.parts ∙ stop.1.parts in
-    let there : FaultAt end p s.rest f = subst (λ (x : List Spanned). FaultAt end x s.rest f) (front_is q p rest s.rest same len) (subst (λ (x : List Spanned). FaultAt end q x f) (rest_is q p rest s.rest same len) h.stands) in
+    let there : FaultAt end p s.rest f = subst (λ (x : List Spanned). FaultAt end x s.rest f) (prefix_is q p rest s.rest same len) (subst (λ (x : List Spanned). FaultAt end q x f) (rest_is q p rest s.rest same len) h.stands) in
     stops_there end ts p s f e stop.1.parts stop.1.stands there
 
 abbrev ok_read : Tree → Result Tree Stop
@@ -69,10 +69,10 @@ one_first end ts f g h k = by_scan (scan end start ts) refl
 
 -- ---- a text
 
--- a fault in front of a token that is none contradicts that all is fine there
+-- a fault before a token that is none contradicts that all is fine there
 not_fine : (at : ℕ) (ts : List Spanned) (f : Fault) → IsFirstFault at ts f → f.at < at → IsFineBefore at ts → ⊥
 not_fine at ts f h before (inl reads) = none_first at ts reads.0 f reads.1 h
-not_fine at ts f h before (inr (g, first, behind)) = let same : f ≡ g = one_first at ts f g h first in absurd (omega (arith, before, behind, ap (λ (x : Fault). x.at) same))
+not_fine at ts f h before (inr (g, first, after)) = let same : f ≡ g = one_first at ts f g h first in absurd (omega (arith, before, after, ap (λ (x : Fault). x.at) same))
 
 one_first_of : (end : ℕ) (ts : List Spanned) (lexical : Option Fault) (f g : Fault) → IsFirstOf end ts lexical f → IsFirstOf end ts lexical g → f ≡ g
 one_first_of end ts None f g h k = one_first end ts f g h k

@@ -13,7 +13,7 @@ use Rattle.pac_tokens.specs.declared.token.Symbol.TheVariants as symbol
 use Rattle.pac_tokens.specs.declared.token.Token.{Token}
 use Rattle.pac_tokens.specs.declared.token.Token.TheVariants as token
 use Rattle.pac_tokens.specs.declared.token.Spanned.{Spanned}
-use Rattle.pac_tokens.specs.Literal.{int_of_minus, int_behind_minus, int_or_text_from, int_or_text_in}
+use Rattle.pac_tokens.specs.Literal.{int_of_minus, int_after_minus, int_or_text_from, int_or_text_in}
 use Rattle.pac_tokens.specs.declared.fault.Fault.{Fault}
 use Rattle.pac_tokens.specs.declared.fault.FaultKind.{FaultKind}
 use Rattle.pac_tokens.specs.declared.fault.FaultKind.TheVariants.{Expected, TooDeep, TooMany}
@@ -31,10 +31,10 @@ use Rattle.pac_syntax.specs.declared.parse.statement.StatementWord.{StatementWor
 use Rattle.pac_syntax.specs.declared.parse.statement.StatementWord.TheVariants as word
 use Rattle.pac_syntax.specs.declared.parse.parser.Owner.{Owner}
 use Rattle.pac_syntax.specs.declared.parse.parser.Owner.TheVariants as owner
-use Rattle.pac_syntax.specs.Grammar.{Role, Plain, ParamName, tier}
-use Rattle.pac_syntax.specs.Faults.{fault_of, over_role, place}
-use Rattle.pac_syntax.specs.Machine.{Begun, Steps, Done, Want, WantName, WantType, WantLiteral, Level, Rest, MoreValues, MoreStmts, MaybeElse, MoreColumns, SomeParams, MoreTables, MoreProcs, want_expr, next, literal_at, begun_name, begun_literal, begun_binary, top, lay, negation_steps, paren_steps, stmt_steps, stmt_role, stmt_word, block_steps, column_steps, typed_steps, table_steps, proc_steps, is_same_word_or_sign, literal_begins, name_in, operand_begins, operator_at, operator_in, of_tier, feed, finish, scan, run}
-use Rattle.pac_syntax.specs.Views.{is_too_deep, operand_in, between, rests, tier_behind, Begins, IsNot, IsNoName, IsType, IsNoType, bool_in, name_token, role_of, limit_of}
+use Rattle.pac_syntax.specs.Grammar.{Role, Plain, ParamName, precedence}
+use Rattle.pac_syntax.specs.Faults.{fault_of, over_role, offset}
+use Rattle.pac_syntax.specs.Machine.{Begun, Steps, Done, Want, WantName, WantType, WantLiteral, Level, Rest, MoreValues, MoreStmts, MaybeElse, MoreColumns, SomeParams, MoreTables, MoreProcs, want_expr, next, literal_at, begun_name, begun_literal, begun_binary, top, lay, negation_steps, paren_steps, stmt_steps, stmt_role, stmt_word, block_steps, column_steps, typed_steps, table_steps, proc_steps, is_same_keyword_or_symbol, literal_begins, name_in, operand_begins, operator_at, operator_in, of_precedence, feed, finish, scan, run}
+use Rattle.pac_syntax.specs.Views.{is_too_deep, operand_in, between, rests, next_precedence, Begins, IsNot, IsNoName, IsType, IsNoType, bool_in, name_token, role_of, limit_of}
 
 abbrev Read : Type 0
 Read = Result Tree Fault
@@ -62,13 +62,13 @@ one_more n = omega arith
 abbrev refused : ℕ → FaultKind → Read
 refused at kind = Err (record { at = at; kind = kind })
 
--- ---- words, signs, names
+-- ---- words, symbols, names
 
 pub wants : (end end' : ℕ) (w : Token) (k : Steps) (s ts : List Spanned) (p : ℕ) → end' ≡ end → Begins w p s ts → run end (Want w k) s ≡ run end' k ts
 unfolding run scan feed
 wants end end' w k s ts p e b = rw (b.text, e, b.mark) refl
 
-pub not_wanted : (end : ℕ) (w : Token) (k : Steps) (s : List Spanned) → IsNot w s → run end (Want w k) s ≡ refused (place end s) Expected
+pub not_wanted : (end : ℕ) (w : Token) (k : Steps) (s : List Spanned) → IsNot w s → run end (Want w k) s ≡ refused (offset end s) Expected
 unfolding run scan feed finish
 not_wanted end w k [] h = refl
 not_wanted end w k (t ∷ ts) h = rw h refl
@@ -81,7 +81,7 @@ pub name_past : (end : ℕ) (role : Role) (fault : Fault) (k : NameNode → Step
 unfolding run scan feed
 name_past end role fault k s ts n past is = rw (is, past) refl
 
-pub not_named : (end : ℕ) (role : Role) (k : NameNode → Steps) (s : List Spanned) → IsNoName s → run end (WantName role k) s ≡ refused (place end s) Expected
+pub not_named : (end : ℕ) (role : Role) (k : NameNode → Steps) (s : List Spanned) → IsNoName s → run end (WantName role k) s ≡ refused (offset end s) Expected
 unfolding run scan feed finish
 not_named end role k [] h = refl
 not_named end role k (t ∷ ts) h = rw h refl
@@ -92,7 +92,7 @@ pub typed : (end end' : ℕ) (k : Ty → Steps) (s ts : List Spanned) (y : Ty) �
 unfolding run scan feed
 typed end end' k s ts y e is = rw (is.text, e, is.is) refl
 
-pub not_typed : (end : ℕ) (k : Ty → Steps) (s : List Spanned) → IsNoType s → run end (WantType k) s ≡ refused (place end s) Expected
+pub not_typed : (end : ℕ) (k : Ty → Steps) (s : List Spanned) → IsNoType s → run end (WantType k) s ≡ refused (offset end s) Expected
 unfolding run scan feed finish
 not_typed end k [] h = refl
 not_typed end k (t ∷ ts) h = rw h refl
@@ -103,7 +103,7 @@ not_typed end k (t ∷ ts) h = rw h refl
 read_is : (p q : Value × List Spanned) → ◌≡◌ {A = Option (Value × List Spanned)} (Some p) (Some q) → p ≡ q
 read_is p q e = cc
 
--- an int or a text in front is the literal
+-- an int or a text at the start is the literal
 literal_from : (end at : ℕ) (t : Token) (k : LiteralNode → Steps) (ts rest : List Spanned) (v : Value) → int_or_text_from t ts ≡ Some (v, rest)
     → run end (WantLiteral k) (record { token = t; at = at } ∷ ts) ≡ run end (k (record { at = at; value = v })) rest
 unfolding run scan feed
@@ -112,18 +112,18 @@ literal_from end at (token.Int z) k ts rest v e =
 literal_from end at (token.Text x) k ts rest v e =
     let p = read_is (value.Text x, ts) (v, rest) e in (λ i. run end (k (record { at = at; value = (p i).0 })) ((p i).1))
 literal_from end at (token.Symbol symbol.Minus) k [] rest v e = absurd cc
-literal_from end at (token.Symbol symbol.Minus) k (u ∷ us) rest v e = behind u.token u.at e
+literal_from end at (token.Symbol symbol.Minus) k (u ∷ us) rest v e = following u.token u.at e
   where
-    behind : (t : Token) (place : ℕ) → int_of_minus t us ≡ Some (v, rest)
-        → run end (WantLiteral k) (record { token = token.Symbol symbol.Minus; at = at } ∷ record { token = t; at = place } ∷ us) ≡ run end (k (record { at = at; value = v })) rest
-    behind (token.Negative z) place e =
+    following : (t : Token) (offset : ℕ) → int_of_minus t us ≡ Some (v, rest)
+        → run end (WantLiteral k) (record { token = token.Symbol symbol.Minus; at = at } ∷ record { token = t; at = offset } ∷ us) ≡ run end (k (record { at = at; value = v })) rest
+    following (token.Negative z) offset e =
         let p = read_is (value.Int z, us) (v, rest) e in (λ i. run end (k (record { at = at; value = (p i).0 })) ((p i).1))
-    behind _ place e = absurd cc
+    following _ offset e = absurd cc
 literal_from end at _ k ts rest v e = absurd cc
 
-pub literal_front : (end end' at : ℕ) (k : LiteralNode → Steps) (s ts rest : List Spanned) (t : Spanned) (v : Value) → end' ≡ end → s ≡ t ∷ ts → int_or_text_in s ≡ Some (v, rest) → at ≡ t.at
+pub literal_before : (end end' at : ℕ) (k : LiteralNode → Steps) (s ts rest : List Spanned) (t : Spanned) (v : Value) → end' ≡ end → s ≡ t ∷ ts → int_or_text_in s ≡ Some (v, rest) → at ≡ t.at
     → run end (WantLiteral k) s ≡ run end' (k (record { at = at; value = v })) rest
-literal_front end end' at k s ts rest t v e is front place = rw (is, e, place) (literal_from end t.at t.token k ts rest v (rw is at front))
+literal_before end end' at k s ts rest t v e is prefix offset = rw (is, e, offset) (literal_from end t.at t.token k ts rest v (rw is at prefix))
 
 -- so is `true` or `false`
 bool_from : (end at : ℕ) (t : Token) (k : LiteralNode → Steps) (ts : List Spanned) (b : Bool) → bool_in t ≡ Some b
@@ -133,12 +133,12 @@ bool_from end at (token.Keyword keyword.True) k ts b e = let same : true ≡ b =
 bool_from end at (token.Keyword keyword.False) k ts b e = let same : false ≡ b = cc in ap (λ c. run end (k (record { at = at; value = value.Bool c })) ts) same
 bool_from end at _ k ts b e = absurd cc
 
-pub bool_front : (end end' at : ℕ) (k : LiteralNode → Steps) (s ts : List Spanned) (t : Spanned) (b : Bool) → end' ≡ end → s ≡ t ∷ ts → bool_in t.token ≡ Some b → at ≡ t.at
+pub bool_prefix : (end end' at : ℕ) (k : LiteralNode → Steps) (s ts : List Spanned) (t : Spanned) (b : Bool) → end' ≡ end → s ≡ t ∷ ts → bool_in t.token ≡ Some b → at ≡ t.at
     → run end (WantLiteral k) s ≡ run end' (k (record { at = at; value = value.Bool b })) ts
-bool_front end end' at k s ts t b e is front place = rw (is, e, place) (bool_from end t.at t.token k ts b front)
+bool_prefix end end' at k s ts t b e is prefix offset = rw (is, e, offset) (bool_from end t.at t.token k ts b prefix)
 
--- where there is none, the fault is at the first token, or behind a `-`
-none_from : (end at : ℕ) (t : Token) (k : LiteralNode → Steps) (ts : List Spanned) → is_same_word_or_sign (token.Symbol symbol.Minus) t ≡ false → int_or_text_from t ts ≡ None → bool_in t ≡ None
+-- where there is none, the fault is at the first token, or after a `-`
+none_from : (end at : ℕ) (t : Token) (k : LiteralNode → Steps) (ts : List Spanned) → is_same_keyword_or_symbol (token.Symbol symbol.Minus) t ≡ false → int_or_text_from t ts ≡ None → bool_in t ≡ None
     → run end (WantLiteral k) (record { token = t; at = at } ∷ ts) ≡ refused at Expected
 unfolding run scan feed
 none_from end at (token.Int z) k ts m i b = absurd cc
@@ -148,26 +148,26 @@ none_from end at (token.Keyword keyword.False) k ts m i b = absurd cc
 none_from end at (token.Symbol symbol.Minus) k ts m i b = absurd cc
 none_from end at _ k ts m i b = refl
 
-none_behind : (end at : ℕ) (k : LiteralNode → Steps) (ts : List Spanned) → int_behind_minus ts ≡ None
-    → run end (WantLiteral k) (record { token = token.Symbol symbol.Minus; at = at } ∷ ts) ≡ refused (place end ts) Expected
+none_after : (end at : ℕ) (k : LiteralNode → Steps) (ts : List Spanned) → int_after_minus ts ≡ None
+    → run end (WantLiteral k) (record { token = token.Symbol symbol.Minus; at = at } ∷ ts) ≡ refused (offset end ts) Expected
 unfolding run scan feed finish
-none_behind end at k [] i = refl
-none_behind end at k (u ∷ us) i = behind u.token u.at i
+none_after end at k [] i = refl
+none_after end at k (u ∷ us) i = following u.token u.at i
   where
-    behind : (t : Token) (place : ℕ) → int_of_minus t us ≡ None
-        → run end (WantLiteral k) (record { token = token.Symbol symbol.Minus; at = at } ∷ record { token = t; at = place } ∷ us) ≡ refused place Expected
-    behind (token.Negative z) place e = absurd cc
-    behind _ place e = refl
+    following : (t : Token) (offset : ℕ) → int_of_minus t us ≡ None
+        → run end (WantLiteral k) (record { token = token.Symbol symbol.Minus; at = at } ∷ record { token = t; at = offset } ∷ us) ≡ refused offset Expected
+    following (token.Negative z) offset e = absurd cc
+    following _ offset e = refl
 
-pub nothing_left : (end : ℕ) (k : LiteralNode → Steps) (s : List Spanned) → s ≡ [] → run end (WantLiteral k) s ≡ refused (place end s) Expected
+pub nothing_left : (end : ℕ) (k : LiteralNode → Steps) (s : List Spanned) → s ≡ [] → run end (WantLiteral k) s ≡ refused (offset end s) Expected
 unfolding run scan finish
 nothing_left end k s e = rw e refl
 
 pub no_literal : {A : Type 0} (old new : A) (left : A → List Spanned) (end : ℕ) (k : LiteralNode → Steps) (ts : List Spanned) (t : Spanned) (minus : Option ℕ) → left old ≡ t ∷ ts → int_or_text_in (left old) ≡ None → bool_in t.token ≡ None
     → MatchOption minus ((new ≡ old) × IsNot (token.Symbol symbol.Minus) (left old)) (λ at. Begins (token.Symbol symbol.Minus) at (left old) (left new))
-    → run end (WantLiteral k) (left old) ≡ refused (place end (left new)) Expected
+    → run end (WantLiteral k) (left old) ≡ refused (offset end (left new)) Expected
 no_literal old new left end k ts t None is none other m = rw (m.0, is) (none_from end t.at t.token k ts (rw is at m.1) (rw is at none) other)
-no_literal old new left end k ts t (Some at) is none other m = rw m.text (none_behind end at k (left new) (rw m.text at none))
+no_literal old new left end k ts t (Some at) is none other m = rw m.text (none_after end at k (left new) (rw m.text at none))
 
 -- ---- operands
 
@@ -192,7 +192,7 @@ no_name_in _ at e = refl
 pub no_name_next : (s ts : List Spanned) (t : Spanned) → s ≡ t ∷ ts → operand_in t.token t.at ≡ None → IsNoName s
 no_name_next s ts t is h = rw is (no_name_in t.token t.at h)
 
-begins_literal : (t : Token) (at d o : ℕ) (k : Begun → ℕ → Steps) → is_same_word_or_sign (token.Symbol symbol.Not) t ≡ false → is_same_word_or_sign (token.Symbol symbol.OpenParen) t ≡ false → name_in t at ≡ None → operand_begins t at d o k ≡ literal_begins t at (λ l. k (begun_literal l) o)
+begins_literal : (t : Token) (at d o : ℕ) (k : Begun → ℕ → Steps) → is_same_keyword_or_symbol (token.Symbol symbol.Not) t ≡ false → is_same_keyword_or_symbol (token.Symbol symbol.OpenParen) t ≡ false → name_in t at ≡ None → operand_begins t at d o k ≡ literal_begins t at (λ l. k (begun_literal l) o)
 begins_literal (token.Name n) at d o k a b c = absurd cc
 begins_literal (token.Symbol symbol.Not) at d o k a b c = absurd cc
 begins_literal (token.Symbol symbol.OpenParen) at d o k a b c = absurd cc
@@ -223,7 +223,7 @@ paren_past end d o at k s ts past b = rw (b.text, lt-ltb 16 (suc d) (omega arith
 
 -- ---- levels and operators
 
--- the loosest of these tiers comes last
+-- the loosest of these precedences comes last
 rests_open : (d n m : ℕ) (k : Begun → ℕ → Steps) → n ≤ m → rests d n (suc m) k ≡ rests d n m (λ x o. Rest d m x o k)
 rests_open d n m k h = rw (le-leb n m h) refl
 
@@ -240,11 +240,11 @@ unfolding run scan finish feed
 level_begins end d n o k [] = refl
 level_begins end d n o k (t ∷ ts) = rw (lay_rests d n k) refl
 
--- the same of a right operand, at the tier of its operator
+-- the same of a right operand, at the precedence of its operator
 pub right_begins : (end d n own o : ℕ) (k : Begun → ℕ → Steps) (s : List Spanned) → own ≡ n → run end (Level d n o k) s ≡ run end (Level d 0 o (rests d 0 own k)) s
 right_begins end d n own o k s e = rw e (level_begins end d n o k s)
 
--- the first token is no operator of this tier
+-- the first token is no operator of this precedence
 abbrev WhereNo : ℕ → List Spanned → Type 0
 WhereNo n [] = Unit {0}
 WhereNo n (t ∷ ts) = operator_at n t.token ≡ None
@@ -254,7 +254,7 @@ unfolding run scan feed finish
 no_rest end d n o x k [] h = refl
 no_rest end d n o x k (t ∷ ts) h = rw h refl
 
--- where no operator of these tiers comes next all these rests are passed
+-- where no operator of these precedences comes next all these rests are passed
 rests_passed : (end d n m o : ℕ) (x : Begun) (k : Begun → ℕ → Steps) (s : List Spanned) → ((i : ℕ) → n ≤ i → i < m → WhereNo i s) → run end (rests d n m k x o) s ≡ run end (k x o) s
 rests_passed end d n zero o x k s none = refl
 rests_passed end d n (suc m) o x k s none = go (nat_le n m) refl (rests_passed end d n m o x (λ x o. Rest d m x o k) s (λ i from below. none i from (omega (arith, below)))) where
@@ -264,7 +264,7 @@ rests_passed end d n (suc m) o x k s none = go (nat_le n m) refl (rests_passed e
       let h : n ≤ m = leb-true n m is in
       rw (rests_open d n m k h) (past ∙ no_rest end d m o x k s (none m h (omega arith)))
 
--- the rests from a tier on, where the operators that come next are of no tighter one
+-- the rests from a precedence on, where the operators that come next are of no tighter one
 rests_from : (end d n m i o : ℕ) (x : Begun) (k : Begun → ℕ → Steps) (s : List Spanned) → n ≤ i → i < m → ((j : ℕ) → j < i → WhereNo j s) → run end (rests d n m k x o) s ≡ run end (Rest d i x o (rests d (suc i) m k)) s
 rests_from end d n zero i o x k s from below none = absurd (omega (arith, below))
 rests_from end d n (suc m) i o x k s from below none = go (nat_eq i m) refl (rests_from end d n m i o x (λ x o. Rest d m x o k) s from) where
@@ -297,57 +297,57 @@ rests_open_first d n (suc m) k below = go (nat_eq n m) refl (rests_open_first d 
       let lower : n < m = omega (arith, below, other) in
       rw (rests_open d n m k (omega (arith, below)), rests_open d (suc n) m k lower) (first lower)
 
--- behind an operator and its right operand come the rests from its tier on, but behind a comparison those of the next one
-rests_behind : (d n m : ℕ) (k : Begun → ℕ → Steps) → n < m → top d (n + 1) (rests d (suc n) m k) ≡ rests d (tier_behind n) m k
-rests_behind d zero m k below = sym (rests_open_first d 0 m k below)
-rests_behind d (suc zero) m k below = sym (rests_open_first d 1 m k below)
-rests_behind d (suc (suc zero)) m k below = refl
-rests_behind d (suc (suc (suc n))) m k below = rw (one_more (suc (suc (suc n)))) (sym (rests_open_first d (suc (suc (suc n))) m k below))
+-- after an operator and its right operand come the rests from its precedence on, but after a comparison those of the next one
+rests_after : (d n m : ℕ) (k : Begun → ℕ → Steps) → n < m → top d (n + 1) (rests d (suc n) m k) ≡ rests d (next_precedence n) m k
+rests_after d zero m k below = sym (rests_open_first d 0 m k below)
+rests_after d (suc zero) m k below = sym (rests_open_first d 1 m k below)
+rests_after d (suc (suc zero)) m k below = refl
+rests_after d (suc (suc (suc n))) m k below = rw (one_more (suc (suc (suc n)))) (sym (rests_open_first d (suc (suc (suc n))) m k below))
 
--- an operator of these tiers is this one
+-- an operator of these precedences is this one
 record Within (n m : ℕ) (found : Option BinOp) (op : BinOp) : Type 0 where
   is : found ≡ Some op
-  from : n ≤ tier op
-  below : tier op < m
+  from : n ≤ precedence op
+  below : precedence op < m
 
 is_within : (n m : ℕ) (found : Option BinOp) (op : BinOp) → between n m found ≡ Some op → Within n m found op
 is_within n m None op e = absurd cc
-is_within n m (Some p) op e = go (nat_le n (tier p)) refl (nat_lt (tier p) m) refl where
-  go : (b : Bool) → nat_le n (tier p) ≡ b → (c : Bool) → nat_lt (tier p) m ≡ c → Within n m (Some p) op
+is_within n m (Some p) op e = go (nat_le n (precedence p)) refl (nat_lt (precedence p) m) refl where
+  go : (b : Bool) → nat_le n (precedence p) ≡ b → (c : Bool) → nat_lt (precedence p) m ≡ c → Within n m (Some p) op
   go false from c below = let none : between n m (Some p) ≡ None = rw from refl in absurd cc
   go true from false below = let none : between n m (Some p) ≡ None = rw (from, below) refl in absurd cc
   go true from true below =
       let some : between n m (Some p) ≡ Some p = rw (from, below) refl in
       let same : p ≡ op = cc in
-      record { is = ap (λ q. Some q) same; from = omega (arith, leb-true n (tier p) from, ap tier same); below = omega (arith, ltb-true (tier p) m below, ap tier same) }
+      record { is = ap (λ q. Some q) same; from = omega (arith, leb-true n (precedence p) from, ap precedence same); below = omega (arith, ltb-true (precedence p) m below, ap precedence same) }
 
-no_tier : (n m : ℕ) (found : Option BinOp) → between n m found ≡ None → (i : ℕ) → n ≤ i → i < m → of_tier i found ≡ None
-no_tier n m None e i from below = refl
-no_tier n m (Some op) e i from below = go (nat_eq (tier op) i) refl where
-  go : (b : Bool) → nat_eq (tier op) i ≡ b → of_tier i (Some op) ≡ None
+no_precedence : (n m : ℕ) (found : Option BinOp) → between n m found ≡ None → (i : ℕ) → n ≤ i → i < m → of_precedence i found ≡ None
+no_precedence n m None e i from below = refl
+no_precedence n m (Some op) e i from below = go (nat_eq (precedence op) i) refl where
+  go : (b : Bool) → nat_eq (precedence op) i ≡ b → of_precedence i (Some op) ≡ None
   go false is = rw is refl
   go true is =
-      let same : tier op ≡ i = eqb-true (tier op) i is in
-      let some : between n m (Some op) ≡ Some op = rw (le-leb n (tier op) (omega (arith, same, from)), lt-ltb (tier op) m (omega (arith, same, below))) refl in
+      let same : precedence op ≡ i = eqb-true (precedence op) i is in
+      let some : between n m (Some op) ≡ Some op = rw (le-leb n (precedence op) (omega (arith, same, from)), lt-ltb (precedence op) m (omega (arith, same, below))) refl in
       absurd cc
 
-other_tier : (op : BinOp) (i : ℕ) → i < tier op → of_tier i (Some op) ≡ None
-other_tier op i h = go (nat_eq (tier op) i) refl where
-  go : (b : Bool) → nat_eq (tier op) i ≡ b → of_tier i (Some op) ≡ None
+other_precedence : (op : BinOp) (i : ℕ) → i < precedence op → of_precedence i (Some op) ≡ None
+other_precedence op i h = go (nat_eq (precedence op) i) refl where
+  go : (b : Bool) → nat_eq (precedence op) i ≡ b → of_precedence i (Some op) ≡ None
   go false is = rw is refl
-  go true is = absurd (omega (arith, h, eqb-true (tier op) i is))
+  go true is = absurd (omega (arith, h, eqb-true (precedence op) i is))
 
-own_tier : (op : BinOp) → of_tier (tier op) (Some op) ≡ Some op
-own_tier op = rw (eq-eqb (tier op) (tier op) refl) refl
+own_precedence : (op : BinOp) → of_precedence (precedence op) (Some op) ≡ Some op
+own_precedence op = rw (eq-eqb (precedence op) (precedence op) refl) refl
 
 pub no_operator : (end d n m o : ℕ) (x : Begun) (k : Begun → ℕ → Steps) (s : List Spanned) → s ≡ [] → run end (rests d n m k x o) s ≡ run end (k x o) s
 no_operator end d n m o x k s e = rests_passed end d n m o x k s (λ i _ _. rw e tt)
 
 pub other_token : (end d n m o : ℕ) (x : Begun) (k : Begun → ℕ → Steps) (s ts : List Spanned) (t : Spanned) → s ≡ t ∷ ts → between n m (operator_in t.token) ≡ None → run end (rests d n m k x o) s ≡ run end (k x o) s
-other_token end d n m o x k s ts t e h = rests_passed end d n m o x k s (λ i from below. rw e (no_tier n m (operator_in t.token) h i from below))
+other_token end d n m o x k s ts t e h = rests_passed end d n m o x k s (λ i from below. rw e (no_precedence n m (operator_in t.token) h i from below))
 
-operator_reached : (end d n m o : ℕ) (x : Begun) (k : Begun → ℕ → Steps) (s ts : List Spanned) (t : Spanned) (op : BinOp) → s ≡ t ∷ ts → Within n m (operator_in t.token) op → run end (rests d n m k x o) s ≡ run end (Rest d (tier op) x o (rests d (suc (tier op)) m k)) s
-operator_reached end d n m o x k s ts t op e w = rests_from end d n m (tier op) o x k s w.from w.below (λ j lower. rw (e, w.is) (other_tier op j lower))
+operator_reached : (end d n m o : ℕ) (x : Begun) (k : Begun → ℕ → Steps) (s ts : List Spanned) (t : Spanned) (op : BinOp) → s ≡ t ∷ ts → Within n m (operator_in t.token) op → run end (rests d n m k x o) s ≡ run end (Rest d (precedence op) x o (rests d (suc (precedence op)) m k)) s
+operator_reached end d n m o x k s ts t op e w = rests_from end d n m (precedence op) o x k s w.from w.below (λ j lower. rw (e, w.is) (other_precedence op j lower))
 
 past_here : (end d n o : ℕ) (x : Begun) (k : Begun → ℕ → Steps) (s ts : List Spanned) (t : Spanned) (op : BinOp) → s ≡ t ∷ ts → operator_at n t.token ≡ Some op → 64 ≤ o → run end (Rest d n x o k) s ≡ refused t.at TooMany
 unfolding run scan feed
@@ -361,14 +361,14 @@ next_here end end' d n o o' x k s ts t op e more is h within = rw (is, h, e, mor
 pub operator_past : (end d n m o : ℕ) (x : Begun) (k : Begun → ℕ → Steps) (s ts : List Spanned) (t : Spanned) (op : BinOp) → s ≡ t ∷ ts → between n m (operator_in t.token) ≡ Some op → 64 ≤ o → run end (rests d n m k x o) s ≡ refused t.at TooMany
 operator_past end d n m o x k s ts t op e h past =
     let w = is_within n m (operator_in t.token) op h in
-    operator_reached end d n m o x k s ts t op e w ∙ past_here end d (tier op) o x (rests d (suc (tier op)) m k) s ts t op e (rw w.is (own_tier op)) past
+    operator_reached end d n m o x k s ts t op e w ∙ past_here end d (precedence op) o x (rests d (suc (precedence op)) m k) s ts t op e (rw w.is (own_precedence op)) past
 
 pub operator_next : (end end' d n m o o' : ℕ) (x : Begun) (k : Begun → ℕ → Steps) (s ts : List Spanned) (t : Spanned) (op : BinOp) → end' ≡ end → o' ≡ o + 1 → s ≡ t ∷ ts → between n m (operator_in t.token) ≡ Some op → o < 64
-    → run end (rests d n m k x o) s ≡ run end' (Level d (tier op) o' (λ y o. rests d (tier_behind (tier op)) m k (begun_binary op x y) o)) ts
+    → run end (rests d n m k x o) s ≡ run end' (Level d (precedence op) o' (λ y o. rests d (next_precedence (precedence op)) m k (begun_binary op x y) o)) ts
 operator_next end end' d n m o o' x k s ts t op e more is h within =
     let w = is_within n m (operator_in t.token) op h in
-    operator_reached end d n m o x k s ts t op is w ∙ next_here end end' d (tier op) o o' x (rests d (suc (tier op)) m k) s ts t op e more is (rw w.is (own_tier op)) within
-    ∙ ap (λ f. run end' (Level d (tier op) o' (λ y o. f (begun_binary op x y) o)) ts) (rests_behind d (tier op) m k w.below)
+    operator_reached end d n m o x k s ts t op is w ∙ next_here end end' d (precedence op) o o' x (rests d (suc (precedence op)) m k) s ts t op e more is (rw w.is (own_precedence op)) within
+    ∙ ap (λ f. run end' (Level d (precedence op) o' (λ y o. f (begun_binary op x y) o)) ts) (rests_after d (precedence op) m k w.below)
 
 -- ---- repetitions
 
@@ -407,7 +407,7 @@ pub deep_role : (d at : ℕ) (w : StatementWord) → is_too_deep d w ≡ true �
 deep_role d at word.If h = rw (lt-ltb 16 (suc d) (grind arith)) refl
 deep_role d at _ h = absurd cc
 
-pub stmt_past : (end d : ℕ) (ss : List StmtNode) (k : List StmtNode → Steps) (s ts : List Spanned) (t : Spanned) (w : StatementWord) → s ≡ t ∷ ts → stmt_word t.token ≡ Some w → is_too_deep d w ≡ true → run end (MoreStmts d ss k) s ≡ refused (place end s) TooDeep
+pub stmt_past : (end d : ℕ) (ss : List StmtNode) (k : List StmtNode → Steps) (s ts : List Spanned) (t : Spanned) (w : StatementWord) → s ≡ t ∷ ts → stmt_word t.token ≡ Some w → is_too_deep d w ≡ true → run end (MoreStmts d ss k) s ≡ refused (offset end s) TooDeep
 unfolding run scan feed
 stmt_past end d ss k s ts t w e is deep = rw (e, is, deep_role d t.at w deep) refl
 
@@ -497,7 +497,7 @@ pub ended : (end : ℕ) (tree : Tree) (s : List Spanned) → s ≡ [] → run en
 unfolding run scan finish
 ended end tree s e = rw e refl
 
-pub trailing : (end : ℕ) (tree : Tree) (s ts : List Spanned) (t : Spanned) → s ≡ t ∷ ts → run end (Done tree) s ≡ refused (place end s) Expected
+pub trailing : (end : ℕ) (tree : Tree) (s ts : List Spanned) (t : Spanned) → s ≡ t ∷ ts → run end (Done tree) s ≡ refused (offset end s) Expected
 unfolding run scan feed
 trailing end tree s ts t e = rw e refl
 

@@ -8,7 +8,7 @@ use Rattle.pac_tokens.specs.declared.fault.Fault.{Fault}
 use Rattle.pac_base.specs.declared.refusal.Refusal.{Refusal}
 use Rattle.pac_base.specs.declared.refusal.Refusal.TheVariants as error
 use Rattle.pac_syntax.specs.Faults.{ReadsTokens, IsFirstFault}
-use Rattle.pac_syntax.specs.Reading.{IsFirstOf, told_of}
+use Rattle.pac_syntax.specs.Reading.{IsFirstOf, reported_of}
 
 abbrev a_fault : Fault → Refusal Fault
 a_fault f = error.Fault f
@@ -22,14 +22,14 @@ earlier end ts first lexical fault true is h e =
     let before : first.at < lexical.at = ltb-true first.at lexical.at is in
     inl (subst (λ (f : Fault). IsFirstFault lexical.at ts f × (f.at < lexical.at)) (fault_is first fault e) (h, before))
 earlier end ts first lexical fault false is h e =
-    let behind : lexical.at ≤ first.at = ltb-false first.at lexical.at is in
-    inr (sym (fault_is lexical fault e), inr (first, h, behind))
+    let after : lexical.at ≤ first.at = ltb-false first.at lexical.at is in
+    inr (sym (fault_is lexical fault e), inr (first, h, after))
 
-pub tells_first : (end : ℕ) (ts : List Spanned) (lexical fault : Fault) (r : Result Tree (Refusal Fault)) → IfOk r (λ tree. ReadsTokens ts tree)
-    → ((f : Fault) → IsErrOf r (error.Fault f) → IsFirstFault lexical.at ts f) → told_of r lexical ≡ error.Fault fault → IsFirstOf end ts (Some lexical) fault
-tells_first end ts lexical fault (Ok tree) reads first e = inr (sym (fault_is lexical fault e), inl (tree, reads))
-tells_first end ts lexical fault (Err error.NoMemory) reads first e = absurd cc
-tells_first end ts lexical fault (Err (error.Fault f)) reads first e = earlier end ts f lexical fault (nat_lt f.at lexical.at) refl (first f refl) e
+pub reports_first : (end : ℕ) (ts : List Spanned) (lexical fault : Fault) (r : Result Tree (Refusal Fault)) → IfOk r (λ tree. ReadsTokens ts tree)
+    → ((f : Fault) → IsErrOf r (error.Fault f) → IsFirstFault lexical.at ts f) → reported_of r lexical ≡ error.Fault fault → IsFirstOf end ts (Some lexical) fault
+reports_first end ts lexical fault (Ok tree) reads first e = inr (sym (fault_is lexical fault e), inl (tree, reads))
+reports_first end ts lexical fault (Err error.NoMemory) reads first e = absurd cc
+reports_first end ts lexical fault (Err (error.Fault f)) reads first e = earlier end ts f lexical fault (nat_lt f.at lexical.at) refl (first f refl) e
 
 abbrev err_of : Refusal Fault → Result Tree (Refusal Fault)
 err_of e = Err e

@@ -8,7 +8,7 @@ use Rattle.pac_tokens.specs.declared.fault.Fault.{Fault}
 use Rattle.pac_base.specs.declared.refusal.Refusal.{Refusal}
 use Rattle.pac_base.specs.declared.refusal.Refusal.TheVariants as error
 use Rattle.pac_syntax.specs.Faults.{ReadsTokens, IsFirstFault}
-use Rattle.pac_syntax.specs.Machine.{Stop, run, scan, told, start}
+use Rattle.pac_syntax.specs.Machine.{Stop, run, scan, reported, start}
 use Rattle.pac_syntax.proofs.Meets.{reads_ok, ok_reads, first_fault}
 
 abbrev Answer : Type 0
@@ -26,7 +26,7 @@ ok_is x y e = cc
 err_is : (x y : Fault) → err_read x ≡ err_read y → x ≡ y
 err_is x y e = cc
 
-read_is : (r : Result Tree Stop) (t : Tree) → told r ≡ Ok t → r ≡ Ok t
+read_is : (r : Result Tree Stop) (t : Tree) → reported r ≡ Ok t → r ≡ Ok t
 read_is (Ok x) t e = ap (λ y. Ok y) (ok_is x t e)
 read_is (Err s) t e = absurd cc
 
@@ -40,11 +40,11 @@ top_reads (Err e) end ts g = tt
 
 pub top_only : (r : Answer) (end : ℕ) (ts : List Spanned) → Given r end ts → (tree : Tree) → ReadsTokens ts tree → Only r tree
 unfolding run
-top_only (Ok x) end ts g tree h = ok_is x tree (sym g ∙ ap told (ok_reads end ts tree h))
+top_only (Ok x) end ts g tree h = ok_is x tree (sym g ∙ ap reported (ok_reads end ts tree h))
 top_only (Err error.NoMemory) end ts g tree h = refl
-top_only (Err (error.Fault f)) end ts g tree h = let e : err_read f ≡ ok_read tree = sym g ∙ ap told (ok_reads end ts tree h) in absurd cc
+top_only (Err (error.Fault f)) end ts g tree h = let e : err_read f ≡ ok_read tree = sym g ∙ ap reported (ok_reads end ts tree h) in absurd cc
 
-by_stop : (end : ℕ) (ts : List Spanned) (f : Fault) (r : Result Tree Stop) → scan end start ts ≡ r → told r ≡ Err f → IsFirstFault end ts f
+by_stop : (end : ℕ) (ts : List Spanned) (f : Fault) (r : Result Tree Stop) → scan end start ts ≡ r → reported r ≡ Err f → IsFirstFault end ts f
 by_stop end ts f (Ok x) is e = absurd cc
 by_stop end ts f (Err s) is e =
     let first = first_fault end ts s is in

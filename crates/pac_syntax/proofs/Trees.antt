@@ -17,11 +17,11 @@ use Rattle.pac_syntax.proofs.Ordered.{reads-ordered}
 few_tokens : (before : Before) (at : ℕ) (bytes : List ℕ) (ts : List Spanned) (f : Option Fault) → Lexed before at bytes ts f → length ts ≤ length bytes
 few_tokens before at bytes [] f h = omega arith
 few_tokens before at bytes (t ∷ ts) f h =
-    let behind = drop (gap bytes) bytes in
+    let following = drop (gap bytes) bytes in
     let next = h.1 in
-    let some = spells_some before t.token next.front next.longest.spells in
-    let more = few_tokens (after before t.token) (at + gap bytes + h.0) (drop h.0 behind) ts f h.3 in
-    omega (arith, some, more, next.counted, ap length next.longest.parts, length-append next.front next.rest, length-drop h.0 behind, length-drop (gap bytes) bytes)
+    let some = spells_some before t.token next.prefix next.longest.spells in
+    let more = few_tokens (after before t.token) (at + gap bytes + h.0) (drop h.0 following) ts f h.3 in
+    omega (arith, some, more, next.counted, ap length next.longest.parts, length-append next.prefix next.rest, length-drop h.0 following, length-drop (gap bytes) bytes)
 
 pub tree-within : (tree : Tree) → IsTree tree → IsWithinLimits tree
 tree-within tree is =

@@ -28,37 +28,37 @@ within_test false fault e = refl
 pub at_most : (limit n : ℕ) (fault : Fault) → past limit n fault ≡ None → n ≤ limit
 at_most limit n fault e = ltb-false limit n (within_test (ltb limit n) fault e)
 
--- ---- what stands in front of the rest keeps it within, and has tokens of its own
+-- ---- what stands before the rest keeps it within, and has tokens of its own
 
-record Behind (ms rest : List Marked) : Type 0 where
+record After (ms rest : List Marked) : Type 0 where
   within : AllWithin ms → AllWithin rest
   longer : length rest ≤ length ms
 
-behind_literal : (l : LiteralForm) (rest : List Marked) → Behind (literal_before l rest) rest
-behind_literal (AnInt at z) rest = record { within = λ h. h.1; longer = omega arith }
-behind_literal (ANegative minus at z) rest = record { within = λ h. h.1.1; longer = omega arith }
-behind_literal (AText at text) rest = record { within = λ h. h.1; longer = omega arith }
-behind_literal (ATrue at) rest = record { within = λ h. h.1; longer = omega arith }
-behind_literal (AFalse at) rest = record { within = λ h. h.1; longer = omega arith }
+after_literal : (l : LiteralForm) (rest : List Marked) → After (literal_before l rest) rest
+after_literal (AnInt at z) rest = record { within = λ h. h.1; longer = omega arith }
+after_literal (ANegative minus at z) rest = record { within = λ h. h.1.1; longer = omega arith }
+after_literal (AText at text) rest = record { within = λ h. h.1; longer = omega arith }
+after_literal (ATrue at) rest = record { within = λ h. h.1; longer = omega arith }
+after_literal (AFalse at) rest = record { within = λ h. h.1; longer = omega arith }
 
-behind_expr : (e : ExprForm) (d o : ℕ) (rest : List Marked) → Behind (expr_before d o e rest) rest
-behind_expr (ALiteral l) d o rest = behind_literal l rest
-behind_expr (AName n) d o rest = record { within = λ h. h.1; longer = omega arith }
-behind_expr (ANot at e) d o rest = let b = behind_expr e d (suc o) rest in record { within = λ h. b.within h.1; longer = omega (arith, b.longer) }
-behind_expr (AParen opening e closing) d o rest = let b = behind_expr e (suc d) o (_ ∷ rest) in record { within = λ h. (b.within h.1).1; longer = omega (arith, b.longer) }
-behind_expr (ABinary op at l r) d o rest =
-    let right = behind_expr r d (suc (counted o l)) rest in
-    let left = behind_expr l d o (_ ∷ expr_before d (suc (counted o l)) r rest) in
+after_expr : (e : ExprForm) (d o : ℕ) (rest : List Marked) → After (expr_before d o e rest) rest
+after_expr (ALiteral l) d o rest = after_literal l rest
+after_expr (AName n) d o rest = record { within = λ h. h.1; longer = omega arith }
+after_expr (ANot at e) d o rest = let b = after_expr e d (suc o) rest in record { within = λ h. b.within h.1; longer = omega (arith, b.longer) }
+after_expr (AParen opening e closing) d o rest = let b = after_expr e (suc d) o (_ ∷ rest) in record { within = λ h. (b.within h.1).1; longer = omega (arith, b.longer) }
+after_expr (ABinary op at l r) d o rest =
+    let right = after_expr r d (suc (counted o l)) rest in
+    let left = after_expr l d o (_ ∷ expr_before d (suc (counted o l)) r rest) in
     record { within = λ h. right.within (left.within h).1; longer = omega (arith, right.longer, left.longer) }
 
-behind_whole : (e : ExprForm) (rest : List Marked) → Behind (whole_before e rest) rest
-behind_whole e rest = behind_expr e 0 0 rest
+after_whole : (e : ExprForm) (rest : List Marked) → After (whole_before e rest) rest
+after_whole e rest = after_expr e 0 0 rest
 
-behind_values : (vs : ValuesForm) (rest : List Marked) → Behind (values_before vs rest) rest
-behind_values NoValue rest = record { within = λ h. h; longer = omega arith }
-behind_values (AValue comma e vs) rest =
-    let o = behind_values vs rest in
-    let b = behind_whole e (values_before vs rest) in
+after_values : (vs : ValuesForm) (rest : List Marked) → After (values_before vs rest) rest
+after_values NoValue rest = record { within = λ h. h; longer = omega arith }
+after_values (AValue comma e vs) rest =
+    let o = after_values vs rest in
+    let b = after_whole e (values_before vs rest) in
     record { within = λ h. o.within (b.within h.1); longer = omega (arith, o.longer, b.longer) }
 
 -- ---- statements
@@ -77,48 +77,48 @@ statements NoStmt d rest = record { within = λ h. h; few = omega arith }
 statements (ALet p0 x p1 e p2 s) d rest =
     let n : sizes (stmt_nodes (ALet p0 x p1 e p2 s)) ≡ 1 + sizes (stmt_nodes s) = one_more (stmt.Let x (expr_node e)) (stmt_nodes s) 1 (fold-Let ℕ size_step x (expr_node e)) in
     let more = statements s d rest in
-    let b = behind_whole e (_ ∷ stmts_before d s rest) in
+    let b = after_whole e (_ ∷ stmts_before d s rest) in
     record { within = λ h. more.within (b.within h.1.1.1).1; few = omega (arith, more.few, b.longer, n) }
 statements (ARead p0 x p1 t p2 e p3 p4 c p5 l p6 s) d rest =
     let n : sizes (stmt_nodes (ARead p0 x p1 t p2 e p3 p4 c p5 l p6 s)) ≡ 1 + sizes (stmt_nodes s) = one_more (stmt.Read x t (expr_node e) c (literal_node l)) (stmt_nodes s) 1 (fold-Read ℕ size_step x t (expr_node e) c (literal_node l)) in
     let more = statements s d rest in
-    let literal = behind_literal l (_ ∷ stmts_before d s rest) in
-    let b = behind_whole e (_ ∷ _ ∷ _ ∷ _ ∷ literal_before l (_ ∷ stmts_before d s rest)) in
+    let literal = after_literal l (_ ∷ stmts_before d s rest) in
+    let b = after_whole e (_ ∷ _ ∷ _ ∷ _ ∷ literal_before l (_ ∷ stmts_before d s rest)) in
     record { within = λ h. more.within (literal.within (b.within h.1.1.1.1.1).1.1.1.1).1; few = omega (arith, more.few, literal.longer, b.longer, n) }
 statements (AHas p0 x p1 t p2 e p3 p4 s) d rest =
     let n : sizes (stmt_nodes (AHas p0 x p1 t p2 e p3 p4 s)) ≡ 1 + sizes (stmt_nodes s) = one_more (stmt.Has x t (expr_node e)) (stmt_nodes s) 1 (fold-Has ℕ size_step x t (expr_node e)) in
     let more = statements s d rest in
-    let b = behind_whole e (_ ∷ _ ∷ stmts_before d s rest) in
+    let b = after_whole e (_ ∷ _ ∷ stmts_before d s rest) in
     record { within = λ h. more.within (b.within h.1.1.1.1.1).1.1; few = omega (arith, more.few, b.longer, n) }
 statements (APut p0 t p1 e p2 p3 p4 v vs p5 p6 s) d rest =
     let n : sizes (stmt_nodes (APut p0 t p1 e p2 p3 p4 v vs p5 p6 s)) ≡ 1 + sizes (stmt_nodes s) = one_more (stmt.Put t (expr_node e) (expr_node v ∷ value_nodes vs)) (stmt_nodes s) 1 (fold-Put ℕ size_step t (expr_node e) (expr_node v ∷ value_nodes vs)) in
     let more = statements s d rest in
-    let values = behind_values vs (_ ∷ _ ∷ stmts_before d s rest) in
-    let first = behind_whole v (values_before vs (_ ∷ _ ∷ stmts_before d s rest)) in
-    let b = behind_whole e (_ ∷ _ ∷ _ ∷ whole_before v (values_before vs (_ ∷ _ ∷ stmts_before d s rest))) in
+    let values = after_values vs (_ ∷ _ ∷ stmts_before d s rest) in
+    let first = after_whole v (values_before vs (_ ∷ _ ∷ stmts_before d s rest)) in
+    let b = after_whole e (_ ∷ _ ∷ _ ∷ whole_before v (values_before vs (_ ∷ _ ∷ stmts_before d s rest))) in
     record { within = λ h. more.within (values.within (first.within (b.within h.1.1.1).1.1.1)).1.1; few = omega (arith, more.few, values.longer, first.longer, b.longer, n) }
 statements (ASet p0 t p1 e p2 p3 c p4 v p5 s) d rest =
     let n : sizes (stmt_nodes (ASet p0 t p1 e p2 p3 c p4 v p5 s)) ≡ 1 + sizes (stmt_nodes s) = one_more (stmt.Set t (expr_node e) c (expr_node v)) (stmt_nodes s) 1 (fold-Set ℕ size_step t (expr_node e) c (expr_node v)) in
     let more = statements s d rest in
-    let value = behind_whole v (_ ∷ stmts_before d s rest) in
-    let b = behind_whole e (_ ∷ _ ∷ _ ∷ _ ∷ whole_before v (_ ∷ stmts_before d s rest)) in
+    let value = after_whole v (_ ∷ stmts_before d s rest) in
+    let b = after_whole e (_ ∷ _ ∷ _ ∷ _ ∷ whole_before v (_ ∷ stmts_before d s rest)) in
     record { within = λ h. more.within (value.within (b.within h.1.1.1).1.1.1.1).1; few = omega (arith, more.few, value.longer, b.longer, n) }
 statements (ADelete p0 t p1 e p2 p3 s) d rest =
     let n : sizes (stmt_nodes (ADelete p0 t p1 e p2 p3 s)) ≡ 1 + sizes (stmt_nodes s) = one_more (stmt.Delete t (expr_node e)) (stmt_nodes s) 1 (fold-Delete ℕ size_step t (expr_node e)) in
     let more = statements s d rest in
-    let b = behind_whole e (_ ∷ _ ∷ stmts_before d s rest) in
+    let b = after_whole e (_ ∷ _ ∷ stmts_before d s rest) in
     record { within = λ h. more.within (b.within h.1.1.1).1.1; few = omega (arith, more.few, b.longer, n) }
 statements (AnAbort p0 p1 e p2 s) d rest =
     let n : sizes (stmt_nodes (AnAbort p0 p1 e p2 s)) ≡ 1 + sizes (stmt_nodes s) = one_more (stmt.AbortIf (expr_node e)) (stmt_nodes s) 1 (fold-AbortIf ℕ size_step (expr_node e)) in
     let more = statements s d rest in
-    let b = behind_whole e (_ ∷ stmts_before d s rest) in
+    let b = after_whole e (_ ∷ stmts_before d s rest) in
     record { within = λ h. more.within (b.within h.1.1).1; few = omega (arith, more.few, b.longer, n) }
 statements (AnIf p0 e p1 first p2 s) d rest =
     let n : sizes (stmt_nodes (AnIf p0 e p1 first p2 s)) ≡ suc (sizes (stmt_nodes first) + 0) + sizes (stmt_nodes s) =
     one_more (stmt.If (expr_node e) (stmt_nodes first) []) (stmt_nodes s) (suc (sizes (stmt_nodes first) + 0)) (fold-If ℕ size_step (expr_node e) (stmt_nodes first) []) in
     let more = statements s d rest in
     let inner = statements first (suc d) (_ ∷ stmts_before d s rest) in
-    let b = behind_whole e (_ ∷ stmts_before (suc d) first (_ ∷ stmts_before d s rest)) in
+    let b = after_whole e (_ ∷ stmts_before (suc d) first (_ ∷ stmts_before d s rest)) in
     record { within = λ h. more.within (inner.within (b.within h.1).1).1; few = omega (arith, more.few, inner.few, b.longer, n) }
 statements (AnIfElse p0 e p1 first p2 p3 p4 second p5 s) d rest =
     let n : sizes (stmt_nodes (AnIfElse p0 e p1 first p2 p3 p4 second p5 s)) ≡ suc (sizes (stmt_nodes first) + sizes (stmt_nodes second)) + sizes (stmt_nodes s) =
@@ -126,7 +126,7 @@ statements (AnIfElse p0 e p1 first p2 p3 p4 second p5 s) d rest =
     let more = statements s d rest in
     let other = statements second (suc d) (_ ∷ stmts_before d s rest) in
     let inner = statements first (suc d) (_ ∷ _ ∷ _ ∷ stmts_before (suc d) second (_ ∷ stmts_before d s rest)) in
-    let b = behind_whole e (_ ∷ stmts_before (suc d) first (_ ∷ _ ∷ _ ∷ stmts_before (suc d) second (_ ∷ stmts_before d s rest))) in
+    let b = after_whole e (_ ∷ stmts_before (suc d) first (_ ∷ _ ∷ _ ∷ stmts_before (suc d) second (_ ∷ stmts_before d s rest))) in
     record { within = λ h. more.within (other.within (inner.within (b.within h.1).1).1.1.1).1; few = omega (arith, more.few, other.few, inner.few, b.longer, n) }
 
 -- ---- columns and parameters

@@ -15,17 +15,17 @@ use Rattle.pac_syntax.specs.declared.tree.StmtNode.TheVariants as stmt
 use Rattle.pac_syntax.specs.declared.tree.TableNode.{TableNode}
 use Rattle.pac_syntax.specs.declared.tree.ProcNode.{ProcNode}
 use Rattle.pac_syntax.specs.declared.tree.Tree.{Tree}
-use Rattle.pac_syntax.specs.Grammar.{LiteralForm, AnInt, ANegative, AText, ATrue, AFalse, ExprForm, ALiteral, AName, ANot, AParen, ABinary, ValuesForm, NoValue, AValue, StmtsForm, NoStmt, ALet, ARead, AHas, APut, ASet, ADelete, AnAbort, AnIf, AnIfElse, TypeForm, AnIntType, ATextType, ColumnsForm, NoColumn, AColumn, ParamsForm, NoParam, AParam, TablesForm, NoTable, ATable, ProcsForm, NoProc, AProc, sign_of, tier, left_level, AtLevel, IsExpr, AreValues, AreStmts, AreProcs, literal_node, expr_place, expr_node, value_nodes, stmt_nodes, type_of_form, column_node, column_nodes, param_nodes, table_nodes, proc_nodes, Role, Plain, ColumnName, ParamName, Operator, Marked, symbol_mark, name_mark, type_mark, literal_before, counted, expr_before, whole_before, values_before, stmts_before, columns_before, params_before, tables_before, procs_before, Whole}
-use Rattle.pac_syntax.specs.Machine.{Begun, Steps, WantType, WantLiteral, Level, Rest, MoreValues, MoreStmts, MaybeElse, MoreColumns, SomeParams, MoreTables, MoreProcs, want_symbol, want_expr, begun_literal, begun_not, begun_paren, begun_binary, top, lay, columns_steps, tree_end, tree_procs, start, operator_of, operator_in, operator_at, of_tier, feed, finish}
+use Rattle.pac_syntax.specs.Grammar.{LiteralForm, AnInt, ANegative, AText, ATrue, AFalse, ExprForm, ALiteral, AName, ANot, AParen, ABinary, ValuesForm, NoValue, AValue, StmtsForm, NoStmt, ALet, ARead, AHas, APut, ASet, ADelete, AnAbort, AnIf, AnIfElse, TypeForm, AnIntType, ATextType, ColumnsForm, NoColumn, AColumn, ParamsForm, NoParam, AParam, TablesForm, NoTable, ATable, ProcsForm, NoProc, AProc, operator_symbol, precedence, left_level, AtLevel, IsExpr, AreValues, AreStmts, AreProcs, literal_node, expr_offset, expr_node, value_nodes, stmt_nodes, type_of_form, column_node, column_nodes, param_nodes, table_nodes, proc_nodes, Role, Plain, ColumnName, ParamName, Operator, Marked, symbol_mark, name_mark, type_mark, literal_before, counted, expr_before, whole_before, values_before, stmts_before, columns_before, params_before, tables_before, procs_before, Whole}
+use Rattle.pac_syntax.specs.Machine.{Begun, Steps, WantType, WantLiteral, Level, Rest, MoreValues, MoreStmts, MaybeElse, MoreColumns, SomeParams, MoreTables, MoreProcs, want_symbol, want_expr, begun_literal, begun_not, begun_paren, begun_binary, top, lay, columns_steps, tree_end, tree_procs, start, operator_of, operator_in, operator_at, of_precedence, feed, finish}
 use Rattle.pac_syntax.proofs.Running.{Runs}
 
--- an expression with the place at which it begins
+-- an expression with the offset at which it begins
 abbrev pub begun : ExprForm → Begun
-begun e = record { from = expr_place e; expr = expr_node e }
+begun e = record { from = expr_offset e; expr = expr_node e }
 
--- ---- signs of operators
+-- ---- symbols of operators
 
-pub operator_of-sign : (op : BinOp) → operator_of (sign_of op) ≡ Some op
+pub operator_of-sign : (op : BinOp) → operator_of (operator_symbol op) ≡ Some op
 operator_of-sign op.Add = refl
 operator_of-sign op.Sub = refl
 operator_of-sign op.Mul = refl
@@ -40,31 +40,31 @@ operator_of-sign op.Ge = refl
 operator_of-sign op.And = refl
 operator_of-sign op.Or = refl
 
-of_tier-same : (n : ℕ) (op : BinOp) → tier op ≡ n → of_tier n (Some op) ≡ Some op
-of_tier-same n op e = rw (eq-eqb (tier op) n e) refl
+of_precedence-same : (n : ℕ) (op : BinOp) → precedence op ≡ n → of_precedence n (Some op) ≡ Some op
+of_precedence-same n op e = rw (eq-eqb (precedence op) n e) refl
 
-of_tier-other : (n : ℕ) (op : BinOp) → n < tier op → of_tier n (Some op) ≡ None
-of_tier-other n op lt = grind arith
+of_precedence-other : (n : ℕ) (op : BinOp) → n < precedence op → of_precedence n (Some op) ≡ None
+of_precedence-other n op lt = grind arith
 
-at_sign : (op : BinOp) → operator_at (tier op) (token.Symbol (sign_of op)) ≡ Some op
-at_sign op = ap (of_tier (tier op)) (operator_of-sign op) ∙ of_tier-same (tier op) op refl
+at_symbol : (op : BinOp) → operator_at (precedence op) (token.Symbol (operator_symbol op)) ≡ Some op
+at_symbol op = ap (of_precedence (precedence op)) (operator_of-sign op) ∙ of_precedence-same (precedence op) op refl
 
-below_sign : (op : BinOp) (j : ℕ) → j < tier op → operator_at j (token.Symbol (sign_of op)) ≡ None
-below_sign op j lt = ap (of_tier j) (operator_of-sign op) ∙ of_tier-other j op lt
+below_symbol : (op : BinOp) (j : ℕ) → j < precedence op → operator_at j (token.Symbol (operator_symbol op)) ≡ None
+below_symbol op j lt = ap (of_precedence j) (operator_of-sign op) ∙ of_precedence-other j op lt
 
 -- ---- levels
 
--- the first token is no operator of a tier below n
+-- the first token is no operator of a precedence below n
 abbrev pub Ends : ℕ → List Marked → Type 0
 Ends n [] = Unit {0}
 Ends n (m ∷ ms) = (j : ℕ) → j < n → operator_at j m.token.token ≡ None
 
--- a sign or word that is no operator ends an expression
+-- a symbol or word that is no operator ends an expression
 abbrev pub IsNoOperator : Marked → Type 0
 IsNoOperator m = operator_in m.token.token ≡ None
 
 pub ends_all : (n : ℕ) (m : Marked) (ms : List Marked) → IsNoOperator m → Ends n (m ∷ ms)
-ends_all n m ms e = λ j lt. ap (of_tier j) e
+ends_all n m ms e = λ j lt. ap (of_precedence j) e
 
 ends_below : (m n : ℕ) (x : List Marked) → m ≤ n → Ends n x → Ends m x
 ends_below m n [] le h = tt
@@ -101,7 +101,7 @@ module _ (tree : Tree) where
   runs_rest d n m k v o [] lt h r = r
   runs_rest d n m k v o (t ∷ ts) lt h r = rw (h n lt) r
 
-  -- what runs from what is behind the rests of a level runs from the rests
+  -- what runs from what is after the rests of a level runs from the rests
   pub runs_lay : (d n : ℕ) (k : Begun → ℕ → Steps) (v : Begun) (o : ℕ) (x : List Marked) → Ends n x → Runs (k v o) x tree → Runs (lay d n k v o) x tree
   runs_lay d zero k v o x h r = r
   runs_lay d (suc n) k v o x h r = runs_lay d n (λ v o. Rest d n v o k) v o x (ends_below n (suc n) x (omega arith) h) (runs_rest d n (suc n) k v o x (omega arith) h r)
@@ -175,7 +175,7 @@ module _ (tree : Tree) where
   abbrev Reads : ExprForm → ℕ → ℕ → Type 0
   Reads e d o = (n : ℕ) (k : Begun → ℕ → Steps) (rest : List Marked) → AtLevel n e → Ends (less n) rest → Runs (top d n k (begun e) (counted o e)) rest tree → Runs (Level d n o k) (expr_before d o e rest) tree
 
-  -- the left operand of operators of a tier
+  -- the left operand of operators of a precedence
   left_operand : (e : ExprForm) (d o j : ℕ) (after : Begun → ℕ → Steps) (x : List Marked) → Reads e d o → AtLevel (left_level j) e → Ends j x → Runs (Rest d j (begun e) (counted o e) after) x tree → Runs (Level d (suc j) o after) (expr_before d o e x) tree
   left_operand e d o zero after x reads l h r = reads 1 after x l h r
   left_operand e d o (suc zero) after x reads l h r = reads 2 after x l h r
@@ -183,10 +183,10 @@ module _ (tree : Tree) where
       level_down d 2 after o (expr_before d o e x) (reads 2 (λ v o. Rest d 2 v o after) x l (ends_below 1 2 x (omega arith) h) (runs_rest d 1 2 (λ v o. Rest d 2 v o after) (begun e) (counted o e) x (omega arith) h r))
   left_operand e d o (suc (suc (suc n))) after x reads l h r = reads (suc (suc (suc (suc n)))) after x l h r
 
-  takes_sign : (d : ℕ) (op : BinOp) (at : ℕ) (k : Begun → ℕ → Steps) (v : Begun) (o : ℕ) (x : List Marked)
-      → Runs (Level d (tier op) (suc o) (λ w o. top d (suc (tier op)) k (begun_binary op v w) o)) x tree → Runs (Rest d (tier op) v o k) (symbol_mark (sign_of op) at (Operator (suc o)) ∷ x) tree
+  takes_symbol : (d : ℕ) (op : BinOp) (at : ℕ) (k : Begun → ℕ → Steps) (v : Begun) (o : ℕ) (x : List Marked)
+      → Runs (Level d (precedence op) (suc o) (λ w o. top d (suc (precedence op)) k (begun_binary op v w) o)) x tree → Runs (Rest d (precedence op) v o k) (symbol_mark (operator_symbol op) at (Operator (suc o)) ∷ x) tree
   unfolding feed
-  takes_sign d op at k v o x r = rw (at_sign op) (_, refl, refl, r)
+  takes_symbol d op at k v o x r = rw (at_symbol op) (_, refl, refl, r)
 
   read_expr : (e : ExprForm) (d o : ℕ) → Reads e d o
   unfolding feed
@@ -208,18 +208,18 @@ module _ (tree : Tree) where
             (runs_rest (suc d) 4 5 after (begun e) (counted o e) (close ∷ rest) (omega arith) (ends_all 5 close rest refl) (_, refl, refl, lay_top d n k (begun_paren opening (begun e)) (counted o e) rest h r)),
       )
   read_expr (ABinary op at a b) d o n k rest lv h r =
-      let j = tier op in
+      let j = precedence op in
       let lo = lower d j n k lv.0 in
       let before = counted o a in
       let whole = begun (ABinary op at a b) in
       let after : Begun → ℕ → Steps = λ w o. top d (suc j) lo.after (begun_binary op (begun a) w) o in
-      let x = symbol_mark (sign_of op) at (Operator (suc before)) ∷ expr_before d (suc before) b rest in
-      lo.opens o (expr_before d o a x) (left_operand a d o j lo.after x (read_expr a d o) lv.1 (below_sign op)
-      (takes_sign d op at lo.after (begun a) before (expr_before d (suc before) b rest)
+      let x = symbol_mark (operator_symbol op) at (Operator (suc before)) ∷ expr_before d (suc before) b rest in
+      lo.opens o (expr_before d o a x) (left_operand a d o j lo.after x (read_expr a d o) lv.1 (below_symbol op)
+      (takes_symbol d op at lo.after (begun a) before (expr_before d (suc before) b rest)
       (read_expr b d (suc before) j after rest lv.2 (ends_below (less j) (less n) rest (less-less j n lv.0) h)
       (runs_top d j after (begun b) (counted (suc before) b) rest (ends_below j (less n) rest (le-less j n lv.0) h) (lo.closes whole (counted (suc before) b) rest h r)))))
 
-  -- a whole expression, before a sign that is no operator
+  -- a whole expression, before a symbol that is no operator
   read_whole : (e : ExprForm) (k : ExprNode → Steps) (m : Marked) (rest : List Marked) → IsExpr e → IsNoOperator m → Runs (k (expr_node e)) (m ∷ rest) tree → Runs (want_expr k) (whole_before e (m ∷ rest)) tree
   read_whole e k m rest lv other r =
       read_expr e 0 0 5 (λ x o. k x.expr) (m ∷ rest) lv (ends_all 4 m rest other) (runs_rest 0 4 5 (λ x o. k x.expr) (begun e) (counted 0 e) (m ∷ rest) (omega arith) (ends_all 5 m rest other) r)

@@ -17,8 +17,8 @@ fault_of kind at = record { at = at; kind = kind }
 abbrev pub past : ℕ → ℕ → Fault → Option Fault
 past limit n fault = if nat_lt limit n then Some fault else None
 
--- The fault of a token of this role at this place, where it is over its limit. It is told at the token; a role that is
--- settled by a later token than the one it is told at would carry that place.
+-- The fault of a token of this role at this offset, where it is over its limit. It is reported at the token; a role that is
+-- settled by a later token than the one it is reported at would carry that offset.
 abbrev pub over_role : Role → ℕ → Option Fault
 over_role Plain at = None
 over_role (TableWord n) at = past MAX_TABLES n (fault_of TooMany at)
@@ -43,27 +43,27 @@ ReadsTokens ts tree = (ms : List Marked) × Whole ms tree × (tokens_of ms ≡ t
 abbrev pub IsViable : List Spanned → Type 0
 IsViable p = (ms : List Marked) × (tree : Tree) × (more : List Spanned) × Whole ms tree × (tokens_of ms ≡ p ++ more)
 
--- the tokens p can go on to a catalogue, and not with what stands behind them; or they are none, and the text ends
+-- the tokens p can go on to a catalogue, and not with what stands after them; or they are none, and the text ends
 abbrev pub IsUnexpected : List Spanned → List Spanned → Type 0
 IsUnexpected p [] = IsViable p × ((ms : List Marked) (tree : Tree) → Whole ms tree → tokens_of ms ≡ p → ⊥)
 IsUnexpected p (t ∷ r) = IsViable p × (IsViable (p ++ (t ∷ [])) → ⊥)
 
--- in a catalogue that begins so, the token behind p is over a limit
+-- in a catalogue that begins so, the token after p is over a limit
 abbrev pub IsOverAt : List Spanned → List Spanned → Fault → Type 0
 IsOverAt p [] fault = ⊥
 IsOverAt p (t ∷ r) fault =
     (before after : List Marked) × (role : Role) × (tree : Tree) × Whole (before ++ (record { token = t; role = role } ∷ after)) tree × (tokens_of before ≡ p) × (over_role role t.at ≡ Some fault)
 
--- the place of the first of these tokens, or of the end
-abbrev pub place : ℕ → List Spanned → ℕ
-place end [] = end
-place end (t ∷ r) = t.at
+-- the offset of the first of these tokens, or of the end
+abbrev pub offset : ℕ → List Spanned → ℕ
+offset end [] = end
+offset end (t ∷ r) = t.at
 
 -- A fault of the tokens p ++ r at the first token of r, or at the end of a text that ends there.
 abbrev pub FaultAt : ℕ → List Spanned → List Spanned → Fault → Type 0
-FaultAt end p r fault = ((fault ≡ fault_of Expected (place end r)) × IsUnexpected p r) ⊎ IsOverAt p r fault
+FaultAt end p r fault = ((fault ≡ fault_of Expected (offset end r)) × IsUnexpected p r) ⊎ IsOverAt p r fault
 
--- which of several faults at one place is told
+-- which of several faults at one offset is reported
 abbrev pub rank : FaultKind → ℕ
 rank Token = 0
 rank TooLong = 1
@@ -71,7 +71,7 @@ rank Expected = 2
 rank TooDeep = 3
 rank TooMany = 4
 
--- no fault stands before that behind the tokens p, and there it is the first by rank
+-- no fault stands before that after the tokens p, and there it is the first by rank
 pub record IsFirst (end : ℕ) (ts p rest : List Spanned) (fault : Fault) : Type 0 where
   pub parts : ts ≡ p ++ rest
   pub stands : FaultAt end p rest fault

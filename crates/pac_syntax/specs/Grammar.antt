@@ -1,4 +1,4 @@
--- The grammar of catalogues: derivations with the place of each token, their tokens, and the tree that each is read as.
+-- The grammar of catalogues: derivations with the offset of each token, their tokens, and the tree that each is read as.
 use Rattle.std.specs.Prelude.{◌≡◌, ℕ, zero, suc, ◌<◌, ℤ, List, [], ◌∷◌, true, false}
 use Rattle.pac_value.specs.declared.values.Ty.{Ty}
 use Rattle.pac_value.specs.declared.values.Ty.TheVariants as ty
@@ -22,7 +22,7 @@ use Rattle.pac_syntax.specs.declared.tree.TableNode.{TableNode}
 use Rattle.pac_syntax.specs.declared.tree.ProcNode.{ProcNode}
 use Rattle.pac_syntax.specs.declared.tree.Tree.{Tree}
 
--- ---- derivations; their numbers are the places of the signs and words, in the order of the text
+-- ---- derivations; their numbers are the offsets of the symbols and words, in the order of the text
 
 -- lit = [ "-" ] INT | TEXT | "true" | "false"
 pub data LiteralForm : Type 0 where
@@ -32,7 +32,7 @@ pub data LiteralForm : Type 0 where
   ATrue : (at : ℕ) → LiteralForm
   AFalse : (at : ℕ) → LiteralForm
 
--- an expression, with its parentheses; which operand may stand where is told by its level, below
+-- an expression, with its parentheses; which operand may stand where is given by its level, below
 pub data ExprForm : Type 0 where
   ALiteral : LiteralForm → ExprForm
   AName : NameNode → ExprForm
@@ -40,7 +40,7 @@ pub data ExprForm : Type 0 where
   ANot : (at : ℕ) → ExprForm → ExprForm
   -- "(" expr ")"
   AParen : (opening : ℕ) → ExprForm → (closing : ℕ) → ExprForm
-  -- left operator right; the place is the operator's
+  -- left operator right; the offset is the operator's
   ABinary : BinOp → (at : ℕ) → ExprForm → ExprForm → ExprForm
 
 -- { "," expr }
@@ -102,38 +102,38 @@ pub record CatalogueForm : Type 0 where
 
 -- ---- operators and levels
 
-abbrev pub sign_of : BinOp → Symbol
-sign_of op.Add = symbol.Plus
-sign_of op.Sub = symbol.Minus
-sign_of op.Mul = symbol.Star
-sign_of op.Div = symbol.Slash
-sign_of op.Rem = symbol.Percent
-sign_of op.Eq = symbol.Equal
-sign_of op.Ne = symbol.NotEqual
-sign_of op.Lt = symbol.Less
-sign_of op.Le = symbol.LessEqual
-sign_of op.Gt = symbol.Greater
-sign_of op.Ge = symbol.GreaterEqual
-sign_of op.And = symbol.And
-sign_of op.Or = symbol.Or
+abbrev pub operator_symbol : BinOp → Symbol
+operator_symbol op.Add = symbol.Plus
+operator_symbol op.Sub = symbol.Minus
+operator_symbol op.Mul = symbol.Star
+operator_symbol op.Div = symbol.Slash
+operator_symbol op.Rem = symbol.Percent
+operator_symbol op.Eq = symbol.Equal
+operator_symbol op.Ne = symbol.NotEqual
+operator_symbol op.Lt = symbol.Less
+operator_symbol op.Le = symbol.LessEqual
+operator_symbol op.Gt = symbol.Greater
+operator_symbol op.Ge = symbol.GreaterEqual
+operator_symbol op.And = symbol.And
+operator_symbol op.Or = symbol.Or
 
 -- how loosely an operator binds: `* / %` the least, `||` the most
-abbrev pub tier : BinOp → ℕ
-tier op.Mul = 0
-tier op.Div = 0
-tier op.Rem = 0
-tier op.Add = 1
-tier op.Sub = 1
-tier op.Eq = 2
-tier op.Ne = 2
-tier op.Lt = 2
-tier op.Le = 2
-tier op.Gt = 2
-tier op.Ge = 2
-tier op.And = 3
-tier op.Or = 4
+abbrev pub precedence : BinOp → ℕ
+precedence op.Mul = 0
+precedence op.Div = 0
+precedence op.Rem = 0
+precedence op.Add = 1
+precedence op.Sub = 1
+precedence op.Eq = 2
+precedence op.Ne = 2
+precedence op.Lt = 2
+precedence op.Le = 2
+precedence op.Gt = 2
+precedence op.Ge = 2
+precedence op.And = 3
+precedence op.Or = 4
 
--- The level of the left operand of operators of a tier: they group from the left, and comparisons do not follow one
+-- The level of the left operand of operators of a precedence: they group from the left, and comparisons do not follow one
 -- another.
 abbrev pub left_level : ℕ → ℕ
 left_level zero = 1
@@ -142,13 +142,13 @@ left_level (suc (suc zero)) = 2
 left_level (suc (suc (suc n))) = suc (suc (suc (suc n)))
 
 -- The levels: 0 a literal, a name, a negation or parentheses; 1 products, 2 sums, 3 comparisons, 4 conjunctions, and 5
--- any expression. An operator's operands are of a level that binds tighter, but for the left one of its own tier.
+-- any expression. An operator's operands are of a level that binds tighter, but for the left one of its own precedence.
 abbrev pub AtLevel : ℕ → ExprForm → Type 0
 AtLevel n (ALiteral l) = Unit {0}
 AtLevel n (AName x) = Unit {0}
 AtLevel n (ANot at e) = AtLevel 0 e
 AtLevel n (AParen opening e closing) = AtLevel 5 e
-AtLevel n (ABinary op at l r) = (tier op < n) × AtLevel (left_level (tier op)) l × AtLevel (tier op) r
+AtLevel n (ABinary op at l r) = (precedence op < n) × AtLevel (left_level (precedence op)) l × AtLevel (precedence op) r
 
 -- an expression whose operators stand as the levels say
 abbrev pub IsExpr : ExprForm → Type 0
@@ -183,13 +183,13 @@ literal_node (AText at text) = record { at = at; value = value.Text text }
 literal_node (ATrue at) = record { at = at; value = value.Bool true }
 literal_node (AFalse at) = record { at = at; value = value.Bool false }
 
--- the place of the first token
-abbrev pub expr_place : ExprForm → ℕ
-expr_place (ALiteral l) = (literal_node l).at
-expr_place (AName n) = n.at
-expr_place (ANot at e) = at
-expr_place (AParen opening e closing) = opening
-expr_place (ABinary op at l r) = expr_place l
+-- the offset of the first token
+abbrev pub expr_offset : ExprForm → ℕ
+expr_offset (ALiteral l) = (literal_node l).at
+expr_offset (AName n) = n.at
+expr_offset (ANot at e) = at
+expr_offset (AParen opening e closing) = opening
+expr_offset (ABinary op at l r) = expr_offset l
 
 -- the tree keeps no parentheses
 abbrev pub expr_node : ExprForm → ExprNode
@@ -197,7 +197,7 @@ expr_node (ALiteral l) = Literal (literal_node l)
 expr_node (AName n) = Name n
 expr_node (ANot at e) = Not at (expr_node e)
 expr_node (AParen opening e closing) = expr_node e
-expr_node (ABinary op at l r) = Binary (expr_place l) op (expr_node l) (expr_node r)
+expr_node (ABinary op at l r) = Binary (expr_offset l) op (expr_node l) (expr_node r)
 
 abbrev pub value_nodes : ValuesForm → List ExprNode
 value_nodes NoValue = []
@@ -247,13 +247,13 @@ tree_of form = record { tables = table_nodes form.tables; procs = proc_nodes for
 -- what a token is in its derivation
 pub data Role : Type 0 where
   Plain : Role
-  TableWord : ℕ → Role  -- the `table` of so many tables, itself counted
-  ProcWord : ℕ → Role  -- the `proc` of so many procedures
-  ColumnName : ℕ → Role  -- the name of so many columns of its table, the key not counted
-  ParamName : ℕ → Role  -- the name of so many parameters of its procedure
-  Operator : ℕ → Role  -- the operator of so many in its expression, parentheses included
-  Paren : ℕ → Role  -- the `(` of so many parentheses of its expression that are open at once
-  Nested : ℕ → Role  -- the `if` of so many conditionals that stand one in another
+  TableWord : ℕ → Role  -- the `table` of that many tables, itself counted
+  ProcWord : ℕ → Role  -- the `proc` of that many procedures
+  ColumnName : ℕ → Role  -- the name of that many columns of its table, the key not counted
+  ParamName : ℕ → Role  -- the name of that many parameters of its procedure
+  Operator : ℕ → Role  -- the operator of that many in its expression, parentheses included
+  Paren : ℕ → Role  -- the `(` of that many parentheses of its expression that are open at once
+  Nested : ℕ → Role  -- the `if` of that many conditionals that stand one in another
 
 pub record Marked : Type 0 where
   pub token : Spanned
@@ -278,7 +278,7 @@ literal_before (AText at text) rest = marked (token.Text text) at Plain ∷ rest
 literal_before (ATrue at) rest = keyword_mark keyword.True at Plain ∷ rest
 literal_before (AFalse at) rest = keyword_mark keyword.False at Plain ∷ rest
 
--- the operators up to an expression's end, where so many stand before it
+-- the operators up to an expression's end, where that many stand before it
 abbrev pub counted : ℕ → ExprForm → ℕ
 counted o (ALiteral l) = o
 counted o (AName n) = o
@@ -286,14 +286,14 @@ counted o (ANot at e) = counted (suc o) e
 counted o (AParen opening e closing) = counted o e
 counted o (ABinary op at l r) = counted (suc (counted o l)) r
 
--- the tokens of an expression, before those that follow, where so many parentheses are open and so many operators stand
+-- the tokens of an expression, before those that follow, where that many parentheses are open and that many operators stand
 -- before
 abbrev pub expr_before : ℕ → ℕ → ExprForm → List Marked → List Marked
 expr_before d o (ALiteral l) rest = literal_before l rest
 expr_before d o (AName n) rest = name_mark n Plain ∷ rest
 expr_before d o (ANot at e) rest = symbol_mark symbol.Not at (Operator (suc o)) ∷ expr_before d (suc o) e rest
 expr_before d o (AParen opening e closing) rest = symbol_mark symbol.OpenParen opening (Paren (suc d)) ∷ expr_before (suc d) o e (symbol_mark symbol.CloseParen closing Plain ∷ rest)
-expr_before d o (ABinary op at l r) rest = expr_before d o l (symbol_mark (sign_of op) at (Operator (suc (counted o l))) ∷ expr_before d (suc (counted o l)) r rest)
+expr_before d o (ABinary op at l r) rest = expr_before d o l (symbol_mark (operator_symbol op) at (Operator (suc (counted o l))) ∷ expr_before d (suc (counted o l)) r rest)
 
 -- those of a whole expression
 abbrev pub whole_before : ExprForm → List Marked → List Marked
@@ -303,7 +303,7 @@ abbrev pub values_before : ValuesForm → List Marked → List Marked
 values_before NoValue rest = rest
 values_before (AValue comma e vs) rest = symbol_mark symbol.Comma comma Plain ∷ whole_before e (values_before vs rest)
 
--- the tokens of statements in so many conditionals
+-- the tokens of statements in that many conditionals
 abbrev pub stmts_before : ℕ → StmtsForm → List Marked → List Marked
 stmts_before d NoStmt rest = rest
 stmts_before d (ALet p0 x p1 e p2 s) rest =
@@ -341,7 +341,7 @@ abbrev pub type_mark : TypeForm → Marked
 type_mark (AnIntType at) = keyword_mark keyword.Int at Plain
 type_mark (ATextType at) = keyword_mark keyword.Text at Plain
 
--- the tokens of columns or parameters behind so many others
+-- the tokens of columns or parameters after that many others
 abbrev pub columns_before : (ℕ → Role) → ℕ → ColumnsForm → List Marked → List Marked
 columns_before role i NoColumn rest = rest
 columns_before role i (AColumn comma n t cs) rest =
@@ -351,7 +351,7 @@ abbrev pub params_before : ParamsForm → List Marked → List Marked
 params_before NoParam rest = rest
 params_before (AParam n t cs) rest = name_mark n (ParamName 1) ∷ type_mark t ∷ columns_before ParamName 1 cs rest
 
--- the tokens of tables behind so many others
+-- the tokens of tables after that many others
 abbrev pub tables_before : ℕ → TablesForm → List Marked → List Marked
 tables_before i NoTable rest = rest
 tables_before i (ATable p0 n p1 p2 k p3 c t cs p4 p5 ts) rest =
@@ -360,7 +360,7 @@ tables_before i (ATable p0 n p1 p2 k p3 c t cs p4 p5 ts) rest =
     ∷ name_mark c (ColumnName 1) ∷ type_mark t
     ∷ columns_before ColumnName 1 cs (symbol_mark symbol.CloseParen p4 Plain ∷ symbol_mark symbol.Semicolon p5 Plain ∷ tables_before (suc i) ts rest)
 
--- the tokens of procedures behind so many others
+-- the tokens of procedures after that many others
 abbrev pub procs_before : ℕ → ProcsForm → List Marked → List Marked
 procs_before i NoProc rest = rest
 procs_before i (AProc p0 n p1 ps p2 p3 s p4 procs) rest =

@@ -25,8 +25,8 @@ use Rattle.pac_syntax.specs.declared.tree.StmtNode.TheVariants as stmt
 use Rattle.pac_syntax.specs.declared.tree.TableNode.{TableNode}
 use Rattle.pac_syntax.specs.declared.tree.ProcNode.{ProcNode}
 use Rattle.pac_syntax.specs.declared.tree.Tree.{Tree}
-use Rattle.pac_syntax.specs.Grammar.{Role, Plain, TableWord, ProcWord, ColumnName, ParamName, Operator, Paren, Nested, tier}
-use Rattle.pac_syntax.specs.Faults.{fault_of, over_role, place}
+use Rattle.pac_syntax.specs.Grammar.{Role, Plain, TableWord, ProcWord, ColumnName, ParamName, Operator, Paren, Nested, precedence}
+use Rattle.pac_syntax.specs.Faults.{fault_of, over_role, offset}
 
 -- an expression, and where it begins, parentheses round it included
 pub record Begun : Type 0 where
@@ -37,37 +37,37 @@ pub record Begun : Type 0 where
 pub data Steps : Type 0 where
   -- nothing
   Done : Tree → Steps
-  -- this word or sign
+  -- this word or symbol
   Want : Token → Steps → Steps
-  -- a name of this role; a type; a literal; the int behind a literal's `-` at this place
+  -- a name of this role; a type; a literal; the int after a literal's `-` at this offset
   WantName : Role → (NameNode → Steps) → Steps
   WantType : (Ty → Steps) → Steps
   WantLiteral : (LiteralNode → Steps) → Steps
   WantNegative : ℕ → (LiteralNode → Steps) → Steps
-  -- an expression of a level, where so many parentheses are open and so many operators stand before
+  -- an expression of a level, where that many parentheses are open and that many operators stand before
   Level : (open_parens level operators : ℕ) → (Begun → ℕ → Steps) → Steps
-  -- the operators of a tier with their right operands, behind a left one
-  Rest : (open_parens tier : ℕ) → Begun → (operators : ℕ) → (Begun → ℕ → Steps) → Steps
-  -- { "," expr } behind these values
+  -- the operators of a precedence with their right operands, after a left one
+  Rest : (open_parens precedence : ℕ) → Begun → (operators : ℕ) → (Begun → ℕ → Steps) → Steps
+  -- { "," expr } after these values
   MoreValues : List ExprNode → (List ExprNode → Steps) → Steps
-  -- { stmt } behind these statements, in so many conditionals
+  -- { stmt } after these statements, in that many conditionals
   MoreStmts : ℕ → List StmtNode → (List StmtNode → Steps) → Steps
   -- [ "else" block ]
   MaybeElse : ℕ → (List StmtNode → Steps) → Steps
-  -- { "," column } behind so many columns, whose names have these roles
+  -- { "," column } after that many columns, whose names have these roles
   MoreColumns : (ℕ → Role) → ℕ → List ColumnNode → (List ColumnNode → Steps) → Steps
   -- [ column { "," column } ]
   SomeParams : (List ColumnNode → Steps) → Steps
-  -- { table } and { proc } behind so many
+  -- { table } and { proc } after that many
   MoreTables : ℕ → List TableNode → (List TableNode → Steps) → Steps
   MoreProcs : ℕ → List ProcNode → (List ProcNode → Steps) → Steps
 
--- what is to come behind a token, with the token's role
+-- what is to come after a token, with the token's role
 pub record Next : Type 0 where
   pub steps : Steps
   pub role : Role
 
--- where the reading stopped: the tokens from the refused one on, and the fault that is told
+-- where the reading stopped: the tokens from the refused one on, and the fault that is reported
 pub record Stop : Type 0 where
   pub rest : List Spanned
   pub fault : Fault
@@ -121,11 +121,11 @@ symbol_code symbol.GreaterEqual = 21
 symbol_code symbol.And = 22
 symbol_code symbol.Or = 23
 
--- the two are one word or one sign
-abbrev pub is_same_word_or_sign : Token → Token → Bool
-is_same_word_or_sign (token.Keyword a) (token.Keyword b) = nat_eq (keyword_code a) (keyword_code b)
-is_same_word_or_sign (token.Symbol a) (token.Symbol b) = nat_eq (symbol_code a) (symbol_code b)
-is_same_word_or_sign _ _ = false
+-- the two are one word or one symbol
+abbrev pub is_same_keyword_or_symbol : Token → Token → Bool
+is_same_keyword_or_symbol (token.Keyword a) (token.Keyword b) = nat_eq (keyword_code a) (keyword_code b)
+is_same_keyword_or_symbol (token.Symbol a) (token.Symbol b) = nat_eq (symbol_code a) (symbol_code b)
+is_same_keyword_or_symbol _ _ = false
 
 abbrev pub name_in : Token → ℕ → Option NameNode
 name_in (token.Name n) at = Some (record { at = at; name = n })
@@ -167,13 +167,13 @@ abbrev pub operator_in : Token → Option BinOp
 operator_in (token.Symbol s) = operator_of s
 operator_in _ = None
 
-abbrev pub of_tier : ℕ → Option BinOp → Option BinOp
-of_tier n None = None
-of_tier n (Some op) = if nat_eq (tier op) n then Some op else None
+abbrev pub of_precedence : ℕ → Option BinOp → Option BinOp
+of_precedence n None = None
+of_precedence n (Some op) = if nat_eq (precedence op) n then Some op else None
 
--- the operator of a tier that a token is
+-- the operator of a precedence that a token is
 abbrev pub operator_at : ℕ → Token → Option BinOp
-operator_at n t = of_tier n (operator_in t)
+operator_at n t = of_precedence n (operator_in t)
 
 -- ---- the steps of each form
 
@@ -205,7 +205,7 @@ begun_paren at x = record { from = at; expr = x.expr }
 abbrev pub begun_binary : BinOp → Begun → Begun → Begun
 begun_binary op l r = record { from = l.from; expr = Binary l.from op l.expr r.expr }
 
--- what may still follow behind an expression of a level: operators of the loosest tier in it, but behind a comparison
+-- what may still follow after an expression of a level: operators of the loosest precedence in it, but after a comparison
 -- none
 abbrev pub top : ℕ → ℕ → (Begun → ℕ → Steps) → Begun → ℕ → Steps
 top d zero k x o = k x o
@@ -214,7 +214,7 @@ top d (suc (suc zero)) k x o = Rest d 1 x o k
 top d (suc (suc (suc zero))) k x o = k x o
 top d (suc (suc (suc (suc n)))) k x o = Rest d (suc (suc (suc n))) x o k
 
--- the rests of the tiers below a level, from the tightest on
+-- the rests of the precedences below a level, from the tightest on
 abbrev pub lay : ℕ → ℕ → (Begun → ℕ → Steps) → Begun → ℕ → Steps
 lay d zero k = k
 lay d (suc n) k = lay d n (λ x o. Rest d n x o k)
@@ -259,7 +259,7 @@ block_steps d k = want_symbol symbol.OpenBrace (MoreStmts d [] (λ b. want_symbo
 abbrev pub if_steps : ℕ → (StmtNode → Steps) → Steps
 if_steps d k = want_expr (λ e. block_steps (suc d) (λ first. MaybeElse (suc d) (λ second. k (stmt.If e first second))))
 
--- the type behind a column's name
+-- the type after a column's name
 abbrev pub typed_steps : NameNode → (ColumnNode → Steps) → Steps
 typed_steps n k = WantType (λ t. k (record { name = n; ty = t }))
 
@@ -301,13 +301,13 @@ where_some None f = None
 where_some (Some x) f = Some (f x)
 
 abbrev pub literal_begins : Token → ℕ → (LiteralNode → Steps) → Option Next
-literal_begins t at k = or_else (where_some (literal_in t at) (λ l. next (k l) Plain)) (where_true (is_same_word_or_sign (token.Symbol symbol.Minus) t) (next (WantNegative at k) Plain))
+literal_begins t at k = or_else (where_some (literal_in t at) (λ l. next (k l) Plain)) (where_true (is_same_keyword_or_symbol (token.Symbol symbol.Minus) t) (next (WantNegative at k) Plain))
 
 abbrev pub negative_in : Token → ℕ → (LiteralNode → Steps) → Option Next
 negative_in (token.Negative z) minus k = Some (next (k (literal_at minus z)) Plain)
 negative_in _ minus k = None
 
--- behind a negation's `!`, and behind a parenthesis
+-- after a negation's `!`, and after a parenthesis
 abbrev pub negation_steps : ℕ → ℕ → ℕ → (Begun → ℕ → Steps) → Steps
 negation_steps at d o k = Level d 0 o (λ x o. k (begun_not at x) o)
 
@@ -332,7 +332,7 @@ stmt_word (token.Keyword keyword.Abort) = Some word.Abort
 stmt_word (token.Keyword keyword.If) = Some word.If
 stmt_word _ = None
 
--- what comes behind it
+-- what comes after it
 abbrev pub stmt_steps : ℕ → StatementWord → (StmtNode → Steps) → Steps
 stmt_steps d word.Let k = let_steps k
 stmt_steps d word.Read k = read_steps k
@@ -350,10 +350,10 @@ stmt_role d _ = Plain
 abbrev pub stmt_begins : ℕ → Token → (StmtNode → Steps) → Option Next
 stmt_begins d t k = where_some (stmt_word t) (λ w. next (stmt_steps d w k) (stmt_role d w))
 
--- what is to come behind the token, where it can follow
+-- what is to come after the token, where it can follow
 unfoldable pub feed : Steps → Spanned → Option Next
 feed (Done tree) t = None
-feed (Want w k) t = where_true (is_same_word_or_sign w t.token) (next k Plain)
+feed (Want w k) t = where_true (is_same_keyword_or_symbol w t.token) (next k Plain)
 feed (WantName role k) t = where_some (name_in t.token t.at) (λ n. next (k n) role)
 feed (WantType k) t = where_some (type_of_token t.token) (λ y. next (k y) Plain)
 feed (WantLiteral k) t = literal_begins t.token t.at k
@@ -362,17 +362,17 @@ feed (Level d n o k) t = operand_begins t.token t.at d o (lay d n k)
 feed (Rest d n x o k) t =
     or_else (where_some (operator_at n t.token) (λ op. next (Level d n (suc o) (λ y o. top d (suc n) k (begun_binary op x y) o)) (Operator (suc o)))) (feed (k x o) t)
 feed (MoreValues vs k) t =
-    or_else (where_true (is_same_word_or_sign (token.Symbol symbol.Comma) t.token) (next (want_expr (λ v. MoreValues (vs ++ (v ∷ [])) k)) Plain)) (feed (k vs) t)
+    or_else (where_true (is_same_keyword_or_symbol (token.Symbol symbol.Comma) t.token) (next (want_expr (λ v. MoreValues (vs ++ (v ∷ [])) k)) Plain)) (feed (k vs) t)
 feed (MoreStmts d ss k) t = or_else (stmt_begins d t.token (λ s. MoreStmts d (ss ++ (s ∷ [])) k)) (feed (k ss) t)
-feed (MaybeElse d k) t = or_else (where_true (is_same_word_or_sign (token.Keyword keyword.Else) t.token) (next (block_steps d k) Plain)) (feed (k []) t)
+feed (MaybeElse d k) t = or_else (where_true (is_same_keyword_or_symbol (token.Keyword keyword.Else) t.token) (next (block_steps d k) Plain)) (feed (k []) t)
 feed (MoreColumns role i cs k) t =
-    or_else (where_true (is_same_word_or_sign (token.Symbol symbol.Comma) t.token) (next (column_steps (role (suc i)) (λ c. MoreColumns role (suc i) (cs ++ (c ∷ [])) k)) Plain)) (feed (k cs) t)
+    or_else (where_true (is_same_keyword_or_symbol (token.Symbol symbol.Comma) t.token) (next (column_steps (role (suc i)) (λ c. MoreColumns role (suc i) (cs ++ (c ∷ [])) k)) Plain)) (feed (k cs) t)
 feed (SomeParams k) t =
     or_else (where_some (name_in t.token t.at) (λ n. next (typed_steps n (λ c. MoreColumns ParamName 1 (c ∷ []) k)) (ParamName 1))) (feed (k []) t)
 feed (MoreTables i ts k) t =
-    or_else (where_true (is_same_word_or_sign (token.Keyword keyword.Table) t.token) (next (table_steps (λ table. MoreTables (suc i) (ts ++ (table ∷ [])) k)) (TableWord (suc i)))) (feed (k ts) t)
+    or_else (where_true (is_same_keyword_or_symbol (token.Keyword keyword.Table) t.token) (next (table_steps (λ table. MoreTables (suc i) (ts ++ (table ∷ [])) k)) (TableWord (suc i)))) (feed (k ts) t)
 feed (MoreProcs i ps k) t =
-    or_else (where_true (is_same_word_or_sign (token.Keyword keyword.Proc) t.token) (next (proc_steps (λ proc. MoreProcs (suc i) (ps ++ (proc ∷ [])) k)) (ProcWord (suc i)))) (feed (k ps) t)
+    or_else (where_true (is_same_keyword_or_symbol (token.Keyword keyword.Proc) t.token) (next (proc_steps (λ proc. MoreProcs (suc i) (ps ++ (proc ∷ [])) k)) (ProcWord (suc i)))) (feed (k ps) t)
 
 -- ---- all tokens
 
@@ -396,7 +396,7 @@ finish (MoreProcs i ps k) = finish (k ps)
 
 -- a stop at the first of these tokens, or at the end, which can't follow
 abbrev pub unexpected : ℕ → List Spanned → Stop
-unexpected end rest = record { rest = rest; fault = fault_of Expected (place end rest) }
+unexpected end rest = record { rest = rest; fault = fault_of Expected (offset end rest) }
 
 abbrev pub ended : ℕ → Option Tree → Result Tree Stop
 ended end (Some tree) = Ok tree
@@ -416,13 +416,13 @@ unfoldable pub scan : ℕ → Steps → List Spanned → Result Tree Stop
 scan end k [] = ended end (finish k)
 scan end k (t ∷ ts) = go end (feed k t) t ts (λ n. scan end n.steps ts)
 
-abbrev pub told : Result Tree Stop → Result Tree Fault
-told (Ok tree) = Ok tree
-told (Err stop) = Err stop.fault
+abbrev pub reported : Result Tree Stop → Result Tree Fault
+reported (Ok tree) = Ok tree
+reported (Err stop) = Err stop.fault
 
 -- the same with the fault alone
 unfoldable pub run : ℕ → Steps → List Spanned → Result Tree Fault
-run end k ts = told (scan end k ts)
+run end k ts = reported (scan end k ts)
 
 -- ---- what a function of the parser says
 

@@ -21,11 +21,11 @@ pub record Reads (text : List ℕ) (tree : Tree) : Type 0 where
 abbrev pub IsTree : Tree → Type 0
 IsTree tree = (text : List ℕ) × Reads text tree
 
--- the tokens in front of this place are a catalogue's, or their own first fault is not in front of it
+-- the tokens before this offset are a catalogue's, or their own first fault is not before it
 abbrev pub IsFineBefore : ℕ → List Spanned → Type 0
 IsFineBefore at ts = ((tree : Tree) × ReadsTokens ts tree) ⊎ ((fault : Fault) × IsFirstFault at ts fault × (at ≤ fault.at))
 
--- the first fault of the tokens of a text with so many bytes, behind which this token is at fault, if any is
+-- the first fault of the tokens of a text with that many bytes, after which this token is at fault, if any is
 abbrev pub IsFirstOf : ℕ → List Spanned → Option Fault → Fault → Type 0
 IsFirstOf end ts None fault = IsFirstFault end ts fault
 IsFirstOf end ts (Some lexical) fault = (IsFirstFault lexical.at ts fault × (fault.at < lexical.at)) ⊎ ((fault ≡ lexical) × IsFineBefore lexical.at ts)
@@ -39,8 +39,8 @@ abbrev pub IsTextFault : List ℕ → Fault → Type 0
 IsTextFault text fault =
     IsLongText text fault ⊎ ((length text ≤ MAX_CATALOGUE) × (ts : List Spanned) × (lexical : Option Fault) × IsLexed text ts lexical × IsFirstOf (length text) ts lexical fault)
 
--- what is told where the tokens in front of a fault are read so: the fault that stands first
-abbrev pub told_of : Result Tree (Refusal Fault) → Fault → Refusal Fault
-told_of (Ok tree) lexical = error.Fault lexical
-told_of (Err error.NoMemory) lexical = error.NoMemory
-told_of (Err (error.Fault first)) lexical = if nat_lt first.at lexical.at then error.Fault first else error.Fault lexical
+-- what is reported where the tokens before a fault are read so: the fault that stands first
+abbrev pub reported_of : Result Tree (Refusal Fault) → Fault → Refusal Fault
+reported_of (Ok tree) lexical = error.Fault lexical
+reported_of (Err error.NoMemory) lexical = error.NoMemory
+reported_of (Err (error.Fault first)) lexical = if nat_lt first.at lexical.at then error.Fault first else error.Fault lexical

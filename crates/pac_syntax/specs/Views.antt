@@ -19,18 +19,18 @@ use Rattle.pac_syntax.specs.declared.parse.parser.Parser.{Parser}
 use Rattle.pac_base.specs.declared.refusal.Refusal.{Refusal}
 use Rattle.pac_tokens.specs.declared.fault.Fault.{Fault}
 use Rattle.pac_value.specs.declared.expr.BinOp.{BinOp}
-use Rattle.pac_syntax.specs.Grammar.{Role, ColumnName, ParamName, tier}
-use Rattle.pac_syntax.specs.Machine.{Steps, Rest, run, Begun, begun_name, begun_literal, is_same_word_or_sign, name_in, type_of_token, literal_at}
+use Rattle.pac_syntax.specs.Grammar.{Role, ColumnName, ParamName, precedence}
+use Rattle.pac_syntax.specs.Machine.{Steps, Rest, run, Begun, begun_name, begun_literal, is_same_keyword_or_symbol, name_in, type_of_token, literal_at}
 
--- the tokens begin with this word or sign
+-- the tokens begin with this word or symbol
 pub record Begins (w : Token) (at : ℕ) (ts rest : List Spanned) : Type 0 where
   pub text : ts ≡ record { token = w; at = at } ∷ rest
-  pub mark : is_same_word_or_sign w w ≡ true
+  pub mark : is_same_keyword_or_symbol w w ≡ true
 
--- the first token isn't this word or sign
+-- the first token isn't this word or symbol
 abbrev pub IsNot : Token → List Spanned → Type 0
 IsNot w [] = Unit {0}
-IsNot w (t ∷ ts) = is_same_word_or_sign w t.token ≡ false
+IsNot w (t ∷ ts) = is_same_keyword_or_symbol w t.token ≡ false
 
 -- the first token is no name
 abbrev pub IsNoName : List Spanned → Type 0
@@ -77,17 +77,17 @@ limit_of owner.Procedure = MAX_PARAMS
 abbrev pub begun_at : Operand → Begun
 begun_at x = record { from = x.from; expr = x.expr }
 
--- the operator, where its tier is from one on and below a level
+-- the operator, where its precedence is from one on and below a level
 abbrev pub between : ℕ → ℕ → Option BinOp → Option BinOp
 between n m None = None
-between n m (Some op) = if nat_le n (tier op) then (if nat_lt (tier op) m then Some op else None) else None
+between n m (Some op) = if nat_le n (precedence op) then (if nat_lt (precedence op) m then Some op else None) else None
 
--- the tightest tier whose operators may follow behind an operator of a tier and its right operand
-abbrev pub tier_behind : ℕ → ℕ
-tier_behind (suc (suc zero)) = 3
-tier_behind n = n
+-- the tightest precedence whose operators may follow after an operator of a precedence and its right operand
+abbrev pub next_precedence : ℕ → ℕ
+next_precedence (suc (suc zero)) = 3
+next_precedence n = n
 
--- the rests of the tiers from one on and below a level, from the tightest on
+-- the rests of the precedences from one on and below a level, from the tightest on
 abbrev pub rests : ℕ → ℕ → ℕ → (Begun → ℕ → Steps) → Begun → ℕ → Steps
 rests d n zero k = k
 rests d n (suc m) k = if nat_le n m then rests d n m (λ x o. Rest d m x o k) else k
@@ -111,7 +111,7 @@ NoLonger old new = length new.rest.now ≤ length old.rest.now
 abbrev pub IsShorter : Parser → Parser → Type 0
 IsShorter old new = length new.rest.now < length old.rest.now
 
--- the parser read what these steps want, and gives it: behind it the reading goes on where the parser stands now
+-- the parser read what these steps want, and gives it: after it the reading goes on where the parser stands now
 abbrev pub Goes : {A : Type 0} → ((A → Steps) → Steps) → Parser → Parser → Result A (Refusal Fault) → Type 0
 Goes {A} steps old new result = (k : A → Steps) → Gives (λ read. run new.end (k read) new.rest.now) result (run old.end (steps k) old.rest.now)
 

@@ -1,16 +1,16 @@
-// Operators: their signs, and how loosely they bind.
+// Operators: their symbols, and how loosely they bind.
 ghost use Rattle.std.specs.Prelude.{◌≡◌};
-ghost use Rattle.pac_syntax.specs.Grammar.{sign_of, tier};
+ghost use Rattle.pac_syntax.specs.Grammar.{operator_symbol, precedence};
 ghost use Rattle.pac_syntax.specs.Machine.{operator_of};
-ghost use Rattle.pac_syntax.specs.Views.{tier_behind};
+ghost use Rattle.pac_syntax.specs.Views.{next_precedence};
 
 use pac_tokens::Symbol;
 use pac_value::BinOp;
 
-/// The tier of comparisons, which do not follow one another.
+/// The precedence of comparisons, which do not follow one another.
 pub const COMPARISONS: u8 = 2;
 
-/// The operator that a sign is.
+/// The operator that a symbol is.
 pub(crate) fn operator_by(sign: Symbol) -> Option<BinOp>
     ensures { result ≡ operator_of sign }
 {
@@ -32,9 +32,9 @@ pub(crate) fn operator_by(sign: Symbol) -> Option<BinOp>
     }
 }
 
-/// The sign of an operator.
-pub fn sign_of(op: BinOp) -> Symbol
-    ensures { result ≡ sign_of op }
+/// The symbol of an operator.
+pub fn operator_symbol(op: BinOp) -> Symbol
+    ensures { result ≡ operator_symbol op }
 {
     match op {
         BinOp::Add => Symbol::Plus,
@@ -53,9 +53,9 @@ pub fn sign_of(op: BinOp) -> Symbol
     }
 }
 
-/// How loosely an operator binds: its tier, from that of products on.
-pub fn tier_of(op: BinOp) -> u8
-    ensures { result ≡ tier op }
+/// How loosely an operator binds: its precedence, from that of products on.
+pub fn precedence_of(op: BinOp) -> u8
+    ensures { result ≡ precedence op }
 {
     match op {
         BinOp::Mul | BinOp::Div | BinOp::Rem => 0,
@@ -66,11 +66,11 @@ pub fn tier_of(op: BinOp) -> u8
     }
 }
 
-/// The tightest tier whose operators may follow behind an operator of a tier and its right operand.
-pub(crate) fn tier_behind(tier: u8) -> u8
-    ensures { result ≡ tier_behind tier }
+/// The tightest precedence whose operators may follow after an operator of a precedence and its right operand.
+pub(crate) fn next_precedence(precedence: u8) -> u8
+    ensures { result ≡ next_precedence precedence }
 {
-    match tier {
+    match precedence {
         COMPARISONS => COMPARISONS + 1,
         other => other,
     }

@@ -2,7 +2,7 @@
 ghost use Rattle.std.specs.Prelude.{◌≡◌, ◌<◌, List, IfOk, IsErrOf, Some, None};
 ghost use Rattle.pac_base.specs.Refusals.{Only};
 ghost use Rattle.pac_base.specs.declared.refusal.Refusal.TheVariants as error;
-ghost use Rattle.pac_syntax.specs.Reading.{Reads, IsTree, IsTextFault, told_of};
+ghost use Rattle.pac_syntax.specs.Reading.{Reads, IsTree, IsTextFault, reported_of};
 ghost use Rattle.pac_syntax.specs.Limits.{IsWithinLimits};
 ghost use Rattle.pac_tokens.specs.declared.fault.Fault.{Fault as AFault};
 ghost use Rattle.pac_syntax.specs.declared.tree.Tree.{Tree as ATree};
@@ -59,7 +59,7 @@ fn parse_text(alloc: Global, text: &[u8]) -> Result<Tree, SyntaxError>
 
 // The fault of the tokens, where it stands before that of a token.
 fn earlier(parsed: Result<Tree, SyntaxError>, fault: Fault) -> SyntaxError
-    ensures { result ≡ told_of parsed fault }
+    ensures { result ≡ reported_of parsed fault }
 {
     match parsed {
         Err(SyntaxError::Fault(first)) if first.at < fault.at => SyntaxError::Fault(first),

@@ -1,12 +1,12 @@
 // What single tokens are.
 ghost use Rattle.std.specs.Prelude.{◌≡◌, ◌∷◌, [], MatchOption};
-ghost use Rattle.pac_syntax.specs.Machine.{is_same_word_or_sign, keyword_code, symbol_code};
+ghost use Rattle.pac_syntax.specs.Machine.{is_same_keyword_or_symbol, keyword_code, symbol_code};
 ghost use Rattle.pac_syntax.specs.Views.{bool_in, name_part};
 
 use pac_tokens::{Keyword, Spanned, Symbol, Token};
 use pac_value::Name;
 
-/// The first token, and those behind it.
+/// The first token, and those after it.
 pub fn split_first(tokens: &[Spanned]) -> Option<(Spanned, &[Spanned])>
     ensures { MatchOption result (tokens.now ≡ []) (λ p. tokens.now ≡ p.0 ∷ p.1.now) }
 {
@@ -52,9 +52,9 @@ fn symbol_number(sign: Symbol) -> u8
     sign as u8
 }
 
-/// Whether the two are one word or one sign.
-pub fn is_same_word_or_sign(wanted: &Token, found: &Token) -> bool
-    ensures { result ≡ is_same_word_or_sign wanted.now found.now }
+/// Whether the two are one word or one symbol.
+pub fn is_same_keyword_or_symbol(wanted: &Token, found: &Token) -> bool
+    ensures { result ≡ is_same_keyword_or_symbol wanted.now found.now }
 {
     match wanted {
         Token::Keyword(a) => match found {

@@ -1,4 +1,4 @@
-// The tree of a catalogue: one node for each rule of the grammar, with the place of each name and expression.
+// The tree of a catalogue: one node for each rule of the grammar, with the offset of each name and expression.
 use pac_base::{Boxed, Listed};
 use pac_value::{BinOp, Name, Ty, Value};
 
@@ -9,7 +9,7 @@ pub struct NameNode {
     pub name: Name,
 }
 
-/// A literal and the place of its first token.
+/// A literal and the offset of its first token.
 #[derive(Clone, Copy, Debug)]
 pub struct LiteralNode {
     pub at: usize,
@@ -23,7 +23,7 @@ pub struct ColumnNode {
     pub ty: Ty,
 }
 
-/// An expression. `at` is the place of its first token.
+/// An expression. `at` is the offset of its first token.
 #[derive(Debug, Drop)]
 pub enum ExprNode {
     Literal(LiteralNode),

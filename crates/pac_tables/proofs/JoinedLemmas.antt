@@ -178,7 +178,7 @@ keys-joined ms t =
     ∙ keys-part t (entries_from 0 ms)
     ∙ ap (map (λ (e : Key × RowValues). e.0)) (from-zero t ms)
 
--- a table with no rows, put behind the others, adds none
+-- a table with no rows, put after the others, adds none
 from-push : (s : ℕ) (ms : List OneTable) → entries_from s (ms ++ empty ∷ []) ≡ entries_from s ms
 from-push s [] = ap (λ es. at_cells s es ++ []) no-entries
 from-push s (m ∷ ms) = ap (λ es. at_cells s (entries m) ++ es) (from-push (s + 1) ms)
@@ -199,7 +199,7 @@ module _ (ms : List OneTable) (u t : ℕ) (m : OneTable) (same : u ≡ t) (withi
   pub keys-table : keys_of (joined_tables ms) t ≡ keys m
   keys-table = keys-joined ms t ∙ ap keys at-number
 
-  -- with a table n in its place that differs at one key, the tables differ at one cell
+  -- with a table n instead that differs at one key, the tables differ at one cell
   changed : (k : Key) (w : Option RowValues) (n : OneTable) → ((j : Key) → get n j ≡ cond (eq_by_cmp key_cmp j k) w (get m j)) → (q : Cell) → get (joined_tables (set ms u n)) q ≡ cond (eq_by_cmp cell_cmp q (t, k)) w (get (joined_tables ms) q)
   changed k w n differs q = get-joined (set ms u n) q.0 q.1 ∙ go (nat_cmp q.0 t) (ranked q.0 t (nat_cmp q.0 t) refl)
     where

@@ -46,9 +46,9 @@ Grows-more ws i w s t u within is before now = record {
 
 -- the row that is put, or the tables as they were
 module _ (w : Write) (v : RowValues) (t n : Tables) (absent : get t (cell_written w) ≡ None) where
-  pub place-put : (r : Result (Unit {0}) NoMemory) → OnOk r (n ≡ insert t (cell_written w) v) → OnOk r (HasRow n w)
-  place-put (Ok x) is = λ _. ap (λ (m : Tables). is_some (get m (cell_written w))) is ∙ ap is_some (get-insert cells_total t (cell_written w) v (cell_written w) ∙ ap (λ b. cond b (Some v) (get t (cell_written w))) (same-cell (cell_written w)))
-  place-put (Err e) is = tt
+  pub offset-put : (r : Result (Unit {0}) NoMemory) → OnOk r (n ≡ insert t (cell_written w) v) → OnOk r (HasRow n w)
+  offset-put (Ok x) is = λ _. ap (λ (m : Tables). is_some (get m (cell_written w))) is ∙ ap is_some (get-insert cells_total t (cell_written w) v (cell_written w) ∙ ap (λ b. cond b (Some v) (get t (cell_written w))) (same-cell (cell_written w)))
+  offset-put (Err e) is = tt
 
   pub grows-put : (r : Result (Unit {0}) NoMemory) → OnOk r (n ≡ insert t (cell_written w) v) → OnErr r (n ≡ t) → Grows (w ∷ []) t n
   grows-put (Ok x) is same = subst (λ m. Grows (w ∷ []) t m) (sym is) (Grows-insert w t v)

@@ -15,7 +15,7 @@ pub record Grows (writes : List Write) (old new : Tables) : Type 0 where
   pub kept : (cell : Cell) → IsSome (get old cell) → IsSome (get new cell)
   pub others : (cell : Cell) → is_written writes cell ≡ false → get new cell ≡ get old cell
 
--- the write can be made with no memory, in one of so many tables
+-- the write can be made with no memory, in one of that many tables
 pub record IsReady (count : ℕ) (tables : Tables) (write : Write) : Type 0 where
   pub within : write.table < count
   pub placed : HasRow tables write

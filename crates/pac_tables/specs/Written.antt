@@ -19,7 +19,7 @@ abbrev pub IsOnce : List Write → Type 0
 IsOnce [] = Unit {0}
 IsOnce (write ∷ writes) = (is_written writes (cell_written write) ≡ false) × IsOnce writes
 
--- each is made in one of so many tables
+-- each is made in one of that many tables
 abbrev pub AreWithin : ℕ → List Write → Type 0
 AreWithin tables writes = All (λ write. write.table < tables) writes
 

@@ -33,7 +33,7 @@ impl Model for OrderedRows {
 }
 
 impl OrderedRows {
-    /// So many tables, with no rows.
+    /// That many tables, with no rows.
     ///
     /// # Errors
     ///

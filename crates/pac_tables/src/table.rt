@@ -82,7 +82,7 @@ fn keys_in(alloc: Global, rows: &BTreeMap<Key, Row>) -> Result<Vec<Key>, NoMemor
 }
 
 impl Exact for TableRows {
-    // From the last row to the first: each is put in front of those behind it.
+    // From the last row to the first: each is put before those after it.
     fn copy(&self, alloc: Global) -> Result<TableRows, NoMemory> {
         let mut copy = TableRows::new(alloc);
         let mut left = self.rows.iter();

@@ -77,8 +77,8 @@ fn make_room<R: Rows>(alloc: Global, rows: &mut R, writes: &[Write]) -> Result<(
 {
     let mut made = Vec::new(alloc);
     for write in writes {
-        if let Err(NoMemory) = make_place(alloc, rows, write, &mut made) {
-            take_back(rows, made);
+        if let Err(NoMemory) = make_cell(alloc, rows, write, &mut made) {
+            roll_back(rows, made);
             return Err(NoMemory);
         }
     }
@@ -86,7 +86,7 @@ fn make_room<R: Rows>(alloc: Global, rows: &mut R, writes: &[Write]) -> Result<(
 }
 
 // Where the write puts a row at a cell that has none, puts a copy there and adds the cell to those that were made.
-fn make_place<R: Rows>(
+fn make_cell<R: Rows>(
     alloc: Global,
     rows: &mut R,
     write: &Write,
@@ -94,7 +94,7 @@ fn make_place<R: Rows>(
 ) -> Result<(), NoMemory>
     requires within { write.now.table < R.tables rows.old }
     requires made { All (λ cell. cell.0 < R.tables rows.old) made.old.items }
-    ensures place { OnOk result (HasRow (R.held rows.new) write.now) }
+    ensures offset { OnOk result (HasRow (R.held rows.new) write.now) }
     ensures placed { HasRow (R.held rows.old) write.now → IsOk result }
     ensures grows { Grows (write.now ∷ []) (R.held rows.old) (R.held rows.new) }
     ensures back { without_cells (R.held rows.new) made.new.items ≡ without_cells (R.held rows.old) made.old.items }
@@ -113,7 +113,7 @@ fn make_place<R: Rows>(
 }
 
 // Takes out the rows at the cells, the last of them first.
-fn take_back<R: Rows>(rows: &mut R, mut cells: Vec<(u16, Key)>)
+fn roll_back<R: Rows>(rows: &mut R, mut cells: Vec<(u16, Key)>)
     requires { All (λ cell. cell.0 < R.tables rows.old) cells.items }
     ensures rows { R.held rows.new ≡ without_cells (R.held rows.old) cells.items }
     ensures tables { R.tables rows.new ≡ R.tables rows.old }

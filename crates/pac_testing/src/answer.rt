@@ -25,11 +25,11 @@ pub struct Answer {
 impl Answer {
     /// Whether it is this end, and no gate was entered.
     pub fn is(&self, end: (u8, &str, &str)) -> bool {
-        self.writes(end.1.as_bytes()) && self.tells(end.0, end.2)
+        self.writes(end.1.as_bytes()) && self.knows(end.0, end.2)
     }
 
     /// Whether it is this status with this line of the error sink, and no gate was entered.
-    pub fn tells(&self, status: u8, line: &str) -> bool {
+    pub fn knows(&self, status: u8, line: &str) -> bool {
         self.status == status && self.entered == 0 && self.errors.bytes() == line.as_bytes()
     }
 

@@ -2,7 +2,7 @@
 //! texts. It promises little, so that what the top call promises is met here alone. A call fails where an allocation is refused;
 //! what else makes one fail stands with it.
 //!
-//! - [`run_over`], [`run_apart`], [`run_bytes`] and [`run_lines`]: run the words of a line, and tell what is answered.
+//! - [`run_over`], [`run_apart`], [`run_bytes`] and [`run_lines`]: run the words of a line, and say what is answered.
 //! - [`ends`], [`ends_apart`], [`leaves`] and [`goes`]: whether the words end as they are to.
 //! - [`run_struck`]: runs them over devices that an [`Outage`] strikes; [`strike_in_turn`]: over an outage at each call in turn.
 //! - [`devices`], [`left`], [`hold`], [`changed`], [`log_of`]: stores of bytes.

@@ -11,7 +11,7 @@ use std::sync::atomic::{AtomicU64, Ordering};
 use std::test::Fail;
 use std::thread::Threads;
 
-/// The calls of all devices together. So many pass, and the next one fails; those behind it fail too where the outage lasts.
+/// The calls of all devices together. That many pass, and the next one fails; those after it fail too where the outage lasts.
 #[derive(Drop)]
 pub struct Outage {
     made: AtomicU64,
@@ -41,7 +41,7 @@ impl Outage {
     }
 }
 
-/// A disk in memory whose calls fail in an outage. It tells nothing.
+/// A disk in memory whose calls fail in an outage. Nothing is known of it.
 #[derive(Drop)]
 struct Part<'a> {
     disk: MemDisk,
@@ -75,7 +75,7 @@ impl<'a> Part<'a> {
 }
 
 impl<'a> Disk for Part<'a> {
-    ghost told = { λ _. None };
+    ghost known = { λ _. None };
 
     ghost faults = { λ part. part.faults };
 
@@ -115,7 +115,7 @@ impl<'a> Disk for Part<'a> {
 }
 
 /// Runs the words of a line over this input and a store that an outage strikes. Answers what the program does, and what the
-/// store is then. A call that fails has to be the last one, and to be told by status 8.
+/// store is then. A call that fails has to be the last one, and to be reported by status 8.
 pub fn run_struck<RT: Threads + Wait + Sync>(
     rt: &RT,
     alloc: Global,
@@ -130,12 +130,12 @@ pub fn run_struck<RT: Threads + Wait + Sync>(
         slot_b: Part::new(store.slot_b, outage),
     };
     let answer = run_lines(rt, alloc, line, text, [0, 0], &mut devices)?;
-    let (status, told) = if outage.made() > outage.passing {
+    let (status, known) = if outage.made() > outage.passing {
         (8, "disk fault\n")
     } else {
         (0, "")
     };
-    if answer.status != status || answer.errors.bytes() != told.as_bytes() {
+    if answer.status != status || answer.errors.bytes() != known.as_bytes() {
         return Err(Fail::from("another end"));
     }
     if outage.made() > outage.passing.saturating_add(1) {
@@ -150,7 +150,7 @@ pub fn run_struck<RT: Threads + Wait + Sync>(
 }
 
 /// Hands an outage at each call of the devices in turn to `strike`, which answers whether one of its calls failed. First that
-/// call alone fails, and then, from the first call on again, all behind it too.
+/// call alone fails, and then, from the first call on again, all after it too.
 ///
 /// # Errors
 ///

@@ -21,12 +21,12 @@ impl Gate for Counting {
 }
 
 // The words of a line.
-fn words_of(alloc: Global, line: &str) -> Result<Vec<String>, Fail> {
-    let mut words = Vec::new(alloc);
+fn arguments_of(alloc: Global, line: &str) -> Result<Vec<String>, Fail> {
+    let mut arguments = Vec::new(alloc);
     for word in line.split_whitespace() {
-        words.push(String::from_str(alloc, word)?)?;
+        arguments.push(String::from_str(alloc, word)?)?;
     }
-    Ok(words)
+    Ok(arguments)
 }
 
 /// Runs the words of a line over these streams and this gate, without a store, and answers the status.
@@ -39,9 +39,18 @@ pub fn run_over<RT: Threads + Wait + Sync, I: Source, O: Sink, E: Sink, G: Gate 
     errors: &mut E,
     gate: &G,
 ) -> Result<u8, Fail> {
-    let words = words_of(alloc, line)?;
+    let arguments = arguments_of(alloc, line)?;
     let mut devices = no_store();
-    Ok(pacman(rt, alloc, &words, input, output, errors, &mut devices, gate))
+    Ok(pacman(
+        rt,
+        alloc,
+        &arguments,
+        input,
+        output,
+        errors,
+        &mut devices,
+        gate,
+    ))
 }
 
 // Devices that aren't there.
@@ -86,7 +95,7 @@ pub fn run_bytes<RT: Threads + Wait + Sync, D: Disk>(
     bad_calls: [u64; 2],
     devices: &mut Devices<D>,
 ) -> Result<Answer, Fail> {
-    let words = words_of(alloc, line)?;
+    let arguments = arguments_of(alloc, line)?;
     let mut input = MemSource::new(text, [bad_calls[0]].to_vec(alloc)?);
     let mut output = MemSink::new(Vec::new(alloc), [bad_calls[1]].to_vec(alloc)?);
     let mut errors = MemSink::new(Vec::new(alloc), Vec::new(alloc));
@@ -96,7 +105,7 @@ pub fn run_bytes<RT: Threads + Wait + Sync, D: Disk>(
     let status = pacman(
         rt,
         alloc,
-        &words,
+        &arguments,
         &mut input,
         &mut output,
         &mut errors,

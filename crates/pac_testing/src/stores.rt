@@ -11,7 +11,7 @@ pub const NEW: &[u8] = b"PACMLOG1\x18\0\0\0table T(key int, v int);\0";
 pub const LOG: &[u8] = b"PACMLOG1\x18\0\0\0table T(key int, v int);\
     \x01\x01\0\0\0\x18\0\0\0\x02\x01\x01\0\0\x01\x01\0\0\0\0\0\0\0\x01\x01\x02\0\0\0\0\0\0\0\0";
 
-/// The checkpoint of that log behind its transaction, at place 69.
+/// The checkpoint of that log after its transaction, at offset 69.
 pub const SLOT: &[u8] =
     b"\x01PACMSLT1\x01\0\0\0\0\0\0\0\x45\0\0\0\0\0\0\0\x01\0\x01\0\0\0\0\0\0\0\x01\x01\0\0\0\0\0\0\0\x01\x02\0\0\0\0\0\0\0";
 
@@ -54,23 +54,23 @@ pub fn hold(devices: &Devices<MemDisk>, bytes: [&[u8]; 3]) -> Result<bool, Fail>
     Ok(log.as_slice() == bytes[0] && a.as_slice() == bytes[1] && b.as_slice() == bytes[2])
 }
 
-/// These bytes with this byte at a place, so long.
+/// These bytes with this byte at an offset, so long.
 pub fn changed(
     alloc: Global,
     bytes: &[u8],
-    place: usize,
+    offset: usize,
     byte: u8,
     len: usize,
 ) -> Result<Vec<u8>, Fail> {
     let mut copy = bytes.to_vec(alloc)?;
-    if let Some(old) = copy.get_mut(place) {
+    if let Some(old) = copy.get_mut(offset) {
         *old = byte;
     }
     copy.truncate(len);
     Ok(copy)
 }
 
-/// The log of a catalogue's text, with batches of so many transactions and these entries each.
+/// The log of a catalogue's text, with batches of that many transactions and these entries each.
 pub fn log_of(alloc: Global, text: &str, batches: &[(u8, &[u8])]) -> Result<Vec<u8>, Fail> {
     let mut log = b"PACMLOG1".to_vec(alloc)?;
     push_length(&mut log, text.len())?;

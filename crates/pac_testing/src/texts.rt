@@ -10,14 +10,14 @@ pub const USAGE: &str = "usage: pacman init, run, recover, explain, replay or st
 pub const BANK: &str =
     "table Family(key int, spouse int);\ntable Current(key int, value int);\ntable Saving(key int, value int);\ntable Stats(key int, count int);\nproc Transfer(src int, amount int) {\n  read dst = Family[src].spouse default 0;\n  if dst != 0 {\n    read a = Current[src].value default 0;\n    put Current[src] = (a - amount);\n    read b = Current[dst].value default 0;\n    put Current[dst] = (b + amount);\n    read s = Saving[src].value default 0;\n    put Saving[src] = (s + 1);\n  }\n}\nproc Deposit(name int, amount int, nation int) {\n  read v = Current[name].value default 0;\n  put Current[name] = (v + amount);\n  if v + amount > 10000 {\n    read s = Saving[name].value default 0;\n    put Saving[name] = (s + v / 50);\n  }\n  read n = Stats[nation].count default 0;\n  put Stats[nation] = (n + 1);\n}\n";
 
-/// The tables of the accounts behind a marriage, a large deposit and a transfer.
+/// The tables of the accounts after a marriage, a large deposit and a transfer.
 pub const BANK_DUMP: &str =
     "table Family 1\n1 (2)\ntable Current 2\n1 (10000)\n2 (500)\ntable Saving 1\n1 (1)\ntable Stats 1\n7 (1)\n";
 
 /// One table.
 pub const ONE_TABLE: &str = "table T(key int, v int);";
 
-/// Adds to a column of a table, with the mark behind it.
+/// Adds to a column of a table, with the mark after it.
 pub const ADD_SCRIPT: &str =
     "table T(key int, v int);\nproc Add(k int, n int) { read a = T[k].v default 0; let b = a + n; put T[k] = (b); }\n---\n";
 
@@ -31,14 +31,14 @@ pub const ONE_ROW: &str = "table T 1\n1 (2)\n";
 /// The dump of a table without a row.
 pub const NO_ROW: &str = "table T 0\n";
 
-/// A text and another behind it.
-pub fn joined(alloc: Global, front: &str, behind: &str) -> Result<Vec<u8>, Fail> {
-    let mut text = front.as_bytes().to_vec(alloc)?;
-    text.extend_from_slice(behind.as_bytes())?;
+/// A text and another after it.
+pub fn joined(alloc: Global, prefix: &str, after: &str) -> Result<Vec<u8>, Fail> {
+    let mut text = prefix.as_bytes().to_vec(alloc)?;
+    text.extend_from_slice(after.as_bytes())?;
     Ok(text)
 }
 
-/// The text of a catalogue of one procedure, of so many operations.
+/// The text of a catalogue of one procedure, of that many operations.
 pub fn of_operations(alloc: Global, count: u32) -> Result<Vec<u8>, Fail> {
     let mut text = b"proc P(k int) {".to_vec(alloc)?;
     for number in 0..count {

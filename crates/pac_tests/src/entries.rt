@@ -61,7 +61,7 @@ fn delete_in_t(alloc: Global, key: Text) -> Result<Txn, NoMemory> {
     })
 }
 
-// Whether the transaction is written so, behind a byte.
+// Whether the transaction is written so, after a byte.
 fn is_written(alloc: Global, txn: Txn, spelled: &[u8]) -> Result<bool, NoMemory> {
     let mut out = vec![in alloc; 0xFF]?;
     write_entry(&txn, &mut out)?;
@@ -105,8 +105,8 @@ fn worked_entries_are_read(rt: HostRuntime) -> Result<(), Fail> {
     Ok(())
 }
 
-// The place behind the entry at a place, against the catalogue of a text; none where no entry is.
-fn place_behind(
+// The offset after the entry at an offset, against the catalogue of a text; none where no entry is.
+fn place_after_group(
     alloc: Global,
     text: &[u8],
     bytes: &[u8],
@@ -120,7 +120,7 @@ fn place_behind(
 }
 
 #[test]
-fn entries_stand_one_behind_the_other(rt: HostRuntime) -> Result<(), Fail> {
+fn entries_stand_one_after_the_other(rt: HostRuntime) -> Result<(), Fail> {
     let alloc = rt.alloc();
     let mut bytes = Vec::new(alloc);
     for entry in [PUT, DEPOSIT, TRANSFER] {
@@ -128,15 +128,15 @@ fn entries_stand_one_behind_the_other(rt: HostRuntime) -> Result<(), Fail> {
     }
     assert_eq!(rt; bytes.len(), 77);
     for (at, end) in [(0, Some(24)), (24, Some(55)), (55, Some(77)), (77, None)] {
-        assert_eq!(rt; place_behind(alloc, BANK.as_bytes(), &bytes, at)?, end);
+        assert_eq!(rt; place_after_group(alloc, BANK.as_bytes(), &bytes, at)?, end);
     }
     Ok(())
 }
 
-// One row of a table of faults: the byte that is put at a place, how many bytes are left, and the fault that is told.
+// One row of a table of faults: the byte that is put at an offset, how many bytes are left, and the fault that is reported.
 #[derive(Clone, Copy)]
 struct Changed<'a> {
-    place: usize,
+    offset: usize,
     byte: u8,
     len: usize,
     at: usize,
@@ -146,13 +146,13 @@ struct Changed<'a> {
 // The row of a line: four numbers and a kind.
 fn row_of(line: &str) -> Option<Changed<'_>> {
     let mut words = line.split_whitespace();
-    let place = words.next()?.parse::<usize>().ok()?;
+    let offset = words.next()?.parse::<usize>().ok()?;
     let byte = words.next()?.parse::<u8>().ok()?;
     let len = words.next()?.parse::<usize>().ok()?;
     let at = words.next()?.parse::<usize>().ok()?;
     let kind = words.next()?;
     Some(Changed {
-        place,
+        offset,
         byte,
         len,
         at,
@@ -169,29 +169,29 @@ fn has_fault(alloc: Global, cat: &Catalogue, bytes: &[u8], row: &Changed<'_>) ->
 }
 
 // Whether the bytes, changed by the row, have its fault.
-fn is_told(
+fn is_known(
     alloc: Global,
     cat: &Catalogue,
     base: &[u8],
     row: &Changed<'_>,
 ) -> Result<bool, AllocError> {
     let mut bytes = base.to_vec(alloc)?;
-    if let Some(byte) = bytes.get_mut(row.place) {
+    if let Some(byte) = bytes.get_mut(row.offset) {
         *byte = row.byte;
     }
     bytes.truncate(row.len);
     Ok(has_fault(alloc, cat, &bytes, row))
 }
 
-// How many rows are told so, against the catalogue. An error: a line is no row, or isn't told so.
-fn count_told(alloc: Global, base: &[u8], lines: &str) -> Result<usize, Fail> {
+// How many rows are reported so, against the catalogue. An error: a line is no row, or isn't reported so.
+fn count_known(alloc: Global, base: &[u8], lines: &str) -> Result<usize, Fail> {
     let cat = catalogue(alloc, TEXTS)?;
     let mut count = 0usize;
     for line in lines.lines() {
         let Some(row) = row_of(line) else {
             return Err(Fail::from("no row"));
         };
-        if !is_told(alloc, &cat, base, &row)? {
+        if !is_known(alloc, &cat, base, &row)? {
             return Err(Fail::from("another fault"));
         }
         count = count.saturating_add(1);
@@ -200,7 +200,7 @@ fn count_told(alloc: Global, base: &[u8], lines: &str) -> Result<usize, Fail> {
 }
 
 // Cut at each length; the tag; the procedure; one argument too few, one too many, none; a text for an int and an int for
-// a text, also cut behind the tag; tags that no value has; a text of 65 bytes, whatever is left of it, one that isn't
+// a text, also cut after the tag; tags that no value has; a text of 65 bytes, whatever is left of it, one that isn't
 // printable, and one that is cut.
 const CALLS: &str = "0 1 0 0 Short
 0 1 1 1 Short
@@ -304,13 +304,13 @@ const DELETES: &str = "0 2 0 0 Short
 2 1 8 8 Short";
 
 #[test]
-fn the_first_fault_of_an_entry_is_told(rt: HostRuntime) -> Result<(), Fail> {
+fn the_first_fault_of_an_entry_is_known(rt: HostRuntime) -> Result<(), Fail> {
     let alloc = rt.alloc();
-    assert_eq!(rt; place_behind(alloc, TEXTS, CALL_P, 0)?, Some(17));
-    assert_eq!(rt; place_behind(alloc, TEXTS, PUT_T, 0)?, Some(22));
-    assert_eq!(rt; count_told(alloc, CALL_P, CALLS)?, 39);
-    assert_eq!(rt; count_told(alloc, PUT_T, PUTS)?, 44);
-    assert_eq!(rt; count_told(alloc, DELETE_T, DELETES)?, 12);
+    assert_eq!(rt; place_after_group(alloc, TEXTS, CALL_P, 0)?, Some(17));
+    assert_eq!(rt; place_after_group(alloc, TEXTS, PUT_T, 0)?, Some(22));
+    assert_eq!(rt; count_known(alloc, CALL_P, CALLS)?, 39);
+    assert_eq!(rt; count_known(alloc, PUT_T, PUTS)?, 44);
+    assert_eq!(rt; count_known(alloc, DELETE_T, DELETES)?, 12);
     Ok(())
 }
 
@@ -321,7 +321,7 @@ fn an_entry_has_at_most_64_records(rt: HostRuntime) -> Result<(), Fail> {
     for _ in 0..64 {
         bytes.extend_from_slice(&DELETE_T[2..])?;
     }
-    assert_eq!(rt; place_behind(alloc, TEXTS, &bytes, 0)?, Some(386));
+    assert_eq!(rt; place_after_group(alloc, TEXTS, &bytes, 0)?, Some(386));
     Ok(())
 }
 

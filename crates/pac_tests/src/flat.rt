@@ -209,7 +209,7 @@ fn conditions_stand_in_conditions(rt: HostRuntime) -> Result<(), Fail> {
     Ok(())
 }
 
-// Procedures with so many operations each.
+// Procedures with that many operations each.
 fn procedures(alloc: Global, counts: &[u16]) -> Result<Vec<u8>, NoMemory> {
     let mut text = Vec::new(alloc);
     text.extend_from_slice(b"table T(key int, v int);")?;
@@ -227,7 +227,7 @@ fn procedures(alloc: Global, counts: &[u16]) -> Result<Vec<u8>, NoMemory> {
     Ok(text)
 }
 
-// The first excess of procedures with so many operations each.
+// The first excess of procedures with that many operations each.
 fn excess(alloc: Global, counts: &[u16]) -> Result<Option<TooManyOps>, Fail> {
     let text = procedures(alloc, counts)?;
     match flatten(alloc, &catalogue(alloc, text.as_slice())?) {

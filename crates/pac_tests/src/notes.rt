@@ -80,8 +80,8 @@ impl Running {
 
     // Gives a variable its value, or the default of its type.
     fn give(&mut self, var: u16, value: Result<i64, Reason>) -> Result<(), Reason> {
-        if let Some(place) = self.values.get_mut(usize::from(var)) {
-            *place = Some(value.unwrap_or(0));
+        if let Some(offset) = self.values.get_mut(usize::from(var)) {
+            *offset = Some(value.unwrap_or(0));
         }
         value.map(|_| ())
     }
@@ -110,7 +110,7 @@ impl Running {
         }
     }
 
-    // What an operation does that defines no variable. A delete is the last one here, and no row is looked for behind it.
+    // What an operation does that defines no variable. A delete is the last one here, and no row is looked for after it.
     fn change(&mut self, kind: &OpKind) -> Result<(), Reason> {
         match kind {
             OpKind::Put { key, values, .. } => self.put(key, values.as_slice()),
@@ -154,7 +154,7 @@ fn combined(op: BinOp, left: i64, right: i64) -> Result<i64, Reason> {
     }
 }
 
-// The first note of a call with one argument: all operations are run, and none stops those behind it.
+// The first note of a call with one argument: all operations are run, and none stops those after it.
 fn first_note(program: &Program, argument: i64) -> Option<(u16, Reason)> {
     let mut running = Running::new(argument);
     let mut first = None;

@@ -6,7 +6,7 @@ ghost use Rattle.pac_value.specs.declared.values.Value.TheVariants.{Int as AnInt
 ghost use Rattle.pac_ops.specs.declared.transaction.Change.TheVariants.{Delete, Put};
 ghost use Rattle.pac_ops.specs.declared.transaction.Txn.TheVariants.{Call as ACall};
 ghost use Rattle.pac_ops.specs.Shapes.{RecordsFit};
-ghost use Rattle.pac_types.specs.Sound.{key_type, column_types};
+ghost use Rattle.pac_types.specs.WellFormed.{key_type, column_types};
 ghost use Rattle.pac_types.specs.Fits.{shape, FitsCall};
 
 use crate::bank::catalogue;

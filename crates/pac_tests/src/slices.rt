@@ -102,8 +102,8 @@ fn a_deposit_has_its_dependencies(rt: HostRuntime) -> Result<(), Fail> {
     let deps = dependencies_of(alloc, &deposit(alloc)?)?;
     let flow = [(0, 1), (0, 2), (0, 4), (2, 3), (2, 4), (3, 4), (5, 6)];
     assert_eq!(rt; deps.flow.as_slice(), flow.as_slice());
-    let clash = [(0, 1), (3, 4), (5, 6)];
-    assert_eq!(rt; deps.clash.as_slice(), clash.as_slice());
+    let conflict = [(0, 1), (3, 4), (5, 6)];
+    assert_eq!(rt; deps.conflict.as_slice(), conflict.as_slice());
     Ok(())
 }
 

@@ -25,7 +25,7 @@ fn reads_tables_and_procedures(rt: HostRuntime) -> Result<(), Fail> {
     Ok(())
 }
 
-// The operator of an expression, the place of its first token and those of its operands.
+// The operator of an expression, the offset of its first token and those of its operands.
 fn parts(expr: &ExprNode) -> Option<(BinOp, usize, &ExprNode, &ExprNode)> {
     match expr {
         ExprNode::Binary {
@@ -102,16 +102,16 @@ fn let_of(alloc: Global, expr: &str) -> Result<Vec<u8>, Fail> {
     repeated(alloc, "proc P() { let x = ", expr, 1, "; }")
 }
 
-// A text between two others, so many times.
+// A text between two others, that many times.
 fn repeated(
     alloc: Global,
-    front: &str,
+    prefix: &str,
     piece: &str,
     times: usize,
     back: &str,
 ) -> Result<Vec<u8>, Fail> {
     let mut text = Vec::new(alloc);
-    text.extend_from_slice(front.as_bytes())?;
+    text.extend_from_slice(prefix.as_bytes())?;
     for _ in 0..times {
         text.extend_from_slice(piece.as_bytes())?;
     }
@@ -156,7 +156,7 @@ const TABLE: &str = "table T(key int, v int);\n";
 
 const PROC: &str = "proc P() { }\n";
 
-// A text between two others, so many times, and its first fault.
+// A text between two others, that many times, and its first fault.
 const REPEATED: &[(&str, &str, usize, &str, Option<(usize, FaultKind)>)] = &[
     ("", TABLE, 64, "", None),
     ("", TABLE, 65, "", Some((64 * 25, FaultKind::TooMany))),
@@ -170,8 +170,8 @@ const REPEATED: &[(&str, &str, usize, &str, Option<(usize, FaultKind)>)] = &[
 
 #[test]
 fn counts_tables_procedures_and_bytes(rt: HostRuntime) -> Result<(), Fail> {
-    for &(front, piece, times, back, fault) in REPEATED {
-        let text = repeated(rt.alloc(), front, piece, times, back)?;
+    for &(prefix, piece, times, back, fault) in REPEATED {
+        let text = repeated(rt.alloc(), prefix, piece, times, back)?;
         match (parse_catalogue(rt.alloc(), &text), fault) {
             (Ok(_), None) => {}
             (Err(SyntaxError::Fault(found)), Some((at, kind))) => {
@@ -348,9 +348,9 @@ const FAULTS: &[(&str, usize, FaultKind)] = &[
     ("proc P() { let x = ; } ?", 19, FaultKind::Expected),
 ];
 
-// The places and kinds are those of the rules for faults.
+// The offsets and kinds are those of the rules for faults.
 #[test]
-fn tells_the_first_fault(rt: HostRuntime) -> Result<(), Fail> {
+fn knows_the_first_fault(rt: HostRuntime) -> Result<(), Fail> {
     for &(text, at, kind) in FAULTS {
         let refused = parse_catalogue(rt.alloc(), text.as_bytes());
         let want = SyntaxError::Fault(Fault { at, kind });

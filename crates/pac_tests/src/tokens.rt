@@ -27,10 +27,10 @@ fn gives_the_tokens_of_a_line(rt: HostRuntime) -> Result<(), Fail> {
         b"call Add(1, - 5, \"a\\\"b\\\\\", true) <= < = == # behind",
     )?;
     let found = found.as_slice();
-    let places = [0, 5, 8, 9, 10, 12, 14, 15, 17, 25, 27, 31, 33, 36, 38, 40];
-    assert_eq!(rt; found.len(), places.len());
+    let offsets = [0, 5, 8, 9, 10, 12, 14, 15, 17, 25, 27, 31, 33, 36, 38, 40];
+    assert_eq!(rt; found.len(), offsets.len());
     for i in 0..16 {
-        assert_eq!(rt; found[i].at, places[i]);
+        assert_eq!(rt; found[i].at, offsets[i]);
     }
     assert!(rt; matches!(found[3].token, Token::Int(1)));
     assert!(rt; matches!(found[6].token, Token::Negative(-5)));
@@ -41,11 +41,11 @@ fn gives_the_tokens_of_a_line(rt: HostRuntime) -> Result<(), Fail> {
     Ok(())
 }
 
-// The value in front of a line, and how many of its tokens are left behind that.
-fn front(alloc: Global, line: &str) -> Result<Option<(Value, usize)>, Fail> {
+// The value before a line, and how many of its tokens are left after that.
+fn prefix(alloc: Global, line: &str) -> Result<Option<(Value, usize)>, Fail> {
     let found = tokens(alloc, line.as_bytes())?;
     Ok(match int_or_text(found.as_slice()) {
-        Some((value, behind)) => Some((value, behind.len())),
+        Some((value, after)) => Some((value, after.len())),
         None => None,
     })
 }
@@ -55,15 +55,15 @@ const INTS: &[(&str, i64, usize)] = &[("5 - 5", 5, 2), ("- 5, 6", -5, 2)];
 const NO_VALUES: &[&str] = &["true", "- - 5", "-", ""];
 
 #[test]
-fn an_int_or_a_text_is_taken_from_the_front(rt: HostRuntime) -> Result<(), Fail> {
-    for &(line, number, behind) in INTS {
-        let wanted = Some((Value::Int(number), behind));
-        assert!(rt; front(rt.alloc(), line)? == wanted, "{line}");
+fn an_int_or_a_text_is_taken_from_the_prefix(rt: HostRuntime) -> Result<(), Fail> {
+    for &(line, number, after) in INTS {
+        let wanted = Some((Value::Int(number), after));
+        assert!(rt; prefix(rt.alloc(), line)? == wanted, "{line}");
     }
     for &line in NO_VALUES {
-        assert!(rt; front(rt.alloc(), line)?.is_none(), "{line}");
+        assert!(rt; prefix(rt.alloc(), line)?.is_none(), "{line}");
     }
     let text = Text::from_bytes(b"a").ok_or("no text")?;
-    assert!(rt; front(rt.alloc(), "\"a\")")? == Some((Value::Text(text), 1)));
+    assert!(rt; prefix(rt.alloc(), "\"a\")")? == Some((Value::Text(text), 1)));
     Ok(())
 }

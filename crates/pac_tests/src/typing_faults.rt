@@ -250,7 +250,7 @@ const CASES: &[(&[u8], usize, TypeFaultKind)] = &[
 ];
 
 #[test]
-fn tells_the_first_fault(rt: HostRuntime) -> Result<(), Fail> {
+fn knows_the_first_fault(rt: HostRuntime) -> Result<(), Fail> {
     for &(text, at, kind) in CASES {
         match typed(rt.alloc(), text)? {
             Err(error) => assert!(rt;

@@ -1,4 +1,4 @@
--- The one reserved word that the first bytes of a word leave is the one that is found among all.
+-- The one keyword that the first bytes of a word leave is the one that is found among all.
 use Rattle.std.proofs.Common.{◌≡◌, ◌<◌, ◌≤◌, ℕ, true, false, List, [], ◌∷◌, length, get_or, Option, Some, None, Ok, refl, sym, ap, ◌∙◌, arith, nat_eq}
 use Rattle.std.specs.Cmp.Lexicographic.{pointwise}
 use Rattle.std.proofs.lemmas.Bool.{eq-eqb, le-ltb}
@@ -69,7 +69,7 @@ no_candidate w none = go (keyword_of w) refl
     go : (found : Option Keyword) → keyword_of w ≡ found → found ≡ None
     go None is = refl
     go (Some k) is =
-        let clash : ◌≡◌ {A = Option Keyword} None (Some k) = sym none ∙ ap candidate_of (keyword_is w k is) ∙ its_candidate k in
+        let conflict : ◌≡◌ {A = Option Keyword} None (Some k) = sym none ∙ ap candidate_of (keyword_is w k is) ∙ its_candidate k in
         absurd cc
 
 same_self : (xs : List ℕ) → pointwise nat_eq xs xs ≡ true
@@ -91,7 +91,7 @@ candidate_other w k its other = go (keyword_of w) refl
         let same : pointwise nat_eq (keyword_spelling k) w ≡ true = rw (← one, spelled) (same_self (keyword_spelling found)) in
         absurd cc
 
--- a reserved word is short, and is the token in front
+-- a keyword is short, and is the token at the start
 pub keyword_at : (w : List ℕ) (k : Keyword) → keyword_of w ≡ Some k → word_at w ≡ Ok (token.Keyword k, length w)
 keyword_at w k is =
     let short : length w ≤ 32 = omega (arith, keyword_short k, ap length (keyword_is w k is)) in

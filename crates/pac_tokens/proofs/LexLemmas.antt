@@ -7,7 +7,7 @@ use Rattle.pac_tokens.specs.declared.fault.Fault.{Fault}
 use Rattle.pac_tokens.specs.declared.fault.FaultKind.{FaultKind}
 use Rattle.pac_tokens.specs.Tokens.{Lexed, IsLexed, EndsAt, gap, IsBad}
 
--- what the rest is, behind these tokens, the text is
+-- what the rest is, after these tokens, the text is
 abbrev Continues : List ℕ → Before → ℕ → List ℕ → List Spanned → Type 0
 Continues text before at rest items = (ts : List Spanned) (f : Option Fault) → Lexed before at rest ts f → IsLexed text (items ++ ts) f
 

@@ -12,39 +12,39 @@ use Rattle.pac_tokens.proofs.Spelled.{flags, spells_one, spells_some}
 
 -- ---- there is one longest token
 
-record SameFront (t u : Token) (w v r q : List ℕ) : Type 0 where
+record SamePrefix (t u : Token) (w v r q : List ℕ) : Type 0 where
   token : t ≡ u
-  front : w ≡ v
+  prefix : w ≡ v
   rest : r ≡ q
 
-longest_once : (before : Before) (bytes : List ℕ) (t u : Token) (w v r q : List ℕ) → IsLongest before bytes t w r → IsLongest before bytes u v q → SameFront t u w v r q
+longest_once : (before : Before) (bytes : List ℕ) (t u : Token) (w v r q : List ℕ) → IsLongest before bytes t w r → IsLongest before bytes u v q → SamePrefix t u w v r q
 longest_once before bytes t u w v r q h k =
     let more = h.longest v q u k.parts k.spells in
     let less = k.longest w r t h.parts h.spells in
     let len : length w ≡ length v = omega (arith, more, less) in
-    let front : w ≡ v = sym (take-append_seam w r) ∙ ap (take (length w)) (sym h.parts) ∙ ap (λ n. take n bytes) len ∙ ap (take (length v)) k.parts ∙ take-append_seam v q in
+    let prefix : w ≡ v = sym (take-append_seam w r) ∙ ap (take (length w)) (sym h.parts) ∙ ap (λ n. take n bytes) len ∙ ap (take (length v)) k.parts ∙ take-append_seam v q in
     record {
-      token = spells_one before t u w h.spells (subst (λ (x : List ℕ). Spells before u x) (sym front) k.spells);
-      front = front;
+      token = spells_one before t u w h.spells (subst (λ (x : List ℕ). Spells before u x) (sym prefix) k.spells);
+      prefix = prefix;
       rest = sym (drop-append_seam w r) ∙ ap (drop (length w)) (sym h.parts) ∙ ap (λ n. drop n bytes) len ∙ ap (drop (length v)) k.parts ∙ drop-append_seam v q;
     }
 
 -- a token that is too long is none that is short enough
 long_short : (before : Before) (bytes : List ℕ) (t : Token) (n : ℕ) → IsNext before bytes t n → IsTooLong before bytes → ⊥
 long_short before bytes t n h k =
-    let same = longest_once before bytes t k.token h.front k.front h.rest k.rest h.longest k.longest in
-    flags (is_long before k.token k.front k.rest) k.long (sym (rw (same.token, same.front, same.rest) refl) ∙ h.short)
+    let same = longest_once before bytes t k.token h.prefix k.prefix h.rest k.rest h.longest k.longest in
+    flags (is_long before k.token k.prefix k.rest) k.long (sym (rw (same.token, same.prefix, same.rest) refl) ∙ h.short)
 
 next_bad : (before : Before) (bytes : List ℕ) (t : Token) (n : ℕ) (f : FaultKind) → IsNext before bytes t n → IsBad before bytes f → ⊥
-next_bad before bytes t n kind.Token h k = k h.front h.rest t h.longest.parts h.longest.spells
+next_bad before bytes t n kind.Token h k = k h.prefix h.rest t h.longest.parts h.longest.spells
 next_bad before bytes t n kind.TooLong h k = long_short before bytes t n h k
 next_bad before bytes t n _ h k = k
 
 bad_once : (before : Before) (bytes : List ℕ) (f g : FaultKind) → IsBad before bytes f → IsBad before bytes g → f ≡ g
 bad_once before bytes kind.Token kind.Token h k = refl
 bad_once before bytes kind.TooLong kind.TooLong h k = refl
-bad_once before bytes kind.Token kind.TooLong h k = absurd (h k.front k.rest k.token k.longest.parts k.longest.spells)
-bad_once before bytes kind.TooLong kind.Token h k = absurd (k h.front h.rest h.token h.longest.parts h.longest.spells)
+bad_once before bytes kind.Token kind.TooLong h k = absurd (h k.prefix k.rest k.token k.longest.parts k.longest.spells)
+bad_once before bytes kind.TooLong kind.Token h k = absurd (k h.prefix h.rest h.token h.longest.parts h.longest.spells)
 bad_once before bytes kind.Token _ h k = absurd k
 bad_once before bytes kind.TooLong _ h k = absurd k
 bad_once before bytes _ g h k = absurd h
@@ -60,11 +60,11 @@ ends_once before at (b ∷ bs) f g h k = h.2 ∙ ap (λ kind. Some (fault_at at 
 
 -- where the tokens end no token stands
 no_more : (before : Before) (at : ℕ) (bytes : List ℕ) (f : Option Fault) (t : Token) (n : ℕ) → EndsAt before at bytes f → IsNext before bytes t n → ⊥
-no_more before at [] f t n h k = no_front k.front k.rest t k.longest.parts k.longest.spells
+no_more before at [] f t n h k = no_prefix k.prefix k.rest t k.longest.parts k.longest.spells
   where
-    no_front : (v rest : List ℕ) (t : Token) → [] ≡ v ++ rest → Spells before t v → ⊥
-    no_front [] rest t e h = omega (arith, spells_some before t [] h)
-    no_front (b ∷ v) rest t e h = absurd cc
+    no_prefix : (v rest : List ℕ) (t : Token) → [] ≡ v ++ rest → Spells before t v → ⊥
+    no_prefix [] rest t e h = omega (arith, spells_some before t [] h)
+    no_prefix (b ∷ v) rest t e h = absurd cc
 no_more before at (b ∷ bs) f t n h k = next_bad before (b ∷ bs) t n h.0 k h.1
 
 record Once (ts us : List Spanned) (f g : Option Fault) : Type 0 where
@@ -77,8 +77,8 @@ record SameNext (t u : Token) (m n : ℕ) : Type 0 where
 
 next_once : (before : Before) (bytes : List ℕ) (t u : Token) (m n : ℕ) → IsNext before bytes t m → IsNext before bytes u n → SameNext t u m n
 next_once before bytes t u m n h k =
-    let same = longest_once before bytes t u h.front k.front h.rest k.rest h.longest k.longest in
-    record { token = same.token; len = h.counted ∙ ap length same.front ∙ sym k.counted }
+    let same = longest_once before bytes t u h.prefix k.prefix h.rest k.rest h.longest k.longest in
+    record { token = same.token; len = h.counted ∙ ap length same.prefix ∙ sym k.counted }
 
 lexed_once : (ts us : List Spanned) (before : Before) (at : ℕ) (bytes : List ℕ) (f g : Option Fault) → Lexed before at bytes ts f → Lexed before at bytes us g → Once ts us f g
 lexed_once [] [] before at bytes f g h k = record { tokens = refl; fault = ends_once before (at + gap bytes) (drop (gap bytes) bytes) f g h k }
@@ -86,13 +86,13 @@ lexed_once [] (u ∷ us) before at bytes f g h k = absurd (no_more before (at + 
 lexed_once (t ∷ ts) [] before at bytes f g h k = absurd (no_more before (at + gap bytes) (drop (gap bytes) bytes) g t.token h.0 k h.1)
 lexed_once (t ∷ ts) (u ∷ us) before at bytes f g h k =
     let same = next_once before (drop (gap bytes) bytes) u.token t.token k.0 h.0 k.1 h.1 in
-    let place : t.at ≡ u.at = h.2 ∙ sym k.2 in
+    let offset : t.at ≡ u.at = h.2 ∙ sym k.2 in
     let rest : Lexed (after before t.token) (at + gap bytes + h.0) (drop h.0 (drop (gap bytes) bytes)) us g =
     subst (λ (n : ℕ). Lexed (after before t.token) (at + gap bytes + n) (drop n (drop (gap bytes) bytes)) us g) same.len
     (subst (λ (x : Token). Lexed (after before x) (at + gap bytes + k.0) (drop k.0 (drop (gap bytes) bytes)) us g) same.token k.3) in
     let more = lexed_once ts us (after before t.token) (at + gap bytes + h.0) (drop h.0 (drop (gap bytes) bytes)) f g h.3 rest in
     let tokens : ◌≡◌ {A = Token} t.token u.token = sym same.token in
-    let one : ◌≡◌ {A = Spanned} t u = λ i. record { token = tokens i; at = place i } in
+    let one : ◌≡◌ {A = Spanned} t u = λ i. record { token = tokens i; at = offset i } in
     record { tokens = (λ i. one i ∷ more.tokens i); fault = more.fault }
 
 pub same_tokens : (text : List ℕ) (ts us : List Spanned) (f g : Option Fault) → IsLexed text ts f → IsLexed text us g → ts ≡ us

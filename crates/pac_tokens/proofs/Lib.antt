@@ -3,8 +3,8 @@ pub mod Quoted
 pub mod Spelled
 pub mod Candidates
 pub mod Longest
-pub mod SignLemmas
+pub mod SymbolLemmas
 pub mod Steps
-pub mod FrontLemmas
+pub mod PrefixLemmas
 pub mod LexedOnce
 pub mod LexLemmas

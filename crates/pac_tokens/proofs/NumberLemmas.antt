@@ -17,6 +17,6 @@ take-le digits i =
     ap digits_value (sym (take-append-drop i digits)) ∙ fold-append 0 (take i digits) (drop i digits) in
     omega (arith, whole, fold-grows (digits_value (take i digits)) (drop i digits))
 
--- digits whose front is too large are too large
+-- digits whose prefix is too large are too large
 pub too_large : (digits : List ℕ) (i : ℕ) → 2 ^ 63 < digits_value (take i digits) → None ≡ (if nat_le (digits_value digits) (2 ^ 63) then Some (digits_value digits) else None)
 too_large digits i large = let all = take-le digits i in grind arith

@@ -19,12 +19,12 @@ none = None
 some_is : (m n : ℕ) → some m ≡ some n → m ≡ n
 some_is m n e = cc
 
--- one place further
+-- one offset further
 further : (o : Option ℕ) (n : ℕ) → option_map suc o ≡ some n → (m : ℕ) × (o ≡ some m) × (n ≡ suc m)
 further None n e = absurd cc
 further (Some m) n e = (m, refl, sym (some_is (suc m) n e))
 
--- ---- what is escaped closes behind it
+-- ---- what is escaped closes after it
 
 closes_byte : (b : ℕ) (x rest : List ℕ) (q e p : Bool) → nat_eq b 34 ≡ q → nat_eq b 92 ≡ e → is_printable b ≡ p → p ≡ true
     → closing_in false rest ≡ some (length x) → closing_in false ((if q || e then 92 ∷ b ∷ [] else b ∷ []) ++ rest) ≡ some (length ((if q || e then 92 ∷ b ∷ [] else b ∷ []) ++ x))
@@ -52,7 +52,7 @@ unescapes (b ∷ x) = unescape_byte b x (escaped x) (nat_eq b 34) (nat_eq b 92) 
 
 -- ---- what closes is escaped
 
--- these bytes close at n: so many of them are a text with its escapes, and the closing quote stands behind
+-- these bytes close at n: that many of them are a text with its escapes, and the closing quote stands after
 pub record Closed (bytes : List ℕ) (n : ℕ) : Type 0 where
   pub rest : List ℕ
   pub parts : bytes ≡ escaped (unescaped false (take n bytes)) ++ (34 ∷ rest)
@@ -112,8 +112,8 @@ closed (b ∷ c ∷ bs) n h = step (nat_eq b 34) (nat_eq b 92) (is_printable b) 
 -- ---- a text has one spelling
 
 -- the text that closes in these bytes, where they begin with an escaped one
-pub text_of_front : (bytes x after : List ℕ) (n : ℕ) → list_all is_printable x ≡ true → bytes ≡ escaped x ++ (34 ∷ after) → closing_in false bytes ≡ some n → (n ≡ length (escaped x)) × (unescaped false (take n bytes) ≡ x)
-text_of_front bytes x after n all parts h =
+pub text_of_prefix : (bytes x after : List ℕ) (n : ℕ) → list_all is_printable x ≡ true → bytes ≡ escaped x ++ (34 ∷ after) → closing_in false bytes ≡ some n → (n ≡ length (escaped x)) × (unescaped false (take n bytes) ≡ x)
+text_of_prefix bytes x after n all parts h =
     let len : n ≡ length (escaped x) = some_is n (length (escaped x)) (sym h ∙ ap (closing_in false) parts ∙ closes x after all) in
     (len, rw (len, parts, take-append_seam (escaped x) (34 ∷ after)) (unescapes x))
 
@@ -124,7 +124,7 @@ pub quoted_once : (x y : List ℕ) → list_all is_printable x ≡ true → list
 quoted_once x y p q e =
     let same : escaped x ++ (34 ∷ []) ≡ escaped y ++ (34 ∷ []) = tails 34 34 _ _ e in
     let h = closes x [] p in
-    sym (text_of_front (escaped x ++ (34 ∷ [])) x [] (length (escaped x)) p refl h).1 ∙ (text_of_front (escaped x ++ (34 ∷ [])) y [] (length (escaped x)) q same h).1
+    sym (text_of_prefix (escaped x ++ (34 ∷ [])) x [] (length (escaped x)) p refl h).1 ∙ (text_of_prefix (escaped x ++ (34 ∷ [])) y [] (length (escaped x)) q same h).1
 
 -- ---- one byte at a time
 

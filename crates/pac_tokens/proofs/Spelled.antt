@@ -192,7 +192,7 @@ symbol_short symbol.GreaterEqual = omega arith
 symbol_short symbol.And = omega arith
 symbol_short symbol.Or = omega arith
 
--- ---- the class of a token, which its first byte settles: a word, digits, a text, a sign
+-- ---- the class of a token, which its first byte settles: a word, digits, a text, a symbol
 
 unfoldable pub first : List ℕ → ℕ
 first [] = 0
@@ -359,13 +359,13 @@ pub spells_quoted : (before : Before) (t : Token) (w : List ℕ) → token_class
 spells_quoted before (token.Text x) w e h = record { text = x; is = h.0; printable = h.1 }
 spells_quoted before _ w e h = absurd cc
 
-pub record IsSign (w : List ℕ) : Type 0 where
+pub record IsSymbol (w : List ℕ) : Type 0 where
   pub sign : Symbol
   pub is : w ≡ symbol_spelling sign
 
-pub spells_sign : (before : Before) (t : Token) (w : List ℕ) → token_class t ≡ 3 → Spells before t w → IsSign w
-spells_sign before (token.Symbol s) w e h = record { sign = s; is = h }
-spells_sign before _ w e h = absurd cc
+pub spells_symbol : (before : Before) (t : Token) (w : List ℕ) → token_class t ≡ 3 → Spells before t w → IsSymbol w
+spells_symbol before (token.Symbol s) w e h = record { sign = s; is = h }
+spells_symbol before _ w e h = absurd cc
 
 -- ---- bytes spell one token
 

@@ -25,7 +25,7 @@ use Rattle.pac_tokens.specs.Tokens.{is_letter, is_digit, is_name, digits_value, 
 
 -- ---- words and ints
 
--- the only reserved word that may be spelled by so many bytes of which these are the first two
+-- the only keyword that may be spelled by that many bytes of which these are the first two
 abbrev pub candidate : ℕ → ℕ → ℕ → Option Keyword
 candidate first second len =
     if nat_eq first lower_a then Some keyword.Abort
@@ -54,7 +54,7 @@ int_at _ digits = if nat_lt (digits_value digits) (2 ^ 63) then Ok (token.Int (p
 
 -- ---- texts
 
--- the place of the closing quote of a text without its opening quote, behind a `\` or not; None where the text is not
+-- the offset of the closing quote of a text without its opening quote, after a `\` or not; None where the text is not
 -- well formed
 abbrev pub closing_in : Bool → List ℕ → Option ℕ
 closing_in escape [] = None
@@ -63,7 +63,7 @@ closing_in false (b ∷ bs) =
     if nat_eq b quote then Some 0
     else (if nat_eq b backslash then option_map suc (closing_in true bs) else (if is_printable b then option_map suc (closing_in false bs) else None))
 
--- the bytes of a text without its escapes, behind a `\` or not
+-- the bytes of a text without its escapes, after a `\` or not
 abbrev pub unescaped : Bool → List ℕ → List ℕ
 unescaped escape [] = []
 unescaped true (b ∷ bs) = b ∷ unescaped false bs
@@ -73,15 +73,15 @@ abbrev pub text_of : List ℕ → ℕ → Result (Token × ℕ) FaultKind
 text_of text len = if nat_lt MAX_TEXT (length text) then Err kind.TooLong else Ok (token.Text text, len)
 
 abbrev pub closed_text : Option ℕ → List ℕ → Result (Token × ℕ) FaultKind
-closed_text None behind = Err kind.Token
-closed_text (Some n) behind = text_of (unescaped false (take n behind)) (n + 2)
+closed_text None following = Err kind.Token
+closed_text (Some n) following = text_of (unescaped false (take n following)) (n + 2)
 
 abbrev pub text_at : List ℕ → Result (Token × ℕ) FaultKind
-text_at behind = closed_text (closing_in false behind) behind
+text_at following = closed_text (closing_in false following) following
 
--- ---- signs
+-- ---- symbols
 
--- the sign that these bytes spell
+-- the symbol that these bytes spell
 unfoldable pub symbol_of : List ℕ → Option Symbol
 symbol_of bytes = find (λ s. pointwise nat_eq (symbol_spelling s) bytes) SYMBOLS
 
@@ -89,47 +89,47 @@ abbrev pub or_first : Option Symbol → Option Symbol → Option Symbol
 or_first None other = other
 or_first (Some s) other = Some s
 
--- the sign in front: one of two bytes, or of one
-abbrev pub symbol_front : List ℕ → Option Symbol
-symbol_front bytes = or_first (symbol_of (take 2 bytes)) (symbol_of (take 1 bytes))
+-- the symbol at the start: one of two bytes, or of one
+abbrev pub first_symbol : List ℕ → Option Symbol
+first_symbol bytes = or_first (symbol_of (take 2 bytes)) (symbol_of (take 1 bytes))
 
 abbrev pub minus_at : Before → List ℕ → Result (Token × ℕ) FaultKind
-minus_at before behind = if is_long_minus before behind then Err kind.TooLong else Ok (token.Symbol symbol.Minus, 1)
+minus_at before following = if is_long_minus before following then Err kind.TooLong else Ok (token.Symbol symbol.Minus, 1)
 
 abbrev pub symbol_at : Before → Option Symbol → List ℕ → Result (Token × ℕ) FaultKind
-symbol_at before None behind = Err kind.Token
-symbol_at before (Some symbol.Minus) behind = minus_at before behind
-symbol_at before (Some s) behind = Ok (token.Symbol s, length (symbol_spelling s))
+symbol_at before None following = Err kind.Token
+symbol_at before (Some symbol.Minus) following = minus_at before following
+symbol_at before (Some s) following = Ok (token.Symbol s, length (symbol_spelling s))
 
 -- ---- any token
 
--- the token in front of the bytes and how many of them it has, by what stands before it
+-- the first token of the bytes and how many of them it has, by what stands before it
 abbrev pub token_at : Before → List ℕ → Result (Token × ℕ) FaultKind
 token_at before [] = Err kind.Token
 token_at before (b ∷ bs) =
     if is_letter b then word_at (take_while is_name (b ∷ bs))
     else (if is_digit b then int_at before (take_while is_digit (b ∷ bs))
-    else (if nat_eq b quote then text_at bs else symbol_at before (symbol_front (b ∷ bs)) bs))
+    else (if nat_eq b quote then text_at bs else symbol_at before (first_symbol (b ∷ bs)) bs))
 
--- the result is the next token of the bytes, or the fault in front of them
-abbrev pub IsFront : Before → List ℕ → Result (Token × ℕ) FaultKind → Type 0
-IsFront before bytes (Ok p) = IsNext before bytes p.0 p.1
-IsFront before bytes (Err kind) = IsBad before bytes kind
+-- the result is the next token of the bytes, or the fault they begin with
+abbrev pub IsFirstToken : Before → List ℕ → Result (Token × ℕ) FaultKind → Type 0
+IsFirstToken before bytes (Ok p) = IsNext before bytes p.0 p.1
+IsFirstToken before bytes (Err kind) = IsBad before bytes kind
 
 -- ---- one step
 
--- the token that was found stands behind those so far, and the step tells its length and what stands before the next one
+-- the token that was found stands after those so far, and the step says its length and what stands before the next one
 abbrev pub IsPushed : Before → ℕ → Result (Token × ℕ) FaultKind → List Spanned → List Spanned → Step → Type 0
 IsPushed before at (Ok p) old new (step.Pushed len next) = (new ≡ old ++ (record { token = p.0; at = at } ∷ [])) × (len ≡ p.1) × (next ≡ after before p.0)
 IsPushed before at (Err kind) old new (step.Refused other) = (new ≡ old) × (other ≡ kind)
 IsPushed before at _ old new _ = ⊥
 
--- the same of the next token of the bytes, or the fault in front of them
+-- the same of the next token of the bytes, or the fault they begin with
 abbrev pub IsStep : Before → ℕ → List ℕ → List Spanned → List Spanned → Step → Type 0
 IsStep before at bytes old new (step.Pushed len next) = (t : Token) × (new ≡ old ++ (record { token = t; at = at } ∷ [])) × IsNext before bytes t len × (next ≡ after before t)
 IsStep before at bytes old new (step.Refused kind) = (new ≡ old) × IsBad before bytes kind
 
--- a token has some of so many bytes
+-- a token has some of that many bytes
 abbrev pub StaysWithin : ℕ → Step → Type 0
 StaysWithin n (step.Pushed len next) = (1 ≤ len) × (len ≤ n)
 StaysWithin n (step.Refused kind) = Unit {0}

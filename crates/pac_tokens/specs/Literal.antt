@@ -8,24 +8,24 @@ use Rattle.pac_tokens.specs.declared.token.Keyword.TheVariants as keyword
 use Rattle.pac_tokens.specs.declared.token.Symbol.TheVariants as symbol
 use Rattle.pac_tokens.specs.declared.token.Spanned.{Spanned}
 
--- the int, where this token has it behind the `-` of a literal, and the tokens behind it
+-- the int, where this token has it after the `-` of a literal, and the tokens after it
 abbrev pub int_of_minus : Token → List Spanned → Option (Value × List Spanned)
 int_of_minus (token.Negative z) rest = Some (Int z, rest)
 int_of_minus _ rest = None
 
--- the int behind the `-` of a literal, and the tokens behind it
-abbrev pub int_behind_minus : List Spanned → Option (Value × List Spanned)
-int_behind_minus [] = None
-int_behind_minus (t ∷ ts) = int_of_minus t.token ts
+-- the int after the `-` of a literal, and the tokens after it
+abbrev pub int_after_minus : List Spanned → Option (Value × List Spanned)
+int_after_minus [] = None
+int_after_minus (t ∷ ts) = int_of_minus t.token ts
 
--- the int or text that begins with this token before others, and the tokens behind it
+-- the int or text that begins with this token before others, and the tokens after it
 abbrev pub int_or_text_from : Token → List Spanned → Option (Value × List Spanned)
 int_or_text_from (token.Int z) rest = Some (Int z, rest)
 int_or_text_from (token.Text text) rest = Some (Text text, rest)
-int_or_text_from (token.Symbol symbol.Minus) rest = int_behind_minus rest
+int_or_text_from (token.Symbol symbol.Minus) rest = int_after_minus rest
 int_or_text_from _ rest = None
 
--- the int or text in front, and the tokens behind it
+-- the int or text at the start, and the tokens after it
 abbrev pub int_or_text_in : List Spanned → Option (Value × List Spanned)
 int_or_text_in [] = None
 int_or_text_in (t ∷ ts) = int_or_text_from t.token ts

@@ -1,11 +1,11 @@
--- How reserved words and signs are spelled.
+-- How keywords and symbols are spelled.
 use Rattle.std.specs.Prelude.{ℕ, List, codes}
 use Rattle.pac_tokens.specs.declared.token.Keyword.{Keyword}
 use Rattle.pac_tokens.specs.declared.token.Keyword.TheVariants as keyword
 use Rattle.pac_tokens.specs.declared.token.Symbol.{Symbol}
 use Rattle.pac_tokens.specs.declared.token.Symbol.TheVariants as symbol
 
--- the bytes of a reserved word
+-- the bytes of a keyword
 abbrev pub keyword_spelling : Keyword → List ℕ
 keyword_spelling keyword.Table = codes "table"
 keyword_spelling keyword.Proc = codes "proc"
@@ -27,7 +27,7 @@ keyword_spelling keyword.False = codes "false"
 keyword_spelling keyword.For = codes "for"
 keyword_spelling keyword.In = codes "in"
 
--- the bytes of a sign
+-- the bytes of a symbol
 abbrev pub symbol_spelling : Symbol → List ℕ
 symbol_spelling symbol.OpenParen = codes "("
 symbol_spelling symbol.CloseParen = codes ")"

@@ -36,11 +36,11 @@ is_letter b = is_in lower_a lower_z b || is_in upper_a upper_z b || nat_eq b und
 abbrev pub is_digit : ℕ → Bool
 is_digit b = is_in digit_zero digit_nine b
 
--- a byte that a name may have behind its first
+-- a byte that a name may have after its first
 abbrev pub is_name : ℕ → Bool
 is_name b = is_letter b || is_digit b
 
--- how many bytes of white space and comments stand in front, inside a comment or not
+-- how many bytes of white space and comments come first, inside a comment or not
 abbrev pub gap_in : Bool → List ℕ → ℕ
 gap_in comment [] = 0
 gap_in true (b ∷ bs) = suc (gap_in (not (nat_eq b line_feed)) bs)
@@ -65,11 +65,11 @@ abbrev pub IsDigits : List ℕ → Type 0
 IsDigits [] = ⊥
 IsDigits (b ∷ bs) = IsTrue (is_digit b) × IsTrue (list_all is_digit bs)
 
--- the reserved word that these bytes spell
+-- the keyword that these bytes spell
 unfoldable pub keyword_of : List ℕ → Option Keyword
 keyword_of word = find (λ k. pointwise nat_eq (keyword_spelling k) word) KEYWORDS
 
--- whether digits are those of a literal below zero: behind the literal's `-`
+-- whether digits are those of a literal below zero: after the literal's `-`
 abbrev pub is_literal_minus : Before → Bool
 is_literal_minus LiteralMinus = true
 is_literal_minus _ = false
@@ -83,7 +83,7 @@ Spells before (token.Int z) w = IsDigits w × (z ≡ pos (digits_value w)) × (i
 Spells before (token.Negative z) w = IsDigits w × (z ≡ neg_ℤ (pos (digits_value w))) × (is_literal_minus before ≡ true)
 Spells before (token.Text text) w = (w ≡ quoted text) × IsTrue (list_all is_printable text)
 
--- The longest token in front of the bytes: w spells it, and no longer front spells any.
+-- The longest token at the start of the bytes: w spells it, and no longer prefix spells any.
 pub record IsLongest (before : Before) (bytes : List ℕ) (t : Token) (w rest : List ℕ) : Type 0 where
   pub parts : bytes ≡ w ++ rest
   pub spells : Spells before t w
@@ -91,7 +91,7 @@ pub record IsLongest (before : Before) (bytes : List ℕ) (t : Token) (w rest : 
 
 -- ---- limits
 
--- the digits that come next, behind white space and comments
+-- the digits that come next, after white space and comments
 abbrev pub next_digits : List ℕ → List ℕ
 next_digits bytes = take_while is_digit (drop (gap bytes) bytes)
 
@@ -101,7 +101,7 @@ is_long_minus Value rest = false
 is_long_minus _ rest = nat_lt (2 ^ 63) (digits_value (next_digits rest))
 
 -- Whether a token that is spelled so, before this rest, is too long: a name has at most 32 bytes, a text at most 64, an
--- int is at most 2 ^ 63 - 1, and 2 ^ 63 behind the `-` of a literal.
+-- int is at most 2 ^ 63 - 1, and 2 ^ 63 after the `-` of a literal.
 abbrev pub is_long : Before → Token → List ℕ → List ℕ → Bool
 is_long before (token.Keyword k) w rest = false
 is_long before (token.Symbol symbol.Minus) w rest = is_long_minus before rest
@@ -113,29 +113,29 @@ is_long before (token.Text text) w rest = nat_lt MAX_TEXT (length text)
 
 -- the next token, and how many bytes it has
 pub record IsNext (before : Before) (bytes : List ℕ) (t : Token) (len : ℕ) : Type 0 where
-  pub front : List ℕ
+  pub prefix : List ℕ
   pub rest : List ℕ
-  pub longest : IsLongest before bytes t front rest
-  pub short : is_long before t front rest ≡ false
-  pub counted : len ≡ length front
+  pub longest : IsLongest before bytes t prefix rest
+  pub short : is_long before t prefix rest ≡ false
+  pub counted : len ≡ length prefix
 
 -- the next token, where no `-` of a literal stands before it
 abbrev pub IsPlainNext : List ℕ → Token → ℕ → Type 0
 IsPlainNext bytes t len = (before : Before) → is_literal_minus before ≡ false → IsNext before bytes t len
 
--- the longest token in front is too long
+-- the longest token at the start is too long
 pub record IsTooLong (before : Before) (bytes : List ℕ) : Type 0 where
   pub token : Token
-  pub front : List ℕ
+  pub prefix : List ℕ
   pub rest : List ℕ
-  pub longest : IsLongest before bytes token front rest
-  pub long : is_long before token front rest ≡ true
+  pub longest : IsLongest before bytes token prefix rest
+  pub long : is_long before token prefix rest ≡ true
 
--- no front of the bytes spells a token
+-- no prefix of the bytes spells a token
 abbrev pub IsNoToken : Before → List ℕ → Type 0
 IsNoToken before bytes = (v after : List ℕ) (u : Token) → bytes ≡ v ++ after → Spells before u v → ⊥
 
--- the fault of the bytes in front
+-- the fault of the bytes at the start
 abbrev pub IsBad : Before → List ℕ → FaultKind → Type 0
 IsBad before bytes kind.Token = IsNoToken before bytes
 IsBad before bytes kind.TooLong = IsTooLong before bytes
@@ -165,7 +165,7 @@ abbrev pub EndsAt : Before → ℕ → List ℕ → Option Fault → Type 0
 EndsAt before at [] f = f ≡ None
 EndsAt before at (b ∷ bs) f = (kind : FaultKind) × IsBad before (b ∷ bs) kind × (f ≡ Some (record { at = at; kind = kind }))
 
--- From this place on the bytes are these tokens, with white space and comments between them, up to their end or to
+-- From this offset on the bytes are these tokens, with white space and comments between them, up to their end or to
 -- this fault.
 abbrev pub Lexed : Before → ℕ → List ℕ → List Spanned → Option Fault → Type 0
 Lexed before at bytes [] f = EndsAt before (at + gap bytes) (drop (gap bytes) bytes) f

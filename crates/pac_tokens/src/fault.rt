@@ -6,7 +6,7 @@ use pac_base::Refusal;
 use std::fmt;
 use thiserror::Error;
 
-/// What is wrong at a place of a text.
+/// What is wrong at an offset of a text.
 #[derive(Clone, Copy, Debug, PartialEq, Eq)]
 pub enum FaultKind {
     /// A byte that begins no token, or a text that isn't well formed.
@@ -47,7 +47,7 @@ impl fmt::Display for FaultKind {
     }
 }
 
-/// A fault at a place of a text, a byte offset from 0.
+/// A fault at an offset of a text, a byte offset from 0.
 #[derive(Clone, Copy, Debug, PartialEq, Eq, Error)]
 #[error("{kind} at byte {at}")]
 pub struct Fault {
@@ -55,5 +55,5 @@ pub struct Fault {
     pub kind: FaultKind,
 }
 
-/// Why a text isn't read: its first fault, or want of memory.
+/// Why a text isn't read: its first fault, or running out of memory.
 pub type SyntaxError = Refusal<Fault>;

@@ -1,4 +1,4 @@
-// Reads ints, and the `-` in front of them.
+// Reads ints, and the `-` before them.
 ghost use Rattle.std.specs.Prelude.{◌≡◌, pos, neg_ℤ, ◌≤◌, ◌^◌, Some, None, nat_le, if◌then◌else◌};
 ghost use Rattle.std.specs.List.{take_while};
 ghost use Rattle.pac_tokens.specs.Tokens.{is_digit, digits_value, next_digits};
@@ -57,12 +57,12 @@ fn negated(magnitude: u64) -> i64
     }
 }
 
-// A `-`, and what stands behind it.
-pub(crate) fn minus(before: Before, behind: &[u8]) -> Result<(Token, usize), FaultKind>
-    ensures { result ≡ minus_at before behind.now }
+// A `-`, and what stands after it.
+pub(crate) fn minus(before: Before, after: &[u8]) -> Result<(Token, usize), FaultKind>
+    ensures { result ≡ minus_at before after.now }
 {
     let minus = Token::Symbol(Symbol::Minus);
-    if before == Before::Value || fits_behind_minus(behind) {
+    if before == Before::Value || fits_after_minus(after) {
         Ok((minus, 1))
     } else {
         Err(FaultKind::TooLong)
@@ -70,10 +70,10 @@ pub(crate) fn minus(before: Before, behind: &[u8]) -> Result<(Token, usize), Fau
 }
 
 // The digits that come next, if any, are no more than 2 ^ 63.
-fn fits_behind_minus(behind: &[u8]) -> bool
-    ensures { result ≡ nat_le (digits_value (next_digits behind.now)) (2 ^ 63) }
+fn fits_after_minus(after: &[u8]) -> bool
+    ensures { result ≡ nat_le (digits_value (next_digits after.now)) (2 ^ 63) }
 {
-    let rest = &behind[gap_len(behind)..];
+    let rest = &after[gap_len(after)..];
     let digits = &rest[..digits_len(rest)];
     magnitude(digits).is_some()
 }

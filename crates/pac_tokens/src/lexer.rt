@@ -2,7 +2,7 @@
 ghost use Rattle.std.specs.Prelude.{◌≡◌, ◌≤◌, ◌+◌, [], ◌∷◌, length, IfOk};
 ghost use Rattle.std.specs.List.{take_while};
 ghost use Rattle.pac_tokens.specs.Tokens.{is_blank, is_letter, is_digit, is_name, gap, keyword_of, after, IsLexed};
-ghost use Rattle.pac_tokens.specs.Lexing.{symbol_of, symbol_front, candidate, word_at, symbol_at, IsPushed, IsStep, StaysWithin};
+ghost use Rattle.pac_tokens.specs.Lexing.{symbol_of, first_symbol, candidate, word_at, symbol_at, IsPushed, IsStep, StaysWithin};
 
 use crate::fault::{Fault, FaultKind};
 use crate::int::{int, minus};
@@ -19,7 +19,7 @@ pub struct Lexed {
     pub fault: Option<Fault>,
 }
 
-// What stands before a token, for a `-`: behind a value it is an operator, and elsewhere it begins a literal.
+// What stands before a token, for a `-`: after a value it is an operator, and elsewhere it begins a literal.
 #[derive(Clone, Copy, Debug, PartialEq, Eq)]
 pub enum Before {
     Value,
@@ -54,7 +54,7 @@ fn is_name_byte(byte: u8) -> bool
     is_letter_byte(byte) || is_digit_byte(byte)
 }
 
-/// How many bytes of white space and comments stand in front.
+/// How many bytes of white space and comments come first.
 pub fn gap_len(bytes: &[u8]) -> usize
     ensures gap { result ≡ gap bytes.now }
     ensures within { result ≤ length bytes.now }
@@ -75,14 +75,14 @@ pub fn gap_len(bytes: &[u8]) -> usize
     bytes.len()
 }
 
-// How many bytes of a name stand in front.
+// How many bytes of a name come first.
 pub(crate) fn word_len(bytes: &[u8]) -> usize
     ensures { result ≡ length (take_while is_name bytes.now) }
 {
     bytes.iter().take_while(|byte| is_name_byte(**byte)).count()
 }
 
-// How many digits stand in front.
+// How many digits come first.
 pub(crate) fn digits_len(bytes: &[u8]) -> usize
     ensures { result ≡ length (take_while is_digit bytes.now) }
 {
@@ -92,7 +92,7 @@ pub(crate) fn digits_len(bytes: &[u8]) -> usize
         .count()
 }
 
-// The only reserved word that so many bytes, which begin with these two, may spell.
+// The only keyword that that many bytes, which begin with these two, may spell.
 fn keyword_like(first: u8, second: u8, len: usize) -> Option<Keyword>
     ensures { result ≡ candidate first second len }
 {
@@ -120,7 +120,7 @@ fn keyword_like(first: u8, second: u8, len: usize) -> Option<Keyword>
     }
 }
 
-// The reserved word that these bytes spell.
+// The keyword that these bytes spell.
 pub(crate) fn find_keyword(word: &[u8]) -> Option<Keyword>
     ensures { result ≡ keyword_of word.now }
 {
@@ -137,7 +137,7 @@ pub(crate) fn find_keyword(word: &[u8]) -> Option<Keyword>
     }
 }
 
-// The sign of one byte.
+// The symbol of one byte.
 #[tactic(auto, unfolding(crate::specs::Lexing::symbol_of))]
 fn short_symbol(byte: u8) -> Option<Symbol>
     ensures { result ≡ symbol_of (byte ∷ []) }
@@ -165,7 +165,7 @@ fn short_symbol(byte: u8) -> Option<Symbol>
     }
 }
 
-// The sign of two bytes.
+// The symbol of two bytes.
 #[tactic(auto, unfolding(crate::specs::Lexing::symbol_of))]
 fn long_symbol(first: u8, second: u8) -> Option<Symbol>
     ensures { result ≡ symbol_of (first ∷ second ∷ []) }
@@ -181,11 +181,11 @@ fn long_symbol(first: u8, second: u8) -> Option<Symbol>
     }
 }
 
-// The longest sign that stands in front.
-fn front_symbol(first: u8, behind: &[u8]) -> Option<Symbol>
-    ensures { result ≡ symbol_front (first ∷ behind.now) }
+// The longest symbol that comes first.
+fn leading_symbol(first: u8, following: &[u8]) -> Option<Symbol>
+    ensures { result ≡ first_symbol (first ∷ following.now) }
 {
-    if let [second, ..] = behind
+    if let [second, ..] = following
         && let Some(symbol) = long_symbol(first, *second)
     {
         return Some(symbol);
@@ -193,7 +193,7 @@ fn front_symbol(first: u8, behind: &[u8]) -> Option<Symbol>
     short_symbol(first)
 }
 
-// What became of the bytes in front: a token was appended, and so much of them is read; or there is a fault.
+// What became of the bytes at the start: a token was appended, and that much of them is read; or there is a fault.
 #[derive(Clone, Copy)]
 pub(crate) enum Step {
     Pushed(usize, Before),
@@ -220,7 +220,7 @@ fn push_found(
     }
 }
 
-// Appends the reserved word or the name that stands in front.
+// Appends the keyword or the name that comes first.
 fn push_word(
     items: &mut Vec<Spanned>,
     before: Before,
@@ -240,21 +240,21 @@ fn push_word(
     }
 }
 
-// Appends the sign that begins with this byte.
-fn push_sign(
+// Appends the symbol that begins with this byte.
+fn push_symbol(
     items: &mut Vec<Spanned>,
     before: Before,
     at: usize,
     first: u8,
-    behind: &[u8],
+    following: &[u8],
 ) -> Result<Step, NoMemory>
-    ensures { IfOk result (λ step. IsPushed before at (symbol_at before (symbol_front (first ∷ behind.now)) behind.now) items.old.items items.new.items step) }
+    ensures { IfOk result (λ step. IsPushed before at (symbol_at before (first_symbol (first ∷ following.now)) following.now) items.old.items items.new.items step) }
 {
-    let Some(symbol) = front_symbol(first, behind) else {
+    let Some(symbol) = leading_symbol(first, following) else {
         return push_found(items, before, at, Err(FaultKind::Token));
     };
     match symbol {
-        Symbol::Minus => push_found(items, before, at, minus(before, behind)),
+        Symbol::Minus => push_found(items, before, at, minus(before, following)),
         _ => {
             let found = Ok((Token::Symbol(symbol), symbol.spelling().len()));
             push_found(items, before, at, found)
@@ -262,8 +262,8 @@ fn push_sign(
     }
 }
 
-// Appends the token in front, the longest one, unless it is too long. Each kind of token is appended by itself, so that
-// it is written to its place at once.
+// Appends the token at the start, the longest one, unless it is too long. Each kind of token is appended by itself, so that
+// it is written to its offset at once.
 fn push_next(
     items: &mut Vec<Spanned>,
     before: Before,
@@ -274,7 +274,7 @@ fn push_next(
     ensures step { IfOk result (λ step. IsStep before at bytes.now items.old.items items.new.items step) }
     ensures within { IfOk result (λ step. StaysWithin (length bytes.now) step) }
 {
-    let [first, behind @ ..] = bytes else {
+    let [first, following @ ..] = bytes else {
         return push_found(items, before, at, Err(FaultKind::Token));
     };
     if is_letter_byte(*first) {
@@ -284,13 +284,13 @@ fn push_next(
         return push_found(items, before, at, int(before, bytes));
     }
     if *first == b'"' {
-        return push_found(items, before, at, text(behind));
+        return push_found(items, before, at, text(following));
     }
-    push_sign(items, before, at, *first, behind)
+    push_symbol(items, before, at, *first, following)
 }
 
 impl Before {
-    // What stands before the token behind this one.
+    // What stands before the token after this one.
     fn after(self, token: &Token) -> Before
         ensures { result ≡ after self token.now }
     {

@@ -12,11 +12,11 @@ use crate::token::Tokens;
 use pac_base::listed;
 use std::alloc::Global;
 
-/// The tokens of a text, with their places. Linear in the text.
+/// The tokens of a text, with their offsets. Linear in the text.
 ///
 /// # Errors
 ///
-/// `Fault` exactly where the text isn't a list of tokens: the first fault of a token, with its place; it has one.
+/// `Fault` exactly where the text isn't a list of tokens: the first fault of a token, with its offset; it has one.
 pub fn tokens(alloc: Global, text: &[u8]) -> Result<Tokens, SyntaxError>
     ensures ok { IfOk result (λ found. IsLexed text.now found None) }
     ensures only { (ts : List ASpanned) → IsLexed text.now ts None → Only result ts }

@@ -16,7 +16,7 @@ fn is_printable_byte(byte: u8) -> bool
     0x20 <= byte && byte <= 0x7E
 }
 
-// Where the closing quote of a text stands, whose opening quote stands in front of these bytes. `None`: it isn't well
+// Where the closing quote of a text stands, whose opening quote stands before these bytes. `None`: it isn't well
 // formed.
 fn closing(bytes: &[u8]) -> Option<usize>
     ensures closing { result ≡ closing_in false bytes.now }
@@ -40,7 +40,7 @@ fn closing(bytes: &[u8]) -> Option<usize>
     None
 }
 
-// Whether a byte, behind a `\` or not, is the `\` of an escape.
+// Whether a byte, after a `\` or not, is the `\` of an escape.
 fn begins_escape(escaped: bool, byte: u8) -> bool
     ensures { result ≡ (not escaped && nat_eq byte backslash) }
 {
@@ -74,14 +74,14 @@ fn unescape(bytes: &[u8]) -> Option<Text>
     Text::from_bytes(&room[..len])
 }
 
-// A text, behind its opening quote.
-pub(crate) fn text(behind: &[u8]) -> Result<(Token, usize), FaultKind>
-    ensures { result ≡ text_at behind.now }
+// A text, after its opening quote.
+pub(crate) fn text(after: &[u8]) -> Result<(Token, usize), FaultKind>
+    ensures { result ≡ text_at after.now }
 {
-    let Some(closing) = closing(behind) else {
+    let Some(closing) = closing(after) else {
         return Err(FaultKind::Token);
     };
-    match unescape(&behind[..closing]) {
+    match unescape(&after[..closing]) {
         Some(text) => Ok((Token::Text(text), closing + 2)),
         None => Err(FaultKind::TooLong),
     }

@@ -1,11 +1,11 @@
-// Tokens with their places.
+// Tokens with their offsets.
 ghost use Rattle.std.specs.Prelude.{◌≡◌};
 ghost use Rattle.pac_tokens.specs.Spelling.{keyword_spelling, symbol_spelling};
 
 use pac_base::Listed;
 use pac_value::{Name, Text};
 
-/// A reserved word, which is no name.
+/// A keyword, which is no name.
 #[derive(Clone, Copy, Debug, PartialEq, Eq)]
 pub enum Keyword {
     Table,
@@ -29,7 +29,7 @@ pub enum Keyword {
     In,
 }
 
-/// Every reserved word, among which `specs/` says what a word is.
+/// Every keyword, among which `specs/` says what a word is.
 pub const KEYWORDS: [Keyword; 19] = [
     Keyword::Table,
     Keyword::Proc,
@@ -81,7 +81,7 @@ impl Keyword {
     }
 }
 
-/// A sign.
+/// A symbol.
 #[derive(Clone, Copy, Debug, PartialEq, Eq)]
 pub enum Symbol {
     OpenParen,
@@ -110,7 +110,7 @@ pub enum Symbol {
     Or,
 }
 
-/// Every sign, among which `specs/` says what bytes spell one.
+/// Every symbol, among which `specs/` says what bytes spell one.
 pub const SYMBOLS: [Symbol; 24] = [
     Symbol::OpenParen,
     Symbol::CloseParen,
@@ -180,13 +180,13 @@ pub enum Token {
     Name(Name),
     /// Digits, as an int.
     Int(i64),
-    /// The digits behind the `-` of a literal, as the literal's int.
+    /// The digits after the `-` of a literal, as the literal's int.
     Negative(i64),
     /// A text between quotes, without its escapes.
     Text(Text),
 }
 
-/// A token and the place of its first byte.
+/// A token and the offset of its first byte.
 #[derive(Clone, Copy, Debug)]
 pub struct Spanned {
     pub token: Token,

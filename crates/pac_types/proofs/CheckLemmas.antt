@@ -29,25 +29,25 @@ defined-If node test first second is = ap defined is ∙ fold-If (List (List ℕ
 
 -- ---- one item after another is replaced
 
-set-behind : {A : Type 0} (xs : List A) (y v : A) (ys : List A) → set (xs ++ y ∷ ys) (length xs) v ≡ xs ++ v ∷ ys
-set-behind [] y v ys = refl
-set-behind (x ∷ xs) y v ys = ap (λ zs. x ∷ zs) (set-behind xs y v ys)
+set-after : {A : Type 0} (xs : List A) (y v : A) (ys : List A) → set (xs ++ y ∷ ys) (length xs) v ≡ xs ++ v ∷ ys
+set-after [] y v ys = refl
+set-after (x ∷ xs) y v ys = ap (λ zs. x ∷ zs) (set-after xs y v ys)
 
 replicate-more : {A : Type 0} (n : ℕ) (v : A) → replicate n v ++ v ∷ [] ≡ v ∷ replicate n v
 replicate-more zero v = refl
 replicate-more (suc n) v = ap (λ zs. v ∷ zs) (replicate-more n v)
 
-pub set-next : {A : Type 0} (items : List A) (d v : A) (place i : ℕ) → place ≤ i → i < length items
-    → set (take place items ++ (replicate (i - place) v ++ drop i items)) i v ≡ take place items ++ (replicate (i + 1 - place) v ++ drop (i + 1) items)
-set-next items d v place i le lt =
-    let front = take place items ++ replicate (i - place) v in
-    let long : length front ≡ i = omega (arith, length-append (take place items) (replicate (i - place) v), length-take place items, length-replicate (i - place) v) in
+pub set-next : {A : Type 0} (items : List A) (d v : A) (offset i : ℕ) → offset ≤ i → i < length items
+    → set (take offset items ++ (replicate (i - offset) v ++ drop i items)) i v ≡ take offset items ++ (replicate (i + 1 - offset) v ++ drop (i + 1) items)
+set-next items d v offset i le lt =
+    let prefix = take offset items ++ replicate (i - offset) v in
+    let long : length prefix ≡ i = omega (arith, length-append (take offset items) (replicate (i - offset) v), length-take offset items, length-replicate (i - offset) v) in
     let rest : drop i items ≡ get_or items i d ∷ drop (suc i) items = drop-cons items i d lt in
-    let count : i + 1 - place ≡ suc (i - place) = omega arith in
-    ap (λ zs. set zs i v) (sym (append_assoc (take place items) (replicate (i - place) v) (drop i items)) ∙ ap (λ zs. front ++ zs) rest)
-    ∙ ap (λ n. set (front ++ get_or items i d ∷ drop (suc i) items) n v) (sym long) ∙ set-behind front (get_or items i d) v (drop (suc i) items)
-    ∙ append_assoc (take place items) (replicate (i - place) v) (v ∷ drop (suc i) items)
-    ∙ ap (λ zs. take place items ++ zs) (sym (append_assoc (replicate (i - place) v) (v ∷ []) (drop (suc i) items)) ∙ ap (λ zs. zs ++ drop (suc i) items) (replicate-more (i - place) v ∙ ap (λ n. replicate n v) (sym count)) ∙ ap (λ n. replicate (i + 1 - place) v ++ drop n items) (sym (add-one i)))
+    let count : i + 1 - offset ≡ suc (i - offset) = omega arith in
+    ap (λ zs. set zs i v) (sym (append_assoc (take offset items) (replicate (i - offset) v) (drop i items)) ∙ ap (λ zs. prefix ++ zs) rest)
+    ∙ ap (λ n. set (prefix ++ get_or items i d ∷ drop (suc i) items) n v) (sym long) ∙ set-after prefix (get_or items i d) v (drop (suc i) items)
+    ∙ append_assoc (take offset items) (replicate (i - offset) v) (v ∷ drop (suc i) items)
+    ∙ ap (λ zs. take offset items ++ zs) (sym (append_assoc (replicate (i - offset) v) (v ∷ []) (drop (suc i) items)) ∙ ap (λ zs. zs ++ drop (suc i) items) (replicate-more (i - offset) v ∙ ap (λ n. replicate n v) (sym count)) ∙ ap (λ n. replicate (i + 1 - offset) v ++ drop n items) (sym (add-one i)))
 
 -- ---- procedures
 

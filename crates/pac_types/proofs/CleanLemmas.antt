@@ -28,13 +28,13 @@ none_some ty e = absurd cc
 
 name_clean : (known : Known) (o : Option ℕ) (at : ℕ) (ty : Ty) → option_and_then (λ ty. ty) (seen known o) ≡ some_type ty → name_faults at o (seen known o) ≡ []
 name_clean known None at ty e = absurd (none_some ty e)
-name_clean known (Some place) at ty e = by (seen known (Some place)) e
+name_clean known (Some offset) at ty e = by (seen known (Some offset)) e
   where
-    by : (o : Option (Option Ty)) → option_and_then (λ ty. ty) o ≡ some_type ty → name_faults at (Some place) o ≡ []
+    by : (o : Option (Option Ty)) → option_and_then (λ ty. ty) o ≡ some_type ty → name_faults at (Some offset) o ≡ []
     by None e = absurd (none_some ty e)
     by (Some x) e = refl
 
--- a place that takes the type that an expression has
+-- a position that takes the type that an expression has
 taken_clean : (takes : Ty → Bool) (j : Judged) (ty : Ty) → TypedIsClean j → j.ty ≡ Some ty → takes ty ≡ true → placed takes j ≡ []
 taken_clean takes j ty clean e t = ap (λ (o : Option Ty). wrong_type takes j.at o ++ j.faults) e ∙ ap (λ (b : Bool). fault_if (not b) j.at WrongType ++ j.faults) t ∙ clean ty e
 

@@ -1,4 +1,4 @@
--- What checking an expression tells: its numbers and its type, or that it has no type.
+-- What checking an expression says: its numbers and its type, or that it has no type.
 use Rattle.std.proofs.Common.{◌≡◌, ◌<◌, ℕ, Bool, true, false, List, map, Option, Some, None, Result, Ok, Err, refl, sym, ap, subst, ◌∙◌}
 use Rattle.std.specs.Prelude.{slice_get}
 use Rattle.std.specs.Option.{option_map, option_and_then}
@@ -207,8 +207,8 @@ module _ (names : List (List ℕ)) (known : List (Option Variable)) (next : ℕ)
   state : ScopeState
   state = record { names = names; known = known; next = next }
 
-  said_name : (at at' : ℕ) (place : Option ℕ)
-      → Said scope (option_map Var (option_and_then (λ p. number_at (slice_get (numbers_of known) p)) place)) (found_at at known place >>= λ v. Ok (record { at = at'; expr = Var v.number; ty = v.ty }))
+  said_name : (at at' : ℕ) (offset : Option ℕ)
+      → Said scope (option_map Var (option_and_then (λ p. number_at (slice_get (numbers_of known) p)) offset)) (found_at at known offset >>= λ v. Ok (record { at = at'; expr = Var v.number; ty = v.ty }))
   said_name at at' None = λ x is. absurd (none_is is)
   said_name at at' (Some p) = subst (λ k. Said scope (option_map Var (number_at k)) (seen_at at (slice_get known p) >>= λ v. Ok (record { at = at'; expr = Var v.number; ty = v.ty })))
       (sym (slice_get-map (λ o. option_map (λ v. v.number) o) known p)) (said_seen scope at at' (slice_get known p) (λ v is. (fit p v is).1))

@@ -19,7 +19,7 @@ use Rattle.pac_types.specs.declared.checker.expressions.Typed.{Typed}
 use Rattle.pac_types.specs.declared.table.Column.{Column}
 use Rattle.pac_types.specs.declared.table.Table.{Table}
 use Rattle.pac_types.specs.Numbering.{number_of, table_number, column_number, column_names, table_names}
-use Rattle.pac_types.specs.Sound.{key_type, column_type, column_types_of, types}
+use Rattle.pac_types.specs.WellFormed.{key_type, column_type, column_types_of, types}
 use Rattle.pac_value.specs.Scopes.{is_wanted}
 use Rattle.pac_types.specs.Faults.{fault_if, is_before, twice, Known, seen, name_faults, same_ty, is_left, wanted_right, is_same, is_fitting, is_test, Judged, wrong_type, placed, judge_step, judged, unknown, key_wanted, values_faults, cell_faults}
 use Rattle.pac_types.specs.Checking.{ScopeState, Cells, once, unless, found_at, seen_at, taken, is_right, given, operands, checked_step, checked_expr, checked_wanted, checked_test, known_at, checked_cell, checked_values}
@@ -45,8 +45,8 @@ agree_map fs (Err f) h p = p
 pub agree_same : {A : Type 0} (fs gs : List TypeFault) (r : Result A TypeFault) → fs ≡ gs → Agree gs r → Agree fs r
 agree_same fs gs r e h = subst (λ zs. Agree zs r) (sym e) h
 
-pub once_agrees : (names : List (List ℕ)) (place : ℕ) (name : NameNode) → Agree (twice names place name) (once names place name)
-once_agrees names place name = go (is_before (number_of names name.name) place)
+pub once_agrees : (names : List (List ℕ)) (offset : ℕ) (name : NameNode) → Agree (twice names offset name) (once names offset name)
+once_agrees names offset name = go (is_before (number_of names name.name) offset)
   where
     go : (b : Bool) → Agree (fault_if b name.at Twice) (unless {A = Unit {0}} b tt name.at Twice)
     go true = ([], refl)
@@ -61,7 +61,7 @@ abbrev pub JudgedBy : Judged → Result Typed TypeFault → Type 0
 JudgedBy j (Ok t) = (j.at ≡ t.at) × (j.ty ≡ Some t.ty) × (j.faults ≡ [])
 JudgedBy j (Err f) = (j.ty ≡ None) × (rest : List TypeFault) × (j.faults ≡ f ∷ rest)
 
--- an expression with no fault, at a place that may not take it, and one with a fault
+-- an expression with no fault, at a position that may not take it, and one with a fault
 placed_ok : (takes : Ty → Bool) (j : Judged) (t : Typed) → JudgedBy j (Ok t) → placed takes j ≡ fault_if (not (takes t.ty)) t.at WrongType ++ []
 placed_ok takes j t p = λ i. wrong_type takes (p.0 i) (p.1 i) ++ p.2 i
 
@@ -137,17 +137,17 @@ not_judged at e (Ok a) p = go (same_ty a.ty BoolTy) refl
     go false g = (ap (λ o. option_and_then negated_type o) p.1 ∙ negation a.ty ∙ ap (λ b. by_tests true b BoolTy) g, [], placed_wrong is_test e a p g)
 
 abbrev named : ℕ → Option ℕ → Option (Option Ty) → Judged
-named at place k = record { at = at; ty = option_and_then (λ ty. ty) k; faults = name_faults at place k }
+named at offset k = record { at = at; ty = option_and_then (λ ty. ty) k; faults = name_faults at offset k }
 
-seen_judged : (at place : ℕ) (k : Option (Option Variable)) → JudgedBy (named at (Some place) (option_and_then (λ v. v) (option_map (λ o. option_map (λ v. Some v.ty) o) k))) (seen_at at k >>= λ v. Ok (record { at = at; expr = Var v.number; ty = v.ty }))
-seen_judged at place None = (refl, [], refl)
-seen_judged at place (Some None) = (refl, [], refl)
-seen_judged at place (Some (Some v)) = (refl, refl, refl)
+seen_judged : (at offset : ℕ) (k : Option (Option Variable)) → JudgedBy (named at (Some offset) (option_and_then (λ v. v) (option_map (λ o. option_map (λ v. Some v.ty) o) k))) (seen_at at k >>= λ v. Ok (record { at = at; expr = Var v.number; ty = v.ty }))
+seen_judged at offset None = (refl, [], refl)
+seen_judged at offset (Some None) = (refl, [], refl)
+seen_judged at offset (Some (Some v)) = (refl, refl, refl)
 
-name_judged : (at : ℕ) (known : List (Option Variable)) (place : Option ℕ) → JudgedBy (named at place (seen (known_types known) place)) (found_at at known place >>= λ v. Ok (record { at = at; expr = Var v.number; ty = v.ty }))
+name_judged : (at : ℕ) (known : List (Option Variable)) (offset : Option ℕ) → JudgedBy (named at offset (seen (known_types known) offset)) (found_at at known offset >>= λ v. Ok (record { at = at; expr = Var v.number; ty = v.ty }))
 name_judged at known None = (refl, [], refl)
-name_judged at known (Some place) = subst (λ k. JudgedBy (named at (Some place) (option_and_then (λ v. v) k)) (seen_at at (slice_get known place) >>= λ v. Ok (record { at = at; expr = Var v.number; ty = v.ty })))
-    (sym (slice_get-map (λ o. option_map (λ v. Some v.ty) o) known place)) (seen_judged at place (slice_get known place))
+name_judged at known (Some offset) = subst (λ k. JudgedBy (named at (Some offset) (option_and_then (λ v. v) k)) (seen_at at (slice_get known offset) >>= λ v. Ok (record { at = at; expr = Var v.number; ty = v.ty })))
+    (sym (slice_get-map (λ o. option_map (λ v. Some v.ty) o) known offset)) (seen_judged at offset (slice_get known offset))
 
 module _ (names : List (List ℕ)) (known : List (Option Variable)) (next : ℕ) where
   abbrev here : ScopeState

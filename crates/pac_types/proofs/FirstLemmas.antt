@@ -22,22 +22,22 @@ use Rattle.pac_types.specs.declared.procedure.Proc.{Proc}
 use Rattle.pac_types.specs.declared.statement.Stmt.{Stmt, Delete, AbortIf, If}
 use Rattle.pac_types.specs.Numbering.{table_number, variables, column_of, table_of}
 use Rattle.pac_types.specs.Faults.{twice, cell_faults, column_faults, column_wanted, wrong_type, is_fitting, Known, out_of_sight, is_test, placed, judged, Ruled, ruled_names, all_faults, ruled_plain, ruled_branching, rule_step, ruled, names_faults, tables_faults, params_known, proc_faults, procs_faults, tree_faults, IsAmong, Stands, IsFirstTypeFault}
-use Rattle.pac_types.specs.Checking.{ScopeState, Told, once, defined_in, left_at, checked_test, checked_cell, checked_put, run_all, block, checked_stmt_step, checked_stmt, checked_block, all_once, names_of, checked_tables, checked_params, checked_proc, checked_procs, opening_scope}
+use Rattle.pac_types.specs.Checking.{ScopeState, Reported, once, defined_in, left_at, checked_test, checked_cell, checked_put, run_all, block, checked_stmt_step, checked_stmt, checked_block, all_once, names_of, checked_tables, checked_params, checked_proc, checked_procs, opening_scope}
 use Rattle.pac_types.proofs.BlockLemmas.{left_is}
 use Rattle.pac_types.proofs.TreeLemmas.{variables_from}
 use Rattle.pac_types.proofs.FaultLemmas.{Agree, agree_then, agree_map, agree_same, once_agrees, known_types, test_agrees, cell_agrees}
 use Rattle.pac_types.proofs.RuleLemmas.{at, StmtAgrees, types-append, types-unseen, plain_agrees, naming_agrees, let_naming, has_naming, read_naming, set_plain, put_agrees, column_is, field_agrees}
-use Rattle.pac_types.proofs.PlaceLemmas.{faults_climb, first_before}
+use Rattle.pac_types.proofs.OffsetLemmas.{faults_climb, first_before}
 
 -- a statement to the rules, and what checking it does
 pub record Case : Type 0 where
   pub ruled : Ruled
-  pub checked : ScopeState → Told
+  pub checked : ScopeState → Reported
 
 abbrev ruling : List Case → List Ruled
 ruling cs = map (λ c. c.ruled) cs
 
-abbrev checking : List Case → List (ScopeState → Told)
+abbrev checking : List Case → List (ScopeState → Reported)
 checking cs = map (λ c. c.checked) cs
 
 module _ (names : List (List ℕ)) where
@@ -48,21 +48,21 @@ module _ (names : List (List ℕ)) where
   AllAgree [] = Unit {0}
   AllAgree (c ∷ cs) = Agrees c × AllAgree cs
 
-  abbrev Told-all : Type 0
-  Told-all = Result (List Stmt × ScopeState) TypeFault
+  abbrev Reported-all : Type 0
+  Reported-all = Result (List Stmt × ScopeState) TypeFault
 
-  abbrev RunAgrees : List Ruled → List (Option Variable) → Told-all → Type 0
+  abbrev RunAgrees : List Ruled → List (Option Variable) → Reported-all → Type 0
   RunAgrees ds known (Ok b) = (all_faults ds (known_types known) ≡ []) × (extra : List (Option Variable)) × (n : ℕ) × (b.1 ≡ at names (known ++ extra) n) × (length extra ≡ ruled_names ds)
   RunAgrees ds known (Err f) = (rest : List TypeFault) × (all_faults ds (known_types known) ≡ f ∷ rest)
 
-  behind : (d : Ruled) (ds : List Ruled) (known extra : List (Option Variable)) (s : Stmt) (r : Told-all) → d.faults (known_types known) ≡ [] → known_types extra ≡ d.shown (known_types known) → length extra ≡ d.names
+  after : (d : Ruled) (ds : List Ruled) (known extra : List (Option Variable)) (s : Stmt) (r : Reported-all) → d.faults (known_types known) ≡ [] → known_types extra ≡ d.shown (known_types known) → length extra ≡ d.names
       → RunAgrees ds (known ++ extra) r → RunAgrees (d ∷ ds) known (r >>= λ b. Ok (s ∷ b.0, b.1))
-  behind d ds known extra s r clean shown many told = go r told
+  after d ds known extra s r clean shown many reported = go r reported
     where
       same : all_faults (d ∷ ds) (known_types known) ≡ all_faults ds (known_types (known ++ extra))
       same = ap (λ zs. zs ++ all_faults ds (known_types known ++ d.shown (known_types known))) clean ∙ ap (λ zs. all_faults ds zs) (ap (λ zs. known_types known ++ zs) (sym shown) ∙ sym (types-append known extra))
 
-      go : (r : Told-all) → RunAgrees ds (known ++ extra) r → RunAgrees (d ∷ ds) known (r >>= λ b. Ok (s ∷ b.0, b.1))
+      go : (r : Reported-all) → RunAgrees ds (known ++ extra) r → RunAgrees (d ∷ ds) known (r >>= λ b. Ok (s ∷ b.0, b.1))
       go (Ok b) p = (same ∙ p.0, extra ++ p.1, p.2, p.3 ∙ (λ i. at names (append_assoc known extra p.1 i) p.2), omega (arith, length-append extra p.1, many, p.4))
       go (Err f) p = (p.0, same ∙ p.1)
 
@@ -70,19 +70,19 @@ module _ (names : List (List ℕ)) where
   run_agrees [] all known next = (refl, [], next, (λ i. at names (sym (append-nil known) i) next), refl)
   run_agrees (c ∷ cs) all known next = go (λ k n. run_agrees cs all.1 k n) (c.checked (at names known next)) (all.0 known next)
     where
-      go : ((k : List (Option Variable)) (n : ℕ) → RunAgrees (ruling cs) k (run_all (checking cs) (at names k n))) → (r : Told) → StmtAgrees names c.ruled known r → RunAgrees (ruling (c ∷ cs)) known (r >>= λ a. run_all (checking cs) a.1 >>= λ b. Ok (a.0 ∷ b.0, b.1))
+      go : ((k : List (Option Variable)) (n : ℕ) → RunAgrees (ruling cs) k (run_all (checking cs) (at names k n))) → (r : Reported) → StmtAgrees names c.ruled known r → RunAgrees (ruling (c ∷ cs)) known (r >>= λ a. run_all (checking cs) a.1 >>= λ b. Ok (a.0 ∷ b.0, b.1))
       go later (Err f) p = (p.0 ++ all_faults (ruling cs) (known_types known ++ c.ruled.shown (known_types known)), ap (λ zs. zs ++ all_faults (ruling cs) (known_types known ++ c.ruled.shown (known_types known))) p.1)
-      go later (Ok a) p = behind c.ruled (ruling cs) known p.1 a.0 (run_all (checking cs) a.1) p.0 p.4 p.5
+      go later (Ok a) p = after c.ruled (ruling cs) known p.1 a.0 (run_all (checking cs) a.1) p.0 p.4 p.5
           (subst (λ st. RunAgrees (ruling cs) (known ++ p.1) (run_all (checking cs) st)) (sym p.3) (later (known ++ p.1) p.2))
 
-  abbrev BlockAgrees : List Ruled → List (Option Variable) → Told-all → Type 0
+  abbrev BlockAgrees : List Ruled → List (Option Variable) → Reported-all → Type 0
   BlockAgrees ds known (Ok b) = (all_faults ds (known_types known) ≡ []) × (n : ℕ) × (b.1 ≡ at names (known ++ replicate (ruled_names ds) None) n)
   BlockAgrees ds known (Err f) = (rest : List TypeFault) × (all_faults ds (known_types known) ≡ f ∷ rest)
 
   block_agrees : (cs : List Case) → AllAgree cs → (known : List (Option Variable)) (next : ℕ) → BlockAgrees (ruling cs) known (block (checking cs) (at names known next))
   block_agrees cs all known next = go (run_all (checking cs) (at names known next)) (run_agrees cs all known next)
     where
-      go : (r : Told-all) → RunAgrees (ruling cs) known r → BlockAgrees (ruling cs) known (r >>= λ b. Ok (b.0, left_at (length known) b.1))
+      go : (r : Reported-all) → RunAgrees (ruling cs) known r → BlockAgrees (ruling cs) known (r >>= λ b. Ok (b.0, left_at (length known) b.1))
       go (Ok b) p = (p.0, p.2, ap (λ st. left_at (length known) st) p.3 ∙ left_is [] names known p.1 (ruled_names (ruling cs)) p.2 p.4)
       go (Err f) p = p
 
@@ -107,7 +107,7 @@ module _ (names : List (List ℕ)) where
     types_is : known_types (known ++ replicate k1 None) ≡ known_types known ++ out_of_sight k1
     types_is = types-append known (replicate k1 None) ∙ ap (λ zs. known_types known ++ zs) (types-unseen k1)
 
-    second_agrees : (e : Expr) (a : List Stmt) → test (known_types known) ≡ [] → middle ≡ [] → (r : Told-all) → BlockAgrees (ruling second) (known ++ replicate k1 None) r → StmtAgrees names whole known (r >>= λ b. Ok (If next e a b.0, b.1))
+    second_agrees : (e : Expr) (a : List Stmt) → test (known_types known) ≡ [] → middle ≡ [] → (r : Reported-all) → BlockAgrees (ruling second) (known ++ replicate k1 None) r → StmtAgrees names whole known (r >>= λ b. Ok (If next e a b.0, b.1))
     second_agrees e a clean first_clean (Ok b) p = (
       (λ i. clean i ++ (first_clean i ++ (ap (λ zs. all_faults (ruling second) zs) (sym types_is) ∙ p.0) i)),
       replicate k1 None ++ replicate k2 None,
@@ -118,7 +118,7 @@ module _ (names : List (List ℕ)) where
     )
     second_agrees e a clean first_clean (Err f) p = (p.0, λ i. clean i ++ (first_clean i ++ (ap (λ zs. all_faults (ruling second) zs) (sym types_is) ∙ p.1) i))
 
-    first_agrees : (e : Expr) → test (known_types known) ≡ [] → (r : Told-all) → BlockAgrees (ruling first) known r → StmtAgrees names whole known (r >>= λ a. block (checking second) a.1 >>= λ b. Ok (If next e a.0 b.0, b.1))
+    first_agrees : (e : Expr) → test (known_types known) ≡ [] → (r : Reported-all) → BlockAgrees (ruling first) known r → StmtAgrees names whole known (r >>= λ a. block (checking second) a.1 >>= λ b. Ok (If next e a.0 b.0, b.1))
     first_agrees e clean (Err f) p = (p.0 ++ end, λ i. clean i ++ (p.1 i ++ end))
     first_agrees e clean (Ok a) p = second_agrees e a.0 clean p.0 (block (checking second) a.1)
         (subst (λ st. BlockAgrees (ruling second) (known ++ replicate k1 None) (block (checking second) st)) (sym p.2) (block_agrees second all_second (known ++ replicate k1 None) p.1))
@@ -157,7 +157,7 @@ module _ (tables : List Table) (names : List (List ℕ)) where
 
   step_agrees : (y : StmtNode-F Agreed) → Agrees names (record {
     ruled = rule_step tables names (map-StmtNode StmtNode Ruled (ruled tables names) (map-StmtNode Agreed StmtNode (λ q. q.0) y));
-    checked = checked_stmt_step tables (map-StmtNode StmtNode (ScopeState → Told) (checked_stmt tables) (map-StmtNode Agreed StmtNode (λ q. q.0) y));
+    checked = checked_stmt_step tables (map-StmtNode StmtNode (ScopeState → Reported) (checked_stmt tables) (map-StmtNode Agreed StmtNode (λ q. q.0) y));
   })
   step_agrees (form.Let name value) known next = naming_agrees names known next (λ k. (judged names k value).ty) (λ k. (judged names k value).faults) name _ (let_naming names known next value)
   step_agrees (form.Read name table key column default) known next =
@@ -185,7 +185,7 @@ module _ (tables : List Table) (names : List (List ℕ)) where
   stmt_agrees = ind-StmtNode (λ node. Agrees names (case_of node)) (λ x y is. subst (λ z. Agrees names (case_of (roll-StmtNode z))) is
       (subst (λ (c : Case). Agrees names c) (λ i. record {
         ruled = sym (fold-roll-StmtNode Ruled (rule_step tables names) (map-StmtNode Agreed StmtNode (λ q. q.0) y)) i;
-        checked = sym (fold-roll-StmtNode (ScopeState → Told) (checked_stmt_step tables) (map-StmtNode Agreed StmtNode (λ q. q.0) y)) i;
+        checked = sym (fold-roll-StmtNode (ScopeState → Reported) (checked_stmt_step tables) (map-StmtNode Agreed StmtNode (λ q. q.0) y)) i;
       }) (step_agrees y)))
 
   abbrev agreed : List StmtNode → List Agreed
@@ -210,44 +210,44 @@ module _ (tables : List Table) (names : List (List ℕ)) where
 
 -- ---- tables and procedures
 
-columns_agree : (names : List (List ℕ)) (place : ℕ) (nodes : List ColumnNode) → Agree (names_faults names place nodes) (all_once names place nodes)
-columns_agree names place [] = refl
-columns_agree names place (node ∷ nodes) = agree_then _ _ (once names place node.name) (λ _. all_once names (place + 1) nodes) (once_agrees names place node.name) (λ x is. columns_agree names (place + 1) nodes)
+columns_agree : (names : List (List ℕ)) (offset : ℕ) (nodes : List ColumnNode) → Agree (names_faults names offset nodes) (all_once names offset nodes)
+columns_agree names offset [] = refl
+columns_agree names offset (node ∷ nodes) = agree_then _ _ (once names offset node.name) (λ _. all_once names (offset + 1) nodes) (once_agrees names offset node.name) (λ x is. columns_agree names (offset + 1) nodes)
 
-tables_agree : (names : List (List ℕ)) (place : ℕ) (nodes : List TableNode) → Agree (tables_faults names place nodes) (checked_tables names place nodes)
-tables_agree names place [] = refl
-tables_agree names place (node ∷ nodes) =
-    agree_then _ _ (once names place node.name >>= λ _. all_once (names_of node.columns) 0 node.columns) (λ _. checked_tables names (place + 1) nodes)
-    (agree_then _ _ (once names place node.name) (λ _. all_once (names_of node.columns) 0 node.columns) (once_agrees names place node.name) (λ x is. columns_agree (names_of node.columns) 0 node.columns))
-    (λ x is. tables_agree names (place + 1) nodes)
+tables_agree : (names : List (List ℕ)) (offset : ℕ) (nodes : List TableNode) → Agree (tables_faults names offset nodes) (checked_tables names offset nodes)
+tables_agree names offset [] = refl
+tables_agree names offset (node ∷ nodes) =
+    agree_then _ _ (once names offset node.name >>= λ _. all_once (names_of node.columns) 0 node.columns) (λ _. checked_tables names (offset + 1) nodes)
+    (agree_then _ _ (once names offset node.name) (λ _. all_once (names_of node.columns) 0 node.columns) (once_agrees names offset node.name) (λ x is. columns_agree (names_of node.columns) 0 node.columns))
+    (λ x is. tables_agree names (offset + 1) nodes)
 
 abbrev ParamsAgree : List (List ℕ) → List (Option Variable) → ℕ → List ColumnNode → List TypeFault → Result ScopeState TypeFault → Type 0
 ParamsAgree names known next nodes faults (Ok st) = (faults ≡ []) × (st ≡ at names (known ++ variables_from next nodes) (next + length nodes))
 ParamsAgree names known next nodes faults (Err f) = (rest : List TypeFault) × (faults ≡ f ∷ rest)
 
-params_agree : (names : List (List ℕ)) (nodes : List ColumnNode) (known : List (Option Variable)) (next place : ℕ) → place ≡ length known → ParamsAgree names known next nodes (names_faults names place nodes) (checked_params nodes (at names known next))
-params_agree names [] known next place long = (refl, λ i. at names (sym (append-nil known) i) (same i))
+params_agree : (names : List (List ℕ)) (nodes : List ColumnNode) (known : List (Option Variable)) (next offset : ℕ) → offset ≡ length known → ParamsAgree names known next nodes (names_faults names offset nodes) (checked_params nodes (at names known next))
+params_agree names [] known next offset long = (refl, λ i. at names (sym (append-nil known) i) (same i))
   where
     same : next ≡ next + 0
     same = omega arith
-params_agree names (node ∷ nodes) known next place long =
-    go (params_agree names nodes (known ++ Some (record { number = next; ty = node.ty }) ∷ []) (next + 1) (place + 1) (omega (arith, long, length-append known (Some (record { number = next; ty = node.ty }) ∷ []))))
+params_agree names (node ∷ nodes) known next offset long =
+    go (params_agree names nodes (known ++ Some (record { number = next; ty = node.ty }) ∷ []) (next + 1) (offset + 1) (omega (arith, long, length-append known (Some (record { number = next; ty = node.ty }) ∷ []))))
     (once names (length known) node.name) (subst (λ k. Agree (twice names k node.name) (once names (length known) node.name)) (sym long) (once_agrees names (length known) node.name))
   where
     more : List (Option Variable)
     more = known ++ Some (record { number = next; ty = node.ty }) ∷ []
 
-    whole : (r : Result ScopeState TypeFault) → twice names place node.name ≡ [] → ParamsAgree names more (next + 1) nodes (names_faults names (place + 1) nodes) r → ParamsAgree names known next (node ∷ nodes) (names_faults names place (node ∷ nodes)) r
+    whole : (r : Result ScopeState TypeFault) → twice names offset node.name ≡ [] → ParamsAgree names more (next + 1) nodes (names_faults names (offset + 1) nodes) r → ParamsAgree names known next (node ∷ nodes) (names_faults names offset (node ∷ nodes)) r
     whole (Ok st) e p = ((λ i. e i ++ p.0 i), p.1 ∙ λ i. at names (append_assoc known (Some (record { number = next; ty = node.ty }) ∷ []) (variables_from (next + 1) nodes) i) (same i))
       where
         same : next + 1 + length nodes ≡ next + suc (length nodes)
         same = omega arith
     whole (Err f) e p = (p.0, λ i. e i ++ p.1 i)
 
-    go : ParamsAgree names more (next + 1) nodes (names_faults names (place + 1) nodes) (checked_params nodes (at names more (next + 1))) → (r : Result (Unit {0}) TypeFault) → Agree (twice names place node.name) r
-        → ParamsAgree names known next (node ∷ nodes) (names_faults names place (node ∷ nodes)) (r >>= λ _. checked_params nodes (defined_in node.ty (at names known next)))
+    go : ParamsAgree names more (next + 1) nodes (names_faults names (offset + 1) nodes) (checked_params nodes (at names more (next + 1))) → (r : Result (Unit {0}) TypeFault) → Agree (twice names offset node.name) r
+        → ParamsAgree names known next (node ∷ nodes) (names_faults names offset (node ∷ nodes)) (r >>= λ _. checked_params nodes (defined_in node.ty (at names known next)))
     go later (Ok x) p = whole (checked_params nodes (at names more (next + 1))) p later
-    go later (Err f) p = (p.0 ++ names_faults names (place + 1) nodes, ap (λ zs. zs ++ names_faults names (place + 1) nodes) p.1)
+    go later (Err f) p = (p.0 ++ names_faults names (offset + 1) nodes, ap (λ zs. zs ++ names_faults names (offset + 1) nodes) p.1)
 
 params_types : (n : ℕ) (nodes : List ColumnNode) → known_types (variables_from n nodes) ≡ params_known nodes
 params_types n [] = refl
@@ -267,13 +267,13 @@ module _ (tables : List Table) where
           (subst (λ z. Agree {A = Proc} (all_faults (map (ruled tables (variables node)) node.body) (known_types (variables_from 0 node.params))) (checked_block tables node.body z >>= λ b. Ok (the_proc node b.0))) (sym p.1)
           (agree_map _ (checked_block tables node.body (at (variables node) (variables_from 0 node.params) (0 + length node.params))) (λ b. the_proc node b.0) (body_agrees tables (variables node) node.body (variables_from 0 node.params) (0 + length node.params))))
 
-  procs_agree : (names : List (List ℕ)) (place : ℕ) (nodes : List ProcNode) → Agree (procs_faults tables names place nodes) (checked_procs tables names place nodes)
-  procs_agree names place [] = refl
-  procs_agree names place (node ∷ nodes) =
-      agree_same {A = List Proc} _ _ _ (append_assoc (twice names place node.name) (proc_faults tables node) (procs_faults tables names (place + 1) nodes))
-      (agree_then _ _ (once names place node.name) (λ _. checked_proc tables node >>= λ p. checked_procs tables names (place + 1) nodes >>= λ ps. Ok (p ∷ ps)) (once_agrees names place node.name)
-      (λ x is. agree_then _ _ (checked_proc tables node) (λ p. checked_procs tables names (place + 1) nodes >>= λ ps. Ok (p ∷ ps)) (proc_agrees node)
-      (λ p is. agree_map _ (checked_procs tables names (place + 1) nodes) (λ ps. p ∷ ps) (procs_agree names (place + 1) nodes))))
+  procs_agree : (names : List (List ℕ)) (offset : ℕ) (nodes : List ProcNode) → Agree (procs_faults tables names offset nodes) (checked_procs tables names offset nodes)
+  procs_agree names offset [] = refl
+  procs_agree names offset (node ∷ nodes) =
+      agree_same {A = List Proc} _ _ _ (append_assoc (twice names offset node.name) (proc_faults tables node) (procs_faults tables names (offset + 1) nodes))
+      (agree_then _ _ (once names offset node.name) (λ _. checked_proc tables node >>= λ p. checked_procs tables names (offset + 1) nodes >>= λ ps. Ok (p ∷ ps)) (once_agrees names offset node.name)
+      (λ x is. agree_then _ _ (checked_proc tables node) (λ p. checked_procs tables names (offset + 1) nodes >>= λ ps. Ok (p ∷ ps)) (proc_agrees node)
+      (λ p is. agree_map _ (checked_procs tables names (offset + 1) nodes) (λ ps. p ∷ ps) (procs_agree names (offset + 1) nodes))))
 
 -- ---- trees
 
@@ -300,15 +300,15 @@ module _ (tree : Tree) where
   not_before f other (inl e) = omega (arith, ap (λ (z : TypeFault). z.at) e)
   not_before f other (inr lt) = omega arith
 
-  same_place : (f other : TypeFault) → (f ≡ other) ⊎ (f.at < other.at) → other.at ≡ f.at → other ≡ f
-  same_place f other (inl e) at = sym e
-  same_place f other (inr lt) at = absurd (omega arith)
+  same_offset : (f other : TypeFault) → (f ≡ other) ⊎ (f.at < other.at) → other.at ≡ f.at → other ≡ f
+  same_offset f other (inl e) at = sym e
+  same_offset f other (inr lt) at = absurd (omega arith)
 
   a_first : IsOrdered tree → (f : TypeFault) (rest : List TypeFault) → tree_faults tree ≡ f ∷ rest → IsFirstTypeFault tree f
   a_first ordered f rest is = record {
     stands = subst (λ fs. IsAmong fs f) (sym is) (inl refl);
     least = λ other stands. not_before f other (first_before f (tree_faults tree) rest is (faults_climb tree ordered) other stands);
-    alone = λ other stands at. same_place f other (first_before f (tree_faults tree) rest is (faults_climb tree ordered) other stands) at;
+    alone = λ other stands at. same_offset f other (first_before f (tree_faults tree) rest is (faults_climb tree ordered) other stands) at;
   }
 
   -- the fault that is met among the tables, or else among the procedures, is the first

@@ -1,6 +1,6 @@
 pub mod StmtForms
 pub mod ScopeLemmas
-pub mod SoundLemmas
+pub mod WellFormedLemmas
 pub mod NameLemmas
 pub mod CheckLemmas
 pub mod ExprLemmas
@@ -12,7 +12,7 @@ pub mod CountLemmas
 pub mod NumberLemmas
 pub mod TypingLemmas
 pub mod CleanLemmas
-pub mod PlaceLemmas
+pub mod OffsetLemmas
 pub mod FaultLemmas
 pub mod RuleLemmas
 pub mod FirstLemmas

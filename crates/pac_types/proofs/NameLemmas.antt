@@ -15,14 +15,14 @@ pub number_is : (names : List (List ℕ)) (name : List ℕ) → number_of names 
 unfolding number_of
 number_is names name = position_from-zero (bytes_eq name) names
 
--- the number among the names from a place on, by that among those behind it
+-- the number among the names from an offset on, by that among those after it
 pub number-from : (names : List (List ℕ)) (i : ℕ) (y q : List ℕ) → i < length names → y ≡ get_or names i y
     → cond (bytes_eq y q) (Some i) (position_from (bytes_eq q) (i + 1) (drop (i + 1) names)) ≡ position_from (bytes_eq q) i (drop i names)
 number-from names i y q within at =
     let rest : drop i names ≡ y ∷ drop (i + 1) names = drop-cons names i y within ∙ ap (λ z. z ∷ drop (suc i) names) (sym at) ∙ ap (λ n. y ∷ drop n names) (sym (add-one i)) in
     ap (λ b. cond b (Some i) (position_from (bytes_eq q) (i + 1) (drop (i + 1) names))) (nat_list_eq_equiv.symm y q) ∙ ap (position_from (bytes_eq q) i) (sym rest)
 
--- what has no place isn't there
+-- what has no offset isn't there
 position-none : {X : Type 0} (test : X → Bool) (i : ℕ) (xs : List X) → position_from test i xs ≡ None → list_any test xs ≡ false
 position-none test i [] none = refl
 position-none test i (y ∷ ys) none = by (test y) none (position-none test (i + 1) ys)
@@ -31,7 +31,7 @@ position-none test i (y ∷ ys) none = by (test y) none (position-none test (i +
     by true e later = cc
     by false e later = later e
 
--- what differs from each name before it has no place among them
+-- what differs from each name before it has no offset among them
 not_before : (i : ℕ) (xs ys : List (List ℕ)) (y : List ℕ) → IsDistinct bytes_eq (xs ++ y ∷ ys) → position_from (bytes_eq y) i xs ≡ None
 unfolding IsDistinct
 not_before i [] ys y d = refl
@@ -87,7 +87,7 @@ position-take test (suc k) i (x ∷ xs) = by (test x) (position-take test k (i +
     by true later = grind (arith, common_steps)
     by false later = later
 
--- the number among the first so many
+-- the number among the first n
 pub number-take : (names : List (List ℕ)) (k : ℕ) (q : List ℕ) → number_of (take k names) q ≡ below k (number_of names q)
 number-take names k q = number_is (take k names) q ∙ position-take (bytes_eq q) k 0 names ∙ ap (λ n. below n (position_from (bytes_eq q) 0 names)) (zero-add k) ∙ ap (below k) (sym (number_is names q))
 

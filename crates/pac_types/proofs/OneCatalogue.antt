@@ -63,9 +63,9 @@ only_catalogue text (Ok c) ok fault catalogue has = ok.1 catalogue has
 only_catalogue text (Err (error.Fault f)) ok fault catalogue has = absurd (catalogue_or_fault text catalogue f has (fault f refl))
 only_catalogue text (Err error.NoMemory) ok fault catalogue has = refl
 
-abbrev told : CatalogueFault → Result CatalogueState (Refusal CatalogueFault)
-told fault = Err (error.Fault fault)
+abbrev reported : CatalogueFault → Result CatalogueState (Refusal CatalogueFault)
+reported fault = Err (error.Fault fault)
 
--- the fault that is told is that which was found
-pub told_is : (f g : CatalogueFault) → told f ≡ told g → g ≡ f
-told_is f g h = cc
+-- the fault that is reported is that which was found
+pub reported_is : (f g : CatalogueFault) → reported f ≡ reported g → g ≡ f
+reported_is f g h = cc

@@ -8,7 +8,7 @@ use Rattle.pac_value.specs.declared.expr.Expr.{Expr}
 use Rattle.pac_types.specs.declared.checker.scope.Variable.{Variable}
 use Rattle.pac_types.specs.declared.statement.Stmt.{Stmt}
 use Rattle.pac_types.specs.Numbering.{cell_by, unseen}
-use Rattle.pac_types.specs.Sound.{if_so}
+use Rattle.pac_types.specs.WellFormed.{if_so}
 use Rattle.pac_value.specs.Scopes.{Scope, with_var}
 use Rattle.pac_types.proofs.ExprLemmas.{numbers_of, Fit, some_is, none_is}
 
@@ -105,8 +105,8 @@ right_false false b e = refl
 pub both_true : (a b : Bool) → a ≡ true → b ≡ true → (a && b) ≡ true
 both_true a b p q = ap (λ c. c && b) p ∙ q
 
-pub clash : (b : Bool) → b ≡ true → b ≡ false → ⊥
-clash b p q = true≢false (sym p ∙ q)
+pub conflict : (b : Bool) → b ≡ true → b ≡ false → ⊥
+conflict b p q = true≢false (sym p ∙ q)
 
 -- ---- scopes
 

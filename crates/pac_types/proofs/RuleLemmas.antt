@@ -18,10 +18,10 @@ use Rattle.pac_types.specs.declared.checker.expressions.Typed.{Typed}
 use Rattle.pac_types.specs.declared.table.Table.{Table}
 use Rattle.pac_types.specs.declared.statement.Stmt.{Stmt, Let, Read, Has, Put, Set}
 use Rattle.pac_types.specs.Numbering.{table_number, column_number}
-use Rattle.pac_types.specs.Sound.{key_type, column_type, column_types}
+use Rattle.pac_types.specs.WellFormed.{key_type, column_type, column_types}
 use Rattle.pac_value.specs.Scopes.{is_wanted}
 use Rattle.pac_types.specs.Faults.{fault_if, twice, Known, out_of_sight, is_fitting, Judged, wrong_type, placed, judged, unknown, key_wanted, column_wanted, column_faults, wrong_count, values_wanted, values_faults, cell_faults, Ruled, ruled_naming, ruled_plain}
-use Rattle.pac_types.specs.Checking.{ScopeState, Told, Cells, Fields, once, unless, taken, known_at, defined_in, checked_expr, checked_wanted, checked_cell, checked_field, checked_read, same_count, checked_values, checked_put}
+use Rattle.pac_types.specs.Checking.{ScopeState, Reported, Cells, Fields, once, unless, taken, known_at, defined_in, checked_expr, checked_wanted, checked_cell, checked_field, checked_read, same_count, checked_values, checked_put}
 use Rattle.pac_types.proofs.PartLemmas.{equal}
 use Rattle.pac_types.proofs.FaultLemmas.{Agree, agree_then, agree_map, agree_same, once_agrees, known_types, JudgedBy, expr_judged, wanted_agrees, values_agree, key_found, column_found, then_ok, cell_agrees}
 
@@ -105,8 +105,8 @@ types-unseen (suc k) = ap (λ zs. None ∷ zs) (types-unseen k)
 abbrev pub at : List (List ℕ) → List (Option Variable) → ℕ → ScopeState
 at names known next = record { names = names; known = known; next = next }
 
--- where no fault stands in a statement, what is known behind it; or the first fault
-abbrev pub StmtAgrees : List (List ℕ) → Ruled → List (Option Variable) → Told → Type 0
+-- where no fault stands in a statement, what is known after it; or the first fault
+abbrev pub StmtAgrees : List (List ℕ) → Ruled → List (Option Variable) → Reported → Type 0
 StmtAgrees names d known (Ok a) = (d.faults (known_types known) ≡ []) × (extra : List (Option Variable)) × (n : ℕ) × (a.1 ≡ at names (known ++ extra) n) × (known_types extra ≡ d.shown (known_types known)) × (length extra ≡ d.names)
 StmtAgrees names d known (Err f) = (rest : List TypeFault) × (d.faults (known_types known) ≡ f ∷ rest)
 
@@ -116,21 +116,21 @@ module _ (names : List (List ℕ)) (known : List (Option Variable)) (next : ℕ)
   plain_agrees faults (Ok x) h p = (p, [], next, (λ i. at names (sym (append-nil known) i) next), refl, refl)
   plain_agrees faults (Err f) h p = p
 
-  -- one that defines a variable, behind its name
-  abbrev pub NamingAgrees : Option Ty → List TypeFault → Told → Type 0
+  -- one that defines a variable, after its name
+  abbrev pub NamingAgrees : Option Ty → List TypeFault → Reported → Type 0
   NamingAgrees o faults (Ok a) = (faults ≡ []) × (ty : Ty) × (a.1 ≡ defined_in ty (at names known next)) × (o ≡ Some ty)
   NamingAgrees o faults (Err f) = (rest : List TypeFault) × (faults ≡ f ∷ rest)
 
-  pub naming_agrees : (ty : Known → Option Ty) (faults : Known → List TypeFault) (name : NameNode) (r : Told) → NamingAgrees (ty (known_types known)) (faults (known_types known)) r
+  pub naming_agrees : (ty : Known → Option Ty) (faults : Known → List TypeFault) (name : NameNode) (r : Reported) → NamingAgrees (ty (known_types known)) (faults (known_types known)) r
       → StmtAgrees names (ruled_naming ty (λ k. twice names (length k) name ++ faults k)) known (once names (length known) name >>= λ _. r)
-  naming_agrees ty faults name r told = go (once names (length known) name) (subst (λ k. Agree (twice names k name) (once names (length known) name)) (sym (length-map known (λ o. option_map (λ v. Some v.ty) o))) (once_agrees names (length known) name))
+  naming_agrees ty faults name r reported = go (once names (length known) name) (subst (λ k. Agree (twice names k name) (once names (length known) name)) (sym (length-map known (λ o. option_map (λ v. Some v.ty) o))) (once_agrees names (length known) name))
     where
-      fresh : (r : Told) → NamingAgrees (ty (known_types known)) (faults (known_types known)) r → twice names (length (known_types known)) name ≡ [] → StmtAgrees names (ruled_naming ty (λ k. twice names (length k) name ++ faults k)) known r
+      fresh : (r : Reported) → NamingAgrees (ty (known_types known)) (faults (known_types known)) r → twice names (length (known_types known)) name ≡ [] → StmtAgrees names (ruled_naming ty (λ k. twice names (length k) name ++ faults k)) known r
       fresh (Ok a) p e = (ap (λ zs. zs ++ faults (known_types known)) e ∙ p.0, Some (record { number = next; ty = p.1 }) ∷ [], next + 1, p.2, (λ i. Some (sym p.3 i) ∷ []), refl)
       fresh (Err f) p e = (p.0, ap (λ zs. zs ++ faults (known_types known)) e ∙ p.1)
 
       go : (q : Result (Unit {0}) TypeFault) → Agree (twice names (length (known_types known)) name) q → StmtAgrees names (ruled_naming ty (λ k. twice names (length k) name ++ faults k)) known (q >>= λ _. r)
-      go (Ok x) p = fresh r told p
+      go (Ok x) p = fresh r reported p
       go (Err f) p = (p.0 ++ faults (known_types known), ap (λ zs. zs ++ faults (known_types known)) p.1)
 
   pub let_naming : (value : ExprNode) → NamingAgrees (judged names (known_types known) value).ty (judged names (known_types known) value).faults (checked_expr (at names known next) value >>= λ v. Ok (Let next v.expr, defined_in v.ty (at names known next)))

@@ -6,7 +6,7 @@ use Rattle.pac_value.specs.declared.values.Ty.{Ty}
 use Rattle.pac_value.specs.declared.expr.Expr.{Expr}
 use Rattle.pac_value.specs.Expressions.{type_in, type_step, operator_type, negated_type}
 use Rattle.pac_value.proofs.ByForms.{by_forms, fold-Lit, fold-Var, fold-Bin, fold-Not}
-use Rattle.pac_types.specs.Sound.{without}
+use Rattle.pac_types.specs.WellFormed.{without}
 use Rattle.pac_value.specs.Scopes.{Scope, with_var, is_bool, is_wanted, are_wanted}
 
 -- what the first says, the second says too

@@ -10,7 +10,7 @@ use Rattle.pac_value.specs.State.{Cell, RowValues}
 use Rattle.pac_ops.specs.declared.shapes.TableTypes.{TableTypes}
 use Rattle.pac_ops.specs.Shapes.{KeyFits, ColumnsFit, RowFits}
 use Rattle.pac_types.specs.declared.table.Table.{Table}
-use Rattle.pac_types.specs.Sound.{key_type, column_types, column_types_of}
+use Rattle.pac_types.specs.WellFormed.{key_type, column_types, column_types_of}
 use Rattle.pac_types.specs.Fits.{shape}
 
 module _ (tables : List Table) where

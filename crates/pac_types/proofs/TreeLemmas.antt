@@ -1,4 +1,4 @@
--- What checking a procedure tells.
+-- What checking a procedure says.
 use Rattle.std.proofs.Common.{◌≡◌, ◌<◌, ℕ, zero, suc, ◌+◌, Bool, true, false, List, [], ◌∷◌, ◌++◌, length, take, drop, get_or, map, Option, Some, None, Result, Ok, Err, true≢false, refl, sym, ap, subst, ◌∙◌, arith, append_assoc, is_some, take-append-drop, length-append}
 use Rattle.std.specs.Prelude.{slice_get, bytes_eq, IsSome}
 use Rattle.std.specs.Option.{option_map}
@@ -20,17 +20,17 @@ use Rattle.pac_types.specs.declared.table.Table.{Table}
 use Rattle.pac_types.specs.declared.procedure.Proc.{Proc}
 use Rattle.pac_types.specs.declared.statement.Stmt.{Stmt}
 use Rattle.pac_types.specs.Numbering.{AreDistinct, number_of, table_number, column_number, column_of, Numbered, in_a_row, defined, defined_step, numbered, number_step, branching, in_turn, body_of, numbers_from, variables, resolved}
-use Rattle.pac_types.specs.Sound.{IsSoundProc, check, in_order, scope_of, types}
+use Rattle.pac_types.specs.WellFormed.{IsWellFormedProc, check, in_order, scope_of, types}
 use Rattle.pac_value.specs.Scopes.{Scope}
 use Rattle.pac_types.specs.Typing.{IsProcOf}
 use Rattle.pac_types.specs.Faults.{is_before}
-use Rattle.pac_types.specs.Checking.{ScopeState, Told, once, unless, defined_in, checked_stmt, checked_stmt_step, checked_block, checked_params, checked_proc, opening_scope, block}
+use Rattle.pac_types.specs.Checking.{ScopeState, Reported, once, unless, defined_in, checked_stmt, checked_stmt_step, checked_block, checked_params, checked_proc, opening_scope, block}
 use Rattle.pac_types.proofs.CheckLemmas.{joined-map}
 use Rattle.pac_types.proofs.NameLemmas.{number-take, distinct-more, distinct-nil, not_yet, are_distinct}
 use Rattle.pac_types.proofs.ExprLemmas.{numbers_of, said, Fit, test_passed, wanted_passed, some_is, none_is}
 use Rattle.pac_types.proofs.PartLemmas.{drop_first}
-use Rattle.pac_types.proofs.StmtLemmas.{at, Start, Wide, plain_told, naming_told, not_before, is_there, let_told, read_told, has_told, put_told, set_told, delete_told, abort_told, cell_of_node, field_of_node}
-use Rattle.pac_types.proofs.BlockLemmas.{Piece, numbering, checking, defining, Holds, AllHold, BlockTold, block_told, if_told}
+use Rattle.pac_types.proofs.StmtLemmas.{at, Start, Wide, plain_reported, naming_reported, not_before, is_there, let_reported, read_reported, has_reported, put_reported, set_reported, delete_reported, abort_reported, cell_of_node, field_of_node}
+use Rattle.pac_types.proofs.BlockLemmas.{Piece, numbering, checking, defining, Holds, AllHold, BlockReported, block_reported, if_reported}
 
 -- ---- statements
 
@@ -68,31 +68,31 @@ module _ (tables : List Table) (names : List (List ℕ)) (wide : Wide tables nam
   open_piece y = record {
     numbered = number_step tables names (map-StmtNode StmtNode Numbered (numbered tables names) (map-StmtNode Known-node StmtNode (λ q. q.0) y));
     defined = defined_step (map-StmtNode StmtNode (List (List ℕ)) defined (map-StmtNode Known-node StmtNode (λ q. q.0) y));
-    checked = checked_stmt_step tables (map-StmtNode StmtNode (ScopeState → Told) (checked_stmt tables) (map-StmtNode Known-node StmtNode (λ q. q.0) y));
+    checked = checked_stmt_step tables (map-StmtNode StmtNode (ScopeState → Reported) (checked_stmt tables) (map-StmtNode Known-node StmtNode (λ q. q.0) y));
   }
 
   step_holds : (y : StmtNode-F Known-node) → Holds tables names (open_piece y)
   step_holds (form.Let name value) known next scope rest start =
-      naming_told tables names _ name known next scope rest _ start (let_told tables names known next scope start.fit _ _ (said names known next scope start.fit value))
+      naming_reported tables names _ name known next scope rest _ start (let_reported tables names known next scope start.fit _ _ (said names known next scope start.fit value))
   step_holds (form.Read name table key column default) known next scope rest start =
-      naming_told tables names _ name known next scope rest _ start (read_told tables names known next scope start.fit _ _ (λ t. column_number tables t column.name) default _ (field_of_node tables names known next scope start.fit table key column))
+      naming_reported tables names _ name known next scope rest _ start (read_reported tables names known next scope start.fit _ _ (λ t. column_number tables t column.name) default _ (field_of_node tables names known next scope start.fit table key column))
   step_holds (form.Has name table key) known next scope rest start =
-      naming_told tables names _ name known next scope rest _ start (has_told tables names known next scope start.fit _ _ _ (cell_of_node tables names known next scope start.fit table key))
+      naming_reported tables names _ name known next scope rest _ start (has_reported tables names known next scope start.fit _ _ _ (cell_of_node tables names known next scope start.fit table key))
   step_holds (form.Put table key values) known next scope rest start =
-      plain_told tables names _ known next scope rest _ start (put_told tables names wide known next scope start.fit table key values (table_number tables table.name) refl)
+      plain_reported tables names _ known next scope rest _ start (put_reported tables names wide known next scope start.fit table key values (table_number tables table.name) refl)
   step_holds (form.Set table key column value) known next scope rest start =
-      plain_told tables names _ known next scope rest _ start (set_told tables names known next scope start.fit _ _ (λ t. column_number tables t column.name) _ _ _ (field_of_node tables names known next scope start.fit table key column) (λ by. wanted_passed names known next scope start.fit value by))
+      plain_reported tables names _ known next scope rest _ start (set_reported tables names known next scope start.fit _ _ (λ t. column_number tables t column.name) _ _ _ (field_of_node tables names known next scope start.fit table key column) (λ by. wanted_passed names known next scope start.fit value by))
   step_holds (form.Delete table key) known next scope rest start =
-      plain_told tables names _ known next scope rest _ start (delete_told tables names known next scope start.fit _ _ _ (cell_of_node tables names known next scope start.fit table key))
+      plain_reported tables names _ known next scope rest _ start (delete_reported tables names known next scope start.fit _ _ _ (cell_of_node tables names known next scope start.fit table key))
   step_holds (form.AbortIf test) known next scope rest start =
-      plain_told tables names _ known next scope rest _ start (abort_told tables names known next scope start.fit _ _ (test_passed names known next scope start.fit test))
+      plain_reported tables names _ known next scope rest _ start (abort_reported tables names known next scope start.fit _ _ (test_passed names known next scope start.fit test))
   step_holds (form.If test first second) known next scope rest start =
       subst (Holds tables names) (λ i. record {
         numbered = branching (λ sight. resolved names sight test) (sym (numbering_is first) i) (sym (numbering_is second) i);
         defined = sym (defining_is first) i ++ sym (defining_is second) i;
         checked = λ scope. checked_stmt_step tables (form.If test (sym (checking_is first) i) (sym (checking_is second) i)) scope;
       })
-      (λ known next scope rest start. if_told tables names (pieces first) (pieces second) (all_hold first) (all_hold second) (λ sight. resolved names sight test) known next scope rest start _ (test_passed names known next scope start.fit test))
+      (λ known next scope rest start. if_reported tables names (pieces first) (pieces second) (all_hold first) (all_hold second) (λ sight. resolved names sight test) known next scope rest start _ (test_passed names known next scope start.fit test))
       known next scope rest start
 
   pub stmt_holds : (node : StmtNode) → Holds tables names (piece node)
@@ -100,7 +100,7 @@ module _ (tables : List Table) (names : List (List ℕ)) (wide : Wide tables nam
       (subst (Holds tables names) (λ i. record {
         numbered = sym (fold-roll-StmtNode Numbered (number_step tables names) (map-StmtNode Known-node StmtNode (λ q. q.0) y)) i;
         defined = sym (fold-roll-StmtNode (List (List ℕ)) defined_step (map-StmtNode Known-node StmtNode (λ q. q.0) y)) i;
-        checked = sym (fold-roll-StmtNode (ScopeState → Told) (checked_stmt_step tables) (map-StmtNode Known-node StmtNode (λ q. q.0) y)) i;
+        checked = sym (fold-roll-StmtNode (ScopeState → Reported) (checked_stmt_step tables) (map-StmtNode Known-node StmtNode (λ q. q.0) y)) i;
       }) (step_holds y)))
 
   abbrev known_nodes : List StmtNode → List Known-node
@@ -110,35 +110,35 @@ module _ (tables : List Table) (names : List (List ℕ)) (wide : Wide tables nam
   nodes_same [] = refl
   nodes_same (n ∷ ns) = ap (λ zs. n ∷ zs) (nodes_same ns)
 
-  -- what checking a body tells
-  pub body_told : (nodes : List StmtNode) (known : List (Option Variable)) (next : ℕ) (scope : Scope) (rest : List (List ℕ)) → Start tables names known next scope (in_a_row (map defined nodes)) rest
-      → BlockTold tables names (map (numbered tables names) nodes) known next scope rest (checked_block tables nodes (at tables names known next))
-  body_told nodes known next scope rest start =
+  -- what checking a body says
+  pub body_reported : (nodes : List StmtNode) (known : List (Option Variable)) (next : ℕ) (scope : Scope) (rest : List (List ℕ)) → Start tables names known next scope (in_a_row (map defined nodes)) rest
+      → BlockReported tables names (map (numbered tables names) nodes) known next scope rest (checked_block tables nodes (at tables names known next))
+  body_reported nodes known next scope rest start =
       let qs = known_nodes nodes in
       let ns : numbering (pieces qs) ≡ map (numbered tables names) nodes = sym (numbering_is qs) ∙ ap (λ (zs : List StmtNode). map (numbered tables names) zs) (nodes_same nodes) in
       let cs : checking (pieces qs) ≡ map (checked_stmt tables) nodes = sym (checking_is qs) ∙ ap (λ (zs : List StmtNode). map (checked_stmt tables) zs) (nodes_same nodes) in
       let ds : in_a_row (map defined nodes) ≡ defining (pieces qs) = sym (ap (λ (zs : List StmtNode). in_a_row (map defined zs)) (nodes_same nodes)) ∙ defining_is qs in
-      subst (λ zs. BlockTold tables names zs known next scope rest (checked_block tables nodes (at tables names known next))) ns
-      (subst (λ zs. BlockTold tables names (numbering (pieces qs)) known next scope rest (block zs (at tables names known next))) cs
-      (block_told tables names (pieces qs) (all_hold qs) known next scope rest (subst (λ zs. Start tables names known next scope zs rest) ds start)))
+      subst (λ zs. BlockReported tables names zs known next scope rest (checked_block tables nodes (at tables names known next))) ns
+      (subst (λ zs. BlockReported tables names (numbering (pieces qs)) known next scope rest (block zs (at tables names known next))) cs
+      (block_reported tables names (pieces qs) (all_hold qs) known next scope rest (subst (λ zs. Start tables names known next scope zs rest) ds start)))
 
 -- ---- names that stand once
 
 module _ (names : List (List ℕ)) where
   -- a name that stands for the first time, or else they don't all differ
-  abbrev pub OnceTold : ℕ → List (List ℕ) → Result (Unit {0}) TypeFault → Type 0
-  OnceTold place rest (Ok x) = IsDistinct bytes_eq (take (place + 1) names) × (drop (place + 1) names ≡ rest)
-  OnceTold place rest (Err f) = AreDistinct names → ⊥
+  abbrev pub OnceReported : ℕ → List (List ℕ) → Result (Unit {0}) TypeFault → Type 0
+  OnceReported offset rest (Ok x) = IsDistinct bytes_eq (take (offset + 1) names) × (drop (offset + 1) names ≡ rest)
+  OnceReported offset rest (Err f) = AreDistinct names → ⊥
 
-  pub once_told : (place : ℕ) (name : NameNode) (rest : List (List ℕ)) → IsDistinct bytes_eq (take place names) → drop place names ≡ name.name ∷ rest → OnceTold place rest (once names place name)
-  once_told place name rest distinct left = go (is_before (number_of names name.name) place) refl
+  pub once_reported : (offset : ℕ) (name : NameNode) (rest : List (List ℕ)) → IsDistinct bytes_eq (take offset names) → drop offset names ≡ name.name ∷ rest → OnceReported offset rest (once names offset name)
+  once_reported offset name rest distinct left = go (is_before (number_of names name.name) offset) refl
     where
-      first : (place < length names) × (name.name ≡ get_or names place name.name) × (drop (place + 1) names ≡ rest)
-      first = drop_first names place name.name rest left
+      first : (offset < length names) × (name.name ≡ get_or names offset name.name) × (drop (offset + 1) names ≡ rest)
+      first = drop_first names offset name.name rest left
 
-      go : (b : Bool) → is_before (number_of names name.name) place ≡ b → OnceTold place rest (unless {A = Unit {0}} b tt name.at Twice)
-      go true e = λ all. is_there [] names (number_of names name.name) place e (sym (number-take names place name.name) ∙ not_yet names place name.name first.0 first.1 all)
-      go false e = (distinct-more names place name.name first.0 first.1 distinct (number-take names place name.name ∙ not_before [] names (number_of names name.name) place e), first.2)
+      go : (b : Bool) → is_before (number_of names name.name) offset ≡ b → OnceReported offset rest (unless {A = Unit {0}} b tt name.at Twice)
+      go true e = λ all. is_there [] names (number_of names name.name) offset e (sym (number-take names offset name.name) ∙ not_yet names offset name.name first.0 first.1 all)
+      go false e = (distinct-more names offset name.name first.0 first.1 distinct (number-take names offset name.name ∙ not_before [] names (number_of names name.name) offset e), first.2)
 
 -- ---- parameters
 
@@ -169,19 +169,19 @@ fit_params nodes i v h =
     (omega (arith, p.1, same), ap (λ n. slice_get (types (map column_of nodes)) n) same ∙ p.2)
 
 module _ (names : List (List ℕ)) where
-  abbrev ParamsTold : List ColumnNode → List (Option Variable) → ℕ → List (List ℕ) → Result ScopeState TypeFault → Type 0
-  ParamsTold nodes known next rest (Ok st) = (st ≡ record { names = names; known = known ++ variables_from next nodes; next = next + length nodes })
+  abbrev ParamsReported : List ColumnNode → List (Option Variable) → ℕ → List (List ℕ) → Result ScopeState TypeFault → Type 0
+  ParamsReported nodes known next rest (Ok st) = (st ≡ record { names = names; known = known ++ variables_from next nodes; next = next + length nodes })
       × IsDistinct bytes_eq (take (length known + length nodes) names) × (drop (length known + length nodes) names ≡ rest)
-  ParamsTold nodes known next rest (Err f) = AreDistinct names → ⊥
+  ParamsReported nodes known next rest (Err f) = AreDistinct names → ⊥
 
-  params_told : (nodes : List ColumnNode) (known : List (Option Variable)) (next : ℕ) (rest : List (List ℕ)) → IsDistinct bytes_eq (take (length known) names) → drop (length known) names ≡ map (λ node. node.name.name) nodes ++ rest
-      → ParamsTold nodes known next rest (checked_params nodes (record { names = names; known = known; next = next }))
-  params_told [] known next rest distinct left =
+  params_reported : (nodes : List ColumnNode) (known : List (Option Variable)) (next : ℕ) (rest : List (List ℕ)) → IsDistinct bytes_eq (take (length known) names) → drop (length known) names ≡ map (λ node. node.name.name) nodes ++ rest
+      → ParamsReported nodes known next rest (checked_params nodes (record { names = names; known = known; next = next }))
+  params_reported [] known next rest distinct left =
       let long : length known ≡ length known + 0 = omega arith in
       let same : next ≡ next + 0 = omega arith in
       ((λ i. record { names = names; known = sym (append-nil known) i; next = same i }), subst (λ k. IsDistinct bytes_eq (take k names)) long distinct, subst (λ k. drop k names ≡ rest) long left)
-  params_told (node ∷ nodes) known next rest distinct left =
-      go (λ d l. params_told nodes (known ++ Some (record { number = next; ty = node.ty }) ∷ []) (next + 1) rest d l) (once names (length known) node.name) (once_told names (length known) node.name (map (λ node. node.name.name) nodes ++ rest) distinct left)
+  params_reported (node ∷ nodes) known next rest distinct left =
+      go (λ d l. params_reported nodes (known ++ Some (record { number = next; ty = node.ty }) ∷ []) (next + 1) rest d l) (once names (length known) node.name) (once_reported names (length known) node.name (map (λ node. node.name.name) nodes ++ rest) distinct left)
     where
       more : List (Option Variable)
       more = known ++ Some (record { number = next; ty = node.ty }) ∷ []
@@ -190,30 +190,30 @@ module _ (names : List (List ℕ)) where
       long = sym (length-append known (Some (record { number = next; ty = node.ty }) ∷ []))
 
       others : Type 0
-      others = IsDistinct bytes_eq (take (length more) names) → drop (length more) names ≡ map (λ node. node.name.name) nodes ++ rest → ParamsTold nodes more (next + 1) rest (checked_params nodes (record { names = names; known = more; next = next + 1 }))
+      others = IsDistinct bytes_eq (take (length more) names) → drop (length more) names ≡ map (λ node. node.name.name) nodes ++ rest → ParamsReported nodes more (next + 1) rest (checked_params nodes (record { names = names; known = more; next = next + 1 }))
 
-      whole : (r : Result ScopeState TypeFault) → ParamsTold nodes more (next + 1) rest r → ParamsTold (node ∷ nodes) known next rest r
-      whole (Err f) told = told
-      whole (Ok st) told =
+      whole : (r : Result ScopeState TypeFault) → ParamsReported nodes more (next + 1) rest r → ParamsReported (node ∷ nodes) known next rest r
+      whole (Err f) reported = reported
+      whole (Ok st) reported =
           let count : length more + length nodes ≡ length known + suc (length nodes) = omega (arith, long) in
           let same : next + 1 + length nodes ≡ next + suc (length nodes) = omega arith in (
-            told.0 ∙ (λ i. record { names = names; known = append_assoc known (Some (record { number = next; ty = node.ty }) ∷ []) (variables_from (next + 1) nodes) i; next = same i }),
-            subst (λ k. IsDistinct bytes_eq (take k names)) count told.1,
-            subst (λ k. drop k names ≡ rest) count told.2,
+            reported.0 ∙ (λ i. record { names = names; known = append_assoc known (Some (record { number = next; ty = node.ty }) ∷ []) (variables_from (next + 1) nodes) i; next = same i }),
+            subst (λ k. IsDistinct bytes_eq (take k names)) count reported.1,
+            subst (λ k. drop k names ≡ rest) count reported.2,
           )
 
-      go : others → (r : Result (Unit {0}) TypeFault) → OnceTold names (length known) (map (λ node. node.name.name) nodes ++ rest) r
-          → ParamsTold (node ∷ nodes) known next rest (r >>= λ _. checked_params nodes (defined_in node.ty (record { names = names; known = known; next = next })))
-      go later (Err f) told = told
-      go later (Ok x) told = whole (checked_params nodes (record { names = names; known = more; next = next + 1 }))
-          (later (subst (λ k. IsDistinct bytes_eq (take k names)) long told.0) (subst (λ k. drop k names ≡ map (λ node. node.name.name) nodes ++ rest) long told.1))
+      go : others → (r : Result (Unit {0}) TypeFault) → OnceReported names (length known) (map (λ node. node.name.name) nodes ++ rest) r
+          → ParamsReported (node ∷ nodes) known next rest (r >>= λ _. checked_params nodes (defined_in node.ty (record { names = names; known = known; next = next })))
+      go later (Err f) reported = reported
+      go later (Ok x) reported = whole (checked_params nodes (record { names = names; known = more; next = next + 1 }))
+          (later (subst (λ k. IsDistinct bytes_eq (take k names)) long reported.0) (subst (λ k. drop k names ≡ map (λ node. node.name.name) nodes ++ rest) long reported.1))
 
 -- ---- procedures
 
 module _ (tables : List Table) (node : ProcNode) (wide : Wide tables (variables node)) where
-  abbrev pub ProcTold : Result Proc TypeFault → Type 0
-  ProcTold (Ok proc) = IsProcOf tables node proc
-  ProcTold (Err f) = (proc : Proc) → IsProcOf tables node proc → ⊥
+  abbrev pub ProcReported : Result Proc TypeFault → Type 0
+  ProcReported (Ok proc) = IsProcOf tables node proc
+  ProcReported (Err f) = (proc : Proc) → IsProcOf tables node proc → ⊥
 
   abbrev the_proc : List Stmt → Proc
   the_proc body = record { name = node.name.name; params = map column_of node.params; body = body }
@@ -231,12 +231,12 @@ module _ (tables : List Table) (node : ProcNode) (wide : Wide tables (variables 
   all_names_differ : (k : ℕ) → IsDistinct bytes_eq (take k (variables node)) → drop k (variables node) ≡ [] → AreDistinct (variables node)
   all_names_differ k distinct none = are_distinct (variables node) (subst (IsDistinct bytes_eq) (sym (append-nil (take k (variables node))) ∙ ap (λ zs. take k (variables node) ++ zs) (sym none) ∙ take-append-drop k (variables node)) distinct)
 
-  body_proc : (r : Result (List Stmt × ScopeState) TypeFault) → BlockTold tables (variables node) (map (numbered tables (variables node)) node.body) start_of (length node.params) inner_scope [] r
-      → ProcTold (r >>= λ b. Ok (the_proc b.0))
+  body_proc : (r : Result (List Stmt × ScopeState) TypeFault) → BlockReported tables (variables node) (map (numbered tables (variables node)) node.body) start_of (length node.params) inner_scope [] r
+      → ProcReported (r >>= λ b. Ok (the_proc b.0))
   body_proc (Ok b) g = record {
     distinct = all_names_differ _ g.distinct g.left;
     named = ap (λ z. option_map the_proc z) (numbered_body ∙ g.is);
-    sound = ap (λ z. is_some z) g.sound;
+    well_formed = ap (λ z. is_some z) g.well_formed;
   }
   body_proc (Err f) bad = λ proc is. go proc is (body_of tables (variables node) node.body (numbers_from 0 node.params) (length node.params)) refl
     where
@@ -248,19 +248,19 @@ module _ (tables : List Table) (node : ProcNode) (wide : Wide tables (variables 
       go proc is None e = none_is (sym (ap (λ z. option_map the_proc z) e) ∙ is.named)
       go proc is (Some body) e =
           let same : the_proc body ≡ proc = some_is (sym (ap (λ z. option_map the_proc z) e) ∙ is.named) in
-          found proc is body e (in_order (map (check tables) body) inner_scope) refl (subst (IsSoundProc tables) (sym same) is.sound)
+          found proc is body e (in_order (map (check tables) body) inner_scope) refl (subst (IsWellFormedProc tables) (sym same) is.well_formed)
 
-  params_proc : (r : Result ScopeState TypeFault) → ParamsTold (variables node) node.params [] 0 (flat_map defined node.body) r → ProcTold (r >>= λ scope. checked_block tables node.body scope >>= λ b. Ok (the_proc b.0))
+  params_proc : (r : Result ScopeState TypeFault) → ParamsReported (variables node) node.params [] 0 (flat_map defined node.body) r → ProcReported (r >>= λ scope. checked_block tables node.body scope >>= λ b. Ok (the_proc b.0))
   params_proc (Err f) bad = λ proc is. bad is.distinct
-  params_proc (Ok st) told =
+  params_proc (Ok st) reported =
       let next : 0 + length node.params ≡ length node.params = omega arith in
       let long : 0 + length node.params ≡ length start_of = next ∙ sym (variables_long 0 node.params) in
-      subst (λ z. ProcTold (checked_block tables node.body z >>= λ b. Ok (the_proc b.0))) (sym (told.0 ∙ λ i. record { names = variables node; known = start_of; next = next i }))
-      (body_proc _ (body_told tables (variables node) wide node.body start_of (length node.params) inner_scope [] (record {
+      subst (λ z. ProcReported (checked_block tables node.body z >>= λ b. Ok (the_proc b.0))) (sym (reported.0 ∙ λ i. record { names = variables node; known = start_of; next = next i }))
+      (body_proc _ (body_reported tables (variables node) wide node.body start_of (length node.params) inner_scope [] (record {
         fit = fit_params node.params;
-        distinct = subst (λ k. IsDistinct bytes_eq (take k (variables node))) long told.1;
-        left = subst (λ k. drop k (variables node) ≡ flat_map defined node.body) long told.2 ∙ sym (joined-map node.body) ∙ sym (append-nil (in_a_row (map defined node.body)));
+        distinct = subst (λ k. IsDistinct bytes_eq (take k (variables node))) long reported.1;
+        left = subst (λ k. drop k (variables node) ≡ flat_map defined node.body) long reported.2 ∙ sym (joined-map node.body) ∙ sym (append-nil (in_a_row (map defined node.body)));
       })))
 
-  pub proc_told : ProcTold (checked_proc tables node)
-  proc_told = params_proc (checked_params node.params (opening_scope node)) (params_told (variables node) node.params [] 0 (flat_map defined node.body) distinct-nil refl)
+  pub proc_reported : ProcReported (checked_proc tables node)
+  proc_reported = params_proc (checked_params node.params (opening_scope node)) (params_reported (variables node) node.params [] 0 (flat_map defined node.body) distinct-nil refl)

@@ -7,7 +7,7 @@ use Rattle.std.proofs.lemmas.List.{length-map, append-nil}
 use Rattle.std.proofs.lemmas.List.Elements.{All-map, All-from_recursion, recursion_from_All}
 use Rattle.std.proofs.lemmas.Option.{slice_get-get_or}
 use Rattle.std.proofs.lemmas.Grind.{common_steps}
-use Rattle.pac_base.specs.Refusals.{Tells}
+use Rattle.pac_base.specs.Refusals.{Reports}
 use Rattle.pac_value.specs.Expressions.{◌>>=◌}
 use Rattle.pac_syntax.specs.declared.tree.ColumnNode.{ColumnNode}
 use Rattle.pac_syntax.specs.declared.tree.TableNode.{TableNode}
@@ -20,12 +20,12 @@ use Rattle.pac_types.specs.declared.table.Column.{Column}
 use Rattle.pac_types.specs.declared.table.Table.{Table}
 use Rattle.pac_types.specs.declared.procedure.Proc.{Proc}
 use Rattle.pac_types.specs.declared.statement.Stmt.{Stmt}
-use Rattle.pac_types.specs.Sound.{column_types, column_types_of}
+use Rattle.pac_types.specs.WellFormed.{column_types, column_types_of}
 use Rattle.pac_value.specs.Scopes.{is_width}
 use Rattle.pac_types.specs.Meaning.{operations}
 use Rattle.pac_types.specs.Variables.{defined_variables}
 use Rattle.pac_types.specs.Numbering.{AreDistinct, variables, body_of, numbers_from, column_of, table_of, column_names, table_names}
-use Rattle.pac_types.specs.Typing.{IsProcOf, HasDistinctColumns, Types, CatalogueState, IsCatalogue, IsSoundTable, IsProc, IsTyped}
+use Rattle.pac_types.specs.Typing.{IsProcOf, HasDistinctColumns, Types, CatalogueState, IsCatalogue, IsWellFormedTable, IsProc, IsTyped}
 use Rattle.pac_base.specs.declared.refusal.Refusal.{Refusal}
 use Rattle.pac_base.specs.declared.refusal.Refusal.TheVariants as error
 use Rattle.pac_types.specs.Checking.{once, all_once, names_of, checked_tables, checked_proc, checked_procs}
@@ -34,7 +34,7 @@ use Rattle.pac_types.proofs.CountLemmas.{body_size}
 use Rattle.pac_types.proofs.NumberLemmas.{body_numbers}
 use Rattle.pac_types.proofs.ExprLemmas.{some_is, none_is}
 use Rattle.pac_types.proofs.StmtLemmas.{Wide}
-use Rattle.pac_types.proofs.TreeLemmas.{OnceTold, once_told, ProcTold, proc_told}
+use Rattle.pac_types.proofs.TreeLemmas.{OnceReported, once_reported, ProcReported, proc_reported}
 
 columns-named : (nodes : List ColumnNode) → map (λ node. node.name.name) nodes ≡ column_names (map column_of nodes)
 columns-named [] = refl
@@ -50,7 +50,7 @@ pub columns-of : (nodes : List TableNode) → map (λ node. map (λ column. colu
 columns-of [] = refl
 columns-of (n ∷ ns) = ap (λ names. names ∷ map (λ node. map (λ column. column.name.name) node.columns) ns) (columns-named n.columns) ∙ ap (λ names. column_names (map column_of n.columns) ∷ names) (columns-of ns)
 
--- ---- lists place by place
+-- ---- lists item by item
 
 -- partners that each item has but one of
 zip-same : {A B : Type 0} (R : A → B → Type 0) → ((x : A) (y z : B) → R x y → R x z → y ≡ z) → (xs : List A) (ys zs : List B) → AllZip R xs ys → AllZip R xs zs → ys ≡ zs
@@ -77,16 +77,16 @@ one_catalogue tree c d a b =
 stored-columns : (nodes : List ColumnNode) → All HasStoredType nodes → All (λ column. IsTrue (is_stored_type column.ty)) (map column_of nodes)
 stored-columns nodes all = All-map (λ column. IsTrue (is_stored_type column.ty)) column_of nodes all
 
-sound_table : (node : TableNode) → IsTableWithinLimits node → IsSoundTable (table_of node)
-sound_table node limits = record {
+well_formed_table : (node : TableNode) → IsTableWithinLimits node → IsWellFormedTable (table_of node)
+well_formed_table node limits = record {
   some = subst (λ n. 1 ≤ n) (sym (length-map node.columns column_of)) limits.some;
   few = subst (λ n. n ≤ 8) (sym (length-map node.columns column_of)) limits.few;
   key = limits.key;
   columns = stored-columns node.columns limits.columns;
 }
 
-pub tables_sound : (catalogue : CatalogueState) → IsCatalogue catalogue → All IsSoundTable catalogue.tables
-tables_sound catalogue is = subst (All IsSoundTable) (sym is.2.tables) (All-map IsSoundTable table_of is.0.tables (λ k d within. sound_table (get_or is.0.tables k d) ((tree-within is.0 is.1).tables k d within)))
+pub tables_well_formed : (catalogue : CatalogueState) → IsCatalogue catalogue → All IsWellFormedTable catalogue.tables
+tables_well_formed catalogue is = subst (All IsWellFormedTable) (sym is.2.tables) (All-map IsWellFormedTable table_of is.0.tables (λ k d within. well_formed_table (get_or is.0.tables k d) ((tree-within is.0 is.1).tables k d within)))
 
 zip-long : {A B : Type 0} (R : A → B → Type 0) (xs : List A) (ys : List B) → AllZip R xs ys → length ys ≡ length xs
 zip-long R [] [] all = refl
@@ -118,7 +118,7 @@ a_proc tables node proc limits is =
     record {
       few = subst (λ n. n ≤ 16) (sym (ap length params ∙ length-map node.params column_of)) limits.few;
       params = subst (All (λ column. IsTrue (is_stored_type column.ty))) (sym params) (stored-columns node.params limits.params);
-      sound = is.sound;
+      well_formed = is.well_formed;
       counted = omega (arith, limits.short, counted);
       numbered = subst (λ (ss : List Stmt). defined_variables ss ≡ range_with_len (length proc.params) (length (defined_variables ss))) body
           (subst (λ n. defined_variables b.0 ≡ range_with_len n (length (defined_variables b.0))) many
@@ -135,8 +135,8 @@ procs-named tables [] (p ∷ ps) all = absurd all
 procs-named tables (n ∷ ns) [] all = absurd all
 procs-named tables (n ∷ ns) (p ∷ ps) all = ap (λ names. n.name.name ∷ names) (procs-named tables ns ps all.1) ∙ ap (λ name. name ∷ map (λ proc. proc.name) ps) (sym (name_of tables n p all.0))
 
-pub procs_sound : (catalogue : CatalogueState) → IsCatalogue catalogue → All (IsProc catalogue.tables) catalogue.procs
-procs_sound catalogue is = All-from_recursion (IsProc catalogue.tables) catalogue.procs
+pub procs_well_formed : (catalogue : CatalogueState) → IsCatalogue catalogue → All (IsProc catalogue.tables) catalogue.procs
+procs_well_formed catalogue is = All-from_recursion (IsProc catalogue.tables) catalogue.procs
     (zip-all (IsProcOf catalogue.tables) IsProcWithinLimits (IsProc catalogue.tables) (a_proc catalogue.tables) is.0.procs catalogue.procs is.2.procs (recursion_from_All IsProcWithinLimits is.0.procs (tree-within is.0 is.1).procs))
 
 pub tables_few : (catalogue : CatalogueState) → IsCatalogue catalogue → length catalogue.tables ≤ 64
@@ -145,91 +145,91 @@ tables_few catalogue is = subst (λ n. n ≤ 64) (sym (ap length is.2.tables ∙
 pub procs_few : (catalogue : CatalogueState) → IsCatalogue catalogue → length catalogue.procs ≤ 64
 procs_few catalogue is = subst (λ n. n ≤ 64) (sym (zip-long (IsProcOf catalogue.tables) is.0.procs catalogue.procs is.2.procs)) (tree-within is.0 is.1).few_procs
 
--- ---- what checking tables and procedures tells
+-- ---- what checking tables and procedures says
 
-abbrev AllTold : List (List ℕ) → Result (Unit {0}) TypeFault → Type 0
-AllTold names (Ok x) = AreDistinct names
-AllTold names (Err f) = AreDistinct names → ⊥
+abbrev AllReported : List (List ℕ) → Result (Unit {0}) TypeFault → Type 0
+AllReported names (Ok x) = AreDistinct names
+AllReported names (Err f) = AreDistinct names → ⊥
 
 all_differ : (names : List (List ℕ)) (k : ℕ) → IsDistinct bytes_eq (take k names) → drop k names ≡ [] → AreDistinct names
 all_differ names k distinct none = are_distinct names (subst (IsDistinct bytes_eq) (sym (append-nil (take k names)) ∙ ap (λ zs. take k names ++ zs) (sym none) ∙ take-append-drop k names) distinct)
 
-columns_told : (names : List (List ℕ)) (nodes : List ColumnNode) (place : ℕ) → IsDistinct bytes_eq (take place names) → drop place names ≡ names_of nodes → AllTold names (all_once names place nodes)
-columns_told names [] place distinct left = all_differ names place distinct left
-columns_told names (node ∷ nodes) place distinct left = go (λ d l. columns_told names nodes (place + 1) d l) (once names place node.name) (once_told names place node.name (names_of nodes) distinct left)
+columns_reported : (names : List (List ℕ)) (nodes : List ColumnNode) (offset : ℕ) → IsDistinct bytes_eq (take offset names) → drop offset names ≡ names_of nodes → AllReported names (all_once names offset nodes)
+columns_reported names [] offset distinct left = all_differ names offset distinct left
+columns_reported names (node ∷ nodes) offset distinct left = go (λ d l. columns_reported names nodes (offset + 1) d l) (once names offset node.name) (once_reported names offset node.name (names_of nodes) distinct left)
   where
-    go : (IsDistinct bytes_eq (take (place + 1) names) → drop (place + 1) names ≡ names_of nodes → AllTold names (all_once names (place + 1) nodes)) → (r : Result (Unit {0}) TypeFault) → OnceTold names place (names_of nodes) r
-        → AllTold names (r >>= λ _. all_once names (place + 1) nodes)
-    go later (Err f) told = told
-    go later (Ok x) told = later told.0 told.1
+    go : (IsDistinct bytes_eq (take (offset + 1) names) → drop (offset + 1) names ≡ names_of nodes → AllReported names (all_once names (offset + 1) nodes)) → (r : Result (Unit {0}) TypeFault) → OnceReported names offset (names_of nodes) r
+        → AllReported names (r >>= λ _. all_once names (offset + 1) nodes)
+    go later (Err f) reported = reported
+    go later (Ok x) reported = later reported.0 reported.1
 
 abbrev node_names : List TableNode → List (List ℕ)
 node_names nodes = map (λ node. node.name.name) nodes
 
-abbrev TablesTold : List (List ℕ) → List TableNode → Result (Unit {0}) TypeFault → Type 0
-TablesTold names nodes (Ok x) = AreDistinct names × AllByRecursion HasDistinctColumns nodes
-TablesTold names nodes (Err f) = AreDistinct names → AllByRecursion HasDistinctColumns nodes → ⊥
+abbrev TablesReported : List (List ℕ) → List TableNode → Result (Unit {0}) TypeFault → Type 0
+TablesReported names nodes (Ok x) = AreDistinct names × AllByRecursion HasDistinctColumns nodes
+TablesReported names nodes (Err f) = AreDistinct names → AllByRecursion HasDistinctColumns nodes → ⊥
 
-tables_told : (names : List (List ℕ)) (nodes : List TableNode) (place : ℕ) → IsDistinct bytes_eq (take place names) → drop place names ≡ node_names nodes → TablesTold names nodes (checked_tables names place nodes)
-tables_told names [] place distinct left = (all_differ names place distinct left, tt)
-tables_told names (node ∷ nodes) place distinct left = go (λ d l. tables_told names nodes (place + 1) d l) (once names place node.name) (once_told names place node.name (node_names nodes) distinct left)
+tables_reported : (names : List (List ℕ)) (nodes : List TableNode) (offset : ℕ) → IsDistinct bytes_eq (take offset names) → drop offset names ≡ node_names nodes → TablesReported names nodes (checked_tables names offset nodes)
+tables_reported names [] offset distinct left = (all_differ names offset distinct left, tt)
+tables_reported names (node ∷ nodes) offset distinct left = go (λ d l. tables_reported names nodes (offset + 1) d l) (once names offset node.name) (once_reported names offset node.name (node_names nodes) distinct left)
   where
-    later_told : (r : Result (Unit {0}) TypeFault) → HasDistinctColumns node → TablesTold names nodes r → TablesTold names (node ∷ nodes) r
-    later_told (Ok x) columns told = (told.0, (columns, told.1))
-    later_told (Err f) columns told = λ all each. told all each.1
+    later_reported : (r : Result (Unit {0}) TypeFault) → HasDistinctColumns node → TablesReported names nodes r → TablesReported names (node ∷ nodes) r
+    later_reported (Ok x) columns reported = (reported.0, (columns, reported.1))
+    later_reported (Err f) columns reported = λ all each. reported all each.1
 
-    with_columns : (r : Result (Unit {0}) TypeFault) → AllTold (names_of node.columns) r → TablesTold names nodes (checked_tables names (place + 1) nodes) → TablesTold names (node ∷ nodes) (r >>= λ _. checked_tables names (place + 1) nodes)
-    with_columns (Err f) told later = λ all each. told each.0
-    with_columns (Ok x) told later = later_told (checked_tables names (place + 1) nodes) told later
+    with_columns : (r : Result (Unit {0}) TypeFault) → AllReported (names_of node.columns) r → TablesReported names nodes (checked_tables names (offset + 1) nodes) → TablesReported names (node ∷ nodes) (r >>= λ _. checked_tables names (offset + 1) nodes)
+    with_columns (Err f) reported later = λ all each. reported each.0
+    with_columns (Ok x) reported later = later_reported (checked_tables names (offset + 1) nodes) reported later
 
-    go : (IsDistinct bytes_eq (take (place + 1) names) → drop (place + 1) names ≡ node_names nodes → TablesTold names nodes (checked_tables names (place + 1) nodes)) → (r : Result (Unit {0}) TypeFault) → OnceTold names place (node_names nodes) r
-        → TablesTold names (node ∷ nodes) ((r >>= λ _. all_once (names_of node.columns) 0 node.columns) >>= λ _. checked_tables names (place + 1) nodes)
-    go later (Err f) told = λ all each. told all
-    go later (Ok x) told = with_columns (all_once (names_of node.columns) 0 node.columns) (columns_told (names_of node.columns) node.columns 0 distinct-nil refl) (later told.0 told.1)
+    go : (IsDistinct bytes_eq (take (offset + 1) names) → drop (offset + 1) names ≡ node_names nodes → TablesReported names nodes (checked_tables names (offset + 1) nodes)) → (r : Result (Unit {0}) TypeFault) → OnceReported names offset (node_names nodes) r
+        → TablesReported names (node ∷ nodes) ((r >>= λ _. all_once (names_of node.columns) 0 node.columns) >>= λ _. checked_tables names (offset + 1) nodes)
+    go later (Err f) reported = λ all each. reported all
+    go later (Ok x) reported = with_columns (all_once (names_of node.columns) 0 node.columns) (columns_reported (names_of node.columns) node.columns 0 distinct-nil refl) (later reported.0 reported.1)
 
 module _ (tables : List Table) (wide : (names : List (List ℕ)) → Wide tables names) (names : List (List ℕ)) where
   abbrev proc_names : List ProcNode → List (List ℕ)
   proc_names nodes = map (λ node. node.name.name) nodes
 
-  abbrev ProcsTold : List ProcNode → Result (List Proc) TypeFault → Type 0
-  ProcsTold nodes (Ok procs) = AreDistinct names × AllZip (IsProcOf tables) nodes procs
-  ProcsTold nodes (Err f) = (procs : List Proc) → AreDistinct names → AllZip (IsProcOf tables) nodes procs → ⊥
+  abbrev ProcsReported : List ProcNode → Result (List Proc) TypeFault → Type 0
+  ProcsReported nodes (Ok procs) = AreDistinct names × AllZip (IsProcOf tables) nodes procs
+  ProcsReported nodes (Err f) = (procs : List Proc) → AreDistinct names → AllZip (IsProcOf tables) nodes procs → ⊥
 
-  pub procs_told : (nodes : List ProcNode) (place : ℕ) → IsDistinct bytes_eq (take place names) → drop place names ≡ proc_names nodes → ProcsTold nodes (checked_procs tables names place nodes)
-  procs_told [] place distinct left = (all_differ names place distinct left, tt)
-  procs_told (node ∷ nodes) place distinct left = go (λ d l. procs_told nodes (place + 1) d l) (once names place node.name) (once_told names place node.name (proc_names nodes) distinct left)
+  pub procs_reported : (nodes : List ProcNode) (offset : ℕ) → IsDistinct bytes_eq (take offset names) → drop offset names ≡ proc_names nodes → ProcsReported nodes (checked_procs tables names offset nodes)
+  procs_reported [] offset distinct left = (all_differ names offset distinct left, tt)
+  procs_reported (node ∷ nodes) offset distinct left = go (λ d l. procs_reported nodes (offset + 1) d l) (once names offset node.name) (once_reported names offset node.name (proc_names nodes) distinct left)
     where
-      others : (p : Proc) → IsProcOf tables node p → (r : Result (List Proc) TypeFault) → ProcsTold nodes r → ProcsTold (node ∷ nodes) (r >>= λ ps. Ok (p ∷ ps))
-      others p is (Ok ps) told = (told.0, (is, told.1))
-      others p is (Err f) told = none_left
+      others : (p : Proc) → IsProcOf tables node p → (r : Result (List Proc) TypeFault) → ProcsReported nodes r → ProcsReported (node ∷ nodes) (r >>= λ ps. Ok (p ∷ ps))
+      others p is (Ok ps) reported = (reported.0, (is, reported.1))
+      others p is (Err f) reported = none_left
         where
           none_left : (procs : List Proc) → AreDistinct names → AllZip (IsProcOf tables) (node ∷ nodes) procs → ⊥
           none_left [] all zip = zip
-          none_left (q ∷ qs) all zip = told qs all zip.1
+          none_left (q ∷ qs) all zip = reported qs all zip.1
 
-      with_proc : (r : Result Proc TypeFault) → ProcTold tables node (wide (variables node)) r → ProcsTold nodes (checked_procs tables names (place + 1) nodes)
-          → ProcsTold (node ∷ nodes) (r >>= λ p. checked_procs tables names (place + 1) nodes >>= λ ps. Ok (p ∷ ps))
-      with_proc (Err f) told later = none_here
+      with_proc : (r : Result Proc TypeFault) → ProcReported tables node (wide (variables node)) r → ProcsReported nodes (checked_procs tables names (offset + 1) nodes)
+          → ProcsReported (node ∷ nodes) (r >>= λ p. checked_procs tables names (offset + 1) nodes >>= λ ps. Ok (p ∷ ps))
+      with_proc (Err f) reported later = none_here
         where
           none_here : (procs : List Proc) → AreDistinct names → AllZip (IsProcOf tables) (node ∷ nodes) procs → ⊥
           none_here [] all zip = zip
-          none_here (q ∷ qs) all zip = told q zip.0
-      with_proc (Ok p) told later = others p told (checked_procs tables names (place + 1) nodes) later
+          none_here (q ∷ qs) all zip = reported q zip.0
+      with_proc (Ok p) reported later = others p reported (checked_procs tables names (offset + 1) nodes) later
 
-      go : (IsDistinct bytes_eq (take (place + 1) names) → drop (place + 1) names ≡ proc_names nodes → ProcsTold nodes (checked_procs tables names (place + 1) nodes)) → (r : Result (Unit {0}) TypeFault) → OnceTold names place (proc_names nodes) r
-          → ProcsTold (node ∷ nodes) (r >>= λ _. checked_proc tables node >>= λ p. checked_procs tables names (place + 1) nodes >>= λ ps. Ok (p ∷ ps))
-      go later (Err f) told = λ procs all zip. told all
-      go later (Ok x) told = with_proc (checked_proc tables node) (proc_told tables node (wide (variables node))) (later told.0 told.1)
+      go : (IsDistinct bytes_eq (take (offset + 1) names) → drop (offset + 1) names ≡ proc_names nodes → ProcsReported nodes (checked_procs tables names (offset + 1) nodes)) → (r : Result (Unit {0}) TypeFault) → OnceReported names offset (proc_names nodes) r
+          → ProcsReported (node ∷ nodes) (r >>= λ _. checked_proc tables node >>= λ p. checked_procs tables names (offset + 1) nodes >>= λ ps. Ok (p ∷ ps))
+      go later (Err f) reported = λ procs all zip. reported all
+      go later (Ok x) reported = with_proc (checked_proc tables node) (proc_reported tables node (wide (variables node))) (later reported.0 reported.1)
 
 -- ---- trees
 
 wide_is : (n : ℕ) → 1 ≤ n → n ≤ 8 → is_width n ≡ true
 wide_is n low high = grind (arith, common_steps)
 
-wide_at : (tables : List Table) (first : Table) (t : ℕ) → All IsSoundTable tables → t < length tables → is_width (length (column_types tables t)) ≡ true
-wide_at tables first t sound within =
+wide_at : (tables : List Table) (first : Table) (t : ℕ) → All IsWellFormedTable tables → t < length tables → is_width (length (column_types tables t)) ≡ true
+wide_at tables first t well_formed within =
     let table = get_or tables t first in
-    let here = sound t first within in
+    let here = well_formed t first within in
     ap (λ (o : Option Table). is_width (length (column_types_of o))) (slice_get-get_or tables t first within)
     ∙ ap is_width (length-map table.columns (λ (column : Column). column.ty)) ∙ wide_is (length table.columns) here.some here.few
 
@@ -238,7 +238,7 @@ tables_wide nodes limits names name t found = go nodes limits (omega (arith, sub
   where
     go : (nodes : List TableNode) → All IsTableWithinLimits nodes → t < length (map table_of nodes) → is_width (length (column_types (map table_of nodes) t)) ≡ true
     go [] limits within = let never : ⊥ = omega (arith, within) in absurd never
-    go (n ∷ ns) limits within = wide_at (map table_of (n ∷ ns)) (table_of n) t (All-map IsSoundTable table_of (n ∷ ns) (λ k d within. sound_table (get_or (n ∷ ns) k d) (limits k d within))) within
+    go (n ∷ ns) limits within = wide_at (map table_of (n ∷ ns)) (table_of n) t (All-map IsWellFormedTable table_of (n ∷ ns) (λ k d within. well_formed_table (get_or (n ∷ ns) k d) (limits k d within))) within
 
 module _ (tree : Tree) (limits : IsWithinLimits tree) where
   abbrev of_tables : List (List ℕ)
@@ -247,8 +247,8 @@ module _ (tree : Tree) (limits : IsWithinLimits tree) where
   abbrev of_procs : List (List ℕ)
   of_procs = map (λ node. node.name.name) tree.procs
 
-  tables_of_tree : (r : Result (Unit {0}) TypeFault) → checked_tables of_tables 0 tree.tables ≡ r → TablesTold of_tables tree.tables r
-  tables_of_tree r e = subst (TablesTold of_tables tree.tables) e (tables_told of_tables tree.tables 0 distinct-nil refl)
+  tables_of_tree : (r : Result (Unit {0}) TypeFault) → checked_tables of_tables 0 tree.tables ≡ r → TablesReported of_tables tree.tables r
+  tables_of_tree r e = subst (TablesReported of_tables tree.tables) e (tables_reported of_tables tree.tables 0 distinct-nil refl)
 
   wide_tables : (tables : List Table) → tables ≡ map table_of tree.tables → (names : List (List ℕ)) → Wide tables names
   wide_tables tables is names = subst (λ (ts : List Table). Wide ts names) (sym is) (tables_wide tree.tables limits.tables names)
@@ -257,7 +257,7 @@ module _ (tree : Tree) (limits : IsWithinLimits tree) where
   pub tree_typed : (tables : List Table) (procs : List Proc) → tables ≡ map table_of tree.tables → checked_tables of_tables 0 tree.tables ≡ Ok tt → checked_procs tables of_procs 0 tree.procs ≡ Ok procs → Types tree (record { tables = tables; procs = procs })
   tree_typed tables procs is names found =
       let t = tables_of_tree (Ok tt) names in
-      let p = subst (ProcsTold tables (wide_tables tables is) of_procs tree.procs) found (procs_told tables (wide_tables tables is) of_procs tree.procs 0 distinct-nil refl) in
+      let p = subst (ProcsReported tables (wide_tables tables is) of_procs tree.procs) found (procs_reported tables (wide_tables tables is) of_procs tree.procs 0 distinct-nil refl) in
       record { table_names = t.0; proc_names = p.0; column_names = All-from_recursion HasDistinctColumns tree.tables t.1; tables = is; procs = p.1 }
 
   -- one with a fault has none
@@ -266,7 +266,7 @@ module _ (tree : Tree) (limits : IsWithinLimits tree) where
 
   pub procs_untyped : (tables : List Table) → tables ≡ map table_of tree.tables → (f : TypeFault) → checked_procs tables of_procs 0 tree.procs ≡ Err f → IsTyped tree → ⊥
   procs_untyped tables is f e typed =
-      subst (ProcsTold tables (wide_tables tables is) of_procs tree.procs) e (procs_told tables (wide_tables tables is) of_procs tree.procs 0 distinct-nil refl)
+      subst (ProcsReported tables (wide_tables tables is) of_procs tree.procs) e (procs_reported tables (wide_tables tables is) of_procs tree.procs 0 distinct-nil refl)
       typed.0.procs typed.1.proc_names (subst (λ (ts : List Table). AllZip (IsProcOf ts) tree.procs typed.0.procs) (typed.1.tables ∙ sym is) typed.1.procs)
 
 -- ---- what a `?` hands on
@@ -275,5 +275,5 @@ same_error : {A E : Type 0} {x y : E} → ◌≡◌ {A = Result A E} (Err x) (Er
 same_error h = cc
 
 -- where the result is a fault, so is what the callee returned
-pub fault_told : {X Y A : Type 0} (view : X → Y) (told : Result Y TypeFault) (r : Result A (Refusal TypeFault)) (x y : Refusal TypeFault) (f : TypeFault) → r ≡ Err x → x ≡ y → r ≡ Err (error.Fault f) → Tells view (Err y) told → told ≡ Err f
-fault_told view told r x y f is same h gives = subst (λ e. Tells view (Err e) told) (sym same ∙ same_error (sym is ∙ h)) gives
+pub fault_reported : {X Y A : Type 0} (view : X → Y) (reported : Result Y TypeFault) (r : Result A (Refusal TypeFault)) (x y : Refusal TypeFault) (f : TypeFault) → r ≡ Err x → x ≡ y → r ≡ Err (error.Fault f) → Reports view (Err y) reported → reported ≡ Err f
+fault_reported view reported r x y f is same h gives = subst (λ e. Reports view (Err e) reported) (sym same ∙ same_error (sym is ∙ h)) gives

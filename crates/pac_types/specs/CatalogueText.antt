@@ -28,9 +28,9 @@ IsCatalogueFault text (Syntax fault) = IsTextFault text fault
 IsCatalogueFault text (Typing fault) = IsTypingFault text fault
 
 -- where the fault stands in the text
-abbrev pub fault_place : CatalogueFault → ℕ
-fault_place (Syntax fault) = fault.at
-fault_place (Typing fault) = fault.at
+abbrev pub fault_offset : CatalogueFault → ℕ
+fault_offset (Syntax fault) = fault.at
+fault_offset (Typing fault) = fault.at
 
 -- its kind as it is printed
 abbrev pub fault_kind : CatalogueFault → List ℕ

@@ -33,7 +33,7 @@ use Rattle.pac_types.specs.declared.checker.statements.Cell.{Cell}
 use Rattle.pac_types.specs.declared.checker.statements.Field.{Field}
 use Rattle.pac_types.specs.Numbering.{number_of, variables, table_number, column_number, column_of}
 use Rattle.pac_types.specs.Faults.{is_before, same_ty, is_left}
-use Rattle.pac_types.specs.Sound.{key_type, column_type, column_types}
+use Rattle.pac_types.specs.WellFormed.{key_type, column_type, column_types}
 use Rattle.pac_value.specs.Scopes.{is_wanted}
 
 abbrev pub refuse : {A : Type 0} → ℕ → TypeFaultKind → Result A TypeFault
@@ -83,7 +83,7 @@ abbrev pub taken : ℕ → Bool → Result (Unit {0}) TypeFault
 taken at true = Ok tt
 taken at false = refuse at WrongType
 
--- an operator takes a right operand of this type behind a left one of that
+-- an operator takes a right operand of this type after a left one of that
 abbrev pub is_right : BinOp → Ty → Ty → Bool
 is_right Add left right = same_ty right IntTy
 is_right Sub left right = same_ty right IntTy
@@ -161,25 +161,25 @@ checked_put tables scope table key values =
     known_at table.at (table_number tables table.name) >>= λ t. same_count table.at (length values) (length (column_types tables t)) >>= λ _.
     checked_wanted scope key (key_type tables t) >>= λ k. checked_values scope values (column_types tables t) >>= λ es. Ok (Put t k es)
 
-abbrev pub Told : Type 0
-Told = Result (Stmt × ScopeState) TypeFault
+abbrev pub Reported : Type 0
+Reported = Result (Stmt × ScopeState) TypeFault
 
-abbrev pub checked_read : List Table → ScopeState → Fields → LiteralNode → Told
+abbrev pub checked_read : List Table → ScopeState → Fields → LiteralNode → Reported
 checked_read tables scope field default =
     taken default.at (is_wanted (Some (type_of default.value)) (column_type tables field.0 field.2)) >>= λ _. Ok (Read scope.next field.0 field.1 field.2 default.value, defined_in (type_of default.value) scope)
 
-abbrev pub run_all : List (ScopeState → Told) → ScopeState → Result (List Stmt × ScopeState) TypeFault
+abbrev pub run_all : List (ScopeState → Reported) → ScopeState → Result (List Stmt × ScopeState) TypeFault
 run_all [] scope = Ok ([], scope)
 run_all (s ∷ ss) scope = s scope >>= λ a. run_all ss a.1 >>= λ b. Ok (a.0 ∷ b.0, b.1)
 
--- the statements of a block; none of its variables is visible behind it
-abbrev pub block : List (ScopeState → Told) → ScopeState → Result (List Stmt × ScopeState) TypeFault
+-- the statements of a block; none of its variables is visible after it
+abbrev pub block : List (ScopeState → Reported) → ScopeState → Result (List Stmt × ScopeState) TypeFault
 block ss scope = run_all ss scope >>= λ b. Ok (b.0, left_at (length scope.known) b.1)
 
 abbrev pub first_time : ScopeState → NameNode → Result (Unit {0}) TypeFault
 first_time scope name = once scope.names (length scope.known) name
 
-abbrev pub checked_stmt_step : List Table → StmtNode-F (ScopeState → Told) → ScopeState → Told
+abbrev pub checked_stmt_step : List Table → StmtNode-F (ScopeState → Reported) → ScopeState → Reported
 checked_stmt_step tables (form.Let name value) scope = first_time scope name >>= λ _. checked_expr scope value >>= λ v. Ok (Let scope.next v.expr, defined_in v.ty scope)
 checked_stmt_step tables (form.Read name table key column default) scope = first_time scope name >>= λ _. checked_field tables scope table key column >>= λ f. checked_read tables scope f default
 checked_stmt_step tables (form.Has name table key) scope = first_time scope name >>= λ _. checked_cell tables scope table key >>= λ c. Ok (Has scope.next c.0 c.1, defined_in BoolTy scope)
@@ -189,8 +189,8 @@ checked_stmt_step tables (form.Delete table key) scope = checked_cell tables sco
 checked_stmt_step tables (form.AbortIf test) scope = checked_test scope test >>= λ e. Ok (AbortIf e, scope)
 checked_stmt_step tables (form.If test first second) scope = checked_test scope test >>= λ e. block first (hidden_in scope) >>= λ a. block second a.1 >>= λ b. Ok (If scope.next e a.0 b.0, b.1)
 
-abbrev pub checked_stmt : List Table → StmtNode → ScopeState → Told
-checked_stmt tables = fold-StmtNode (ScopeState → Told) (checked_stmt_step tables)
+abbrev pub checked_stmt : List Table → StmtNode → ScopeState → Reported
+checked_stmt tables = fold-StmtNode (ScopeState → Reported) (checked_stmt_step tables)
 
 abbrev pub checked_run : List Table → List StmtNode → ScopeState → Result (List Stmt × ScopeState) TypeFault
 checked_run tables nodes = run_all (map (checked_stmt tables) nodes)

@@ -36,7 +36,7 @@ serial procs first (txn ∷ txns) tables = in_txn first (txn_meaning procs txn t
 abbrev pub if_over : ℕ → ℕ → ℕ → Option (ℕ × ℕ)
 if_over limit table rows = if nat_lt limit rows then Some (table, rows) else None
 
--- the first of so many tables that has more rows than the limit, and how many; None where there is none
+-- the first of that many tables that has more rows than the limit, and how many; None where there is none
 abbrev pub first_over : ℕ → ℕ → Tables → Option (ℕ × ℕ)
 first_over limit zero rows = None
 first_over limit (suc table) rows = option_or (first_over limit table rows) (if_over limit table (length (keys_of rows table)))

@@ -1,4 +1,4 @@
--- The faults that stand in a tree, each at its place. They are lists only as sets are: their order means nothing.
+-- The faults that stand in a tree, each at its offset. They are lists only as sets are: their order means nothing.
 use Rattle.std.specs.Prelude.{◌≡◌, ◌≤◌, ◌⊎◌, ℕ, ◌+◌, Bool, true, false, nat_lt, nat_eq, not, if◌then◌else◌, List, [], ◌∷◌, ◌++◌, length, replicate, map, slice_get, Option, Some, None}
 use Rattle.std.specs.Option.{option_and_then}
 use Rattle.pac_value.specs.declared.values.Ty.{Ty}
@@ -25,7 +25,7 @@ use Rattle.pac_types.specs.declared.type_error.TypeFault.{TypeFault}
 use Rattle.pac_types.specs.declared.type_error.TypeFaultKind.{TypeFaultKind}
 use Rattle.pac_types.specs.declared.type_error.TypeFaultKind.TheVariants.{UnknownName, Twice, WrongType, WrongCount, OutOfScope}
 use Rattle.pac_types.specs.Numbering.{number_of, variables, table_number, column_number, table_of}
-use Rattle.pac_types.specs.Sound.{key_type, column_type, column_types}
+use Rattle.pac_types.specs.WellFormed.{key_type, column_type, column_types}
 use Rattle.pac_value.specs.Scopes.{is_wanted}
 
 abbrev pub fault : ℕ → TypeFaultKind → List TypeFault
@@ -126,7 +126,7 @@ abbrev pub wrong_type : (Ty → Bool) → ℕ → Option Ty → List TypeFault
 wrong_type takes at None = []
 wrong_type takes at (Some ty) = fault_if (not (takes ty)) at WrongType
 
--- an expression at a place that takes some types
+-- an expression at a position that takes some types
 abbrev pub placed : (Ty → Bool) → Judged → List TypeFault
 placed takes e = wrong_type takes e.at e.ty ++ e.faults
 
@@ -185,7 +185,7 @@ values_faults judge [] tys = []
 values_faults judge (e ∷ es) [] = (judge e).faults ++ values_faults judge es []
 values_faults judge (e ∷ es) (ty ∷ tys) = placed (is_fitting (Some ty)) (judge e) ++ values_faults judge es tys
 
--- a statement to the rules: how many names it defines, what is known of these behind it, and the faults that stand in it
+-- a statement to the rules: how many names it defines, what is known of these after it, and the faults that stand in it
 pub record Ruled : Type 0 where
   pub names : ℕ
   pub shown : Known → Known
@@ -195,7 +195,7 @@ abbrev pub ruled_names : List Ruled → ℕ
 ruled_names [] = 0
 ruled_names (s ∷ ss) = s.names + ruled_names ss
 
--- a variable is visible behind its statement
+-- a variable is visible after its statement
 abbrev pub all_faults : List Ruled → Known → List TypeFault
 all_faults [] known = []
 all_faults (s ∷ ss) known = s.faults known ++ all_faults ss (known ++ s.shown known)
@@ -206,7 +206,7 @@ ruled_naming ty faults = record { names = 1; shown = λ known. Some (ty known) �
 abbrev pub ruled_plain : (Known → List TypeFault) → Ruled
 ruled_plain faults = record { names = 0; shown = λ known. []; faults = faults }
 
--- what a block defines is not visible behind it
+-- what a block defines is not visible after it
 abbrev pub ruled_branching : (Known → List TypeFault) → List Ruled → List Ruled → Ruled
 ruled_branching test first second = record {
   names = ruled_names first + ruled_names second;
@@ -274,7 +274,7 @@ IsAmong (f ∷ fs) fault = (f ≡ fault) ⊎ IsAmong fs fault
 abbrev pub Stands : Tree → TypeFault → Type 0
 Stands tree fault = IsAmong (tree_faults tree) fault
 
--- the tree's first fault: it stands in the tree, none that does has a lesser place, and no other has the same place
+-- the tree's first fault: it stands in the tree, none that does has a lesser offset, and no other has the same offset
 pub record IsFirstTypeFault (tree : Tree) (fault : TypeFault) : Type 0 where
   pub stands : Stands tree fault
   pub least : (other : TypeFault) → Stands tree other → fault.at ≤ other.at

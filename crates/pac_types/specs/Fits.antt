@@ -11,7 +11,7 @@ use Rattle.pac_ops.specs.Shapes.{RowsFit, RecordsFit}
 use Rattle.pac_types.specs.declared.table.Column.{Column}
 use Rattle.pac_types.specs.declared.table.Table.{Table}
 use Rattle.pac_types.specs.declared.procedure.Proc.{Proc}
-use Rattle.pac_types.specs.Sound.{types}
+use Rattle.pac_types.specs.WellFormed.{types}
 use Rattle.pac_types.specs.Typing.{CatalogueState}
 
 -- the types of a table's key and columns

@@ -1,5 +1,5 @@
 pub mod Kinds
-pub mod Sound
+pub mod WellFormed
 pub mod Meaning
 pub mod Execution
 pub mod Numbering

@@ -99,7 +99,7 @@ resolved_all names sight (e ∷ es) = option_and_then (λ a. option_map (λ as_.
 -- ---- statements
 
 -- what a statement is to numbering: how many names and how many variables it defines, the hidden one of a conditional
--- among these; which of its names are visible behind it, with their numbers, where its first variable has a given one;
+-- among these; which of its names are visible after it, with their numbers, where its first variable has a given one;
 -- and the statement by numbers, None where a name is none of those that are visible
 pub record Numbered : Type 0 where
   pub names : ℕ
@@ -122,7 +122,7 @@ abbrev pub variables_in : List Numbered → ℕ
 variables_in [] = 0
 variables_in (s ∷ ss) = s.count + variables_in ss
 
--- statements one after another; a variable is visible behind its statement
+-- statements one after another; a variable is visible after its statement
 abbrev pub in_turn : List Numbered → Sight → ℕ → Option (List Stmt)
 in_turn [] sight n = Some []
 in_turn (s ∷ ss) sight n = option_and_then (λ a. option_map (λ as_. a ∷ as_) (in_turn ss (sight ++ s.shown n) (n + s.count))) (s.stmt sight n)
@@ -134,7 +134,7 @@ unseen k = replicate k None
 abbrev pub cell_by : Option ℕ → Option Expr → (ℕ → Expr → Option Stmt) → Option Stmt
 cell_by table key stmt = option_and_then (λ t. option_and_then (λ k. stmt t k) key) table
 
--- a conditional's hidden variable comes before those of its blocks; what a block defines is not visible behind it
+-- a conditional's hidden variable comes before those of its blocks; what a block defines is not visible after it
 abbrev pub branching : (Sight → Option Expr) → List Numbered → List Numbered → Numbered
 branching test first second = record {
   names = all_names first + all_names second;

@@ -10,7 +10,7 @@ use Rattle.pac_syntax.specs.Reading.{IsTree}
 use Rattle.pac_types.specs.declared.table.Table.{Table}
 use Rattle.pac_types.specs.declared.procedure.Proc.{Proc}
 use Rattle.pac_types.specs.Numbering.{AreDistinct, table_of, variables, proc_of}
-use Rattle.pac_types.specs.Sound.{IsSoundProc}
+use Rattle.pac_types.specs.WellFormed.{IsWellFormedProc}
 use Rattle.pac_types.specs.Meaning.{operations}
 use Rattle.pac_types.specs.Variables.{defined_variables}
 
@@ -20,11 +20,11 @@ pub record CatalogueState : Type 0 where
   pub procs : List Proc
 
 -- the procedure of a node: its parameters and variables all differ by name, each name that it uses is one that is
--- visible there, and each expression has the type that its place wants
+-- visible there, and each expression has the type that its position wants
 pub record IsProcOf (tables : List Table) (node : ProcNode) (proc : Proc) : Type 0 where
   pub distinct : AreDistinct (variables node)
   pub named : proc_of tables node ≡ Some proc
-  pub sound : IsSoundProc tables proc
+  pub well_formed : IsWellFormedProc tables proc
 
 -- the columns of a table all differ by name
 abbrev pub HasDistinctColumns : TableNode → Type 0
@@ -48,18 +48,18 @@ abbrev pub IsCatalogue : CatalogueState → Type 0
 IsCatalogue catalogue = (tree : Tree) × IsTree tree × Types tree catalogue
 
 -- a table has 1 to 8 columns; its key and they are ints or texts
-pub record IsSoundTable (table : Table) : Type 0 where
+pub record IsWellFormedTable (table : Table) : Type 0 where
   pub some : 1 ≤ length table.columns
   pub few : length table.columns ≤ MAX_COLUMNS
   pub key : IsTrue (is_stored_type table.key)
   pub columns : All (λ column. IsTrue (is_stored_type column.ty)) table.columns
 
--- a procedure has at most 16 parameters, which are ints or texts, and sound statements, whose operations have numbers
+-- a procedure has at most 16 parameters, which are ints or texts, and well-formed statements, whose operations have numbers
 -- of 16 bits; the variables that these define, hidden ones among them, have one number after another in the order of the
--- text, from the first behind the parameters on
+-- text, from the first after the parameters on
 pub record IsProc (tables : List Table) (proc : Proc) : Type 0 where
   pub few : length proc.params ≤ MAX_PARAMS
   pub params : All (λ column. IsTrue (is_stored_type column.ty)) proc.params
-  pub sound : IsSoundProc tables proc
+  pub well_formed : IsWellFormedProc tables proc
   pub counted : operations proc.body < 2 ^ 16
   pub numbered : defined_variables proc.body ≡ range_with_len (length proc.params) (length (defined_variables proc.body))

@@ -1,7 +1,7 @@
 // The catalogue of a tree.
 ghost use Rattle.std.specs.Prelude.{◌≡◌, ◌≤◌, All, length, map};
 ghost use Rattle.pac_types.specs.Numbering.{number_of};
-ghost use Rattle.pac_types.specs.Typing.{IsProc, IsSoundTable};
+ghost use Rattle.pac_types.specs.Typing.{IsProc, IsWellFormedTable};
 ghost use Rattle.pac_types.specs.CatalogueNames.{IsNamed};
 
 use crate::names::Names;
@@ -58,7 +58,7 @@ impl Catalogue {
     pub fn tables(&self) -> &[Table]
         ensures value { result.now ≡ self.now.tables }
         ensures few { length self.now.tables ≤ MAX_TABLES }
-        ensures sound { All IsSoundTable self.now.tables }
+        ensures well_formed { All IsWellFormedTable self.now.tables }
     {
         self.tables.as_slice()
     }
@@ -67,7 +67,7 @@ impl Catalogue {
     pub fn procs(&self) -> &[Proc]
         ensures value { result.now ≡ self.now.procs }
         ensures few { length self.now.procs ≤ MAX_PROCS }
-        ensures sound { All (IsProc self.now.tables) self.now.procs }
+        ensures well_formed { All (IsProc self.now.tables) self.now.procs }
     {
         self.procs.as_slice()
     }

@@ -1,6 +1,6 @@
 // The checker of trees.
 ghost use Rattle.std.specs.Prelude.{◌≡◌, ◌↔◌, All, IfOk, IsErrOf, map};
-ghost use Rattle.pac_base.specs.Refusals.{Tells};
+ghost use Rattle.pac_base.specs.Refusals.{Reports};
 ghost use Rattle.pac_base.specs.declared.refusal.Refusal.TheVariants as error;
 ghost use Rattle.pac_types.specs.declared.type_error.TypeFault.{TypeFault as AFault};
 ghost use Rattle.pac_types.specs.Checking.{checked_procs};
@@ -43,7 +43,7 @@ fn check_procs(
     nodes: &[ProcNode],
 ) -> Result<Vec<Proc>, TypeError>
     requires { All IsProcWithinLimits nodes.now }
-    ensures { Tells (λ procs. procs.items) result (checked_procs tables.now names.now 0 nodes.now) }
+    ensures { Reports (λ procs. procs.items) result (checked_procs tables.now names.now 0 nodes.now) }
 {
     let mut procs = Vec::with_capacity(alloc, nodes.len())?;
     for i in 0..nodes.len() {
@@ -59,11 +59,11 @@ fn check_procs(
 ///
 /// # Errors
 ///
-/// [`TypeError::Fault`] exactly where the tree isn't typed: its first fault, the one with the least place. A name stands
+/// [`TypeError::Fault`] exactly where the tree isn't typed: its first fault, the one with the least offset. A name stands
 /// twice in its space, or it isn't that of a table, of a column of its table or of a visible variable; a `put` has
-/// another number of values than its table has columns; an expression hasn't the type that its place wants. Tables and
+/// another number of values than its table has columns; an expression hasn't the type that its position wants. Tables and
 /// procedures have a space each, the columns of a table have one, and the parameters and variables of a procedure have
-/// one together. A parameter is visible in the whole procedure, a variable behind its statement, to the end of the
+/// one together. A parameter is visible in the whole procedure, a variable after its statement, to the end of the
 /// innermost block round it. [`TypeError::NoMemory`].
 pub fn check(alloc: Global, tree: Tree) -> Result<Catalogue, TypeError>
     requires { IsTree tree }

@@ -2,7 +2,7 @@
 ghost use Rattle.std.specs.Prelude.{◌≡◌, IfOk, IsErrOf};
 ghost use Rattle.pac_base.specs.Refusals.{Only};
 ghost use Rattle.pac_base.specs.declared.refusal.Refusal.TheVariants as error;
-ghost use Rattle.pac_types.specs.CatalogueText.{HasCatalogue, IsCatalogueFault, fault_kind, fault_place};
+ghost use Rattle.pac_types.specs.CatalogueText.{HasCatalogue, IsCatalogueFault, fault_kind, fault_offset};
 ghost use Rattle.pac_types.specs.Typing.{CatalogueState, Types};
 ghost use Rattle.pac_types.specs.Faults.{IsFirstTypeFault};
 ghost use Rattle.pac_types.specs.declared.text.CatalogueFault.{CatalogueFault as AFault};
@@ -26,13 +26,13 @@ pub enum CatalogueFault {
     Typing(TypeFault),
 }
 
-/// Why a text has no catalogue, or want of memory.
+/// Why a text has no catalogue, or running out of memory.
 pub type CatalogueError = Refusal<CatalogueFault>;
 
 impl CatalogueFault {
-    /// The place of the fault in the text, a byte offset from 0.
+    /// The offset of the fault in the text, from 0.
     pub fn at(&self) -> usize
-        ensures { result ≡ fault_place self.now }
+        ensures { result ≡ fault_offset self.now }
     {
         match self {
             CatalogueFault::Syntax(fault) => fault.at,

@@ -7,14 +7,14 @@ use pac_base::Refusal;
 use std::fmt;
 use thiserror::Error;
 
-/// What is wrong at a place of a tree.
+/// What is wrong at an offset of a tree.
 #[derive(Clone, Copy, Debug, PartialEq, Eq)]
 pub enum TypeFaultKind {
     /// No table, column or variable of this name stands anywhere in its space.
     UnknownName,
     /// The name stands in its space before.
     Twice,
-    /// An expression hasn't the type that its place wants.
+    /// An expression hasn't the type that its position wants.
     WrongType,
     /// A `put` has another number of values than its table has columns.
     WrongCount,
@@ -48,7 +48,7 @@ impl fmt::Display for TypeFaultKind {
     }
 }
 
-/// A fault of names or types at a place of a text, a byte offset from 0.
+/// A fault of names or types at an offset of a text, a byte offset from 0.
 #[derive(Clone, Copy, Debug, PartialEq, Eq, Error)]
 #[error("{kind} at byte {at}")]
 pub struct TypeFault {
@@ -56,7 +56,7 @@ pub struct TypeFault {
     pub kind: TypeFaultKind,
 }
 
-/// Why a tree isn't typed: its first fault, or want of memory.
+/// Why a tree isn't typed: its first fault, or running out of memory.
 pub type TypeError = Refusal<TypeFault>;
 
 impl From<TypeFault> for TypeError {

@@ -7,7 +7,7 @@ use Rattle.pac_value.specs.declared.values.Key.{Key}
 use Rattle.pac_value.specs.declared.values.Key.TheVariants as key
 use Rattle.pac_value.specs.Ascii.{quote, backslash}
 
--- a byte of a text in its spelling: `"` and `\` have a `\` in front
+-- a byte of a text in its spelling: `"` and `\` have a `\` before it
 abbrev pub escaped_byte : ℕ → List ℕ
 escaped_byte b = if nat_eq b quote || nat_eq b backslash then backslash ∷ b ∷ [] else b ∷ []
 

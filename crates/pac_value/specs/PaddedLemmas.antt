@@ -1,4 +1,4 @@
--- An array of padded bytes is told by the bytes that count, and a copy into zeros is padded.
+-- An array of padded bytes is given by the bytes that count, and a copy into zeros is padded.
 use Rattle.std.proofs.Common.{◌≡◌, ◌≤◌, ◌-◌, ℕ, List, ◌++◌, length, take, drop, replicate, arith, ap, ◌∙◌, length-append}
 use Rattle.std.proofs.lemmas.List.{take-append-drop, length-take-le, take_at, drop_at, drop-replicate, length-replicate}
 use Rattle.pac_value.specs.Padded.{IsPadded, padded}
@@ -19,8 +19,8 @@ copied-is_padded n bytes copy zeros short same none =
       zeros = drop_at copy (drop (length bytes) zeros) (length bytes) (ap length same) ∙ rest;
     }
 
-pub length-front : (n : ℕ) (bytes : List ℕ) (len : ℕ) → IsPadded n bytes len → length (take len bytes) ≡ len
-length-front n bytes len is = let short : len ≤ length bytes = omega arith in length-take-le len bytes short
+pub length-prefix : (n : ℕ) (bytes : List ℕ) (len : ℕ) → IsPadded n bytes len → length (take len bytes) ≡ len
+length-prefix n bytes len is = let short : len ≤ length bytes = omega arith in length-take-le len bytes short
 
-pub copied-front : (bytes copy rest : List ℕ) → copy ≡ bytes → take (length bytes) (copy ++ rest) ≡ bytes
-copied-front bytes copy rest same = take_at copy rest (length bytes) (ap length same) ∙ same
+pub copied-prefix : (bytes copy rest : List ℕ) → copy ≡ bytes → take (length bytes) (copy ++ rest) ≡ bytes
+copied-prefix bytes copy rest same = take_at copy rest (length bytes) (ap length same) ∙ same

@@ -2,7 +2,7 @@
 ghost use Rattle.std.specs.Prelude.{◌≡◌, ◌<◌, ◌^◌, ◌↔◌, ℕ, length, IsTrue, OnOk, OnErr};
 ghost use Rattle.std.specs.Option.{option_map};
 ghost use Rattle.std.specs.FinMap as map;
-ghost use Rattle.pac_value.specs.Placed.{at_place};
+ghost use Rattle.pac_value.specs.Placed.{at_offset};
 
 use crate::Value;
 use pac_base::{Exact, NoMemory, Same};
@@ -11,7 +11,7 @@ use std::marker::Model;
 
 /// The values of variables, which have numbers.
 ///
-/// They stand in a list, each at the place that is its variable's number, so a value is found in constant time. What the
+/// They stand in a list, each at the position that is its variable's number, so a value is found in constant time. What the
 /// list takes grows with the greatest number.
 #[derive(Debug, Drop)]
 pub struct Env {
@@ -67,7 +67,7 @@ impl Env {
         }
     }
 
-    /// Gives a variable a value, in place of the one that it may have.
+    /// Gives a variable a value, instead of the one that it may have.
     ///
     /// # Errors
     ///
@@ -76,9 +76,9 @@ impl Env {
         ensures ok { OnOk result (self.new ≡ map.insert self.old var value) }
         ensures err { OnErr result (self.new ≡ self.old) }
     {
-        let place = usize::from(var);
-        make_place(&mut self.values, place)?;
-        self.values[place] = Some(value);
+        let offset = usize::from(var);
+        make_room(&mut self.values, offset)?;
+        self.values[offset] = Some(value);
         Ok(())
     }
 }
@@ -92,9 +92,9 @@ impl Exact for Env {
 
 impl Same for Env {
     fn same(&self, other: &Env) -> bool {
-        let places = self.values.len().max(other.values.len());
-        for place in 0..places {
-            if !are_same(at(&self.values, place), at(&other.values, place)) {
+        let offsets = self.values.len().max(other.values.len());
+        for offset in 0..offsets {
+            if !are_same(at(&self.values, offset), at(&other.values, offset)) {
                 return false;
             }
         }
@@ -102,11 +102,11 @@ impl Same for Env {
     }
 }
 
-// The value at a place, where there is one.
-fn at(values: &[Option<Value>], place: usize) -> Option<Value>
-    ensures { result ≡ at_place values.now place }
+// The value at a position, where there is one.
+fn at(values: &[Option<Value>], offset: usize) -> Option<Value>
+    ensures { result ≡ at_offset values.now offset }
 {
-    match values.get(place) {
+    match values.get(offset) {
         Some(value) => *value,
         None => None,
     }
@@ -124,14 +124,14 @@ fn are_same(one: Option<Value>, other: Option<Value>) -> bool
     }
 }
 
-// Sees that there is such a place. Where it is new, it has no value.
-fn make_place(values: &mut Vec<Option<Value>>, place: usize) -> Result<(), NoMemory>
-    requires { place < 2 ^ 16 }
-    ensures there { OnOk result (place < length values.new.items) }
-    ensures same { (x : ℕ) → at_place values.new.items x ≡ at_place values.old.items x }
+// Sees that there is such a position. Where it is new, it has no value.
+fn make_room(values: &mut Vec<Option<Value>>, offset: usize) -> Result<(), NoMemory>
+    requires { offset < 2 ^ 16 }
+    ensures there { OnOk result (offset < length values.new.items) }
+    ensures same { (x : ℕ) → at_offset values.new.items x ≡ at_offset values.old.items x }
 {
-    if values.len() <= place {
-        values.resize(place + 1, None)?;
+    if values.len() <= offset {
+        values.resize(offset + 1, None)?;
     }
     Ok(())
 }

@@ -50,7 +50,7 @@ pub fn push_count(out: &mut Vec<u8>, count: u64) -> Result<(), NoMemory>
     Ok(())
 }
 
-/// Appends a value as a literal: an int in decimal, a text between quotes with `\` in front of each `"` and `\`, or `true`
+/// Appends a value as a literal: an int in decimal, a text between quotes with `\` before each `"` and `\`, or `true`
 /// or `false`.
 ///
 /// # Errors

@@ -20,7 +20,7 @@ pub(crate) struct Padded<const N: usize> {
 impl<const N: usize> Model for Padded<N> {
     ghost use Rattle.std.specs.Prelude.{ℕ, List, length, take};
     ghost use Rattle.pac_value.specs.Padded.{IsPadded, padded};
-    ghost use Rattle.pac_value.specs.PaddedLemmas.{padded-take, length-front};
+    ghost use Rattle.pac_value.specs.PaddedLemmas.{padded-take, length-prefix};
 
     ghost Value = { List ℕ };
 
@@ -32,7 +32,7 @@ impl<const N: usize> Model for Padded<N> {
 
     ghost inverse_ok = { λ p is i. record {
       room = padded-take N p.room p.len is i;
-      len = length-front N p.room p.len is i;
+      len = length-prefix N p.room p.len is i;
     } };
 }
 

@@ -1,23 +1,23 @@
 //! The program: the real outside, handed to the top call.
 #![tactic(auto)]
 
-use pac_main::{WordsError, pacman, refuse_words};
+use pac_main::{ArgumentsError, pacman, refuse_arguments};
 use pac_outside::{Devices, FileDisk, OpenGate, Stream};
 use std::env::Env;
 use std::io::ErrorKind;
 use std::process::ExitCode;
 use std::{env, io};
 
-// The words behind the program's name.
-fn read_words<R: Env + Alloc>(rt: &R) -> io::Result<Vec<String<R::A>, R::A>> {
+// The arguments after the program's name.
+fn read_arguments<R: Env + Alloc>(rt: &R) -> io::Result<Vec<String<R::A>, R::A>> {
     Ok(env::args(rt)?.skip(1).collect(rt.alloc())?)
 }
 
-// What is wrong with words that can't be read.
-fn words_error(kind: ErrorKind) -> WordsError {
+// What is wrong with arguments that can't be read.
+fn arguments_error(kind: ErrorKind) -> ArgumentsError {
     match kind {
-        ErrorKind::OutOfMemory => WordsError::NoMemory,
-        _ => WordsError::Usage,
+        ErrorKind::OutOfMemory => ArgumentsError::NoMemory,
+        _ => ArgumentsError::Usage,
     }
 }
 
@@ -30,18 +30,18 @@ fn main(rt: HostRuntime) -> ExitCode {
         slot_a: FileDisk::new(&rt, "pacman.a"),
         slot_b: FileDisk::new(&rt, "pacman.b"),
     };
-    let status = match read_words(&rt) {
-        Ok(words) => pacman(
+    let status = match read_arguments(&rt) {
+        Ok(arguments) => pacman(
             &rt,
             rt.alloc(),
-            &words,
+            &arguments,
             &mut input,
             &mut output,
             &mut errors,
             &mut devices,
             &OpenGate,
         ),
-        Err(error) => refuse_words(words_error(error.kind()), &mut errors),
+        Err(error) => refuse_arguments(arguments_error(error.kind()), &mut errors),
     };
     ExitCode::from(status)
 }

@@ -32,7 +32,7 @@ impl Owner {
 }
 
 impl<'a> Parser<'a> {
-    // The type behind a column's name.
+    // The type after a column's name.
     fn typed(&mut self, name: NameNode) -> Result<ColumnNode, SyntaxError>
         ensures left { OnOk result (NoLonger self.old self.new) }
         ensures run { Goes (typed_steps name) self.old self.new result }
@@ -41,7 +41,7 @@ impl<'a> Parser<'a> {
         Ok(ColumnNode { name, ty })
     }
 
-    // A column behind so many others.
+    // A column after that many others.
     fn column(&mut self, owner: Owner, before: usize) -> Result<ColumnNode, SyntaxError>
         ensures left { OnOk result (NoLonger self.old self.new) }
         ensures run { Goes (column_steps (role_of owner (before + 1))) self.old self.new result }
@@ -57,7 +57,7 @@ impl<'a> Parser<'a> {
         self.typed(name)
     }
 
-    // { "," column } behind a first one.
+    // { "," column } after a first one.
     fn more_columns(
         &mut self,
         owner: Owner,
@@ -96,7 +96,7 @@ impl<'a> Parser<'a> {
         self.more_columns(Owner::Procedure, first)
     }
 
-    // A table, behind its word.
+    // A table, after its word.
     fn table(&mut self) -> Result<TableNode, SyntaxError>
         ensures left { OnOk result (NoLonger self.old self.new) }
         ensures run { Goes table_steps self.old self.new result }
@@ -129,7 +129,7 @@ impl<'a> Parser<'a> {
         Ok(tables)
     }
 
-    // A procedure, behind its word.
+    // A procedure, after its word.
     fn procedure(&mut self) -> Result<ProcNode, SyntaxError>
         ensures left { OnOk result (NoLonger self.old self.new) }
         ensures run { Goes proc_steps self.old self.new result }
@@ -169,7 +169,7 @@ pub(crate) fn parse_tokens(
     // What is read is a catalogue within the limits, and each such catalogue is read.
     ensures reads { IfOk result (λ tree. ReadsTokens tokens.now tree) }
     ensures only { (tree : ATree) → ReadsTokens tokens.now tree → Only result tree }
-    // Which fault it is: the one of least place.
+    // Which fault it is: the one of least offset.
     ensures fault { (fault : AFault) → IsErrOf result (error.Fault fault) → IsFirstFault end tokens.now fault }
 {
     whole(alloc, tokens, end)

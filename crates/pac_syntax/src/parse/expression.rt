@@ -2,8 +2,8 @@
 ghost use Rattle.std.specs.Prelude.{◌≡◌, ◌<◌, ◌≤◌, ◌+◌, ℕ, false, Some, None, MatchOption, OnOk, IfOk, IfErr, IfSome};
 ghost use Rattle.pac_base.specs.Refusals.{Gives, OkUnlessMemory};
 ghost use Rattle.pac_syntax.specs.Machine.{Steps, Begun, Level, begun_binary, operator_in, want_expr, negation_steps, paren_steps, run, either};
-ghost use Rattle.pac_syntax.specs.Grammar.{tier as tier_of};
-ghost use Rattle.pac_syntax.specs.Views.{begun_at, between, rests, tier_behind, operand_in, IsNot, IsNoName, Goes, NoLonger, IsShorter};
+ghost use Rattle.pac_syntax.specs.Grammar.{precedence as precedence_of};
+ghost use Rattle.pac_syntax.specs.Views.{begun_at, between, rests, next_precedence, operand_in, IsNot, IsNoName, Goes, NoLonger, IsShorter};
 ghost use Rattle.pac_tokens.specs.declared.token.Token.TheVariants as token;
 ghost use Rattle.pac_tokens.specs.declared.token.Symbol.TheVariants as symbol;
 ghost use Rattle.pac_tokens.specs.declared.fault.FaultKind.TheVariants.{TooMany};
@@ -12,7 +12,7 @@ ghost use Rattle.pac_syntax.specs.declared.tree.ExprNode.{ExprNode as AnExprNode
 
 use super::parser::{Operand, Parser};
 use crate::limits::{MAX_OPERATORS, MAX_PARENS};
-use crate::operator::{operator_by, tier_behind, tier_of};
+use crate::operator::{next_precedence, operator_by, precedence_of};
 use crate::single::split_first;
 use crate::tree::{ExprNode, LiteralNode, NameNode};
 use pac_base::Boxed;
@@ -22,16 +22,16 @@ use pac_value::{BinOp, Value};
 // The level of any expression.
 const EXPRESSION: u8 = 5;
 
-// The operator that a token is, where its tier is from this one on and below a level.
-fn operator_between(tier: u8, level: u8, token: &Token) -> Option<BinOp>
-    ensures { result ≡ between tier level (operator_in token.now) }
+// The operator that a token is, where its precedence is from this one on and below a level.
+fn operator_between(precedence: u8, level: u8, token: &Token) -> Option<BinOp>
+    ensures { result ≡ between precedence level (operator_in token.now) }
 {
     let Token::Symbol(sign) = token else {
         return None;
     };
     let op = operator_by(*sign)?;
-    let own = tier_of(op);
-    if tier <= own && own < level {
+    let own = precedence_of(op);
+    if precedence <= own && own < level {
         Some(op)
     } else {
         None
@@ -54,7 +54,7 @@ fn operand_of(token: Token, at: usize) -> Option<Operand>
 }
 
 impl<'a> Parser<'a> {
-    // One more operator, at this place.
+    // One more operator, at this offset.
     fn count(&mut self, at: usize) -> Result<(), SyntaxError>
         ensures end { self.new.end ≡ self.old.end }
         ensures rest { self.new.rest ≡ self.old.rest }
@@ -79,16 +79,16 @@ impl<'a> Parser<'a> {
         operator_between(0, level, &first.token).is_some()
     }
 
-    // The operator that comes next, where its tier is from this one on and below a level, which is taken.
-    fn operator(&mut self, tier: u8, level: u8) -> Result<Option<BinOp>, SyntaxError>
+    // The operator that comes next, where its precedence is from this one on and below a level, which is taken.
+    fn operator(&mut self, precedence: u8, level: u8) -> Result<Option<BinOp>, SyntaxError>
         ensures left { NoLonger self.old self.new }
         ensures shorter { IfOk result (λ o. IfSome o (λ _. IsShorter self.old self.new)) }
-        ensures run { (d : ℕ) (x : Begun) (k : Begun → ℕ → Steps) → Gives (λ o. either o (run self.new.end (k x self.new.operators) self.new.rest.now) (λ op. run self.new.end (Level d (tier_of op) self.new.operators (λ y o. rests d (tier_behind (tier_of op)) level k (begun_binary op x y) o)) self.new.rest.now)) result (run self.old.end (rests d tier level k x self.old.operators) self.old.rest.now) }
+        ensures run { (d : ℕ) (x : Begun) (k : Begun → ℕ → Steps) → Gives (λ o. either o (run self.new.end (k x self.new.operators) self.new.rest.now) (λ op. run self.new.end (Level d (precedence_of op) self.new.operators (λ y o. rests d (next_precedence (precedence_of op)) level k (begun_binary op x y) o)) self.new.rest.now)) result (run self.old.end (rests d precedence level k x self.old.operators) self.old.rest.now) }
     {
         let Some((first, rest)) = split_first(self.rest) else {
             return Ok(None);
         };
-        let Some(op) = operator_between(tier, level, &first.token) else {
+        let Some(op) = operator_between(precedence, level, &first.token) else {
             return Ok(None);
         };
         self.count(first.at)?;
@@ -160,7 +160,7 @@ impl<'a> Parser<'a> {
         self.operand(parens)
     }
 
-    // What stands behind the `!` at this place.
+    // What stands after the `!` at this offset.
     #[cycle(expression)]
     fn negation(&mut self, parens: u8, at: usize) -> Result<Operand, SyntaxError>
         ensures left { OnOk result (NoLonger self.old self.new) }
@@ -172,7 +172,7 @@ impl<'a> Parser<'a> {
         Ok(Operand { from: at, expr })
     }
 
-    // What stands behind the `(` at this place.
+    // What stands after the `(` at this offset.
     #[cycle(expression)]
     fn enclosed(&mut self, parens: u8, at: usize) -> Result<Operand, SyntaxError>
         ensures left { OnOk result (NoLonger self.old self.new) }
@@ -200,22 +200,22 @@ impl<'a> Parser<'a> {
     }
 
     // An operand, and as many more as operators below a level join to it. The left operand stays where it is, and a right
-    // one is read further only where an operator that binds tighter stands behind it.
+    // one is read further only where an operator that binds tighter stands after it.
     #[cycle(expression)]
     fn chain(&mut self, parens: u8, level: u8, first: Operand) -> Result<Operand, SyntaxError>
         ensures left { OnOk result (NoLonger self.old self.new) }
         ensures run { (k : Begun → ℕ → Steps) → Gives (λ x. run self.new.end (k (begun_at x) self.new.operators) self.new.rest.now) result (run self.old.end (rests parens 0 level k (begun_at first) self.old.operators) self.old.rest.now) }
     {
         let mut left = first;
-        let mut tier = 0;
-        while let Some(op) = self.operator(tier, level)? {
-            let own = tier_of(op);
+        let mut precedence = 0;
+        while let Some(op) = self.operator(precedence, level)? {
+            let own = precedence_of(op);
             let mut right = self.unary(parens)?;
             if self.sees_operator(own) {
                 right = self.chain(parens, own, right)?;
             }
             left = self.joined(op, left, right)?;
-            tier = tier_behind(own);
+            precedence = next_precedence(own);
         }
         Ok(left)
     }

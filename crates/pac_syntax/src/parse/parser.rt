@@ -1,7 +1,7 @@
 // Reads the tree of tokens by recursive descent, and stops at the first token that can't follow.
 ghost use Rattle.std.specs.Prelude.{◌≡◌, ◌∷◌, [], ◌<◌, MatchOption, OnOk, true};
 ghost use Rattle.pac_base.specs.Refusals.{Gives};
-ghost use Rattle.pac_syntax.specs.Faults.{place};
+ghost use Rattle.pac_syntax.specs.Faults.{offset};
 ghost use Rattle.pac_syntax.specs.Grammar.{Plain};
 ghost use Rattle.pac_value.specs.declared.values.Ty.{Ty as ATy};
 ghost use Rattle.pac_syntax.specs.Machine.{Steps, Want, WantName, WantType, WantLiteral, type_of_token, run};
@@ -10,7 +10,7 @@ ghost use Rattle.pac_tokens.specs.declared.token.Token.TheVariants as token;
 ghost use Rattle.pac_syntax.specs.declared.tree.NameNode.{NameNode as ANameNode};
 ghost use Rattle.pac_base.specs.declared.refusal.Refusal.TheVariants as error;
 
-use crate::single::{bool_of, is_same_word_or_sign, name_of, split_first};
+use crate::single::{bool_of, is_same_keyword_or_symbol, name_of, split_first};
 use crate::tree::{ExprNode, LiteralNode, NameNode};
 use pac_tokens::{Fault, FaultKind, Keyword, Spanned, Symbol, SyntaxError, Token, int_or_text};
 use pac_value::{Ty, Value};
@@ -58,7 +58,7 @@ fn type_of(token: &Token) -> Option<Ty>
 impl<'a> Parser<'a> {
     // The fault of this kind at the next token, or at the end.
     pub fn refuse(&self, kind: FaultKind) -> SyntaxError
-        ensures { result ≡ error.Fault (record { at = place self.now.end self.now.rest.now; kind = kind }) }
+        ensures { result ≡ error.Fault (record { at = offset self.now.end self.now.rest.now; kind = kind }) }
     {
         let at = match split_first(self.rest) {
             None => self.end,
@@ -67,7 +67,7 @@ impl<'a> Parser<'a> {
         SyntaxError::Fault(Fault { at, kind })
     }
 
-    // Takes this word or sign and answers its place, where it comes next.
+    // Takes this word or symbol and answers its offset, where it comes next.
     fn takes(&mut self, wanted: Token) -> Option<usize>
         ensures end { self.new.end ≡ self.old.end }
         ensures operators { self.new.operators ≡ self.old.operators }
@@ -76,7 +76,7 @@ impl<'a> Parser<'a> {
         let Some((first, rest)) = split_first(self.rest) else {
             return None;
         };
-        if !is_same_word_or_sign(&wanted, &first.token) {
+        if !is_same_keyword_or_symbol(&wanted, &first.token) {
             return None;
         }
         self.rest = rest;
@@ -98,7 +98,7 @@ impl<'a> Parser<'a> {
         self.takes(Token::Symbol(sign))
     }
 
-    // Takes this word or sign.
+    // Takes this word or symbol.
     fn want(&mut self, wanted: Token) -> Result<(), SyntaxError>
         ensures left { NoLonger self.old self.new }
         ensures operators { self.new.operators ≡ self.old.operators }
@@ -184,7 +184,7 @@ impl<'a> Parser<'a> {
         ensures operators { self.new.operators ≡ self.old.operators }
         ensures run { Goes WantLiteral self.old self.new result }
     {
-        let Some((first, behind)) = split_first(self.rest) else {
+        let Some((first, after)) = split_first(self.rest) else {
             return Err(self.refuse(FaultKind::Expected));
         };
         let at = first.at;
@@ -193,11 +193,11 @@ impl<'a> Parser<'a> {
             return Ok(LiteralNode { at, value });
         }
         if let Some(truth) = bool_of(&first.token) {
-            self.rest = behind;
+            self.rest = after;
             let value = Value::Bool(truth);
             return Ok(LiteralNode { at, value });
         }
-        // Behind a `-` the fault is that of the next token.
+        // After a `-` the fault is that of the next token.
         let _minus = self.takes_symbol(Symbol::Minus);
         Err(self.refuse(FaultKind::Expected))
     }

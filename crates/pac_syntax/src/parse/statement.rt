@@ -92,7 +92,7 @@ impl<'a> Parser<'a> {
         Ok(values)
     }
 
-    // { "," VALUE } behind a first one
+    // { "," VALUE } after a first one
     fn more_values(&mut self, first: ExprNode) -> Result<Vec<ExprNode>, SyntaxError>
         ensures left { OnOk result (NoLonger self.old self.new) }
         ensures run { GoesAll (MoreValues (first ∷ [])) self.old self.new result }
@@ -106,7 +106,7 @@ impl<'a> Parser<'a> {
         Ok(values)
     }
 
-    // A `let`, behind its word.
+    // A `let`, after its word.
     fn let_rest(&mut self) -> Result<StmtNode, SyntaxError>
         ensures left { OnOk result (NoLonger self.old self.new) }
         ensures run { Goes let_steps self.old self.new result }
@@ -118,7 +118,7 @@ impl<'a> Parser<'a> {
         Ok(StmtNode::Let { name, value })
     }
 
-    // A `read`, behind its word.
+    // A `read`, after its word.
     fn read_rest(&mut self) -> Result<StmtNode, SyntaxError>
         ensures left { OnOk result (NoLonger self.old self.new) }
         ensures run { Goes read_steps self.old self.new result }
@@ -138,7 +138,7 @@ impl<'a> Parser<'a> {
         })
     }
 
-    // A `has`, behind its word.
+    // A `has`, after its word.
     fn has_rest(&mut self) -> Result<StmtNode, SyntaxError>
         ensures left { OnOk result (NoLonger self.old self.new) }
         ensures run { Goes has_steps self.old self.new result }
@@ -150,7 +150,7 @@ impl<'a> Parser<'a> {
         Ok(StmtNode::Has { name, table, key })
     }
 
-    // A `put`, behind its word.
+    // A `put`, after its word.
     fn put_rest(&mut self) -> Result<StmtNode, SyntaxError>
         ensures left { OnOk result (NoLonger self.old self.new) }
         ensures run { Goes put_steps self.old self.new result }
@@ -162,7 +162,7 @@ impl<'a> Parser<'a> {
         Ok(StmtNode::Put { table, key, values })
     }
 
-    // A `set`, behind its word.
+    // A `set`, after its word.
     fn set_rest(&mut self) -> Result<StmtNode, SyntaxError>
         ensures left { OnOk result (NoLonger self.old self.new) }
         ensures run { Goes set_steps self.old self.new result }
@@ -179,7 +179,7 @@ impl<'a> Parser<'a> {
         })
     }
 
-    // A `delete`, behind its word.
+    // A `delete`, after its word.
     fn delete_rest(&mut self) -> Result<StmtNode, SyntaxError>
         ensures left { OnOk result (NoLonger self.old self.new) }
         ensures run { Goes delete_steps self.old self.new result }
@@ -189,7 +189,7 @@ impl<'a> Parser<'a> {
         Ok(StmtNode::Delete { table, key })
     }
 
-    // An `abort if`, behind its first word.
+    // An `abort if`, after its first word.
     fn abort_rest(&mut self) -> Result<StmtNode, SyntaxError>
         ensures left { OnOk result (NoLonger self.old self.new) }
         ensures run { Goes abort_steps self.old self.new result }
@@ -200,7 +200,7 @@ impl<'a> Parser<'a> {
         Ok(StmtNode::AbortIf { test })
     }
 
-    // A conditional in so many others, behind its word.
+    // A conditional in that many others, after its word.
     #[cycle(statement)]
     fn if_rest(&mut self, nested: u8) -> Result<StmtNode, SyntaxError>
         requires { nested < MAX_NESTED }
@@ -229,7 +229,7 @@ impl<'a> Parser<'a> {
         }
     }
 
-    /// Statements in braces, in so many conditionals.
+    /// Statements in braces, in that many conditionals.
     #[cycle(statement)]
     pub fn block(&mut self, nested: u8) -> Result<Vec<StmtNode>, SyntaxError>
         ensures left { OnOk result (NoLonger self.old self.new) }
@@ -261,7 +261,7 @@ impl<'a> Parser<'a> {
         Ok(Some(word))
     }
 
-    // The statement behind its first word, in so many conditionals.
+    // The statement after its first word, in that many conditionals.
     #[cycle(statement)]
     fn statement_rest(&mut self, word: StatementWord, nested: u8) -> Result<StmtNode, SyntaxError>
         requires { is_too_deep nested word ≡ false }
@@ -280,7 +280,7 @@ impl<'a> Parser<'a> {
         }
     }
 
-    // Statements in so many conditionals, as many as there are.
+    // Statements in that many conditionals, as many as there are.
     #[cycle(statement)]
     fn statements(&mut self, nested: u8) -> Result<Vec<StmtNode>, SyntaxError>
         ensures left { OnOk result (NoLonger self.old self.new) }

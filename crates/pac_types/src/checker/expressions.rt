@@ -1,6 +1,6 @@
 // Expressions by numbers, with their types.
 ghost use Rattle.std.specs.Prelude.{◌≡◌};
-ghost use Rattle.pac_base.specs.Refusals.{Tells};
+ghost use Rattle.pac_base.specs.Refusals.{Reports};
 ghost use Rattle.pac_types.specs.Faults.{is_left};
 ghost use Rattle.pac_types.specs.Checking.{taken, is_right, given, checked_expr, checked_wanted, checked_test};
 ghost use Rattle.pac_value.specs.Scopes.{is_wanted, is_bool};
@@ -13,7 +13,7 @@ use pac_syntax::ExprNode;
 use pac_value::{BinOp, Expr, Ty};
 use std::alloc::Global;
 
-/// An expression with a number for each name, its type, and the place where it stands.
+/// An expression with a number for each name, its type, and the offset where it stands.
 #[derive(Drop)]
 pub(crate) struct Typed {
     pub at: usize,
@@ -21,7 +21,7 @@ pub(crate) struct Typed {
     pub ty: Ty,
 }
 
-// That an expression at a place has a type that is taken there.
+// That an expression at an offset has a type that is taken there.
 pub(crate) fn taken(at: usize, is_taken: bool) -> Result<(), TypeFault>
     ensures { result ≡ taken at is_taken }
 {
@@ -45,7 +45,7 @@ fn is_left(op: BinOp, ty: Ty) -> bool
     }
 }
 
-// Whether an operator takes a right operand of this type behind a left one of that.
+// Whether an operator takes a right operand of this type after a left one of that.
 fn is_right(op: BinOp, left: Ty, right: Ty) -> bool
     ensures { result ≡ is_right op left right }
 {
@@ -68,7 +68,7 @@ fn given(op: BinOp) -> Ty
 
 /// The expression of a node over the visible variables.
 pub(crate) fn check_expr(alloc: Global, scope: &Scope, node: &ExprNode) -> Result<Typed, TypeError>
-    ensures { Tells (λ typed. typed) result (checked_expr scope.now node.now) }
+    ensures { Reports (λ typed. typed) result (checked_expr scope.now node.now) }
 {
     match node {
         ExprNode::Literal(literal) => Ok(Typed {
@@ -133,7 +133,7 @@ pub(crate) fn check_wanted(
     node: &ExprNode,
     by: Option<Ty>,
 ) -> Result<Expr, TypeError>
-    ensures { Tells (λ expr. expr) result (checked_wanted scope.now node.now by) }
+    ensures { Reports (λ expr. expr) result (checked_wanted scope.now node.now by) }
 {
     let typed = check_expr(alloc, scope, node)?;
     taken(typed.at, wanted(typed.ty, by))?;
@@ -142,7 +142,7 @@ pub(crate) fn check_wanted(
 
 /// The expression of a node that is a condition.
 pub(crate) fn check_test(alloc: Global, scope: &Scope, node: &ExprNode) -> Result<Expr, TypeError>
-    ensures { Tells (λ expr. expr) result (checked_test scope.now node.now) }
+    ensures { Reports (λ expr. expr) result (checked_test scope.now node.now) }
 {
     let typed = check_expr(alloc, scope, node)?;
     taken(typed.at, typed.ty == Ty::Bool)?;

@@ -1,7 +1,7 @@
 // Procedures by numbers.
 ghost use Rattle.std.specs.Prelude.{◌≡◌, ◌≤◌, ◌+◌, ◌++◌, ◌^◌, IfOk, OnOk, length, map};
 ghost use Rattle.std.specs.List.{flat_map};
-ghost use Rattle.pac_base.specs.Refusals.{Tells};
+ghost use Rattle.pac_base.specs.Refusals.{Reports};
 ghost use Rattle.pac_types.specs.Numbering.{defined, variables};
 ghost use Rattle.pac_types.specs.Checking.{ScopeState, checked_params, checked_proc};
 ghost use Rattle.pac_syntax.specs.Limits.{IsProcWithinLimits};
@@ -71,7 +71,7 @@ fn variables_of(alloc: Global, node: &ProcNode) -> Result<Vec<Name>, AllocError>
 // The parameters are visible from here on.
 fn check_params(scope: &mut Scope, nodes: &[ColumnNode]) -> Result<(), TypeError>
     requires { scope.old.next + length nodes.now ≤ 2 ^ 16 }
-    ensures params { Tells (λ _. scope.new) result (checked_params nodes.now scope.old) }
+    ensures params { Reports (λ _. scope.new) result (checked_params nodes.now scope.old) }
     ensures next { OnOk result (scope.new.next ≡ scope.old.next + length nodes.now) }
 {
     for node in nodes {
@@ -84,7 +84,7 @@ fn check_params(scope: &mut Scope, nodes: &[ColumnNode]) -> Result<(), TypeError
 /// The procedure of a node over the tables.
 pub(crate) fn check_proc(alloc: Global, tables: &Tables, node: &ProcNode) -> Result<Proc, TypeError>
     requires { IsProcWithinLimits node.now }
-    ensures { Tells (λ proc. proc) result (checked_proc tables.now node.now) }
+    ensures { Reports (λ proc. proc) result (checked_proc tables.now node.now) }
 {
     let names = Names::of(alloc, variables_of(alloc, node)?)?;
     let mut scope = Scope::new(alloc, names);

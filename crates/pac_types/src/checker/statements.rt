@@ -1,9 +1,9 @@
 // Statements by numbers.
 ghost use Rattle.std.specs.Prelude.{◌≡◌, ◌≤◌, ◌<◌, ◌+◌, ◌^◌, OnOk, Some, length, map};
 ghost use Rattle.std.specs.Prelude.{slice_get};
-ghost use Rattle.pac_base.specs.Refusals.{Tells};
+ghost use Rattle.pac_base.specs.Refusals.{Reports};
 ghost use Rattle.pac_syntax.specs.Limits.{size, sizes};
-ghost use Rattle.pac_types.specs.Sound.{types, column_type, column_types};
+ghost use Rattle.pac_types.specs.WellFormed.{types, column_type, column_types};
 ghost use Rattle.pac_types.specs.Checking.{checked_cell, checked_field, checked_values, same_count, checked_put, checked_read, checked_stmt, checked_run, checked_block, cell_of, field_of};
 
 use crate::checker::expressions::{check_expr, check_test, check_wanted, taken, wanted};
@@ -39,7 +39,7 @@ fn check_cell(
     table: &NameNode,
     key: &ExprNode,
 ) -> Result<Cell, TypeError>
-    ensures { Tells cell_of result (checked_cell tables.now scope.now table.now key.now) }
+    ensures { Reports cell_of result (checked_cell tables.now scope.now table.now key.now) }
 {
     let table = tables.find(table)?;
     let key = check_wanted(alloc, scope, key, tables.key_type(table))?;
@@ -55,7 +55,7 @@ fn check_field(
     key: &ExprNode,
     column: &NameNode,
 ) -> Result<Field, TypeError>
-    ensures { Tells field_of result (checked_field tables.now scope.now table.now key.now column.now) }
+    ensures { Reports field_of result (checked_field tables.now scope.now table.now key.now column.now) }
 {
     let Cell { table, key } = check_cell(alloc, tables, scope, table, key)?;
     let column = tables.find_column(table, column)?;
@@ -82,7 +82,7 @@ fn check_values(
     columns: &[Column],
 ) -> Result<Vec<Expr>, TypeError>
     requires { length nodes.now ≡ length columns.now }
-    ensures { Tells (λ values. values.items) result (checked_values scope.now nodes.now (types columns.now)) }
+    ensures { Reports (λ values. values.items) result (checked_values scope.now nodes.now (types columns.now)) }
 {
     let mut values = Vec::with_capacity(alloc, nodes.len())?;
     for i in 0..nodes.len() {
@@ -100,7 +100,7 @@ fn check_put(
     key: &ExprNode,
     values: &[ExprNode],
 ) -> Result<Stmt, TypeError>
-    ensures { Tells (λ stmt. stmt) result (checked_put tables.now scope.now table.now key.now values.now) }
+    ensures { Reports (λ stmt. stmt) result (checked_put tables.now scope.now table.now key.now values.now) }
 {
     let number = tables.find(table)?;
     let columns = tables.columns(number);
@@ -114,7 +114,7 @@ fn check_put(
     })
 }
 
-// What is behind `read NAME = `, where this field is read.
+// What is after `read NAME = `, where this field is read.
 fn check_read(
     tables: &Tables,
     scope: &mut Scope,
@@ -122,7 +122,7 @@ fn check_read(
     default: &LiteralNode,
 ) -> Result<Stmt, TypeError>
     requires { scope.old.next < 2 ^ 16 }
-    ensures stmt { Tells (λ stmt. (stmt, scope.new)) result (checked_read tables.now scope.old (field_of field) default.now) }
+    ensures stmt { Reports (λ stmt. (stmt, scope.new)) result (checked_read tables.now scope.old (field_of field) default.now) }
     ensures room { OnOk result (scope.new.next ≤ scope.old.next + 1) }
 {
     let ty = default.value.ty();
@@ -139,7 +139,7 @@ fn check_read(
     })
 }
 
-// The statement of a node, behind which the variable that it defines is visible.
+// The statement of a node, after which the variable that it defines is visible.
 #[cycle(check)]
 fn check_stmt(
     alloc: Global,
@@ -148,7 +148,7 @@ fn check_stmt(
     node: &StmtNode,
 ) -> Result<Stmt, TypeError>
     requires fits { scope.old.next + size node.now ≤ 2 ^ 16 }
-    ensures stmt { Tells (λ stmt. (stmt, scope.new)) result (checked_stmt tables.now node.now scope.old) }
+    ensures stmt { Reports (λ stmt. (stmt, scope.new)) result (checked_stmt tables.now node.now scope.old) }
     ensures room { OnOk result (scope.new.next ≤ scope.old.next + size node.now) }
 {
     match node {
@@ -221,7 +221,7 @@ fn check_stmt(
     }
 }
 
-/// The statements of a block, behind which no variable of it is visible.
+/// The statements of a block, after which no variable of it is visible.
 #[cycle(check)]
 pub(crate) fn check_block(
     alloc: Global,
@@ -230,7 +230,7 @@ pub(crate) fn check_block(
     nodes: &[StmtNode],
 ) -> Result<Vec<Stmt>, TypeError>
     requires fits { scope.old.next + sizes nodes.now ≤ 2 ^ 16 }
-    ensures block { Tells (λ stmts. (stmts.items, scope.new)) result (checked_block tables.now nodes.now scope.old) }
+    ensures block { Reports (λ stmts. (stmts.items, scope.new)) result (checked_block tables.now nodes.now scope.old) }
     ensures room { OnOk result (scope.new.next ≤ scope.old.next + sizes nodes.now) }
 {
     let start = scope.len();

@@ -1,7 +1,7 @@
 // The tables of a catalogue by their names.
 ghost use Rattle.std.specs.Prelude.{◌≡◌, ◌≤◌, ◌<◌, ◌^◌, All, IfOk, IfSome, length, map, slice_get};
-ghost use Rattle.pac_base.specs.Refusals.{Tells};
-ghost use Rattle.pac_types.specs.Sound.{column_type, column_types, key_type, types};
+ghost use Rattle.pac_base.specs.Refusals.{Reports};
+ghost use Rattle.pac_types.specs.WellFormed.{column_type, column_types, key_type, types};
 ghost use Rattle.pac_types.specs.Numbering.{column_number, column_of, table_names, table_number, table_of};
 ghost use Rattle.pac_types.specs.Checking.{all_once, checked_tables, known_at, names_of};
 ghost use Rattle.pac_syntax.specs.Limits.{IsTableWithinLimits};
@@ -78,7 +78,7 @@ fn names_of_tables(alloc: Global, nodes: &[TableNode]) -> Result<Vec<Name>, Allo
 // That no two of these have one name; with their names by number.
 fn columns_once(alloc: Global, nodes: &[ColumnNode]) -> Result<Names, TypeError>
     requires { length nodes.now ≤ 2 ^ 16 }
-    ensures once { Tells (λ names. tt) result (all_once (names_of nodes.now) 0 nodes.now) }
+    ensures once { Reports (λ names. tt) result (all_once (names_of nodes.now) 0 nodes.now) }
     ensures names { IfOk result (λ names. names ≡ names_of nodes.now) }
 {
     let names = Names::of(alloc, names_of(alloc, nodes)?)?;
@@ -110,7 +110,7 @@ impl Tables {
     pub fn of(alloc: Global, nodes: &[TableNode]) -> Result<Tables, TypeError>
         requires few { length nodes.now ≤ 64 }
         requires limits { All IsTableWithinLimits nodes.now }
-        ensures names { Tells (λ tables. tt) result (checked_tables (map (λ node. node.name.name) nodes.now) 0 nodes.now) }
+        ensures names { Reports (λ tables. tt) result (checked_tables (map (λ node. node.name.name) nodes.now) 0 nodes.now) }
         ensures value { IfOk result (λ tables. tables ≡ map table_of nodes.now) }
     {
         let names = Names::of(alloc, names_of_tables(alloc, nodes)?)?;

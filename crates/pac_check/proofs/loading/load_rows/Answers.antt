@@ -1,4 +1,4 @@
--- Each step reads one row and puts it behind the others.
+-- Each step reads one row and puts it after the others.
 use Rattle.std.proofs.Common.{◌≡◌, ◌∙◌, ◌-◌, ◌+◌, Ok, Some, None, Option, sym, subst, arith}
 use Rattle.std.proofs.lemmas.Result.{err_from_is_err_and}
 use Rattle.pac_base.specs.Refusals.{Fails}
@@ -6,7 +6,7 @@ use Rattle.pac_value.specs.declared.values.Key.{Key}
 use Rattle.pac_bytes.specs.Reading.{from}
 use Rattle.pac_bytes.proofs.Bytes.{IsBytes}
 use Rattle.pac_check.specs.CheckpointReading.{next_row, next_rows}
-use Rattle.pac_bytes.proofs.Loops.{in_front_of}
+use Rattle.pac_bytes.proofs.Loops.{preceding}
 use Rattle.pac_check.specs.Saved.{table_rows}
 use Rattle.pac_check.proofs.RowsLemmas.{AreUpTo}
 use Rattle.pac_check.proofs.LoopLemmas.{rows-fail, rows-done}
@@ -29,7 +29,7 @@ read g c = subst (λ (before : Option Key). next_row c.args.table.now before (fr
 pub loop-preserved : goal.loop-preserved
 loop-preserved g c = record {
   up_to = subst (λ (key : Key). AreUpTo (Some key) (table_rows (g.R.Rows.held c.put.new.self) c.args.number)) (sym c.copied.ensures) (up-to-put c.args.table.now c.loop.before c.args.bytes.now c.loop.place c.in_ok-key.end c.in_ok-key.key c.in_ok-key.row (are g c) (read g c) (g.R.Rows.held c.loop.rows) (g.R.Rows.held c.put.new.self) c.args.number c.loop.invariant.up_to c.in_ok-put.ensures.ok);
-  so_far = subst (λ (key : Key). in_front_of (table_rows (g.R.Rows.held c.put.new.self) c.args.number) (next_rows c.args.table.now (c.args.count - (c.loop.counter + 1)) (Some key) (from c.args.bytes.now c.in_ok-key.end)) ≡ next_rows c.args.table.now c.args.count None (from c.args.bytes.now c.args.at)) (sym c.copied.ensures) (so-far-put c.args.table.now c.loop.before c.args.bytes.now c.loop.place c.in_ok-key.end c.in_ok-key.key c.in_ok-key.row (are g c) (read g c) (g.R.Rows.held c.loop.rows) (g.R.Rows.held c.put.new.self) c.args.number c.loop.invariant.up_to c.in_ok-put.ensures.ok c.args.count c.loop.counter _ c.loop-test.true c.loop.invariant.so_far);
+  so_far = subst (λ (key : Key). preceding (table_rows (g.R.Rows.held c.put.new.self) c.args.number) (next_rows c.args.table.now (c.args.count - (c.loop.counter + 1)) (Some key) (from c.args.bytes.now c.in_ok-key.end)) ≡ next_rows c.args.table.now c.args.count None (from c.args.bytes.now c.args.at)) (sym c.copied.ensures) (so-far-put c.args.table.now c.loop.before c.args.bytes.now c.loop.place c.in_ok-key.end c.in_ok-key.key c.in_ok-key.row (are g c) (read g c) (g.R.Rows.held c.loop.rows) (g.R.Rows.held c.put.new.self) c.args.number c.loop.invariant.up_to c.in_ok-put.ensures.ok c.args.count c.loop.counter _ c.loop-test.true c.loop.invariant.so_far);
   others = λ other apart. others-put c.args.table.now c.loop.before c.args.bytes.now c.loop.place c.in_ok-key.end c.in_ok-key.key c.in_ok-key.row (are g c) (read g c) (g.R.Rows.held c.loop.rows) (g.R.Rows.held c.put.new.self) c.args.number c.loop.invariant.up_to c.in_ok-put.ensures.ok other apart ∙ c.loop.invariant.others other apart;
   fits = λ all is old. fits-put c.args.table.now c.loop.before c.args.bytes.now c.loop.place c.in_ok-key.end c.in_ok-key.key c.in_ok-key.row (are g c) (read g c) (g.R.Rows.held c.loop.rows) (g.R.Rows.held c.put.new.self) c.args.number c.loop.invariant.up_to c.in_ok-put.ensures.ok all is (c.loop.invariant.fits all is old);
   tables = c.in_ok-put.ensures.tables ∙ c.loop.invariant.tables;

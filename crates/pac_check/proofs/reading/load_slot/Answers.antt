@@ -2,11 +2,11 @@
 use Rattle.std.proofs.Common.{◌≡◌, Ok, ℕ, List, length, subst}
 use Rattle.pac_types.specs.declared.table.Table.{Table}
 use Rattle.pac_bytes.specs.Reading.{Rest, from}
-use Rattle.pac_bytes.specs.Readers.{IsInFront}
+use Rattle.pac_bytes.specs.Readers.{IsAtStart}
 use Rattle.pac_check.specs.Checkpoints.{IsCheckpoint, checkpoint_bytes}
 use Rattle.pac_check.specs.CheckpointReading.{next_checkpoint, found_alone}
 use Rattle.pac_check.specs.Saved.{checkpoint_of}
-use Rattle.pac_check.proofs.SlotLemmas.{loaded_told}
+use Rattle.pac_check.proofs.SlotLemmas.{loaded_known}
 use Rattle.pac_check.proofs.reading.load_slot.Given as given
 use Rattle.pac_check.proofs.reading.load_slot.Goals as goal
 
@@ -14,7 +14,7 @@ use Rattle.pac_check.proofs.reading.load_slot.Goals as goal
 Loads : (g : given.Over) (c : goal.After-drop-bytes g) → List Table → List ℕ → Type 0
 Loads g c tables bytes =
     (found_alone (next_checkpoint tables (from bytes 1)) ≡ Ok (checkpoint_of (length tables) c.in-Ok.field-0 (g.R.Rows.held c.load_checkpoint.new.rows)))
-    × ((rest : Rest) × IsInFront (IsCheckpoint tables) checkpoint_bytes (from bytes 1) (checkpoint_of (length tables) c.in-Ok.field-0 (g.R.Rows.held c.load_checkpoint.new.rows)) rest)
+    × ((rest : Rest) × IsAtStart (IsCheckpoint tables) checkpoint_bytes (from bytes 1) (checkpoint_of (length tables) c.in-Ok.field-0 (g.R.Rows.held c.load_checkpoint.new.rows)) rest)
 
 loads : (g : given.Over) (c : goal.After-drop-bytes g) → Loads g c c.args.cat.now.tables c.in_ok-bytes.bytes.items
 unfolding Loads
@@ -26,4 +26,4 @@ pub returns-in-Ok-clause-loaded : goal.returns-in-Ok-clause-loaded
 unfolding Loads
 returns-in-Ok-clause-loaded g c =
     let all = loads g c in
-    loaded_told c.args.cat.now.tables c.in-Ok.field-0 (g.R.Rows.held c.load_checkpoint.new.rows) c.in_ok-bytes.bytes.items all.1.0 _ all.0 all.1.1 c.in_ok-bytes.ensures.bytes
+    loaded_known c.args.cat.now.tables c.in-Ok.field-0 (g.R.Rows.held c.load_checkpoint.new.rows) c.in_ok-bytes.bytes.items all.1.0 _ all.0 all.1.1 c.in_ok-bytes.ensures.bytes

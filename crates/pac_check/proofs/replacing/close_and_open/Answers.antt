@@ -7,4 +7,4 @@ pub returns-in_err-write_and_sync-clause-any_moment : goal.returns-in_err-write_
 returns-in_err-write_and_sync-clause-any_moment g c = λ some. shutting_both c.args.text.now c.args.state c.requires.not_closed some _ _ c.write_and_sync.ensures.moments
 
 pub returns-clause-any_moment : goal.returns-clause-any_moment
-returns-clause-any_moment g c = λ some. opening_both c.args.text.now c.args.state c.requires.not_closed some _ _ _ c.write_and_sync.ensures.moments c.in_ok-write_and_sync.ensures.durable (c.open_behind.ensures.any_moment [] refl)
+returns-clause-any_moment g c = λ some. opening_both c.args.text.now c.args.state c.requires.not_closed some _ _ _ c.write_and_sync.ensures.moments c.in_ok-write_and_sync.ensures.durable (c.open_after.ensures.any_moment [] refl)

@@ -1,4 +1,4 @@
--- Each step reads one row, behind the key of the one before.
+-- Each step reads one row, after the key of the one before.
 use Rattle.std.proofs.Common.{subst, Ok, ◌≡◌, ◌++◌, ◌∷◌, [], Option}
 use Rattle.std.proofs.lemmas.Result.{err_from_is_err_and}
 use Rattle.pac_base.specs.Refusals.{Fails}

@@ -1,7 +1,7 @@
 -- Where there are no transactions nothing is added; else the log adds them.
 use Rattle.std.proofs.Common.{◌<◌, length, arith}
 use Rattle.std.proofs.lemmas.Grind.{common_steps}
-use Rattle.pac_engine.proofs.CommitLemmas.{nothing_added, may_add, has_added, still_behind, behind_some}
+use Rattle.pac_engine.proofs.CommitLemmas.{nothing_added, may_add, has_added, still_after, after_some}
 use Rattle.pac_engine.proofs.committing.commit.Goals as goal
 
 pub returns-then-is_empty-clause-moments : goal.returns-then-is_empty-clause-moments
@@ -14,25 +14,25 @@ pub returns-in_err-commit-clause-moments : goal.returns-in_err-commit-clause-mom
 returns-in_err-commit-clause-moments g c = λ text batches is.
     let some : 0 < length c.args.txns.items = grind (arith, common_steps) in
     may_add text batches c.args.txns.items some c.args.log.now.gate c.prepare.new.log.gate c.prepare.ensures.gate _ _
-    (c.commit.ensures.any_moment text batches c.args.txns.items (still_behind text batches c.args.txns.items some _ _ c.prepare.ensures.gate is) c.in_ok-prepare.ensures.prepared)
+    (c.commit.ensures.any_moment text batches c.args.txns.items (still_after text batches c.args.txns.items some _ _ c.prepare.ensures.gate is) c.in_ok-prepare.ensures.prepared)
 
 pub returns-clause-moments : goal.returns-clause-moments
 returns-clause-moments g c = λ text batches is.
     let some : 0 < length c.args.txns.items = grind (arith, common_steps) in
     may_add text batches c.args.txns.items some c.args.log.now.gate c.prepare.new.log.gate c.prepare.ensures.gate _ _
-    (c.commit.ensures.any_moment text batches c.args.txns.items (still_behind text batches c.args.txns.items some _ _ c.prepare.ensures.gate is) c.in_ok-prepare.ensures.prepared)
+    (c.commit.ensures.any_moment text batches c.args.txns.items (still_after text batches c.args.txns.items some _ _ c.prepare.ensures.gate is) c.in_ok-prepare.ensures.prepared)
 
 pub returns-clause-added : goal.returns-clause-added
 returns-clause-added g c = λ text batches is.
     let some : 0 < length c.args.txns.items = grind (arith, common_steps) in
     has_added text batches c.args.txns.items some c.args.log.now.gate c.prepare.new.log.gate c.prepare.ensures.gate _ _
-    (c.in_ok-commit.ensures.committed text batches c.args.txns.items (still_behind text batches c.args.txns.items some _ _ c.prepare.ensures.gate is) c.in_ok-prepare.ensures.prepared)
+    (c.in_ok-commit.ensures.committed text batches c.args.txns.items (still_after text batches c.args.txns.items some _ _ c.prepare.ensures.gate is) c.in_ok-prepare.ensures.prepared)
 
-pub returns-clause-behind : goal.returns-clause-behind
-returns-clause-behind g c = λ text batches is.
+pub returns-clause-after : goal.returns-clause-after
+returns-clause-after g c = λ text batches is.
     let some : 0 < length c.args.txns.items = grind (arith, common_steps) in
-    behind_some text batches c.args.txns.items some c.args.log.now.gate c.prepare.new.log.gate c.prepare.ensures.gate _
-    (c.in_ok-commit.ensures.behind text batches c.args.txns.items (still_behind text batches c.args.txns.items some _ _ c.prepare.ensures.gate is) c.in_ok-prepare.ensures.prepared)
+    after_some text batches c.args.txns.items some c.args.log.now.gate c.prepare.new.log.gate c.prepare.ensures.gate _
+    (c.in_ok-commit.ensures.after text batches c.args.txns.items (still_after text batches c.args.txns.items some _ _ c.prepare.ensures.gate is) c.in_ok-prepare.ensures.prepared)
 
 pub returns-in_err-commit-clause-called : goal.returns-in_err-commit-clause-called
 returns-in_err-commit-clause-called g c = λ fault. record { some = grind (arith, common_steps); room = c.in_ok-prepare.ensures.room }

@@ -1,4 +1,4 @@
--- More groups are closed behind those that were.
+-- More groups are closed after those that were.
 use Rattle.pac_session.specs.Session.{ends}
 use Rattle.pac_session.specs.Groups.{all_requests, cut_one}
 use Rattle.pac_engine.proofs.LawLemmas.{begins, closes-then, stops-then}

@@ -13,8 +13,8 @@ use Rattle.pac_entry.proofs.reading.read_entry.Goals as goal
 
 codec : (c : goal.After-entry_at) → IsCodec (IsEntry c.args.cat.now) txn_bytes (next_entry c.args.cat.now)
 codec c =
-    entry_codec c.args.cat.now (few_tables c.args.cat.now.tables (omega (arith, c.tables-tables.ensures.few)) c.tables-tables.ensures.sound)
-    (few_procs c.args.cat.now.tables c.args.cat.now.procs (omega (arith, c.procs-procs.ensures.few)) c.procs-procs.ensures.sound)
+    entry_codec c.args.cat.now (few_tables c.args.cat.now.tables (omega (arith, c.tables-tables.ensures.few)) c.tables-tables.ensures.well_formed)
+    (few_procs c.args.cat.now.tables c.args.cat.now.procs (omega (arith, c.procs-procs.ensures.few)) c.procs-procs.ensures.well_formed)
 
 exact : (c : goal.After-entry_at) → AnswersUnlessMemory c.args.bytes.now c.entry_at.result (next_entry c.args.cat.now (from c.args.bytes.now c.args.at))
 exact c = subst (λ (catalogue : CatalogueState). AnswersUnlessMemory c.args.bytes.now c.entry_at.result (next_entry catalogue (from c.args.bytes.now c.args.at)))

@@ -1,6 +1,6 @@
 -- What reading gives is what is spelled.
 use Rattle.std.proofs.Common.{arith}
-use Rattle.pac_types.specs.Sound.{types}
+use Rattle.pac_types.specs.WellFormed.{types}
 use Rattle.pac_bytes.proofs.Laws.{codec_finds_unless_memory, codec_finds_spelled_unless_memory}
 use Rattle.pac_bytes.proofs.TypedLemmas.{values_codec}
 use Rattle.pac_entry.proofs.row.row_at.Goals as goal

@@ -1,6 +1,6 @@
 -- The types so far.
 use Rattle.std.proofs.Common.{◌≡◌, take}
-use Rattle.pac_types.specs.Sound.{types}
+use Rattle.pac_types.specs.WellFormed.{types}
 use Rattle.pac_flat.proofs.program.types.Given as goal
 
 abbrev pub invariant-loop-column : goal.invariant-loop-column

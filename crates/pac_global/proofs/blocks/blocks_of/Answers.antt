@@ -1,4 +1,4 @@
--- The blocks of one program more stand behind those so far.
+-- The blocks of one program more stand after those so far.
 use Rattle.std.proofs.Common.{◌≡◌, ℕ, ◌+◌, ◌<◌, [], ◌∷◌, ◌++◌, map, take, length, Some, get_or, refl, sym, ap, ◌∙◌, subst, arith, add-one}
 use Rattle.std.specs.Prelude.{slice_get, slice_index, slice_index_or, IsSomeAnd}
 use Rattle.std.proofs.lemmas.List.{length_push, take_all}
@@ -6,7 +6,7 @@ use Rattle.std.proofs.lemmas.Option.{slice_get_read}
 use Rattle.pac_graph.proofs.ItemLemmas.{inside}
 use Rattle.pac_ops.specs.declared.program.Program.{Program}
 use Rattle.pac_global.specs.Drawing.{first_of}
-use Rattle.pac_global.proofs.PlaceLemmas.{first_next, first_within}
+use Rattle.pac_global.proofs.OffsetLemmas.{first_next, first_within}
 use Rattle.pac_global.proofs.BlockLemmas.{each_more, is_more}
 use Rattle.pac_global.proofs.blocks.blocks_of.Goals as goal
 

@@ -7,7 +7,7 @@ use Rattle.pac_graph.specs.Adding.{IsUpTo}
 use Rattle.pac_graph.proofs.AddLemmas.{adds_alike, adds_then, upto_more}
 use Rattle.pac_slice.specs.Dependent.{IsFlowAt}
 use Rattle.pac_global.specs.Drawing.{first_of, HasHomeEdge, HasEdgeOf}
-use Rattle.pac_global.proofs.PlaceLemmas.{first_next, first_within}
+use Rattle.pac_global.proofs.OffsetLemmas.{first_next, first_within}
 use Rattle.pac_global.proofs.HomeLemmas.{program_edges, programs_all}
 use Rattle.pac_global.proofs.draw.add_programs.Goals as goal
 

@@ -3,7 +3,7 @@ use Rattle.std.proofs.Common.{◌≡◌, ◌+◌, Some, length, refl, ap, arith,
 use Rattle.std.specs.Prelude.{slice_get}
 use Rattle.std.proofs.lemmas.Option.{slice_get_read}
 use Rattle.pac_global.specs.Drawing.{first_of}
-use Rattle.pac_global.proofs.PlaceLemmas.{first_next, first_within, first_all}
+use Rattle.pac_global.proofs.OffsetLemmas.{first_next, first_within, first_all}
 use Rattle.pac_global.proofs.draw.op_count.Goals as goal
 
 pub overflow_add-count : goal.overflow_add-count

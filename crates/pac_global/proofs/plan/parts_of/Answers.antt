@@ -1,7 +1,7 @@
 -- The groups of the graph that was drawn are the blocks.
 use Rattle.std.proofs.Common.{◌≡◌, ◌↔◌, ℕ, ◌+◌, ◌<◌, map, length, get_or, sym, ap, ◌∙◌, subst, arith}
 use Rattle.std.proofs.lemmas.List.{length-map}
-use Rattle.pac_ops.specs.Programs.{AreSoundPrograms}
+use Rattle.pac_ops.specs.Programs.{AreWellFormedPrograms}
 use Rattle.pac_graph.specs.Graph.{HasEdge}
 use Rattle.pac_graph.specs.Adding.{Adds}
 use Rattle.pac_slice.proofs.PairLemmas.{only_added}
@@ -11,16 +11,16 @@ use Rattle.pac_plan.proofs.OrderLemmas.{accessed_there}
 use Rattle.pac_types.specs.Fits.{shape}
 use Rattle.pac_ops.specs.Programs.{count_ops}
 use Rattle.pac_global.specs.Drawing.{HasEdgeOf, AreBlocksOf}
-use Rattle.pac_global.proofs.PlanLemmas.{is_analysis, sound_tables}
+use Rattle.pac_global.proofs.PlanLemmas.{is_analysis, well_formed_tables}
 use Rattle.pac_global.proofs.plan.parts_of.Goals as goal
 
 pub add_programs-requires-clause-tables : goal.add_programs-requires-clause-tables
 add_programs-requires-clause-tables c = let tables = map shape c.args.cat.now.tables in
     let programs = c.args.programs.items in
     let types : c.in_ok-tables.tables.items ≡ tables = c.in_ok-tables.ensures ∙ ap (map shape) c.tables.ensures.value in
-    let sound : AreSoundPrograms tables c.deref-2.result.now = subst (λ ps. AreSoundPrograms tables ps) (sym c.deref-2.ensures.value) c.requires.sound in
+    let well_formed : AreWellFormedPrograms tables c.deref-2.result.now = subst (λ ps. AreWellFormedPrograms tables ps) (sym c.deref-2.ensures.value) c.requires.well_formed in
     λ p i t program at accesses.
-    let below : t < length tables = accessed_there tables program i t (sound p program at) accesses in
+    let below : t < length tables = accessed_there tables program i t (well_formed p program at) accesses in
     omega (arith, below, ap length types, c.in_ok-graph.ensures.nodes, c.len.ensures, c.in_ok-tables.tables.ok)
 
 pub returns-clause-plan : goal.returns-clause-plan
@@ -49,9 +49,9 @@ returns-clause-plan c = let cat = c.args.cat.now in
     let plan : IsPlan parts = record {
       few_programs = c.requires.few;
       few_tables = omega (arith, c.tables.ensures.few, length-map cat.tables shape);
-      tables = sound_tables cat.tables c.tables.ensures.sound;
-      programs = c.requires.sound;
-      analysis = is_analysis parts g numbers c.requires.sound nodes drawn c.in_ok-groups.ensures.are blocks homed at_home;
+      tables = well_formed_tables cat.tables c.tables.ensures.well_formed;
+      programs = c.requires.well_formed;
+      analysis = is_analysis parts g numbers c.requires.well_formed nodes drawn c.in_ok-groups.ensures.are blocks homed at_home;
     } in
     subst (λ x. IsPlan (record { programs = x; tables = c.listed-2.result; block_of = c.listed-3.result; homes = c.listed-4.result; blocks = count; edges = edges })) (sym c.listed.ensures)
     (subst (λ x. IsPlan (record { programs = programs; tables = x; block_of = c.listed-3.result; homes = c.listed-4.result; blocks = count; edges = edges })) (sym (c.listed-2.ensures ∙ types))

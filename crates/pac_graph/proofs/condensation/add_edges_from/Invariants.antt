@@ -8,7 +8,7 @@ abbrev pub invariant-loop-to : goal.invariant-loop-to
 invariant-loop-to l = record {
   nodes : l.edges.nodes ≡ l.fn.edges.nodes;
   kept : (a b : ℕ) → HasEdge l.fn.edges a b → HasEdge l.edges a b;
-  sound : (a b : ℕ) → HasEdge l.edges a b → HasEdge l.fn.edges a b ⊎ IsClassEdge l.graph l.numbers a b;
+  well_formed : (a b : ℕ) → HasEdge l.edges a b → HasEdge l.fn.edges a b ⊎ IsClassEdge l.graph l.numbers a b;
   complete : (v : ℕ) → v < l.at → HasEdge l.graph l.from v → (slice_index l.numbers l.from ≡ slice_index l.numbers v → ⊥) → HasEdge l.edges (slice_index l.numbers l.from) (slice_index l.numbers v);
 }
 

@@ -7,6 +7,6 @@ use Rattle.pac_graph.proofs.condensation.edges_between.Given as goal
 abbrev pub invariant-loop-from : goal.invariant-loop-from
 invariant-loop-from l = record {
   nodes : l.edges.nodes ≡ l.count;
-  sound : (a b : ℕ) → HasEdge l.edges a b → IsClassEdge l.graph l.numbers a b;
+  well_formed : (a b : ℕ) → HasEdge l.edges a b → IsClassEdge l.graph l.numbers a b;
   complete : (u v : ℕ) → u < l.from → HasEdge l.graph u v → (slice_index l.numbers u ≡ slice_index l.numbers v → ⊥) → HasEdge l.edges (slice_index l.numbers u) (slice_index l.numbers v);
 }

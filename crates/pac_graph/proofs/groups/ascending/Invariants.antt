@@ -1,4 +1,4 @@
--- The numbers so far stand at their places.
+-- The numbers so far stand at their positions.
 use Rattle.std.proofs.Common.{◌≡◌, ℕ, ◌<◌, length, slice_index}
 use Rattle.pac_graph.proofs.groups.ascending.Given as goal
 

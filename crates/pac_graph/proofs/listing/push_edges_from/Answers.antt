@@ -1,4 +1,4 @@
--- The next edge is listed behind those so far, and in the end the node has no edge more.
+-- The next edge is listed after those so far, and in the end the node has no edge more.
 use Rattle.std.proofs.Common.{◌+◌, sym, subst}
 use Rattle.pac_graph.specs.Listing.{AreEdgesBelow}
 use Rattle.pac_graph.proofs.ListingLemmas.{one_listed, row_listed}

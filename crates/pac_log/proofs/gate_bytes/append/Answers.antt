@@ -1,6 +1,6 @@
--- What is read stands behind the old bytes.
+-- What is read stands after the old bytes.
 use Rattle.std.proofs.Common.{◌≡◌, ◌∙◌, ◌-◌, take, drop, length, arith, length-take, length-drop}
-use Rattle.pac_log.proofs.PieceLemmas.{appended, old_front}
+use Rattle.pac_log.proofs.PieceLemmas.{appended, old_prefix}
 use Rattle.pac_log.proofs.gate_bytes.append.Goals as goal
 
 pub returns-clause-bytes : goal.returns-clause-bytes
@@ -12,5 +12,5 @@ returns-clause-bytes g c =
     let room : length (take (length place - n) (drop n place)) ≡ c.args.count
     = omega (arith, length-take (length place - n) (drop n place), length-drop n place, c.deref_mut.ensures.len, c.in_ok-resize.ensures.len, c.len-old.ensures) in
     appended _ c.truncate.new.self.items old c.read.new.buf _ _ place n c.in_ok-len.len c.resize.new.self.len c.args.count _ c.args.at long
-    (old_front old _ place n c.args.count long (c.deref_mut.ensures.value ∙ c.in_ok-resize.ensures.items)) c.in_ok-len.ensures.bound.0 (omega (arith, c.in_ok-resize.ensures.len, c.in_ok-len.ensures.bound.0, c.read.auto.buf, room)) room
+    (old_prefix old _ place n c.args.count long (c.deref_mut.ensures.value ∙ c.in_ok-resize.ensures.items)) c.in_ok-len.ensures.bound.0 (omega (arith, c.in_ok-resize.ensures.len, c.in_ok-len.ensures.bound.0, c.read.auto.buf, room)) room
     c.truncate.ensures.items c.in_ok-len.ensures.bytes

@@ -1,4 +1,4 @@
--- The name, the length and the text stand one behind the other.
+-- The name, the length and the text stand one after another.
 use Rattle.pac_log.proofs.HeaderLemmas.{three_grew}
 use Rattle.pac_log.proofs.header.put_header.Goals as goal
 

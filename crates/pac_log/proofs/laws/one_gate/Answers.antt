@@ -1,4 +1,4 @@
--- A place is that of one gate.
+-- An offset is that of one gate.
 use Rattle.pac_log.proofs.OneGate.{one_number, few, stays}
 use Rattle.pac_log.proofs.laws.one_gate.Goals as goal
 

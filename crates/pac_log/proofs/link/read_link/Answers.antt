@@ -13,8 +13,8 @@ use Rattle.pac_log.proofs.link.read_link.Goals as goal
 
 codec : (c : goal.After-link_at) → IsCodec (IsLogLink c.args.cat.now) link_bytes (next_link c.args.cat.now)
 codec c = link_codec c.args.cat.now
-    (entry_codec c.args.cat.now (few_tables c.args.cat.now.tables (omega (arith, c.tables-tables.ensures.few)) c.tables-tables.ensures.sound)
-    (few_procs c.args.cat.now.tables c.args.cat.now.procs (omega (arith, c.procs-procs.ensures.few)) c.procs-procs.ensures.sound))
+    (entry_codec c.args.cat.now (few_tables c.args.cat.now.tables (omega (arith, c.tables-tables.ensures.few)) c.tables-tables.ensures.well_formed)
+    (few_procs c.args.cat.now.tables c.args.cat.now.procs (omega (arith, c.procs-procs.ensures.few)) c.procs-procs.ensures.well_formed))
 
 pub returns-clause-found : goal.returns-clause-found
 returns-clause-found c = codec_finds_unless_memory (codec c) _ _ _ (λ i. omega (arith, c.type_inv.bytes i)) c.link_at.ensures

@@ -1,4 +1,4 @@
--- What is told is the stop that came, unless there was no memory for its line.
+-- What is reported is the stop that came, unless there was no memory for its line.
 use Rattle.std.proofs.Common.{refl, arith}
 use Rattle.pac_main.specs.Streams.{observed}
 use Rattle.pac_main.proofs.StopLemmas.{explain-ends}
@@ -16,5 +16,5 @@ returns-in-Ok-clause-ends g c = record {
 pub returns-in-Err-clause-ends : goal.returns-in-Err-clause-ends
 returns-in-Err-clause-ends g c = explain-ends c.args.with_text
     (observed g.I.Source.left g.I.Source.faults c.args.input.now c.write_explanation.new.input) (observed g.O.Sink.held g.O.Sink.faults c.args.output.now c.write_explanation.new.output)
-    (observed g.E.Sink.held g.E.Sink.faults c.args.errors.now c.told.new.errors)
-    c.in-Err.stop c.told.result c.status.result c.status.ensures c.told.ensures.which c.in-Err.ensures.stops c.told.ensures.line
+    (observed g.E.Sink.held g.E.Sink.faults c.args.errors.now c.report.new.errors)
+    c.in-Err.stop c.report.result c.status.result c.status.ensures c.report.ensures.which c.in-Err.ensures.stops c.report.ensures.line

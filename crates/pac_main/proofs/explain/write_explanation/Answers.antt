@@ -1,7 +1,7 @@
 -- What is written is what explains the catalogue.
 use Rattle.std.proofs.Common.{sym, subst, List, ℕ}
 use Rattle.std.proofs.lemmas.Result.{err_from_is_err_and}
-use Rattle.pac_outside.specs.Content.{Took, TookFront}
+use Rattle.pac_outside.specs.Content.{Took, TookPrefix}
 use Rattle.pac_main.specs.Causes.{ExplainStops}
 use Rattle.pac_main.specs.Streams.{observed}
 use Rattle.pac_main.proofs.InputLemmas.{if_err}
@@ -25,7 +25,7 @@ returns-in_err-write_all-clause-stops g c =
       (
         c.in_ok-text.text.items,
         c.in_ok-text.ensures.ok,
-        subst (λ (t : List ℕ). TookFront (g.O.Sink.held c.args.output.now) t (g.O.Sink.held c.write_all.new.sink)) c.deref.ensures.value c.write_all.ensures.front,
+        subst (λ (t : List ℕ). TookPrefix (g.O.Sink.held c.args.output.now) t (g.O.Sink.held c.write_all.new.sink)) c.deref.ensures.value c.write_all.ensures.prefix,
       ),
     ))
 

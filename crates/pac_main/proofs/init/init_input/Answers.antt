@@ -1,4 +1,4 @@
--- What is told is the stop that came, unless there was no memory for its line.
+-- What is reported is the stop that came, unless there was no memory for its line.
 use Rattle.std.proofs.Common.{refl, arith}
 use Rattle.pac_main.specs.Streams.{observed, observed_devices}
 use Rattle.pac_main.proofs.StopLemmas.{init-ends}
@@ -19,6 +19,6 @@ returns-in-Ok-clause-ends g c = record {
 pub returns-in-Err-clause-ends : goal.returns-in-Err-clause-ends
 returns-in-Err-clause-ends g c = init-ends
     (observed g.I.Source.left g.I.Source.faults c.args.input.now c.init.new.input)
-    (observed_devices g.D.Disk.told g.D.Disk.faults c.args.devices.now c.init.new.devices)
-    (observed g.E.Sink.held g.E.Sink.faults c.args.errors.now c.told.new.errors)
-    c.in-Err.stop c.told.result c.status.result c.status.ensures c.told.ensures.which c.in-Err.ensures.stops c.told.ensures.line
+    (observed_devices g.D.Disk.known g.D.Disk.faults c.args.devices.now c.init.new.devices)
+    (observed g.E.Sink.held g.E.Sink.faults c.args.errors.now c.report.new.errors)
+    c.in-Err.stop c.report.result c.status.result c.status.ensures c.report.ensures.which c.in-Err.ensures.stops c.report.ensures.line

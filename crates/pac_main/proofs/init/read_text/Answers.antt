@@ -1,4 +1,4 @@
--- What the bytes that were read tell of the input.
+-- What the bytes that were read say of the input.
 use Rattle.std.proofs.Common.{sym, subst, List, ℕ}
 use Rattle.std.proofs.lemmas.Result.{err_from_is_err_and}
 use Rattle.pac_main.specs.Causes.{GivesNoText}

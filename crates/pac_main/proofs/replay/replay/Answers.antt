@@ -1,7 +1,7 @@
 -- What is written is the dump of the tables with which the script's transactions end.
 use Rattle.std.proofs.Common.{◌≡◌, ◌∙◌, sym, subst, List, ℕ}
 use Rattle.std.proofs.lemmas.Result.{err_from_is_err_and}
-use Rattle.pac_outside.specs.Content.{Took, TookFront}
+use Rattle.pac_outside.specs.Content.{Took, TookPrefix}
 use Rattle.pac_main.specs.Causes.{ReplayStops}
 use Rattle.pac_main.specs.Replay.{dump}
 use Rattle.pac_main.specs.Streams.{observed}
@@ -37,7 +37,7 @@ returns-in_err-write_all-clause-stops g c =
         is = c.in_ok-script.ensures.ok;
         ends = c.in_ok-rows.ensures.ends;
         within = c.in_ok-rows.ensures.within;
-        has = subst (λ (t : List ℕ). TookFront (g.O.Sink.held c.args.output.now) t (g.O.Sink.held c.write_all.new.sink)) text c.write_all.ensures.front;
+        has = subst (λ (t : List ℕ). TookPrefix (g.O.Sink.held c.args.output.now) t (g.O.Sink.held c.write_all.new.sink)) text c.write_all.ensures.prefix;
       },
     ))
 

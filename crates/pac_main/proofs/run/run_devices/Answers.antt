@@ -1,15 +1,15 @@
--- The command ends by the stop that is told.
+-- The command ends by the stop that is reported.
 use Rattle.std.proofs.Common.{ℕ, Err, Ok, subst, ◌∙◌}
-use Rattle.pac_outside.specs.Causes.{Rose}
+use Rattle.pac_outside.specs.Causes.{Faulted}
 use Rattle.pac_outside.specs.Devices.{each}
-use Rattle.pac_store.specs.Images.{WhereRead}
+use Rattle.pac_store.specs.Images.{IfReadKnown}
 use Rattle.pac_recover.specs.Recovering.{IsOverIn}
 use Rattle.pac_run.specs.Run.{IsRun}
 use Rattle.pac_main.specs.Streams.{observed}
 use Rattle.pac_main.specs.declared.stop.Stop.{Stop}
 use Rattle.pac_main.proofs.IdleLemmas.{run-taken}
 use Rattle.pac_main.proofs.RunLemmas.{run-cause, run-done, run-ends}
-use Rattle.pac_main.proofs.StopLemmas.{Told}
+use Rattle.pac_main.proofs.StopLemmas.{Reported}
 use Rattle.pac_main.proofs.run.run_devices.Goals as goal
 
 pub returns-in-Ok-clause-ends : goal.returns-in-Ok-clause-ends
@@ -19,8 +19,8 @@ returns-in-Ok-clause-ends g c =
     let source = observed g.I.Source.left g.I.Source.faults c.args.input.now c.run.new.input in
     let sink = observed g.O.Sink.held g.O.Sink.faults c.args.output.now c.run.new.output in
     let errors = observed g.E.Sink.held g.E.Sink.faults c.args.errors.now c.args.errors.now in
-    run-done c.args.batch c.args.limit source sink errors (g.D.Disk.told old.log) (g.D.Disk.told old.slot_a) (g.D.Disk.told old.slot_b) (each g.D.Disk.told new) (each g.D.Disk.faults old) (each g.D.Disk.faults new)
-    (subst (λ (n : ℕ). IsRun c.args.batch n source.before source.behind sink.before sink.behind (each g.D.Disk.told old) (each g.D.Disk.told new) (Rose sink.faults_before sink.faults_behind) (Ok tt)) c.from.ensures c.in-Ok.ensures.run)
+    run-done c.args.group_size c.args.limit source sink errors (g.D.Disk.known old.log) (g.D.Disk.known old.slot_a) (g.D.Disk.known old.slot_b) (each g.D.Disk.known new) (each g.D.Disk.faults old) (each g.D.Disk.faults new)
+    (subst (λ (n : ℕ). IsRun c.args.group_size n source.before source.after sink.before sink.after (each g.D.Disk.known old) (each g.D.Disk.known new) (Faulted sink.faults_before sink.faults_after) (Ok tt)) c.from.ensures c.in-Ok.ensures.run)
 
 pub returns-in-Err-clause-ends : goal.returns-in-Err-clause-ends
 returns-in-Err-clause-ends g c =
@@ -28,24 +28,24 @@ returns-in-Err-clause-ends g c =
     let new = c.run.new.devices in
     let source = observed g.I.Source.left g.I.Source.faults c.args.input.now c.run.new.input in
     let sink = observed g.O.Sink.held g.O.Sink.faults c.args.output.now c.run.new.output in
-    let errors = observed g.E.Sink.held g.E.Sink.faults c.args.errors.now c.told.new.errors in
+    let errors = observed g.E.Sink.held g.E.Sink.faults c.args.errors.now c.report.new.errors in
     let why = c.in-Err.why in
     let h = c.in-Err.ensures in
     let same = c.from.ensures in
-    run-ends c.args.batch c.args.limit source sink errors (g.D.Disk.told old.log) (g.D.Disk.told old.slot_a) (g.D.Disk.told old.slot_b) (each g.D.Disk.told new) (each g.D.Disk.faults old) (each g.D.Disk.faults new)
-    why c.told.result c.status.result c.status.ensures (subst (λ (s : Stop). Told s c.told.result) c.from-in-Err.ensures c.told.ensures.which)
-    (subst (λ (n : ℕ). IsRun c.args.batch n source.before source.behind sink.before sink.behind (each g.D.Disk.told old) (each g.D.Disk.told new) (Rose sink.faults_before sink.faults_behind) (Err why)) same h.run)
-    (run-cause c.args.limit source sink (g.D.Disk.told old.log) (g.D.Disk.told old.slot_a) (g.D.Disk.told old.slot_b) (each g.D.Disk.faults old) (each g.D.Disk.faults new) (each g.D.Disk.told new) why (record {
+    run-ends c.args.group_size c.args.limit source sink errors (g.D.Disk.known old.log) (g.D.Disk.known old.slot_a) (g.D.Disk.known old.slot_b) (each g.D.Disk.known new) (each g.D.Disk.faults old) (each g.D.Disk.faults new)
+    why c.report.result c.status.result c.status.ensures (subst (λ (s : Stop). Reported s c.report.result) c.from-in-Err.ensures c.report.ensures.which)
+    (subst (λ (n : ℕ). IsRun c.args.group_size n source.before source.after sink.before sink.after (each g.D.Disk.known old) (each g.D.Disk.known new) (Faulted sink.faults_before sink.faults_after) (Err why)) same h.run)
+    (run-cause c.args.limit source sink (g.D.Disk.known old.log) (g.D.Disk.known old.slot_a) (g.D.Disk.known old.slot_b) (each g.D.Disk.faults old) (each g.D.Disk.faults new) (each g.D.Disk.known new) why (record {
       no_store = h.no_store;
       log_damage = h.log_damage;
       slot_damage = h.slot_damage;
       abort = h.abort;
-      over = λ table rows most is. let o = h.over table rows most is in (o.0 ∙ same, subst (λ (n : ℕ). WhereRead (IsOverIn table rows n) (g.D.Disk.told old.log) (g.D.Disk.told old.slot_a) (g.D.Disk.told old.slot_b)) same o.1);
+      over = λ table rows most is. let o = h.over table rows most is in (o.0 ∙ same, subst (λ (n : ℕ). IfReadKnown (IsOverIn table rows n) (g.D.Disk.known old.log) (g.D.Disk.known old.slot_a) (g.D.Disk.known old.slot_b)) same o.1);
       input_fault = h.input_fault;
       output_fault = h.output_fault;
       disk_fault = h.disk_fault;
     }))
-    c.told.ensures.line
+    c.report.ensures.line
 
 pub returns-in-Ok-clause-taken : goal.returns-in-Ok-clause-taken
 returns-in-Ok-clause-taken g c = run-taken _ _ _ _ _ _ _ _ _ _ c.in-Ok.ensures.run

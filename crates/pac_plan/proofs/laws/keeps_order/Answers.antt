@@ -1,4 +1,4 @@
--- It follows from the analysis and from programs that are sound.
+-- It follows from the analysis and from programs that are well-formed.
 use Rattle.pac_plan.proofs.OrderLemmas.{order_kept}
 use Rattle.pac_plan.proofs.laws.keeps_order.Goals as goal
 

@@ -1,5 +1,5 @@
 -- What is written is the canonical text: it reads as the tree again, and is that of each tree that is the same but for
--- places.
+-- offsets.
 use Rattle.std.proofs.Common.{sym, ◌∙◌}
 use Rattle.pac_print.proofs.ReadsBack.{written_reads, written_again}
 use Rattle.pac_print.proofs.SameText.{same_text, all_written}
@@ -15,7 +15,7 @@ returns-clause-again c = λ other.
     written_again c.loop-proc.out.items c.args.tree.now other
     (all_written c.loop-proc.out.items c.loop-proc.proc-index c.as_slice-proc-items.result.now c.args.tree.now c.loop-proc-test.false c.loop-proc.invariant)
 
-pub returns-clause-places : goal.returns-clause-places
-returns-clause-places c = λ other same.
+pub returns-clause-offsets : goal.returns-clause-offsets
+returns-clause-offsets c = λ other same.
     all_written c.loop-proc.out.items c.loop-proc.proc-index c.as_slice-proc-items.result.now c.args.tree.now c.loop-proc-test.false c.loop-proc.invariant
     ∙ sym (same_text other c.args.tree.now same)

@@ -11,7 +11,7 @@ use Rattle.pac_recover.specs.Damages.{IsDamagedSlot}
 use Rattle.pac_recover.specs.Loading.{AreNewestOf, IsLoadedFrom, stored_of}
 use Rattle.pac_recover.specs.Logs.{HoldsWhole}
 use Rattle.pac_recover.proofs.CauseLemmas.{as-error, no-error, the-cause}
-use Rattle.pac_recover.proofs.LoadLemmas.{first-damage, loaded-stored, moved-told, reader-told, slot-told, three-same, told-never, told-together, told-weaker}
+use Rattle.pac_recover.proofs.LoadLemmas.{first-damage, loaded-stored, moved-known, reader-known, slot-known, three-same, known-never, known-together, known-weaker}
 use Rattle.pac_recover.proofs.loading.load.Goals as goal
 
 pub returns-in_err-slots-clause-log_damage : goal.returns-in_err-slots-clause-log_damage
@@ -27,7 +27,7 @@ returns-in_err-slots-clause-slot_damage g c = λ slot at kind is.
     let cause = the-cause r.result p.0 c.in_err-slots.field-0.0 (load.Damaged (Slot slot at kind)) p.1 p.2 is in
     let same = c.in_ok-catalogue.ensures ∙ c.catalogue.ensures.value ∙ ap (λ (gate : NextGate). gate.catalogue) c.gate.ensures in
     first-damage c.in_ok-log.log c.in_ok-catalogue.catalogue c.deref.result.now slot at kind same c.deref.ensures.value
-    (g.D.Disk.told c.args.devices.now.log) (g.D.Disk.told c.args.devices.now.slot_a) (g.D.Disk.told c.args.devices.now.slot_b)
+    (g.D.Disk.known c.args.devices.now.log) (g.D.Disk.known c.args.devices.now.slot_a) (g.D.Disk.known c.args.devices.now.slot_b)
     c.in_ok-log.ensures.holds (c.in_err-slots.ensures.damaged slot at kind (as-error _ _ cause))
 
 pub returns-in_err-tables-clause-slot_damage : goal.returns-in_err-tables-clause-slot_damage
@@ -35,24 +35,24 @@ returns-in_err-tables-clause-slot_damage g c = λ slot at kind is.
     let r = c.from_residual-in_err-tables in
     let p = err_from_is_err_and r.result r.ensures.1 in
     let cause = the-cause r.result p.0 c.in_err-tables.field-0.0 (load.Damaged (Slot slot at kind)) p.1 p.2 is in
-    told-never (IsDamagedSlot slot at kind) (g.D.Disk.told c.args.devices.now.log) (g.D.Disk.told c.args.devices.now.slot_a) (g.D.Disk.told c.args.devices.now.slot_b)
-    (moved-told (λ x y. ⊥) _ _ _ _ c.in_ok-slots.ensures.same_a c.in_ok-slots.ensures.same_b (c.in_err-tables.ensures.whole slot at kind (as-error _ _ cause)))
+    known-never (IsDamagedSlot slot at kind) (g.D.Disk.known c.args.devices.now.log) (g.D.Disk.known c.args.devices.now.slot_a) (g.D.Disk.known c.args.devices.now.slot_b)
+    (moved-known (λ x y. ⊥) _ _ _ _ c.in_ok-slots.ensures.same_a c.in_ok-slots.ensures.same_b (c.in_err-tables.ensures.whole slot at kind (as-error _ _ cause)))
 
 pub returns-clause-loaded : goal.returns-clause-loaded
 returns-clause-loaded g c =
     let log = c.in_ok-log.log in
     let catalogue = c.in_ok-catalogue.catalogue in
     let slots = c.in_ok-slots.slots in
-    told-together (HoldsWhole log) (IsSlot catalogue.tables slots.a) (IsSlot catalogue.tables slots.b) (AreNewestOf catalogue slots c.in_ok-tables.tables.rows) (IsLoadedFrom c.in_ok-join_parts.field-0) c.in_ok-join_parts.ensures.images
-    (g.D.Disk.told c.args.devices.now.log) (g.D.Disk.told c.args.devices.now.slot_a) (g.D.Disk.told c.args.devices.now.slot_b)
+    known-together (HoldsWhole log) (IsSlot catalogue.tables slots.a) (IsSlot catalogue.tables slots.b) (AreNewestOf catalogue slots c.in_ok-tables.tables.rows) (IsLoadedFrom c.in_ok-join_parts.field-0) c.in_ok-join_parts.ensures.images
+    (g.D.Disk.known c.args.devices.now.log) (g.D.Disk.known c.args.devices.now.slot_a) (g.D.Disk.known c.args.devices.now.slot_b)
     c.in_ok-log.ensures.holds c.in_ok-slots.ensures.a c.in_ok-slots.ensures.b
-    (moved-told (AreNewestOf catalogue slots c.in_ok-tables.tables.rows) _ _ _ _ c.in_ok-slots.ensures.same_a c.in_ok-slots.ensures.same_b c.in_ok-tables.ensures.newest)
+    (moved-known (AreNewestOf catalogue slots c.in_ok-tables.tables.rows) _ _ _ _ c.in_ok-slots.ensures.same_a c.in_ok-slots.ensures.same_b c.in_ok-tables.ensures.newest)
 
 pub returns-clause-stored : goal.returns-clause-stored
 returns-clause-stored g c =
     let loaded = c.in_ok-join_parts.field-0 in
-    told-weaker (IsLoadedFrom loaded) (λ images. IsStored images (stored_of loaded)) (loaded-stored loaded)
-    (g.D.Disk.told c.args.devices.now.log) (g.D.Disk.told c.args.devices.now.slot_a) (g.D.Disk.told c.args.devices.now.slot_b) (returns-clause-loaded g c)
+    known-weaker (IsLoadedFrom loaded) (λ images. IsStored images (stored_of loaded)) (loaded-stored loaded)
+    (g.D.Disk.known c.args.devices.now.log) (g.D.Disk.known c.args.devices.now.slot_a) (g.D.Disk.known c.args.devices.now.slot_b) (returns-clause-loaded g c)
 
 pub returns-clause-quiet : goal.returns-clause-quiet
 returns-clause-quiet g c = λ no_fault.
@@ -60,14 +60,14 @@ returns-clause-quiet g c = λ no_fault.
     (c.in_ok-tables.ensures.quiet_b (no-error _ _) ∙ c.in_ok-slots.ensures.quiet_b (no-error _ _))
 
 pub returns-clause-log : goal.returns-clause-log
-returns-clause-log g c = reader-told c.in_ok-log.log c.in_ok-join_parts.field-0 _ c.in_ok-join_parts.ensures.reader c.in_ok-log.ensures.holds
+returns-clause-log g c = reader-known c.in_ok-log.log c.in_ok-join_parts.field-0 _ c.in_ok-join_parts.ensures.reader c.in_ok-log.ensures.holds
 
 pub returns-clause-slot_a : goal.returns-clause-slot_a
 returns-clause-slot_a g c =
     let slots = c.in_ok-slots.slots in
-    slot-told c.in_ok-catalogue.catalogue c.in_ok-join_parts.field-0.catalogue slots.a c.in_ok-join_parts.field-0.slots.a _ c.in_ok-join_parts.ensures.catalogue (ap (λ (s : Slots). s.a) c.in_ok-join_parts.ensures.slots) c.in_ok-slots.ensures.a
+    slot-known c.in_ok-catalogue.catalogue c.in_ok-join_parts.field-0.catalogue slots.a c.in_ok-join_parts.field-0.slots.a _ c.in_ok-join_parts.ensures.catalogue (ap (λ (s : Slots). s.a) c.in_ok-join_parts.ensures.slots) c.in_ok-slots.ensures.a
 
 pub returns-clause-slot_b : goal.returns-clause-slot_b
 returns-clause-slot_b g c =
     let slots = c.in_ok-slots.slots in
-    slot-told c.in_ok-catalogue.catalogue c.in_ok-join_parts.field-0.catalogue slots.b c.in_ok-join_parts.field-0.slots.b _ c.in_ok-join_parts.ensures.catalogue (ap (λ (s : Slots). s.b) c.in_ok-join_parts.ensures.slots) c.in_ok-slots.ensures.b
+    slot-known c.in_ok-catalogue.catalogue c.in_ok-join_parts.field-0.catalogue slots.b c.in_ok-join_parts.field-0.slots.b _ c.in_ok-join_parts.ensures.catalogue (ap (λ (s : Slots). s.b) c.in_ok-join_parts.ensures.slots) c.in_ok-slots.ensures.b

@@ -1,12 +1,12 @@
 -- The log is read from its first gate on.
 use Rattle.std.proofs.Common.{Option, subst}
 use Rattle.std.proofs.lemmas.Result.{err_from_is_err_and}
-use Rattle.pac_outside.specs.Disk.{DiskHistory, WhereTold}
+use Rattle.pac_outside.specs.Disk.{DiskHistory, IfKnown}
 use Rattle.pac_log.specs.declared.errors.LogError.TheVariants as error
 use Rattle.pac_recover.specs.Logs.{ReadsTo}
 use Rattle.pac_recover.proofs.CauseLemmas.{as-error, the-cause}
 use Rattle.pac_recover.proofs.LoadLemmas.{holds-whole}
-use Rattle.pac_recover.proofs.ReadLemmas.{damage-behind}
+use Rattle.pac_recover.proofs.ReadLemmas.{damage-after}
 use Rattle.pac_recover.proofs.log.read_log.Goals as goal
 
 pub returns-in_err-reader-clause-damaged : goal.returns-in_err-reader-clause-damaged
@@ -19,12 +19,12 @@ returns-in_err-batches-clause-damaged g c = λ at kind is.
     let r = c.from_residual-in_err-batches in
     let p = err_from_is_err_and r.result r.ensures.1 in
     let cause = the-cause r.result p.0 c.in_err-batches.field-0.0 (error.Damaged at kind) p.1 p.2 is in
-    damage-behind c.in_ok-reader.reader.gate at kind (g.D.Disk.told c.args.disk.now) (g.D.Disk.told c.attach.new.disk) c.in_ok-reader.ensures.same c.in_ok-reader.ensures.store
+    damage-after c.in_ok-reader.reader.gate at kind (g.D.Disk.known c.args.disk.now) (g.D.Disk.known c.attach.new.disk) c.in_ok-reader.ensures.same c.in_ok-reader.ensures.store
     (c.in_err-batches.ensures.damaged at kind (as-error _ _ cause))
 
 pub returns-clause-holds : goal.returns-clause-holds
 returns-clause-holds g c =
     let first = c.in_ok-reader.reader.gate in
-    let told = g.D.Disk.told c.args.disk.now in
-    holds-whole (record { reader = c.read_batches.new.reader; batches = c.in_ok-batches.batches; gates = c.in_ok-batches.gates }) first told c.in_ok-batches.ensures.read c.in_ok-reader.ensures.store
-    (λ text. subst (λ (t : Option DiskHistory). WhereTold (λ h. ReadsTo text first c.read_batches.new.reader.gate c.in_ok-batches.batches.items h.now.seen) t) c.in_ok-reader.ensures.same (c.in_ok-batches.ensures.holds text))
+    let known = g.D.Disk.known c.args.disk.now in
+    holds-whole (record { reader = c.read_batches.new.reader; batches = c.in_ok-batches.batches; gates = c.in_ok-batches.gates }) first known c.in_ok-batches.ensures.read c.in_ok-reader.ensures.store
+    (λ text. subst (λ (t : Option DiskHistory). IfKnown (λ h. ReadsTo text first c.read_batches.new.reader.gate c.in_ok-batches.batches.items h.now.seen) t) c.in_ok-reader.ensures.same (c.in_ok-batches.ensures.holds text))

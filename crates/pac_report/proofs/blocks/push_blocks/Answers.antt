@@ -1,4 +1,4 @@
--- A line more is written; behind the lines of all blocks stand those of edges.
+-- A line more is written; after the lines of all blocks stand those of edges.
 use Rattle.std.proofs.Common.{◌≡◌, ◌<◌, ℕ, ◌++◌, List, Vec, Global, codes, decimal, flat_map, ap, ◌∙◌, arith}
 use Rattle.pac_report.specs.Explain.{block_line, block_members, edge_line}
 use Rattle.pac_report.proofs.GroupLemmas.{hold_at, hold_count, line_added, lines_before}

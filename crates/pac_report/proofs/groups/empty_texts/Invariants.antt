@@ -1,4 +1,4 @@
--- So many texts, with nothing in them.
+-- That many texts, with nothing in them.
 use Rattle.pac_report.specs.GroupTexts.{Hold, no_text}
 use Rattle.pac_report.proofs.groups.empty_texts.Given as goal
 

@@ -1,4 +1,4 @@
--- A line more is written; behind the lines of all slices stand those of edges.
+-- A line more is written; after the lines of all slices stand those of edges.
 use Rattle.std.proofs.Common.{◌≡◌, ◌<◌, ℕ, ◌++◌, List, Vec, Global, codes, decimal, flat_map, ap, ◌∙◌, arith}
 use Rattle.pac_graph.specs.Classes.{class_count}
 use Rattle.pac_report.specs.Explain.{slice_line, slice_members, edge_line}

@@ -5,6 +5,6 @@ use Rattle.pac_request.proofs.plain.argument.Goals as goal
 
 pub returns-clause-read : goal.returns-clause-read
 returns-clause-read c =
-    let literal = c.behind_gap-literal.result.now in
+    let literal = c.after_gap-literal.result.now in
     let len = c.in_ok-value.len in
-    argument_read c.args.bytes.now literal (take (length literal - len) (drop len literal)) c.in_ok-value.value len c.behind_gap-literal.ensures c.in_ok-value.ensures.literal (take_rest literal len)
+    argument_read c.args.bytes.now literal (take (length literal - len) (drop len literal)) c.in_ok-value.value len c.after_gap-literal.ensures c.in_ok-value.ensures.literal (take_rest literal len)

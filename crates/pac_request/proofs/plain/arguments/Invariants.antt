@@ -1,5 +1,5 @@
 use Rattle.std.proofs.Common.{length}
-use Rattle.pac_types.specs.Sound.{types}
+use Rattle.pac_types.specs.WellFormed.{types}
 use Rattle.pac_request.proofs.PlainLemmas.{SoFar}
 use Rattle.pac_request.proofs.plain.arguments.Given as goal
 

@@ -7,13 +7,13 @@ use Rattle.pac_request.proofs.plain.called.Goals as goal
 
 pub returns-clause-called : goal.returns-clause-called
 returns-clause-called c =
-    let word = c.behind_gap-word.result.now in
+    let word = c.after_gap-word.result.now in
     let len = c.in_ok-len.len in
-    let name = c.behind_gap-name.result.now in
+    let name = c.after_gap-name.result.now in
     let size = c.in_ok-len-2.len in
     let call = same_bytes (take len word) c.word.result.now (not-false _ (sym c.ne.ensures ∙ c.if-ne.false)) ∙ c.word.ensures in
-    is_called c.args.catalogue.now c.args.line.now word (take len word) (take (length word - len) (drop len word)) name (take size name) (take (length name - size) (drop size name)) c.behind_gap.result.now c.in_ok-behind.behind.now
+    is_called c.args.catalogue.now c.args.line.now word (take len word) (take (length word - len) (drop len word)) name (take size name) (take (length name - size) (drop size name)) c.after_gap.result.now c.in_ok-after.after.now
     len size c.in_ok-number.number c.in_ok-number.proc.now
-    c.behind_gap-word.ensures c.in_ok-len.ensures.name call (take_rest word len)
-    c.behind_gap-name.ensures c.in_ok-len-2.ensures.name (take_rest name size)
-    c.in_ok-number.ensures.found c.behind_gap.ensures c.in_ok-behind.ensures
+    c.after_gap-word.ensures c.in_ok-len.ensures.name call (take_rest word len)
+    c.after_gap-name.ensures c.in_ok-len-2.ensures.name (take_rest name size)
+    c.in_ok-number.ensures.found c.after_gap.ensures c.in_ok-after.ensures

@@ -4,4 +4,4 @@ use Rattle.pac_request.proofs.PlainLemmas.{end_read}
 use Rattle.pac_request.proofs.plain.ends.Goals as goal
 
 pub returns-in-Some : goal.returns-in-Some
-returns-in-Some c = λ all. end_read c.args.bytes.now c.behind_gap.result.now c.in-Some.behind.now c.behind_gap.ensures c.in-Some.ensures (sym c.gap_len.ensures.gap ∙ eqb-true c.gap_len.result (length c.in-Some.behind.now) all)
+returns-in-Some c = λ all. end_read c.args.bytes.now c.after_gap.result.now c.in-Some.after.now c.after_gap.ensures c.in-Some.ensures (sym c.gap_len.ensures.gap ∙ eqb-true c.gap_len.result (length c.in-Some.after.now) all)

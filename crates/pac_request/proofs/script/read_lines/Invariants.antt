@@ -5,12 +5,12 @@ use Rattle.pac_request.proofs.ReadingLemmas.{Reading}
 use Rattle.pac_request.proofs.script.read_lines.Given as goal
 
 -- the lines before are read, and each of them took a byte and a number at most
-abbrev pub invariant-loop-cutter : goal.invariant-loop-cutter
-invariant-loop-cutter l = record {
-  reading : Reading l.catalogue (lines l.text) (lines l.rest) l.number l.cutter;
+abbrev pub invariant-loop-batcher : goal.invariant-loop-batcher
+invariant-loop-batcher l = record {
+  reading : Reading l.catalogue (lines l.text) (lines l.rest) l.number l.batcher;
   few : l.number + length l.rest ≤ length l.text + 1;
-  numbers : next_txn l.cutter ≤ l.number;
+  numbers : next_txn l.batcher ≤ l.number;
 }
 
-abbrev pub decreases-loop-cutter : goal.decreases-loop-cutter
-decreases-loop-cutter l = length l.rest
+abbrev pub decreases-loop-batcher : goal.decreases-loop-batcher
+decreases-loop-batcher l = length l.rest

@@ -24,8 +24,8 @@ named procs shown n k count proc same at first = record {
       ∙ sym (ap (λ (xs : List Proc). Some (get_or xs k proc).name) same ∙ ap (λ (i : ℕ). Some (get_or procs i proc).name) at);
 }
 
-told : {T : Type 0} (f g : ScriptFault) → ◌≡◌ {A = Result T ScriptFault} (Err f) (Err g) → f ≡ g
-told f g h = cc
+reported : {T : Type 0} (f g : ScriptFault) → ◌≡◌ {A = Result T ScriptFault} (Err f) (Err g) → f ≡ g
+reported f g h = cc
 
 pub bounds-procs-from : goal.bounds-procs-from
 bounds-procs-from c = within c.args.catalogue.now.procs _ _ _ _ c.procs.ensures.value c.from.ensures (c.in-Err.ensures.fault c.in-Err.excess refl)
@@ -35,5 +35,5 @@ bounds-procs-from-in-Err c = within c.args.catalogue.now.procs _ _ _ _ c.procs.e
 
 pub returns-in-Err-clause-fault : goal.returns-in-Err-clause-fault
 returns-in-Err-clause-fault c = λ fault is.
-    subst (λ (f : ScriptFault). IsExcessFault c.args.catalogue.now f) (told _ fault is)
+    subst (λ (f : ScriptFault). IsExcessFault c.args.catalogue.now f) (reported _ fault is)
     (named c.args.catalogue.now.procs c.procs.result.now c.in-Err.excess.proc c.from.result c.in-Err.excess.count c.index-procs-from.result c.procs.ensures.value c.from.ensures (c.in-Err.ensures.fault c.in-Err.excess refl))

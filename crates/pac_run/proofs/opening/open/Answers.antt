@@ -4,19 +4,19 @@ use Rattle.pac_types.specs.Typing.{CatalogueState}
 use Rattle.pac_log.specs.Reading.{IsStore}
 use Rattle.pac_recover.specs.Damages.{IsDamagedLog, IsDamagedSlot}
 use Rattle.pac_recover.specs.Recovering.{AbortsIn, IsOverIn}
-use Rattle.pac_run.proofs.OpenLemmas.{opened-before, opened-begins, opened-ready, read-before, settled-before, told-before}
+use Rattle.pac_run.proofs.OpenLemmas.{opened-before, opened-begins, opened-ready, read-before, settled-before, known-before}
 use Rattle.pac_run.proofs.opening.open.Goals as goal
 
 pub returns-in-Ok-clause-opened : goal.returns-in-Ok-clause-opened
 returns-in-Ok-clause-opened g c =
     let e = c.in-Ok.ensures in
-    opened-before g.D.Disk.told c.engine_over.new.devices _ _ _ _ _ _ e.log e.slot_a e.slot_b c.engine_over.ensures.same c.engine_over.result c.engine_over.ensures.opened
+    opened-before g.D.Disk.known c.engine_over.new.devices _ _ _ _ _ _ e.log e.slot_a e.slot_b c.engine_over.ensures.same c.engine_over.result c.engine_over.ensures.opened
 
 pub returns-in-Ok-clause-no_store : goal.returns-in-Ok-clause-no_store
-returns-in-Ok-clause-no_store g c = λ is. told-before (λ h. (text : List ℕ) (catalogue : CatalogueState) → IsStore text catalogue h.now.seen → ⊥) (λ h p. p) _ _ c.in-Ok.ensures.log (c.engine_over.ensures.no_store is)
+returns-in-Ok-clause-no_store g c = λ is. known-before (λ h. (text : List ℕ) (catalogue : CatalogueState) → IsStore text catalogue h.now.seen → ⊥) (λ h p. p) _ _ c.in-Ok.ensures.log (c.engine_over.ensures.no_store is)
 
 pub returns-in-Ok-clause-log_damage : goal.returns-in-Ok-clause-log_damage
-returns-in-Ok-clause-log_damage g c = λ at kind is. told-before (λ h. IsDamagedLog at kind h.now.seen) (λ h p. p) _ _ c.in-Ok.ensures.log (c.engine_over.ensures.log_damage at kind is)
+returns-in-Ok-clause-log_damage g c = λ at kind is. known-before (λ h. IsDamagedLog at kind h.now.seen) (λ h p. p) _ _ c.in-Ok.ensures.log (c.engine_over.ensures.log_damage at kind is)
 
 pub returns-in-Ok-clause-slot_damage : goal.returns-in-Ok-clause-slot_damage
 returns-in-Ok-clause-slot_damage g c = λ slot at kind is.
@@ -37,14 +37,14 @@ returns-in-Ok-clause-over g c = λ table rows most is.
 pub returns-in-Ok-clause-ready : goal.returns-in-Ok-clause-ready
 returns-in-Ok-clause-ready g c =
     let e = c.in-Ok.ensures in
-    opened-ready g.D.Disk.told c.engine_over.new.devices _ _ _ _ _ _ e.log e.slot_a e.slot_b c.engine_over.ensures.same c.engine_over.result c.engine_over.ensures.log c.engine_over.ensures.slot_a c.engine_over.ensures.slot_b
+    opened-ready g.D.Disk.known c.engine_over.new.devices _ _ _ _ _ _ e.log e.slot_a e.slot_b c.engine_over.ensures.same c.engine_over.result c.engine_over.ensures.log c.engine_over.ensures.slot_a c.engine_over.ensures.slot_b
 
 pub returns-in-Ok-clause-begins : goal.returns-in-Ok-clause-begins
 returns-in-Ok-clause-begins g c =
     let e = c.in-Ok.ensures in
-    opened-begins g.D.Disk.told c.engine_over.new.devices _ _ _ _ _ _ e.log e.slot_a e.slot_b c.engine_over.ensures.same c.args.batch c.args.limit c.engine_over.result c.engine_over.ensures.fresh e.moments c.engine_over.ensures.opened c.engine_over.ensures.slot_a c.engine_over.ensures.slot_b
+    opened-begins g.D.Disk.known c.engine_over.new.devices _ _ _ _ _ _ e.log e.slot_a e.slot_b c.engine_over.ensures.same c.args.batch c.args.limit c.engine_over.result c.engine_over.ensures.fresh e.moments c.engine_over.ensures.opened c.engine_over.ensures.slot_a c.engine_over.ensures.slot_b
 
 pub returns-in-Ok-clause-settled : goal.returns-in-Ok-clause-settled
 returns-in-Ok-clause-settled g c = λ other.
     let e = c.in-Ok.ensures in
-    settled-before g.D.Disk.told c.engine_over.new.devices _ _ _ _ _ _ e.log e.slot_a e.slot_b c.engine_over.ensures.same
+    settled-before g.D.Disk.known c.engine_over.new.devices _ _ _ _ _ _ e.log e.slot_a e.slot_b c.engine_over.ensures.same

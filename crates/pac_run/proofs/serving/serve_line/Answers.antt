@@ -12,5 +12,5 @@ returns-in_default-clause-ok g c = record {
   asked = [];
   asks = subst (λ (o : Option Request). LineAsks c.args.catalogue.now c.args.line.now (listed_asked o)) c.in_default.is c.in_ok-asked.ensures.asks;
   stop = tt;
-  replied = record { more = []; took = took-nothing _; answered = answered-none c.args.engine.now (each g.D.Disk.told c.args.devices.now) (nothing-stands c.args.engine.now (each g.D.Disk.told c.args.devices.now)) };
+  replied = record { more = []; took = took-nothing _; answered = answered-none c.args.engine.now (each g.D.Disk.known c.args.devices.now) (nothing-stands c.args.engine.now (each g.D.Disk.known c.args.devices.now)) };
 }

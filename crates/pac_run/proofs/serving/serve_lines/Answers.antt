@@ -1,9 +1,9 @@
--- Each line is served behind the others.
+-- Each line is served after the others.
 use Rattle.std.proofs.Common.{◌∙◌, refl, sym, arith}
 use Rattle.std.proofs.lemmas.Result.{err_from_is_err_and}
 use Rattle.pac_outside.specs.Devices.{each}
 use Rattle.pac_recover.proofs.CauseLemmas.{as-error}
-use Rattle.pac_run.proofs.LineLemmas.{broke-any, catalogue-stays, end-any, falls-any, first-serving, more-any, never-input, read-any, rose-later, stopped-any}
+use Rattle.pac_run.proofs.LineLemmas.{broke-any, catalogue-stays, end-any, falls-any, first-serving, more-any, never-input, read-any, faulted-later, stopped-any}
 use Rattle.pac_run.proofs.serving.serve_lines.Goals as goal
 
 pub loop-engine-init : goal.loop-engine-init
@@ -21,7 +21,7 @@ pub returns-in-Ok-false-clause-served : goal.returns-in-Ok-false-clause-served
 returns-in-Ok-false-clause-served g c =
     let i = c.loop-engine.invariant in
     end-any c.args.engine.now c.loop-engine.engine _ _ _ c.loop-engine.reader c.next_line.new.self _ _ _ _ _ _ i.serving c.answer.new.engine c.args.catalogue.now c.requires.same c.in-Ok-false.field-0 c.in-Ok-false.field-0-test c.in-Ok-false.ensures.call c.in-Ok-false.ensures.limit _ _
-    (λ rose. rose-later _ _ _ i.later_output rose) c.answer.result c.answer.ensures.ok c.answer.ensures.err
+    (λ faulted. faulted-later _ _ _ i.later_output faulted) c.answer.result c.answer.ensures.ok c.answer.ensures.err
 
 pub returns-in-Ok-false-clause-input_fault : goal.returns-in-Ok-false-clause-input_fault
 returns-in-Ok-false-clause-input_fault g c = λ is.
@@ -31,7 +31,7 @@ returns-in-Ok-false-clause-input_fault g c = λ is.
 pub returns-in-Err-clause-served : goal.returns-in-Err-clause-served
 returns-in-Err-clause-served g c =
     let i = c.loop-engine.invariant in
-    read-any c.args.engine.now c.loop-engine.engine _ _ _ c.loop-engine.reader c.next_line.new.self _ _ _ _ i.serving _ c.in-Err.error c.not_read.result c.not_read.ensures c.in-Err.ensures.call c.in-Err.ensures.limit
+    read-any c.args.engine.now c.loop-engine.engine _ _ _ c.loop-engine.reader c.next_line.new.self _ _ _ _ i.serving _ c.in-Err.error c.stop_of_read.result c.stop_of_read.ensures c.in-Err.ensures.call c.in-Err.ensures.limit
 
 pub returns-in_err-serve_line-clause-served : goal.returns-in_err-serve_line-clause-served
 returns-in_err-serve_line-clause-served g c =
@@ -39,7 +39,7 @@ returns-in_err-serve_line-clause-served g c =
     let r = c.from_residual in
     let p = err_from_is_err_and r.result r.ensures.1 in
     broke-any c.args.engine.now c.loop-engine.engine _ _ _ c.loop-engine.reader c.next_line.new.self _ _ _ _ _ _ i.serving c.serve_line.new.engine c.args.catalogue.now c.requires.same c.in-Ok-true.field-0 c.in-Ok-true.field-0-test c.in-Ok-true.ensures.call c.in-Ok-true.ensures.limit
-    c.line.result.now c.line.ensures _ _ (λ rose. rose-later _ _ _ i.later_output rose) r.result p.0 p.1 (c.in_err-serve_line.ensures.err p.0 (as-error _ _ (sym p.2)))
+    c.line.result.now c.line.ensures _ _ (λ faulted. faulted-later _ _ _ i.later_output faulted) r.result p.0 p.1 (c.in_err-serve_line.ensures.err p.0 (as-error _ _ (sym p.2)))
 
 pub returns-then-branch-clause-served : goal.returns-then-branch-clause-served
 returns-then-branch-clause-served g c =
@@ -50,7 +50,7 @@ returns-then-branch-clause-served g c =
 pub loop-engine-smaller : goal.loop-engine-smaller
 loop-engine-smaller g c =
     let i = c.loop-engine.invariant in
-    falls-any c.args.engine.now c.loop-engine.engine _ _ _ c.loop-engine.reader c.next_line.new.self _ _ (g.O.Sink.held c.loop-engine.output) _ _ (each g.D.Disk.told c.loop-engine.devices) i.serving c.serve_line.new.engine c.args.catalogue.now c.requires.same c.in-Ok-true.field-0 c.in-Ok-true.field-0-test c.in-Ok-true.ensures.call c.in-Ok-true.ensures.limit c.line.result.now c.line.ensures
+    falls-any c.args.engine.now c.loop-engine.engine _ _ _ c.loop-engine.reader c.next_line.new.self _ _ (g.O.Sink.held c.loop-engine.output) _ _ (each g.D.Disk.known c.loop-engine.devices) i.serving c.serve_line.new.engine c.args.catalogue.now c.requires.same c.in-Ok-true.field-0 c.in-Ok-true.field-0-test c.in-Ok-true.ensures.call c.in-Ok-true.ensures.limit c.line.result.now c.line.ensures
 
 pub loop-engine-preserved : goal.loop-engine-preserved
 loop-engine-preserved g c =

@@ -9,8 +9,8 @@ abbrev pub invariant-loop-engine : goal.invariant-loop-engine
 invariant-loop-engine g l = record {
   same : l.fn.engine.session.catalogue ≡ l.engine.session.catalogue;
   goes_on : l.engine.ended ≡ false;
-  ready : HasDevices g.D.Disk.told l.engine l.devices;
-  serving : Serving l.fn.engine l.engine (g.I.Source.left l.fn.input) (g.I.Source.left l.input) l.reader (g.O.Sink.held l.fn.output) (g.O.Sink.held l.output) (each g.D.Disk.told l.fn.devices) (each g.D.Disk.told l.devices);
+  ready : HasDevices g.D.Disk.known l.engine l.devices;
+  serving : Serving l.fn.engine l.engine (g.I.Source.left l.fn.input) (g.I.Source.left l.input) l.reader (g.O.Sink.held l.fn.output) (g.O.Sink.held l.output) (each g.D.Disk.known l.fn.devices) (each g.D.Disk.known l.devices);
   quiet : each g.D.Disk.faults l.devices ≡ each g.D.Disk.faults l.fn.devices;
   later_output : g.O.Sink.faults l.fn.output ≤ g.O.Sink.faults l.output;
   later_input : g.I.Source.faults l.fn.input ≤ g.I.Source.faults l.input;

@@ -5,7 +5,7 @@ use Rattle.std.proofs.lemmas.List.Elements.{All-get_or}
 use Rattle.std.specs.FinMap.{find}
 use Rattle.pac_value.specs.State.{Cell, cell_cmp, Tables}
 use Rattle.pac_serial.specs.declared.pending.Pending.{Pending}
-use Rattle.pac_serial.specs.Drafts.{Change}
+use Rattle.pac_serial.specs.WriteSets.{Change}
 use Rattle.pac_serial.specs.Commits.{AreIn, cells, emptied, with_moved, with_new, without_new}
 use Rattle.pac_serial.proofs.CommitLemmas.{are_in, moved_in, partly, partly-at, partly-set, partly-take, partly-cells, partly-all, cells-set, cells-moved, without-moved, taken-back, sorted-take, find-take, with_new-more}
 use Rattle.pac_serial.proofs.commit.move_new.Goals as goal
@@ -20,16 +20,16 @@ move_row-requires g c =
     let within = All-get_or (λ (x : Change). x.0.0 < g.R.Rows.tables c.args.rows.now) all at d lt (are_in (g.R.Rows.tables c.args.rows.now) (g.R.Rows.held c.args.rows.now) all c.requires.sorted c.requires.knows) in
     subst (λ (x : Change). x.0.0 < g.R.Rows.tables c.loop-at.rows) (sym here) (subst (λ n. (get_or all at d).0.0 < n) (sym c.loop-at.invariant.tables) within)
 
-pub take_back-requires : goal.take_back-requires
-take_back-requires g c =
+pub roll_back-requires : goal.roll_back-requires
+roll_back-requires g c =
     let all = c.args.changes.now in
     let at = c.loop-at.at in
     let lost = c.move_row.new.change in
-    let front : take at (set c.loop-at.changes at lost) ≡ take at (set (partly at all) at lost) = ap (λ (es : List Change). take at (set es at lost)) c.loop-at.invariant.changes in
-    let moved_front : take at (set c.loop-at.changes at lost) ≡ map emptied (take at all) = front ∙ partly-take at all lost (omega arith) in
+    let prefix : take at (set c.loop-at.changes at lost) ≡ take at (set (partly at all) at lost) = ap (λ (es : List Change). take at (set es at lost)) c.loop-at.invariant.changes in
+    let moved_prefix : take at (set c.loop-at.changes at lost) ≡ map emptied (take at all) = prefix ∙ partly-take at all lost (omega arith) in
     let within = moved_in (g.R.Rows.tables c.args.rows.now) (g.R.Rows.held c.args.rows.now) (take at all) (sorted-take at all c.requires.sorted)
     (λ q pending found. c.requires.knows q pending (find-take at all q pending found)) in
-    subst (λ (es : List Change). AreIn (g.R.Rows.tables c.move_row.new.rows) es) (sym moved_front)
+    subst (λ (es : List Change). AreIn (g.R.Rows.tables c.move_row.new.rows) es) (sym moved_prefix)
     (subst (λ n. AreIn n (map emptied (take at all))) (sym (c.move_row.ensures.tables ∙ c.loop-at.invariant.tables)) within)
 
 pub returns-in-Err-clause-cells : goal.returns-in-Err-clause-cells
@@ -43,11 +43,11 @@ returns-in-Err-clause-err g c =
     let at = c.loop-at.at in
     let lost = c.move_row.new.change in
     let held = g.R.Rows.held c.args.rows.now in
-    let moved_front : take at (set c.loop-at.changes at lost) ≡ map emptied (take at all) =
+    let moved_prefix : take at (set c.loop-at.changes at lost) ≡ map emptied (take at all) =
     ap (λ (es : List Change). take at (set es at lost)) c.loop-at.invariant.changes ∙ partly-take at all lost (omega arith) in
-    c.take_back.ensures.rows
+    c.roll_back.ensures.rows
     ∙ ap (λ (m : Tables). without_new m (take at (set c.loop-at.changes at lost))) (c.in-Err.ensures.err ∙ c.loop-at.invariant.rows)
-    ∙ ap (without_new (with_new held (take at all))) moved_front
+    ∙ ap (without_new (with_new held (take at all))) moved_prefix
     ∙ without-moved (with_new held (take at all)) (take at all)
     ∙ taken-back (g.R.Rows.tables c.args.rows.now) held (take at all) (sorted-take at all c.requires.sorted) (λ q pending found. c.requires.knows q pending (find-take at all q pending found))
 

@@ -7,7 +7,7 @@ use Rattle.pac_value.specs.State.{Tables}
 use Rattle.pac_types.specs.declared.procedure.Proc.{Proc}
 use Rattle.pac_types.specs.declared.statement.Stmt.{Stmt}
 use Rattle.pac_types.specs.declared.table.Table.{Table}
-use Rattle.pac_types.specs.Sound.{scope_behind}
+use Rattle.pac_types.specs.WellFormed.{scope_after_all}
 use Rattle.pac_types.specs.Typing.{IsProc}
 use Rattle.pac_types.specs.Meaning.{Abort, operations, meaning}
 use Rattle.pac_ops.specs.Operations.{State}
@@ -16,32 +16,32 @@ use Rattle.pac_types.specs.Fits.{FitParams}
 use Rattle.pac_serial.specs.Outcomes.{Executes, limited}
 use Rattle.pac_serial.specs.Transactions.{RunsOver, state_of}
 use Rattle.pac_serial.proofs.CallLemmas.{at-call, is-proc, runs-begun, called-is, halted}
-use Rattle.pac_serial.proofs.OpeningLemmas.{opening-sound}
+use Rattle.pac_serial.proofs.OpeningLemmas.{opening-well_formed}
 use Rattle.pac_serial.proofs.execute.exec_call.Goals as goal
 
-pub exec_block-requires-clause-sound : goal.exec_block-requires-clause-sound
-exec_block-requires-clause-sound g c =
+pub exec_block-requires-clause-well_formed : goal.exec_block-requires-clause-well_formed
+exec_block-requires-clause-well_formed g c =
     let cat = c.args.cat.now in
     let proc = c.index-procs-from.result in
     let found = at-call cat.procs c.args.proc c.args.args.now c.from.result proc c.requires.call c.from.ensures (c.index-procs-from.is ∙ ap (λ (ps : List Proc). slice_index_or ps c.from.result proc) c.procs.ensures.value) in
-    let is : IsProc cat.tables proc = is-proc cat.tables cat.procs c.args.proc proc found.0 c.procs.ensures.sound in
-    subst (λ (ts : List Table). IsSome (scope_behind ts c.as_slice.result.now (types_of c.begin.new.self.env))) (sym c.tables.ensures.value)
-    (subst (λ (xs : List Stmt). IsSome (scope_behind cat.tables xs (types_of c.begin.new.self.env))) (sym c.as_slice.ensures)
-    (opening-sound cat.tables proc c.args.args.now c.begin.new.self.env is.sound found.1 c.in_ok-begin.ensures.env))
+    let is : IsProc cat.tables proc = is-proc cat.tables cat.procs c.args.proc proc found.0 c.procs.ensures.well_formed in
+    subst (λ (ts : List Table). IsSome (scope_after_all ts c.as_slice.result.now (types_of c.begin.new.self.env))) (sym c.tables.ensures.value)
+    (subst (λ (xs : List Stmt). IsSome (scope_after_all cat.tables xs (types_of c.begin.new.self.env))) (sym c.as_slice.ensures)
+    (opening-well_formed cat.tables proc c.args.args.now c.begin.new.self.env is.well_formed found.1 c.in_ok-begin.ensures.env))
 
 pub exec_block-requires-clause-numbers : goal.exec_block-requires-clause-numbers
 exec_block-requires-clause-numbers g c =
     let cat = c.args.cat.now in
     let proc = c.index-procs-from.result in
     let found = at-call cat.procs c.args.proc c.args.args.now c.from.result proc c.requires.call c.from.ensures (c.index-procs-from.is ∙ ap (λ (ps : List Proc). slice_index_or ps c.from.result proc) c.procs.ensures.value) in
-    let is : IsProc cat.tables proc = is-proc cat.tables cat.procs c.args.proc proc found.0 c.procs.ensures.sound in
+    let is : IsProc cat.tables proc = is-proc cat.tables cat.procs c.args.proc proc found.0 c.procs.ensures.well_formed in
     omega (arith, ap operations c.as_slice.ensures, is.counted)
 
 pub exec_block-requires-clause-over : goal.exec_block-requires-clause-over
 exec_block-requires-clause-over g c =
     let cat = c.args.cat.now in
-    subst (λ (ts : List Table). RunsOver ts (g.R.Rows.tables c.args.rows.now) (g.R.Rows.held c.args.rows.now) c.begin.new.self.draft) (sym c.tables.ensures.value)
-    (runs-begun cat.tables (g.R.Rows.tables c.args.rows.now) (g.R.Rows.held c.args.rows.now) c.begin.new.self.draft c.requires.fits.count c.requires.fits.rows c.in_ok-begin.ensures.draft)
+    subst (λ (ts : List Table). RunsOver ts (g.R.Rows.tables c.args.rows.now) (g.R.Rows.held c.args.rows.now) c.begin.new.self.write_set) (sym c.tables.ensures.value)
+    (runs-begun cat.tables (g.R.Rows.tables c.args.rows.now) (g.R.Rows.held c.args.rows.now) c.begin.new.self.write_set c.requires.fits.count c.requires.fits.rows c.in_ok-begin.ensures.write_set)
 
 pub returns-in_err-exec_block-clause-does : goal.returns-in_err-exec_block-clause-does
 returns-in_err-exec_block-clause-does g c =
@@ -49,7 +49,7 @@ returns-in_err-exec_block-clause-does g c =
     let held = g.R.Rows.held c.args.rows.now in
     let proc = c.index-procs-from.result in
     let found = at-call cat.procs c.args.proc c.args.args.now c.from.result proc c.requires.call c.from.ensures (c.index-procs-from.is ∙ ap (λ (ps : List Proc). slice_index_or ps c.from.result proc) c.procs.ensures.value) in
-    let means = called-is cat.procs c.args.proc proc c.args.args.now held c.begin.new.self.env c.begin.new.self.draft found.0 c.in_ok-begin.ensures.env c.in_ok-begin.ensures.draft
+    let means = called-is cat.procs c.args.proc proc c.args.args.now held c.begin.new.self.env c.begin.new.self.write_set found.0 c.in_ok-begin.ensures.env c.in_ok-begin.ensures.write_set
     ∙ ap (λ xs. meaning xs 0 (state_of held c.begin.new.self) >>= λ s. Ok s.tables) (sym c.as_slice.ensures) in
     let p = err_from_is_err_and c.from_residual-in_err-exec_block.result c.from_residual-in_err-exec_block.ensures.1 in
     subst (λ (m : Result Tables Abort). Executes (limited c.args.limit (g.R.Rows.tables c.args.rows.now) m) held held c.from_residual-in_err-exec_block.result) (sym means)
@@ -62,6 +62,6 @@ returns-clause-does g c =
     let held = g.R.Rows.held c.args.rows.now in
     let proc = c.index-procs-from.result in
     let found = at-call cat.procs c.args.proc c.args.args.now c.from.result proc c.requires.call c.from.ensures (c.index-procs-from.is ∙ ap (λ (ps : List Proc). slice_index_or ps c.from.result proc) c.procs.ensures.value) in
-    let means = called-is cat.procs c.args.proc proc c.args.args.now held c.begin.new.self.env c.begin.new.self.draft found.0 c.in_ok-begin.ensures.env c.in_ok-begin.ensures.draft
+    let means = called-is cat.procs c.args.proc proc c.args.args.now held c.begin.new.self.env c.begin.new.self.write_set found.0 c.in_ok-begin.ensures.env c.in_ok-begin.ensures.write_set
     ∙ ap (λ (r : Result State Abort). r >>= λ s. Ok s.tables) (ap (λ xs. meaning xs 0 (state_of held c.begin.new.self)) (sym c.as_slice.ensures) ∙ c.in_ok-exec_block.ensures.runs 0) in
     subst (λ (m : Result Tables Abort). Executes (limited c.args.limit (g.R.Rows.tables c.args.rows.now) m) held (g.R.Rows.held c.finish.new.rows) c.finish.result) (sym means) c.finish.ensures.does

@@ -6,9 +6,9 @@ use Rattle.pac_ops.specs.Shapes.{RecordsFit}
 use Rattle.pac_ops.specs.Transactions.{with_changes}
 use Rattle.pac_types.specs.declared.table.Table.{Table}
 use Rattle.pac_types.specs.Fits.{shape}
-use Rattle.pac_serial.specs.Drafts.{drafted}
+use Rattle.pac_serial.specs.WriteSets.{written}
 use Rattle.pac_serial.specs.Transactions.{RunsOver}
-use Rattle.pac_serial.proofs.DraftLemmas.{seen-none}
+use Rattle.pac_serial.proofs.WriteSetLemmas.{seen-none}
 use Rattle.pac_serial.proofs.CallLemmas.{runs-begun}
 use Rattle.pac_serial.proofs.execute.exec_records.Goals as goal
 
@@ -17,9 +17,9 @@ loop-change-init g c =
     let cat = c.args.cat.now in
     let held = g.R.Rows.held c.args.rows.now in
     record {
-      over = subst (λ (ts : List Table). RunsOver ts (g.R.Rows.tables c.args.rows.now) held c.begin.new.self.draft) (sym c.tables-tables.ensures.value)
-          (runs-begun cat.tables (g.R.Rows.tables c.args.rows.now) held c.begin.new.self.draft c.requires.fits.count c.requires.fits.rows c.in_ok-begin.ensures.draft);
+      over = subst (λ (ts : List Table). RunsOver ts (g.R.Rows.tables c.args.rows.now) held c.begin.new.self.write_set) (sym c.tables-tables.ensures.value)
+          (runs-begun cat.tables (g.R.Rows.tables c.args.rows.now) held c.begin.new.self.write_set c.requires.fits.count c.requires.fits.rows c.in_ok-begin.ensures.write_set);
       fit = subst (λ (ts : List Table). RecordsFit (map shape ts) c.items-changes.result.now) (sym c.tables-tables.ensures.value)
           (subst (λ (cs : List Change). RecordsFit (map shape cat.tables) cs) (sym c.items-changes.ensures.value) c.requires.records);
-      so_far = ap (λ (t : Tables). with_changes t c.items-changes.result.now) (ap (drafted held) c.in_ok-begin.ensures.draft ∙ seen-none held);
+      so_far = ap (λ (t : Tables). with_changes t c.items-changes.result.now) (ap (written held) c.in_ok-begin.ensures.write_set ∙ seen-none held);
     }

@@ -11,12 +11,12 @@ returns-in_ok-row-in-Put-clause-over g c =
     let tables = c.args.tables.now in
     let cell : Cell = (c.in-Put.table, c.in-Put.key) in
     on-ok-both c.change.result c.change.ensures.ok (λ is.
-    runs-changed tables (g.R.Rows.tables c.args.rows.now) (g.R.Rows.held c.args.rows.now) c.args.txn.now.draft c.change.new.self cell (Some c.in_ok-row-in-Put.row) c.requires.over
+    runs-changed tables (g.R.Rows.tables c.args.rows.now) (g.R.Rows.held c.args.rows.now) c.args.txn.now.write_set c.change.new.self cell (Some c.in_ok-row-in-Put.row) c.requires.over
     (λ r e. let same : c.in_ok-row-in-Put.row ≡ r = cc in subst (λ (z : RowValues). RowFits (map shape tables) cell z) (sym c.in_ok-row-in-Put.ensures ∙ same) (subst (ChangeFits (map shape tables)) c.in-Put.is c.requires.change)) is c.change.ensures.knows)
 
 pub returns-in-Delete-clause-over : goal.returns-in-Delete-clause-over
 returns-in-Delete-clause-over g c =
     let cell : Cell = (c.in-Delete.table, c.in-Delete.key) in
     on-ok-both c.change-in-Delete.result c.change-in-Delete.ensures.ok (λ is.
-    runs-changed c.args.tables.now (g.R.Rows.tables c.args.rows.now) (g.R.Rows.held c.args.rows.now) c.args.txn.now.draft c.change-in-Delete.new.self cell None c.requires.over
+    runs-changed c.args.tables.now (g.R.Rows.tables c.args.rows.now) (g.R.Rows.held c.args.rows.now) c.args.txn.now.write_set c.change-in-Delete.new.self cell None c.requires.over
     (λ r e. cc) is c.change-in-Delete.ensures.knows)

@@ -7,5 +7,5 @@ use Rattle.pac_serial.proofs.operation.delete.Goals as goal
 pub returns-clause-over : goal.returns-clause-over
 returns-clause-over g c =
     let cell : Cell = (c.args.target.now.table, c.in_ok-key.key) in
-    runs-changed c.args.tables.now (g.R.Rows.tables c.args.rows.now) (g.R.Rows.held c.args.rows.now) c.args.txn.now.draft c.change.new.self cell None c.requires.over
+    runs-changed c.args.tables.now (g.R.Rows.tables c.args.rows.now) (g.R.Rows.held c.args.rows.now) c.args.txn.now.write_set c.change.new.self cell None c.requires.over
     (λ r e. cc) c.in_ok-change.ensures.ok c.in_ok-change.ensures.knows

@@ -12,5 +12,5 @@ returns-clause-over g c =
     let tables = c.args.tables.now in
     let cell : Cell = (c.args.target.now.table, c.in_ok-key.key) in
     let new : RowFits (map shape tables) cell c.in_ok-row.row = row-fits tables cell c.in_ok-row.row c.in_ok-key.ensures.typed c.in_ok-row.ensures.typed in
-    runs-changed tables (g.R.Rows.tables c.args.rows.now) (g.R.Rows.held c.args.rows.now) c.args.txn.now.draft c.change.new.self cell (Some c.in_ok-row.row) c.requires.over
+    runs-changed tables (g.R.Rows.tables c.args.rows.now) (g.R.Rows.held c.args.rows.now) c.args.txn.now.write_set c.change.new.self cell (Some c.in_ok-row.row) c.requires.over
     (λ r e. let same : c.in_ok-row.row ≡ r = cc in subst (λ (z : RowValues). RowFits (map shape tables) cell z) same new) c.in_ok-change.ensures.ok c.in_ok-change.ensures.knows

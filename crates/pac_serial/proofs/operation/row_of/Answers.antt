@@ -6,7 +6,7 @@ use Rattle.pac_value.specs.declared.values.Ty.{Ty}
 use Rattle.pac_value.specs.declared.values.Value.{Value}
 use Rattle.pac_value.specs.Values.{type_of, is_stored}
 use Rattle.pac_value.specs.Expressions.{types_of, ◌>>=◌}
-use Rattle.pac_types.specs.Sound.{column_types}
+use Rattle.pac_types.specs.WellFormed.{column_types}
 use Rattle.pac_value.specs.Scopes.{is_wanted}
 use Rattle.pac_ops.specs.Operations.{values}
 use Rattle.pac_serial.proofs.RowLemmas.{wanted_item, wanted-some, values-stop, values-go, types-go, stored-go, types-end}

@@ -3,7 +3,7 @@ use Rattle.std.proofs.Common.{◌≡◌, ◌++◌, Ok, true, map, length, take, 
 use Rattle.std.specs.List.{list_all}
 use Rattle.pac_value.specs.Values.{type_of, is_stored}
 use Rattle.pac_value.specs.Expressions.{◌>>=◌}
-use Rattle.pac_types.specs.Sound.{column_types}
+use Rattle.pac_types.specs.WellFormed.{column_types}
 use Rattle.pac_ops.specs.Operations.{values}
 use Rattle.pac_serial.proofs.operation.row_of.Given as goal
 

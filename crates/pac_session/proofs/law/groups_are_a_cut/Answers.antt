@@ -5,5 +5,5 @@ use Rattle.pac_session.proofs.law.groups_are_a_cut.Goals as goal
 pub returns-clause-whole : goal.returns-clause-whole
 returns-clause-whole c = λ rules start requests. whole-cut rules start requests
 
-pub returns-clause-told : goal.returns-clause-told
-returns-clause-told c = λ rules place start groups. described-replies rules place start groups
+pub returns-clause-known : goal.returns-clause-known
+returns-clause-known c = λ rules place start groups. described-replies rules place start groups

@@ -2,15 +2,15 @@
 use Rattle.std.proofs.Common.{◌≡◌, length, ap, ◌∙◌, subst, arith}
 use Rattle.pac_graph.specs.Adding.{Adds}
 use Rattle.pac_graph.proofs.AddLemmas.{upto_more}
-use Rattle.pac_slice.specs.Dependent.{IsFlowAt, IsClashFrom}
+use Rattle.pac_slice.specs.Dependent.{IsFlowAt, IsConflictFrom}
 use Rattle.pac_slice.proofs.SliceLemmas.{linked, slice_groups}
 use Rattle.pac_slice.proofs.local_graph.slices.Goals as goal
 
 pub loop-from-preserved : goal.loop-from-preserved
 loop-from-preserved c = let ops = c.args.program.now.ops in
     let l = c.loop-from in
-    let new = c.add_clashes_from.new.graph in
-    upto_more (IsClashFrom ops 0) c.add_flow.new.graph l.links new l.from l.invariant (subst (λ os. Adds l.links (IsClashFrom os 0 l.from) new) c.as_slice-ops.ensures c.add_clashes_from.ensures)
+    let new = c.add_conflicts_from.new.graph in
+    upto_more (IsConflictFrom ops 0) c.add_flow.new.graph l.links new l.from l.invariant (subst (λ os. Adds l.links (IsConflictFrom os 0 l.from) new) c.as_slice-ops.ensures c.add_conflicts_from.ensures)
 
 pub returns : goal.returns
 returns c = let ops = c.args.program.now.ops in

@@ -4,7 +4,7 @@ use Rattle.pac_tokens.specs.declared.token.Spanned.{Spanned}
 use Rattle.pac_syntax.specs.Faults.{ReadsTokens}
 use Rattle.pac_tokens.specs.declared.fault.Fault.{Fault}
 use Rattle.pac_tokens.specs.Tokens.{IsLexed}
-use Rattle.pac_syntax.proofs.TextFaults.{tells_first, error_is}
+use Rattle.pac_syntax.proofs.TextFaults.{reports_first, error_is}
 use Rattle.pac_tokens.proofs.LexedOnce.{same_tokens, same_fault, some_none}
 use Rattle.pac_syntax.proofs.WithinLimits.{reads-within}
 use Rattle.pac_syntax.proofs.parse.parse_text.Goals as goal
@@ -28,5 +28,5 @@ returns-clause-fault c = λ fault e.
     let short : length c.args.text.now ≤ 65536 = omega (arith, c.if-text-gt-MAX_CATALOGUE.false) in
     let lexed : IsLexed c.args.text.now c.in_ok-lexed.lexed.items.items (Some c.in-Some.fault) = subst (λ (f : Option Fault). IsLexed c.args.text.now c.in_ok-lexed.lexed.items.items f) c.in-Some.is c.in_ok-lexed.ensures.lexed in
     let same : IsLexed c.args.text.now c.deref-in-Some.result.now (Some c.in-Some.fault) = subst (λ (ts : List Spanned). IsLexed c.args.text.now ts (Some c.in-Some.fault)) (sym c.deref-in-Some.ensures.value) lexed in
-    let first = tells_first (length c.args.text.now) c.deref-in-Some.result.now c.in-Some.fault fault c.parse_tokens-parsed.result c.parse_tokens-parsed.ensures.reads c.parse_tokens-parsed.ensures.fault (sym c.earlier.ensures ∙ error_is c.earlier.result fault e) in
+    let first = reports_first (length c.args.text.now) c.deref-in-Some.result.now c.in-Some.fault fault c.parse_tokens-parsed.result c.parse_tokens-parsed.ensures.reads c.parse_tokens-parsed.ensures.fault (sym c.earlier.ensures ∙ error_is c.earlier.result fault e) in
     inr (short, c.deref-in-Some.result.now, Some c.in-Some.fault, same, first)

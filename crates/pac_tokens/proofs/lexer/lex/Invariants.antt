@@ -4,11 +4,11 @@ use Rattle.pac_tokens.specs.declared.fault.Fault.{Fault}
 use Rattle.pac_tokens.specs.Tokens.{Lexed, IsLexed}
 use Rattle.pac_tokens.proofs.lexer.lex.Given as goal
 
--- what the rest is, behind the tokens so far, the whole text is
+-- what the rest is, after the tokens so far, the whole text is
 abbrev pub invariant-loop-rest : goal.invariant-loop-rest
 invariant-loop-rest l = record {
   few : length l.items.items + length l.rest ≤ length l.text;
-  places : l.at + length l.rest ≡ length l.text;
+  offsets : l.at + length l.rest ≡ length l.text;
   lexed : (ts : List Spanned) (f : Option Fault) → Lexed l.before l.at l.rest ts f → IsLexed l.text (l.items.items ++ ts) f;
 }
 

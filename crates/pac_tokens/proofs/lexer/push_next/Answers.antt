@@ -3,8 +3,8 @@ use Rattle.std.specs.List.{take_while}
 use Rattle.std.proofs.lemmas.Bool.{eq-eqb, ne_eqb}
 use Rattle.std.proofs.lemmas.List.{take_rest}
 use Rattle.pac_tokens.specs.Tokens.{is_name}
-use Rattle.pac_tokens.specs.Lexing.{word_at, symbol_at, symbol_front}
-use Rattle.pac_tokens.proofs.Steps.{word_is, int_is, text_is, sign_is, step_is, step_within}
+use Rattle.pac_tokens.specs.Lexing.{word_at, symbol_at, first_symbol}
+use Rattle.pac_tokens.proofs.Steps.{word_is, int_is, text_is, symbol_is, step_is, step_within}
 use Rattle.pac_tokens.proofs.lexer.push_next.Goals as goal
 
 pub returns-then-is_letter_byte : goal.returns-then-is_letter_byte
@@ -32,11 +32,11 @@ returns-then-first-eq34 c =
 
 pub returns : goal.returns
 returns c =
-    let s = c.push_sign in
-    let behind = take (length c.args.bytes.now - 1) (drop 1 c.args.bytes.now) in
-    let found = symbol_at c.args.before (symbol_front (get_or c.args.bytes.now 0 0 ∷ behind)) behind in
-    let same = ap (λ x. symbol_at c.args.before (symbol_front (get_or c.args.bytes.now 0 0 ∷ x)) x) (take_rest c.args.bytes.now 1) in
+    let s = c.push_symbol in
+    let after = take (length c.args.bytes.now - 1) (drop 1 c.args.bytes.now) in
+    let found = symbol_at c.args.before (first_symbol (get_or c.args.bytes.now 0 0 ∷ after)) after in
+    let same = ap (λ x. symbol_at c.args.before (first_symbol (get_or c.args.bytes.now 0 0 ∷ x)) x) (take_rest c.args.bytes.now 1) in
     let quote = ne_eqb (get_or c.args.bytes.now 0 0) 34 c.if-first-eq34.false in
-    let is = sign_is c.args.before c.args.bytes.now found c.requires (sym c.is_letter_byte.ensures ∙ c.if-is_letter_byte.false) (sym c.is_digit_byte.ensures ∙ c.if-is_digit_byte.false) quote same in
+    let is = symbol_is c.args.before c.args.bytes.now found c.requires (sym c.is_letter_byte.ensures ∙ c.if-is_letter_byte.false) (sym c.is_digit_byte.ensures ∙ c.if-is_digit_byte.false) quote same in
     let step = step_is c.args.before c.args.at c.args.bytes.now found c.args.items.now.items s.new.items.items s.result c.requires is s.ensures in
     record { step = step; within = step_within c.args.before c.args.at c.args.bytes.now c.args.items.now.items s.new.items.items s.result step }

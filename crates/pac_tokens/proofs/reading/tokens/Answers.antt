@@ -18,10 +18,10 @@ returns-in-Some-clause-only c = λ ts h. absurd (some_none _ (sym c.in-Some.is �
 abbrev failed : Fault → Result (List Spanned) (Refusal Fault)
 failed f = Err (error.Fault f)
 
-told_is : (f g : Fault) → IsErrOf (failed f) (error.Fault g) → f ≡ g
-told_is f g h = cc
+reported_is : (f g : Fault) → IsErrOf (failed f) (error.Fault g) → f ≡ g
+reported_is f g h = cc
 
 pub returns-in-Some-clause-one : goal.returns-in-Some-clause-one
-returns-in-Some-clause-one c = λ fault other ts told lexed.
+returns-in-Some-clause-one c = λ fault other ts reported lexed.
     let same : ◌≡◌ {A = Option Fault} (Some c.in-Some.fault) (Some other) = sym c.in-Some.is ∙ same_fault c.args.text.now c.in_ok-lexed.lexed.items.items ts _ _ c.in_ok-lexed.ensures.lexed lexed in
-    sym (some_is {A = Fault} c.in-Some.fault other same) ∙ told_is c.in-Some.fault fault told
+    sym (some_is {A = Fault} c.in-Some.fault other same) ∙ reported_is c.in-Some.fault fault reported

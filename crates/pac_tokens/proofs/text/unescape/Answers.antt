@@ -9,9 +9,9 @@ pub returns-then-len-eq-MAX : goal.returns-then-len-eq-MAX
 returns-then-len-eq-MAX c =
     let step = plain_step c.loop-byte.escaped c.loop-byte.byte-index c.args.bytes.now c.loop-byte-test.true (sym c.begins_escape.ensures ∙ c.if-begins_escape.false) in
     let whole = c.loop-byte.invariant.text ∙ ap (λ y. take c.loop-byte.len c.loop-byte.room ++ y) step in
-    let front = length-take-le c.loop-byte.len c.loop-byte.room (omega (arith, c.loop-byte.invariant.few, c.loop-byte.invariant.room)) in
+    let prefix = length-take-le c.loop-byte.len c.loop-byte.room (omega (arith, c.loop-byte.invariant.few, c.loop-byte.invariant.room)) in
     let many : 64 < length (unescaped false c.args.bytes.now) =
-    omega (arith, ap length whole, length-append (take c.loop-byte.len c.loop-byte.room) (get_or c.args.bytes.now c.loop-byte.byte-index 0 ∷ unescaped false (drop (c.loop-byte.byte-index + 1) c.args.bytes.now)), front, c.if-len-eq-MAX.true) in
+    omega (arith, ap length whole, length-append (take c.loop-byte.len c.loop-byte.room) (get_or c.args.bytes.now c.loop-byte.byte-index 0 ∷ unescaped false (drop (c.loop-byte.byte-index + 1) c.args.bytes.now)), prefix, c.if-len-eq-MAX.true) in
     rw (lt-ltb 64 (length (unescaped false c.args.bytes.now)) many) refl
 
 pub loop-byte-preserved : goal.loop-byte-preserved

@@ -16,4 +16,4 @@ pub returns-clause-typed : goal.returns-clause-typed
 returns-clause-typed c = typed_both c.args.tree (tree-within c.args.tree c.requires) (tree-ordered c.args.tree c.requires)
 
 pub returns-clause-only : goal.returns-clause-only
-returns-clause-only c = λ typed fault told. (typed_both c.args.tree (tree-within c.args.tree c.requires) (tree-ordered c.args.tree c.requires)).0 typed fault (c.check_tree.ensures.fault fault told).stands
+returns-clause-only c = λ typed fault reported. (typed_both c.args.tree (tree-within c.args.tree c.requires) (tree-ordered c.args.tree c.requires)).0 typed fault (c.check_tree.ensures.fault fault reported).stands

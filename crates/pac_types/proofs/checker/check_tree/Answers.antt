@@ -12,7 +12,7 @@ use Rattle.pac_types.specs.Numbering.{table_of, table_names}
 use Rattle.pac_types.specs.Typing.{CatalogueState, Types}
 use Rattle.pac_types.specs.Checking.{checked_tables, checked_procs}
 use Rattle.pac_syntax.proofs.Trees.{tree-within, tree-ordered}
-use Rattle.pac_types.proofs.TypingLemmas.{tree_typed, procs-named, fault_told}
+use Rattle.pac_types.proofs.TypingLemmas.{tree_typed, procs-named, fault_reported}
 use Rattle.pac_types.proofs.FirstLemmas.{tables_first, procs_first}
 use Rattle.pac_types.proofs.checker.check_tree.Goals.{After-listed-2}
 use Rattle.pac_types.proofs.checker.check_tree.Goals as goal
@@ -59,7 +59,7 @@ pub returns-in_err-tables-clause-fault : goal.returns-in_err-tables-clause-fault
 returns-in_err-tables-clause-fault c = λ fault h.
     let p = err_from_is_err_and c.from_residual.result c.from_residual.ensures.1 in
     tables_first c.args.tree (tree-ordered c.args.tree c.requires) fault
-    (sym (ap (λ (nodes : List TableNode). checked_tables (map (λ node. node.name.name) nodes) 0 nodes) c.as_slice.ensures) ∙ fault_told {X = Unit {0}} (λ x. x) _ _ p.0 _ fault p.1 p.2 h c.in_err-tables.ensures.names)
+    (sym (ap (λ (nodes : List TableNode). checked_tables (map (λ node. node.name.name) nodes) 0 nodes) c.as_slice.ensures) ∙ fault_reported {X = Unit {0}} (λ x. x) _ _ p.0 _ fault p.1 p.2 h c.in_err-tables.ensures.names)
 
 pub returns-in_err-procs-clause-fault : goal.returns-in_err-procs-clause-fault
 returns-in_err-procs-clause-fault c = λ fault h.
@@ -67,4 +67,4 @@ returns-in_err-procs-clause-fault c = λ fault h.
     procs_first c.args.tree (tree-ordered c.args.tree c.requires) (sym (ap (λ (nodes : List TableNode). checked_tables (map (λ node. node.name.name) nodes) 0 nodes) c.as_slice.ensures) ∙ c.in_ok-tables.ensures.names)
     c.in_ok-tables.tables (c.in_ok-tables.ensures.value ∙ ap (λ (nodes : List TableNode). map table_of nodes) c.as_slice.ensures) fault
     (sym (ap (λ (names : List (List ℕ)). checked_procs c.in_ok-tables.tables names 0 c.args.tree.procs) (c.in_ok-names.ensures ∙ c.in_ok-names_of_procs.ensures ∙ ap (λ (nodes : List ProcNode). map (λ node. node.name.name) nodes) c.as_slice-2.ensures))
-    ∙ sym (ap (λ (nodes : List ProcNode). checked_procs c.in_ok-tables.tables c.in_ok-names.names 0 nodes) c.as_slice-3.ensures) ∙ fault_told {X = List Proc} (λ x. x) _ _ p.0 _ fault p.1 p.2 h c.in_err-procs.ensures)
+    ∙ sym (ap (λ (nodes : List ProcNode). checked_procs c.in_ok-tables.tables c.in_ok-names.names 0 nodes) c.as_slice-3.ensures) ∙ fault_reported {X = List Proc} (λ x. x) _ _ p.0 _ fault p.1 p.2 h c.in_err-procs.ensures)

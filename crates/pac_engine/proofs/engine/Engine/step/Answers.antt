@@ -1,13 +1,13 @@
--- The engine's parts do what the request asks, and its flag is set behind them.
+-- The engine's parts do what the request asks, and its flag is set after them.
 use Rattle.std.proofs.Common.{refl}
 use Rattle.pac_engine.proofs.StepLemmas.{flag-keeps, flag-stands}
 use Rattle.pac_engine.proofs.engine.Engine.step.Goals as goal
 
 pub returns-in-Ok-clause-keeps : goal.returns-in-Ok-clause-keeps
-returns-in-Ok-clause-keeps g c = λ works. flag-keeps g.D.Disk.told c.args.request c.self.inside.parts c.args.self.now c.handle.new.self c.self.view_is c.args.devices.now c.handle.new.devices _ refl refl c.handle.ensures.handled.keeps
+returns-in-Ok-clause-keeps g c = λ works. flag-keeps g.D.Disk.known c.args.request c.self.inside.parts c.args.self.now c.handle.new.self c.self.view_is c.args.devices.now c.handle.new.devices _ refl refl c.handle.ensures.handled.keeps
 
 pub returns-in-Ok-clause-stands : goal.returns-in-Ok-clause-stands
-returns-in-Ok-clause-stands g c = flag-stands g.D.Disk.told c.args.request c.self.inside.parts c.args.self.now c.handle.new.self c.self.view_is c.args.devices.now c.handle.new.devices c.is_stop-stops.result c.in-Ok.ensures.handled.stands
+returns-in-Ok-clause-stands g c = flag-stands g.D.Disk.known c.args.request c.self.inside.parts c.args.self.now c.handle.new.self c.self.view_is c.args.devices.now c.handle.new.devices c.is_stop-stops.result c.in-Ok.ensures.handled.stands
 
 pub returns-in-Err-clause-keeps : goal.returns-in-Err-clause-keeps
-returns-in-Err-clause-keeps g c = λ works. flag-keeps g.D.Disk.told c.args.request c.self.inside.parts c.args.self.now c.handle.new.self c.self.view_is c.args.devices.now c.handle.new.devices _ refl refl c.handle.ensures.handled.keeps
+returns-in-Err-clause-keeps g c = λ works. flag-keeps g.D.Disk.known c.args.request c.self.inside.parts c.args.self.now c.handle.new.self c.self.view_is c.args.devices.now c.handle.new.devices _ refl refl c.handle.ensures.handled.keeps

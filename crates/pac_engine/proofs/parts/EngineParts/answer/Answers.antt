@@ -4,11 +4,11 @@ use Rattle.std.proofs.lemmas.Grind.{common_steps}
 use Rattle.pac_outside.specs.Devices.{each}
 use Rattle.pac_engine.specs.declared.fault.EngineCause.{EngineCause}
 use Rattle.pac_engine.specs.Closing.{CountsFault}
-use Rattle.pac_engine.proofs.StepLemmas.{asked-keeps-told, none-fits}
+use Rattle.pac_engine.proofs.StepLemmas.{asked-keeps-known, none-fits}
 use Rattle.pac_engine.proofs.parts.EngineParts.answer.Goals as goal
 
 pub returns-in-Ok : goal.returns-in-Ok
-returns-in-Ok g c = c.close_behind.ensures c.args.self.now c.args.request (search rules)
+returns-in-Ok g c = c.close_after.ensures c.args.self.now c.args.request (search rules)
 
 pub returns-in-Err : goal.returns-in-Err
 returns-in-Err g c = record {
@@ -20,7 +20,7 @@ returns-in-Err g c = record {
   grows = grind (arith, common_steps);
   same = tt;
   ready = tt;
-  keeps = λ text history. asked-keeps-told text history c.args.self.now c.args.request (none-fits c.args.self.now c.args.request c.requires.none) c.requires.live.working.counted _ refl refl _;
+  keeps = λ text history. asked-keeps-known text history c.args.self.now c.args.request (none-fits c.args.self.now c.args.request c.requires.none) c.requires.live.working.counted _ refl refl _;
   stands = tt;
   goes_on = grind (arith, common_steps);
   counted = subst (λ (cause : EngineCause). CountsFault cause (each g.D.Disk.faults c.args.devices.now) (each g.D.Disk.faults c.args.devices.now)) (sym c.fault.ensures.cause) refl;

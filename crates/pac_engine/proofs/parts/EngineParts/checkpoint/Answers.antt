@@ -12,28 +12,28 @@ use Rattle.pac_engine.proofs.parts.EngineParts.checkpoint.Goals as goal
 
 pub returns-in-Ok-clause-handled : goal.returns-in-Ok-clause-handled
 returns-in-Ok-clause-handled g c =
-    let told = c.save_and_tell.ensures.told in
-    let untold = c.save_and_tell.ensures.untold in
-    let saved = c.save_and_tell.ensures.saved in
-    let stands = c.save_and_tell.ensures.stands in
-    let on = c.save_and_tell.ensures.goes_on in
-    let full = c.save_and_tell.ensures.full in
-    let large = c.save_and_tell.ensures.large in
+    let known = c.save_and_report.ensures.known in
+    let unknown = c.save_and_report.ensures.unknown in
+    let saved = c.save_and_report.ensures.saved in
+    let stands = c.save_and_report.ensures.stands in
+    let on = c.save_and_report.ensures.goes_on in
+    let full = c.save_and_report.ensures.full in
+    let large = c.save_and_report.ensures.large in
     record {
       closes = λ start group within.
-          if-ok-both c.save_and_tell.result told saved (λ given tells becomes. checkpoint-closes c.args.self.now c.requires.live.working.counted start group within c.in-Ok.ensures.room c.close.new.self c.save_and_tell.new.self c.in-Ok.replies given c.in-Ok.ensures.closed becomes c.in-Ok.ensures.given tells);
+          if-ok-both c.save_and_report.result known saved (λ given knows becomes. checkpoint-closes c.args.self.now c.requires.live.working.counted start group within c.in-Ok.ensures.room c.close.new.self c.save_and_report.new.self c.in-Ok.replies given c.in-Ok.ensures.closed becomes c.in-Ok.ensures.given knows);
       stops = λ start group within.
-          if-err-four c.save_and_tell.result untold on full large (λ fault same not_ended not_full sizes. checkpoint-unsaved c.args.self.now c.requires.live.working.counted start group within c.in-Ok.ensures.room c.close.new.self c.in-Ok.replies fault.replies c.in-Ok.ensures.closed c.in-Ok.ensures.given same fault.cause not_ended not_full sizes);
-      kept = c.save_and_tell.ensures.kept;
-      kept_before = c.save_and_tell.ensures.kept_before;
+          if-err-four c.save_and_report.result unknown on full large (λ fault same not_ended not_full sizes. checkpoint-unsaved c.args.self.now c.requires.live.working.counted start group within c.in-Ok.ensures.room c.close.new.self c.in-Ok.replies fault.replies c.in-Ok.ensures.closed c.in-Ok.ensures.given same fault.cause not_ended not_full sizes);
+      kept = c.save_and_report.ensures.kept;
+      kept_before = c.save_and_report.ensures.kept_before;
       live = grind (arith, common_steps);
       grows = grind (arith, common_steps);
       same = grind (arith, common_steps);
-      ready = c.save_and_tell.ensures.ready;
+      ready = c.save_and_report.ensures.ready;
       keeps = λ text history.
-          checkpoint-keeps text history c.args.self.now c.close.new.self c.save_and_tell.new.self c.in-Ok.ensures.closed _ _ _ (c.in-Ok.ensures.stands text history) (c.close.ensures.keeps text history) (c.save_and_tell.ensures.keeps text _);
-      stands = on-ok c.save_and_tell.result stands (λ after text history.
-          checkpoint-stands text history c.args.self.now c.close.new.self c.save_and_tell.new.self c.in-Ok.ensures.closed _ _ _ (c.in-Ok.ensures.stands text history) (after text _));
+          checkpoint-keeps text history c.args.self.now c.close.new.self c.save_and_report.new.self c.in-Ok.ensures.closed _ _ _ (c.in-Ok.ensures.stands text history) (c.close.ensures.keeps text history) (c.save_and_report.ensures.keeps text _);
+      stands = on-ok c.save_and_report.result stands (λ after text history.
+          checkpoint-stands text history c.args.self.now c.close.new.self c.save_and_report.new.self c.in-Ok.ensures.closed _ _ _ (c.in-Ok.ensures.stands text history) (after text _));
       goes_on = on;
       counted = grind (arith, common_steps);
     }

@@ -4,7 +4,7 @@ use Rattle.pac_ops.specs.declared.transaction.Txn.{Txn}
 use Rattle.pac_log.specs.Bodies.{body_bytes}
 use Rattle.pac_log.specs.declared.position.NextGate.{NextGate}
 use Rattle.pac_engine.proofs.BodyLemmas.{body_len-bytes}
-use Rattle.pac_engine.proofs.ToldLemmas.{closed-fails, closed-keeps, closed-stands}
+use Rattle.pac_engine.proofs.KnownLemmas.{closed-fails, closed-keeps, closed-stands}
 use Rattle.pac_engine.proofs.parts.EngineParts.close.Goals as goal
 
 pub commit-requires-clause-short : goal.commit-requires-clause-short
@@ -18,8 +18,8 @@ returns-in_err-commit-clause-keeps g c = λ text history.
 
 pub returns-clause-keeps : goal.returns-clause-keeps
 returns-clause-keeps g c = λ text history.
-    closed-keeps text history c.args.self.now c.requires.working.same c.close-txns.result.0.items c.close-txns.ensures.txns _ _ _ _ c.commit.ensures.moments c.in_ok-commit.ensures.added c.commit.new.log.gate c.in_ok-commit.ensures.behind c.in_ok-commit.ensures.gate _ (search rules)
+    closed-keeps text history c.args.self.now c.requires.working.same c.close-txns.result.0.items c.close-txns.ensures.txns _ _ _ _ c.commit.ensures.moments c.in_ok-commit.ensures.added c.commit.new.log.gate c.in_ok-commit.ensures.after c.in_ok-commit.ensures.gate _ (search rules)
 
 pub returns-clause-stands : goal.returns-clause-stands
 returns-clause-stands g c = λ text history.
-    closed-stands text history c.args.self.now c.requires.working.same c.close-txns.result.0.items c.close-txns.ensures.txns _ _ _ _ c.commit.ensures.moments c.in_ok-commit.ensures.added c.commit.new.log.gate c.in_ok-commit.ensures.behind c.in_ok-commit.ensures.gate _ (search rules)
+    closed-stands text history c.args.self.now c.requires.working.same c.close-txns.result.0.items c.close-txns.ensures.txns _ _ _ _ c.commit.ensures.moments c.in_ok-commit.ensures.added c.commit.new.log.gate c.in_ok-commit.ensures.after c.in_ok-commit.ensures.gate _ (search rules)

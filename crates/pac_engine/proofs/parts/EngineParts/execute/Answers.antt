@@ -7,14 +7,14 @@ use Rattle.pac_engine.specs.declared.fault.EngineCause.{EngineCause}
 use Rattle.pac_engine.specs.Closing.{CountsFault}
 use Rattle.pac_engine.specs.Moves.{IsWorking}
 use Rattle.pac_engine.proofs.MoveLemmas.{with_session, working-run}
-use Rattle.pac_engine.proofs.StepLemmas.{asked-keeps-told, same-fits}
+use Rattle.pac_engine.proofs.StepLemmas.{asked-keeps-known, same-fits}
 use Rattle.pac_engine.proofs.parts.EngineParts.execute.Goals as goal
 
-pub close_behind-requires-clause-working : goal.close_behind-requires-clause-working
-close_behind-requires-clause-working g c = subst (λ (now : Open). IsWorking (with_session now c.args.self.now)) (sym c.in-Ok.ensures) (working-run c.args.self.now c.args.txn c.requires.live.working)
+pub close_after-requires-clause-working : goal.close_after-requires-clause-working
+close_after-requires-clause-working g c = subst (λ (now : Open). IsWorking (with_session now c.args.self.now)) (sym c.in-Ok.ensures) (working-run c.args.self.now c.args.txn c.requires.live.working)
 
 pub returns-in-Ok : goal.returns-in-Ok
-returns-in-Ok g c = λ asked asks. c.close_behind.ensures c.args.self.now asked (search rules)
+returns-in-Ok g c = λ asked asks. c.close_after.ensures c.args.self.now asked (search rules)
 
 pub returns-in-Err : goal.returns-in-Err
 returns-in-Err g c = λ asked asks. record {
@@ -27,7 +27,7 @@ returns-in-Err g c = λ asked asks. record {
   same = tt;
   ready = tt;
   keeps = λ text history.
-      asked-keeps-told text history c.args.self.now asked (same-fits c.args.self.now asked c.args.txn asks c.requires.fits) c.requires.live.working.counted _ refl refl _;
+      asked-keeps-known text history c.args.self.now asked (same-fits c.args.self.now asked c.args.txn asks c.requires.fits) c.requires.live.working.counted _ refl refl _;
   stands = tt;
   goes_on = grind (arith, common_steps);
   counted = subst (λ (cause : EngineCause). CountsFault cause (each g.D.Disk.faults c.args.devices.now) (each g.D.Disk.faults c.args.devices.now)) (sym c.fault.ensures.cause) refl;

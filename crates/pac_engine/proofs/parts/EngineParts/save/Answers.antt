@@ -1,7 +1,7 @@
 -- A slot is called, and the log and the other slot stand still.
 use Rattle.std.proofs.Common.{rules, ◌∙◌, Err, ap}
 use Rattle.pac_engine.proofs.SaveLemmas.{few-rows, form-here, any-here, done-here, save-fails}
-use Rattle.pac_engine.proofs.ToldLemmas.{saved-keeps, saved-stands}
+use Rattle.pac_engine.proofs.KnownLemmas.{saved-keeps, saved-stands}
 use Rattle.pac_engine.proofs.parts.EngineParts.save.Goals as goal
 
 pub save-requires-clause-few : goal.save-requires-clause-few

@@ -1,11 +1,11 @@
--- The first bit from a place on is the first edge.
+-- The first bit from a position on is the first edge.
 use Rattle.std.proofs.Common.{◌↔◌, ℕ, ◌<◌, ◌≤◌, Option, Some, None, MatchOption, subst}
 use Rattle.pac_graph.specs.Graph.{Graph, HasEdge}
 use Rattle.pac_graph.specs.Matrix.{HasBit, graph_of}
 use Rattle.pac_graph.proofs.MatrixLemmas.{edge_is_bit}
 use Rattle.pac_graph.proofs.digraph.Digraph.next.Goals as goal
 
--- the first node from a place on, by one relation and by another that says the same
+-- the first node from a position on, by one relation and by another that says the same
 first_by : (p q : ℕ → Type 0) → ((b : ℕ) → p b ↔ q b) → (nodes at : ℕ) (found : Option ℕ)
     → MatchOption found ((b : ℕ) → at ≤ b → p b → ⊥) (λ to. (at ≤ to) × (to < nodes) × p to × ((b : ℕ) → at ≤ b → b < to → p b → ⊥))
     → MatchOption found ((b : ℕ) → at ≤ b → q b → ⊥) (λ to. (at ≤ to) × (to < nodes) × q to × ((b : ℕ) → at ≤ b → b < to → q b → ⊥))

@@ -12,4 +12,4 @@ returns-clause-bits c = let m = c.args.self.now in
     let x : ℕ = c.index_mut.result.now in
     let y : ℕ = bit_or x (1 * 2 ^ (to % 64) % 2 ^ 64) in
     let rows : length m.words.items ≡ m.nodes * m.width = omega (arith, m.rows, m.words.ok) in
-    subst (λ at. (x ≡ get_or m.words.items at x) → (a b : ℕ) → IsBit m.nodes m.width (set m.words.items at y) a b ↔ (IsBit m.nodes m.width m.words.items a b ⊎ ((a ≡ from) × (b ≡ to)))) (sym c.word_of-word.ensures.place) (λ read. set_bit m.nodes m.width m.words.items from to x y m.wide rows c.requires.from c.requires.to read refl) c.index_mut.ensures.value
+    subst (λ at. (x ≡ get_or m.words.items at x) → (a b : ℕ) → IsBit m.nodes m.width (set m.words.items at y) a b ↔ (IsBit m.nodes m.width m.words.items a b ⊎ ((a ≡ from) × (b ≡ to)))) (sym c.word_of-word.ensures.offset) (λ read. set_bit m.nodes m.width m.words.items from to x y m.wide rows c.requires.from c.requires.to read refl) c.index_mut.ensures.value

@@ -12,8 +12,8 @@ use Rattle.pac_graph.proofs.search.Search.+visit.Goals as goal
 pub loop-to-init : goal.loop-to-init
 loop-to-init t c = let g = c.args.graph.now in
     let old = c.args.self.now in
-    let e = c.in_ok-place.ensures in
-    rw (e.place.1, e.stack, e.count, e.place.0) (entered (HasEdge g) g.nodes old.marks.items old.stack.items old.count c.args.node c.requires.search c.requires.fresh c.requires.node c.requires.linked)
+    let e = c.in_ok-offset.ensures in
+    rw (e.offset.1, e.stack, e.count, e.offset.0) (entered (HasEdge g) g.nodes old.marks.items old.stack.items old.count c.args.node c.requires.search c.requires.fresh c.requires.node c.requires.linked)
 
 pub visit-requires : goal.visit-requires
 visit-requires t c = let g = c.args.graph.now in
@@ -47,20 +47,20 @@ loop-to-preserved-in-Open t c = let g = c.args.graph.now in
 pub close-requires-clause-count : goal.close-requires-clause-count
 close-requires-clause-count t c = let search = c.loop-to.invariant.search in omega (arith, search.room, search.few)
 
-pub returns-then-low-place : goal.returns-then-low-place
-returns-then-low-place t c = let g = c.args.graph.now in
+pub returns-then-low-offset : goal.returns-then-low-offset
+returns-then-low-offset t c = let g = c.args.graph.now in
     let old = c.args.self.now in
     let l = c.loop-to in
     let new = c.close.new.self in
     let z = c.close.ensures in
-    let e : c.in_ok-place.place ≡ length old.stack.items = c.in_ok-place.ensures.place.0 in
-    popped (HasEdge g) g.nodes old.marks.items old.stack.items l.self.marks.items l.self.stack.items l.self.count c.args.node l.low l.at l.invariant c.in_default.ensures new.marks.items new.stack.items new.count (c.if-low-place.true ∙ e)
+    let e : c.in_ok-offset.offset ≡ length old.stack.items = c.in_ok-offset.ensures.offset.0 in
+    popped (HasEdge g) g.nodes old.marks.items old.stack.items l.self.marks.items l.self.stack.items l.self.count c.args.node l.low l.at l.invariant c.in_default.ensures new.marks.items new.stack.items new.count (c.if-low-offset.true ∙ e)
     (subst (λ k. GaveClass l.self.marks.items new.marks.items l.self.stack.items k (length l.self.stack.items) l.self.count) e z.marks)
     (subst (λ k. new.stack.items ≡ take k l.self.stack.items) e z.stack) z.count z.size (omega (arith, z.changes, e))
 
-pub returns-else-low-place : goal.returns-else-low-place
-returns-else-low-place t c = let g = c.args.graph.now in
+pub returns-else-low-offset : goal.returns-else-low-offset
+returns-else-low-offset t c = let g = c.args.graph.now in
     let old = c.args.self.now in
     let l = c.loop-to in
-    let e : c.in_ok-place.place ≡ length old.stack.items = c.in_ok-place.ensures.place.0 in
-    left (HasEdge g) g.nodes old.marks.items old.stack.items l.self.marks.items l.self.stack.items l.self.count c.args.node l.low l.at l.invariant c.in_default.ensures (omega (arith, e, l.invariant.in_low, c.if-low-place.false))
+    let e : c.in_ok-offset.offset ≡ length old.stack.items = c.in_ok-offset.ensures.offset.0 in
+    left (HasEdge g) g.nodes old.marks.items old.stack.items l.self.marks.items l.self.stack.items l.self.count c.args.node l.low l.at l.invariant c.in_default.ensures (omega (arith, e, l.invariant.in_low, c.if-low-offset.false))

@@ -3,7 +3,7 @@ use Rattle.pac_request.specs.declared.node.PlacedLiteral.{PlacedLiteral}
 use Rattle.pac_request.specs.LineSteps.{LineSteps, MoreLiterals, line_run}
 use Rattle.pac_request.proofs.parser.LineParser.more_literals.Given as goal
 
--- to read on behind what was read is to read the whole
+-- to read on after what was read is to read the whole
 abbrev pub invariant-loop-self : goal.invariant-loop-self
 invariant-loop-self l = record {
   left : length l.self.rest.now ≤ length l.fn.self.rest.now;

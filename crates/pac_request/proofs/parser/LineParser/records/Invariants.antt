@@ -3,7 +3,7 @@ use Rattle.pac_request.specs.declared.node.Verb.TheVariants as verb
 use Rattle.pac_request.specs.LineSteps.{MoreRecords, verb_steps, line_run}
 use Rattle.pac_request.proofs.parser.LineParser.records.Given as goal
 
--- to read on behind what was read is to read the whole
+-- to read on after what was read is to read the whole
 abbrev pub invariant-loop-records : goal.invariant-loop-records
 invariant-loop-records l = line_run l.fn.self.end (verb_steps verb.AdHoc) l.fn.self.rest.now ≡ line_run l.self.end (MoreRecords l.records.items) l.self.rest.now
 

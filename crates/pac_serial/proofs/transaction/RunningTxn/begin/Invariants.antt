@@ -7,5 +7,5 @@ use Rattle.pac_serial.proofs.transaction.RunningTxn.begin.Given as goal
 abbrev pub invariant-loop-i : goal.invariant-loop-i
 invariant-loop-i l = record {
   env : with_values l.i (drop l.i l.args) l.self.env ≡ with_values 0 l.args fin.empty;
-  draft : l.self.draft ≡ fin.empty;
+  write_set : l.self.write_set ≡ fin.empty;
 }

@@ -1,10 +1,10 @@
--- What is left, put in front of what is copied, is the table.
+-- What is left, put before what is copied, is the table.
 use Rattle.std.proofs.Common.{◌≡◌, length}
-use Rattle.pac_tables.proofs.CopyLemmas.{in_front}
+use Rattle.pac_tables.proofs.CopyLemmas.{preceding}
 use Rattle.pac_tables.proofs.table.TableRowsExact.copy.Given as goal
 
 abbrev pub invariant-loop-key : goal.invariant-loop-key
-invariant-loop-key l = in_front l.left l.copy ≡ l.fn.self
+invariant-loop-key l = preceding l.left l.copy ≡ l.fn.self
 
 abbrev pub decreases-loop-key : goal.decreases-loop-key
 decreases-loop-key l = length l.left

@@ -11,7 +11,7 @@ decreases-check_stmt l = 2 * size l.node.now
 abbrev pub decreases-check_block : goal.decreases-check_block
 decreases-check_block l = 2 * sizes l.nodes.now + 1
 
--- what is left gives what is behind the statements so far
+-- what is left gives what is after the statements so far
 abbrev pub invariant-check_block-loop-i : goal.invariant-check_block-loop-i
 invariant-check_block-loop-i l = record {
   left : sizes (drop l.i l.nodes) ≤ sizes l.nodes;

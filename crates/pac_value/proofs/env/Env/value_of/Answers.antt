@@ -1,8 +1,8 @@
--- The map has what stands at the place.
+-- The map has what stands at the position.
 use Rattle.std.proofs.Common.{◌≡◌, None, ap, sym, ◌∙◌, arith}
 use Rattle.std.proofs.lemmas.Grind.{common_steps}
 use Rattle.std.specs.FinMap as map
-use Rattle.pac_value.specs.Placed.{at_place}
+use Rattle.pac_value.specs.Placed.{at_offset}
 use Rattle.pac_value.proofs.PlacedLemmas.{get-values_from}
 use Rattle.pac_value.proofs.env.Env.value_of.Goals as goal
 

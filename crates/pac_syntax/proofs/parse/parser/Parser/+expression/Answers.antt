@@ -1,8 +1,8 @@
 use Rattle.std.proofs.Common.{ℕ, ◌≡◌, ◌∙◌, ap, arith}
 use Rattle.std.proofs.lemmas.Result.{err_from_is_err_and}
-use Rattle.pac_syntax.specs.Grammar.{tier}
+use Rattle.pac_syntax.specs.Grammar.{precedence}
 use Rattle.pac_syntax.specs.Machine.{Begun, Steps, begun_binary, run}
-use Rattle.pac_syntax.specs.Views.{begun_at, rests, tier_behind}
+use Rattle.pac_syntax.specs.Views.{begun_at, rests, next_precedence}
 use Rattle.pac_syntax.proofs.Stepping.{level_begins, right_begins, negation_next, negation_past, paren_next, paren_past, fails_along, gives_along}
 use Rattle.pac_syntax.proofs.parse.parser.Parser.+expression.Goals as goal
 use Rattle.pac_syntax.proofs.parse.parser.Parser.+expression.Goals.{chain-then-sees_operator+in_ok-right-2, chain-else-sees_operator}
@@ -55,22 +55,22 @@ pub chain-returns-in_err-right-clause-run : goal.chain-returns-in_err-right-clau
 chain-returns-in_err-right-clause-run t c =
     let p = err_from_is_err_and c.from_residual-in_err-right.result c.from_residual-in_err-right.ensures.1 in
     λ k. rw (p.1, p.2) (fails_along _ _ _
-    (c.loop-left.invariant.run k ∙ (rw c.in-Some.is at c.in_ok-op.ensures.run c.args.parens (begun_at c.loop-left.left) k) ∙ right_begins _ _ _ _ _ _ _ c.tier_of-own.ensures)
+    (c.loop-left.invariant.run k ∙ (rw c.in-Some.is at c.in_ok-op.ensures.run c.args.parens (begun_at c.loop-left.left) k) ∙ right_begins _ _ _ _ _ _ _ c.precedence_of-own.ensures)
     (c.in_err-right.ensures.run _))
 
 pub chain-returns-in_err-right-2-clause-run : goal.chain-returns-in_err-right-2-clause-run
 chain-returns-in_err-right-2-clause-run t c =
     let p = err_from_is_err_and c.from_residual-in_err-right-2.result c.from_residual-in_err-right-2.ensures.1 in
     λ k. rw (p.1, p.2) (fails_along _ _ _
-    (c.loop-left.invariant.run k ∙ (rw c.in-Some.is at c.in_ok-op.ensures.run c.args.parens (begun_at c.loop-left.left) k) ∙ right_begins _ _ _ _ _ _ _ c.tier_of-own.ensures ∙ c.in_ok-right.ensures.run _)
+    (c.loop-left.invariant.run k ∙ (rw c.in-Some.is at c.in_ok-op.ensures.run c.args.parens (begun_at c.loop-left.left) k) ∙ right_begins _ _ _ _ _ _ _ c.precedence_of-own.ensures ∙ c.in_ok-right.ensures.run _)
     (c.in_err-right-2.ensures.run _))
 
 pub chain-loop-left-preserved : goal.chain-loop-left-preserved
 chain-loop-left-preserved t c =
     let read : (k : Begun → ℕ → Steps) → run c.args.self.now.end (rests c.args.parens 0 c.args.level k (begun_at c.args.first) c.args.self.now.operators) c.args.self.now.rest.now
-    ≡ run c.unary.new.self.end (rests c.args.parens 0 c.tier_of-own.result (λ y o. rests c.args.parens (tier_behind (tier c.in-Some.op)) c.args.level k (begun_binary c.in-Some.op (begun_at c.loop-left.left) y) o) (begun_at c.in_ok-right.right) c.unary.new.self.operators) c.unary.new.self.rest.now
-    = λ k. c.loop-left.invariant.run k ∙ (rw c.in-Some.is at c.in_ok-op.ensures.run c.args.parens (begun_at c.loop-left.left) k) ∙ right_begins _ _ _ _ _ _ _ c.tier_of-own.ensures ∙ c.in_ok-right.ensures.run _ in
+    ≡ run c.unary.new.self.end (rests c.args.parens 0 c.precedence_of-own.result (λ y o. rests c.args.parens (next_precedence (precedence c.in-Some.op)) c.args.level k (begun_binary c.in-Some.op (begun_at c.loop-left.left) y) o) (begun_at c.in_ok-right.right) c.unary.new.self.operators) c.unary.new.self.rest.now
+    = λ k. c.loop-left.invariant.run k ∙ (rw c.in-Some.is at c.in_ok-op.ensures.run c.args.parens (begun_at c.loop-left.left) k) ∙ right_begins _ _ _ _ _ _ _ c.precedence_of-own.ensures ∙ c.in_ok-right.ensures.run _ in
     elim c.if-sees_operator.branch [
-      | chain-then-sees_operator+in_ok-right-2 w ↦ record { left = rw w.self-is (omega (arith, c.loop-left.invariant.left, c.in_ok-op.ensures.left, c.in_ok-right.ensures.shorter, w.in_ok-right-2.ensures.left)); run = λ k. rw (c.in_ok-left.ensures, c.tier_behind-tier.ensures, c.tier_of-own.ensures, w.self-is, w.right-is) (read k ∙ w.in_ok-right-2.ensures.run _) }
-      | chain-else-sees_operator w ↦ record { left = rw w.self-is (omega (arith, c.loop-left.invariant.left, c.in_ok-op.ensures.left, c.in_ok-right.ensures.shorter)); run = λ k. rw (c.in_ok-left.ensures, c.tier_behind-tier.ensures, c.tier_of-own.ensures, w.self-is, w.right-is) (read k ∙ c.sees_operator.ensures _ _ _ _ w.if-sees_operator.false) }
+      | chain-then-sees_operator+in_ok-right-2 w ↦ record { left = rw w.self-is (omega (arith, c.loop-left.invariant.left, c.in_ok-op.ensures.left, c.in_ok-right.ensures.shorter, w.in_ok-right-2.ensures.left)); run = λ k. rw (c.in_ok-left.ensures, c.next_precedence-precedence.ensures, c.precedence_of-own.ensures, w.self-is, w.right-is) (read k ∙ w.in_ok-right-2.ensures.run _) }
+      | chain-else-sees_operator w ↦ record { left = rw w.self-is (omega (arith, c.loop-left.invariant.left, c.in_ok-op.ensures.left, c.in_ok-right.ensures.shorter)); run = λ k. rw (c.in_ok-left.ensures, c.next_precedence-precedence.ensures, c.precedence_of-own.ensures, w.self-is, w.right-is) (read k ∙ c.sees_operator.ensures _ _ _ _ w.if-sees_operator.false) }
     ]

@@ -23,11 +23,11 @@ decreases-whole l = 8 * length l.self.now.rest.now + 2
 abbrev pub decreases-chain : goal.decreases-chain
 decreases-chain l = 8 * length l.self.now.rest.now
 
--- to read on behind what was read is to read the whole
+-- to read on after what was read is to read the whole
 abbrev pub invariant-chain-loop-left : goal.invariant-chain-loop-left
 invariant-chain-loop-left l = record {
   left : length l.self.rest.now ≤ length l.fn.self.rest.now;
-  run : (k : Begun → ℕ → Steps) → run l.fn.self.end (rests l.parens 0 l.level k (begun_at l.fn.first) l.fn.self.operators) l.fn.self.rest.now ≡ run l.self.end (rests l.parens l.tier l.level k (begun_at l.left) l.self.operators) l.self.rest.now;
+  run : (k : Begun → ℕ → Steps) → run l.fn.self.end (rests l.parens 0 l.level k (begun_at l.fn.first) l.fn.self.operators) l.fn.self.rest.now ≡ run l.self.end (rests l.parens l.precedence l.level k (begun_at l.left) l.self.operators) l.self.rest.now;
 }
 
 abbrev pub decreases-chain-loop-left : goal.decreases-chain-loop-left

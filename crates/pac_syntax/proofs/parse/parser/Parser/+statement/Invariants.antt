@@ -20,7 +20,7 @@ decreases-statement_rest l = 8 * length l.self.now.rest.now + 5
 abbrev pub decreases-statements : goal.decreases-statements
 decreases-statements l = 8 * length l.self.now.rest.now + 2
 
--- to read on behind what was read is to read the whole
+-- to read on after what was read is to read the whole
 abbrev pub invariant-statements-loop-statements : goal.invariant-statements-loop-statements
 invariant-statements-loop-statements l = record {
   left : length l.self.rest.now ≤ length l.fn.self.rest.now;

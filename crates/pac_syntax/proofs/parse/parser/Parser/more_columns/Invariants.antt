@@ -4,7 +4,7 @@ use Rattle.pac_syntax.specs.Machine.{Steps, MoreColumns, run}
 use Rattle.pac_syntax.specs.Views.{role_of}
 use Rattle.pac_syntax.proofs.parse.parser.Parser.more_columns.Given as goal
 
--- to read on behind what was read is to read the whole
+-- to read on after what was read is to read the whole
 abbrev pub invariant-loop-self : goal.invariant-loop-self
 invariant-loop-self l = record {
   left : length l.self.rest.now ≤ length l.fn.self.rest.now;

@@ -3,7 +3,7 @@ use Rattle.pac_syntax.specs.declared.tree.ExprNode.{ExprNode}
 use Rattle.pac_syntax.specs.Machine.{Steps, MoreValues, run}
 use Rattle.pac_syntax.proofs.parse.parser.Parser.more_values.Given as goal
 
--- to read on behind what was read is to read the whole
+-- to read on after what was read is to read the whole
 abbrev pub invariant-loop-self : goal.invariant-loop-self
 invariant-loop-self l = record {
   left : length l.self.rest.now ≤ length l.fn.self.rest.now;

@@ -1,11 +1,11 @@
--- An operator of these tiers is taken, and where there is none their rests are passed.
+-- An operator of these precedences is taken, and where there is none their rests are passed.
 use Rattle.std.proofs.Common.{sym, ◌∙◌}
 use Rattle.std.proofs.lemmas.Result.{err_from_is_err_and}
 use Rattle.pac_syntax.proofs.Stepping.{no_operator, other_token, operator_past, operator_next}
 use Rattle.pac_syntax.proofs.parse.parser.Parser.operator.Goals as goal
 
 pub returns-in_default-clause-run : goal.returns-in_default-clause-run
-returns-in_default-clause-run c = λ d x k. no_operator _ d c.args.tier c.args.level _ x k _ c.in_default.ensures
+returns-in_default-clause-run c = λ d x k. no_operator _ d c.args.precedence c.args.level _ x k _ c.in_default.ensures
 
 pub returns-in_default-operator_between-clause-run : goal.returns-in_default-operator_between-clause-run
 returns-in_default-operator_between-clause-run c = λ d x k. other_token _ d _ _ _ x k _ _ _ c.in-Some.ensures (sym c.operator_between.ensures ∙ c.in_default-operator_between.is)

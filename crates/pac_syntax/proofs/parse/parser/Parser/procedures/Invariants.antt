@@ -3,7 +3,7 @@ use Rattle.pac_syntax.specs.declared.tree.ProcNode.{ProcNode}
 use Rattle.pac_syntax.specs.Machine.{Steps, MoreProcs, run}
 use Rattle.pac_syntax.proofs.parse.parser.Parser.procedures.Given as goal
 
--- to read on behind what was read is to read the whole
+-- to read on after what was read is to read the whole
 abbrev pub invariant-loop-at : goal.invariant-loop-at
 invariant-loop-at l = record {
   left : length l.self.rest.now ≤ length l.fn.self.rest.now;

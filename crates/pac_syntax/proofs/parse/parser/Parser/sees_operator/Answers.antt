@@ -1,4 +1,4 @@
--- Where no operator below a level comes next, the rests of its tiers are passed.
+-- Where no operator below a level comes next, the rests of its precedences are passed.
 use Rattle.std.proofs.Common.{◌≡◌, Option, Some, None, false, refl, sym, ◌∙◌}
 use Rattle.std.specs.Option.{is_some}
 use Rattle.pac_value.specs.declared.expr.BinOp.{BinOp}

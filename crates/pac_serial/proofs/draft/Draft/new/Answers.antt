@@ -1,8 +1,0 @@
--- A list with no changes is a map with none.
-use Rattle.std.proofs.Common.{ap, ◌∙◌}
-use Rattle.std.specs.FinMap as map
-use Rattle.pac_serial.proofs.DraftLemmas.{no-changes}
-use Rattle.pac_serial.proofs.draft.Draft.new.Goals as goal
-
-pub returns : goal.returns
-returns c = ap map.from_sorted c.new.ensures.items ∙ no-changes

@@ -1,0 +1,169 @@
+// The changes of a transaction that has not ended.
+ghost use Rattle.std.specs.Prelude.{◌≡◌, ◌<◌, ◌≤◌, T, is_some, IfOk, IfErr, OnOk, OnErr};
+ghost use Rattle.std.specs.Option.{option_map};
+ghost use Rattle.std.specs.FinMap as map;
+ghost use Rattle.std.specs.FinMap.{is_sorted};
+ghost use Rattle.pac_value.specs.State.{cell_cmp, with_row};
+ghost use Rattle.pac_serial.specs.WriteSets.{written, KnowsTables, IsOffsetOf, IsGapFor, gains, loses, gained, lost};
+
+use crate::commit::{apply_rest, move_new};
+use crate::pending::Pending;
+use pac_base::NoMemory;
+use pac_tables::Rows;
+use pac_value::{Key, Row};
+use std::alloc::Global;
+use std::cmp::Ordering;
+use std::marker::Model;
+
+/// A change, and the cell that is changed.
+pub(crate) type CellChange = ((u16, Key), Pending);
+
+/// The changes of a transaction, in the order of their cells: the tables stay as they are until it ends.
+#[derive(Drop)]
+pub(crate) struct WriteSet {
+    changes: Vec<CellChange>,
+}
+
+impl Model for WriteSet {
+    ghost use Rattle.std.specs.Prelude.{T};
+    ghost use Rattle.std.specs.FinMap as map;
+    ghost use Rattle.std.specs.FinMap.{is_sorted};
+    ghost use Rattle.std.specs.Coded.{coded×, coded_ℕ};
+    ghost use Rattle.pac_value.specs.State.{cell_cmp};
+    ghost use Rattle.pac_value.specs.contracts.values.Key as key_type;
+    ghost use Rattle.pac_serial.specs.contracts.pending.Pending as pending_type;
+    ghost use Rattle.pac_serial.specs.WriteSets.{Changes};
+
+    ghost Value = { Changes };
+
+    ghost coded = { map.code (coded× coded_ℕ key_type.the_row.coded) pending_type.the_row.coded };
+
+    ghost view = { λ write_set. map.from_sorted write_set.changes.items };
+
+    ghost invariant = { λ write_set. T (is_sorted cell_cmp write_set.changes.items) };
+}
+
+// Where a cell is changed, or else where its change would stand.
+fn search(changes: &[CellChange], table: u16, key: &Key) -> Result<usize, usize>
+    requires { T (is_sorted cell_cmp changes.now) }
+    ensures found { IfOk result (IsOffsetOf changes.now (table, key.now)) }
+    ensures absent { IfErr result (IsGapFor changes.now (table, key.now)) }
+{
+    changes.binary_search_by(|change| order(&change.0, table, key))
+}
+
+// How a cell stands to the one of this table and key. Neither is copied: a key is large.
+fn order(cell: &(u16, Key), table: u16, key: &Key) -> Ordering
+    ensures { result ≡ cell_cmp cell.now (table, key.now) }
+{
+    match cell.0.cmp(&table) {
+        Ordering::Equal => cell.1.cmp(key),
+        other => other,
+    }
+}
+
+impl WriteSet {
+    /// Nothing is changed yet. Takes no memory.
+    pub(crate) fn new(alloc: Global) -> WriteSet
+        ensures { result ≡ map.empty }
+    {
+        WriteSet {
+            changes: Vec::new(alloc),
+        }
+    }
+
+    /// Forgets all changes, and keeps their room.
+    pub(crate) fn clear(&mut self)
+        ensures { self.new ≡ map.empty }
+    {
+        self.changes.clear();
+    }
+
+    /// The row at a cell, as the transaction sees it. It looks up the cell among the changes, and then in the tables.
+    pub(crate) fn get<'a, R: Rows>(&'a self, rows: &'a R, table: u16, key: &Key) -> Option<&'a Row>
+        requires { table < R.tables rows.now }
+        ensures { option_map (λ row. row.now) result ≡ map.get (written (R.held rows.now) self.now) (table, key.now) }
+    {
+        match search(&self.changes, table, key) {
+            Ok(at) => self.changes[at].1.row.as_ref(),
+            Err(_) => rows.get(table, key),
+        }
+    }
+
+    /// A row is to stand at the cell, or none. The tables are looked up where the cell is changed for the first time.
+    pub(crate) fn change<R: Rows>(
+        &mut self,
+        rows: &R,
+        table: u16,
+        key: Key,
+        row: Option<Row>,
+    ) -> Result<(), NoMemory>
+        requires within { table < R.tables rows.now }
+        requires knows { KnowsTables (R.tables rows.now) (R.held rows.now) self.old }
+        ensures ok { OnOk result (written (R.held rows.now) self.new ≡ with_row (written (R.held rows.now) self.old) (table, key) row) }
+        ensures err { OnErr result (self.new ≡ self.old) }
+        ensures knows { KnowsTables (R.tables rows.now) (R.held rows.now) self.new }
+    {
+        match search(&self.changes, table, &key) {
+            Ok(at) => self.changes[at].1.replace(row),
+            Err(at) => {
+                let stands = stands(rows, table, &key);
+                self.changes
+                    .insert(at, ((table, key), Pending { row, stands }))?;
+            }
+        }
+        Ok(())
+    }
+
+    /// How many rows the changes add to a table, and how many they take away.
+    pub(crate) fn balance(&self, table: u16) -> (u64, u64)
+        ensures gained { result.0 ≡ gained table (map.entries self.now) }
+        ensures lost { result.1 ≡ lost table (map.entries self.now) }
+    {
+        let mut gained = 0;
+        let mut lost = 0;
+        for change in &self.changes {
+            gained += gain(table, change);
+            lost += loss(table, change);
+        }
+        (gained, lost)
+    }
+
+    /// Makes the changes, or none where a row finds no room. Rows are moved, and none is copied.
+    pub(crate) fn commit<R: Rows>(&mut self, rows: &mut R) -> Result<(), NoMemory>
+        requires { KnowsTables (R.tables rows.old) (R.held rows.old) self.old }
+        ensures ok { OnOk result (R.held rows.new ≡ written (R.held rows.old) self.old) }
+        ensures err { OnErr result (R.held rows.new ≡ R.held rows.old) }
+        ensures tables { R.tables rows.new ≡ R.tables rows.old }
+    {
+        move_new(rows, &mut self.changes)?;
+        apply_rest(rows, &mut self.changes);
+        Ok(())
+    }
+}
+
+// Whether the tables have a row at the cell.
+fn stands<R: Rows>(rows: &R, table: u16, key: &Key) -> bool
+    requires { table < R.tables rows.now }
+    ensures { result ≡ is_some (map.get (R.held rows.now) (table, key.now)) }
+{
+    rows.get(table, key).is_some()
+}
+
+// One where the change adds a row to the table.
+fn gain(table: u16, change: &CellChange) -> u64
+    ensures value { result ≡ gains table change.now }
+    ensures few { result ≤ 1 }
+{
+    let ((changed, _), pending) = change;
+    u64::from(*changed == table && (pending.row.is_some() && !pending.stands))
+}
+
+// One where the change takes a row away from the table.
+fn loss(table: u16, change: &CellChange) -> u64
+    ensures value { result ≡ loses table change.now }
+    ensures few { result ≤ 1 }
+{
+    let ((changed, _), pending) = change;
+    u64::from(*changed == table && (pending.row.is_none() && pending.stands))
+}

@@ -1,8 +1,0 @@
-use Rattle.std.proofs.Common.{refl}
-use Rattle.clap.proofs.OnLiterals.{clap_on_literals}
-use Rattle.pac_words.specs.Found.{found_rows}
-use Rattle.pac_words.proofs.order.spelled_law.Goals as goal
-
-pub returns : goal.returns
-unfolding clap_on_literals found_rows
-returns c = record { both = refl; value = refl; none = refl; again = refl; count = refl; missing = refl; help = refl }
