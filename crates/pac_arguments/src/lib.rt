@@ -1,9 +1,20 @@
-//! The arguments of the command line: what they say is to be done.
+//! The arguments of the command line.
 //!
-//! [`parse_args`] reads them: an [`Command`], which is one of six commands with its numbers, or nothing where the arguments are no
-//! command. The first argument is the command's name. The arguments after it are read by `clap`, as a simple command of that name
-//! with no help and no version: what is found, and what is refused, is what `clap` states of it (`specs/Found.antt`,
-//! `specs/Commands.antt`). Numbers are read here, from the text that `clap` found (`specs/Numbers.antt`).
+//! [`parse_args`] reads them: an [`Command`], which is one of six commands with its numbers, or nothing where the arguments
+//! are no command.
+//!
+//! ```
+//! use pac_arguments::parse_args;
+//!
+//! let mut arguments = Vec::new(alloc);
+//! arguments.push(String::from_str(alloc, "recover")?)?;
+//! let command_of = parse_args(alloc, &arguments)?; // Some(Order::Recover { workers: 4, rows: 1_000_000 })
+//! ```
+//!
+//! The first argument is the command's name. Those after it are parsed by `clap`, as a simple command of that name
+//! without help and version: what is found and what is refused is what `clap` states of it (`specs/Found.antt`,
+//! `specs/Commands.antt`). A number is one to eight decimal digits, from 1 to its limit (`specs/Numbers.antt`).
+//! [`spelled_law`] says what some command lines mean, by the definitions alone.
 #![tactic(auto)]
 
 mod command;

@@ -1,16 +1,26 @@
-//! What every crate above stands on: boxes and lists that contracts see as what they hold, the running out of memory, and
-//! types whose copies are equal and whose values can be told apart.
+//! What every crate uses: boxes and lists that contracts see as their contents, exact copies and comparisons, and the
+//! error for out of memory.
 //!
 //! A declared type that holds a plain `Box` or `Vec` shows its addresses and capacities to the logic, so a copy of it
 //! is never equal to it. A type that holds a [`Boxed`] or a [`Listed`] is plain data there: two values are equal
-//! exactly where they hold the same.
+//! exactly where their contents are.
 //!
-//! - [`Boxed`]`<T>`: a box that is seen as its `T`.
-//! - [`Listed`]`<T>`: a vector that is seen as the list of its items.
-//! - [`Ruled`]`<R>`: a list whose items keep the rule `R`.
-//! - [`Exact`]: a copy gives an equal value. [`Same`]: the test is equality.
-//! - [`NoMemory`]: the one error of a call that only memory can stop. [`Refusal`]`<F>`: why a call is refused that a fault
-//!   `F` of its input can stop too; `specs/Refusals.antt` has the words for what such a call answers.
+//! - [`Boxed`]`<T>`: a box, seen as its `T`. [`Listed`]`<T>`: a vector, seen as the list of its items.
+//! - [`Ruled`]`<R>`: a list whose items keep the rule `R`; its constructor requires it, and every reader knows it.
+//! - [`Exact`]: a copy is equal to the original. [`Same`]: the test returns true exactly for equal values.
+//! - [`NoMemory`]: the error of a call that fails only when it is out of memory. [`Refusal`]`<F>`: the error of a call
+//!   that a fault `F` of its input can stop too. `specs/Refusals.antt` has the predicates that contracts use for such
+//!   results.
+//!
+//! ```
+//! use pac_base::{Exact, Same, listed};
+//!
+//! let mut numbers = Vec::new(alloc);
+//! numbers.push(7_u64)?;
+//! let list = listed(numbers);
+//! let copy = list.copy(alloc)?;
+//! let equal = list.same(&copy); // true
+//! ```
 #![tactic(auto)]
 
 mod exact;

@@ -1,27 +1,32 @@
-//! The fields of files and of what is sent: numbers of a fixed width, the lowest byte first, and values.
+//! Fields of files: numbers of fixed width, the lowest byte first, and values.
 //!
-//! - [`u8_at`], [`u16_at`], [`u32_at`], [`u64_at`]: the number at an offset of some bytes, and the offset after it, or that
-//!   the bytes are too [`Short`] for it.
-//! - [`value_at`]: the value at an offset and the offset after it, or its first fault from the left, a [`ValueFault`].
-//!   [`type_at`]: the type that the tag of a value says, without a look at the bytes after.
-//! - [`typed_at`], [`key_at`]: the value and the key at an offset that has to be of one type, or its first [`TypedFault`].
+//! - [`u8_at`], [`u16_at`], [`u32_at`], [`u64_at`]: the number at an offset and the offset after it, or [`Short`].
+//! - [`value_at`]: the value at an offset and the offset after it, or the first [`ValueFault`] from the left.
+//!   [`type_at`]: the type by its tag alone.
+//! - [`typed_at`], [`key_at`]: the value and the key of a required type, or the first [`TypedFault`].
 //! - [`put_u8`], [`put_u16`], [`put_u32`], [`put_u64`], [`put_value`], [`put_key`]: append a field. [`value_len`],
-//!   [`key_len`]: how many bytes that takes.
+//!   [`key_len`]: the length of a field, at most 66.
 //!
-//! An int is the byte 1 and eight bytes in two's complement. A text is the byte 2, a byte with its length, and its bytes.
-//! A bool has no bytes. No reader takes memory.
+//! ```
+//! use pac_bytes::{put_value, value_at};
+//! use pac_value::Value;
 //!
-//! A form of bytes is said in two ways, in `specs/`. Its *spelling*, a function from what is meant to its bytes, is the
-//! meaning, and what is appended. Its *reading*, a function on the bytes from an offset on, answers what is meant and what
-//! is left after it, or the first fault: it is the table of the form's faults. Each reader has three clauses:
+//! let mut bytes = Vec::new(alloc);
+//! put_value(&mut bytes, &Value::Int(5))?; // 01 05 00 00 00 00 00 00 00
+//! let field = value_at(&bytes, 0); // Ok((Value::Int(5), 9))
+//! ```
 //!
-//! - `exact`: it answers what reading gives.
-//! - `found`: what it answers is spelled at the offset.
-//! - `again`: what is spelled at the offset is what it answers, whatever follows.
+//! An int is the byte 1 and eight bytes in two's complement. A text is the byte 2, a byte with its length, and its
+//! bytes. A bool has no bytes. `Short` is reported at the field that is cut, `Tag` at a byte that is no tag, `Bad` at
+//! the tag of a text that is too long or not printable. The typed readers report `Wrong` at the tag of another type,
+//! and where the others report `Bad`. No reader takes memory.
 //!
-//! The last two hold of every form that is a codec. What is made of codecs, one after another, by a test, for each of
-//! several types, that many times, or within that many bytes, is one too: `proofs/Codec.antt`, `Lists.antt` and
-//! `Filling.antt` show it once, for this crate and those above.
+//! Each format has two definitions in `specs/`. Its *spelling* is a function from data to bytes: the meaning, and what
+//! is appended. Its *reading* is a function on the bytes from an offset: the data and the rest, or the first fault.
+//! Each reader has three clauses: it returns what reading gives (`exact`); what it returns is spelled at the offset
+//! (`found`); what is spelled at the offset is what it returns, whatever follows (`again`). The last two hold for every
+//! codec, and codecs are closed under concatenation, choice by a test or a type, repetition, and bounded length
+//! (`proofs/Codec.antt`, `Lists.antt`, `Filling.antt`).
 #![tactic(auto)]
 
 mod fault;

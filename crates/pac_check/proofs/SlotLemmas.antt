@@ -1,11 +1,11 @@
 -- What is read of a slot, and what stands in it.
 use Rattle.std.proofs.Common.{◌≡◌, ◌∙◌, ℕ, ◌<◌, Bool, true, false, if◌then◌else◌, eqb, List, [], ◌∷◌, length, drop, Option, Some, None, Result, Ok, Err, IfOk, OnOk, inl, refl, sym, ap, subst}
 use Rattle.std.proofs.lemmas.Bool.{eqb-true, eqb-false}
-use Rattle.std.proofs.lemmas.List.{append-nil}
 use Rattle.pac_base.specs.declared.refusal.Refusal.{Refusal}
 use Rattle.pac_base.specs.Refusals.{Reports}
 use Rattle.pac_outside.specs.Disk.{DiskState, DiskHistory, IsImage, Leaves, LeavesOnly, BothKnown, IfKnown}
 use Rattle.pac_outside.specs.GateByte.{IsOpen, OneImage}
+use Rattle.pac_outside.proofs.Histories.{stays}
 use Rattle.pac_outside.proofs.Images.{one_image}
 use Rattle.pac_value.specs.State.{Tables}
 use Rattle.pac_types.specs.declared.table.Table.{Table}
@@ -169,7 +169,7 @@ rests : (P : List ℕ → Type 0) (text : List ℕ) (known : Option DiskHistory)
 rests P text None alone = tt
 rests P text (Some old) alone =
     let here : Leaves (IsOldShutOrNew old.now.seen text) old.now = λ image is. inl (one_image old.now.seen image (subst (λ (s : DiskState). IsImage s image) alone.one is)) in
-    record { since = []; grown = sym (append-nil old.past); first = here; each = tt; last = here }
+    stays (IsOldShutOrNew old.now.seen text) old here
 
 pub rests_by_slot : (slot : SlotName) (P Q : List ℕ → Type 0) (text : List ℕ) (a b : Option DiskHistory) → IfKnown (λ o. OneImage P o.now) a → IfKnown (λ o. OneImage Q o.now) b
     → BothKnown (λ old new. LeavesOnly (IsOldShutOrNew old.now.seen text) old new) (by_slot slot a b) (by_slot slot a b)

@@ -1,23 +1,33 @@
-//! Checkpoints: the tables after a whole number of transactions, in two slots, so that a crash in the middle of a save
-//! leaves the other slot whole.
+//! Checkpoints: the tables after a number of transactions, in two slots, so that a crash in a save leaves the other
+//! slot whole.
 //!
 //! - [`create_slot`] makes a slot without a checkpoint on an empty device.
-//! - [`Slots::attach`] looks at two slots and finds what is open in each, a [`SlotInfo`], or the first damage.
-//!   [`Slots::newest`] is the one with more transactions.
+//! - [`Slots::attach`] reads two slots: what is open in each, a [`SlotInfo`], or the first damage. [`Slots::newest`] is
+//!   the one with more transactions; of equal ones, slot a.
 //! - [`Slots::load_newest`] reads its tables into any [`Rows`](pac_tables::Rows).
-//! - [`Slots::save`] puts a checkpoint into the slot that isn't the newest; [`can_be_saved`] tests that each table has few
-//!   enough rows.
-//! - [`slots_are_clear`] says that the bytes of a slot hold one checkpoint and no other.
+//! - [`Slots::save`] writes a checkpoint into the slot that isn't the newest; [`can_be_saved`] tests that each table
+//!   has at most [`MAX_SAVED_ROWS`] rows.
 //!
-//! A slot is a gate byte, and where that is 1 a checkpoint after it: the name `PACMSLT1`; the number of transactions and
-//! the offset of the log's gate after these, eight bytes each; the number of tables in two bytes; and for each table the
-//! number of its rows in eight bytes, and the rows by ascending keys, each its key and the values of its columns. Bytes
-//! after that are not looked at, and a slot without a byte is closed.
+//! ```
+//! use pac_check::{Slots, create_slot};
 //!
-//! `specs/Checkpoints.antt` says what the bytes are, `specs/CheckpointReading.antt` how they are read, line by line with
-//! the faults; `proofs/CheckpointLemmas.antt` shows that the two fit, by the codecs of `pac_bytes`. `specs/Saved.antt` says
-//! which checkpoint the rows of tables are, `specs/SlotStates.antt` what stands in a slot. That a crash leaves all of a text
-//! or none is the argument of `pac_outside`; `specs/Replacing.antt` says what that means for a slot.
+//! create_slot(&mut a)?;
+//! create_slot(&mut b)?;
+//! let mut slots = Slots::attach(alloc, cat, &mut a, &mut b)?;
+//! slots.save(alloc, cat, rows, 1, 69, &mut a, &mut b)?; // after one transaction, with the log's gate byte at 69
+//! let newest = slots.newest(); // slot a, 1 transaction, 69
+//! ```
+//!
+//! A slot is a gate byte and, where that is 1, a checkpoint: the name `PACMSLT1`; the number of transactions and the
+//! offset of the log's gate byte after these, eight bytes each; the number of tables in two bytes; and for each table
+//! the number of its rows in eight bytes, and the rows by ascending keys, each its key and the values of its columns.
+//! Bytes after that are not looked at. A slot without a byte is closed.
+//!
+//! At each moment of a save, after an error too, the other slot is as it was, and this one is as it was, closed, or has
+//! the whole checkpoint (`any_moment`, `other`); of a device without a byte nothing is said. `TooLarge` comes exactly
+//! where the slot would have more than [`MAX_SLOT_LEN`] bytes. `specs/Checkpoints.antt` and
+//! `specs/CheckpointReading.antt` define the bytes and how they are read; `specs/Saved.antt` says which checkpoint
+//! tables are, `specs/SlotStates.antt` what a slot holds. [`slots_are_clear`]: bytes hold one checkpoint.
 #![tactic(auto)]
 
 mod creation;

@@ -1,9 +1,9 @@
 -- A log to which the transactions of a group are added, where there are any.
 use Rattle.std.proofs.Common.{◌≡◌, ◌⊎◌, inl, ◌∙◌, ℕ, ◌+◌, ◌<◌, List, [], ◌∷◌, ◌++◌, length, Option, Some, None, refl, sym, ap, subst, arith}
-use Rattle.std.proofs.lemmas.List.{append-nil}
 use Rattle.pac_ops.specs.declared.transaction.Txn.{Txn}
 use Rattle.pac_outside.specs.Disk.{BothKnown, DiskState, DiskHistory, IsImage, Leaves, LeavesOnly}
 use Rattle.pac_outside.specs.GateByte.{OneImage}
+use Rattle.pac_outside.proofs.Histories.{stays}
 use Rattle.pac_outside.proofs.Images.{one_image}
 use Rattle.pac_types.specs.Typing.{CatalogueState}
 use Rattle.pac_log.specs.declared.position.NextGate.{NextGate}
@@ -19,9 +19,7 @@ one_leaves P Q f state one image is = subst Q (sym (one_image state.seen image (
 
 -- a device that isn't called leaves what it left
 pub rests : (P Q : List ℕ → Type 0) → ((image : List ℕ) → P image → Q image) → (h : DiskHistory) → OneImage P h.now → LeavesOnly Q h h
-rests P Q f h one =
-    let here : Leaves Q h.now = one_leaves P Q f h.now one in
-    record { since = []; grown = sym (append-nil h.past); first = here; each = tt; last = here }
+rests P Q f h one = stays Q h (one_leaves P Q f h.now one)
 
 pub nothing_added : (text : List ℕ) (catalogue : CatalogueState) (batches : List (List Txn)) (txns : List Txn) (known : Option DiskHistory) → BothKnown (MayAdd text catalogue batches txns) known known
 nothing_added text catalogue batches txns None = tt

@@ -3,9 +3,9 @@ use Rattle.std.proofs.Common.{◌≡◌, ◌∙◌, inl, inr, ⊎_elim, ℕ, Lis
 use Rattle.std.specs.List.{AllByRecursion}
 use Rattle.pac_ops.specs.declared.transaction.Txn.{Txn}
 use Rattle.pac_outside.specs.Devices.{AllLeave, AreImages, RunLeaves, all_known}
-use Rattle.pac_outside.specs.Devices.RunLeaves.{rests, runs}
 use Rattle.pac_outside.specs.Disk.{DiskState, DiskHistory, IsImage}
 use Rattle.pac_outside.specs.GateByte.{OneImage}
+use Rattle.pac_outside.proofs.Runs.{run_start}
 use Rattle.pac_types.specs.Typing.{CatalogueState}
 use Rattle.pac_store.specs.Stands.{IsHistory}
 use Rattle.pac_engine.specs.Standing.{OnlyGrows, KeepsHistory, MayLeave, StandsOn, WhileAllKnown}
@@ -145,19 +145,6 @@ module _ (rules : Rules) (place : ℕ) (start : SessionState) (whole : GroupCut)
 
 -- ---- what the devices stand for
 
--- what a crash leaves at the first moment
-images-split : (P : List (List ℕ) → Type 0) (prefix back : List DiskHistory) (device : DiskHistory)
-    → ((image : List ℕ) → IsImage device.now image → (before after : List (List ℕ)) → AreImages prefix before → AreImages back after → P (before ++ (image ∷ after)))
-    → AllLeave P (prefix ++ (device ∷ back))
-images-split P [] back device has [] are = absurd are
-images-split P [] back device has (image ∷ images) are = has image are.0 [] images tt are.1
-images-split P (first ∷ prefix) back device has [] are = absurd are
-images-split P (first ∷ prefix) back device has (image ∷ images) are = images-split (λ rest. P (image ∷ rest)) prefix back device (λ own is before after prefixes backs. has own is (image ∷ before) after (are.0, prefixes) backs) images are.1
-
-run-start : (P : List (List ℕ) → Type 0) (x y : List DiskHistory) → RunLeaves P x y → AllLeave P x
-run-start P x y (rests devices here) = here
-run-start P x y (runs prefix back end old next run more) = images-split P prefix back old run.first
-
 own-image : (P : List ℕ → Type 0) (state : DiskState) → OneImage P state → IsImage state state.seen
 own-image P state one = subst (λ (s : DiskState). IsImage s state.seen) (sym one.one) (record { no_shorter = omega arith; no_longer = omega arith; stays = λ place below is. refl })
 
@@ -167,7 +154,7 @@ kept-executes text history longer b c [] w is keeps = absurd is
 kept-executes text history longer b c (l ∷ []) w is keeps = absurd is
 kept-executes text history longer b c (l ∷ x ∷ []) w is keeps = absurd is
 kept-executes text history longer b c (l ∷ x ∷ y ∷ []) w is keeps =
-    let leaves = run-start (MayLeave text b.session.catalogue longer b) (l ∷ x ∷ y ∷ []) w keeps.moments (l.now.seen ∷ x.now.seen ∷ y.now.seen ∷ []) (own-image _ l.now is.log, (own-image _ x.now is.slot_a, (own-image _ y.now is.slot_b, tt))) in
+    let leaves = run_start (MayLeave text b.session.catalogue longer b) (l ∷ x ∷ y ∷ []) w keeps.moments (l.now.seen ∷ x.now.seen ∷ y.now.seen ∷ []) (own-image _ l.now is.log, (own-image _ x.now is.slot_a, (own-image _ y.now is.slot_b, tt))) in
     leaves.stands.executes
 kept-executes text history longer b c (l ∷ x ∷ y ∷ d ∷ devices) w is keeps = absurd is
 

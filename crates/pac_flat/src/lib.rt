@@ -1,18 +1,22 @@
-//! The flat form: what procedures are to analysis and to replay. A procedure's operations stand in one list, without
-//! names and blocks, each with the conditions under which it does anything.
+//! The flat form of procedures, for analysis and replay: the operations of a procedure in one list, without names and
+//! branches, each with the conditions under which it has an effect.
 //!
 //! - [`flatten`]: the [`Program`](pac_ops::Program) of each procedure of a catalogue, or the first procedure at which
-//!   operations are [too many](TooManyOps).
-//! - [`test_operations`]: whether a catalogue's operations are few enough for that, or the first procedure at which they
-//!   are too many. It takes no memory.
+//!   operations are [too many](TooManyOps): more than 256 of its own, or more than 4,096 up to its end.
+//! - [`test_operations`]: whether they are few enough, without memory.
+//!
+//! ```
+//! use pac_flat::flatten;
+//! use pac_types::read_catalogue;
+//!
+//! let cat = read_catalogue(alloc, b"table T(key int, v int); proc P() { if true { delete T[1]; } }")?;
+//! let programs = flatten(alloc, &cat)?; // one program of two operations: the test, and the delete under it
+//! ```
 //!
 //! `specs/FlatForm.antt` says which operations these are, by recursion on statements. `specs/Agreement.antt` says that
-//! nothing is lost by it: a call of a program ends in the state that the procedure means, hidden variables too, and
-//! leaves no note; or its first note is the procedure's abort. The same holds of transactions one after another, so what
-//! is replayed is what serial execution gives. Both are clauses of `flatten`.
-//!
-//! An operation keeps the number that it has in its procedure, and a variable too; a conditional's test is an operation
-//! that gives its hidden variable a value.
+//! nothing is lost: a call of a program ends in the state that the procedure means, and leaves no note; or its first
+//! note is the procedure's abort (`means`). The same holds for transactions one after another (`replays`). An operation
+//! and a variable keep their numbers; the test of a conditional is an operation that defines its hidden variable.
 #![tactic(auto)]
 
 mod block;

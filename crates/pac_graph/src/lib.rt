@@ -1,25 +1,31 @@
-//! Directed graphs of up to [`MAX_NODES`] nodes: the classes of nodes that reach each other, and their numbering.
+//! Directed graphs of up to [`MAX_NODES`] nodes: strongly connected components, here called classes, and their
+//! numbering. The crate knows nothing of operations; a node is a number from 0.
 //!
-//! A block of operations is such a class: which operations belong together, and in which order the blocks come, follows
-//! from a graph of what depends on what. This crate knows nothing of operations. A node is a number from 0 on.
+//! - [`Digraph::new`] makes nodes, [`Digraph::edge`] adds an edge, [`Digraph::edges`] lists them, each once and
+//!   ascending.
+//! - [`Digraph::classes`] returns the class of each node: two nodes have one class exactly where each reaches the
+//!   other.
+//! - [`Digraph::number`] numbers the classes by the ranks of their nodes: among the classes whose predecessors are all
+//!   numbered, the one with the node of least rank is next.
+//! - [`Digraph::groups`] does both where a node's rank is its number; [`Groups`] has the edges between classes too.
+//! - [`no_cycle`], [`numbers_rise`], [`numbers_differ`] and [`one_numbering`] are laws: functions without code whose
+//!   clauses say that no path leads back between two classes, that edges lead to higher numbers, that two classes have
+//!   two numbers, and that a graph and ranks have one numbering.
 //!
-//! - [`Digraph::new`] makes nodes, [`Digraph::edge`] adds an edge. A contract sees how many nodes there are, and where
-//!   an edge leads. [`Digraph::edges`] lists the edges.
-//! - [`Digraph::classes`] gives each node the number of its class: two nodes have one exactly where each is reached from
-//!   the other. [`Classes`] is the list of these.
-//! - [`Digraph::number`] numbers the classes anew, by the ranks of their nodes: of the classes whose predecessors are
-//!   all numbered, the one with the node of least rank is next.
-//! - [`Digraph::groups`] does both where nodes rank as they are numbered: [`Groups`] has the number of each node's class
-//!   and the edges between classes.
-//! - [`no_cycle`], [`numbers_rise`], [`numbers_differ`] and [`one_numbering`] are laws: functions without code, whose
-//!   clauses say what follows.
+//! ```
+//! use pac_graph::Digraph;
 //!
-//! `specs/Graph.antt` says what an edge is and what is reached, `specs/Classes.antt` what classes are, and
-//! `specs/Numbering.antt` how they are numbered. `specs/Groups.antt` says the same of nodes of any kind, so that a caller
-//! whose nodes are not numbers can say what its groups are.
+//! let mut graph = Digraph::new(alloc, 3)?;
+//! graph.edge(0, 1);
+//! graph.edge(1, 0);
+//! graph.edge(1, 2);
+//! let groups = graph.groups()?; // numbers 0, 0, 1; two classes; the edge from 0 to 1
+//! ```
 //!
-//! A graph of n nodes is kept as n rows of n bits. Finding the classes goes through each row once, and so
-//! does numbering them. The search calls itself, no deeper than there are nodes.
+//! `specs/Graph.antt` says what an edge is and what is reached, `specs/Classes.antt` what classes are,
+//! `specs/Numbering.antt` how they are numbered, and `specs/Groups.antt` says the same of nodes of any kind. A graph of
+//! n nodes is n rows of n bits. Finding the classes and numbering them each scan every row once. The search is
+//! recursive, to a depth of at most n.
 #![tactic(auto)]
 
 mod classes;

@@ -1,18 +1,28 @@
 //! The lines of a source, each as soon as it is whole.
 //!
-//! A [`LineReader`] reads a [`Source`](pac_outside::Source) by chunks and hands out its lines one after another. A line
-//! ends at a line feed, which is no part of it; the last one needs none. A carriage return is a byte as any other.
+//! A [`LineReader`] reads a [`Source`](pac_outside::Source) by chunks of at most 4,096 bytes. A line ends at a line
+//! feed, which is not part of it; the last line needs none. A carriage return is an ordinary byte.
 //!
-//! - [`LineReader::next_line`] goes on to the next line, which [`LineReader::line`] then shows. It reads only while no
-//!   whole line is ahead, so whoever types at a terminal has each line at once. It copies no line, and looks at each byte
-//!   once.
-//! - A reader takes no more of its source than a limit and one byte. Where the source gives that one, and no whole line
-//!   stands before it any more, the answer is [`LineError::TooLong`].
-//! - No answer loses a byte: what is ahead and then what is left of the source is, after an error, what it was before.
+//! ```
+//! use pac_lines::LineReader;
 //!
-//! `specs/Lines.antt` says what the lines of a text are, and `specs/Calls.antt` what a call of a reader does. Laws stand
-//! over these: [`each_text_has_its_lines`], [`lines_come_in_turn`], [`calls_hand_out_lines`],
-//! [`too_long_is_reported_exactly`] and [`no_byte_is_lost`].
+//! let mut reader = LineReader::new(alloc, 1_024);
+//! while reader.next_line(source)? {
+//!     let line = reader.line(); // without its line feed
+//! }
+//! ```
+//!
+//! - [`LineReader::next_line`] goes to the next line, which [`LineReader::line`] returns; false is the end of the
+//!   source. It reads only while no whole line is buffered, so a terminal is answered line by line. It copies no line.
+//! - A reader takes at most `limit` bytes and one more. If the source gives that one, and no whole line before it is
+//!   left, the result is [`LineError::TooLong`]: exactly then (`limit`, `over`).
+//! - No error loses a byte: the buffered bytes and then what is left of the source are what they were
+//!   ([`no_byte_is_lost`]).
+//! - [`calls_hand_out_lines`]: calls one after another return the lines of the source in order, and then its end.
+//!
+//! `specs/Lines.antt` says what the lines of a text are ([`each_text_has_its_lines`], [`lines_come_in_turn`]), and
+//! `specs/Calls.antt` what a call of a reader does ([`too_long_is_reported_exactly`]). That each byte is searched once is
+//! so in the code and in no clause.
 #![tactic(auto)]
 
 mod ahead;

@@ -1,22 +1,33 @@
-//! The command log: what makes the database durable. It is a header with the text of its catalogue, and then a gate byte,
-//! and after each gate that is open a batch and the next gate. A commit is all or nothing, at every moment.
+//! The command log, which makes the database durable: a header with the text of its catalogue, then a gate byte, and
+//! after each open gate byte a batch and the next gate byte. A commit is all or nothing, at every moment.
 //!
-//! - [`create`] makes the log of a catalogue's text on an empty device. [`LogReader::attach`] finds the header of a log, and
-//!   its catalogue.
-//! - [`Log`] stands at the end of a log. [`Log::prepare`] makes a batch ready, in memory. [`Log::commit`] writes it after the
-//!   shut gate, syncs, opens the gate, and syncs; it takes no memory.
-//! - [`write_body`]: appends the body of a batch. [`body_len`]: how many bytes that takes.
-//! - [`read_link`]: the transactions whose body stands at an offset, with the gate after them, a [`Link`]; or its first fault
-//!   from the left, a [`LinkFault`] of some [`DamageKind`].
+//! - [`create`] makes the log of a catalogue's text on an empty device. [`LogReader::attach`] reads the header of a
+//!   log; [`LogReader::next_batch`] returns its batches one after another.
+//! - [`Log`] stands at the end of a log. [`Log::prepare`] encodes a batch in memory. [`Log::commit`] writes it after
+//!   the closed gate byte, syncs, opens the gate byte, and syncs; it takes no memory.
+//! - [`write_body`], [`body_len`]: the body of a batch. [`read_link`]: a body and the gate byte after it, a [`Link`];
+//!   or the first fault from the left, a [`LinkFault`] of some [`DamageKind`].
 //!
-//! A gate is open where its byte is 1, and else it ends the log, whatever stands after it. A body is the number of
-//! transactions in four bytes, the length of their entries in four bytes, and the entries, those of `pac_entry`. Bodies are
-//! read against a catalogue: what is read fits it.
+//! ```
+//! use pac_log::{Log, LogReader, create};
 //!
-//! `specs/Logs.antt` says which batches stand in an image, and `specs/Bodies.antt` what their bytes are, so whoever stands
-//! above sees a log as a list of batches. `specs/BodyReading.antt` says how bodies are read, with the faults;
-//! `proofs/LinkLemmas.antt` shows that this fits their bytes. That a crash leaves all of a piece or none is the argument of
-//! `pac_outside`, and `proofs/LogLemmas.antt` carries it over to batches.
+//! create(alloc, &mut disk, b"table T(key int, v int);")?;
+//! let mut reader = LogReader::attach(alloc, &mut disk)?;
+//! while let Some(_) = reader.next_batch(&mut disk)? {} // a new log has no batch
+//! let mut log = Log::resume(reader);
+//! log.prepare(&batch)?;
+//! log.commit(&mut disk)?;
+//! ```
+//!
+//! A gate byte is open where it is 1; any other byte ends the log, whatever follows. A body is the number of
+//! transactions in four bytes, the length of their entries in four bytes, and the entries of `pac_entry`. At each
+//! moment of a commit, after an error too, a crash leaves the batches before, or these and the new one (`any_moment`);
+//! after Ok it leaves the new one (`committed`). After a call of the device that failed the log has failed. `LogFull`
+//! comes only where the log would be too long, with its length.
+//!
+//! `specs/Logs.antt` says which batches an image holds, so the crates above see a log as a list of batches;
+//! `specs/Bodies.antt` and `specs/BodyReading.antt` define their bytes and how they are read. [`one_log`]: an image
+//! holds one list of batches. [`one_gate`]: an offset has one number of transactions before it.
 #![tactic(auto)]
 
 mod body;

@@ -1,16 +1,21 @@
 //! The program: its top call, generic over the outside.
 //!
-//! - [`pacman`]: does what the arguments of the command line say, and answers the exit status.
-//! - [`init_command`]: what it does where the arguments ask for a new store.
-//! - [`run_command`]: what it does where the arguments ask for a run.
-//! - [`explain_command`]: what it does where the arguments ask for an explanation.
-//! - [`a_new_store_stands_for_none`], [`runs_keep_what_is_acknowledged`] and [`recover_gives_what_is_acknowledged`]: laws
-//!   over a new store, any number of runs on it, and what is recovered after them.
-//! - [`refuse_arguments`]: answers the exit status where these arguments couldn't be read.
+//! - [`pacman`]: does what the arguments of the command line say, and returns the exit status.
+//! - [`init_command`], [`run_command`], [`explain_command`]: one command alone.
+//! - [`refuse_arguments`]: the exit status for arguments that couldn't be read.
+//! - [`a_new_store_stands_for_none`], [`runs_keep_what_is_acknowledged`] and [`recover_gives_what_is_acknowledged`]:
+//!   laws over a new store, any number of runs on it, and what is recovered after them.
 //!
-//! Each command is a file of its own. What the calls answer stands in `specs/`: `Commands` (what the arguments say, and which
-//! commands run), `Init`, `Run`, `Recover`, `Replay` and `Explained` (how each command ends, by its status), `Streams` (what is
-//! observed of streams and devices) and `Stop` (the exit statuses and their lines).
+//! ```
+//! use pac_main::pacman;
+//! use pac_outside::OpenGate;
+//!
+//! let status = pacman(rt, alloc, &arguments, input, output, errors, devices, &OpenGate);
+//! ```
+//!
+//! Each command is a file of its own. `specs/` defines what the calls do: `Commands` (what the arguments mean, and
+//! which commands run), `Init`, `Run`, `Recover`, `Replay` and `Explained` (how each command ends, by its status),
+//! `Streams` (what is observed of streams and devices) and `Stop` (the exit statuses and their lines).
 #![tactic(auto)]
 
 mod command;

@@ -1,29 +1,31 @@
-//! Operations and transactions as data: what is run, apart from what it does. Every layer above hands these on: the
-//! log, the plan, the replay of batches.
+//! Operations and transactions as data: what is executed, apart from its effect. The log, the plan and the interpreter
+//! pass these on.
 //!
-//! - [`Txn`]: a transaction as it is asked for. It is the [`Call`] of a procedure with its [`Args`], or ad hoc
-//!   [`Records`]: 1 to 64 of [`Change`], each of which puts or deletes one row.
-//! - [`Batch`]: 1 to 1,024 transactions, [`Txns`], that are numbered one after another.
-//! - [`Program`]: a procedure in flat form: its operations in one list, [`Ops`], without names and blocks. A
-//!   [`FlatOp`] has an [`OpKind`], what it does, and [`Conds`], under which tests of the conditionals round it.
-//! - [`PieceId`]: what one transaction does in one block.
-//! - [`Reason`]: why a transaction aborts. [`Note`]: which operation of which transaction does, and why.
-//! - [`Numbers`] and [`Pairs`]: lists of numbers of operations, slices or blocks.
-//! - [`TableTypes`]: the types that the rows of a table have. `specs/Shapes.antt` says which rows and records fit tables
-//!   of such types, whether a catalogue or a plan has them.
+//! - [`Txn`]: a transaction. It is the [`Call`] of a procedure with its [`Args`], or ad hoc [`Records`]: 1 to 64 of
+//!   [`Change`], each of which puts or deletes one row. [`Batch`]: 1 to 1,024 transactions, [`Txns`], with consecutive
+//!   numbers.
+//! - [`Program`]: a procedure in flat form, one list of operations, [`Ops`], without names and branches. A [`FlatOp`]
+//!   has an [`OpKind`], and [`Conds`]: the tests of the enclosing conditionals, under which it has an effect.
+//! - [`PieceId`]: what one transaction does in one block. [`Numbers`], [`Pairs`]: numbers of operations, slices or
+//!   blocks.
+//! - [`Reason`]: why a transaction aborts. [`Note`]: which operation of which transaction aborts, and why.
+//! - [`TableTypes`]: the types of a table's rows. `specs/Shapes.antt` says which rows and records fit such tables.
 //!
-//! `specs/Uses.antt` says which variables an operation uses and defines and which table it accesses,
-//! `specs/Dependencies.antt` what depends on what, and `specs/Programs.antt` when a program is well-formed over tables of
-//! given types: each operation finds what it uses.
+//! ```
+//! use pac_ops::{Args, Batch, Call, Txn, Txns};
+//! use pac_value::Value;
 //!
-//! `specs/Operations.antt` says what an operation means, by the cell that it touches and what it does there; every
-//! layer that executes operations is held to it. `specs/Flat.antt` says what operations in flat form mean, where one that
-//! would abort leaves a note and stops nothing, `specs/Notes.antt` which note is the first. `specs/Transactions.antt` says
-//! what ad hoc records mean, and what transactions leave that are replayed.
+//! let args = Args::of(vec![in alloc; Value::Int(1), Value::Int(5)]?);
+//! let call = Txn::Call(Call { proc: 0, args });
+//! let batch = Batch { first: 1, txns: Txns::of(vec![in alloc; call]?) };
+//! ```
 //!
-//! Procedures, tables, columns, variables and blocks have numbers from 0 on, transactions from 1 on. Each type is seen
-//! by contracts as what it holds, a list type as its list. A copy is equal to what it was made of, and the test `same`
-//! is equality.
+//! Procedures, tables, columns, variables and blocks have numbers from 0, transactions from 1. `specs/Operations.antt`
+//! says what an operation means: which cell it accesses and what it does there; every interpreter is held to it.
+//! `specs/Uses.antt` and `specs/Dependencies.antt` say which variables it uses and defines, and what depends on what;
+//! `specs/Programs.antt` which programs are well-formed. `specs/Flat.antt`, `specs/Notes.antt` and
+//! `specs/Transactions.antt` say what flat operations mean in a replay, where an abort leaves a note and stops nothing,
+//! and which note is the first. The order of notes is by transaction, operation and reason.
 #![tactic(auto)]
 
 mod batch;

@@ -2,8 +2,10 @@
 use Rattle.std.proofs.Common.{◌≡◌, ◌⊎◌, inl, inr, ℕ, ◌+◌, ◌-◌, ◌<◌, ◌≤◌, false, List, [], ◌∷◌, ◌++◌, length, take, drop, get_or, Result, Ok, Err, OnOk, OnErr, refl, sym, ap, ◌∙◌, subst, arith, length-append, length-take, length-drop}
 use Rattle.std.proofs.lemmas.Bool.{or_parts}
 use Rattle.std.proofs.lemmas.Bool.Decides.{nat_tests}
-use Rattle.std.proofs.lemmas.List.{append-nil, get_or-take, get_or-drop, get_or_append_left, get_or-append_right}
-use Rattle.pac_outside.specs.Disk.{DiskState, IsImage, is_within, spliced, wrote, DiskHistory, after_write, LeavesTorn, SeenOutside}
+use Rattle.std.proofs.lemmas.List.{get_or-take, get_or-drop, get_or_append_left, get_or-append_right}
+use Rattle.pac_outside.specs.Disk.{DiskState, IsImage, is_within, spliced, wrote, DiskHistory, after_sync, after_write, settled, LeavesAsBefore, LeavesTorn, SeenOutside}
+use Rattle.pac_outside.proofs.Histories.{stays}
+use Rattle.pac_outside.proofs.Images.{one_image}
 
 -- an offset outside a range is before it or after it
 beside : (at count offset : ℕ) → is_within (at, count) offset ≡ false → (offset < at) ⊎ (at + count ≤ offset)
@@ -50,10 +52,10 @@ module _ (at : ℕ) (piece : List ℕ) (state : DiskState) (within : at ≤ leng
 
 module _ (at : ℕ) (piece : List ℕ) (old : DiskHistory) (within : at ≤ length old.now.seen) where
   made_torn : LeavesTorn at piece old (after_write at piece old)
-  made_torn = record { since = old.now ∷ []; grown = refl; first = image_before at piece old.now within; each = (image_before at piece old.now within, tt); last = λ image is. is }
+  made_torn = record { since = wrote at piece old.now ∷ []; grown = refl; first = image_before at piece old.now within; each = (λ image is. is, tt) }
 
   unmade_torn : LeavesTorn at piece old old
-  unmade_torn = record { since = []; grown = sym (append-nil old.past); first = image_before at piece old.now within; each = tt; last = image_before at piece old.now within }
+  unmade_torn = stays (IsImage (wrote at piece old.now)) old (image_before at piece old.now within)
 
   made_outside : SeenOutside at (length piece) old (after_write at piece old)
   made_outside = record { no_shorter = length-spliced at piece old.now.seen within; stays = λ offset below outside. get_or-spliced at piece old.now.seen within offset outside }
@@ -68,3 +70,13 @@ module _ (at : ℕ) (piece : List ℕ) (old : DiskHistory) (within : at ≤ leng
   pub outside : {T E : Type 0} (new : DiskHistory) (result : Result T E) → OnOk result (new ≡ after_write at piece old) → OnErr result (new ≡ old) → SeenOutside at (length piece) old new
   outside new (Ok x) made unmade = subst (SeenOutside at (length piece) old) (sym made) made_outside
   outside new (Err e) made unmade = subst (SeenOutside at (length piece) old) (sym unmade) unmade_outside
+
+-- a sync, made or not, leaves what a crash might have left before
+pub synced : {T E : Type 0} (old new : DiskHistory) → IsImage old.now old.now.seen → (result : Result T E) → OnOk result (new ≡ after_sync old) → OnErr result (new ≡ old) → LeavesAsBefore old new
+synced old new seen (Ok x) made unmade = subst (LeavesAsBefore old) (sym made) (record {
+  since = settled old.now.seen ∷ [];
+  grown = refl;
+  first = λ image is. is;
+  each = (λ image is. subst (IsImage old.now) (sym (one_image old.now.seen image is)) seen, tt);
+})
+synced old new seen (Err e) made unmade = subst (LeavesAsBefore old) (sym unmade) (stays (IsImage old.now) old (λ image is. is))

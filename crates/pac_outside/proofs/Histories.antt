@@ -1,13 +1,14 @@
 -- Calls of a disk one after another.
-use Rattle.std.proofs.Common.{List, [], ◌∷◌, ◌++◌, ℕ, Option, Some, None, Result, Ok, Err, OnOk, ap, ◌∙◌, append_assoc}
+use Rattle.std.proofs.Common.{◌≡◌, List, [], ◌∷◌, ◌++◌, ℕ, Option, Some, None, Result, Ok, Err, OnOk, refl, sym, ap, ◌∙◌, append_assoc}
 use Rattle.std.specs.List.{AllByRecursion}
-use Rattle.pac_outside.specs.Disk.{DiskState, DiskHistory, Leaves, LeavesOnly, BothKnown}
+use Rattle.std.proofs.lemmas.List.{append-nil, append_cancel_right}
+use Rattle.pac_outside.specs.Disk.{DiskState, DiskHistory, Leaves, LeavesOnly, BothKnown, states}
 
 all_append : (P : DiskState → Type 0) (xs ys : List DiskState) → AllByRecursion P xs → AllByRecursion P ys → AllByRecursion P (xs ++ ys)
 all_append P [] ys left right = right
 all_append P (x ∷ xs) ys left right = (left.0, all_append P xs ys left.1 right)
 
-all_weaken : (P Q : DiskState → Type 0) → ((state : DiskState) → P state → Q state) → (xs : List DiskState) → AllByRecursion P xs → AllByRecursion Q xs
+pub all_weaken : (P Q : DiskState → Type 0) → ((state : DiskState) → P state → Q state) → (xs : List DiskState) → AllByRecursion P xs → AllByRecursion Q xs
 all_weaken P Q weaker [] all = tt
 all_weaken P Q weaker (x ∷ xs) all = (weaker x all.0, all_weaken P Q weaker xs all.1)
 
@@ -15,10 +16,9 @@ all_weaken P Q weaker (x ∷ xs) all = (weaker x all.0, all_weaken P Q weaker xs
 pub goes_on : (P : List ℕ → Type 0) (a b c : DiskHistory) → LeavesOnly P a b → LeavesOnly P b c → LeavesOnly P a c
 goes_on P a b c first next = record {
   since = first.since ++ next.since;
-  grown = next.grown ∙ ap (λ past. past ++ next.since) first.grown ∙ append_assoc a.past first.since next.since;
+  grown = next.grown ∙ ap (λ past. past ++ next.since) first.grown ∙ append_assoc (states a) first.since next.since;
   first = first.first;
   each = all_append (Leaves P) first.since next.since first.each next.each;
-  last = next.last;
 }
 
 pub weaken : (P Q : List ℕ → Type 0) (a b : DiskHistory) → ((image : List ℕ) → P image → Q image) → LeavesOnly P a b → LeavesOnly Q a b
@@ -27,8 +27,26 @@ weaken P Q a b weaker run = record {
   grown = run.grown;
   first = λ image is. weaker image (run.first image is);
   each = all_weaken (Leaves P) (Leaves Q) (λ state leaves image is. weaker image (leaves image is)) run.since run.each;
-  last = λ image is. weaker image (run.last image is);
 }
+
+abbrev last_of : DiskState → List DiskState → DiskState
+last_of other [] = other
+last_of other (state ∷ rest) = last_of state rest
+
+last_is : (other : DiskState) (past : List DiskState) (now : DiskState) → last_of other (past ++ now ∷ []) ≡ now
+last_is other [] now = refl
+last_is other (state ∷ past) now = last_is state past now
+
+-- a history is known by its states
+pub same_history : (a b : DiskHistory) → states a ≡ states b → a ≡ b
+same_history a b same =
+    let now : a.now ≡ b.now = sym (last_is a.now a.past a.now) ∙ ap (last_of a.now) same ∙ last_is a.now b.past b.now in
+    let past : a.past ≡ b.past = append_cancel_right a.past b.past (a.now ∷ []) (same ∙ ap (λ (state : DiskState). b.past ++ state ∷ []) (sym now)) in
+    ap (λ (before : List DiskState). record { past = before; now = a.now }) past ∙ ap (λ (state : DiskState). record { past = b.past; now = state }) now
+
+-- a disk that isn't called
+pub stays : (P : List ℕ → Type 0) (device : DiskHistory) → Leaves P device.now → LeavesOnly P device device
+stays P device here = record { since = []; grown = sym (append-nil (states device)); first = here; each = tt }
 
 -- where both are known, one relation leads to another
 pub both : (R S : DiskHistory → DiskHistory → Type 0) → ((a b : DiskHistory) → R a b → S a b) → (a b : Option DiskHistory) → BothKnown R a b → BothKnown S a b

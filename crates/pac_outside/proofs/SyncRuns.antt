@@ -1,10 +1,9 @@
 -- Devices that are synced one after another leave what they might have left before.
-use Rattle.std.proofs.Common.{ℕ, List, [], ◌∷◌, ◌++◌, Option}
-use Rattle.pac_outside.specs.Disk.{DiskHistory, IsImage, LeavesAsBefore, BothKnown}
+use Rattle.std.proofs.Common.{List, [], ◌∷◌, ◌++◌, Option}
+use Rattle.pac_outside.specs.Disk.{DiskHistory, LeavesAsBefore, BothKnown}
 use Rattle.pac_outside.specs.Devices.{AreImages, RunsAsBefore, IfAllKnown, all_known}
 use Rattle.pac_outside.specs.Devices.RunLeaves.{rests}
-use Rattle.pac_outside.proofs.Histories.{weaken}
-use Rattle.pac_outside.proofs.Runs.{run_then, run_end, join_images, one_runs, knows_on, knows_then, device_knows}
+use Rattle.pac_outside.proofs.Runs.{run_then, run_end, sync_runs, knows_on, knows_then, device_knows}
 
 -- what was as before a call is as before after it
 abbrev StaysAsBefore : List DiskHistory → List DiskHistory → Type 0
@@ -12,9 +11,8 @@ StaysAsBefore old new = (start : List DiskHistory) → RunsAsBefore start old �
 
 -- one device more is synced
 one_more : (prefix back : List DiskHistory) (old next : DiskHistory) → LeavesAsBefore old next → StaysAsBefore (prefix ++ (old ∷ back)) (prefix ++ (next ∷ back))
-one_more prefix back old next run start first = run_then (AreImages start) start (prefix ++ (old ∷ back)) (prefix ++ (next ∷ back)) first (one_runs (AreImages start) prefix back old next
-    (weaken (IsImage old.now) (λ image. (before after : List (List ℕ)) → AreImages prefix before → AreImages back after → AreImages start (before ++ (image ∷ after))) old next
-    (λ image is before after prefixes backs. run_end (AreImages start) start (prefix ++ (old ∷ back)) first (before ++ (image ∷ after)) (join_images prefix back old before after image prefixes is backs)) run))
+one_more prefix back old next run start first = run_then (AreImages start) start (prefix ++ (old ∷ back)) (prefix ++ (next ∷ back)) first
+    (sync_runs (AreImages start) prefix back old next (run_end (AreImages start) start (prefix ++ (old ∷ back)) first) run)
 
 synced : (prefix back : List (Option DiskHistory)) (old next : Option DiskHistory) → BothKnown LeavesAsBefore old next → IfAllKnown StaysAsBefore (prefix ++ (old ∷ back)) (prefix ++ (next ∷ back))
 synced = device_knows LeavesAsBefore StaysAsBefore one_more

@@ -1,7 +1,7 @@
 -- Several devices at once.
 use Rattle.std.specs.Prelude.{◌≡◌, ◌⊎◌, ℕ, List, [], ◌∷◌, ◌++◌, Option, Some, None, option_map, Result, MatchResult}
 use Rattle.pac_outside.specs.Causes.{one_more}
-use Rattle.pac_outside.specs.Disk.{DiskHistory, IsImage, LeavesOnly, settled}
+use Rattle.pac_outside.specs.Disk.{DiskHistory, DiskState, IsImage, becomes, settled}
 use Rattle.pac_outside.specs.declared.devices.Devices.{Devices}
 
 -- what is seen of each device of a store, in a fixed order
@@ -35,15 +35,16 @@ AreImages (device ∷ devices) (image ∷ images) = IsImage device.now image × 
 abbrev pub AllLeave : (List (List ℕ) → Type 0) → List DiskHistory → Type 0
 AllLeave P devices = (images : List (List ℕ)) → AreImages devices images → P images
 
--- A run of calls, one device after another, while a crash at any moment leaves only images that have P. The moments of
--- each device are exact. No device says which of two devices' moments comes first, so it is some order of them that has
--- P. A call that says this at each exit says it of each moment: a device may fail from any call on, and be the last that
--- is called, as `EndsAtOneFault` says; the exit is that moment then.
+-- A run of calls of several devices, while a crash at any moment leaves only images that have P: at each moment it does,
+-- and from one to the next one device becomes another state, and the others stay as they are. So each device goes through
+-- the states that it says, through all of them and no others. No device says which of two devices' moments comes first,
+-- so it is some order of them that has P. That the order of the calls has it follows from what a call says at each exit: a
+-- device may fail from any call on, and be the last that is called, as `EndsAtOneFault` says; the exit is that moment then.
 pub data RunLeaves (P : List (List ℕ) → Type 0) : List DiskHistory → List DiskHistory → Type 0 where
   rests : (devices : List DiskHistory) → AllLeave P devices → RunLeaves P devices devices
-  runs : (prefix back end : List DiskHistory) (old next : DiskHistory)
-      → LeavesOnly (λ image. (before after : List (List ℕ)) → AreImages prefix before → AreImages back after → P (before ++ (image ∷ after))) old next
-      → RunLeaves P (prefix ++ (next ∷ back)) end → RunLeaves P (prefix ++ (old ∷ back)) end
+  steps : (prefix back end : List DiskHistory) (device : DiskHistory) (next : DiskState)
+      → AllLeave P (prefix ++ (device ∷ back))
+      → RunLeaves P (prefix ++ (becomes next device ∷ back)) end → RunLeaves P (prefix ++ (device ∷ back)) end
 
 -- a crash at any moment leaves images that it might have left before
 abbrev pub RunsAsBefore : List DiskHistory → List DiskHistory → Type 0

@@ -41,6 +41,10 @@ pub record DiskHistory : Type 0 where
   pub past : List DiskState
   pub now : DiskState
 
+-- all states that it says, the oldest first
+abbrev pub states : DiskHistory → List DiskState
+states history = history.past ++ history.now ∷ []
+
 -- a moment later
 abbrev pub becomes : DiskState → DiskHistory → DiskHistory
 becomes state history = record { past = history.past ++ history.now ∷ []; now = state }
@@ -57,13 +61,13 @@ after_sync history = becomes (settled history.now.seen) history
 abbrev pub Leaves : (List ℕ → Type 0) → DiskState → Type 0
 Leaves P state = (image : List ℕ) → IsImage state image → P image
 
--- a crash at any moment from old to new leaves only what has P
+-- A crash at any moment from old to new leaves only what has P: in the state at first, and in each that came since. None is
+-- left out.
 pub record LeavesOnly (P : List ℕ → Type 0) (old new : DiskHistory) : Type 0 where
   pub since : List DiskState
-  pub grown : new.past ≡ old.past ++ since
+  pub grown : states new ≡ states old ++ since
   pub first : Leaves P old.now
   pub each : AllByRecursion (Leaves P) since
-  pub last : Leaves P new.now
 
 -- what a read gives stays but for this range, and isn't cut
 pub record SeenOutside (at count : ℕ) (old new : DiskHistory) : Type 0 where
@@ -97,3 +101,7 @@ IsDurable at piece old new = new.now ≡ settled (spliced at piece old.now.seen)
 -- what a read gives is one of the images
 abbrev pub SeenIsImage : DiskHistory → Type 0
 SeenIsImage history = IsImage history.now history.now.seen
+
+-- and so it was in each state before
+abbrev pub HasImages : DiskHistory → Type 0
+HasImages history = AllByRecursion (λ state. IsImage state state.seen) (states history)

@@ -1,13 +1,19 @@
 -- What is known of a disk in memory.
-use Rattle.std.specs.Prelude.{◌≡◌, ◌⊎◌, ℕ, Bool, IsTrue, List, map}
+use Rattle.std.specs.Prelude.{◌≡◌, ◌⊎◌, ℕ, Bool, IsTrue, List, [], ◌∷◌, map}
 use Rattle.pac_outside.specs.Calls.{CallState}
-use Rattle.pac_outside.specs.Disk.{DiskHistory, after_write}
+use Rattle.pac_outside.specs.Disk.{DiskHistory, HasImages, after_write}
 use Rattle.pac_outside.specs.Moments.{moment_state}
 use Rattle.pac_outside.specs.declared.mem_disk.MemDisk.{MemDisk}
+use Rattle.pac_outside.specs.declared.moment.Moment.{Moment}
 
 -- its states, now and before
 abbrev pub history_of : MemDisk → DiskHistory
 history_of disk = record { past = map moment_state disk.past.items; now = moment_state disk.present }
+
+-- each of its states has an image, since each moment has
+abbrev pub have_images : (past : List Moment) (present : Moment) → HasImages (record { past = map moment_state past; now = moment_state present })
+have_images [] present = (present.image, tt)
+have_images (moment ∷ past) present = (moment.image, have_images past present)
 
 -- its calls
 abbrev pub calls_of : MemDisk → CallState

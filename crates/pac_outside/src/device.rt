@@ -2,7 +2,7 @@
 ghost use Rattle.std.specs.Prelude.{◌≡◌, ◌≤◌, ℕ, Option, None, IfOk, IsErr, OnOk, drop, length, option_map, take};
 ghost use Rattle.std.specs.Io.{ReadsAtMost};
 ghost use Rattle.pac_outside.specs.Causes.{EndsAtFault, HasCause, one_more};
-ghost use Rattle.pac_outside.specs.Disk.{BothKnown, DiskHistory, LeavesAsBefore, LeavesTorn, SeenIsImage, SeenOutside, IfKnown, after_sync, after_write};
+ghost use Rattle.pac_outside.specs.Disk.{BothKnown, DiskHistory, HasImages, LeavesAsBefore, LeavesTorn, SeenIsImage, SeenOutside, IfKnown, after_sync, after_write};
 
 use crate::Failed;
 use crate::faults::Faults;
@@ -69,6 +69,9 @@ pub trait Disk {
 
     // What a read gives is one of the images that a crash now may leave.
     ghost seen_is_image: { (disk : Self) → IfKnown SeenIsImage (known disk) };
+
+    // And so it was in each state that it says: none is without an image.
+    ghost has_images: { (disk : Self) → IfKnown HasImages (known disk) };
 }
 
 /// A disk that isn't there: each call fails and is counted. Nothing is known of it.
@@ -94,6 +97,8 @@ impl Disk for NoDisk {
     ghost faults = { λ disk. disk.faults };
 
     ghost seen_is_image = { λ _. tt };
+
+    ghost has_images = { λ _. tt };
 
     fn len(&mut self) -> Result<u64, Failed>
         ensures failed { IsErr result }

@@ -45,6 +45,8 @@ impl<'a, R: Files<File = File>> Disk for FileDisk<'a, R> {
 
     ghost seen_is_image = { λ _. tt };
 
+    ghost has_images = { λ _. tt };
+
     fn len(&mut self) -> Result<u64, Failed> {
         self.faults.pass(self.file.len())
     }

@@ -1,21 +1,32 @@
-//! The outside of the database: every way by which bytes come in and go out, and nothing else of the world.
+//! The outside of the database: every way by which bytes come in and go out, and nothing else of the world. The layers
+//! above are generic over these traits.
 //!
-//! Later layers are generic over these traits and know the outside by them alone. Each object counts its faults, and
-//! the count never falls: [`Failed`] is answered only where the count of that very object rose in that very call (a
-//! count that stands at the greatest `u64` counts as risen). Where an object says what it has left or holds, as the
-//! ones in memory do, the contracts say which bytes moved; an object of which that is not known never becomes known, and one of which it is known
-//! stays known.
+//! - [`Source`] gives bytes, [`Sink`] takes bytes. [`read_up_to`] reads a whole input, [`write_all`] writes a whole
+//!   text.
+//! - [`Disk`] is a device of bytes that survive a crash once they are synced; `specs/Disk.antt` says what a crash may
+//!   leave at each moment. [`Devices`] are the three of a store; [`Devices::sync`] syncs them.
+//! - [`write_and_sync`] returns once a piece is synced. [`open_after`] writes a piece after a closed gate byte and
+//!   opens it: the argument that a crash leaves all of the piece or none stands there, once. [`read_piece`] reads.
+//! - [`MemSource`], [`MemSink`] and [`MemDisk`] are in memory and fail at chosen calls. [`MemDisk::image`] returns what
+//!   a crash may leave, by a [`Fill`].
+//! - [`Stream`] is an adapter over a reader or a writer of std, [`FileDisk`] over a file, [`NoDisk`] is no device: each
+//!   of its calls fails.
+//! - [`Gate`] is passed by a worker before each piece of work; [`OpenGate`] never blocks.
 //!
-//! - [`Source`] gives bytes, [`Sink`] takes bytes. [`read_up_to`] reads a whole input, [`write_all`] writes a whole text.
-//! - [`Disk`] is one device of bytes with offsets, which outlast a crash once they are synced; `specs/Disk.antt` says what
-//!   a crash may leave at each moment. [`Devices`] are those of a store, which [`Devices::sync`] syncs.
-//! - [`write_and_sync`] has a piece synced before it answers. [`open_after`] writes a piece after a shut gate byte and
-//!   opens the gate: the argument that a crash leaves all of the piece or none stands there, once. [`read_piece`] reads.
-//! - [`Gate`] is passed by a worker before each piece of work. [`OpenGate`] holds nobody.
-//! - [`MemSource`], [`MemSink`] and [`MemDisk`] are in memory, and fail at the calls that they are given.
-//!   [`MemDisk::image`] gives what a crash may leave, by a [`Fill`].
-//! - [`Stream`] stands over a reader or a writer of std, as the standard streams, and [`FileDisk`] over a file. Of their
-//!   content no contract describes. [`NoDisk`] isn't there.
+//! ```
+//! use pac_outside::{Fill, MemDisk, open_after};
+//!
+//! let mut disk = MemDisk::new(vec![in alloc; 0]?, Vec::new(alloc)); // a closed gate byte; no call fails
+//! open_after(&mut disk, 0, b"piece")?;
+//! let image = disk.image(Fill::Old, false)?; // the byte 1, and then the piece
+//! ```
+//!
+//! Each object counts its faults. A call returns [`Failed`] only where the count of that very object rose in that call;
+//! a count at the greatest `u64` counts as risen. A failed call of a device is counted once, and none of the functions
+//! above calls a device again after one failed. Clauses on bytes hold for objects whose content is observable, as those
+//! in memory; standard streams and files are not. That a file keeps the promises of a [`Disk`] is trusted, and tested.
+//! [`each_state_is_passed`], [`a_moment_is_allowed`], [`one_device_runs`] and [`a_state_between_counts`] are laws: functions
+//! without code, whose clauses say what holds at every moment of a run of calls of several devices.
 #![tactic(auto)]
 
 mod bytes;
@@ -28,6 +39,7 @@ mod faults;
 mod file_disk;
 mod gate;
 mod gate_byte;
+mod laws;
 mod mem_disk;
 mod memory;
 mod moment;
@@ -43,6 +55,9 @@ pub use failed::{Failed, ReadError};
 pub use file_disk::FileDisk;
 pub use gate::{Gate, OpenGate};
 pub use gate_byte::{GATE_OPEN, GATE_SHUT};
+pub use laws::{
+    a_moment_is_allowed, a_state_between_counts, each_state_is_passed, one_device_runs,
+};
 pub use mem_disk::MemDisk;
 pub use memory::{MemSink, MemSource};
 pub use moment::Fill;

@@ -103,13 +103,15 @@ impl MemDisk {
 }
 
 impl Disk for MemDisk {
-    ghost use Rattle.pac_outside.specs.MemDisk.{IsMade, calls_of, has_lost, history_of};
+    ghost use Rattle.pac_outside.specs.MemDisk.{IsMade, calls_of, has_lost, have_images, history_of};
 
     ghost known = { λ disk. Some (history_of disk) };
 
     ghost faults = { λ disk. (calls_of disk).faults };
 
     ghost seen_is_image = { λ disk. disk.present.image };
+
+    ghost has_images = { λ disk. have_images disk.past.items disk.present };
 
     /// How many bytes a read gives from offset 0 on.
     ///

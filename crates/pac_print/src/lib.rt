@@ -1,10 +1,21 @@
 //! The canonical text of a catalogue's tree.
 //!
-//! - [`print`]: the canonical text of a tree, which reads as that tree again.
+//! - [`print`]: one line for each table and statement, two spaces for each level, and parentheses only where the
+//!   grammar's levels need them.
 //!
-//! `specs/Canonical.antt` is the text of a tree by the levels of the grammar, `specs/Unplaced.antt` what is left of a tree
-//! in it. That a canonical text reads as its tree again is shown over derivations (`proofs/ReadsBack.antt`): from the one
-//! that the tree was read by comes one of the canonical text (`PrintedExprs` to `PrintedTrees`), piece by piece (`Pieces`).
+//! ```
+//! use pac_print::print;
+//! use pac_syntax::parse_catalogue;
+//!
+//! let tree = parse_catalogue(alloc, b"table T( key int,v int );")?;
+//! let text = print(alloc, &tree)?; // table T(key int, v int);
+//! ```
+//!
+//! The text is exactly the canonical one (`text`). Of a tree that some text reads as, a canonical text of at most
+//! 65,536 bytes reads as the same tree but for offsets (`reads`), and then has this text again (`again`).
+//! `specs/Canonical.antt` is the text of a tree by the levels of the grammar, `specs/Unplaced.antt` a tree without its
+//! offsets. The proof goes over derivations: from the one by which the tree was read comes one of the canonical text
+//! (`proofs/ReadsBack.antt`).
 #![tactic(auto)]
 
 mod expression;

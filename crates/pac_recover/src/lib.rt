@@ -1,16 +1,24 @@
-//! Recovery: from whatever the devices of a store hold, the tables that serial execution of the stored transactions gives,
+//! Recovery: from what the devices of a store hold, the tables that serial execution of the stored transactions gives,
 //! or what is wrong. The devices are only read.
 //!
-//! - [`load`]: what is stored, [`Loaded`]: the catalogue with its plan, the tables of the newest slot, the batches of the
-//!   log after them, and what writes on: the log's reader and the slots. Or the first [`Damage`], a [`LoadError`].
-//! - [`recover`]: the tables after all stored transactions, [`Recovered`], or the first of these that aborts, or the first
-//!   table that has more rows than a limit, a [`RecoverError`].
-//! - [`execute`]: serial execution of batches that run on, one after another, over any tables.
-//! - [`test_rows`]: the first table that has more rows than a limit, [`TooManyRows`].
+//! - [`recover`]: the tables after all stored transactions, [`Recovered`]; or the first transaction that aborts, or the
+//!   first table over a limit of rows, or damage: a [`RecoverError`].
+//! - [`load`]: what is stored, [`Loaded`]: the catalogue with its plan, the tables of the newest slot, the batches of
+//!   the log after them, the log's reader and the slots. Or the first [`Damage`], a [`LoadError`].
+//! - [`execute`]: serial execution of consecutive batches over any tables. [`test_rows`]: the first table over a limit,
+//!   [`TooManyRows`].
 //!
-//! `specs/Loading.antt` says what a load gives, on every device and on those whose bytes are known; `specs/Damages.antt`
-//! says which damage is the first. What is stored, and which history the devices stand for, are definitions of `pac_store`:
-//! where the devices stand for a history, the tables recovered are those of a prefix of it, and nothing is damaged.
+//! ```
+//! use pac_outside::OpenGate;
+//! use pac_recover::recover;
+//!
+//! let store = recover(alloc, 1, 1_000_000, devices, &OpenGate)?; // one worker, tables of at most 1,000,000 rows
+//! let txns = store.txns; // and store.catalogue, store.tables
+//! ```
+//!
+//! `specs/Loading.antt` says what a load returns, `specs/Damages.antt` which damage is the first. `pac_store` defines
+//! what is stored and which history the devices stand for: where they stand for one, the tables are those of a prefix
+//! of it with at least the transactions that are durable, and nothing is damaged or aborts (`stands`).
 #![tactic(auto)]
 
 mod batches;

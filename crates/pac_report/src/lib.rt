@@ -1,14 +1,22 @@
 //! The texts that commands write.
 //!
-//! - [`dump`]: the text of all tables, each with its rows in the order of their keys.
-//! - [`explain_text`]: the text of the graph of a catalogue, which are the slices of its procedures and the blocks of its
-//!   plan, with the edges between them.
-//! - [`reply_text`]: the line that reports a reply to a request.
-//! - [`fault_text`]: the line that reports a status, a [`StatusLine`]; [`StatusLine::text`]: the same without memory, where the
-//!   line is one text.
+//! - [`dump`]: the text of all tables, each with its rows by ascending key.
+//! - [`explain_text`]: the text of the graph of a catalogue: the slices of its procedures, the blocks of its plan, and
+//!   the edges between them.
+//! - [`reply_text`]: the line of a reply. [`fault_text`]: the line of a status, a [`StatusLine`]; [`StatusLine::text`]:
+//!   the same without memory, for a line without a name or number.
 //!
-//! `specs/Dump.antt`, `specs/Explain.antt`, `specs/Replies.antt` and `specs/Status.antt` say which texts these are, by the
-//! names of the catalogue, the rows, the slices, the plan, the reply and the status alone.
+//! ```
+//! use pac_report::{dump, reply_text};
+//! use pac_request::Reply;
+//!
+//! let line = reply_text(alloc, cat, &Reply::Committed { txn: 3 })?; // committed 3
+//! let text = dump(alloc, cat, rows)?; // table T 1, and then its row
+//! ```
+//!
+//! Each text is exactly the one that `specs/Dump.antt`, `specs/Explain.antt`, `specs/Replies.antt` and
+//! `specs/Status.antt` define, by the names of the catalogue, the rows, the slices, the plan, the reply and the status
+//! alone, but for out of memory.
 #![tactic(auto)]
 
 mod blocks;

@@ -1,15 +1,26 @@
-//! Serial execution: transactions that are executed one after another over any tables, exactly as the serial meaning of
-//! the typed catalogue says.
+//! Serial execution: transactions are executed one after another over any tables, exactly as the serial meaning of
+//! `pac_types` says.
 //!
-//! - [`exec`]: executes a call of one of the catalogue's procedures. [`exec_adhoc`]: makes the changes of ad hoc records.
-//!   Both can be given a limit on the rows of each table. What refuses a transaction is an [`ExecError`].
-//! - [`exec_all`]: executes the transactions of a batch in order up to the first that is refused, an [`AllError`].
-//! - [`no_rows`]: the tables of a catalogue, with no rows.
-//! - [`first_over`]: the first table that has more rows than a limit.
+//! - [`exec`]: executes a call of a procedure. [`exec_adhoc`]: makes the changes of ad hoc records. Both take an
+//!   optional limit on the rows of each table. [`ExecError`]: why a transaction is refused.
+//! - [`exec_all`]: executes the transactions of a batch in order, up to the first that is refused, an [`AllError`].
+//! - [`no_rows`]: the tables of a catalogue, without rows. [`first_over`]: the first table with more rows than a limit.
 //!
-//! A transaction's changes stand apart in a write set until it ends. Then the limit is tested, by counts that the tables keep,
-//! and the changes are made, all or none; so whatever refuses it, the tables are as they were. A read looks up its cell
-//! in the write set first.
+//! ```
+//! use pac_serial::{exec, no_rows};
+//! use pac_types::read_catalogue;
+//! use pac_value::Value;
+//!
+//! let cat = read_catalogue(alloc, b"table T(key int, v int); proc P(v int) { put T[1] = (v); }")?;
+//! let mut rows = no_rows(alloc, &cat)?;
+//! exec(alloc, &cat, 0, &[Value::Int(5)], Some(1_000_000), &mut rows)?; // T[1] = (5)
+//! ```
+//!
+//! A transaction's changes form a write set until it ends; a read looks there first. Then the limit is tested, by
+//! counts that the tables keep, and the write set is applied, all or none. So whatever refuses a transaction, the
+//! tables are unchanged. It is refused for an abort exactly where it means one, with its operation and reason; else as
+//! `Full` exactly where some table would be over the limit, with the first such table; else only when out of memory
+//! (`does`).
 #![tactic(auto)]
 
 mod commit;

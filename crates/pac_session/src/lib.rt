@@ -1,12 +1,25 @@
-//! Sessions: requests that are executed one after another over tables, and are cut into groups. No device is known here.
+//! Sessions: requests are executed one after another over tables, and cut into groups. No device is known here.
 //!
 //! - [`Session`]: the tables, and the open group's transactions and replies. [`Session::run`] executes a transaction,
-//!   [`Session::answer`] answers another request, [`Session::close`] returns a group.
-//! - [`transaction_of`]: the transaction that a request asks for, if any.
+//!   [`Session::answer`] answers another request, [`Session::close`] returns a group and begins the next.
+//! - [`transaction_of`]: the transaction that a request asks for, or the request itself where it asks for none.
 //!
-//! `specs/Session.antt` says what requests come to: their replies, the transactions that are committed, and the tables.
-//! `specs/Groups.antt` says where requests are cut into groups, and what each group commits, replies and needs of the log.
-//! Both speak of whole lists of requests, and know no [`Session`]. `specs/Open.antt` says what a [`Session`] holds of them.
+//! ```
+//! use pac_session::Session;
+//!
+//! let mut session = Session::new(alloc, cat, rows, 0, 64, 1_000_000); // groups of 64 replies, tables of 1,000,000 rows
+//! if !session.lacks_room(&txn) && !session.is_full() {
+//!     session.run(txn)?;
+//! }
+//! let (txns, replies) = session.close();
+//! ```
+//!
+//! A group ends after a `flush`, a `save` or a `stop`, after as many replies as it may have, and before a transaction
+//! whose entry has no room in the group's batch. A transaction that aborts changes nothing but its reply.
+//! `specs/Session.antt` says what requests amount to: replies, committed transactions and tables. `specs/Groups.antt`
+//! says where they are cut into groups, and what each commits, replies and needs of the log. Both are about whole lists
+//! of requests and know no [`Session`]; `specs/Open.antt` connects them with one. [`groups_are_a_cut`]: the groups are
+//! the requests in their order. [`a_session_is_serial`]: serial execution of what a session commits gives its tables.
 #![tactic(auto)]
 
 mod asked;

@@ -1,18 +1,24 @@
-//! The dependencies of one procedure, and its slices: which of its operations have to keep their order.
+//! The dependencies of one procedure's operations, and its slices: which operations have to keep their order.
 //!
-//! - [`dependencies`] gives the pairs of operations that depend on each other. [`Deps`] has two kinds. Flow leads from
-//!   an operation that defines a variable to one of a higher number that uses it. A conflict is between two operations on
-//!   one table of which at least one modifies it.
-//! - [`add_flow`] adds the flow alone to a graph, for a caller that links operations on tables in its own way.
-//! - [`slices`] puts operations that have to stay together into one slice: two are in one exactly where each is reached
-//!   from the other, by flow and, both ways, by conflicts. [`LocalGraph`] has the slice of each operation, and the edges
-//!   between slices that flow makes.
+//! - [`dependencies`] returns the pairs of operations that depend on each other, [`Deps`]. A data dependence leads from
+//!   an operation that defines a variable to a later one that uses it. A conflict is between two operations on one
+//!   table of which at least one modifies it.
+//! - [`slices`] returns a [`LocalGraph`]: two operations are in one slice exactly where each reaches the other, by data
+//!   dependences and, in both directions, by conflicts. Its edges are the data dependences between different slices.
+//! - [`add_flow`] adds the data dependences alone to a graph, for a caller that links operations on tables in its own
+//!   way.
 //!
-//! What flow and conflict are stands in `pac_ops`, what groups of nodes are in `pac_graph`; `specs/Slices.antt` says that
-//! slices are such groups.
+//! ```
+//! use pac_slice::{dependencies, slices};
 //!
-//! A test of each pair of operations finds the dependencies, so they take time that grows with the square of the
-//! operations, of which there are at most 256.
+//! let deps = dependencies(alloc, program)?; // deps.flow and deps.conflict, ascending
+//! let graph = slices(alloc, program)?;
+//! let slice = graph.slice_of.as_slice().first(); // the slice of operation 0
+//! ```
+//!
+//! A procedure may have at most 256 operations. `pac_ops` defines dependences, `pac_graph` numbered classes;
+//! `specs/Slices.antt` says that slices are these. Each pair of operations is tested, so the time grows with the square
+//! of their number.
 #![tactic(auto)]
 
 mod conflicts;

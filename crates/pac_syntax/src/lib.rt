@@ -1,20 +1,30 @@
 //! The tree of a catalogue's text.
 //!
-//! - [`parse_catalogue`]: the tree of a catalogue's text, [`Tree`], with one node for each rule of the grammar, or the
-//!   text's first [`Fault`], at an offset (a byte offset) and of a kind.
-//! - [`tokens`] and what it speaks of: those of `pac_tokens`, which stands below.
-//! - [`operator_symbol`], [`precedence_of`]: the symbol of an operator, and how loosely it binds.
-//! - [`split_first`], [`name_of`], [`bool_of`], [`is_same_keyword_or_symbol`]: what single tokens are, for each reader of tokens.
+//! - [`parse_catalogue`]: the [`Tree`] of a text, with one node for each rule of the grammar, or the text's first
+//!   [`Fault`], which has an offset and a kind.
+//! - [`tokens`] and its types: re-exports of `pac_tokens`.
+//! - [`operator_symbol`], [`precedence_of`]: the operator token of an operator, and its precedence.
+//! - [`split_first`], [`name_of`], [`bool_of`], [`is_same_keyword_or_symbol`]: what single tokens are.
 //!
-//! What a text is read as stands in `specs/`, without any parser: `Grammar` (derivations with the offset of each token, and
-//! the tree of each), `Faults` (limits are roles of tokens in a derivation; a fault is a token that can't follow, or one
-//! over a limit, and the first one is reported) and `Reading` (the text as a whole). Of every tree that is read
-//! `proofs/Trees.antt` shows how much it may hold (`Limits`) and that its offsets stand in the order of the text (`Order`).
+//! ```
+//! use pac_syntax::parse_catalogue;
 //!
-//! The parser stands against a machine that is fed one token at a time (`specs/Machine.antt`), which definitions of what is
-//! read don't name: `proofs/Words.antt` and `proofs/Ends.antt` show that it takes just the derivations,
-//! `proofs/Meets.antt` that it stops at the first fault, and each function of the recursive descent says in its contract
-//! how far it moves the machine (`proofs/Stepping.antt`).
+//! let tree = parse_catalogue(alloc, b"table T(key int, v int);")?;
+//! let tables = tree.tables.as_slice().len(); // 1
+//! let fault = parse_catalogue(alloc, b"proc P() { let x = ; }"); // Expected, at offset 19
+//! ```
+//!
+//! What a text is read as is defined in `specs/` without a parser: `Grammar` (derivations with the offset of each
+//! token, and the tree of each), `Faults` (a limit is a role of a token in a derivation; a fault is a token that can't
+//! follow or one over a limit) and `Reading` (the text as a whole). A text that has a tree is read as it, and no other;
+//! a fault is the one with the least offset, and of several there the first kind; but for out of memory (`reads`,
+//! `only`, `fault`, `one`). `proofs/Trees.antt` shows what every tree keeps: the limits, and offsets in the order of
+//! the text.
+//!
+//! The parser is proved against a machine that takes one token at a time (`specs/Machine.antt`), which no definition of
+//! what is read names: `proofs/Words.antt` and `proofs/Ends.antt` show that it accepts exactly the derivations,
+//! `proofs/Meets.antt` that it stops at the first fault, and each function of the recursive descent says how far it
+//! moves the machine (`proofs/Stepping.antt`).
 #![tactic(auto)]
 
 mod limits;

@@ -1,15 +1,26 @@
-//! The rows of tables: what every form of them does, one form, and writes that are made all or none.
+//! The rows of tables: one trait for every form of tables, one form, and write sets that are applied all or none.
 //!
-//! A row stands at a cell, which is a table's number and a key. [`Rows`] is the trait of all forms of tables, so that
-//! what is executed on tables is written once for all of them. A contract sees two things of such a form, whatever it is
-//! made of: how many tables there are, which never changes, and one finite map from cells to rows.
+//! A row stands at a cell: a table's number and a key. Contracts see two things of any [`Rows`]: the number of its
+//! tables, which never changes, and one finite map from cells to rows.
 //!
-//! - [`OrderedRows`]: one ordered map a table. A table's keys stand in their order, and a key is compared with those of
-//!   its own table alone.
-//! - [`Writes`]: a list of [`Write`]s, each the row that is to stand at a cell or that none is to stand there. No cell is
-//!   written twice, so their order makes no difference.
-//! - [`apply_all`]: makes all writes of a list. Where there is no memory for them it makes none, and gives them back.
+//! - [`OrderedRows`]: one ordered map per table. A key is compared with the keys of its own table alone, and the number
+//!   of a table's rows is known in constant time.
+//! - [`Writes`]: a list of [`Write`]s, each the row to put at a cell, or none to delete it. No cell is written twice,
+//!   so their order makes no difference.
+//! - [`apply_all`]: makes all writes of a list. Out of memory it makes none and returns them.
 //!
+//! ```
+//! use pac_tables::{OrderedRows, Rows};
+//! use pac_value::{Key, Row, Value};
+//!
+//! let mut rows = OrderedRows::new(alloc, 1)?; // one table
+//! rows.put(0, Key::Int(7), Row::of(vec![in alloc; Value::Int(5)]?))?;
+//! let row = rows.get(0, &Key::Int(7)); // the row (5)
+//! let keys = rows.sorted_keys(0)?; // 7 alone
+//! ```
+//!
+//! Each call requires a table that exists. [`Rows::put`] is out of memory only at a cell without a row, and then
+//! nothing is changed. So [`apply_all`] never fails where each row that it puts replaces one (`placed`).
 //! `specs/Joined.antt` says which map several tables are, `specs/Written.antt` what writes make of it.
 #![tactic(auto)]
 

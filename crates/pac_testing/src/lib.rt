@@ -1,11 +1,20 @@
-//! What the tests of the commands share: the top call over streams and devices in memory, stores that are made by hand, and
-//! texts. It promises little, so that what the top call promises is met here alone. A call fails where an allocation is refused;
-//! what else makes one fail stands with it.
+//! What the tests of the commands share: the top call over streams and devices in memory, stores made by hand, and
+//! texts. It promises no more than safety, so that what the top call requires is proved here alone. Each call fails
+//! when out of memory.
 //!
-//! - [`run_over`], [`run_apart`], [`run_bytes`] and [`run_lines`]: run the words of a line, and say what is answered.
-//! - [`ends`], [`ends_apart`], [`leaves`] and [`goes`]: whether the words end as they are to.
-//! - [`run_struck`]: runs them over devices that an [`Outage`] strikes; [`strike_in_turn`]: over an outage at each call in turn.
+//! - [`run_over`], [`run_apart`], [`run_bytes`] and [`run_lines`]: run a command line and return the result.
+//! - [`ends`], [`ends_apart`], [`leaves`] and [`goes`]: whether a command line exits with the expected status and
+//!   texts.
+//! - [`run_struck`]: runs it over devices whose calls fail by an [`Outage`]; [`strike_in_turn`]: once for each call
+//!   that can fail.
 //! - [`devices`], [`left`], [`hold`], [`changed`], [`log_of`]: stores of bytes.
+//!
+//! ```
+//! use pac_testing::{ADD, ends, store_of};
+//!
+//! let mut store = store_of(rt, alloc, ADD)?;
+//! let fine = ends(rt, alloc, "run", "call Add(1, 5)\n", &mut store, (0, "committed 1\n", ""))?; // true
+//! ```
 #![tactic(auto)]
 
 mod answer;

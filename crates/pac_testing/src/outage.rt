@@ -81,6 +81,8 @@ impl<'a> Disk for Part<'a> {
 
     ghost seen_is_image = { λ _. tt };
 
+    ghost has_images = { λ _. tt };
+
     fn len(&mut self) -> Result<u64, Failed> {
         let strikes = self.outage.strikes();
         let answer = self.disk.len();

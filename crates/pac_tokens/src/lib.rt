@@ -1,19 +1,26 @@
-//! The tokens of a text, with their offsets: of a catalogue's, and of a request line's.
+//! The tokens of a text with their offsets: of a catalogue's text and of a request line.
 //!
-//! - [`tokens`]: all tokens of a text, or its first [`Fault`], at an offset (a byte offset) and of a kind.
-//! - [`int_or_text`]: the int or text that tokens begin with, which is a literal but for `true` and `false`.
-//! - [`lex`]: the tokens up to the text's end or to its first fault of a token, for a reader that reports an earlier fault.
-//! - [`gap_len`], [`leading_name`], [`leading_literal`]: what bytes begin with, for a reader that knows which token it wants
-//!   and makes no list of them.
-//! - [`Token`], [`Keyword`], [`Symbol`], [`Spanned`]: a token, its words and symbols, and a token with its offset. [`KEYWORDS`]
-//!   and [`SYMBOLS`] are all words and symbols.
-//! - [`SyntaxError`]: why a text isn't read.
+//! - [`tokens`]: all tokens of a text, or its first [`Fault`], which has an offset and a kind.
+//! - [`lex`]: the tokens up to the end or to the first fault, for a reader that may report an earlier fault.
+//! - [`int_or_text`]: the int or text at the head of a list of tokens, a `-` before an int included.
+//! - [`gap_len`], [`leading_name`], [`leading_literal`]: what a text begins with, for a reader that makes no list of
+//!   tokens.
+//! - [`Token`], [`Keyword`], [`Symbol`], [`Spanned`]: a token, its keywords and symbols, and a token with its offset.
+//!   [`KEYWORDS`] and [`SYMBOLS`] are all of them. [`SyntaxError`]: why a text isn't read.
 //!
-//! What the tokens of a text are stands in `specs/Tokens.antt`: each is the longest prefix of what is left that spells one.
-//! `specs/Spelling.antt` says how words, symbols and texts are spelled, `specs/Literal.antt` how an int or a text is
-//! written in tokens, `specs/Kinds.antt` how a fault's kind is printed.
-//! `specs/Lexing.antt` computes the longest token from the first byte on, as the lexer does, and no public clause names it;
-//! `proofs/Longest.antt` shows that it is the longest, `proofs/LexedOnce.antt` that a text has one list of tokens.
+//! ```
+//! use pac_tokens::tokens;
+//!
+//! let list = tokens(alloc, b"read x = T[k].v default 0;")?;
+//! let first = list.as_slice().first(); // the keyword `read` at offset 0
+//! ```
+//!
+//! `specs/Tokens.antt` defines the tokens of a text: each is the longest prefix of the rest that spells one. [`tokens`]
+//! returns them whenever they exist, and a fault is the text's only first one, but for out of memory (`ok`, `only`,
+//! `fault`, `one`). `specs/Spelling.antt` says how keywords, symbols and texts are spelled, `specs/Literal.antt` how an
+//! int or a text is written in tokens, `specs/Kinds.antt` how kinds of faults are printed. `specs/Lexing.antt` computes
+//! the longest token from the first byte, as the lexer does, and no public clause names it: `proofs/Longest.antt` shows
+//! that they agree.
 #![tactic(auto)]
 
 mod fault;

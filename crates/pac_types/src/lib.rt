@@ -1,25 +1,35 @@
 //! The typed catalogue: tables and procedures whose names are resolved to numbers, and what they mean.
 //!
-//! - [`read_catalogue`]: the [`Catalogue`] of a text, or its first [`CatalogueFault`].
-//! - [`check`]: the catalogue of a tree, or the first [`TypeFault`] that stands in it, at an offset and of a kind.
-//! - [`Table`], [`Column`]: a table's name, the type of its key and its columns.
-//! - [`Proc`], [`Stmt`]: a procedure's name, its parameters and its statements. [`count_operations`]: how many operations
-//!   these are.
+//! - [`read_catalogue`]: the [`Catalogue`] of a text, or its first [`CatalogueFault`]. [`check`]: that of a tree, or
+//!   its first [`TypeFault`].
+//! - [`Table`], [`Column`]: a table's name, the type of its key, and its columns. [`Proc`], [`Stmt`]: a procedure's
+//!   name, its parameters and its statements. [`count_operations`]: how many operations these are.
 //!
-//! `specs/Faults.antt` says which faults stand in a tree, each at its offset, by the rules of scope and type and without
-//! any order of looking for them. `specs/Typing.antt` says which catalogue a tree has, by the numbers of
-//! `specs/Numbering.antt` and the types of `specs/WellFormed.antt`: well-formed statements can be executed without any test of
-//! types. A tree has a catalogue exactly where no fault stands in it, and a [`Catalogue`] is well-formed by its type. It
-//! keeps by its type too that each procedure defines its variables once, numbered in the order of the text after the
-//! parameters (`specs/Variables.antt`).
-//! `specs/Meaning.antt` says what statements and procedures mean, by recursion on the tree: the serial meaning. Its
-//! operations are those of `pac_ops`. `specs/Execution.antt` says what transactions mean, one after another, and which
-//! table is over a limit; `specs/Fits.antt` which rows and transactions fit a catalogue. Every execution is held to these.
-//! `specs/OperationLimits.antt` says how many operations procedures may have; no call of this crate asks it.
+//! ```
+//! use pac_types::read_catalogue;
+//!
+//! let cat = read_catalogue(alloc, b"table T(key int, v int); proc P(v int) { put T[1] = (v); }")?;
+//! let table = cat.table_named(b"T"); // Some(0)
+//! let none = cat.proc_named(b"Q"); // None
+//! ```
+//!
+//! A text that has a catalogue is read as it, and no other; a fault is the first of the text or else of its names and
+//! types; but for out of memory (`ok`, `only`, `fault`, `one`). A [`Catalogue`] is well-formed by its type: at most 64
+//! tables and 64 procedures; 1 to 8 columns and at most 16 parameters, of ints and texts; each expression has the type
+//! that its position requires; each variable is defined once, in the order of the text, from the number of parameters
+//! on.
+//!
+//! - `specs/Faults.antt` says which faults a tree has, by the rules of scope and type and without an order of search.
+//!   `specs/Typing.antt` says which catalogue a tree has, by the numbers of `specs/Numbering.antt` and the types of
+//!   `specs/WellFormed.antt`. A tree has a catalogue exactly where it has no fault.
+//! - `specs/Meaning.antt` says what statements and procedures mean, by recursion on the tree: the serial meaning.
+//!   `specs/Execution.antt` says what transactions mean, one after another, and which table is over a limit;
+//!   `specs/Fits.antt` which rows and transactions fit a catalogue. Every execution is held to these.
+//! - `specs/OperationLimits.antt` says how many operations procedures may have; no call of this crate tests it.
 //!
 //! `specs/Checking.antt` is the checker as a function, from left to right up to the first fault that it meets; the code
-//! is held to it. `proofs/FirstLemmas.antt` shows that it meets the first fault of the definition,
-//! `proofs/TypingLemmas.antt` that what it finds is the tree's catalogue.
+//! is held to it. `proofs/FirstLemmas.antt` and `proofs/TypingLemmas.antt` show that it meets the first fault of the
+//! definition and finds the tree's catalogue.
 #![tactic(auto)]
 
 mod catalogue;

@@ -1,19 +1,33 @@
-//! The data that every layer speaks of: names, texts, values, keys and rows, expressions and their values, and the
-//! order of cells in tables. Nothing here reads or writes a stream, and only copies, maps and texts that grow take memory.
+//! The data of every layer: names, texts, values, keys and rows, expressions and their evaluation, and cells of tables.
+//! Only copies, maps and texts that grow take memory.
 //!
-//! - [`Name`]: the name of a table, a column, a procedure or a variable, at most 32 bytes.
-//! - [`Text`]: at most 64 printable bytes.
-//! - [`Ty`], [`Value`]: an int, a text or a bool. [`Key`]: an int or a text, in an order. [`Row`]: 1 to 8 values, none
-//!   a bool.
-//! - [`Env`]: the values of variables.
-//! - [`Expr`], [`BinOp`]: an expression; [`eval`] gives its value, or the [`Trap`] that stops it.
-//! - [`push_value`], [`push_key`], [`push_values`]: append values as literals to a text (`specs/Literals.antt`);
+//! - [`Name`]: the name of a table, a column, a procedure or a variable, at most 32 bytes. [`Text`]: at most 64
+//!   printable bytes.
+//! - [`Ty`], [`Value`]: an int, a text or a bool. [`Key`]: an int or a text; ints sort before texts. [`Row`]: 1 to 8
+//!   values, none of them a bool.
+//! - [`Env`]: the values of variables. [`Expr`], [`BinOp`]: an expression; [`eval`] returns its value, or the [`Trap`]
+//!   that stops it.
+//! - [`push_value`], [`push_key`], [`push_values`]: append values as literals to a text (`specs/Literals.antt`).
 //!   [`push_count`] appends a count.
 //!
-//! What an expression is worth is defined over unbounded whole numbers in `specs/Expressions.antt`: a result that
-//! leaves 64 bits is the trap Overflow, a zero divisor the trap DivZero, `/` rounds toward zero and `a % b` is what `/`
-//! leaves of `a`. `specs/State.antt` says what the tables of a database are: a finite map from cells, a table's number
-//! and a key, to rows.
+//! ```
+//! use pac_base::Boxed;
+//! use pac_value::{BinOp, Env, Expr, Value, eval};
+//!
+//! let mut env = Env::new(alloc);
+//! env.set(0, Value::Int(40))?;
+//! let sum = Expr::Bin {
+//!     op: BinOp::Add,
+//!     left: Boxed::new(alloc, Expr::Var(0))?,
+//!     right: Boxed::new(alloc, Expr::Lit(Value::Int(2)))?,
+//! };
+//! let value = eval(&sum, &env); // Ok(Value::Int(42))
+//! ```
+//!
+//! [`eval`] requires a well-typed expression. `specs/Expressions.antt` defines its value over unbounded whole numbers:
+//! a result outside 64 bits is the trap Overflow, a zero divisor the trap DivZero, `/` rounds toward zero, and `a % b`
+//! is the remainder of that. `specs/State.antt` says what the tables of a database are: one finite map from cells (a
+//! table's number and a key) to rows. A call that is out of memory leaves what it was given unchanged.
 #![tactic(auto)]
 
 mod env;
