@@ -1,6 +1,6 @@
 //! The arguments of the command line.
 //!
-//! [`parse_args`] reads them: an [`Command`], which is one of six commands with its numbers, or nothing where the arguments
+//! [`parse_args`] reads them: a [`Command`], which is one of six commands with its numbers, or nothing where the arguments
 //! are no command.
 //!
 //! ```
@@ -8,7 +8,7 @@
 //!
 //! let mut arguments = Vec::new(alloc);
 //! arguments.push(String::from_str(alloc, "recover")?)?;
-//! let command_of = parse_args(alloc, &arguments)?; // Some(Order::Recover { workers: 4, rows: 1_000_000 })
+//! let command = parse_args(alloc, &arguments)?; // Some(Command::Recover { workers: 4, rows: 1_000_000 })
 //! ```
 //!
 //! The first argument is the command's name. Those after it are parsed by `clap`, as a simple command of that name

@@ -6,7 +6,7 @@ use Rattle.std.proofs.lemmas.List.{get_or_append_left, map-append, map_more}
 use Rattle.std.proofs.lemmas.Option.{slice_get_within, get_or_from_slice_get}
 use Rattle.std.proofs.Math.Seq.{get_or-append_seam}
 use Rattle.pac_ops.specs.declared.program.Program.{Program}
-use Rattle.pac_graph.proofs.ItemLemmas.{so}
+use Rattle.pac_base.proofs.ItemLemmas.{so}
 use Rattle.pac_global.specs.Drawing.{first_of}
 
 module _ (programs : List Program) (numbers : List ℕ) (blocks : List (List ℕ)) (row : List ℕ) (n : ℕ) (program : Program) (at : slice_get programs n ≡ Some program) (full : length row ≡ length program.ops) where

@@ -8,7 +8,7 @@ use Rattle.pac_ops.specs.Uses.{accessed_table}
 use Rattle.pac_ops.specs.Dependencies.{IsFlow, Accesses}
 use Rattle.pac_graph.specs.Graph.{Graph, HasEdge, Reach, Here, ReachEachOther}
 use Rattle.pac_graph.proofs.GraphLemmas.{along, one_edge}
-use Rattle.pac_graph.proofs.ItemLemmas.{there, item, inside}
+use Rattle.pac_base.proofs.ItemLemmas.{there, item, inside}
 use Rattle.pac_graph.proofs.DrawingLemmas.{IsDrawing}
 use Rattle.pac_slice.specs.Dependent.{IsFlowAt}
 use Rattle.pac_slice.proofs.SliceLemmas.{flow_inside}

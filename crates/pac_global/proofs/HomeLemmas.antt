@@ -6,7 +6,7 @@ use Rattle.pac_ops.specs.declared.program.FlatOp.{FlatOp}
 use Rattle.pac_ops.specs.declared.program.Program.{Program}
 use Rattle.pac_ops.specs.Uses.{accessed_table}
 use Rattle.pac_graph.specs.Adding.{IsUpTo}
-use Rattle.pac_graph.proofs.ItemLemmas.{there, so, inside}
+use Rattle.pac_base.proofs.ItemLemmas.{there, so, inside}
 use Rattle.pac_slice.specs.Dependent.{IsFlowAt}
 use Rattle.pac_ops.specs.Programs.{count_ops}
 use Rattle.pac_global.specs.Drawing.{first_of, IsBothWays, IsHomeEdge, HasHomeEdge, HasEdgeOf}

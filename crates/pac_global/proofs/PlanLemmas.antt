@@ -5,7 +5,7 @@ use Rattle.std.proofs.lemmas.List.{length-map}
 use Rattle.std.proofs.lemmas.Option.{slice_get-map, slice_get_within, get_or_from_slice_get}
 use Rattle.pac_ops.specs.declared.program.Program.{Program}
 use Rattle.pac_ops.specs.Dependencies.{Accesses}
-use Rattle.pac_ops.specs.Programs.{AreWellFormedPrograms, AreWellFormedTables, IsWellFormedTableTypes, IsStoredType}
+use Rattle.pac_ops.specs.Programs.{AreWellFormedPrograms, AreWellFormedTables, IsWellFormedTableTypes, IsStoredType, count_ops}
 use Rattle.pac_value.specs.declared.values.Ty.{Ty}
 use Rattle.pac_value.specs.declared.values.Ty.TheVariants.{Int as IntTy, Text as TextTy, Bool as BoolTy}
 use Rattle.pac_syntax.specs.Limits.{is_stored_type}
@@ -13,7 +13,7 @@ use Rattle.pac_types.specs.declared.table.Column.{Column}
 use Rattle.pac_types.specs.declared.table.Table.{Table}
 use Rattle.pac_types.specs.Fits.{shape}
 use Rattle.pac_types.specs.Typing.{IsWellFormedTable}
-use Rattle.pac_plan.proofs.BlockLemmas.{mapped_some}
+use Rattle.pac_base.proofs.ItemLemmas.{mapped_some}
 use Rattle.pac_graph.specs.Graph.{Graph, HasEdge, Reach, Here, Onward}
 use Rattle.pac_graph.specs.Groups.{AreGroups}
 use Rattle.pac_graph.proofs.DrawingLemmas.{drawn_groups}
@@ -21,7 +21,6 @@ use Rattle.pac_plan.specs.declared.parts.PlanParts.{PlanParts}
 use Rattle.pac_plan.specs.Nodes.{Node, Operation, VirtualWrite, IsNode, ComesBefore, Flows, IsNodeLink}
 use Rattle.pac_plan.specs.Analysis.{IsAnalysis, block_in, HasBlockEdge}
 use Rattle.pac_plan.proofs.OrderLemmas.{accessed_there}
-use Rattle.pac_ops.specs.Programs.{count_ops}
 use Rattle.pac_global.specs.Drawing.{number_in, HasEdgeOf, AreBlocksOf}
 use Rattle.pac_global.proofs.DrawnLemmas.{drawing}
 

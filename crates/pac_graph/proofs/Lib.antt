@@ -14,4 +14,3 @@ pub mod ListingLemmas
 pub mod GroupLemmas
 pub mod AddLemmas
 pub mod DrawingLemmas
-pub mod ItemLemmas

@@ -10,3 +10,7 @@ pub mod Programs
 pub mod Dependencies
 pub mod Notes
 pub mod Flat
+pub mod Effects
+pub mod StaysFit
+pub mod OperationLaws
+pub mod Defaults

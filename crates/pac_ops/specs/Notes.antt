@@ -55,3 +55,8 @@ lesser_note a (Some b) = if is_lt (note_cmp b a) then b else a
 abbrev pub first_note : List Note → Option Note
 first_note [] = None
 first_note (note ∷ notes) = Some (lesser_note note (first_note notes))
+
+-- the lesser of two notes, where there are two
+abbrev pub least : Option Note → Option Note → Option Note
+least None b = b
+least (Some a) b = Some (lesser_note a b)

@@ -26,9 +26,14 @@
 //! `specs/Programs.antt` which programs are well-formed. `specs/Flat.antt`, `specs/Notes.antt` and
 //! `specs/Transactions.antt` say what flat operations mean in a replay, where an abort leaves a note and stops nothing,
 //! and which note is the first. The order of notes is by transaction, operation and reason.
+//!
+//! `specs/Effects.antt` gives what a flat operation does in one form: its cell, the value of its variable, the change of its
+//! row, and its reason. [`one_operation`], [`numbered_operations`] and [`stays_fit`] are laws: functions without code, whose
+//! clauses say what holds of all operations.
 #![tactic(auto)]
 
 mod batch;
+mod laws;
 mod limits;
 mod note;
 mod numbers;
@@ -40,6 +45,7 @@ mod transaction;
 mod uses;
 
 pub use batch::{Batch, Batches, Txns, TxnsRule};
+pub use laws::{numbered_operations, one_operation, stays_fit};
 pub use limits::{MAX_ALL_OPS, MAX_OPS, MAX_RECORDS, MAX_TXNS};
 pub use note::Note;
 pub use numbers::{Numbers, Pairs};

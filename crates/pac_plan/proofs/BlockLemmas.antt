@@ -4,15 +4,10 @@ use Rattle.std.specs.Prelude.{slice_get}
 use Rattle.std.specs.Option.{option_map}
 use Rattle.std.proofs.lemmas.Option.{slice_get-map, same_Some}
 use Rattle.pac_ops.specs.declared.program.Program.{Program}
-use Rattle.pac_graph.proofs.ItemLemmas.{item}
+use Rattle.pac_base.proofs.ItemLemmas.{item, mapped_some}
 use Rattle.pac_plan.specs.declared.parts.PlanParts.{PlanParts}
 use Rattle.pac_plan.specs.Nodes.{Operation, IsNode}
 use Rattle.pac_plan.specs.Analysis.{IsAnalysis}
-
--- what a function gave for an item that is there
-pub mapped_some : {A B : Type 0} (f : A → B) (o : Option A) (y : B) → option_map f o ≡ Some y → (x : A) × (o ≡ Some x) × (f x ≡ y)
-mapped_some f None y h = cc
-mapped_some f (Some x) y h = (x, refl, same_Some (f x) y h)
 
 -- the blocks of a procedure have one for each of its operations
 pub row_there : (parts : PlanParts) → IsAnalysis parts → (p i : ℕ) → IsNode parts.programs (length parts.tables) (Operation p i) → (row : List ℕ) × (slice_get parts.block_of p ≡ Some row) × (i < length row)

@@ -17,12 +17,11 @@ use Rattle.pac_ops.specs.Dependencies.{Uses, Accesses, IsFlow}
 use Rattle.pac_ops.specs.Programs.{IsWellFormedProgram, IsWellTyped, IsDefinedBefore, IsPrefixOf, key_type_in, scope_in}
 use Rattle.pac_graph.specs.Groups.{AreGroups}
 use Rattle.pac_graph.proofs.GraphLemmas.{one_edge}
-use Rattle.pac_graph.proofs.ItemLemmas.{there, item, inside}
+use Rattle.pac_base.proofs.ItemLemmas.{there, item, inside, mapped_some}
 use Rattle.pac_plan.specs.declared.parts.PlanParts.{PlanParts}
 use Rattle.pac_plan.specs.Nodes.{Node, Operation, VirtualWrite, IsNode, ComesBefore, Flows, NodeAccesses, Conflicts, IsNodeLink}
 use Rattle.pac_plan.specs.Analysis.{IsPlan, block_in, HasBlockEdge}
 use Rattle.pac_plan.specs.WellFormed.{KeepsOrder}
-use Rattle.pac_plan.proofs.BlockLemmas.{mapped_some}
 
 -- what is wanted is a type
 wanted_some : (a b : Option Ty) → is_wanted a b ≡ true → (ty : Ty) × (b ≡ Some ty)

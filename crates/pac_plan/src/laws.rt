@@ -1,5 +1,7 @@
 // What holds of every plan. Each law is a function that does nothing.
 ghost use Rattle.pac_plan.specs.Analysis.{IsPlan};
+ghost use Rattle.pac_plan.specs.NextPairs.{ClosedByNext, NextPairs};
+ghost use Rattle.pac_plan.specs.PieceFits.{AdHocPieces, InputsAreThere, PiecesStayFit};
 ghost use Rattle.pac_plan.specs.WellFormed.{KeepsOrder};
 
 use crate::Plan;
@@ -18,3 +20,18 @@ pub fn keeps_order(plan: &Plan)
 {
     is_plan(plan);
 }
+
+/// A piece of a call whose inputs are right finds a value of its type for each variable that it uses, at every operation
+/// whose conditions hold, and keeps rows fitting. Its inputs are there once the whole program has run. A piece of ad hoc
+/// records makes their changes.
+pub fn pieces_stay_fit()
+    ensures inputs { InputsAreThere }
+    ensures pieces { PiecesStayFit }
+    ensures adhoc { AdHocPieces }
+{}
+
+/// Next pairs of accesses conflict, and accesses that conflict are joined by a chain of next pairs.
+pub fn next_pairs()
+    ensures chain { NextPairs }
+    ensures closed { ClosedByNext }
+{}

@@ -17,12 +17,16 @@
 //! on a table, which has a virtual write for ad hoc transactions. `specs/Analysis.antt` says which blocks these make:
 //! two nodes are in one block exactly where each reaches the other. `specs/WellFormed.antt` says what a replay needs of
 //! them. The definitions say nothing of how blocks are found.
+//!
+//! `specs/Pieces.antt` says what a piece is, which rows it may touch, which pieces conflict and which has to wait for
+//! which, over any world of code and blocks. `specs/Worlds.antt` makes the world of a plan and of numbered transactions.
+//! [`pieces_stay_fit`] and [`next_pairs`] are laws: functions without code, whose clauses say what holds of all pieces.
 #![tactic(auto)]
 
 mod laws;
 mod parts;
 mod plan;
 
-pub use laws::{is_plan, keeps_order};
+pub use laws::{is_plan, keeps_order, next_pairs, pieces_stay_fit};
 pub use parts::{BlocksOf, PlanParts};
 pub use plan::Plan;

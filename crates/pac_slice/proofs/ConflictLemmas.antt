@@ -6,7 +6,7 @@ use Rattle.pac_ops.specs.Uses.{accessed_table, modifies}
 use Rattle.pac_ops.specs.Dependencies.{IsConflict}
 use Rattle.pac_graph.specs.Adding.{IsTheEdge, IsUpTo}
 use Rattle.pac_slice.specs.Dependent.{AreConflicting, IsConflictPair, IsConflictFrom}
-use Rattle.pac_graph.proofs.ItemLemmas.{there, so, inside}
+use Rattle.pac_base.proofs.ItemLemmas.{there, so, inside}
 
 module _ (ops : List FlatOp) where
   -- an operation that accesses a table is there

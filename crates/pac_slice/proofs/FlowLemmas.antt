@@ -5,7 +5,7 @@ use Rattle.std.proofs.lemmas.Option.{same_Some, none-some}
 use Rattle.pac_ops.specs.declared.program.FlatOp.{FlatOp}
 use Rattle.pac_ops.specs.Uses.{op_uses, defined_variable}
 use Rattle.pac_ops.specs.Dependencies.{IsFlow}
-use Rattle.pac_graph.proofs.ItemLemmas.{there, so, inside}
+use Rattle.pac_base.proofs.ItemLemmas.{there, so, inside}
 use Rattle.pac_graph.specs.Adding.{IsTheEdge, IsUpTo}
 use Rattle.pac_slice.specs.Dependent.{IsFlowAt, IsFlowFrom}
 

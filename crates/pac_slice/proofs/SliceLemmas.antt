@@ -17,7 +17,7 @@ use Rattle.pac_slice.specs.Dependent.{IsFlowAt, IsConflictFrom}
 use Rattle.pac_slice.specs.Slices.{IsLink}
 use Rattle.pac_slice.proofs.FlowLemmas.{flow_zero}
 use Rattle.pac_slice.proofs.PairLemmas.{only_added}
-use Rattle.pac_graph.proofs.ItemLemmas.{inside}
+use Rattle.pac_base.proofs.ItemLemmas.{inside}
 use Rattle.pac_slice.proofs.ConflictLemmas.{conflict_all}
 
 module _ (ops : List FlatOp) where

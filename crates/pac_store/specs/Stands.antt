@@ -24,8 +24,8 @@ pub record IsHistory (catalogue : CatalogueState) (history : List Txn) : Type 0 
   pub held : Tables
   pub ends : EndsWith catalogue history held
 
--- a slot is open with a checkpoint of a log's prefix: at the offset of a gate, with the number of the transactions at the start
--- of it, and the tables with which serial execution of these ends
+-- a slot is open with a checkpoint of a log's prefix: at the offset of a gate, with the number of the transactions before it,
+-- and the tables with which serial execution of these ends
 pub record HoldsPrefix (text : List ℕ) (catalogue : CatalogueState) (batches : List (List Txn)) (image : List ℕ) : Type 0 where
   pub head : Head
   pub held : Tables

@@ -3,7 +3,7 @@ use Rattle.std.proofs.Common.{◌≡◌, ℕ, ◌+◌, ◌<◌, [], ◌∷◌, �
 use Rattle.std.specs.Prelude.{slice_get, slice_index, slice_index_or, IsSomeAnd}
 use Rattle.std.proofs.lemmas.List.{length_push, take_all}
 use Rattle.std.proofs.lemmas.Option.{slice_get_read}
-use Rattle.pac_graph.proofs.ItemLemmas.{inside}
+use Rattle.pac_base.proofs.ItemLemmas.{inside}
 use Rattle.pac_ops.specs.declared.program.Program.{Program}
 use Rattle.pac_global.specs.Drawing.{first_of}
 use Rattle.pac_global.proofs.OffsetLemmas.{first_next, first_within}

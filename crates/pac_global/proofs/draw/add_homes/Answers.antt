@@ -5,7 +5,7 @@ use Rattle.std.proofs.lemmas.Option.{slice_get-get_or}
 use Rattle.pac_ops.specs.declared.program.FlatOp.{FlatOp}
 use Rattle.pac_ops.specs.Uses.{accessed_table}
 use Rattle.pac_graph.specs.Adding.{Adds, IsUpTo}
-use Rattle.pac_graph.proofs.ItemLemmas.{there}
+use Rattle.pac_base.proofs.ItemLemmas.{there}
 use Rattle.pac_graph.proofs.AddLemmas.{adds_alike, upto_more, upto_skip}
 use Rattle.pac_global.specs.Drawing.{IsBothWays, IsHomeEdge, HasHomeEdge}
 use Rattle.pac_global.proofs.HomeLemmas.{home_edges, no_home, homes_all}

@@ -1,0 +1,16 @@
+pub mod Ends
+pub mod Law
+pub mod Laws
+pub mod Loads
+pub mod Order
+pub mod PlanFacts
+pub mod FitLemmas
+pub mod Ready
+pub mod Replays
+pub mod Rows
+pub mod Steps
+pub mod Theorem
+pub mod Turns
+pub mod TwoPieces
+pub mod WorkLemmas
+pub mod Present

@@ -1,0 +1,12 @@
+pub mod FitLemmas
+pub mod FrameLemmas
+pub mod OwnLemmas
+pub mod EffectLemmas
+pub mod ProgramLemmas
+pub mod RecordLemmas
+pub mod StayLemmas
+pub mod StateLemmas
+pub mod DefaultLemmas
+pub mod TypeLemmas
+pub mod DefinedLemmas
+pub mod TypedOver

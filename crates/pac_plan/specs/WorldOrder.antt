@@ -1,0 +1,26 @@
+-- What the analysis gives of the operations, the blocks and the homes, and the laws of partial replay.
+use Rattle.std.specs.Prelude.{◌≡◌, ◌⊎◌, ℕ, ◌<◌, ◌≤◌, Bool, true, false, ◌&&◌, ◌==◌, List, [], ◌∷◌, Some}
+use Rattle.pac_value.specs.Expressions.{Values}
+use Rattle.pac_ops.specs.declared.piece.PieceId.{PieceId}
+use Rattle.pac_ops.specs.Uses.{op_uses, defined_variable, accessed_table}
+use Rattle.pac_base.specs.Members.{Each, Mem}
+use Rattle.pac_ops.specs.Effects.{NumberedOp, is_var, defined_in, used_in}
+use Rattle.pac_plan.specs.Pieces.{Present, Location, seen, World, part, precedes, needs, partial, apply, HasInputs, adds, pieces, replayed_in, touches}
+
+-- an operation uses what no later one defines
+abbrev pub Ordered : List NumberedOp → Type 0
+Ordered [] = Unit {0}
+Ordered (o ∷ os) = Each (λ (d : NumberedOp). (x : ℕ) → is_var x (defined_variable d.1.kind) ≡ true → op_uses x o.1 ≡ false) os × Ordered os
+
+-- one definition, edges along flow, numbering along edges, and one home for each table
+pub record WellFormed (w : World) : Type 0 where
+  pub once : (t b b' x : ℕ) → defined_in (part (w.block t) b (w.code t)) x ≡ true → defined_in (part (w.block t) b' (w.code t)) x ≡ true → b ≡ b'
+  pub flows : (t b b' x : ℕ) → defined_in (part (w.block t) b (w.code t)) x ≡ true → used_in (part (w.block t) b' (w.code t)) x ≡ true → (b ≡ b') ⊎ (w.edge b b' ≡ true)
+  pub up : (b b' : ℕ) → w.edge b b' ≡ true → b < b'
+  pub homes : (t : ℕ) → Each (λ (o : NumberedOp). (a : ℕ) → accessed_table o.1.kind ≡ Some a → w.home a ≡ w.block t o) (w.code t)
+  pub ordered : (t : ℕ) → Ordered (w.code t)
+  pub batches : (t t' : ℕ) → t < t' → w.batch t ≤ w.batch t'
+
+-- each operation stands in one of the blocks
+abbrev pub FitsBlocks : World → List ℕ → List ℕ → Type 0
+FitsBlocks w ts bs = (t : ℕ) → Mem t ts → Each (λ (o : NumberedOp). Mem (w.block t o) bs) (w.code t)
