@@ -99,20 +99,20 @@ answers_rest before now next left mid left' count reading none chunk zero =
           (rest_answer next.ahead next.taken next.limit left' (subst HasNoFeed (sym same) none) (chunk.end zero));
     }
 
-error_answer : (text : List ℕ) (now : ReaderState) (left : Option (List ℕ)) (error : LineError) → Keeps text now → (error ≡ TooLong → HasNoLine text) → AnswersLine text now left (Err error)
-error_answer text now left Failed keeps long = keeps
-error_answer text now left TooLong keeps long = (keeps, long refl)
-error_answer text now left NoMemory keeps long = keeps
+error_answer : (text : List ℕ) (now : ReaderState) (left : Option (List ℕ)) (error : LineError) → Keeps text now → (error ≡ Failed → HasNoFeed text) → (error ≡ TooLong → HasNoLine text) → AnswersLine text now left (Err error)
+error_answer text now left Failed keeps none long = (keeps, none refl)
+error_answer text now left TooLong keeps none long = (keeps, long refl)
+error_answer text now left NoMemory keeps none long = keeps
 
-pub answers_error : (before now : ReaderState) (left left' : Option (List ℕ)) (error : LineError) → IsReading before now left left' → (error ≡ TooLong → HasNoLine now.ahead)
+pub answers_error : (before now : ReaderState) (left left' : Option (List ℕ)) (error : LineError) → IsReading before now left left' → (error ≡ Failed → HasNoFeed now.ahead) → (error ≡ TooLong → HasNoLine now.ahead)
     → IsCall before (record now { line = [] }) left left' (Err error)
-answers_error before now left left' error reading long = record {
+answers_error before now left left' error reading none long = record {
   given = reading.given;
   gave = reading.gave;
   counted = reading.counted;
   limit = reading.limit;
   read = reading.read;
-  answer = error_answer (before.ahead ++ reading.given) (record now { line = [] }) left' error (refl, reading.ahead) (λ e. subst HasNoLine reading.ahead (long e));
+  answer = error_answer (before.ahead ++ reading.given) (record now { line = [] }) left' error (refl, reading.ahead) (λ e. subst HasNoFeed reading.ahead (none e)) (λ e. subst HasNoLine reading.ahead (long e));
 }
 
 -- ---- what is known of the source
@@ -125,7 +125,7 @@ pub known_before : (before now : ReaderState) (left left' : Option (List ℕ)) (
 known_before before now left left' result call = ap (prepend_known before.ahead) call.gave ∙ known-gave before.ahead call.given left'
 
 kept : (text : List ℕ) (now : ReaderState) (left : Option (List ℕ)) (error : LineError) → AnswersLine text now left (Err error) → now.ahead ≡ text
-kept text now left Failed answer = answer.1
+kept text now left Failed answer = answer.0.1
 kept text now left TooLong answer = answer.0.1
 kept text now left NoMemory answer = answer.1
 

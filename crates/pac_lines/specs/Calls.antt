@@ -13,11 +13,12 @@ abbrev pub Keeps : List ℕ → ReaderState → Type 0
 Keeps text now = (now.line ≡ []) × (now.ahead ≡ text)
 
 -- What is handed out of a text, which is what was ahead and then what the source gave: its first line that is ended, or
--- its last one where the source is at its end; none where nothing is left of both. An error leaves all of it ahead.
+-- its last one where the source is at its end; none where nothing is left of both. An error leaves all of it ahead; where the
+-- source failed no whole line is ahead.
 abbrev pub AnswersLine : List ℕ → ReaderState → Option (List ℕ) → Result Bool LineError → Type 0
 AnswersLine text now left (Ok true) = IsEndedLine text now.line now.ahead ⊎ (IsLastLine text now.line now.ahead × IsAtEnd left)
 AnswersLine text now left (Ok false) = Keeps text now × (text ≡ []) × IsAtEnd left
-AnswersLine text now left (Err Failed) = Keeps text now
+AnswersLine text now left (Err Failed) = Keeps text now × HasNoFeed text
 AnswersLine text now left (Err TooLong) = Keeps text now × HasNoLine text
 AnswersLine text now left (Err NoMemory) = Keeps text now
 

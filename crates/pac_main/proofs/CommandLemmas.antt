@@ -184,6 +184,7 @@ explain-memory with_text status input output errors is = record {
 pub init-memory : (status : ℕ) (input errors : Observed) (devices : ObservedDevices) → status ≡ 9 → AreUntouched devices → InitEnds status input errors devices
 init-memory status input errors devices is none = record {
   statuses = subst (λ (n : ℕ). IsOneOf n (0 ∷ 2 ∷ 3 ∷ 6 ∷ 8 ∷ 9 ∷ [])) (sym is) refl;
+  accepted = λ early. let no : ◌≡◌ {A = Bool} false true = subst (λ (m : ℕ). IsOneOf m (0 ∷ 3 ∷ 8 ∷ [])) is early in absurd cc;
   done = λ n. absurd (omega (arith, is, n));
   refused = λ n. absurd (omega (arith, is, n));
   not_empty = λ n. absurd (omega (arith, is, n));

@@ -1,14 +1,13 @@
 -- Runs one after another keep what they acknowledge.
 use Rattle.std.proofs.Common.{◌≡◌, ◌∙◌, ◌⊎◌, ◌≤◌, ◌+◌, ℕ, zero, suc, List, [], ◌∷◌, ◌++◌, length, length-append, take, drop, Option, Some, None, inl, inr, refl, sym, ap, subst, arith}
-use Rattle.std.specs.Prelude.{◌≢◌, IfSome, map}
+use Rattle.std.specs.Prelude.{◌≢◌, map}
 use Rattle.std.specs.FinMap.{empty}
-use Rattle.std.proofs.Math.Seq.{take-nil}
+use Rattle.std.specs.List.{AllByRecursion}
 use Rattle.std.proofs.lemmas.List.{append-nil, take-append-drop, take-append-le}
 use Rattle.pac_ops.specs.declared.transaction.Txn.{Txn}
 use Rattle.pac_outside.specs.Devices.{AllLeave, AreImages, OnceKnown, all_known}
-use Rattle.pac_outside.specs.Disk.{DiskState, DiskHistory, IsImage, settled}
+use Rattle.pac_outside.specs.Disk.{DiskState, DiskHistory, IsImage, SeenIsImage, settled}
 use Rattle.pac_outside.proofs.Images.{one_image}
-use Rattle.pac_outside.proofs.Runs.{run_end}
 use Rattle.pac_types.specs.Typing.{CatalogueState}
 use Rattle.pac_log.specs.Logs.{IsAccepted, all_txns, header_bytes}
 use Rattle.pac_store.specs.Images.{Images, OfThree}
@@ -16,14 +15,14 @@ use Rattle.pac_store.specs.Stands.{StandsFor}
 use Rattle.pac_store.proofs.StandsLemmas.{goes-on}
 use Rattle.pac_recover.specs.Refusals.{IfImagesKnown}
 use Rattle.pac_init.specs.Made.{IsNewStore, MakesStore}
-use Rattle.pac_request.specs.declared.request.Request.{Request}
-use Rattle.pac_session.specs.Session.{Rules, SessionState, committed, replies}
+use Rattle.pac_session.specs.Session.{Rules, SessionState, committed}
 use Rattle.pac_run.specs.Acked.{Acknowledges}
-use Rattle.pac_run.specs.Run.{AtExit, AtMoments, IsBegun, IsExit, WhileAllStand, history_after}
-use Rattle.pac_run.specs.Texts.{texts}
-use Rattle.pac_engine.specs.Standing.{WhileKnown}
+use Rattle.pac_run.specs.Opening.{AllStand}
+use Rattle.pac_run.specs.Run.{AtExit, IsBegun, IsExit, WhileAllStand, history_after}
+use Rattle.pac_engine.specs.Standing.{StandsWith, WhileKnown}
+use Rattle.pac_engine.proofs.DeviceLemmas.{weaken-three}
 use Rattle.pac_main.specs.Init.{InitEnds, IsStoreText}
-use Rattle.pac_main.specs.Headline.{AreRuns, HoldImages, IsNextRun, KeepsAll, OneRun}
+use Rattle.pac_main.specs.Headline.{AreAsLeft, AreFound, AreRuns, HoldImages, IsNextRun, KeepsAll, OneRun, RecoversExactly, reads_of}
 use Rattle.pac_main.specs.Recover.{RecoverEnds, RecoversPrefix}
 use Rattle.pac_main.specs.Streams.{Observed, ObservedDevices}
 
@@ -38,9 +37,6 @@ take_length : {A : Type 0} (m : ℕ) (l : List A) → m ≤ length l → m ≤ l
 take_length zero l le = omega arith
 take_length (suc m) [] le = absurd (omega (arith, le))
 take_length (suc m) (x ∷ l) le = let rest = take_length m l (omega (arith, le)) in omega (arith, rest)
-
-prefix_of_prefix : {A : Type 0} (least m : ℕ) (history : List A) → least ≤ length (take m history) → take least (take m history) ≡ take least history
-prefix_of_prefix least m history le = sym (take-append-le least (take m history) (drop m history) le) ∙ ap (λ l. take least l) (take-append-drop m history)
 
 -- lists with one prefix have one shorter prefix
 take_less : {A : Type 0} (few many : ℕ) (l : List A) → few ≤ many → take few (take many l) ≡ take few l
@@ -111,13 +107,41 @@ new_devices text catalogue accepted (l ∷ a ∷ b ∷ []) new (x ∷ y ∷ z �
 new_devices text catalogue accepted (l ∷ a ∷ b ∷ []) new (x ∷ y ∷ z ∷ w ∷ more) are = absurd are.1.1.1
 new_devices text catalogue accepted (l ∷ a ∷ b ∷ c ∷ more) new images are = absurd new
 
-pub new-store : (status : ℕ) (text : List ℕ) (input errors : Observed) (devices : ObservedDevices) (entry exit : List DiskHistory) (images : List (List ℕ)) → InitEnds status input errors devices → status ≡ 0
-    → input.before ≡ Some text → all_known devices.before ≡ Some entry → all_known devices.after ≡ Some exit → AreImages exit images → (catalogue : CatalogueState) × OfThree (StandsFor text catalogue [] 0) images
-new-store status text input errors devices entry exit images ends done_so read known following are =
-    let done = ends.done done_so in
-    let of : (text ≡ done.0) × ((catalogue : CatalogueState) × IsAccepted done.0 catalogue) = subst (λ (o : Option (List ℕ)). IsStoreText done.0 o) read done.1 in
+pub new-store : (text : List ℕ) (input errors : Observed) (devices : ObservedDevices) (entry exit : List DiskHistory) → InitEnds 0 input errors devices
+    → input.before ≡ Some text → all_known devices.before ≡ Some entry → all_known devices.after ≡ Some exit → (catalogue : CatalogueState) × AllStand text catalogue [] 0 exit
+new-store text input errors devices entry exit ends read known following =
+    let done = ends.done refl in
+    let of : ((catalogue : CatalogueState) × IsAccepted done.0 catalogue) × (text ≡ done.0) = subst (λ (o : Option (List ℕ)). IsStoreText done.0 o) read done.1 in
     let made : MakesStore done.0 entry exit = subst (λ (o : Option (List DiskHistory)). OnceKnown (MakesStore done.0) (Some entry) o) following (subst (λ (o : Option (List DiskHistory)). OnceKnown (MakesStore done.0) o (all_known devices.after)) known done.2) in
-    (of.1.0, subst (λ (t : List ℕ). OfThree (StandsFor t of.1.0 [] 0) images) (sym of.0) (new_devices done.0 of.1.0 of.1.1 exit made.1 images are))
+    (of.0.0, λ images are. subst (λ (t : List ℕ). OfThree (StandsFor t of.0.0 [] 0) images) (sym of.1) (new_devices done.0 of.0.0 of.0.1 exit made.1 images are))
+
+-- ---- how devices are found
+
+own_images : (devices : List DiskHistory) → AllByRecursion SeenIsImage devices → AreImages devices (reads_of devices)
+own_images [] own = tt
+own_images (device ∷ devices) own = (own.0, own_images devices own.1)
+
+pub found-cut : (left found : List DiskHistory) (images : List (List ℕ)) → AreImages left images → HoldImages images found → AreFound left found
+found-cut left found images are hold = record {
+  images = λ others leave. subst (AreImages left) (sym (same_images images found hold others leave)) are;
+  read = subst (AreImages left) (sym (seen_images images found hold)) are;
+}
+
+kept_images : (left found : List DiskHistory) → AreAsLeft left found → (others : List (List ℕ)) → AreImages found others → AreImages left others
+kept_images [] [] same others leave = leave
+kept_images [] (b ∷ found) same others leave = absurd same
+kept_images (a ∷ left) [] same others leave = absurd same
+kept_images (a ∷ left) (b ∷ found) same [] leave = absurd leave
+kept_images (a ∷ left) (b ∷ found) same (other ∷ others) leave = (subst (λ (s : DiskState). IsImage s other) same.0 leave.0, kept_images left found same.1 others leave.1)
+
+kept_reads : (left found : List DiskHistory) → AllByRecursion SeenIsImage left → AreAsLeft left found → AreImages left (reads_of found)
+kept_reads [] [] own same = tt
+kept_reads [] (b ∷ found) own same = absurd same
+kept_reads (a ∷ left) [] own same = absurd same
+kept_reads (a ∷ left) (b ∷ found) own same = (subst (λ (s : DiskState). IsImage a.now s.seen) (sym same.0) own.0, kept_reads left found own.1 same.1)
+
+pub found-kill : (left found : List DiskHistory) → AllByRecursion SeenIsImage left → AreAsLeft left found → AreFound left found
+found-kill left found own same = record { images = kept_images left found same; read = kept_reads left found own same }
 
 -- ---- one run
 
@@ -129,33 +153,19 @@ module _ (text : List ℕ) (catalogue : CatalogueState) where
   both_three P Q R f (l ∷ a ∷ b ∷ []) p q = f _ p q
   both_three P Q R f (l ∷ a ∷ b ∷ c ∷ more) p q = absurd p
 
-  one_three : (P : Images → Type 0) (R : Type 0) → ((images : Images) → P images → R) → (images : List (List ℕ)) → OfThree P images → R
-  one_three P R f [] p = absurd p
-  one_three P R f (l ∷ []) p = absurd p
-  one_three P R f (l ∷ a ∷ []) p = absurd p
-  one_three P R f (l ∷ a ∷ b ∷ []) p = f _ p
-  one_three P R f (l ∷ a ∷ b ∷ c ∷ more) p = absurd p
-
-  -- a history is as long as what the log has of it
-  enough_of : (history : List Txn) (least : ℕ) (images : Images) → StandsFor text catalogue history least images → least ≤ length history
-  enough_of history least images stands =
-      let long : length history ≡ length (all_txns stands.batches) + length stands.later = ap length stands.prefix ∙ length-append (all_txns stands.batches) stands.later in
-      let enough = stands.enough in
-      omega (arith, long, enough)
-
   -- what stands after one run
-  pub record After (history : List Txn) (least : ℕ) (run : OneRun) (left : List (List ℕ)) : Type 0 where
+  pub record After (history : List Txn) (least : ℕ) (run : OneRun) : Type 0 where
     pub next : List Txn
     pub kept : ℕ
     pub is : IsNextRun history run next
     pub more : least ≤ kept
     pub same : take least next ≡ take least history
     pub acknowledged : (number : ℕ) → Acknowledges run.ends.is.out number → number ≤ kept
-    pub stands : OfThree (StandsFor text catalogue next kept) left
+    pub stands : AllStand text catalogue next kept run.exit
 
   -- nothing was written
-  unwritten : (history : List Txn) (least : ℕ) (run : OneRun) (left : List (List ℕ)) → run.ends.is.out ≡ [] → OfThree (StandsFor text catalogue history least) left → After history least run left
-  unwritten history least run left none stands = record {
+  unwritten : (history : List Txn) (least : ℕ) (run : OneRun) → run.ends.is.out ≡ [] → AllStand text catalogue history least run.exit → After history least run
+  unwritten history least run none stands = record {
     next = history;
     kept = least;
     is = inl (none, refl);
@@ -172,9 +182,9 @@ module _ (text : List ℕ) (catalogue : CatalogueState) where
       let on = goes-on text catalogue history least images begun.recovered.stored stands begun.recovered.is in
       (subst (λ (n : ℕ). least ≤ n) (sym begun.recovered.counted) on.enough, subst (λ (n : ℕ). n ≤ length history) (sym begun.recovered.counted) on.within)
 
-  module _ (history : List Txn) (least : ℕ) (images left : List (List ℕ)) (run : OneRun) (stands : OfThree (StandsFor text catalogue history least) images) (hold : HoldImages images run.entry) (are : AreImages run.exit left) where
+  module _ (history : List Txn) (least : ℕ) (left : List DiskHistory) (run : OneRun) (stands : AllStand text catalogue history least left) (found : AreFound left run.entry) where
     all_stand : AllLeave (λ others. OfThree (StandsFor text catalogue history least) others) run.entry
-    all_stand others leave = subst (λ (i : List (List ℕ)). OfThree (StandsFor text catalogue history least) i) (sym (same_images images run.entry hold others leave)) stands
+    all_stand others leave = stands others (found.images others leave)
 
     -- what is said of known devices that stand for the history
     knows : (R : List ℕ → CatalogueState → List Txn → ℕ → List DiskHistory → List DiskHistory → Type 0) → WhileAllStand R run.devices.before run.devices.after → R text catalogue history least run.entry run.exit
@@ -189,17 +199,15 @@ module _ (text : List ℕ) (catalogue : CatalogueState) where
     abbrev after : List Txn
     after = history_after history run.ends.is.rules run.ends.is.start run.ends.is.requests
 
-    at_exit : ((run.ends.is.out ≡ []) × AreImages run.entry left) ⊎ OfThree (IsExit text catalogue after run.ends.is.start.number run.ends.is.out) left
-    at_exit = knows (λ t c h k. AtExit t c h run.ends.is.rules run.ends.is.start run.ends.is.requests run.ends.is.out) run.ends.is.exit left are
+    abbrev Begun : List (List ℕ) → Type 0
+    Begun images = OfThree (IsBegun run.ends.is.rules run.ends.is.place run.ends.is.start) images
 
-    at_end : AreImages run.entry left ⊎ OfThree (StandsFor text catalogue after least) left
-    at_end = run_end (λ others. AreImages run.entry others ⊎ OfThree (StandsFor text catalogue after least) others) run.entry run.exit
-        (knows (λ t c h k. AtMoments t c h k run.ends.is.rules run.ends.is.start run.ends.is.requests) run.ends.is.moments) left are
-
-    -- an image at the exit, where the session began with what is stored
-    committed_after : (i : Images) → (least ≤ run.ends.is.start.number) × (run.ends.is.start.number ≤ length history) → (e : IsExit text catalogue after run.ends.is.start.number run.ends.is.out i)
-        → (l a b : List ℕ) → left ≡ l ∷ a ∷ b ∷ [] → i ≡ record { log = l; slot_a = a; slot_b = b } → After history least run left
-    committed_after i number e l a b is same =
+    -- the history with what the session commits, which began with what is stored
+    committed_after : Begun (reads_of run.entry) → IsExit text catalogue after run.ends.is.start.number run.ends.is.out run.exit → After history least run
+    committed_after begun e =
+        let number : (least ≤ run.ends.is.start.number) × (run.ends.is.start.number ≤ length history)
+        = both_three (StandsFor text catalogue history least) (IsBegun run.ends.is.rules run.ends.is.place run.ends.is.start) ((least ≤ run.ends.is.start.number) × (run.ends.is.start.number ≤ length history))
+        (λ i s b. begun_number history least run.ends.is.place run.ends.is.rules run.ends.is.start i s b) (reads_of run.entry) (stands (reads_of run.entry) found.read) begun in
         let prefix = take_length run.ends.is.start.number history number.1 in
         record {
           next = after;
@@ -208,74 +216,20 @@ module _ (text : List ℕ) (catalogue : CatalogueState) where
           more = omega (arith, number.0, e.more);
           same = prefix_on least run.ends.is.start.number history (committed run.ends.is.rules run.ends.is.start run.ends.is.requests) (omega (arith, number.0, prefix));
           acknowledged = e.acknowledged;
-          stands = subst (λ (o : List (List ℕ)). OfThree (StandsFor text catalogue after e.least) o) (sym is) (subst (λ (j : Images). StandsFor text catalogue after e.least j) same e.stands.stands);
+          stands = λ images are. weaken-three (StandsWith text catalogue after e.least e.saved) (StandsFor text catalogue after e.least) (λ i s. s.stands) images (e.stands images are);
         }
 
-    from_exit : (others : List (List ℕ)) → left ≡ others → (least ≤ run.ends.is.start.number) × (run.ends.is.start.number ≤ length history)
-        → OfThree (IsExit text catalogue after run.ends.is.start.number run.ends.is.out) others → After history least run left
-    from_exit [] is number e = absurd e
-    from_exit (l ∷ []) is number e = absurd e
-    from_exit (l ∷ a ∷ []) is number e = absurd e
-    from_exit (l ∷ a ∷ b ∷ []) is number e = committed_after (record { log = l; slot_a = a; slot_b = b }) number e l a b is refl
-    from_exit (l ∷ a ∷ b ∷ c ∷ more) is number e = absurd e
+    at : ((run.ends.is.out ≡ []) × AllLeave (AreImages run.entry) run.exit) ⊎ (Begun (reads_of run.entry) × IsExit text catalogue after run.ends.is.start.number run.ends.is.out run.exit) → After history least run
+    at (inl none) = unwritten history least run none.0 (λ images are. all_stand images (none.1 images are))
+    at (inr e) = committed_after e.0 e.1
 
-    begun : OfThree (IsBegun run.ends.is.rules run.ends.is.place run.ends.is.start) images → After history least run left
-    begun h = at at_exit
-      where
-        number : (least ≤ run.ends.is.start.number) × (run.ends.is.start.number ≤ length history)
-        number = both_three (StandsFor text catalogue history least) (IsBegun run.ends.is.rules run.ends.is.place run.ends.is.start) ((least ≤ run.ends.is.start.number) × (run.ends.is.start.number ≤ length history))
-            (λ i s b. begun_number history least run.ends.is.place run.ends.is.rules run.ends.is.start i s b) images stands h
-
-        at : ((run.ends.is.out ≡ []) × AreImages run.entry left) ⊎ OfThree (IsExit text catalogue after run.ends.is.start.number run.ends.is.out) left → After history least run left
-        at (inl none) = unwritten history least run left none.0 (all_stand left none.1)
-        at (inr e) = from_exit left refl number e
-
-    -- where nothing was asked, nothing was written, and what is left is a prefix of the history with no more after it
-    unasked : run.ends.is.requests ≡ [] → After history least run left
-    unasked none = at at_end
-      where
-        nothing : run.ends.is.out ≡ []
-        nothing = run.ends.is.prefix.is
-            ∙ ap (λ (r : List Request). take run.ends.is.prefix.count (texts run.ends.is.rules.catalogue (replies run.ends.is.rules run.ends.is.start r))) none
-            ∙ take-nil run.ends.is.prefix.count
-
-        shorter : after ≡ take run.ends.is.start.number history
-        shorter = ap (λ (r : List Request). take run.ends.is.start.number history ++ committed run.ends.is.rules run.ends.is.start r) none ∙ append-nil (take run.ends.is.start.number history)
-
-        few : OfThree (StandsFor text catalogue after least) left → least ≤ length after
-        few h = one_three (StandsFor text catalogue after least) (least ≤ length after) (λ i s. enough_of after least i s) left h
-
-        at : AreImages run.entry left ⊎ OfThree (StandsFor text catalogue after least) left → After history least run left
-        at (inl same) = unwritten history least run left nothing (all_stand left same)
-        at (inr h) = record {
-          next = after;
-          kept = least;
-          is = inr refl;
-          more = omega arith;
-          same = ap (λ (l : List Txn). take least l) shorter ∙ prefix_of_prefix least run.ends.is.start.number history (subst (λ (l : List Txn). least ≤ length l) shorter (few h));
-          acknowledged = λ number known. absurd (subst (λ (out : List ℕ). Acknowledges out number) nothing known).1;
-          stands = h;
-        }
-
-    seen : OfThree (λ i. (run.ends.is.requests ≡ []) ⊎ IsBegun run.ends.is.rules run.ends.is.place run.ends.is.start i) images
-    seen = subst (λ (i : List (List ℕ)). OfThree (λ j. (run.ends.is.requests ≡ []) ⊎ IsBegun run.ends.is.rules run.ends.is.place run.ends.is.start j) i) (seen_images images run.entry hold)
-        (subst (λ (o : Option (List DiskHistory)). IfSome o (λ devices. OfThree (λ j. (run.ends.is.requests ≡ []) ⊎ IsBegun run.ends.is.rules run.ends.is.place run.ends.is.start j) (map (λ device. device.now.seen) devices))) run.known run.ends.is.begun)
-
-    which : (others : List (List ℕ)) → images ≡ others → OfThree (λ i. (run.ends.is.requests ≡ []) ⊎ IsBegun run.ends.is.rules run.ends.is.place run.ends.is.start i) others → After history least run left
-    which [] is h = absurd h
-    which (l ∷ []) is h = absurd h
-    which (l ∷ a ∷ []) is h = absurd h
-    which (l ∷ a ∷ b ∷ []) is (inl none) = unasked none
-    which (l ∷ a ∷ b ∷ []) is (inr h) = begun (subst (λ (i : List (List ℕ)). OfThree (IsBegun run.ends.is.rules run.ends.is.place run.ends.is.start) i) (sym is) h)
-    which (l ∷ a ∷ b ∷ c ∷ more) is h = absurd h
-
-    pub following : After history least run left
-    following = which images refl seen
+    pub following : After history least run
+    following = at (knows (λ t c h k. AtExit t c h run.ends.is.rules run.ends.is.place run.ends.is.start run.ends.is.requests run.ends.is.out) run.ends.is.exit)
 
   -- ---- any number of runs
 
-  pub keeps-all : (history : List Txn) (least : ℕ) (images left : List (List ℕ)) (runs : List OneRun) → OfThree (StandsFor text catalogue history least) images → AreRuns images runs left → KeepsAll text catalogue history least runs left
-  keeps-all history least images left [] stands same = record {
+  pub keeps-all : (history : List Txn) (least : ℕ) (first left : List DiskHistory) (runs : List OneRun) → AllStand text catalogue history least first → AreRuns first runs left → KeepsAll text catalogue history least runs left
+  keeps-all history least first left [] stands same = record {
     nexts = [];
     last = history;
     are = (refl, refl);
@@ -283,41 +237,54 @@ module _ (text : List ℕ) (catalogue : CatalogueState) where
     more = omega arith;
     same = refl;
     acknowledged = tt;
-    stands = subst (λ (i : List (List ℕ)). OfThree (StandsFor text catalogue history least) i) (sym same) stands;
+    stands = subst (λ (d : List DiskHistory). AllStand text catalogue history least d) (sym same) stands;
   }
-  keeps-all history least images left (run ∷ runs) stands (hold, (next, are, more)) =
-      let first = following history least images next run stands hold are in
-      let rest = keeps-all first.next first.kept next left runs first.stands more in
+  keeps-all history least first left (run ∷ runs) stands (found, more) =
+      let one = following history least first run stands found in
+      let rest = keeps-all one.next one.kept run.exit left runs one.stands more in
       record {
-        nexts = first.next ∷ rest.nexts;
+        nexts = one.next ∷ rest.nexts;
         last = rest.last;
-        are = (first.is, rest.are);
+        are = (one.is, rest.are);
         kept = rest.kept;
-        more = omega (arith, first.more, rest.more);
-        same = shorter_prefix least first.kept rest.last first.next first.more rest.same ∙ first.same;
-        acknowledged = (λ number known. let few = first.acknowledged number known in (omega (arith, few, rest.more), shorter_prefix number first.kept rest.last first.next few rest.same), rest.acknowledged);
+        more = omega (arith, one.more, rest.more);
+        same = shorter_prefix least one.kept rest.last one.next one.more rest.same ∙ one.same;
+        acknowledged = (λ number known. let few = one.acknowledged number known in (omega (arith, few, rest.more), shorter_prefix number one.kept rest.last one.next few rest.same), rest.acknowledged);
         stands = rest.stands;
       }
 
 -- ---- and what is recovered after them
 
-recovers_here : (limit status : ℕ) (text : List ℕ) (catalogue : CatalogueState) (history : List Txn) (least : ℕ) (left : List (List ℕ)) (before : List (Option DiskHistory)) (devices : ObservedDevices) (output : Observed) (entry : List DiskHistory)
-    → all_known before ≡ Some entry → HoldImages left entry → OfThree (StandsFor text catalogue history least) left
+recovers_here : (limit status : ℕ) (text : List ℕ) (catalogue : CatalogueState) (history : List Txn) (least : ℕ) (before : List (Option DiskHistory)) (devices : ObservedDevices) (output : Observed) (entry : List DiskHistory)
+    → all_known before ≡ Some entry → OfThree (StandsFor text catalogue history least) (reads_of entry)
     → IfImagesKnown (λ images. StandsFor text catalogue history least images → RecoversPrefix limit status catalogue history least devices output) before → RecoversPrefix limit status catalogue history least devices output
-recovers_here limit status text catalogue history least left [] devices output entry known hold stands h = absurd h
-recovers_here limit status text catalogue history least left (a ∷ []) devices output entry known hold stands h = absurd h
-recovers_here limit status text catalogue history least left (a ∷ b ∷ []) devices output entry known hold stands h = absurd h
-recovers_here limit status text catalogue history least left (None ∷ b ∷ c ∷ []) devices output entry known hold stands h = absurd cc
-recovers_here limit status text catalogue history least left (Some l ∷ None ∷ c ∷ []) devices output entry known hold stands h = absurd cc
-recovers_here limit status text catalogue history least left (Some l ∷ Some x ∷ None ∷ []) devices output entry known hold stands h = absurd cc
-recovers_here limit status text catalogue history least left (Some l ∷ Some x ∷ Some y ∷ []) devices output entry known hold stands h =
+recovers_here limit status text catalogue history least [] devices output entry known stands h = absurd h
+recovers_here limit status text catalogue history least (a ∷ []) devices output entry known stands h = absurd h
+recovers_here limit status text catalogue history least (a ∷ b ∷ []) devices output entry known stands h = absurd h
+recovers_here limit status text catalogue history least (None ∷ b ∷ c ∷ []) devices output entry known stands h = absurd cc
+recovers_here limit status text catalogue history least (Some l ∷ None ∷ c ∷ []) devices output entry known stands h = absurd cc
+recovers_here limit status text catalogue history least (Some l ∷ Some x ∷ None ∷ []) devices output entry known stands h = absurd cc
+recovers_here limit status text catalogue history least (Some l ∷ Some x ∷ Some y ∷ []) devices output entry known stands h =
     let is : l ∷ x ∷ y ∷ [] ≡ entry = cc in
-    let same = seen_images left (l ∷ x ∷ y ∷ []) (subst (λ (e : List DiskHistory). HoldImages left e) (sym is) hold) in
-    h (subst (λ (i : List (List ℕ)). OfThree (StandsFor text catalogue history least) i) (sym same) stands)
-recovers_here limit status text catalogue history least left (a ∷ b ∷ c ∷ d ∷ more) devices output entry known hold stands h = absurd h
+    h (subst (λ (e : List DiskHistory). OfThree (StandsFor text catalogue history least) (reads_of e)) (sym is) stands)
+recovers_here limit status text catalogue history least (a ∷ b ∷ c ∷ d ∷ more) devices output entry known stands h = absurd h
 
-pub recovers-all : (text : List ℕ) (catalogue : CatalogueState) (history : List Txn) (least : ℕ) (images left : List (List ℕ)) (runs : List OneRun) → (keeps : KeepsAll text catalogue history least runs left)
-    → (limit status : ℕ) (devices : ObservedDevices) (output errors : Observed) (entry : List DiskHistory) → all_known devices.before ≡ Some entry → HoldImages left entry → RecoverEnds limit status devices output errors
-    → RecoversPrefix limit status catalogue keeps.last keeps.kept devices output
-recovers-all text catalogue history least images left runs keeps limit status devices output errors entry known hold ends =
-    recovers_here limit status text catalogue keeps.last keeps.kept left devices.before devices output entry known hold keeps.stands (ends.stands text catalogue keeps.last keeps.kept)
+pub recovers-all : (text : List ℕ) (catalogue : CatalogueState) (history : List Txn) (least : ℕ) (left : List DiskHistory) → AllStand text catalogue history least left
+    → (limit status : ℕ) (devices : ObservedDevices) (output errors : Observed) (entry : List DiskHistory) → all_known devices.before ≡ Some entry → AreFound left entry → RecoverEnds limit status devices output errors
+    → RecoversPrefix limit status catalogue history least devices output
+recovers-all text catalogue history least left stands limit status devices output errors entry known found ends =
+    recovers_here limit status text catalogue history least devices.before devices output entry known (stands (reads_of entry) found.read) (ends.stands text catalogue history least)
+
+pub exact : (text : List ℕ) (input made_errors : Observed) (made : ObservedDevices) (empty first : List DiskHistory) → InitEnds 0 input made_errors made
+    → input.before ≡ Some text → all_known made.before ≡ Some empty → all_known made.after ≡ Some first
+    → (runs : List OneRun) (left : List DiskHistory) → AreRuns first runs left
+    → (limit status : ℕ) (devices : ObservedDevices) (output errors : Observed) (entry : List DiskHistory) → all_known devices.before ≡ Some entry → AreFound left entry → RecoverEnds limit status devices output errors
+    → RecoversExactly text runs left limit status devices output
+exact text input made_errors made empty first ends read known known_after runs left are limit status devices output errors entry entered found recovered =
+    let new = new-store text input made_errors made empty first ends read known known_after in
+    let keeps = keeps-all text new.0 [] 0 first left runs new.1 are in
+    record {
+      catalogue = new.0;
+      keeps = keeps;
+      recovers = recovers-all text new.0 keeps.last keeps.kept left keeps.stands limit status devices output errors entry entered found recovered;
+    }

@@ -12,6 +12,7 @@ use Rattle.pac_request.specs.declared.request.Request.{Request}
 use Rattle.pac_session.specs.Session.{Rules, SessionState}
 use Rattle.pac_run.specs.Asked.{TookAtMost}
 use Rattle.pac_run.specs.Run.{AtExit, AtMoments, IsBegun, IsRun, WhileAllStand, IfSeenKnown}
+use Rattle.pac_run.specs.Stopping.{IsUnopened}
 use Rattle.pac_run.specs.declared.limits.TheConstants.{MAX_INPUT}
 use Rattle.pac_run.specs.declared.stop.RunStop.{RunStop}
 use Rattle.pac_run.specs.declared.stop.RunStop.TheVariants as run
@@ -59,17 +60,17 @@ idle_rules group_size limit = record { catalogue = no_catalogue; limit = limit; 
 abbrev idle_start : SessionState
 idle_start = record { tables = empty; number = 0 }
 
-idle_begun : (rules : Rules) (place : ℕ) (start : SessionState) (log a b : Option DiskHistory) → IfSeenKnown (λ images. ◌≡◌ {A = List Request} [] [] ⊎ IsBegun rules place start images) (log ∷ a ∷ b ∷ [])
+idle_begun : (rules : Rules) (place : ℕ) (start : SessionState) (log a b : Option DiskHistory) → IfSeenKnown (λ images. IsUnopened (Err run.NoMemory) [] ⊎ IsBegun rules place start images) (log ∷ a ∷ b ∷ [])
 idle_begun rules place start None a b = tt
 idle_begun rules place start (Some l) None b = tt
 idle_begun rules place start (Some l) (Some x) None = tt
-idle_begun rules place start (Some l) (Some x) (Some y) = inl refl
+idle_begun rules place start (Some l) (Some x) (Some y) = inl (tt, refl)
 
-idle_exit : (rules : Rules) (start : SessionState) (log a b : Option DiskHistory) → WhileAllStand (λ text catalogue history least. AtExit text catalogue history rules start [] []) (log ∷ a ∷ b ∷ []) (log ∷ a ∷ b ∷ [])
+idle_exit : (rules : Rules) (start : SessionState) (log a b : Option DiskHistory) → WhileAllStand (λ text catalogue history least. AtExit text catalogue history rules 0 start [] []) (log ∷ a ∷ b ∷ []) (log ∷ a ∷ b ∷ [])
 idle_exit rules start None a b = λ text catalogue history least. tt
 idle_exit rules start (Some l) None b = λ text catalogue history least. tt
 idle_exit rules start (Some l) (Some x) None = λ text catalogue history least. tt
-idle_exit rules start (Some l) (Some x) (Some y) = λ text catalogue history least stand images are. inl (refl, are)
+idle_exit rules start (Some l) (Some x) (Some y) = λ text catalogue history least stand. inl (refl, λ images are. are)
 
 idle_moments : (rules : Rules) (start : SessionState) (log a b : Option DiskHistory) → WhileAllStand (λ text catalogue history least. AtMoments text catalogue history least rules start []) (log ∷ a ∷ b ∷ []) (log ∷ a ∷ b ∷ [])
 idle_moments rules start None a b = λ text catalogue history least. tt
@@ -84,6 +85,7 @@ idle-run group_size limit left held log a b faulted = record {
   handled = idle_handled left;
   few = λ other. record { bytes = []; gave = prepend_none left; few = omega arith };
   long = λ e. absurd cc;
+  cut = λ e. refl;
   rules = idle_rules group_size limit;
   requests = [];
   asked = inl refl;
@@ -102,5 +104,5 @@ idle-run group_size limit left held log a b faulted = record {
   given = [];
   written = record { count = 0; is = refl };
   all = inl refl;
-  stopped = inl (refl, refl);
+  stopped = inl (tt, refl, refl);
 }

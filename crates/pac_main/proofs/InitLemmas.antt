@@ -20,7 +20,7 @@ use Rattle.pac_request.specs.declared.script_fault.ScriptFault.TheVariants.{Cata
 use Rattle.pac_request.proofs.OneScript.{few_or_excess}
 use Rattle.pac_main.specs.Causes.{GivesNoText, InitStops}
 use Rattle.pac_main.specs.Explained.{IsUnexplained}
-use Rattle.pac_main.specs.Init.{AreUntouched, IsNoStoreFor, IsNoStoreText, IsStoreText}
+use Rattle.pac_main.specs.Init.{AreUntouched, IsAcceptedInput, IsNoStoreFor, IsNoStoreText, IsStoreText}
 use Rattle.pac_main.specs.Inputs.{input_of_read, input_of_script}
 use Rattle.pac_main.specs.Stop.{stop_of_make}
 use Rattle.pac_main.specs.Streams.{Observed, ObservedDevices, AnyFaulted}
@@ -34,8 +34,7 @@ abbrev pub HasStore : List ℕ → Type 0
 HasStore text = (catalogue : CatalogueState) × IsAccepted text catalogue
 
 with_store : (old : Option (List ℕ)) (items : List ℕ) → IfSome old (λ all. all ≡ items) → HasStore items → IsStoreText items old
-with_store None items whole has = tt
-with_store (Some all) items whole has = (whole, has)
+with_store old items whole has = (has, whole)
 
 -- a text that a store can be made of is all of the input
 pub store-text : (old new : Option (List ℕ)) (items : List ℕ) → Gave old items new → (length items ≤ 65536 → IsAtEnd new) → HasStore items → IsStoreText items old
@@ -75,11 +74,11 @@ pub not-called : (knowns : List (Option DiskHistory)) (faults : List ℕ) → Ar
 not-called knowns faults = record { kept = same_reported (all_known knowns); quiet = refl }
 
 -- why a store isn't made
-pub not-made : {T : Type 0} (source : Observed) (devices : ObservedDevices) (error : MakeError)
+pub not-made : {T : Type 0} (source : Observed) (devices : ObservedDevices) (error : MakeError) → IsAcceptedInput source.before
     → ((device : DeviceName) (length : ℕ) → ◌≡◌ {A = Result T MakeError} (Err error) (Err (NotEmpty device length)) → IfAllKnown (IsInUse device length) devices.before devices.after)
     → ((◌≡◌ {A = Result T MakeError} (Err error) (Err DiskFault) → ⊥) → IfAllKnown (λ old new. new ≡ old) devices.before devices.after)
     → (◌≡◌ {A = Result T MakeError} (Err error) (Err DiskFault) → OneFaulted devices.faults_before devices.faults_after)
     → ((◌≡◌ {A = Result T MakeError} (Err error) (Err DiskFault) → ⊥) → devices.faults_after ≡ devices.faults_before) → InitStops source devices (stop_of_make error)
-not-made source devices (NotEmpty device length) in_use kept counted quiet = (record { kept = kept (λ is. absurd cc); quiet = quiet (λ is. absurd cc) }, in_use device length refl)
-not-made source devices DiskFault in_use kept counted quiet = counted refl
-not-made source devices NoMemory in_use kept counted quiet = record { kept = kept (λ is. absurd cc); quiet = quiet (λ is. absurd cc) }
+not-made source devices (NotEmpty device length) accepted in_use kept counted quiet = (accepted, record { kept = kept (λ is. absurd cc); quiet = quiet (λ is. absurd cc) }, in_use device length refl)
+not-made source devices DiskFault accepted in_use kept counted quiet = (accepted, counted refl)
+not-made source devices NoMemory accepted in_use kept counted quiet = record { kept = kept (λ is. absurd cc); quiet = quiet (λ is. absurd cc) }

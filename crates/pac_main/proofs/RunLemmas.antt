@@ -1,5 +1,6 @@
 -- Why a run stops, and how the command ends by the stop that is reported.
 use Rattle.std.proofs.Common.{◌≡◌, ◌≢◌, ◌⊎◌, ℕ, Bool, true, false, List, [], ◌∷◌, take, Option, Some, None, Result, Ok, Err, inl, inr, refl, sym, ap, subst, ◌∙◌, arith}
+use Rattle.std.specs.Prelude.{IsTrue}
 use Rattle.std.proofs.Math.Seq.{take-nil}
 use Rattle.pac_ops.specs.declared.note.Note.{Note}
 use Rattle.pac_ops.specs.declared.transaction.Txn.{Txn}
@@ -20,14 +21,14 @@ use Rattle.pac_session.specs.Session.{Rules, SessionState}
 use Rattle.pac_request.specs.declared.request.Request.{Request}
 use Rattle.pac_request.specs.declared.request.Reply.{Reply}
 use Rattle.pac_run.specs.Run.{IsRun}
-use Rattle.pac_run.specs.Stopping.{IsStopped}
+use Rattle.pac_run.specs.Stopping.{IsStopped, RefusesStore}
 use Rattle.pac_run.specs.Texts.{IsTextPrefix, texts}
 use Rattle.pac_run.specs.declared.stop.RunStop.{RunStop}
 use Rattle.pac_run.specs.declared.stop.RunStop.TheVariants as run
 use Rattle.pac_main.specs.Causes.{RunCause}
 use Rattle.pac_main.specs.Recover.{IsRefusedStore}
-use Rattle.pac_main.specs.Run.{RunEnds, RunsOnPrefix}
-use Rattle.pac_main.specs.Stop.{line_of, status_of, stop_of_run}
+use Rattle.pac_main.specs.Run.{LeavesStore, RunEnds, RunsOnPrefix}
+use Rattle.pac_main.specs.Stop.{line_of, status_of, stop_of_run, takes_memory}
 use Rattle.pac_main.specs.Streams.{AnyFaulted, IsOneOf, IsReported, Observed, ObservedDevices}
 use Rattle.pac_main.specs.declared.stop.Stop.{Stop}
 use Rattle.pac_main.specs.declared.stop.Stop.TheVariants as stop
@@ -153,9 +154,50 @@ run_status (run.TooLarge bytes) = refl
 no_text : (catalogue : CatalogueState) (given : List Reply) (out : List ℕ) → given ≡ [] → IsTextPrefix out (texts catalogue given) → out ≡ []
 no_text catalogue given out none prefix = prefix.is ∙ ap (λ (g : List Reply). take prefix.count (texts catalogue g)) none ∙ take-nil prefix.count
 
+-- the statuses of a store that is refused
+refuses_of : (why : RunStop) → IsOneOf (status_of (stop_of_run why)) (3 ∷ 4 ∷ 5 ∷ []) → RefusesStore why
+refuses_of run.NoStore early = tt
+refuses_of (run.Damaged damage) early = tt
+refuses_of (run.AbortInLog note) early = tt
+refuses_of (run.RowsOver name rows most) early = tt
+refuses_of run.InputFault early = let no : ◌≡◌ {A = Bool} false true = early in absurd cc
+refuses_of run.OutputFault early = let no : ◌≡◌ {A = Bool} false true = early in absurd cc
+refuses_of run.DiskFault early = let no : ◌≡◌ {A = Bool} false true = early in absurd cc
+refuses_of run.NoMemory early = let no : ◌≡◌ {A = Bool} false true = early in absurd cc
+refuses_of (run.LogFull need) early = let no : ◌≡◌ {A = Bool} false true = early in absurd cc
+refuses_of run.TooLong early = let no : ◌≡◌ {A = Bool} false true = early in absurd cc
+refuses_of (run.TooLarge bytes) early = let no : ◌≡◌ {A = Bool} false true = early in absurd cc
+
+-- no other stop has the status of a failed device, and none that of running out of memory
+disk_status : (why : RunStop) → IsStop why run.DiskFault → status_of (stop_of_run why) ≡ 8
+disk_status run.DiskFault e = refl
+disk_status run.NoStore e = absurd cc
+disk_status (run.Damaged damage) e = absurd cc
+disk_status (run.AbortInLog note) e = absurd cc
+disk_status (run.RowsOver name rows most) e = absurd cc
+disk_status run.InputFault e = absurd cc
+disk_status run.OutputFault e = absurd cc
+disk_status run.NoMemory e = absurd cc
+disk_status (run.LogFull need) e = absurd cc
+disk_status run.TooLong e = absurd cc
+disk_status (run.TooLarge bytes) e = absurd cc
+
+memory_status : (why : RunStop) → IsStop why run.NoMemory → status_of (stop_of_run why) ≡ 9
+memory_status run.DiskFault e = absurd cc
+memory_status run.NoStore e = absurd cc
+memory_status (run.Damaged damage) e = absurd cc
+memory_status (run.AbortInLog note) e = absurd cc
+memory_status (run.RowsOver name rows most) e = absurd cc
+memory_status run.InputFault e = absurd cc
+memory_status run.OutputFault e = absurd cc
+memory_status run.NoMemory e = refl
+memory_status (run.LogFull need) e = absurd cc
+memory_status run.TooLong e = absurd cc
+memory_status (run.TooLarge bytes) e = absurd cc
+
 none_given : (rules : Rules) (place : ℕ) (start : SessionState) (requests : List Request) (given : List Reply) (why : RunStop)
     → IsOneOf (status_of (stop_of_run why)) (3 ∷ 4 ∷ 5 ∷ []) → IsStopped rules place start requests given why → given ≡ []
-none_given rules place start requests given why early (inl none) = none.1
+none_given rules place start requests given why early (inl none) = none.2
 none_given rules place start requests given run.NoStore early (inr at) = absurd at
 none_given rules place start requests given (run.Damaged damage) early (inr at) = absurd at
 none_given rules place start requests given (run.AbortInLog note) early (inr at) = absurd at
@@ -188,8 +230,16 @@ module _ (group_size limit : ℕ) (source sink errors : Observed) (log a b : Opt
   end_is : (why other : RunStop) → why ≡ other → ◌≡◌ {A = Result (Unit {0}) RunStop} (Err why) (Err other)
   end_is why other e = cc
 
-  itself : (why : RunStop) → Ran (Err why) → Cause why → LineReported why → RunEnds group_size limit (status_of (stop_of_run why)) source sink errors devices
-  itself why ran h line = record {
+  -- no device failed, unless that is why it stopped, or memory ran out
+  abbrev Quiet : RunStop → Type 0
+  Quiet why = (IsStop why run.DiskFault → ⊥) → (IsStop why run.NoMemory → ⊥) → is ≡ was
+
+  -- what the store's refusal leaves
+  abbrev Left : RunStop → Type 0
+  Left why = RefusesStore why → LeavesStore source sink devices
+
+  itself : (why : RunStop) → Ran (Err why) → Cause why → LineReported why → Left why → Quiet why → RunEnds group_size limit (status_of (stop_of_run why)) source sink errors devices
+  itself why ran h line left quiet = record {
     statuses = run_status why;
     end = Err why;
     is = ran;
@@ -197,12 +247,12 @@ module _ (group_size limit : ℕ) (source sink errors : Observed) (log a b : Opt
         read_then (λ images. StandsFor text catalogue history least images → IsPrefixStop limit catalogue history least why) (λ images. StandsFor text catalogue history least images → RunsOnPrefix limit (status_of (stop_of_run why)) catalogue history least)
         (λ images f stands. prefix_of limit catalogue history least why (f stands)) log a b (run-prefix limit source sink after was is text catalogue history least log a b why h);
     done = λ zero. absurd (run_never_done why zero);
-    refused = λ three. refused why (run_refused_of why three) h line;
-    aborted = λ four. let t = run_aborted_of why four in (t.note, subst Cause t.is h, subst LineReported t.is line);
+    refused = λ three. (refuses_of why (subst (λ (m : ℕ). IsOneOf m (3 ∷ 4 ∷ 5 ∷ [])) (sym three) refl), refused why (run_refused_of why three) h line);
+    aborted = λ four. let t = run_aborted_of why four in (t.note, end_is why (run.AbortInLog t.note) t.is, subst Cause t.is h, subst LineReported t.is line);
     over_limit = λ five.
         let t = run_over_of why five in
         let cause = subst Cause t.is h in
-        (t.name, t.rows, cause.1, subst (λ (n : ℕ). IsReported errors (line_of (stop.RowsOver t.name t.rows n))) cause.0 (subst LineReported t.is line));
+        (t.name, t.rows, subst (λ (n : ℕ). IsStop why (run.RowsOver t.name t.rows n)) cause.0 (end_is why (run.RowsOver t.name t.rows t.most) t.is), cause.1, subst (λ (n : ℕ). IsReported errors (line_of (stop.RowsOver t.name t.rows n))) cause.0 (subst LineReported t.is line));
     unserved = λ early. no_text ran.rules.catalogue ran.given ran.out (none_given ran.rules ran.place ran.start ran.requests ran.given why early ran.stopped) ran.written;
     input_fault = λ six. (end_is why run.InputFault (run_input_of why six), subst Cause (run_input_of why six) h);
     output_fault = λ seven. (end_is why run.OutputFault (run_output_of why seven), subst Cause (run_output_of why seven) h);
@@ -210,6 +260,8 @@ module _ (group_size limit : ℕ) (source sink errors : Observed) (log a b : Opt
     log_full = λ ten. let t = run_full_of why ten in (t.need, end_is why (run.LogFull t.need) t.is, subst LineReported t.is line);
     too_long = λ eleven. end_is why run.TooLong (run_long_of why eleven);
     too_large = λ twelve. let t = run_large_of why twelve in (t.bytes, end_is why (run.TooLarge t.bytes) t.is, subst LineReported t.is line);
+    untouched = λ early. left (refuses_of why early);
+    quiet = λ eight nine. quiet (λ e. eight (disk_status why e)) (λ e. nine (memory_status why e));
   }
 
   -- running out of memory has no cause
@@ -232,15 +284,17 @@ module _ (group_size limit : ℕ) (source sink errors : Observed) (log a b : Opt
     log_full = λ e. absurd (omega (arith, nine, e));
     too_long = λ e. absurd (omega (arith, nine, e));
     too_large = λ e. absurd (omega (arith, nine, e));
+    untouched = λ early. let no : ◌≡◌ {A = Bool} false true = subst (λ (m : ℕ). IsOneOf m (3 ∷ 4 ∷ 5 ∷ [])) nine early in absurd cc;
+    quiet = λ eight other. absurd (other nine);
   }
 
-  pub run-ends : (why : RunStop) (reported : Stop) (n : ℕ) → n ≡ status_of reported → Reported (stop_of_run why) reported → Ran (Err why) → Cause why → IsReported errors (line_of reported) → RunEnds group_size limit n source sink errors devices
-  run-ends why reported n same (inl e) ran h line =
-      subst (λ (m : ℕ). RunEnds group_size limit m source sink errors devices) (sym (same ∙ ap status_of e)) (itself why ran h (subst (λ (s : Stop). IsReported errors (line_of s)) e line))
-  run-ends why reported n same (inr e) ran h line = run-memory (Err why) n (same ∙ ap status_of e.0) ran
+  pub run-ends : (why : RunStop) (reported : Stop) (n : ℕ) → n ≡ status_of reported → Reported (stop_of_run why) reported → Ran (Err why) → Cause why → IsReported errors (line_of reported) → Left why → Quiet why → RunEnds group_size limit n source sink errors devices
+  run-ends why reported n same (inl e) ran h line left quiet =
+      subst (λ (m : ℕ). RunEnds group_size limit m source sink errors devices) (sym (same ∙ ap status_of e)) (itself why ran h (subst (λ (s : Stop). IsReported errors (line_of s)) e line) left quiet)
+  run-ends why reported n same (inr e) ran h line left quiet = run-memory (Err why) n (same ∙ ap status_of e.0) ran
 
-  pub run-done : Ran (Ok tt) → RunEnds group_size limit 0 source sink errors devices
-  run-done ran = record {
+  pub run-done : Ran (Ok tt) → is ≡ was → RunEnds group_size limit 0 source sink errors devices
+  run-done ran quiet = record {
     statuses = refl;
     end = Ok tt;
     is = ran;
@@ -258,6 +312,8 @@ module _ (group_size limit : ℕ) (source sink errors : Observed) (log a b : Opt
     log_full = λ e. absurd (omega (arith, e));
     too_long = λ e. absurd (omega (arith, e));
     too_large = λ e. absurd (omega (arith, e));
+    untouched = λ early. let no : ◌≡◌ {A = Bool} false true = early in absurd cc;
+    quiet = λ eight nine. quiet;
   }
 
 -- ---- running out of memory for the arguments: no stream and no device is called

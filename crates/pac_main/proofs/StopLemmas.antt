@@ -1,5 +1,5 @@
 -- A stop has the cause of what came before it, and the command ends by the stop that is reported.
-use Rattle.std.proofs.Common.{◌≡◌, ◌⊎◌, ℕ, Bool, [], ◌∷◌, Ok, Err, inl, inr, refl, sym, subst, arith}
+use Rattle.std.proofs.Common.{◌≡◌, ◌⊎◌, ℕ, Bool, [], ◌∷◌, Ok, Err, inl, inr, refl, sym, subst, arith, true, false}
 use Rattle.std.specs.Prelude.{IsTrue}
 use Rattle.pac_value.specs.State.{Tables}
 use Rattle.pac_recover.specs.Limits.{IsFirstOver}
@@ -9,7 +9,7 @@ use Rattle.pac_serial.specs.declared.serial.AllError.{AllError}
 use Rattle.pac_serial.specs.declared.serial.AllError.TheVariants as serial
 use Rattle.pac_main.specs.Causes.{GivesNoScript, GivesNoExplanation, GivesNoText, ScriptStops, ReplayStops, ExplainStops, InitStops}
 use Rattle.pac_main.specs.Explained.{ExplainEnds}
-use Rattle.pac_main.specs.Init.{AreUntouched, InitEnds}
+use Rattle.pac_main.specs.Init.{AreUntouched, InitEnds, IsAcceptedInput}
 use Rattle.pac_main.specs.Replay.{DoesEnd, IsScriptOf, ReplayEnds, outcome}
 use Rattle.pac_main.specs.Stop.{line_of, status_of, stop_of_excess, stop_of_input, stop_of_serial, takes_memory}
 use Rattle.pac_main.specs.Streams.{IsOneOf, IsReported, Observed, ObservedDevices}
@@ -162,7 +162,7 @@ module _ (source : Observed) (devices : ObservedDevices) where
 
   init_untouched : (stop : Stop) → InitStops source devices stop → (status_of stop ≡ 8 → ⊥) → AreUntouched devices
   init_untouched (ScriptStop fault) h other = h.0
-  init_untouched (NotEmpty device length) h other = h.0
+  init_untouched (NotEmpty device length) h other = h.1
   init_untouched NoStore h other = absurd h
   init_untouched (Damaged damage) h other = absurd h
   init_untouched InputFault h other = h.0
@@ -176,6 +176,22 @@ module _ (source : Observed) (devices : ObservedDevices) where
   init_untouched (LogFull need) h other = absurd h
   init_untouched (TooLarge bytes) h other = absurd h
 
+  init_accepted : (stop : Stop) → InitStops source devices stop → IsOneOf (status_of stop) (0 ∷ 3 ∷ 8 ∷ []) → IsAcceptedInput source.before
+  init_accepted (ScriptStop fault) h early = let no : ◌≡◌ {A = Bool} false true = early in absurd cc
+  init_accepted (NotEmpty device length) h early = h.0
+  init_accepted NoStore h early = absurd h
+  init_accepted (Damaged damage) h early = absurd h
+  init_accepted InputFault h early = let no : ◌≡◌ {A = Bool} false true = early in absurd cc
+  init_accepted DiskFault h early = h.0
+  init_accepted NoMemory h early = let no : ◌≡◌ {A = Bool} false true = early in absurd cc
+  init_accepted Usage h early = absurd h
+  init_accepted (Aborted note) h early = absurd h
+  init_accepted (RowsOver name rows most) h early = absurd h
+  init_accepted OutputFault h early = absurd h
+  init_accepted TooLong h early = absurd h
+  init_accepted (LogFull need) h early = absurd h
+  init_accepted (TooLarge bytes) h early = absurd h
+
   full_device : (stop : Stop) → ADeviceRefusal stop → InitStops source devices stop → AFullDevice stop
   full_device stop (inl d) h = d
   full_device stop (inr (inl is)) h = absurd (subst (InitStops source devices) is h)
@@ -184,11 +200,12 @@ module _ (source : Observed) (devices : ObservedDevices) where
   init_reported : (errors : Observed) (stop : Stop) → InitStops source devices stop → IsReported errors (line_of stop) → InitEnds (status_of stop) source errors devices
   init_reported errors stop cause line = record {
     statuses = init_status stop cause;
+    accepted = init_accepted stop cause;
     done = λ zero. absurd (never_done stop zero);
     refused = λ two. let r = refused_of stop two in (r.fault, (subst (InitStops source devices) r.is cause).1, subst (λ (s : Stop). IsReported errors (line_of s)) r.is line);
-    not_empty = λ three. let d = full_device stop (device_of stop three) cause in (d.device, d.length, (subst (InitStops source devices) d.is cause).1, subst (λ (s : Stop). IsReported errors (line_of s)) d.is line);
+    not_empty = λ three. let d = full_device stop (device_of stop three) cause in (d.device, d.length, (subst (InitStops source devices) d.is cause).2, subst (λ (s : Stop). IsReported errors (line_of s)) d.is line);
     input_fault = λ six. (subst (InitStops source devices) (input_of stop six) cause).1;
-    disk_fault = λ eight. subst (InitStops source devices) (disk_of stop eight) cause;
+    disk_fault = λ eight. (subst (InitStops source devices) (disk_of stop eight) cause).1;
     untouched = λ zero eight. init_untouched stop cause eight;
     quiet = λ zero. absurd (never_done stop zero);
   }

@@ -17,7 +17,7 @@ use Rattle.pac_main.specs.declared.input.InputError.TheVariants as input
 use Rattle.pac_main.specs.declared.stop.Stop.{Stop}
 use Rattle.pac_main.specs.declared.stop.Stop.TheVariants as stop
 use Rattle.pac_main.specs.Streams.{Observed, ObservedDevices, AnyFaulted, IsTaken, IsPrefixTaken}
-use Rattle.pac_main.specs.Init.{AreUntouched, IsNoStoreFor}
+use Rattle.pac_main.specs.Init.{IsAcceptedInput, AreUntouched, IsNoStoreFor}
 use Rattle.pac_main.specs.Replay.{IsRefusedAs, IsLongScript, outcome, IsDumpOf, IsAbortOf, IsOverOf}
 use Rattle.pac_main.specs.Explained.{IsExplanationOf, IsUnexplainedAs}
 use Rattle.pac_main.specs.Recover.{IsDumpOfPrefix, IsRecovery}
@@ -84,9 +84,9 @@ GivesNoText source input.NoMemory = Unit {0}
 -- the whole command
 abbrev pub InitStops : Observed → ObservedDevices → Stop → Type 0
 InitStops source devices (stop.Script fault) = AreUntouched devices × IsNoStoreFor source.before fault
-InitStops source devices (stop.NotEmpty device length) = AreUntouched devices × IfAllKnown (IsInUse device length) devices.before devices.after
+InitStops source devices (stop.NotEmpty device length) = IsAcceptedInput source.before × AreUntouched devices × IfAllKnown (IsInUse device length) devices.before devices.after
 InitStops source devices stop.InputFault = AreUntouched devices × AnyFaulted source
-InitStops source devices stop.DiskFault = OneFaulted devices.faults_before devices.faults_after
+InitStops source devices stop.DiskFault = IsAcceptedInput source.before × OneFaulted devices.faults_before devices.faults_after
 InitStops source devices stop.NoMemory = AreUntouched devices
 InitStops source devices _ = ⊥
 

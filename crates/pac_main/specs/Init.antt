@@ -11,9 +11,13 @@ use Rattle.pac_main.specs.Explained.{IsUnexplained}
 use Rattle.pac_main.specs.Streams.{Observed, ObservedDevices, AnyFaulted, IsReported, IsOneOf}
 use Rattle.pac_main.specs.Stop.{line_of, not_empty_line}
 
--- the input is this text, of which a store can be made, where the source's bytes are known
+-- a store can be made of the text, and the input is this text where the source's bytes are known
 abbrev pub IsStoreText : List ℕ → Option (List ℕ) → Type 0
-IsStoreText text input = IfSome input (λ whole. (whole ≡ text) × ((catalogue : CatalogueState) × IsAccepted text catalogue))
+IsStoreText text input = ((catalogue : CatalogueState) × IsAccepted text catalogue) × IfSome input (λ whole. whole ≡ text)
+
+-- a store can be made of the input
+abbrev pub IsAcceptedInput : Option (List ℕ) → Type 0
+IsAcceptedInput input = (text : List ℕ) × IsStoreText text input
 
 -- no store can be made of the text, for this cause and for no other
 pub record IsNoStoreText (text : List ℕ) (fault : ScriptFault) : Type 0 where
@@ -37,6 +41,8 @@ pub record AreUntouched (devices : ObservedDevices) : Type 0 where
 -- how `init` ends: the statuses that it may have, and a line for each that has a cause
 pub record InitEnds (status : ℕ) (input errors : Observed) (devices : ObservedDevices) : Type 0 where
   pub statuses : IsOneOf status (0 ∷ 2 ∷ 3 ∷ 6 ∷ 8 ∷ 9 ∷ [])
+  -- a store can be made of the input, unless the status says otherwise
+  pub accepted : IsOneOf status (0 ∷ 3 ∷ 8 ∷ []) → IsAcceptedInput input.before
   pub done : status ≡ 0 → IsStoreOf input.before devices
   pub refused : status ≡ 2 → (fault : ScriptFault) × IsNoStoreFor input.before fault × IsReported errors (line_of (stop.Script fault))
   pub not_empty : status ≡ 3 → (device : DeviceName) × (length : ℕ) × IfAllKnown (IsInUse device length) devices.before devices.after × IsReported errors (not_empty_line device length)

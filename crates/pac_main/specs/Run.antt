@@ -1,13 +1,14 @@
 -- How `run` ends.
-use Rattle.std.specs.Prelude.{◌≡◌, ◌≢◌, ℕ, List, [], ◌∷◌, Result, Ok, IsErrOf}
+use Rattle.std.specs.Prelude.{◌≡◌, ◌≢◌, ℕ, List, [], ◌∷◌, Result, Ok, IfErr, IsErrOf}
 use Rattle.pac_ops.specs.declared.note.Note.{Note}
 use Rattle.pac_ops.specs.declared.transaction.Txn.{Txn}
-use Rattle.pac_outside.specs.Devices.{OneFaulted}
+use Rattle.pac_outside.specs.Devices.{AreSettled, IfAllKnown, OneFaulted}
 use Rattle.pac_types.specs.Typing.{CatalogueState}
 use Rattle.pac_store.specs.Stands.{StandsFor}
 use Rattle.pac_recover.specs.Recovering.{AbortsIn, IsPrefixOverLimit, IsOverIn}
 use Rattle.pac_recover.specs.Refusals.{IfImagesKnown}
 use Rattle.pac_run.specs.Run.{IsRun}
+use Rattle.pac_run.specs.Stopping.{RefusesStore}
 use Rattle.pac_run.specs.declared.stop.RunStop.{RunStop}
 use Rattle.pac_run.specs.declared.stop.RunStop.TheVariants as run
 use Rattle.pac_main.specs.Recover.{IsRefusedStore}
@@ -21,6 +22,12 @@ pub record RunsOnPrefix (limit status : ℕ) (catalogue : CatalogueState) (histo
   pub executes : status ≢ 4
   pub over_limit : status ≡ 5 → (name : List ℕ) × (rows : ℕ) × IsPrefixOverLimit catalogue history least name rows limit
 
+-- the devices hold what a read of them gave, and the input and the output are as they were
+pub record LeavesStore (input output : Observed) (devices : ObservedDevices) : Type 0 where
+  pub settled : IfAllKnown AreSettled devices.before devices.after
+  pub unread : input.after ≡ input.before
+  pub unwritten : output.after ≡ output.before
+
 -- How `run` ends, with that many replies in a group at most and under a limit of rows: the statuses that it may have, what was
 -- read, written and left on the devices, and a line for each status that has a cause.
 pub record RunEnds (group_size limit status : ℕ) (input output errors : Observed) (devices : ObservedDevices) : Type 0 where
@@ -30,11 +37,11 @@ pub record RunEnds (group_size limit status : ℕ) (input output errors : Observ
   pub is : IsRun group_size limit input.before input.after output.before output.after devices.before devices.after (AnyFaulted output) end
   pub stands : (text : List ℕ) (catalogue : CatalogueState) (history : List Txn) (least : ℕ)
       → IfImagesKnown (λ images. StandsFor text catalogue history least images → RunsOnPrefix limit status catalogue history least) devices.before
-  -- the cause of each status, and its line; with 3, 4 and 5 nothing was written
+  -- the cause of each status, and its line
   pub done : status ≡ 0 → end ≡ Ok tt
-  pub refused : status ≡ 3 → IsRefusedStore devices.before errors
-  pub aborted : status ≡ 4 → (note : Note) × IfImagesKnown (AbortsIn note) devices.before × IsReported errors (abort_line note)
-  pub over_limit : status ≡ 5 → (name : List ℕ) × (rows : ℕ) × IfImagesKnown (IsOverIn name rows limit) devices.before × IsReported errors (rows_line name rows limit)
+  pub refused : status ≡ 3 → IfErr end RefusesStore × IsRefusedStore devices.before errors
+  pub aborted : status ≡ 4 → (note : Note) × IsErrOf end (run.AbortInLog note) × IfImagesKnown (AbortsIn note) devices.before × IsReported errors (abort_line note)
+  pub over_limit : status ≡ 5 → (name : List ℕ) × (rows : ℕ) × IsErrOf end (run.RowsOver name rows limit) × IfImagesKnown (IsOverIn name rows limit) devices.before × IsReported errors (rows_line name rows limit)
   pub unserved : IsOneOf status (3 ∷ 4 ∷ 5 ∷ []) → is.out ≡ []
   pub input_fault : status ≡ 6 → IsErrOf end run.InputFault × AnyFaulted input
   pub output_fault : status ≡ 7 → IsErrOf end run.OutputFault × AnyFaulted output
@@ -42,3 +49,7 @@ pub record RunEnds (group_size limit status : ℕ) (input output errors : Observ
   pub log_full : status ≡ 10 → (need : ℕ) × IsErrOf end (run.LogFull need) × IsReported errors (full_line need)
   pub too_long : status ≡ 11 → IsErrOf end run.TooLong
   pub too_large : status ≡ 12 → (bytes : ℕ) × IsErrOf end (run.TooLarge bytes) × IsReported errors (too_large_line bytes)
+  -- a store that is refused is left as it was, no input is taken, and nothing is written
+  pub untouched : IsOneOf status (3 ∷ 4 ∷ 5 ∷ []) → LeavesStore input output devices
+  -- no count of a device rose but with 8, or with 9 where memory ran out for replies that were due as a device failed
+  pub quiet : status ≢ 8 → status ≢ 9 → devices.faults_after ≡ devices.faults_before

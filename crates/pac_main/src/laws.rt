@@ -1,34 +1,52 @@
 // Laws over whole runs. Each is a function without code.
 ghost use Rattle.std.specs.Prelude.{◌≡◌, ℕ, List, [], Some};
+ghost use Rattle.std.specs.List.{AllByRecursion};
 ghost use Rattle.pac_ops.specs.declared.transaction.Txn.{Txn as ATxn};
 ghost use Rattle.pac_outside.specs.Devices.{AreImages, all_known};
-ghost use Rattle.pac_outside.specs.Disk.{DiskHistory};
+ghost use Rattle.pac_outside.specs.Disk.{DiskHistory, SeenIsImage};
 ghost use Rattle.pac_types.specs.Typing.{CatalogueState};
-ghost use Rattle.pac_store.specs.Images.{OfThree};
-ghost use Rattle.pac_store.specs.Stands.{StandsFor};
-ghost use Rattle.pac_main.specs.Headline.{AreRuns, HoldImages, KeepsAll, OneRun};
+ghost use Rattle.pac_run.specs.Opening.{AllStand};
+ghost use Rattle.pac_main.specs.Headline.{AreAsLeft, AreFound, AreRuns, HoldImages, KeepsAll, OneRun, RecoversExactly};
 ghost use Rattle.pac_main.specs.Init.{InitEnds};
 ghost use Rattle.pac_main.specs.Recover.{RecoverEnds, RecoversPrefix};
 ghost use Rattle.pac_main.specs.Streams.{Observed, ObservedDevices};
 
-/// A store that `init` makes stands for no transactions: whatever a crash leaves of it, runs may begin there.
+/// **Recovery is exact.** A store was made by an `init` that answered 0; any runs went over it, one after another, each begun
+/// on what a crash or a kill left of the one before, at whatever moment it stopped; and then `recover` ends. It has written the
+/// dump of the tables that serial execution gives, in commit order, for a prefix of the committed transactions that holds every
+/// acknowledged one; or it names an outside fault that rose, a table over the row limit, or that it ran out of memory.
+pub fn recovery_is_exact()
+    ensures { (text : List ℕ) (input made_errors : Observed) (made : ObservedDevices) (empty first : List DiskHistory) → InitEnds 0 input made_errors made
+        → input.before ≡ Some text → all_known made.before ≡ Some empty → all_known made.after ≡ Some first
+        → (runs : List OneRun) (left : List DiskHistory) → AreRuns first runs left
+        → (limit status : ℕ) (devices : ObservedDevices) (output errors : Observed) (entry : List DiskHistory) → all_known devices.before ≡ Some entry → AreFound left entry → RecoverEnds limit status devices output errors
+        → RecoversExactly text runs left limit status devices output }
+{}
+
+/// A store that `init` makes stands for no transactions, whatever a crash leaves of it.
 pub fn a_new_store_stands_for_none()
-    ensures { (status : ℕ) (text : List ℕ) (input errors : Observed) (devices : ObservedDevices) (entry exit : List DiskHistory) (images : List (List ℕ)) → InitEnds status input errors devices → status ≡ 0
-        → input.before ≡ Some text → all_known devices.before ≡ Some entry → all_known devices.after ≡ Some exit → AreImages exit images → (catalogue : CatalogueState) × OfThree (StandsFor text catalogue [] 0) images }
+    ensures { (text : List ℕ) (input errors : Observed) (devices : ObservedDevices) (entry exit : List DiskHistory) → InitEnds 0 input errors devices
+        → input.before ≡ Some text → all_known devices.before ≡ Some entry → all_known devices.after ≡ Some exit → (catalogue : CatalogueState) × AllStand text catalogue [] 0 exit }
 {}
 
-/// Any number of runs, one after another, on a store that stands for a history, as a new one does for none: each begins on
-/// images that the one before may leave, at whatever moment it stops. What the last of them leaves stands for the
-/// transactions that are committed then, in the order of their numbers, with each that an output acknowledged.
+/// Any number of runs, one after another, on a store that stands for a history, as a new one does for none. What the last of
+/// them leaves stands for the transactions that are committed then, in the order of their numbers, with each that an output
+/// acknowledged.
 pub fn runs_keep_what_is_acknowledged()
-    ensures { (text : List ℕ) (catalogue : CatalogueState) (history : List ATxn) (least : ℕ) (images left : List (List ℕ)) (runs : List OneRun) → OfThree (StandsFor text catalogue history least) images → AreRuns images runs left → KeepsAll text catalogue history least runs left }
+    ensures { (text : List ℕ) (catalogue : CatalogueState) (history : List ATxn) (least : ℕ) (first left : List DiskHistory) (runs : List OneRun) → AllStand text catalogue history least first → AreRuns first runs left → KeepsAll text catalogue history least runs left }
 {}
 
-/// And `recover` on what is left writes the dump of the tables that serial execution gives for a prefix of these
-/// transactions, with all that were acknowledged; or it reports an outside fault that rose, a table over the limit, or want of
-/// memory.
+/// `recover` on devices that stand for a history, however they were left, gives a prefix of it with at least as many
+/// transactions as they stand for.
 pub fn recover_gives_what_is_acknowledged()
-    ensures { (text : List ℕ) (catalogue : CatalogueState) (history : List ATxn) (least : ℕ) (images left : List (List ℕ)) (runs : List OneRun) → (keeps : KeepsAll text catalogue history least runs left)
-        → (limit status : ℕ) (devices : ObservedDevices) (output errors : Observed) (entry : List DiskHistory) → all_known devices.before ≡ Some entry → HoldImages left entry → RecoverEnds limit status devices output errors
-        → RecoversPrefix limit status catalogue keeps.last keeps.kept devices output }
+    ensures { (text : List ℕ) (catalogue : CatalogueState) (history : List ATxn) (least : ℕ) (left : List DiskHistory) → AllStand text catalogue history least left
+        → (limit status : ℕ) (devices : ObservedDevices) (output errors : Observed) (entry : List DiskHistory) → all_known devices.before ≡ Some entry → AreFound left entry → RecoverEnds limit status devices output errors
+        → RecoversPrefix limit status catalogue history least devices output }
+{}
+
+/// A power cut leaves one image of each device, and nothing that isn't synced; a killed process leaves each device in its
+/// state. Both leave the devices as runs are begun on them.
+pub fn cuts_and_kills_are_found()
+    ensures cut { (left found : List DiskHistory) (images : List (List ℕ)) → AreImages left images → HoldImages images found → AreFound left found }
+    ensures kill { (left found : List DiskHistory) → AllByRecursion SeenIsImage left → AreAsLeft left found → AreFound left found }
 {}

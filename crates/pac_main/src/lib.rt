@@ -3,8 +3,9 @@
 //! - [`pacman`]: does what the arguments of the command line say, and returns the exit status.
 //! - [`init_command`], [`run_command`], [`explain_command`]: one command alone.
 //! - [`refuse_arguments`]: the exit status for arguments that couldn't be read.
-//! - [`a_new_store_stands_for_none`], [`runs_keep_what_is_acknowledged`] and [`recover_gives_what_is_acknowledged`]:
-//!   laws over a new store, any number of runs on it, and what is recovered after them.
+//! - [`recovery_is_exact`]: the law over a new store, any number of runs on it, each begun on what a crash or a kill left,
+//!   and what is recovered after them. [`a_new_store_stands_for_none`], [`runs_keep_what_is_acknowledged`],
+//!   [`recover_gives_what_is_acknowledged`] and [`cuts_and_kills_are_found`] are its parts.
 //!
 //! ```
 //! use pac_main::pacman;
@@ -36,7 +37,8 @@ pub use command::pacman;
 pub use explain::explain_command;
 pub use init::init_command;
 pub use laws::{
-    a_new_store_stands_for_none, recover_gives_what_is_acknowledged, runs_keep_what_is_acknowledged,
+    a_new_store_stands_for_none, cuts_and_kills_are_found, recover_gives_what_is_acknowledged,
+    recovery_is_exact, runs_keep_what_is_acknowledged,
 };
 pub use reporting::{ArgumentsError, refuse_arguments};
 pub use run::run_command;

@@ -21,14 +21,14 @@ use Rattle.pac_check.specs.declared.state.SlotState.{SlotState}
 use Rattle.pac_check.specs.declared.state.SlotState.TheVariants.{Empty, Closed, Open}
 use Rattle.pac_check.specs.SlotStates.{info_of, newest_of, saved_txns, with_more, IsSlot}
 use Rattle.pac_store.specs.Images.{Images, IfReadKnown}
-use Rattle.pac_store.specs.Stored.{AreNewest, IsStored}
+use Rattle.pac_store.specs.Stored.{IsPlaced, AreNewest, IsStored}
 use Rattle.pac_store.proofs.StandsLemmas.{newest-one}
 use Rattle.pac_recover.specs.declared.gates.GatePlace.{GatePlace}
 use Rattle.pac_recover.specs.declared.loading.Loaded.{Loaded}
 use Rattle.pac_recover.specs.declared.log.WholeLog.{WholeLog}
 use Rattle.pac_recover.specs.Damages.{IsAmongGates, IsAtGate, IsDamagedSlot, IsSlotDamage}
 use Rattle.pac_recover.specs.Gates.{gate_after, gates_from, last_gate, place_of, txns_in, txns_by_batch, RunOn}
-use Rattle.pac_recover.specs.Loading.{AreNewestOf, IsInfoAmong, IsLoadedFrom, IsPlaced, stored_of}
+use Rattle.pac_recover.specs.Loading.{AreNewestOf, IsInfoAmong, IsLoadedFrom, stored_of}
 use Rattle.pac_recover.specs.Logs.{FitBatches, HoldsBatches, HoldsLogUpTo, HoldsWhole, IsReadUpTo, IsWhole, ReadsTo}
 use Rattle.pac_recover.proofs.GateLemmas.{among-gate, gate-among, last-number, number-at, runs-after, txns-after, txns-split}
 
@@ -213,6 +213,8 @@ loaded-stored loaded images is = record {
   b = loaded.slots.b;
   is_a = is.is_a;
   is_b = is.is_b;
+  placed_a = is.place_a;
+  placed_b = is.place_b;
   newest = is.newest;
   after = is.after;
 }

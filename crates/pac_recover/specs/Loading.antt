@@ -10,15 +10,13 @@ use Rattle.pac_log.specs.Logs.{HoldsLog, all_txns}
 use Rattle.pac_log.specs.Places.{IsAfter}
 use Rattle.pac_check.specs.declared.info.SlotInfo.{SlotInfo}
 use Rattle.pac_check.specs.declared.slots.Slots.{Slots}
-use Rattle.pac_check.specs.declared.state.SlotState.{SlotState}
-use Rattle.pac_check.specs.declared.state.SlotState.TheVariants.{Empty, Closed, Open}
 use Rattle.pac_check.specs.Checkpoints.{head_with}
 use Rattle.pac_check.specs.SlotStates.{newest_of, saved_txns, IsSlot}
 use Rattle.pac_store.specs.Images.{Images}
-use Rattle.pac_store.specs.Stored.{AreNewest, Stored}
+use Rattle.pac_store.specs.Stored.{AreNewest, IsPlaced, Stored}
 use Rattle.pac_recover.specs.declared.gates.GatePlace.{GatePlace}
 use Rattle.pac_recover.specs.declared.loading.Loaded.{Loaded}
-use Rattle.pac_recover.specs.Damages.{IsAmongGates, IsAtGate}
+use Rattle.pac_recover.specs.Damages.{IsAmongGates}
 use Rattle.pac_recover.specs.Gates.{txns_in, RunOn}
 use Rattle.pac_recover.specs.Logs.{FitBatches}
 
@@ -30,12 +28,6 @@ IsInfoAmong gates (Some info) = IsAmongGates gates (head_with info.txns info.pla
 -- the tables of the newest of two slots
 abbrev pub AreNewestOf : CatalogueState → Slots → Tables → List ℕ → List ℕ → Type 0
 AreNewestOf catalogue slots base a b = AreNewest catalogue a b (newest_of slots) base (saved_txns (newest_of slots))
-
--- an open slot is at a gate of the log
-abbrev pub IsPlaced : List ℕ → List (List Txn) → SlotState → Type 0
-IsPlaced text batches Empty = Unit {0}
-IsPlaced text batches Closed = Unit {0}
-IsPlaced text batches (Open head) = IsAtGate text batches head
 
 -- What is loaded, on whatever devices: the plan is that of the catalogue, of its flat programs; the tables fit it, and so do the transactions of
 -- the batches, which run on after the number of the newest slot, to the reader's; the reader is at its end, and reads a

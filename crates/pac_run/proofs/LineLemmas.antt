@@ -90,7 +90,7 @@ nothing-served engine left held known faulted result stop none empty gives is =
     let reader : ReaderState = record { line = []; ahead = []; taken = 0; limit = MAX_INPUT } in
     let serving = first-serving engine left held known reader none empty refl in
     subst (λ (r : Result (Unit {0}) RunStop). Served engine engine left left held held known known faulted r) (sym (gives ∙ ap (λ (s : RunStop). Err s) is))
-    (still-served engine engine left left reader held held known known serving left faulted NoMemory [] (none-handled left) (λ other. record { bytes = []; gave = sym (prepend_known-nil left); few = omega arith }) (λ long. absurd cc) (inr (inr refl)))
+    (still-served engine engine left left reader held held known known serving left faulted NoMemory [] (none-handled left) (λ other. record { bytes = []; gave = sym (prepend_known-nil left); few = omega arith }) (λ long. absurd cc) (λ cut. absurd cc) (inr (inr refl)))
   where
     none-handled : (l : Option (List ℕ)) → WereHandled l [] [] l
     none-handled None = tt

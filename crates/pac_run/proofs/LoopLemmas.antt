@@ -32,13 +32,13 @@ module _ (first now : EngineParts) (left mid : Option (List ℕ)) (reader : Read
     pub read-stopped : (error : LineError) → IsCall reader next mid left' (Err error) → KeepsLimit next (Err error) → Served first now left left' held held' known known' faulted (Err (stop_of_read error))
     read-stopped line.Failed call keeps =
         still-served first now left mid reader held held' known known' serving left' faulted InputFault (reader.ahead ++ call.given) (still-handled left mid left' reader next serving.lines serving.read (Err line.Failed) call)
-        (λ other. not-long left mid left' reader next serving.lines serving.read (Err line.Failed) call keeps (no-long line.Failed (λ e. cc))) (λ is. absurd cc) (inl refl)
+        (λ other. not-long left mid left' reader next serving.lines serving.read (Err line.Failed) call keeps (no-long line.Failed (λ e. cc))) (λ is. absurd cc) (λ is. call.answer.1) (inl refl)
     read-stopped line.TooLong call keeps =
         still-served first now left mid reader held held' known known' serving left' faulted TooLong (reader.ahead ++ call.given) (still-handled left mid left' reader next serving.lines serving.read (Err line.TooLong) call)
-        (λ other. absurd (other refl)) (λ is. over-long left mid left' reader next serving.lines serving.read call keeps) (inr (inl refl))
+        (λ other. absurd (other refl)) (λ is. over-long left mid left' reader next serving.lines serving.read call keeps) (λ is. absurd cc) (inr (inl refl))
     read-stopped line.NoMemory call keeps =
         still-served first now left mid reader held held' known known' serving left' faulted NoMemory (reader.ahead ++ call.given) (still-handled left mid left' reader next serving.lines serving.read (Err line.NoMemory) call)
-        (λ other. not-long left mid left' reader next serving.lines serving.read (Err line.NoMemory) call keeps (no-long line.NoMemory (λ e. cc))) (λ is. absurd cc) (inr (inr refl))
+        (λ other. not-long left mid left' reader next serving.lines serving.read (Err line.NoMemory) call keeps (no-long line.NoMemory (λ e. cc))) (λ is. absurd cc) (λ is. absurd cc) (inr (inr refl))
 
     module _ (held'' : Option (List ℕ)) (known'' : List (Option DiskHistory)) (new : EngineParts) where
       -- the end was met, and the stop after it was answered or not
@@ -74,4 +74,4 @@ module _ (first now : EngineParts) (left mid : Option (List ℕ)) (reader : Read
             (subst (λ (t : List (Option DiskHistory)). Served first now left left' held held' known t faulted (Err stop)) (sym same.devices)
             (subst (λ (s : RunStop). Served first now left left' held held' known known' faulted (Err s)) (sym same.stopped)
             (still-served first now left mid reader held held' known known' serving left' faulted NoMemory (reader.ahead ++ call.given) (still-handled left mid left' reader next serving.lines serving.read (Ok true) call)
-            (λ other. not-long left mid left' reader next serving.lines serving.read (Ok true) call keeps (ok-no-long true)) (λ is. absurd cc) (inr (inr refl))))))
+            (λ other. not-long left mid left' reader next serving.lines serving.read (Ok true) call keeps (ok-no-long true)) (λ is. absurd cc) (λ is. absurd cc) (inr (inr refl))))))

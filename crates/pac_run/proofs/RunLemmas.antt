@@ -1,6 +1,6 @@
 -- The whole run.
 use Rattle.std.proofs.Common.{◌≡◌, ◌∙◌, ◌⊎◌, inl, inr, ℕ, List, [], ◌∷◌, ◌++◌, length, take, Option, Some, None, Result, Ok, Err, OnOk, refl, sym, ap, subst, arith, append_assoc, drop}
-use Rattle.std.specs.Prelude.{IfErr, MatchResult}
+use Rattle.std.specs.Prelude.{IfErr, IfSome, MatchResult, map}
 use Rattle.std.specs.FinMap.{empty}
 use Rattle.std.proofs.KnownBytes.{prepend_known-nil}
 use Rattle.std.proofs.lemmas.Grind.{flat_map-append}
@@ -11,6 +11,7 @@ use Rattle.pac_outside.specs.Devices.{AreImages, RunsAsBefore, OnceKnown, IfAllK
 use Rattle.pac_outside.specs.Disk.{DiskHistory}
 use Rattle.pac_outside.proofs.Runs.{run_end, run_then, weaken_run}
 use Rattle.pac_types.specs.CatalogueText.{HasCatalogue}
+use Rattle.pac_types.specs.Execution.{first_over}
 use Rattle.pac_types.specs.Typing.{CatalogueState}
 use Rattle.pac_store.specs.Images.{Images, OfThree, IfReadKnown}
 use Rattle.pac_store.specs.Stands.{StandsFor}
@@ -32,7 +33,7 @@ use Rattle.pac_run.specs.Causes.{stop_of_opening}
 use Rattle.pac_run.specs.Opening.{AllStand, BeginsOver, IsFresh, IsOpenedFrom, StandsForPrefix}
 use Rattle.pac_run.specs.Run.{AtExit, AtMoments, IsBegun, IsExit, IsRun, IsWholeRun, IfSeenKnown, history_after}
 use Rattle.pac_run.specs.Serving.{IsDone, Served}
-use Rattle.pac_run.specs.Stopping.{AreFirst, IsStopped, IsStoppedAt}
+use Rattle.pac_run.specs.Stopping.{AreFirst, IsStopped, IsStoppedAt, IsUnopened, MayNotOpen, RefusesStore}
 use Rattle.pac_run.specs.Texts.{IsTextPrefix, texts}
 use Rattle.pac_run.proofs.AckedLemmas.{acknowledged, known-saved}
 use Rattle.pac_run.proofs.NameLemmas.{names-of}
@@ -62,14 +63,23 @@ opening-long (error.RowsOver table rows limit) is = cc
 opening-long error.DiskFault is = cc
 opening-long error.NoMemory is = cc
 
+-- a store that isn't opened stops the run so
+early-stop : (error : RecoverError) → MayNotOpen (stop_of_opening error)
+early-stop error.NoStore = tt
+early-stop (error.Damaged damage) = tt
+early-stop (error.AbortInLog note) = tt
+early-stop (error.RowsOver table rows limit) = tt
+early-stop error.DiskFault = tt
+early-stop error.NoMemory = tt
+
 same-stop : (a b : RunStop) → ◌≡◌ {A = Result (Unit {0}) RunStop} (Err a) (Err b) → a ≡ b
 same-stop a b e = cc
 
-none-begun : (P : Images → Type 0) (l a b : Option DiskHistory) → IfSeenKnown (λ images. (◌≡◌ {A = List Request} [] []) ⊎ P images) (l ∷ a ∷ b ∷ [])
-none-begun P None a b = tt
-none-begun P (Some l) None b = tt
-none-begun P (Some l) (Some a) None = tt
-none-begun P (Some l) (Some a) (Some b) = inl refl
+none-begun : (P : Images → Type 0) (stop : RunStop) → MayNotOpen stop → (l a b : Option DiskHistory) → IfSeenKnown (λ images. IsUnopened (Err stop) [] ⊎ P images) (l ∷ a ∷ b ∷ [])
+none-begun P stop early None a b = tt
+none-begun P stop early (Some l) None b = tt
+none-begun P stop early (Some l) (Some a) None = tt
+none-begun P stop early (Some l) (Some a) (Some b) = inl (early, refl)
 
 none-handled : (left : Option (List ℕ)) → WereHandled left [] [] left
 none-handled None = tt
@@ -85,12 +95,14 @@ pub not-opened : (batch limit : ℕ) (left held : Option (List ℕ)) (l a b : Op
 not-opened batch limit left held l a b known' faulted error stop is runs =
     let rules : Rules = record { catalogue = record { tables = []; procs = [] }; limit = limit; most = batch } in
     let start : SessionState = record { tables = empty; number = 0 } in
+    let early : MayNotOpen stop = subst MayNotOpen (sym is) (early-stop error) in
     record {
       lines = [];
       ahead = [];
       handled = none-handled left;
       few = λ other. record { bytes = []; gave = sym (prepend_known-nil left); few = omega arith };
       long = λ long. absurd (opening-long error (sym is ∙ same-stop stop TooLong long));
+      cut = λ cut. refl;
       rules = rules;
       requests = [];
       asked = inl refl;
@@ -101,16 +113,16 @@ not-opened batch limit left held l a b known' faulted error stop is runs =
       most = refl;
       start = start;
       place = 0;
-      begun = none-begun (IsBegun rules 0 start) l a b;
+      begun = none-begun (IsBegun rules 0 start) stop early l a b;
       prefix = record { count = 0; is = refl };
       whole = tt;
-      exit = λ text catalogue history least. as-before (AllStand text catalogue history least) (AtExit text catalogue history rules start [] []) (λ u v run stands images are. inl (refl, run_end (AreImages u) u v run images are)) _ _ runs;
+      exit = λ text catalogue history least. as-before (AllStand text catalogue history least) (AtExit text catalogue history rules 0 start [] []) (λ u v run stands. inl (refl, λ images are. run_end (AreImages u) u v run images are)) _ _ runs;
       moments = λ text catalogue history least. as-before (AllStand text catalogue history least) (AtMoments text catalogue history least rules start [])
           (λ u v run stands. weaken_run (AreImages u) (λ images. AreImages u images ⊎ OfThree (StandsFor text catalogue (history_after history rules start []) least) images) (λ images are. inl are) u v run) _ _ runs;
       given = [];
       written = record { count = 0; is = refl };
       all = inl refl;
-      stopped = inl (refl, refl);
+      stopped = inl (early, refl, refl);
     }
 
 -- ---- one that is
@@ -124,7 +136,7 @@ stops-part (Ok x) P R S is step = tt
 stops-part (Err stop) P R S is step = step stop is
 
 module _ (batch limit : ℕ) (engine new : EngineParts) (left left' held held' : Option (List ℕ)) (l a b : Option DiskHistory) (middle known' : List (Option DiskHistory)) (faulted : Type 0) (result : Result (Unit {0}) RunStop) (fresh : IsFresh batch limit engine)
-    (opened : IfReadKnown (IsOpenedFrom engine) l a b) (begins : IfAllKnown (BeginsOver engine) (l ∷ a ∷ b ∷ []) middle) (runs : IfAllKnown RunsAsBefore (l ∷ a ∷ b ∷ []) middle)
+    (within : first_over limit (length engine.session.catalogue.tables) engine.session.tables ≡ None) (opened : IfReadKnown (IsOpenedFrom engine) l a b) (begins : IfAllKnown (BeginsOver engine) (l ∷ a ∷ b ∷ []) middle) (runs : IfAllKnown RunsAsBefore (l ∷ a ∷ b ∷ []) middle)
     (served : Served engine new left left' held held' middle known' faulted result) where
   abbrev rules : Rules
   rules = rules_of engine.session
@@ -142,9 +154,16 @@ module _ (batch limit : ℕ) (engine new : EngineParts) (left left' held held' :
     batches = is.batches;
     log = is.log;
     there = is.after.place;
+    within = subst (λ (n : ℕ). first_over n (length engine.session.catalogue.tables) engine.session.tables ≡ None) (sym fresh.within) within;
   }
 
-  begun-known : (l a b : Option DiskHistory) → IfReadKnown (IsOpenedFrom engine) l a b → IfSeenKnown (λ images. (served.requests ≡ []) ⊎ IsBegun (rules_of engine.session) engine.log.gate.place (state_now engine.session) images) (l ∷ a ∷ b ∷ [])
+  begun-seen : (l a b : Option DiskHistory) → IfReadKnown (IsOpenedFrom engine) l a b → IfSeenKnown (IsBegun (rules_of engine.session) engine.log.gate.place (state_now engine.session)) (l ∷ a ∷ b ∷ [])
+  begun-seen None a b is = tt
+  begun-seen (Some l) None b is = tt
+  begun-seen (Some l) (Some a) None is = tt
+  begun-seen (Some l) (Some a) (Some b) is = begun-here (record { log = l.now.seen; slot_a = a.now.seen; slot_b = b.now.seen }) is
+
+  begun-known : (l a b : Option DiskHistory) → IfReadKnown (IsOpenedFrom engine) l a b → IfSeenKnown (λ images. IsUnopened result served.requests ⊎ IsBegun (rules_of engine.session) engine.log.gate.place (state_now engine.session) images) (l ∷ a ∷ b ∷ [])
   begun-known None a b is = tt
   begun-known (Some l) None b is = tt
   begun-known (Some l) (Some a) None is = tt
@@ -162,19 +181,19 @@ module _ (batch limit : ℕ) (engine new : EngineParts) (left left' held held' :
 
     module _ (entry mid now : List DiskHistory) (begin : StandsForPrefix text catalogue history least engine mid) (names : HasCatalogue text engine.session.catalogue)
         (keeps : KeepsHistory text (take (durable_of engine) history ++ committed (rules_of engine.session) (state_now engine.session) served.requests) engine new mid now) where
-      exit-one : (images : Images) → StandsWith text engine.session.catalogue (take (durable_of engine) history ++ committed (rules_of engine.session) (state_now engine.session) served.requests) (durable_of new) (saved_of new) images
-          → IsExit text catalogue (history_after history (rules_of engine.session) (state_now engine.session) served.requests) (state_now engine.session).number served.out images
-      exit-one images is = record {
+      stands-then : (images : Images) → StandsWith text engine.session.catalogue (take (durable_of engine) history ++ committed (rules_of engine.session) (state_now engine.session) served.requests) (durable_of new) (saved_of new) images
+          → StandsWith text catalogue (history_after history (rules_of engine.session) (state_now engine.session) served.requests) (durable_of new) (saved_of new) images
+      stands-then images is = subst (λ (h : List Txn). StandsWith text catalogue h (durable_of new) (saved_of new) images) same-history (subst (λ (c : CatalogueState). StandsWith text c kept-as (durable_of new) (saved_of new) images) begin.same is)
+
+      pub exits : IsExit text catalogue (history_after history (rules_of engine.session) (state_now engine.session) served.requests) (state_now engine.session).number served.out now
+      exits = record {
         least = durable_of new;
         saved = saved_of new;
         more = omega (arith, number-is, served.grows.durable);
         acknowledged = acknowledged engine.session.catalogue (names-of text engine.session.catalogue names) new served.given served.out served.plain served.kept served.prefix;
         kept = known-saved engine.session.catalogue (names-of text engine.session.catalogue names) new served.given served.out served.plain served.kept served.prefix;
-        stands = subst (λ (h : List Txn). StandsWith text catalogue h (durable_of new) (saved_of new) images) same-history (subst (λ (c : CatalogueState). StandsWith text c kept-as (durable_of new) (saved_of new) images) begin.same is);
+        stands = λ images are. weaken-three (StandsWith text engine.session.catalogue kept-as (durable_of new) (saved_of new)) (StandsWith text catalogue after (durable_of new) (saved_of new)) stands-then images (keeps.end images are);
       }
-
-      pub exits : AtExit text catalogue history (rules_of engine.session) (state_now engine.session) served.requests served.out entry now
-      exits images are = inr (weaken-three (StandsWith text engine.session.catalogue kept-as (durable_of new) (saved_of new)) (IsExit text catalogue after start.number served.out) exit-one images (keeps.end images are))
 
       stands-one : (images : Images) → StandsWith text engine.session.catalogue (take (durable_of engine) history ++ committed (rules_of engine.session) (state_now engine.session) served.requests) (durable_of engine) (saved_of engine) images
           → StandsFor text catalogue (history_after history (rules_of engine.session) (state_now engine.session) served.requests) least images
@@ -199,12 +218,12 @@ module _ (batch limit : ℕ) (engine new : EngineParts) (left left' held held' :
     text-of h (l ∷ a ∷ b ∷ []) is = is.log.has.log.accepted.has
     text-of h (l ∷ a ∷ b ∷ d ∷ devices) is = absurd is
 
-    exit-known : (t m n : Option (List DiskHistory)) → OnceKnown (BeginsOver engine) t m → WhileKnown (StandsOn text (take (durable_of engine) history) engine) (KeepsHistory text (take (durable_of engine) history ++ committed (rules_of engine.session) (state_now engine.session) served.requests) engine new) m n
-        → WhileKnown (AllStand text catalogue history least) (AtExit text catalogue history (rules_of engine.session) (state_now engine.session) served.requests served.out) t n
-    exit-known None m n begin keep = tt
-    exit-known (Some t) None n begin keep = absurd begin
-    exit-known (Some t) (Some m) None begin keep = λ all. keep (begin text catalogue history least all).stands
-    exit-known (Some t) (Some m) (Some n) begin keep = λ all. let prefix = begin text catalogue history least all in exits t m n prefix (text-of (take (durable_of engine) history) m prefix.stands) (keep prefix.stands)
+    exit-known : (t m n : Option (List DiskHistory)) → IfSome t (λ devices. OfThree (IsBegun (rules_of engine.session) engine.log.gate.place (state_now engine.session)) (map (λ device. device.now.seen) devices)) → OnceKnown (BeginsOver engine) t m → WhileKnown (StandsOn text (take (durable_of engine) history) engine) (KeepsHistory text (take (durable_of engine) history ++ committed (rules_of engine.session) (state_now engine.session) served.requests) engine new) m n
+        → WhileKnown (AllStand text catalogue history least) (AtExit text catalogue history (rules_of engine.session) engine.log.gate.place (state_now engine.session) served.requests served.out) t n
+    exit-known None m n seen begin keep = tt
+    exit-known (Some t) None n seen begin keep = absurd begin
+    exit-known (Some t) (Some m) None seen begin keep = λ all. keep (begin text catalogue history least all).stands
+    exit-known (Some t) (Some m) (Some n) seen begin keep = λ all. let prefix = begin text catalogue history least all in inr (seen, exits t m n prefix (text-of (take (durable_of engine) history) m prefix.stands) (keep prefix.stands))
 
     moments-known : (t m n : Option (List DiskHistory)) → OnceKnown (BeginsOver engine) t m → OnceKnown RunsAsBefore t m → WhileKnown (StandsOn text (take (durable_of engine) history) engine) (KeepsHistory text (take (durable_of engine) history ++ committed (rules_of engine.session) (state_now engine.session) served.requests) engine new) m n
         → WhileKnown (AllStand text catalogue history least) (AtMoments text catalogue history least (rules_of engine.session) (state_now engine.session) served.requests) t n
@@ -220,6 +239,7 @@ module _ (batch limit : ℕ) (engine new : EngineParts) (left left' held held' :
     handled = served.handled;
     few = served.few;
     long = served.long;
+    cut = served.cut;
     rules = rules;
     requests = served.requests;
     asked = served.asked;
@@ -234,7 +254,7 @@ module _ (batch limit : ℕ) (engine new : EngineParts) (left left' held held' :
     prefix = prefix-of-all engine.session.catalogue served.given (replies rules start served.requests) served.out served.prefix served.firsts;
     whole = three-parts result (IsDone rules engine.log.gate.place start served.requests served.given served.out) (IsWholeRun rules engine.log.gate.place start served.requests served.out) (λ stop. IsStoppedAt rules engine.log.gate.place start served.requests served.given stop) served.ending
         (λ done. record { before = done.before; stops = done.stops; written = done.written ∙ ap (texts engine.session.catalogue) done.replied; fit = done.fit; saves = done.saves });
-    exit = λ text catalogue history least. exit-known text catalogue history least (all_known (l ∷ a ∷ b ∷ [])) (all_known middle) (all_known known') begins (served.keeps text (take (durable_of engine) history));
+    exit = λ text catalogue history least. exit-known text catalogue history least (all_known (l ∷ a ∷ b ∷ [])) (all_known middle) (all_known known') (begun-seen l a b opened) begins (served.keeps text (take (durable_of engine) history));
     moments = λ text catalogue history least. moments-known text catalogue history least (all_known (l ∷ a ∷ b ∷ [])) (all_known middle) (all_known known') begins runs (served.keeps text (take (durable_of engine) history));
     given = served.given;
     written = served.prefix;

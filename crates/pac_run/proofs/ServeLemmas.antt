@@ -8,6 +8,7 @@ use Rattle.std.proofs.Math.Seq.{take-append-add, take-append_seam}
 use Rattle.pac_outside.specs.Content.{Took}
 use Rattle.pac_outside.proofs.ContentLemmas.{Took-append}
 use Rattle.pac_outside.specs.Disk.{DiskHistory}
+use Rattle.pac_lines.specs.Lines.{HasNoFeed}
 use Rattle.pac_lines.specs.Calls.{IsCall, KeepsLimit}
 use Rattle.pac_lines.specs.Reading.{ReaderState}
 use Rattle.pac_types.specs.Typing.{CatalogueState}
@@ -55,6 +56,9 @@ whole-more catalogue given more out faulted (inl is) = inl (ap (λ (l : List ℕ
 whole-more catalogue given more out faulted (inr r) = inr r
 
 -- a step isn't stopped by the length of the input
+never-fails : (rules : Rules) (place : ℕ) (start : SessionState) (closed : List (List Request)) (more : List Reply) (stop : RunStop) → StepStops rules place start closed more stop → stop ≡ InputFault → ⊥
+never-fails rules place start closed more stop stops is = subst (λ (s : RunStop). StepStops rules place start closed more s) is stops
+
 never-long : (rules : Rules) (place : ℕ) (start : SessionState) (closed : List (List Request)) (more : List Reply) (stop : RunStop) → StepStops rules place start closed more stop → stop ≡ TooLong → ⊥
 never-long rules place start closed more stop stops is = subst (λ (s : RunStop). StepStops rules place start closed more s) is stops
 
@@ -75,9 +79,12 @@ module _ (first now : EngineParts) (left mid : Option (List ℕ)) (reader : Read
 
   -- no more was served
   module _ (left' : Option (List ℕ)) (faulted : Type 0) (stop : RunStop) (ahead : List ℕ) (handled : WereHandled left serving.lines ahead left')
-      (few : (stop ≡ TooLong → ⊥) → TookAtMost MAX_INPUT left left') (long : stop ≡ TooLong → IsOverLong ahead left left') where
+      (few : (stop ≡ TooLong → ⊥) → TookAtMost MAX_INPUT left left') (long : stop ≡ TooLong → IsOverLong ahead left left') (none : stop ≡ InputFault → HasNoFeed ahead) where
     same-stop : ◌≡◌ {A = Result (Unit {0}) RunStop} (Err stop) (Err TooLong) → stop ≡ TooLong
     same-stop e = cc
+
+    same-fault : ◌≡◌ {A = Result (Unit {0}) RunStop} (Err stop) (Err InputFault) → stop ≡ InputFault
+    same-fault e = cc
 
     pub still-served : (stop ≡ InputFault) ⊎ ((stop ≡ TooLong) ⊎ (stop ≡ NoMemory)) → Served first now left left' held held' known known' faulted (Err stop)
     still-served why =
@@ -88,6 +95,7 @@ module _ (first now : EngineParts) (left mid : Option (List ℕ)) (reader : Read
           handled = handled;
           few = λ other. few (λ is. other (ap (λ (s : RunStop). Err s) is));
           long = λ is. long (same-stop is);
+          cut = λ is. none (same-fault is);
           requests = serving.requests;
           asked = inl serving.asked;
           last = never-stops serving.requests serving.unstopped;
@@ -120,6 +128,9 @@ module _ (first now : EngineParts) (left mid : Option (List ℕ)) (reader : Read
     same-too : ◌≡◌ {A = Result (Unit {0}) RunStop} (Err stop) (Err TooLong) → stop ≡ TooLong
     same-too e = cc
 
+    same-input : ◌≡◌ {A = Result (Unit {0}) RunStop} (Err stop) (Err InputFault) → stop ≡ InputFault
+    same-input e = cc
+
     pub broke-served : Served first new left left' held held'' known known'' faulted (Err stop)
     broke-served = record {
       lines = lines;
@@ -127,6 +138,7 @@ module _ (first now : EngineParts) (left mid : Option (List ℕ)) (reader : Read
       handled = handled;
       few = λ other. few;
       long = λ is. absurd (never-long (rules_of now.session) now.log.gate.place middle (cut_one (rules_of now.session) middle whole.rest asks).closed broke.more stop (broke.stops middle whole.rest serving.goes.closes.within) (same-too is));
+      cut = λ is. absurd (never-fails (rules_of now.session) now.log.gate.place middle (cut_one (rules_of now.session) middle whole.rest asks).closed broke.more stop (broke.stops middle whole.rest serving.goes.closes.within) (same-input is));
       requests = serving.requests ++ asks ∷ [];
       asked = asked;
       last = stops-last serving.requests asks serving.unstopped;
@@ -164,6 +176,7 @@ module _ (first now : EngineParts) (left mid : Option (List ℕ)) (reader : Read
         handled = handled;
         few = λ other. few;
         long = λ is. absurd (no-err is);
+        cut = λ is. absurd (no-input is);
         requests = requests;
         asked = asked;
         last = stops-last serving.requests request.Stop serving.unstopped;
@@ -182,6 +195,9 @@ module _ (first now : EngineParts) (left mid : Option (List ℕ)) (reader : Read
     where
       no-err : ◌≡◌ {A = Result (Unit {0}) RunStop} (Ok tt) (Err TooLong) → ⊥
       no-err e = cc
+
+      no-input : ◌≡◌ {A = Result (Unit {0}) RunStop} (Ok tt) (Err InputFault) → ⊥
+      no-input e = cc
 
       stop-closes : (rules : Rules) (start : SessionState) (before : List Request) → (cut rules start (before ++ request.Stop ∷ [])).rest ≡ []
       stop-closes rules start before = ap (λ (c : GroupCut). c.rest) (fold-append (cut_on rules start) (record { closed = []; rest = [] }) before (request.Stop ∷ []))

@@ -1,11 +1,13 @@
 -- What a run reads, writes and leaves.
-use Rattle.std.specs.Prelude.{◌≡◌, ◌⊎◌, ◌≤◌, ℕ, List, [], ◌∷◌, ◌++◌, length, map, take, Option, IfSome, Result, IfErr, IsErrOf, OnOk}
+use Rattle.std.specs.Prelude.{◌≡◌, ◌⊎◌, ◌≤◌, ℕ, List, [], ◌∷◌, ◌++◌, length, map, take, Option, None, IfSome, Result, IfErr, IsErrOf, OnOk}
 use Rattle.std.specs.Io.KnownBytes.{prepend_known}
 use Rattle.std.specs.List.{AllByRecursion}
 use Rattle.pac_ops.specs.declared.transaction.Txn.{Txn}
 use Rattle.pac_outside.specs.Content.{Took}
 use Rattle.pac_outside.specs.Devices.{AllLeave, AreImages, RunLeaves, all_known}
 use Rattle.pac_outside.specs.Disk.{DiskHistory}
+use Rattle.pac_lines.specs.Lines.{HasNoFeed}
+use Rattle.pac_types.specs.Execution.{first_over}
 use Rattle.pac_types.specs.Typing.{CatalogueState}
 use Rattle.pac_log.specs.Logs.{HoldsLog, log_prefix}
 use Rattle.pac_store.specs.Images.{Images, OfThree}
@@ -19,23 +21,24 @@ use Rattle.pac_engine.specs.Closing.{GroupFits}
 use Rattle.pac_engine.specs.Standing.{StandsWith, WhileAllKnown}
 use Rattle.pac_run.specs.declared.limits.TheConstants.{MAX_INPUT}
 use Rattle.pac_run.specs.declared.stop.RunStop.{RunStop}
-use Rattle.pac_run.specs.declared.stop.RunStop.TheVariants.{TooLong}
+use Rattle.pac_run.specs.declared.stop.RunStop.TheVariants.{InputFault, TooLong}
 use Rattle.pac_run.specs.Acked.{Acknowledges, ReportsSaved}
 use Rattle.pac_run.specs.Asked.{WereAsked, IsOverLong, StopsLast, TookAtMost, WereHandled}
 use Rattle.pac_run.specs.Opening.{AllStand}
-use Rattle.pac_run.specs.Stopping.{IsStopped, SaveFits, closed_groups}
+use Rattle.pac_run.specs.Stopping.{IsStopped, IsUnopened, SaveFits, closed_groups}
 use Rattle.pac_run.specs.Texts.{IsTextPrefix, texts}
 
 -- ---- where the session begins
 
--- The session begins with what is stored in these images: with the tables after it and as many transactions, and with the
--- log's gate after the batches that are stored.
+-- The session begins with what is stored in these images: with the tables after it, which are within the limit, and as many
+-- transactions, and with the log's gate after the batches that are stored.
 pub record IsBegun (rules : Rules) (place : ℕ) (start : SessionState) (images : Images) : Type 0 where
   pub recovered : IsRecoveredFrom rules.catalogue start.tables start.number images
   pub text : List ℕ
   pub batches : List (List Txn)
   pub log : HoldsLog text rules.catalogue batches images.log
   pub there : place ≡ length (log_prefix text batches)
+  pub within : first_over rules.limit (length rules.catalogue.tables) start.tables ≡ None
 
 -- where all devices' histories are known, what a read gives of them has P
 abbrev pub IfSeenKnown : (Images → Type 0) → List (Option DiskHistory) → Type 0
@@ -47,20 +50,22 @@ IfSeenKnown P known = IfSome (all_known known) (λ devices. OfThree P (map (λ d
 abbrev pub history_after : List Txn → Rules → SessionState → List Request → List Txn
 history_after history rules start requests = take start.number history ++ committed rules start requests
 
--- An image at the exit stands for the history. Its log has what the log had at entry, and each transaction that the
--- output acknowledges; some slot has a checkpoint of as many as the output says that one has.
-pub record IsExit (text : List ℕ) (catalogue : CatalogueState) (history : List Txn) (entered : ℕ) (out : List ℕ) (images : Images) : Type 0 where
+-- Each image that a crash may leave at the exit stands for the history. The log has what it had at entry, and each
+-- transaction that the output acknowledges; some slot has a checkpoint of as many as the output says that one has.
+pub record IsExit (text : List ℕ) (catalogue : CatalogueState) (history : List Txn) (entered : ℕ) (out : List ℕ) (now : List DiskHistory) : Type 0 where
   pub least : ℕ
   pub saved : ℕ
   pub more : entered ≤ least
   pub acknowledged : (number : ℕ) → Acknowledges out number → number ≤ least
   pub kept : (number : ℕ) → ReportsSaved out number → number ≤ saved
-  pub stands : StandsWith text catalogue history least saved images
+  pub stands : AllLeave (λ images. OfThree (StandsWith text catalogue history least saved) images) now
 
--- an image at the exit is one of entry, and nothing was written, or it stands for the history with what the session commits
-abbrev pub AtExit : List ℕ → CatalogueState → List Txn → Rules → SessionState → List Request → List ℕ → List DiskHistory → List DiskHistory → Type 0
-AtExit text catalogue history rules start requests out entry now =
-    AllLeave (λ images. ((out ≡ []) × AreImages entry images) ⊎ OfThree (IsExit text catalogue (history_after history rules start requests) start.number out) images) now
+-- Each image at the exit is one of entry, and nothing was written; or the session began with what is stored at entry, and
+-- the devices stand for the history with what it commits.
+abbrev pub AtExit : List ℕ → CatalogueState → List Txn → Rules → ℕ → SessionState → List Request → List ℕ → List DiskHistory → List DiskHistory → Type 0
+AtExit text catalogue history rules place start requests out entry now =
+    ((out ≡ []) × AllLeave (AreImages entry) now)
+    ⊎ (OfThree (IsBegun rules place start) (map (λ device. device.now.seen) entry) × IsExit text catalogue (history_after history rules start requests) start.number out now)
 
 -- and so it is of each image that a crash at a moment of the run might have left
 abbrev pub AtMoments : List ℕ → CatalogueState → List Txn → ℕ → Rules → SessionState → List Request → List DiskHistory → List DiskHistory → Type 0
@@ -89,6 +94,7 @@ pub record IsRun (batch limit : ℕ) (left left' held held' : Option (List ℕ))
   pub handled : WereHandled left lines ahead left'
   pub few : ¬ IsErrOf result TooLong → TookAtMost MAX_INPUT left left'
   pub long : IsErrOf result TooLong → IsOverLong ahead left left'
+  pub cut : IsErrOf result InputFault → HasNoFeed ahead  -- no whole line was taken and not handled
   pub rules : Rules
   pub requests : List Request
   pub asked : WereAsked rules.catalogue lines (prepend_known ahead left') requests
@@ -100,12 +106,12 @@ pub record IsRun (batch limit : ℕ) (left left' held held' : Option (List ℕ))
   pub most : rules.most ≡ batch
   pub start : SessionState
   pub place : ℕ
-  pub begun : IfSeenKnown (λ images. (requests ≡ []) ⊎ IsBegun rules place start images) known
+  pub begun : IfSeenKnown (λ images. IsUnopened result requests ⊎ IsBegun rules place start images) known
   -- (a) the output is a prefix of the texts of its replies, and all of them with Ok
   pub prefix : IsTextPrefix out (texts rules.catalogue (replies rules start requests))
   pub whole : OnOk result (IsWholeRun rules place start requests out)
   -- (b) and (e) what the devices hold at the exit, (c) and at each moment
-  pub exit : WhileAllStand (λ text catalogue history least. AtExit text catalogue history rules start requests out) known known'
+  pub exit : WhileAllStand (λ text catalogue history least. AtExit text catalogue history rules place start requests out) known known'
   pub moments : WhileAllStand (λ text catalogue history least. AtMoments text catalogue history least rules start requests) known known'
   -- (d) where it stopped: the output is the texts of these replies, unless the output's count of faults rose
   pub given : List Reply

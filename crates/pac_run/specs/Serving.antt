@@ -6,7 +6,7 @@ use Rattle.pac_ops.specs.declared.transaction.Txn.{Txn}
 use Rattle.pac_outside.specs.Content.{Gave, Took}
 use Rattle.pac_outside.specs.Disk.{DiskHistory}
 use Rattle.pac_lines.specs.Calls.{known}
-use Rattle.pac_lines.specs.Lines.{HandsOut}
+use Rattle.pac_lines.specs.Lines.{HandsOut, HasNoFeed}
 use Rattle.pac_lines.specs.Reading.{ReaderState}
 use Rattle.pac_types.specs.Typing.{CatalogueState}
 use Rattle.pac_request.specs.declared.request.Request.{Request}
@@ -155,6 +155,7 @@ pub record Served (first now : EngineParts) (left left' held held' : Option (Lis
   pub handled : WereHandled left lines ahead left'
   pub few : ¬ IsErrOf result TooLong → TookAtMost MAX_INPUT left left'
   pub long : IsErrOf result TooLong → IsOverLong ahead left left'
+  pub cut : IsErrOf result InputFault → HasNoFeed ahead
   pub requests : List Request
   pub asked : WereAsked first.session.catalogue lines (prepend_known ahead left') requests
   pub last : StopsLast requests

@@ -1,5 +1,5 @@
 -- Where a run stops.
-use Rattle.std.specs.Prelude.{◌≡◌, ◌⊎◌, ◌≤◌, ℕ, List, [], ◌∷◌, ◌++◌}
+use Rattle.std.specs.Prelude.{◌≡◌, ◌⊎◌, ◌≤◌, ℕ, List, [], ◌∷◌, ◌++◌, Result, Ok, Err}
 use Rattle.pac_check.specs.declared.limits.TheConstants.{MAX_SLOT_LEN}
 use Rattle.pac_request.specs.declared.request.Request.{Request}
 use Rattle.pac_request.specs.declared.request.Request.TheVariants as request
@@ -37,9 +37,42 @@ IsStoppedAt rules place start requests given DiskFault = StopsAt rules place sta
 -- those of any first groups, or up to one that a save ends, but for its own
 IsStoppedAt rules place start requests given NoMemory = StopsAt rules place start (cut rules start requests).closed given cause.NoMemory
 
--- before a request was handled, or where it stopped then
+-- the store is refused: there is none, or it is damaged, aborts or is over the limit
+abbrev pub RefusesStore : RunStop → Type 0
+RefusesStore NoStore = Unit {0}
+RefusesStore (Damaged damage) = Unit {0}
+RefusesStore (AbortInLog note) = Unit {0}
+RefusesStore (RowsOver table rows limit) = Unit {0}
+RefusesStore InputFault = ⊥
+RefusesStore OutputFault = ⊥
+RefusesStore DiskFault = ⊥
+RefusesStore NoMemory = ⊥
+RefusesStore (LogFull need) = ⊥
+RefusesStore TooLong = ⊥
+RefusesStore (TooLarge bytes) = ⊥
+
+-- a run may stop so before its store is open: the store is refused, a device failed, or it was out of memory
+abbrev pub MayNotOpen : RunStop → Type 0
+MayNotOpen NoStore = Unit {0}
+MayNotOpen (Damaged damage) = Unit {0}
+MayNotOpen (AbortInLog note) = Unit {0}
+MayNotOpen (RowsOver table rows limit) = Unit {0}
+MayNotOpen InputFault = ⊥
+MayNotOpen OutputFault = ⊥
+MayNotOpen DiskFault = Unit {0}
+MayNotOpen NoMemory = Unit {0}
+MayNotOpen (LogFull need) = ⊥
+MayNotOpen TooLong = ⊥
+MayNotOpen (TooLarge bytes) = ⊥
+
+-- a run ended so before its store was open: no request was handled
+abbrev pub IsUnopened : Result (Unit {0}) RunStop → List Request → Type 0
+IsUnopened (Ok done) requests = ⊥
+IsUnopened (Err stop) requests = MayNotOpen stop × (requests ≡ [])
+
+-- before its store was open, or where it stopped then
 abbrev pub IsStopped : Rules → ℕ → SessionState → List Request → List Reply → RunStop → Type 0
-IsStopped rules place start requests given stop = ((requests ≡ []) × (given ≡ [])) ⊎ IsStoppedAt rules place start requests given stop
+IsStopped rules place start requests given stop = (MayNotOpen stop × (requests ≡ []) × (given ≡ [])) ⊎ IsStoppedAt rules place start requests given stop
 
 -- a save after these requests has room in a slot
 abbrev pub SaveFits : Rules → ℕ → SessionState → List Request → Type 0

@@ -1,9 +1,9 @@
 // A run over a store.
-ghost use Rattle.std.specs.Prelude.{◌≡◌, ◌≤◌, ℕ, List, IsErrOf};
+ghost use Rattle.std.specs.Prelude.{◌≡◌, ◌≤◌, ℕ, List, IfErr, IsErrOf};
 ghost use Rattle.pac_ops.specs.declared.limits.TheConstants.{MAX_TXNS};
 ghost use Rattle.pac_ops.specs.declared.note.Note.{Note as ANote};
 ghost use Rattle.pac_outside.specs.Causes.{Faulted};
-ghost use Rattle.pac_outside.specs.Devices.{OneFaulted, each};
+ghost use Rattle.pac_outside.specs.Devices.{AreSettled, IfAllKnown, OneFaulted, each};
 ghost use Rattle.pac_log.specs.declared.damage.DamageKind.{DamageKind as ALogDamage};
 ghost use Rattle.pac_check.specs.declared.damage.SlotDamageKind.{SlotDamageKind as ASlotDamage};
 ghost use Rattle.pac_check.specs.declared.info.SlotName.{SlotName as ASlotName};
@@ -12,6 +12,7 @@ ghost use Rattle.pac_recover.specs.declared.errors.Damage.TheVariants.{Log as In
 ghost use Rattle.pac_recover.specs.Recovering.{AbortsIn, IsOverIn};
 ghost use Rattle.pac_recover.specs.Refusals.{HasDamage, HasNoStore, IfImagesKnown};
 ghost use Rattle.pac_run.specs.Run.{IsRun};
+ghost use Rattle.pac_run.specs.Stopping.{RefusesStore};
 
 use crate::opening::open;
 use crate::serving::serve;
@@ -49,6 +50,13 @@ pub fn run<I: Source, O: Sink, D: Disk>(
     ensures input_fault { IsErrOf result RunStop.InputFault → Faulted (I.faults input.old) (I.faults input.new) }
     ensures output_fault { IsErrOf result RunStop.OutputFault → Faulted (O.faults output.old) (O.faults output.new) }
     ensures disk_fault { IsErrOf result RunStop.DiskFault → OneFaulted (each D.faults devices.old) (each D.faults devices.new) }
+    // Where memory ran out for the replies that were due, a device may have failed just before.
+    ensures quiet { ¬ IsErrOf result RunStop.DiskFault → ¬ IsErrOf result RunStop.NoMemory → each D.faults devices.new ≡ each D.faults devices.old }
+
+    // A store that is refused is left as it was, no input is taken, and nothing is written.
+    ensures settled { IfErr result (λ stop. RefusesStore stop → IfAllKnown AreSettled (each D.known devices.old) (each D.known devices.new)) }
+    ensures unread { IfErr result (λ stop. RefusesStore stop → input.new ≡ input.old) }
+    ensures silent { IfErr result (λ stop. RefusesStore stop → output.new ≡ output.old) }
 {
     match open(alloc, batch, limit, devices) {
         Ok(mut engine) => serve(alloc, &mut engine, input, output, devices),

@@ -1,5 +1,5 @@
 // How a store is opened.
-ghost use Rattle.std.specs.Prelude.{◌≡◌, ◌≤◌, ℕ, List, IfOk, IsErrOf, OnOk, option_map};
+ghost use Rattle.std.specs.Prelude.{◌≡◌, ◌≤◌, ℕ, List, None, length, IfOk, IsErrOf, OnOk, option_map};
 ghost use Rattle.pac_ops.specs.declared.limits.TheConstants.{MAX_TXNS};
 ghost use Rattle.pac_ops.specs.declared.note.Note.{Note as ANote};
 ghost use Rattle.pac_outside.specs.Devices.{AreSettled, EndsAtOneFault, OneFaulted, RunsAsBefore, IfAllKnown, each};
@@ -14,6 +14,7 @@ ghost use Rattle.pac_recover.specs.declared.errors.Damage.TheVariants.{Log as In
 ghost use Rattle.pac_recover.specs.Logs.{HoldsLogUpTo};
 ghost use Rattle.pac_recover.specs.Recovering.{AbortsIn, IsOverIn};
 ghost use Rattle.pac_recover.specs.Refusals.{HasDamage, HasNoStore, IfImagesKnown};
+ghost use Rattle.pac_types.specs.Execution.{first_over};
 ghost use Rattle.pac_engine.specs.Standing.{HasDevices};
 ghost use Rattle.pac_run.specs.Opening.{BeginsOver, IsFresh, IsOpenedFrom};
 
@@ -48,6 +49,7 @@ fn engine_over<D: Disk>(
     requires limit { limit ≤ MAX_SAVED_ROWS }
     ensures opened { IfOk result (λ engine. IfReadKnown (IsOpenedFrom engine) (D.known devices.old.log) (D.known devices.old.slot_a) (D.known devices.old.slot_b)) }
     ensures fresh { IfOk result (IsFresh batch limit) }
+    ensures within { IfOk result (λ engine. first_over limit (length engine.session.catalogue.tables) engine.session.tables ≡ None) }
     ensures log { IfOk result (λ engine. IfKnown (λ old. HoldsLogUpTo engine.log.gate old.now.seen) (D.known devices.old.log)) }
     ensures slot_a { IfOk result (λ engine. IfKnown (λ old. IsSlot engine.session.catalogue.tables engine.slots.a old.now.seen) (D.known devices.old.slot_a)) }
     ensures slot_b { IfOk result (λ engine. IfKnown (λ old. IsSlot engine.session.catalogue.tables engine.slots.b old.now.seen) (D.known devices.old.slot_b)) }
@@ -98,6 +100,7 @@ pub fn open<D: Disk>(
     // What is opened, and when each refusal comes.
     ensures opened { IfOk result (λ engine. IfReadKnown (IsOpenedFrom engine) (D.known devices.old.log) (D.known devices.old.slot_a) (D.known devices.old.slot_b)) }
     ensures fresh { IfOk result (IsFresh batch limit) }
+    ensures within { IfOk result (λ engine. first_over limit (length engine.session.catalogue.tables) engine.session.tables ≡ None) }
     ensures no_store { IsErrOf result RecoverError.NoStore → HasNoStore (each D.known devices.old) }
     ensures log_damage { (at : ℕ) (kind : ALogDamage) → IsErrOf result (RecoverError.Damaged (InLog at kind)) → HasDamage (InLog at kind) (each D.known devices.old) }
     ensures slot_damage { (slot : ASlotName) (at : ℕ) (kind : ASlotDamage) → IsErrOf result (RecoverError.Damaged (InSlot slot at kind)) → HasDamage (InSlot slot at kind) (each D.known devices.old) }

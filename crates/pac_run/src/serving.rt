@@ -81,7 +81,7 @@ fn answer<O: Sink, D: Disk>(
     ensures later { O.faults output.old ≤ O.faults output.new }
     ensures output_fault { IsErrOf result RunStop.OutputFault → Faulted (O.faults output.old) (O.faults output.new) }
     ensures disk_fault { IsErrOf result RunStop.DiskFault → OneFaulted (each D.faults devices.old) (each D.faults devices.new) }
-    ensures quiet { OnOk result (each D.faults devices.new ≡ each D.faults devices.old) }
+    ensures quiet { ¬ IsErrOf result RunStop.DiskFault → ¬ IsErrOf result RunStop.NoMemory → each D.faults devices.new ≡ each D.faults devices.old }
 {
     match engine.step(asked, devices) {
         Ok(replies) => {
@@ -115,7 +115,7 @@ fn serve_line<O: Sink, D: Disk>(
     ensures later { O.faults output.old ≤ O.faults output.new }
     ensures output_fault { IsErrOf result RunStop.OutputFault → Faulted (O.faults output.old) (O.faults output.new) }
     ensures disk_fault { IsErrOf result RunStop.DiskFault → OneFaulted (each D.faults devices.old) (each D.faults devices.new) }
-    ensures quiet { OnOk result (each D.faults devices.new ≡ each D.faults devices.old) }
+    ensures quiet { ¬ IsErrOf result RunStop.DiskFault → ¬ IsErrOf result RunStop.NoMemory → each D.faults devices.new ≡ each D.faults devices.old }
 {
     let Some(asked) = request_of(alloc, catalogue, line)? else {
         return Ok(false);
@@ -143,6 +143,7 @@ fn serve_lines<I: Source, O: Sink, D: Disk>(
     ensures input_fault { IsErrOf result RunStop.InputFault → Faulted (I.faults input.old) (I.faults input.new) }
     ensures output_fault { IsErrOf result RunStop.OutputFault → Faulted (O.faults output.old) (O.faults output.new) }
     ensures disk_fault { IsErrOf result RunStop.DiskFault → OneFaulted (each D.faults devices.old) (each D.faults devices.new) }
+    ensures quiet { ¬ IsErrOf result RunStop.DiskFault → ¬ IsErrOf result RunStop.NoMemory → each D.faults devices.new ≡ each D.faults devices.old }
 {
     let mut reader = LineReader::new(alloc, MAX_INPUT);
     loop {
@@ -184,6 +185,7 @@ pub fn serve<I: Source, O: Sink, D: Disk>(
     ensures input_fault { IsErrOf result RunStop.InputFault → Faulted (I.faults input.old) (I.faults input.new) }
     ensures output_fault { IsErrOf result RunStop.OutputFault → Faulted (O.faults output.old) (O.faults output.new) }
     ensures disk_fault { IsErrOf result RunStop.DiskFault → OneFaulted (each D.faults devices.old) (each D.faults devices.new) }
+    ensures quiet { ¬ IsErrOf result RunStop.DiskFault → ¬ IsErrOf result RunStop.NoMemory → each D.faults devices.new ≡ each D.faults devices.old }
 {
     let catalogue = engine.catalogue().copy(alloc)?;
     serve_lines(alloc, &catalogue, engine, input, output, devices)

@@ -32,7 +32,7 @@ use Rattle.pac_check.specs.SlotStates.{by_slot, info_of, slot_read, with_more, H
 use Rattle.pac_check.proofs.OnceLemmas.{one-checkpoint, one-state}
 use Rattle.pac_check.proofs.SlotLemmas.{read_held}
 use Rattle.pac_store.specs.Images.{Images}
-use Rattle.pac_store.specs.Stored.{Stored, IsStored, AreNewest, newest_among}
+use Rattle.pac_store.specs.Stored.{Stored, IsPlaced, IsStored, AreNewest, newest_among}
 use Rattle.pac_store.specs.Stands.{EndsWith, IsHistory, HasSaved, HoldsSaved, IsShutOrPrefix, StandsFor}
 use Rattle.pac_store.specs.Prefixes.{GoesOn}
 
@@ -263,6 +263,12 @@ module _ (text : List ℕ) (catalogue : CatalogueState) (batches : List (List Tx
       go (inl h) = out (tables-a info h)
       go (inr h) = out (tables-b info h)
 
+-- a slot that is read so is at a gate
+placed : (text : List ℕ) (catalogue : CatalogueState) (batches : List (List Txn)) (image : List ℕ) (read : IsReadable text catalogue batches image) (state : SlotState) → read.state ≡ state → IsPlaced text batches state
+placed text catalogue batches image read Empty is = tt
+placed text catalogue batches image read Closed is = tt
+placed text catalogue batches image read (Open head) is = (read.prefix head is).3
+
 pub is-stored : (text : List ℕ) (catalogue : CatalogueState) (history : List Txn) (least : ℕ) (images : Images) → StandsFor text catalogue history least images → (stored : Stored) × IsStored images stored
 is-stored text catalogue history least images is =
     let few_tables = few-tables text catalogue is.log.log.accepted.has in
@@ -278,6 +284,8 @@ is-stored text catalogue history least images is =
         b = rb.state;
         is_a = ra.is;
         is_b = rb.is;
+        placed_a = placed text catalogue is.batches images.slot_a ra ra.state refl;
+        placed_b = placed text catalogue is.batches images.slot_b rb rb.state refl;
         newest = found.2;
         after = refl;
       },

@@ -5,10 +5,11 @@ use Rattle.pac_value.specs.State.{Tables}
 use Rattle.pac_ops.specs.declared.transaction.Txn.{Txn}
 use Rattle.pac_types.specs.Fits.{FitTables}
 use Rattle.pac_types.specs.Typing.{CatalogueState}
-use Rattle.pac_log.specs.Logs.{HoldsLog, all_txns}
+use Rattle.pac_log.specs.Logs.{HoldsLog, HasGate, all_txns}
 use Rattle.pac_check.specs.declared.info.SlotInfo.{SlotInfo}
 use Rattle.pac_check.specs.declared.info.SlotName.TheVariants.{A, B}
 use Rattle.pac_check.specs.declared.state.SlotState.{SlotState}
+use Rattle.pac_check.specs.declared.state.SlotState.TheVariants.{Empty, Closed, Open}
 use Rattle.pac_check.specs.Checkpoints.{head_with}
 use Rattle.pac_check.specs.SlotStates.{by_slot, info_of, with_more, IsSlot, HoldsRows}
 use Rattle.pac_store.specs.Images.{Images}
@@ -29,8 +30,14 @@ abbrev pub AreNewest : CatalogueState → List ℕ → List ℕ → Option SlotI
 AreNewest catalogue a b None base number = (base ≡ empty) × (number ≡ 0)
 AreNewest catalogue a b (Some info) base number = FitTables catalogue.tables base × HoldsRows catalogue.tables (head_with info.txns info.place) base (by_slot info.slot a b) × (number ≡ info.txns)
 
+-- an open slot is at a gate of the log, with exactly as many transactions before it
+abbrev pub IsPlaced : List ℕ → List (List Txn) → SlotState → Type 0
+IsPlaced text batches Empty = Unit {0}
+IsPlaced text batches Closed = Unit {0}
+IsPlaced text batches (Open head) = HasGate text batches head.place head.txns
+
 -- What is stored: the catalogue of the log, the tables and the number of the newest open slot, and the log's transactions
--- after that many, up to the first gate that is shut.
+-- after that many, up to the first gate that is shut. Each open slot is at a gate.
 pub record IsStored (images : Images) (stored : Stored) : Type 0 where
   pub text : List ℕ
   pub batches : List (List Txn)
@@ -39,5 +46,7 @@ pub record IsStored (images : Images) (stored : Stored) : Type 0 where
   pub b : SlotState
   pub is_a : IsSlot stored.catalogue.tables a images.slot_a
   pub is_b : IsSlot stored.catalogue.tables b images.slot_b
+  pub placed_a : IsPlaced text batches a
+  pub placed_b : IsPlaced text batches b
   pub newest : AreNewest stored.catalogue images.slot_a images.slot_b (newest_among a b) stored.base stored.number
   pub after : stored.rest ≡ drop stored.number (all_txns batches)

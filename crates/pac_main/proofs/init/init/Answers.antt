@@ -35,4 +35,4 @@ returns-in_err-make_store-clause-stops g c =
     let devices = observed_devices g.D.Disk.known g.D.Disk.faults c.args.devices.now c.make_store.new.devices in
     let made = c.in_err-make_store.ensures in
     if_err (InitStops source devices) c.from_residual-in_err-make_store.result p.0 p.1 (subst (InitStops source devices) (sym p.2)
-    (not-made source devices c.in_err-make_store.field-0.0 made.in_use made.kept made.counted made.quiet))
+    (not-made source devices c.in_err-make_store.field-0.0 (c.in_ok-text.text.items, c.in_ok-text.ensures.ok) made.in_use made.kept made.counted made.quiet))

@@ -7,6 +7,7 @@ use Rattle.pac_main.proofs.init.init_input.Goals as goal
 pub returns-in-Ok-clause-ends : goal.returns-in-Ok-clause-ends
 returns-in-Ok-clause-ends g c = record {
   statuses = refl;
+  accepted = λ early. (c.in-Ok.ensures.done.0, c.in-Ok.ensures.done.1);
   done = λ zero. c.in-Ok.ensures.done;
   refused = λ two. absurd (omega (arith, two));
   not_empty = λ three. absurd (omega (arith, three));

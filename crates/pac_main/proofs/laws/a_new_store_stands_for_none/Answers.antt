@@ -3,4 +3,4 @@ use Rattle.pac_main.proofs.HeadlineLemmas.{new-store}
 use Rattle.pac_main.proofs.laws.a_new_store_stands_for_none.Goals as goal
 
 pub returns : goal.returns
-returns k = λ status text input errors devices entry exit images ends done read reported after are. new-store status text input errors devices entry exit images ends done read reported after are
+returns k = new-store

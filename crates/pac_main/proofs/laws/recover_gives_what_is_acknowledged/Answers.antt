@@ -3,5 +3,4 @@ use Rattle.pac_main.proofs.HeadlineLemmas.{recovers-all}
 use Rattle.pac_main.proofs.laws.recover_gives_what_is_acknowledged.Goals as goal
 
 pub returns : goal.returns
-returns k = λ text catalogue history least images left runs keeps limit status devices output errors entry reported hold ends.
-    recovers-all text catalogue history least images left runs keeps limit status devices output errors entry reported hold ends
+returns k = recovers-all

@@ -1,5 +1,5 @@
 -- The command ends by the stop that is reported.
-use Rattle.std.proofs.Common.{ℕ, Err, Ok, subst, ◌∙◌}
+use Rattle.std.proofs.Common.{ℕ, Err, Ok, ap, subst, ◌∙◌}
 use Rattle.pac_outside.specs.Causes.{Faulted}
 use Rattle.pac_outside.specs.Devices.{each}
 use Rattle.pac_store.specs.Images.{IfReadKnown}
@@ -21,6 +21,7 @@ returns-in-Ok-clause-ends g c =
     let errors = observed g.E.Sink.held g.E.Sink.faults c.args.errors.now c.args.errors.now in
     run-done c.args.group_size c.args.limit source sink errors (g.D.Disk.known old.log) (g.D.Disk.known old.slot_a) (g.D.Disk.known old.slot_b) (each g.D.Disk.known new) (each g.D.Disk.faults old) (each g.D.Disk.faults new)
     (subst (λ (n : ℕ). IsRun c.args.group_size n source.before source.after sink.before sink.after (each g.D.Disk.known old) (each g.D.Disk.known new) (Faulted sink.faults_before sink.faults_after) (Ok tt)) c.from.ensures c.in-Ok.ensures.run)
+    (c.in-Ok.ensures.quiet (λ e. absurd cc) (λ e. absurd cc))
 
 pub returns-in-Err-clause-ends : goal.returns-in-Err-clause-ends
 returns-in-Err-clause-ends g c =
@@ -46,6 +47,8 @@ returns-in-Err-clause-ends g c =
       disk_fault = h.disk_fault;
     }))
     c.report.ensures.line
+    (λ refuses. record { settled = h.settled refuses; unread = ap g.I.Source.left (h.unread refuses); unwritten = ap g.O.Sink.held (h.silent refuses) })
+    h.quiet
 
 pub returns-in-Ok-clause-taken : goal.returns-in-Ok-clause-taken
 returns-in-Ok-clause-taken g c = run-taken _ _ _ _ _ _ _ _ _ _ c.in-Ok.ensures.run

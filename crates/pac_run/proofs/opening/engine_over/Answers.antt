@@ -1,8 +1,9 @@
 -- An engine over what is stored.
-use Rattle.std.proofs.Common.{◌∙◌, refl, ap}
+use Rattle.std.proofs.Common.{◌≡◌, ◌∙◌, None, length, refl, sym, ap, subst}
 use Rattle.std.proofs.lemmas.Result.{err_from_is_err_and}
 use Rattle.pac_log.specs.declared.log.LogParts.{LogParts}
 use Rattle.pac_check.specs.declared.slots.Slots.{Slots}
+use Rattle.pac_types.specs.Execution.{first_over}
 use Rattle.pac_session.specs.Open.{Open}
 use Rattle.pac_recover.proofs.CauseLemmas.{as-error}
 use Rattle.pac_recover.proofs.ReportLemmas.{stored-aborts, stored-over}
@@ -51,3 +52,6 @@ returns-clause-slot_a g c = state-known c.in_ok-catalogue.field-0.catalogue c.ne
 
 pub returns-clause-slot_b : goal.returns-clause-slot_b
 returns-clause-slot_b g c = state-known c.in_ok-catalogue.field-0.catalogue c.new.result.session.catalogue c.in_ok-catalogue.field-0.slots.b c.new.result.slots.b _ (ap (λ (o : Open). o.catalogue) c.new.ensures.session) (ap (λ (s : Slots). s.b) c.new.ensures.slots) c.in_ok-catalogue.ensures.slot_b
+
+pub returns-clause-within : goal.returns-clause-within
+returns-clause-within g c = subst (λ (o : Open). first_over c.args.limit (length o.catalogue.tables) o.tables ≡ None) (sym c.new.ensures.session) c.in_ok-test_rows.ensures.within
