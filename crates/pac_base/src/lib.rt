@@ -28,8 +28,6 @@ mod lists;
 mod no_memory;
 mod refusal;
 mod ruled;
-#[cfg(test)]
-mod tests;
 
 pub use exact::{Exact, Same};
 pub use lists::{Listed, are_same, copy_of, listed};

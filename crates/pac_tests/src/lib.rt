@@ -1,30 +1,26 @@
-//! Tests of the crates that know a catalogue, by their public calls: worked examples with what they have to give, each
-//! call that allocates run once, and what crates give one another. It has no calls of its own.
+//! Tests that no case can be: files of the system, streams that give or take little at a time, where batches are cut, the
+//! calls that no command makes, and the largest sizes. It has no calls of its own.
 //!
-//! They stand here and not beside what they test, so that those crates are proved once.
+//! Each function owns at most one thing that has memory, and lends it to the one that looks at it: so its proof is short.
 #![tactic(auto)]
 
 #[cfg(test)]
-mod bank;
+mod batches;
 #[cfg(test)]
-mod canonical;
+mod commands;
 #[cfg(test)]
-mod catalogues;
+mod copies;
 #[cfg(test)]
-mod entries;
+mod files;
 #[cfg(test)]
-mod flat;
-#[cfg(test)]
-mod notes;
+mod lines;
 #[cfg(test)]
 mod plans;
 #[cfg(test)]
-mod serial;
+mod rows;
 #[cfg(test)]
-mod slices;
+mod sizes;
 #[cfg(test)]
-mod syntax;
+mod streams;
 #[cfg(test)]
 mod tokens;
-#[cfg(test)]
-mod typing_faults;

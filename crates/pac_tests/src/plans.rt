@@ -1,123 +1,122 @@
-// Plans of catalogues: the bank, whose blocks are known, procedures that form a cycle only together, and the most
-// operations on one table.
-use crate::bank::{BANK, catalogue};
-use pac_base::{Exact, NoMemory, Same};
+// What depends on what in a procedure of the bank, and copies of a plan.
+use pac_base::{Exact, Same};
 use pac_flat::flatten;
 use pac_global::global;
+use pac_ops::{MAX_OPS, Program};
 use pac_plan::Plan;
-use pac_value::Ty;
+use pac_slice::dependencies;
+use pac_types::{Catalogue, read_catalogue};
 use std::alloc::Global;
-use std::test::Fail;
 
-const TOGETHER: &[u8] = b"table A(key int, v int); table B(key text, v int);
-    proc P(k int, t text) { read x = A[k].v default 0; put B[t] = (x); }
-    proc Q(k int, t text) { read x = B[t].v default 0; put A[k] = (x); }";
+const BANK: &[u8] = b"table Family(key int, spouse int);
+table Current(key int, value int);
+table Saving(key int, value int);
+table Stats(key int, count int);
+proc Transfer(src int, amount int) {
+  read dst = Family[src].spouse default 0;
+  if dst != 0 {
+    read a = Current[src].value default 0;
+    put Current[src] = (a - amount);
+    read b = Current[dst].value default 0;
+    put Current[dst] = (b + amount);
+    read s = Saving[src].value default 0;
+    put Saving[src] = (s + 1);
+  }
+}
+proc Deposit(name int, amount int, nation int) {
+  read v = Current[name].value default 0;
+  put Current[name] = (v + amount);
+  if v + amount > 10000 {
+    read s = Saving[name].value default 0;
+    put Saving[name] = (s + v / 50);
+  }
+  read n = Stats[nation].count default 0;
+  put Stats[nation] = (n + 1);
+}
+";
 
-fn plan_of(alloc: Global, text: &[u8]) -> Result<Plan, Fail> {
-    let cat = catalogue(alloc, text)?;
-    let programs = flatten(alloc, &cat)?;
-    let _procs = cat.procs(); // so few that they can be planned
-    Ok(global(alloc, &cat, programs)?)
+const FLOW: &[(u16, u16)] = &[(0, 1), (0, 2), (0, 4), (2, 3), (2, 4), (3, 4), (5, 6)];
+
+const CONFLICT: &[(u16, u16)] = &[(0, 1), (3, 4), (5, 6)];
+
+fn depends_so(alloc: Global, program: &Program) -> bool {
+    if program.ops.as_slice().len() > MAX_OPS {
+        return false;
+    }
+    match dependencies(alloc, program) {
+        Ok(deps) => deps.flow.as_slice() == FLOW && deps.conflict.as_slice() == CONFLICT,
+        Err(_) => false,
+    }
 }
 
-// The block of each operation of a procedure.
-fn blocks_of(alloc: Global, plan: &Plan, proc: u16) -> Result<Vec<u16>, NoMemory> {
-    let mut blocks = Vec::new(alloc);
-    if proc < plan.procs() {
-        let count = plan.program(proc).ops.as_slice().len();
-        for op in 0..count {
-            if let Ok(op) = u16::try_from(op) {
-                blocks.push(plan.block_of(proc, op))?;
-            }
+fn copy_is_same(alloc: Global, program: &Program) -> bool {
+    match program.copy(alloc) {
+        Ok(copy) => copy.same(program),
+        Err(_) => false,
+    }
+}
+
+// Whether the second program has the dependencies of a deposit, and each is copied.
+fn are_as_worked(alloc: Global, programs: &[Program]) -> bool {
+    match programs {
+        [transfer, deposit] => {
+            depends_so(alloc, deposit)
+                && copy_is_same(alloc, transfer)
+                && copy_is_same(alloc, deposit)
         }
-    }
-    Ok(blocks)
-}
-
-// The home of each table.
-fn homes(alloc: Global, plan: &Plan) -> Result<Vec<u16>, NoMemory> {
-    let mut homes = Vec::new(alloc);
-    for table in 0..plan.tables() {
-        homes.push(plan.home_of(table))?;
-    }
-    Ok(homes)
-}
-
-#[test]
-fn the_bank_has_six_blocks(rt: HostRuntime) -> Result<(), Fail> {
-    let alloc = rt.alloc();
-    let plan = plan_of(alloc, BANK.as_bytes())?.copy(alloc)?;
-    assert_eq!(rt; plan.blocks(), 6);
-    assert_eq!(rt; homes(alloc, &plan)?.as_slice(), [0, 2, 4, 5].as_slice());
-    let transfer = blocks_of(alloc, &plan, 0)?;
-    assert_eq!(rt; transfer.as_slice(), [0, 1, 2, 2, 2, 2, 4, 4].as_slice());
-    let deposit = blocks_of(alloc, &plan, 1)?;
-    assert_eq!(rt; deposit.as_slice(), [2, 2, 3, 4, 4, 5, 5].as_slice());
-    let edges = [(0, 1), (0, 2), (1, 2), (1, 4), (2, 3), (2, 4), (3, 4)];
-    assert_eq!(rt; plan.edges(), edges.as_slice());
-    assert!(rt; plan.has_edge(1, 4) && !plan.has_edge(0, 4) && !plan.has_edge(1, 0));
-    Ok(())
-}
-
-// The type of a table's key, and how many columns it has.
-fn types_of(plan: &Plan, table: u16) -> Option<(Ty, usize)> {
-    if table < plan.tables() {
-        let types = plan.table_types(table);
-        Some((types.key, types.columns.as_slice().len()))
-    } else {
-        None
+        _ => false,
     }
 }
 
-#[test]
-fn procedures_form_a_cycle_together(rt: HostRuntime) -> Result<(), Fail> {
-    let alloc = rt.alloc();
-    let plan = plan_of(alloc, TOGETHER)?;
-    assert_eq!(rt; plan.blocks(), 1);
-    assert_eq!(rt; homes(alloc, &plan)?.as_slice(), [0, 0].as_slice());
-    assert_eq!(rt; blocks_of(alloc, &plan, 1)?.as_slice(), [0, 0].as_slice());
-    assert!(rt; plan.edges().is_empty());
-    assert_eq!(rt; types_of(&plan, 0), Some((Ty::Int, 1)));
-    assert_eq!(rt; types_of(&plan, 1), Some((Ty::Text, 1)));
-    assert_eq!(rt; types_of(&plan, 2), None);
-    Ok(())
-}
-
-#[test]
-fn a_table_without_operations_is_a_block(rt: HostRuntime) -> Result<(), Fail> {
-    let alloc = rt.alloc();
-    let plan = plan_of(alloc, b"table A(key int, v int); table B(key int, v int);")?;
-    assert_eq!(rt; plan.blocks(), 2);
-    assert_eq!(rt; homes(alloc, &plan)?.as_slice(), [0, 1].as_slice());
-    assert_eq!(rt; plan.procs(), 0);
-    assert!(rt; plan.edges().is_empty());
-    Ok(())
-}
-
-// 64 procedures of 64 operations on one table.
-fn most(alloc: Global) -> Result<Vec<u8>, NoMemory> {
-    let mut text = Vec::new(alloc);
-    text.extend_from_slice(b"table T(key int, v int);")?;
-    for proc in 0..64u8 {
-        text.extend_from_slice(b"proc P")?;
-        text.push(b'0' + proc / 8)?;
-        text.push(b'0' + proc % 8)?;
-        text.extend_from_slice(b"(){")?;
-        for _ in 0..64 {
-            text.extend_from_slice(b"put T[1]=(1);")?;
-        }
-        text.push(b'}')?;
+fn programs_are_as_worked(alloc: Global, catalogue: &Catalogue) -> bool {
+    match flatten(alloc, catalogue) {
+        Ok(programs) => are_as_worked(alloc, &programs),
+        Err(_) => false,
     }
-    Ok(text)
+}
+
+const EDGES: &[(u16, u16)] = &[(0, 1), (0, 2), (1, 2), (1, 4), (2, 3), (2, 4), (3, 4)];
+
+fn is_as_worked(plan: &Plan) -> bool {
+    plan.blocks() == 6
+        && plan.procs() == 2
+        && plan.tables() == 4
+        && plan.edges() == EDGES
+        && plan.has_edge(1, 4)
+        && !plan.has_edge(0, 4)
+        && !plan.has_edge(1, 0)
+}
+
+fn copy_is_as_worked(alloc: Global, plan: &Plan) -> bool {
+    match plan.copy(alloc) {
+        Ok(copy) => is_as_worked(&copy),
+        Err(_) => false,
+    }
+}
+
+fn plan_is_as_worked(alloc: Global, catalogue: &Catalogue) -> bool {
+    let Ok(programs) = flatten(alloc, catalogue) else {
+        return false;
+    };
+    let _procs = catalogue.procs(); // so few that they can be planned
+    match global(alloc, catalogue, programs) {
+        Ok(plan) => is_as_worked(&plan) && copy_is_as_worked(alloc, &plan),
+        Err(_) => false,
+    }
+}
+
+fn catalogue_is_as_worked(alloc: Global, catalogue: &Catalogue) -> bool {
+    match catalogue.copy(alloc) {
+        Ok(copy) => programs_are_as_worked(alloc, &copy) && plan_is_as_worked(alloc, &copy),
+        Err(_) => false,
+    }
 }
 
 #[test]
-fn a_table_may_have_all_operations(rt: HostRuntime) -> Result<(), Fail> {
-    let alloc = rt.alloc();
-    let plan = plan_of(alloc, most(alloc)?.as_slice())?;
-    assert_eq!(rt; plan.blocks(), 1);
-    assert_eq!(rt; plan.procs(), 64);
-    assert_eq!(rt; blocks_of(alloc, &plan, 63)?.as_slice(), [0; 64].as_slice());
-    assert!(rt; plan.edges().is_empty());
-    Ok(())
+fn the_bank_depends_and_is_planned_as_worked(rt: HostRuntime) {
+    let right = match read_catalogue(rt.alloc(), BANK) {
+        Ok(catalogue) => catalogue_is_as_worked(rt.alloc(), &catalogue),
+        Err(_) => false,
+    };
+    assert!(rt; right);
 }

@@ -1,0 +1,241 @@
+// One call of the program. Its streams and devices are plain bytes before and after the call.
+use crate::disks::{LentDisk, Outage};
+use crate::faults::{Failing, Faults};
+use pac_main::pacman;
+use pac_outside::{Devices, Gate, MemDisk, MemSink, MemSource};
+use std::alloc::{AllocError, Global};
+use std::sync::Wait;
+use std::sync::atomic::{AtomicU64, Ordering};
+use std::thread::Threads;
+
+/// How a call ended.
+#[derive(Drop)]
+pub struct Outcome {
+    pub status: u8,
+    /// How many device calls it made.
+    pub disk_calls: u64,
+    pub output: Vec<u8>,
+    pub errors: Vec<u8>,
+}
+
+impl Outcome {
+    pub fn new(alloc: Global) -> Outcome {
+        Outcome {
+            status: 0,
+            disk_calls: 0,
+            output: Vec::new(alloc),
+            errors: Vec::new(alloc),
+        }
+    }
+}
+
+#[derive(Drop)]
+struct Streams {
+    input: MemSource,
+    output: MemSink,
+    errors: MemSink,
+}
+
+// How many calls of a stream fail under `on`. No command makes more of them once one has failed.
+const LASTING: u64 = 100;
+
+// The numbers of the failing calls.
+fn calls_of(alloc: Global, failing: Failing) -> Result<Vec<u64>, AllocError> {
+    let count = if failing.lasts { LASTING } else { 1 };
+    let mut calls = Vec::new(alloc);
+    push_calls(&mut calls, failing.call, count)?;
+    Ok(calls)
+}
+
+fn push_calls(calls: &mut Vec<u64>, first: u64, count: u64) -> Result<(), AllocError> {
+    for number in 0..count {
+        calls.extend_from_slice(&[first.saturating_add(number)])?;
+    }
+    Ok(())
+}
+
+fn source_of(alloc: Global, input: &[u8], failing: Failing) -> Result<MemSource, AllocError> {
+    let bytes = input.to_vec(alloc)?;
+    Ok(MemSource::new(bytes, calls_of(alloc, failing)?))
+}
+
+fn sink_of(alloc: Global, failing: Failing) -> Result<MemSink, AllocError> {
+    Ok(MemSink::new(Vec::new(alloc), calls_of(alloc, failing)?))
+}
+
+fn streams_of(alloc: Global, input: &[u8], faults: Faults) -> Result<Streams, AllocError> {
+    Ok(Streams {
+        input: source_of(alloc, input, faults.read)?,
+        output: sink_of(alloc, faults.write)?,
+        errors: sink_of(alloc, faults.error)?,
+    })
+}
+
+/// A gate that counts how often it is entered.
+#[derive(Drop)]
+struct CountingGate {
+    entered: AtomicU64,
+}
+
+impl Gate for CountingGate {
+    fn enter(&self, _worker: u32, _txn: u64, _block: u16) {
+        self.entered.fetch_add(1, Ordering::SeqCst);
+    }
+}
+
+// The arguments on a line; `-` stands for none.
+fn arguments_of(alloc: Global, line: &str) -> Result<Vec<String>, AllocError> {
+    let mut arguments = Vec::new(alloc);
+    if line != "-" {
+        push_arguments(alloc, &mut arguments, line)?;
+    }
+    Ok(arguments)
+}
+
+fn push_arguments(
+    alloc: Global,
+    arguments: &mut Vec<String>,
+    line: &str,
+) -> Result<(), AllocError> {
+    for argument in line.split_whitespace() {
+        arguments.push(String::from_str(alloc, argument)?)?;
+    }
+    Ok(())
+}
+
+fn disk_of(alloc: Global, bytes: &[u8]) -> Result<MemDisk, AllocError> {
+    Ok(MemDisk::new(bytes.to_vec(alloc)?, Vec::new(alloc)))
+}
+
+fn disks_of(alloc: Global, devices: &[Vec<u8>]) -> Result<Vec<MemDisk>, AllocError> {
+    let mut disks = Vec::new(alloc);
+    for bytes in devices {
+        disks.push(disk_of(alloc, bytes)?)?;
+    }
+    Ok(disks)
+}
+
+// Sets the bytes of the devices to the images of the disks.
+fn set_images(
+    devices: &mut Vec<Vec<u8>>,
+    disks: &[MemDisk],
+    faults: Faults,
+) -> Result<(), AllocError> {
+    devices.clear();
+    for disk in disks {
+        match disk.image(faults.fill, faults.grown) {
+            Ok(image) => devices.push(image)?,
+            Err(_) => return Err(AllocError),
+        }
+    }
+    Ok(())
+}
+
+/// Calls the program with the arguments on a line, this input and these devices. The devices then have the image that the
+/// faults ask for.
+pub fn call<RT: Threads + Wait + Sync>(
+    rt: &RT,
+    alloc: Global,
+    line: &str,
+    input: &[u8],
+    devices: &mut Vec<Vec<u8>>,
+    faults: Faults,
+    outcome: &mut Outcome,
+) -> Result<(), AllocError> {
+    let mut streams = streams_of(alloc, input, faults)?;
+    call_streams(rt, alloc, line, &mut streams, devices, faults, outcome)
+}
+
+fn call_streams<RT: Threads + Wait + Sync>(
+    rt: &RT,
+    alloc: Global,
+    line: &str,
+    streams: &mut Streams,
+    devices: &mut Vec<Vec<u8>>,
+    faults: Faults,
+    outcome: &mut Outcome,
+) -> Result<(), AllocError> {
+    let mut disks = disks_of(alloc, devices)?;
+    call_disks(rt, alloc, line, streams, &mut disks, faults, outcome)?;
+    set_images(devices, &disks, faults)?;
+    take_streams(streams, outcome)
+}
+
+fn take_streams(streams: &Streams, outcome: &mut Outcome) -> Result<(), AllocError> {
+    set_bytes(&mut outcome.output, streams.output.bytes())?;
+    set_bytes(&mut outcome.errors, streams.errors.bytes())
+}
+
+fn set_bytes(bytes: &mut Vec<u8>, others: &[u8]) -> Result<(), AllocError> {
+    bytes.clear();
+    bytes.extend_from_slice(others)
+}
+
+fn call_disks<RT: Threads + Wait + Sync>(
+    rt: &RT,
+    alloc: Global,
+    line: &str,
+    streams: &mut Streams,
+    disks: &mut [MemDisk],
+    faults: Faults,
+    outcome: &mut Outcome,
+) -> Result<(), AllocError> {
+    let arguments = arguments_of(alloc, line)?;
+    let outage = Outage::new(faults.disk);
+    outcome.status = call_three(rt, alloc, &arguments, streams, disks, &outage);
+    outcome.disk_calls = outage.made();
+    Ok(())
+}
+
+// The status, or 255 if there aren't three disks.
+fn call_three<RT: Threads + Wait + Sync>(
+    rt: &RT,
+    alloc: Global,
+    arguments: &[String],
+    streams: &mut Streams,
+    disks: &mut [MemDisk],
+    outage: &Outage,
+) -> u8 {
+    match disks {
+        [log, slot_a, slot_b] => {
+            call_program(rt, alloc, arguments, streams, log, slot_a, slot_b, outage)
+        }
+        _ => 255,
+    }
+}
+
+// The status, or 254 if the gate was entered.
+fn call_program<'a, RT: Threads + Wait + Sync>(
+    rt: &RT,
+    alloc: Global,
+    arguments: &[String],
+    streams: &mut Streams,
+    log: &'a mut MemDisk,
+    slot_a: &'a mut MemDisk,
+    slot_b: &'a mut MemDisk,
+    outage: &'a Outage,
+) -> u8 {
+    let mut devices = Devices {
+        log: LentDisk::new(log, outage),
+        slot_a: LentDisk::new(slot_a, outage),
+        slot_b: LentDisk::new(slot_b, outage),
+    };
+    let gate = CountingGate {
+        entered: AtomicU64::new(0),
+    };
+    let status = pacman(
+        rt,
+        alloc,
+        arguments,
+        &mut streams.input,
+        &mut streams.output,
+        &mut streams.errors,
+        &mut devices,
+        &gate,
+    );
+    if gate.entered.load(Ordering::SeqCst) == 0 {
+        status
+    } else {
+        254
+    }
+}

@@ -1,0 +1,52 @@
+// A step: one call of the program.
+use crate::call::{Outcome, call};
+use crate::report::{Location, compare, compare_lines, push_end};
+use crate::runner::Runner;
+use std::alloc::{AllocError, Global};
+use std::sync::Wait;
+use std::thread::Threads;
+
+/// Runs the step that has been read. Returns whether it ended and wrote as expected.
+pub fn run_step<'a, RT: Threads + Wait + Sync>(
+    rt: &RT,
+    alloc: Global,
+    runner: &mut Runner<'a>,
+) -> Result<bool, AllocError> {
+    call(
+        rt,
+        alloc,
+        runner.arguments,
+        &runner.input,
+        &mut runner.devices,
+        runner.faults,
+        &mut runner.outcome,
+    )?;
+    compare_step(alloc, runner)
+}
+
+fn compare_step<'a>(alloc: Global, runner: &mut Runner<'a>) -> Result<bool, AllocError> {
+    let location = runner.step_location();
+    let end = runner.expected_end;
+    let ends = compare_end(alloc, &mut runner.report, location, end, &runner.outcome)?;
+    let found = &runner.outcome.output;
+    let writes = compare_lines(
+        alloc,
+        &mut runner.report,
+        location,
+        &runner.expected_output,
+        found,
+    )?;
+    Ok(ends && writes)
+}
+
+fn compare_end(
+    alloc: Global,
+    report: &mut Vec<u8>,
+    location: Location<'_>,
+    expected: &str,
+    outcome: &Outcome,
+) -> Result<bool, AllocError> {
+    let mut found = Vec::new(alloc);
+    push_end(alloc, &mut found, outcome)?;
+    compare(alloc, report, location, "end", expected.as_bytes(), &found)
+}
