@@ -19,7 +19,7 @@ use std::alloc::Global;
 pub enum Command {
     /// `init`
     Init,
-    /// `run [--batch N] [--rows N]`: batches of that many requests.
+    /// `run [--batch N] [--rows N]`: groups of at most N replies, and the limit of rows.
     Run { group_size: u32, rows: u32 },
     /// `recover [--workers N] [--rows N]`
     Recover { workers: u32, rows: u32 },

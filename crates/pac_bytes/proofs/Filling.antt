@@ -3,7 +3,7 @@ use Rattle.std.proofs.Common.{◌≡◌, ◌∙◌, ℕ, ◌≤◌, ◌+◌, fal
 use Rattle.std.proofs.lemmas.Bool.{eqb-true, ltb-false, le-ltb}
 use Rattle.std.proofs.lemmas.List.{take_at, drop_at, take-append-drop, length-append, length-take, append-nil, nil_from_length}
 use Rattle.pac_value.specs.Expressions.{◌>>=◌}
-use Rattle.pac_bytes.specs.Reading.{Rest, after, all_read, within}
+use Rattle.pac_bytes.specs.Reading.{Rest, advanced, all_read, within}
 use Rattle.pac_bytes.specs.Readers.{IsAtStart}
 use Rattle.pac_bytes.proofs.Results.{bind_ok, ok_same, false_ok, true_ok}
 use Rattle.pac_bytes.proofs.Bytes.{IsBytes, IsBytes-take}
@@ -22,16 +22,16 @@ within_codec {A} {F} form spell read short left n codec = record { again = again
 
     found : (s : Rest) (x : A) (t : Rest) → IsBytes s.bytes → within short left n read s ≡ Ok (x, t) → IsAtStart (λ y. form y × (length (spell y) ≡ n)) spell s x t
     found s x t are e =
-        let test = false_ok (ltb (length s.bytes) n) (short s.at) (read (record { at = s.at; bytes = take n s.bytes }) >>= all_read left (after n s)) (x, t) e in
+        let test = false_ok (ltb (length s.bytes) n) (short s.at) (read (record { at = s.at; bytes = take n s.bytes }) >>= all_read left (advanced n s)) (x, t) e in
         let long : n ≤ length s.bytes = ltb-false _ _ test.0 in
-        let steps = bind_ok (read (record { at = s.at; bytes = take n s.bytes })) (all_read left (after n s)) (x, t) test.1 in
+        let steps = bind_ok (read (record { at = s.at; bytes = take n s.bytes })) (all_read left (advanced n s)) (x, t) test.1 in
         let is = codec.found (record { at = s.at; bytes = take n s.bytes }) steps.0.0 steps.0.1 (IsBytes-take n s.bytes are) steps.1 in
-        let all = true_ok (eqb (length steps.0.1.bytes) 0) (left steps.0.1.at) (Ok (steps.0.0, after n s)) (x, t) steps.2 in
+        let all = true_ok (eqb (length steps.0.1.bytes) 0) (left steps.0.1.at) (Ok (steps.0.0, advanced n s)) (x, t) steps.2 in
         let nothing : steps.0.1.bytes ≡ [] = nil_from_length steps.0.1.bytes (eqb-true _ _ all.0) in
         let words : take n s.bytes ≡ spell steps.0.0 = is.bytes ∙ ap (λ (r : List ℕ). spell steps.0.0 ++ r) nothing ∙ append-nil (spell steps.0.0) in
         let len : length (spell steps.0.0) ≡ n = omega (arith, length-take n s.bytes, ap (λ (w : List ℕ). length w) words) in
-        let both : (steps.0.0, after n s) ≡ (x, t) = ok_same {F = F} (steps.0.0, after n s) (x, t) all.1 in
-        subst (λ (p : A × Rest). IsAtStart (λ y. form y × (length (spell y) ≡ n)) spell s p.0 p.1) {x = (steps.0.0, after n s)} {y = (x, t)} both (record {
+        let both : (steps.0.0, advanced n s) ≡ (x, t) = ok_same {F = F} (steps.0.0, advanced n s) (x, t) all.1 in
+        subst (λ (p : A × Rest). IsAtStart (λ y. form y × (length (spell y) ≡ n)) spell s p.0 p.1) {x = (steps.0.0, advanced n s)} {y = (x, t)} both (record {
           bytes = sym (take-append-drop n s.bytes) ∙ ap (λ (w : List ℕ). w ++ drop n s.bytes) words;
           offset = ap (λ (k : ℕ). s.at + k) (sym len);
           form = (is.form, len);

@@ -5,7 +5,7 @@ use Rattle.std.proofs.lemmas.Bool.{ltb-false, le-ltb}
 use Rattle.std.proofs.lemmas.List.{take_at, drop_at, take-append-drop, length-append, length-take, append-nil}
 use Rattle.std.proofs.lemmas.Nat.{le_bytes_2, le_bytes_4, le_bytes_8, from_le_bytes-to_le_bytes_2, from_le_bytes-to_le_bytes_4, from_le_bytes-to_le_bytes_8}
 use Rattle.pac_bytes.specs.declared.fault.Short.{Short}
-use Rattle.pac_bytes.specs.Reading.{Rest, after, short_at, leading_byte, next_byte, next_bytes, next_uint}
+use Rattle.pac_bytes.specs.Reading.{Rest, advanced, short_at, leading_byte, next_byte, next_bytes, next_uint}
 use Rattle.pac_bytes.specs.Readers.{IsAtStart}
 use Rattle.pac_bytes.proofs.Results.{ok_same, false_ok}
 use Rattle.pac_bytes.proofs.Bytes.{IsBytes, AreBytes, IsBytes-nil, IsBytes-cons, IsBytes-take}
@@ -37,10 +37,10 @@ bytes_codec {F} fault n = record {
       let long : ltb (length (x ++ more)) n ≡ false = le-ltb _ _ (omega (arith, length-append x more, fits.0)) in
       rw (long, take_at x more n fits.0, drop_at x more n fits.0, fits.0) refl;
   found = λ s x t are e.
-      let test = false_ok (ltb (length s.bytes) n) (fault s) (Ok (take n s.bytes, after n s)) (x, t) e in
+      let test = false_ok (ltb (length s.bytes) n) (fault s) (Ok (take n s.bytes, advanced n s)) (x, t) e in
       let long : n ≤ length s.bytes = ltb-false _ _ test.0 in
       let len : length (take n s.bytes) ≡ n = omega (arith, length-take n s.bytes) in
-      let both : (take n s.bytes, after n s) ≡ (x, t) = ok_same {F = F} (take n s.bytes, after n s) (x, t) test.1 in
+      let both : (take n s.bytes, advanced n s) ≡ (x, t) = ok_same {F = F} (take n s.bytes, advanced n s) (x, t) test.1 in
       subst (λ (p : List ℕ × Rest). IsAtStart (AreBytes n) (λ bs. bs) s p.0 p.1) both
       (record { bytes = sym (take-append-drop n s.bytes); offset = ap (λ (k : ℕ). s.at + k) (sym len); form = (len, IsBytes-take n s.bytes are) });
 }

@@ -14,8 +14,8 @@ abbrev pub from : List ℕ → ℕ → Rest
 from bytes at = record { at = at; bytes = drop at bytes }
 
 -- what is left after the next n bytes
-abbrev pub after : ℕ → Rest → Rest
-after n s = record { at = s.at + n; bytes = drop n s.bytes }
+abbrev pub advanced : ℕ → Rest → Rest
+advanced n s = record { at = s.at + n; bytes = drop n s.bytes }
 
 -- a result with each fault reported so
 abbrev pub reported_as : {F G A : Type 0} → (F → G) → Result A F → Result A G
@@ -37,7 +37,7 @@ next_byte s = leading_byte s.at s.bytes
 
 -- the next n bytes; this fault where fewer are left
 abbrev pub next_bytes : {F : Type 0} → F → ℕ → Rest → Result (List ℕ × Rest) F
-next_bytes fault n s = if nat_lt (length s.bytes) n then Err fault else Ok (take n s.bytes, after n s)
+next_bytes fault n s = if nat_lt (length s.bytes) n then Err fault else Ok (take n s.bytes, advanced n s)
 
 -- the next number of this width, the lowest byte first
 abbrev pub next_uint : Width → Rest → Result (ℕ × Rest) Short
@@ -59,4 +59,4 @@ all_read left t x = if nat_eq (length x.1.bytes) 0 then Ok (x.0, t) else Err (le
 
 -- what fills the next n bytes; one fault where fewer are left, another where some of them are left over
 abbrev pub within : {F A : Type 0} → (ℕ → F) → (ℕ → F) → ℕ → (Rest → Result (A × Rest) F) → Rest → Result (A × Rest) F
-within short left n read s = if nat_lt (length s.bytes) n then Err (short s.at) else read (record { at = s.at; bytes = take n s.bytes }) >>= all_read left (after n s)
+within short left n read s = if nat_lt (length s.bytes) n then Err (short s.at) else read (record { at = s.at; bytes = take n s.bytes }) >>= all_read left (advanced n s)

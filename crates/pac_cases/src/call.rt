@@ -1,6 +1,6 @@
 // One call of the program. Its streams and devices are plain bytes before and after the call.
 use crate::disks::{LentDisk, Outage};
-use crate::faults::{Failing, Faults};
+use crate::faults::{Failing, StepFaults};
 use pac_main::pacman;
 use pac_outside::{Devices, Gate, MemDisk, MemSink, MemSource};
 use std::alloc::{AllocError, Global};
@@ -63,7 +63,7 @@ fn sink_of(alloc: Global, failing: Failing) -> Result<MemSink, AllocError> {
     Ok(MemSink::new(Vec::new(alloc), calls_of(alloc, failing)?))
 }
 
-fn streams_of(alloc: Global, input: &[u8], faults: Faults) -> Result<Streams, AllocError> {
+fn streams_of(alloc: Global, input: &[u8], faults: StepFaults) -> Result<Streams, AllocError> {
     Ok(Streams {
         input: source_of(alloc, input, faults.read)?,
         output: sink_of(alloc, faults.write)?,
@@ -119,7 +119,7 @@ fn disks_of(alloc: Global, devices: &[Vec<u8>]) -> Result<Vec<MemDisk>, AllocErr
 fn set_images(
     devices: &mut Vec<Vec<u8>>,
     disks: &[MemDisk],
-    faults: Faults,
+    faults: StepFaults,
 ) -> Result<(), AllocError> {
     devices.clear();
     for disk in disks {
@@ -139,7 +139,7 @@ pub fn call<RT: Threads + Wait + Sync>(
     line: &str,
     input: &[u8],
     devices: &mut Vec<Vec<u8>>,
-    faults: Faults,
+    faults: StepFaults,
     outcome: &mut Outcome,
 ) -> Result<(), AllocError> {
     let mut streams = streams_of(alloc, input, faults)?;
@@ -152,7 +152,7 @@ fn call_streams<RT: Threads + Wait + Sync>(
     line: &str,
     streams: &mut Streams,
     devices: &mut Vec<Vec<u8>>,
-    faults: Faults,
+    faults: StepFaults,
     outcome: &mut Outcome,
 ) -> Result<(), AllocError> {
     let mut disks = disks_of(alloc, devices)?;
@@ -177,7 +177,7 @@ fn call_disks<RT: Threads + Wait + Sync>(
     line: &str,
     streams: &mut Streams,
     disks: &mut [MemDisk],
-    faults: Faults,
+    faults: StepFaults,
     outcome: &mut Outcome,
 ) -> Result<(), AllocError> {
     let arguments = arguments_of(alloc, line)?;

@@ -11,7 +11,7 @@ pub struct Failing {
 
 /// The faults of a step.
 #[derive(Clone, Copy)]
-pub struct Faults {
+pub struct StepFaults {
     /// Whether any line asked for a fault.
     pub any: bool,
     pub read: Failing,
@@ -32,10 +32,10 @@ impl Failing {
     }
 }
 
-impl Faults {
+impl StepFaults {
     /// No call fails, and everything that was written is kept.
-    pub fn none() -> Faults {
-        Faults {
+    pub fn none() -> StepFaults {
+        StepFaults {
             any: false,
             read: Failing::none(),
             write: Failing::none(),

@@ -1,10 +1,10 @@
 // Runs the lines of a case file one by one.
 use crate::call::Outcome;
 use crate::device::do_device;
-use crate::faults::Faults;
+use crate::faults::StepFaults;
 use crate::report::{Location, report_problem};
 use crate::step::run_step;
-use crate::sweep::{Target, sweep};
+use crate::sweep::{CallKind, sweep};
 use crate::table::run_row;
 use crate::text::{halves, number, push_copies, push_line, push_number, push_text};
 use std::alloc::{AllocError, Global};
@@ -52,7 +52,7 @@ pub enum Kind {
     Nothing,
     Step,
     /// A step that is repeated with a failure at each call of a kind.
-    Sweep(Target),
+    Sweep(CallKind),
     Table,
 }
 
@@ -67,7 +67,7 @@ pub struct Runner<'a> {
     pub arguments: &'a str,
     /// The expected status and line on standard error.
     pub expected_end: &'a str,
-    pub faults: Faults,
+    pub faults: StepFaults,
     pub input: Vec<u8>,
     pub expected_output: Vec<u8>,
     /// For a sweep, the dump after each number of transactions.
@@ -90,7 +90,7 @@ impl<'a> Runner<'a> {
             step_line: 0,
             arguments: "",
             expected_end: "0",
-            faults: Faults::none(),
+            faults: StepFaults::none(),
             input: Vec::new(alloc),
             expected_output: Vec::new(alloc),
             dumps: Vec::new(alloc),
@@ -243,7 +243,7 @@ fn begin_step<'a>(runner: &mut Runner<'a>, word: &str, rest: &'a str) -> bool {
 // `$ run at each call`, which takes no other faults.
 fn begin_sweep<'a>(runner: &mut Runner<'a>, arguments: &'a str, target: &str) -> bool {
     let is_step = matches!(runner.kind, Kind::Step);
-    let Some(target) = Target::of(target) else {
+    let Some(target) = CallKind::of(target) else {
         return false;
     };
     runner.arguments = arguments;
@@ -364,7 +364,7 @@ fn finish<'a, RT: Threads + Wait + Sync>(
 fn forget<'a>(runner: &mut Runner<'a>) {
     runner.kind = Kind::Nothing;
     runner.expected_end = "0";
-    runner.faults = Faults::none();
+    runner.faults = StepFaults::none();
     runner.input.clear();
     runner.expected_output.clear();
     runner.dumps.clear();

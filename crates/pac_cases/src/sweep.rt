@@ -1,7 +1,7 @@
 // A step that is repeated with a failure at each call of a kind.
 use crate::call::{Outcome, call};
 use crate::device::copies_of;
-use crate::faults::{Failing, Faults};
+use crate::faults::{Failing, StepFaults};
 use crate::report::{compare_lines, push_location, push_sides, push_whole, report_problem};
 use crate::runner::Runner;
 use crate::text::push_number;
@@ -12,7 +12,7 @@ use std::thread::Threads;
 
 /// Which calls fail.
 #[derive(Clone, Copy)]
-pub enum Target {
+pub enum CallKind {
     /// A read of the input.
     Read,
     /// A write of the output.
@@ -21,13 +21,13 @@ pub enum Target {
     Call,
 }
 
-impl Target {
+impl CallKind {
     /// The calls with this name.
-    pub fn of(name: &str) -> Option<Target> {
+    pub fn of(name: &str) -> Option<CallKind> {
         match name {
-            "read" => Some(Target::Read),
-            "write" => Some(Target::Write),
-            "call" => Some(Target::Call),
+            "read" => Some(CallKind::Read),
+            "write" => Some(CallKind::Write),
+            "call" => Some(CallKind::Call),
             _ => None,
         }
     }
@@ -35,25 +35,25 @@ impl Target {
     // How a case names such a failure.
     fn fail(self) -> &'static str {
         match self {
-            Target::Read => "fail read ",
-            Target::Write => "fail write ",
-            Target::Call => "fail disk ",
+            CallKind::Read => "fail read ",
+            CallKind::Write => "fail write ",
+            CallKind::Call => "fail disk ",
         }
     }
 
     fn status(self) -> u8 {
         match self {
-            Target::Read => 6,
-            Target::Write => 7,
-            Target::Call => 8,
+            CallKind::Read => 6,
+            CallKind::Write => 7,
+            CallKind::Call => 8,
         }
     }
 
     fn error(self) -> &'static str {
         match self {
-            Target::Read => "input fault\n",
-            Target::Write => "output fault\n",
-            Target::Call => "disk fault\n",
+            CallKind::Read => "input fault\n",
+            CallKind::Write => "output fault\n",
+            CallKind::Call => "disk fault\n",
         }
     }
 }
@@ -61,7 +61,7 @@ impl Target {
 /// One run of a sweep: the call that fails, and the image that a crash then leaves.
 #[derive(Clone, Copy)]
 struct Trial {
-    target: Target,
+    target: CallKind,
     failing: Failing,
     fill: Fill,
     grown: bool,
@@ -69,7 +69,7 @@ struct Trial {
 
 impl Trial {
     // `way` is below `WAYS`.
-    fn of(target: Target, call: u64, way: u64) -> Trial {
+    fn of(target: CallKind, call: u64, way: u64) -> Trial {
         Trial {
             target,
             failing: Failing {
@@ -81,14 +81,14 @@ impl Trial {
         }
     }
 
-    fn faults(self) -> Faults {
-        let mut faults = Faults::none();
+    fn faults(self) -> StepFaults {
+        let mut faults = StepFaults::none();
         faults.fill = self.fill;
         faults.grown = self.grown;
         match self.target {
-            Target::Read => faults.read = self.failing,
-            Target::Write => faults.write = self.failing,
-            Target::Call => faults.disk = self.failing,
+            CallKind::Read => faults.read = self.failing,
+            CallKind::Write => faults.write = self.failing,
+            CallKind::Call => faults.disk = self.failing,
         }
         faults
     }
@@ -126,7 +126,7 @@ pub fn sweep<'a, RT: Threads + Wait + Sync>(
     rt: &RT,
     alloc: Global,
     runner: &mut Runner<'a>,
-    target: Target,
+    target: CallKind,
 ) -> Result<bool, AllocError> {
     for way in 0..WAYS {
         if !try_calls(rt, alloc, runner, target, way)? {
@@ -148,7 +148,7 @@ fn run_whole<'a, RT: Threads + Wait + Sync>(
         runner.arguments,
         &runner.input,
         &mut runner.devices,
-        Faults::none(),
+        StepFaults::none(),
         &mut runner.outcome,
     )
 }
@@ -157,19 +157,32 @@ fn try_calls<'a, RT: Threads + Wait + Sync>(
     rt: &RT,
     alloc: Global,
     runner: &mut Runner<'a>,
-    target: Target,
+    target: CallKind,
     way: u64,
 ) -> Result<bool, AllocError> {
     for call in 1..CALLS {
         match try_call(rt, alloc, runner, Trial::of(target, call, way))? {
             Verdict::Right => {}
             Verdict::Wrong => return Ok(false),
-            Verdict::Past => return Ok(true),
+            Verdict::Past => return test_first(alloc, runner, call),
         }
     }
     let location = runner.step_location();
     report_problem(alloc, &mut runner.report, location, "too many calls")?;
     Ok(false)
+}
+
+// Returns whether the step makes any of the calls, given the first that it doesn't make.
+fn test_first<'a>(
+    alloc: Global,
+    runner: &mut Runner<'a>,
+    missing: u64,
+) -> Result<bool, AllocError> {
+    let location = runner.step_location();
+    if missing == 1 {
+        report_problem(alloc, &mut runner.report, location, "no such call is made")?;
+    }
+    Ok(missing != 1)
 }
 
 fn try_call<'a, RT: Threads + Wait + Sync>(
@@ -223,7 +236,7 @@ fn verdict_of(outcome: &Outcome, expected: &[u8], trial: Trial) -> Verdict {
 // Whether nothing failed and everything was done.
 fn is_past(outcome: &Outcome, expected: &[u8], trial: Trial) -> bool {
     let is_made = match trial.target {
-        Target::Call => outcome.disk_calls >= trial.failing.call,
+        CallKind::Call => outcome.disk_calls >= trial.failing.call,
         _ => false,
     };
     outcome.status == 0 && outcome.output.as_slice() == expected && !is_made
@@ -232,7 +245,7 @@ fn is_past(outcome: &Outcome, expected: &[u8], trial: Trial) -> bool {
 // Whether it ended at the failing call, with a prefix of the output.
 fn is_right(outcome: &Outcome, expected: &[u8], trial: Trial) -> bool {
     let is_last = match trial.target {
-        Target::Call => outcome.disk_calls == trial.failing.call,
+        CallKind::Call => outcome.disk_calls == trial.failing.call,
         _ => true,
     };
     is_last
@@ -251,7 +264,15 @@ fn recover<'a, RT: Threads + Wait + Sync>(
 ) -> Result<bool, AllocError> {
     let least = acknowledged(&runner.outcome.output);
     let outcome = &mut runner.outcome;
-    call(rt, alloc, "recover", b"", devices, Faults::none(), outcome)?;
+    call(
+        rt,
+        alloc,
+        "recover",
+        b"",
+        devices,
+        StepFaults::none(),
+        outcome,
+    )?;
     if runner.outcome.status == 0 && has_dump(&runner.dumps, least, &runner.outcome.output) {
         return Ok(true);
     }

@@ -13,7 +13,7 @@ use Rattle.pac_value.specs.State.{RowValues}
 use Rattle.pac_value.specs.Expressions.{◌>>=◌}
 use Rattle.pac_types.specs.declared.table.Table.{Table}
 use Rattle.pac_types.specs.WellFormed.{types}
-use Rattle.pac_bytes.specs.Reading.{Rest, from, after, reported_as, next_uint, along}
+use Rattle.pac_bytes.specs.Reading.{Rest, from, advanced, reported_as, next_uint, along}
 use Rattle.pac_bytes.specs.Readers.{IsAtStart}
 use Rattle.pac_bytes.specs.Typed.{KeyHasType, key_bytes, next_key, HaveTypes, values_bytes, next_values}
 use Rattle.pac_bytes.proofs.Results.{ok_same, true_ok}
@@ -52,8 +52,8 @@ name_codec = record {
   again = λ x at more is. subst (λ (w : List ℕ). next_name (record { at = at; bytes = w ++ more }) ≡ Ok (w, record { at = at + length w; bytes = more })) (sym is)
       (rw (take_at checkpoint_name more 8 refl, drop_at checkpoint_name more 8 refl) refl);
   found = λ s x t are e.
-      let test = true_ok (pointwise nat_eq (take 8 s.bytes) checkpoint_name) (slot_fault Magic s.at) (Ok (checkpoint_name, after 8 s)) (x, t) e in
-      let both : (checkpoint_name, after 8 s) ≡ (x, t) = ok_same {F = SlotFault} (checkpoint_name, after 8 s) (x, t) test.1 in
+      let test = true_ok (pointwise nat_eq (take 8 s.bytes) checkpoint_name) (slot_fault Magic s.at) (Ok (checkpoint_name, advanced 8 s)) (x, t) e in
+      let both : (checkpoint_name, advanced 8 s) ≡ (x, t) = ok_same {F = SlotFault} (checkpoint_name, advanced 8 s) (x, t) test.1 in
       let words : take 8 s.bytes ≡ checkpoint_name = same_bytes (take 8 s.bytes) checkpoint_name test.0 in
       subst (λ (p : List ℕ × Rest). IsAtStart IsName (λ bytes. bytes) s p.0 p.1) both
       (record { bytes = sym (take-append-drop 8 s.bytes) ∙ ap (λ (w : List ℕ). w ++ drop 8 s.bytes) words; offset = refl; form = refl });

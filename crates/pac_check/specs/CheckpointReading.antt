@@ -6,7 +6,7 @@ use Rattle.pac_value.specs.declared.values.Key.{Key}
 use Rattle.pac_value.specs.Expressions.{◌>>=◌}
 use Rattle.pac_types.specs.declared.table.Table.{Table}
 use Rattle.pac_types.specs.WellFormed.{types}
-use Rattle.pac_bytes.specs.Reading.{Rest, after, reported_as, next_uint, along}
+use Rattle.pac_bytes.specs.Reading.{Rest, advanced, reported_as, next_uint, along}
 use Rattle.pac_bytes.specs.Typed.{next_key, next_values}
 use Rattle.pac_check.specs.declared.damage.SlotDamageKind.TheVariants.{Magic, Range, Order}
 use Rattle.pac_check.specs.declared.damage.SlotFault.{SlotFault}
@@ -20,7 +20,7 @@ slot_number w s = reported_as as_slot_fault (next_uint w s)
 
 -- the name; a fault at its first byte where other bytes stand there, or too few
 abbrev pub next_name : Rest → Result (List ℕ × Rest) SlotFault
-next_name s = if pointwise nat_eq (take 8 s.bytes) checkpoint_name then Ok (checkpoint_name, after 8 s) else Err (slot_fault Magic s.at)
+next_name s = if pointwise nat_eq (take 8 s.bytes) checkpoint_name then Ok (checkpoint_name, advanced 8 s) else Err (slot_fault Magic s.at)
 
 -- the number of tables, which has to be this one
 abbrev pub next_count : ℕ → Rest → Result (ℕ × Rest) SlotFault

@@ -34,9 +34,9 @@ use Rattle.pac_base.specs.Members.{Mem}
 use Rattle.pac_ops.specs.Effects.{NumberedOp, numbered_from, numbered_meaning, record_op}
 use Rattle.pac_plan.specs.Pieces.{Present, of_txn, run_ops, World, part, ops, apply, pieces, partial, replayed_in, InputsAre, HasInputs}
 use Rattle.pac_commute.specs.Exchange.{env_after, HoldsNeeds}
-use Rattle.pac_plan.specs.Worlds.{ops_of, types_in, txn_code, txn_vars, txn_block, txn_args, txn_at, opened, numbers, blocks_in, batch_of, RecordsInTables}
+use Rattle.pac_plan.specs.Worlds.{ops_of, types_in, txn_code, txn_vars, txn_block, txn_args, txn_at, initial, numbers, blocks_in, batch_of, RecordsInTables}
 use Rattle.pac_ops.specs.StaysFit.{IsFit, StaysFitAt}
-use Rattle.pac_commute.specs.PlanLaws.{planned}
+use Rattle.pac_commute.specs.PlanLaws.{txns_of, NumbersRunOn, planned}
 use Rattle.pac_commute.specs.PartialFits.{TxnFitsPlan, TxnsFitPlan, PresentFits, PartialStaysFit}
 use Rattle.pac_base.proofs.TestLemmas.{eq_self, same_number, or_left}
 use Rattle.pac_commute.proofs.Laws.{written_env}
@@ -163,15 +163,18 @@ module _ (parts : PlanParts) (is : IsPlan parts) where
             (λ j z f. fits (suc j) z f) fit_mid i x e in
             (r.0, r.1, ap (replayed_in w (range_with_len (n + 1) (length ys)) mid).envs (sym (moved parts w n i)) ∙ r.2)
 
-  module _ (first : ℕ) (batches : List Batch) (txns : List Txn) (fits : TxnsFitPlan parts txns) (tables : Tables) (rows_fit : RowsFit parts.tables tables) where
+  module _ (first : ℕ) (batches : List Batch) (run_on : NumbersRunOn first batches) (fits : TxnsFitPlan parts (txns_of batches)) (tables : Tables) (rows_fit : RowsFit parts.tables tables) where
+    abbrev txns : List Txn
+    txns = txns_of batches
+
     abbrev w : World
-    w = planned parts first batches txns
+    w = planned parts first batches
 
     abbrev env : ℕ → Values
-    env = env_after (planned parts first batches txns) (numbers first txns) (opened first txns tables)
+    env = env_after (planned parts first batches) (numbers first txns) (initial first txns tables)
 
     abbrev start : Present
-    start = opened first txns tables
+    start = initial first txns tables
 
     -- a number with a transaction is that of one in the list
     number_of : (t : ℕ) (x : Txn) → txn_at first txns t ≡ Some x → (i : ℕ) × (t ≡ first + i) × (slice_get txns i ≡ Some x)
@@ -246,7 +249,7 @@ module _ (parts : PlanParts) (is : IsPlan parts) where
         go t true same x v e = ap (λ u. slice_get (w.vars u) x) (same_number t p.txn same) ∙ following.types x v e
         go t false same x v e = fit.types t x v e
 
-    partial_fits : (F : PieceId → Bool) (ps : List PieceId) (s : Present) → Good_turns w (well_formed_plan parts is first batches txns) env F ps s → PresentFits parts w s → PresentFits parts w (partial w F ps s)
+    partial_fits : (F : PieceId → Bool) (ps : List PieceId) (s : Present) → Good_turns w (well_formed_plan parts is first batches) env F ps s → PresentFits parts w s → PresentFits parts w (partial w F ps s)
     unfolding partial
     partial_fits F [] s good fit = fit
     partial_fits F (p ∷ ps) s good fit = partial_fits F ps (cond (F p) (apply w p s) s) good.1 (go (F p) refl)
@@ -261,17 +264,17 @@ module _ (parts : PlanParts) (is : IsPlan parts) where
 
     stays : (F : PieceId → Bool) → HoldsNeeds w env (pieces w (numbers first txns) (blocks_in parts)) F → PresentFits parts w (partial w F (pieces w (numbers first txns) (blocks_in parts)) start)
     stays F holds = partial_fits F (pieces w (numbers first txns) (blocks_in parts)) start
-        (picked_turns w (well_formed_plan parts is first batches txns) env (pieces w (numbers first txns) (blocks_in parts)) (in_order w (numbers first txns) (blocks_in parts) (rises-range first (length txns)) (rises-range 0 parts.blocks)) start
-        (λ t x. ap (λ (z : Present). get (z.envs t) x) (whole w (well_formed_plan parts is first batches txns) (numbers first txns) (blocks_in parts) (rises-range 0 parts.blocks) (fits_blocks parts is first (batch_of batches) txns in_tables) start))
+        (picked_turns w (well_formed_plan parts is first batches) env (pieces w (numbers first txns) (blocks_in parts)) (in_order w (numbers first txns) (blocks_in parts) (rises-range first (length txns)) (rises-range 0 parts.blocks)) start
+        (λ t x. ap (λ (z : Present). get (z.envs t) x) (whole w (well_formed_plan parts is first batches) (numbers first txns) (blocks_in parts) (rises-range 0 parts.blocks) (fits_blocks parts is first (batch_of batches) txns in_tables) start))
         F holds)
         opened_fits
 
 pub partial_stays_fit : PartialStaysFit
-partial_stays_fit parts is first batches txns fits tables rows_fit F holds =
-    let fit = stays parts is first batches txns fits tables rows_fit F holds in (
+partial_stays_fit parts is first batches run_on fits tables rows_fit F holds =
+    let fit = stays parts is first batches run_on fits tables rows_fit F holds in (
       fit,
-      λ p ready. piece_fit parts is first batches txns fits tables rows_fit p _
-          (inputs_plan parts is first batches txns (in_tables parts is first batches txns fits tables rows_fit) (opened first txns tables) F p holds
+      λ p ready. piece_fit parts is first batches run_on fits tables rows_fit p _
+          (inputs_plan parts is first batches run_on (in_tables parts is first batches run_on fits tables rows_fit) (initial first (txns_of batches) tables) F p holds
           (λ q m e. ready q m (or_left _ _ e)))
           fit,
     )

@@ -1,5 +1,5 @@
 -- The exchange of pieces: a piece that has what it needs may come last.
-use Rattle.std.proofs.Common.{◌≡◌, ℕ, ◌<◌, Bool, true, false, cond, ◌&&◌, not, List, [], ◌∷◌, ◌++◌, refl, sym, ap, ◌∙◌, subst, true≢false, Option, Some, ◌==◌, ◌⊎◌, inl, inr, ⊎_elim, arith}
+use Rattle.std.proofs.Common.{◌≡◌, ℕ, ◌<◌, Bool, true, false, cond, ◌&&◌, not, List, [], ◌∷◌, ◌++◌, refl, sym, ap, ◌∙◌, subst, true≢false, Option, ◌==◌, ◌⊎◌, inl, inr, ⊎_elim, arith}
 use Rattle.std.proofs.lemmas.Bool.Decides.{Decides-eqb}
 use Rattle.std.specs.FinMap.{get}
 use Rattle.pac_value.specs.declared.values.Ty.{Ty}
@@ -8,23 +8,16 @@ use Rattle.pac_value.specs.Expressions.{Values}
 use Rattle.pac_value.specs.State.{RowValues}
 use Rattle.pac_ops.specs.declared.note.Note.{Note}
 use Rattle.pac_ops.specs.declared.piece.PieceId.{PieceId}
-use Rattle.pac_ops.specs.declared.program.FlatOp.{FlatOp}
-use Rattle.pac_ops.specs.Uses.{defined_variable}
-use Rattle.pac_ops.specs.Operations.{State}
-use Rattle.pac_ops.specs.Flat.{flat_done}
 use Rattle.pac_base.specs.Members.{Each, Mem}
-use Rattle.pac_ops.specs.Effects.{NumberedOp, numbered_meaning, is_var, defined_in, used_in}
-use Rattle.pac_plan.specs.Pieces.{Present, of_txn, run_ops, part, World, ops, apply, needs, HasInputs, Location, RowOf, VarOf, seen, touches, writes, partial, is_piece, adds, every}
+use Rattle.pac_ops.specs.Effects.{NumberedOp, defined_in, used_in}
+use Rattle.pac_plan.specs.Pieces.{Present, of_txn, run_ops, part, World, ops, apply, needs, HasInputs, Location, RowOf, VarOf, at_location, touches, writes, partial, is_piece, adds, every}
 use Rattle.pac_plan.specs.WorldOrder.{WellFormed}
 use Rattle.pac_commute.specs.Exchange.{HoldsNeeds}
 use Rattle.pac_commute.proofs.Turns as turns
 use Rattle.pac_commute.proofs.Turns.{each_with, each_both}
-use Rattle.pac_base.proofs.TestLemmas.{or_left, or_right, eq_self, same_number, equal_number, and_left, and_right, and_both, or_cases, or_none, or_of_false, each_mem, mem_each, unlike, not_true}
-use Rattle.pac_ops.proofs.EffectLemmas.{form, flat_gives}
-use Rattle.pac_ops.proofs.StateLemmas.{get-given}
-use Rattle.pac_ops.proofs.FrameLemmas.{ungiven, effect_in}
-use Rattle.pac_commute.proofs.Laws.{Apart, apart, laws, turn, says, noted_by, written_env, other_env}
+use Rattle.pac_base.proofs.TestLemmas.{or_left, or_right, eq_self, same_number, equal_number, and_left, and_right, and_both, or_cases, or_of_false, each_mem, mem_each, unlike, not_true}
 use Rattle.pac_ops.proofs.DefinedLemmas.{undefined_meaning}
+use Rattle.pac_commute.proofs.Laws.{Apart, apart, laws, turn, says, noted_by, written_env, other_env}
 
 pub undefined_stays : (t : ℕ) (vars : List Ty) (os : List NumberedOp) (s : Present) (y : ℕ) → defined_in os y ≡ false → get ((run_ops t vars os s).envs t) y ≡ get (s.envs t) y
 undefined_stays t vars os s y e = ap (λ m. get m y) (written_env t t _ s.envs (eq_self t)) ∙ undefined_meaning vars os (of_txn t s) y e
@@ -79,13 +72,13 @@ module _ (w : World) (well_formed : WellFormed w) where
 
   module _ (env : ℕ → Values) where
     abbrev pub Good_turns : (PieceId → Bool) → List PieceId → Present → Type 0
-    Good_turns = turns.GoodTurns Present Location (Option RowValues × Option Value) (Option Note) (List Note) PieceId seen (λ s. s.note) (apply w) (says w) noted_by (touches w env) (writes w env) (HasInputs w env)
+    Good_turns = turns.GoodTurns Present Location (Option RowValues × Option Value) (Option Note) (List Note) PieceId at_location (λ s. s.note) (apply w) (says w) noted_by (touches w env) (writes w env) (HasInputs w env)
 
     abbrev pub Is_closed : (PieceId → Bool) → List PieceId → Type 0
-    Is_closed = turns.Closed Present Location (Option RowValues × Option Value) (Option Note) (List Note) PieceId seen (λ s. s.note) (apply w) (says w) noted_by (touches w env) (writes w env) (HasInputs w env)
+    Is_closed = turns.Closed Present Location (Option RowValues × Option Value) (Option Note) (List Note) PieceId at_location (λ s. s.note) (apply w) (says w) noted_by (touches w env) (writes w env) (HasInputs w env)
 
     run : (PieceId → Bool) → List PieceId → Present → Present
-    run = turns.run Present Location (Option RowValues × Option Value) (Option Note) (List Note) PieceId seen (λ s. s.note) (apply w) (says w) noted_by (touches w env) (writes w env) (HasInputs w env)
+    run = turns.run Present Location (Option RowValues × Option Value) (Option Note) (List Note) PieceId at_location (λ s. s.note) (apply w) (says w) noted_by (touches w env) (writes w env) (HasInputs w env)
 
     partial-run : (F : PieceId → Bool) (ps : List PieceId) (s : Present) → partial w F ps s ≡ run F ps s
     unfolding partial run
@@ -113,16 +106,16 @@ module _ (w : World) (well_formed : WellFormed w) where
     pub picked_turns : (L : List PieceId) → InOrder L → (s : Present) → ((t x : ℕ) → get ((partial w every L s).envs t) x ≡ get (env t) x)
         → (F : PieceId → Bool) → HoldsNeeds w env L F → Good_turns F L s
     picked_turns L order s ends F holds =
-        turns.good_turns Present Location (Option RowValues × Option Value) (Option Note) (List Note) PieceId seen (λ s. s.note) (apply w) (says w) noted_by (touches w env) (writes w env) (HasInputs w env)
+        turns.good_turns Present Location (Option RowValues × Option Value) (Option Note) (List Note) PieceId at_location (λ s. s.note) (apply w) (says w) noted_by (touches w env) (writes w env) (HasInputs w env)
         (laws w well_formed env) F L s s (closed F L L (λ q m. m) order holds) (whole_good L order s ends)
-        (turns.start_alike Present Location (Option RowValues × Option Value) (Option Note) (List Note) PieceId seen (λ s. s.note) (apply w) (says w) noted_by (touches w env) (writes w env) (HasInputs w env) (laws w well_formed env) F L s)
+        (turns.start_alike Present Location (Option RowValues × Option Value) (Option Note) (List Note) PieceId at_location (λ s. s.note) (apply w) (says w) noted_by (touches w env) (writes w env) (HasInputs w env) (laws w well_formed env) F L s)
 
     exchange_at : (before after : List PieceId) (p : PieceId) (s : Present) (F : PieceId → Bool) → Each (λ q. Below q p) before → Each (Below p) after
         → F p ≡ false → Is_closed F (before ++ p ∷ after) → Is_closed (adds F p) (before ++ p ∷ after) → Good_turns (λ q. true) (before ++ p ∷ after) s
         → (run (adds F p) (before ++ p ∷ after) s ≡ apply w p (run F (before ++ p ∷ after) s)) × HasInputs w env p (run F (before ++ p ∷ after) s)
     unfolding run
     exchange_at before after p s F lower upper out closed closed' good =
-        turns.exchange Present Location (Option RowValues × Option Value) (Option Note) (List Note) PieceId seen (λ s. s.note) (apply w) (says w) noted_by (touches w env) (writes w env) (HasInputs w env)
+        turns.exchange Present Location (Option RowValues × Option Value) (Option Note) (List Note) PieceId at_location (λ s. s.note) (apply w) (says w) noted_by (touches w env) (writes w env) (HasInputs w env)
         (laws w well_formed env) F (adds F p) before after p s out
         (or_left (is_piece p p) (F p) (and_both (p.txn == p.txn) (p.block == p.block) (eq_self p.txn) (eq_self p.block)))
         (each_with (λ q. Below q p) (λ q. adds F p q ≡ F q) before (λ q b. or_of_false (is_piece p q) (F q) (not_piece p q (inr b))) lower)
@@ -168,9 +161,9 @@ module _ (w : World) (well_formed : WellFormed w) where
     unfolding input_cells run
     inputs L order s ends F p holds preds x used undefined =
         ap (λ (z : Present). get (z.envs p.txn) x) (partial-run F L s)
-        ∙ ap (λ (r : Option RowValues × Option Value). r.1) (turns.ends_alike Present Location (Option RowValues × Option Value) (Option Note) (List Note) PieceId seen (λ s. s.note) (apply w) (says w) noted_by (touches w env) (writes w env) (HasInputs w env)
+        ∙ ap (λ (r : Option RowValues × Option Value). r.1) (turns.ends_alike Present Location (Option RowValues × Option Value) (Option Note) (List Note) PieceId at_location (λ s. s.note) (apply w) (says w) noted_by (touches w env) (writes w env) (HasInputs w env)
         (laws w well_formed env) F (input_cells p) L s s (closed F L L (λ q m. m) order holds) (whole_good L order s ends)
-        (turns.start_alike Present Location (Option RowValues × Option Value) (Option Note) (List Note) PieceId seen (λ s. s.note) (apply w) (says w) noted_by (touches w env) (writes w env) (HasInputs w env) (laws w well_formed env) F L s)
+        (turns.start_alike Present Location (Option RowValues × Option Value) (Option Note) (List Note) PieceId at_location (λ s. s.note) (apply w) (says w) noted_by (touches w env) (writes w env) (HasInputs w env) (laws w well_formed env) F L s)
         (each_mem _ L unwritten) (λ c k. refl)
         (VarOf p.txn x) (and_both _ _ (eq_self p.txn) (and_both _ _ used (ap not undefined))))
         ∙ sym (ap (λ (z : Present). get (z.envs p.txn) x) (partial-run every L s)) ∙ ends p.txn x
@@ -203,11 +196,11 @@ module _ (w : World) (well_formed : WellFormed w) where
     pub undisturbed : (L : List PieceId) → InOrder L → (s : Present) → ((t x : ℕ) → get ((partial w every L s).envs t) x ≡ get (env t) x)
         → (F : PieceId → Bool) (p q : PieceId) → Mem p L → Mem q L → (p ≡ q → ⊥) → F p ≡ false → F q ≡ false → HoldsNeeds w env L F
         → ((r : PieceId) → Mem r L → needs w env r p ≡ true → F r ≡ true) → ((r : PieceId) → Mem r L → needs w env r q ≡ true → F r ≡ true)
-        → (c : Location) → touches w env p c ≡ true → seen (partial w (adds F q) L s) c ≡ seen (partial w F L s) c
+        → (c : Location) → touches w env p c ≡ true → at_location (partial w (adds F q) L s) c ≡ at_location (partial w F L s) c
     undisturbed L order s ends F p q mp mq differ out_p out_q holds preds_p preds_q c t =
         let last : (partial w (adds F q) L s ≡ apply w q (partial w F L s)) × HasInputs w env q (partial w F L s) = exchange L order s ends F q mq out_q holds preds_q in
-        ap (λ z. seen z c) last.0
-        ∙ sym (turns.unread Present Location (Option RowValues × Option Value) (Option Note) (List Note) PieceId seen (λ s. s.note) (apply w) (says w) noted_by (touches w env) (writes w env) (HasInputs w env)
+        ap (λ z. at_location z c) last.0
+        ∙ sym (turns.unread Present Location (Option RowValues × Option Value) (Option Note) (List Note) PieceId at_location (λ s. s.note) (apply w) (says w) noted_by (touches w env) (writes w env) (HasInputs w env)
         (laws w well_formed env) p q (partial w F L s) last.1
         (apart_either p q (either L order p q mp mq differ)
         (unlike _ (λ n. true≢false (sym (preds_q p mp n) ∙ out_p)))

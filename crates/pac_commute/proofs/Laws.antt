@@ -1,5 +1,5 @@
 -- Pieces are steps with footprints, and pieces of which none needs the other are apart.
-use Rattle.std.proofs.Common.{◌≡◌, ℕ, ◌<◌, ◌≤◌, Bool, true, false, cond, ◌&&◌, ◌||◌, List, [], ◌∷◌, refl, sym, ap, ◌∙◌, Option, Some, None, ◌==◌, ◌⊎◌, inl, inr, ⊎_elim, arith, nat_lt}
+use Rattle.std.proofs.Common.{◌≡◌, ℕ, ◌<◌, ◌≤◌, Bool, true, false, cond, ◌&&◌, ◌||◌, List, refl, sym, ap, ◌∙◌, Option, Some, None, ◌==◌, ◌⊎◌, inl, inr, ⊎_elim, arith, nat_lt}
 use Rattle.std.proofs.lemmas.Bool.Decides.{Decides-ltb}
 use Rattle.std.specs.Ordering.{eq_by_cmp}
 use Rattle.std.specs.FinMap.{get}
@@ -13,7 +13,7 @@ use Rattle.pac_ops.specs.Uses.{op_uses, defined_variable, modifies}
 use Rattle.pac_ops.specs.Operations.{State}
 use Rattle.pac_base.specs.Members.{Each, Mem}
 use Rattle.pac_ops.specs.Effects.{flat_cell, NumberedOp, numbered_notes, is_var, defined_in, used_in, Spot, RowAt, VarAt, seen_in}
-use Rattle.pac_plan.specs.Pieces.{Present, of_txn, with_env, part, Access, Keys, Whole, Touch, conflicts, covers, covers_write, World, ops, apply, access, precedes, needs, InputsAre, HasInputs, Location, RowOf, VarOf, seen, touches, writes}
+use Rattle.pac_plan.specs.Pieces.{Present, of_txn, with_env, part, Access, Keys, Whole, Touch, conflicts, covers, covers_write, World, ops, apply, access, precedes, needs, InputsAre, HasInputs, Location, RowOf, VarOf, at_location, touches, writes}
 use Rattle.pac_plan.specs.WorldOrder.{WellFormed}
 use Rattle.pac_commute.proofs.Turns as turns
 use Rattle.pac_base.proofs.TestLemmas.{or_left, or_right, eq_self, same_number, equal_number, and_left, and_right, and_both, and_false, or_cases, unlike, not_false, any_mem, any_gives, each_mem, mem_each}
@@ -45,7 +45,7 @@ spots t f (VarAt x) = f (VarOf t x)
 abbrev pub Own : ℕ → (Location → Bool) → Type 0
 Own t f = (u x : ℕ) → f (VarOf u x) ≡ true → u ≡ t
 
-pub seen_spot : (t : ℕ) (f : Location → Bool) (s s' : Present) → ((c : Location) → f c ≡ true → seen s c ≡ seen s' c) → AlikeOn (spots t f) (of_txn t s) (of_txn t s')
+pub seen_spot : (t : ℕ) (f : Location → Bool) (s s' : Present) → ((c : Location) → f c ≡ true → at_location s c ≡ at_location s' c) → AlikeOn (spots t f) (of_txn t s) (of_txn t s')
 seen_spot t f s s' alike (RowAt a) e = alike (RowOf a) e
 seen_spot t f s s' alike (VarAt x) e = alike (VarOf t x) e
 
@@ -58,7 +58,7 @@ other_env t u env envs e = ap (λ b. cond b env (envs u)) e
 -- a step of transaction t, given by the state that t has after it
 module _ (t : ℕ) (f : Location → Bool) (s : Present) (after : State) (n : Option Note) where
   pub kept_in : ((c : Spot) → spots t f c ≡ false → seen_in after c ≡ seen_in (of_txn t s) c)
-      → (c : Location) → f c ≡ false → seen (record { tables = after.tables; envs = with_env t after.env s.envs; note = n }) c ≡ seen s c
+      → (c : Location) → f c ≡ false → at_location (record { tables = after.tables; envs = with_env t after.env s.envs; note = n }) c ≡ at_location s c
   kept_in kept (RowOf a) out = kept (RowAt a) out
   kept_in kept (VarOf u x) out = go (u == t) refl
     where
@@ -69,8 +69,8 @@ module _ (t : ℕ) (f : Location → Bool) (s : Present) (after : State) (n : Op
       go false e = refl
 
 pub alike_in : (t : ℕ) (f : Location → Bool) (s s' : Present) (after after' : State) (n n' : Option Note)
-    → AlikeOn (spots t f) after after' → ((c : Location) → f c ≡ true → seen s c ≡ seen s' c)
-    → (c : Location) → f c ≡ true → seen (record { tables = after.tables; envs = with_env t after.env s.envs; note = n }) c ≡ seen (record { tables = after'.tables; envs = with_env t after'.env s'.envs; note = n' }) c
+    → AlikeOn (spots t f) after after' → ((c : Location) → f c ≡ true → at_location s c ≡ at_location s' c)
+    → (c : Location) → f c ≡ true → at_location (record { tables = after.tables; envs = with_env t after.env s.envs; note = n }) c ≡ at_location (record { tables = after'.tables; envs = with_env t after'.env s'.envs; note = n' }) c
 alike_in t f s s' after after' n n' own alike (RowOf a) e = own (RowAt a) e
 alike_in t f s s' after after' n n' own alike (VarOf u x) e = go (u == t) refl
   where
@@ -110,7 +110,7 @@ module _ (w : World) (well_formed : WellFormed w) (env : ℕ → Values) where
   pub good_kept : (p : PieceId) (s s' : State) → LocalInputs p s → ((c : Spot) → spots p.txn (writes w env p) c ≡ false → seen_in s' c ≡ seen_in s c) → LocalInputs p s'
   good_kept p s s' good kept x u d = ap (λ r. r.1) (kept (VarAt x) (and_false (p.txn == p.txn) _ d)) ∙ good x u d
 
-  pub laws : turns.Laws Present Location (Option RowValues × Option Value) (Option Note) (List Note) PieceId seen (λ s. s.note) (apply w) (says w) noted_by (touches w env) (writes w env) (HasInputs w env)
+  pub laws : turns.Laws Present Location (Option RowValues × Option Value) (Option Note) (List Note) PieceId at_location (λ s. s.note) (apply w) (says w) noted_by (touches w env) (writes w env) (HasInputs w env)
   unfolding apply
   laws = record {
     same = same_present;

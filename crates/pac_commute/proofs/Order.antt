@@ -11,7 +11,7 @@ use Rattle.pac_ops.specs.Operations.{State}
 use Rattle.pac_ops.specs.Flat.{flat_done, flat_reason}
 use Rattle.pac_base.specs.Members.{Each, Mem, Rises}
 use Rattle.pac_ops.specs.Effects.{NumberedOp, numbered_meaning, numbered_notes, is_var, defined_in, used_in}
-use Rattle.pac_plan.specs.Pieces.{Present, of_txn, with_env, after, run_ops, part, World, apply, partial, has_ops, blocks_of, Location, RowOf, VarOf, seen, every}
+use Rattle.pac_plan.specs.Pieces.{Present, of_txn, with_env, left_by, run_ops, part, World, apply, partial, has_ops, blocks_of, Location, RowOf, VarOf, at_location, every}
 use Rattle.pac_plan.specs.WorldOrder.{WellFormed, Ordered}
 use Rattle.pac_commute.proofs.Turns as turns
 use Rattle.pac_base.proofs.TestLemmas.{or_left, or_right, eq_self, same_number, equal_number, and_left, and_right, and_both, or_cases, any_mem, each_mem, mem_each, unlike}
@@ -50,12 +50,12 @@ op_fits t vars o = record {
 module _ (t : ℕ) (vars : List Ty) where
   -- one operation
   pub step : NumberedOp → Present → Present
-  step o s = after t (flat_done vars o.1 (of_txn t s)) (note_at t o.0 (flat_reason o.1 (of_txn t s))) s
+  step o s = left_by t (flat_done vars o.1 (of_txn t s)) (note_at t o.0 (flat_reason o.1 (of_txn t s))) s
 
   op_says : NumberedOp → Present → List Note
   op_says o s = note_at t o.0 (flat_reason o.1 (of_txn t s))
 
-  op_laws : turns.Laws Present Location (Option RowValues × Option Value) (Option Note) (List Note) NumberedOp seen (λ s. s.note) step op_says noted_by (op_touches t) (op_writes t) Anywhere
+  op_laws : turns.Laws Present Location (Option RowValues × Option Value) (Option Note) (List Note) NumberedOp at_location (λ s. s.note) step op_says noted_by (op_touches t) (op_writes t) Anywhere
   unfolding step op_says
   op_laws = record {
     same = same_present;
@@ -77,7 +77,7 @@ module _ (t : ℕ) (vars : List Ty) where
   ApartOps o d = (c : Location) → (op_writes t o c ≡ true → op_touches t d c ≡ false) × (op_writes t d c ≡ true → op_touches t o c ≡ false)
 
   op_swap : (o d : NumberedOp) (s : Present) → ApartOps o d → step o (step d s) ≡ step d (step o s)
-  op_swap o d s apart = turns.swap Present Location (Option RowValues × Option Value) (Option Note) (List Note) NumberedOp seen (λ s. s.note) step op_says noted_by (op_touches t) (op_writes t) Anywhere op_laws o d s tt tt apart
+  op_swap o d s apart = turns.swap Present Location (Option RowValues × Option Value) (Option Note) (List Note) NumberedOp at_location (λ s. s.note) step op_says noted_by (op_touches t) (op_writes t) Anywhere op_laws o d s tt tt apart
 
   -- operations one after another
   pub steps : List NumberedOp → Present → Present
@@ -99,7 +99,7 @@ module _ (t : ℕ) (vars : List Ty) where
       go u false e = refl
 
   -- the operation first, and then the others from what it left
-  seen_after : (b : State) (ns : List Note) (s : Present) → of_txn t (after t b ns s) ≡ b
+  seen_after : (b : State) (ns : List Note) (s : Present) → of_txn t (left_by t b ns s) ≡ b
   seen_after b ns s = λ i. record { env = ap (λ c. cond c b.env (s.envs t)) (eq_self t) i; tables = b.tables }
 
   pub steps_are_run : (os : List NumberedOp) (s : Present) → steps os s ≡ run_ops t vars os s
@@ -114,7 +114,7 @@ module _ (t : ℕ) (vars : List Ty) where
       said = note_at t o.0 (flat_reason o.1 (of_txn t s))
 
       first : run_ops t vars os (step o s) ≡ run_ops t vars (o ∷ os) s
-      first = (λ i. after t (numbered_meaning vars os (seen_after mid said s i)) (numbered_notes vars t os (seen_after mid said s i)) (after t mid said s))
+      first = (λ i. left_by t (numbered_meaning vars os (seen_after mid said s i)) (numbered_notes vars t os (seen_after mid said s i)) (left_by t mid said s))
           ∙ (λ i. record {
             tables = (numbered_meaning vars os mid).tables;
             envs = twice_env (numbered_meaning vars os mid).env mid.env s.envs i;

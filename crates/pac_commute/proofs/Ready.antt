@@ -11,12 +11,12 @@ use Rattle.pac_base.proofs.TestLemmas.{and_left, and_right, or_cases}
 
 module _ (w : World) where
   -- p is not above q
-  abbrev NotAbove : PieceId → PieceId → Type 0
+  abbrev pub NotAbove : PieceId → PieceId → Type 0
   NotAbove p q = (w.batch p.txn < w.batch q.txn)
       ⊎ (((w.batch p.txn ≡ w.batch q.txn) × (p.block < q.block))
       ⊎ ((w.batch p.txn ≡ w.batch q.txn) × (p.block ≡ q.block) × (p.txn ≤ q.txn)))
 
-  abbrev Above : PieceId → PieceId → Type 0
+  abbrev pub Above : PieceId → PieceId → Type 0
   Above p q = (w.batch q.txn < w.batch p.txn)
       ⊎ (((w.batch q.txn ≡ w.batch p.txn) × (q.block < p.block))
       ⊎ ((w.batch q.txn ≡ w.batch p.txn) × (q.block ≡ p.block) × (q.txn < p.txn)))
@@ -24,7 +24,7 @@ module _ (w : World) where
   three : (a b : ℕ) → (a < b) ⊎ ((a ≡ b) ⊎ (b < a))
   three a b = grind arith
 
-  compare : (p q : PieceId) → NotAbove p q ⊎ Above p q
+  pub compare : (p q : PieceId) → NotAbove p q ⊎ Above p q
   compare p q = ⊎_elim (λ l. inl (inl l)) (λ r. ⊎_elim (λ e. blocks e) (λ g. inr (inl g)) r) (three (w.batch p.txn) (w.batch q.txn))
     where
       txns : w.batch p.txn ≡ w.batch q.txn → p.block ≡ q.block → NotAbove p q ⊎ Above p q
@@ -33,7 +33,7 @@ module _ (w : World) where
       blocks : w.batch p.txn ≡ w.batch q.txn → NotAbove p q ⊎ Above p q
       blocks e = ⊎_elim (λ l. inl (inr (inl (e, l)))) (λ r. ⊎_elim (λ f. txns e f) (λ g. inr (inr (inl (sym e, g)))) r) (three p.block q.block)
 
-  step_below : (p q r : PieceId) → Above p q → NotAbove p r → NotAbove q r
+  pub step_below : (p q r : PieceId) → Above p q → NotAbove p r → NotAbove q r
   step_below p q r (inl a) (inl b) = inl (omega arith)
   step_below p q r (inl a) (inr (inl b)) = inl (omega arith)
   step_below p q r (inl a) (inr (inr b)) = inl (omega arith)
@@ -44,7 +44,7 @@ module _ (w : World) where
   step_below p q r (inr (inr a)) (inr (inl b)) = inr (inl (a.0 ∙ b.0, omega arith))
   step_below p q r (inr (inr a)) (inr (inr b)) = inr (inr (a.0 ∙ b.0, a.1 ∙ b.1, omega arith))
 
-  itself : (p : PieceId) → NotAbove p p
+  pub itself : (p : PieceId) → NotAbove p p
   itself p = inr (inr (refl, refl, omega arith))
 
   -- the least member of which the test is false

@@ -16,7 +16,7 @@ use Rattle.pac_ops.specs.Transactions.{call_state, call_notes, txn_state, txn_no
 use Rattle.pac_plan.specs.declared.parts.PlanParts.{PlanParts}
 use Rattle.pac_ops.specs.Effects.{numbered_from, numbered_meaning, numbered_notes}
 use Rattle.pac_plan.specs.Pieces.{Present, of_txn, run_ops, World, replayed_in}
-use Rattle.pac_plan.specs.Worlds.{txn_code, txn_vars, txn_args, txn_at, world, opened, IsReplay, ops_of, types_in}
+use Rattle.pac_plan.specs.Worlds.{txn_code, txn_vars, txn_args, txn_at, world, initial, IsWholeReplay, ops_of, types_in}
 use Rattle.pac_base.proofs.TestLemmas.{eq_self}
 use Rattle.pac_ops.proofs.StateLemmas.{least_none, least-assoc, first-append}
 use Rattle.pac_commute.proofs.Laws.{written_env}
@@ -37,7 +37,7 @@ module _ (parts : PlanParts) where
       go (Some program) = whole_meaning program.vars 0 program.ops (opening call.args tables)
   one_state (AdHoc records) tables = records_meaning [] 0 records (record { env = empty; tables = tables })
 
-  one_notes : (t : ℕ) (txn : Txn) (tables : Tables) → numbered_notes (txn_vars parts (Some txn)) t (txn_code parts (Some txn)) (opens txn tables) ≡ txn_notes parts.programs t txn tables
+  pub one_notes : (t : ℕ) (txn : Txn) (tables : Tables) → numbered_notes (txn_vars parts (Some txn)) t (txn_code parts (Some txn)) (opens txn tables) ≡ txn_notes parts.programs t txn tables
   unfolding numbered_notes numbered_from
   one_notes t (ACall call) tables = go (slice_get parts.programs call.proc)
     where
@@ -76,7 +76,7 @@ module _ (parts : PlanParts) where
     agrees : (txns : List Txn) (n : ℕ) (s : Present) → Has n txns → Opens n txns s → Agrees n txns s
     unfolding replayed_in Has Opens
     agrees [] n s has opens = record { tables_are = refl; note_is = sym (least_none s.note); envs_are = λ i env e. absurd cc }
-    agrees (x ∷ xs) n s has opened = from (agrees xs (n + 1) mid has_rest opens_rest)
+    agrees (x ∷ xs) n s has initial = from (agrees xs (n + 1) mid has_rest opens_rest)
       where
         mid : Present
         mid = run_ops n (w.vars n) (w.code n) s
@@ -88,7 +88,7 @@ module _ (parts : PlanParts) where
         vars = ap w.vars (at_start n) ∙ (has 0 x refl).1
 
         env : s.envs n ≡ with_values 0 (txn_args (Some x)) empty
-        env = ap s.envs (at_start n) ∙ opened 0 x refl
+        env = ap s.envs (at_start n) ∙ initial 0 x refl
 
         state : numbered_meaning (w.vars n) (w.code n) (of_txn n s) ≡ txn_state parts.programs x s.tables
         state = (λ i. numbered_meaning (vars i) (code i) (record { env = env i; tables = s.tables })) ∙ one_state x s.tables
@@ -100,7 +100,7 @@ module _ (parts : PlanParts) where
         has_rest i y e = let h = has (suc i) y e in (ap w.code (moved n i) ∙ h.0, ap w.vars (moved n i) ∙ h.1)
 
         opens_rest : (i : ℕ) (y : Txn) → slice_get xs i ≡ Some y → mid.envs (n + 1 + i) ≡ with_values 0 (txn_args (Some y)) empty
-        opens_rest i y e = other_stays n (w.vars n) (w.code n) s (n + 1 + i) (λ h. omega (arith, h)) ∙ ap s.envs (moved n i) ∙ opened (suc i) y e
+        opens_rest i y e = other_stays n (w.vars n) (w.code n) s (n + 1 + i) (λ h. omega (arith, h)) ∙ ap s.envs (moved n i) ∙ initial (suc i) y e
 
         from : Agrees (n + 1) xs mid → Agrees n (x ∷ xs) s
         from rest = record {
@@ -128,10 +128,10 @@ module _ (parts : PlanParts) where
       let back : first + i - first ≡ i = omega arith in
       ap (λ b. cond b None (slice_get txns (first + i - first))) not_below ∙ ap (slice_get txns) back ∙ e
 
-  pub is_replay : (first : ℕ) (batch : ℕ → ℕ) (txns : List Txn) (tables : Tables) → IsReplay parts first batch txns tables
+  pub is_replay : (first : ℕ) (batch : ℕ → ℕ) (txns : List Txn) (tables : Tables) → IsWholeReplay parts first batch txns tables
   unfolding Has Opens
   is_replay first batch txns tables =
-      let all : Agrees (world parts first batch txns) first txns (opened first txns tables) = agrees (world parts first batch txns) txns first (opened first txns tables)
+      let all : Agrees (world parts first batch txns) first txns (initial first txns tables) = agrees (world parts first batch txns) txns first (initial first txns tables)
       (λ i x e. (ap (txn_code parts) (at_number first txns i x e), ap (txn_vars parts) (at_number first txns i x e)))
       (λ i x e. ap (λ o. with_values 0 (txn_args o) empty) (at_number first txns i x e)) in
       record { tables_are = all.tables_are; note_is = all.note_is; envs_are = all.envs_are }

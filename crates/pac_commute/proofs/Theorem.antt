@@ -1,4 +1,4 @@
--- The theorems, over all pieces of a list of transactions.
+-- The exchange theorems, over all pieces of a list of transactions.
 use Rattle.std.proofs.Common.{◌≡◌, ℕ, ◌<◌, Bool, true, false, cond, List, [], ◌∷◌, ◌++◌, refl, ap, ◌∙◌, inl, inr}
 use Rattle.std.specs.FinMap.{get}
 use Rattle.pac_ops.specs.declared.piece.PieceId.{PieceId}

@@ -1,4 +1,4 @@
--- The law of two pieces, and the fine scheduler's readiness.
+-- Two pieces change places, and readiness without barriers holds what a piece needs.
 use Rattle.std.proofs.Common.{◌≡◌, ℕ, ◌<◌, Bool, true, false, ◌&&◌, ◌||◌, List, refl, sym, ap, ◌∙◌, subst, Option, Some, ◌==◌, ◌⊎◌, inl, inr, ⊎_elim, nat_lt}
 use Rattle.std.proofs.lemmas.Bool.Decides.{Decides-ltb}
 use Rattle.pac_value.specs.declared.values.Value.{Value}
@@ -11,7 +11,7 @@ use Rattle.pac_ops.specs.Uses.{op_uses, defined_variable}
 use Rattle.pac_ops.specs.Operations.{State}
 use Rattle.pac_base.specs.Members.{Each, Mem}
 use Rattle.pac_ops.specs.Effects.{flat_cell, NumberedOp, is_var, defined_in, used_in}
-use Rattle.pac_plan.specs.Pieces.{Present, of_txn, part, conflicts, World, ops, apply, access, precedes, HasInputs, Location, RowOf, VarOf, seen, touches, writes}
+use Rattle.pac_plan.specs.Pieces.{Present, of_txn, part, conflicts, World, ops, apply, access, precedes, HasInputs, Location, RowOf, VarOf, at_location, touches, writes}
 use Rattle.pac_plan.specs.WorldOrder.{WellFormed}
 use Rattle.pac_commute.specs.HandOut.{TwoPieces, FineReady, FineIsEnough}
 use Rattle.pac_commute.proofs.Turns as turns
@@ -53,7 +53,7 @@ module _ (w : World) (well_formed : WellFormed w) where
           let in_part : Mem o (w.code p.txn) × (w.block p.txn o ≡ p.block) = part-mem (w.block p.txn) p.block (w.code p.txn) o m in
           equal_number _ _ (sym in_part.1 ∙ sym (mem_each _ (w.code p.txn) (well_formed.homes p.txn) o in_part.0 a.0 (cell-table o.1 s.env a at)))
 
-  wide_laws : turns.Laws Present Location (Option RowValues × Option Value) (Option Note) (List Note) PieceId seen (λ s. s.note) (apply w) (says w) noted_by wide wide_writes Anywhere
+  wide_laws : turns.Laws Present Location (Option RowValues × Option Value) (Option Note) (List Note) PieceId at_location (λ s. s.note) (apply w) (says w) noted_by wide wide_writes Anywhere
   unfolding apply wide wide_writes
   wide_laws = record {
     same = same_present;
@@ -77,7 +77,7 @@ module _ (w : World) (well_formed : WellFormed w) where
 
   wide_swap : (p q : PieceId) (s : Present) → WideApart p q → apply w p (apply w q s) ≡ apply w q (apply w p s)
   unfolding WideApart
-  wide_swap p q s apart = turns.swap Present Location (Option RowValues × Option Value) (Option Note) (List Note) PieceId seen (λ s. s.note) (apply w) (says w) noted_by wide wide_writes Anywhere wide_laws p q s tt tt apart
+  wide_swap p q s apart = turns.swap Present Location (Option RowValues × Option Value) (Option Note) (List Note) PieceId at_location (λ s. s.note) (apply w) (says w) noted_by wide wide_writes Anywhere wide_laws p q s tt tt apart
 
   two_numbers : (x a b : ℕ) → (a ≡ b → ⊥) → (x == a) ≡ true → (x == b) ≡ true → ⊥
   two_numbers x a b differ e f = differ (sym (same_number x a e) ∙ same_number x b f)
@@ -124,7 +124,7 @@ module _ (w : World) (well_formed : WellFormed w) where
   pub two_pieces : TwoPieces w
   two_pieces env s p q (inl h) = wide_swap p q s (first p q h.0 h.1)
   two_pieces env s p q (inr (inl h)) = wide_swap p q s (subst (λ t. WideApart p (record { txn = t; block = q.block })) h.0 (second p.txn p.block q.block h.1 h.2 h.3))
-  two_pieces env s p q (inr (inr h)) = turns.swap Present Location (Option RowValues × Option Value) (Option Note) (List Note) PieceId seen (λ s. s.note) (apply w) (says w) noted_by (touches w env) (writes w env) (HasInputs w env)
+  two_pieces env s p q (inr (inr h)) = turns.swap Present Location (Option RowValues × Option Value) (Option Note) (List Note) PieceId at_location (λ s. s.note) (apply w) (says w) noted_by (touches w env) (writes w env) (HasInputs w env)
       (laws w well_formed env) p q s h.3 h.4 (third env p q h.0 h.2)
 
   pub fine : (env : ℕ → Values) (L : List PieceId) → FineIsEnough w env L

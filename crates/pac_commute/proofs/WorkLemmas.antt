@@ -12,10 +12,10 @@ use Rattle.pac_ops.specs.declared.piece.PieceId.{PieceId}
 use Rattle.pac_ops.specs.Notes.{first_note, least}
 use Rattle.pac_ops.specs.Operations.{State}
 use Rattle.pac_base.specs.Members.{Mem}
-use Rattle.pac_plan.specs.Pieces.{Present, of_txn, World, ops, apply, partial, pieces, part, access, Touch, Keys, covers, HasInputs, Location, RowOf, VarOf, seen, touches, writes}
+use Rattle.pac_plan.specs.Pieces.{Present, of_txn, World, ops, apply, partial, pieces, part, access, Touch, Keys, covers, HasInputs, Location, RowOf, VarOf, at_location, touches, writes}
 use Rattle.pac_ops.specs.Effects.{defined_in, used_in, RowAt, VarAt}
 use Rattle.pac_plan.specs.WorldOrder.{WellFormed}
-use Rattle.pac_commute.specs.Works.{IsWork, worked, IsDone, put_over, given_over, IsPut, WorkIsApply, WithinAccess, Fresh, copied_rows, with_value, copied_values, CopiesAreWork}
+use Rattle.pac_commute.specs.Works.{IsWork, worked, IsOutcome, put_over, given_over, IsPut, WorkIsApply, WithinAccess, Fresh, copied_rows, with_value, copied_values, CopiesAreWork}
 use Rattle.pac_base.proofs.TestLemmas.{eq_self, same_number, equal_number, and_right, and_both, or_cases, unlike, or_right}
 use Rattle.pac_commute.proofs.Present.{same_present}
 use Rattle.pac_ops.proofs.FrameLemmas.{AlikeOn, alike_ops, said_alike}
@@ -40,7 +40,7 @@ module _ (w : World) (well_formed : WellFormed w) where
     after_alike : AlikeOn (spots p.txn (touches w env p)) (worked w p (of_txn p.txn s)) (worked w p work)
     after_alike = alike_ops (w.vars p.txn) (spots p.txn (touches w env p)) (spots p.txn (writes w env p)) (LocalInputs w well_formed env p) (good_kept w well_formed env p) (ops w p) (fits w well_formed env p) (of_txn p.txn s) work good alike
 
-    module _ (s' : Present) (rows : Cell → Option (Option RowValues)) (outs : ℕ → Option Value) (done : IsDone w env p work rows outs) (put : IsPut w p work rows outs s s') where
+    module _ (s' : Present) (rows : Cell → Option (Option RowValues)) (outs : ℕ → Option Value) (done : IsOutcome w env p work rows outs) (put : IsPut w p work rows outs s s') where
       row_same : (q : Cell) → get s'.tables q ≡ get (worked w p (of_txn p.txn s)).tables q
       unfolding apply
       row_same q = put.tables q ∙ go (rows q) refl
@@ -52,7 +52,7 @@ module _ (w : World) (well_formed : WellFormed w) where
               ap (λ r. r.0) (alike (RowAt q) touched) ∙ sym (done.unwritten q none) ∙ sym (ap (λ r. r.0) (after_alike (RowAt q) touched))
           stays false e none = sym (ap (λ r. r.0) (kept_row e))
             where
-              kept_row : writes w env p (RowOf q) ≡ false → seen (apply w p s) (RowOf q) ≡ seen s (RowOf q)
+              kept_row : writes w env p (RowOf q) ≡ false → at_location (apply w p s) (RowOf q) ≡ at_location s (RowOf q)
               kept_row e = (laws w well_formed env).kept p s good (RowOf q) e
 
           go : (o : Option (Option RowValues)) → rows q ≡ o → put_over o (get s.tables q) ≡ get (worked w p (of_txn p.txn s)).tables q
@@ -84,7 +84,7 @@ module _ (w : World) (well_formed : WellFormed w) where
       unfolding apply
       put_is_apply = same_present s' (apply w p s) offsets notes
         where
-          offsets : (c : Location) → seen s' c ≡ seen (apply w p s) c
+          offsets : (c : Location) → at_location s' c ≡ at_location (apply w p s) c
           offsets (RowOf q) = ap (λ r. (r, None)) (row_same q)
           offsets (VarOf u x) = ap (λ v. (None, v)) (go (u == p.txn) refl)
             where

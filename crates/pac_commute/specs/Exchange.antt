@@ -1,11 +1,9 @@
 -- The laws of partial replay: which piece may come last, which inputs it finds, and what all pieces leave.
-use Rattle.std.specs.Prelude.{◌≡◌, ◌⊎◌, ℕ, ◌<◌, ◌≤◌, Bool, true, false, ◌&&◌, ◌==◌, List, [], ◌∷◌, Some}
+use Rattle.std.specs.Prelude.{◌≡◌, ℕ, Bool, true, false, ◌&&◌, ◌==◌, List}
 use Rattle.pac_value.specs.Expressions.{Values}
 use Rattle.pac_ops.specs.declared.piece.PieceId.{PieceId}
-use Rattle.pac_ops.specs.Uses.{op_uses, defined_variable, accessed_table}
-use Rattle.pac_base.specs.Members.{Each, Mem}
-use Rattle.pac_ops.specs.Effects.{NumberedOp, is_var, defined_in, used_in}
-use Rattle.pac_plan.specs.Pieces.{Present, Location, seen, World, part, precedes, needs, partial, apply, HasInputs, adds, pieces, replayed_in, touches}
+use Rattle.pac_base.specs.Members.{Mem}
+use Rattle.pac_plan.specs.Pieces.{Present, Location, at_location, World, precedes, needs, partial, apply, HasInputs, adds, pieces, replayed_in, touches}
 
 -- the environments that the whole replay leaves
 abbrev pub env_after : World → List ℕ → Present → ℕ → Values
@@ -55,4 +53,4 @@ Undisturbed w ts bs =
     → HoldsNeeds w (env_after w ts s) (pieces w ts bs) F
     → ((r : PieceId) → Mem r (pieces w ts bs) → needs w (env_after w ts s) r p ≡ true → F r ≡ true)
     → ((r : PieceId) → Mem r (pieces w ts bs) → needs w (env_after w ts s) r q ≡ true → F r ≡ true)
-    → (c : Location) → touches w (env_after w ts s) p c ≡ true → seen (partial w (adds F q) (pieces w ts bs) s) c ≡ seen (partial w F (pieces w ts bs) s) c
+    → (c : Location) → touches w (env_after w ts s) p c ≡ true → at_location (partial w (adds F q) (pieces w ts bs) s) c ≡ at_location (partial w F (pieces w ts bs) s) c

@@ -1,7 +1,10 @@
 pub mod SerialEnd
 pub mod Machine
+pub mod Loads
 pub mod HandOut
 pub mod PartialFits
 pub mod PlanLaws
 pub mod Works
 pub mod Exchange
+pub mod Bank
+pub mod Examples

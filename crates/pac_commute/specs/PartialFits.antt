@@ -14,15 +14,16 @@ use Rattle.pac_plan.specs.Analysis.{IsPlan}
 use Rattle.pac_base.specs.Members.{Mem}
 use Rattle.pac_plan.specs.Pieces.{Present, of_txn, World, ops, pieces, partial, needs}
 use Rattle.pac_commute.specs.Exchange.{env_after, HoldsNeeds}
-use Rattle.pac_plan.specs.Worlds.{opened, numbers, blocks_in}
+use Rattle.pac_plan.specs.Worlds.{initial, blocks_in}
 use Rattle.pac_ops.specs.StaysFit.{StaysFitAt}
-use Rattle.pac_commute.specs.PlanLaws.{planned}
+use Rattle.pac_commute.specs.PlanLaws.{txns_of, NumbersRunOn, planned, numbers_of}
 
 -- a transaction fits a plan: a call's program is there, with parameters of the arguments' types, and records fit the tables
 abbrev pub TxnFitsPlan : PlanParts → Txn → Type 0
 TxnFitsPlan parts (ACall call) = IsSomeAnd (slice_get parts.programs call.proc) (λ program. map type_of call.args ≡ program.params)
 TxnFitsPlan parts (AdHoc records) = RecordsFit parts.tables records
 
+-- each transaction fits the plan
 abbrev pub TxnsFitPlan : PlanParts → List Txn → Type 0
 TxnsFitPlan parts txns = (i : ℕ) (txn : Txn) → slice_get txns i ≡ Some txn → TxnFitsPlan parts txn
 
@@ -33,9 +34,9 @@ pub record PresentFits (parts : PlanParts) (w : World) (s : Present) : Type 0 wh
 
 -- a partial replay that holds what its pieces need fits, and each piece that has what it needs finds what it uses there
 abbrev pub PartialStaysFit : Type 0
-PartialStaysFit = (parts : PlanParts) → IsPlan parts → (first : ℕ) (batches : List Batch) (txns : List Txn) → TxnsFitPlan parts txns
+PartialStaysFit = (parts : PlanParts) → IsPlan parts → (first : ℕ) (batches : List Batch) → NumbersRunOn first batches → TxnsFitPlan parts (txns_of batches)
     → (tables : Tables) → RowsFit parts.tables tables → (F : PieceId → Bool)
-    → HoldsNeeds (planned parts first batches txns) (env_after (planned parts first batches txns) (numbers first txns) (opened first txns tables)) (pieces (planned parts first batches txns) (numbers first txns) (blocks_in parts)) F
-    → PresentFits parts (planned parts first batches txns) (partial (planned parts first batches txns) F (pieces (planned parts first batches txns) (numbers first txns) (blocks_in parts)) (opened first txns tables))
-    × ((p : PieceId) → ((q : PieceId) → Mem q (pieces (planned parts first batches txns) (numbers first txns) (blocks_in parts)) → needs (planned parts first batches txns) (env_after (planned parts first batches txns) (numbers first txns) (opened first txns tables)) q p ≡ true → F q ≡ true)
-    → StaysFitAt parts.tables ((planned parts first batches txns).vars p.txn) (ops (planned parts first batches txns) p) (of_txn p.txn (partial (planned parts first batches txns) F (pieces (planned parts first batches txns) (numbers first txns) (blocks_in parts)) (opened first txns tables))))
+    → HoldsNeeds (planned parts first batches) (env_after (planned parts first batches) (numbers_of first batches) (initial first (txns_of batches) tables)) (pieces (planned parts first batches) (numbers_of first batches) (blocks_in parts)) F
+    → PresentFits parts (planned parts first batches) (partial (planned parts first batches) F (pieces (planned parts first batches) (numbers_of first batches) (blocks_in parts)) (initial first (txns_of batches) tables))
+    × ((p : PieceId) → ((q : PieceId) → Mem q (pieces (planned parts first batches) (numbers_of first batches) (blocks_in parts)) → needs (planned parts first batches) (env_after (planned parts first batches) (numbers_of first batches) (initial first (txns_of batches) tables)) q p ≡ true → F q ≡ true)
+    → StaysFitAt parts.tables ((planned parts first batches).vars p.txn) (ops (planned parts first batches) p) (of_txn p.txn (partial (planned parts first batches) F (pieces (planned parts first batches) (numbers_of first batches) (blocks_in parts)) (initial first (txns_of batches) tables))))

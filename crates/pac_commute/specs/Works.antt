@@ -9,7 +9,7 @@ use Rattle.pac_ops.specs.Notes.{first_note, least}
 use Rattle.pac_ops.specs.Operations.{State}
 use Rattle.pac_base.specs.Members.{Mem}
 use Rattle.pac_ops.specs.Effects.{numbered_meaning, numbered_notes, defined_in, used_in}
-use Rattle.pac_plan.specs.Pieces.{Present, World, ops, apply, partial, pieces, access, Touch, Keys, covers, HasInputs, Location, RowOf, seen, touches, writes}
+use Rattle.pac_plan.specs.Pieces.{Present, World, ops, apply, partial, pieces, access, Touch, Keys, covers, HasInputs, Location, RowOf, at_location, touches, writes}
 
 -- the rows of the access, the inputs, and no value of a variable that the piece defines
 pub record IsWork (w : World) (env : ℕ → Values) (p : PieceId) (s : Present) (work : State) : Type 0 where
@@ -17,20 +17,23 @@ pub record IsWork (w : World) (env : ℕ → Values) (p : PieceId) (s : Present)
   pub inputs : (x : ℕ) → used_in (ops w p) x ≡ true → defined_in (ops w p) x ≡ false → get work.env x ≡ get (s.envs p.txn) x
   pub fresh : (x : ℕ) → defined_in (ops w p) x ≡ true → get work.env x ≡ get (s.envs p.txn) x
 
+-- the state of the work once the operations of the piece have run on it
 abbrev pub worked : World → PieceId → State → State
 worked w p work = numbered_meaning (w.vars p.txn) (ops w p) work
 
 -- the rows that the piece wrote, and the variables that it gave, by look-up
-pub record IsDone (w : World) (env : ℕ → Values) (p : PieceId) (work : State) (rows : Cell → Option (Option RowValues)) (outs : ℕ → Option Value) : Type 0 where
+pub record IsOutcome (w : World) (env : ℕ → Values) (p : PieceId) (work : State) (rows : Cell → Option (Option RowValues)) (outs : ℕ → Option Value) : Type 0 where
   pub written : (q : Cell) (row : Option RowValues) → rows q ≡ Some row → (writes w env p (RowOf q) ≡ true) × (get (worked w p work).tables q ≡ row)
   pub unwritten : (q : Cell) → rows q ≡ None → get (worked w p work).tables q ≡ get work.tables q
   pub given : (x : ℕ) (v : Value) → outs x ≡ Some v → (defined_in (ops w p) x ≡ true) × (get (worked w p work).env x ≡ Some v)
   pub ungiven : (x : ℕ) → outs x ≡ None → get (worked w p work).env x ≡ get work.env x
 
+-- what was made, or what stood before where nothing was made
 abbrev pub put_over : {A : Type 0} → Option A → A → A
 put_over None old = old
 put_over (Some new) old = new
 
+-- the value that was given, or the one before where none was
 abbrev pub given_over : Option Value → Option Value → Option Value
 given_over None old = old
 given_over (Some v) old = Some v
@@ -45,13 +48,13 @@ pub record IsPut (w : World) (p : PieceId) (work : State) (rows : Cell → Optio
 -- work on copies, put back, is `apply`
 abbrev pub WorkIsApply : World → Type 0
 WorkIsApply w = (env : ℕ → Values) (p : PieceId) (s s' : Present) (work : State) (rows : Cell → Option (Option RowValues)) (outs : ℕ → Option Value)
-    → HasInputs w env p s → IsWork w env p s work → IsDone w env p work rows outs → IsPut w p work rows outs s s' → s' ≡ apply w p s
+    → HasInputs w env p s → IsWork w env p s work → IsOutcome w env p work rows outs → IsPut w p work rows outs s s' → s' ≡ apply w p s
 
 -- what a piece does depends on its inputs and on the rows of its access alone, and it changes nothing but what it writes
 abbrev pub WithinAccess : World → Type 0
 WithinAccess w = (env : ℕ → Values) (p : PieceId) (s : Present) → HasInputs w env p s
-    → ((c : Location) → writes w env p c ≡ false → seen (apply w p s) c ≡ seen s c)
-    × ((s' : Present) → ((c : Location) → touches w env p c ≡ true → seen s c ≡ seen s' c) → (c : Location) → touches w env p c ≡ true → seen (apply w p s) c ≡ seen (apply w p s') c)
+    → ((c : Location) → writes w env p c ≡ false → at_location (apply w p s) c ≡ at_location s c)
+    × ((s' : Present) → ((c : Location) → touches w env p c ≡ true → at_location s c ≡ at_location s' c) → (c : Location) → touches w env p c ≡ true → at_location (apply w p s) c ≡ at_location (apply w p s') c)
 
 -- a piece that isn't in F has given nothing
 abbrev pub Fresh : World → List ℕ → List ℕ → Type 0
@@ -63,10 +66,12 @@ abbrev pub copied_rows : List Touch → Tables → Tables
 copied_rows [] tables = empty
 copied_rows (e ∷ es) tables = with_row (copied_rows es tables) e.at (get tables e.at)
 
+-- a variable has this value, or none
 abbrev pub with_value : Values → ℕ → Option Value → Values
 with_value env x None = remove env x
 with_value env x (Some v) = insert env x v
 
+-- copies of the values of variables
 abbrev pub copied_values : List ℕ → Values → Values
 copied_values [] env = empty
 copied_values (x ∷ xs) env = with_value (copied_values xs env) x (get env x)

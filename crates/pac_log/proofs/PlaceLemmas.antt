@@ -26,7 +26,7 @@ use Rattle.pac_bytes.specs.declared.fault.TypedFault.{TypedFault}
 use Rattle.pac_bytes.specs.declared.fault.TypedFault.TheVariants as typed
 use Rattle.pac_bytes.specs.declared.fault.ValueFault.{ValueFault}
 use Rattle.pac_bytes.specs.declared.fault.ValueFault.TheVariants as value
-use Rattle.pac_bytes.specs.Reading.{Rest, from, after, reported_as, short_at, leading_byte, next_byte, next_bytes, next_uint, times, along, all_read, within}
+use Rattle.pac_bytes.specs.Reading.{Rest, from, advanced, reported_as, short_at, leading_byte, next_byte, next_bytes, next_uint, times, along, all_read, within}
 use Rattle.pac_bytes.specs.Typed.{as_typed_fault, same_type, next_typed, next_key, next_values}
 use Rattle.pac_bytes.specs.Values.{as_value_fault, type_of_tag, next_type, int_body, printable_text, text_of_length, text_body, value_body, next_value}
 use Rattle.pac_entry.specs.declared.fault.EntryFault.{EntryFault}
@@ -79,7 +79,7 @@ byte_ends s end le = prefix_ends s.at end s.bytes le
 
 bytes_end : {F : Type 0} (place : F → ℕ) (fault : F) (n : ℕ) (s : Rest) (end : ℕ) → place fault ≤ end → s.at + length s.bytes ≤ end → ByEnd place end (EndsBy end) (next_bytes fault n s)
 bytes_end place fault n s end low le =
-    either place end (EndsBy end) (ltb (length s.bytes) n) (Err fault) (Ok (take n s.bytes, after n s)) (λ cut. low)
+    either place end (EndsBy end) (ltb (length s.bytes) n) (Err fault) (Ok (take n s.bytes, advanced n s)) (λ cut. low)
     (λ there. let many : n ≤ length s.bytes = ltb-false _ _ there in omega (arith, many, le, length-drop n s.bytes))
 
 uint_ends : (w : Width) (s : Rest) (end : ℕ) → s.at + length s.bytes ≤ end → ByEnd short_place end (EndsBy end) (next_uint w s)
@@ -239,7 +239,7 @@ link_place fault = fault.at
 number_ends : (s : Rest) (end : ℕ) → s.at + length s.bytes ≤ end → ByEnd link_place end (EndsBy end) (link_number s)
 number_ends s end le = reported_again short_place link_place end (EndsBy end) as_link_fault (next_uint w32 s) (λ fault. refl) (uint_ends w32 s end le)
 
-filled_ends : {A : Type 0} (end n : ℕ) (s : Rest) (x : A × Rest) → n ≤ length s.bytes → s.at + length s.bytes ≤ end → EndsBy end x → ByEnd link_place end (EndsBy end) (all_read out_of_range (after n s) x)
+filled_ends : {A : Type 0} (end n : ℕ) (s : Rest) (x : A × Rest) → n ≤ length s.bytes → s.at + length s.bytes ≤ end → EndsBy end x → ByEnd link_place end (EndsBy end) (all_read out_of_range (advanced n s) x)
 filled_ends end n s x many le is = either link_place end (EndsBy end) (eqb (length x.1.bytes) 0) _ _ (λ e. omega (arith, many, le, length-drop n s.bytes)) (λ e. omega (arith, is))
 
 within_ends : {A : Type 0} (end n : ℕ) (read : Rest → Result (A × Rest) LinkFault) (s : Rest) → ((t : Rest) → t.at + length t.bytes ≤ end → ByEnd link_place end (EndsBy end) (read t)) → s.at + length s.bytes ≤ end

@@ -102,8 +102,8 @@ impl LogReader {
         &self.parts.gate
     }
 
-    /// The batch after the gate that comes next, or `None` where that is shut. Each byte is read once, by three calls of
-    /// the device for a batch. It takes memory for one body and its transactions.
+    /// The batch after the gate byte that comes next, or `None` where that is closed. A batch takes three calls of the
+    /// device; the gate byte after it is read again with the next one. It takes memory for one body and its transactions.
     ///
     /// # Errors
     ///

@@ -12,7 +12,7 @@ use Rattle.pac_ops.specs.Uses.{use_step, expr_uses, conds_use, kind_uses, op_use
 use Rattle.pac_ops.specs.Flat.{is_as_asked, all_hold}
 use Rattle.pac_base.specs.Members.{Mem}
 use Rattle.pac_ops.specs.Effects.{target_of, cell_in, flat_cell, NumberedOp, defined_in, used_in}
-use Rattle.pac_plan.specs.Pieces.{avoid_step, avoids, is_bounded, may_pass, cell_of, Touch, Access, Keys, Whole, touch, touches_of, is_loose, access_of, conflicts, covers, covers_write}
+use Rattle.pac_plan.specs.Pieces.{avoid_step, avoids, is_bounded, may_pass, op_cell, Touch, Access, Keys, Whole, touch, touches_of, is_loose, access_of, conflicts, covers, covers_write}
 use Rattle.pac_base.proofs.TestLemmas.{or_left, or_right, eq_self, same_number, and_left, and_right, and_both, not_true, or_cases, unlike, any_mem, any_gives}
 use Rattle.pac_ops.proofs.EffectLemmas.{named, touched-named, key_uses, key-kind, named-alike, cell-holds}
 
@@ -43,11 +43,11 @@ module _ (os : List NumberedOp) (env env' : Values) (inputs : (x : ℕ) → used
   used_by o m x u = any_mem (λ (d : NumberedOp). op_uses x d.1) o os m u
 
   -- the touches hold each operation's location, marked by whether it modifies
-  listed : (more : List NumberedOp) (o : NumberedOp) (a : Cell) → Mem o more → may_pass os env o.1.conds ≡ true → cell_of o.1 env ≡ Some a
+  listed : (more : List NumberedOp) (o : NumberedOp) (a : Cell) → Mem o more → may_pass os env o.1.conds ≡ true → op_cell o.1 env ≡ Some a
       → Mem (record { at = a; is_write = modifies o.1.kind }) (touches_of os env more)
   listed [] o a m p e = absurd m
   listed (d ∷ more) o a (inl same) p e = subst (λ (d : NumberedOp). Mem (record { at = a; is_write = modifies o.1.kind }) (touches_of os env (d ∷ more))) same (rw (p, e) (inl refl))
-  listed (d ∷ more) o a (inr m) p e = later (may_pass os env d.1.conds) (cell_of d.1 env) (listed more o a m p e)
+  listed (d ∷ more) o a (inr m) p e = later (may_pass os env d.1.conds) (op_cell d.1 env) (listed more o a m p e)
     where
       later : (b : Bool) (q : Option Cell) → Mem (record { at = a; is_write = modifies o.1.kind }) (touches_of os env more)
           → Mem (record { at = a; is_write = modifies o.1.kind }) (cond b (touch q (modifies d.1.kind) (touches_of os env more)) (touches_of os env more))
@@ -77,7 +77,7 @@ module _ (os : List NumberedOp) (env env' : Values) (inputs : (x : ℕ) → used
           tight true h = refl
           tight false h = sym loose ∙ any_mem (is_loose os env) o os m (and_both (may_pass os env o.1.conds) (not (is_bounded os (target_of o.1.kind))) pass (ap not h))
 
-          there : cell_of o.1 env ≡ Some a
+          there : op_cell o.1 env ≡ Some a
           there = ap cell_in (touched-named o.1.kind env)
               ∙ ap cell_in (sym (named-alike (target_of o.1.kind) env' env (λ x u. inputs x (used_by o m x (or_right (conds_use x o.1.conds) (kind_uses x o.1.kind) (key-kind o.1.kind x u))) (bounded-uses os (target_of o.1.kind) (tight _ refl) x u))))
               ∙ held.1

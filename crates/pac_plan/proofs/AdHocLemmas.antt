@@ -1,23 +1,15 @@
 -- An ad hoc piece makes the changes of its records.
-use Rattle.std.proofs.Common.{◌≡◌, ℕ, ◌+◌, ◌==◌, Bool, true, false, cond, List, [], ◌∷◌, map, refl, sym, ap, ap₂, ◌∙◌, Option}
-use Rattle.std.specs.Prelude.{slice_get}
-use Rattle.std.specs.Option.{option_map, option_and_then}
-use Rattle.pac_value.specs.declared.values.Ty.{Ty}
-use Rattle.pac_value.specs.Values.{type_of}
-use Rattle.pac_value.specs.Expressions.{type_in, type_step, types_of, operator_type, negated_type}
-use Rattle.pac_value.proofs.ByForms.{by_forms, fold-Lit, fold-Var, fold-Bin, fold-Not}
+use Rattle.std.proofs.Common.{◌≡◌, ◌+◌, ◌==◌, Bool, true, false, cond, List, [], ◌∷◌, map, refl, ap, ◌∙◌}
 use Rattle.pac_ops.specs.declared.transaction.Change.{Change}
 use Rattle.pac_ops.specs.declared.transaction.Change.TheVariants.{Put as PutRow, Delete as DeleteRow}
-use Rattle.pac_ops.specs.Uses.{use_step, expr_uses, accessed_table}
+use Rattle.pac_ops.specs.Uses.{accessed_table}
 use Rattle.pac_ops.specs.Operations.{State}
 use Rattle.pac_ops.specs.Transactions.{with_change, with_changes}
 use Rattle.pac_plan.specs.declared.parts.PlanParts.{PlanParts}
 use Rattle.pac_ops.specs.Effects.{NumberedOp, numbered_from, numbered_meaning, record_op}
 use Rattle.pac_plan.specs.Pieces.{part}
 use Rattle.pac_plan.specs.Worlds.{home_in, home_or}
-use Rattle.pac_ops.specs.StaysFit.{HasTyped, TypedOverValues}
 use Rattle.pac_plan.specs.PieceFits.{change_table, records_in, AdHocPieces}
-use Rattle.pac_base.proofs.TestLemmas.{or_left, or_right, eq_self}
 use Rattle.pac_ops.proofs.RecordLemmas.{record_flat}
 
 home-record : (parts : PlanParts) (c : Change) → home_or parts (accessed_table (record_op c).kind) ≡ home_in parts (change_table c)

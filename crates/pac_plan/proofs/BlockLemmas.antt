@@ -1,8 +1,8 @@
 -- Where the block of an operation stands.
-use Rattle.std.proofs.Common.{◌≡◌, ℕ, ◌<◌, List, length, Option, Some, None, refl, sym, ap, ◌∙◌, arith}
+use Rattle.std.proofs.Common.{◌≡◌, ℕ, ◌<◌, List, length, Some, sym, ap, ◌∙◌, arith}
 use Rattle.std.specs.Prelude.{slice_get}
 use Rattle.std.specs.Option.{option_map}
-use Rattle.std.proofs.lemmas.Option.{slice_get-map, same_Some}
+use Rattle.std.proofs.lemmas.Option.{slice_get-map}
 use Rattle.pac_ops.specs.declared.program.Program.{Program}
 use Rattle.pac_base.proofs.ItemLemmas.{item, mapped_some}
 use Rattle.pac_plan.specs.declared.parts.PlanParts.{PlanParts}

@@ -6,7 +6,7 @@ use Rattle.pac_value.specs.State.{Cell, cell_cmp}
 use Rattle.pac_value.proofs.CellLemmas.{same-cell, tied_same}
 use Rattle.pac_base.specs.Members.{Mem}
 use Rattle.pac_plan.specs.Pieces.{Access, Keys, Whole, Touch, conflicts}
-use Rattle.pac_plan.specs.NextPairs.{is_whole, has_key, writes_key, IsNext, Chain, One, Then, NextPairs, ClosedByNext}
+use Rattle.pac_plan.specs.NextPairs.{is_whole, has_key, writes_key, IsNextPair, Chain, One, Then, NextPairs, ClosedByNext}
 use Rattle.pac_base.proofs.TestLemmas.{or_left, or_right, or_cases, and_left, and_right, and_both, any_mem, any_gives, same_number, equal_number, not_false}
 
 -- both touch a key that one modifies
@@ -121,11 +121,11 @@ module _ (at : ℕ → Access) where
       (λ m. key_chain (j - (i + 1)) i (j - (i + 1)) m.0 (omega arith) (subst (λ n. Meet (at i) (at n) m.0) far m.1))
       (conflict_meets (at i) (at j) h))
 
-  next_conflicts : (i j : ℕ) → IsNext at i j → conflicts (at i) (at j) ≡ true
+  next_conflicts : (i j : ℕ) → IsNextPair at i j → conflicts (at i) (at j) ≡ true
   next_conflicts i j (lt, inl (a, h, k, w, none)) = meet_conflict (at i) (at j) a (h, k, w)
   next_conflicts i j (lt, inr (w, none)) = whole_conflict (at i) (at j) w
 
-  closed_chain : (F : ℕ → Bool) → ((i j : ℕ) → IsNext at i j → F j ≡ true → F i ≡ true) → {i j : ℕ} → Chain at i j → F j ≡ true → F i ≡ true
+  closed_chain : (F : ℕ → Bool) → ((i j : ℕ) → IsNextPair at i j → F j ≡ true → F i ≡ true) → {i j : ℕ} → Chain at i j → F j ≡ true → F i ≡ true
   closed_chain F closed (One i j next) f = closed i j next f
   closed_chain F closed (Then i m j c d) f = closed_chain F closed c (closed_chain F closed d f)
 

@@ -1,17 +1,13 @@
 -- What a piece finds: its inputs where it may run, rows that keep fitting, and the records of an ad hoc one.
-use Rattle.std.specs.Prelude.{◌≡◌, ℕ, true, false, List, [], ◌∷◌, map, take, slice_get, Some, ◌==◌, filter}
-use Rattle.std.specs.FinMap.{get}
+use Rattle.std.specs.Prelude.{◌≡◌, ℕ, true, false, List, map, slice_get, Some, ◌==◌, filter}
 use Rattle.pac_value.specs.declared.values.Ty.{Ty}
 use Rattle.pac_value.specs.declared.values.Value.{Value}
 use Rattle.pac_value.specs.Values.{type_of}
-use Rattle.pac_value.specs.Expressions.{Values, type_in, types_of}
+use Rattle.pac_value.specs.Expressions.{Values}
 use Rattle.pac_value.specs.State.{Tables}
-use Rattle.pac_ops.specs.declared.shapes.TableTypes.{TableTypes}
-use Rattle.pac_ops.specs.declared.program.FlatOp.{FlatOp}
 use Rattle.pac_ops.specs.declared.program.Program.{Program}
 use Rattle.pac_ops.specs.Shapes.{RowsFit}
-use Rattle.pac_ops.specs.Programs.{IsWellFormedProgram}
-use Rattle.pac_ops.specs.Uses.{op_uses, expr_uses, accessed_table}
+use Rattle.pac_ops.specs.Uses.{op_uses, accessed_table}
 use Rattle.pac_ops.specs.Operations.{State, opening}
 use Rattle.pac_plan.specs.declared.parts.PlanParts.{PlanParts}
 use Rattle.pac_plan.specs.Nodes.{Operation}
@@ -19,9 +15,8 @@ use Rattle.pac_plan.specs.Analysis.{IsPlan, block_in}
 use Rattle.pac_base.specs.Members.{Mem}
 use Rattle.pac_ops.specs.Effects.{NumberedOp, numbered_from, defined_in, numbered_meaning, record_op}
 use Rattle.pac_plan.specs.Pieces.{part, may_pass, InputsAre}
-use Rattle.pac_ops.specs.Flat.{all_hold, flat_done, flat_meaning}
+use Rattle.pac_ops.specs.Flat.{flat_meaning}
 use Rattle.pac_ops.specs.StaysFit.{HasTyped, IsFit, StaysFitAt}
-use Rattle.pac_value.specs.declared.expr.Expr.{Expr}
 use Rattle.pac_ops.specs.declared.transaction.Change.{Change}
 use Rattle.pac_ops.specs.declared.transaction.Change.TheVariants.{Put as PutRow, Delete as DeleteRow}
 use Rattle.pac_ops.specs.Transactions.{with_changes}

@@ -15,7 +15,7 @@ use Rattle.pac_ops.specs.declared.note.Note.{Note}
 use Rattle.pac_ops.specs.declared.piece.PieceId.{PieceId}
 use Rattle.pac_ops.specs.declared.program.FlatOp.{FlatOp}
 use Rattle.pac_ops.specs.Notes.{first_note, least}
-use Rattle.pac_ops.specs.Uses.{op_uses, defined_variable, modifies}
+use Rattle.pac_ops.specs.Uses.{modifies}
 use Rattle.pac_ops.specs.Operations.{State, touched}
 use Rattle.pac_ops.specs.Flat.{is_as_asked}
 use Rattle.pac_ops.specs.Effects.{target_of, cell_in, NumberedOp, numbered_meaning, numbered_notes, defined_in, used_in}
@@ -32,15 +32,17 @@ pub record Present : Type 0 where
 abbrev pub of_txn : ℕ → Present → State
 of_txn t s = record { env = s.envs t; tables = s.tables }
 
+-- a transaction has these values of variables from now on
 abbrev pub with_env : ℕ → Values → (ℕ → Values) → ℕ → Values
 with_env t env envs u = if u == t then env else envs u
 
 -- a transaction left this state, and notes
-abbrev pub after : ℕ → State → List Note → Present → Present
-after t s notes before = record { tables = s.tables; envs = with_env t s.env before.envs; note = least before.note (first_note notes) }
+abbrev pub left_by : ℕ → State → List Note → Present → Present
+left_by t s notes before = record { tables = s.tables; envs = with_env t s.env before.envs; note = least before.note (first_note notes) }
 
+-- a transaction runs operations
 abbrev pub run_ops : ℕ → List Ty → List NumberedOp → Present → Present
-run_ops t vars os s = after t (numbered_meaning vars os (of_txn t s)) (numbered_notes vars t os (of_txn t s)) s
+run_ops t vars os s = left_by t (numbered_meaning vars os (of_txn t s)) (numbered_notes vars t os (of_txn t s)) s
 
 -- ---- the operations of a piece
 
@@ -56,6 +58,7 @@ avoid_step f (Var x) = not (f x)
 avoid_step f (Bin op l r) = l && r
 avoid_step f (Not e) = e
 
+-- no variable that passes the test is used in the expression
 abbrev pub avoids : (ℕ → Bool) → Expr → Bool
 avoids f = fold-Expr Bool (avoid_step f)
 
@@ -70,42 +73,51 @@ may_pass os env [] = true
 may_pass os env (c ∷ cs) = (defined_in os c.0 || is_as_asked c.1 (get env c.0)) && may_pass os env cs
 
 -- the cell at the location that an operation names, unless its key traps
-abbrev pub cell_of : FlatOp → Values → Option Cell
-cell_of op env = cell_in (touched op.kind env)
+abbrev pub op_cell : FlatOp → Values → Option Cell
+op_cell op env = cell_in (touched op.kind env)
 
 -- ---- accesses
 
+-- a row that an access names, and whether it is modified
 pub record Touch : Type 0 where
   pub at : Cell
   pub is_write : Bool
 
+-- which rows a piece may touch: those at keys, or any of its block
 pub data Access : Type 0 where
   Keys : List Touch → Access
   Whole : Access
 
+-- one more touch, where there is a cell
 abbrev pub touch : Option Cell → Bool → List Touch → List Touch
 touch None w rest = rest
 touch (Some a) w rest = record { at = a; is_write = w } ∷ rest
 
+-- the touches of the operations that may run
 abbrev pub touches_of : List NumberedOp → Values → List NumberedOp → List Touch
 touches_of os env [] = []
-touches_of os env (o ∷ more) = if may_pass os env o.1.conds then touch (cell_of o.1 env) (modifies o.1.kind) (touches_of os env more) else touches_of os env more
+touches_of os env (o ∷ more) = if may_pass os env o.1.conds then touch (op_cell o.1 env) (modifies o.1.kind) (touches_of os env more) else touches_of os env more
 
+-- an operation may run, and its key is not bounded
 abbrev pub is_loose : List NumberedOp → Values → NumberedOp → Bool
 is_loose os env o = may_pass os env o.1.conds && not (is_bounded os (target_of o.1.kind))
 
+-- the access of operations, over the values that come from elsewhere
 abbrev pub access_of : List NumberedOp → Values → Access
 access_of os env = if list_any (is_loose os env) os then Whole else Keys (touches_of os env os)
 
+-- two accesses conflict: one of them is whole, or both name a row that one of them modifies
 abbrev pub conflicts : Access → Access → Bool
 conflicts Whole y = true
 conflicts (Keys l) Whole = true
 conflicts (Keys l) (Keys m) = list_any (λ e. list_any (λ d. eq_by_cmp cell_cmp e.at d.at && (e.is_write || d.is_write)) m) l
 
+-- the access names the row at a cell
 abbrev pub covers : Access → Cell → Bool
 covers Whole a = true
 covers (Keys l) a = list_any (λ e. eq_by_cmp cell_cmp e.at a) l
 
+-- the access modifies the row at a cell
 abbrev pub covers_write : Access → Cell → Bool
 covers_write Whole a = true
 covers_write (Keys l) a = list_any (λ e. e.is_write && eq_by_cmp cell_cmp e.at a) l
@@ -122,12 +134,15 @@ pub record World : Type 0 where
   pub edge : ℕ → ℕ → Bool
   pub batch : ℕ → ℕ
 
+-- the operations of a piece
 abbrev pub ops : World → PieceId → List NumberedOp
 ops w p = part (w.block p.txn) p.block (w.code p.txn)
 
+-- the state after the operations of a piece
 unfoldable pub apply : World → PieceId → Present → Present
 apply w p s = run_ops p.txn (w.vars p.txn) (ops w p) s
 
+-- the access of a piece, over the values that its transaction ends with
 abbrev pub access : World → (ℕ → Values) → PieceId → Access
 access w env p = access_of (ops w p) (env p.txn)
 
@@ -148,6 +163,7 @@ needs w env p q =
 abbrev pub InputsAre : List NumberedOp → Values → Values → Type 0
 InputsAre os wanted env = (x : ℕ) → used_in os x ≡ true → defined_in os x ≡ false → get env x ≡ get wanted x
 
+-- the inputs of a piece have the values that its transaction ends with
 abbrev pub HasInputs : World → (ℕ → Values) → PieceId → Present → Type 0
 HasInputs w env p s = InputsAre (ops w p) (env p.txn) (s.envs p.txn)
 
@@ -156,9 +172,11 @@ abbrev pub has_ops : List NumberedOp → Bool
 has_ops [] = false
 has_ops (o ∷ os) = true
 
+-- the piece has an operation
 abbrev pub piece_exists : World → PieceId → Bool
 piece_exists w p = has_ops (ops w p)
 
+-- the pieces of one transaction, block by block
 abbrev pub blocks_of : World → ℕ → List ℕ → List PieceId
 blocks_of w t [] = []
 blocks_of w t (b ∷ bs) = if piece_exists w (record { txn = t; block = b }) then record { txn = t; block = b } ∷ blocks_of w t bs else blocks_of w t bs
@@ -178,6 +196,7 @@ unfoldable pub replayed_in : World → List ℕ → Present → Present
 replayed_in w [] s = s
 replayed_in w (t ∷ ts) s = replayed_in w ts (run_ops t (w.vars t) (w.code t) s)
 
+-- the two are one piece
 abbrev pub is_piece : PieceId → PieceId → Bool
 is_piece p q = p.txn == q.txn && p.block == q.block
 
@@ -185,6 +204,7 @@ is_piece p q = p.txn == q.txn && p.block == q.block
 abbrev pub adds : (PieceId → Bool) → PieceId → PieceId → Bool
 adds F p q = is_piece p q || F q
 
+-- each piece is picked
 abbrev pub every : PieceId → Bool
 every p = true
 
@@ -195,15 +215,17 @@ pub data Location : Type 0 where
   RowOf : Cell → Location
   VarOf : (txn var : ℕ) → Location
 
-abbrev pub seen : Present → Location → Option RowValues × Option Value
-seen s (RowOf a) = (get s.tables a, None)
-seen s (VarOf t x) = (None, get (s.envs t) x)
+-- what stands at a location
+abbrev pub at_location : Present → Location → Option RowValues × Option Value
+at_location s (RowOf a) = (get s.tables a, None)
+at_location s (VarOf t x) = (None, get (s.envs t) x)
 
 -- footprints
 abbrev pub touches : World → (ℕ → Values) → PieceId → Location → Bool
 touches w env p (RowOf a) = p.block == w.home a.0 && covers (access w env p) a
 touches w env p (VarOf t x) = t == p.txn && (used_in (ops w p) x || defined_in (ops w p) x)
 
+-- what a piece may change: rows that its access modifies, and the variables that it defines
 abbrev pub writes : World → (ℕ → Values) → PieceId → Location → Bool
 writes w env p (RowOf a) = p.block == w.home a.0 && covers_write (access w env p) a
 writes w env p (VarOf t x) = t == p.txn && defined_in (ops w p) x

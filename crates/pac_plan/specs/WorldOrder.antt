@@ -1,11 +1,9 @@
--- What the analysis gives of the operations, the blocks and the homes, and the laws of partial replay.
-use Rattle.std.specs.Prelude.{◌≡◌, ◌⊎◌, ℕ, ◌<◌, ◌≤◌, Bool, true, false, ◌&&◌, ◌==◌, List, [], ◌∷◌, Some}
-use Rattle.pac_value.specs.Expressions.{Values}
-use Rattle.pac_ops.specs.declared.piece.PieceId.{PieceId}
+-- What a replay in pieces needs of a world: definers, flow, homes and order of its operations, blocks and batches.
+use Rattle.std.specs.Prelude.{◌≡◌, ◌⊎◌, ℕ, ◌<◌, ◌≤◌, true, false, List, [], ◌∷◌, Some}
 use Rattle.pac_ops.specs.Uses.{op_uses, defined_variable, accessed_table}
 use Rattle.pac_base.specs.Members.{Each, Mem}
 use Rattle.pac_ops.specs.Effects.{NumberedOp, is_var, defined_in, used_in}
-use Rattle.pac_plan.specs.Pieces.{Present, Location, seen, World, part, precedes, needs, partial, apply, HasInputs, adds, pieces, replayed_in, touches}
+use Rattle.pac_plan.specs.Pieces.{World, part}
 
 -- an operation uses what no later one defines
 abbrev pub Ordered : List NumberedOp → Type 0

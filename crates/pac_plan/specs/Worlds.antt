@@ -26,13 +26,16 @@ use Rattle.pac_plan.specs.Pieces.{Present, World, replayed_in}
 abbrev pub has_edge : PlanParts → ℕ → ℕ → Bool
 has_edge parts b c = list_any (λ e. e.0 == b && e.1 == c) parts.edges
 
+-- the block of the operations on a table
 abbrev pub home_in : PlanParts → ℕ → ℕ
 home_in parts t = block_in parts (VirtualWrite t)
 
+-- the operations of a program, none where there is no program
 abbrev pub ops_of : Option Program → List FlatOp
 ops_of None = []
 ops_of (Some program) = program.ops
 
+-- the types of its variables
 abbrev pub types_in : Option Program → List Ty
 types_in None = []
 types_in (Some program) = program.vars
@@ -43,11 +46,13 @@ txn_code parts None = []
 txn_code parts (Some (ACall call)) = numbered_from 0 (ops_of (slice_get parts.programs call.proc))
 txn_code parts (Some (AdHoc records)) = numbered_from 0 (map record_op records)
 
+-- the types of the variables of a transaction
 abbrev pub txn_vars : PlanParts → Option Txn → List Ty
 txn_vars parts None = []
 txn_vars parts (Some (ACall call)) = types_in (slice_get parts.programs call.proc)
 txn_vars parts (Some (AdHoc records)) = []
 
+-- the home of a table, where there is one
 abbrev pub home_or : PlanParts → Option ℕ → ℕ
 home_or parts None = 0
 home_or parts (Some t) = home_in parts t
@@ -58,6 +63,7 @@ txn_block parts None o = 0
 txn_block parts (Some (ACall call)) o = block_in parts (Operation call.proc o.0)
 txn_block parts (Some (AdHoc records)) o = home_or parts (accessed_table o.1.kind)
 
+-- the arguments of a transaction
 abbrev pub txn_args : Option Txn → List Value
 txn_args None = []
 txn_args (Some (ACall call)) = call.args
@@ -67,6 +73,7 @@ txn_args (Some (AdHoc records)) = []
 abbrev pub txn_at : ℕ → List Txn → ℕ → Option Txn
 txn_at first txns t = if nat_lt t first then None else slice_get txns (t - first)
 
+-- the world of a plan and of numbered transactions, each in a batch
 abbrev pub world : PlanParts → ℕ → (ℕ → ℕ) → List Txn → World
 world parts first batch txns = record {
   code = λ t. txn_code parts (txn_at first txns t);
@@ -78,12 +85,14 @@ world parts first batch txns = record {
 }
 
 -- before anything is replayed each transaction has its arguments
-abbrev pub opened : ℕ → List Txn → Tables → Present
-opened first txns tables = record { tables = tables; envs = λ t. with_values 0 (txn_args (txn_at first txns t)) empty; note = None }
+abbrev pub initial : ℕ → List Txn → Tables → Present
+initial first txns tables = record { tables = tables; envs = λ t. with_values 0 (txn_args (txn_at first txns t)) empty; note = None }
 
+-- the numbers of transactions
 abbrev pub numbers : ℕ → List Txn → List ℕ
 numbers first txns = range_with_len first (length txns)
 
+-- the blocks of a plan
 abbrev pub blocks_in : PlanParts → List ℕ
 blocks_in parts = range_with_len 0 parts.blocks
 
@@ -98,8 +107,8 @@ batch_of [] t = 0
 batch_of (batch ∷ batches) t = (if nat_le batch.first t then 1 else 0) + batch_of batches t
 
 -- the whole replay in the world is the replay of the transactions
-pub record IsReplay (parts : PlanParts) (first : ℕ) (batch : ℕ → ℕ) (txns : List Txn) (tables : Tables) : Type 0 where
-  pub tables_are : (replayed_in (world parts first batch txns) (numbers first txns) (opened first txns tables)).tables ≡ (replayed parts.programs first txns tables).tables
-  pub note_is : (replayed_in (world parts first batch txns) (numbers first txns) (opened first txns tables)).note ≡ first_note (replayed parts.programs first txns tables).notes
+pub record IsWholeReplay (parts : PlanParts) (first : ℕ) (batch : ℕ → ℕ) (txns : List Txn) (tables : Tables) : Type 0 where
+  pub tables_are : (replayed_in (world parts first batch txns) (numbers first txns) (initial first txns tables)).tables ≡ (replayed parts.programs first txns tables).tables
+  pub note_is : (replayed_in (world parts first batch txns) (numbers first txns) (initial first txns tables)).note ≡ first_note (replayed parts.programs first txns tables).notes
   pub envs_are : (i : ℕ) (env : Values) → slice_get (replayed parts.programs first txns tables).envs i ≡ Some env
-      → (replayed_in (world parts first batch txns) (numbers first txns) (opened first txns tables)).envs (first + i) ≡ env
+      → (replayed_in (world parts first batch txns) (numbers first txns) (initial first txns tables)).envs (first + i) ≡ env

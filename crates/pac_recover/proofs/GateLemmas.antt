@@ -10,7 +10,7 @@ use Rattle.pac_log.proofs.LogLemmas.{prefix_pushed, all_txns-append}
 use Rattle.pac_check.specs.declared.head.Head.{Head}
 use Rattle.pac_recover.specs.declared.gates.GatePlace.{GatePlace}
 use Rattle.pac_recover.specs.Damages.{IsAmongGates, IsAtGate}
-use Rattle.pac_recover.specs.Gates.{gate_after_txns, gate_after, gates_from, last_gate, txns_in, txns_by_batch, RunOn}
+use Rattle.pac_recover.specs.Gates.{gate_after_txns, gate_after_batches, gates_from, last_gate, txns_in, txns_by_batch, RunOn}
 
 -- ---- one batch more
 
@@ -57,7 +57,7 @@ same-gate p q n m e f = ap₂ the_gate e f
     the_gate : ℕ → ℕ → GatePlace
     the_gate x y = record { place = x; txns = y }
 
-after-after : (text : List ℕ) (before : List (List Txn)) (t : List Txn) → gate_after_txns (gate_after text before) t ≡ gate_after text (before ++ t ∷ [])
+after-after : (text : List ℕ) (before : List (List Txn)) (t : List Txn) → gate_after_txns (gate_after_batches text before) t ≡ gate_after_batches text (before ++ t ∷ [])
 after-after text before t =
     let lens : length (log_prefix text (before ++ t ∷ [])) ≡ length (log_prefix text before ++ (1 ∷ (body_bytes t ++ [])))
     = ap (λ (l : List ℕ). length l) (sym (append-nil (log_prefix text (before ++ t ∷ []))) ∙ prefix_pushed text before t []) in
@@ -67,17 +67,17 @@ after-after text before t =
     (omega (arith, lens, length-append (log_prefix text before) (1 ∷ (body_bytes t ++ [])), length-append (body_bytes t) []))
     (sym counted)
 
-pub last-after : (text : List ℕ) (before bs : List (List Txn)) → last_gate (gate_after text before) bs ≡ gate_after text (before ++ bs)
-last-after text before [] = ap (λ (l : List (List Txn)). gate_after text l) (sym (append-nil before))
+pub last-after : (text : List ℕ) (before bs : List (List Txn)) → last_gate (gate_after_batches text before) bs ≡ gate_after_batches text (before ++ bs)
+last-after text before [] = ap (λ (l : List (List Txn)). gate_after_batches text l) (sym (append-nil before))
 last-after text before (t ∷ bs) =
     ap (λ (g : GatePlace). last_gate g bs) (after-after text before t) ∙ last-after text (before ++ t ∷ []) bs
-    ∙ ap (λ (l : List (List Txn)). gate_after text l) (append_assoc before (t ∷ []) bs)
+    ∙ ap (λ (l : List (List Txn)). gate_after_batches text l) (append_assoc before (t ∷ []) bs)
 
 -- a gate among those of a log is one of it, and the other way round
-pub among-gate : (text : List ℕ) (bs : List (List Txn)) (head : Head) → IsAmongGates (gates_from (gate_after text []) bs) head → IsAtGate text bs head
+pub among-gate : (text : List ℕ) (bs : List (List Txn)) (head : Head) → IsAmongGates (gates_from (gate_after_batches text []) bs) head → IsAtGate text bs head
 among-gate text bs head among =
-    let at = gate-at (gate_after text []) bs among.0 (record { place = head.place; txns = head.txns }) among.1 in
-    let here : ◌≡◌ {A = GatePlace} (record { place = head.place; txns = head.txns }) (gate_after text (take among.0 bs)) = at.1 ∙ last-after text [] (take among.0 bs) in
+    let at = gate-at (gate_after_batches text []) bs among.0 (record { place = head.place; txns = head.txns }) among.1 in
+    let here : ◌≡◌ {A = GatePlace} (record { place = head.place; txns = head.txns }) (gate_after_batches text (take among.0 bs)) = at.1 ∙ last-after text [] (take among.0 bs) in
     record {
       before = take among.0 bs;
       after = drop among.0 bs;
@@ -86,11 +86,11 @@ among-gate text bs head among =
       counted = ap (λ (g : GatePlace). g.txns) here;
     }
 
-pub gate-among : (text : List ℕ) (bs : List (List Txn)) (head : Head) → IsAtGate text bs head → IsAmongGates (gates_from (gate_after text []) bs) head
+pub gate-among : (text : List ℕ) (bs : List (List Txn)) (head : Head) → IsAtGate text bs head → IsAmongGates (gates_from (gate_after_batches text []) bs) head
 gate-among text bs head is = (
   length is.before,
-  ap (λ (l : List (List Txn)). slice_get (gates_from (gate_after text []) l) (length is.before)) is.split
-      ∙ gate-there (gate_after text []) is.before is.after
+  ap (λ (l : List (List Txn)). slice_get (gates_from (gate_after_batches text []) l) (length is.before)) is.split
+      ∙ gate-there (gate_after_batches text []) is.before is.after
       ∙ ap (λ (g : GatePlace). the_some g) (last-after text [] is.before ∙ same-gate _ _ _ _ (sym is.there) (sym is.counted)),
 )
   where

@@ -27,7 +27,7 @@ use Rattle.pac_recover.specs.declared.gates.GatePlace.{GatePlace}
 use Rattle.pac_recover.specs.declared.loading.Loaded.{Loaded}
 use Rattle.pac_recover.specs.declared.log.WholeLog.{WholeLog}
 use Rattle.pac_recover.specs.Damages.{IsAmongGates, IsAtGate, IsDamagedSlot, IsSlotDamage}
-use Rattle.pac_recover.specs.Gates.{gate_after, gates_from, last_gate, place_of, txns_in, txns_by_batch, RunOn}
+use Rattle.pac_recover.specs.Gates.{gate_after_batches, gates_from, last_gate, place_of, txns_in, txns_by_batch, RunOn}
 use Rattle.pac_recover.specs.Loading.{AreNewestOf, IsInfoAmong, IsLoadedFrom, stored_of}
 use Rattle.pac_recover.specs.Logs.{FitBatches, HoldsBatches, HoldsLogUpTo, HoldsWhole, IsReadUpTo, IsWhole, ReadsTo}
 use Rattle.pac_recover.proofs.GateLemmas.{among-gate, gate-among, last-number, number-at, runs-after, txns-after, txns-split}
@@ -59,7 +59,7 @@ holds-whole log first None read attached reads = tt
 holds-whole log first (Some h) read attached reads =
     let text = attached.0 in
     let there = reads text attached.2 in
-    let start : place_of first ≡ gate_after text [] = ap₂ the_gate attached.2.after.place attached.2.after.txns in
+    let start : place_of first ≡ gate_after_batches text [] = ap₂ the_gate attached.2.after.place attached.2.after.txns in
     record {
       text = text;
       holds = subst (λ (c : CatalogueState). HoldsBatches text c log.batches.items log.reader.gate h.now.seen) (sym read.catalogue) there;
@@ -100,7 +100,7 @@ newest-among gates a b (Some info) e at_a at_b = go (newest-one (info_of A a) (i
 
 -- ---- on the images
 
-pub placed : (text : List ℕ) (batches : List (List Txn)) (gates : List GatePlace) (slot : SlotName) (state : SlotState) → gates ≡ gates_from (gate_after text []) batches → IsInfoAmong gates (info_of slot state) → IsPlaced text batches state
+pub placed : (text : List ℕ) (batches : List (List Txn)) (gates : List GatePlace) (slot : SlotName) (state : SlotState) → gates ≡ gates_from (gate_after_batches text []) batches → IsInfoAmong gates (info_of slot state) → IsPlaced text batches state
 placed text batches gates slot Empty are at = tt
 placed text batches gates slot Closed are at = tt
 placed text batches gates slot (Open head) are at = among-gate text batches head (subst (λ (l : List GatePlace). IsAmongGates l head) are at)

@@ -34,8 +34,8 @@ last_gate gate [] = gate
 last_gate gate (txns ∷ batches) = last_gate (gate_after_txns gate txns) batches
 
 -- the gate that comes after these batches of a log
-abbrev pub gate_after : List ℕ → List (List Txn) → GatePlace
-gate_after text batches = record { place = length (log_prefix text batches); txns = length (all_txns batches) }
+abbrev pub gate_after_batches : List ℕ → List (List Txn) → GatePlace
+gate_after_batches text batches = record { place = length (log_prefix text batches); txns = length (all_txns batches) }
 
 -- each batch begins after the transactions of the one before, and the first after that many
 abbrev pub RunOn : ℕ → List Batch → Type 0

@@ -11,7 +11,7 @@ use Rattle.pac_log.specs.Places.{IsAfter}
 use Rattle.pac_log.specs.Reading.{StandsAfter}
 use Rattle.pac_recover.specs.declared.gates.GatePlace.{GatePlace}
 use Rattle.pac_recover.specs.declared.log.WholeLog.{WholeLog}
-use Rattle.pac_recover.specs.Gates.{gates_from, gate_after, last_gate, place_of, txns_by_batch, RunOn}
+use Rattle.pac_recover.specs.Gates.{gates_from, gate_after_batches, last_gate, place_of, txns_by_batch, RunOn}
 
 -- each transaction of each batch fits the catalogue
 abbrev pub FitBatches : CatalogueState → List Batch → Type 0
@@ -54,4 +54,4 @@ ReadsTo text old new batches image = StandsAfter text [] old image → HoldsBatc
 pub record HoldsWhole (log : WholeLog) (image : List ℕ) : Type 0 where
   pub text : List ℕ
   pub holds : HoldsBatches text log.reader.gate.catalogue log.batches.items log.reader.gate image
-  pub gates : log.gates.items ≡ gates_from (gate_after text []) (txns_by_batch log.batches.items)
+  pub gates : log.gates.items ≡ gates_from (gate_after_batches text []) (txns_by_batch log.batches.items)

@@ -22,7 +22,7 @@ use Rattle.pac_request.specs.declared.node.LineNode.{LineNode}
 use Rattle.pac_request.specs.declared.node.LineNode.TheVariants as line
 use Rattle.pac_request.specs.declared.node.Verb.{Verb}
 use Rattle.pac_request.specs.declared.node.Verb.TheVariants as verb
-use Rattle.pac_request.specs.LineForms.{LiteralsForm, NoLiteral, OneLiteral, ArgumentsForm, NoArgument, SomeArguments, RecordForm, PutForm, DeleteForm, RecordsForm, NoRecord, OneRecord, EmptyForm, CallForm, AdHocForm, ShowForm, FlushForm, SaveForm, StopForm, verb_word, verb_token, keyword_token, symbol_token, literal_before, literals_before, arguments_before, record_before, records_tokens, literals_nodes, arguments_nodes, record_node, records_nodes, placed_literal, records_count, IsWritten}
+use Rattle.pac_request.specs.LineForms.{LiteralsForm, NoLiteral, OneLiteral, ArgumentsForm, NoArgument, SomeArguments, RecordForm, PutForm, DeleteForm, RecordsForm, NoRecord, OneRecord, EmptyForm, CallForm, AdHocForm, ShowForm, FlushForm, SaveForm, StopForm, verb_word, verb_token, keyword_token, symbol_token, literal_tokens, literals_before, arguments_before, record_before, records_tokens, literals_nodes, arguments_nodes, record_node, records_nodes, placed_literal, records_count, IsWritten}
 use Rattle.pac_request.specs.LineSteps.{LineSteps, LineEnds, ThisSymbol, SomeName, SomeLiteral, SomeNegative, MoreLiterals, AllArguments, SomeRecord, MoreRecords, AnyLine, first_some, literal_steps, placed_int, negative_steps, put_record_steps, delete_record_steps, verb_named, verb_in, verb_steps, record_word, record_steps, steps_after, said_at_end}
 
 -- that many records and these are no more than 64
@@ -35,7 +35,7 @@ abbrev pub Wants : LineSteps → List Spanned → LineNode → Type 0
 Wants (LineEnds node) q said = (q ≡ []) × (said ≡ node)
 Wants (ThisSymbol s k) q said = (at : ℕ) × (more : List Spanned) × (q ≡ symbol_token s at ∷ more) × Wants k more said
 Wants (SomeName k) q said = (name : NameNode) × (more : List Spanned) × (q ≡ name_token name ∷ more) × Wants (k name) more said
-Wants (SomeLiteral k) q said = (l : LiteralForm) × (more : List Spanned) × (q ≡ literal_before l more) × Wants (k (placed_literal l)) more said
+Wants (SomeLiteral k) q said = (l : LiteralForm) × (more : List Spanned) × (q ≡ literal_tokens l more) × Wants (k (placed_literal l)) more said
 Wants (SomeNegative minus k) q said = (at : ℕ) × (z : ℤ) × (more : List Spanned) × (q ≡ record { token = token.Negative z; at = at } ∷ more) × Wants (k (placed_int minus z)) more said
 Wants (MoreLiterals ls k) q said = (m : LiteralsForm) × (close : ℕ) × (more : List Spanned) × (q ≡ literals_before m (symbol_token symbol.CloseParen close ∷ more)) × Wants (k (ls ++ literals_nodes m)) more said
 Wants (AllArguments k) q said = (m : ArgumentsForm) × (close : ℕ) × (more : List Spanned) × (q ≡ arguments_before m (symbol_token symbol.CloseParen close ∷ more)) × Wants (k (arguments_nodes m)) more said
@@ -94,7 +94,7 @@ comma_wants ls k at q said m = (
   OneLiteral at m.0 m.3.0,
   m.3.1,
   m.3.2,
-  ap (λ (x : List Spanned). symbol_token symbol.Comma at ∷ x) (m.2 ∙ ap (literal_before m.0) m.3.3),
+  ap (λ (x : List Spanned). symbol_token symbol.Comma at ∷ x) (m.2 ∙ ap (literal_tokens m.0) m.3.3),
   subst (λ (x : List PlacedLiteral). Wants (k x) m.3.2 said) (append_assoc ls (placed_literal m.0 ∷ []) (literals_nodes m.3.0)) m.3.4,
 )
 
@@ -120,7 +120,7 @@ arguments_lead k t at next q said true is e m =
     subst (λ (x : Token). Wants (AllArguments k) (record { token = x; at = at } ∷ q) said) (sym (is_same_keyword_or_symbol-true (token.Symbol symbol.CloseParen) t is)) (NoArgument, at, q, refl, wants_along _ next q said e m)
 arguments_lead k t at next q said false is e m =
     let l = literal_leads t at (λ l. MoreLiterals (l ∷ []) k) next q said e m in
-    (SomeArguments l.0 l.3.0, l.3.1, l.3.2, l.2 ∙ ap (literal_before l.0) l.3.3, l.3.4)
+    (SomeArguments l.0 l.3.0, l.3.1, l.3.2, l.2 ∙ ap (literal_tokens l.0) l.3.3, l.3.4)
 
 -- ---- records
 
@@ -228,7 +228,7 @@ pub something : (k : LineSteps) → Wanted k
 something (LineEnds node) = record { tokens = []; said = node; wanted = (refl, refl) }
 something (ThisSymbol s k) = let w = something k in record { tokens = symbol_token s 0 ∷ w.tokens; said = w.said; wanted = (0, w.tokens, refl, w.wanted) }
 something (SomeName k) = let w = something (k a_name) in record { tokens = name_token a_name ∷ w.tokens; said = w.said; wanted = (a_name, w.tokens, refl, w.wanted) }
-something (SomeLiteral k) = let w = something (k (placed_literal a_literal)) in record { tokens = literal_before a_literal w.tokens; said = w.said; wanted = (a_literal, w.tokens, refl, w.wanted) }
+something (SomeLiteral k) = let w = something (k (placed_literal a_literal)) in record { tokens = literal_tokens a_literal w.tokens; said = w.said; wanted = (a_literal, w.tokens, refl, w.wanted) }
 something (SomeNegative minus k) = let w = something (k (placed_int minus (ℤ.pos 0))) in
     record { tokens = record { token = token.Negative (ℤ.pos 0); at = 0 } ∷ w.tokens; said = w.said; wanted = (0, ℤ.pos 0, w.tokens, refl, w.wanted) }
 something (MoreLiterals ls k) = let w = something (k (ls ++ [])) in record { tokens = symbol_token symbol.CloseParen 0 ∷ w.tokens; said = w.said; wanted = (NoLiteral, 0, w.tokens, refl, w.wanted) }

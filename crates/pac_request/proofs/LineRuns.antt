@@ -10,11 +10,11 @@ use Rattle.pac_request.specs.declared.fault.LineFault.{LineFault}
 use Rattle.pac_request.specs.declared.node.RecordNode.{RecordNode}
 use Rattle.pac_request.specs.declared.node.LineNode.{LineNode}
 use Rattle.pac_request.specs.declared.node.LineNode.TheVariants as line
-use Rattle.pac_request.specs.LineForms.{LiteralsForm, NoLiteral, OneLiteral, ArgumentsForm, NoArgument, SomeArguments, RecordForm, PutForm, DeleteForm, RecordsForm, NoRecord, OneRecord, LineForm, EmptyForm, CallForm, AdHocForm, ShowForm, FlushForm, SaveForm, StopForm, symbol_token, literal_before, literals_before, arguments_before, record_before, records_tokens, line_tokens, literals_nodes, arguments_nodes, record_node, records_nodes, line_node, placed_literal, HasFewRecords, IsWritten}
+use Rattle.pac_request.specs.LineForms.{LiteralsForm, NoLiteral, OneLiteral, ArgumentsForm, NoArgument, SomeArguments, RecordForm, PutForm, DeleteForm, RecordsForm, NoRecord, OneRecord, LineForm, EmptyForm, CallForm, AdHocForm, ShowForm, FlushForm, SaveForm, StopForm, symbol_token, literal_tokens, literals_before, arguments_before, record_before, records_tokens, line_tokens, literals_nodes, arguments_nodes, record_node, records_nodes, line_node, placed_literal, HasFewRecords, IsWritten}
 use Rattle.pac_request.specs.LineSteps.{LineSteps, LineEnds, SomeLiteral, MoreLiterals, AllArguments, SomeRecord, MoreRecords, AnyLine, steps_after, said_at_end, line_run}
 use Rattle.pac_request.proofs.LineMeaning.{HasRoom, few_room}
 
-literal_runs : (end : LineFault) (k : PlacedLiteral → LineSteps) (l : LiteralForm) (rest : List Spanned) → line_run end (SomeLiteral k) (literal_before l rest) ≡ line_run end (k (placed_literal l)) rest
+literal_runs : (end : LineFault) (k : PlacedLiteral → LineSteps) (l : LiteralForm) (rest : List Spanned) → line_run end (SomeLiteral k) (literal_tokens l rest) ≡ line_run end (k (placed_literal l)) rest
 unfolding line_run steps_after
 literal_runs end k (AnInt at z) rest = refl
 literal_runs end k (ANegative minus at z) rest = refl
@@ -31,7 +31,7 @@ literals_run end (OneLiteral comma l m) ls k close rest =
     ∙ literals_run end m (ls ++ (placed_literal l ∷ [])) k close rest
     ∙ ap (λ (x : List PlacedLiteral). line_run end (k x) rest) (append_assoc ls (placed_literal l ∷ []) (literals_nodes m))
 
-first_argument : (end : LineFault) (k : List PlacedLiteral → LineSteps) (l : LiteralForm) (rest : List Spanned) → line_run end (AllArguments k) (literal_before l rest) ≡ line_run end (MoreLiterals (placed_literal l ∷ []) k) rest
+first_argument : (end : LineFault) (k : List PlacedLiteral → LineSteps) (l : LiteralForm) (rest : List Spanned) → line_run end (AllArguments k) (literal_tokens l rest) ≡ line_run end (MoreLiterals (placed_literal l ∷ []) k) rest
 unfolding line_run steps_after
 first_argument end k (AnInt at z) rest = refl
 first_argument end k (ANegative minus at z) rest = refl

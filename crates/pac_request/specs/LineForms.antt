@@ -76,27 +76,27 @@ keyword_token k at = record { token = token.Keyword k; at = at }
 abbrev pub symbol_token : Symbol → ℕ → Spanned
 symbol_token s at = record { token = token.Symbol s; at = at }
 
-abbrev pub literal_before : LiteralForm → List Spanned → List Spanned
-literal_before (AnInt at z) rest = record { token = token.Int z; at = at } ∷ rest
-literal_before (ANegative minus at z) rest = symbol_token symbol.Minus minus ∷ record { token = token.Negative z; at = at } ∷ rest
-literal_before (AText at text) rest = record { token = token.Text text; at = at } ∷ rest
-literal_before (ATrue at) rest = keyword_token keyword.True at ∷ rest
-literal_before (AFalse at) rest = keyword_token keyword.False at ∷ rest
+abbrev pub literal_tokens : LiteralForm → List Spanned → List Spanned
+literal_tokens (AnInt at z) rest = record { token = token.Int z; at = at } ∷ rest
+literal_tokens (ANegative minus at z) rest = symbol_token symbol.Minus minus ∷ record { token = token.Negative z; at = at } ∷ rest
+literal_tokens (AText at text) rest = record { token = token.Text text; at = at } ∷ rest
+literal_tokens (ATrue at) rest = keyword_token keyword.True at ∷ rest
+literal_tokens (AFalse at) rest = keyword_token keyword.False at ∷ rest
 
 abbrev pub literals_before : LiteralsForm → List Spanned → List Spanned
 literals_before NoLiteral rest = rest
-literals_before (OneLiteral comma l ls) rest = symbol_token symbol.Comma comma ∷ literal_before l (literals_before ls rest)
+literals_before (OneLiteral comma l ls) rest = symbol_token symbol.Comma comma ∷ literal_tokens l (literals_before ls rest)
 
 abbrev pub arguments_before : ArgumentsForm → List Spanned → List Spanned
 arguments_before NoArgument rest = rest
-arguments_before (SomeArguments l ls) rest = literal_before l (literals_before ls rest)
+arguments_before (SomeArguments l ls) rest = literal_tokens l (literals_before ls rest)
 
 abbrev pub record_before : RecordForm → List Spanned → List Spanned
 record_before (PutForm p0 name p1 key p2 p3 p4 l ls p5) rest =
-    keyword_token keyword.Put p0 ∷ name_token name ∷ symbol_token symbol.OpenBracket p1 ∷ literal_before key (symbol_token symbol.CloseBracket p2
-    ∷ symbol_token symbol.Assign p3 ∷ symbol_token symbol.OpenParen p4 ∷ literal_before l (literals_before ls (symbol_token symbol.CloseParen p5 ∷ rest)))
+    keyword_token keyword.Put p0 ∷ name_token name ∷ symbol_token symbol.OpenBracket p1 ∷ literal_tokens key (symbol_token symbol.CloseBracket p2
+    ∷ symbol_token symbol.Assign p3 ∷ symbol_token symbol.OpenParen p4 ∷ literal_tokens l (literals_before ls (symbol_token symbol.CloseParen p5 ∷ rest)))
 record_before (DeleteForm p0 name p1 key p2) rest =
-    keyword_token keyword.Delete p0 ∷ name_token name ∷ symbol_token symbol.OpenBracket p1 ∷ literal_before key (symbol_token symbol.CloseBracket p2 ∷ rest)
+    keyword_token keyword.Delete p0 ∷ name_token name ∷ symbol_token symbol.OpenBracket p1 ∷ literal_tokens key (symbol_token symbol.CloseBracket p2 ∷ rest)
 
 abbrev pub records_tokens : RecordsForm → List Spanned
 records_tokens NoRecord = []
@@ -107,7 +107,7 @@ abbrev pub line_tokens : LineForm → List Spanned
 line_tokens EmptyForm = []
 line_tokens (CallForm p0 name p1 args p2) = verb_token verb.Call p0 ∷ name_token name ∷ symbol_token symbol.OpenParen p1 ∷ arguments_before args (symbol_token symbol.CloseParen p2 ∷ [])
 line_tokens (AdHocForm p0 r rs) = verb_token verb.AdHoc p0 ∷ record_before r (records_tokens rs)
-line_tokens (ShowForm p0 name p1 key p2) = verb_token verb.Show p0 ∷ name_token name ∷ symbol_token symbol.OpenBracket p1 ∷ literal_before key (symbol_token symbol.CloseBracket p2 ∷ [])
+line_tokens (ShowForm p0 name p1 key p2) = verb_token verb.Show p0 ∷ name_token name ∷ symbol_token symbol.OpenBracket p1 ∷ literal_tokens key (symbol_token symbol.CloseBracket p2 ∷ [])
 line_tokens (FlushForm p0) = verb_token verb.Flush p0 ∷ []
 line_tokens (SaveForm p0) = verb_token verb.Save p0 ∷ []
 line_tokens (StopForm p0) = verb_token verb.Stop p0 ∷ []

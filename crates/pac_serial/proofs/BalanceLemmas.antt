@@ -11,7 +11,7 @@ use Rattle.pac_value.specs.State.{Cell, cell_cmp, RowValues, Tables, with_row, k
 use Rattle.pac_value.proofs.CellLemmas.{cells_total, cells_antisymmetric, tied_same, same-cell, get-with_row}
 use Rattle.pac_tables.proofs.WriteLemmas.{remove-absent}
 use Rattle.pac_serial.specs.declared.pending.Pending.{Pending}
-use Rattle.pac_serial.specs.WriteSets.{Change, Changes, laid, written, KnowsTables, gains, loses, gained, lost}
+use Rattle.pac_serial.specs.WriteSets.{Change, Changes, laid, as_changed, KnowsTables, gains, loses, gained, lost}
 use Rattle.pac_serial.proofs.WriteSetLemmas.{row_or, get-laid}
 
 module _ (x : ℕ) where
@@ -161,7 +161,7 @@ module _ (x : ℕ) (t : Tables) where
       omega (arith, change-count x (laid t cs) c.0 c.1.row (c.0.0 == x) c.1.stands refl still, balanced cs (sorted-after c cs sorted) (λ q pending found. known q pending (find-after c cs sorted q pending found)))
 
 -- a table's rows as a transaction sees them
-pub seen-count : (n : ℕ) (x : ℕ) (t : Tables) (cs : Changes) → KnowsTables n t cs → length (keys_of (written t cs) x) + lost x (entries cs) ≡ length (keys_of t x) + gained x (entries cs)
+pub seen-count : (n : ℕ) (x : ℕ) (t : Tables) (cs : Changes) → KnowsTables n t cs → length (keys_of (as_changed t cs) x) + lost x (entries cs) ≡ length (keys_of t x) + gained x (entries cs)
 unfolding AreKnown
 seen-count n x t cs knows = balanced x t (entries cs) (entries_sorted cs) (λ q pending found. (knows q pending (get-entries cs q ∙ found)).1)
 

@@ -18,7 +18,7 @@ use Rattle.pac_serial.specs.declared.operation.Halt.{Halt}
 use Rattle.pac_serial.specs.declared.operation.Halt.TheVariants.{Abort, NoMemory}
 use Rattle.pac_serial.specs.declared.execute.ExecError.{ExecError}
 use Rattle.pac_serial.specs.declared.execute.ExecError.TheVariants.{Abort as AbortAt}
-use Rattle.pac_serial.specs.WriteSets.{Changes, written}
+use Rattle.pac_serial.specs.WriteSets.{Changes, as_changed}
 use Rattle.pac_serial.specs.Outcomes.{Executes, RunsFrom, error_of, limited}
 use Rattle.pac_serial.specs.Transactions.{RunsOver}
 use Rattle.pac_serial.proofs.WriteSetLemmas.{seen-none, knows-none}
@@ -51,10 +51,10 @@ runs-begun tables n held write_set count fits begun = subst (λ (d : Changes). R
 
 -- what a call means is what its statements mean from there
 pub called-is : (procs : List Proc) (n : ℕ) (proc : Proc) (args : List Value) (held : Tables) (env : Values) (write_set : Changes) → slice_get procs n ≡ Some proc → env ≡ with_values 0 args empty → write_set ≡ empty
-    → called_at (slice_get procs n) args held ≡ (meaning proc.body 0 (record { env = env; tables = written held write_set }) >>= λ s. Ok s.tables)
+    → called_at (slice_get procs n) args held ≡ (meaning proc.body 0 (record { env = env; tables = as_changed held write_set }) >>= λ s. Ok s.tables)
 called-is procs n proc args held env write_set found opened begun =
     ap (λ o. called_at o args held) found
-    ∙ ap (λ (s : State). meaning proc.body 0 s >>= λ t. Ok t.tables) (λ i. record { env = sym opened i; tables = (sym (seen-none held) ∙ ap (written held) (sym begun)) i })
+    ∙ ap (λ (s : State). meaning proc.body 0 s >>= λ t. Ok t.tables) (λ i. record { env = sym opened i; tables = (sym (seen-none held) ∙ ap (as_changed held) (sym begun)) i })
 
 -- operations that halt refuse the transaction
 pub halted : (limit : Option ℕ) (n : ℕ) (m : Result State AnAbort) (halt : Halt) (now : State) (held : Tables) (r : Result (Unit {0}) Halt) (error : Result (Unit {0}) ExecError) → r ≡ Err halt → error ≡ Err (error_of halt) → RunsFrom 0 r m now → Executes (limited limit n (m >>= λ s. Ok s.tables)) held held error

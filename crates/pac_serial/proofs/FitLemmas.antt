@@ -25,7 +25,7 @@ use Rattle.pac_types.specs.Fits.{shape, FitTables, FitsCatalogue}
 use Rattle.pac_types.proofs.ShapeLemmas.{columns-of_fit}
 use Rattle.pac_value.specs.Scopes.{with_var, is_wanted, are_wanted}
 use Rattle.pac_value.proofs.CellLemmas.{get-with_row, tied_same}
-use Rattle.pac_serial.specs.WriteSets.{Changes, written, KnowsTables}
+use Rattle.pac_serial.specs.WriteSets.{Changes, as_changed, KnowsTables}
 use Rattle.pac_serial.specs.Transactions.{RunsOver}
 
 and-left : (a b : Bool) → (a && b) ≡ true → a ≡ true
@@ -146,11 +146,11 @@ FitTables-empty tables rows e cell row found =
 -- a transaction that has made one more change still runs over the rows
 pub runs-changed : (tables : List Table) (n : ℕ) (held : Tables) (old new : Changes) (p : Cell) (row : Option RowValues)
     → RunsOver tables n held old → ((r : RowValues) → row ≡ Some r → RowFits (map shape tables) p r)
-    → written held new ≡ with_row (written held old) p row → KnowsTables n held new → RunsOver tables n held new
+    → as_changed held new ≡ with_row (as_changed held old) p row → KnowsTables n held new → RunsOver tables n held new
 runs-changed tables n held old new p row over fits is knows = record {
   count = over.count;
   knows = knows;
-  fits = subst (λ (t : Tables). FitTables tables t) (sym is) (FitTables-with_row tables (written held old) p row over.fits fits);
+  fits = subst (λ (t : Tables). FitTables tables t) (sym is) (FitTables-with_row tables (as_changed held old) p row over.fits fits);
 }
 
 pub on-ok-both : {A E : Type 0} (r : Result A E) {P Q : Type 0} → OnOk r P → (P → Q) → OnOk r Q

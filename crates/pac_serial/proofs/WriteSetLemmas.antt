@@ -5,7 +5,7 @@ use Rattle.std.specs.FinMap.{get, find, entries, insert, empty, get-entries, get
 use Rattle.pac_value.specs.State.{Cell, cell_cmp, RowValues, Tables, with_row}
 use Rattle.pac_value.proofs.CellLemmas.{cells_total, cells_antisymmetric, tied_same, get-with_row}
 use Rattle.pac_serial.specs.declared.pending.Pending.{Pending}
-use Rattle.pac_serial.specs.WriteSets.{Change, Changes, laid, written, KnowsTables}
+use Rattle.pac_serial.specs.WriteSets.{Change, Changes, laid, as_changed, KnowsTables}
 
 -- the row of a change, or the one that stood there
 abbrev pub row_or : Option Pending → Option RowValues → Option RowValues
@@ -21,24 +21,24 @@ get-laid t (c ∷ cs) q =
     go true o = refl
     go false o = refl
 
-pub get-seen : (t : Tables) (cs : Changes) (q : Cell) → get (written t cs) q ≡ row_or (get cs q) (get t q)
+pub get-seen : (t : Tables) (cs : Changes) (q : Cell) → get (as_changed t cs) q ≡ row_or (get cs q) (get t q)
 get-seen t cs q = get-laid t (entries cs) q ∙ ap (λ o. row_or o (get t q)) (sym (get-entries cs q))
 
 pub no-changes : ◌≡◌ {A = Changes} (from_sorted []) empty
 no-changes = same_map cells_total cells_antisymmetric _ _ (λ q. get-from_sorted cell_cmp [] q tt ∙ sym (get-empty cell_cmp q))
 
 -- where nothing is changed, the tables are seen as they are
-pub seen-none : (t : Tables) → written t empty ≡ t
+pub seen-none : (t : Tables) → as_changed t empty ≡ t
 seen-none t = same_map cells_total cells_antisymmetric _ _ (λ q. get-seen t empty q ∙ ap (λ (o : Option Pending). row_or o (get t q)) (get-empty cell_cmp q))
 
 -- one more change
-pub seen-insert : (t : Tables) (cs : Changes) (p : Cell) (pending : Pending) → written t (insert cs p pending) ≡ with_row (written t cs) p pending.row
+pub seen-insert : (t : Tables) (cs : Changes) (p : Cell) (pending : Pending) → as_changed t (insert cs p pending) ≡ with_row (as_changed t cs) p pending.row
 seen-insert t cs p pending = same_map cells_total cells_antisymmetric _ _ (λ q.
     get-seen t (insert cs p pending) q
     ∙ ap (λ o. row_or o (get t q)) (get-insert cells_total cs p pending q)
     ∙ go q (eq_by_cmp cell_cmp q p) (get cs q)
     ∙ ap (cond (eq_by_cmp cell_cmp q p) pending.row) (sym (get-seen t cs q))
-    ∙ sym (get-with_row (written t cs) p pending.row q))
+    ∙ sym (get-with_row (as_changed t cs) p pending.row q))
   where
     go : (q : Cell) (b : Bool) (o : Option Pending) → row_or (cond b (Some pending) o) (get t q) ≡ cond b pending.row (row_or o (get t q))
     go q true o = refl

@@ -19,8 +19,8 @@ laid tables [] = tables
 laid tables (change ∷ changes) = with_row (laid tables changes) change.0 change.1.row
 
 -- the tables as a transaction with these changes sees them
-abbrev pub written : Tables → Changes → Tables
-written tables changes = laid tables (entries changes)
+abbrev pub as_changed : Tables → Changes → Tables
+as_changed tables changes = laid tables (entries changes)
 
 -- the change is in one of that many tables, and knows whether a row stands at its cell
 abbrev pub KnowsTable : ℕ → Tables → Cell → Pending → Type 0

@@ -4,7 +4,7 @@ ghost use Rattle.pac_ops.specs.Shapes.{ChangeFits, RecordsFit};
 ghost use Rattle.pac_ops.specs.Transactions.{with_change, with_changes};
 ghost use Rattle.pac_types.specs.Execution.{called_at, txn_meaning};
 ghost use Rattle.pac_types.specs.Fits.{shape, FitsCatalogue, FitsCall, TxnFits};
-ghost use Rattle.pac_serial.specs.WriteSets.{written, KnowsTables};
+ghost use Rattle.pac_serial.specs.WriteSets.{as_changed, KnowsTables};
 ghost use Rattle.pac_serial.specs.Outcomes.{Executes, limited};
 ghost use Rattle.pac_serial.specs.Transactions.{RunsOver};
 
@@ -62,8 +62,8 @@ impl From<Halt> for ExecError {
 // Makes what the transaction has changed, where no table is over the limit then.
 fn finish<R: Rows>(limit: Option<u64>, rows: &mut R, txn: &mut RunningTxn) -> Result<(), ExecError>
     requires { KnowsTables (R.tables rows.old) (R.held rows.old) txn.old.write_set }
-    ensures does { Executes (limited limit (R.tables rows.old) (Ok (written (R.held rows.old) txn.old.write_set))) (R.held rows.old) (R.held rows.new) result }
-    ensures made { OnOk result (R.held rows.new ≡ written (R.held rows.old) txn.old.write_set) }
+    ensures does { Executes (limited limit (R.tables rows.old) (Ok (as_changed (R.held rows.old) txn.old.write_set))) (R.held rows.old) (R.held rows.new) result }
+    ensures made { OnOk result (R.held rows.new ≡ as_changed (R.held rows.old) txn.old.write_set) }
     ensures kept { OnErr result (R.held rows.new ≡ R.held rows.old) }
     ensures tables { R.tables rows.new ≡ R.tables rows.old }
 {
@@ -105,7 +105,7 @@ fn make<R: Rows>(
 ) -> Result<(), NoMemory>
     requires change { ChangeFits (map shape tables.now) change.now }
     requires over { RunsOver tables.now (R.tables rows.now) (R.held rows.now) txn.old.write_set }
-    ensures made { OnOk result (written (R.held rows.now) txn.new.write_set ≡ with_change (written (R.held rows.now) txn.old.write_set) change.now) }
+    ensures made { OnOk result (as_changed (R.held rows.now) txn.new.write_set ≡ with_change (as_changed (R.held rows.now) txn.old.write_set) change.now) }
     ensures over { OnOk result (RunsOver tables.now (R.tables rows.now) (R.held rows.now) txn.new.write_set) }
 {
     match change {

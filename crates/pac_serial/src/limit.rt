@@ -3,7 +3,7 @@ ghost use Rattle.std.specs.Prelude.{◌≡◌, ◌<◌, length, nat_lt};
 ghost use Rattle.std.specs.Option.{option_map};
 ghost use Rattle.pac_value.specs.State.{keys_of};
 ghost use Rattle.pac_types.specs.Execution.{first_over};
-ghost use Rattle.pac_serial.specs.WriteSets.{written, KnowsTables};
+ghost use Rattle.pac_serial.specs.WriteSets.{as_changed, KnowsTables};
 
 use crate::write_set::WriteSet;
 use pac_tables::Rows;
@@ -12,7 +12,7 @@ use pac_tables::Rows;
 fn is_over<R: Rows>(rows: &R, write_set: &WriteSet, limit: u64, table: u16) -> bool
     requires within { table < R.tables rows.now }
     requires knows { KnowsTables (R.tables rows.now) (R.held rows.now) write_set.now }
-    ensures { result ≡ nat_lt limit (length (keys_of (written (R.held rows.now) write_set.now) table)) }
+    ensures { result ≡ nat_lt limit (length (keys_of (as_changed (R.held rows.now) write_set.now) table)) }
 {
     let (gained, lost) = write_set.balance(table);
     u128::from(limit) + u128::from(lost) < u128::from(rows.count(table)) + u128::from(gained)
@@ -22,7 +22,7 @@ fn is_over<R: Rows>(rows: &R, write_set: &WriteSet, limit: u64, table: u16) -> b
 /// and looks at each change once a table, and at no row.
 pub(crate) fn over_limit<R: Rows>(rows: &R, write_set: &WriteSet, limit: u64) -> Option<u16>
     requires { KnowsTables (R.tables rows.now) (R.held rows.now) write_set.now }
-    ensures { result ≡ option_map (λ found. found.0) (first_over limit (R.tables rows.now) (written (R.held rows.now) write_set.now)) }
+    ensures { result ≡ option_map (λ found. found.0) (first_over limit (R.tables rows.now) (as_changed (R.held rows.now) write_set.now)) }
 {
     for table in 0..rows.tables() {
         if is_over(rows, write_set, limit, table) {

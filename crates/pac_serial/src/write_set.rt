@@ -4,7 +4,7 @@ ghost use Rattle.std.specs.Option.{option_map};
 ghost use Rattle.std.specs.FinMap as map;
 ghost use Rattle.std.specs.FinMap.{is_sorted};
 ghost use Rattle.pac_value.specs.State.{cell_cmp, with_row};
-ghost use Rattle.pac_serial.specs.WriteSets.{written, KnowsTables, IsOffsetOf, IsGapFor, gains, loses, gained, lost};
+ghost use Rattle.pac_serial.specs.WriteSets.{as_changed, KnowsTables, IsOffsetOf, IsGapFor, gains, loses, gained, lost};
 
 use crate::commit::{apply_rest, move_new};
 use crate::pending::Pending;
@@ -82,7 +82,7 @@ impl WriteSet {
     /// The row at a cell, as the transaction sees it. It looks up the cell among the changes, and then in the tables.
     pub(crate) fn get<'a, R: Rows>(&'a self, rows: &'a R, table: u16, key: &Key) -> Option<&'a Row>
         requires { table < R.tables rows.now }
-        ensures { option_map (λ row. row.now) result ≡ map.get (written (R.held rows.now) self.now) (table, key.now) }
+        ensures { option_map (λ row. row.now) result ≡ map.get (as_changed (R.held rows.now) self.now) (table, key.now) }
     {
         match search(&self.changes, table, key) {
             Ok(at) => self.changes[at].1.row.as_ref(),
@@ -100,7 +100,7 @@ impl WriteSet {
     ) -> Result<(), NoMemory>
         requires within { table < R.tables rows.now }
         requires knows { KnowsTables (R.tables rows.now) (R.held rows.now) self.old }
-        ensures ok { OnOk result (written (R.held rows.now) self.new ≡ with_row (written (R.held rows.now) self.old) (table, key) row) }
+        ensures ok { OnOk result (as_changed (R.held rows.now) self.new ≡ with_row (as_changed (R.held rows.now) self.old) (table, key) row) }
         ensures err { OnErr result (self.new ≡ self.old) }
         ensures knows { KnowsTables (R.tables rows.now) (R.held rows.now) self.new }
     {
@@ -132,7 +132,7 @@ impl WriteSet {
     /// Makes the changes, or none where a row finds no room. Rows are moved, and none is copied.
     pub(crate) fn commit<R: Rows>(&mut self, rows: &mut R) -> Result<(), NoMemory>
         requires { KnowsTables (R.tables rows.old) (R.held rows.old) self.old }
-        ensures ok { OnOk result (R.held rows.new ≡ written (R.held rows.old) self.old) }
+        ensures ok { OnOk result (R.held rows.new ≡ as_changed (R.held rows.old) self.old) }
         ensures err { OnErr result (R.held rows.new ≡ R.held rows.old) }
         ensures tables { R.tables rows.new ≡ R.tables rows.old }
     {

@@ -34,7 +34,7 @@ use Rattle.pac_check.proofs.SlotLemmas.{read_held}
 use Rattle.pac_store.specs.Images.{Images}
 use Rattle.pac_store.specs.Stored.{Stored, IsPlaced, IsStored, AreNewest, newest_among}
 use Rattle.pac_store.specs.Stands.{EndsWith, IsHistory, HasSaved, HoldsSaved, IsShutOrPrefix, StandsFor}
-use Rattle.pac_store.specs.Prefixes.{GoesOn}
+use Rattle.pac_store.specs.Prefixes.{ContinuesPrefix}
 
 -- ---- more and fewer
 
@@ -161,7 +161,7 @@ after-prefix procs k txns base end le prefix whole =
 
 -- what is stored on devices that stand for a history, of one text, one catalogue and one list of batches
 goes-on-here : (text : List ℕ) (catalogue : CatalogueState) → length catalogue.tables < 65536 → (history : List Txn) (least : ℕ) (images : Images) → (is : StandsFor text catalogue history least images)
-    → (stored : Stored) → stored.catalogue ≡ catalogue → (newest : Option SlotInfo) → AreNewest catalogue images.slot_a images.slot_b newest stored.base stored.number → stored.rest ≡ drop stored.number (all_txns is.batches) → GoesOn catalogue history least stored
+    → (stored : Stored) → stored.catalogue ≡ catalogue → (newest : Option SlotInfo) → AreNewest catalogue images.slot_a images.slot_b newest stored.base stored.number → stored.rest ≡ drop stored.number (all_txns is.batches) → ContinuesPrefix catalogue history least stored
 goes-on-here text catalogue few_tables history least images is stored same newest are after =
     let txns = all_txns is.batches in
     let prefix = newest-prefix text catalogue few_tables is.batches images is.slot_a is.slot_b newest stored.base stored.number are in
@@ -177,7 +177,7 @@ goes-on-here text catalogue few_tables history least images is stored same newes
       from_base = ap (λ (l : List Txn). serial catalogue.procs (stored.number + 1) l stored.base) after ∙ after-prefix catalogue.procs stored.number txns stored.base whole.0 prefix.within prefix.ends whole.1;
     }
 
-pub goes-on : (text : List ℕ) (catalogue : CatalogueState) (history : List Txn) (least : ℕ) (images : Images) (stored : Stored) → StandsFor text catalogue history least images → IsStored images stored → GoesOn catalogue history least stored
+pub goes-on : (text : List ℕ) (catalogue : CatalogueState) (history : List Txn) (least : ℕ) (images : Images) (stored : Stored) → StandsFor text catalogue history least images → IsStored images stored → ContinuesPrefix catalogue history least stored
 goes-on text catalogue history least images stored is there =
     let few_tables = few-tables text catalogue is.log.log.accepted.has in
     let one = one_log text there.text catalogue stored.catalogue is.batches there.batches images.log is.log there.log in

@@ -8,7 +8,7 @@ use Rattle.pac_store.specs.Stands.{EndsWith}
 use Rattle.pac_store.specs.Stored.{Stored}
 
 -- serial execution of what is stored goes on from a prefix of the history to another, of at least that many transactions
-pub record GoesOn (catalogue : CatalogueState) (history : List Txn) (least : ℕ) (stored : Stored) : Type 0 where
+pub record ContinuesPrefix (catalogue : CatalogueState) (history : List Txn) (least : ℕ) (stored : Stored) : Type 0 where
   pub same : stored.catalogue ≡ catalogue
   pub held : Tables
   pub enough : least ≤ stored.number + length stored.rest

@@ -34,12 +34,12 @@ pub record HoldsPrefix (text : List ℕ) (catalogue : CatalogueState) (batches :
   pub gate : HasGate text batches head.place head.txns
   pub ends : EndsWith catalogue (take head.txns (all_txns batches)) held
 
--- a slot's device has a byte; the slot is shut, or open with a checkpoint of the log's prefix
+-- a slot's device has a byte; the slot is closed, or open with a checkpoint of the log's prefix
 abbrev pub IsShutOrPrefix : List ℕ → CatalogueState → List (List Txn) → List ℕ → Type 0
 IsShutOrPrefix text catalogue batches image = IsShut [] image ⊎ HoldsPrefix text catalogue batches image
 
 -- The devices stand for a history of at least that many transactions: the log is one of this catalogue's text and has no
--- damage, its transactions are the first of the history, at least that many, and each slot is shut, or open with a
+-- damage, its transactions are the first of the history, at least that many, and each slot is closed, or open with a
 -- checkpoint of the log's prefix.
 pub record StandsFor (text : List ℕ) (catalogue : CatalogueState) (history : List Txn) (least : ℕ) (images : Images) : Type 0 where
   pub executes : IsHistory catalogue history

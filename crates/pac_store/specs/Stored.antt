@@ -37,7 +37,7 @@ IsPlaced text batches Closed = Unit {0}
 IsPlaced text batches (Open head) = HasGate text batches head.place head.txns
 
 -- What is stored: the catalogue of the log, the tables and the number of the newest open slot, and the log's transactions
--- after that many, up to the first gate that is shut. Each open slot is at a gate.
+-- after that many, up to the first gate that is closed. Each open slot is at a gate.
 pub record IsStored (images : Images) (stored : Stored) : Type 0 where
   pub text : List ℕ
   pub batches : List (List Txn)

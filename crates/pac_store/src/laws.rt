@@ -2,7 +2,7 @@
 ghost use Rattle.std.specs.Prelude.{◌≡◌, ◌≤◌, ◌++◌, ℕ, List, length, take};
 ghost use Rattle.pac_ops.specs.declared.transaction.Txn.{Txn as ATxn};
 ghost use Rattle.pac_types.specs.Typing.{CatalogueState};
-ghost use Rattle.pac_store.specs.Prefixes.{GoesOn};
+ghost use Rattle.pac_store.specs.Prefixes.{ContinuesPrefix};
 ghost use Rattle.pac_store.specs.Images.{Images};
 ghost use Rattle.pac_store.specs.Stands.{HoldsSaved, IsHistory, StandsFor};
 ghost use Rattle.pac_store.specs.Stored.{IsStored, Stored};
@@ -10,7 +10,7 @@ ghost use Rattle.pac_store.specs.Stored.{IsStored, Stored};
 /// Where devices stand for a history, serial execution of what is stored on them, from the tables of the newest slot on,
 /// ends with the tables of a prefix of the history, which has at least as many transactions as they stand for.
 pub fn stored_goes_on()
-    ensures { (text : List ℕ) (c : CatalogueState) (history : List ATxn) (least : ℕ) (images : Images) (stored : Stored) → StandsFor text c history least images → IsStored images stored → GoesOn c history least stored }
+    ensures { (text : List ℕ) (c : CatalogueState) (history : List ATxn) (least : ℕ) (images : Images) (stored : Stored) → StandsFor text c history least images → IsStored images stored → ContinuesPrefix c history least stored }
 {}
 
 /// Where devices stand for a history, something is stored on them: the log is whole, and so are the slots.

@@ -18,7 +18,7 @@ use Rattle.pac_types.specs.declared.checker.expressions.Typed.{Typed}
 use Rattle.pac_types.specs.Numbering.{number_of, Sight, number_at, resolved, resolve_step}
 use Rattle.pac_value.specs.Scopes.{Scope, is_wanted, is_bool}
 use Rattle.pac_types.specs.Faults.{same_ty, is_ordered, is_left}
-use Rattle.pac_types.specs.Checking.{ScopeState, found_at, seen_at, taken, is_right, given, operands, checked_expr, checked_step, checked_wanted, checked_test}
+use Rattle.pac_types.specs.Checking.{ScopeState, found_at, seen_at, taken, is_right, result_ty, operands, checked_expr, checked_step, checked_wanted, checked_test}
 use Rattle.pac_syntax.proofs.NodeForms.{by_nodes}
 
 -- ---- operators
@@ -74,7 +74,7 @@ logic BoolTy TextTy = refl
 logic BoolTy BoolTy = refl
 
 -- an operator gives a type exactly where it takes both operands
-pub operator : (op : BinOp) (a b : Ty) → operator_type op a b ≡ by_tests (is_left op a) (is_right op a b) (given op)
+pub operator : (op : BinOp) (a b : Ty) → operator_type op a b ≡ by_tests (is_left op a) (is_right op a b) (result_ty op)
 operator Add a b = arithmetic a b
 operator Sub a b = arithmetic a b
 operator Mul a b = arithmetic a b
@@ -90,13 +90,13 @@ operator And a b = logic a b
 operator Or a b = logic a b
 
 pub no_left : (op : BinOp) (a : Ty) → is_left op a ≡ false → (b : Ty) → operator_type op a b ≡ None
-no_left op a e b = operator op a b ∙ ap (λ t. by_tests t (is_right op a b) (given op)) e
+no_left op a e b = operator op a b ∙ ap (λ t. by_tests t (is_right op a b) (result_ty op)) e
 
 pub no_right : (op : BinOp) (a b : Ty) → is_left op a ≡ true → is_right op a b ≡ false → operator_type op a b ≡ None
-no_right op a b l r = operator op a b ∙ ap (λ t. by_tests t (is_right op a b) (given op)) l ∙ ap (λ t. by_tests true t (given op)) r
+no_right op a b l r = operator op a b ∙ ap (λ t. by_tests t (is_right op a b) (result_ty op)) l ∙ ap (λ t. by_tests true t (result_ty op)) r
 
-pub both_taken : (op : BinOp) (a b : Ty) → is_left op a ≡ true → is_right op a b ≡ true → operator_type op a b ≡ Some (given op)
-both_taken op a b l r = operator op a b ∙ ap (λ t. by_tests t (is_right op a b) (given op)) l ∙ ap (λ t. by_tests true t (given op)) r
+pub both_taken : (op : BinOp) (a b : Ty) → is_left op a ≡ true → is_right op a b ≡ true → operator_type op a b ≡ Some (result_ty op)
+both_taken op a b l r = operator op a b ∙ ap (λ t. by_tests t (is_right op a b) (result_ty op)) l ∙ ap (λ t. by_tests true t (result_ty op)) r
 
 pub negation : (a : Ty) → negated_type a ≡ by_tests true (same_ty a BoolTy) BoolTy
 negation IntTy = refl
@@ -163,12 +163,12 @@ module _ (scope : Scope) where
       typed_left : (x : Expr) → l ≡ Some x → type_in scope x ≡ Some a.ty
       typed_left x is = same_type l x a.expr (Some a.ty) is p.0 p.1
 
-      right : (rr : Result Typed TypeFault) → Said scope r rr → is_left op a.ty ≡ true → Said scope whole (rr >>= λ b. taken b.at (is_right op a.ty b.ty) >>= λ _. Ok (record { at = at; expr = Bin op a.expr b.expr; ty = given op }))
+      right : (rr : Result Typed TypeFault) → Said scope r rr → is_left op a.ty ≡ true → Said scope whole (rr >>= λ b. taken b.at (is_right op a.ty b.ty) >>= λ _. Ok (record { at = at; expr = Bin op a.expr b.expr; ty = result_ty op }))
       right (Err f) q ok = λ x is. let h = parts (λ a b. Bin op a b) l r x is in
           bin_type op h.0 h.1 x h.4 ∙ ap (λ o. option_and_then (λ s. option_and_then (λ t. operator_type op s t) o) (type_in scope h.0)) (q h.1 h.3) ∙ none_right (operator_type op) (type_in scope h.0)
       right (Ok b) q ok = go (is_right op a.ty b.ty) refl
         where
-          go : (t : Bool) → is_right op a.ty b.ty ≡ t → Said scope whole (taken b.at t >>= λ _. Ok (record { at = at; expr = Bin op a.expr b.expr; ty = given op }))
+          go : (t : Bool) → is_right op a.ty b.ty ≡ t → Said scope whole (taken b.at t >>= λ _. Ok (record { at = at; expr = Bin op a.expr b.expr; ty = result_ty op }))
           go true e = (
             ap (λ o. option_and_then (λ a. option_map (λ b. Bin op a b) r) o) p.0 ∙ ap (λ o. option_map (λ b. Bin op a.expr b) o) q.0,
             bin_type op a.expr b.expr (Bin op a.expr b.expr) refl ∙ ap (λ o. option_and_then (λ s. option_and_then (λ t. operator_type op s t) (type_in scope b.expr)) o) p.1
@@ -178,7 +178,7 @@ module _ (scope : Scope) where
               bin_type op h.0 h.1 x h.4 ∙ ap (λ o. option_and_then (λ s. option_and_then (λ t. operator_type op s t) (type_in scope h.1)) o) (typed_left h.0 h.2)
               ∙ ap (λ o. option_and_then (λ t. operator_type op a.ty t) o) (same_type r h.1 b.expr (Some b.ty) h.3 q.0 q.1) ∙ no_right op a.ty b.ty ok e
 
-      left : (t : Bool) → is_left op a.ty ≡ t → Said scope whole (taken a.at t >>= λ _. rr >>= λ b. taken b.at (is_right op a.ty b.ty) >>= λ _. Ok (record { at = at; expr = Bin op a.expr b.expr; ty = given op }))
+      left : (t : Bool) → is_left op a.ty ≡ t → Said scope whole (taken a.at t >>= λ _. rr >>= λ b. taken b.at (is_right op a.ty b.ty) >>= λ _. Ok (record { at = at; expr = Bin op a.expr b.expr; ty = result_ty op }))
       left true e = right rr q e
       left false e = λ x is. let h = parts (λ a b. Bin op a b) l r x is in
           bin_type op h.0 h.1 x h.4 ∙ ap (λ o. option_and_then (λ s. option_and_then (λ t. operator_type op s t) (type_in scope h.1)) o) (typed_left h.0 h.2)

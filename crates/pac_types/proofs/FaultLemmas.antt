@@ -22,7 +22,7 @@ use Rattle.pac_types.specs.Numbering.{number_of, table_number, column_number, co
 use Rattle.pac_types.specs.WellFormed.{key_type, column_type, column_types_of, types}
 use Rattle.pac_value.specs.Scopes.{is_wanted}
 use Rattle.pac_types.specs.Faults.{fault_if, is_before, twice, Known, seen, name_faults, same_ty, is_left, wanted_right, is_same, is_fitting, is_test, Judged, wrong_type, placed, judge_step, judged, unknown, key_wanted, values_faults, cell_faults}
-use Rattle.pac_types.specs.Checking.{ScopeState, Cells, once, unless, found_at, seen_at, taken, is_right, given, operands, checked_step, checked_expr, checked_wanted, checked_test, known_at, checked_cell, checked_values}
+use Rattle.pac_types.specs.Checking.{ScopeState, Cells, once, unless, found_at, seen_at, taken, is_right, result_ty, operands, checked_step, checked_expr, checked_wanted, checked_test, known_at, checked_cell, checked_values}
 use Rattle.pac_syntax.proofs.NodeForms.{by_nodes}
 use Rattle.pac_types.proofs.CleanLemmas.{right_is}
 use Rattle.pac_types.proofs.ExprLemmas.{by_tests, no_left, no_right, both_taken, negation, none_right, none_for, none_is}
@@ -97,7 +97,7 @@ module _ (at : ℕ) (op : BinOp) (l r : Judged) where
   type_at a e = ap (λ o. option_and_then (λ a. option_and_then (λ b. operator_type op a b) r.ty) o) e
 
   both_judged : (a b : Typed) (p : JudgedBy l (Ok a)) (q : JudgedBy r (Ok b)) → is_left op a.ty ≡ true → (c : Bool) → is_right op a.ty b.ty ≡ c
-      → JudgedBy whole (taken b.at c >>= λ _. Ok (record { at = at; expr = Bin op a.expr b.expr; ty = given op }))
+      → JudgedBy whole (taken b.at c >>= λ _. Ok (record { at = at; expr = Bin op a.expr b.expr; ty = result_ty op }))
   both_judged a b p q e true g = (
     refl,
     type_at a.ty p.1 ∙ ap (λ o. option_and_then (λ b. operator_type op a.ty b) o) q.1 ∙ both_taken op a.ty b.ty e g,
@@ -110,7 +110,7 @@ module _ (at : ℕ) (op : BinOp) (l r : Judged) where
   )
 
   right_judged : (a : Typed) (p : JudgedBy l (Ok a)) → is_left op a.ty ≡ true → (rr : Result Typed TypeFault) → JudgedBy r rr
-      → JudgedBy whole (rr >>= λ b. taken b.at (is_right op a.ty b.ty) >>= λ _. Ok (record { at = at; expr = Bin op a.expr b.expr; ty = given op }))
+      → JudgedBy whole (rr >>= λ b. taken b.at (is_right op a.ty b.ty) >>= λ _. Ok (record { at = at; expr = Bin op a.expr b.expr; ty = result_ty op }))
   right_judged a p e (Err f) q = (
     ap (λ o. option_and_then (λ a. option_and_then (λ b. operator_type op a b) o) l.ty) q.0 ∙ none_right (operator_type op) l.ty,
     q.1,
@@ -119,7 +119,7 @@ module _ (at : ℕ) (op : BinOp) (l r : Judged) where
   right_judged a p e (Ok b) q = both_judged a b p q e (is_right op a.ty b.ty) refl
 
   left_judged : (a : Typed) (p : JudgedBy l (Ok a)) (rr : Result Typed TypeFault) → JudgedBy r rr → (c : Bool) → is_left op a.ty ≡ c
-      → JudgedBy whole (taken a.at c >>= λ _. rr >>= λ b. taken b.at (is_right op a.ty b.ty) >>= λ _. Ok (record { at = at; expr = Bin op a.expr b.expr; ty = given op }))
+      → JudgedBy whole (taken a.at c >>= λ _. rr >>= λ b. taken b.at (is_right op a.ty b.ty) >>= λ _. Ok (record { at = at; expr = Bin op a.expr b.expr; ty = result_ty op }))
   left_judged a p rr q true e = right_judged a p e rr q
   left_judged a p rr q false e = (type_at a.ty p.1 ∙ none_for (λ t. operator_type op a.ty t) (no_left op a.ty e) r.ty, placed right_takes r, ap (λ zs. zs ++ placed right_takes r) (placed_wrong (is_left op) l a p e))
 

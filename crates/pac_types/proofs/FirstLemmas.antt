@@ -22,7 +22,7 @@ use Rattle.pac_types.specs.declared.procedure.Proc.{Proc}
 use Rattle.pac_types.specs.declared.statement.Stmt.{Stmt, Delete, AbortIf, If}
 use Rattle.pac_types.specs.Numbering.{table_number, variables, column_of, table_of}
 use Rattle.pac_types.specs.Faults.{twice, cell_faults, column_faults, column_wanted, wrong_type, is_fitting, Known, out_of_sight, is_test, placed, judged, Ruled, ruled_names, all_faults, ruled_plain, ruled_branching, rule_step, ruled, names_faults, tables_faults, params_known, proc_faults, procs_faults, tree_faults, IsAmong, Stands, IsFirstTypeFault}
-use Rattle.pac_types.specs.Checking.{ScopeState, Reported, once, defined_in, left_at, checked_test, checked_cell, checked_put, run_all, block, checked_stmt_step, checked_stmt, checked_block, all_once, names_of, checked_tables, checked_params, checked_proc, checked_procs, opening_scope}
+use Rattle.pac_types.specs.Checking.{ScopeState, Reported, once, with_variable, left_at, checked_test, checked_cell, checked_put, run_all, block, checked_stmt_step, checked_stmt, checked_block, all_once, names_of, checked_tables, checked_params, checked_proc, checked_procs, opening_scope}
 use Rattle.pac_types.proofs.BlockLemmas.{left_is}
 use Rattle.pac_types.proofs.TreeLemmas.{variables_from}
 use Rattle.pac_types.proofs.FaultLemmas.{Agree, agree_then, agree_map, agree_same, once_agrees, known_types, test_agrees, cell_agrees}
@@ -245,7 +245,7 @@ params_agree names (node ∷ nodes) known next offset long =
     whole (Err f) e p = (p.0, λ i. e i ++ p.1 i)
 
     go : ParamsAgree names more (next + 1) nodes (names_faults names (offset + 1) nodes) (checked_params nodes (at names more (next + 1))) → (r : Result (Unit {0}) TypeFault) → Agree (twice names offset node.name) r
-        → ParamsAgree names known next (node ∷ nodes) (names_faults names offset (node ∷ nodes)) (r >>= λ _. checked_params nodes (defined_in node.ty (at names known next)))
+        → ParamsAgree names known next (node ∷ nodes) (names_faults names offset (node ∷ nodes)) (r >>= λ _. checked_params nodes (with_variable node.ty (at names known next)))
     go later (Ok x) p = whole (checked_params nodes (at names more (next + 1))) p later
     go later (Err f) p = (p.0 ++ names_faults names (offset + 1) nodes, ap (λ zs. zs ++ names_faults names (offset + 1) nodes) p.1)
 

@@ -21,7 +21,7 @@ use Rattle.pac_types.specs.Numbering.{table_number, column_number}
 use Rattle.pac_types.specs.WellFormed.{key_type, column_type, column_types}
 use Rattle.pac_value.specs.Scopes.{is_wanted}
 use Rattle.pac_types.specs.Faults.{fault_if, twice, Known, out_of_sight, is_fitting, Judged, wrong_type, placed, judged, unknown, key_wanted, column_wanted, column_faults, wrong_count, values_wanted, values_faults, cell_faults, Ruled, ruled_naming, ruled_plain}
-use Rattle.pac_types.specs.Checking.{ScopeState, Reported, Cells, Fields, once, unless, taken, known_at, defined_in, checked_expr, checked_wanted, checked_cell, checked_field, checked_read, same_count, checked_values, checked_put}
+use Rattle.pac_types.specs.Checking.{ScopeState, Reported, Cells, Fields, once, unless, taken, known_at, with_variable, checked_expr, checked_wanted, checked_cell, checked_field, checked_read, same_count, checked_values, checked_put}
 use Rattle.pac_types.proofs.PartLemmas.{equal}
 use Rattle.pac_types.proofs.FaultLemmas.{Agree, agree_then, agree_map, agree_same, once_agrees, known_types, JudgedBy, expr_judged, wanted_agrees, values_agree, key_found, column_found, then_ok, cell_agrees}
 
@@ -118,7 +118,7 @@ module _ (names : List (List ℕ)) (known : List (Option Variable)) (next : ℕ)
 
   -- one that defines a variable, after its name
   abbrev pub NamingAgrees : Option Ty → List TypeFault → Reported → Type 0
-  NamingAgrees o faults (Ok a) = (faults ≡ []) × (ty : Ty) × (a.1 ≡ defined_in ty (at names known next)) × (o ≡ Some ty)
+  NamingAgrees o faults (Ok a) = (faults ≡ []) × (ty : Ty) × (a.1 ≡ with_variable ty (at names known next)) × (o ≡ Some ty)
   NamingAgrees o faults (Err f) = (rest : List TypeFault) × (faults ≡ f ∷ rest)
 
   pub naming_agrees : (ty : Known → Option Ty) (faults : Known → List TypeFault) (name : NameNode) (r : Reported) → NamingAgrees (ty (known_types known)) (faults (known_types known)) r
@@ -133,20 +133,20 @@ module _ (names : List (List ℕ)) (known : List (Option Variable)) (next : ℕ)
       go (Ok x) p = fresh r reported p
       go (Err f) p = (p.0 ++ faults (known_types known), ap (λ zs. zs ++ faults (known_types known)) p.1)
 
-  pub let_naming : (value : ExprNode) → NamingAgrees (judged names (known_types known) value).ty (judged names (known_types known) value).faults (checked_expr (at names known next) value >>= λ v. Ok (Let next v.expr, defined_in v.ty (at names known next)))
+  pub let_naming : (value : ExprNode) → NamingAgrees (judged names (known_types known) value).ty (judged names (known_types known) value).faults (checked_expr (at names known next) value >>= λ v. Ok (Let next v.expr, with_variable v.ty (at names known next)))
   let_naming value = go (checked_expr (at names known next) value) (expr_judged names known next value)
     where
       go : (r : Result Typed TypeFault) → JudgedBy (judged names (known_types known) value) r
-          → NamingAgrees (judged names (known_types known) value).ty (judged names (known_types known) value).faults (r >>= λ v. Ok (Let next v.expr, defined_in v.ty (at names known next)))
+          → NamingAgrees (judged names (known_types known) value).ty (judged names (known_types known) value).faults (r >>= λ v. Ok (Let next v.expr, with_variable v.ty (at names known next)))
       go (Ok v) p = (p.2, v.ty, refl, p.1)
       go (Err f) p = (p.1, p.2)
 
   module _ (tables : List Table) where
-    pub has_naming : (table : NameNode) (key : ExprNode) → NamingAgrees (Some BoolTy) (cell_faults tables (judged names (known_types known)) table key) (checked_cell tables (at names known next) table key >>= λ c. Ok (Has next c.0 c.1, defined_in BoolTy (at names known next)))
+    pub has_naming : (table : NameNode) (key : ExprNode) → NamingAgrees (Some BoolTy) (cell_faults tables (judged names (known_types known)) table key) (checked_cell tables (at names known next) table key >>= λ c. Ok (Has next c.0 c.1, with_variable BoolTy (at names known next)))
     has_naming table key = go (checked_cell tables (at names known next) table key) (cell_agrees tables names known next table key)
       where
         go : (r : Result Cells TypeFault) → Agree (cell_faults tables (judged names (known_types known)) table key) r
-            → NamingAgrees (Some BoolTy) (cell_faults tables (judged names (known_types known)) table key) (r >>= λ c. Ok (Has next c.0 c.1, defined_in BoolTy (at names known next)))
+            → NamingAgrees (Some BoolTy) (cell_faults tables (judged names (known_types known)) table key) (r >>= λ c. Ok (Has next c.0 c.1, with_variable BoolTy (at names known next)))
         go (Ok c) p = (p, BoolTy, refl, refl)
         go (Err f) p = p
 
@@ -186,7 +186,7 @@ module _ (names : List (List ℕ)) (known : List (Option Variable)) (next : ℕ)
           w = q f refl
 
           go : (b : Bool) → is_wanted (Some (type_of default.value)) (column_type tables f.0 f.2) ≡ b
-              → NamingAgrees wanted (field_faults ++ last) (taken default.at b >>= λ _. Ok (Read next f.0 f.1 f.2 default.value, defined_in (type_of default.value) (at names known next)))
+              → NamingAgrees wanted (field_faults ++ last) (taken default.at b >>= λ _. Ok (Read next f.0 f.1 f.2 default.value, with_variable (type_of default.value) (at names known next)))
           go true h = ((λ i. p i ++ read_faults true w.0 _ w.2 w.1 h i), type_of default.value, refl, w.2 ∙ is_the_type (type_of default.value) (column_type tables f.0 f.2) h)
           go false h = ([], λ i. p i ++ read_faults false w.0 _ w.2 w.1 h i)
 

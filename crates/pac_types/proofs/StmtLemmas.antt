@@ -23,7 +23,7 @@ use Rattle.pac_types.specs.Numbering.{AreDistinct, number_of, table_number, colu
 use Rattle.pac_types.specs.WellFormed.{Check, check, check_step, scope_after, if_so, key_type, column_type, column_types}
 use Rattle.pac_value.specs.Scopes.{Scope, with_var, is_wanted, is_bool, are_wanted, is_width}
 use Rattle.pac_types.specs.Faults.{is_before}
-use Rattle.pac_types.specs.Checking.{ScopeState, Reported, Cells, Fields, once, unless, taken, known_at, same_count, defined_in, checked_wanted, checked_cell, checked_field, checked_read, checked_values}
+use Rattle.pac_types.specs.Checking.{ScopeState, Reported, Cells, Fields, once, unless, taken, known_at, same_count, with_variable, checked_wanted, checked_cell, checked_field, checked_read, checked_values}
 use Rattle.pac_types.proofs.StmtForms.{at-Let, at-Read, at-Has, at-Put, at-Set, at-Delete, at-AbortIf}
 use Rattle.pac_types.proofs.NameLemmas.{number-take, below, distinct-more, not_yet}
 use Rattle.pac_types.proofs.ExprLemmas.{numbers_of, Said, Fit, Passed, wanted_passed, some_is, none_is}
@@ -90,7 +90,7 @@ module _ (tables : List Table) (names : List (List ℕ)) where
   -- ---- statements that define a variable
 
   abbrev pub NamingReported : List (Option Variable) → ℕ → Scope → Option Stmt → Reported → Type 0
-  NamingReported known next scope o (Ok a) = (ty : Ty) × (a.1 ≡ defined_in ty (at known next)) × (o ≡ Some a.0) × (scope_after tables a.0 scope ≡ Some (with_var scope next ty)) × ((y : ℕ) → (check tables a.0).defines y ≡ (y == next))
+  NamingReported known next scope o (Ok a) = (ty : Ty) × (a.1 ≡ with_variable ty (at known next)) × (o ≡ Some a.0) × (scope_after tables a.0 scope ≡ Some (with_var scope next ty)) × ((y : ℕ) → (check tables a.0).defines y ≡ (y == next))
   NamingReported known next scope o (Err f) = (s : Stmt) → o ≡ Some s → scope_after tables s scope ≡ None
 
   pub not_before : (o : Option ℕ) (k : ℕ) → is_before o k ≡ false → below k o ≡ None
@@ -205,7 +205,7 @@ module _ (tables : List Table) (names : List (List ℕ)) where
         → FieldReported scope (table_number tables table.name) (resolved names (numbers_of known) key) (λ t. column_number tables t column.name) (checked_field tables (record { names = names; known = known; next = next }) table key column)
     field_of_node table key column = field_reported scope column.at _ _ (λ t. column_number tables t column.name) _ (cell_of_node table key)
 
-    pub let_reported : (o : Option Expr) (r : Result Typed TypeFault) → Said scope o r → NamingReported known next scope (option_map (λ e. Let next e) o) (r >>= λ v. Ok (Let next v.expr, defined_in v.ty (record { names = names; known = known; next = next })))
+    pub let_reported : (o : Option Expr) (r : Result Typed TypeFault) → Said scope o r → NamingReported known next scope (option_map (λ e. Let next e) o) (r >>= λ v. Ok (Let next v.expr, with_variable v.ty (record { names = names; known = known; next = next })))
     let_reported o (Err f) reported = λ s is. let h = map_is (λ e. Let next e) o s is in
         ap (λ z. scope_after tables z scope) (sym h.2) ∙ after_is _ _ scope (at-Let Check (check_step tables) _ next h.0 refl) ∙ ap (option_map (with_var scope next)) (reported h.0 h.1)
     let_reported o (Ok v) reported = (
@@ -231,12 +231,12 @@ module _ (tables : List Table) (names : List (List ℕ)) where
         found = ap (λ z. cell_by z k (λ t k. option_map (λ c. Read next t k c default.value) (c t))) reported.0 ∙ ap (λ z. cell_by (Some f.0) z (λ t k. option_map (λ c. Read next t k c default.value) (c t))) reported.1 ∙ ap (λ z. option_map (λ c. Read next f.0 f.1 c default.value) z) reported.2
 
         go : (b : Bool) → is_wanted (Some (type_of default.value)) (column_type tables f.0 f.2) ≡ b
-            → NamingReported known next scope (cell_by t k (λ t k. option_map (λ c. Read next t k c default.value) (c t))) (taken default.at b >>= λ _. Ok (Read next f.0 f.1 f.2 default.value, defined_in (type_of default.value) (record { names = names; known = known; next = next })))
+            → NamingReported known next scope (cell_by t k (λ t k. option_map (λ c. Read next t k c default.value) (c t))) (taken default.at b >>= λ _. Ok (Read next f.0 f.1 f.2 default.value, with_variable (type_of default.value) (record { names = names; known = known; next = next })))
         go true e = (type_of default.value, refl, found, after_is _ _ scope the_form ∙ so_some _ _ (both_true _ _ reported.3 e), λ y. defines_is _ _ y the_form)
         go false e = λ s is. ap (λ z. scope_after tables z scope) (some_is (sym is ∙ found)) ∙ after_is _ _ scope the_form ∙ so_false _ _ (right_false _ _ e)
 
     pub has_reported : (t : Option ℕ) (k : Option Expr) (r : Result Cells TypeFault) → CellReported scope t k r
-        → NamingReported known next scope (cell_by t k (λ t k. Some (Has next t k))) (r >>= λ c. Ok (Has next c.0 c.1, defined_in BoolTy (record { names = names; known = known; next = next })))
+        → NamingReported known next scope (cell_by t k (λ t k. Some (Has next t k))) (r >>= λ c. Ok (Has next c.0 c.1, with_variable BoolTy (record { names = names; known = known; next = next })))
     has_reported t k (Err f) reported = λ s is. let h = cell_is t k _ s is in
         ap (λ z. scope_after tables z scope) (sym (some_is h.4)) ∙ after_is _ _ scope (at-Has Check (check_step tables) _ next h.0 h.1 refl) ∙ so_false _ _ (reported h.0 h.1 h.2 h.3)
     has_reported t k (Ok c) reported = (

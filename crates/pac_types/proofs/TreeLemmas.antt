@@ -24,7 +24,7 @@ use Rattle.pac_types.specs.WellFormed.{IsWellFormedProc, check, in_order, scope_
 use Rattle.pac_value.specs.Scopes.{Scope}
 use Rattle.pac_types.specs.Typing.{IsProcOf}
 use Rattle.pac_types.specs.Faults.{is_before}
-use Rattle.pac_types.specs.Checking.{ScopeState, Reported, once, unless, defined_in, checked_stmt, checked_stmt_step, checked_block, checked_params, checked_proc, opening_scope, block}
+use Rattle.pac_types.specs.Checking.{ScopeState, Reported, once, unless, with_variable, checked_stmt, checked_stmt_step, checked_block, checked_params, checked_proc, opening_scope, block}
 use Rattle.pac_types.proofs.CheckLemmas.{joined-map}
 use Rattle.pac_types.proofs.NameLemmas.{number-take, distinct-more, distinct-nil, not_yet, are_distinct}
 use Rattle.pac_types.proofs.ExprLemmas.{numbers_of, said, Fit, test_passed, wanted_passed, some_is, none_is}
@@ -203,7 +203,7 @@ module _ (names : List (List ℕ)) where
           )
 
       go : others → (r : Result (Unit {0}) TypeFault) → OnceReported names (length known) (map (λ node. node.name.name) nodes ++ rest) r
-          → ParamsReported (node ∷ nodes) known next rest (r >>= λ _. checked_params nodes (defined_in node.ty (record { names = names; known = known; next = next })))
+          → ParamsReported (node ∷ nodes) known next rest (r >>= λ _. checked_params nodes (with_variable node.ty (record { names = names; known = known; next = next })))
       go later (Err f) reported = reported
       go later (Ok x) reported = whole (checked_params nodes (record { names = names; known = more; next = next + 1 }))
           (later (subst (λ k. IsDistinct bytes_eq (take k names)) long reported.0) (subst (λ k. drop k names ≡ map (λ node. node.name.name) nodes ++ rest) long reported.1))

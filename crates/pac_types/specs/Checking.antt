@@ -68,8 +68,8 @@ found_at at known (Some index) = seen_at at (slice_get known index)
 abbrev pub found : ScopeState → NameNode → Result Variable TypeFault
 found scope name = found_at name.at scope.known (number_of scope.names name.name)
 
-abbrev pub defined_in : Ty → ScopeState → ScopeState
-defined_in ty scope = record { names = scope.names; known = scope.known ++ Some (record { number = scope.next; ty = ty }) ∷ []; next = scope.next + 1 }
+abbrev pub with_variable : Ty → ScopeState → ScopeState
+with_variable ty scope = record { names = scope.names; known = scope.known ++ Some (record { number = scope.next; ty = ty }) ∷ []; next = scope.next + 1 }
 
 abbrev pub hidden_in : ScopeState → ScopeState
 hidden_in scope = record { names = scope.names; known = scope.known; next = scope.next + 1 }
@@ -95,17 +95,17 @@ is_right Or left right = same_ty right BoolTy
 is_right _ left right = same_ty right left
 
 -- the type of what an operator gives
-abbrev pub given : BinOp → Ty
-given Add = IntTy
-given Sub = IntTy
-given Mul = IntTy
-given Div = IntTy
-given Rem = IntTy
-given _ = BoolTy
+abbrev pub result_ty : BinOp → Ty
+result_ty Add = IntTy
+result_ty Sub = IntTy
+result_ty Mul = IntTy
+result_ty Div = IntTy
+result_ty Rem = IntTy
+result_ty _ = BoolTy
 
 abbrev pub operands : ℕ → BinOp → Result Typed TypeFault → Result Typed TypeFault → Result Typed TypeFault
 operands at op left right =
-    left >>= λ a. taken a.at (is_left op a.ty) >>= λ _. right >>= λ b. taken b.at (is_right op a.ty b.ty) >>= λ _. Ok (record { at = at; expr = Bin op a.expr b.expr; ty = given op })
+    left >>= λ a. taken a.at (is_left op a.ty) >>= λ _. right >>= λ b. taken b.at (is_right op a.ty b.ty) >>= λ _. Ok (record { at = at; expr = Bin op a.expr b.expr; ty = result_ty op })
 
 abbrev pub checked_step : ScopeState → ExprNode-F (Result Typed TypeFault) → Result Typed TypeFault
 checked_step scope (node.Literal literal) = Ok (record { at = literal.at; expr = Lit literal.value; ty = type_of literal.value })
@@ -166,7 +166,7 @@ Reported = Result (Stmt × ScopeState) TypeFault
 
 abbrev pub checked_read : List Table → ScopeState → Fields → LiteralNode → Reported
 checked_read tables scope field default =
-    taken default.at (is_wanted (Some (type_of default.value)) (column_type tables field.0 field.2)) >>= λ _. Ok (Read scope.next field.0 field.1 field.2 default.value, defined_in (type_of default.value) scope)
+    taken default.at (is_wanted (Some (type_of default.value)) (column_type tables field.0 field.2)) >>= λ _. Ok (Read scope.next field.0 field.1 field.2 default.value, with_variable (type_of default.value) scope)
 
 abbrev pub run_all : List (ScopeState → Reported) → ScopeState → Result (List Stmt × ScopeState) TypeFault
 run_all [] scope = Ok ([], scope)
@@ -180,9 +180,9 @@ abbrev pub first_time : ScopeState → NameNode → Result (Unit {0}) TypeFault
 first_time scope name = once scope.names (length scope.known) name
 
 abbrev pub checked_stmt_step : List Table → StmtNode-F (ScopeState → Reported) → ScopeState → Reported
-checked_stmt_step tables (form.Let name value) scope = first_time scope name >>= λ _. checked_expr scope value >>= λ v. Ok (Let scope.next v.expr, defined_in v.ty scope)
+checked_stmt_step tables (form.Let name value) scope = first_time scope name >>= λ _. checked_expr scope value >>= λ v. Ok (Let scope.next v.expr, with_variable v.ty scope)
 checked_stmt_step tables (form.Read name table key column default) scope = first_time scope name >>= λ _. checked_field tables scope table key column >>= λ f. checked_read tables scope f default
-checked_stmt_step tables (form.Has name table key) scope = first_time scope name >>= λ _. checked_cell tables scope table key >>= λ c. Ok (Has scope.next c.0 c.1, defined_in BoolTy scope)
+checked_stmt_step tables (form.Has name table key) scope = first_time scope name >>= λ _. checked_cell tables scope table key >>= λ c. Ok (Has scope.next c.0 c.1, with_variable BoolTy scope)
 checked_stmt_step tables (form.Put table key values) scope = checked_put tables scope table key values >>= λ s. Ok (s, scope)
 checked_stmt_step tables (form.Set table key column value) scope = checked_field tables scope table key column >>= λ f. checked_wanted scope value (column_type tables f.0 f.2) >>= λ e. Ok (Set f.0 f.1 f.2 e, scope)
 checked_stmt_step tables (form.Delete table key) scope = checked_cell tables scope table key >>= λ c. Ok (Delete c.0 c.1, scope)
@@ -218,7 +218,7 @@ checked_tables names index (node ∷ nodes) = checked_table names index node >>=
 -- the parameters, which are visible in the whole procedure
 abbrev pub checked_params : List ColumnNode → ScopeState → Result ScopeState TypeFault
 checked_params [] scope = Ok scope
-checked_params (node ∷ nodes) scope = first_time scope node.name >>= λ _. checked_params nodes (defined_in node.ty scope)
+checked_params (node ∷ nodes) scope = first_time scope node.name >>= λ _. checked_params nodes (with_variable node.ty scope)
 
 abbrev pub opening_scope : ProcNode → ScopeState
 opening_scope node = record { names = variables node; known = []; next = 0 }

@@ -4,4 +4,4 @@ use Rattle.pac_commute.proofs.TwoPieces.{two_pieces}
 use Rattle.pac_commute.proofs.two_pieces.Goals as goal
 
 pub returns : goal.returns
-returns c = λ parts is first batches txns. two_pieces (planned parts first batches txns) (well_formed_plan parts is first batches txns)
+returns c = λ parts is first batches. two_pieces (planned parts first batches) (well_formed_plan parts is first batches)

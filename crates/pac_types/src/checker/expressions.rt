@@ -2,7 +2,7 @@
 ghost use Rattle.std.specs.Prelude.{◌≡◌};
 ghost use Rattle.pac_base.specs.Refusals.{Reports};
 ghost use Rattle.pac_types.specs.Faults.{is_left};
-ghost use Rattle.pac_types.specs.Checking.{taken, is_right, given, checked_expr, checked_wanted, checked_test};
+ghost use Rattle.pac_types.specs.Checking.{taken, is_right, result_ty, checked_expr, checked_wanted, checked_test};
 ghost use Rattle.pac_value.specs.Scopes.{is_wanted, is_bool};
 
 use crate::TypeError;
@@ -57,8 +57,8 @@ fn is_right(op: BinOp, left: Ty, right: Ty) -> bool
 }
 
 // The type of what an operator gives.
-fn given(op: BinOp) -> Ty
-    ensures { result ≡ given op }
+fn result_ty(op: BinOp) -> Ty
+    ensures { result ≡ result_ty op }
 {
     match op {
         BinOp::Add | BinOp::Sub | BinOp::Mul | BinOp::Div | BinOp::Rem => Ty::Int,
@@ -101,7 +101,7 @@ pub(crate) fn check_expr(alloc: Global, scope: &Scope, node: &ExprNode) -> Resul
                     left: Boxed::new(alloc, left.expr)?,
                     right: Boxed::new(alloc, right.expr)?,
                 },
-                ty: given(*op),
+                ty: result_ty(*op),
             })
         }
         ExprNode::Not { at, operand } => {

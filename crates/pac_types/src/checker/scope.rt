@@ -1,6 +1,6 @@
 // The variables of a procedure that are known so far.
 ghost use Rattle.std.specs.Prelude.{◌≡◌, ◌≤◌, ◌<◌, ◌^◌, IfOk, OnOk, length, []};
-ghost use Rattle.pac_types.specs.Checking.{once, found, defined_in, hidden_in, left_at};
+ghost use Rattle.pac_types.specs.Checking.{once, found, with_variable, hidden_in, left_at};
 
 use crate::names::Names;
 use crate::type_error::{TypeFault, TypeFaultKind};
@@ -82,7 +82,7 @@ impl Scope {
     pub fn define(&mut self, ty: Ty) -> Result<u16, AllocError>
         requires { self.old.next < 2 ^ 16 }
         ensures number { IfOk result (λ number. number ≡ self.old.next) }
-        ensures known { OnOk result (self.new ≡ defined_in ty self.old) }
+        ensures known { OnOk result (self.new ≡ with_variable ty self.old) }
     {
         let number = self.next as u16;
         self.known.push(Some(Variable { number, ty }))?;

@@ -6,7 +6,7 @@ use Rattle.pac_ops.specs.Shapes.{RecordsFit}
 use Rattle.pac_ops.specs.Transactions.{with_changes}
 use Rattle.pac_types.specs.declared.table.Table.{Table}
 use Rattle.pac_types.specs.Fits.{shape}
-use Rattle.pac_serial.specs.WriteSets.{written}
+use Rattle.pac_serial.specs.WriteSets.{as_changed}
 use Rattle.pac_serial.specs.Transactions.{RunsOver}
 use Rattle.pac_serial.proofs.WriteSetLemmas.{seen-none}
 use Rattle.pac_serial.proofs.CallLemmas.{runs-begun}
@@ -21,5 +21,5 @@ loop-change-init g c =
           (runs-begun cat.tables (g.R.Rows.tables c.args.rows.now) held c.begin.new.self.write_set c.requires.fits.count c.requires.fits.rows c.in_ok-begin.ensures.write_set);
       fit = subst (λ (ts : List Table). RecordsFit (map shape ts) c.items-changes.result.now) (sym c.tables-tables.ensures.value)
           (subst (λ (cs : List Change). RecordsFit (map shape cat.tables) cs) (sym c.items-changes.ensures.value) c.requires.records);
-      so_far = ap (λ (t : Tables). with_changes t c.items-changes.result.now) (ap (written held) c.in_ok-begin.ensures.write_set ∙ seen-none held);
+      so_far = ap (λ (t : Tables). with_changes t c.items-changes.result.now) (ap (as_changed held) c.in_ok-begin.ensures.write_set ∙ seen-none held);
     }

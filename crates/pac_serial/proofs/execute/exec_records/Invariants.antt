@@ -3,7 +3,7 @@ use Rattle.std.proofs.Common.{◌≡◌, map, drop}
 use Rattle.pac_ops.specs.Shapes.{RecordsFit}
 use Rattle.pac_ops.specs.Transactions.{with_changes}
 use Rattle.pac_types.specs.Fits.{shape}
-use Rattle.pac_serial.specs.WriteSets.{written}
+use Rattle.pac_serial.specs.WriteSets.{as_changed}
 use Rattle.pac_serial.specs.Transactions.{RunsOver}
 use Rattle.pac_serial.proofs.execute.exec_records.Given as goal
 
@@ -11,5 +11,5 @@ abbrev pub invariant-loop-change : goal.invariant-loop-change
 invariant-loop-change g l = record {
   over : RunsOver l.tables (g.R.Rows.tables l.rows) (g.R.Rows.held l.rows) l.txn.write_set;
   fit : RecordsFit (map shape l.tables) (drop l.change-index l.changes);
-  so_far : with_changes (written (g.R.Rows.held l.rows) l.txn.write_set) (drop l.change-index l.changes) ≡ with_changes (g.R.Rows.held l.rows) l.changes;
+  so_far : with_changes (as_changed (g.R.Rows.held l.rows) l.txn.write_set) (drop l.change-index l.changes) ≡ with_changes (g.R.Rows.held l.rows) l.changes;
 }

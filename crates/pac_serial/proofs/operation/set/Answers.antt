@@ -9,7 +9,7 @@ use Rattle.pac_ops.specs.Shapes.{RowFits}
 use Rattle.pac_types.specs.WellFormed.{column_type, column_types}
 use Rattle.pac_types.specs.Fits.{shape}
 use Rattle.pac_types.proofs.ShapeLemmas.{row-fits, columns-of_fit}
-use Rattle.pac_serial.specs.WriteSets.{written}
+use Rattle.pac_serial.specs.WriteSets.{as_changed}
 use Rattle.pac_serial.proofs.FitLemmas.{types-set, column-within, runs-changed}
 use Rattle.pac_serial.proofs.operation.set.Goals as goal
 
@@ -18,7 +18,7 @@ with_column-requires-clause-column g c =
     let tables = c.args.tables.now in
     let cell : Cell = (c.args.target.now.table, c.in_ok-key.key) in
     let old : RowValues = c.in-Some.row.now in
-    let found : fin.get (written (g.R.Rows.held c.args.rows.now) c.args.txn.now.write_set) cell ≡ Some old = sym c.in-Some.ensures in
+    let found : fin.get (as_changed (g.R.Rows.held c.args.rows.now) c.args.txn.now.write_set) cell ≡ Some old = sym c.in-Some.ensures in
     column-within old (column_types tables c.args.target.now.table) c.args.column c.in_ok-value.value (columns-of_fit tables cell old (c.requires.over.fits cell old found))
     (subst (λ (o : Option Ty). is_wanted o (column_type tables c.args.target.now.table c.args.column) ≡ true) c.in_ok-value.ensures.typed c.requires.column)
 
@@ -28,7 +28,7 @@ returns-clause-over g c =
     let cell : Cell = (c.args.target.now.table, c.in_ok-key.key) in
     let old : RowValues = c.in-Some.row.now in
     let value = c.in_ok-value.value in
-    let found : fin.get (written (g.R.Rows.held c.args.rows.now) c.args.txn.now.write_set) cell ≡ Some old = sym c.in-Some.ensures in
+    let found : fin.get (as_changed (g.R.Rows.held c.args.rows.now) c.args.txn.now.write_set) cell ≡ Some old = sym c.in-Some.ensures in
     let fit : RowFits (map shape tables) cell old = c.requires.over.fits cell old found in
     let wanted : is_wanted (Some (type_of value)) (column_type tables c.args.target.now.table c.args.column) ≡ true =
     subst (λ (o : Option Ty). is_wanted o (column_type tables c.args.target.now.table c.args.column) ≡ true) c.in_ok-value.ensures.typed c.requires.column in

@@ -5,14 +5,14 @@ use Rattle.std.specs.FinMap as map
 use Rattle.std.specs.FinMap.{is_sorted}
 use Rattle.pac_value.specs.State.{Cell, cell_cmp, Tables, with_row}
 use Rattle.pac_serial.specs.declared.pending.Pending.{Pending}
-use Rattle.pac_serial.specs.WriteSets.{Change, Changes, IsOffsetOf, IsGapFor, written, KnowsTables}
+use Rattle.pac_serial.specs.WriteSets.{Change, Changes, IsOffsetOf, IsGapFor, as_changed, KnowsTables}
 use Rattle.pac_serial.proofs.ChangeLemmas.{found-sorted, found-map, found-get, gap-sorted, gap-map}
 use Rattle.pac_serial.proofs.WriteSetLemmas.{seen-insert, knows-insert}
 use Rattle.pac_serial.proofs.write_set.WriteSet.change.Goals as goal
 
 -- what is seen once the changes are those before and one more
-seen : (held : Tables) (old new : Changes) (cell : Cell) (pending : Pending) → new ≡ map.insert old cell pending → written held new ≡ with_row (written held old) cell pending.row
-seen held old new cell pending e = ap (written held) e ∙ seen-insert held old cell pending
+seen : (held : Tables) (old new : Changes) (cell : Cell) (pending : Pending) → new ≡ map.insert old cell pending → as_changed held new ≡ with_row (as_changed held old) cell pending.row
+seen held old new cell pending e = ap (as_changed held) e ∙ seen-insert held old cell pending
 
 known : (tables : ℕ) (held : Tables) (old new : Changes) (cell : Cell) (pending : Pending) → new ≡ map.insert old cell pending → cell.0 < tables → pending.stands ≡ is_some (map.get held cell) → KnowsTables tables held old → KnowsTables tables held new
 known tables held old new cell pending e within stands knows = subst (λ (m : Changes). KnowsTables tables held m) (sym e) (knows-insert tables held old cell pending within stands knows)
@@ -34,7 +34,7 @@ returns-in-Ok-clause-ok g c =
     let here = ap (λ (x : Change). map.from_sorted {R = cell_cmp} (set all c.in-Ok.at (x.0, c.replace.new.self))) c.index_mut.ensures.value in
     let new = here ∙ found-map all c.self.invariant cell c.in-Ok.at offset c.index_mut.result.now c.replace.new.self ∙ ap (λ (m : Changes). map.insert m cell c.replace.new.self) c.self.view_is in
     seen held c.args.self.now (map.from_sorted (set all c.in-Ok.at (c.index_mut.result.now.0, c.replace.new.self))) cell c.replace.new.self new
-    ∙ ap (λ (p : Pending). with_row (written held c.args.self.now) cell p.row) c.replace.ensures
+    ∙ ap (λ (p : Pending). with_row (as_changed held c.args.self.now) cell p.row) c.replace.ensures
 
 pub returns-in-Ok-clause-knows : goal.returns-in-Ok-clause-knows
 returns-in-Ok-clause-knows g c =
