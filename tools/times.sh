@@ -1,0 +1,118 @@
+#!/bin/bash
+# Times the program and parts of it, for docs/COSTS.md.
+#
+#     tools/times.sh replay|input|parts|log|slots|runs|rows
+#
+# `replay`, `input` and `runs` time the program, which is $PACMAN or crates/pacman/out/pacman. The others time pac_bench,
+# which is $PAC_BENCH or crates/pac_bench/out/pac_bench, as `(cd crates/pac_bench && rt run -- copy 1)` makes it. All
+# files are made in a new folder of the current directory, which is removed: its disk is what `log`, `slots` and `runs` time.
+set -eu
+top=$(cd "$(dirname "$0")/.." && pwd)
+pacman=$(realpath "${PACMAN:-$top/crates/pacman/out/pacman}")
+bench=$(realpath -m "${PAC_BENCH:-$top/crates/pac_bench/out/pac_bench}")
+add="$top/crates/pac_examples/data/add.script"
+TIMEFORMAT='  %R s'
+
+section=${1:-}
+folder=$(mktemp -d ./times.XXXXXX)
+trap 'rm -rf "$folder"' EXIT
+folder=$(realpath "$folder")
+cd "$folder"
+
+# A command, what it prints but for its output, and its time.
+timed() {
+    echo "$1"
+    shift
+    time "$@"
+}
+
+# Lines `call Add(K, 1)`: $1 of them, with $2 keys.
+calls() {
+    awk -v lines="$1" -v keys="$2" 'BEGIN { for (i = 0; i < lines; i++) print "call Add(" i % keys ", 1)" }'
+}
+
+script() {
+    head -2 "$add"
+    echo ---
+    calls "$1" "$2"
+}
+
+# Synced writes of $2 times $1 bytes.
+synced() {
+    dd if=/dev/zero of=synced bs="$1" count="$2" oflag=dsync 2>&1 | tail -1
+}
+
+run_replay() { "$pacman" replay < "$1" > /dev/null; }
+
+# The most memory of a command whose input is a file, where GNU time is there.
+memory() {
+    if [ -x /usr/bin/time ]; then /usr/bin/time -f '  %e s, %M kB' "$pacman" "$1" < "$2" > /dev/null; else time "$pacman" "$1" < "$2" > /dev/null; fi
+}
+
+case $section in
+replay)
+    # A catalogue of 65,536 bytes; 1,024 calls of one key; 1,024 calls of as many keys.
+    awk 'BEGIN {
+        for (p = 0; p < 10; p++) {
+            printf "proc P%d(k int) {\n", p
+            for (i = 10000; i < 10232; i++) printf "  let v%d = k + (1 * 2);\n", i
+            printf "}\n"
+        }
+        printf "%386s", ""
+    }' > long
+    script 1024 1 > one
+    script 1024 1024 > many
+    for name in /dev/null long one many; do timed "replay of $name" run_replay "$name"; done
+    ;;
+input)
+    script 1000000 1000 > million
+    (printf -- ---; head -c 67108861 /dev/zero | tr '\0' '\n') > longest
+    for name in million longest; do echo "replay of $name"; memory replay "$name"; done
+    ;;
+parts)
+    for part in write read; do timed "20,000 bodies of 1,024 calls: $part" "$bench" "$part" 20000; done
+    timed "200,000 bodies: copy" "$bench" copy 200000
+    for part in table tables chain; do timed "100 catalogues of 4,096 operations: $part" "$bench" "$part" 100; done
+    ;;
+log)
+    for part in commit commits; do
+        rm -f pac_bench.log
+        timed "20,000 batches: $part" "$bench" "$part" 20000
+    done
+    for size in 33 1545; do echo "20,000 synced writes of $size bytes"; synced "$size" 20000; done
+    rm -f pac_bench.log
+    "$bench" fill 146
+    timed "a log of 211 MB: scan" "$bench" scan 146
+    rm -f pac_bench.log
+    "$bench" fill 186 || true
+    ;;
+slots)
+    "$bench" save 499880 || true
+    timed "a checkpoint of 499,879 rows: save" "$bench" save 499879
+    ;;
+runs)
+    head -2 "$add" > catalogue
+    calls 1000000 1000 > lines
+    while read -r group count size writes; do
+        rm -f pacman.*
+        "$pacman" init < catalogue
+        head -n "$count" lines > some
+        echo "$count transactions in groups of $group, beside $writes synced writes of $size bytes"
+        time "$pacman" run --batch "$group" < some > replies
+        synced "$size" "$writes"
+    done <<'END'
+1 3000 31 3000
+64 100000 1417 1562
+1024 1000000 22527 976
+END
+    echo "recover of a million transactions"
+    memory recover /dev/null
+    ;;
+rows)
+    for part in few few_limited many many_limited; do timed "5,000 times 1,000 transactions: $part" "$bench" "$part" 5000; done
+    ;;
+*)
+    sed -n '2,8s/^# \{0,1\}//p' "$0"
+    exit 1
+    ;;
+esac
