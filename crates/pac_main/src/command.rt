@@ -1,7 +1,7 @@
 // The commands, by the arguments of the command line.
 ghost use Rattle.std.specs.Prelude.{◌≡◌, ◌≢◌, ◌↔◌, ◌∷◌, ℕ, [], Bool, ◌+◌};
 ghost use Rattle.pac_outside.specs.Content.{GaveAtMost};
-ghost use Rattle.pac_main.specs.Commands.{AsksRecover, AsksRun, IsExplain, IsInit, IsRecover, IsReplay, IsRunOf, NamesCommand};
+ghost use Rattle.pac_main.specs.Commands.{AsksExplain, AsksRecover, AsksRun, IsExplain, IsInit, IsRecover, IsReplay, IsRunOf, NamesCommand};
 ghost use Rattle.pac_main.specs.Explained.{ExplainEnds};
 ghost use Rattle.pac_main.specs.Init.{InitEnds};
 ghost use Rattle.pac_main.specs.Recover.{RecoverEnds};
@@ -11,6 +11,7 @@ ghost use Rattle.pac_main.specs.Stop.{status_of, line_of};
 ghost use Rattle.pac_main.specs.Streams.{IsOneOf, IsReported, observed, observed_devices};
 ghost use Rattle.pac_main.specs.declared.stop.Stop.{Stop as AStop};
 ghost use Rattle.pac_run.specs.declared.limits.TheConstants.{MAX_INPUT};
+ghost use Rattle.pac_syntax.specs.declared.limits.TheConstants.{MAX_CATALOGUE};
 
 use crate::explain::explain_input;
 use crate::init::init_input;
@@ -92,9 +93,11 @@ pub fn pacman<RT: Threads + Wait + Sync, I: Source, O: Sink, E: Sink, D: Disk, G
     ensures quiet { result ≡ 0 → errors.new ≡ errors.old }
     ensures reported { result ≢ 0 → (stop : AStop) × (result ≡ status_of stop) × IsReported (observed E.held E.faults errors.old errors.new) (line_of stop) }
 
-    // It reads at most one byte more than an input may have, and nothing where the arguments are wrong or ask for a recovery. No
-    // other command calls a device.
+    // It reads at most one byte more than an input may have, where a catalogue is read at most one more than that may have, and
+    // nothing where the arguments are wrong or ask for a recovery. No other command calls a device.
     ensures taken { GaveAtMost (MAX_INPUT + 1) (I.left input.old) (I.left input.new) }
+    ensures taken_by_init { IsInit arguments.now → GaveAtMost (MAX_CATALOGUE + 1) (I.left input.old) (I.left input.new) }
+    ensures taken_by_explain { AsksExplain arguments.now → GaveAtMost (MAX_CATALOGUE + 1) (I.left input.old) (I.left input.new) }
     ensures unread { ¬ NamesCommand arguments.now → input.new ≡ input.old }
     ensures no_input { AsksRecover arguments.now → input.new ≡ input.old }
     ensures devices { ¬ IsInit arguments.now → ¬ AsksRun arguments.now → ¬ AsksRecover arguments.now → devices.new ≡ devices.old }
