@@ -2,7 +2,7 @@
 use Rattle.std.proofs.Common.{◌≡◌, true}
 use Rattle.pac_ops.specs.declared.piece.PieceId.{PieceId}
 use Rattle.pac_plan.specs.Analysis.{IsPlan}
-use Rattle.pac_commute.specs.Machine.{Machine, among, world_at, ends_at, PredsFinished, Invariant, IsOut, StaysOut, FinishIsApply}
+use Rattle.pac_commute.specs.Machine.{Machine, among, world_at, ends_at, PredsFinished, Invariant, IsOut, JobSteps, StaysOut, Step, FinishIsApply}
 use Rattle.pac_commute.specs.Machine as machine
 use Rattle.pac_commute.specs.Loads.{Job}
 use Rattle.pac_commute.proofs.PlanFacts.{well_formed_plan}
@@ -18,6 +18,12 @@ module _ (job : Job) (is : IsPlan job.parts) (p : PieceId) where
   out_over : {m n : Machine} → StaysOut job p m n → among m.out p ≡ true → among n.out p ≡ true
   out_over (machine.StaysOut.Stop m) out = out
   out_over (machine.StaysOut.Then m n o step out' more) out = out_over more out'
+
+module _ (job : Job) (p : PieceId) where
+  pub stays_by_step : {m n : Machine} → StaysOut job p m n → JobSteps job m n × ((o : Machine) → Step job n o → among o.out p ≡ true → StaysOut job p m o)
+  stays_by_step (machine.StaysOut.Stop m) = (machine.JobSteps.Stop m, λ o step out. machine.StaysOut.Then m o o step out (machine.StaysOut.Stop o))
+  stays_by_step (machine.StaysOut.Then m n o step out more) =
+      (machine.JobSteps.Then m n o step (stays_by_step more).0, λ l next out'. machine.StaysOut.Then m n l step out ((stays_by_step more).1 l next out'))
 
 pub finish_is_apply : FinishIsApply
 finish_is_apply job is m n p inv out stays copies rows outs is_work is_done after is_put =

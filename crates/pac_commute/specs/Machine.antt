@@ -139,6 +139,11 @@ pub data StaysOut (job : Job) (p : PieceId) : Machine → Machine → Type 0 whe
   Stop : (m : Machine) → StaysOut job p m m
   Then : (m n o : Machine) → Step job m n → among n.out p ≡ true → StaysOut job p n o → StaysOut job p m o
 
+-- these are steps of the machine, and each step after which the piece is out goes on with them
+abbrev pub StaysByStep : Type 0
+StaysByStep = (job : Job) (p : PieceId) (m n : Machine) → StaysOut job p m n
+    → JobSteps job m n × ((o : Machine) → Step job n o → among o.out p ≡ true → StaysOut job p m o)
+
 -- what a piece finds is what it found before: its operations, the types of its variables and its access, and all that it
 -- touches; so copies that were made before are its work on what stands now, and what was made of them is what is made now
 pub record FindsTheSame (job : Job) (p : PieceId) (m n : Machine) : Type 0 where

@@ -28,7 +28,7 @@ ghost use Rattle.pac_commute.specs.Examples.{AccessConflicts, AddEnd, BankAccess
 ghost use Rattle.pac_commute.specs.Exchange.{End, Exchange, ExchangeByNeeds, InputsKnown, Undisturbed};
 ghost use Rattle.pac_commute.specs.HandOut.{Fine, Hands, TakesFirst, TwoPieces};
 ghost use Rattle.pac_commute.specs.Loads.{LoadsKeep};
-ghost use Rattle.pac_commute.specs.Machine.{FinishIsApply, FinishesReady, LeavesOut, MachineFits, OpensJob, OutsApart, OutsHaveInputs, RunsKeep, StaysFinished, StepsKeep, WorkStays};
+ghost use Rattle.pac_commute.specs.Machine.{FinishIsApply, FinishesReady, LeavesOut, MachineFits, OpensJob, OutsApart, OutsHaveInputs, RunsKeep, StaysByStep, StaysFinished, StepsKeep, WorkStays};
 ghost use Rattle.pac_commute.specs.PartialFits.{PartialStaysFit};
 ghost use Rattle.pac_commute.specs.PlanLaws.{BlocksGiveTxn, BlocksInOrder, EndsAsReplayed, NumbersTied, OfPlan, OfWorlds, WholeReplay};
 ghost use Rattle.pac_commute.specs.SerialEnd.{EndsAsSerial, MachineEnds, MachineEndsAsSerial};
@@ -100,6 +100,7 @@ pub fn hand_out()
     ensures apart { OutsApart }
     ensures inputs { OutsHaveInputs }
     ensures leaves { LeavesOut }
+    ensures stays { StaysByStep }
     ensures undisturbed { WorkStays }
     ensures finish { FinishIsApply }
 {}

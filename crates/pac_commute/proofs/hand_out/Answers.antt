@@ -4,7 +4,7 @@ use Rattle.pac_commute.proofs.TwoPieces.{fine}
 use Rattle.pac_commute.proofs.Ready.{some_ready}
 use Rattle.pac_commute.proofs.Takes.{takes_first}
 use Rattle.pac_commute.proofs.Steps.{outs_apart, outs_have_inputs, leaves_out, work_stays}
-use Rattle.pac_commute.proofs.Finish.{finish_is_apply}
+use Rattle.pac_commute.proofs.Finish.{finish_is_apply, stays_by_step}
 use Rattle.pac_commute.proofs.hand_out.Goals as goal
 
 pub returns : goal.returns
@@ -15,6 +15,7 @@ returns c = record {
   apart = outs_apart;
   inputs = outs_have_inputs;
   leaves = leaves_out;
+  stays = λ job p m n. stays_by_step job p;
   undisturbed = λ job is m n p. work_stays job is p m n;
   finish = finish_is_apply;
 }
