@@ -2,7 +2,9 @@
 use Rattle.std.proofs.Common.{◌≡◌, ℕ, suc, zero, ◌+◌, ◌<◌, ◌==◌, Bool, true, false, cond, T, ◌&&◌, List, [], ◌∷◌, ◌++◌, map, length, get_or, set, ◌≢◌, Option, Some, None, refl, sym, ap, subst, ◌∙◌, arith}
 use Rattle.std.specs.List.{filter}
 use Rattle.std.proofs.lemmas.Bool.Decides.{nat_tests}
-use Rattle.std.proofs.lemmas.List.{nil_from_length, get_or_read, get_or-set_other}
+use Rattle.std.proofs.lemmas.List.{nil_from_length, get_or_read, get_or-set_other, length-map, map-set}
+use Rattle.std.proofs.Math.ListN.{get_or-map}
+use Rattle.std.proofs.Math.Seq.{map-set_same}
 use Rattle.std.proofs.lemmas.Grind.{get_or-set_at}
 use Rattle.std.specs.declared.cmp.Ordering.{Ordering}
 use Rattle.std.specs.declared.cmp.Ordering.TheVariants.{Less, Equal, Greater}
@@ -232,3 +234,30 @@ module _ (ms : List OneTable) (u t : ℕ) (m : OneTable) (same : u ≡ t) (withi
 -- where there is no table, there are no rows
 pub joined_tables-none : joined_tables [] ≡ empty
 joined_tables-none = empty_of_len (joined_tables []) (len-entries (joined_tables []) ∙ ap length (entries-from_sorted cell_cmp [] tt))
+
+-- The same for tables of any form, each seen as the rows that it has.
+module _ {A : Type 0} (rows : A → OneTable) (ts : List A) (u t : ℕ) (m : A) (same : u ≡ t) (within : t < length ts) (is : m ≡ get_or ts u m) where
+  abbrev ms : List OneTable
+  ms = map rows ts
+
+  inside : t < length ms
+  inside = subst (λ n. t < n) (sym (length-map ts rows)) within
+
+  at_index : rows m ≡ get_or ms u (rows m)
+  at_index = ap rows is ∙ sym (get_or-map rows ts u m)
+
+  pub get-of : (k : Key) → get (joined_tables (map rows ts)) (t, k) ≡ get (rows m) k
+  get-of = get-table ms u t (rows m) same inside at_index
+
+  pub keys-of : keys_of (joined_tables (map rows ts)) t ≡ keys (rows m)
+  keys-of = keys-table ms u t (rows m) same inside at_index
+
+  pub insert-of : (n : A) (k : Key) (v : RowValues) → rows n ≡ insert (rows m) k v → joined_tables (map rows (set ts u n)) ≡ insert (joined_tables (map rows ts)) (t, k) v
+  insert-of n k v e = ap joined_tables (map-set rows ts u n) ∙ joined_tables-put ms u t (rows m) same inside at_index (rows n) k v e
+
+  pub remove-of : (n : A) (k : Key) → rows n ≡ remove (rows m) k → joined_tables (map rows (set ts u n)) ≡ remove (joined_tables (map rows ts)) (t, k)
+  remove-of n k e = ap joined_tables (map-set rows ts u n) ∙ joined_tables-remove ms u t (rows m) same inside at_index (rows n) k e
+
+  -- a table that stays what it was
+  pub kept-of : (n : A) → rows n ≡ rows m → joined_tables (map rows (set ts u n)) ≡ joined_tables (map rows ts)
+  kept-of n e = ap joined_tables (map-set_same rows ts u n m (e ∙ ap rows is))

@@ -3,3 +3,4 @@ pub mod CopyLemmas
 pub mod WriteLemmas
 pub mod RoomLemmas
 pub mod OnceLemmas
+mod HashedLemmas

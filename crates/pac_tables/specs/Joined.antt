@@ -1,14 +1,20 @@
 -- Tables that stand apart, and the one map from cells that they are together.
 use Rattle.std.specs.Prelude.{◌+◌, ℕ, List, [], ◌∷◌, ◌++◌, map, refl}
-use Rattle.std.specs.Coded.{Coded, code_by, coded×, coded_ℕ}
-use Rattle.std.specs.FinMap.{FinMap, entries, from_sorted}
+use Rattle.std.specs.Coded.{Coded, code_by, coded×, coded_ℕ, coded_list}
+use Rattle.std.specs.FinMap.{FinMap, code, entries, from_sorted}
 use Rattle.pac_value.specs.declared.values.Key.{Key}
+use Rattle.pac_value.specs.contracts.values.Key as key
+use Rattle.pac_value.specs.contracts.values.Value as value
 use Rattle.pac_value.specs.Keys.{key_cmp}
 use Rattle.pac_value.specs.State.{Cell, RowValues, Tables, tables_code}
 
 -- the rows of one table, by their keys
 abbrev pub OneTable : Type 0
 OneTable = FinMap key_cmp RowValues
+
+-- how they are told apart
+abbrev pub table_code : Coded OneTable
+table_code = code key.the_row.coded (coded_list value.the_row.coded)
 
 -- entries of a table as entries of the state: each key is a cell of that table
 abbrev pub at_cells : ℕ → List (Key × RowValues) → List (Cell × RowValues)

@@ -3,8 +3,9 @@
 //! A row stands at a cell: a table's number and a key. Contracts see two things of any [`Rows`]: the number of its
 //! tables, which never changes, and one finite map from cells to rows.
 //!
-//! - [`OrderedRows`]: one ordered map per table. A key is compared with the keys of its own table alone, and the number
-//!   of a table's rows is known in constant time.
+//! - [`OrderedRows`]: one ordered map per table. [`HashedRows`]: one map per table behind a hash of the keys, whose keys are
+//!   sorted when they are asked for. Both are [`JoinedRows`] over one form of [`TableRows`]: a key is compared with the
+//!   keys of its own table alone, and the number of a table's rows is known in constant time.
 //! - [`Writes`]: a list of [`Write`]s, each the row to put at a cell, or none to delete it. No cell is written twice,
 //!   so their order makes no difference.
 //! - [`apply_all`]: makes all writes of a list. Out of memory it makes none and returns them.
@@ -24,11 +25,16 @@
 //! `specs/Joined.antt` says which map several tables are, `specs/Written.antt` what writes make of it.
 #![tactic(auto)]
 
+mod hashed;
+mod joined;
 mod ordered;
 mod rows;
 mod table;
 mod writes;
 
-pub use ordered::OrderedRows;
+pub use hashed::HashedTable;
+pub use joined::{HashedRows, JoinedRows, OrderedRows};
+pub use ordered::OrderedTable;
 pub use rows::Rows;
+pub use table::TableRows;
 pub use writes::{Write, Writes, WritesRule, apply_all};

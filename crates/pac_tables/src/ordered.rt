@@ -1,88 +1,92 @@
-// Tables in the order of their keys.
-ghost use Rattle.std.specs.Prelude.{◌≡◌, ◌<◌, ◌^◌, length, IfOk};
+// A table in the order of its keys.
+ghost use Rattle.std.specs.Prelude.{◌≡◌, IfOk, OnOk};
 ghost use Rattle.std.specs.FinMap as map;
+ghost use Rattle.std.specs.BTreeMap as tree;
 
-use crate::Rows;
-use crate::table::TableRows;
-use pac_base::{NoMemory, copy_of};
+use crate::TableRows;
+use pac_base::{Exact, NoMemory};
 use pac_value::{Key, Row};
 use std::alloc::Global;
+use std::collections::BTreeMap;
 use std::marker::Model;
 
-/// The rows of tables, each table's in the order of their keys.
-///
-/// A `get`, `put` or `delete` takes time logarithmic in the rows of its table, `count` constant time, and `sorted_keys`
-/// time linear in the rows of its table. A `copy` puts each row into a new table.
+/// The rows of one table, in the order of their keys. A look-up and a change take time logarithmic in the rows, the keys
+/// time linear in them.
 #[derive(Drop)]
-pub struct OrderedRows {
-    alloc: Global,
-    tables: Vec<TableRows>,
+pub struct OrderedTable {
+    rows: BTreeMap<Key, Row>,
 }
 
-impl Model for OrderedRows {
-    ghost use Rattle.std.specs.Prelude.{length, ◌<◌, ◌^◌};
-    ghost use Rattle.pac_tables.specs.Joined.{Held, held_code, joined_tables};
+impl Model for OrderedTable {
+    ghost use Rattle.std.specs.FinMap as map;
+    ghost use Rattle.pac_tables.specs.Joined.{OneTable, table_code};
 
-    ghost Value = { Held };
+    ghost Value = { OneTable };
 
-    ghost coded = { held_code };
+    ghost coded = { table_code };
 
-    ghost view = { λ all. record { tables = length all.tables.items; rows = joined_tables all.tables.items } };
-
-    ghost invariant = { λ all. length all.tables.items < 2 ^ 16 };
+    ghost view = { λ table. map.from_entries table.rows.entries };
 }
 
-impl OrderedRows {
-    /// That many tables, with no rows.
-    ///
-    /// # Errors
-    ///
-    /// [`NoMemory`] where the tables find no room.
-    pub fn new(alloc: Global, tables: u16) -> Result<OrderedRows, NoMemory>
-        ensures { IfOk result (λ all. all ≡ record { tables = tables; rows = map.empty }) }
+impl OrderedTable {
+    fn put(&mut self, key: Key, row: Row) -> Result<(), NoMemory>
+        ensures { OnOk result (self.new ≡ map.insert self.old key row) }
     {
-        let mut all = Vec::with_capacity(alloc, usize::from(tables))?;
-        for _ in 0..tables {
-            all.push(TableRows::new(alloc))?;
-        }
-        Ok(OrderedRows { alloc, tables: all })
+        self.rows.insert(key, row)?;
+        Ok(())
     }
 }
 
-impl Rows for OrderedRows {
-    ghost held = { λ all. all.rows };
+impl TableRows for OrderedTable {
+    ghost rows = { λ table. table };
 
-    ghost tables = { λ all. all.tables };
-
-    fn tables(&self) -> u16 {
-        self.tables.len() as u16
+    fn new(alloc: Global) -> OrderedTable {
+        OrderedTable {
+            rows: BTreeMap::new(alloc),
+        }
     }
 
-    fn get(&self, table: u16, key: &Key) -> Option<&Row> {
-        self.tables[usize::from(table)].get(key)
+    fn get(&self, key: &Key) -> Option<&Row> {
+        self.rows.get(key)
     }
 
-    fn put(&mut self, table: u16, key: Key, row: Row) -> Result<(), NoMemory> {
-        self.tables[usize::from(table)].put(key, row)
+    fn insert(&mut self, key: Key, row: Row) -> Result<Option<Row>, Row> {
+        let old = match self.rows.insert(key, row) {
+            Ok(old) => old,
+            Err(refused) => return Err(refused.value.1),
+        };
+        Ok(old)
     }
 
-    fn delete(&mut self, table: u16, key: &Key) {
-        self.tables[usize::from(table)].delete(key);
+    fn remove(&mut self, key: &Key) -> Option<Row> {
+        self.rows.remove(key)
     }
 
-    fn count(&self, table: u16) -> u64 {
-        self.tables[usize::from(table)].count()
+    fn count(&self) -> u64 {
+        self.rows.len() as u64
     }
 
-    fn sorted_keys(&self, table: u16) -> Result<Vec<Key>, NoMemory> {
-        self.tables[usize::from(table)].keys(self.alloc)
+    fn sorted_keys(&self, alloc: Global) -> Result<Vec<Key>, NoMemory> {
+        let _ordered = self.rows.len();
+        keys_in(alloc, &self.rows)
     }
+}
 
-    fn copy(&self) -> Result<OrderedRows, NoMemory> {
-        let tables = copy_of(self.alloc, &self.tables)?;
-        Ok(OrderedRows {
-            alloc: self.alloc,
-            tables,
-        })
+impl Exact for OrderedTable {
+    // From the last row to the first: each is put before those after it.
+    fn copy(&self, alloc: Global) -> Result<OrderedTable, NoMemory> {
+        let mut copy = OrderedTable::new(alloc);
+        let mut left = self.rows.iter();
+        while let Some((key, row)) = left.next_back() {
+            copy.put(*key, row.copy(alloc)?)?;
+        }
+        Ok(copy)
     }
+}
+
+fn keys_in(alloc: Global, rows: &BTreeMap<Key, Row>) -> Result<Vec<Key>, NoMemory>
+    ensures { IfOk result (λ found. found.items ≡ tree.keys rows.now) }
+{
+    let keys = rows.keys().copied().collect(alloc)?;
+    Ok(keys)
 }

@@ -1,5 +1,5 @@
 // What every form of tables does.
-ghost use Rattle.std.specs.Prelude.{◌≡◌, ◌<◌, ℕ, length, IfOk, IsOk, IsSome, OnOk, OnErr};
+ghost use Rattle.std.specs.Prelude.{◌≡◌, ◌<◌, ℕ, length, None, IfOk, IfErr, IsOk, IsSome, OnOk, OnErr};
 ghost use Rattle.std.specs.Option.{option_map};
 ghost use Rattle.std.specs.FinMap as map;
 ghost use Rattle.pac_value.specs.State.{Tables, keys_of};
@@ -24,6 +24,27 @@ pub trait Rows: Drop {
     fn get(&self, table: u16, key: &Key) -> Option<&Row>
         requires { table < tables self.now }
         ensures { option_map (λ row. row.now) result ≡ map.get (held self.now) (table, key.now) };
+
+    /// Inserts or replaces the row at a cell, and returns the one that stood there. One look-up.
+    ///
+    /// # Errors
+    ///
+    /// The row, only where none stood at the cell and no room was found. Then nothing is changed.
+    fn insert(&mut self, table: u16, key: Key, row: Row) -> Result<Option<Row>, Row>
+        requires { table < tables self.old }
+        ensures old { IfOk result (λ old. old ≡ map.get (held self.old) (table, key)) }
+        ensures ok { OnOk result (held self.new ≡ map.insert (held self.old) (table, key) row) }
+        ensures back { IfErr result (λ back. back ≡ row) }
+        ensures err { OnErr result (held self.new ≡ held self.old) }
+        ensures absent { OnErr result (map.get (held self.old) (table, key) ≡ None) }
+        ensures tables { tables self.new ≡ tables self.old };
+
+    /// Removes the row at a cell, and returns it, where there is one. Takes no memory. One look-up.
+    fn remove(&mut self, table: u16, key: &Key) -> Option<Row>
+        requires { table < tables self.old }
+        ensures old { result ≡ map.get (held self.old) (table, key.now) }
+        ensures rows { held self.new ≡ map.remove (held self.old) (table, key.now) }
+        ensures tables { tables self.new ≡ tables self.old };
 
     /// Inserts or replaces the row at a cell. Where a row stands there already, it is replaced and no memory is taken.
     ///

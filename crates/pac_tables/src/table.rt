@@ -1,94 +1,52 @@
 // The rows of one table.
-ghost use Rattle.std.specs.Prelude.{◌≡◌, IfOk, IsOk, IsSome, OnOk, OnErr};
+ghost use Rattle.std.specs.Prelude.{◌≡◌, IfOk, IfErr, None, OnOk, OnErr};
 ghost use Rattle.std.specs.Option.{option_map};
 ghost use Rattle.std.specs.FinMap as map;
-ghost use Rattle.std.specs.BTreeMap as tree;
+ghost use Rattle.pac_tables.specs.Joined.{OneTable};
 
 use pac_base::{Exact, NoMemory};
 use pac_value::{Key, Row};
 use std::alloc::Global;
-use std::collections::BTreeMap;
-use std::marker::Model;
 
-/// The rows of one table, in the order of their keys.
-#[derive(Drop)]
-pub(crate) struct TableRows {
-    rows: BTreeMap<Key, Row>,
-}
+/// The rows of one table: a finite map from keys to rows. A copy puts each row into a new table.
+pub trait TableRows: Exact + Drop {
+    // The rows, by their keys.
+    ghost rows: { Self → OneTable };
 
-impl Model for TableRows {
-    ghost use Rattle.std.specs.FinMap as map;
-    ghost use Rattle.pac_tables.specs.Joined.{OneTable};
-    ghost use Rattle.std.specs.Coded.{coded_list};
-    ghost use Rattle.pac_value.specs.contracts.values.Key as key_type;
-    ghost use Rattle.pac_value.specs.contracts.values.Value as value_type;
+    /// No rows. Takes no memory.
+    fn new(alloc: Global) -> Self
+        ensures { rows result ≡ map.empty };
 
-    ghost Value = { OneTable };
+    /// The row at a key. `None`: no row stands there. Takes no memory.
+    fn get(&self, key: &Key) -> Option<&Row>
+        ensures { option_map (λ row. row.now) result ≡ map.get (rows self.now) key.now };
 
-    ghost coded = { map.code key_type.the_row.coded (coded_list value_type.the_row.coded) };
+    /// Inserts or replaces the row at a key, and returns the one that stood there.
+    ///
+    /// # Errors
+    ///
+    /// The row, only where none stood at the key and no room was found. Then nothing is changed.
+    fn insert(&mut self, key: Key, row: Row) -> Result<Option<Row>, Row>
+        ensures old { IfOk result (λ old. old ≡ map.get (rows self.old) key) }
+        ensures ok { OnOk result (rows self.new ≡ map.insert (rows self.old) key row) }
+        ensures back { IfErr result (λ back. back ≡ row) }
+        ensures err { OnErr result (rows self.new ≡ rows self.old) }
+        ensures absent { OnErr result (map.get (rows self.old) key ≡ None) };
 
-    ghost view = { λ table. map.from_entries table.rows.entries };
-}
+    /// Removes the row at a key, and returns it, where there is one. Takes no memory.
+    fn remove(&mut self, key: &Key) -> Option<Row>
+        ensures old { result ≡ map.get (rows self.old) key.now }
+        ensures rows { rows self.new ≡ map.remove (rows self.old) key.now };
 
-impl TableRows {
-    pub(crate) fn new(alloc: Global) -> TableRows
-        ensures { result ≡ map.empty }
-    {
-        TableRows {
-            rows: BTreeMap::new(alloc),
-        }
-    }
+    /// How many rows there are. Takes no memory.
+    fn count(&self) -> u64
+        ensures { result ≡ map.len (rows self.now) };
 
-    pub(crate) fn get(&self, key: &Key) -> Option<&Row>
-        ensures { option_map (λ row. row.now) result ≡ map.get self.now key.now }
-    {
-        self.rows.get(key)
-    }
-
-    pub(crate) fn put(&mut self, key: Key, row: Row) -> Result<(), NoMemory>
-        ensures ok { OnOk result (self.new ≡ map.insert self.old key row) }
-        ensures err { OnErr result (self.new ≡ self.old) }
-        ensures present { IsSome (map.get self.old key) → IsOk result }
-    {
-        self.rows.insert(key, row)?;
-        Ok(())
-    }
-
-    pub(crate) fn delete(&mut self, key: &Key)
-        ensures { self.new ≡ map.remove self.old key.now }
-    {
-        let _ = self.rows.remove(key);
-    }
-
-    pub(crate) fn count(&self) -> u64
-        ensures { result ≡ map.len self.now }
-    {
-        self.rows.len() as u64
-    }
-
-    pub(crate) fn keys(&self, alloc: Global) -> Result<Vec<Key>, NoMemory>
-        ensures { IfOk result (λ keys. keys.items ≡ map.keys self.now) }
-    {
-        let _ordered = self.rows.len();
-        keys_in(alloc, &self.rows)
-    }
-}
-
-fn keys_in(alloc: Global, rows: &BTreeMap<Key, Row>) -> Result<Vec<Key>, NoMemory>
-    ensures { IfOk result (λ found. found.items ≡ tree.keys rows.now) }
-{
-    let keys = rows.keys().copied().collect(alloc)?;
-    Ok(keys)
-}
-
-impl Exact for TableRows {
-    // From the last row to the first: each is put before those after it.
-    fn copy(&self, alloc: Global) -> Result<TableRows, NoMemory> {
-        let mut copy = TableRows::new(alloc);
-        let mut left = self.rows.iter();
-        while let Some((key, row)) = left.next_back() {
-            copy.put(*key, row.copy(alloc)?)?;
-        }
-        Ok(copy)
-    }
+    /// The keys, ascending, each once.
+    ///
+    /// # Errors
+    ///
+    /// [`NoMemory`] where the list finds no room.
+    fn sorted_keys(&self, alloc: Global) -> Result<Vec<Key>, NoMemory>
+        ensures { IfOk result (λ keys. keys.items ≡ map.keys (rows self.now)) };
 }

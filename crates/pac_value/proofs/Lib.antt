@@ -4,5 +4,6 @@ pub mod ValueLemmas
 pub mod RemainderLemmas
 pub mod CellLemmas
 pub mod ByForms
-pub mod PlacedLemmas
+pub mod OffsetLemmas
+pub mod SortedLemmas
 pub mod ArithmeticLemmas

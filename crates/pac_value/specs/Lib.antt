@@ -6,7 +6,7 @@ pub mod Values
 pub mod Keys
 pub mod Expressions
 pub mod Scopes
-pub mod Placed
+pub mod Sorted
 pub mod State
 pub mod Literals
 pub mod Growth

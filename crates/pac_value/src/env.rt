@@ -1,8 +1,10 @@
 // The values of variables.
-ghost use Rattle.std.specs.Prelude.{◌≡◌, ◌<◌, ◌^◌, ◌↔◌, ℕ, length, IsTrue, OnOk, OnErr};
+ghost use Rattle.std.specs.Prelude.{◌≡◌, T, IfOk, IfErr, OnOk, OnErr};
 ghost use Rattle.std.specs.Option.{option_map};
+ghost use Rattle.std.specs.Ordering.{nat_cmp};
 ghost use Rattle.std.specs.FinMap as map;
-ghost use Rattle.pac_value.specs.Placed.{at_offset};
+ghost use Rattle.std.specs.FinMap.{is_sorted};
+ghost use Rattle.pac_value.specs.Sorted.{IsOffsetOf, IsGapFor};
 
 use crate::Value;
 use pac_base::{Exact, NoMemory, Same};
@@ -11,18 +13,20 @@ use std::marker::Model;
 
 /// The values of variables, which have numbers.
 ///
-/// They stand in a list, each at the position that is its variable's number, so a value is found in constant time. What the
-/// list takes grows with the greatest number.
+/// They stand in a list by ascending number, so that an environment takes what it holds, whatever the numbers are. A value
+/// is found in constant time where each variable with a lower number has one, and else by a binary search. A variable
+/// with a higher number than all others is added in constant time; before others, these are moved.
 #[derive(Debug, Drop)]
 pub struct Env {
-    values: Vec<Option<Value>>,
+    values: Vec<(u16, Value)>,
 }
 
 impl Model for Env {
+    ghost use Rattle.std.specs.Prelude.{T};
     ghost use Rattle.std.specs.Ordering.{nat_cmp};
     ghost use Rattle.std.specs.FinMap as map;
+    ghost use Rattle.std.specs.FinMap.{is_sorted};
     ghost use Rattle.pac_value.specs.declared.values.Value.{Value as AValue};
-    ghost use Rattle.pac_value.specs.Placed.{values_from};
     ghost use Rattle.std.specs.Coded.{coded_ℕ};
     ghost use Rattle.pac_value.specs.contracts.values.Value as value_type;
 
@@ -30,7 +34,22 @@ impl Model for Env {
 
     ghost coded = { map.code coded_ℕ value_type.the_row.coded };
 
-    ghost view = { λ env. values_from 0 env.values.items };
+    ghost view = { λ env. map.from_sorted env.values.items };
+
+    ghost invariant = { λ env. T (is_sorted nat_cmp env.values.items) };
+}
+
+// Where the value of a variable stands, or else where it would.
+fn search(values: &[(u16, Value)], var: u16) -> Result<usize, usize>
+    requires { T (is_sorted nat_cmp values.now) }
+    ensures found { IfOk result (IsOffsetOf values.now var) }
+    ensures absent { IfErr result (IsGapFor nat_cmp values.now var) }
+{
+    let own = usize::from(var);
+    if own < values.len() && values[own].0 == var {
+        return Ok(own);
+    }
+    values.binary_search_by(|entry| entry.0.cmp(&var))
 }
 
 impl Env {
@@ -43,7 +62,7 @@ impl Env {
         }
     }
 
-    /// Takes all values away.
+    /// Takes all values away, and keeps their room.
     pub fn clear(&mut self)
         ensures { self.new ≡ map.empty }
     {
@@ -54,16 +73,16 @@ impl Env {
     pub fn get(&self, var: u16) -> Option<Value>
         ensures { result ≡ map.get self.now var }
     {
-        at(&self.values, usize::from(var))
+        self.value_of(var).copied()
     }
 
     /// The same value, where it stands.
     pub(crate) fn value_of(&self, var: u16) -> Option<&Value>
         ensures { option_map (λ value. value.now) result ≡ map.get self.now var }
     {
-        match self.values.get(usize::from(var)) {
-            Some(value) => value.as_ref(),
-            None => None,
+        match search(&self.values, var) {
+            Ok(at) => Some(&self.values[at].1),
+            Err(_) => None,
         }
     }
 
@@ -76,9 +95,10 @@ impl Env {
         ensures ok { OnOk result (self.new ≡ map.insert self.old var value) }
         ensures err { OnErr result (self.new ≡ self.old) }
     {
-        let offset = usize::from(var);
-        make_room(&mut self.values, offset)?;
-        self.values[offset] = Some(value);
+        match search(&self.values, var) {
+            Ok(at) => self.values[at].1 = value,
+            Err(at) => self.values.insert(at, (var, value))?,
+        }
         Ok(())
     }
 }
@@ -92,46 +112,6 @@ impl Exact for Env {
 
 impl Same for Env {
     fn same(&self, other: &Env) -> bool {
-        let offsets = self.values.len().max(other.values.len());
-        for offset in 0..offsets {
-            if !are_same(at(&self.values, offset), at(&other.values, offset)) {
-                return false;
-            }
-        }
-        true
+        self.values == other.values
     }
-}
-
-// The value at a position, where there is one.
-fn at(values: &[Option<Value>], offset: usize) -> Option<Value>
-    ensures { result ≡ at_offset values.now offset }
-{
-    match values.get(offset) {
-        Some(value) => *value,
-        None => None,
-    }
-}
-
-// Whether two variables have the same value, or both none.
-#[tactic(auto, using(crate::proofs::ValueLemmas::value_decides))]
-fn are_same(one: Option<Value>, other: Option<Value>) -> bool
-    ensures { IsTrue result ↔ (one ≡ other) }
-{
-    match (one, other) {
-        (Some(one), Some(other)) => one == other,
-        (None, None) => true,
-        _ => false,
-    }
-}
-
-// Sees that there is such a position. Where it is new, it has no value.
-fn make_room(values: &mut Vec<Option<Value>>, offset: usize) -> Result<(), NoMemory>
-    requires { offset < 2 ^ 16 }
-    ensures there { OnOk result (offset < length values.new.items) }
-    ensures same { (x : ℕ) → at_offset values.new.items x ≡ at_offset values.old.items x }
-{
-    if values.len() <= offset {
-        values.resize(offset + 1, None)?;
-    }
-    Ok(())
 }

@@ -15,8 +15,8 @@ use std::cmp::Ordering;
 ///
 /// # Errors
 ///
-/// `Overflow` exactly where a result leaves the 64 bits of an int, `DivZero` exactly where a divisor is zero, before any
-/// other trap.
+/// The first trap that is met: `Overflow` exactly where a result leaves the 64 bits of an int, `DivZero` exactly where a
+/// divisor is zero. An operand's trap comes before that of its operator.
 pub fn eval(expr: &Expr, env: &Env) -> Result<Value, Trap>
     requires { IsSome (type_in (types_of env.now) expr.now) }
     ensures value { result ≡ value expr.now env.now }

@@ -1,8 +1,10 @@
--- A list with no values is a map with none.
+-- No entries are a map without any.
 use Rattle.std.proofs.Common.{ap, ◌∙◌}
-use Rattle.pac_value.specs.Placed.{values_from}
-use Rattle.pac_value.proofs.PlacedLemmas.{no-values}
+use Rattle.std.specs.Cmp.{nat_cmp_total}
+use Rattle.std.specs.Ordering.{nat_cmp}
+use Rattle.std.specs.FinMap.{from_sorted, nat_cmp-IsAntisymmetric}
+use Rattle.pac_value.proofs.SortedLemmas.{no-entries}
 use Rattle.pac_value.proofs.env.Env.clear.Goals as goal
 
 pub returns : goal.returns
-returns c = ap (values_from 0) c.clear.ensures.items ∙ no-values
+returns c = ap (from_sorted {R = nat_cmp}) c.clear.ensures.items ∙ no-entries nat_cmp_total nat_cmp-IsAntisymmetric

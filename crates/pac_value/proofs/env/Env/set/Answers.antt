@@ -1,28 +1,42 @@
--- One value is new, and a position without a value changes nothing.
-use Rattle.std.proofs.Common.{◌≡◌, ◌≢◌, ◌<◌, ℕ, length, Result, Ok, Err, Some, None, ap, sym, subst, ◌∙◌, arith, set, get_or-set_same, get_or-set_other}
-use Rattle.std.specs.Result.{OnErr}
+-- One value is set at its variable, or added at the gap for it.
+use Rattle.std.proofs.Common.{◌≡◌, ℕ, List, T, set, ap, sym, subst, ◌∙◌}
+use Rattle.std.specs.Cmp.{nat_cmp_total}
+use Rattle.std.specs.Ordering.{nat_cmp}
 use Rattle.std.specs.FinMap as map
-use Rattle.pac_value.specs.Placed.{at_offset, values_from}
-use Rattle.pac_value.proofs.PlacedLemmas.{same_values, insert-values}
+use Rattle.std.specs.FinMap.{is_sorted}
+use Rattle.pac_value.specs.declared.values.Value.{Value}
+use Rattle.pac_value.specs.Sorted.{IsOffsetOf, IsGapFor}
+use Rattle.pac_value.specs.Expressions.{Values}
+use Rattle.pac_value.proofs.SortedLemmas.{found-sorted, found-map, gap-sorted, gap-map}
 use Rattle.pac_value.proofs.env.Env.set.Goals as goal
 
-on_any : {T E P : Type 0} (r : Result T E) → P → OnErr r P
-on_any (Ok x) p = tt
-on_any (Err e) p = p
+abbrev Entries : Type 0
+Entries = List (ℕ × Value)
 
-pub returns-clause-ok : goal.returns-clause-ok
-returns-clause-ok c =
-    let old = c.self.inside.values.items in
-    let made = c.make_room.new.values.items in
-    let offset : c.from-offset.result ≡ c.args.var = c.from-offset.ensures in
-    let there : c.from-offset.result < length made = c.in_ok-make_room.ensures.there in
-    let here : at_offset (set made c.from-offset.result (Some c.args.value)) c.args.var ≡ Some c.args.value =
-    subst (λ p. at_offset (set made c.from-offset.result (Some c.args.value)) p ≡ Some c.args.value) offset (get_or-set_same made c.from-offset.result (Some c.args.value) None there) in
-    let others : (y : ℕ) → y ≢ c.args.var → at_offset (set made c.from-offset.result (Some c.args.value)) y ≡ at_offset old y = λ y ne.
-    get_or-set_other made c.from-offset.result y (Some c.args.value) None (λ e. ne (e ∙ offset)) ∙ c.make_room.ensures.same y in
-    insert-values old (set made c.from-offset.result (Some c.args.value)) c.args.var c.args.value here others
-    ∙ ap (λ m. map.insert m c.args.var c.args.value) c.self.view_is
+pub invariant_of-self : goal.invariant_of-self
+invariant_of-self c =
+    let all = c.self.inside.values.items in
+    let offset = subst (λ (es : Entries). IsOffsetOf es c.args.var c.in-Ok.at) c.deref.ensures.value c.in-Ok.ensures.found in
+    let here = ap (λ (x : ℕ × Value). x.0) c.index_mut.ensures.value in
+    subst (λ (x : ℕ). T (is_sorted nat_cmp (set all c.in-Ok.at (x, c.args.value)))) (sym here) (found-sorted nat_cmp_total all c.self.invariant c.args.var c.in-Ok.at offset c.index_mut.result.now c.args.value)
 
-pub returns-in_err-make_room-clause-err : goal.returns-in_err-make_room-clause-err
-returns-in_err-make_room-clause-err c =
-    on_any c.from_residual.result (same_values c.make_room.new.values.items c.self.inside.values.items c.make_room.ensures.same ∙ c.self.view_is)
+pub returns-in-Ok-clause-ok : goal.returns-in-Ok-clause-ok
+returns-in-Ok-clause-ok c =
+    let all = c.self.inside.values.items in
+    let offset = subst (λ (es : Entries). IsOffsetOf es c.args.var c.in-Ok.at) c.deref.ensures.value c.in-Ok.ensures.found in
+    let here = ap (λ (x : ℕ × Value). map.from_sorted {R = nat_cmp} (set all c.in-Ok.at (x.0, c.args.value))) c.index_mut.ensures.value in
+    here ∙ found-map nat_cmp_total all c.self.invariant c.args.var c.in-Ok.at offset c.index_mut.result.now c.args.value
+    ∙ ap (λ (m : Values). map.insert m c.args.var c.args.value) c.self.view_is
+
+pub invariant_of-self-in-Continue-1 : goal.invariant_of-self-in-Continue-1
+invariant_of-self-in-Continue-1 c =
+    let all = c.self.inside.values.items in
+    let gap = subst (λ (es : Entries). IsGapFor nat_cmp es c.args.var c.in-Err.at) c.deref.ensures.value c.in-Err.ensures.absent in
+    subst (λ (es : Entries). T (is_sorted nat_cmp es)) (sym c.in_ok-insert-in-Err.ensures.items) (gap-sorted nat_cmp_total all c.self.invariant c.args.var c.in-Err.at gap c.args.value)
+
+pub returns-in_ok-insert-in-Err-clause-ok : goal.returns-in_ok-insert-in-Err-clause-ok
+returns-in_ok-insert-in-Err-clause-ok c =
+    let all = c.self.inside.values.items in
+    let gap = subst (λ (es : Entries). IsGapFor nat_cmp es c.args.var c.in-Err.at) c.deref.ensures.value c.in-Err.ensures.absent in
+    ap (map.from_sorted {R = nat_cmp}) c.in_ok-insert-in-Err.ensures.items ∙ gap-map nat_cmp_total all c.self.invariant c.args.var c.in-Err.at gap c.args.value
+    ∙ ap (λ (m : Values). map.insert m c.args.var c.args.value) c.self.view_is

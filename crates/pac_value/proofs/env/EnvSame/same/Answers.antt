@@ -1,35 +1,27 @@
--- Two lists have the same at each position exactly where the maps are equal.
-use Rattle.std.proofs.Common.{◌≡◌, ◌<◌, ◌≤◌, ℕ, length, None, inl, inr, IsTrue, false, refl, ap, sym, ◌∙◌, arith}
-use Rattle.std.proofs.lemmas.Bool.{cases_lt}
-use Rattle.std.proofs.lemmas.Grind.{common_steps}
-use Rattle.std.proofs.lemmas.List.{get_or_past}
-use Rattle.std.specs.FinMap as map
-use Rattle.pac_value.specs.Placed.{at_offset}
-use Rattle.pac_value.proofs.PlacedLemmas.{get-values_from, same_values}
+-- The lists are equal exactly where the maps are.
+use Rattle.std.proofs.Common.{◌≡◌, ℕ, Bool, true, false, ◌&&◌, nat_eq, refl, ap, sym, subst, ◌∙◌, arith}
+use Rattle.std.specs.Bool.{Decides}
+use Rattle.std.proofs.lemmas.Slice.Eq.{slice_eq-Decides}
+use Rattle.std.proofs.lemmas.Bool.Decides.{nat_tests}
+use Rattle.std.specs.Bool.{IsTrue}
+use Rattle.pac_value.specs.declared.values.Value.{Value}
+use Rattle.pac_value.specs.contracts.values.ValuePartialEq.TheImpl.{ghosts}
+use Rattle.pac_value.proofs.ValueLemmas.{value_decides}
+use Rattle.pac_value.proofs.SortedLemmas.{sorted_decide}
 use Rattle.pac_value.proofs.env.EnvSame.same.Goals as goal
 
-pub returns-then-not-are_same : goal.returns-then-not-are_same
-returns-then-not-are_same c =
-    let offset = c.loop-offset.offset in
-    let one : c.at.result ≡ at_offset c.self.inside.values.items offset = grind (arith, common_steps, c.at.ensures, c.deref.ensures.value) in
-    let other : c.at-in-loop-offset.result ≡ at_offset c.other.inside.values.items offset = grind (arith, common_steps, c.at-in-loop-offset.ensures, c.deref-in-loop-offset.ensures.value) in (
-      λ (h : IsTrue false). cc,
-      λ (e : c.args.self.now ≡ c.args.other.now).
-          let same : c.at.result ≡ c.at-in-loop-offset.result =
-          one ∙ sym (get-values_from c.self.inside.values.items offset) ∙ ap (λ m. map.get m offset) (c.self.view_is ∙ e ∙ sym c.other.view_is)
-          ∙ get-values_from c.other.inside.values.items offset ∙ sym other in
-          c.if-not-are_same.ensures.1 same,
-    )
+entry_decides : (a b : ℕ × Value) → Decides (nat_eq a.0 b.0 && (ghosts).eq a.1 b.1) (a ≡ b)
+entry_decides a b = go (nat_eq a.0 b.0) refl ((ghosts).eq a.1 b.1) (value_decides a.1 b.1)
+  where
+    go : (n : Bool) → nat_eq a.0 b.0 ≡ n → (v : Bool) → Decides v (a.1 ≡ b.1) → Decides (n && v) (a ≡ b)
+    go true e v d =
+        let number : a.0 ≡ b.0 = grind (arith, nat_tests) in
+        (λ h. λ i. (number i, d.0 h i), λ same. d.1 (ap (λ (x : ℕ × Value). x.1) same))
+    go false e v d =
+        (λ (h : IsTrue false). cc, λ same. let number : a.0 ≡ b.0 = ap (λ (x : ℕ × Value). x.0) same in absurd (grind (arith, nat_tests)))
 
 pub returns : goal.returns
 returns c =
-    let one = c.self.inside.values.items in
-    let other = c.other.inside.values.items in
-    let same : (x : ℕ) → at_offset one x ≡ at_offset other x = λ x. elim (cases_lt x c.loop-offset.offset) [
-      | inl below ↦ c.loop-offset.invariant x below
-      | inr past ↦
-          let ends_before : length one ≤ x = omega (arith, c.self.inside.values.ok) in
-          let other_ends : length other ≤ x = omega (arith, c.other.inside.values.ok) in
-          get_or_past one x None ends_before ∙ sym (get_or_past other x None other_ends)
-    ] in
-    (λ h. sym c.self.view_is ∙ same_values one other same ∙ c.other.view_is, λ e. refl)
+    let lists = slice_eq-Decides entry_decides c.self.inside.values.items c.other.inside.values.items c.eq.result c.eq.ensures in
+    let maps = sorted_decide c.self.inside.values.items c.other.inside.values.items c.self.invariant c.other.invariant c.eq.result lists in
+    (λ h. sym c.self.view_is ∙ maps.0 h ∙ c.other.view_is, λ e. maps.1 (c.self.view_is ∙ e ∙ sym c.other.view_is))
