@@ -14,7 +14,7 @@ ghost use Rattle.pac_session.specs.Session.{SessionState, commits};
 ghost use Rattle.pac_session.specs.Groups.{cut_one, place_after_group};
 ghost use Rattle.pac_session.specs.Open.{IsInGroup, rules_of, state_now};
 ghost use Rattle.pac_engine.specs.Closing.{Closes, CountsFault, IsKept, StopsAt, is_stop, slot_len};
-ghost use Rattle.pac_engine.specs.Standing.{HasDevices, OnlyGrows, KeepsMore, StandsForMore};
+ghost use Rattle.pac_engine.specs.Standing.{HasDevices, OnlyGrows, KeepsMore, StandsForMore, durable_of};
 
 use crate::{EngineCause, EngineFault, EngineParts};
 use pac_check::Slots;
@@ -97,7 +97,8 @@ impl Engine {
 
     /// The catalogue.
     pub fn catalogue(&self) -> &Catalogue
-        ensures { result.now ≡ self.now.session.catalogue }
+        ensures value { result.now ≡ self.now.session.catalogue }
+        ensures durable { self.now.ended ≡ false → durable_of self.now ≡ self.now.session.before }
     {
         self.parts.session.catalogue()
     }
@@ -134,10 +135,11 @@ impl Engine {
         ensures small { request ≡ ARequest.Save → OnOk result (slot_len (rules_of self.old.session) (state_now self.old.session) (place_after_group self.old.log.gate.place self.old.session.txns) ≤ MAX_SLOT_LEN) }
         ensures same { OnOk result (rules_of self.new.session ≡ rules_of self.old.session) }
 
-        // What they report is durable, and stays so.
+        // What they report is durable, and stays so; what is durable are the transactions of the groups that were closed.
         ensures grows { OnlyGrows self.old self.new }
         ensures kept { IfOk result (λ given. AllByRecursion (IsKept self.new) given) }
         ensures kept_before { IfErr result (λ fault. AllByRecursion (IsKept self.new) fault.replies) }
+        ensures durable { OnOk result (durable_of self.new ≡ self.new.session.before) }
 
         // The devices stand for the history at each moment, and the engine stands for it with the transactions of the request.
         ensures ready { OnOk result (HasDevices D.known self.new devices.new) }

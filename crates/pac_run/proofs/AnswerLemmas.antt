@@ -1,5 +1,5 @@
 -- One request is answered, or not.
-use Rattle.std.proofs.Common.{◌≡◌, inl, inr, ℕ, ◌≤◌, List, [], ◌∷◌, ◌++◌, take, Option, Result, Ok, Err, refl, sym, ap, subst, arith}
+use Rattle.std.proofs.Common.{◌≡◌, ◌∙◌, inl, inr, ℕ, ◌≤◌, List, [], ◌∷◌, ◌++◌, take, Option, Result, Ok, Err, refl, sym, ap, subst, arith}
 use Rattle.std.specs.Prelude.{IsErrOf, OnErr}
 use Rattle.std.specs.List.{AllByRecursion}
 use Rattle.std.proofs.lemmas.List.{append-nil}
@@ -12,16 +12,16 @@ use Rattle.pac_request.specs.declared.request.Request.{Request}
 use Rattle.pac_request.specs.declared.request.Request.TheVariants as request
 use Rattle.pac_request.specs.declared.request.Reply.{Reply}
 use Rattle.pac_session.specs.Session.{Rules, SessionState, commits, committed, ends}
-use Rattle.pac_session.specs.Groups.{all_requests, cut_one, place_after_group}
+use Rattle.pac_session.specs.Groups.{GroupCut, all_requests, cut_on, cut_one, place_after_group}
 use Rattle.pac_session.specs.Open.{IsInGroup, rules_of, state_now}
 use Rattle.pac_engine.specs.declared.parts.EngineParts.{EngineParts}
 use Rattle.pac_engine.specs.Closing.{Closes, IsKept, slot_len}
-use Rattle.pac_engine.specs.Standing.{OnlyGrows, StandsOn}
+use Rattle.pac_engine.specs.Standing.{OnlyGrows, StandsOn, durable_of}
 use Rattle.pac_engine.proofs.DeviceLemmas.{rest-known}
 use Rattle.pac_engine.proofs.LawLemmas.{closes-then}
 use Rattle.pac_run.specs.declared.stop.RunStop.{RunStop}
-use Rattle.pac_run.specs.declared.stop.RunStop.TheVariants.{NoMemory}
-use Rattle.pac_run.specs.Serving.{Answered, Broke, KeepsEach, StandsForEach, StepStops}
+use Rattle.pac_run.specs.declared.stop.RunStop.TheVariants.{NoMemory, OutputFault}
+use Rattle.pac_run.specs.Serving.{Answered, Broke, KeepsEach, StandsForEach, StepStops, WasHandled}
 use Rattle.pac_run.specs.Texts.{IsTextPrefix, IsPlain, SaysUnlessFault, texts}
 use Rattle.pac_run.proofs.ServeLemmas.{took-nothing, whole-prefix}
 use Rattle.pac_run.proofs.StepLemmas.{nothing-keeps}
@@ -57,13 +57,18 @@ module _ (asked : Request) (old new : EngineParts) (known known' : List (Option 
     grows = grows;
     kept = tt;
     plain = tt;
+    handled = λ out. absurd (no-output (sym is ∙ out));
   }
+    where
+      no-output : NoMemory ≡ OutputFault → ⊥
+      no-output e = cc
 
   pub broke-of : (catalogue : CatalogueState) (held held' : Option (List ℕ)) (faulted : Type 0) (stop : RunStop) (more : List Reply) (text : List ℕ) → text ≡ texts catalogue more → SaysUnlessFault held text held' faulted
       → KeepsEach (commits (rules_of old.session) (state_now old.session) asked) old new known known' → OnlyGrows old new → AllByRecursion (IsKept new) more → AllByRecursion IsPlain more
       → ((start : SessionState) (group : List Request) → IsInGroup start group old.session → StepStops (rules_of old.session) old.log.gate.place start (cut_one (rules_of old.session) start group asked).closed more stop)
+      → (stop ≡ OutputFault → WasHandled asked more old new)
       → Broke catalogue asked old new held held' known known' faulted stop
-  broke-of catalogue held held' faulted stop more text is (inl took) keeps grows kept plain stops = record {
+  broke-of catalogue held held' faulted stop more text is (inl took) keeps grows kept plain stops handled = record {
     more = more;
     out = text;
     took = took;
@@ -74,8 +79,9 @@ module _ (asked : Request) (old new : EngineParts) (known known' : List (Option 
     grows = grows;
     kept = kept;
     plain = plain;
+    handled = handled;
   }
-  broke-of catalogue held held' faulted stop more text is (inr fault) keeps grows kept plain stops = record {
+  broke-of catalogue held held' faulted stop more text is (inr fault) keeps grows kept plain stops handled = record {
     more = more;
     out = take fault.1.count text;
     took = fault.1.prefix;
@@ -86,19 +92,30 @@ module _ (asked : Request) (old new : EngineParts) (known known' : List (Option 
     grows = grows;
     kept = kept;
     plain = plain;
+    handled = handled;
   }
+
+  -- the groups that it closes are those of the step
+  handled-closes : (more : List Reply) → ((start : SessionState) (group : List Request) → IsInGroup start group old.session → Closes (rules_of old.session) old.log.gate.place start (cut_one (rules_of old.session) start group asked) more new)
+      → (rules : Rules) (place : ℕ) (start : SessionState) (whole : GroupCut) (given : List Reply) → Closes rules place start whole given old → Closes rules place start (cut_on rules start whole asked) (given ++ more) new
+  handled-closes more closes rules place start whole given is =
+      let middle = ends rules start (all_requests whole.closed) in
+      closes-then rules place start whole given old is (cut_one rules middle whole.rest asked) more new
+      (subst (λ (r : Rules). Closes r old.log.gate.place middle (cut_one r middle whole.rest asked) more new) is.same (closes middle whole.rest is.within))
+
+  pub was-handled : (more : List Reply) → ((start : SessionState) (group : List Request) → IsInGroup start group old.session → Closes (rules_of old.session) old.log.gate.place start (cut_one (rules_of old.session) start group asked) more new)
+      → durable_of new ≡ new.session.before → WasHandled asked more old new
+  was-handled more closes durable = record { closes = handled-closes more closes; durable = durable }
 
   -- a request was answered
   pub answered-one : (more : List Reply) → ((start : SessionState) (group : List Request) → IsInGroup start group old.session → Closes (rules_of old.session) old.log.gate.place start (cut_one (rules_of old.session) start group asked) more new)
       → KeepsEach (commits (rules_of old.session) (state_now old.session) asked) old new known known' → StandsForEach (commits (rules_of old.session) (state_now old.session) asked) old new known known'
       → rules_of new.session ≡ rules_of old.session → OnlyGrows old new → AllByRecursion (IsKept new) more → AllByRecursion IsPlain more
       → (asked ≡ request.Save → slot_len (rules_of old.session) (state_now old.session) (place_after_group old.log.gate.place old.session.txns) ≤ MAX_SLOT_LEN)
+      → durable_of new ≡ new.session.before
       → Answered (asked ∷ []) more old new known known'
-  answered-one more closes keeps stands same grows kept plain small = record {
-    closes = λ rules place start whole given is.
-        let middle = ends rules start (all_requests whole.closed) in
-        closes-then rules place start whole given old is (cut_one rules middle whole.rest asked) more new
-        (subst (λ (r : Rules). Closes r old.log.gate.place middle (cut_one r middle whole.rest asked) more new) is.same (closes middle whole.rest is.within));
+  answered-one more closes keeps stands same grows kept plain small durable = record {
+    closes = handled-closes more closes;
     keeps = keeps-one keeps;
     stands = stands-one stands;
     same = same;
@@ -107,6 +124,7 @@ module _ (asked : Request) (old new : EngineParts) (known known' : List (Option 
     plain = plain;
     few = omega arith;
     saves = λ is. small (first-same is);
+    durable = λ before. durable;
   }
     where
       first-same : asked ∷ [] ≡ request.Save ∷ [] → asked ≡ request.Save
@@ -124,6 +142,7 @@ answered-none e known stands = record {
   plain = tt;
   few = omega arith;
   saves = λ is. absurd (none is);
+  durable = λ is. is;
 }
   where
     none : [] ≡ request.Save ∷ [] → ⊥

@@ -14,6 +14,7 @@ use Rattle.pac_session.specs.Session.{Rules, ends}
 use Rattle.pac_session.specs.Groups.{GroupCut, all_requests, cut}
 use Rattle.pac_session.specs.Open.{rules_of, state_now}
 use Rattle.pac_engine.specs.declared.parts.EngineParts.{EngineParts}
+use Rattle.pac_engine.specs.Standing.{durable_of}
 use Rattle.pac_run.specs.declared.limits.TheConstants.{MAX_INPUT}
 use Rattle.pac_run.specs.declared.stop.RunStop.{RunStop}
 use Rattle.pac_run.specs.declared.stop.RunStop.TheVariants.{InputFault, NoMemory}
@@ -27,9 +28,9 @@ use Rattle.pac_run.proofs.ServeLemmas.{serving-more, still-served, took-nothing}
 use Rattle.pac_run.proofs.StepLemmas.{goes-first}
 
 -- before the first line
-abbrev pub first-serving : (engine : EngineParts) (left held : Option (List ℕ)) (known : List (Option DiskHistory)) (reader : ReaderState) → engine.session.txns ≡ [] → engine.session.held ≡ [] → reader ≡ record { line = []; ahead = []; taken = 0; limit = MAX_INPUT }
+abbrev pub first-serving : (engine : EngineParts) (left held : Option (List ℕ)) (known : List (Option DiskHistory)) (reader : ReaderState) → engine.session.txns ≡ [] → engine.session.held ≡ [] → durable_of engine ≡ engine.session.before → reader ≡ record { line = []; ahead = []; taken = 0; limit = MAX_INPUT }
     → Serving engine engine left left reader held held known known
-first-serving engine left held known reader none empty is = record {
+first-serving engine left held known reader none empty durable is = record {
   lines = [];
   read = subst (λ (r : ReaderState). HasRead left left r []) (sym is) (first-read left);
   requests = [];
@@ -37,7 +38,7 @@ first-serving engine left held known reader none empty is = record {
   unstopped = tt;
   given = [];
   took = took-nothing held;
-  goes = goes-first engine known none empty (nothing-stands engine known);
+  goes = goes-first engine known none empty (nothing-stands engine known) durable;
 }
 
 module _ (first now : EngineParts) (left mid left' : Option (List ℕ)) (reader next : ReaderState) (held held' held'' : Option (List ℕ)) (known known' known'' : List (Option DiskHistory)) (serving : Serving first now left mid reader held held' known known') (new : EngineParts)
@@ -84,11 +85,11 @@ pub catalogue-stays : (catalogue : CatalogueState) (old new : EngineParts) (text
 catalogue-stays catalogue old new text stops c held held' known known' same served = same ∙ ap (λ (r : Rules). r.catalogue) (sym served.replied.answered.same)
 
 -- where nothing could be served
-pub nothing-served : (engine : EngineParts) (left held : Option (List ℕ)) (known : List (Option DiskHistory)) (faulted : Type 0) (result : Result (Unit {0}) RunStop) (stop : RunStop) → engine.session.txns ≡ [] → engine.session.held ≡ [] → result ≡ Err stop → stop ≡ NoMemory
+pub nothing-served : (engine : EngineParts) (left held : Option (List ℕ)) (known : List (Option DiskHistory)) (faulted : Type 0) (result : Result (Unit {0}) RunStop) (stop : RunStop) → engine.session.txns ≡ [] → engine.session.held ≡ [] → durable_of engine ≡ engine.session.before → result ≡ Err stop → stop ≡ NoMemory
     → Served engine engine left left held held known known faulted result
-nothing-served engine left held known faulted result stop none empty gives is =
+nothing-served engine left held known faulted result stop none empty durable gives is =
     let reader : ReaderState = record { line = []; ahead = []; taken = 0; limit = MAX_INPUT } in
-    let serving = first-serving engine left held known reader none empty refl in
+    let serving = first-serving engine left held known reader none empty durable refl in
     subst (λ (r : Result (Unit {0}) RunStop). Served engine engine left left held held known known faulted r) (sym (gives ∙ ap (λ (s : RunStop). Err s) is))
     (still-served engine engine left left reader held held known known serving left faulted NoMemory [] (none-handled left) (λ other. record { bytes = []; gave = sym (prepend_known-nil left); few = omega arith }) (λ long. absurd cc) (λ cut. absurd cc) (inr (inr refl)))
   where

@@ -8,8 +8,10 @@ use Rattle.std.proofs.Math.Seq.{take-append_seam}
 use Rattle.std.proofs.lemmas.List.{take-append-drop}
 use Rattle.pac_ops.specs.declared.transaction.Txn.{Txn}
 use Rattle.pac_outside.specs.Devices.{AreImages, RunsAsBefore, OnceKnown, IfAllKnown, all_known}
-use Rattle.pac_outside.specs.Disk.{DiskHistory}
+use Rattle.pac_outside.specs.Disk.{DiskHistory, IfKnown}
 use Rattle.pac_outside.proofs.Runs.{run_end, run_then, weaken_run}
+use Rattle.pac_log.specs.declared.position.NextGate.{NextGate}
+use Rattle.pac_log.specs.Places.{LogEndsAt}
 use Rattle.pac_types.specs.CatalogueText.{HasCatalogue}
 use Rattle.pac_types.specs.Execution.{first_over}
 use Rattle.pac_types.specs.Typing.{CatalogueState}
@@ -27,13 +29,13 @@ use Rattle.pac_engine.specs.declared.parts.EngineParts.{EngineParts}
 use Rattle.pac_engine.specs.Standing.{KeepsHistory, MayLeave, StandsOn, StandsWith, WhileKnown, durable_of, saved_of}
 use Rattle.pac_engine.proofs.DeviceLemmas.{weaken-three}
 use Rattle.pac_run.specs.declared.stop.RunStop.{RunStop}
-use Rattle.pac_run.specs.declared.stop.RunStop.TheVariants.{TooLong}
+use Rattle.pac_run.specs.declared.stop.RunStop.TheVariants.{NoStore, Damaged, AbortInLog, RowsOver, InputFault, OutputFault, DiskFault, NoMemory, LogFull, TooLong, TooLarge}
 use Rattle.pac_run.specs.Asked.{WereHandled}
 use Rattle.pac_run.specs.Causes.{stop_of_opening}
 use Rattle.pac_run.specs.Opening.{AllStand, BeginsOver, IsFresh, IsOpenedFrom, StandsForPrefix}
-use Rattle.pac_run.specs.Run.{AtExit, AtMoments, IsBegun, IsExit, IsRun, IsWholeRun, IfSeenKnown, history_after}
+use Rattle.pac_run.specs.Run.{AtExit, AtMoments, DevicesHave, IsBegun, IsExit, IsRun, IsWholeRun, IfSeenKnown, history_after}
 use Rattle.pac_run.specs.Serving.{IsDone, Served}
-use Rattle.pac_run.specs.Stopping.{AreFirst, IsStopped, IsStoppedAt, IsUnopened, MayNotOpen, RefusesStore}
+use Rattle.pac_run.specs.Stopping.{AreFirst, HasWorked, IsStopped, IsStoppedAt, IsUnopened, MayNotOpen, RefusesStore, closed_number}
 use Rattle.pac_run.specs.Texts.{IsTextPrefix, texts}
 use Rattle.pac_run.proofs.AckedLemmas.{acknowledged, known-saved}
 use Rattle.pac_run.proofs.NameLemmas.{names-of}
@@ -90,6 +92,37 @@ as-before P R step None y runs = tt
 as-before P R step (Some x) None runs = absurd runs
 as-before P R step (Some x) (Some y) runs = λ is. step x y runs is
 
+-- a store that is not opened is none that was worked on
+not-worked : (stop : RunStop) → MayNotOpen stop → HasWorked {A = Unit {0}} (Err stop) → ⊥
+not-worked NoStore early worked = worked
+not-worked (Damaged damage) early worked = worked
+not-worked (AbortInLog note) early worked = worked
+not-worked (RowsOver table rows limit) early worked = worked
+not-worked DiskFault early worked = worked
+not-worked NoMemory early worked = worked
+not-worked InputFault early worked = early
+not-worked OutputFault early worked = early
+not-worked (LogFull need) early worked = early
+not-worked TooLong early worked = early
+not-worked (TooLarge bytes) early worked = early
+
+-- the log, the first of the devices, ends at the gate
+abbrev pub EndsAt : NextGate → List (Option DiskHistory) → Type 0
+EndsAt gate [] = ⊥
+EndsAt gate (log ∷ []) = ⊥
+EndsAt gate (log ∷ a ∷ []) = ⊥
+EndsAt gate (log ∷ a ∷ b ∷ []) = IfKnown (λ now. LogEndsAt gate now.now) log
+EndsAt gate (log ∷ a ∷ b ∷ device ∷ devices) = ⊥
+
+-- then it has as many transactions as stand before the gate
+ends-exactly : (gate : NextGate) (number : ℕ) → gate.txns ≡ number → (known : List (Option DiskHistory)) → EndsAt gate known → DevicesHave number known
+ends-exactly gate number is [] at = absurd at
+ends-exactly gate number is (log ∷ []) at = absurd at
+ends-exactly gate number is (log ∷ a ∷ []) at = absurd at
+ends-exactly gate number is (None ∷ a ∷ b ∷ []) at = tt
+ends-exactly gate number is (Some l ∷ a ∷ b ∷ []) at = record { text = at.text; catalogue = gate.catalogue; batches = at.batches; log = at.holds; exactly = sym at.after.txns ∙ is }
+ends-exactly gate number is (log ∷ a ∷ b ∷ device ∷ devices) at = absurd at
+
 pub not-opened : (batch limit : ℕ) (left held : Option (List ℕ)) (l a b : Option DiskHistory) (known' : List (Option DiskHistory)) (faulted : Type 0) (error : RecoverError) (stop : RunStop) → stop ≡ stop_of_opening error → IfAllKnown RunsAsBefore (l ∷ a ∷ b ∷ []) known'
     → IsRun batch limit left left held held (l ∷ a ∷ b ∷ []) known' faulted (Err stop)
 not-opened batch limit left held l a b known' faulted error stop is runs =
@@ -123,6 +156,7 @@ not-opened batch limit left held l a b known' faulted error stop is runs =
       written = record { count = 0; is = refl };
       all = inl refl;
       stopped = inl (early, refl, refl);
+      exact = λ worked. absurd (not-worked stop early worked);
     }
 
 -- ---- one that is
@@ -137,7 +171,7 @@ stops-part (Err stop) P R S is step = step stop is
 
 module _ (batch limit : ℕ) (engine new : EngineParts) (left left' held held' : Option (List ℕ)) (l a b : Option DiskHistory) (middle known' : List (Option DiskHistory)) (faulted : Type 0) (result : Result (Unit {0}) RunStop) (fresh : IsFresh batch limit engine)
     (within : first_over limit (length engine.session.catalogue.tables) engine.session.tables ≡ None) (opened : IfReadKnown (IsOpenedFrom engine) l a b) (begins : IfAllKnown (BeginsOver engine) (l ∷ a ∷ b ∷ []) middle) (runs : IfAllKnown RunsAsBefore (l ∷ a ∷ b ∷ []) middle)
-    (served : Served engine new left left' held held' middle known' faulted result) where
+    (served : Served engine new left left' held held' middle known' faulted result) (ended : HasWorked result → EndsAt new.log.gate known') where
   abbrev rules : Rules
   rules = rules_of engine.session
 
@@ -259,5 +293,6 @@ module _ (batch limit : ℕ) (engine new : EngineParts) (left left' held held' :
     given = served.given;
     written = served.prefix;
     all = served.whole;
+    exact = λ worked. ends-exactly new.log.gate (closed_number rules start served.requests) (served.durable worked) known' (ended worked);
     stopped = stops-part result (IsDone rules engine.log.gate.place start served.requests served.given served.out) (λ stop. IsStoppedAt rules engine.log.gate.place start served.requests served.given stop) (λ stop. IsStopped rules engine.log.gate.place start served.requests served.given stop) served.ending (λ stop at. inr at);
   }

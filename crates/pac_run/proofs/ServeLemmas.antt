@@ -21,15 +21,16 @@ use Rattle.pac_session.specs.Groups.{GroupCut, all_requests, cut, cut_on, cut_on
 use Rattle.pac_session.specs.Open.{rules_of, state_now}
 use Rattle.pac_engine.specs.declared.parts.EngineParts.{EngineParts}
 use Rattle.pac_engine.specs.Closing.{IsKept}
+use Rattle.pac_engine.specs.Standing.{durable_of}
 use Rattle.pac_run.specs.declared.limits.TheConstants.{MAX_INPUT}
 use Rattle.pac_run.specs.declared.stop.RunStop.{RunStop}
-use Rattle.pac_run.specs.declared.stop.RunStop.TheVariants.{InputFault, NoMemory, TooLong}
+use Rattle.pac_run.specs.declared.stop.RunStop.TheVariants.{NoStore, Damaged, AbortInLog, RowsOver, InputFault, OutputFault, DiskFault, NoMemory, LogFull, TooLong, TooLarge}
 use Rattle.pac_run.specs.Asked.{WereAsked, IsOverLong, TookAtMost, WereHandled}
 use Rattle.pac_run.specs.Serving.{Broke, LineServed, Replied, Served, Serving, StepStops}
-use Rattle.pac_run.specs.Stopping.{IsStoppedAt}
+use Rattle.pac_run.specs.Stopping.{HasWorked, IsStoppedAt, closed_number}
 use Rattle.pac_run.specs.Texts.{IsTextPrefix, IsPlain, texts}
 use Rattle.pac_run.proofs.ReadLemmas.{lines-ask, more-read}
-use Rattle.pac_run.proofs.StepLemmas.{all-both, goes-more, grown-then, keeps-more, kept-grows}
+use Rattle.pac_run.proofs.StepLemmas.{all-both, cut-more, goes-more, grown-then, keeps-more, kept-grows}
 use Rattle.pac_run.proofs.StopLemmas.{all-replied, never-stops, no-stop-both, stopped-first, stopped-more, stopped-reading, stops-last}
 
 -- ---- what was written
@@ -61,6 +62,20 @@ never-fails rules place start closed more stop stops is = subst (λ (s : RunStop
 
 never-long : (rules : Rules) (place : ℕ) (start : SessionState) (closed : List (List Request)) (more : List Reply) (stop : RunStop) → StepStops rules place start closed more stop → stop ≡ TooLong → ⊥
 never-long rules place start closed more stop stops is = subst (λ (s : RunStop). StepStops rules place start closed more s) is stops
+
+-- an engine that worked, where no step stops so: only the output failed
+worked-output : (stop : RunStop) → HasWorked {A = Unit {0}} (Err stop) → (stop ≡ InputFault → ⊥) → (stop ≡ TooLong → ⊥) → stop ≡ OutputFault
+worked-output OutputFault worked input long = refl
+worked-output InputFault worked input long = absurd (input refl)
+worked-output TooLong worked input long = absurd (long refl)
+worked-output NoStore worked input long = absurd worked
+worked-output (Damaged damage) worked input long = absurd worked
+worked-output (AbortInLog note) worked input long = absurd worked
+worked-output (RowsOver table rows limit) worked input long = absurd worked
+worked-output DiskFault worked input long = absurd worked
+worked-output NoMemory worked input long = absurd worked
+worked-output (LogFull need) worked input long = absurd worked
+worked-output (TooLarge bytes) worked input long = absurd worked
 
 -- ---- an end
 
@@ -110,6 +125,7 @@ module _ (first now : EngineParts) (left mid : Option (List ℕ)) (reader : Read
           plain = serving.goes.plain;
           firsts = stopped-first rules place start serving.requests serving.given stop stopped;
           ending = stopped;
+          durable = λ worked. serving.goes.durable ∙ sym serving.goes.closes.within.begun;
         }
 
   -- a request was not answered
@@ -153,11 +169,25 @@ module _ (first now : EngineParts) (left mid : Option (List ℕ)) (reader : Read
       plain = all-both IsPlain serving.given broke.more serving.goes.plain broke.plain;
       firsts = stopped-first rules place start (serving.requests ++ asks ∷ []) (serving.given ++ broke.more) stop stopped;
       ending = stopped;
+      durable = λ worked. durable-at (worked-output stop worked (λ is. at is) (λ is. long-at is));
     }
       where
         risen : (broke.out ≡ texts catalogue broke.more) ⊎ faulted' → (broke.out ≡ texts catalogue broke.more) ⊎ faulted
         risen (inl is) = inl is
         risen (inr r) = inr (later r)
+
+        at : stop ≡ InputFault → ⊥
+        at = never-fails (rules_of now.session) now.log.gate.place middle (cut_one (rules_of now.session) middle whole.rest asks).closed broke.more stop (broke.stops middle whole.rest serving.goes.closes.within)
+
+        long-at : stop ≡ TooLong → ⊥
+        long-at = never-long (rules_of now.session) now.log.gate.place middle (cut_one (rules_of now.session) middle whole.rest asks).closed broke.more stop (broke.stops middle whole.rest serving.goes.closes.within)
+
+        durable-at : stop ≡ OutputFault → durable_of new ≡ closed_number (rules_of first.session) (state_now first.session) (serving.requests ++ asks ∷ [])
+        durable-at out =
+            let handled = broke.handled out in
+            let closes = handled.closes rules place start whole serving.given serving.goes.closes in
+            handled.durable ∙ sym closes.within.begun
+            ∙ ap (λ (c : GroupCut). (ends rules start (all_requests c.closed)).number) (sym (cut-more first now serving.requests serving.given known known' serving.goes (asks ∷ [])))
 
   -- a stop was answered
   pub stop-served : (left' held'' : Option (List ℕ)) (known'' : List (Option DiskHistory)) (new : EngineParts) (faulted : Type 0) (lines : List (List ℕ)) (ahead : List ℕ) → WereHandled left lines ahead left' → TookAtMost MAX_INPUT left left'
@@ -191,6 +221,7 @@ module _ (first now : EngineParts) (left mid : Option (List ℕ)) (reader : Read
         plain = goes.plain;
         firsts = record { rest = []; split = sym answers ∙ sym (append-nil given) };
         ending = record { before = serving.requests; stops = refl; replied = answers; written = written; fit = goes.closes.fit; saves = goes.saves };
+        durable = λ worked. goes.durable ∙ sym goes.closes.within.begun;
       }
     where
       no-err : ◌≡◌ {A = Result (Unit {0}) RunStop} (Ok tt) (Err TooLong) → ⊥

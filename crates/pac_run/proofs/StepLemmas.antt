@@ -162,13 +162,14 @@ module _ (first now : EngineParts) (requests : List Request) (given : List Reply
         kept = all-both (IsKept new) given more (kept-grows now new answered.grows given goes.kept) answered.kept;
         plain = all-both IsPlain given more goes.plain answered.plain;
         saves = saves-more;
+        durable = answered.durable goes.durable;
       }
 
 -- ---- from the beginning
 
 pub goes-first : (first : EngineParts) (known : List (Option DiskHistory)) → first.session.txns ≡ [] → first.session.held ≡ [] → ((text : List ℕ) (history : List Txn) → WhileAllKnown (StandsOn text history first) (λ was is. StandsOn text (history ++ []) first is) known known)
-    → GoesFrom first first [] [] known known
-goes-first first known txns held stands = record {
+    → durable_of first ≡ first.session.before → GoesFrom first first [] [] known known
+goes-first first known txns held stands durable = record {
   closes = begins first txns held;
   keeps = nothing-keeps first known;
   stands = stands;
@@ -176,6 +177,7 @@ goes-first first known txns held stands = record {
   kept = tt;
   plain = tt;
   saves = λ before rest same. absurd (none before rest same);
+  durable = durable;
 }
   where
     none : (before rest : List Request) → [] ≡ before ++ request.Save ∷ rest → ⊥

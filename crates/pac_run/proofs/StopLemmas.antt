@@ -90,6 +90,14 @@ step-stops rules place start closed given why stop is stops = subst (λ (s : Run
     go cause.Ended at = absurd at
     go cause.NoMemory at = at
 
+-- no step stops at the output
+pub no-output : (why : EngineCause) → stop_of_engine why ≡ OutputFault → ⊥
+no-output cause.DiskFault e = cc
+no-output (cause.LogFull need) e = cc
+no-output (cause.TooLarge bytes) e = cc
+no-output cause.Ended e = cc
+no-output cause.NoMemory e = cc
+
 -- where nothing was written for running out of memory, no group's replies were
 pub none-known : (rules : Rules) (place : ℕ) (start : SessionState) (closed : List (List Request)) → StepStops rules place start closed [] NoMemory
 none-known rules place start closed = inl (record { before = []; rest = described rules place start closed; split = refl; replied = refl })

@@ -5,11 +5,12 @@ use Rattle.std.specs.List.{AllByRecursion}
 use Rattle.pac_ops.specs.declared.transaction.Txn.{Txn}
 use Rattle.pac_outside.specs.Content.{Took}
 use Rattle.pac_outside.specs.Devices.{AllLeave, AreImages, RunLeaves, all_known}
-use Rattle.pac_outside.specs.Disk.{DiskHistory}
+use Rattle.pac_outside.specs.Disk.{DiskHistory, DiskState, IfKnown}
+use Rattle.pac_outside.specs.GateByte.{OneImage}
 use Rattle.pac_lines.specs.Lines.{HasNoFeed}
 use Rattle.pac_types.specs.Execution.{first_over}
 use Rattle.pac_types.specs.Typing.{CatalogueState}
-use Rattle.pac_log.specs.Logs.{HoldsLog, log_prefix}
+use Rattle.pac_log.specs.Logs.{HoldsLog, all_txns, log_prefix}
 use Rattle.pac_store.specs.Images.{Images, OfThree}
 use Rattle.pac_store.specs.Stands.{StandsFor}
 use Rattle.pac_request.specs.declared.request.Request.{Request}
@@ -25,7 +26,7 @@ use Rattle.pac_run.specs.declared.stop.RunStop.TheVariants.{InputFault, TooLong}
 use Rattle.pac_run.specs.Acked.{Acknowledges, ReportsSaved}
 use Rattle.pac_run.specs.Asked.{WereAsked, IsOverLong, StopsLast, TookAtMost, WereHandled}
 use Rattle.pac_run.specs.Opening.{AllStand}
-use Rattle.pac_run.specs.Stopping.{IsStopped, IsUnopened, SaveFits, closed_groups}
+use Rattle.pac_run.specs.Stopping.{HasWorked, IsStopped, IsUnopened, SaveFits, closed_groups, closed_number}
 use Rattle.pac_run.specs.Texts.{IsTextPrefix, texts}
 
 -- ---- where the session begins
@@ -66,6 +67,22 @@ abbrev pub AtExit : List ℕ → CatalogueState → List Txn → Rules → ℕ �
 AtExit text catalogue history rules place start requests out entry now =
     ((out ≡ []) × AllLeave (AreImages entry) now)
     ⊎ (OfThree (IsBegun rules place start) (map (λ device. device.now.seen) entry) × IsExit text catalogue (history_after history rules start requests) start.number out now)
+
+-- a crash leaves one image of the log, with exactly that many transactions
+pub record LogHas (number : ℕ) (state : DiskState) : Type 0 where
+  pub text : List ℕ
+  pub catalogue : CatalogueState
+  pub batches : List (List Txn)
+  pub log : OneImage (HoldsLog text catalogue batches) state
+  pub exactly : length (all_txns batches) ≡ number
+
+-- the first of three devices, where it is known, is such a log
+abbrev pub DevicesHave : ℕ → List (Option DiskHistory) → Type 0
+DevicesHave number [] = ⊥
+DevicesHave number (log ∷ []) = ⊥
+DevicesHave number (log ∷ a ∷ []) = ⊥
+DevicesHave number (log ∷ a ∷ b ∷ []) = IfKnown (λ now. LogHas number now.now) log
+DevicesHave number (log ∷ a ∷ b ∷ device ∷ devices) = ⊥
 
 -- and so it is of each image that a crash at a moment of the run might have left
 abbrev pub AtMoments : List ℕ → CatalogueState → List Txn → ℕ → Rules → SessionState → List Request → List DiskHistory → List DiskHistory → Type 0
@@ -111,6 +128,8 @@ pub record IsRun (batch limit : ℕ) (left left' held held' : Option (List ℕ))
   pub prefix : IsTextPrefix out (texts rules.catalogue (replies rules start requests))
   pub whole : OnOk result (IsWholeRun rules place start requests out)
   -- (b) and (e) what the devices hold at the exit, (c) and at each moment
+  -- where the engine worked to the end, the log has exactly the transactions of the groups that were closed: the open one is dropped
+  pub exact : HasWorked result → DevicesHave (closed_number rules start requests) known'
   pub exit : WhileAllStand (λ text catalogue history least. AtExit text catalogue history rules place start requests out) known known'
   pub moments : WhileAllStand (λ text catalogue history least. AtMoments text catalogue history least rules start requests) known known'
   -- (d) where it stopped: the output is the texts of these replies, unless the output's count of faults rose

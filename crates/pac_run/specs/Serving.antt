@@ -19,12 +19,12 @@ use Rattle.pac_check.specs.declared.limits.TheConstants.{MAX_SLOT_LEN}
 use Rattle.pac_engine.specs.declared.fault.EngineCause.TheVariants as cause
 use Rattle.pac_engine.specs.declared.parts.EngineParts.{EngineParts}
 use Rattle.pac_engine.specs.Closing.{Closes, GroupFits, IsKept, StopsAt, slot_len}
-use Rattle.pac_engine.specs.Standing.{OnlyGrows, KeepsHistory, StandsOn, WhileAllKnown}
+use Rattle.pac_engine.specs.Standing.{OnlyGrows, KeepsHistory, StandsOn, WhileAllKnown, durable_of}
 use Rattle.pac_run.specs.declared.limits.TheConstants.{MAX_INPUT}
 use Rattle.pac_run.specs.declared.stop.RunStop.{RunStop}
 use Rattle.pac_run.specs.declared.stop.RunStop.TheVariants.{NoStore, Damaged, AbortInLog, RowsOver, InputFault, OutputFault, DiskFault, NoMemory, LogFull, TooLong, TooLarge}
 use Rattle.pac_run.specs.Asked.{WereAsked, IsOverLong, LineAsks, LinesAsk, NoStop, StopsLast, TookAtMost, WereHandled}
-use Rattle.pac_run.specs.Stopping.{AreFirst, IsStoppedAt, SaveFits, closed_groups}
+use Rattle.pac_run.specs.Stopping.{AreFirst, HasWorked, IsStoppedAt, SaveFits, closed_groups, closed_number}
 use Rattle.pac_run.specs.Texts.{IsTextPrefix, IsPlain, texts}
 
 -- ---- one line
@@ -48,6 +48,7 @@ pub record Answered (asked : List Request) (more : List Reply) (old new : Engine
   pub plain : AllByRecursion IsPlain more
   pub few : length asked ≤ 1
   pub saves : asked ≡ request.Save ∷ [] → slot_len (rules_of old.session) (state_now old.session) (place_after_group old.log.gate.place old.session.txns) ≤ MAX_SLOT_LEN
+  pub durable : durable_of old ≡ old.session.before → durable_of new ≡ new.session.before
 
 -- and their texts were written
 pub record Replied (catalogue : CatalogueState) (asked : List Request) (old new : EngineParts) (held held' : Option (List ℕ)) (histories histories' : List (Option DiskHistory)) : Type 0 where
@@ -69,6 +70,12 @@ StepStops rules place start closed more (TooLarge bytes) = StopsAt rules place s
 StepStops rules place start closed more DiskFault = StopsAt rules place start closed more cause.DiskFault
 StepStops rules place start closed more NoMemory = StopsAt rules place start closed more cause.NoMemory
 
+-- a request was handled, and the groups that it closes were, though their replies could not be written
+pub record WasHandled (asked : Request) (more : List Reply) (old new : EngineParts) : Type 0 where
+  pub closes : (rules : Rules) (place : ℕ) (start : SessionState) (whole : GroupCut) (given : List Reply) → Closes rules place start whole given old
+      → Closes rules place start (cut_on rules start whole asked) (given ++ more) new
+  pub durable : durable_of new ≡ new.session.before
+
 -- One request was not answered, and a prefix of the texts of those replies was written, all of it unless the sink's count rose.
 pub record Broke (catalogue : CatalogueState) (asked : Request) (old new : EngineParts) (held held' : Option (List ℕ)) (histories histories' : List (Option DiskHistory)) (faulted : Type 0) (stop : RunStop) : Type 0 where
   pub more : List Reply
@@ -82,6 +89,7 @@ pub record Broke (catalogue : CatalogueState) (asked : Request) (old new : Engin
   pub grows : OnlyGrows old new
   pub kept : AllByRecursion (IsKept new) more
   pub plain : AllByRecursion IsPlain more
+  pub handled : stop ≡ OutputFault → WasHandled asked more old new
 
 -- all is as it was: there was no memory to know what the line asks
 pub record IsUntouched (old new : EngineParts) (held held' : Option (List ℕ)) (histories histories' : List (Option DiskHistory)) (stop : RunStop) : Type 0 where
@@ -118,6 +126,7 @@ pub record GoesFrom (first now : EngineParts) (requests : List Request) (given :
   pub kept : AllByRecursion (IsKept now) given
   pub plain : AllByRecursion IsPlain given
   pub saves : (before rest : List Request) → requests ≡ before ++ request.Save ∷ rest → SaveFits (rules_of first.session) first.log.gate.place (state_now first.session) before
+  pub durable : durable_of now ≡ now.session.before
 
 -- lines were handed out, and that many bytes were taken, not too many
 pub record HasRead (left left' : Option (List ℕ)) (reader : ReaderState) (lines : List (List ℕ)) : Type 0 where
@@ -169,4 +178,5 @@ pub record Served (first now : EngineParts) (left left' held held' : Option (Lis
   pub kept : AllByRecursion (IsKept now) given
   pub plain : AllByRecursion IsPlain given
   pub firsts : AreFirst given (replies (rules_of first.session) (state_now first.session) requests)
+  pub durable : HasWorked result → durable_of now ≡ closed_number (rules_of first.session) (state_now first.session) requests
   pub ending : MatchResult result (λ _. IsDone (rules_of first.session) first.log.gate.place (state_now first.session) requests given out) (λ stop. IsStoppedAt (rules_of first.session) first.log.gate.place (state_now first.session) requests given stop)

@@ -5,7 +5,7 @@ use Rattle.pac_request.specs.declared.request.Request.{Request}
 use Rattle.pac_request.specs.declared.request.Request.TheVariants as request
 use Rattle.pac_request.specs.declared.request.Reply.{Reply}
 use Rattle.pac_session.specs.Session.{Rules, SessionState, ends}
-use Rattle.pac_session.specs.Groups.{Group, all_replies, cut, described}
+use Rattle.pac_session.specs.Groups.{Group, all_replies, all_requests, cut, described}
 use Rattle.pac_engine.specs.declared.fault.EngineCause.TheVariants as cause
 use Rattle.pac_engine.specs.Closing.{StopsAt, place_after, slot_len}
 use Rattle.pac_run.specs.Asked.{NoStop}
@@ -15,6 +15,26 @@ use Rattle.pac_run.specs.declared.stop.RunStop.TheVariants.{NoStore, Damaged, Ab
 -- the groups that closings cut off
 abbrev pub closed_groups : Rules → ℕ → SessionState → List Request → List Group
 closed_groups rules place start requests = described rules place start (cut rules start requests).closed
+
+-- how many transactions there are with those of the groups that were closed
+abbrev pub closed_number : Rules → SessionState → List Request → ℕ
+closed_number rules start requests = (ends rules start (all_requests (cut rules start requests).closed)).number
+
+-- The engine worked to the end: all was done, or the run stopped at a fault of the input or of the output, or since the
+-- input was too long. The open group was dropped then.
+abbrev pub HasWorked : {A : Type 0} → Result A RunStop → Type 0
+HasWorked (Ok done) = Unit {0}
+HasWorked (Err InputFault) = Unit {0}
+HasWorked (Err OutputFault) = Unit {0}
+HasWorked (Err TooLong) = Unit {0}
+HasWorked (Err NoStore) = ⊥
+HasWorked (Err (Damaged damage)) = ⊥
+HasWorked (Err (AbortInLog note)) = ⊥
+HasWorked (Err (RowsOver table rows limit)) = ⊥
+HasWorked (Err DiskFault) = ⊥
+HasWorked (Err NoMemory) = ⊥
+HasWorked (Err (LogFull need)) = ⊥
+HasWorked (Err (TooLarge bytes)) = ⊥
 
 -- Which replies were to be written before a stop, where these requests were handled.
 abbrev pub IsStoppedAt : Rules → ℕ → SessionState → List Request → List Reply → RunStop → Type 0

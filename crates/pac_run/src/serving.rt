@@ -7,9 +7,10 @@ ghost use Rattle.pac_outside.specs.Devices.{OneFaulted, each};
 ghost use Rattle.pac_request.specs.declared.request.Request.{Request as ARequest};
 ghost use Rattle.pac_request.specs.RequestFits.{AskedFits, RequestFits};
 ghost use Rattle.pac_engine.specs.Closing.{is_stop};
-ghost use Rattle.pac_engine.specs.Standing.{HasDevices};
+ghost use Rattle.pac_engine.specs.Standing.{HasDevices, durable_of};
 ghost use Rattle.pac_run.specs.Asked.{LineAsks, listed_asked};
 ghost use Rattle.pac_run.specs.Serving.{Broke, LineBroke, LineServed, Replied, Served};
+ghost use Rattle.pac_run.specs.Stopping.{HasWorked};
 ghost use Rattle.pac_run.specs.Texts.{IsPlain, SaysUnlessFault, texts};
 ghost use Rattle.pac_run.specs.declared.stop.RunStop.{RunStop as AStop};
 
@@ -78,6 +79,7 @@ fn answer<O: Sink, D: Disk>(
     ensures err { (stop : AStop) → IsErrOf result stop → Broke catalogue.now asked engine.old engine.new (O.held output.old) (O.held output.new) (each D.known devices.old) (each D.known devices.new) (Faulted (O.faults output.old) (O.faults output.new)) stop }
     ensures stopped { OnOk result (engine.new.ended ≡ is_stop asked) }
     ensures ready { OnOk result (HasDevices D.known engine.new devices.new) }
+    ensures worked { HasWorked result → HasDevices D.known engine.new devices.new }
     ensures later { O.faults output.old ≤ O.faults output.new }
     ensures output_fault { IsErrOf result RunStop.OutputFault → Faulted (O.faults output.old) (O.faults output.new) }
     ensures disk_fault { IsErrOf result RunStop.DiskFault → OneFaulted (each D.faults devices.old) (each D.faults devices.new) }
@@ -112,6 +114,7 @@ fn serve_line<O: Sink, D: Disk>(
     ensures err { (stop : AStop) → IsErrOf result stop → LineBroke catalogue.now line.now engine.old engine.new (O.held output.old) (O.held output.new) (each D.known devices.old) (each D.known devices.new) (Faulted (O.faults output.old) (O.faults output.new)) stop }
     ensures stopped { IfOk result (λ stops. engine.new.ended ≡ stops) }
     ensures ready { OnOk result (HasDevices D.known engine.new devices.new) }
+    ensures worked { HasWorked result → HasDevices D.known engine.new devices.new }
     ensures later { O.faults output.old ≤ O.faults output.new }
     ensures output_fault { IsErrOf result RunStop.OutputFault → Faulted (O.faults output.old) (O.faults output.new) }
     ensures disk_fault { IsErrOf result RunStop.DiskFault → OneFaulted (each D.faults devices.old) (each D.faults devices.new) }
@@ -138,8 +141,10 @@ fn serve_lines<I: Source, O: Sink, D: Disk>(
     requires none { engine.old.session.txns ≡ [] }
     requires held { engine.old.session.held ≡ [] }
     requires goes_on { engine.old.ended ≡ false }
+    requires durable { durable_of engine.old ≡ engine.old.session.before }
     requires ready { HasDevices D.known engine.old devices.old }
     ensures served { Served engine.old engine.new (I.left input.old) (I.left input.new) (O.held output.old) (O.held output.new) (each D.known devices.old) (each D.known devices.new) (Faulted (O.faults output.old) (O.faults output.new)) result }
+    ensures worked { HasWorked result → HasDevices D.known engine.new devices.new }
     ensures input_fault { IsErrOf result RunStop.InputFault → Faulted (I.faults input.old) (I.faults input.new) }
     ensures output_fault { IsErrOf result RunStop.OutputFault → Faulted (O.faults output.old) (O.faults output.new) }
     ensures disk_fault { IsErrOf result RunStop.DiskFault → OneFaulted (each D.faults devices.old) (each D.faults devices.new) }
@@ -182,6 +187,7 @@ pub fn serve<I: Source, O: Sink, D: Disk>(
     requires goes_on { engine.old.ended ≡ false }
     requires ready { HasDevices D.known engine.old devices.old }
     ensures served { Served engine.old engine.new (I.left input.old) (I.left input.new) (O.held output.old) (O.held output.new) (each D.known devices.old) (each D.known devices.new) (Faulted (O.faults output.old) (O.faults output.new)) result }
+    ensures worked { HasWorked result → HasDevices D.known engine.new devices.new }
     ensures input_fault { IsErrOf result RunStop.InputFault → Faulted (I.faults input.old) (I.faults input.new) }
     ensures output_fault { IsErrOf result RunStop.OutputFault → Faulted (O.faults output.old) (O.faults output.new) }
     ensures disk_fault { IsErrOf result RunStop.DiskFault → OneFaulted (each D.faults devices.old) (each D.faults devices.new) }

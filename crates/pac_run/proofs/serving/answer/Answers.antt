@@ -1,5 +1,5 @@
 -- A request is answered, and its replies are written, or not.
-use Rattle.std.proofs.Common.{◌∙◌, ℕ, List, sym, ap, subst}
+use Rattle.std.proofs.Common.{◌∙◌, ℕ, List, [], sym, ap, subst}
 use Rattle.std.proofs.lemmas.Result.{err_from_is_err_and}
 use Rattle.std.specs.List.{AllByRecursion}
 use Rattle.pac_outside.specs.Content.{Took}
@@ -11,8 +11,8 @@ use Rattle.pac_engine.proofs.Results.{on-ok}
 use Rattle.pac_run.specs.declared.stop.RunStop.{RunStop}
 use Rattle.pac_run.specs.Serving.{StepStops}
 use Rattle.pac_run.specs.Texts.{IsPlain, texts}
-use Rattle.pac_run.proofs.AnswerLemmas.{answered-one, broke-of, no-text, only-err}
-use Rattle.pac_run.proofs.StopLemmas.{step-stops}
+use Rattle.pac_run.proofs.AnswerLemmas.{answered-one, broke-of, no-text, only-err, was-handled}
+use Rattle.pac_run.proofs.StopLemmas.{no-output, step-stops}
 use Rattle.pac_run.proofs.serving.answer.Goals as goal
 
 pub returns-in_err-text-in-Ok-clause-err : goal.returns-in_err-text-in-Ok-clause-err
@@ -36,7 +36,7 @@ returns-in_ok-text-in-Ok-clause-ok g c =
     on-ok c.write.result c.write.ensures.ok (λ took. record {
       more = c.in-Ok.replies;
       took = subst (λ (l : List ℕ). Took (g.O.Sink.held c.args.output.now) l (g.O.Sink.held c.write.new.output)) text took;
-      answered = answered-one c.args.asked c.args.engine.now c.step.new.self _ _ c.in-Ok.replies e.closes (e.keeps c.requires.goes_on) e.stands e.same e.grows e.kept plain e.small;
+      answered = answered-one c.args.asked c.args.engine.now c.step.new.self _ _ c.in-Ok.replies e.closes (e.keeps c.requires.goes_on) e.stands e.same e.grows e.kept plain e.small e.durable;
     })
 
 pub returns-in_ok-text-in-Ok-clause-err : goal.returns-in_ok-text-in-Ok-clause-err
@@ -49,6 +49,7 @@ returns-in_ok-text-in-Ok-clause-err g c = λ stop is.
     let same = only-err c.write.result _ stop c.write.ensures.only is in
     broke-of c.args.asked old c.step.new.self _ _ cat _ _ _ stop c.in-Ok.replies c.deref.result.now text c.write.ensures.says (e.keeps c.requires.goes_on) e.grows e.kept plain
     (λ start group within. subst (λ (s : RunStop). StepStops (rules_of old.session) old.log.gate.place start (cut_one (rules_of old.session) start group c.args.asked).closed c.in-Ok.replies s) (sym same) (e.closes start group within).replied)
+    (λ out. was-handled c.args.asked old c.step.new.self [] [] c.in-Ok.replies e.closes e.durable)
 
 pub returns-in_ok-text-in-Err-clause-err : goal.returns-in_ok-text-in-Err-clause-err
 returns-in_ok-text-in-Err-clause-err g c = λ stop is.
@@ -60,3 +61,4 @@ returns-in_ok-text-in-Err-clause-err g c = λ stop is.
     let same = sym (same-error _ _ is) ∙ c.stop_of_engine.ensures in
     broke-of c.args.asked old c.step.new.self _ _ cat _ _ _ stop c.in-Err.fault.replies c.deref-in-Err.result.now text c.write-in-Err.ensures.says (e.keeps c.requires.goes_on) e.grows e.kept_before plain
     (λ start group within. step-stops (rules_of old.session) old.log.gate.place start (cut_one (rules_of old.session) start group c.args.asked).closed c.in-Err.fault.replies c.in-Err.fault.cause stop same (e.stops c.requires.goes_on start group within))
+    (λ out. absurd (no-output c.in-Err.fault.cause (sym same ∙ out)))

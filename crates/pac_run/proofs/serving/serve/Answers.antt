@@ -7,4 +7,4 @@ pub returns-in_err-catalogue-clause-served : goal.returns-in_err-catalogue-claus
 returns-in_err-catalogue-clause-served g c =
     let r = c.from_residual in
     let p = err_from_is_err_and r.result r.ensures.1 in
-    nothing-served c.args.engine.now _ _ _ _ r.result p.0 c.requires.none c.requires.held p.1 p.2
+    nothing-served c.args.engine.now _ _ _ _ r.result p.0 c.requires.none c.requires.held (c.catalogue.ensures.durable c.requires.goes_on) p.1 p.2
