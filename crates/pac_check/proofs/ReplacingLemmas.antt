@@ -1,6 +1,8 @@
 -- A slot that is shut, and then opened with a new text.
-use Rattle.std.proofs.Common.{◌≡◌, ◌≢◌, ◌∙◌, ◌⊎◌, inl, inr, ⊎_elim, ℕ, List, [], ◌∷◌, length, drop, Option, refl, sym, ap, subst, arith}
+use Rattle.std.proofs.Common.{◌≡◌, ◌≢◌, ◌∙◌, ◌⊎◌, inl, inr, ⊎_elim, ℕ, List, [], ◌∷◌, ◌++◌, ◌+◌, length, drop, Option, refl, sym, ap, subst, arith}
 use Rattle.std.proofs.lemmas.Bool.{cases_eq}
+use Rattle.std.proofs.lemmas.List.{drop_all}
+use Rattle.std.proofs.Math.Seq.{drop-append-add}
 use Rattle.pac_outside.specs.Disk.{DiskState, DiskHistory, IsImage, BothKnown, LeavesTorn, IsDurable, wrote, settled, spliced}
 use Rattle.pac_outside.specs.GateByte.{IsShut, IsOpen, OneImage, ShutOrOpen}
 use Rattle.pac_outside.proofs.Images.{length_stays, back_stays}
@@ -53,3 +55,22 @@ module _ (text : List ℕ) where
 
   pub after_shut_both : (a b : Option DiskHistory) → BothKnown (ShutOrOpen [] text) a b → BothKnown (Replaces Closed text) a b
   after_shut_both = both (ShutOrOpen [] text) (Replaces Closed text) after_shut
+
+-- a byte and then a longer piece at the start are that piece
+spliced_over : (byte other : ℕ) (piece bytes : List ℕ) → spliced 0 (byte ∷ piece) (spliced 0 (other ∷ []) bytes) ≡ spliced 0 (byte ∷ piece) bytes
+spliced_over byte other piece [] =
+    let short : drop (0 + length (byte ∷ piece)) (other ∷ []) ≡ [] = drop_all (0 + length (byte ∷ piece)) (other ∷ []) (omega arith) in
+    ap (λ (l : List ℕ). (byte ∷ piece) ++ l) (short ∙ sym (drop_all (0 + length (byte ∷ piece)) [] (omega arith)))
+spliced_over byte other piece (b ∷ bytes) = ap (λ (l : List ℕ). (byte ∷ piece) ++ l) (rest other ∙ sym (rest b))
+  where
+    rest : (first : ℕ) → drop (0 + length (byte ∷ piece)) (first ∷ bytes) ≡ drop (length piece) bytes
+    rest first =
+        let one : 0 + length (byte ∷ piece) ≡ length (first ∷ []) + length piece = omega arith in
+        ap (λ (n : ℕ). drop n (first ∷ bytes)) one ∙ drop-append-add (first ∷ []) bytes (length piece)
+
+over : (text : List ℕ) (a b c : DiskHistory) → IsDurable 0 (0 ∷ []) a b → IsDurable 0 (1 ∷ text) b c → IsDurable 0 (1 ∷ text) a c
+over text a b c first second = second ∙ ap (λ (state : DiskState). settled (spliced 0 (1 ∷ text) state.seen)) first ∙ ap settled (spliced_over 1 0 text a.now.seen)
+
+-- all that is written in both steps is the text and its gate
+pub both_steps_write : (text : List ℕ) (a b c : Option DiskHistory) → BothKnown (IsDurable 0 (0 ∷ [])) a b → BothKnown (IsDurable 0 (1 ∷ text)) b c → BothKnown (IsDurable 0 (1 ∷ text)) a c
+both_steps_write text = both_then (IsDurable 0 (0 ∷ [])) (IsDurable 0 (1 ∷ text)) (IsDurable 0 (1 ∷ text)) (over text)

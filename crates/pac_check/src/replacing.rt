@@ -1,7 +1,7 @@
 // Replaces the text of one slot.
-ghost use Rattle.std.specs.Prelude.{◌≡◌, ◌≢◌, true, OnOk, IsErrOf};
+ghost use Rattle.std.specs.Prelude.{◌≡◌, ◌≢◌, ◌∷◌, true, OnOk, IsErrOf};
 ghost use Rattle.pac_outside.specs.Causes.{EndsAtFault, HasCause};
-ghost use Rattle.pac_outside.specs.Disk.{BothKnown, IfKnown};
+ghost use Rattle.pac_outside.specs.Disk.{BothKnown, IsDurable, IfKnown};
 ghost use Rattle.pac_check.specs.declared.errors.SaveError.{SaveError as ASaveError};
 ghost use Rattle.pac_check.specs.Replacing.{BeginsAs, HasByte, IsReplaced, Replaces};
 
@@ -20,6 +20,7 @@ pub(crate) fn replace<D: Disk>(disk: &mut D, state: SlotState, text: &[u8]) -> R
     // At each moment a crash leaves the slot as it was, or closed, or with the whole text; where it had no byte nothing is said.
     ensures any_moment { HasByte state → BothKnown (Replaces state text.now) (D.known disk.old) (D.known disk.new) }
     ensures replaced { OnOk result (BothKnown (IsReplaced state text.now) (D.known disk.old) (D.known disk.new)) }
+    ensures durable { OnOk result (BothKnown (IsDurable 0 (1 ∷ text.now)) (D.known disk.old) (D.known disk.new)) }
 
     // No call of the device comes after one that failed.
     ensures cause { HasCause (D.faults disk.old) (D.faults disk.new) result }
@@ -37,6 +38,7 @@ fn close_and_open<D: Disk>(disk: &mut D, state: SlotState, text: &[u8]) -> Resul
     requires not_closed { state ≢ SlotState.Closed }
     ensures any_moment { HasByte state → BothKnown (Replaces state text.now) (D.known disk.old) (D.known disk.new) }
     ensures replaced { OnOk result (BothKnown (IsReplaced state text.now) (D.known disk.old) (D.known disk.new)) }
+    ensures durable { OnOk result (BothKnown (IsDurable 0 (1 ∷ text.now)) (D.known disk.old) (D.known disk.new)) }
     ensures cause { HasCause (D.faults disk.old) (D.faults disk.new) result }
     ensures once { EndsAtFault (D.faults disk.old) (D.faults disk.new) result }
 {
@@ -60,6 +62,7 @@ pub(crate) fn fill<D: Disk>(
     requires { IfKnown (λ old. BeginsAs state.old old.now.seen) (D.known disk.old) }
     ensures any_moment { HasByte state.old → BothKnown (Replaces state.old text.now) (D.known disk.old) (D.known disk.new) }
     ensures replaced { OnOk result (BothKnown (IsReplaced state.old text.now) (D.known disk.old) (D.known disk.new)) }
+    ensures durable { OnOk result (BothKnown (IsDurable 0 (1 ∷ text.now)) (D.known disk.old) (D.known disk.new)) }
     ensures ok { OnOk result ((state.new ≡ SlotState.Open head) × (has_failed.new ≡ has_failed.old)) }
     ensures err { (cause : ASaveError) → IsErrOf result cause → (cause ≡ SaveError.DiskFault) × (state.new ≡ state.old) × (has_failed.new ≡ true) }
     ensures once { EndsAtFault (D.faults disk.old) (D.faults disk.new) result }

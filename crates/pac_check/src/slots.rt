@@ -2,7 +2,7 @@
 ghost use Rattle.std.specs.Prelude.{◌≡◌, ◌<◌, ◌≤◌, ◌+◌, ◌∷◌, [], ℕ, length, IfOk, IsErrOf, OnOk, None as NoInfo, Some as HasInfo, true, false, Err};
 ghost use Rattle.std.specs.FinMap as map;
 ghost use Rattle.pac_outside.specs.Devices.{OneFaulted};
-ghost use Rattle.pac_outside.specs.Disk.{BothKnown, LeavesOnly, IfKnown};
+ghost use Rattle.pac_outside.specs.Disk.{BothKnown, IsDurable, LeavesOnly, IfKnown};
 ghost use Rattle.pac_outside.specs.GateByte.{OneImage};
 ghost use Rattle.pac_value.specs.State.{keys_of};
 ghost use Rattle.pac_types.specs.Fits.{FitsCatalogue};
@@ -27,8 +27,8 @@ use pac_tables::Rows;
 use pac_types::Catalogue;
 use std::alloc::Global;
 
-/// Two slots, by what stands in each.
-#[derive(Clone, Copy, Debug, PartialEq, Eq)]
+/// Two slots, by what stands in each. There is no copy, so that a save that failed is not forgotten.
+#[derive(Debug, Drop, PartialEq, Eq)]
 pub struct Slots {
     pub(crate) a: SlotState,
     pub(crate) b: SlotState,
@@ -186,8 +186,9 @@ impl Slots {
         ensures other { by_slot (spare_of self.old) (D.known b.new) (D.known a.new) ≡ by_slot (spare_of self.old) (D.known b.old) (D.known a.old) }
         ensures form { IsErrOf result SaveError.DiskFault → IsCheckpoint cat.now.tables (checkpoint_of (length cat.now.tables) (head_with txns place) (R.held rows.now)) }
 
-        // Afterwards it has the checkpoint, and the slots are known again.
+        // Afterwards it has the checkpoint, and nothing else was written; the slots are known again.
         ensures saved { OnOk result (BothKnown (λ old new. OneImage (HoldsRows cat.now.tables (head_with txns place) (R.held rows.now)) new.now) (by_slot (spare_of self.old) (D.known a.old) (D.known b.old)) (by_slot (spare_of self.old) (D.known a.new) (D.known b.new))) }
+        ensures durable { OnOk result (BothKnown (IsDurable 0 (1 ∷ checkpoint_bytes (checkpoint_of (length cat.now.tables) (head_with txns place) (R.held rows.now)))) (by_slot (spare_of self.old) (D.known a.old) (D.known b.old)) (by_slot (spare_of self.old) (D.known a.new) (D.known b.new))) }
         ensures slots { OnOk result (self.new ≡ saved_slots (head_with txns place) self.old) }
         ensures known_a { OnOk result (IfKnown (λ new. OneImage (IsSlot cat.now.tables self.new.a) new.now) (D.known a.new)) }
         ensures known_b { OnOk result (IfKnown (λ new. OneImage (IsSlot cat.now.tables self.new.b) new.now) (D.known b.new)) }

@@ -1,7 +1,7 @@
 // Writes a log.
 ghost use Rattle.std.specs.Prelude.{◌≡◌, ◌↔◌, ◌<◌, ◌≤◌, ◌+◌, ◌-◌, ◌^◌, ◌∷◌, ◌++◌, [], ℕ, List, length, min, All, OnOk, OnErr, IsErrOf, true};
 ghost use Rattle.pac_outside.specs.Causes.{EndsAtFault, HasCause};
-ghost use Rattle.pac_outside.specs.Disk.{BothKnown, IfKnown};
+ghost use Rattle.pac_outside.specs.Disk.{BothKnown, IsDurable, IfKnown};
 ghost use Rattle.pac_ops.specs.declared.transaction.Txn.{Txn as ATxn};
 ghost use Rattle.pac_types.specs.Fits.{TxnFits};
 ghost use Rattle.pac_entry.specs.declared.limits.TheConstants.{MAX_BODY_LEN};
@@ -146,6 +146,8 @@ impl Log {
             → IsAfter text (batches ++ txns ∷ []) self.new.gate) }
         ensures gate { OnOk result ((txns : List ATxn) → IsPrepared self.old txns → self.new.gate ≡ gate_after (length txns) (1 + length (body_bytes txns)) self.old.gate) }
         ensures still_ends { OnOk result ((txns : List ATxn) → IsPrepared self.old txns → IfKnown (λ new. LogEndsAt self.new.gate new.now) (D.known disk.new)) }
+        // Nothing but the body and the bytes of both gates is written.
+        ensures durable { OnOk result ((txns : List ATxn) → IsPrepared self.old txns → BothKnown (IsDurable self.old.gate.place (1 ∷ (body_bytes txns ++ 0 ∷ []))) (D.known disk.old) (D.known disk.new)) }
         ensures catalogue { self.new.gate.catalogue ≡ self.old.gate.catalogue }
         ensures waits { OnOk result (self.new.stage ≡ Stage.Waiting) }
         ensures failed { OnErr result (self.new ≡ record { gate = self.old.gate; stage = Stage.Failed }) }

@@ -127,6 +127,7 @@ impl LogReader {
         // On every device the batch runs on and fits the catalogue, and the reader stands after it.
         ensures batch { IfOk result (λ found. IfSome found (IsNextBatch self.old.gate self.new.gate)) }
         ensures fits { IfOk result (λ found. IfSome found (λ batch. All (TxnFits self.old.gate.catalogue) batch.txns)) }
+        ensures goes_on { IfOk result (λ found. IfSome found (λ batch. self.new.is_at_end ≡ false)) }
         ensures end { result ≡ Ok None → self.new ≡ record { gate = self.old.gate; is_at_end = true } }
         ensures refused { OnErr result (self.new ≡ record { gate = self.old.gate; is_at_end = false }) }
         ensures known { ¬ IsErrOf result LogError.NoStore }
@@ -147,6 +148,7 @@ impl LogReader {
         ensures spelled { IfOk result (λ found. IfSome found (λ batch. IfKnown (λ old. IsSpelled batch.txns (drop self.old.gate.place old.now.seen)) (D.known disk.old))) }
         ensures batch { IfOk result (λ found. IfSome found (IsNextBatch self.old.gate self.new.gate)) }
         ensures fits { IfOk result (λ found. IfSome found (λ batch. All (TxnFits self.old.gate.catalogue) batch.txns)) }
+        ensures goes_on { IfOk result (λ found. IfSome found (λ batch. self.new.is_at_end ≡ false)) }
         ensures end { result ≡ Ok None → self.new ≡ record { gate = self.old.gate; is_at_end = true } }
         ensures refused { OnErr result (self.new ≡ record { gate = self.old.gate; is_at_end = false }) }
         ensures known { ¬ IsErrOf result LogError.NoStore }
@@ -177,6 +179,7 @@ impl LogReader {
         ensures spelled { IfOk result (λ found. IfSome found (λ batch. IsSpelled batch.txns bytes.now)) }
         ensures batch { IfOk result (λ found. IfSome found (IsNextBatch self.old.gate self.new.gate)) }
         ensures fits { IfOk result (λ found. IfSome found (λ batch. All (TxnFits self.old.gate.catalogue) batch.txns)) }
+        ensures goes_on { self.new.is_at_end ≡ self.old.is_at_end }
         ensures some { IfOk result (λ found. found ≢ None) }
         ensures refused { OnErr result (self.new ≡ self.old) }
         ensures known { ¬ IsErrOf result LogError.DiskFault }

@@ -1,6 +1,6 @@
 -- The body is after an open gate at no moment but whole.
-use Rattle.std.proofs.Common.{◌∙◌, ℕ, ◌∷◌, [], List, length, sym, ap, subst, arith, length-append}
-use Rattle.pac_outside.specs.Disk.{IsDurable}
+use Rattle.std.proofs.Common.{◌∙◌, ℕ, ◌∷◌, ◌++◌, [], List, length, sym, ap, subst, arith, length-append}
+use Rattle.pac_outside.specs.Disk.{BothKnown, IsDurable}
 use Rattle.pac_log.specs.declared.log.LogParts.{LogParts}
 use Rattle.pac_log.specs.declared.position.NextGate.{NextGate}
 use Rattle.pac_log.specs.Bodies.{body_bytes}
@@ -40,3 +40,11 @@ pub returns-in-Ok-clause-still_ends : goal.returns-in-Ok-clause-still_ends
 returns-in-Ok-clause-still_ends g c = λ txns prepared.
     ends_again (IsDurable c.place.result (1 ∷ c.as_slice-2.result.now)) _ _ _ _ txns c.in-Ok.ensures.durable c.requires.ends (λ text batches after. returns-in-Ok-clause-committed g c text batches txns after prepared) (λ text batches after. returns-in-Ok-clause-after g c text batches txns after prepared)
     (ap (λ (gate : NextGate). gate.catalogue) c.advance.ensures ∙ ap (λ (p : LogParts). p.gate.catalogue) c.self.view_is)
+
+pub returns-in-Ok-clause-durable : goal.returns-in-Ok-clause-durable
+returns-in-Ok-clause-durable g c = λ txns prepared.
+    let parts = ready_parts _ _ _ _ _ _ c.in-Ready.is (ap (λ (p : LogParts). p.stage) c.self.view_is) prepared.ready in
+    let old = g.D.Disk.known c.args.disk.now in
+    let new = g.D.Disk.known c.open_after.new.disk in
+    let piece = subst (λ (l : List ℕ). BothKnown (IsDurable c.place.result (1 ∷ l)) old new) (c.as_slice-2.ensures ∙ parts.0) c.in-Ok.ensures.durable in
+    subst (λ (at : ℕ). BothKnown (IsDurable at (1 ∷ (body_bytes txns ++ 0 ∷ []))) old new) (c.place.ensures ∙ ap (λ (p : LogParts). p.gate.place) c.self.view_is) piece
