@@ -1,40 +1,17 @@
 -- What operations do not define stays as it was.
-use Rattle.std.proofs.Common.{◌≡◌, ℕ, ◌<◌, Bool, true, false, cond, ◌&&◌, not, List, [], ◌∷◌, ◌++◌, refl, sym, ap, ◌∙◌, subst, true≢false, Option, Some, ◌==◌, ◌⊎◌, inl, inr, ⊎_elim, arith, zero, suc, ◌+◌, ◌-◌, ◌≤◌, ◌||◌, map, length, None, nat_lt}
-use Rattle.std.proofs.lemmas.Bool.Decides.{Decides-eqb, nat_tests}
+use Rattle.std.proofs.Common.{◌≡◌, ℕ, true, false, List, [], ◌∷◌, refl, sym, ap, ◌∙◌, true≢false, Option, Some, ◌==◌, None}
 use Rattle.std.specs.FinMap.{get}
 use Rattle.pac_value.specs.declared.values.Ty.{Ty}
 use Rattle.pac_value.specs.declared.values.Value.{Value}
-use Rattle.pac_value.specs.Expressions.{Values}
-use Rattle.pac_value.specs.State.{RowValues}
-use Rattle.pac_ops.specs.declared.note.Note.{Note}
-use Rattle.pac_ops.specs.declared.piece.PieceId.{PieceId}
 use Rattle.pac_ops.specs.declared.program.FlatOp.{FlatOp}
-use Rattle.pac_ops.specs.Uses.{defined_variable, use_step, exprs_use, op_uses, accessed_table, Defines}
+use Rattle.pac_ops.specs.Uses.{defined_variable}
 use Rattle.pac_ops.specs.Operations.{State}
 use Rattle.pac_ops.specs.Flat.{flat_done}
-use Rattle.pac_base.specs.Members.{Each, Mem, Rises}
-use Rattle.pac_ops.specs.Effects.{NumberedOp, numbered_meaning, is_var, defined_in, used_in, numbered_from, record_op}
-use Rattle.pac_base.proofs.TestLemmas.{or_left, or_right, eq_self, same_number, equal_number, and_left, and_right, and_both, or_cases, or_none, or_of_false, each_mem, mem_each, unlike, not_true, not_false, any_mem, any_gives}
+use Rattle.pac_ops.specs.Effects.{NumberedOp, numbered_meaning, is_var, defined_in}
+use Rattle.pac_base.proofs.TestLemmas.{eq_self, same_number, or_none, unlike}
 use Rattle.pac_ops.proofs.EffectLemmas.{form, flat_gives}
 use Rattle.pac_ops.proofs.StateLemmas.{get-given}
 use Rattle.pac_ops.proofs.FrameLemmas.{ungiven, effect_in}
-use Rattle.std.specs.Prelude.{slice_get, slice_index_or, nat_le}
-use Rattle.std.specs.List.{range_with_len}
-use Rattle.std.proofs.lemmas.Option.{slice_get_within}
-use Rattle.pac_value.specs.declared.expr.Expr.{Lit}
-use Rattle.pac_value.specs.Values.{key_value}
-use Rattle.pac_value.proofs.ByForms.{fold-Lit}
-use Rattle.pac_ops.specs.declared.batch.Batch.{Batch}
-use Rattle.pac_ops.specs.declared.program.Program.{Program}
-use Rattle.pac_ops.specs.declared.shapes.TableTypes.{TableTypes}
-use Rattle.pac_ops.specs.declared.transaction.Change.{Change}
-use Rattle.pac_ops.specs.declared.transaction.Change.TheVariants.{Put as PutRow, Delete as DeleteRow}
-use Rattle.pac_ops.specs.declared.transaction.Txn.{Txn}
-use Rattle.pac_ops.specs.declared.transaction.Txn.TheVariants.{Call as ACall, AdHoc}
-use Rattle.pac_ops.specs.Shapes.{KeyFits, ColumnsFit, ChangeFits, RecordsFit}
-use Rattle.pac_ops.specs.Dependencies.{Uses}
-use Rattle.pac_base.proofs.ItemLemmas.{there, item}
-use Rattle.pac_ops.proofs.RecordLemmas.{number_at}
 
 pub var-named : (x : ℕ) (o : Option ℕ) → is_var x o ≡ true → o ≡ Some x
 var-named x None e = absurd (true≢false (sym e))

@@ -3,11 +3,11 @@ use Rattle.std.proofs.Common.{◌≡◌, ℕ, ◌==◌, Bool, true, false, cond,
 use Rattle.std.specs.Cmp.{IsTotalOrder, nat_cmp_total, unsigned_ties}
 use Rattle.std.proofs.lemmas.Cmp.{then_total, on_total}
 use Rattle.std.specs.Ordering.{is_eq, is_lt, eq_by_cmp, ordering_then, ordering_reverse}
-use Rattle.std.specs.FinMap.{get, get-insert, IsAntisymmetric, nat_cmp-IsAntisymmetric, same_map}
+use Rattle.std.specs.FinMap.{get, get-insert, IsAntisymmetric, nat_cmp-IsAntisymmetric}
 use Rattle.pac_value.specs.declared.values.Value.{Value}
 use Rattle.pac_value.specs.Expressions.{Values}
 use Rattle.pac_value.specs.State.{Cell, cell_cmp, RowValues, Tables}
-use Rattle.pac_value.proofs.CellLemmas.{cells_total, cells_antisymmetric, get-with_row}
+use Rattle.pac_value.proofs.CellLemmas.{get-with_row}
 use Rattle.pac_ops.specs.declared.note.Note.{Note}
 use Rattle.pac_ops.specs.declared.reason.Reason.{Reason}
 use Rattle.pac_ops.specs.declared.reason.Reason.TheVariants.{Missing, Overflow, DivZero, Asked}

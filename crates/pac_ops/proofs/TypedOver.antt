@@ -1,20 +1,14 @@
 -- An expression has over values the type that it has over their types.
-use Rattle.std.proofs.Common.{◌≡◌, ℕ, ◌+◌, ◌==◌, Bool, true, false, cond, List, [], ◌∷◌, map, refl, sym, ap, ap₂, ◌∙◌, Option}
+use Rattle.std.proofs.Common.{◌≡◌, ℕ, Bool, true, sym, ap, ap₂, ◌∙◌, Option}
 use Rattle.std.specs.Prelude.{slice_get}
 use Rattle.std.specs.Option.{option_map, option_and_then}
 use Rattle.pac_value.specs.declared.values.Ty.{Ty}
 use Rattle.pac_value.specs.Values.{type_of}
 use Rattle.pac_value.specs.Expressions.{type_in, type_step, types_of, operator_type, negated_type}
 use Rattle.pac_value.proofs.ByForms.{by_forms, fold-Lit, fold-Var, fold-Bin, fold-Not}
-use Rattle.pac_ops.specs.declared.transaction.Change.{Change}
-use Rattle.pac_ops.specs.declared.transaction.Change.TheVariants.{Put as PutRow, Delete as DeleteRow}
-use Rattle.pac_ops.specs.Uses.{use_step, expr_uses, accessed_table}
-use Rattle.pac_ops.specs.Operations.{State}
-use Rattle.pac_ops.specs.Transactions.{with_change, with_changes}
-use Rattle.pac_ops.specs.Effects.{NumberedOp, numbered_from, numbered_meaning, record_op}
+use Rattle.pac_ops.specs.Uses.{use_step, expr_uses}
 use Rattle.pac_ops.specs.StaysFit.{HasTyped, TypedOverValues}
 use Rattle.pac_base.proofs.TestLemmas.{or_left, or_right, eq_self}
-use Rattle.pac_ops.proofs.RecordLemmas.{record_flat}
 
 pub typed_over : TypedOverValues
 typed_over vars env = by_forms (λ e. ((x : ℕ) → expr_uses x e ≡ true → HasTyped vars env x) → type_in (types_of env) e ≡ type_in (λ x. slice_get vars x) e)

@@ -1,5 +1,5 @@
 -- Rows keep fitting their tables, and variables their types.
-use Rattle.std.specs.Prelude.{◌≡◌, ℕ, true, false, List, [], ◌∷◌, map, take, slice_get, Some}
+use Rattle.std.specs.Prelude.{◌≡◌, ℕ, true, List, [], ◌∷◌, map, take, slice_get, Some}
 use Rattle.std.specs.FinMap.{get}
 use Rattle.pac_value.specs.declared.values.Ty.{Ty}
 use Rattle.pac_value.specs.declared.values.Value.{Value}
@@ -11,10 +11,9 @@ use Rattle.pac_ops.specs.declared.program.FlatOp.{FlatOp}
 use Rattle.pac_ops.specs.declared.program.Program.{Program}
 use Rattle.pac_ops.specs.Shapes.{RowsFit}
 use Rattle.pac_ops.specs.Programs.{IsWellFormedProgram}
-use Rattle.pac_ops.specs.Uses.{op_uses, expr_uses, accessed_table}
+use Rattle.pac_ops.specs.Uses.{op_uses, expr_uses}
 use Rattle.pac_ops.specs.Operations.{State, opening}
-use Rattle.pac_base.specs.Members.{Mem}
-use Rattle.pac_ops.specs.Effects.{NumberedOp, numbered_from, defined_in}
+use Rattle.pac_ops.specs.Effects.{NumberedOp}
 use Rattle.pac_ops.specs.Flat.{all_hold, flat_done, flat_meaning}
 use Rattle.pac_value.specs.declared.expr.Expr.{Expr}
 
