@@ -9,7 +9,7 @@ ghost use Rattle.pac_main.specs.Replay.{DoesEnd};
 use pac_ops::Batch;
 use pac_recover::execute;
 use pac_serial::{AllError, no_rows};
-use pac_tables::OrderedRows;
+use pac_tables::HashedRows;
 use pac_types::Catalogue;
 use std::alloc::Global;
 
@@ -18,7 +18,7 @@ pub(crate) fn executed(
     alloc: Global,
     catalogue: &Catalogue,
     batches: &[Batch],
-) -> Result<OrderedRows, AllError>
+) -> Result<HashedRows, AllError>
     requires fit { BatchesFit catalogue.now batches.now }
     requires small { BatchesHaveNumbers batches.now }
     requires runs { RunOn 0 batches.now }

@@ -19,7 +19,7 @@ use pac_recover::test_rows;
 use pac_report::dump;
 use pac_request::{Script, read_script};
 use pac_run::MAX_INPUT;
-use pac_tables::OrderedRows;
+use pac_tables::HashedRows;
 use std::alloc::Global;
 
 // All that the source holds.
@@ -51,7 +51,7 @@ fn read_input<I: Source>(alloc: Global, input: &mut I) -> Result<Script, InputEr
 }
 
 // The tables with which a script's transactions end, where these are within the limit.
-fn finished(alloc: Global, limit: u32, script: &Script) -> Result<OrderedRows, Stop>
+fn finished(alloc: Global, limit: u32, script: &Script) -> Result<HashedRows, Stop>
     requires fit { BatchesFit script.now.catalogue script.now.batches }
     requires small { BatchesHaveNumbers script.now.batches }
     requires runs { RunOn 0 script.now.batches }

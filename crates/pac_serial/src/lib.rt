@@ -8,11 +8,12 @@
 //!
 //! ```
 //! use pac_serial::{exec, no_rows};
+//! use pac_tables::OrderedRows;
 //! use pac_types::read_catalogue;
 //! use pac_value::Value;
 //!
 //! let cat = read_catalogue(alloc, b"table T(key int, v int); proc P(v int) { put T[1] = (v); }")?;
-//! let mut rows = no_rows(alloc, &cat)?;
+//! let mut rows: OrderedRows = no_rows(alloc, &cat)?;
 //! exec(alloc, &cat, 0, &[Value::Int(5)], Some(1_000_000), &mut rows)?; // T[1] = (5)
 //! ```
 //!

@@ -1,9 +1,9 @@
-// Writes that are made together, and copies of many rows.
+// Writes that are made together, copies of many rows, and tables of both forms side by side.
 ghost use Rattle.std.specs.Prelude.{◌≡◌, IfOk};
 ghost use Rattle.pac_tables.specs.Written.{AreWithin};
 
 use pac_base::NoMemory;
-use pac_tables::{OrderedRows, Rows, Write, Writes, apply_all};
+use pac_tables::{HashedRows, OrderedRows, Rows, Write, Writes, apply_all};
 use pac_value::{Key, Row, Value};
 use std::alloc::Global;
 use std::test::Fail;
@@ -29,12 +29,12 @@ fn put_numbers(alloc: Global, rows: &mut OrderedRows, count: u32) -> Result<(), 
 }
 
 // How many rows the first table has, if there is one.
-fn count_of(rows: &OrderedRows) -> u64 {
+fn count_of<R: Rows>(rows: &R) -> u64 {
     if rows.tables() == 0 { 0 } else { rows.count(0) }
 }
 
 // The number at a key of the first table.
-fn number_at(rows: &OrderedRows, key: i64) -> Option<i64> {
+fn number_at<R: Rows>(rows: &R, key: i64) -> Option<i64> {
     if rows.tables() == 0 {
         return None;
     }
@@ -107,5 +107,68 @@ fn copied_of(alloc: Global, count: u32) -> Result<(u64, Option<i64>), NoMemory> 
 #[test]
 fn many_rows_are_copied(rt: HostRuntime) -> Result<(), Fail> {
     assert_eq!(rt; copied_of(rt.alloc(), 1_000)?, (1_000, Some(10)));
+    Ok(())
+}
+
+// Puts a number at a key, deletes the key or does neither, and then reads the number there.
+fn operate<R: Rows>(alloc: Global, rows: &mut R, step: u32) -> Result<Option<i64>, NoMemory> {
+    if rows.tables() == 0 {
+        return Ok(None);
+    }
+    let key = i64::from((step >> 8) % 500);
+    match (step >> 20) % 3 {
+        0 => rows.put(0, Key::Int(key), row_of(alloc, i64::from(step))?)?,
+        1 => rows.delete(0, &Key::Int(key)),
+        _ => {}
+    }
+    Ok(number_at(rows, key))
+}
+
+// The keys of the first table, if there is one.
+fn keys_of<R: Rows>(alloc: Global, rows: &R) -> Result<Vec<Key>, NoMemory> {
+    if rows.tables() == 0 {
+        return Ok(Vec::new(alloc));
+    }
+    rows.sorted_keys(0)
+}
+
+// In how many of 10,000 operations over 500 keys the tables answer differently.
+fn differences(
+    alloc: Global,
+    ordered: &mut OrderedRows,
+    hashed: &mut HashedRows,
+) -> Result<usize, NoMemory> {
+    let mut step: u32 = 1;
+    let mut found: usize = 0;
+    for _ in 0..10_000u32 {
+        step = step.wrapping_mul(1_103_515_245).wrapping_add(12_345);
+        if operate(alloc, ordered, step)? != operate(alloc, hashed, step)? {
+            found = found.wrapping_add(1);
+        }
+    }
+    Ok(found)
+}
+
+// Operates on both tables, and then compares their keys: how many answers differed, whether over 100 keys are left, and
+// whether both tables have the same.
+fn compared(
+    alloc: Global,
+    ordered: &mut OrderedRows,
+    hashed: &mut HashedRows,
+) -> Result<(usize, bool, bool), NoMemory> {
+    let found = differences(alloc, ordered, hashed)?;
+    let keys = keys_of(alloc, ordered)?;
+    Ok((found, keys.len() > 100, keys == keys_of(alloc, hashed)?))
+}
+
+fn compared_from_none(alloc: Global) -> Result<(usize, bool, bool), NoMemory> {
+    let mut ordered = OrderedRows::new(alloc, 1)?;
+    let mut hashed = HashedRows::new(alloc, 1)?;
+    compared(alloc, &mut ordered, &mut hashed)
+}
+
+#[test]
+fn both_forms_of_tables_answer_alike(rt: HostRuntime) -> Result<(), Fail> {
+    assert_eq!(rt; compared_from_none(rt.alloc())?, (0, true, true));
     Ok(())
 }

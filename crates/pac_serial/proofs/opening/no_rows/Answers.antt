@@ -6,5 +6,5 @@ use Rattle.pac_serial.proofs.FitLemmas.{fits-none}
 use Rattle.pac_serial.proofs.opening.no_rows.Goals as goal
 
 pub returns-clause-fits : goal.returns-clause-fits
-returns-clause-fits c =
+returns-clause-fits g c =
     IfOk-weaker c.new.result _ _ (λ rows is. fits-none c.args.cat.now _ rows is (ap (λ (ts : List Table). length ts) c.tables-tables.ensures.value)) c.new.ensures
