@@ -2,6 +2,7 @@
 use Rattle.std.specs.Prelude.{◌+◌, ℕ, true, List, [], ◌∷◌, is_some, slice_get, slice_set, Option, Some, None, Result, Ok, Err, unwrap_or}
 use Rattle.std.specs.Option.{option_and_then}
 use Rattle.std.specs.FinMap.{get, insert, empty}
+use Rattle.pac_value.specs.declared.values.Key.{Key}
 use Rattle.pac_value.specs.declared.values.Value.{Value}
 use Rattle.pac_value.specs.declared.values.Value.TheVariants.{Bool as Truth}
 use Rattle.pac_value.specs.declared.expr.Expr.{Expr}
@@ -36,6 +37,10 @@ define x v s = record { env = insert s.env x v; tables = s.tables }
 -- a row stands at a cell from now on, or none
 abbrev pub write : Cell → Option RowValues → State → State
 write cell row s = record { env = s.env; tables = with_row s.tables cell row }
+
+-- the key that an expression gives
+abbrev pub key_at : Expr → Values → Result Key Trap
+key_at k env = value k env >>= λ v. Ok (as_key v)
 
 -- the cell at the value of a key
 abbrev pub cell_at : ℕ → Expr → Values → Result (Option Cell) Trap

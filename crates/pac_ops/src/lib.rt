@@ -9,6 +9,7 @@
 //! - [`PieceId`]: what one transaction does in one block. [`Numbers`], [`Pairs`]: numbers of operations, slices or
 //!   blocks.
 //! - [`Reason`]: why a transaction aborts. [`Note`]: which operation of which transaction aborts, and why.
+//! - [`all_hold`], [`key_of`]: what an operation finds before it does anything.
 //! - [`TableTypes`]: the types of a table's rows. `specs/Shapes.antt` says which rows and records fit such tables.
 //!
 //! ```
@@ -33,6 +34,7 @@
 #![tactic(auto)]
 
 mod batch;
+mod evaluate;
 mod laws;
 mod limits;
 mod note;
@@ -45,6 +47,7 @@ mod transaction;
 mod uses;
 
 pub use batch::{Batch, Batches, Txns, TxnsRule};
+pub use evaluate::{all_hold, key_of};
 pub use laws::{numbered_operations, one_operation, stays_fit};
 pub use limits::{MAX_ALL_OPS, MAX_OPS, MAX_RECORDS, MAX_TXNS};
 pub use note::Note;
