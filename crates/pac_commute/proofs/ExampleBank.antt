@@ -18,7 +18,8 @@ use Rattle.pac_ops.specs.Flat.{all_hold}
 use Rattle.pac_ops.specs.declared.transaction.Txn.{Txn}
 use Rattle.pac_ops.specs.Transactions.{Replayed, after_txn, replayed}
 use Rattle.pac_ops.specs.Effects.{NumberedOp, numbered_from, numbered_meaning, numbered_notes}
-use Rattle.pac_plan.specs.Pieces.{Keys, access_of, ops}
+use Rattle.pac_plan.specs.declared.access.Access.TheVariants.{Keys}
+use Rattle.pac_plan.specs.Pieces.{access_of, ops}
 use Rattle.pac_plan.specs.Worlds.{batch_of}
 use Rattle.pac_commute.specs.PlanLaws.{txns_of}
 use Rattle.pac_commute.specs.Bank.{int, int_key, ints, lit, always, call, puts_row, bank, bank_batches, deposit_program, transfer_program}

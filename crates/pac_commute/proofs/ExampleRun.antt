@@ -4,7 +4,10 @@ use Rattle.std.proofs.lemmas.Option.{same_Some}
 use Rattle.pac_ops.specs.declared.piece.PieceId.{PieceId}
 use Rattle.pac_ops.specs.declared.batch.Batch.{Batch}
 use Rattle.pac_ops.specs.declared.transaction.Txn.{Txn}
-use Rattle.pac_plan.specs.Pieces.{Touch, Access, Keys, Whole, apply}
+use Rattle.pac_plan.specs.declared.access.Touch.{Touch}
+use Rattle.pac_plan.specs.declared.access.Access.{Access}
+use Rattle.pac_plan.specs.declared.access.Access.TheVariants.{Keys, Whole}
+use Rattle.pac_plan.specs.Pieces.{apply}
 use Rattle.pac_commute.specs.HandOut.{IsReadyPiece, IsPieceTaken}
 use Rattle.pac_commute.specs.PartialFits.{TxnFitsPlan, TxnsFitPlan}
 use Rattle.pac_commute.specs.Loads.{begin, next_in_job, loaded, and_batch}

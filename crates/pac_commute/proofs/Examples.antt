@@ -6,7 +6,9 @@ use Rattle.pac_value.specs.declared.values.Value.{Value}
 use Rattle.pac_value.specs.Expressions.{Values}
 use Rattle.pac_value.proofs.ByForms.{fold-Lit, fold-Var}
 use Rattle.pac_ops.specs.Effects.{numbered_from}
-use Rattle.pac_plan.specs.Pieces.{Access, Keys, Whole, conflicts}
+use Rattle.pac_plan.specs.declared.access.Access.{Access}
+use Rattle.pac_plan.specs.declared.access.Access.TheVariants.{Keys, Whole}
+use Rattle.pac_plan.specs.Pieces.{conflicts}
 use Rattle.pac_commute.specs.Examples.{AccessConflicts, BankPieces, BankTakes, DepositTakes, CapAccess, HopAccesses, TakesOfHop, HopTakes}
 
 pub conflicts_are : AccessConflicts

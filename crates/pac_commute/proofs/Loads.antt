@@ -15,7 +15,8 @@ use Rattle.pac_ops.specs.Operations.{with_values}
 use Rattle.pac_plan.specs.declared.parts.PlanParts.{PlanParts}
 use Rattle.pac_base.specs.Members.{Mem}
 use Rattle.pac_ops.specs.Effects.{NumberedOp, numbered_meaning, numbered_notes}
-use Rattle.pac_plan.specs.Pieces.{Present, of_txn, with_env, left_by, run_ops, part, World, ops, apply, Access, access, access_of, conflicts, precedes, has_ops, blocks_of, pieces, partial, replayed_in}
+use Rattle.pac_plan.specs.declared.access.Access.{Access}
+use Rattle.pac_plan.specs.Pieces.{Present, of_txn, with_env, left_by, run_ops, part, World, ops, apply, access, access_of, conflicts, precedes, has_ops, blocks_of, pieces, partial, replayed_in}
 use Rattle.pac_commute.specs.Exchange.{env_after}
 use Rattle.pac_plan.specs.Worlds.{has_edge, batch_of, txn_code, txn_vars, txn_block, txn_args, txn_at, world, initial, numbers, blocks_in}
 use Rattle.pac_commute.specs.PlanLaws.{txns_of, NumbersRunOn}

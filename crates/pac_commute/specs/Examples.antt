@@ -11,7 +11,10 @@ use Rattle.pac_ops.specs.Notes.{first_note}
 use Rattle.pac_ops.specs.Operations.{opening}
 use Rattle.pac_ops.specs.Transactions.{replayed}
 use Rattle.pac_ops.specs.Effects.{numbered_from, numbered_meaning, numbered_notes}
-use Rattle.pac_plan.specs.Pieces.{World, Access, Keys, Whole, Touch, is_bounded, access_of, conflicts, access, ops, pieces}
+use Rattle.pac_plan.specs.declared.access.Touch.{Touch}
+use Rattle.pac_plan.specs.declared.access.Access.{Access}
+use Rattle.pac_plan.specs.declared.access.Access.TheVariants.{Keys, Whole}
+use Rattle.pac_plan.specs.Pieces.{World, is_bounded, access_of, conflicts, access, ops, pieces}
 use Rattle.pac_plan.specs.Worlds.{initial, blocks_in}
 use Rattle.pac_commute.specs.Exchange.{env_after}
 use Rattle.pac_commute.specs.HandOut.{next_piece}
@@ -28,11 +31,11 @@ at t b = record { txn = t; block = b }
 
 -- a row of a table is read
 abbrev pub reads_row : ℕ → ℕ → Touch
-reads_row table key = record { at = (table, int_key key); is_write = false }
+reads_row table key = record { table = table; key = int_key key; is_write = false }
 
 -- a row of a table is written
 abbrev pub writes_row : ℕ → ℕ → Touch
-writes_row table key = record { at = (table, int_key key); is_write = true }
+writes_row table key = record { table = table; key = int_key key; is_write = true }
 
 -- tables with one more row of one int
 abbrev pub row : ℕ → ℕ → ℕ → Tables → Tables

@@ -11,7 +11,9 @@ use Rattle.pac_ops.specs.Shapes.{RowsFit}
 use Rattle.pac_ops.specs.StaysFit.{StaysFitAt}
 use Rattle.pac_plan.specs.Analysis.{IsPlan}
 use Rattle.pac_base.specs.Members.{Each, Mem}
-use Rattle.pac_plan.specs.Pieces.{Present, of_txn, World, Access, Whole, is_piece, ops, apply, access, conflicts, precedes, partial, Location, at_location, touches, HasInputs}
+use Rattle.pac_plan.specs.declared.access.Access.{Access}
+use Rattle.pac_plan.specs.declared.access.Access.TheVariants.{Whole}
+use Rattle.pac_plan.specs.Pieces.{Present, of_txn, World, is_piece, ops, apply, access, conflicts, precedes, partial, Location, at_location, touches, HasInputs}
 use Rattle.pac_commute.specs.Exchange.{HoldsPreds}
 use Rattle.pac_commute.specs.HandOut.{IsReadyPiece}
 use Rattle.pac_commute.specs.PlanLaws.{txns_of, NumbersRunOn}

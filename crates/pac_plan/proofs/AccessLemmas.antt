@@ -12,7 +12,10 @@ use Rattle.pac_ops.specs.Uses.{use_step, expr_uses, conds_use, kind_uses, op_use
 use Rattle.pac_ops.specs.Flat.{is_as_asked, all_hold}
 use Rattle.pac_base.specs.Members.{Mem}
 use Rattle.pac_ops.specs.Effects.{target_of, cell_in, flat_cell, NumberedOp, defined_in, used_in}
-use Rattle.pac_plan.specs.Pieces.{avoid_step, avoids, is_bounded, may_pass, op_cell, Touch, Access, Keys, Whole, touch, touches_of, is_loose, access_of, conflicts, covers, covers_write}
+use Rattle.pac_plan.specs.declared.access.Touch.{Touch}
+use Rattle.pac_plan.specs.declared.access.Access.{Access}
+use Rattle.pac_plan.specs.declared.access.Access.TheVariants.{Keys, Whole}
+use Rattle.pac_plan.specs.Pieces.{cell_of, touch_at, avoid_step, avoids, is_bounded, may_pass, op_cell, touch, touches_of, is_loose, access_of, conflicts, covers, covers_write}
 use Rattle.pac_base.proofs.TestLemmas.{or_left, or_right, eq_self, same_number, and_left, and_right, and_both, not_true, or_cases, unlike, any_mem, any_gives}
 use Rattle.pac_ops.proofs.EffectLemmas.{named, touched-named, key_uses, key-kind, named-alike, cell-holds}
 
@@ -44,13 +47,13 @@ module _ (os : List NumberedOp) (env env' : Values) (inputs : (x : ℕ) → used
 
   -- the touches hold each operation's location, marked by whether it modifies
   listed : (more : List NumberedOp) (o : NumberedOp) (a : Cell) → Mem o more → may_pass os env o.1.conds ≡ true → op_cell o.1 env ≡ Some a
-      → Mem (record { at = a; is_write = modifies o.1.kind }) (touches_of os env more)
+      → Mem (touch_at a (modifies o.1.kind)) (touches_of os env more)
   listed [] o a m p e = absurd m
-  listed (d ∷ more) o a (inl same) p e = subst (λ (d : NumberedOp). Mem (record { at = a; is_write = modifies o.1.kind }) (touches_of os env (d ∷ more))) same (rw (p, e) (inl refl))
+  listed (d ∷ more) o a (inl same) p e = subst (λ (d : NumberedOp). Mem (touch_at a (modifies o.1.kind)) (touches_of os env (d ∷ more))) same (rw (p, e) (inl refl))
   listed (d ∷ more) o a (inr m) p e = later (may_pass os env d.1.conds) (op_cell d.1 env) (listed more o a m p e)
     where
-      later : (b : Bool) (q : Option Cell) → Mem (record { at = a; is_write = modifies o.1.kind }) (touches_of os env more)
-          → Mem (record { at = a; is_write = modifies o.1.kind }) (cond b (touch q (modifies d.1.kind) (touches_of os env more)) (touches_of os env more))
+      later : (b : Bool) (q : Option Cell) → Mem (touch_at a (modifies o.1.kind)) (touches_of os env more)
+          → Mem (touch_at a (modifies o.1.kind)) (cond b (touch q (modifies d.1.kind) (touches_of os env more)) (touches_of os env more))
       later true None h = h
       later true (Some x) h = inr h
       later false q h = h
@@ -69,8 +72,8 @@ module _ (os : List NumberedOp) (env env' : Values) (inputs : (x : ℕ) → used
           → (covers (cond b Whole (Keys (touches_of os env os))) a ≡ true) × (modifies o.1.kind ≡ true → covers_write (cond b Whole (Keys (touches_of os env os))) a ≡ true)
       go true loose = (refl, λ w. refl)
       go false loose = (
-        any_mem (λ (e : Touch). eq_by_cmp cell_cmp e.at a) _ _ entry (same-cell a),
-        λ w. any_mem (λ (e : Touch). e.is_write && eq_by_cmp cell_cmp e.at a) _ _ entry (and_both (modifies o.1.kind) (eq_by_cmp cell_cmp a a) w (same-cell a)),
+        any_mem (λ (e : Touch). eq_by_cmp cell_cmp (cell_of e) a) _ _ entry (same-cell a),
+        λ w. any_mem (λ (e : Touch). e.is_write && eq_by_cmp cell_cmp (cell_of e) a) _ _ entry (and_both (modifies o.1.kind) (eq_by_cmp cell_cmp a a) w (same-cell a)),
       )
         where
           tight : (b : Bool) → is_bounded os (target_of o.1.kind) ≡ b → b ≡ true
@@ -82,7 +85,7 @@ module _ (os : List NumberedOp) (env env' : Values) (inputs : (x : ℕ) → used
               ∙ ap cell_in (sym (named-alike (target_of o.1.kind) env' env (λ x u. inputs x (used_by o m x (or_right (conds_use x o.1.conds) (kind_uses x o.1.kind) (key-kind o.1.kind x u))) (bounded-uses os (target_of o.1.kind) (tight _ refl) x u))))
               ∙ held.1
 
-          entry : Mem (record { at = a; is_write = modifies o.1.kind }) (touches_of os env os)
+          entry : Mem (touch_at a (modifies o.1.kind)) (touches_of os env os)
           entry = listed os o a m pass there
 
 tied_two : (a d e : Cell) → eq_by_cmp cell_cmp d a ≡ true → eq_by_cmp cell_cmp e a ≡ true → eq_by_cmp cell_cmp d e ≡ true
@@ -94,19 +97,19 @@ apart_left Whole y calm a w = absurd (true≢false calm)
 apart_left (Keys l) Whole calm a w = absurd (true≢false calm)
 apart_left (Keys l) (Keys m) calm a w = unlike _ (λ c. conflict (any_gives _ l w) (any_gives _ m c))
   where
-    conflict : (d : Touch) × Mem d l × ((d.is_write && eq_by_cmp cell_cmp d.at a) ≡ true) → (e : Touch) × Mem e m × (eq_by_cmp cell_cmp e.at a ≡ true) → ⊥
+    conflict : (d : Touch) × Mem d l × ((d.is_write && eq_by_cmp cell_cmp (cell_of d) a) ≡ true) → (e : Touch) × Mem e m × (eq_by_cmp cell_cmp (cell_of e) a ≡ true) → ⊥
     conflict (d, in_l, at_d) (e, in_m, at_e) = true≢false (sym
-        (any_mem (λ (e : Touch). list_any (λ (d : Touch). eq_by_cmp cell_cmp e.at d.at && (e.is_write || d.is_write)) m) d l in_l
-        (any_mem (λ (x : Touch). eq_by_cmp cell_cmp d.at x.at && (d.is_write || x.is_write)) e m in_m
-        (and_both (eq_by_cmp cell_cmp d.at e.at) (d.is_write || e.is_write) (tied_two a d.at e.at (and_right d.is_write (eq_by_cmp cell_cmp d.at a) at_d) at_e) (or_left d.is_write e.is_write (and_left d.is_write (eq_by_cmp cell_cmp d.at a) at_d))))) ∙ calm)
+        (any_mem (λ (e : Touch). list_any (λ (d : Touch). eq_by_cmp cell_cmp (cell_of e) (cell_of d) && (e.is_write || d.is_write)) m) d l in_l
+        (any_mem (λ (x : Touch). eq_by_cmp cell_cmp (cell_of d) (cell_of x) && (d.is_write || x.is_write)) e m in_m
+        (and_both (eq_by_cmp cell_cmp (cell_of d) (cell_of e)) (d.is_write || e.is_write) (tied_two a (cell_of d) (cell_of e) (and_right d.is_write (eq_by_cmp cell_cmp (cell_of d) a) at_d) at_e) (or_left d.is_write e.is_write (and_left d.is_write (eq_by_cmp cell_cmp (cell_of d) a) at_d))))) ∙ calm)
 
 pub apart_right : (x y : Access) → conflicts x y ≡ false → (a : Cell) → covers_write y a ≡ true → covers x a ≡ false
 apart_right Whole y calm a w = absurd (true≢false calm)
 apart_right (Keys l) Whole calm a w = absurd (true≢false calm)
 apart_right (Keys l) (Keys m) calm a w = unlike _ (λ c. conflict (any_gives _ l c) (any_gives _ m w))
   where
-    conflict : (d : Touch) × Mem d l × (eq_by_cmp cell_cmp d.at a ≡ true) → (e : Touch) × Mem e m × ((e.is_write && eq_by_cmp cell_cmp e.at a) ≡ true) → ⊥
+    conflict : (d : Touch) × Mem d l × (eq_by_cmp cell_cmp (cell_of d) a ≡ true) → (e : Touch) × Mem e m × ((e.is_write && eq_by_cmp cell_cmp (cell_of e) a) ≡ true) → ⊥
     conflict (d, in_l, at_d) (e, in_m, at_e) = true≢false (sym
-        (any_mem (λ (e : Touch). list_any (λ (d : Touch). eq_by_cmp cell_cmp e.at d.at && (e.is_write || d.is_write)) m) d l in_l
-        (any_mem (λ (x : Touch). eq_by_cmp cell_cmp d.at x.at && (d.is_write || x.is_write)) e m in_m
-        (and_both (eq_by_cmp cell_cmp d.at e.at) (d.is_write || e.is_write) (tied_two a d.at e.at at_d (and_right e.is_write (eq_by_cmp cell_cmp e.at a) at_e)) (or_right d.is_write e.is_write (and_left e.is_write (eq_by_cmp cell_cmp e.at a) at_e))))) ∙ calm)
+        (any_mem (λ (e : Touch). list_any (λ (d : Touch). eq_by_cmp cell_cmp (cell_of e) (cell_of d) && (e.is_write || d.is_write)) m) d l in_l
+        (any_mem (λ (x : Touch). eq_by_cmp cell_cmp (cell_of d) (cell_of x) && (d.is_write || x.is_write)) e m in_m
+        (and_both (eq_by_cmp cell_cmp (cell_of d) (cell_of e)) (d.is_write || e.is_write) (tied_two a (cell_of d) (cell_of e) at_d (and_right e.is_write (eq_by_cmp cell_cmp (cell_of e) a) at_e)) (or_right d.is_write e.is_write (and_left e.is_write (eq_by_cmp cell_cmp (cell_of e) a) at_e))))) ∙ calm)

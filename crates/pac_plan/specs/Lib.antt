@@ -1,3 +1,4 @@
+pub mod Pairs
 pub mod Nodes
 pub mod Analysis
 pub mod WellFormed
@@ -6,3 +7,4 @@ pub mod Pieces
 pub mod WorldOrder
 pub mod Worlds
 pub mod PieceFits
+pub mod Codes

@@ -14,6 +14,9 @@ use Rattle.pac_value.specs.State.{Cell, cell_cmp, RowValues, Tables}
 use Rattle.pac_ops.specs.declared.note.Note.{Note}
 use Rattle.pac_ops.specs.declared.piece.PieceId.{PieceId}
 use Rattle.pac_ops.specs.declared.program.FlatOp.{FlatOp}
+use Rattle.pac_plan.specs.declared.access.Touch.{Touch}
+use Rattle.pac_plan.specs.declared.access.Access.{Access}
+use Rattle.pac_plan.specs.declared.access.Access.TheVariants.{Keys, Whole}
 use Rattle.pac_ops.specs.Notes.{first_note, least}
 use Rattle.pac_ops.specs.Uses.{modifies}
 use Rattle.pac_ops.specs.Operations.{State, touched}
@@ -78,20 +81,18 @@ op_cell op env = cell_in (touched op.kind env)
 
 -- ---- accesses
 
--- a row that an access names, and whether it is modified
-pub record Touch : Type 0 where
-  pub at : Cell
-  pub is_write : Bool
+-- the cell that a touch names
+abbrev pub cell_of : Touch → Cell
+cell_of touch = (touch.table, touch.key)
 
--- which rows a piece may touch: those at keys, or any of its block
-pub data Access : Type 0 where
-  Keys : List Touch → Access
-  Whole : Access
+-- the touch of a cell
+abbrev pub touch_at : Cell → Bool → Touch
+touch_at cell is_write = record { table = cell.0; key = cell.1; is_write = is_write }
 
 -- one more touch, where there is a cell
 abbrev pub touch : Option Cell → Bool → List Touch → List Touch
 touch None w rest = rest
-touch (Some a) w rest = record { at = a; is_write = w } ∷ rest
+touch (Some a) w rest = touch_at a w ∷ rest
 
 -- the touches of the operations that may run
 abbrev pub touches_of : List NumberedOp → Values → List NumberedOp → List Touch
@@ -110,17 +111,17 @@ access_of os env = if list_any (is_loose os env) os then Whole else Keys (touche
 abbrev pub conflicts : Access → Access → Bool
 conflicts Whole y = true
 conflicts (Keys l) Whole = true
-conflicts (Keys l) (Keys m) = list_any (λ e. list_any (λ d. eq_by_cmp cell_cmp e.at d.at && (e.is_write || d.is_write)) m) l
+conflicts (Keys l) (Keys m) = list_any (λ e. list_any (λ d. eq_by_cmp cell_cmp (cell_of e) (cell_of d) && (e.is_write || d.is_write)) m) l
 
 -- the access names the row at a cell
 abbrev pub covers : Access → Cell → Bool
 covers Whole a = true
-covers (Keys l) a = list_any (λ e. eq_by_cmp cell_cmp e.at a) l
+covers (Keys l) a = list_any (λ e. eq_by_cmp cell_cmp (cell_of e) a) l
 
 -- the access modifies the row at a cell
 abbrev pub covers_write : Access → Cell → Bool
 covers_write Whole a = true
-covers_write (Keys l) a = list_any (λ e. e.is_write && eq_by_cmp cell_cmp e.at a) l
+covers_write (Keys l) a = list_any (λ e. e.is_write && eq_by_cmp cell_cmp (cell_of e) a) l
 
 -- ---- worlds
 

@@ -23,10 +23,18 @@
 //! [`pieces_stay_fit`] and [`next_pairs`] are laws: functions without code, whose clauses say what holds of all pieces.
 #![tactic(auto)]
 
+mod access;
+mod code;
 mod laws;
 mod parts;
 mod plan;
+mod preds;
+mod shared;
 
+pub use access::{Access, Touch, Touches};
+pub use code::{Code, NumberedOps};
 pub use laws::{is_plan, keeps_order, next_pairs, pieces_stay_fit};
 pub use parts::{BlocksOf, PlanParts};
 pub use plan::Plan;
+pub use preds::Preds;
+pub use shared::Shared;
