@@ -1,0 +1,5 @@
+pub mod ProbeLemmas
+pub mod TypedKeys
+pub mod RecordTouches
+pub mod PartSteps
+pub mod PlaceLemmas

@@ -1,0 +1,3 @@
+pub mod Probes
+pub mod Records
+pub mod PlanCodes
