@@ -1,5 +1,5 @@
 -- What the records of ad hoc transactions touch.
-use Rattle.std.specs.Prelude.{true}
+use Rattle.std.specs.Prelude.{Bool, true, false, List, [], ◌∷◌}
 use Rattle.pac_value.specs.declared.values.Key.{Key}
 use Rattle.pac_ops.specs.declared.transaction.Change.{Change}
 use Rattle.pac_ops.specs.declared.transaction.Change.TheVariants.{Put, Delete}
@@ -14,3 +14,8 @@ change_key (Delete table key) = key
 -- a record modifies the row at its key
 abbrev pub change_touch : Change → Touch
 change_touch change = record { table = change_table change; key = change_key change; is_write = true }
+
+-- there is a record
+abbrev pub has_items : List Change → Bool
+has_items [] = false
+has_items (change ∷ changes) = true

@@ -3,6 +3,7 @@
 //! - [`PlanCode`]: a plan, with the operations of each procedure in each block collected once. Contracts see it as its plan.
 //! - [`PlanCode::code`]: these operations, to be shared by the pieces of all calls. [`PlanCode::records`]: the code of a
 //!   piece of an ad hoc transaction.
+//! - [`PlanCode::has_piece`]: whether a transaction has a piece in a block.
 //! - [`PlanCode::is_bounded`]: whether each key of these operations depends on parameters and on other blocks alone.
 //! - [`PlanCode::access`]: the rows that a piece may touch, over the values of its inputs.
 //!

@@ -2,14 +2,14 @@
 ghost use Rattle.std.specs.Prelude.{◌≡◌, ◌<◌, length, IfOk, slice_get, Some};
 ghost use Rattle.pac_ops.specs.Shapes.{RecordsFit};
 ghost use Rattle.pac_plan.specs.declared.code.Code.TheVariants.{Ops, Records};
-ghost use Rattle.pac_plan.specs.Pieces.{access_of};
+ghost use Rattle.pac_plan.specs.Pieces.{access_of, has_ops};
 ghost use Rattle.pac_plan.specs.PieceFits.{records_in};
 ghost use Rattle.pac_plan.specs.Codes.{TxnFitsPlan, HasTxnInputs, piece_ops, proc_ops, are_bounded};
 ghost use Rattle.pac_keys.specs.PlanCodes.{piece_code};
 
 use crate::piece_code::{PieceCode, PieceCodes, procs_of};
 use crate::probe::all_bounded;
-use crate::records::{record_touches, records_in};
+use crate::records::{has_record, record_touches, records_in};
 use crate::touches::probed;
 use pac_base::{Listed, NoMemory, listed};
 use pac_ops::{Change, Txn};
@@ -94,6 +94,31 @@ impl PlanCode {
     {
         let records = records_in(alloc, &self.plan, records, block)?;
         Shared::new(alloc, Code::Records(listed(records)))
+    }
+
+    /// Whether a transaction has a piece in a block. Takes no memory, and for an ad hoc transaction time that grows with
+    /// the number of its records.
+    pub fn has_piece(&self, txn: &Txn, block: u16) -> bool
+        requires fits { TxnFitsPlan self.now txn.now }
+        requires block { block < self.now.blocks }
+        ensures { result ≡ has_ops (piece_ops self.now block txn.now) }
+    {
+        match txn {
+            Txn::Call(call) => self.has_ops(call.proc, block),
+            Txn::AdHoc { records } => has_record(&self.plan, records.items(), block),
+        }
+    }
+
+    // Whether a procedure has an operation in a block.
+    fn has_ops(&self, proc: u16, block: u16) -> bool
+        requires proc { proc < length self.now.programs }
+        requires block { block < self.now.blocks }
+        ensures { result ≡ has_ops (proc_ops self.now proc block) }
+    {
+        match self.code(proc, block).get() {
+            Code::Ops(ops) => !ops.is_empty(),
+            Code::Records(_) => unreachable!(),
+        }
     }
 
     /// Whether each key of a procedure's operations in a block is bounded: its variables are parameters, or are defined in

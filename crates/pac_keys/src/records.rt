@@ -3,7 +3,7 @@ ghost use Rattle.std.specs.Prelude.{◌≡◌, ◌<◌, IfOk, length, map};
 ghost use Rattle.std.specs.List.{AllByRecursion};
 ghost use Rattle.pac_ops.specs.Shapes.{RecordsFit};
 ghost use Rattle.pac_plan.specs.PieceFits.{change_table, records_in};
-ghost use Rattle.pac_keys.specs.Records.{change_key, change_touch};
+ghost use Rattle.pac_keys.specs.Records.{change_key, change_touch, has_items};
 
 use pac_base::{Exact, NoMemory};
 use pac_ops::Change;
@@ -51,6 +51,19 @@ pub(crate) fn records_in(
         }
     }
     Ok(found)
+}
+
+/// Whether one of the records is of the block.
+pub(crate) fn has_record(plan: &Plan, records: &[Change], block: u16) -> bool
+    requires { RecordsFit plan.now.tables records.now }
+    ensures { result ≡ has_items (records_in plan.now block records.now) }
+{
+    for change in records {
+        if plan.home_of(table_of(change)) == block {
+            return true;
+        }
+    }
+    false
 }
 
 fn table_of(change: &Change) -> u16
