@@ -1,0 +1,4 @@
+pub mod WriteLookups
+pub mod RowLemmas
+pub mod StepLemmas
+pub mod RunLemmas

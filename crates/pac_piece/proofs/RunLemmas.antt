@@ -1,0 +1,103 @@
+-- The operations of a piece one after another.
+use Rattle.std.proofs.Common.{◌≡◌, ℕ, ◌+◌, Bool, true, false, ◌||◌, List, [], ◌∷◌, map, Option, Some, None, Result, Ok, refl, sym, ap, ap₂, ◌∙◌, subst}
+use Rattle.std.specs.Prelude.{is_some}
+use Rattle.std.specs.FinMap.{get, empty, get-empty}
+use Rattle.std.specs.Ordering.{nat_cmp}
+use Rattle.pac_value.specs.declared.values.Key.{Key}
+use Rattle.pac_value.specs.declared.values.Key.TheVariants.{Int as IntKey, Text as TextKey}
+use Rattle.pac_value.specs.declared.values.Value.{Value}
+use Rattle.pac_value.specs.declared.expr.Expr.{Lit}
+use Rattle.pac_value.specs.declared.expr.Trap.{Trap}
+use Rattle.pac_value.specs.Values.{key_value, as_key}
+use Rattle.pac_value.specs.Expressions.{Values, value, value_step, ◌>>=◌}
+use Rattle.pac_value.specs.State.{Cell, RowValues}
+use Rattle.pac_value.proofs.ByForms.{fold-Lit}
+use Rattle.pac_ops.specs.declared.transaction.Change.{Change}
+use Rattle.pac_ops.specs.declared.transaction.Change.TheVariants.{Put as PutRow, Delete as DeleteRow}
+use Rattle.pac_ops.specs.Reasons.{or_abort}
+use Rattle.pac_ops.specs.Notes.{note_at, first_note, least}
+use Rattle.pac_ops.specs.Operations.{State, Leaves, values, touched, effect, row_at}
+use Rattle.pac_ops.specs.Flat.{flat_reason}
+use Rattle.pac_ops.specs.Effects.{NumberedOp, numbered_from, record_op, is_var}
+use Rattle.pac_ops.proofs.StateLemmas.{least_none, least-assoc, first-append}
+use Rattle.pac_tables.specs.declared.writes.Write.{Write}
+use Rattle.pac_tables.specs.Written.{IsOnce, is_written}
+use Rattle.pac_piece.specs.declared.frame.Frame.{Frame}
+use Rattle.pac_piece.specs.Frames.{seen, after_op, after_ops, notes_after, change_row, give_value, cell_changed, var_given, is_cell, AreIn, StepsTo, RunsTo, RunsOn, IsFresh}
+use Rattle.pac_piece.specs.Records.{record_cell, record_row, ChangesOne}
+use Rattle.pac_piece.proofs.StepLemmas.{stepped}
+
+or-shift : (c w r : Bool) → ((c || w) || r) ≡ (w || (c || r))
+or-shift true true r = refl
+or-shift true false r = refl
+or-shift false w r = refl
+
+module _ (rows : List Write) (txn : ℕ) where
+  -- nothing was executed
+  pub starts : (os : List NumberedOp) (frame : Frame) → IsFresh frame → RunsOn rows txn os (seen rows frame) os frame
+  starts os frame fresh = record {
+    state = refl;
+    note = ap (λ n. least n (first_note (notes_after txn os (seen rows frame)))) fresh.note;
+    changed = λ a. ap (λ ws. is_written ws a || change_row os (seen rows frame) a) fresh.writes;
+    given = λ x. ap (λ v. is_some v || give_value os (seen rows frame) x) (none x);
+    kept = λ x v e. let wrong : None ≡ Some v = sym (none x) ∙ e in cc;
+    once = subst (λ ws. IsOnce ws) (sym fresh.writes) tt;
+  }
+    where
+      none : (x : ℕ) → get frame.outs x ≡ None
+      none x = ap (λ m. get m x) fresh.outs ∙ get-empty nat_cmp x
+
+  -- one more was
+  pub goes_on : (os : List NumberedOp) (s : State) (o : NumberedOp) (rest : List NumberedOp) (old new : Frame) → RunsOn rows txn os s (o ∷ rest) old → StepsTo rows txn o old new → RunsOn rows txn os s rest new
+  goes_on os s o rest old new on step = record {
+    state = ap (after_ops rest) step.state ∙ on.state;
+    note = ap₂ (λ n t. least n (first_note (notes_after txn rest t))) step.note step.state
+        ∙ sym (least-assoc old.note (first_note (note_at txn o.0 (flat_reason o.1 (seen rows old)))) (first_note (notes_after txn rest (after_op o.1 (seen rows old)))))
+        ∙ ap (least old.note) (sym (first-append (note_at txn o.0 (flat_reason o.1 (seen rows old))) (notes_after txn rest (after_op o.1 (seen rows old)))))
+        ∙ on.note;
+    changed = λ a. ap₂ (λ b t. b || change_row rest t a) (step.changed a) step.state
+        ∙ or-shift (is_cell a (cell_changed o.1 (seen rows old))) (is_written old.writes.items a) (change_row rest (after_op o.1 (seen rows old)) a) ∙ on.changed a;
+    given = λ x. ap₂ (λ b t. b || give_value rest t x) (step.given x) step.state
+        ∙ or-shift (is_var x (var_given o.1 (seen rows old))) (is_some (get old.outs x)) (give_value rest (after_op o.1 (seen rows old)) x) ∙ on.given x;
+    kept = step.kept on.kept;
+    once = step.once;
+  }
+
+  or-none : (b : Bool) → (b || false) ≡ b
+  or-none true = refl
+  or-none false = refl
+
+  -- all were
+  pub ends : (os : List NumberedOp) (s : State) (frame : Frame) → RunsOn rows txn os s [] frame → RunsTo rows txn os s frame
+  ends os s frame on = record {
+    state = on.state;
+    note = sym (least_none frame.note) ∙ on.note;
+    changed = λ a. sym (or-none (is_written frame.writes.items a)) ∙ on.changed a;
+    given = λ x. sym (or-none (is_some (get frame.outs x))) ∙ on.given x;
+    kept = on.kept;
+    once = on.once;
+  }
+
+-- ---- records
+
+key_again : (key : Key) → as_key (key_value key) ≡ key
+key_again (IntKey n) = refl
+key_again (TextKey t) = refl
+
+literals : (row : RowValues) (env : Values) → values (map Lit row) env ≡ Ok row
+literals [] env = refl
+literals (v ∷ row) env = ap₂ (λ (a : Result Value Trap) (b : Result RowValues Trap). a >>= λ v. b >>= λ vs. Ok (v ∷ vs)) (fold-Lit (Result Value Trap) (value_step env) v) (literals row env)
+
+record_touched : (change : Change) (env : Values) → touched (record_op change).kind env ≡ Ok (Some (record_cell change))
+record_touched (PutRow table key row) env = ap (λ (r : Result Value Trap). r >>= λ v. Ok (Some (table, as_key v))) (fold-Lit (Result Value Trap) (value_step env) (key_value key)) ∙ ap (λ k. Ok (Some (table, k))) (key_again key)
+record_touched (DeleteRow table key) env = ap (λ (r : Result Value Trap). r >>= λ v. Ok (Some (table, as_key v))) (fold-Lit (Result Value Trap) (value_step env) (key_value key)) ∙ ap (λ k. Ok (Some (table, k))) (key_again key)
+
+record_effect : (change : Change) (env : Values) (row : Option RowValues) → effect (record_op change).kind env row ≡ Ok (Leaves (record_row change))
+record_effect (PutRow table key row) env old = ap (λ (r : Result RowValues Trap). or_abort r >>= λ vs. Ok (Leaves (Some vs))) (literals row env)
+record_effect (DeleteRow table key) env old = refl
+
+pub record_steps : (rows : List Write) (txn n : ℕ) (change : Change) (old new : Frame) → ChangesOne change old new → StepsTo rows txn (n, record_op change) old new
+record_steps rows txn n (PutRow table key row) old new h = stepped rows txn (n, record_op (PutRow table key row)) old new (Some (table, key)) (Leaves (Some row)) refl
+    (record_touched (PutRow table key row) old.env) (record_effect (PutRow table key row) old.env (row_at (seen rows old).tables (Some (table, key)))) h
+record_steps rows txn n (DeleteRow table key) old new h = stepped rows txn (n, record_op (DeleteRow table key)) old new (Some (table, key)) (Leaves None) refl
+    (record_touched (DeleteRow table key) old.env) (record_effect (DeleteRow table key) old.env (row_at (seen rows old).tables (Some (table, key)))) h

@@ -1,0 +1,133 @@
+-- One operation of a piece: from what its effect made of the frame to what the operation means.
+use Rattle.std.proofs.Common.{◌≡◌, ℕ, ◌==◌, Bool, true, false, cond, ◌&&◌, ◌||◌, List, [], ◌∷◌, Option, Some, None, Result, Ok, Err, refl, sym, ap, ◌∙◌, subst}
+use Rattle.std.specs.Prelude.{OnOk, is_some, is_ok}
+use Rattle.std.specs.FinMap.{get, insert, empty}
+use Rattle.pac_value.specs.declared.values.Value.{Value}
+use Rattle.pac_value.specs.declared.values.Value.TheVariants.{Int, Text, Bool as Truth}
+use Rattle.pac_value.specs.declared.expr.Trap.{Trap}
+use Rattle.pac_value.specs.Expressions.{Values, value, ◌>>=◌}
+use Rattle.pac_value.specs.State.{Cell, RowValues}
+use Rattle.pac_ops.specs.declared.reason.Reason.{Reason}
+use Rattle.pac_ops.specs.declared.program.OpKind.{OpKind}
+use Rattle.pac_ops.specs.declared.program.OpKind.TheVariants.{Let, Cond, Read, Has, Put, SetCol, Delete, AbortIf}
+use Rattle.pac_ops.specs.Reasons.{or_abort}
+use Rattle.pac_ops.specs.Notes.{note_at, first_note, least}
+use Rattle.pac_ops.specs.Uses.{defined_variable, modifies}
+use Rattle.pac_ops.specs.Operations.{State, Effect, Nothing, Gives, Leaves, values, replaced, unless_asked, touched, effect, row_at, with_effect, define, done}
+use Rattle.pac_ops.specs.Flat.{all_hold, default_of, reason_in}
+use Rattle.pac_ops.specs.Defaults.{trapped_type}
+use Rattle.pac_ops.specs.Effects.{NumberedOp, cell_in, is_var}
+use Rattle.pac_ops.proofs.StateLemmas.{get-given, least_none}
+use Rattle.pac_tables.specs.declared.writes.Write.{Write}
+use Rattle.pac_tables.specs.Written.{IsOnce, is_written, written}
+use Rattle.pac_piece.specs.declared.frame.Frame.{Frame}
+use Rattle.pac_piece.specs.Frames.{seen, defaulted, done_or_defaulted, after_op, cell_changed, is_cell, AreIn, Given, StepsTo}
+use Rattle.pac_piece.specs.Steps.{cell_left, var_left, Applies, GivesUp}
+
+pub on_ok : {A E P Q : Type 0} (r : Result A E) → (P → Q) → OnOk r P → OnOk r Q
+on_ok (Ok x) f p = f p
+on_ok (Err e) f p = p
+
+-- ---- a variable gets a value
+
+module _ (var : ℕ) (v : Value) (old new : Frame) (g : Given var v old new) where
+  value_there : (x : ℕ) → get new.outs x ≡ cond (x == var) (Some v) (get old.outs x)
+  value_there x = ap (λ m. get m x) g.outs ∙ get-given (Some (var, v)) old.outs x
+
+  value_seen : (x : ℕ) → get new.env x ≡ cond (x == var) (Some v) (get old.env x)
+  value_seen x = ap (λ m. get m x) g.env ∙ get-given (Some (var, v)) old.env x
+
+  pub given_there : (x : ℕ) → is_some (get new.outs x) ≡ (is_var x (Some var) || is_some (get old.outs x))
+  given_there x = ap is_some (value_there x) ∙ go (x == var)
+    where
+      go : (b : Bool) → is_some (cond b (Some v) (get old.outs x)) ≡ (b || is_some (get old.outs x))
+      go true = refl
+      go false = refl
+
+  pub given_kept : AreIn old.outs old.env → AreIn new.outs new.env
+  given_kept kept x w e = value_seen x ∙ go (x == var) (sym (value_there x) ∙ e)
+    where
+      go : (b : Bool) → cond b (Some v) (get old.outs x) ≡ Some w → cond b (Some v) (get old.env x) ≡ Some w
+      go true h = h
+      go false h = kept x w h
+
+  pub given_state : (rows : List Write) → seen rows new ≡ define var v (seen rows old)
+  given_state rows i = record { env = g.env i; tables = written (written empty rows) (g.writes i) }
+
+pub applies_gives : (var : ℕ) (v : Value) (cell : Option Cell) (old new : Frame) → IsOnce old.writes.items → Given var v old new → Applies cell (Gives var v) old new
+applies_gives var v cell old new once g = record {
+  state = given_state var v old new g;
+  note = g.note;
+  changed = λ a. ap (λ ws. is_written ws a) g.writes;
+  given = given_there var v old new g;
+  kept = given_kept var v old new g;
+  once = subst (λ ws. IsOnce ws) (sym g.writes) once;
+}
+
+pub gives_up : (txn : ℕ) (o : NumberedOp) (reason : Reason) (old mid new : Frame) (var : ℕ) (v : Value)
+    → mid.env ≡ old.env → mid.outs ≡ old.outs → mid.writes.items ≡ old.writes.items → mid.note ≡ least old.note (Some (record { txn = txn; op = o.0; reason = reason }))
+    → defined_variable o.1.kind ≡ Some var → v ≡ default_of (trapped_type o.1.kind) → Given var v mid new → GivesUp txn o reason old new
+gives_up txn o reason old mid new var v env outs writes note is_var_ is_default g = record {
+  state = λ rows. given_state var v mid new g rows
+      ∙ (λ i. define var (is_default i) (record { env = env i; tables = written (written empty rows) (writes i) }))
+      ∙ ap (λ x. defaulted x (trapped_type o.1.kind) (seen rows old)) (sym is_var_);
+  note = g.note ∙ note;
+  changed = g.writes ∙ writes;
+  given = λ x. given_there var v mid new g x ∙ (λ i. is_var x (sym is_var_ i) || is_some (get (outs i) x));
+  kept = λ k. given_kept var v mid new g (λ x w e. ap (λ m. get m x) env ∙ k x w (sym (ap (λ m. get m x) outs) ∙ e));
+}
+
+-- ---- what the effect of an operation of a kind may be
+
+abbrev IsOfKind : OpKind → Effect → Type 0
+IsOfKind kind e = (var_left e ≡ defined_variable kind) × ((cell : Option Cell) → cell_left cell e ≡ cond (modifies kind && true) cell None)
+
+then_of : {A : Type 0} (kind : OpKind) (e : Effect) (r : Result A Reason) (f : A → Result Effect Reason) → ((a : A) → f a ≡ Ok e → IsOfKind kind e) → (r >>= f) ≡ Ok e → IsOfKind kind e
+then_of kind e (Ok a) f h is = h a is
+then_of kind e (Err reason) f h is = cc
+
+ok_of : (kind : OpKind) (e d : Effect) → IsOfKind kind d → ◌≡◌ {A = Result Effect Reason} (Ok d) (Ok e) → IsOfKind kind e
+ok_of kind e d h is = let same : d ≡ e = cc in subst (λ (x : Effect). IsOfKind kind x) same h
+
+effect_kind : (kind : OpKind) (env : Values) (row : Option RowValues) (e : Effect) → effect kind env row ≡ Ok e → IsOfKind kind e
+effect_kind (Let x ex) env row e is = then_of (Let x ex) e (or_abort (value ex env)) (λ v. Ok (Gives x v)) (λ v h. ok_of (Let x ex) e (Gives x v) (refl, λ cell. refl) h) is
+effect_kind (Cond x ex) env row e is = then_of (Cond x ex) e (or_abort (value ex env)) (λ v. Ok (Gives x v)) (λ v h. ok_of (Cond x ex) e (Gives x v) (refl, λ cell. refl) h) is
+effect_kind (Read x t k c d) env row e is = ok_of (Read x t k c d) e _ (refl, λ cell. refl) is
+effect_kind (Has x t k) env row e is = ok_of (Has x t k) e _ (refl, λ cell. refl) is
+effect_kind (Put t k es) env row e is = then_of (Put t k es) e (or_abort (values es env)) (λ vs. Ok (Leaves (Some vs))) (λ vs h. ok_of (Put t k es) e (Leaves (Some vs)) (refl, λ cell. refl) h) is
+effect_kind (SetCol t k c ex) env row e is = then_of (SetCol t k c ex) e (or_abort (value ex env)) (λ v. replaced row c v >>= λ vs. Ok (Leaves (Some vs)))
+    (λ v h. then_of (SetCol t k c ex) e (replaced row c v) (λ vs. Ok (Leaves (Some vs))) (λ vs h. ok_of (SetCol t k c ex) e (Leaves (Some vs)) (refl, λ cell. refl) h) h) is
+effect_kind (Delete t k) env row e is = ok_of (Delete t k) e (Leaves None) (refl, λ cell. refl) is
+effect_kind (AbortIf ex) env row e is = then_of (AbortIf ex) e (or_abort (value ex env)) unless_asked (λ v h. asked v h) is
+  where
+    asked : (v : Value) → unless_asked v ≡ Ok e → IsOfKind (AbortIf ex) e
+    asked (Int n) h = ok_of (AbortIf ex) e Nothing (refl, λ cell. refl) h
+    asked (Text t) h = ok_of (AbortIf ex) e Nothing (refl, λ cell. refl) h
+    asked (Truth true) h = cc
+    asked (Truth false) h = ok_of (AbortIf ex) e Nothing (refl, λ cell. refl) h
+
+-- ---- an operation that has an effect
+
+pub stepped : (rows : List Write) (txn : ℕ) (o : NumberedOp) (old new : Frame) (cell : Option Cell) (e : Effect) → all_hold old.env o.1.conds ≡ true
+    → touched o.1.kind old.env ≡ Ok cell → effect o.1.kind old.env (row_at (seen rows old).tables cell) ≡ Ok e → Applies cell e old new → StepsTo rows txn o old new
+stepped rows txn o old new cell e hold touch has applies = record {
+  state = applies.state rows ∙ sym (ap (λ b. cond b (done_or_defaulted o.1.kind (seen rows old) (done o.1.kind (seen rows old))) (seen rows old)) hold ∙ ap (done_or_defaulted o.1.kind (seen rows old)) is_done);
+  note = applies.note ∙ sym (least_none old.note) ∙ sym (ap (λ r. least old.note (first_note (note_at txn o.0 r))) (ap (λ b. cond b (reason_in (done o.1.kind (seen rows old))) None) hold ∙ ap reason_in is_done));
+  changed = λ a. applies.changed a ∙ ap (λ c. is_cell a c || is_written old.writes.items a) (kind.1 cell ∙ sym changes);
+  given = λ x. applies.given x ∙ ap (λ y. is_var x y || is_some (get old.outs x)) (kind.0 ∙ sym (ap (λ b. cond b (defined_variable o.1.kind) None) hold));
+  kept = applies.kept;
+  once = applies.once;
+}
+  where
+    is_done : done o.1.kind (seen rows old) ≡ Ok (with_effect cell e (seen rows old))
+    is_done = ap (λ r. or_abort r >>= λ c. effect o.1.kind old.env (row_at (seen rows old).tables c) >>= λ d. Ok (with_effect c d (seen rows old))) touch
+        ∙ ap (λ r. r >>= λ d. Ok (with_effect cell d (seen rows old))) has
+
+    kind : IsOfKind o.1.kind e
+    kind = effect_kind o.1.kind old.env (row_at (seen rows old).tables cell) e has
+
+    changes : cell_changed o.1 (seen rows old) ≡ cond (modifies o.1.kind && true) cell None
+    changes =
+        ap (λ r. cond (modifies o.1.kind && is_ok r) (cond (all_hold old.env o.1.conds) (cell_in (touched o.1.kind old.env)) None) None) is_done
+        ∙ ap (λ b. cond (modifies o.1.kind && true) (cond b (cell_in (touched o.1.kind old.env)) None) None) hold
+        ∙ ap (λ r. cond (modifies o.1.kind && true) (cell_in r) None) touch

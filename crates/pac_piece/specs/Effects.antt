@@ -1,0 +1,48 @@
+-- What the execution of an operation answers, and when it can be executed.
+use Rattle.std.specs.Prelude.{◌≡◌, ℕ, List, length, Option, Some, None, Result, Ok, Err, IsSome, IsTrue}
+use Rattle.std.specs.List.{AllByRecursion}
+use Rattle.pac_value.specs.declared.values.Ty.TheVariants.{Bool as BoolTy}
+use Rattle.pac_value.specs.declared.expr.Expr.{Expr}
+use Rattle.pac_value.specs.Expressions.{Values, type_in, types_of}
+use Rattle.pac_value.specs.Scopes.{is_width}
+use Rattle.pac_ops.specs.declared.reason.Reason.{Reason}
+use Rattle.pac_ops.specs.declared.program.OpKind.{OpKind}
+use Rattle.pac_ops.specs.declared.program.OpKind.TheVariants.{Let, Cond, Read, Has, Put, SetCol, Delete, AbortIf}
+use Rattle.pac_ops.specs.Operations.{Effect, Nothing, Gives as GivesValue, Leaves}
+use Rattle.pac_piece.specs.declared.failed.Failed.{Failed}
+use Rattle.pac_piece.specs.declared.failed.Failed.TheVariants.{Abort, NoMemory}
+use Rattle.pac_piece.specs.declared.effects.OpEffect.{OpEffect}
+use Rattle.pac_piece.specs.declared.effects.OpEffect.TheVariants.{Nothing as ANothing, Gives as AGives, Leaves as ALeaves}
+
+-- the effect that a value of the program is
+abbrev pub effect_of : OpEffect → Effect
+effect_of ANothing = Nothing
+effect_of (AGives x v) = GivesValue x v
+effect_of (ALeaves row) = Leaves row
+
+-- an operation does what it means, fails as it means to, or finds no memory
+abbrev pub Answers : Result OpEffect Failed → Result Effect Reason → Type 0
+Answers (Ok e) meaning = meaning ≡ Ok (effect_of e)
+Answers (Err (Abort reason)) meaning = meaning ≡ Err reason
+Answers (Err NoMemory) meaning = Unit {0}
+
+-- the same of a value that is given
+abbrev pub Gives : {A : Type 0} → Result A Failed → Result A Reason → Type 0
+Gives (Ok x) meaning = meaning ≡ Ok x
+Gives (Err (Abort reason)) meaning = meaning ≡ Err reason
+Gives (Err NoMemory) meaning = Unit {0}
+
+-- an expression has a type that columns and keys have, over the values that there are
+abbrev pub HasStoredType : Values → Expr → Type 0
+HasStoredType env e = IsSome (type_in (types_of env) e) × (type_in (types_of env) e ≡ Some BoolTy → ⊥)
+
+-- the expressions of an operation have types over the values that there are
+abbrev pub CanDo : Values → OpKind → Type 0
+CanDo env (Let x e) = IsSome (type_in (types_of env) e)
+CanDo env (Cond x e) = IsSome (type_in (types_of env) e)
+CanDo env (Read x t k c d) = HasStoredType env k
+CanDo env (Has x t k) = HasStoredType env k
+CanDo env (Put t k es) = HasStoredType env k × IsTrue (is_width (length es)) × AllByRecursion (HasStoredType env) es
+CanDo env (SetCol t k c e) = HasStoredType env k × HasStoredType env e
+CanDo env (Delete t k) = HasStoredType env k
+CanDo env (AbortIf e) = IsSome (type_in (types_of env) e)

@@ -1,0 +1,29 @@
+-- What records make of a frame: each is an operation with literals.
+use Rattle.std.specs.Prelude.{ℕ, List, Option, Some, None, map}
+use Rattle.pac_value.specs.State.{Cell, RowValues}
+use Rattle.pac_ops.specs.declared.transaction.Change.{Change}
+use Rattle.pac_ops.specs.declared.transaction.Change.TheVariants.{Put, Delete}
+use Rattle.pac_ops.specs.Operations.{Effect, Leaves}
+use Rattle.pac_ops.specs.Effects.{numbered_from, record_op}
+use Rattle.pac_tables.specs.declared.writes.Write.{Write}
+use Rattle.pac_piece.specs.declared.frame.Frame.{Frame}
+use Rattle.pac_piece.specs.Frames.{RunsTo, seen}
+use Rattle.pac_piece.specs.Steps.{Applies}
+
+-- the cell of a record
+abbrev pub record_cell : Change → Cell
+record_cell (Put table key row) = (table, key)
+record_cell (Delete table key) = (table, key)
+
+-- the row that it leaves there, or none
+abbrev pub record_row : Change → Option RowValues
+record_row (Put table key row) = Some row
+record_row (Delete table key) = None
+
+-- one record leaves its row
+abbrev pub ChangesOne : Change → Frame → Frame → Type 0
+ChangesOne change old new = Applies (Some (record_cell change)) (Leaves (record_row change)) old new
+
+-- the records were executed as operations, over any copies and in a transaction of any number
+abbrev pub ChangesAll : List Change → Frame → Frame → Type 0
+ChangesAll records old new = (rows : List Write) (txn : ℕ) → RunsTo rows txn (numbered_from 0 (map record_op records)) (seen rows old) new

@@ -1,0 +1,79 @@
+// Rows that are to stand at cells: of a piece's copies, and of what it wrote.
+ghost use Rattle.std.specs.Prelude.{◌≡◌, ◌<◌, length, position, OnOk, IfSome};
+ghost use Rattle.std.specs.Ordering.{eq_by_cmp};
+ghost use Rattle.std.specs.Option.{option_map};
+ghost use Rattle.std.specs.FinMap.{get, empty};
+ghost use Rattle.pac_value.specs.State.{cell_cmp, with_row};
+ghost use Rattle.pac_tables.specs.Written.{IsOnce, cell_written, written};
+ghost use Rattle.pac_piece.specs.Changes.{is_at, Changes};
+
+use pac_base::NoMemory;
+use pac_tables::Write;
+use pac_value::{Key, Row};
+use std::cmp::Ordering;
+
+// How the cell of a write stands to the one of this table and key. Neither is copied: a key is large.
+fn order(write: &Write, table: u16, key: &Key) -> Ordering
+    ensures { result ≡ cell_cmp (table, key.now) (cell_written write.now) }
+{
+    match table.cmp(&write.table) {
+        Ordering::Equal => key.cmp(&write.key),
+        other => other,
+    }
+}
+
+// Whether a write is at a cell.
+fn is_at(write: &Write, table: u16, key: &Key) -> bool
+    ensures { result ≡ is_at (table, key.now) write.now }
+{
+    order(write, table, key).is_eq()
+}
+
+// Where a cell is written first.
+fn find(writes: &[Write], table: u16, key: &Key) -> Option<usize>
+    ensures { result ≡ position (is_at (table, key.now)) writes.now }
+{
+    writes.iter().position(|write| is_at(write, table, key))
+}
+
+/// The row at a cell, once the writes are made over rows. It looks through the lists.
+pub(crate) fn row_at<'a>(
+    rows: &'a [Write],
+    writes: &'a [Write],
+    table: u16,
+    key: &Key,
+) -> Option<&'a Row>
+    ensures { option_map (λ row. row.now) result ≡ get (written (written empty rows.now) writes.now) (table, key.now) }
+{
+    match find(writes, table, key) {
+        Some(at) => writes[at].row.as_ref(),
+        None => row_in(rows, table, key),
+    }
+}
+
+// The row at a cell of copies.
+fn row_in<'a>(rows: &'a [Write], table: u16, key: &Key) -> Option<&'a Row>
+    ensures { option_map (λ row. row.now) result ≡ get (written empty rows.now) (table, key.now) }
+{
+    match find(rows, table, key) {
+        Some(at) => rows[at].row.as_ref(),
+        None => None,
+    }
+}
+
+/// A row is to stand at the cell, or none. The write takes the place of an earlier one at the cell.
+pub(crate) fn change(
+    writes: &mut Vec<Write>,
+    table: u16,
+    key: Key,
+    row: Option<Row>,
+) -> Result<(), NoMemory>
+    requires { IsOnce writes.old.items }
+    ensures { OnOk result (Changes (table, key) row writes.old.items writes.new.items) }
+{
+    match find(writes, table, &key) {
+        Some(at) => writes[at].row = row,
+        None => writes.insert(0, Write { table, key, row })?,
+    }
+    Ok(())
+}

@@ -1,0 +1,158 @@
+// One operation of a piece.
+ghost use Rattle.std.specs.Prelude.{◌≡◌, true, OnOk};
+ghost use Rattle.pac_value.specs.Expressions.{is_arithmetic};
+ghost use Rattle.pac_ops.specs.Flat.{all_hold, default_of};
+ghost use Rattle.pac_ops.specs.Defaults.{trapped_expr, trapped_type};
+ghost use Rattle.pac_ops.specs.Operations.{touched};
+ghost use Rattle.pac_tables.specs.Written.{IsOnce};
+ghost use Rattle.pac_piece.specs.Effects.{CanDo, effect_of};
+ghost use Rattle.pac_piece.specs.Frames.{StepsTo, seen};
+ghost use Rattle.pac_piece.specs.Steps.{AnswersAt, Applies, GivesUp};
+
+use crate::changes::{change, row_at};
+use crate::effects::{OpEffect, effect};
+use crate::failed::Failed;
+use crate::frame::{Frame, give, lesser};
+use pac_base::NoMemory;
+use pac_ops::{FlatOp, Note, OpKind, Reason, all_hold, key_of};
+use pac_tables::Write;
+use pac_value::{BinOp, Env, Expr, Key, Text, Trap, Ty, Value};
+use std::alloc::Global;
+
+/// Runs one operation, over copies of rows and what the piece has done so far.
+pub(crate) fn run_op(
+    alloc: Global,
+    txn: u64,
+    op: &(u16, FlatOp),
+    rows: &[Write],
+    frame: &mut Frame,
+) -> Result<(), NoMemory>
+    requires can { all_hold frame.old.env op.now.1.conds ≡ true → CanDo frame.old.env op.now.1.kind }
+    requires once { IsOnce frame.old.writes.items }
+    ensures { OnOk result (StepsTo rows.now txn op.now frame.old frame.new) }
+{
+    if !all_hold(op.1.conds.as_slice(), &frame.env) {
+        return Ok(());
+    }
+    match touched_effect(alloc, &op.1.kind, rows, frame) {
+        Ok((cell, effect)) => apply(cell, effect, frame),
+        Err(Failed::Abort(reason)) => give_up(txn, op, reason, frame),
+        Err(Failed::NoMemory) => Err(NoMemory),
+    }
+}
+
+// The cell that an operation touches, and what it does there.
+fn touched_effect(
+    alloc: Global,
+    kind: &OpKind,
+    rows: &[Write],
+    frame: &Frame,
+) -> Result<(Option<(u16, Key)>, OpEffect), Failed>
+    requires { CanDo frame.now.env kind.now }
+    ensures { AnswersAt kind.now (seen rows.now frame.now) result }
+{
+    let cell = touched(kind, &frame.env)?;
+    let row = match &cell {
+        Some((table, key)) => row_at(rows, &frame.writes, *table, key),
+        None => None,
+    };
+    let effect = effect(alloc, kind, row, &frame.env)?;
+    Ok((cell, effect))
+}
+
+// The cell that an operation touches.
+fn touched(kind: &OpKind, env: &Env) -> Result<Option<(u16, Key)>, Trap>
+    requires { CanDo env.now kind.now }
+    ensures { result ≡ touched kind.now env.now }
+{
+    match kind {
+        OpKind::Read { table, key, .. }
+        | OpKind::Has { table, key, .. }
+        | OpKind::Put { table, key, .. }
+        | OpKind::SetCol { table, key, .. }
+        | OpKind::Delete { table, key } => Ok(Some((*table, key_of(key, env)?))),
+        OpKind::Let { .. } | OpKind::Cond { .. } | OpKind::AbortIf { .. } => Ok(None),
+    }
+}
+
+/// An effect is had.
+pub(crate) fn apply(
+    cell: Option<(u16, Key)>,
+    effect: OpEffect,
+    frame: &mut Frame,
+) -> Result<(), NoMemory>
+    requires { IsOnce frame.old.writes.items }
+    ensures { OnOk result (Applies cell (effect_of effect) frame.old frame.new) }
+{
+    match effect {
+        OpEffect::Nothing => Ok(()),
+        OpEffect::Gives { var, value } => give(frame, var, &value),
+        OpEffect::Leaves { row } => match cell {
+            Some((table, key)) => change(&mut frame.writes, table, key, row),
+            None => Ok(()),
+        },
+    }
+}
+
+// An operation would abort: it leaves a note, and its variable gets the default.
+fn give_up(
+    txn: u64,
+    op: &(u16, FlatOp),
+    reason: Reason,
+    frame: &mut Frame,
+) -> Result<(), NoMemory>
+    ensures { OnOk result (GivesUp txn op.now reason frame.old frame.new) }
+{
+    let note = Note {
+        txn,
+        op: op.0,
+        reason,
+    };
+    frame.note = lesser(frame.note, note);
+    match op.1.kind.defined() {
+        Some(var) => give(frame, var, &default_of(trapped_type(&op.1.kind))),
+        None => Ok(()),
+    }
+}
+
+// The default of a type.
+fn default_of(ty: Ty) -> Value
+    ensures { result ≡ default_of ty }
+{
+    match ty {
+        Ty::Int => Value::Int(0),
+        Ty::Text => Value::Text(Text::from_bytes(b"").unwrap()),
+        Ty::Bool => Value::Bool(false),
+    }
+}
+
+// The type of what an operation would give that aborts.
+fn trapped_type(kind: &OpKind) -> Ty
+    ensures { result ≡ trapped_type kind.now }
+{
+    match kind {
+        OpKind::Let { value, .. } => trapped_expr(value),
+        OpKind::Read { default, .. } => default.ty(),
+        _ => Ty::Bool,
+    }
+}
+
+// The type of an expression that traps.
+fn trapped_expr(expr: &Expr) -> Ty
+    ensures { result ≡ trapped_expr expr.now }
+{
+    match expr {
+        Expr::Lit(value) => value.ty(),
+        Expr::Bin { op, .. } if is_arithmetic(*op) => Ty::Int,
+        _ => Ty::Bool,
+    }
+}
+
+fn is_arithmetic(op: BinOp) -> bool
+    ensures { result ≡ is_arithmetic op }
+{
+    matches!(
+        op,
+        BinOp::Add | BinOp::Sub | BinOp::Mul | BinOp::Div | BinOp::Rem
+    )
+}
