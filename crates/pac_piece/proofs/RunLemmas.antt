@@ -1,5 +1,5 @@
 -- The operations of a piece one after another.
-use Rattle.std.proofs.Common.{◌≡◌, ℕ, ◌+◌, Bool, true, false, ◌||◌, List, [], ◌∷◌, map, Option, Some, None, Result, Ok, refl, sym, ap, ap₂, ◌∙◌, subst}
+use Rattle.std.proofs.Common.{◌≡◌, ℕ, Bool, true, false, ◌||◌, List, [], ◌∷◌, map, Option, Some, None, Result, Ok, refl, sym, ap, ap₂, ◌∙◌, subst}
 use Rattle.std.specs.Prelude.{is_some}
 use Rattle.std.specs.FinMap.{get, empty, get-empty}
 use Rattle.std.specs.Ordering.{nat_cmp}
@@ -9,21 +9,25 @@ use Rattle.pac_value.specs.declared.values.Value.{Value}
 use Rattle.pac_value.specs.declared.expr.Expr.{Lit}
 use Rattle.pac_value.specs.declared.expr.Trap.{Trap}
 use Rattle.pac_value.specs.Values.{key_value, as_key}
-use Rattle.pac_value.specs.Expressions.{Values, value, value_step, ◌>>=◌}
-use Rattle.pac_value.specs.State.{Cell, RowValues}
+use Rattle.pac_value.specs.Expressions.{Values, value_step, ◌>>=◌}
+use Rattle.pac_value.specs.State.{RowValues}
 use Rattle.pac_value.proofs.ByForms.{fold-Lit}
 use Rattle.pac_ops.specs.declared.transaction.Change.{Change}
 use Rattle.pac_ops.specs.declared.transaction.Change.TheVariants.{Put as PutRow, Delete as DeleteRow}
 use Rattle.pac_ops.specs.Reasons.{or_abort}
 use Rattle.pac_ops.specs.Notes.{note_at, first_note, least}
-use Rattle.pac_ops.specs.Operations.{State, Leaves, values, touched, effect, row_at}
-use Rattle.pac_ops.specs.Flat.{flat_reason}
-use Rattle.pac_ops.specs.Effects.{NumberedOp, numbered_from, record_op, is_var}
+use Rattle.pac_ops.specs.Operations.{State, Leaves, values, touched, effect, row_at, with_effect, done}
+use Rattle.pac_ops.specs.Transactions.{with_change}
+use Rattle.pac_ops.specs.Flat.{flat_reason, reason_in}
+use Rattle.pac_ops.specs.Effects.{NumberedOp, record_op, is_var}
 use Rattle.pac_ops.proofs.StateLemmas.{least_none, least-assoc, first-append}
 use Rattle.pac_tables.specs.declared.writes.Write.{Write}
-use Rattle.pac_tables.specs.Written.{IsOnce, is_written}
+use Rattle.pac_tables.specs.Written.{IsOnce, is_written, written}
+use Rattle.pac_plan.specs.Codes.{code_ops}
+use Rattle.pac_piece.specs.declared.work.Work.{Work}
+use Rattle.pac_piece.specs.Values.{IsOutcomeOf}
 use Rattle.pac_piece.specs.declared.frame.Frame.{Frame}
-use Rattle.pac_piece.specs.Frames.{seen, after_op, after_ops, notes_after, change_row, give_value, cell_changed, var_given, is_cell, AreIn, StepsTo, RunsTo, RunsOn, IsFresh}
+use Rattle.pac_piece.specs.Frames.{seen, done_or_defaulted, after_op, after_ops, notes_after, change_row, give_value, cell_changed, var_given, is_cell, StepsTo, RunsTo, RunsOn, IsFresh}
 use Rattle.pac_piece.specs.Records.{record_cell, record_row, ChangesOne}
 use Rattle.pac_piece.proofs.StepLemmas.{stepped}
 
@@ -96,8 +100,33 @@ record_effect : (change : Change) (env : Values) (row : Option RowValues) → ef
 record_effect (PutRow table key row) env old = ap (λ (r : Result RowValues Trap). or_abort r >>= λ vs. Ok (Leaves (Some vs))) (literals row env)
 record_effect (DeleteRow table key) env old = refl
 
+-- a record as an operation makes its change
+pub record_done : (change : Change) (s : State) → done (record_op change).kind s ≡ Ok (record { env = s.env; tables = with_change s.tables change })
+record_done (PutRow table key row) s =
+    ap (λ r. or_abort r >>= λ cell. effect (record_op (PutRow table key row)).kind s.env (row_at s.tables cell) >>= λ e. Ok (with_effect cell e s)) (record_touched (PutRow table key row) s.env)
+    ∙ ap (λ r. r >>= λ e. Ok (with_effect (Some (table, key)) e s)) (record_effect (PutRow table key row) s.env (row_at s.tables (Some (table, key))))
+record_done (DeleteRow table key) s =
+    ap (λ r. or_abort r >>= λ cell. effect (record_op (DeleteRow table key)).kind s.env (row_at s.tables cell) >>= λ e. Ok (with_effect cell e s)) (record_touched (DeleteRow table key) s.env)
+
+pub record_after : (change : Change) (s : State) → after_op (record_op change) s ≡ record { env = s.env; tables = with_change s.tables change }
+record_after (PutRow table key row) s = ap (done_or_defaulted (record_op (PutRow table key row)).kind s) (record_done (PutRow table key row) s)
+record_after (DeleteRow table key) s = ap (done_or_defaulted (record_op (DeleteRow table key)).kind s) (record_done (DeleteRow table key) s)
+
+pub record_silent : (change : Change) (s : State) → flat_reason (record_op change) s ≡ None
+record_silent (PutRow table key row) s = ap reason_in (record_done (PutRow table key row) s)
+record_silent (DeleteRow table key) s = ap reason_in (record_done (DeleteRow table key) s)
+
 pub record_steps : (rows : List Write) (txn n : ℕ) (change : Change) (old new : Frame) → ChangesOne change old new → StepsTo rows txn (n, record_op change) old new
 record_steps rows txn n (PutRow table key row) old new h = stepped rows txn (n, record_op (PutRow table key row)) old new (Some (table, key)) (Leaves (Some row)) refl
     (record_touched (PutRow table key row) old.env) (record_effect (PutRow table key row) old.env (row_at (seen rows old).tables (Some (table, key)))) h
 record_steps rows txn n (DeleteRow table key) old new h = stepped rows txn (n, record_op (DeleteRow table key)) old new (Some (table, key)) (Leaves None) refl
     (record_touched (DeleteRow table key) old.env) (record_effect (DeleteRow table key) old.env (row_at (seen rows old).tables (Some (table, key)))) h
+
+-- ---- from the frame with which work begins
+
+pub outcome_of : (work : Work) (rows : List Write) (os : List NumberedOp) (env : Values) (ws : List Write) (new : Frame) → rows ≡ work.rows → env ≡ work.env → ws ≡ [] → os ≡ code_ops work.code
+    → RunsTo rows work.piece.txn os (record { env = env; tables = written (written empty rows) ws }) new → IsOutcomeOf work new
+outcome_of work rows os env ws new same_rows same_env none same_code runs =
+    subst (λ (xs : List Write). RunsTo xs work.piece.txn (code_ops work.code) (record { env = work.env; tables = written empty xs }) new) same_rows
+    (subst (λ (xs : List NumberedOp). RunsTo rows work.piece.txn xs (record { env = work.env; tables = written empty rows }) new) same_code
+    (subst (λ (s : State). RunsTo rows work.piece.txn os s new) (λ i. record { env = same_env i; tables = written (written empty rows) (none i) }) runs))

@@ -1,10 +1,9 @@
 -- One operation of a piece: from what its effect made of the frame to what the operation means.
-use Rattle.std.proofs.Common.{◌≡◌, ℕ, ◌==◌, Bool, true, false, cond, ◌&&◌, ◌||◌, List, [], ◌∷◌, Option, Some, None, Result, Ok, Err, refl, sym, ap, ◌∙◌, subst}
+use Rattle.std.proofs.Common.{◌≡◌, ℕ, ◌==◌, Bool, true, false, cond, ◌&&◌, ◌||◌, List, Option, Some, None, Result, Ok, Err, refl, sym, ap, ◌∙◌, subst}
 use Rattle.std.specs.Prelude.{OnOk, is_some, is_ok}
-use Rattle.std.specs.FinMap.{get, insert, empty}
+use Rattle.std.specs.FinMap.{get, empty}
 use Rattle.pac_value.specs.declared.values.Value.{Value}
 use Rattle.pac_value.specs.declared.values.Value.TheVariants.{Int, Text, Bool as Truth}
-use Rattle.pac_value.specs.declared.expr.Trap.{Trap}
 use Rattle.pac_value.specs.Expressions.{Values, value, ◌>>=◌}
 use Rattle.pac_value.specs.State.{Cell, RowValues}
 use Rattle.pac_ops.specs.declared.reason.Reason.{Reason}
@@ -13,7 +12,7 @@ use Rattle.pac_ops.specs.declared.program.OpKind.TheVariants.{Let, Cond, Read, H
 use Rattle.pac_ops.specs.Reasons.{or_abort}
 use Rattle.pac_ops.specs.Notes.{note_at, first_note, least}
 use Rattle.pac_ops.specs.Uses.{defined_variable, modifies}
-use Rattle.pac_ops.specs.Operations.{State, Effect, Nothing, Gives, Leaves, values, replaced, unless_asked, touched, effect, row_at, with_effect, define, done}
+use Rattle.pac_ops.specs.Operations.{Effect, Nothing, Gives, Leaves, values, replaced, unless_asked, touched, effect, row_at, with_effect, define, done}
 use Rattle.pac_ops.specs.Flat.{all_hold, default_of, reason_in}
 use Rattle.pac_ops.specs.Defaults.{trapped_type}
 use Rattle.pac_ops.specs.Effects.{NumberedOp, cell_in, is_var}
@@ -21,7 +20,7 @@ use Rattle.pac_ops.proofs.StateLemmas.{get-given, least_none}
 use Rattle.pac_tables.specs.declared.writes.Write.{Write}
 use Rattle.pac_tables.specs.Written.{IsOnce, is_written, written}
 use Rattle.pac_piece.specs.declared.frame.Frame.{Frame}
-use Rattle.pac_piece.specs.Frames.{seen, defaulted, done_or_defaulted, after_op, cell_changed, is_cell, AreIn, Given, StepsTo}
+use Rattle.pac_piece.specs.Frames.{seen, defaulted, done_or_defaulted, cell_changed, is_cell, AreIn, Given, StepsTo}
 use Rattle.pac_piece.specs.Steps.{cell_left, var_left, Applies, GivesUp}
 
 pub on_ok : {A E P Q : Type 0} (r : Result A E) → (P → Q) → OnOk r P → OnOk r Q

@@ -1,5 +1,5 @@
 -- What the execution of an operation answers, and when it can be executed.
-use Rattle.std.specs.Prelude.{◌≡◌, ℕ, List, length, Option, Some, None, Result, Ok, Err, IsSome, IsTrue}
+use Rattle.std.specs.Prelude.{◌≡◌, length, Some, Result, Ok, Err, IsSome, IsTrue}
 use Rattle.std.specs.List.{AllByRecursion}
 use Rattle.pac_value.specs.declared.values.Ty.TheVariants.{Bool as BoolTy}
 use Rattle.pac_value.specs.declared.expr.Expr.{Expr}

@@ -6,3 +6,4 @@ pub mod Records
 pub mod Values
 pub mod Results
 pub mod Runnable
+pub mod PieceLaws

@@ -3,7 +3,7 @@ use Rattle.std.specs.Prelude.{ℕ, List, Option, Some, None, map}
 use Rattle.pac_value.specs.State.{Cell, RowValues}
 use Rattle.pac_ops.specs.declared.transaction.Change.{Change}
 use Rattle.pac_ops.specs.declared.transaction.Change.TheVariants.{Put, Delete}
-use Rattle.pac_ops.specs.Operations.{Effect, Leaves}
+use Rattle.pac_ops.specs.Operations.{Leaves}
 use Rattle.pac_ops.specs.Effects.{numbered_from, record_op}
 use Rattle.pac_tables.specs.declared.writes.Write.{Write}
 use Rattle.pac_piece.specs.declared.frame.Frame.{Frame}

@@ -1,7 +1,6 @@
 -- The value of work: what its operations leave.
-use Rattle.std.specs.Prelude.{◌≡◌, ℕ, List, Option, Some, is_some}
+use Rattle.std.specs.Prelude.{◌≡◌, ℕ, List, Option, is_some}
 use Rattle.std.specs.FinMap.{get, empty}
-use Rattle.pac_value.specs.declared.values.Value.{Value}
 use Rattle.pac_value.specs.Expressions.{Values}
 use Rattle.pac_value.specs.State.{Cell}
 use Rattle.pac_ops.specs.declared.note.Note.{Note}

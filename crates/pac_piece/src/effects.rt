@@ -103,12 +103,7 @@ fn row_of(alloc: Global, exprs: &[Expr], env: &Env) -> Result<Row, Failed>
 }
 
 // A copy of the row with another value in a column.
-fn replaced(
-    alloc: Global,
-    row: Option<&Row>,
-    column: u16,
-    value: Value,
-) -> Result<Row, Failed>
+fn replaced(alloc: Global, row: Option<&Row>, column: u16, value: Value) -> Result<Row, Failed>
     requires { IsTrue (is_stored value) }
     ensures { Gives result (replaced (option_map (λ r. r.now) row.entry) column value) }
 {

@@ -1,12 +1,36 @@
-//! Work of pieces on copies.
+//! The work of a piece, apart from all that other pieces do: over its inputs and copies of the rows that it may touch.
+//!
+//! - [`Work`]: a piece, its code, its inputs and its copies of rows.
+//! - [`run`]: does the work. It requires that the work is that of a piece of a plan (`IsRunnable`), and fails only where it
+//!   is out of memory; then the work comes back.
+//! - [`Done`]: work with its value, which it keeps by its type: the rows that it wrote, the variables that it gave values,
+//!   and its least note. [`Done::into_work`] gives the work back.
+//! - [`is_value`] and [`work_means_piece`] are laws: functions that do nothing, whose clauses say what holds of work that is
+//!   done, and that its value is what the piece means in its plan. With the law `work` of `pac_commute` this is the piece
+//!   applied to the state, once writes and values are put in.
+//!
+//! ```
+//! let work = Work { piece, code, env, rows };
+//! match run(alloc, work) {
+//!     Ok(done) => put(done.writes(), done.outs(), done.note()),
+//!     Err((work, NoMemory)) => give_back(work),
+//! }
+//! ```
+//!
+//! Operations run in their order, and each sees the rows that those before it wrote. One whose conditions don't all hold does
+//! nothing. One that would abort gives its variable the default of its type and leaves a note. The type is plain from the
+//! operation, so that no types of variables are at hand: an operator of arithmetic gives an int, any other a bool.
+//! `specs/Frames.antt` says what operations leave in these words, and `specs/Values.antt` what the value of work is.
 #![tactic(auto)]
 
 mod changes;
 mod effects;
 mod failed;
 mod frame;
+mod laws;
 mod run_all;
 mod run_op;
 mod work;
 
+pub use laws::work_means_piece;
 pub use work::{Done, Work, is_value, run};

@@ -95,12 +95,7 @@ pub(crate) fn apply(
 }
 
 // An operation would abort: it leaves a note, and its variable gets the default.
-fn give_up(
-    txn: u64,
-    op: &(u16, FlatOp),
-    reason: Reason,
-    frame: &mut Frame,
-) -> Result<(), NoMemory>
+fn give_up(txn: u64, op: &(u16, FlatOp), reason: Reason, frame: &mut Frame) -> Result<(), NoMemory>
     ensures { OnOk result (GivesUp txn op.now reason frame.old frame.new) }
 {
     let note = Note {

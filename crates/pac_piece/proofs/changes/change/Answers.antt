@@ -1,5 +1,5 @@
 -- It takes the place of the write at its cell, or is added.
-use Rattle.std.proofs.Common.{◌≡◌, ap, sym, ◌∙◌, subst, List, refl, get_or}
+use Rattle.std.proofs.Common.{ap, sym, ◌∙◌, subst, List, refl}
 use Rattle.std.proofs.lemmas.Option.{slice_get-get_or, same_Some}
 use Rattle.pac_value.specs.State.{Cell}
 use Rattle.pac_tables.specs.declared.writes.Write.{Write}

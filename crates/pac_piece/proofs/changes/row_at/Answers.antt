@@ -1,8 +1,7 @@
 -- The first write at the cell says what stands there, and the copies where there is none.
-use Rattle.std.proofs.Common.{◌≡◌, ap, sym, ◌∙◌}
+use Rattle.std.proofs.Common.{sym, ◌∙◌}
 use Rattle.std.specs.FinMap.{empty}
 use Rattle.pac_value.specs.State.{Cell}
-use Rattle.pac_tables.specs.declared.writes.Write.{Write}
 use Rattle.pac_tables.specs.Written.{written}
 use Rattle.pac_piece.proofs.WriteLookups.{first_at, get-found, get-none, none_at}
 use Rattle.pac_piece.proofs.changes.row_at.Goals as goal

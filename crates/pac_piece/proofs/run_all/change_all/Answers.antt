@@ -1,9 +1,8 @@
 -- One record more is executed.
-use Rattle.std.proofs.Common.{◌≡◌, ◌<◌, ◌≤◌, ◌+◌, ℕ, List, [], ◌∷◌, length, map, drop, refl, sym, ap, ◌∙◌, subst, arith}
+use Rattle.std.proofs.Common.{◌≡◌, ◌<◌, ◌+◌, List, [], ◌∷◌, length, map, drop, sym, ap, ◌∙◌, subst, arith}
 use Rattle.std.proofs.lemmas.List.{drop_more, drop_all}
 use Rattle.pac_ops.specs.declared.transaction.Change.{Change}
-use Rattle.pac_ops.specs.Effects.{NumberedOp, numbered_from, record_op}
-use Rattle.pac_tables.specs.Written.{IsOnce}
+use Rattle.pac_ops.specs.Effects.{numbered_from, record_op}
 use Rattle.pac_piece.specs.Frames.{RunsOn, seen}
 use Rattle.pac_piece.proofs.RunLemmas.{starts, goes_on, ends, record_steps}
 use Rattle.pac_piece.proofs.run_all.change_all.Goals as goal

@@ -1,5 +1,5 @@
 -- A variable gets a value.
-use Rattle.std.proofs.Common.{◌≡◌, sym, ap, subst}
+use Rattle.std.proofs.Common.{sym, subst}
 use Rattle.std.specs.Prelude.{OnOk}
 use Rattle.pac_piece.specs.declared.effects.OpEffect.{OpEffect}
 use Rattle.pac_piece.specs.Effects.{effect_of}

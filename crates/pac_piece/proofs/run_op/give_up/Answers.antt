@@ -1,5 +1,5 @@
 -- A note, and the default of the variable.
-use Rattle.std.proofs.Common.{◌≡◌, refl, sym, ap, ◌∙◌}
+use Rattle.std.proofs.Common.{refl, sym, ap, ◌∙◌}
 use Rattle.pac_ops.specs.Flat.{default_of}
 use Rattle.pac_piece.proofs.StepLemmas.{on_ok, gives_up}
 use Rattle.pac_piece.proofs.run_op.give_up.Goals as goal

@@ -1,5 +1,5 @@
 -- The operation has its effect.
-use Rattle.std.proofs.Common.{◌≡◌, true, false, not, sym, ap, ◌∙◌, subst}
+use Rattle.std.proofs.Common.{◌≡◌, true, subst}
 use Rattle.pac_ops.specs.Flat.{all_hold}
 use Rattle.pac_piece.specs.Frames.{seen}
 use Rattle.pac_piece.specs.Effects.{effect_of}

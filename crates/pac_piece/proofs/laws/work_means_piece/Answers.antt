@@ -1,0 +1,5 @@
+use Rattle.pac_piece.proofs.MeaningLemmas.{work_means_piece}
+use Rattle.pac_piece.proofs.laws.work_means_piece.Goals as goal
+
+pub returns : goal.returns
+returns c = work_means_piece

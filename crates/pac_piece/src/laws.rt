@@ -1,0 +1,7 @@
+// What holds of all work. Each law is a function that does nothing.
+ghost use Rattle.pac_piece.specs.PieceLaws.{WorkMeansPiece};
+
+/// The value of work is what the piece means in its plan, on the inputs and the rows that the work has.
+pub fn work_means_piece()
+    ensures { WorkMeansPiece }
+{}
