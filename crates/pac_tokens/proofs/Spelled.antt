@@ -97,6 +97,7 @@ symbol_found symbol.LessEqual = refl
 symbol_found symbol.GreaterEqual = refl
 symbol_found symbol.And = refl
 symbol_found symbol.Or = refl
+symbol_found symbol.Range = refl
 
 pub keyword_short : (k : Keyword) → length (keyword_spelling k) ≤ 32
 keyword_short keyword.Table = omega arith
@@ -165,6 +166,7 @@ symbol_some symbol.LessEqual = omega arith
 symbol_some symbol.GreaterEqual = omega arith
 symbol_some symbol.And = omega arith
 symbol_some symbol.Or = omega arith
+symbol_some symbol.Range = omega arith
 
 pub symbol_short : (s : Symbol) → length (symbol_spelling s) ≤ 2
 symbol_short symbol.OpenParen = omega arith
@@ -191,6 +193,7 @@ symbol_short symbol.LessEqual = omega arith
 symbol_short symbol.GreaterEqual = omega arith
 symbol_short symbol.And = omega arith
 symbol_short symbol.Or = omega arith
+symbol_short symbol.Range = omega arith
 
 -- ---- the class of a token, which its first byte settles: a word, digits, a text, a symbol
 
@@ -260,6 +263,7 @@ symbol_class symbol.LessEqual = refl
 symbol_class symbol.GreaterEqual = refl
 symbol_class symbol.And = refl
 symbol_class symbol.Or = refl
+symbol_class symbol.Range = refl
 
 digit_class : (b : ℕ) → is_digit b ≡ true → class b ≡ 1
 digit_class b h = let no_letter : is_letter b ≡ false = grind arith in rw (no_letter, h) refl

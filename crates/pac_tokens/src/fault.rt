@@ -15,7 +15,7 @@ pub enum FaultKind {
     Expected,
     /// A name, a literal or the whole text is too long.
     TooLong,
-    /// Too many parentheses are open at once, or too many conditionals stand one in another.
+    /// Too many parentheses are open at once, or too many conditionals and loops stand one in another.
     TooDeep,
     /// There are too many of a kind.
     TooMany,

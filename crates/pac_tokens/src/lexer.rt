@@ -177,6 +177,7 @@ fn long_symbol(first: u8, second: u8) -> Option<Symbol>
         b'>' if second == b'=' => Some(Symbol::GreaterEqual),
         b'&' if second == b'&' => Some(Symbol::And),
         b'|' if second == b'|' => Some(Symbol::Or),
+        b'.' if second == b'.' => Some(Symbol::Range),
         _ => None,
     }
 }

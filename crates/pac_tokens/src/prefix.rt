@@ -10,7 +10,7 @@ use crate::text::text;
 use crate::token::Token;
 use pac_value::{Name, Value};
 
-/// How many bytes the name at the start has. `None`: another token stands there, or none.
+/// How many bytes the name at the start has. `None`: another token stands there, a name that is too long, or none.
 pub fn leading_name(bytes: &[u8]) -> Option<usize>
     ensures name { IfSome result (λ len. IsPlainNext bytes.now (token.Name (take len bytes.now)) len) }
     ensures within { IfSome result (λ len. len ≤ length bytes.now) }
@@ -42,7 +42,8 @@ fn value_of(token: Token) -> Option<Value>
     }
 }
 
-/// The int or text at the start, and how many bytes it has, its quotes too. `None`: another token stands there, or none.
+/// The int or text at the start, and how many bytes it has, its quotes too. `None`: another token stands there, an int
+/// above the greatest `i64`, a text that is too long or not well formed, or none.
 pub fn leading_literal(bytes: &[u8]) -> Option<(Value, usize)>
     ensures literal { IfSome result (λ p. IsPlainNext bytes.now (literal_token p.0) p.1) }
     ensures within { IfSome result (λ p. p.1 ≤ length bytes.now) }

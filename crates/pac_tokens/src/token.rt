@@ -108,10 +108,12 @@ pub enum Symbol {
     GreaterEqual,
     And,
     Or,
+    /// `..`
+    Range,
 }
 
 /// Every symbol, among which `specs/` says what bytes spell one.
-pub const SYMBOLS: [Symbol; 24] = [
+pub const SYMBOLS: [Symbol; 25] = [
     Symbol::OpenParen,
     Symbol::CloseParen,
     Symbol::OpenBrace,
@@ -136,6 +138,7 @@ pub const SYMBOLS: [Symbol; 24] = [
     Symbol::GreaterEqual,
     Symbol::And,
     Symbol::Or,
+    Symbol::Range,
 ];
 
 impl Symbol {
@@ -168,6 +171,7 @@ impl Symbol {
             Symbol::GreaterEqual => b">=",
             Symbol::And => b"&&",
             Symbol::Or => b"||",
+            Symbol::Range => b"..",
         }
     }
 }
