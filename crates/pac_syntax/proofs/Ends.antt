@@ -13,6 +13,7 @@ use Rattle.pac_tokens.specs.declared.token.Token.TheVariants as token
 use Rattle.pac_tokens.specs.declared.token.Spanned.{Spanned}
 use Rattle.pac_syntax.specs.declared.parse.statement.StatementWord.{StatementWord}
 use Rattle.pac_syntax.specs.declared.parse.statement.StatementWord.TheVariants as word
+use Rattle.pac_syntax.specs.declared.limits.Around.{Around}
 use Rattle.pac_syntax.specs.declared.tree.NameNode.{NameNode}
 use Rattle.pac_syntax.specs.declared.tree.LiteralNode.{LiteralNode}
 use Rattle.pac_syntax.specs.declared.tree.ColumnNode.{ColumnNode}
@@ -22,8 +23,8 @@ use Rattle.pac_syntax.specs.declared.tree.StmtNode.TheVariants as stmt
 use Rattle.pac_syntax.specs.declared.tree.TableNode.{TableNode}
 use Rattle.pac_syntax.specs.declared.tree.ProcNode.{ProcNode}
 use Rattle.pac_syntax.specs.declared.tree.Tree.{Tree}
-use Rattle.pac_syntax.specs.Grammar.{LiteralForm, AnInt, ANegative, AText, ATrue, AFalse, ExprForm, ALiteral, AName, ANot, AParen, ABinary, ValuesForm, NoValue, AValue, StmtsForm, NoStmt, ALet, ARead, AHas, APut, ASet, ADelete, AnAbort, AnIf, AnIfElse, TypeForm, AnIntType, ATextType, ColumnsForm, NoColumn, AColumn, ParamsForm, NoParam, AParam, TablesForm, NoTable, ATable, ProcsForm, NoProc, AProc, operator_symbol, precedence, left_level, AtLevel, AreValues, AreStmts, AreProcs, literal_node, expr_node, value_nodes, stmt_nodes, type_of_form, column_node, column_nodes, param_nodes, table_nodes, proc_nodes, Role, Plain, TableWord, ProcWord, ParamName, Operator, Paren, Nested, Marked, marked, keyword_mark, symbol_mark, name_mark, type_mark, literal_before, counted, expr_before, whole_before, values_before, stmts_before, columns_before, params_before, tables_before, procs_before, Whole}
-use Rattle.pac_syntax.specs.Machine.{Begun, Steps, Done, Want, WantName, WantType, WantLiteral, WantNegative, Level, Rest, MoreValues, MoreStmts, MaybeElse, MoreColumns, SomeParams, MoreTables, MoreProcs, Next, next, want_expr, begun_name, begun_literal, begun_binary, top, lay, negation_steps, paren_steps, stmt_steps, block_steps, if_steps, column_steps, typed_steps, table_steps, proc_steps, start, literal_at, is_same_keyword_or_symbol, name_in, type_of_token, operator_of, operator_in, operator_at, of_precedence, or_else, where_true, where_some, literal_begins, negative_in, operand_begins, stmt_begins, feed, finish}
+use Rattle.pac_syntax.specs.Grammar.{LiteralForm, AnInt, ANegative, AText, ATrue, AFalse, ExprForm, ALiteral, AName, ANot, AParen, ABinary, ValuesForm, NoValue, AValue, StmtsForm, NoStmt, ALet, ARead, AHas, APut, ASet, ADelete, AnAbort, AnIf, AnIfElse, ALoop, BoundForm, ABound, ANegativeBound, TypeForm, AnIntType, ATextType, ColumnsForm, NoColumn, AColumn, ParamsForm, NoParam, AParam, TablesForm, NoTable, ATable, ProcsForm, NoProc, AProc, operator_symbol, precedence, left_level, AtLevel, AreValues, AreStmts, AreProcs, literal_node, bound_value, inside, in_loop, expr_node, value_nodes, stmt_nodes, type_of_form, column_node, column_nodes, param_nodes, table_nodes, proc_nodes, Role, Plain, TableWord, ProcWord, ParamName, Operator, Paren, Nested, Marked, marked, keyword_mark, symbol_mark, name_mark, type_mark, literal_before, bound_before, last_bound, counted, expr_before, whole_before, values_before, stmts_before, columns_before, params_before, tables_before, procs_before, Whole}
+use Rattle.pac_syntax.specs.Machine.{Begun, Steps, Done, Want, WantName, WantType, WantLiteral, WantNegative, WantBound, WantNegativeBound, Level, Rest, MoreValues, MoreStmts, MaybeElse, MoreColumns, SomeParams, MoreTables, MoreProcs, Next, next, want_expr, begun_name, begun_literal, begun_binary, top, lay, negation_steps, paren_steps, stmt_steps, block_steps, if_steps, for_steps, column_steps, typed_steps, table_steps, proc_steps, start, literal_at, is_same_keyword_or_symbol, name_in, type_of_token, operator_of, operator_in, operator_at, of_precedence, or_else, where_true, where_some, literal_begins, negative_in, bound_begins, negative_bound_in, operand_begins, stmt_begins, feed, finish}
 use Rattle.pac_syntax.proofs.Marks.{is_same_keyword_or_symbol-true}
 use Rattle.pac_syntax.proofs.Running.{Runs}
 use Rattle.pac_syntax.proofs.Words.{begun}
@@ -110,7 +111,7 @@ abbrev pub else_nodes : ElseForm → List StmtNode
 else_nodes NoElse = []
 else_nodes (AnElse p3 p4 s p5) = stmt_nodes s
 
-abbrev pub else_before : ℕ → ElseForm → List Marked → List Marked
+abbrev pub else_before : Around → ElseForm → List Marked → List Marked
 else_before d NoElse rest = rest
 else_before d (AnElse p3 p4 s p5) rest = keyword_mark keyword.Else p3 Plain ∷ symbol_mark symbol.OpenBrace p4 Plain ∷ stmts_before d s (symbol_mark symbol.CloseBrace p5 Plain ∷ rest)
 
@@ -124,6 +125,8 @@ Finishes (WantName role k) z r = (n : NameNode) × (y : List Marked) × (z ≡ n
 Finishes (WantType k) z r = (t : TypeForm) × (y : List Marked) × (z ≡ type_mark t ∷ y) × Finishes (k (type_of_form t)) y r
 Finishes (WantLiteral k) z r = (l : LiteralForm) × (y : List Marked) × (z ≡ literal_before l y) × Finishes (k (literal_node l)) y r
 Finishes (WantNegative minus k) z r = (at : ℕ) × (v : ℤ) × (y : List Marked) × (z ≡ marked (token.Negative v) at Plain ∷ y) × Finishes (k (literal_at minus v)) y r
+Finishes (WantBound role k) z r = (b : BoundForm) × (y : List Marked) × (z ≡ bound_before b (role (bound_value b)) y) × Finishes (k (bound_value b)) y r
+Finishes (WantNegativeBound role k) z r = (at : ℕ) × (v : ℤ) × (y : List Marked) × (z ≡ marked (token.Negative v) at (role v) ∷ y) × Finishes (k v) y r
 Finishes (Level d n o k) z r = (e : ExprForm) × (y : List Marked) × AtLevel n e × (z ≡ expr_before d o e y) × Finishes (k (begun e) (counted o e)) y r
 Finishes (Rest d n x o k) z r = (ts : List Turn) × (y : List Marked) × AreTurns n ts × (z ≡ turns_before d o ts y) × Finishes (k (turned x ts) (counted_turns o ts)) y r
 Finishes (MoreValues vs k) z r = (c : ValuesForm) × (y : List Marked) × AreValues c × (z ≡ values_before c y) × Finishes (k (vs ++ value_nodes c)) y r
@@ -148,6 +151,8 @@ can_end (WantName role k) = let e = can_end (k no_name) in (name_mark no_name ro
 can_end (WantType k) = let e = can_end (k (type_of_form (AnIntType 0))) in (type_mark (AnIntType 0) ∷ e.0, e.1, (AnIntType 0, e.0, refl, e.2))
 can_end (WantLiteral k) = let e = can_end (k (literal_at 0 (pos 0))) in (literal_before (AnInt 0 (pos 0)) e.0, e.1, (AnInt 0 (pos 0), e.0, refl, e.2))
 can_end (WantNegative minus k) = let e = can_end (k (literal_at minus (pos 0))) in (marked (token.Negative (pos 0)) 0 Plain ∷ e.0, e.1, (0, pos 0, e.0, refl, e.2))
+can_end (WantBound role k) = let e = can_end (k (pos 0)) in (bound_before (ABound 0 (pos 0)) (role (pos 0)) e.0, e.1, (ABound 0 (pos 0), e.0, refl, e.2))
+can_end (WantNegativeBound role k) = let e = can_end (k (pos 0)) in (marked (token.Negative (pos 0)) 0 (role (pos 0)) ∷ e.0, e.1, (0, pos 0, e.0, refl, e.2))
 can_end (Level d n o k) = let e = can_end (k (begun (AName no_name)) o) in (name_mark no_name Plain ∷ e.0, e.1, (AName no_name, e.0, tt, refl, e.2))
 can_end (Rest d n x o k) = let e = can_end (k x o) in (e.0, e.1, ([], e.0, tt, refl, e.2))
 can_end (MoreValues vs k) = let e = can_end (k (vs ++ [])) in (e.0, e.1, (NoValue, e.0, tt, refl, e.2))
@@ -235,6 +240,16 @@ literal_leads _ at k n e = absurd cc
 negative_leads : (t : Token) (at minus : ℕ) (k : LiteralNode → Steps) (n : Next) → negative_in t minus k ≡ Some n → Leads (WantNegative minus k) t at n
 negative_leads (token.Negative v) at minus k n e = by_next (WantNegative minus k) (token.Negative v) at (next (k (literal_at minus v)) Plain) n e (λ z r f. (at, v, z, refl, f))
 negative_leads _ at minus k n e = absurd cc
+
+bound_leads : (t : Token) (at : ℕ) (role : ℤ → Role) (k : ℤ → Steps) (n : Next) → bound_begins t role k ≡ Some n → Leads (WantBound role k) t at n
+bound_leads (token.Int v) at role k n e = by_next (WantBound role k) (token.Int v) at (next (k v) (role v)) n e (λ z r f. (ABound at v, z, refl, f))
+bound_leads (token.Symbol symbol.Minus) at role k n e = by_next (WantBound role k) (token.Symbol symbol.Minus) at (next (WantNegativeBound role k) Plain) n e
+    (λ z r f. (ANegativeBound at f.0 f.1, f.2, ap (λ y. symbol_mark symbol.Minus at Plain ∷ y) f.3, f.4))
+bound_leads _ at role k n e = absurd cc
+
+negative_bound_leads : (t : Token) (at : ℕ) (role : ℤ → Role) (k : ℤ → Steps) (n : Next) → negative_bound_in t role k ≡ Some n → Leads (WantNegativeBound role k) t at n
+negative_bound_leads (token.Negative v) at role k n e = by_next (WantNegativeBound role k) (token.Negative v) at (next (k v) (role v)) n e (λ z r f. (at, v, z, refl, f))
+negative_bound_leads _ at role k n e = absurd cc
 
 -- a literal as an operand of a level
 literal_operand_leads : (t : Token) (at d m : ℕ) (k : Begun → ℕ → Steps) (o : ℕ) (n : Next) → literal_begins t at (λ l. lay d m k (begun_literal l) o) ≡ Some n → Leads (Level d m o k) t at n
@@ -352,7 +367,7 @@ values_lead vs k t n true is e others =
 -- ---- statements
 
 abbrev StmtLeads : StatementWord → Token → Role → Type 0
-StmtLeads w t role = (d : ℕ) (ss : List StmtNode) (k : List StmtNode → Steps) (at : ℕ) → Leads (MoreStmts d ss k) t at (next (stmt_steps d w (λ s. MoreStmts d (ss ++ (s ∷ [])) k)) role)
+StmtLeads w t role = (d : Around) (ss : List StmtNode) (k : List StmtNode → Steps) (at : ℕ) → Leads (MoreStmts d ss k) t at (next (stmt_steps d at w (λ s. MoreStmts d (ss ++ (s ∷ [])) k)) role)
 
 let_leads : StmtLeads word.Let (token.Keyword keyword.Let) Plain
 let_leads d ss k at z r f =
@@ -474,15 +489,15 @@ abort_leads d ss k at z r f =
     )
 
 -- a conditional, with an `else` or without
-if_leads_as : (other : ElseForm) (d at : ℕ) (ss : List StmtNode) (k : List StmtNode → Steps) (e : ExprForm) (p1 : ℕ) (first : StmtsForm) (p2 : ℕ) (s : StmtsForm) (y : List Marked) (r : Tree)
+if_leads_as : (other : ElseForm) (d : Around) (at : ℕ) (ss : List StmtNode) (k : List StmtNode → Steps) (e : ExprForm) (p1 : ℕ) (first : StmtsForm) (p2 : ℕ) (s : StmtsForm) (y : List Marked) (r : Tree)
     → AtLevel 5 e → AreStmts first → IsElse other → AreStmts s → Finishes (k ((ss ++ (stmt.If (expr_node e) (stmt_nodes first) (else_nodes other) ∷ [])) ++ stmt_nodes s)) y r
-    → Finishes (MoreStmts d ss k) (keyword_mark keyword.If at (Nested (suc d)) ∷ whole_before e (symbol_mark symbol.OpenBrace p1 Plain ∷ stmts_before (suc d) first (symbol_mark symbol.CloseBrace p2 Plain ∷ else_before (suc d) other (stmts_before d s y)))) r
+    → Finishes (MoreStmts d ss k) (keyword_mark keyword.If at (Nested (suc d.nested)) ∷ whole_before e (symbol_mark symbol.OpenBrace p1 Plain ∷ stmts_before (inside d) first (symbol_mark symbol.CloseBrace p2 Plain ∷ else_before (inside d) other (stmts_before d s y)))) r
 if_leads_as NoElse d at ss k e p1 first p2 s y r le lf lo ls f =
     (AnIf at e p1 first p2 s, y, (le, lf, ls), refl, subst (λ (xs : List StmtNode). Finishes (k xs) y r) (append_assoc ss (stmt.If (expr_node e) (stmt_nodes first) [] ∷ []) (stmt_nodes s)) f)
 if_leads_as (AnElse p3 p4 second p5) d at ss k e p1 first p2 s y r le lf lo ls f =
     (AnIfElse at e p1 first p2 p3 p4 second p5 s, y, (le, lf, lo, ls), refl, subst (λ (xs : List StmtNode). Finishes (k xs) y r) (append_assoc ss (stmt.If (expr_node e) (stmt_nodes first) (stmt_nodes second) ∷ []) (stmt_nodes s)) f)
 
-if_leads : (d : ℕ) (ss : List StmtNode) (k : List StmtNode → Steps) (at : ℕ) → Leads (MoreStmts d ss k) (token.Keyword keyword.If) at (next (if_steps d (λ s. MoreStmts d (ss ++ (s ∷ [])) k)) (Nested (suc d)))
+if_leads : (d : Around) (ss : List StmtNode) (k : List StmtNode → Steps) (at : ℕ) → Leads (MoreStmts d ss k) (token.Keyword keyword.If) at (next (if_steps d (λ s. MoreStmts d (ss ++ (s ∷ [])) k)) (Nested (suc d.nested)))
 if_leads d ss k at z r f =
     let e = f in
     let brace = e.4 in
@@ -490,23 +505,45 @@ if_leads d ss k at z r f =
     let shut = first.4 in
     let other = shut.3 in
     let g = other.4 in
-    let text = e.3 ∙ ap (whole_before e.0) (after brace.2 (first.3 ∙ ap (stmts_before (suc d) first.0) (after shut.2 (other.3 ∙ ap (else_before (suc d) other.0) g.3)))) in
+    let text = e.3 ∙ ap (whole_before e.0) (after brace.2 (first.3 ∙ ap (stmts_before (inside d) first.0) (after shut.2 (other.3 ∙ ap (else_before (inside d) other.0) g.3)))) in
     rw text (if_leads_as other.0 d at ss k e.0 brace.0 first.0 shut.0 g.0 g.1 r e.2 first.2 other.2 g.2 g.4)
 
-stmts_lead : (t : Token) (at : ℕ) (whole : Spanned) (d : ℕ) (ss : List StmtNode) (k : List StmtNode → Steps) (n : Next)
-    → or_else (stmt_begins d t (λ s. MoreStmts d (ss ++ (s ∷ [])) k)) (feed (k ss) whole) ≡ Some n
+for_leads : (d : Around) (ss : List StmtNode) (k : List StmtNode → Steps) (at : ℕ) → Leads (MoreStmts d ss k) (token.Keyword keyword.For) at (next (for_steps d at (λ s. MoreStmts d (ss ++ (s ∷ [])) k)) (Nested (suc d.nested)))
+for_leads d ss k at z r f =
+    let x = f in
+    let word = x.3 in
+    let from = word.3 in
+    let dots = from.3 in
+    let to = dots.3 in
+    let brace = to.3 in
+    let body = brace.3 in
+    let shut = body.4 in
+    let g = shut.3 in
+    let low = bound_value from.0 in
+    let high = bound_value to.0 in
+    let block = brace.2 ∙ ap (λ y. symbol_mark symbol.OpenBrace brace.0 Plain ∷ y) (body.3 ∙ ap (stmts_before (in_loop d low high) body.0) (after shut.2 g.3)) in (
+      ALoop at x.0 word.0 from.0 dots.0 to.0 brace.0 body.0 shut.0 g.0,
+      g.1,
+      (body.2, g.2),
+      ap (λ y. keyword_mark keyword.For at (Nested (suc d.nested)) ∷ y) (after x.2 (after word.2 (from.2 ∙ ap (bound_before from.0 Plain) (after dots.2 (to.2 ∙ ap (bound_before to.0 (last_bound d at low high)) block))))),
+      subst (λ (xs : List StmtNode). Finishes (k xs) g.1 r) (append_assoc ss (stmt.For x.0 low high (stmt_nodes body.0) ∷ []) (stmt_nodes g.0)) g.4,
+    )
+
+stmts_lead : (t : Token) (at : ℕ) (whole : Spanned) (d : Around) (ss : List StmtNode) (k : List StmtNode → Steps) (n : Next)
+    → or_else (stmt_begins d t at (λ s. MoreStmts d (ss ++ (s ∷ [])) k)) (feed (k ss) whole) ≡ Some n
     → (feed (k ss) whole ≡ Some n → Leads (k ss) t at n) → Leads (MoreStmts d ss k) t at n
-stmts_lead (token.Keyword keyword.Let) at whole d ss k n e others = by_next (MoreStmts d ss k) (token.Keyword keyword.Let) at (next (stmt_steps d word.Let (λ s. MoreStmts d (ss ++ (s ∷ [])) k)) Plain) n e (let_leads d ss k at)
-stmts_lead (token.Keyword keyword.Read) at whole d ss k n e others = by_next (MoreStmts d ss k) (token.Keyword keyword.Read) at (next (stmt_steps d word.Read (λ s. MoreStmts d (ss ++ (s ∷ [])) k)) Plain) n e (read_leads d ss k at)
-stmts_lead (token.Keyword keyword.Has) at whole d ss k n e others = by_next (MoreStmts d ss k) (token.Keyword keyword.Has) at (next (stmt_steps d word.Has (λ s. MoreStmts d (ss ++ (s ∷ [])) k)) Plain) n e (has_leads d ss k at)
-stmts_lead (token.Keyword keyword.Put) at whole d ss k n e others = by_next (MoreStmts d ss k) (token.Keyword keyword.Put) at (next (stmt_steps d word.Put (λ s. MoreStmts d (ss ++ (s ∷ [])) k)) Plain) n e (put_leads d ss k at)
-stmts_lead (token.Keyword keyword.Set) at whole d ss k n e others = by_next (MoreStmts d ss k) (token.Keyword keyword.Set) at (next (stmt_steps d word.Set (λ s. MoreStmts d (ss ++ (s ∷ [])) k)) Plain) n e (set_leads d ss k at)
-stmts_lead (token.Keyword keyword.Delete) at whole d ss k n e others = by_next (MoreStmts d ss k) (token.Keyword keyword.Delete) at (next (stmt_steps d word.Delete (λ s. MoreStmts d (ss ++ (s ∷ [])) k)) Plain) n e (delete_leads d ss k at)
-stmts_lead (token.Keyword keyword.Abort) at whole d ss k n e others = by_next (MoreStmts d ss k) (token.Keyword keyword.Abort) at (next (stmt_steps d word.Abort (λ s. MoreStmts d (ss ++ (s ∷ [])) k)) Plain) n e (abort_leads d ss k at)
-stmts_lead (token.Keyword keyword.If) at whole d ss k n e others = by_next (MoreStmts d ss k) (token.Keyword keyword.If) at (next (if_steps d (λ s. MoreStmts d (ss ++ (s ∷ [])) k)) (Nested (suc d))) n e (if_leads d ss k at)
+stmts_lead (token.Keyword keyword.Let) at whole d ss k n e others = by_next (MoreStmts d ss k) (token.Keyword keyword.Let) at (next (stmt_steps d at word.Let (λ s. MoreStmts d (ss ++ (s ∷ [])) k)) Plain) n e (let_leads d ss k at)
+stmts_lead (token.Keyword keyword.Read) at whole d ss k n e others = by_next (MoreStmts d ss k) (token.Keyword keyword.Read) at (next (stmt_steps d at word.Read (λ s. MoreStmts d (ss ++ (s ∷ [])) k)) Plain) n e (read_leads d ss k at)
+stmts_lead (token.Keyword keyword.Has) at whole d ss k n e others = by_next (MoreStmts d ss k) (token.Keyword keyword.Has) at (next (stmt_steps d at word.Has (λ s. MoreStmts d (ss ++ (s ∷ [])) k)) Plain) n e (has_leads d ss k at)
+stmts_lead (token.Keyword keyword.Put) at whole d ss k n e others = by_next (MoreStmts d ss k) (token.Keyword keyword.Put) at (next (stmt_steps d at word.Put (λ s. MoreStmts d (ss ++ (s ∷ [])) k)) Plain) n e (put_leads d ss k at)
+stmts_lead (token.Keyword keyword.Set) at whole d ss k n e others = by_next (MoreStmts d ss k) (token.Keyword keyword.Set) at (next (stmt_steps d at word.Set (λ s. MoreStmts d (ss ++ (s ∷ [])) k)) Plain) n e (set_leads d ss k at)
+stmts_lead (token.Keyword keyword.Delete) at whole d ss k n e others = by_next (MoreStmts d ss k) (token.Keyword keyword.Delete) at (next (stmt_steps d at word.Delete (λ s. MoreStmts d (ss ++ (s ∷ [])) k)) Plain) n e (delete_leads d ss k at)
+stmts_lead (token.Keyword keyword.Abort) at whole d ss k n e others = by_next (MoreStmts d ss k) (token.Keyword keyword.Abort) at (next (stmt_steps d at word.Abort (λ s. MoreStmts d (ss ++ (s ∷ [])) k)) Plain) n e (abort_leads d ss k at)
+stmts_lead (token.Keyword keyword.If) at whole d ss k n e others = by_next (MoreStmts d ss k) (token.Keyword keyword.If) at (next (if_steps d (λ s. MoreStmts d (ss ++ (s ∷ [])) k)) (Nested (suc d.nested))) n e (if_leads d ss k at)
+stmts_lead (token.Keyword keyword.For) at whole d ss k n e others = by_next (MoreStmts d ss k) (token.Keyword keyword.For) at (next (for_steps d at (λ s. MoreStmts d (ss ++ (s ∷ [])) k)) (Nested (suc d.nested))) n e (for_leads d ss k at)
 stmts_lead t at whole d ss k n e others = λ z r f. (NoStmt, marked t at n.role ∷ z, tt, refl, subst (λ (xs : List StmtNode). Finishes (k xs) (marked t at n.role ∷ z) r) (sym (append-nil ss)) (others e z r f))
 
-else_leads : (d : ℕ) (k : List StmtNode → Steps) (t : Spanned) (n : Next) (b : Bool) → is_same_keyword_or_symbol (token.Keyword keyword.Else) t.token ≡ b
+else_leads : (d : Around) (k : List StmtNode → Steps) (t : Spanned) (n : Next) (b : Bool) → is_same_keyword_or_symbol (token.Keyword keyword.Else) t.token ≡ b
     → or_else (where_true b (next (block_steps d k) Plain)) (feed (k []) t) ≡ Some n
     → Others (k []) t n → Leads (MaybeElse d k) t.token t.at n
 else_leads d k t n false is e others = λ z r f. (NoElse, marked t.token t.at n.role ∷ z, tt, refl, others e z r f)
@@ -603,6 +640,8 @@ feeds (WantName role k) t n e = name_leads t.token t.at role k n e
 feeds (WantType k) t n e = type_leads t.token t.at k n e
 feeds (WantLiteral k) t n e = literal_leads t.token t.at k n e
 feeds (WantNegative minus k) t n e = negative_leads t.token t.at minus k n e
+feeds (WantBound role k) t n e = bound_leads t.token t.at role k n e
+feeds (WantNegativeBound role k) t n e = negative_bound_leads t.token t.at role k n e
 feeds (Level d m o k) t n e = operand_leads t.token t.at d m k o n e
 feeds (Rest d m x o k) t n e = rest_leads (operator_at m t.token) d m x o k t n refl e (feeds (k x o) t n)
 feeds (MoreValues vs k) t n e = values_lead vs k t n (is_same_keyword_or_symbol (token.Symbol symbol.Comma) t.token) refl e (feeds (k vs) t n)
@@ -622,6 +661,8 @@ finish_ends (WantName role k) r e = absurd cc
 finish_ends (WantType k) r e = absurd cc
 finish_ends (WantLiteral k) r e = absurd cc
 finish_ends (WantNegative minus k) r e = absurd cc
+finish_ends (WantBound role k) r e = absurd cc
+finish_ends (WantNegativeBound role k) r e = absurd cc
 finish_ends (Level d n o k) r e = absurd cc
 finish_ends (Rest d n x o k) r e = ([], [], tt, refl, finish_ends (k x o) r e)
 finish_ends (MoreValues vs k) r e = (NoValue, [], tt, refl, subst (λ (xs : List ExprNode). Finishes (k xs) [] r) (sym (append-nil vs)) (finish_ends (k vs) r e))

@@ -56,6 +56,7 @@ symbol_decoded symbol.LessEqual = refl
 symbol_decoded symbol.GreaterEqual = refl
 symbol_decoded symbol.And = refl
 symbol_decoded symbol.Or = refl
+symbol_decoded symbol.Range = refl
 
 pub keyword_code-injective : (a b : Keyword) → keyword_code a ≡ keyword_code b → a ≡ b
 keyword_code-injective a b e = sym (keyword_decoded a) ∙ ap (λ n. get_or KEYWORDS n keyword.Table) e ∙ keyword_decoded b

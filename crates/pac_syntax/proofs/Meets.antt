@@ -8,7 +8,7 @@ use Rattle.pac_tokens.specs.declared.fault.FaultKind.{FaultKind}
 use Rattle.pac_tokens.specs.declared.fault.FaultKind.TheVariants.{Expected, TooDeep, TooMany}
 use Rattle.pac_tokens.specs.declared.fault.Fault.{Fault}
 use Rattle.pac_syntax.specs.declared.tree.Tree.{Tree}
-use Rattle.pac_syntax.specs.Grammar.{Role, Plain, TableWord, ProcWord, ColumnName, ParamName, Operator, Paren, Nested, Marked, Whole, tokens_of}
+use Rattle.pac_syntax.specs.Grammar.{Role, Plain, TableWord, ProcWord, ColumnName, ParamName, Operator, Paren, Nested, LastBound, Marked, Whole, tokens_of}
 use Rattle.pac_syntax.specs.Faults.{fault_of, over_role, over, IsWithin, ReadsTokens, IsViable, IsUnexpected, IsOverAt, FaultAt, IsFirst, offset, rank}
 use Rattle.pac_syntax.specs.Machine.{Steps, Next, Stop, scan, finish, feed, unexpected, ended, bar, go, start}
 use Rattle.pac_syntax.proofs.Running.{Runs}
@@ -131,6 +131,7 @@ over_limit (ParamName n) at fault e = inr (past_limit (ltb 16 n) TooMany at faul
 over_limit (Operator n) at fault e = inr (past_limit (ltb 64 n) TooMany at fault e)
 over_limit (Paren n) at fault e = inl (past_limit (ltb 16 n) TooDeep at fault e)
 over_limit (Nested n) at fault e = inl (past_limit (ltb 16 n) TooDeep at fault e)
+over_limit (LastBound n loop) at fault e = inr (past_limit (ltb 256 n) TooMany loop fault e)
 
 abbrev a_kind : FaultKind → FaultKind
 a_kind k = k

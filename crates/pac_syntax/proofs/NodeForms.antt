@@ -1,5 +1,5 @@
 -- What a fold gives for each form of an expression's or a statement's node, and induction over those of expressions.
-use Rattle.std.proofs.Common.{◌≡◌, ℕ, List, map, sym, ap, subst, ◌∙◌}
+use Rattle.std.proofs.Common.{◌≡◌, ℕ, ℤ, List, map, sym, ap, subst, ◌∙◌}
 use Rattle.pac_value.specs.declared.expr.BinOp.{BinOp}
 use Rattle.pac_syntax.specs.declared.tree.NameNode.{NameNode}
 use Rattle.pac_syntax.specs.declared.tree.LiteralNode.{LiteralNode}
@@ -9,10 +9,10 @@ use Rattle.pac_syntax.specs.declared.tree.ExprNode.TheOpen.{ExprNode-F}
 use Rattle.pac_syntax.specs.declared.tree.ExprNode.TheVariants.{rolls-Literal, rolls-Name, rolls-Binary, rolls-Not}
 use Rattle.pac_syntax.specs.declared.tree.ExprNode.TheViews.{roll-ExprNode}
 use Rattle.pac_syntax.specs.declared.tree.ExprNode.TheFolds.{fold-ExprNode, fold-roll-ExprNode, ind-ExprNode, map-ExprNode}
-use Rattle.pac_syntax.specs.declared.tree.StmtNode.{StmtNode, Let, Read, Has, Put, Set, Delete, AbortIf, If}
+use Rattle.pac_syntax.specs.declared.tree.StmtNode.{StmtNode, Let, Read, Has, Put, Set, Delete, AbortIf, If, For}
 use Rattle.pac_syntax.specs.declared.tree.StmtNode.TheOpen as form
 use Rattle.pac_syntax.specs.declared.tree.StmtNode.TheOpen.{StmtNode-F}
-use Rattle.pac_syntax.specs.declared.tree.StmtNode.TheVariants.{rolls-Let, rolls-Read, rolls-Has, rolls-Put, rolls-Set, rolls-Delete, rolls-AbortIf, rolls-If}
+use Rattle.pac_syntax.specs.declared.tree.StmtNode.TheVariants.{rolls-Let, rolls-Read, rolls-Has, rolls-Put, rolls-Set, rolls-Delete, rolls-AbortIf, rolls-If, rolls-For}
 use Rattle.pac_syntax.specs.declared.tree.StmtNode.TheFolds.{fold-StmtNode, fold-roll-StmtNode}
 
 module _ (A : Type 0) (step : ExprNode-F A → A) where
@@ -52,6 +52,9 @@ module _ (A : Type 0) (step : StmtNode-F A → A) where
 
   pub fold-If : (test : ExprNode) (first second : List StmtNode) → fold-StmtNode A step (If test first second) ≡ step (form.If test (map (fold-StmtNode A step) first) (map (fold-StmtNode A step) second))
   fold-If test first second = ap (fold-StmtNode A step) (sym (rolls-If test first second)) ∙ fold-roll-StmtNode A step (form.If test first second)
+
+  pub fold-For : (name : NameNode) (from to : ℤ) (body : List StmtNode) → fold-StmtNode A step (For name from to body) ≡ step (form.For name from to (map (fold-StmtNode A step) body))
+  fold-For name from to body = ap (fold-StmtNode A step) (sym (rolls-For name from to body)) ∙ fold-roll-StmtNode A step (form.For name from to body)
 
 -- induction over the nodes of expressions
 pub by_nodes : (P : ExprNode → Type 0) → ((l : LiteralNode) → P (Literal l)) → ((n : NameNode) → P (Name n))

@@ -4,15 +4,16 @@ use Rattle.std.specs.List.{flat_map}
 use Rattle.pac_tokens.specs.declared.lexer.Before.{Before}
 use Rattle.pac_tokens.specs.declared.fault.Fault.{Fault}
 use Rattle.pac_tokens.specs.declared.token.Spanned.{Spanned}
+use Rattle.pac_syntax.specs.declared.limits.Around.{Around}
 use Rattle.pac_syntax.specs.declared.tree.StmtNode.{StmtNode}
 use Rattle.pac_syntax.specs.declared.tree.StmtNode.TheVariants as stmt
 use Rattle.pac_syntax.specs.declared.tree.Tree.{Tree}
-use Rattle.pac_syntax.specs.Grammar.{LiteralForm, AnInt, ANegative, AText, ATrue, AFalse, ExprForm, ALiteral, AName, ANot, AParen, ABinary, ValuesForm, NoValue, AValue, StmtsForm, NoStmt, ALet, ARead, AHas, APut, ASet, ADelete, AnAbort, AnIf, AnIfElse, TypeForm, ColumnsForm, NoColumn, AColumn, ParamsForm, NoParam, AParam, TablesForm, NoTable, ATable, ProcsForm, NoProc, AProc, literal_node, expr_offset, expr_node, value_nodes, stmt_nodes, column_nodes, param_nodes, table_nodes, proc_nodes, Role, ColumnName, ParamName, Marked, type_mark, counted, literal_before, expr_before, whole_before, values_before, stmts_before, columns_before, params_before, tables_before, procs_before, marks_of, tokens_of}
+use Rattle.pac_syntax.specs.Grammar.{LiteralForm, AnInt, ANegative, AText, ATrue, AFalse, ExprForm, ALiteral, AName, ANot, AParen, ABinary, ValuesForm, NoValue, AValue, StmtsForm, NoStmt, ALet, ARead, AHas, APut, ASet, ADelete, AnAbort, AnIf, AnIfElse, ALoop, BoundForm, ABound, ANegativeBound, TypeForm, ColumnsForm, NoColumn, AColumn, ParamsForm, NoParam, AParam, TablesForm, NoTable, ATable, ProcsForm, NoProc, AProc, literal_node, bound_value, outermost, inside, in_loop, expr_offset, expr_node, value_nodes, stmt_nodes, column_nodes, param_nodes, table_nodes, proc_nodes, Role, Plain, ColumnName, ParamName, Marked, type_mark, counted, literal_before, bound_before, last_bound, expr_before, whole_before, values_before, stmts_before, columns_before, params_before, tables_before, procs_before, marks_of, tokens_of}
 use Rattle.pac_syntax.specs.Faults.{ReadsTokens}
 use Rattle.pac_tokens.specs.Tokens.{Lexed, IsLexed, gap, after}
 use Rattle.pac_syntax.specs.Order.{NodeOffset, Own, Shared, expr_offsets, expr_offsets_step, all_offsets, stmt_offsets, stmt_offsets_step, stmts_offsets, columns_offsets, table_offsets, proc_offsets, Climbs, Ascends, IsOrdered}
 use Rattle.pac_tokens.proofs.Spelled.{spells_some}
-use Rattle.pac_syntax.proofs.NodeForms.{fold-Literal, fold-Name, fold-Binary, fold-Not, fold-Let, fold-Read, fold-Has, fold-Put, fold-Set, fold-Delete, fold-AbortIf, fold-If}
+use Rattle.pac_syntax.proofs.NodeForms.{fold-Literal, fold-Name, fold-Binary, fold-Not, fold-Let, fold-Read, fold-Has, fold-Put, fold-Set, fold-Delete, fold-AbortIf, fold-If, fold-For}
 
 -- the offsets of tokens
 abbrev offsets : List Marked → List ℕ
@@ -47,6 +48,10 @@ literal (ANegative minus at z) ms ps f = stands _ (_ ∷ ms) ps (skip _ ms ps f)
 literal (AText at text) ms ps f = stands _ ms ps f
 literal (ATrue at) ms ps f = stands _ ms ps f
 literal (AFalse at) ms ps f = stands _ ms ps f
+
+bound : (b : BoundForm) (role : Role) (ms : List Marked) (ps : List NodeOffset) → Follow ms ps → Follow (bound_before b role ms) ps
+bound (ABound at z) role ms ps f = skip _ ms ps f
+bound (ANegativeBound minus at z) role ms ps f = skip _ (_ ∷ ms) ps (skip _ ms ps f)
 
 -- the first token of an expression stands at its offset
 record Begins (ms : List Marked) (at : ℕ) : Type 0 where
@@ -109,7 +114,7 @@ all_flat (n ∷ ns) = ap (λ q. stmt_offsets n ++ q) (all_flat ns)
 node_then : (node : StmtNode) (nodes : List StmtNode) (ps qs : List NodeOffset) → stmt_offsets node ≡ qs → stmts_offsets (node ∷ nodes) ++ ps ≡ qs ++ (stmts_offsets nodes ++ ps)
 node_then node nodes ps qs e = ap (λ q. (q ++ stmts_offsets nodes) ++ ps) e ∙ append_assoc qs (stmts_offsets nodes) ps
 
-stmts : (s : StmtsForm) (d : ℕ) (ms : List Marked) (ps : List NodeOffset) → Follow ms ps → Follow (stmts_before d s ms) (stmts_offsets (stmt_nodes s) ++ ps)
+stmts : (s : StmtsForm) (d : Around) (ms : List Marked) (ps : List NodeOffset) → Follow ms ps → Follow (stmts_before d s ms) (stmts_offsets (stmt_nodes s) ++ ps)
 stmts NoStmt d ms ps f = f
 stmts (ALet p0 x p1 e p2 s) d ms ps f =
     let node = stmt.Let x (expr_node e) in
@@ -158,13 +163,23 @@ stmts (AnIf p0 e p1 first p2 s) d ms ps f =
     let z = stmts_offsets (stmt_nodes s) ++ ps in
     same_offsets (stmts_before d (AnIf p0 e p1 first p2 s) ms) _ _
     (node_then node (stmt_nodes s) ps (expr_offsets (expr_node e) ++ (stmts_offsets (stmt_nodes first) ++ [])) (fold-If (List NodeOffset) stmt_offsets_step (expr_node e) (stmt_nodes first) [] ∙ ap (λ q. expr_offsets (expr_node e) ++ (q ++ [])) (all_flat (stmt_nodes first))) ∙ append_assoc (expr_offsets (expr_node e)) (stmts_offsets (stmt_nodes first) ++ []) z ∙ ap (λ q. expr_offsets (expr_node e) ++ q) (append_assoc (stmts_offsets (stmt_nodes first)) [] z))
-    (skip _ (whole_before e (_ ∷ stmts_before (suc d) first (_ ∷ stmts_before d s ms))) _ (whole e (_ ∷ stmts_before (suc d) first (_ ∷ stmts_before d s ms)) _ (skip _ (stmts_before (suc d) first (_ ∷ stmts_before d s ms)) _ (stmts first (suc d) (_ ∷ stmts_before d s ms) _ (skip _ (stmts_before d s ms) _ (stmts s d ms ps f))))))
+    (skip _ (whole_before e (_ ∷ stmts_before (inside d) first (_ ∷ stmts_before d s ms))) _ (whole e (_ ∷ stmts_before (inside d) first (_ ∷ stmts_before d s ms)) _ (skip _ (stmts_before (inside d) first (_ ∷ stmts_before d s ms)) _ (stmts first (inside d) (_ ∷ stmts_before d s ms) _ (skip _ (stmts_before d s ms) _ (stmts s d ms ps f))))))
 stmts (AnIfElse p0 e p1 first p2 p3 p4 second p5 s) d ms ps f =
     let node = stmt.If (expr_node e) (stmt_nodes first) (stmt_nodes second) in
     let z = stmts_offsets (stmt_nodes s) ++ ps in
     same_offsets (stmts_before d (AnIfElse p0 e p1 first p2 p3 p4 second p5 s) ms) _ _
     (node_then node (stmt_nodes s) ps (expr_offsets (expr_node e) ++ (stmts_offsets (stmt_nodes first) ++ stmts_offsets (stmt_nodes second))) (fold-If (List NodeOffset) stmt_offsets_step (expr_node e) (stmt_nodes first) (stmt_nodes second) ∙ ap (λ q. expr_offsets (expr_node e) ++ (q ++ all_offsets (map stmt_offsets (stmt_nodes second)))) (all_flat (stmt_nodes first)) ∙ ap (λ q. expr_offsets (expr_node e) ++ (stmts_offsets (stmt_nodes first) ++ q)) (all_flat (stmt_nodes second))) ∙ append_assoc (expr_offsets (expr_node e)) (stmts_offsets (stmt_nodes first) ++ stmts_offsets (stmt_nodes second)) z ∙ ap (λ q. expr_offsets (expr_node e) ++ q) (append_assoc (stmts_offsets (stmt_nodes first)) (stmts_offsets (stmt_nodes second)) z))
-    (skip _ (whole_before e (_ ∷ stmts_before (suc d) first (_ ∷ _ ∷ _ ∷ stmts_before (suc d) second (_ ∷ stmts_before d s ms)))) _ (whole e (_ ∷ stmts_before (suc d) first (_ ∷ _ ∷ _ ∷ stmts_before (suc d) second (_ ∷ stmts_before d s ms))) _ (skip _ (stmts_before (suc d) first (_ ∷ _ ∷ _ ∷ stmts_before (suc d) second (_ ∷ stmts_before d s ms))) _ (stmts first (suc d) (_ ∷ _ ∷ _ ∷ stmts_before (suc d) second (_ ∷ stmts_before d s ms)) _ (skip _ (_ ∷ _ ∷ stmts_before (suc d) second (_ ∷ stmts_before d s ms)) _ (skip _ (_ ∷ stmts_before (suc d) second (_ ∷ stmts_before d s ms)) _ (skip _ (stmts_before (suc d) second (_ ∷ stmts_before d s ms)) _ (stmts second (suc d) (_ ∷ stmts_before d s ms) _ (skip _ (stmts_before d s ms) _ (stmts s d ms ps f))))))))))
+    (skip _ (whole_before e (_ ∷ stmts_before (inside d) first (_ ∷ _ ∷ _ ∷ stmts_before (inside d) second (_ ∷ stmts_before d s ms)))) _ (whole e (_ ∷ stmts_before (inside d) first (_ ∷ _ ∷ _ ∷ stmts_before (inside d) second (_ ∷ stmts_before d s ms))) _ (skip _ (stmts_before (inside d) first (_ ∷ _ ∷ _ ∷ stmts_before (inside d) second (_ ∷ stmts_before d s ms))) _ (stmts first (inside d) (_ ∷ _ ∷ _ ∷ stmts_before (inside d) second (_ ∷ stmts_before d s ms)) _ (skip _ (_ ∷ _ ∷ stmts_before (inside d) second (_ ∷ stmts_before d s ms)) _ (skip _ (_ ∷ stmts_before (inside d) second (_ ∷ stmts_before d s ms)) _ (skip _ (stmts_before (inside d) second (_ ∷ stmts_before d s ms)) _ (stmts second (inside d) (_ ∷ stmts_before d s ms) _ (skip _ (stmts_before d s ms) _ (stmts s d ms ps f))))))))))
+stmts (ALoop p0 x p1 a p2 b p3 body p4 s) d ms ps f =
+    let node = stmt.For x (bound_value a) (bound_value b) (stmt_nodes body) in
+    let inner = in_loop d (bound_value a) (bound_value b) in
+    let role = last_bound d p0 (bound_value a) (bound_value b) in
+    let after = stmts_before d s ms in
+    let block = stmts_before inner body (_ ∷ after) in
+    let bounds = bound_before b role (_ ∷ block) in
+    same_offsets (stmts_before d (ALoop p0 x p1 a p2 b p3 body p4 s) ms) _ _
+    (node_then node (stmt_nodes s) ps (Own x.at ∷ stmts_offsets (stmt_nodes body)) (fold-For (List NodeOffset) stmt_offsets_step x (bound_value a) (bound_value b) (stmt_nodes body) ∙ ap (λ q. Own x.at ∷ q) (all_flat (stmt_nodes body))))
+    (skip _ (_ ∷ _ ∷ bound_before a Plain (_ ∷ bounds)) _ (stands _ (_ ∷ bound_before a Plain (_ ∷ bounds)) _ (skip _ (bound_before a Plain (_ ∷ bounds)) _ (bound a Plain (_ ∷ bounds) _ (skip _ bounds _ (bound b role (_ ∷ block) _ (skip _ block _ (stmts body inner (_ ∷ after) _ (skip _ after _ (stmts s d ms ps f))))))))))
 
 -- ---- columns, tables and procedures
 
@@ -196,8 +211,8 @@ procs NoProc i = record { go = λ low h. tt }
 procs (AProc p0 n p1 c p2 p3 s p4 f) i =
     let more = procs f (suc i) in
     let z = flat_map proc_offsets (proc_nodes f) in
-    let body = stmts s 0 (_ ∷ procs_before (suc i) f []) z (skip _ (procs_before (suc i) f []) z more) in
-    let list = params c (_ ∷ _ ∷ stmts_before 0 s (_ ∷ procs_before (suc i) f [])) _ (skip _ _ _ (skip _ _ _ body)) in
+    let body = stmts s outermost (_ ∷ procs_before (suc i) f []) z (skip _ (procs_before (suc i) f []) z more) in
+    let list = params c (_ ∷ _ ∷ stmts_before outermost s (_ ∷ procs_before (suc i) f [])) _ (skip _ _ _ (skip _ _ _ body)) in
     same_offsets (procs_before i (AProc p0 n p1 c p2 p3 s p4 f) []) _ (Own n.at ∷ (columns_offsets (param_nodes c) ++ (stmts_offsets (stmt_nodes s) ++ z)))
     (ap (λ q. Own n.at ∷ q) (append_assoc (columns_offsets (param_nodes c)) (stmts_offsets (stmt_nodes s)) z))
     (skip _ _ _ (stands _ _ _ (skip _ _ _ list)))

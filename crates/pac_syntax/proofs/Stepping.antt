@@ -1,6 +1,6 @@
 -- What one step of the reading does, for the parser's functions.
-use Rattle.std.proofs.Common.{◌≡◌, ◌≢◌, ℕ, zero, suc, ◌+◌, ◌<◌, ◌≤◌, Bool, true, false, Option, List, [], ◌∷◌, ◌++◌, length, Some, None, Result, Ok, Err, refl, sym, ap, ◌∙◌, arith, add-one}
-use Rattle.std.specs.Prelude.{nat_eq, nat_le, nat_lt, MatchOption}
+use Rattle.std.proofs.Common.{◌≡◌, ◌≢◌, ℕ, zero, suc, ℤ, ◌+◌, ◌<◌, ◌≤◌, Bool, true, false, Option, List, [], ◌∷◌, ◌++◌, length, Some, None, Result, Ok, Err, refl, sym, ap, ◌∙◌, arith, add-one}
+use Rattle.std.specs.Prelude.{nat_eq, nat_le, nat_lt, MatchOption, if◌then◌else◌}
 use Rattle.std.proofs.lemmas.Bool.{lt-ltb, le-ltb, eqb-true, le-leb, lt-leb, leb-true, leb-false, eqb-false, ltb-true, eq-eqb}
 use Rattle.std.proofs.lemmas.List.{length-append}
 use Rattle.pac_base.specs.Refusals.{Fails, Gives, OkUnlessMemory}
@@ -19,6 +19,7 @@ use Rattle.pac_tokens.specs.declared.fault.FaultKind.{FaultKind}
 use Rattle.pac_tokens.specs.declared.fault.FaultKind.TheVariants.{Expected, TooDeep, TooMany}
 use Rattle.pac_base.specs.declared.refusal.Refusal.{Refusal}
 use Rattle.pac_base.specs.declared.refusal.Refusal.TheVariants as error
+use Rattle.pac_syntax.specs.declared.limits.Around.{Around}
 use Rattle.pac_syntax.specs.declared.tree.NameNode.{NameNode}
 use Rattle.pac_syntax.specs.declared.tree.LiteralNode.{LiteralNode}
 use Rattle.pac_syntax.specs.declared.tree.ColumnNode.{ColumnNode}
@@ -31,10 +32,10 @@ use Rattle.pac_syntax.specs.declared.parse.statement.StatementWord.{StatementWor
 use Rattle.pac_syntax.specs.declared.parse.statement.StatementWord.TheVariants as word
 use Rattle.pac_syntax.specs.declared.parse.parser.Owner.{Owner}
 use Rattle.pac_syntax.specs.declared.parse.parser.Owner.TheVariants as owner
-use Rattle.pac_syntax.specs.Grammar.{Role, Plain, ParamName, precedence}
+use Rattle.pac_syntax.specs.Grammar.{Role, Plain, ParamName, precedence, in_loop, loop_turns, last_bound}
 use Rattle.pac_syntax.specs.Faults.{fault_of, over_role, offset}
-use Rattle.pac_syntax.specs.Machine.{Begun, Steps, Done, Want, WantName, WantType, WantLiteral, Level, Rest, MoreValues, MoreStmts, MaybeElse, MoreColumns, SomeParams, MoreTables, MoreProcs, want_expr, next, literal_at, begun_name, begun_literal, begun_binary, top, lay, negation_steps, paren_steps, stmt_steps, stmt_role, stmt_word, block_steps, column_steps, typed_steps, table_steps, proc_steps, is_same_keyword_or_symbol, literal_begins, name_in, operand_begins, operator_at, operator_in, of_precedence, feed, finish, scan, run}
-use Rattle.pac_syntax.specs.Views.{is_too_deep, operand_in, between, rests, next_precedence, Begins, IsNot, IsNoName, IsType, IsNoType, bool_in, name_token, role_of, limit_of}
+use Rattle.pac_syntax.specs.Machine.{Begun, Steps, Done, Want, WantName, WantType, WantLiteral, WantBound, Level, Rest, MoreValues, MoreStmts, MaybeElse, MoreColumns, SomeParams, MoreTables, MoreProcs, want_expr, next, literal_at, begun_name, begun_literal, begun_binary, top, lay, negation_steps, paren_steps, stmt_steps, stmt_role, stmt_word, block_steps, column_steps, typed_steps, table_steps, proc_steps, is_same_keyword_or_symbol, literal_begins, name_in, operand_begins, operator_at, operator_in, of_precedence, bar, feed, finish, reported, scan, Stop, run}
+use Rattle.pac_syntax.specs.Views.{is_too_deep, unless, IsLimit, operand_in, between, rests, next_precedence, Begins, IsNot, IsNoName, IsType, IsNoType, bool_in, name_token, role_of, limit_of}
 
 abbrev Read : Type 0
 Read = Result Tree Fault
@@ -168,6 +169,127 @@ pub no_literal : {A : Type 0} (old new : A) (left : A → List Spanned) (end : �
     → run end (WantLiteral k) (left old) ≡ refused (offset end (left new)) Expected
 no_literal old new left end k ts t None is none other m = rw (m.0, is) (none_from end t.at t.token k ts (rw is at m.1) (rw is at none) other)
 no_literal old new left end k ts t (Some at) is none other m = rw m.text (none_after end at k (left new) (rw m.text at none))
+
+-- ---- bounds of loops
+
+reported_bar : (b : Option Fault) (rest : List Spanned) (r : Result Tree Stop) → reported (bar b rest r) ≡ unless b (reported r)
+reported_bar None rest r = refl
+reported_bar (Some fault) rest r = refl
+
+abbrev an_int : ℤ → Value
+an_int z = value.Int z
+
+int_is : (y z : ℤ) → an_int y ≡ an_int z → y ≡ z
+int_is y z e = cc
+
+-- an int that is read, out of its option
+int_read : (y z : ℤ) (ts rest : List Spanned) → ◌≡◌ {A = Option (Value × List Spanned)} (Some (value.Int y, ts)) (Some (value.Int z, rest)) → (y ≡ z) × (ts ≡ rest)
+int_read y z ts rest e =
+    let p = read_is (value.Int y, ts) (value.Int z, rest) e in
+    (int_is y z (ap (λ q. q.0) p), ap (λ q. q.1) p)
+
+-- what follows the int of a bound, unless it is over its limit
+bound_read : (end : ℕ) (at : ℕ) (role : ℤ → Role) (limit : ℤ → Option Fault) (k : ℤ → Steps) (s ts rest : List Spanned) (y z : ℤ) → IsLimit role limit → y ≡ z → ts ≡ rest
+    → reported (bar (over_role (role y) at) s (scan end (k y) ts)) ≡ unless (limit z) (run end (k z) rest)
+unfolding run
+bound_read end at role limit k s ts rest y z is same left = reported_bar (over_role (role y) at) s (scan end (k y) ts) ∙ rw (is y at, same, left) refl
+
+bound_from : (end at : ℕ) (t : Token) (role : ℤ → Role) (limit : ℤ → Option Fault) (k : ℤ → Steps) (ts rest : List Spanned) (z : ℤ) → IsLimit role limit → int_or_text_from t ts ≡ Some (value.Int z, rest)
+    → run end (WantBound role k) (record { token = t; at = at } ∷ ts) ≡ unless (limit z) (run end (k z) rest)
+unfolding run scan feed
+bound_from end at (token.Int y) role limit k ts rest z is e = let p = int_read y z ts rest e in bound_read end at role limit k _ ts rest y z is p.0 p.1
+bound_from end at (token.Text x) role limit k ts rest z is e =
+    let p = read_is (value.Text x, ts) (value.Int z, rest) e in
+    let kind : ◌≡◌ {A = Value} (value.Text x) (value.Int z) = ap (λ q. q.0) p in
+    absurd cc
+bound_from end at (token.Symbol symbol.Minus) role limit k [] rest z is e = absurd cc
+bound_from end at (token.Symbol symbol.Minus) role limit k (u ∷ us) rest z is e = following u.token u.at e
+  where
+    following : (t : Token) (offset : ℕ) → int_of_minus t us ≡ Some (value.Int z, rest)
+        → run end (WantBound role k) (record { token = token.Symbol symbol.Minus; at = at } ∷ record { token = t; at = offset } ∷ us) ≡ unless (limit z) (run end (k z) rest)
+    following (token.Negative y) offset e = let p = int_read y z us rest e in bound_read end offset role limit k _ us rest y z is p.0 p.1
+    following _ offset e = absurd cc
+bound_from end at _ role limit k ts rest z is e = absurd cc
+
+pub bound_next : (end end' : ℕ) (role : ℤ → Role) (limit : ℤ → Option Fault) (k : ℤ → Steps) (s rest : List Spanned) (z : ℤ) → IsLimit role limit → end' ≡ end → int_or_text_in s ≡ Some (value.Int z, rest)
+    → run end (WantBound role k) s ≡ unless (limit z) (run end' (k z) rest)
+bound_next end end' role limit k [] rest z is same e = absurd cc
+bound_next end end' role limit k (t ∷ ts) rest z is same e = rw same (bound_from end t.at t.token role limit k ts rest z is e)
+
+-- a text is no bound
+text_from : (end at : ℕ) (t : Token) (role : ℤ → Role) (k : ℤ → Steps) (ts rest : List Spanned) (v : Value) → ((z : ℤ) → v ≡ value.Int z → ⊥) → int_or_text_from t ts ≡ Some (v, rest)
+    → run end (WantBound role k) (record { token = t; at = at } ∷ ts) ≡ refused at Expected
+unfolding run scan feed
+text_from end at (token.Int y) role k ts rest v none e = absurd (none y (sym (ap (λ q. q.0) (read_is (value.Int y, ts) (v, rest) e))))
+text_from end at (token.Text x) role k ts rest v none e = refl
+text_from end at (token.Symbol symbol.Minus) role k [] rest v none e = absurd cc
+text_from end at (token.Symbol symbol.Minus) role k (u ∷ us) rest v none e = following u.token u.at e
+  where
+    following : (t : Token) (offset : ℕ) → int_of_minus t us ≡ Some (v, rest)
+        → run end (WantBound role k) (record { token = token.Symbol symbol.Minus; at = at } ∷ record { token = t; at = offset } ∷ us) ≡ refused at Expected
+    following (token.Negative y) offset e = absurd (none y (sym (ap (λ q. q.0) (read_is (value.Int y, us) (v, rest) e))))
+    following _ offset e = absurd cc
+text_from end at _ role k ts rest v none e = absurd cc
+
+pub text_no_bound : (end : ℕ) (role : ℤ → Role) (k : ℤ → Steps) (s rest : List Spanned) (v : Value) → ((z : ℤ) → v ≡ value.Int z → ⊥) → int_or_text_in s ≡ Some (v, rest)
+    → run end (WantBound role k) s ≡ refused (offset end s) Expected
+text_no_bound end role k [] rest v none e = absurd cc
+text_no_bound end role k (t ∷ ts) rest v none e = text_from end t.at t.token role k ts rest v none e
+
+-- where there is none, the fault is at the first token, or after a `-`
+no_bound_from : (end at : ℕ) (t : Token) (role : ℤ → Role) (k : ℤ → Steps) (ts : List Spanned) → is_same_keyword_or_symbol (token.Symbol symbol.Minus) t ≡ false → int_or_text_from t ts ≡ None
+    → run end (WantBound role k) (record { token = t; at = at } ∷ ts) ≡ refused at Expected
+unfolding run scan feed
+no_bound_from end at (token.Int z) role k ts m i = absurd cc
+no_bound_from end at (token.Symbol symbol.Minus) role k ts m i = absurd cc
+no_bound_from end at _ role k ts m i = refl
+
+no_bound_after : (end at : ℕ) (role : ℤ → Role) (k : ℤ → Steps) (ts : List Spanned) → int_after_minus ts ≡ None
+    → run end (WantBound role k) (record { token = token.Symbol symbol.Minus; at = at } ∷ ts) ≡ refused (offset end ts) Expected
+unfolding run scan feed finish
+no_bound_after end at role k [] i = refl
+no_bound_after end at role k (u ∷ us) i = following u.token u.at i
+  where
+    following : (t : Token) (offset : ℕ) → int_of_minus t us ≡ None
+        → run end (WantBound role k) (record { token = token.Symbol symbol.Minus; at = at } ∷ record { token = t; at = offset } ∷ us) ≡ refused offset Expected
+    following (token.Negative z) offset e = absurd cc
+    following _ offset e = refl
+
+no_bound_here : (end : ℕ) (role : ℤ → Role) (k : ℤ → Steps) (s : List Spanned) → IsNot (token.Symbol symbol.Minus) s → int_or_text_in s ≡ None → run end (WantBound role k) s ≡ refused (offset end s) Expected
+unfolding run scan finish
+no_bound_here end role k [] m i = refl
+no_bound_here end role k (t ∷ ts) m i = no_bound_from end t.at t.token role k ts m i
+
+pub no_bound : {A : Type 0} (old new : A) (left : A → List Spanned) (end : ℕ) (role : ℤ → Role) (k : ℤ → Steps) (minus : Option ℕ) → int_or_text_in (left old) ≡ None
+    → MatchOption minus ((new ≡ old) × IsNot (token.Symbol symbol.Minus) (left old)) (λ at. Begins (token.Symbol symbol.Minus) at (left old) (left new))
+    → run end (WantBound role k) (left old) ≡ refused (offset end (left new)) Expected
+no_bound old new left end role k None none m = rw m.0 (no_bound_here end role k (left old) m.1 none)
+no_bound old new left end role k (Some at) none m = rw m.text (no_bound_after end at role k (left new) (rw m.text at none))
+
+-- what follows the second bound of a loop, by what stands round the loop's block
+abbrev AroundBlock : Around → ℤ → ℤ → Option Around
+AroundBlock d from to = if nat_lt 256 (loop_turns d from to) then None else Some (in_loop d from to)
+
+abbrev last_limit : Around → ℕ → ℤ → ℤ → Option Fault
+last_limit d loop from to = over_role (last_bound d loop from to) 0
+
+inner_is : (d e : Around) → ◌≡◌ {A = Option Around} (Some d) (Some e) → d ≡ e
+inner_is d e is = cc
+
+pub few_turns : (d inner : Around) (loop : ℕ) (from to : ℤ) (o : Option Around) (after : Around → Read) → o ≡ AroundBlock d from to → o ≡ Some inner
+    → unless (last_limit d loop from to) (after (in_loop d from to)) ≡ after inner
+few_turns d inner loop from to o after is some = by_test (nat_lt 256 (loop_turns d from to)) refl
+  where
+    by_test : (b : Bool) → nat_lt 256 (loop_turns d from to) ≡ b → unless (last_limit d loop from to) (after (in_loop d from to)) ≡ after inner
+    by_test true e = let conflict : ◌≡◌ {A = Option Around} (Some inner) None = sym some ∙ is ∙ rw e refl in absurd cc
+    by_test false e = let same : in_loop d from to ≡ inner = inner_is _ _ (sym (sym some ∙ is ∙ rw e refl)) in rw e (ap after same)
+
+pub many_turns : (d : Around) (loop : ℕ) (from to : ℤ) (o : Option Around) (r : Read) → o ≡ AroundBlock d from to → o ≡ None → unless (last_limit d loop from to) r ≡ refused loop TooMany
+many_turns d loop from to o r is none = by_test (nat_lt 256 (loop_turns d from to)) refl
+  where
+    by_test : (b : Bool) → nat_lt 256 (loop_turns d from to) ≡ b → unless (last_limit d loop from to) r ≡ refused loop TooMany
+    by_test true e = rw e refl
+    by_test false e = let conflict : ◌≡◌ {A = Option Around} None (Some (in_loop d from to)) = sym none ∙ is ∙ rw e refl in absurd cc
 
 -- ---- operands
 
@@ -385,41 +507,43 @@ pub value_next : (end end' : ℕ) (vs : List ExprNode) (k : List ExprNode → St
 unfolding run scan feed
 value_next end end' vs k s ts at e b = rw (b.text, e) refl
 
-pub no_stmt_left : (end d : ℕ) (ss : List StmtNode) (k : List StmtNode → Steps) (s : List Spanned) → s ≡ [] → run end (MoreStmts d ss k) s ≡ run end (k ss) s
+pub no_stmt_left : (end : ℕ) (d : Around) (ss : List StmtNode) (k : List StmtNode → Steps) (s : List Spanned) → s ≡ [] → run end (MoreStmts d ss k) s ≡ run end (k ss) s
 unfolding run scan finish
 no_stmt_left end d ss k s e = rw e refl
 
-pub no_stmt : (end d : ℕ) (ss : List StmtNode) (k : List StmtNode → Steps) (s ts : List Spanned) (t : Spanned) → s ≡ t ∷ ts → stmt_word t.token ≡ None → run end (MoreStmts d ss k) s ≡ run end (k ss) s
+pub no_stmt : (end : ℕ) (d : Around) (ss : List StmtNode) (k : List StmtNode → Steps) (s ts : List Spanned) (t : Spanned) → s ≡ t ∷ ts → stmt_word t.token ≡ None → run end (MoreStmts d ss k) s ≡ run end (k ss) s
 unfolding run scan feed
 no_stmt end d ss k s ts t e h = rw (e, h) refl
 
-pub stmt_next : (end d : ℕ) (ss : List StmtNode) (k : List StmtNode → Steps) (s ts : List Spanned) (t : Spanned) (w : StatementWord) → s ≡ t ∷ ts → stmt_word t.token ≡ Some w → over_role (stmt_role d w) t.at ≡ None
-    → run end (MoreStmts d ss k) s ≡ run end (stmt_steps d w (λ s. MoreStmts d (ss ++ (s ∷ [])) k)) ts
+pub stmt_next : (end : ℕ) (d : Around) (ss : List StmtNode) (k : List StmtNode → Steps) (s ts : List Spanned) (t : Spanned) (w : StatementWord) → s ≡ t ∷ ts → stmt_word t.token ≡ Some w → over_role (stmt_role d w) t.at ≡ None
+    → run end (MoreStmts d ss k) s ≡ run end (stmt_steps d t.at w (λ s. MoreStmts d (ss ++ (s ∷ [])) k)) ts
 unfolding run scan feed
 stmt_next end d ss k s ts t w e is within = rw (e, is, within) refl
 
--- a statement that isn't in too many conditionals, and one that is
-pub role_of_word : (d at : ℕ) (w : StatementWord) → is_too_deep d w ≡ false → over_role (stmt_role d w) at ≡ None
-role_of_word d at word.If h = rw (le-ltb 16 (suc d) (grind arith)) refl
+-- a statement that isn't in too many conditionals and loops, and one that is
+pub role_of_word : (d : Around) (at : ℕ) (w : StatementWord) → is_too_deep d w ≡ false → over_role (stmt_role d w) at ≡ None
+role_of_word d at word.If h = rw (le-ltb 16 (suc d.nested) (grind arith)) refl
+role_of_word d at word.For h = rw (le-ltb 16 (suc d.nested) (grind arith)) refl
 role_of_word d at _ h = refl
 
-pub deep_role : (d at : ℕ) (w : StatementWord) → is_too_deep d w ≡ true → over_role (stmt_role d w) at ≡ Some (fault_of TooDeep at)
-deep_role d at word.If h = rw (lt-ltb 16 (suc d) (grind arith)) refl
+pub deep_role : (d : Around) (at : ℕ) (w : StatementWord) → is_too_deep d w ≡ true → over_role (stmt_role d w) at ≡ Some (fault_of TooDeep at)
+deep_role d at word.If h = rw (lt-ltb 16 (suc d.nested) (grind arith)) refl
+deep_role d at word.For h = rw (lt-ltb 16 (suc d.nested) (grind arith)) refl
 deep_role d at _ h = absurd cc
 
-pub stmt_past : (end d : ℕ) (ss : List StmtNode) (k : List StmtNode → Steps) (s ts : List Spanned) (t : Spanned) (w : StatementWord) → s ≡ t ∷ ts → stmt_word t.token ≡ Some w → is_too_deep d w ≡ true → run end (MoreStmts d ss k) s ≡ refused (offset end s) TooDeep
+pub stmt_past : (end : ℕ) (d : Around) (ss : List StmtNode) (k : List StmtNode → Steps) (s ts : List Spanned) (t : Spanned) (w : StatementWord) → s ≡ t ∷ ts → stmt_word t.token ≡ Some w → is_too_deep d w ≡ true → run end (MoreStmts d ss k) s ≡ refused (offset end s) TooDeep
 unfolding run scan feed
 stmt_past end d ss k s ts t w e is deep = rw (e, is, deep_role d t.at w deep) refl
 
-no_else_here : (end d : ℕ) (k : List StmtNode → Steps) (s : List Spanned) → IsNot (token.Keyword keyword.Else) s → run end (MaybeElse d k) s ≡ run end (k []) s
+no_else_here : (end : ℕ) (d : Around) (k : List StmtNode → Steps) (s : List Spanned) → IsNot (token.Keyword keyword.Else) s → run end (MaybeElse d k) s ≡ run end (k []) s
 unfolding run scan feed finish
 no_else_here end d k [] h = refl
 no_else_here end d k (t ∷ ts) h = rw h refl
 
-pub no_else : (end end' d : ℕ) (k : List StmtNode → Steps) (s : List Spanned) → end' ≡ end → IsNot (token.Keyword keyword.Else) s → run end (MaybeElse d k) s ≡ run end' (k []) s
+pub no_else : (end end' : ℕ) (d : Around) (k : List StmtNode → Steps) (s : List Spanned) → end' ≡ end → IsNot (token.Keyword keyword.Else) s → run end (MaybeElse d k) s ≡ run end' (k []) s
 no_else end end' d k s e h = same_end end end' (k []) s e (no_else_here end d k s h)
 
-pub else_next : (end end' d : ℕ) (k : List StmtNode → Steps) (s ts : List Spanned) (at : ℕ) → end' ≡ end → Begins (token.Keyword keyword.Else) at s ts → run end (MaybeElse d k) s ≡ run end' (block_steps d k) ts
+pub else_next : (end end' : ℕ) (d : Around) (k : List StmtNode → Steps) (s ts : List Spanned) (at : ℕ) → end' ≡ end → Begins (token.Keyword keyword.Else) at s ts → run end (MaybeElse d k) s ≡ run end' (block_steps d k) ts
 unfolding run scan feed
 else_next end end' d k s ts at e b = rw (b.text, e) refl
 

@@ -6,15 +6,16 @@ use Rattle.std.proofs.lemmas.List.Elements.{All-from_recursion}
 use Rattle.std.proofs.lemmas.Bool.{ltb-false}
 use Rattle.pac_tokens.specs.declared.fault.FaultKind.TheVariants.{TooMany}
 use Rattle.pac_tokens.specs.declared.fault.Fault.{Fault}
+use Rattle.pac_syntax.specs.declared.limits.Around.{Around}
 use Rattle.pac_syntax.specs.declared.tree.ColumnNode.{ColumnNode}
 use Rattle.pac_syntax.specs.declared.tree.StmtNode.{StmtNode}
 use Rattle.pac_syntax.specs.declared.tree.StmtNode.TheVariants as stmt
 use Rattle.pac_syntax.specs.declared.tree.Tree.{Tree}
 use Rattle.pac_tokens.specs.declared.token.Spanned.{Spanned}
-use Rattle.pac_syntax.specs.Grammar.{LiteralForm, AnInt, ANegative, AText, ATrue, AFalse, ExprForm, ALiteral, AName, ANot, AParen, ABinary, ValuesForm, NoValue, AValue, StmtsForm, NoStmt, ALet, ARead, AHas, APut, ASet, ADelete, AnAbort, AnIf, AnIfElse, TypeForm, AnIntType, ATextType, ColumnsForm, NoColumn, AColumn, ParamsForm, NoParam, AParam, TablesForm, NoTable, ATable, ProcsForm, NoProc, AProc, literal_node, expr_node, value_nodes, stmt_nodes, type_of_form, column_node, column_nodes, param_nodes, table_nodes, proc_nodes, Role, ColumnName, ParamName, Marked, counted, literal_before, expr_before, whole_before, values_before, stmts_before, columns_before, params_before, tables_before, procs_before, marks_of, tokens_of}
+use Rattle.pac_syntax.specs.Grammar.{LiteralForm, AnInt, ANegative, AText, ATrue, AFalse, ExprForm, ALiteral, AName, ANot, AParen, ABinary, ValuesForm, NoValue, AValue, StmtsForm, NoStmt, ALet, ARead, AHas, APut, ASet, ADelete, AnAbort, AnIf, AnIfElse, ALoop, BoundForm, ABound, ANegativeBound, TypeForm, AnIntType, ATextType, ColumnsForm, NoColumn, AColumn, ParamsForm, NoParam, AParam, TablesForm, NoTable, ATable, ProcsForm, NoProc, AProc, literal_node, bound_value, outermost, inside, in_loop, expr_node, value_nodes, stmt_nodes, type_of_form, column_node, column_nodes, param_nodes, table_nodes, proc_nodes, Role, Plain, ColumnName, ParamName, Marked, counted, literal_before, bound_before, last_bound, expr_before, whole_before, values_before, stmts_before, columns_before, params_before, tables_before, procs_before, marks_of, tokens_of}
 use Rattle.pac_syntax.specs.Faults.{fault_of, past, over_role, IsWithin, ReadsTokens}
 use Rattle.pac_syntax.specs.Limits.{size, size_step, sizes, is_stored_type, IsTableWithinLimits, IsProcWithinLimits, IsWithinLimits, HasStoredType}
-use Rattle.pac_syntax.proofs.NodeForms.{fold-Let, fold-Read, fold-Has, fold-Put, fold-Set, fold-Delete, fold-AbortIf, fold-If}
+use Rattle.pac_syntax.proofs.NodeForms.{fold-Let, fold-Read, fold-Has, fold-Put, fold-Set, fold-Delete, fold-AbortIf, fold-If, fold-For}
 
 -- each token is within its limit
 abbrev pub AllWithin : List Marked → Type 0
@@ -40,6 +41,10 @@ after_literal (ANegative minus at z) rest = record { within = λ h. h.1.1; longe
 after_literal (AText at text) rest = record { within = λ h. h.1; longer = omega arith }
 after_literal (ATrue at) rest = record { within = λ h. h.1; longer = omega arith }
 after_literal (AFalse at) rest = record { within = λ h. h.1; longer = omega arith }
+
+after_bound : (b : BoundForm) (role : Role) (rest : List Marked) → After (bound_before b role rest) rest
+after_bound (ABound at z) role rest = record { within = λ h. h.1; longer = omega arith }
+after_bound (ANegativeBound minus at z) role rest = record { within = λ h. h.1.1; longer = omega arith }
 
 after_expr : (e : ExprForm) (d o : ℕ) (rest : List Marked) → After (expr_before d o e rest) rest
 after_expr (ALiteral l) d o rest = after_literal l rest
@@ -72,7 +77,7 @@ record Statements (s : StmtsForm) (ms rest : List Marked) : Type 0 where
   within : AllWithin ms → AllWithin rest
   few : length rest + 2 * sizes (stmt_nodes s) ≤ length ms
 
-statements : (s : StmtsForm) (d : ℕ) (rest : List Marked) → Statements s (stmts_before d s rest) rest
+statements : (s : StmtsForm) (d : Around) (rest : List Marked) → Statements s (stmts_before d s rest) rest
 statements NoStmt d rest = record { within = λ h. h; few = omega arith }
 statements (ALet p0 x p1 e p2 s) d rest =
     let n : sizes (stmt_nodes (ALet p0 x p1 e p2 s)) ≡ 1 + sizes (stmt_nodes s) = one_more (stmt.Let x (expr_node e)) (stmt_nodes s) 1 (fold-Let ℕ size_step x (expr_node e)) in
@@ -117,17 +122,26 @@ statements (AnIf p0 e p1 first p2 s) d rest =
     let n : sizes (stmt_nodes (AnIf p0 e p1 first p2 s)) ≡ suc (sizes (stmt_nodes first) + 0) + sizes (stmt_nodes s) =
     one_more (stmt.If (expr_node e) (stmt_nodes first) []) (stmt_nodes s) (suc (sizes (stmt_nodes first) + 0)) (fold-If ℕ size_step (expr_node e) (stmt_nodes first) []) in
     let more = statements s d rest in
-    let inner = statements first (suc d) (_ ∷ stmts_before d s rest) in
-    let b = after_whole e (_ ∷ stmts_before (suc d) first (_ ∷ stmts_before d s rest)) in
+    let inner = statements first (inside d) (_ ∷ stmts_before d s rest) in
+    let b = after_whole e (_ ∷ stmts_before (inside d) first (_ ∷ stmts_before d s rest)) in
     record { within = λ h. more.within (inner.within (b.within h.1).1).1; few = omega (arith, more.few, inner.few, b.longer, n) }
 statements (AnIfElse p0 e p1 first p2 p3 p4 second p5 s) d rest =
     let n : sizes (stmt_nodes (AnIfElse p0 e p1 first p2 p3 p4 second p5 s)) ≡ suc (sizes (stmt_nodes first) + sizes (stmt_nodes second)) + sizes (stmt_nodes s) =
     one_more (stmt.If (expr_node e) (stmt_nodes first) (stmt_nodes second)) (stmt_nodes s) (suc (sizes (stmt_nodes first) + sizes (stmt_nodes second))) (fold-If ℕ size_step (expr_node e) (stmt_nodes first) (stmt_nodes second)) in
     let more = statements s d rest in
-    let other = statements second (suc d) (_ ∷ stmts_before d s rest) in
-    let inner = statements first (suc d) (_ ∷ _ ∷ _ ∷ stmts_before (suc d) second (_ ∷ stmts_before d s rest)) in
-    let b = after_whole e (_ ∷ stmts_before (suc d) first (_ ∷ _ ∷ _ ∷ stmts_before (suc d) second (_ ∷ stmts_before d s rest))) in
+    let other = statements second (inside d) (_ ∷ stmts_before d s rest) in
+    let inner = statements first (inside d) (_ ∷ _ ∷ _ ∷ stmts_before (inside d) second (_ ∷ stmts_before d s rest)) in
+    let b = after_whole e (_ ∷ stmts_before (inside d) first (_ ∷ _ ∷ _ ∷ stmts_before (inside d) second (_ ∷ stmts_before d s rest))) in
     record { within = λ h. more.within (other.within (inner.within (b.within h.1).1).1.1.1).1; few = omega (arith, more.few, other.few, inner.few, b.longer, n) }
+statements (ALoop p0 x p1 a p2 b p3 body p4 s) d rest =
+    let n : sizes (stmt_nodes (ALoop p0 x p1 a p2 b p3 body p4 s)) ≡ suc (sizes (stmt_nodes body)) + sizes (stmt_nodes s) =
+    one_more (stmt.For x (bound_value a) (bound_value b) (stmt_nodes body)) (stmt_nodes s) (suc (sizes (stmt_nodes body))) (fold-For ℕ size_step x (bound_value a) (bound_value b) (stmt_nodes body)) in
+    let more = statements s d rest in
+    let inner = statements body (in_loop d (bound_value a) (bound_value b)) (_ ∷ stmts_before d s rest) in
+    let block = stmts_before (in_loop d (bound_value a) (bound_value b)) body (_ ∷ stmts_before d s rest) in
+    let last = after_bound b (last_bound d p0 (bound_value a) (bound_value b)) (_ ∷ block) in
+    let first = after_bound a Plain (_ ∷ bound_before b (last_bound d p0 (bound_value a) (bound_value b)) (_ ∷ block)) in
+    record { within = λ h. more.within (inner.within (last.within (first.within h.1.1.1).1).1).1; few = omega (arith, more.few, inner.few, last.longer, first.longer, n) }
 
 -- ---- columns and parameters
 
@@ -176,8 +190,8 @@ record Procs (f : ProcsForm) (i : ℕ) : Type 0 where
 procs : (f : ProcsForm) (i : ℕ) → i ≤ 64 → AllWithin (procs_before i f []) → length (procs_before i f []) ≤ 65536 → Procs f i
 procs NoProc i le h short = record { few = omega arith; each = tt }
 procs (AProc p0 n p1 ps p2 p3 s p4 f) i le h short =
-    let p = params ps (_ ∷ _ ∷ stmts_before 0 s (_ ∷ procs_before (suc i) f [])) h.1.1.1 in
-    let b = statements s 0 (_ ∷ procs_before (suc i) f []) in
+    let p = params ps (_ ∷ _ ∷ stmts_before outermost s (_ ∷ procs_before (suc i) f [])) h.1.1.1 in
+    let b = statements s outermost (_ ∷ procs_before (suc i) f []) in
     let more = procs f (suc i) (at_most 64 (suc i) (fault_of TooMany p0) h.0) (b.within p.within.1.1).1 (omega (arith, p.longer, b.few)) in
     record { few = omega (arith, more.few); each = (record { few = p.few; params = all_stored (param_nodes ps) (stored_params ps); short = omega (arith, p.longer, p.few, b.few) }, more.each) }
 

@@ -1,5 +1,5 @@
 -- What a derivation spells leads to its tree.
-use Rattle.std.proofs.Common.{◌≡◌, ◌<◌, ◌≤◌, ℕ, zero, suc, List, [], ◌∷◌, ◌++◌, Some, None, refl, sym, ap, subst, ◌∙◌, append_assoc, arith, inl, inr}
+use Rattle.std.proofs.Common.{◌≡◌, ◌<◌, ◌≤◌, ℕ, zero, suc, ℤ, List, [], ◌∷◌, ◌++◌, Some, None, refl, sym, ap, subst, ◌∙◌, append_assoc, arith, inl, inr}
 use Rattle.std.proofs.lemmas.Bool.{cases_lt, eq-eqb}
 use Rattle.std.proofs.lemmas.List.{append-nil}
 use Rattle.pac_value.specs.declared.values.Ty.{Ty}
@@ -7,6 +7,7 @@ use Rattle.pac_value.specs.declared.expr.BinOp.{BinOp}
 use Rattle.pac_value.specs.declared.expr.BinOp.TheVariants as op
 use Rattle.pac_tokens.specs.declared.token.Token.TheVariants as token
 use Rattle.pac_tokens.specs.declared.token.Symbol.TheVariants as symbol
+use Rattle.pac_syntax.specs.declared.limits.Around.{Around}
 use Rattle.pac_syntax.specs.declared.tree.LiteralNode.{LiteralNode}
 use Rattle.pac_syntax.specs.declared.tree.ColumnNode.{ColumnNode}
 use Rattle.pac_syntax.specs.declared.tree.ExprNode.{ExprNode}
@@ -15,8 +16,8 @@ use Rattle.pac_syntax.specs.declared.tree.StmtNode.TheVariants as stmt
 use Rattle.pac_syntax.specs.declared.tree.TableNode.{TableNode}
 use Rattle.pac_syntax.specs.declared.tree.ProcNode.{ProcNode}
 use Rattle.pac_syntax.specs.declared.tree.Tree.{Tree}
-use Rattle.pac_syntax.specs.Grammar.{LiteralForm, AnInt, ANegative, AText, ATrue, AFalse, ExprForm, ALiteral, AName, ANot, AParen, ABinary, ValuesForm, NoValue, AValue, StmtsForm, NoStmt, ALet, ARead, AHas, APut, ASet, ADelete, AnAbort, AnIf, AnIfElse, TypeForm, AnIntType, ATextType, ColumnsForm, NoColumn, AColumn, ParamsForm, NoParam, AParam, TablesForm, NoTable, ATable, ProcsForm, NoProc, AProc, operator_symbol, precedence, left_level, AtLevel, IsExpr, AreValues, AreStmts, AreProcs, literal_node, expr_offset, expr_node, value_nodes, stmt_nodes, type_of_form, column_node, column_nodes, param_nodes, table_nodes, proc_nodes, Role, Plain, ColumnName, ParamName, Operator, Marked, symbol_mark, name_mark, type_mark, literal_before, counted, expr_before, whole_before, values_before, stmts_before, columns_before, params_before, tables_before, procs_before, Whole}
-use Rattle.pac_syntax.specs.Machine.{Begun, Steps, WantType, WantLiteral, Level, Rest, MoreValues, MoreStmts, MaybeElse, MoreColumns, SomeParams, MoreTables, MoreProcs, want_symbol, want_expr, begun_literal, begun_not, begun_paren, begun_binary, top, lay, columns_steps, tree_end, tree_procs, start, operator_of, operator_in, operator_at, of_precedence, feed, finish}
+use Rattle.pac_syntax.specs.Grammar.{LiteralForm, AnInt, ANegative, AText, ATrue, AFalse, ExprForm, ALiteral, AName, ANot, AParen, ABinary, ValuesForm, NoValue, AValue, StmtsForm, NoStmt, ALet, ARead, AHas, APut, ASet, ADelete, AnAbort, AnIf, AnIfElse, ALoop, BoundForm, ABound, ANegativeBound, TypeForm, AnIntType, ATextType, ColumnsForm, NoColumn, AColumn, ParamsForm, NoParam, AParam, TablesForm, NoTable, ATable, ProcsForm, NoProc, AProc, operator_symbol, precedence, left_level, AtLevel, IsExpr, AreValues, AreStmts, AreProcs, literal_node, bound_value, outermost, inside, in_loop, expr_offset, expr_node, value_nodes, stmt_nodes, type_of_form, column_node, column_nodes, param_nodes, table_nodes, proc_nodes, Role, Plain, ColumnName, ParamName, Operator, Marked, symbol_mark, name_mark, type_mark, literal_before, bound_before, last_bound, counted, expr_before, whole_before, values_before, stmts_before, columns_before, params_before, tables_before, procs_before, Whole}
+use Rattle.pac_syntax.specs.Machine.{Begun, Steps, WantType, WantLiteral, WantBound, Level, Rest, MoreValues, MoreStmts, MaybeElse, MoreColumns, SomeParams, MoreTables, MoreProcs, want_symbol, want_expr, begun_literal, begun_not, begun_paren, begun_binary, top, lay, columns_steps, tree_end, tree_procs, start, operator_of, operator_in, operator_at, of_precedence, feed, finish}
 use Rattle.pac_syntax.proofs.Running.{Runs}
 
 -- an expression with the offset at which it begins
@@ -244,7 +245,7 @@ module _ (tree : Tree) where
 
   -- ---- statements, which end before a brace
 
-  no_else : (s : StmtsForm) (d e : ℕ) (k : List StmtNode → Steps) (p : ℕ) (rest : List Marked)
+  no_else : (s : StmtsForm) (d e : Around) (k : List StmtNode → Steps) (p : ℕ) (rest : List Marked)
       → Runs (k []) (stmts_before e s (symbol_mark symbol.CloseBrace p Plain ∷ rest)) tree → Runs (MaybeElse d k) (stmts_before e s (symbol_mark symbol.CloseBrace p Plain ∷ rest)) tree
   unfolding feed
   no_else NoStmt d e k p rest h = h
@@ -257,12 +258,18 @@ module _ (tree : Tree) where
   no_else (AnAbort p0 p1 v p2 s) d e k p rest h = h
   no_else (AnIf p0 v p1 first p2 s) d e k p rest h = h
   no_else (AnIfElse p0 v p1 first p2 p3 p4 second p5 s) d e k p rest h = h
+  no_else (ALoop p0 x p1 a p2 b p3 body p4 s) d e k p rest h = h
 
   -- one token that is taken as it stands
-  abbrev Follows : (d : ℕ) (ss : List StmtNode) (node : StmtNode) (s : StmtsForm) (k : List StmtNode → Steps) (p : ℕ) (rest : List Marked) → Type 0
+  abbrev Follows : (d : Around) (ss : List StmtNode) (node : StmtNode) (s : StmtsForm) (k : List StmtNode → Steps) (p : ℕ) (rest : List Marked) → Type 0
   Follows d ss node s k p rest = Runs (MoreStmts d (ss ++ (node ∷ [])) k) (stmts_before d s (symbol_mark symbol.CloseBrace p Plain ∷ rest)) tree
 
-  read_stmts : (s : StmtsForm) (d : ℕ) (ss : List StmtNode) (k : List StmtNode → Steps) (p : ℕ) (rest : List Marked) → AreStmts s
+  read_bound : (b : BoundForm) (role : ℤ → Role) (k : ℤ → Steps) (rest : List Marked) → Runs (k (bound_value b)) rest tree → Runs (WantBound role k) (bound_before b (role (bound_value b)) rest) tree
+  unfolding feed
+  read_bound (ABound at z) role k rest h = (_, refl, refl, h)
+  read_bound (ANegativeBound minus at z) role k rest h = (_, refl, refl, (_, refl, refl, h))
+
+  read_stmts : (s : StmtsForm) (d : Around) (ss : List StmtNode) (k : List StmtNode → Steps) (p : ℕ) (rest : List Marked) → AreStmts s
       → Runs (k (ss ++ stmt_nodes s)) (symbol_mark symbol.CloseBrace p Plain ∷ rest) tree → Runs (MoreStmts d ss k) (stmts_before d s (symbol_mark symbol.CloseBrace p Plain ∷ rest)) tree
   unfolding feed
   read_stmts NoStmt d ss k p rest lv h = subst (λ (xs : List StmtNode). Runs (k xs) (symbol_mark symbol.CloseBrace p Plain ∷ rest) tree) (append-nil ss) h
@@ -297,11 +304,15 @@ module _ (tree : Tree) where
   read_stmts (AnIf p0 e p1 first p2 s) d ss k p rest lv h =
       let node = stmt.If (expr_node e) (stmt_nodes first) [] in
       let more : Follows d ss node s k p rest = read_stmts s d (ss ++ (node ∷ [])) k p rest lv.2 (subst (λ (xs : List StmtNode). Runs (k xs) (symbol_mark symbol.CloseBrace p Plain ∷ rest) tree) (sym (append_assoc ss (node ∷ []) (stmt_nodes s))) h) in
-      (_, refl, refl, read_whole e _ _ _ lv.0 refl (_, refl, refl, (read_stmts first (suc d) [] _ p2 _ lv.1 (_, refl, refl, (no_else s (suc d) d _ p rest more)))))
+      (_, refl, refl, read_whole e _ _ _ lv.0 refl (_, refl, refl, (read_stmts first (inside d) [] _ p2 _ lv.1 (_, refl, refl, (no_else s (inside d) d _ p rest more)))))
   read_stmts (AnIfElse p0 e p1 first p2 p3 p4 second p5 s) d ss k p rest lv h =
       let node = stmt.If (expr_node e) (stmt_nodes first) (stmt_nodes second) in
       let more : Follows d ss node s k p rest = read_stmts s d (ss ++ (node ∷ [])) k p rest lv.3 (subst (λ (xs : List StmtNode). Runs (k xs) (symbol_mark symbol.CloseBrace p Plain ∷ rest) tree) (sym (append_assoc ss (node ∷ []) (stmt_nodes s))) h) in
-      (_, refl, refl, read_whole e _ _ _ lv.0 refl (_, refl, refl, (read_stmts first (suc d) [] _ p2 _ lv.1 (_, refl, refl, (_, refl, refl, (_, refl, refl, (read_stmts second (suc d) [] _ p5 _ lv.2 (_, refl, refl, more))))))))
+      (_, refl, refl, read_whole e _ _ _ lv.0 refl (_, refl, refl, (read_stmts first (inside d) [] _ p2 _ lv.1 (_, refl, refl, (_, refl, refl, (_, refl, refl, (read_stmts second (inside d) [] _ p5 _ lv.2 (_, refl, refl, more))))))))
+  read_stmts (ALoop p0 x p1 a p2 b p3 body p4 s) d ss k p rest lv h =
+      let node = stmt.For x (bound_value a) (bound_value b) (stmt_nodes body) in
+      let more : Follows d ss node s k p rest = read_stmts s d (ss ++ (node ∷ [])) k p rest lv.1 (subst (λ (xs : List StmtNode). Runs (k xs) (symbol_mark symbol.CloseBrace p Plain ∷ rest) tree) (sym (append_assoc ss (node ∷ []) (stmt_nodes s))) h) in
+      (_, refl, refl, (_, refl, refl, (_, refl, refl, read_bound a (λ from. Plain) _ _ (_, refl, refl, read_bound b (λ to. last_bound d p0 (bound_value a) to) _ _ (_, refl, refl, (read_stmts body (in_loop d (bound_value a) (bound_value b)) [] _ p4 _ lv.0 (_, refl, refl, more)))))))
 
   -- ---- columns, tables and procedures
 
@@ -331,7 +342,7 @@ module _ (tree : Tree) where
   read_procs (AProc p0 n p1 params p2 p3 s p4 f) i ps k lv h =
       let node : ProcNode = record { name = n; params = param_nodes params; body = stmt_nodes s } in
       let more = read_procs f (suc i) (ps ++ (node ∷ [])) k lv.1 (subst (λ (xs : List ProcNode). Runs (k xs) [] tree) (sym (append_assoc ps (node ∷ []) (proc_nodes f))) h) in
-      (_, refl, refl, (_, refl, refl, (_, refl, refl, read_params params _ p2 _ (_, refl, refl, (_, refl, refl, read_stmts s 0 [] _ p4 _ lv.0 (_, refl, refl, more))))))
+      (_, refl, refl, (_, refl, refl, (_, refl, refl, read_params params _ p2 _ (_, refl, refl, (_, refl, refl, read_stmts s outermost [] _ p4 _ lv.0 (_, refl, refl, more))))))
 
   -- tables end before a procedure or the end
   tables_end : (f : ProcsForm) (i : ℕ) (ts : List TableNode) → Runs (tree_procs ts) (procs_before 0 f []) tree → Runs (MoreTables i ts tree_procs) (procs_before 0 f []) tree

@@ -2,13 +2,13 @@
 use Rattle.std.specs.Prelude.{◌≡◌, ◌⊎◌, ℕ, ◌≤◌, List, [], ◌∷◌, ◌++◌, length, Option, Some, None, nat_lt, if◌then◌else◌}
 use Rattle.std.specs.List.{AllByRecursion}
 use Rattle.pac_value.specs.declared.limits.TheConstants.{MAX_COLUMNS, MAX_PARAMS, MAX_TABLES, MAX_PROCS}
-use Rattle.pac_syntax.specs.declared.limits.TheConstants.{MAX_OPERATORS, MAX_PARENS, MAX_NESTED}
+use Rattle.pac_syntax.specs.declared.limits.TheConstants.{MAX_OPERATORS, MAX_PARENS, MAX_NESTED, MAX_TURNS}
 use Rattle.pac_tokens.specs.declared.token.Spanned.{Spanned}
 use Rattle.pac_tokens.specs.declared.fault.FaultKind.{FaultKind}
 use Rattle.pac_tokens.specs.declared.fault.FaultKind.TheVariants.{Token, Expected, TooLong, TooDeep, TooMany}
 use Rattle.pac_tokens.specs.declared.fault.Fault.{Fault}
 use Rattle.pac_syntax.specs.declared.tree.Tree.{Tree}
-use Rattle.pac_syntax.specs.Grammar.{Role, Plain, TableWord, ProcWord, ColumnName, ParamName, Operator, Paren, Nested, Marked, Whole, tokens_of}
+use Rattle.pac_syntax.specs.Grammar.{Role, Plain, TableWord, ProcWord, ColumnName, ParamName, Operator, Paren, Nested, LastBound, Marked, Whole, tokens_of}
 
 abbrev pub fault_of : FaultKind → ℕ → Fault
 fault_of kind at = record { at = at; kind = kind }
@@ -17,8 +17,9 @@ fault_of kind at = record { at = at; kind = kind }
 abbrev pub past : ℕ → ℕ → Fault → Option Fault
 past limit n fault = if nat_lt limit n then Some fault else None
 
--- The fault of a token of this role at this offset, where it is over its limit. It is reported at the token; a role that is
--- settled by a later token than the one it is reported at would carry that offset.
+-- The fault of a token of this role at this offset, where it is over its limit. It is reported at the token; but that of a
+-- loop, which its second bound settles, at the loop's `for`. No other fault stands between these two where the bounds are
+-- complete, so the fault that is settled first has the least offset.
 abbrev pub over_role : Role → ℕ → Option Fault
 over_role Plain at = None
 over_role (TableWord n) at = past MAX_TABLES n (fault_of TooMany at)
@@ -28,6 +29,7 @@ over_role (ParamName n) at = past MAX_PARAMS n (fault_of TooMany at)
 over_role (Operator n) at = past MAX_OPERATORS n (fault_of TooMany at)
 over_role (Paren n) at = past MAX_PARENS n (fault_of TooDeep at)
 over_role (Nested n) at = past MAX_NESTED n (fault_of TooDeep at)
+over_role (LastBound n loop) at = past MAX_TURNS n (fault_of TooMany loop)
 
 abbrev pub over : Marked → Option Fault
 over m = over_role m.role m.token.at

@@ -1,5 +1,5 @@
 -- The grammar of catalogues: derivations with the offset of each token, their tokens, and the tree that each is read as.
-use Rattle.std.specs.Prelude.{◌≡◌, ℕ, zero, suc, ◌<◌, ℤ, List, [], ◌∷◌, true, false}
+use Rattle.std.specs.Prelude.{◌≡◌, ℕ, zero, suc, ◌*◌, ◌<◌, max, ℤ, ◌-ℤ◌, unsigned_abs, int_lt, if◌then◌else◌, List, [], ◌∷◌, true, false}
 use Rattle.pac_value.specs.declared.values.Ty.{Ty}
 use Rattle.pac_value.specs.declared.values.Ty.TheVariants as ty
 use Rattle.pac_value.specs.declared.values.Value.TheVariants as value
@@ -12,6 +12,7 @@ use Rattle.pac_tokens.specs.declared.token.Symbol.TheVariants as symbol
 use Rattle.pac_tokens.specs.declared.token.Token.{Token}
 use Rattle.pac_tokens.specs.declared.token.Token.TheVariants as token
 use Rattle.pac_tokens.specs.declared.token.Spanned.{Spanned}
+use Rattle.pac_syntax.specs.declared.limits.Around.{Around}
 use Rattle.pac_syntax.specs.declared.tree.NameNode.{NameNode}
 use Rattle.pac_syntax.specs.declared.tree.LiteralNode.{LiteralNode}
 use Rattle.pac_syntax.specs.declared.tree.ColumnNode.{ColumnNode}
@@ -48,6 +49,11 @@ pub data ValuesForm : Type 0 where
   NoValue : ValuesForm
   AValue : (comma : ℕ) → ExprForm → ValuesForm → ValuesForm
 
+-- [ "-" ] INT
+pub data BoundForm : Type 0 where
+  ABound : (at : ℕ) → ℤ → BoundForm
+  ANegativeBound : (minus at : ℕ) → ℤ → BoundForm
+
 -- { stmt }, where a stmt is
 pub data StmtsForm : Type 0 where
   NoStmt : StmtsForm
@@ -69,6 +75,8 @@ pub data StmtsForm : Type 0 where
   AnIf : (p0 : ℕ) → ExprForm → (p1 : ℕ) → StmtsForm → (p2 : ℕ) → StmtsForm → StmtsForm
   -- "if" expr "{" { stmt } "}" "else" "{" { stmt } "}"
   AnIfElse : (p0 : ℕ) → ExprForm → (p1 : ℕ) → StmtsForm → (p2 p3 p4 : ℕ) → StmtsForm → (p5 : ℕ) → StmtsForm → StmtsForm
+  -- "for" NAME "in" [ "-" ] INT ".." [ "-" ] INT "{" { stmt } "}"
+  ALoop : (p0 : ℕ) → NameNode → (p1 : ℕ) → BoundForm → (p2 : ℕ) → BoundForm → (p3 : ℕ) → StmtsForm → (p4 : ℕ) → StmtsForm → StmtsForm
 
 -- type = "int" | "text"
 pub data TypeForm : Type 0 where
@@ -169,6 +177,7 @@ AreStmts (ADelete p0 t p1 e p2 p3 s) = IsExpr e × AreStmts s
 AreStmts (AnAbort p0 p1 e p2 s) = IsExpr e × AreStmts s
 AreStmts (AnIf p0 e p1 first p2 s) = IsExpr e × AreStmts first × AreStmts s
 AreStmts (AnIfElse p0 e p1 first p2 p3 p4 second p5 s) = IsExpr e × AreStmts first × AreStmts second × AreStmts s
+AreStmts (ALoop p0 x p1 a p2 b p3 body p4 s) = AreStmts body × AreStmts s
 
 abbrev pub AreProcs : ProcsForm → Type 0
 AreProcs NoProc = Unit {0}
@@ -203,6 +212,10 @@ abbrev pub value_nodes : ValuesForm → List ExprNode
 value_nodes NoValue = []
 value_nodes (AValue comma e vs) = expr_node e ∷ value_nodes vs
 
+abbrev pub bound_value : BoundForm → ℤ
+bound_value (ABound at z) = z
+bound_value (ANegativeBound minus at z) = z
+
 -- an `else` with no statements is the same tree as none
 abbrev pub stmt_nodes : StmtsForm → List StmtNode
 stmt_nodes NoStmt = []
@@ -215,6 +228,7 @@ stmt_nodes (ADelete p0 t p1 e p2 p3 s) = stmt.Delete t (expr_node e) ∷ stmt_no
 stmt_nodes (AnAbort p0 p1 e p2 s) = stmt.AbortIf (expr_node e) ∷ stmt_nodes s
 stmt_nodes (AnIf p0 e p1 first p2 s) = stmt.If (expr_node e) (stmt_nodes first) [] ∷ stmt_nodes s
 stmt_nodes (AnIfElse p0 e p1 first p2 p3 p4 second p5 s) = stmt.If (expr_node e) (stmt_nodes first) (stmt_nodes second) ∷ stmt_nodes s
+stmt_nodes (ALoop p0 x p1 a p2 b p3 body p4 s) = stmt.For x (bound_value a) (bound_value b) (stmt_nodes body) ∷ stmt_nodes s
 
 abbrev pub type_of_form : TypeForm → Ty
 type_of_form (AnIntType at) = ty.Int
@@ -242,6 +256,28 @@ proc_nodes (AProc p0 n p1 ps p2 p3 s p4 procs) = record { name = n; params = par
 abbrev pub tree_of : CatalogueForm → Tree
 tree_of form = record { tables = table_nodes form.tables; procs = proc_nodes form.procs }
 
+-- ---- what stands round a statement, for the limits
+
+-- the statements of a procedure have nothing round them, and run once
+abbrev pub outermost : Around
+outermost = record { nested = 0; turns = 1 }
+
+-- a conditional more
+abbrev pub inside : Around → Around
+inside d = record { nested = suc d.nested; turns = d.turns }
+
+-- how many whole numbers there are from the one on and below the other: none where that is no greater
+abbrev pub turns : ℤ → ℤ → ℕ
+turns from to = if int_lt from to then unsigned_abs (to -ℤ from) else 0
+
+-- a loop more: its block runs in each of its turns, in each turn of the loops round it
+abbrev pub in_loop : Around → ℤ → ℤ → Around
+in_loop d from to = record { nested = suc d.nested; turns = turns from to * d.turns }
+
+-- the turns of a loop that are limited: its own, and all that it runs
+abbrev pub loop_turns : Around → ℤ → ℤ → ℕ
+loop_turns d from to = max (turns from to) (turns from to * d.turns)
+
 -- ---- the tokens of derivations, each with what it is for the limits
 
 -- what a token is in its derivation
@@ -253,7 +289,8 @@ pub data Role : Type 0 where
   ParamName : ℕ → Role  -- the name of that many parameters of its procedure
   Operator : ℕ → Role  -- the operator of that many in its expression, parentheses included
   Paren : ℕ → Role  -- the `(` of that many parentheses of its expression that are open at once
-  Nested : ℕ → Role  -- the `if` of that many conditionals that stand one in another
+  Nested : ℕ → Role  -- the `if` or `for` of that many conditionals and loops that stand one in another
+  LastBound : (turns loop : ℕ) → Role  -- the int with which a loop has that many turns, whose `for` stands at this offset
 
 pub record Marked : Type 0 where
   pub token : Spanned
@@ -303,8 +340,17 @@ abbrev pub values_before : ValuesForm → List Marked → List Marked
 values_before NoValue rest = rest
 values_before (AValue comma e vs) rest = symbol_mark symbol.Comma comma Plain ∷ whole_before e (values_before vs rest)
 
--- the tokens of statements in that many conditionals
-abbrev pub stmts_before : ℕ → StmtsForm → List Marked → List Marked
+-- an int of this role, with a `-` before it or not
+abbrev pub bound_before : BoundForm → Role → List Marked → List Marked
+bound_before (ABound at z) role rest = marked (token.Int z) at role ∷ rest
+bound_before (ANegativeBound minus at z) role rest = symbol_mark symbol.Minus minus Plain ∷ marked (token.Negative z) at role ∷ rest
+
+-- the role of the second bound of a loop whose `for` stands there
+abbrev pub last_bound : Around → ℕ → ℤ → ℤ → Role
+last_bound d loop from to = LastBound (loop_turns d from to) loop
+
+-- the tokens of statements with so much round them
+abbrev pub stmts_before : Around → StmtsForm → List Marked → List Marked
 stmts_before d NoStmt rest = rest
 stmts_before d (ALet p0 x p1 e p2 s) rest =
     keyword_mark keyword.Let p0 Plain ∷ name_mark x Plain ∷ symbol_mark symbol.Assign p1 Plain
@@ -330,12 +376,16 @@ stmts_before d (ADelete p0 t p1 e p2 p3 s) rest =
 stmts_before d (AnAbort p0 p1 e p2 s) rest =
     keyword_mark keyword.Abort p0 Plain ∷ keyword_mark keyword.If p1 Plain ∷ whole_before e (symbol_mark symbol.Semicolon p2 Plain ∷ stmts_before d s rest)
 stmts_before d (AnIf p0 e p1 first p2 s) rest =
-    keyword_mark keyword.If p0 (Nested (suc d)) ∷ whole_before e (symbol_mark symbol.OpenBrace p1 Plain
-    ∷ stmts_before (suc d) first (symbol_mark symbol.CloseBrace p2 Plain ∷ stmts_before d s rest))
+    keyword_mark keyword.If p0 (Nested (suc d.nested)) ∷ whole_before e (symbol_mark symbol.OpenBrace p1 Plain
+    ∷ stmts_before (inside d) first (symbol_mark symbol.CloseBrace p2 Plain ∷ stmts_before d s rest))
 stmts_before d (AnIfElse p0 e p1 first p2 p3 p4 second p5 s) rest =
-    keyword_mark keyword.If p0 (Nested (suc d)) ∷ whole_before e (symbol_mark symbol.OpenBrace p1 Plain
-    ∷ stmts_before (suc d) first (symbol_mark symbol.CloseBrace p2 Plain ∷ keyword_mark keyword.Else p3 Plain ∷ symbol_mark symbol.OpenBrace p4 Plain
-    ∷ stmts_before (suc d) second (symbol_mark symbol.CloseBrace p5 Plain ∷ stmts_before d s rest)))
+    keyword_mark keyword.If p0 (Nested (suc d.nested)) ∷ whole_before e (symbol_mark symbol.OpenBrace p1 Plain
+    ∷ stmts_before (inside d) first (symbol_mark symbol.CloseBrace p2 Plain ∷ keyword_mark keyword.Else p3 Plain ∷ symbol_mark symbol.OpenBrace p4 Plain
+    ∷ stmts_before (inside d) second (symbol_mark symbol.CloseBrace p5 Plain ∷ stmts_before d s rest)))
+stmts_before d (ALoop p0 x p1 a p2 b p3 body p4 s) rest =
+    keyword_mark keyword.For p0 (Nested (suc d.nested)) ∷ name_mark x Plain ∷ keyword_mark keyword.In p1 Plain
+    ∷ bound_before a Plain (symbol_mark symbol.Range p2 Plain ∷ bound_before b (last_bound d p0 (bound_value a) (bound_value b)) (symbol_mark symbol.OpenBrace p3 Plain
+    ∷ stmts_before (in_loop d (bound_value a) (bound_value b)) body (symbol_mark symbol.CloseBrace p4 Plain ∷ stmts_before d s rest)))
 
 abbrev pub type_mark : TypeForm → Marked
 type_mark (AnIntType at) = keyword_mark keyword.Int at Plain
@@ -366,7 +416,7 @@ procs_before i NoProc rest = rest
 procs_before i (AProc p0 n p1 ps p2 p3 s p4 procs) rest =
     keyword_mark keyword.Proc p0 (ProcWord (suc i)) ∷ name_mark n Plain ∷ symbol_mark symbol.OpenParen p1 Plain
     ∷ params_before ps (symbol_mark symbol.CloseParen p2 Plain ∷ symbol_mark symbol.OpenBrace p3 Plain
-    ∷ stmts_before 0 s (symbol_mark symbol.CloseBrace p4 Plain ∷ procs_before (suc i) procs rest))
+    ∷ stmts_before outermost s (symbol_mark symbol.CloseBrace p4 Plain ∷ procs_before (suc i) procs rest))
 
 abbrev pub marks_of : CatalogueForm → List Marked
 marks_of form = tables_before 0 form.tables (procs_before 0 form.procs [])

@@ -5,7 +5,7 @@ use Rattle.pac_value.specs.declared.values.Ty.{Ty}
 use Rattle.pac_value.specs.declared.values.Ty.TheVariants.{Int, Text, Bool as BoolTy}
 use Rattle.pac_syntax.specs.declared.tree.ColumnNode.{ColumnNode}
 use Rattle.pac_syntax.specs.declared.tree.StmtNode.{StmtNode}
-use Rattle.pac_syntax.specs.declared.tree.StmtNode.TheOpen.{StmtNode-F, If}
+use Rattle.pac_syntax.specs.declared.tree.StmtNode.TheOpen.{StmtNode-F, If, For}
 use Rattle.pac_syntax.specs.declared.tree.StmtNode.TheFolds.{fold-StmtNode}
 use Rattle.pac_syntax.specs.declared.tree.TableNode.{TableNode}
 use Rattle.pac_syntax.specs.declared.tree.ProcNode.{ProcNode}
@@ -34,6 +34,7 @@ total (n ∷ ns) = n + total ns
 -- how many statements a statement is: itself, and those in its blocks
 abbrev pub size_step : StmtNode-F ℕ → ℕ
 size_step (If test first second) = suc (total first + total second)
+size_step (For name from to body) = suc (total body)
 size_step _ = 1
 
 abbrev pub size : StmtNode → ℕ

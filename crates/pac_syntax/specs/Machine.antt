@@ -16,6 +16,7 @@ use Rattle.pac_syntax.specs.declared.parse.statement.StatementWord.{StatementWor
 use Rattle.pac_syntax.specs.declared.parse.statement.StatementWord.TheVariants as word
 use Rattle.pac_tokens.specs.declared.fault.FaultKind.TheVariants.{Expected}
 use Rattle.pac_tokens.specs.declared.fault.Fault.{Fault}
+use Rattle.pac_syntax.specs.declared.limits.Around.{Around}
 use Rattle.pac_syntax.specs.declared.tree.NameNode.{NameNode}
 use Rattle.pac_syntax.specs.declared.tree.LiteralNode.{LiteralNode}
 use Rattle.pac_syntax.specs.declared.tree.ColumnNode.{ColumnNode}
@@ -25,7 +26,7 @@ use Rattle.pac_syntax.specs.declared.tree.StmtNode.TheVariants as stmt
 use Rattle.pac_syntax.specs.declared.tree.TableNode.{TableNode}
 use Rattle.pac_syntax.specs.declared.tree.ProcNode.{ProcNode}
 use Rattle.pac_syntax.specs.declared.tree.Tree.{Tree}
-use Rattle.pac_syntax.specs.Grammar.{Role, Plain, TableWord, ProcWord, ColumnName, ParamName, Operator, Paren, Nested, precedence}
+use Rattle.pac_syntax.specs.Grammar.{Role, Plain, TableWord, ProcWord, ColumnName, ParamName, Operator, Paren, Nested, precedence, outermost, inside, in_loop, last_bound}
 use Rattle.pac_syntax.specs.Faults.{fault_of, over_role, offset}
 
 -- an expression, and where it begins, parentheses round it included
@@ -44,16 +45,19 @@ pub data Steps : Type 0 where
   WantType : (Ty → Steps) → Steps
   WantLiteral : (LiteralNode → Steps) → Steps
   WantNegative : ℕ → (LiteralNode → Steps) → Steps
+  -- [ "-" ] INT, whose int has these roles; the int after its `-`
+  WantBound : (ℤ → Role) → (ℤ → Steps) → Steps
+  WantNegativeBound : (ℤ → Role) → (ℤ → Steps) → Steps
   -- an expression of a level, where that many parentheses are open and that many operators stand before
   Level : (open_parens level operators : ℕ) → (Begun → ℕ → Steps) → Steps
   -- the operators of a precedence with their right operands, after a left one
   Rest : (open_parens precedence : ℕ) → Begun → (operators : ℕ) → (Begun → ℕ → Steps) → Steps
   -- { "," expr } after these values
   MoreValues : List ExprNode → (List ExprNode → Steps) → Steps
-  -- { stmt } after these statements, in that many conditionals
-  MoreStmts : ℕ → List StmtNode → (List StmtNode → Steps) → Steps
+  -- { stmt } after these statements, with so much round them
+  MoreStmts : Around → List StmtNode → (List StmtNode → Steps) → Steps
   -- [ "else" block ]
-  MaybeElse : ℕ → (List StmtNode → Steps) → Steps
+  MaybeElse : Around → (List StmtNode → Steps) → Steps
   -- { "," column } after that many columns, whose names have these roles
   MoreColumns : (ℕ → Role) → ℕ → List ColumnNode → (List ColumnNode → Steps) → Steps
   -- [ column { "," column } ]
@@ -120,6 +124,7 @@ symbol_code symbol.LessEqual = 20
 symbol_code symbol.GreaterEqual = 21
 symbol_code symbol.And = 22
 symbol_code symbol.Or = 23
+symbol_code symbol.Range = 24
 
 -- the two are one word or one symbol
 abbrev pub is_same_keyword_or_symbol : Token → Token → Bool
@@ -253,11 +258,18 @@ abbrev pub abort_steps : (StmtNode → Steps) → Steps
 abort_steps k = want_keyword keyword.If (want_expr (λ e. want_symbol symbol.Semicolon (k (stmt.AbortIf e))))
 
 -- "{" { stmt } "}"
-abbrev pub block_steps : ℕ → (List StmtNode → Steps) → Steps
+abbrev pub block_steps : Around → (List StmtNode → Steps) → Steps
 block_steps d k = want_symbol symbol.OpenBrace (MoreStmts d [] (λ b. want_symbol symbol.CloseBrace (k b)))
 
-abbrev pub if_steps : ℕ → (StmtNode → Steps) → Steps
-if_steps d k = want_expr (λ e. block_steps (suc d) (λ first. MaybeElse (suc d) (λ second. k (stmt.If e first second))))
+abbrev pub if_steps : Around → (StmtNode → Steps) → Steps
+if_steps d k = want_expr (λ e. block_steps (inside d) (λ first. MaybeElse (inside d) (λ second. k (stmt.If e first second))))
+
+-- [ "-" ] INT ".." [ "-" ] INT of a loop whose `for` stands there, with what stands round its block
+abbrev pub bounds_steps : Around → ℕ → (ℤ → ℤ → Around → Steps) → Steps
+bounds_steps d loop k = WantBound (λ from. Plain) (λ from. want_symbol symbol.Range (WantBound (λ to. last_bound d loop from to) (λ to. k from to (in_loop d from to))))
+
+abbrev pub for_steps : Around → ℕ → (StmtNode → Steps) → Steps
+for_steps d at k = WantName Plain (λ x. want_keyword keyword.In (bounds_steps d at (λ from to inner. block_steps inner (λ body. k (stmt.For x from to body)))))
 
 -- the type after a column's name
 abbrev pub typed_steps : NameNode → (ColumnNode → Steps) → Steps
@@ -274,7 +286,7 @@ table_steps k = WantName Plain (λ n. want_symbol symbol.OpenParen (want_keyword
     want_symbol symbol.CloseParen (want_symbol symbol.Semicolon (k (record { name = n; key = key; columns = cs })))))))))
 
 abbrev pub proc_steps : (ProcNode → Steps) → Steps
-proc_steps k = WantName Plain (λ n. want_symbol symbol.OpenParen (SomeParams (λ ps. want_symbol symbol.CloseParen (block_steps 0 (λ b.
+proc_steps k = WantName Plain (λ n. want_symbol symbol.OpenParen (SomeParams (λ ps. want_symbol symbol.CloseParen (block_steps outermost (λ b.
     k (record { name = n; params = ps; body = b }))))))
 
 abbrev pub tree_end : List TableNode → List ProcNode → Steps
@@ -307,6 +319,15 @@ abbrev pub negative_in : Token → ℕ → (LiteralNode → Steps) → Option Ne
 negative_in (token.Negative z) minus k = Some (next (k (literal_at minus z)) Plain)
 negative_in _ minus k = None
 
+abbrev pub bound_begins : Token → (ℤ → Role) → (ℤ → Steps) → Option Next
+bound_begins (token.Int z) role k = Some (next (k z) (role z))
+bound_begins (token.Symbol symbol.Minus) role k = Some (next (WantNegativeBound role k) Plain)
+bound_begins _ role k = None
+
+abbrev pub negative_bound_in : Token → (ℤ → Role) → (ℤ → Steps) → Option Next
+negative_bound_in (token.Negative z) role k = Some (next (k z) (role z))
+negative_bound_in _ role k = None
+
 -- after a negation's `!`, and after a parenthesis
 abbrev pub negation_steps : ℕ → ℕ → ℕ → (Begun → ℕ → Steps) → Steps
 negation_steps at d o k = Level d 0 o (λ x o. k (begun_not at x) o)
@@ -330,25 +351,28 @@ stmt_word (token.Keyword keyword.Set) = Some word.Set
 stmt_word (token.Keyword keyword.Delete) = Some word.Delete
 stmt_word (token.Keyword keyword.Abort) = Some word.Abort
 stmt_word (token.Keyword keyword.If) = Some word.If
+stmt_word (token.Keyword keyword.For) = Some word.For
 stmt_word _ = None
 
--- what comes after it
-abbrev pub stmt_steps : ℕ → StatementWord → (StmtNode → Steps) → Steps
-stmt_steps d word.Let k = let_steps k
-stmt_steps d word.Read k = read_steps k
-stmt_steps d word.Has k = has_steps k
-stmt_steps d word.Put k = put_steps k
-stmt_steps d word.Set k = set_steps k
-stmt_steps d word.Delete k = delete_steps k
-stmt_steps d word.Abort k = abort_steps k
-stmt_steps d word.If k = if_steps d k
+-- what comes after it, where it stands at that offset
+abbrev pub stmt_steps : Around → ℕ → StatementWord → (StmtNode → Steps) → Steps
+stmt_steps d at word.Let k = let_steps k
+stmt_steps d at word.Read k = read_steps k
+stmt_steps d at word.Has k = has_steps k
+stmt_steps d at word.Put k = put_steps k
+stmt_steps d at word.Set k = set_steps k
+stmt_steps d at word.Delete k = delete_steps k
+stmt_steps d at word.Abort k = abort_steps k
+stmt_steps d at word.If k = if_steps d k
+stmt_steps d at word.For k = for_steps d at k
 
-abbrev pub stmt_role : ℕ → StatementWord → Role
-stmt_role d word.If = Nested (suc d)
+abbrev pub stmt_role : Around → StatementWord → Role
+stmt_role d word.If = Nested (suc d.nested)
+stmt_role d word.For = Nested (suc d.nested)
 stmt_role d _ = Plain
 
-abbrev pub stmt_begins : ℕ → Token → (StmtNode → Steps) → Option Next
-stmt_begins d t k = where_some (stmt_word t) (λ w. next (stmt_steps d w k) (stmt_role d w))
+abbrev pub stmt_begins : Around → Token → ℕ → (StmtNode → Steps) → Option Next
+stmt_begins d t at k = where_some (stmt_word t) (λ w. next (stmt_steps d at w k) (stmt_role d w))
 
 -- what is to come after the token, where it can follow
 unfoldable pub feed : Steps → Spanned → Option Next
@@ -358,12 +382,14 @@ feed (WantName role k) t = where_some (name_in t.token t.at) (λ n. next (k n) r
 feed (WantType k) t = where_some (type_of_token t.token) (λ y. next (k y) Plain)
 feed (WantLiteral k) t = literal_begins t.token t.at k
 feed (WantNegative minus k) t = negative_in t.token minus k
+feed (WantBound role k) t = bound_begins t.token role k
+feed (WantNegativeBound role k) t = negative_bound_in t.token role k
 feed (Level d n o k) t = operand_begins t.token t.at d o (lay d n k)
 feed (Rest d n x o k) t =
     or_else (where_some (operator_at n t.token) (λ op. next (Level d n (suc o) (λ y o. top d (suc n) k (begun_binary op x y) o)) (Operator (suc o)))) (feed (k x o) t)
 feed (MoreValues vs k) t =
     or_else (where_true (is_same_keyword_or_symbol (token.Symbol symbol.Comma) t.token) (next (want_expr (λ v. MoreValues (vs ++ (v ∷ [])) k)) Plain)) (feed (k vs) t)
-feed (MoreStmts d ss k) t = or_else (stmt_begins d t.token (λ s. MoreStmts d (ss ++ (s ∷ [])) k)) (feed (k ss) t)
+feed (MoreStmts d ss k) t = or_else (stmt_begins d t.token t.at (λ s. MoreStmts d (ss ++ (s ∷ [])) k)) (feed (k ss) t)
 feed (MaybeElse d k) t = or_else (where_true (is_same_keyword_or_symbol (token.Keyword keyword.Else) t.token) (next (block_steps d k) Plain)) (feed (k []) t)
 feed (MoreColumns role i cs k) t =
     or_else (where_true (is_same_keyword_or_symbol (token.Symbol symbol.Comma) t.token) (next (column_steps (role (suc i)) (λ c. MoreColumns role (suc i) (cs ++ (c ∷ [])) k)) Plain)) (feed (k cs) t)
@@ -384,6 +410,8 @@ finish (WantName role k) = None
 finish (WantType k) = None
 finish (WantLiteral k) = None
 finish (WantNegative minus k) = None
+finish (WantBound role k) = None
+finish (WantNegativeBound role k) = None
 finish (Level d n o k) = None
 finish (Rest d n x o k) = finish (k x o)
 finish (MoreValues vs k) = finish (k vs)

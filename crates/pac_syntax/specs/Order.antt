@@ -6,7 +6,7 @@ use Rattle.pac_syntax.specs.declared.tree.ExprNode.{ExprNode}
 use Rattle.pac_syntax.specs.declared.tree.ExprNode.TheOpen.{ExprNode-F, Literal, Name, Binary, Not}
 use Rattle.pac_syntax.specs.declared.tree.ExprNode.TheFolds.{fold-ExprNode}
 use Rattle.pac_syntax.specs.declared.tree.StmtNode.{StmtNode}
-use Rattle.pac_syntax.specs.declared.tree.StmtNode.TheOpen.{StmtNode-F, Let, Read, Has, Put, Set, Delete, AbortIf, If}
+use Rattle.pac_syntax.specs.declared.tree.StmtNode.TheOpen.{StmtNode-F, Let, Read, Has, Put, Set, Delete, AbortIf, If, For}
 use Rattle.pac_syntax.specs.declared.tree.StmtNode.TheFolds.{fold-StmtNode}
 use Rattle.pac_syntax.specs.declared.tree.TableNode.{TableNode}
 use Rattle.pac_syntax.specs.declared.tree.ProcNode.{ProcNode}
@@ -41,6 +41,7 @@ stmt_offsets_step (Set table key column value) = Own table.at ∷ (expr_offsets 
 stmt_offsets_step (Delete table key) = Own table.at ∷ expr_offsets key
 stmt_offsets_step (AbortIf test) = expr_offsets test
 stmt_offsets_step (If test first second) = expr_offsets test ++ (all_offsets first ++ all_offsets second)
+stmt_offsets_step (For name from to body) = Own name.at ∷ all_offsets body
 
 -- the offsets of a statement's nodes
 abbrev pub stmt_offsets : StmtNode → List NodeOffset

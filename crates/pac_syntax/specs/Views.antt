@@ -1,5 +1,5 @@
 -- What the parser's parts say of the tokens that are left.
-use Rattle.std.specs.Prelude.{◌≡◌, ℕ, zero, suc, List, [], ◌∷◌, Bool, true, false, nat_le, nat_lt, length, ◌≤◌, ◌<◌, if◌then◌else◌, Option, Some, None, Result, Vec}
+use Rattle.std.specs.Prelude.{◌≡◌, ℕ, zero, suc, ℤ, List, [], ◌∷◌, Bool, true, false, nat_le, nat_lt, length, ◌≤◌, ◌<◌, if◌then◌else◌, Option, Some, None, Result, Err, Vec}
 use Rattle.std.specs.Global.{Global}
 use Rattle.pac_base.specs.Refusals.{Gives}
 use Rattle.pac_value.specs.declared.values.Ty.{Ty}
@@ -9,7 +9,9 @@ use Rattle.pac_tokens.specs.declared.token.Token.{Token}
 use Rattle.pac_tokens.specs.declared.token.Token.TheVariants as token
 use Rattle.pac_tokens.specs.declared.token.Keyword.TheVariants as keyword
 use Rattle.pac_tokens.specs.declared.token.Spanned.{Spanned}
+use Rattle.pac_syntax.specs.declared.limits.Around.{Around}
 use Rattle.pac_syntax.specs.declared.tree.NameNode.{NameNode}
+use Rattle.pac_syntax.specs.declared.tree.Tree.{Tree}
 use Rattle.pac_syntax.specs.declared.parse.statement.StatementWord.{StatementWord}
 use Rattle.pac_syntax.specs.declared.parse.statement.StatementWord.TheVariants as word
 use Rattle.pac_syntax.specs.declared.parse.parser.Owner.{Owner}
@@ -20,6 +22,7 @@ use Rattle.pac_base.specs.declared.refusal.Refusal.{Refusal}
 use Rattle.pac_tokens.specs.declared.fault.Fault.{Fault}
 use Rattle.pac_value.specs.declared.expr.BinOp.{BinOp}
 use Rattle.pac_syntax.specs.Grammar.{Role, ColumnName, ParamName, precedence}
+use Rattle.pac_syntax.specs.Faults.{over_role}
 use Rattle.pac_syntax.specs.Machine.{Steps, Rest, run, Begun, begun_name, begun_literal, is_same_keyword_or_symbol, name_in, type_of_token, literal_at}
 
 -- the tokens begin with this word or symbol
@@ -98,10 +101,20 @@ operand_in (token.Name n) at = Some (begun_name (record { at = at; name = n }))
 operand_in (token.Int z) at = Some (begun_literal (literal_at at z))
 operand_in _ at = None
 
--- whether a statement that begins with this word is a conditional in too many others
-abbrev pub is_too_deep : ℕ → StatementWord → Bool
-is_too_deep d word.If = nat_le MAX_NESTED d
+-- whether a statement that begins with this word is a conditional or loop in too many others
+abbrev pub is_too_deep : Around → StatementWord → Bool
+is_too_deep d word.If = nat_le MAX_NESTED d.nested
+is_too_deep d word.For = nat_le MAX_NESTED d.nested
 is_too_deep d _ = false
+
+-- what an int of this role, wherever it stands, is over its limit by
+abbrev pub IsLimit : (ℤ → Role) → (ℤ → Option Fault) → Type 0
+IsLimit role limit = (z : ℤ) (at : ℕ) → over_role (role z) at ≡ limit z
+
+-- what is read, unless there is a fault
+abbrev pub unless : Option Fault → Result Tree Fault → Result Tree Fault
+unless None r = r
+unless (Some fault) r = Err fault
 
 -- no more tokens are left to the parser than before
 abbrev pub NoLonger : Parser → Parser → Type 0

@@ -33,7 +33,7 @@ mod parse;
 mod single;
 mod tree;
 
-pub use limits::{MAX_CATALOGUE, MAX_NESTED, MAX_OPERATORS, MAX_PARENS};
+pub use limits::{MAX_CATALOGUE, MAX_NESTED, MAX_OPERATORS, MAX_PARENS, MAX_TURNS};
 pub use operator::{COMPARISONS, operator_symbol, precedence_of};
 pub use pac_tokens::{
     Fault, FaultKind, Keyword, Spanned, Symbol, SyntaxError, Token, Tokens, tokens,

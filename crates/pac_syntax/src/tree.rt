@@ -91,6 +91,13 @@ pub enum StmtNode {
         first: Listed<StmtNode>,
         second: Listed<StmtNode>,
     },
+    /// `for NAME in FROM..TO { BODY }`
+    For {
+        name: NameNode,
+        from: i64,
+        to: i64,
+        body: Listed<StmtNode>,
+    },
 }
 
 /// A table with its columns, the key apart.

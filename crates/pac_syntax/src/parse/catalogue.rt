@@ -12,6 +12,7 @@ ghost use Rattle.pac_syntax.specs.declared.tree.ProcNode.{ProcNode as AProcNode}
 ghost use Rattle.pac_syntax.specs.declared.tree.TableNode.{TableNode as ATableNode};
 
 use super::parser::{Owner, Parser};
+use crate::limits::Around;
 use crate::single::split_first;
 use crate::tree::{ColumnNode, NameNode, ProcNode, TableNode, Tree};
 use pac_base::listed;
@@ -138,7 +139,7 @@ impl<'a> Parser<'a> {
         self.symbol(Symbol::OpenParen)?;
         let params = listed(self.params()?);
         self.symbol(Symbol::CloseParen)?;
-        let body = listed(self.block(0)?);
+        let body = listed(self.block(Around::NOTHING)?);
         Ok(ProcNode { name, params, body })
     }
 

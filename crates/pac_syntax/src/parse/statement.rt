@@ -1,18 +1,22 @@
 // Reads statements.
-ghost use Rattle.std.specs.Prelude.{◌≡◌, ◌∷◌, ◌++◌, [], ◌<◌, ◌+◌, false, List, OnOk, IfOk, IfSome};
+ghost use Rattle.std.specs.Prelude.{◌≡◌, ◌∷◌, ◌++◌, [], ◌<◌, false, ℤ, List, Option, OnOk, IfOk, IfSome};
 ghost use Rattle.pac_base.specs.Refusals.{Gives};
-ghost use Rattle.pac_syntax.specs.Machine.{Steps, MaybeElse, MoreStmts, MoreValues, abort_steps, block_steps, delete_steps, has_steps, if_steps, let_steps, cell_steps, field_steps, put_steps, read_steps, set_steps, stmt_steps, stmt_word, run, either, values_steps};
-ghost use Rattle.pac_syntax.specs.Views.{is_too_deep, Goes, GoesAll, NoLonger, IsShorter};
+ghost use Rattle.pac_syntax.specs.Grammar.{Role};
+ghost use Rattle.pac_syntax.specs.Machine.{Steps, MaybeElse, WantBound, MoreStmts, MoreValues, abort_steps, block_steps, bounds_steps, delete_steps, for_steps, has_steps, if_steps, let_steps, cell_steps, field_steps, put_steps, read_steps, set_steps, stmt_steps, stmt_word, run, either, values_steps};
+ghost use Rattle.pac_syntax.specs.Views.{is_too_deep, unless, IsLimit, Goes, GoesAll, NoLonger, IsShorter};
+ghost use Rattle.pac_syntax.specs.declared.limits.Around.{Around as AnAround};
+ghost use Rattle.pac_tokens.specs.declared.fault.Fault.{Fault as AFault};
 ghost use Rattle.pac_syntax.specs.declared.tree.ExprNode.{ExprNode as AnExprNode};
 ghost use Rattle.pac_syntax.specs.declared.tree.NameNode.{NameNode as ANameNode};
 ghost use Rattle.pac_syntax.specs.declared.tree.StmtNode.{StmtNode as AStmtNode};
 
 use super::parser::Parser;
-use crate::limits::MAX_NESTED;
+use crate::limits::{Around, MAX_NESTED};
 use crate::single::split_first;
 use crate::tree::{ExprNode, NameNode, StmtNode};
 use pac_base::listed;
-use pac_tokens::{FaultKind, Keyword, Symbol, SyntaxError, Token};
+use pac_tokens::{Fault, FaultKind, Keyword, Symbol, SyntaxError, Token, int_or_text};
+use pac_value::Value;
 
 /// The word that begins a statement.
 #[derive(Clone, Copy, Debug, PartialEq, Eq)]
@@ -25,6 +29,7 @@ pub(crate) enum StatementWord {
     Delete,
     Abort,
     If,
+    For,
 }
 
 fn statement_word(token: &Token) -> Option<StatementWord>
@@ -42,16 +47,17 @@ fn statement_word(token: &Token) -> Option<StatementWord>
         Keyword::Delete => Some(StatementWord::Delete),
         Keyword::Abort => Some(StatementWord::Abort),
         Keyword::If => Some(StatementWord::If),
+        Keyword::For => Some(StatementWord::For),
         _ => None,
     }
 }
 
-// Whether a statement that begins with this word is a conditional in too many others.
-fn stands_too_deep(nested: u8, word: StatementWord) -> bool
-    ensures { result ≡ is_too_deep nested word }
+// Whether a statement that begins with this word is a conditional or loop in too many others.
+fn stands_too_deep(around: Around, word: StatementWord) -> bool
+    ensures { result ≡ is_too_deep around word }
 {
     match word {
-        StatementWord::If => nested >= MAX_NESTED,
+        StatementWord::If | StatementWord::For => around.nested >= MAX_NESTED,
         _ => false,
     }
 }
@@ -200,16 +206,71 @@ impl<'a> Parser<'a> {
         Ok(StmtNode::AbortIf { test })
     }
 
-    // A conditional in that many others, after its word.
-    #[cycle(statement)]
-    fn if_rest(&mut self, nested: u8) -> Result<StmtNode, SyntaxError>
-        requires { nested < MAX_NESTED }
+    // [ "-" ] INT
+    fn bound(&mut self) -> Result<i64, SyntaxError>
         ensures left { OnOk result (NoLonger self.old self.new) }
-        ensures run { Goes (if_steps nested) self.old self.new result }
+        ensures run { (role : ℤ → Role) (limit : ℤ → Option AFault) (k : ℤ → Steps) → IsLimit role limit → Gives (λ z. unless (limit z) (run self.new.end (k z) self.new.rest.now)) result (run self.old.end (WantBound role k) self.old.rest.now) }
+    {
+        let Some((value, rest)) = int_or_text(self.rest) else {
+            // After a `-` the fault is that of the next token.
+            let _minus = self.takes_symbol(Symbol::Minus);
+            return Err(self.refuse(FaultKind::Expected));
+        };
+        let Value::Int(number) = value else {
+            return Err(self.refuse(FaultKind::Expected));
+        };
+        self.rest = rest;
+        Ok(number)
+    }
+
+    // The bounds of a loop whose `for` stands at that offset, and what stands round its block.
+    fn bounds(&mut self, at: usize, around: Around) -> Result<(i64, i64, Around), SyntaxError>
+        requires { around.nested < MAX_NESTED }
+        ensures left { OnOk result (NoLonger self.old self.new) }
+        ensures run { (k : ℤ → ℤ → AnAround → Steps) → Gives (λ p. run self.new.end (k p.0 p.1 p.2) self.new.rest.now) result (run self.old.end (bounds_steps around at k) self.old.rest.now) }
+    {
+        let from = self.bound()?;
+        self.symbol(Symbol::Range)?;
+        let to = self.bound()?;
+        match around.in_loop(from, to) {
+            None => {
+                let kind = FaultKind::TooMany;
+                Err(SyntaxError::Fault(Fault { at, kind }))
+            }
+            Some(inner) => Ok((from, to, inner)),
+        }
+    }
+
+    // A loop, after its word, which stands at that offset.
+    #[cycle(statement)]
+    fn for_rest(&mut self, at: usize, around: Around) -> Result<StmtNode, SyntaxError>
+        requires { around.nested < MAX_NESTED }
+        ensures left { OnOk result (NoLonger self.old self.new) }
+        ensures run { Goes (for_steps around at) self.old self.new result }
+    {
+        let name = self.name()?;
+        self.keyword(Keyword::In)?;
+        let (from, to, inner) = self.bounds(at, around)?;
+        let body = listed(self.block(inner)?);
+        Ok(StmtNode::For {
+            name,
+            from,
+            to,
+            body,
+        })
+    }
+
+    // A conditional, after its word.
+    #[cycle(statement)]
+    fn if_rest(&mut self, around: Around) -> Result<StmtNode, SyntaxError>
+        requires { around.nested < MAX_NESTED }
+        ensures left { OnOk result (NoLonger self.old self.new) }
+        ensures run { Goes (if_steps around) self.old self.new result }
     {
         let test = self.expression()?;
-        let first = listed(self.block(nested + 1)?);
-        let second = listed(self.otherwise(nested + 1)?);
+        let inner = around.inside();
+        let first = listed(self.block(inner)?);
+        let second = listed(self.otherwise(inner)?);
         Ok(StmtNode::If {
             test,
             first,
@@ -219,34 +280,37 @@ impl<'a> Parser<'a> {
 
     // [ "else" block ]
     #[cycle(statement)]
-    fn otherwise(&mut self, nested: u8) -> Result<Vec<StmtNode>, SyntaxError>
+    fn otherwise(&mut self, around: Around) -> Result<Vec<StmtNode>, SyntaxError>
         ensures left { OnOk result (NoLonger self.old self.new) }
-        ensures run { GoesAll (MaybeElse nested) self.old self.new result }
+        ensures run { GoesAll (MaybeElse around) self.old self.new result }
     {
         match self.takes_keyword(Keyword::Else) {
             None => Ok(Vec::new(self.alloc)),
-            Some(_) => self.block(nested),
+            Some(_) => self.block(around),
         }
     }
 
-    /// Statements in braces, in that many conditionals.
+    /// Statements in braces, with so much round them.
     #[cycle(statement)]
-    pub fn block(&mut self, nested: u8) -> Result<Vec<StmtNode>, SyntaxError>
+    pub fn block(&mut self, around: Around) -> Result<Vec<StmtNode>, SyntaxError>
         ensures left { OnOk result (NoLonger self.old self.new) }
-        ensures run { GoesAll (block_steps nested) self.old self.new result }
+        ensures run { GoesAll (block_steps around) self.old self.new result }
     {
         self.symbol(Symbol::OpenBrace)?;
-        let body = self.statements(nested)?;
+        let body = self.statements(around)?;
         self.symbol(Symbol::CloseBrace)?;
         Ok(body)
     }
 
-    // The word that begins the next statement, unless the statement is a conditional in too many others.
-    fn next_statement(&mut self, nested: u8) -> Result<Option<StatementWord>, SyntaxError>
+    // The word that begins the next statement and its offset, unless the statement is a conditional or loop in too many others.
+    fn next_statement(
+        &mut self,
+        around: Around,
+    ) -> Result<Option<(StatementWord, usize)>, SyntaxError>
         ensures left { NoLonger self.old self.new }
         ensures shorter { IfOk result (λ o. IfSome o (λ _. IsShorter self.old self.new)) }
-        ensures within { IfOk result (λ o. IfSome o (λ w. is_too_deep nested w ≡ false)) }
-        ensures run { (ss : List AStmtNode) (k : List AStmtNode → Steps) → Gives (λ o. either o (run self.new.end (k ss) self.new.rest.now) (λ w. run self.new.end (stmt_steps nested w (λ s. MoreStmts nested (ss ++ (s ∷ [])) k)) self.new.rest.now)) result (run self.old.end (MoreStmts nested ss k) self.old.rest.now) }
+        ensures within { IfOk result (λ o. IfSome o (λ w. is_too_deep around w.0 ≡ false)) }
+        ensures run { (ss : List AStmtNode) (k : List AStmtNode → Steps) → Gives (λ o. either o (run self.new.end (k ss) self.new.rest.now) (λ w. run self.new.end (stmt_steps around w.1 w.0 (λ s. MoreStmts around (ss ++ (s ∷ [])) k)) self.new.rest.now)) result (run self.old.end (MoreStmts around ss k) self.old.rest.now) }
     {
         let Some((first, rest)) = split_first(self.rest) else {
             return Ok(None);
@@ -254,19 +318,24 @@ impl<'a> Parser<'a> {
         let Some(word) = statement_word(&first.token) else {
             return Ok(None);
         };
-        if stands_too_deep(nested, word) {
+        if stands_too_deep(around, word) {
             return Err(self.refuse(FaultKind::TooDeep));
         }
         self.rest = rest;
-        Ok(Some(word))
+        Ok(Some((word, first.at)))
     }
 
-    // The statement after its first word, in that many conditionals.
+    // The statement after its first word, which stands at that offset.
     #[cycle(statement)]
-    fn statement_rest(&mut self, word: StatementWord, nested: u8) -> Result<StmtNode, SyntaxError>
-        requires { is_too_deep nested word ≡ false }
+    fn statement_rest(
+        &mut self,
+        word: StatementWord,
+        at: usize,
+        around: Around,
+    ) -> Result<StmtNode, SyntaxError>
+        requires { is_too_deep around word ≡ false }
         ensures left { OnOk result (NoLonger self.old self.new) }
-        ensures run { Goes (stmt_steps nested word) self.old self.new result }
+        ensures run { Goes (stmt_steps around at word) self.old self.new result }
     {
         match word {
             StatementWord::Let => self.let_rest(),
@@ -276,19 +345,20 @@ impl<'a> Parser<'a> {
             StatementWord::Set => self.set_rest(),
             StatementWord::Delete => self.delete_rest(),
             StatementWord::Abort => self.abort_rest(),
-            StatementWord::If => self.if_rest(nested),
+            StatementWord::If => self.if_rest(around),
+            StatementWord::For => self.for_rest(at, around),
         }
     }
 
-    // Statements in that many conditionals, as many as there are.
+    // Statements with so much round them, as many as there are.
     #[cycle(statement)]
-    fn statements(&mut self, nested: u8) -> Result<Vec<StmtNode>, SyntaxError>
+    fn statements(&mut self, around: Around) -> Result<Vec<StmtNode>, SyntaxError>
         ensures left { OnOk result (NoLonger self.old self.new) }
-        ensures run { GoesAll (MoreStmts nested []) self.old self.new result }
+        ensures run { GoesAll (MoreStmts around []) self.old self.new result }
     {
         let mut statements = Vec::new(self.alloc);
-        while let Some(word) = self.next_statement(nested)? {
-            let statement = self.statement_rest(word, nested)?;
+        while let Some((word, at)) = self.next_statement(around)? {
+            let statement = self.statement_rest(word, at, around)?;
             statements.push(statement)?;
         }
         Ok(statements)

@@ -8,6 +8,9 @@ use Rattle.pac_syntax.proofs.parse.parser.Parser.+statement.Given as goal
 abbrev pub decreases-if_rest : goal.decreases-if_rest
 decreases-if_rest l = 8 * length l.self.now.rest.now + 4
 
+abbrev pub decreases-for_rest : goal.decreases-for_rest
+decreases-for_rest l = 8 * length l.self.now.rest.now + 4
+
 abbrev pub decreases-otherwise : goal.decreases-otherwise
 decreases-otherwise l = 8 * length l.self.now.rest.now + 1
 
@@ -24,7 +27,7 @@ decreases-statements l = 8 * length l.self.now.rest.now + 2
 abbrev pub invariant-statements-loop-statements : goal.invariant-statements-loop-statements
 invariant-statements-loop-statements l = record {
   left : length l.self.rest.now ≤ length l.fn.self.rest.now;
-  run : (k : List StmtNode → Steps) → run l.fn.self.end (MoreStmts l.nested [] k) l.fn.self.rest.now ≡ run l.self.end (MoreStmts l.nested l.statements.items k) l.self.rest.now;
+  run : (k : List StmtNode → Steps) → run l.fn.self.end (MoreStmts l.around [] k) l.fn.self.rest.now ≡ run l.self.end (MoreStmts l.around l.statements.items k) l.self.rest.now;
 }
 
 abbrev pub decreases-statements-loop-statements : goal.decreases-statements-loop-statements

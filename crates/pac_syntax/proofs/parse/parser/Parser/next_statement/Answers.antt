@@ -14,4 +14,4 @@ returns-then-stands_too_deep-clause-run c = λ ss k.
 
 pub returns-clause-run : goal.returns-clause-run
 returns-clause-run c = λ ss k.
-    stmt_next _ _ ss k _ _ _ _ c.in-Some.ensures (sym c.statement_word.ensures ∙ c.in-Some-statement_word.is) (role_of_word c.args.nested c.in-Some.first.at c.in-Some-statement_word.word (sym c.stands_too_deep.ensures ∙ c.if-stands_too_deep.false))
+    stmt_next _ _ ss k _ _ _ _ c.in-Some.ensures (sym c.statement_word.ensures ∙ c.in-Some-statement_word.is) (role_of_word c.args.around c.in-Some.first.at c.in-Some-statement_word.word (sym c.stands_too_deep.ensures ∙ c.if-stands_too_deep.false))
