@@ -10,7 +10,7 @@ use Rattle.pac_tokens.specs.Spelling.{keyword_spelling, symbol_spelling}
 use Rattle.pac_tokens.specs.Tokens.{is_name, after, Lexed}
 use Rattle.pac_syntax.specs.Grammar.{Role, Plain, Marked, keyword_mark, symbol_mark, name_mark, tokens_of}
 use Rattle.pac_print.proofs.Prefixes.{Stops, AreSpaces, spaces_first, line_first, keyword_first, name_first}
-use Rattle.pac_print.proofs.SymbolPrefixes.{is_equals, is_minus, symbol_first}
+use Rattle.pac_print.proofs.SymbolPrefixes.{lengthens, is_minus, symbol_first}
 use Rattle.pac_print.proofs.TokenFacts.{IsNameToken}
 
 -- This text, from one offset to the next, is these tokens before those of what follows, which has to be such that it
@@ -44,7 +44,7 @@ line b at = record { lexes = λ ms rest e h. line_first b at rest (tokens_of ms)
 pub word : (b : Before) (at : ℕ) (k : Keyword) (role : Role) → Piece b (after b (token.Keyword k)) at (at + length (keyword_spelling k)) (keyword_spelling k) (λ ms. keyword_mark k at role ∷ ms) (Stops is_name)
 word b at k role = record { lexes = λ ms rest e h. keyword_first b at k rest (tokens_of ms) None e h }
 
-pub sign : (b : Before) (at : ℕ) (s : Symbol) → is_minus s ≡ false → Piece b (after b (token.Symbol s)) at (at + length (symbol_spelling s)) (symbol_spelling s) (λ ms. symbol_mark s at Plain ∷ ms) (Stops is_equals)
+pub sign : (b : Before) (at : ℕ) (s : Symbol) → is_minus s ≡ false → Piece b (after b (token.Symbol s)) at (at + length (symbol_spelling s)) (symbol_spelling s) (λ ms. symbol_mark s at Plain ∷ ms) (Stops (lengthens s))
 sign b at s other = record { lexes = λ ms rest e h. symbol_first b at s rest (tokens_of ms) None other e h }
 
 -- a name at another offset
@@ -59,8 +59,8 @@ pub word_space : (b : Before) (at : ℕ) (k : Keyword) (role : Role) → Piece b
 word_space b at k role = joined (word b at k role) (space (after b (token.Keyword k)) (at + length (keyword_spelling k))) (λ rest e. refl)
 
 -- a symbol between spaces
-pub spaced_symbol : (b : Before) (at : ℕ) (s : Symbol) → is_minus s ≡ false → Piece b (after b (token.Symbol s)) at (at + 1 + length (symbol_spelling s) + 1) (codes " " ++ symbol_spelling s ++ codes " ") (λ ms. symbol_mark s (at + 1) Plain ∷ ms) Free
-spaced_symbol b at s other = joined (joined (space b at) (sign b (at + 1) s other) (λ rest e. tt)) (space (after b (token.Symbol s)) (at + 1 + length (symbol_spelling s))) (λ rest e. refl)
+pub spaced_symbol : (b : Before) (at : ℕ) (s : Symbol) → is_minus s ≡ false → lengthens s 32 ≡ false → Piece b (after b (token.Symbol s)) at (at + 1 + length (symbol_spelling s) + 1) (codes " " ++ symbol_spelling s ++ codes " ") (λ ms. symbol_mark s (at + 1) Plain ∷ ms) Free
+spaced_symbol b at s other alone = joined (joined (space b at) (sign b (at + 1) s other) (λ rest e. tt)) (space (after b (token.Symbol s)) (at + 1 + length (symbol_spelling s))) (λ rest e. alone)
 
 -- a piece of a text is one of an equal text, and one of equal tokens
 pub as_text : {b c : Before} {at next : ℕ} {f : List Marked → List Marked} {P : List ℕ → Type 0} → (x y : List ℕ) → x ≡ y → Piece b c at next y f P → Piece b c at next x f P

@@ -13,15 +13,15 @@ use Rattle.pac_syntax.specs.declared.tree.ExprNode.{ExprNode, Literal, Binary, N
 use Rattle.pac_tokens.specs.Spelling.{symbol_spelling}
 use Rattle.pac_value.specs.Literals.{quoted}
 use Rattle.pac_tokens.specs.Tokens.{is_letter, is_name, IsWord, Lexed}
-use Rattle.pac_syntax.specs.Grammar.{LiteralForm, AnInt, ANegative, AText, ATrue, AFalse, ExprForm, ALiteral, AName, ANot, AParen, ABinary, operator_symbol, precedence, left_level, AtLevel, literal_node, expr_offset, expr_node, Plain, Operator, Marked, symbol_mark, counted, literal_before, expr_before, whole_before, tokens_of}
+use Rattle.pac_syntax.specs.Grammar.{BoundForm, ABound, ANegativeBound, bound_value, Role, bound_before, LiteralForm, AnInt, ANegative, AText, ATrue, AFalse, ExprForm, ALiteral, AName, ANot, AParen, ABinary, operator_symbol, precedence, left_level, AtLevel, literal_node, expr_offset, expr_node, Plain, Operator, Marked, symbol_mark, counted, literal_before, expr_before, whole_before, tokens_of}
 use Rattle.pac_print.specs.Canonical.{Spelled, operand_text, binary_text, expr_step, spelled, expr_text}
 use Rattle.pac_value.specs.Literals.{value_text}
 use Rattle.pac_print.specs.Unplaced.{unplaced_literal, unplaced_expr_step, unplaced_expr}
 use Rattle.pac_print.proofs.Decimals.{decimal_is_digits}
 use Rattle.pac_print.proofs.Prefixes.{Stops, space_first, keyword_first, name_first, int_first, text_first}
 use Rattle.pac_syntax.proofs.NodeForms.{fold-Literal, fold-Name, fold-Binary, fold-Not}
-use Rattle.pac_print.proofs.Proper.{IsProperLiteral, IsProper, IsProperWhole}
-use Rattle.pac_print.proofs.SymbolPrefixes.{is_equals, minus_first, digits_open, symbol_first, operator_first}
+use Rattle.pac_print.proofs.Proper.{IsProperBound, IsProperLiteral, IsProper, IsProperWhole}
+use Rattle.pac_print.proofs.SymbolPrefixes.{is_equals, is_dot, minus_first, digits_open, symbol_first, operator_first}
 use Rattle.pac_print.proofs.TokenFacts.{IsNameToken}
 
 -- a byte that goes on with a token that stands before it
@@ -50,6 +50,14 @@ word_open [] rest word = absurd word
 word_open (b ∷ n) rest word = letter b word.0
   where
     letter : (b : ℕ) → is_letter b ≡ true → is_equals b ≡ false
+    letter b h = grind arith
+
+-- and no `.`
+pub word_no_dot : (n rest : List ℕ) → IsWord n → Stops is_dot (n ++ rest)
+word_no_dot [] rest word = absurd word
+word_no_dot (b ∷ n) rest word = letter b word.0
+  where
+    letter : (b : ℕ) → is_letter b ≡ true → is_dot b ≡ false
     letter b h = grind arith
 
 -- ---- literals
@@ -90,6 +98,47 @@ negative_literal minus p (suc n) at small = record {
   opens = λ rest. refl;
   lexes = λ ms rest stops h. minus_first at (suc n) rest (tokens_of ms) None small (name_end rest stops) h;
 }
+
+-- a bound of the same value at this offset, spelled by this text
+pub record PrintedBound (b : BoundForm) (at : ℕ) : Type 0 where
+  pub form : BoundForm
+  pub proper : IsProperBound form
+  pub same : bound_value form ≡ bound_value b
+  pub next : ℕ
+  pub opens : (rest : List ℕ) → Stops is_equals (value_text (value.Int (bound_value b)) ++ rest)
+  pub lexes : (role : Role) (ms : List Marked) (rest : List ℕ) → Stops is_name rest → Lexed Value next rest (tokens_of ms) None → Lexed Other at (value_text (value.Int (bound_value b)) ++ rest) (tokens_of (bound_before form role ms)) None
+
+int_bound : (p n at : ℕ) → n < 2 ^ 63 → PrintedBound (ABound p (pos n)) at
+int_bound p n at small = record {
+  form = ABound at (pos n);
+  proper = (n, refl, small);
+  same = refl;
+  next = at + length (decimal n);
+  opens = λ rest. digits_open (decimal n) rest (decimal_is_digits n (omega arith));
+  lexes = λ role ms rest stops h. int_first at n rest (tokens_of ms) None small stops h;
+}
+
+negative_bound : (minus p n at : ℕ) → n ≤ 2 ^ 63 → PrintedBound (ANegativeBound minus p (neg_ℤ (pos n))) at
+negative_bound minus p zero at small = record {
+  form = ABound at (pos 0);
+  proper = (0, refl, omega arith);
+  same = refl;
+  next = at + length (decimal 0);
+  opens = λ rest. digits_open (decimal 0) rest (decimal_is_digits 0 (omega arith));
+  lexes = λ role ms rest stops h. int_first at 0 rest (tokens_of ms) None (omega arith) stops h;
+}
+negative_bound minus p (suc n) at small = record {
+  form = ANegativeBound at (at + 1) (negsuc n);
+  proper = (suc n, refl, small);
+  same = refl;
+  next = at + 1 + length (decimal (suc n));
+  opens = λ rest. refl;
+  lexes = λ role ms rest stops h. minus_first at (suc n) rest (tokens_of ms) None small stops h;
+}
+
+pub bound : (b : BoundForm) → IsProperBound b → (at : ℕ) → PrintedBound b at
+bound (ABound p z) h at = subst (λ (z : ℤ). PrintedBound (ABound p z) at) (sym h.1) (int_bound p h.0 at h.2)
+bound (ANegativeBound minus p z) h at = subst (λ (z : ℤ). PrintedBound (ANegativeBound minus p z) at) (sym h.1) (negative_bound minus p h.0 at h.2)
 
 pub literal : (l : LiteralForm) → IsProperLiteral l → (at : ℕ) → PrintedLiteral l at (value_text (literal_node l).value)
 literal (AnInt p z) h at = subst (λ (z : ℤ). PrintedLiteral (AnInt p z) at (value_text (value.Int z))) (sym h.1) (int_literal p h.0 at h.2)

@@ -10,6 +10,7 @@ use Rattle.pac_syntax.specs.declared.tree.StmtNode.{StmtNode}
 use Rattle.pac_syntax.specs.declared.tree.StmtNode.TheVariants as stmt
 use Rattle.pac_syntax.specs.declared.tree.StmtNode.TheOpen as form
 use Rattle.pac_tokens.specs.Tokens.{is_name}
+use Rattle.pac_syntax.specs.declared.limits.Around.{Around}
 use Rattle.pac_syntax.specs.Grammar.{LiteralForm, ExprForm, ValuesForm, NoValue, AValue, StmtsForm, ALet, ARead, AHas, APut, ASet, ADelete, AnAbort, literal_node, expr_node, value_nodes, stmt_nodes, Plain, Marked, keyword_mark, symbol_mark, name_mark, literal_before, whole_before, values_before, stmts_before}
 use Rattle.pac_print.specs.Canonical.{expr_text, further_text, cell_text, field_text, Indented, stmt_step, stmt_text}
 use Rattle.pac_value.specs.Literals.{value_text}
@@ -17,9 +18,9 @@ use Rattle.pac_print.specs.Unplaced.{unplaced_name, unplaced_literal, unplaced_e
 use Rattle.pac_print.proofs.Prefixes.{Stops}
 use Rattle.pac_syntax.proofs.NodeForms.{fold-Let, fold-Read, fold-Has, fold-Put, fold-Set, fold-Delete, fold-AbortIf}
 use Rattle.pac_print.proofs.Pieces.{Piece, joined, nothing, space, sign, name, placed, word_space, spaced_symbol, as_text}
-use Rattle.pac_print.proofs.PrintedExprs.{goes_on, word_open, PrintedLiteral, literal, PrintedWhole, whole}
+use Rattle.pac_print.proofs.PrintedExprs.{goes_on, word_no_dot, PrintedLiteral, literal, PrintedWhole, whole}
 use Rattle.pac_print.proofs.Proper.{IsProperLiteral, IsProperWhole, AreProperValues, AreProperStmts}
-use Rattle.pac_print.proofs.SymbolPrefixes.{is_equals}
+use Rattle.pac_print.proofs.SymbolPrefixes.{is_equals, is_dot}
 use Rattle.pac_print.proofs.TokenFacts.{IsNameToken}
 
 -- ---- parts of statements
@@ -41,8 +42,8 @@ row t e at is w = joined (joined (joined (name Other at t Plain is) (sign Value 
 abbrev cell_marks : NameNode → ℕ → ExprForm → ℕ → NameNode → List Marked → List Marked
 cell_marks t at e close c ms = row_marks t at e close (symbol_mark symbol.Dot (close + 1) Plain ∷ name_mark (placed c (close + 1 + 1)) Plain ∷ ms)
 
-name_open : (x : NameNode) → IsNameToken x.name → (rest : List ℕ) → Stops is_equals (x.name ++ rest)
-name_open x is rest = word_open x.name rest is.0
+name_open : (x : NameNode) → IsNameToken x.name → (rest : List ℕ) → Stops is_dot (x.name ++ rest)
+name_open x is rest = word_no_dot x.name rest is.0
 
 cell : (t : NameNode) (e : ExprForm) (c : NameNode) (at : ℕ) → IsNameToken t.name → IsNameToken c.name → (w : PrintedWhole e (at + length t.name + 1)) → Piece Other Value at (w.next + 1 + 1 + length c.name) (field_text t (expr_node e) c) (cell_marks t at w.form w.next c) (Stops is_name)
 cell t e c at is column w = joined (joined (row t e at is w) (sign Other (w.next + 1) symbol.Dot refl) (λ rest k. refl)) (name Other (w.next + 1 + 1) c Plain column) (λ rest k. name_open c column rest)
@@ -75,21 +76,21 @@ values (AValue comma e vs) at p =
 -- ---- a statement
 
 -- The same statement at this offset, before others, spelled by its canonical text after this indent.
-pub record PrintedStmt (node : StmtNode) (d : ℕ) (indent : List ℕ) (at : ℕ) : Type 0 where
+pub record PrintedStmt (node : StmtNode) (d : Around) (indent : List ℕ) (at : ℕ) : Type 0 where
   pub add : StmtsForm → StmtsForm
   pub again : StmtNode
   pub nodes : (s : StmtsForm) → stmt_nodes (add s) ≡ again ∷ stmt_nodes s
   pub same : unplaced_stmt again ≡ unplaced_stmt node
   pub proper : (s : StmtsForm) → AreProperStmts d s → AreProperStmts d (add s)
   pub next : ℕ
-  pub marks : ℕ → List Marked → List Marked
-  pub before : (c : ℕ) (s : StmtsForm) (ms : List Marked) → stmts_before c (add s) ms ≡ marks c (stmts_before c s ms)
-  pub piece : (c : ℕ) → Piece Other Other at next (stmt_text node indent) (marks c) (Stops is_equals)
+  pub marks : Around → List Marked → List Marked
+  pub before : (c : Around) (s : StmtsForm) (ms : List Marked) → stmts_before c (add s) ms ≡ marks c (stmts_before c s ms)
+  pub piece : (c : Around) → Piece Other Other at next (stmt_text node indent) (marks c) (Stops is_equals)
 
 pub at_indent : (indent : List ℕ) (f g : Indented) → f ≡ g → f indent ≡ g indent
 at_indent indent f g e = ap (λ (h : Indented). h indent) e
 
-pub let_stmt : (x : NameNode) (e : ExprForm) (d : ℕ) (indent : List ℕ) (at : ℕ) → IsNameToken x.name → IsProperWhole e → PrintedStmt (stmt.Let x (expr_node e)) d indent at
+pub let_stmt : (x : NameNode) (e : ExprForm) (d : Around) (indent : List ℕ) (at : ℕ) → IsNameToken x.name → IsProperWhole e → PrintedStmt (stmt.Let x (expr_node e)) d indent at
 let_stmt x e d indent at is p =
     let at_x : ℕ = at + 3 + 1 in
     let at_symbol : ℕ = at_x + length x.name in
@@ -104,10 +105,10 @@ let_stmt x e d indent at is p =
       marks = λ c ms. keyword_mark keyword.Let at Plain ∷ name_mark (placed x at_x) Plain ∷ symbol_mark symbol.Assign (at_symbol + 1) Plain ∷ whole_before w.form (symbol_mark symbol.Semicolon w.next Plain ∷ ms);
       before = λ c s ms. refl;
       piece = λ c. as_text (stmt_text (stmt.Let x (expr_node e)) indent) (stmt_step (form.Let x (expr_node e)) indent) (at_indent indent _ _ (fold-Let Indented stmt_step x (expr_node e)))
-          (joined (joined (joined (joined (word_space Other at keyword.Let Plain) (name Other at_x x Plain is) (λ rest k. tt)) (spaced_symbol Value at_symbol symbol.Assign refl) (λ rest k. refl)) (expr_piece w) (λ rest k. tt)) (sign Value w.next symbol.Semicolon refl) (λ rest k. refl));
+          (joined (joined (joined (joined (word_space Other at keyword.Let Plain) (name Other at_x x Plain is) (λ rest k. tt)) (spaced_symbol Value at_symbol symbol.Assign refl refl) (λ rest k. refl)) (expr_piece w) (λ rest k. tt)) (sign Value w.next symbol.Semicolon refl) (λ rest k. refl));
     }
 
-pub read_stmt : (x t : NameNode) (e : ExprForm) (column : NameNode) (l : LiteralForm) (d : ℕ) (indent : List ℕ) (at : ℕ)
+pub read_stmt : (x t : NameNode) (e : ExprForm) (column : NameNode) (l : LiteralForm) (d : Around) (indent : List ℕ) (at : ℕ)
     → IsNameToken x.name → IsNameToken t.name → IsProperWhole e → IsNameToken column.name → IsProperLiteral l → PrintedStmt (stmt.Read x t (expr_node e) column (literal_node l)) d indent at
 read_stmt x t e column l d indent at is is_t p is_column is_l =
     let at_x : ℕ = at + 4 + 1 in
@@ -130,11 +131,11 @@ read_stmt x t e column l d indent at is is_t p is_column is_l =
           ∷ cell_marks t at_t w.form w.next column (keyword_mark keyword.Default at_default Plain ∷ literal_before v.form (symbol_mark symbol.Semicolon v.next Plain ∷ ms));
       before = λ c s ms. refl;
       piece = λ c. as_text (stmt_text (stmt.Read x t (expr_node e) column (literal_node l)) indent) (stmt_step (form.Read x t (expr_node e) column (literal_node l)) indent) (at_indent indent _ _ (fold-Read Indented stmt_step x t (expr_node e) column (literal_node l)))
-          (joined (joined (joined (joined (joined (joined (word_space Other at keyword.Read Plain) (name Other at_x x Plain is) (λ rest k. tt)) (spaced_symbol Value at_symbol symbol.Assign refl) (λ rest k. refl))
+          (joined (joined (joined (joined (joined (joined (word_space Other at keyword.Read Plain) (name Other at_x x Plain is) (λ rest k. tt)) (spaced_symbol Value at_symbol symbol.Assign refl refl) (λ rest k. refl))
           (cell t e column at_t is_t is_column w) (λ rest k. tt)) (joined (space Value (w.next + 1 + 1 + length column.name)) (word_space Value at_default keyword.Default Plain) (λ rest k. tt)) (λ rest k. refl)) (literal_piece v) (λ rest k. tt)) (sign Value v.next symbol.Semicolon refl) (λ rest k. refl));
     }
 
-pub has_stmt : (x t : NameNode) (e : ExprForm) (d : ℕ) (indent : List ℕ) (at : ℕ) → IsNameToken x.name → IsNameToken t.name → IsProperWhole e → PrintedStmt (stmt.Has x t (expr_node e)) d indent at
+pub has_stmt : (x t : NameNode) (e : ExprForm) (d : Around) (indent : List ℕ) (at : ℕ) → IsNameToken x.name → IsNameToken t.name → IsProperWhole e → PrintedStmt (stmt.Has x t (expr_node e)) d indent at
 has_stmt x t e d indent at is is_t p =
     let at_x : ℕ = at + 3 + 1 in
     let at_symbol : ℕ = at_x + length x.name in
@@ -150,10 +151,10 @@ has_stmt x t e d indent at is is_t p =
       marks = λ c ms. keyword_mark keyword.Has at Plain ∷ name_mark (placed x at_x) Plain ∷ symbol_mark symbol.Assign (at_symbol + 1) Plain ∷ row_marks t at_t w.form w.next (symbol_mark symbol.Semicolon (w.next + 1) Plain ∷ ms);
       before = λ c s ms. refl;
       piece = λ c. as_text (stmt_text (stmt.Has x t (expr_node e)) indent) (stmt_step (form.Has x t (expr_node e)) indent) (at_indent indent _ _ (fold-Has Indented stmt_step x t (expr_node e)))
-          (joined (joined (joined (joined (word_space Other at keyword.Has Plain) (name Other at_x x Plain is) (λ rest k. tt)) (spaced_symbol Value at_symbol symbol.Assign refl) (λ rest k. refl)) (row t e at_t is_t w) (λ rest k. tt)) (sign Other (w.next + 1) symbol.Semicolon refl) (λ rest k. refl));
+          (joined (joined (joined (joined (word_space Other at keyword.Has Plain) (name Other at_x x Plain is) (λ rest k. tt)) (spaced_symbol Value at_symbol symbol.Assign refl refl) (λ rest k. refl)) (row t e at_t is_t w) (λ rest k. tt)) (sign Other (w.next + 1) symbol.Semicolon refl) (λ rest k. refl));
     }
 
-pub put_stmt : (t : NameNode) (e v : ExprForm) (vs : ValuesForm) (d : ℕ) (indent : List ℕ) (at : ℕ) → IsNameToken t.name → IsProperWhole e → IsProperWhole v → AreProperValues vs → PrintedStmt (stmt.Put t (expr_node e) (expr_node v ∷ value_nodes vs)) d indent at
+pub put_stmt : (t : NameNode) (e v : ExprForm) (vs : ValuesForm) (d : Around) (indent : List ℕ) (at : ℕ) → IsNameToken t.name → IsProperWhole e → IsProperWhole v → AreProperValues vs → PrintedStmt (stmt.Put t (expr_node e) (expr_node v ∷ value_nodes vs)) d indent at
 put_stmt t e v vs d indent at is p p_v p_vs =
     let at_t : ℕ = at + 3 + 1 in
     let w = whole e p (at_t + length t.name + 1) in
@@ -175,12 +176,12 @@ put_stmt t e v vs d indent at is p p_v p_vs =
           ∷ whole_before first.form (values_before more.form (symbol_mark symbol.CloseParen more.next Plain ∷ symbol_mark symbol.Semicolon (more.next + 1) Plain ∷ ms)));
       before = λ c s ms. refl;
       piece = λ c. as_text (stmt_text (stmt.Put t (expr_node e) (expr_node v ∷ value_nodes vs)) indent) (stmt_step (form.Put t (expr_node e) (expr_node v ∷ value_nodes vs)) indent) (at_indent indent _ _ (fold-Put Indented stmt_step t (expr_node e) (expr_node v ∷ value_nodes vs)))
-          (joined (joined (joined (joined (word_space Other at keyword.Put Plain) (row t e at_t is w) (λ rest k. tt)) (joined (spaced_symbol Other at_symbol symbol.Assign refl) (sign Other (at_symbol + 1 + 1 + 1) symbol.OpenParen refl) (λ rest k. tt)) (λ rest k. refl))
+          (joined (joined (joined (joined (word_space Other at keyword.Put Plain) (row t e at_t is w) (λ rest k. tt)) (joined (spaced_symbol Other at_symbol symbol.Assign refl refl) (sign Other (at_symbol + 1 + 1 + 1) symbol.OpenParen refl) (λ rest k. tt)) (λ rest k. refl))
           (joined (expr_piece first) more.piece (λ rest k. values_end vs rest k)) (λ rest k. subst (λ (x : List ℕ). Stops is_equals x) (sym (append_assoc (expr_text (expr_node v)) (flat_map further_text (value_nodes vs)) rest)) (first.opens (flat_map further_text (value_nodes vs) ++ rest))))
           (joined (sign Value more.next symbol.CloseParen refl) (sign Value (more.next + 1) symbol.Semicolon refl) (λ rest k. refl)) (λ rest k. refl));
     }
 
-pub set_stmt : (t : NameNode) (e : ExprForm) (column : NameNode) (v : ExprForm) (d : ℕ) (indent : List ℕ) (at : ℕ) → IsNameToken t.name → IsProperWhole e → IsNameToken column.name → IsProperWhole v → PrintedStmt (stmt.Set t (expr_node e) column (expr_node v)) d indent at
+pub set_stmt : (t : NameNode) (e : ExprForm) (column : NameNode) (v : ExprForm) (d : Around) (indent : List ℕ) (at : ℕ) → IsNameToken t.name → IsProperWhole e → IsNameToken column.name → IsProperWhole v → PrintedStmt (stmt.Set t (expr_node e) column (expr_node v)) d indent at
 set_stmt t e column v d indent at is p is_column p_v =
     let at_t : ℕ = at + 3 + 1 in
     let w = whole e p (at_t + length t.name + 1) in
@@ -199,10 +200,10 @@ set_stmt t e column v d indent at is p is_column p_v =
       marks = λ c ms. keyword_mark keyword.Set at Plain ∷ cell_marks t at_t w.form w.next column (symbol_mark symbol.Assign (at_symbol + 1) Plain ∷ whole_before value.form (symbol_mark symbol.Semicolon value.next Plain ∷ ms));
       before = λ c s ms. refl;
       piece = λ c. as_text (stmt_text (stmt.Set t (expr_node e) column (expr_node v)) indent) (stmt_step (form.Set t (expr_node e) column (expr_node v)) indent) (at_indent indent _ _ (fold-Set Indented stmt_step t (expr_node e) column (expr_node v)))
-          (joined (joined (joined (joined (word_space Other at keyword.Set Plain) (cell t e column at_t is is_column w) (λ rest k. tt)) (spaced_symbol Value at_symbol symbol.Assign refl) (λ rest k. refl)) (expr_piece value) (λ rest k. tt)) (sign Value value.next symbol.Semicolon refl) (λ rest k. refl));
+          (joined (joined (joined (joined (word_space Other at keyword.Set Plain) (cell t e column at_t is is_column w) (λ rest k. tt)) (spaced_symbol Value at_symbol symbol.Assign refl refl) (λ rest k. refl)) (expr_piece value) (λ rest k. tt)) (sign Value value.next symbol.Semicolon refl) (λ rest k. refl));
     }
 
-pub delete_stmt : (t : NameNode) (e : ExprForm) (d : ℕ) (indent : List ℕ) (at : ℕ) → IsNameToken t.name → IsProperWhole e → PrintedStmt (stmt.Delete t (expr_node e)) d indent at
+pub delete_stmt : (t : NameNode) (e : ExprForm) (d : Around) (indent : List ℕ) (at : ℕ) → IsNameToken t.name → IsProperWhole e → PrintedStmt (stmt.Delete t (expr_node e)) d indent at
 delete_stmt t e d indent at is p =
     let at_t : ℕ = at + 6 + 1 in
     let w = whole e p (at_t + length t.name + 1) in
@@ -219,7 +220,7 @@ delete_stmt t e d indent at is p =
           (joined (joined (word_space Other at keyword.Delete Plain) (row t e at_t is w) (λ rest k. tt)) (sign Other (w.next + 1) symbol.Semicolon refl) (λ rest k. refl));
     }
 
-pub abort_stmt : (e : ExprForm) (d : ℕ) (indent : List ℕ) (at : ℕ) → IsProperWhole e → PrintedStmt (stmt.AbortIf (expr_node e)) d indent at
+pub abort_stmt : (e : ExprForm) (d : Around) (indent : List ℕ) (at : ℕ) → IsProperWhole e → PrintedStmt (stmt.AbortIf (expr_node e)) d indent at
 abort_stmt e d indent at p =
     let at_if : ℕ = at + 5 + 1 in
     let w = whole e p (at_if + 2 + 1) in

@@ -11,7 +11,7 @@ use Rattle.pac_syntax.specs.declared.tree.StmtNode.{StmtNode}
 use Rattle.pac_syntax.specs.declared.tree.TableNode.{TableNode}
 use Rattle.pac_syntax.specs.declared.tree.ProcNode.{ProcNode}
 use Rattle.pac_tokens.specs.Tokens.{is_name, IsLexed}
-use Rattle.pac_syntax.specs.Grammar.{TypeForm, AnIntType, ATextType, ColumnsForm, NoColumn, AColumn, ParamsForm, NoParam, AParam, TablesForm, NoTable, ATable, ProcsForm, NoProc, AProc, CatalogueForm, stmt_nodes, type_of_form, column_node, column_nodes, param_nodes, table_nodes, proc_nodes, tree_of, Role, Plain, TableWord, ProcWord, ColumnName, ParamName, Marked, name_mark, type_mark, columns_before, params_before, tables_before, procs_before, marks_of, tokens_of}
+use Rattle.pac_syntax.specs.Grammar.{outermost, TypeForm, AnIntType, ATextType, ColumnsForm, NoColumn, AColumn, ParamsForm, NoParam, AParam, TablesForm, NoTable, ATable, ProcsForm, NoProc, AProc, CatalogueForm, stmt_nodes, type_of_form, column_node, column_nodes, param_nodes, table_nodes, proc_nodes, tree_of, Role, Plain, TableWord, ProcWord, ColumnName, ParamName, Marked, name_mark, type_mark, columns_before, params_before, tables_before, procs_before, marks_of, tokens_of}
 use Rattle.pac_print.specs.Canonical.{type_text, column_text, further_column_text, params_text, table_text, proc_text, deeper, canonical}
 use Rattle.pac_print.specs.Unplaced.{unplaced_name, unplaced_column, unplaced_stmt, unplaced_table, unplaced_proc, without_offsets}
 use Rattle.pac_print.proofs.Prefixes.{Stops}
@@ -162,7 +162,7 @@ procs i (AProc p0 n p1 ps p2 p3 s p4 more) at p =
     let at_name : ℕ = at + 4 + 1 in
     let at_open : ℕ = at_name + length n.name in
     let w = params ps (at_open + 1) p.2 in
-    let body = stmts s 0 (deeper []) (w.next + 1 + 1 + 1 + 1) (refl, (refl, tt)) p.3 in
+    let body = stmts s outermost (deeper []) (w.next + 1 + 1 + 1 + 1) (refl, (refl, tt)) p.3 in
     let others = procs (suc i) more (body.next + 1 + 1) p.4 in
     record {
       form = AProc at (placed n at_name) at_open w.form w.next (w.next + 1 + 1) body.form body.next others.form;
@@ -172,7 +172,7 @@ procs i (AProc p0 n p1 ps p2 p3 s p4 more) at p =
       piece = joined
           (joined (joined (joined (joined (joined (joined (word_space Other at keyword.Proc (ProcWord (suc i))) (name Other at_name n Plain p.1) (λ rest k. tt)) (sign Value at_open symbol.OpenParen refl) (λ rest k. refl)) w.piece (λ rest k. w.opens rest (symbol_end rest k)))
           (joined (joined (joined (sign Other w.next symbol.CloseParen refl) (space Value (w.next + 1)) (λ rest k. refl)) (sign Value (w.next + 1 + 1) symbol.OpenBrace refl) (λ rest k. tt)) (line Other (w.next + 1 + 1 + 1)) (λ rest k. refl)) (λ rest k. refl))
-          (body.piece 0) (λ rest k. tt)) (joined (sign Other body.next symbol.CloseBrace refl) (line Other (body.next + 1)) (λ rest k. refl)) (λ rest k. tt))
+          (body.piece outermost) (λ rest k. tt)) (joined (sign Other body.next symbol.CloseBrace refl) (line Other (body.next + 1)) (λ rest k. refl)) (λ rest k. tt))
           others.piece (λ rest k. tt);
     }
 

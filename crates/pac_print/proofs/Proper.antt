@@ -1,9 +1,10 @@
 -- What a derivation within the limits is made of, without its tokens: it spells tokens within the limits just where its
 -- parts are proper.
-use Rattle.std.proofs.Common.{◌≡◌, ◌≤◌, ℕ, suc, List, [], ◌∷◌, refl, sym, ◌∙◌, arith}
+use Rattle.std.proofs.Common.{◌≡◌, ◌≤◌, ℕ, suc, List, [], ◌∷◌, None, refl, sym, ◌∙◌, arith}
 use Rattle.std.specs.List.{AllByRecursion}
 use Rattle.pac_tokens.specs.declared.fault.FaultKind.TheVariants.{TooMany, TooDeep}
-use Rattle.pac_syntax.specs.Grammar.{LiteralForm, AnInt, ANegative, AText, ATrue, AFalse, ExprForm, ALiteral, AName, ANot, AParen, ABinary, ValuesForm, NoValue, AValue, StmtsForm, NoStmt, ALet, ARead, AHas, APut, ASet, ADelete, AnAbort, AnIf, AnIfElse, ColumnsForm, NoColumn, AColumn, ParamsForm, NoParam, AParam, TablesForm, NoTable, ATable, ProcsForm, NoProc, AProc, CatalogueForm, IsExpr, AreValues, AreStmts, AreProcs, Role, ColumnName, ParamName, Marked, counted, literal_before, expr_before, whole_before, values_before, stmts_before, columns_before, params_before, tables_before, procs_before, marks_of, tokens_of}
+use Rattle.pac_syntax.specs.declared.limits.Around.{Around}
+use Rattle.pac_syntax.specs.Grammar.{outermost, inside, in_loop, loop_turns, last_bound, bound_value, bound_before, BoundForm, ABound, ANegativeBound, ALoop, LiteralForm, AnInt, ANegative, AText, ATrue, AFalse, ExprForm, ALiteral, AName, ANot, AParen, ABinary, ValuesForm, NoValue, AValue, StmtsForm, NoStmt, ALet, ARead, AHas, APut, ASet, ADelete, AnAbort, AnIf, AnIfElse, ColumnsForm, NoColumn, AColumn, ParamsForm, NoParam, AParam, TablesForm, NoTable, ATable, ProcsForm, NoProc, AProc, CatalogueForm, IsExpr, AreValues, AreStmts, AreProcs, Role, Plain, ColumnName, ParamName, Marked, counted, literal_before, expr_before, whole_before, values_before, stmts_before, columns_before, params_before, tables_before, procs_before, marks_of, tokens_of}
 use Rattle.pac_syntax.specs.Faults.{fault_of, past, over_role, IsWithin}
 use Rattle.pac_print.proofs.TokenFacts.{IsNameToken, IsIntToken, IsNegativeToken, IsTextToken, IsToken}
 use Rattle.pac_syntax.proofs.WithinLimits.{at_most}
@@ -16,6 +17,10 @@ IsProperLiteral (ANegative minus at z) = IsNegativeToken z
 IsProperLiteral (AText at x) = IsTextToken x
 IsProperLiteral (ATrue at) = Unit {0}
 IsProperLiteral (AFalse at) = Unit {0}
+
+abbrev pub IsProperBound : BoundForm → Type 0
+IsProperBound (ABound at z) = IsIntToken z
+IsProperBound (ANegativeBound minus at z) = IsNegativeToken z
 
 -- an expression in that many parentheses
 abbrev pub IsProper : ℕ → ExprForm → Type 0
@@ -34,8 +39,8 @@ abbrev pub AreProperValues : ValuesForm → Type 0
 AreProperValues NoValue = Unit {0}
 AreProperValues (AValue comma e vs) = IsProperWhole e × AreProperValues vs
 
--- statements in that many conditionals
-abbrev pub AreProperStmts : ℕ → StmtsForm → Type 0
+-- statements with so much round them
+abbrev pub AreProperStmts : Around → StmtsForm → Type 0
 AreProperStmts d NoStmt = Unit {0}
 AreProperStmts d (ALet p0 x p1 e p2 s) = IsNameToken x.name × IsProperWhole e × AreProperStmts d s
 AreProperStmts d (ARead p0 x p1 t p2 e p3 p4 c p5 l p6 s) = IsNameToken x.name × IsNameToken t.name × IsProperWhole e × IsNameToken c.name × IsProperLiteral l × AreProperStmts d s
@@ -44,8 +49,10 @@ AreProperStmts d (APut p0 t p1 e p2 p3 p4 v vs p5 p6 s) = IsNameToken t.name × 
 AreProperStmts d (ASet p0 t p1 e p2 p3 c p4 v p5 s) = IsNameToken t.name × IsProperWhole e × IsNameToken c.name × IsProperWhole v × AreProperStmts d s
 AreProperStmts d (ADelete p0 t p1 e p2 p3 s) = IsNameToken t.name × IsProperWhole e × AreProperStmts d s
 AreProperStmts d (AnAbort p0 p1 e p2 s) = IsProperWhole e × AreProperStmts d s
-AreProperStmts d (AnIf p0 e p1 first p2 s) = (suc d ≤ 16) × IsProperWhole e × AreProperStmts (suc d) first × AreProperStmts d s
-AreProperStmts d (AnIfElse p0 e p1 first p2 p3 p4 second p5 s) = (suc d ≤ 16) × IsProperWhole e × AreProperStmts (suc d) first × AreProperStmts (suc d) second × AreProperStmts d s
+AreProperStmts d (AnIf p0 e p1 first p2 s) = (suc d.nested ≤ 16) × IsProperWhole e × AreProperStmts (inside d) first × AreProperStmts d s
+AreProperStmts d (AnIfElse p0 e p1 first p2 p3 p4 second p5 s) = (suc d.nested ≤ 16) × IsProperWhole e × AreProperStmts (inside d) first × AreProperStmts (inside d) second × AreProperStmts d s
+AreProperStmts d (ALoop p0 x p1 a p2 b p3 body p4 s) =
+    (suc d.nested ≤ 16) × IsNameToken x.name × IsProperBound a × IsProperBound b × (loop_turns d (bound_value a) (bound_value b) ≤ 256) × AreProperStmts (in_loop d (bound_value a) (bound_value b)) body × AreProperStmts d s
 
 -- columns or parameters after that many others, of which there may be that many
 abbrev pub AreProperColumns : ℕ → ℕ → ColumnsForm → Type 0
@@ -62,7 +69,7 @@ AreProperTables i (ATable p0 n p1 p2 k p3 c t cs p4 p5 ts) = (suc i ≤ 64) × I
 
 abbrev pub AreProperProcs : ℕ → ProcsForm → Type 0
 AreProperProcs i NoProc = Unit {0}
-AreProperProcs i (AProc p0 n p1 ps p2 p3 s p4 procs) = (suc i ≤ 64) × IsNameToken n.name × AreProperParams ps × AreProperStmts 0 s × AreProperProcs (suc i) procs
+AreProperProcs i (AProc p0 n p1 ps p2 p3 s p4 procs) = (suc i ≤ 64) × IsNameToken n.name × AreProperParams ps × AreProperStmts outermost s × AreProperProcs (suc i) procs
 
 pub record IsProperCatalogue (form : CatalogueForm) : Type 0 where
   pub tables : AreProperTables 0 form.tables
@@ -91,6 +98,15 @@ fine_literal (ANegative minus at z) rest h = record { proper = h.1.0.1; after = 
 fine_literal (AText at x) rest h = record { proper = h.0.1; after = h.1 }
 fine_literal (ATrue at) rest h = record { proper = tt; after = h.1 }
 fine_literal (AFalse at) rest h = record { proper = tt; after = h.1 }
+
+record FineBound (b : BoundForm) (role : Role) (rest : List Marked) : Type 0 where
+  proper : IsProperBound b
+  within : (at : ℕ) × (over_role role at ≡ None)
+  after : AllFine rest
+
+fine_bound : (b : BoundForm) (role : Role) (rest : List Marked) → AllFine (bound_before b role rest) → FineBound b role rest
+fine_bound (ABound at z) role rest h = record { proper = h.0.1; within = (at, h.0.0); after = h.1 }
+fine_bound (ANegativeBound minus at z) role rest h = record { proper = h.1.0.1; within = (at, h.1.0.0); after = h.1.1 }
 
 record FineExpr (e : ExprForm) (d o : ℕ) (rest : List Marked) : Type 0 where
   proper : IsProper d e
@@ -129,11 +145,11 @@ fine_values (AValue comma e vs) rest levels h =
     let more = fine_values vs rest levels.1 f.after in
     record { proper = (f.proper, more.proper); after = more.after }
 
-record FineStmts (s : StmtsForm) (d : ℕ) (rest : List Marked) : Type 0 where
+record FineStmts (s : StmtsForm) (d : Around) (rest : List Marked) : Type 0 where
   proper : AreProperStmts d s
   after : AllFine rest
 
-fine_stmts : (s : StmtsForm) (d : ℕ) (rest : List Marked) → AreStmts s → AllFine (stmts_before d s rest) → FineStmts s d rest
+fine_stmts : (s : StmtsForm) (d : Around) (rest : List Marked) → AreStmts s → AllFine (stmts_before d s rest) → FineStmts s d rest
 fine_stmts NoStmt d rest levels h = record { proper = tt; after = h }
 fine_stmts (ALet p0 x p1 e p2 s) d rest levels h =
     let f = fine_whole e (_ ∷ stmts_before d s rest) levels.0 h.1.1.1 in
@@ -168,16 +184,29 @@ fine_stmts (AnAbort p0 p1 e p2 s) d rest levels h =
     let more = fine_stmts s d rest levels.1 f.after.1 in
     record { proper = (f.proper, more.proper); after = more.after }
 fine_stmts (AnIf p0 e p1 first p2 s) d rest levels h =
-    let f = fine_whole e (_ ∷ stmts_before (suc d) first (_ ∷ stmts_before d s rest)) levels.0 h.1 in
-    let one = fine_stmts first (suc d) (_ ∷ stmts_before d s rest) levels.1 f.after.1 in
+    let f = fine_whole e (_ ∷ stmts_before (inside d) first (_ ∷ stmts_before d s rest)) levels.0 h.1 in
+    let one = fine_stmts first (inside d) (_ ∷ stmts_before d s rest) levels.1 f.after.1 in
     let more = fine_stmts s d rest levels.2 one.after.1 in
-    record { proper = (at_most 16 (suc d) (fault_of TooDeep p0) h.0.0, f.proper, one.proper, more.proper); after = more.after }
+    record { proper = (at_most 16 (suc d.nested) (fault_of TooDeep p0) h.0.0, f.proper, one.proper, more.proper); after = more.after }
 fine_stmts (AnIfElse p0 e p1 first p2 p3 p4 second p5 s) d rest levels h =
-    let f = fine_whole e (_ ∷ stmts_before (suc d) first (_ ∷ _ ∷ _ ∷ stmts_before (suc d) second (_ ∷ stmts_before d s rest))) levels.0 h.1 in
-    let one = fine_stmts first (suc d) (_ ∷ _ ∷ _ ∷ stmts_before (suc d) second (_ ∷ stmts_before d s rest)) levels.1 f.after.1 in
-    let two = fine_stmts second (suc d) (_ ∷ stmts_before d s rest) levels.2 one.after.1.1.1 in
+    let f = fine_whole e (_ ∷ stmts_before (inside d) first (_ ∷ _ ∷ _ ∷ stmts_before (inside d) second (_ ∷ stmts_before d s rest))) levels.0 h.1 in
+    let one = fine_stmts first (inside d) (_ ∷ _ ∷ _ ∷ stmts_before (inside d) second (_ ∷ stmts_before d s rest)) levels.1 f.after.1 in
+    let two = fine_stmts second (inside d) (_ ∷ stmts_before d s rest) levels.2 one.after.1.1.1 in
     let more = fine_stmts s d rest levels.3 two.after.1 in
-    record { proper = (at_most 16 (suc d) (fault_of TooDeep p0) h.0.0, f.proper, one.proper, two.proper, more.proper); after = more.after }
+    record { proper = (at_most 16 (suc d.nested) (fault_of TooDeep p0) h.0.0, f.proper, one.proper, two.proper, more.proper); after = more.after }
+fine_stmts (ALoop p0 x p1 a p2 b p3 body p4 s) d rest levels h =
+    let turns = loop_turns d (bound_value a) (bound_value b) in
+    let role = last_bound d p0 (bound_value a) (bound_value b) in
+    let inner = in_loop d (bound_value a) (bound_value b) in
+    let block = stmts_before inner body (_ ∷ stmts_before d s rest) in
+    let first = fine_bound a Plain (_ ∷ bound_before b role (_ ∷ block)) h.1.1.1 in
+    let last = fine_bound b role (_ ∷ block) first.after.1 in
+    let one = fine_stmts body inner (_ ∷ stmts_before d s rest) levels.0 last.after.1 in
+    let more = fine_stmts s d rest levels.1 one.after.1 in
+    record {
+      proper = (at_most 16 (suc d.nested) (fault_of TooDeep p0) h.0.0, h.1.0.1, first.proper, last.proper, at_most 256 turns (fault_of TooMany p0) last.within.1, one.proper, more.proper);
+      after = more.after;
+    }
 
 record FineColumns (most i : ℕ) (cs : ColumnsForm) (rest : List Marked) : Type 0 where
   proper : AreProperColumns most i cs
@@ -215,8 +244,8 @@ fine_tables (ATable p0 n p1 p2 k p3 c t cs p4 p5 ts) i rest h =
 fine_procs : (procs : ProcsForm) (i : ℕ) → AreProcs procs → AllFine (procs_before i procs []) → AreProperProcs i procs
 fine_procs NoProc i levels h = tt
 fine_procs (AProc p0 n p1 ps p2 p3 s p4 procs) i levels h =
-    let f = fine_params ps (_ ∷ _ ∷ stmts_before 0 s (_ ∷ procs_before (suc i) procs [])) h.1.1.1 in
-    let g = fine_stmts s 0 (_ ∷ procs_before (suc i) procs []) levels.0 f.after.1.1 in
+    let f = fine_params ps (_ ∷ _ ∷ stmts_before outermost s (_ ∷ procs_before (suc i) procs [])) h.1.1.1 in
+    let g = fine_stmts s outermost (_ ∷ procs_before (suc i) procs []) levels.0 f.after.1.1 in
     (at_most 64 (suc i) (fault_of TooMany p0) h.0.0, h.1.0.1, f.proper, g.proper, fine_procs procs (suc i) levels.1 g.after.1)
 
 pub fine_catalogue : (form : CatalogueForm) → AreProcs form.procs → AllByRecursion IsFine (marks_of form) → IsProperCatalogue form

@@ -5,8 +5,9 @@ use Rattle.std.proofs.lemmas.Bool.{le-ltb}
 use Rattle.pac_tokens.specs.declared.fault.FaultKind.TheVariants.{TooMany, TooDeep}
 use Rattle.pac_tokens.specs.declared.fault.Fault.{Fault}
 use Rattle.pac_tokens.specs.declared.token.Symbol.TheVariants as symbol
-use Rattle.pac_syntax.specs.Grammar.{LiteralForm, AnInt, ANegative, AText, ATrue, AFalse, ExprForm, ALiteral, AName, ANot, AParen, ABinary, ValuesForm, NoValue, AValue, StmtsForm, NoStmt, ALet, ARead, AHas, APut, ASet, ADelete, AnAbort, AnIf, AnIfElse, TypeForm, AnIntType, ATextType, ColumnsForm, NoColumn, AColumn, ParamsForm, NoParam, AParam, TablesForm, NoTable, ATable, ProcsForm, NoProc, AProc, CatalogueForm, AreValues, AreStmts, AreProcs, Role, Plain, ColumnName, ParamName, Marked, symbol_mark, name_mark, type_mark, counted, literal_before, expr_before, whole_before, values_before, stmts_before, columns_before, params_before, tables_before, procs_before, marks_of}
-use Rattle.pac_syntax.specs.Faults.{fault_of, past, IsWithin}
+use Rattle.pac_syntax.specs.declared.limits.Around.{Around}
+use Rattle.pac_syntax.specs.Grammar.{outermost, inside, in_loop, loop_turns, last_bound, bound_value, bound_before, BoundForm, ABound, ANegativeBound, ALoop, LiteralForm, AnInt, ANegative, AText, ATrue, AFalse, ExprForm, ALiteral, AName, ANot, AParen, ABinary, ValuesForm, NoValue, AValue, StmtsForm, NoStmt, ALet, ARead, AHas, APut, ASet, ADelete, AnAbort, AnIf, AnIfElse, TypeForm, AnIntType, ATextType, ColumnsForm, NoColumn, AColumn, ParamsForm, NoParam, AParam, TablesForm, NoTable, ATable, ProcsForm, NoProc, AProc, CatalogueForm, AreValues, AreStmts, AreProcs, Role, Plain, ColumnName, ParamName, Marked, symbol_mark, name_mark, type_mark, counted, literal_before, expr_before, whole_before, values_before, stmts_before, columns_before, params_before, tables_before, procs_before, marks_of}
+use Rattle.pac_syntax.specs.Faults.{fault_of, past, over_role, IsWithin}
 use Rattle.pac_syntax.proofs.WithinLimits.{AllWithin}
 use Rattle.pac_print.proofs.Proper.{IsProper, IsProperWhole, AreProperValues, AreProperStmts, AreProperColumns, AreProperParams, AreProperTables, AreProperProcs, IsProperCatalogue, IsLimitedTo}
 
@@ -22,6 +23,10 @@ within_literal (ANegative minus at z) rest h = (refl, (refl, h))
 within_literal (AText at x) rest h = (refl, h)
 within_literal (ATrue at) rest h = (refl, h)
 within_literal (AFalse at) rest h = (refl, h)
+
+within_bound : (b : BoundForm) (role : Role) (rest : List Marked) → ((at : ℕ) → over_role role at ≡ None) → AllWithin rest → AllWithin (bound_before b role rest)
+within_bound (ABound at z) role rest fine h = (fine at, h)
+within_bound (ANegativeBound minus at z) role rest fine h = (refl, (fine at, h))
 
 counted_grows : (e : ExprForm) (o : ℕ) → o ≤ counted o e
 counted_grows (ALiteral l) o = omega arith
@@ -49,7 +54,7 @@ within_values (AValue comma e vs) rest p h = (refl, within_whole e (values_befor
 
 -- ---- statements
 
-within_stmts : (s : StmtsForm) (d : ℕ) (rest : List Marked) → AreProperStmts d s → AllWithin rest → AllWithin (stmts_before d s rest)
+within_stmts : (s : StmtsForm) (d : Around) (rest : List Marked) → AreProperStmts d s → AllWithin rest → AllWithin (stmts_before d s rest)
 within_stmts NoStmt d rest p h = h
 within_stmts (ALet p0 x p1 e p2 s) d rest p h = (refl, (refl, (refl, within_whole e _ p.1 (refl, within_stmts s d rest p.2 h))))
 within_stmts (ARead p0 x p1 t p2 e p3 p4 c p5 l p6 s) d rest p h =
@@ -62,15 +67,23 @@ within_stmts (ASet p0 t p1 e p2 p3 c p4 v p5 s) d rest p h =
 within_stmts (ADelete p0 t p1 e p2 p3 s) d rest p h = (refl, (refl, (refl, within_whole e _ p.1 (refl, (refl, within_stmts s d rest p.2 h)))))
 within_stmts (AnAbort p0 p1 e p2 s) d rest p h = (refl, (refl, within_whole e _ p.0 (refl, within_stmts s d rest p.1 h)))
 within_stmts (AnIf p0 e p1 first p2 s) d rest p h =
-    (within_most 16 (suc d) (fault_of TooDeep p0) p.0, within_whole e _ p.1 (refl, within_stmts first (suc d) _ p.2 (refl, within_stmts s d rest p.3 h)))
+    (within_most 16 (suc d.nested) (fault_of TooDeep p0) p.0, within_whole e _ p.1 (refl, within_stmts first (inside d) _ p.2 (refl, within_stmts s d rest p.3 h)))
 within_stmts (AnIfElse p0 e p1 first p2 p3 p4 second p5 s) d rest p h =
-    (within_most 16 (suc d) (fault_of TooDeep p0) p.0, within_whole e _ p.1 (refl, within_stmts first (suc d) _ p.2 (refl, (refl, (refl, within_stmts second (suc d) _ p.3 (refl, within_stmts s d rest p.4 h))))))
+    (within_most 16 (suc d.nested) (fault_of TooDeep p0) p.0, within_whole e _ p.1 (refl, within_stmts first (inside d) _ p.2 (refl, (refl, (refl, within_stmts second (inside d) _ p.3 (refl, within_stmts s d rest p.4 h))))))
+within_stmts (ALoop p0 x p1 a p2 b p3 body p4 s) d rest p h =
+    let role = last_bound d p0 (bound_value a) (bound_value b) in
+    let inner = in_loop d (bound_value a) (bound_value b) in
+    let block = stmts_before inner body (symbol_mark symbol.CloseBrace p4 Plain ∷ stmts_before d s rest) in
+    let inside_is : AllWithin block = within_stmts body inner (symbol_mark symbol.CloseBrace p4 Plain ∷ stmts_before d s rest) p.5 (refl, within_stmts s d rest p.6 h) in
+    let last = within_bound b role (symbol_mark symbol.OpenBrace p3 Plain ∷ block) (λ at. within_most 256 (loop_turns d (bound_value a) (bound_value b)) (fault_of TooMany p0) p.4) (refl, inside_is) in
+    let first = within_bound a Plain (symbol_mark symbol.Range p2 Plain ∷ bound_before b role (symbol_mark symbol.OpenBrace p3 Plain ∷ block)) (λ at. refl) (refl, last) in
+    (within_most 16 (suc d.nested) (fault_of TooDeep p0) p.0, (refl, (refl, first)))
 
 values_levels : (vs : ValuesForm) → AreProperValues vs → AreValues vs
 values_levels NoValue p = tt
 values_levels (AValue comma e vs) p = (p.0.levels, values_levels vs p.1)
 
-stmts_levels : (s : StmtsForm) (d : ℕ) → AreProperStmts d s → AreStmts s
+stmts_levels : (s : StmtsForm) (d : Around) → AreProperStmts d s → AreStmts s
 stmts_levels NoStmt d p = tt
 stmts_levels (ALet p0 x p1 e p2 s) d p = (p.1.levels, stmts_levels s d p.2)
 stmts_levels (ARead p0 x p1 t p2 e p3 p4 c p5 l p6 s) d p = (p.2.levels, stmts_levels s d p.5)
@@ -79,8 +92,9 @@ stmts_levels (APut p0 t p1 e p2 p3 p4 v vs p5 p6 s) d p = (p.1.levels, p.2.level
 stmts_levels (ASet p0 t p1 e p2 p3 c p4 v p5 s) d p = (p.1.levels, p.3.levels, stmts_levels s d p.4)
 stmts_levels (ADelete p0 t p1 e p2 p3 s) d p = (p.1.levels, stmts_levels s d p.2)
 stmts_levels (AnAbort p0 p1 e p2 s) d p = (p.0.levels, stmts_levels s d p.1)
-stmts_levels (AnIf p0 e p1 first p2 s) d p = (p.1.levels, stmts_levels first (suc d) p.2, stmts_levels s d p.3)
-stmts_levels (AnIfElse p0 e p1 first p2 p3 p4 second p5 s) d p = (p.1.levels, stmts_levels first (suc d) p.2, stmts_levels second (suc d) p.3, stmts_levels s d p.4)
+stmts_levels (AnIf p0 e p1 first p2 s) d p = (p.1.levels, stmts_levels first (inside d) p.2, stmts_levels s d p.3)
+stmts_levels (AnIfElse p0 e p1 first p2 p3 p4 second p5 s) d p = (p.1.levels, stmts_levels first (inside d) p.2, stmts_levels second (inside d) p.3, stmts_levels s d p.4)
+stmts_levels (ALoop p0 x p1 a p2 b p3 body p4 s) d p = (stmts_levels body (in_loop d (bound_value a) (bound_value b)) p.5, stmts_levels s d p.6)
 
 -- ---- columns, parameters, tables and procedures
 
@@ -108,11 +122,11 @@ within_tables (ATable p0 n p1 p2 k p3 c t cs p4 p5 ts) i rest p h =
 within_procs : (procs : ProcsForm) (i : ℕ) → AreProperProcs i procs → AllWithin (procs_before i procs [])
 within_procs NoProc i p = tt
 within_procs (AProc p0 n p1 ps p2 p3 s p4 procs) i p =
-    (within_most 64 (suc i) (fault_of TooMany p0) p.0, (refl, (refl, within_params ps _ p.2 (refl, (refl, within_stmts s 0 _ p.3 (refl, within_procs procs (suc i) p.4))))))
+    (within_most 64 (suc i) (fault_of TooMany p0) p.0, (refl, (refl, within_params ps _ p.2 (refl, (refl, within_stmts s outermost _ p.3 (refl, within_procs procs (suc i) p.4))))))
 
 procs_levels : (procs : ProcsForm) (i : ℕ) → AreProperProcs i procs → AreProcs procs
 procs_levels NoProc i p = tt
-procs_levels (AProc p0 n p1 ps p2 p3 s p4 procs) i p = (stmts_levels s 0 p.3, procs_levels procs (suc i) p.4)
+procs_levels (AProc p0 n p1 ps p2 p3 s p4 procs) i p = (stmts_levels s outermost p.3, procs_levels procs (suc i) p.4)
 
 pub catalogue_within : (form : CatalogueForm) → IsProperCatalogue form → AllByRecursion IsWithin (marks_of form)
 catalogue_within form p = within_tables form.tables 0 (procs_before 0 form.procs []) p.tables (within_procs form.procs 0 p.procs)

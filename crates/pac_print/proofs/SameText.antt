@@ -11,7 +11,7 @@ use Rattle.pac_syntax.specs.declared.tree.StmtNode.{StmtNode}
 use Rattle.pac_syntax.specs.declared.tree.StmtNode.TheOpen as form
 use Rattle.pac_syntax.specs.declared.tree.StmtNode.TheOpen.{StmtNode-F}
 use Rattle.pac_syntax.specs.declared.tree.StmtNode.TheViews.{roll-StmtNode}
-use Rattle.pac_syntax.specs.declared.tree.StmtNode.TheVariants.{rolls-Let, rolls-Read, rolls-Has, rolls-Put, rolls-Set, rolls-Delete, rolls-AbortIf, rolls-If}
+use Rattle.pac_syntax.specs.declared.tree.StmtNode.TheVariants.{rolls-Let, rolls-Read, rolls-Has, rolls-Put, rolls-Set, rolls-Delete, rolls-AbortIf, rolls-If, rolls-For}
 use Rattle.pac_syntax.specs.declared.tree.StmtNode.TheFolds.{ind-StmtNode, map-StmtNode}
 use Rattle.pac_syntax.specs.declared.tree.TableNode.{TableNode}
 use Rattle.pac_syntax.specs.declared.tree.ProcNode.{ProcNode}
@@ -19,7 +19,7 @@ use Rattle.pac_syntax.specs.declared.tree.Tree.{Tree}
 use Rattle.pac_print.specs.Canonical.{Spelled, expr_step, spelled, expr_text, further_text, exprs_text, Indented, deeper, statement_lines, else_text, stmt_step, stmt_text, column_text, further_column_text, params_text, table_text, proc_text, canonical}
 use Rattle.pac_value.specs.Literals.{value_text}
 use Rattle.pac_print.specs.Unplaced.{unplaced_name, unplaced_literal, unplaced_column, unplaced_expr, unplaced_expr_step, unplaced_stmt, unplaced_stmt_step, unplaced_table, unplaced_proc, without_offsets}
-use Rattle.pac_syntax.proofs.NodeForms.{by_nodes, fold-Literal, fold-Name, fold-Binary, fold-Not, fold-Let, fold-Read, fold-Has, fold-Put, fold-Set, fold-Delete, fold-AbortIf, fold-If}
+use Rattle.pac_syntax.proofs.NodeForms.{by_nodes, fold-Literal, fold-Name, fold-Binary, fold-Not, fold-Let, fold-Read, fold-Has, fold-Put, fold-Set, fold-Delete, fold-AbortIf, fold-If, fold-For}
 
 -- ---- expressions
 
@@ -93,6 +93,11 @@ by_stmt (form.If test first second) =
     ∙ ap (λ x indent. codes "if " ++ expr_text test ++ codes " {\n" ++ statement_lines x (deeper indent) ++ else_text (map stmt_text (map unplaced_stmt b)) indent ++ indent ++ codes "}") (same_list first)
     ∙ ap (λ x indent. codes "if " ++ expr_text test ++ codes " {\n" ++ statement_lines (map stmt_text a) (deeper indent) ++ else_text x indent ++ indent ++ codes "}") (same_list second)
     ∙ sym (fold-If Indented stmt_step test a b))
+by_stmt (form.For name from to body) =
+    let b = map (λ s. s.0) body in
+    subst SameLines (sym (rolls-For name from to b))
+    (ap stmt_text (fold-For StmtNode unplaced_stmt_step name from to b) ∙ fold-For Indented stmt_step (unplaced_name name) from to (map unplaced_stmt b)
+    ∙ ap (λ x. stmt_step (form.For name from to x)) (same_list body) ∙ sym (fold-For Indented stmt_step name from to b))
 
 same_stmt : (s : StmtNode) → SameLines s
 same_stmt = ind-StmtNode SameLines (λ x y is. subst (λ z. SameLines (roll-StmtNode z)) is (by_stmt y))

@@ -21,11 +21,18 @@ use Rattle.pac_tokens.proofs.Spelled.{symbol_some}
 
 -- ---- symbols
 
--- a byte that makes another symbol of one before it
 abbrev pub is_equals : ℕ → Bool
 is_equals b = nat_eq 61 b
 
--- a symbol at the start, where no `=` follows
+abbrev pub is_dot : ℕ → Bool
+is_dot b = nat_eq 46 b
+
+-- whether a byte makes another symbol of this one
+abbrev pub lengthens : Symbol → ℕ → Bool
+lengthens symbol.Dot = is_dot
+lengthens _ = is_equals
+
+-- a symbol at the start, alone and before a byte that does not lengthen it
 symbol_alone : (s : Symbol) → first_symbol (symbol_spelling s) ≡ Some s
 unfolding symbol_of
 symbol_alone symbol.OpenParen = refl
@@ -52,8 +59,9 @@ symbol_alone symbol.LessEqual = refl
 symbol_alone symbol.GreaterEqual = refl
 symbol_alone symbol.And = refl
 symbol_alone symbol.Or = refl
+symbol_alone symbol.Range = refl
 
-symbol_before : (s : Symbol) (b : ℕ) (rest : List ℕ) → is_equals b ≡ false → first_symbol (symbol_spelling s ++ (b ∷ rest)) ≡ Some s
+symbol_before : (s : Symbol) (b : ℕ) (rest : List ℕ) → lengthens s b ≡ false → first_symbol (symbol_spelling s ++ (b ∷ rest)) ≡ Some s
 unfolding symbol_of
 symbol_before symbol.OpenParen b rest h = refl
 symbol_before symbol.CloseParen b rest h = refl
@@ -63,7 +71,7 @@ symbol_before symbol.OpenBracket b rest h = refl
 symbol_before symbol.CloseBracket b rest h = refl
 symbol_before symbol.Comma b rest h = refl
 symbol_before symbol.Semicolon b rest h = refl
-symbol_before symbol.Dot b rest h = refl
+symbol_before symbol.Dot b rest h = rw h refl
 symbol_before symbol.Assign b rest h = rw h refl
 symbol_before symbol.Plus b rest h = refl
 symbol_before symbol.Minus b rest h = refl
@@ -79,8 +87,9 @@ symbol_before symbol.LessEqual b rest h = refl
 symbol_before symbol.GreaterEqual b rest h = refl
 symbol_before symbol.And b rest h = refl
 symbol_before symbol.Or b rest h = refl
+symbol_before symbol.Range b rest h = refl
 
-leading_symbol : (s : Symbol) (rest : List ℕ) → Stops is_equals rest → first_symbol (symbol_spelling s ++ rest) ≡ Some s
+leading_symbol : (s : Symbol) (rest : List ℕ) → Stops (lengthens s) rest → first_symbol (symbol_spelling s ++ rest) ≡ Some s
 leading_symbol s [] h = ap first_symbol (append-nil (symbol_spelling s)) ∙ symbol_alone s
 leading_symbol s (b ∷ rest) h = symbol_before s b rest h
 
@@ -109,6 +118,7 @@ symbol_gap symbol.LessEqual rest = refl
 symbol_gap symbol.GreaterEqual rest = refl
 symbol_gap symbol.And rest = refl
 symbol_gap symbol.Or rest = refl
+symbol_gap symbol.Range rest = refl
 
 -- what a symbol is found as, by what stands before it
 spelled_symbol_at : (before : Before) (s : Symbol) (rest : List ℕ) → token_at before (symbol_spelling s ++ rest) ≡ symbol_at before (first_symbol (symbol_spelling s ++ rest)) (drop 1 (symbol_spelling s ++ rest))
@@ -136,6 +146,7 @@ spelled_symbol_at before symbol.LessEqual rest = refl
 spelled_symbol_at before symbol.GreaterEqual rest = refl
 spelled_symbol_at before symbol.And rest = refl
 spelled_symbol_at before symbol.Or rest = refl
+spelled_symbol_at before symbol.Range rest = refl
 
 -- a symbol that stands after a value
 value_symbol : (s : Symbol) (following : List ℕ) → symbol_at Value (Some s) following ≡ found (token.Symbol s) (length (symbol_spelling s))
@@ -150,7 +161,7 @@ plain_symbol : (before : Before) (s : Symbol) (following : List ℕ) → is_minu
 plain_symbol before symbol.Minus following h = absurd cc
 plain_symbol before s following h = refl
 
-symbol_found : (before : Before) (at : ℕ) (s : Symbol) (rest : List ℕ) (ts : List Spanned) (f : Option Fault) → Stops is_equals rest → symbol_at before (Some s) (drop 1 (symbol_spelling s ++ rest)) ≡ found (token.Symbol s) (length (symbol_spelling s))
+symbol_found : (before : Before) (at : ℕ) (s : Symbol) (rest : List ℕ) (ts : List Spanned) (f : Option Fault) → Stops (lengthens s) rest → symbol_at before (Some s) (drop 1 (symbol_spelling s ++ rest)) ≡ found (token.Symbol s) (length (symbol_spelling s))
     → Lexed (after before (token.Symbol s)) (at + length (symbol_spelling s)) rest ts f → Lexed before at (symbol_spelling s ++ rest) (spanned (token.Symbol s) at ∷ ts) f
 symbol_found before at s rest ts f stops is h =
     let all : token_at before (symbol_spelling s ++ rest) ≡ found (token.Symbol s) (length (symbol_spelling s)) =
@@ -158,7 +169,7 @@ symbol_found before at s rest ts f stops is h =
     token_first before at (token.Symbol s) (symbol_spelling s) rest ts f (symbol_gap s rest) (omega (arith, symbol_some s, length-append (symbol_spelling s) rest)) all h
 
 -- a symbol other than `-`
-pub symbol_first : (before : Before) (at : ℕ) (s : Symbol) (rest : List ℕ) (ts : List Spanned) (f : Option Fault) → is_minus s ≡ false → Stops is_equals rest
+pub symbol_first : (before : Before) (at : ℕ) (s : Symbol) (rest : List ℕ) (ts : List Spanned) (f : Option Fault) → is_minus s ≡ false → Stops (lengthens s) rest
     → Lexed (after before (token.Symbol s)) (at + length (symbol_spelling s)) rest ts f → Lexed before at (symbol_spelling s ++ rest) (spanned (token.Symbol s) at ∷ ts) f
 symbol_first before at s rest ts f other stops h = symbol_found before at s rest ts f stops (plain_symbol before s (drop 1 (symbol_spelling s ++ rest)) other) h
 
@@ -177,11 +188,26 @@ after_operator op.Ge = refl
 after_operator op.And = refl
 after_operator op.Or = refl
 
+operator_lengthens : (op : BinOp) → lengthens (operator_symbol op) ≡ is_equals
+operator_lengthens op.Add = refl
+operator_lengthens op.Sub = refl
+operator_lengthens op.Mul = refl
+operator_lengthens op.Div = refl
+operator_lengthens op.Rem = refl
+operator_lengthens op.Eq = refl
+operator_lengthens op.Ne = refl
+operator_lengthens op.Lt = refl
+operator_lengthens op.Le = refl
+operator_lengthens op.Gt = refl
+operator_lengthens op.Ge = refl
+operator_lengthens op.And = refl
+operator_lengthens op.Or = refl
+
 -- the symbol of an operator, after its left operand
 pub operator_first : (at : ℕ) (op : BinOp) (rest : List ℕ) (ts : List Spanned) (f : Option Fault) → Stops is_equals rest
     → Lexed Other (at + length (symbol_spelling (operator_symbol op))) rest ts f → Lexed Value at (symbol_spelling (operator_symbol op) ++ rest) (spanned (token.Symbol (operator_symbol op)) at ∷ ts) f
 operator_first at op rest ts f stops h =
-    symbol_found Value at (operator_symbol op) rest ts f stops (value_symbol (operator_symbol op) (drop 1 (symbol_spelling (operator_symbol op) ++ rest)))
+    symbol_found Value at (operator_symbol op) rest ts f (subst (λ (p : ℕ → Bool). Stops p rest) (sym (operator_lengthens op)) stops) (value_symbol (operator_symbol op) (drop 1 (symbol_spelling (operator_symbol op) ++ rest)))
     (subst (λ (b : Before). Lexed b (at + length (symbol_spelling (operator_symbol op))) rest ts f) (sym (after_operator op)) h)
 
 minus_found : (b : Bool) → b ≡ false → cond b (Err kind.TooLong) (found (token.Symbol symbol.Minus) 1) ≡ found (token.Symbol symbol.Minus) 1

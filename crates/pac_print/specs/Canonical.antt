@@ -1,6 +1,6 @@
 -- The canonical text of a tree: a line for each table and each statement, and parentheses only where the levels of the
 -- grammar need them.
-use Rattle.std.specs.Prelude.{ℕ, suc, List, [], ◌∷◌, ◌++◌, codes, flat_map, map, nat_le, if◌then◌else◌}
+use Rattle.std.specs.Prelude.{ℕ, suc, ℤ, List, [], ◌∷◌, ◌++◌, codes, flat_map, map, nat_le, if◌then◌else◌}
 use Rattle.pac_value.specs.declared.values.Ty.{Ty}
 use Rattle.pac_value.specs.declared.values.Ty.TheVariants as ty
 use Rattle.pac_value.specs.declared.expr.BinOp.{BinOp}
@@ -10,12 +10,13 @@ use Rattle.pac_syntax.specs.declared.tree.ExprNode.{ExprNode}
 use Rattle.pac_syntax.specs.declared.tree.ExprNode.TheOpen.{ExprNode-F, Literal, Name, Binary, Not}
 use Rattle.pac_syntax.specs.declared.tree.ExprNode.TheFolds.{fold-ExprNode}
 use Rattle.pac_syntax.specs.declared.tree.StmtNode.{StmtNode}
-use Rattle.pac_syntax.specs.declared.tree.StmtNode.TheOpen.{StmtNode-F, Let, Read, Has, Put, Set, Delete, AbortIf, If}
+use Rattle.pac_syntax.specs.declared.tree.StmtNode.TheOpen.{StmtNode-F, Let, Read, Has, Put, Set, Delete, AbortIf, If, For}
 use Rattle.pac_syntax.specs.declared.tree.StmtNode.TheFolds.{fold-StmtNode}
 use Rattle.pac_syntax.specs.declared.tree.TableNode.{TableNode}
 use Rattle.pac_syntax.specs.declared.tree.ProcNode.{ProcNode}
 use Rattle.pac_syntax.specs.declared.tree.Tree.{Tree}
 use Rattle.pac_tokens.specs.Spelling.{symbol_spelling}
+use Rattle.pac_value.specs.declared.values.Value.TheVariants as value
 use Rattle.pac_value.specs.Literals.{value_text}
 use Rattle.pac_syntax.specs.Grammar.{operator_symbol, precedence, left_level}
 
@@ -93,6 +94,13 @@ abbrev pub else_text : List Indented → Indented
 else_text [] indent = []
 else_text (stmt ∷ stmts) indent = indent ++ codes "} else {\n" ++ statement_lines (stmt ∷ stmts) (deeper indent)
 
+abbrev pub bounds_text : ℤ → ℤ → List ℕ
+bounds_text from to = value_text (value.Int from) ++ codes ".." ++ value_text (value.Int to)
+
+-- for NAME in FROM..TO, and the brace that opens the block
+abbrev pub loop_head : NameNode → ℤ → ℤ → List ℕ
+loop_head name from to = codes "for " ++ name.name ++ codes " in " ++ bounds_text from to ++ codes " {\n"
+
 -- from its first word to its last symbol
 abbrev pub stmt_step : StmtNode-F Indented → Indented
 stmt_step (Let name expr) indent = codes "let " ++ name.name ++ codes " = " ++ expr_text expr ++ codes ";"
@@ -105,6 +113,7 @@ stmt_step (Delete table key) indent = codes "delete " ++ cell_text table key ++ 
 stmt_step (AbortIf test) indent = codes "abort if " ++ expr_text test ++ codes ";"
 stmt_step (If test first second) indent =
     codes "if " ++ expr_text test ++ codes " {\n" ++ statement_lines first (deeper indent) ++ else_text second indent ++ indent ++ codes "}"
+stmt_step (For name from to body) indent = loop_head name from to ++ statement_lines body (deeper indent) ++ indent ++ codes "}"
 
 abbrev pub stmt_text : StmtNode → Indented
 stmt_text = fold-StmtNode Indented stmt_step

@@ -9,7 +9,7 @@ use Rattle.pac_syntax.specs.declared.tree.ExprNode.TheOpen.{ExprNode-F, Literal,
 use Rattle.pac_syntax.specs.declared.tree.ExprNode.TheFolds.{fold-ExprNode}
 use Rattle.pac_syntax.specs.declared.tree.StmtNode.{StmtNode}
 use Rattle.pac_syntax.specs.declared.tree.StmtNode.TheVariants as stmt
-use Rattle.pac_syntax.specs.declared.tree.StmtNode.TheOpen.{StmtNode-F, Let, Read, Has, Put, Set, Delete, AbortIf, If}
+use Rattle.pac_syntax.specs.declared.tree.StmtNode.TheOpen.{StmtNode-F, Let, Read, Has, Put, Set, Delete, AbortIf, If, For}
 use Rattle.pac_syntax.specs.declared.tree.StmtNode.TheFolds.{fold-StmtNode}
 use Rattle.pac_syntax.specs.declared.tree.TableNode.{TableNode}
 use Rattle.pac_syntax.specs.declared.tree.ProcNode.{ProcNode}
@@ -45,6 +45,7 @@ unplaced_stmt_step (Set table key column expr) = stmt.Set (unplaced_name table) 
 unplaced_stmt_step (Delete table key) = stmt.Delete (unplaced_name table) (unplaced_expr key)
 unplaced_stmt_step (AbortIf test) = stmt.AbortIf (unplaced_expr test)
 unplaced_stmt_step (If test first second) = stmt.If (unplaced_expr test) first second
+unplaced_stmt_step (For name from to body) = stmt.For (unplaced_name name) from to body
 
 abbrev pub unplaced_stmt : StmtNode → StmtNode
 unplaced_stmt = fold-StmtNode StmtNode unplaced_stmt_step

@@ -1,12 +1,14 @@
 // Writes statements.
 ghost use Rattle.std.specs.Prelude.{◌≡◌, map, OnOk, IfOk};
 ghost use Rattle.pac_value.specs.Growth.{Grew};
-ghost use Rattle.pac_print.specs.Canonical.{cell_text, field_text, deeper, else_text, stmt_text, stmts_text};
+ghost use Rattle.pac_value.specs.Literals.{value_text};
+ghost use Rattle.pac_value.specs.declared.values.Value.TheVariants as value;
+ghost use Rattle.pac_print.specs.Canonical.{cell_text, field_text, bounds_text, loop_head, deeper, else_text, stmt_text, stmts_text};
 
 use crate::expression::{push_expr, push_exprs};
 use pac_base::NoMemory;
 use pac_syntax::{ExprNode, LiteralNode, NameNode, StmtNode};
-use pac_value::push_value;
+use pac_value::{Value, push_value};
 use std::alloc::Global;
 
 pub(crate) fn push_name(out: &mut Vec<u8>, name: &NameNode) -> Result<(), NoMemory>
@@ -39,6 +41,33 @@ fn push_field(
     push_cell(out, table, key)?;
     out.extend_from_slice(b".")?;
     push_name(out, column)
+}
+
+fn push_bound(out: &mut Vec<u8>, number: &i64) -> Result<(), NoMemory>
+    ensures { OnOk result (Grew out.old.items out.new.items (value_text (value.Int number.now))) }
+{
+    push_value(out, &Value::Int(*number))
+}
+
+// `FROM..TO`
+fn push_bounds(out: &mut Vec<u8>, from: &i64, to: &i64) -> Result<(), NoMemory>
+    ensures { OnOk result (Grew out.old.items out.new.items (bounds_text from.now to.now)) }
+{
+    push_bound(out, from)?;
+    out.extend_from_slice(b"..")?;
+    push_bound(out, to)
+}
+
+// `for NAME in FROM..TO {`, and the end of the line
+fn push_loop_head(out: &mut Vec<u8>, name: &NameNode, from: &i64, to: &i64) -> Result<(), NoMemory>
+    ensures { OnOk result (Grew out.old.items out.new.items (loop_head name.now from.now to.now)) }
+{
+    out.extend_from_slice(b"for ")?;
+    push_name(out, name)?;
+    out.extend_from_slice(b" in ")?;
+    push_bounds(out, from, to)?;
+    out.extend_from_slice(b" {\n")?;
+    Ok(())
 }
 
 /// The indent of what stands in a block.
@@ -131,6 +160,18 @@ fn push_stmt(
             out.extend_from_slice(b" {\n")?;
             push_stmts(alloc, out, &inner, first.as_slice())?;
             push_else(alloc, out, indent, &inner, second.as_slice())?;
+            out.extend_from_slice(indent)?;
+            out.extend_from_slice(b"}")?;
+        }
+        StmtNode::For {
+            name,
+            from,
+            to,
+            body,
+        } => {
+            let inner = deeper(alloc, indent)?;
+            push_loop_head(out, name, from, to)?;
+            push_stmts(alloc, out, &inner, body.as_slice())?;
             out.extend_from_slice(indent)?;
             out.extend_from_slice(b"}")?;
         }

@@ -3,6 +3,7 @@
 //! - [`parse_catalogue`]: the [`Tree`] of a text, with one node for each rule of the grammar, or the text's first
 //!   [`Fault`], which has an offset and a kind.
 //! - [`tokens`] and its types: re-exports of `pac_tokens`.
+//! - [`Around`]: in what `specs/Grammar` counts how much stands round a statement, for the limits of nesting and of turns.
 //! - [`operator_symbol`], [`precedence_of`]: the operator token of an operator, and its precedence.
 //! - [`split_first`], [`name_of`], [`bool_of`], [`is_same_keyword_or_symbol`]: what single tokens are.
 //!
@@ -33,7 +34,7 @@ mod parse;
 mod single;
 mod tree;
 
-pub use limits::{MAX_CATALOGUE, MAX_NESTED, MAX_OPERATORS, MAX_PARENS, MAX_TURNS};
+pub use limits::{Around, MAX_CATALOGUE, MAX_NESTED, MAX_OPERATORS, MAX_PARENS, MAX_TURNS};
 pub use operator::{COMPARISONS, operator_symbol, precedence_of};
 pub use pac_tokens::{
     Fault, FaultKind, Keyword, Spanned, Symbol, SyntaxError, Token, Tokens, tokens,

@@ -19,7 +19,7 @@ pub const MAX_TURNS: u64 = 256;
 
 /// What stands round a statement: how many conditionals and loops, and the product of the numbers of turns of the loops.
 #[derive(Clone, Copy, Debug, PartialEq, Eq)]
-pub(crate) struct Around {
+pub struct Around {
     pub nested: u8,
     pub turns: u32,
 }
@@ -33,13 +33,13 @@ fn turns(from: i64, to: i64) -> u64
 
 impl Around {
     /// What stands round the statements of a procedure.
-    pub const NOTHING: Around = Around {
+    pub(crate) const NOTHING: Around = Around {
         nested: 0,
         turns: 1,
     };
 
     /// What stands round the blocks of a conditional.
-    pub fn inside(self) -> Around
+    pub(crate) fn inside(self) -> Around
         requires { self.nested < MAX_NESTED }
         ensures { result ≡ inside self }
     {
@@ -50,7 +50,7 @@ impl Around {
     }
 
     /// What stands round the block of a loop from the one number on and below the other. `None`: it has too many turns.
-    pub fn in_loop(self, from: i64, to: i64) -> Option<Around>
+    pub(crate) fn in_loop(self, from: i64, to: i64) -> Option<Around>
         requires { self.nested < MAX_NESTED }
         ensures { result ≡ (if nat_lt MAX_TURNS (loop_turns self from to) then None else Some (in_loop self from to)) }
     {
