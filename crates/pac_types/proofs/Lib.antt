@@ -9,6 +9,7 @@ pub mod StmtLemmas
 pub mod BlockLemmas
 pub mod TreeLemmas
 pub mod CountLemmas
+pub mod ToldLemmas
 pub mod NumberLemmas
 pub mod TypingLemmas
 pub mod CleanLemmas

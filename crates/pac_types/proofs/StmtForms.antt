@@ -1,11 +1,11 @@
 -- What a fold gives for each form of a statement.
-use Rattle.std.proofs.Common.{◌≡◌, ℕ, List, map, sym, ap, ◌∙◌}
+use Rattle.std.proofs.Common.{◌≡◌, ℕ, ℤ, List, map, sym, ap, ◌∙◌}
 use Rattle.pac_value.specs.declared.values.Value.{Value}
 use Rattle.pac_value.specs.declared.expr.Expr.{Expr}
-use Rattle.pac_types.specs.declared.statement.Stmt.{Stmt, Let, Read, Has, Put, Set, Delete, AbortIf, If}
+use Rattle.pac_types.specs.declared.statement.Stmt.{Stmt, Let, Read, Has, Put, Set, Delete, AbortIf, If, For}
 use Rattle.pac_types.specs.declared.statement.Stmt.TheOpen as form
 use Rattle.pac_types.specs.declared.statement.Stmt.TheOpen.{Stmt-F}
-use Rattle.pac_types.specs.declared.statement.Stmt.TheVariants.{rolls-Let, rolls-Read, rolls-Has, rolls-Put, rolls-Set, rolls-Delete, rolls-AbortIf, rolls-If}
+use Rattle.pac_types.specs.declared.statement.Stmt.TheVariants.{rolls-Let, rolls-Read, rolls-Has, rolls-Put, rolls-Set, rolls-Delete, rolls-AbortIf, rolls-If, rolls-For}
 use Rattle.pac_types.specs.declared.statement.Stmt.TheFolds.{fold-Stmt, fold-roll-Stmt}
 
 module _ (A : Type 0) (step : Stmt-F A → A) (s : Stmt) where
@@ -32,3 +32,6 @@ module _ (A : Type 0) (step : Stmt-F A → A) (s : Stmt) where
 
   pub at-If : (x : ℕ) (e : Expr) (first second : List Stmt) → s ≡ If x e first second → fold-Stmt A step s ≡ step (form.If x e (map (fold-Stmt A step) first) (map (fold-Stmt A step) second))
   at-If x e first second is = ap (fold-Stmt A step) (is ∙ sym (rolls-If x e first second)) ∙ fold-roll-Stmt A step (form.If x e first second)
+
+  pub at-For : (x : ℕ) (from to : ℤ) (body : List Stmt) → s ≡ For x from to body → fold-Stmt A step s ≡ step (form.For x from to (map (fold-Stmt A step) body))
+  at-For x from to body is = ap (fold-Stmt A step) (is ∙ sym (rolls-For x from to body)) ∙ fold-roll-Stmt A step (form.For x from to body)

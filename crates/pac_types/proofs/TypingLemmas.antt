@@ -22,7 +22,6 @@ use Rattle.pac_types.specs.declared.procedure.Proc.{Proc}
 use Rattle.pac_types.specs.declared.statement.Stmt.{Stmt}
 use Rattle.pac_types.specs.WellFormed.{column_types, column_types_of}
 use Rattle.pac_value.specs.Scopes.{is_width}
-use Rattle.pac_types.specs.Meaning.{operations}
 use Rattle.pac_types.specs.Variables.{defined_variables}
 use Rattle.pac_types.specs.Numbering.{AreDistinct, variables, body_of, numbers_from, column_of, table_of, column_names, table_names}
 use Rattle.pac_types.specs.Typing.{IsProcOf, HasDistinctColumns, Types, CatalogueState, IsCatalogue, IsWellFormedTable, IsProc, IsTyped}
@@ -30,7 +29,6 @@ use Rattle.pac_base.specs.declared.refusal.Refusal.{Refusal}
 use Rattle.pac_base.specs.declared.refusal.Refusal.TheVariants as error
 use Rattle.pac_types.specs.Checking.{once, all_once, names_of, checked_tables, checked_proc, checked_procs}
 use Rattle.pac_types.proofs.NameLemmas.{are_distinct, distinct-nil, number-within}
-use Rattle.pac_types.proofs.CountLemmas.{body_size}
 use Rattle.pac_types.proofs.NumberLemmas.{body_numbers}
 use Rattle.pac_types.proofs.ExprLemmas.{some_is, none_is}
 use Rattle.pac_types.proofs.StmtLemmas.{Wide}
@@ -114,12 +112,10 @@ a_proc tables node proc limits is =
     let params : proc.params ≡ map column_of node.params = ap (λ (p : Proc). p.params) (sym b.2) in
     let body : b.0 ≡ proc.body = ap (λ (p : Proc). p.body) b.2 in
     let many : length node.params ≡ length proc.params = sym (ap length params ∙ length-map node.params column_of) in
-    let counted : operations proc.body ≡ sizes node.body = ap (λ (p : Proc). operations p.body) (sym b.2) ∙ body_size tables (variables node) node.body (numbers_from 0 node.params) (length node.params) b.0 b.1 in
     record {
       few = subst (λ n. n ≤ 16) (sym (ap length params ∙ length-map node.params column_of)) limits.few;
       params = subst (All (λ column. IsTrue (is_stored_type column.ty))) (sym params) (stored-columns node.params limits.params);
       well_formed = is.well_formed;
-      counted = omega (arith, limits.short, counted);
       numbered = subst (λ (ss : List Stmt). defined_variables ss ≡ range_with_len (length proc.params) (length (defined_variables ss))) body
           (subst (λ n. defined_variables b.0 ≡ range_with_len n (length (defined_variables b.0))) many
           (body_numbers tables (variables node) node.body (numbers_from 0 node.params) (length node.params) b.0 b.1));

@@ -2,7 +2,7 @@
 use Rattle.std.proofs.Common.{◌≡◌, ℕ, Bool, true, false, List, [], ◌∷◌, map, Option, Some, None, refl, sym, subst, is_some}
 use Rattle.std.specs.Option.{option_map, option_and_then}
 use Rattle.pac_value.specs.declared.values.Ty.{Ty}
-use Rattle.pac_value.specs.declared.values.Ty.TheVariants.{Bool as BoolTy}
+use Rattle.pac_value.specs.declared.values.Ty.TheVariants.{Int as IntTy, Bool as BoolTy}
 use Rattle.pac_value.specs.Values.{type_of}
 use Rattle.pac_value.specs.Expressions.{type_in}
 use Rattle.pac_types.specs.declared.table.Table.{Table}
@@ -85,6 +85,9 @@ module _ (tables : List Table) where
       (is_some-within _ _ (in_order-within _ (pairs_grow first) _ _ inner)))
       (is_some-within _ _ (in_order-within _ (pairs_grow second) _ _ inner)))
       (without-within _ _ _ (without-within _ _ _ inner))
+  step_grows (form.For x from to body) f g w = if_so-within _ _ _ _
+      (is_some-within _ _ (in_order-within _ (pairs_grow body) _ _ (with_var-within _ _ x IntTy (without-within _ f g w))))
+      (without-within _ f g w)
 
   pub check-grows : (s : Stmt) → Grows (check tables s)
   check-grows = ind-Stmt (λ s. Grows (check tables s)) (λ x y is. subst (λ z. Grows (check tables (roll-Stmt z))) is

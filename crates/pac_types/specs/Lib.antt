@@ -1,5 +1,6 @@
 pub mod Kinds
 pub mod WellFormed
+pub mod Unrolled
 pub mod Meaning
 pub mod Execution
 pub mod Numbering

@@ -1,19 +1,17 @@
 -- The serial meaning of statements and procedures.
-use Rattle.std.specs.Prelude.{◌+◌, ℕ, true, List, [], ◌∷◌, map, Result, Ok, Err}
+use Rattle.std.specs.Prelude.{◌+◌, ◌*◌, ℕ, true, List, [], ◌∷◌, map, sum, Result, Ok, Err}
 use Rattle.pac_value.specs.declared.values.Value.{Value}
 use Rattle.pac_value.specs.declared.values.Value.TheVariants.{Bool as Truth}
-use Rattle.pac_value.specs.declared.expr.Expr.{Expr}
 use Rattle.pac_value.specs.Expressions.{value, ◌>>=◌}
 use Rattle.pac_value.specs.State.{Tables}
-use Rattle.pac_ops.specs.declared.program.OpKind.{OpKind}
-use Rattle.pac_ops.specs.declared.program.OpKind.TheVariants as kind
 use Rattle.pac_ops.specs.declared.reason.Reason.{Reason}
 use Rattle.pac_ops.specs.Reasons.{or_abort}
 use Rattle.pac_ops.specs.Operations.{State, define, done, opening}
 use Rattle.pac_types.specs.declared.procedure.Proc.{Proc}
 use Rattle.pac_types.specs.declared.statement.Stmt.{Stmt}
-use Rattle.pac_types.specs.declared.statement.Stmt.TheOpen.{Stmt-F, Let, Read, Has, Put, Set, Delete, AbortIf, If}
+use Rattle.pac_types.specs.declared.statement.Stmt.TheOpen.{Stmt-F, If, For}
 use Rattle.pac_types.specs.declared.statement.Stmt.TheFolds.{fold-Stmt}
+use Rattle.pac_types.specs.Unrolled.{Steps, End, Op, Branch, turns, unrolled}
 
 -- an abort: the number of the operation, and the reason
 abbrev pub Abort : Type 0
@@ -24,59 +22,53 @@ abbrev pub at_operation : {A : Type 0} → ℕ → Result A Reason → Result A 
 at_operation n (Ok x) = Ok x
 at_operation n (Err reason) = Err (n, reason)
 
--- what statements are: how many operations, and what they do where the first has a given number
-pub record Code : Type 0 where
-  pub count : ℕ
-  pub run : ℕ → State → Result State Abort
+-- ---- how many operations
 
--- a statement that is one operation
-abbrev pub one : OpKind → Code
-one kind = record { count = 1; run = λ n s. at_operation n (done kind s) }
+-- how many operations together
+abbrev pub together : List ℕ → ℕ
+together [] = 0
+together (n ∷ ns) = n + together ns
 
--- how many operations
-abbrev pub counts : List Code → ℕ
-counts [] = 0
-counts (code ∷ codes) = code.count + counts codes
+-- a conditional counts as one operation, its test, before the operations of both its blocks; a loop stands for its block
+-- repeated once for each turn, and counts as none itself
+abbrev pub count_step : Stmt-F ℕ → ℕ
+count_step (If x e first second) = 1 + (together first + together second)
+count_step (For x from to body) = turns from to * together body
+count_step _ = 1
 
--- one after another, numbered on
-abbrev pub runs : List Code → ℕ → State → Result State Abort
-runs [] n s = Ok s
-runs (code ∷ codes) n s = code.run n s >>= λ t. runs codes (n + code.count) t
+-- how many operations a statement is
+abbrev pub stmt_operations : Stmt → ℕ
+stmt_operations = fold-Stmt ℕ count_step
+
+-- how many operations statements are
+abbrev pub operations : List Stmt → ℕ
+operations stmts = together (map stmt_operations stmts)
+
+-- the same of steps
+abbrev pub step_count : Steps → ℕ
+step_count End = 0
+step_count (Op kind rest) = 1 + step_count rest
+step_count (Branch x e first second rest) = 1 + (step_count first + step_count second) + step_count rest
+
+-- ---- what they do
 
 -- one of two blocks
 abbrev pub branch : {A : Type 0} → Value → A → A → A
 branch (Truth true) first second = first
 branch v first second = second
 
--- a conditional counts as one operation, its test, before the operations of both its blocks
-abbrev pub conditional : ℕ → Expr → List Code → List Code → Code
-conditional x e first second = record {
-  count = 1 + (counts first + counts second);
-  run = λ n s. at_operation n (or_abort (value e s.env)) >>= λ v. branch v (runs first (n + 1)) (runs second (n + 1 + counts first)) (define x v s);
-}
+-- what steps do, where the first operation has the number n
+abbrev pub runs : Steps → ℕ → State → Result State Abort
+runs End n s = Ok s
+runs (Op kind rest) n s = at_operation n (done kind s) >>= λ t. runs rest (n + 1) t
+runs (Branch x e first second rest) n s = at_operation n (or_abort (value e s.env))
+    >>= λ v. branch v (runs first (n + 1)) (runs second (n + 1 + step_count first)) (define x v s)
+    >>= λ t. runs rest (n + 1 + step_count first + step_count second) t
 
-abbrev pub code_step : Stmt-F Code → Code
-code_step (Let x e) = one (kind.Let x e)
-code_step (Read x t k c d) = one (kind.Read x t k c d)
-code_step (Has x t k) = one (kind.Has x t k)
-code_step (Put t k es) = one (kind.Put t k es)
-code_step (Set t k c e) = one (kind.SetCol t k c e)
-code_step (Delete t k) = one (kind.Delete t k)
-code_step (AbortIf e) = one (kind.AbortIf e)
-code_step (If x e first second) = conditional x e first second
-
--- what a statement is
-abbrev pub code : Stmt → Code
-code = fold-Stmt Code code_step
-
--- how many operations statements are
-abbrev pub operations : List Stmt → ℕ
-operations stmts = counts (map code stmts)
-
--- what statements do, where the first operation has the number n
-abbrev pub meaning : List Stmt → ℕ → State → Result State Abort
-meaning stmts = runs (map code stmts)
+-- what a procedure does
+abbrev pub meaning : Proc → State → Result State Abort
+meaning proc = runs (unrolled proc) 0
 
 -- what a call makes of the tables, or its abort
 abbrev pub called : Proc → List Value → Tables → Result Tables Abort
-called proc args tables = meaning proc.body 0 (opening args tables) >>= λ s. Ok s.tables
+called proc args tables = meaning proc (opening args tables) >>= λ s. Ok s.tables

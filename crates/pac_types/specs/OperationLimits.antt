@@ -2,6 +2,7 @@
 use Rattle.std.specs.Prelude.{◌≡◌, ◌≤◌, ◌<◌, ◌+◌, ℕ, nat_lt, if◌then◌else◌, List, take, slice_get, sum_by, All, Option, Some, None}
 use Rattle.std.specs.Option.{option_and_then}
 use Rattle.pac_ops.specs.declared.limits.TheConstants.{MAX_OPS, MAX_ALL_OPS}
+use Rattle.pac_types.specs.declared.count.TheConstants.{MAX_COUNT}
 use Rattle.pac_types.specs.declared.procedure.Proc.{Proc}
 use Rattle.pac_types.specs.Meaning.{operations}
 
@@ -14,10 +15,14 @@ pub record HasFewOperations (procs : List Proc) : Type 0 where
   pub each : All (λ proc. operations proc.body ≤ MAX_OPS) procs
   pub all : all_operations procs ≤ MAX_ALL_OPS
 
+-- a number of operations as it is told: a million stands for all larger ones
+abbrev pub told : ℕ → ℕ
+told n = if nat_lt n MAX_COUNT then n else MAX_COUNT
+
 -- how many operations are too many: its own, where a procedure has more than 256; else those up to its end, where these are
 -- more than 4,096; None where neither is so
 abbrev pub excess : ℕ → ℕ → Option ℕ
-excess own up_to = if nat_lt MAX_OPS own then Some own else (if nat_lt MAX_ALL_OPS up_to then Some up_to else None)
+excess own up_to = if nat_lt MAX_OPS own then Some (told own) else (if nat_lt MAX_ALL_OPS up_to then Some (told up_to) else None)
 
 -- how many are too many at the procedure with this number, if any are
 abbrev pub excess_at : List Proc → ℕ → Option ℕ

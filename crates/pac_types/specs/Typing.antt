@@ -1,5 +1,5 @@
 -- When a tree is typed, and which catalogue it has then.
-use Rattle.std.specs.Prelude.{◌≡◌, ◌≤◌, ◌<◌, ◌^◌, List, length, map, All, IsTrue, Some}
+use Rattle.std.specs.Prelude.{◌≡◌, ◌≤◌, List, length, map, All, IsTrue, Some}
 use Rattle.std.specs.List.{AllZip, range_with_len}
 use Rattle.pac_value.specs.declared.limits.TheConstants.{MAX_COLUMNS, MAX_PARAMS}
 use Rattle.pac_syntax.specs.declared.tree.TableNode.{TableNode}
@@ -11,7 +11,6 @@ use Rattle.pac_types.specs.declared.table.Table.{Table}
 use Rattle.pac_types.specs.declared.procedure.Proc.{Proc}
 use Rattle.pac_types.specs.Numbering.{AreDistinct, table_of, variables, proc_of}
 use Rattle.pac_types.specs.WellFormed.{IsWellFormedProc}
-use Rattle.pac_types.specs.Meaning.{operations}
 use Rattle.pac_types.specs.Variables.{defined_variables}
 
 -- what a catalogue is seen as
@@ -54,12 +53,11 @@ pub record IsWellFormedTable (table : Table) : Type 0 where
   pub key : IsTrue (is_stored_type table.key)
   pub columns : All (λ column. IsTrue (is_stored_type column.ty)) table.columns
 
--- a procedure has at most 16 parameters, which are ints or texts, and well-formed statements, whose operations have numbers
--- of 16 bits; the variables that these define, hidden ones among them, have one number after another in the order of the
--- text, from the first after the parameters on
+-- a procedure has at most 16 parameters, which are ints or texts, and well-formed statements; the variables that these
+-- define, hidden ones and those of loops among them, have one number after another in the order of the text, from the
+-- first after the parameters on
 pub record IsProc (tables : List Table) (proc : Proc) : Type 0 where
   pub few : length proc.params ≤ MAX_PARAMS
   pub params : All (λ column. IsTrue (is_stored_type column.ty)) proc.params
   pub well_formed : IsWellFormedProc tables proc
-  pub counted : operations proc.body < 2 ^ 16
   pub numbered : defined_variables proc.body ≡ range_with_len (length proc.params) (length (defined_variables proc.body))

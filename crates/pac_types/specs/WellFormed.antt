@@ -2,7 +2,7 @@
 use Rattle.std.specs.Prelude.{ℕ, Bool, true, false, ◌&&◌, ◌||◌, ◌==◌, if◌then◌else◌, List, [], ◌∷◌, map, length, slice_get, Option, Some, None, IsSome, is_some}
 use Rattle.std.specs.Option.{option_map, option_and_then}
 use Rattle.pac_value.specs.declared.values.Ty.{Ty}
-use Rattle.pac_value.specs.declared.values.Ty.TheVariants.{Bool as BoolTy}
+use Rattle.pac_value.specs.declared.values.Ty.TheVariants.{Int as IntTy, Bool as BoolTy}
 use Rattle.pac_value.specs.declared.expr.Expr.{Expr}
 use Rattle.pac_value.specs.Values.{type_of}
 use Rattle.pac_value.specs.Expressions.{type_in}
@@ -11,7 +11,7 @@ use Rattle.pac_types.specs.declared.table.Column.{Column}
 use Rattle.pac_types.specs.declared.table.Table.{Table}
 use Rattle.pac_types.specs.declared.procedure.Proc.{Proc}
 use Rattle.pac_types.specs.declared.statement.Stmt.{Stmt}
-use Rattle.pac_types.specs.declared.statement.Stmt.TheOpen.{Stmt-F, Let, Read, Has, Put, Set, Delete, AbortIf, If}
+use Rattle.pac_types.specs.declared.statement.Stmt.TheOpen.{Stmt-F, Let, Read, Has, Put, Set, Delete, AbortIf, If, For}
 use Rattle.pac_types.specs.declared.statement.Stmt.TheFolds.{fold-Stmt}
 
 -- the types of columns or parameters
@@ -73,6 +73,14 @@ well_formed_conditional x e first second = record {
       (without (any_defines first) (without (any_defines second) (with_var scope x BoolTy)));
 }
 
+-- a loop: its variable is an int in the block, at whose beginning nothing is visible of what it defines, as it may have run
+-- before; neither the variable nor what the block defines is visible after it
+abbrev pub well_formed_loop : ℕ → List Check → Check
+well_formed_loop x body = record {
+  defines = λ y. y == x || any_defines body y;
+  after = λ scope. if_so (is_some (in_order body (with_var (without (any_defines body) scope) x IntTy))) (without (λ y. y == x || any_defines body y) scope);
+}
+
 abbrev pub check_step : List Table → Stmt-F Check → Check
 check_step tables (Let x e) = defining x (λ scope. option_map (with_var scope x) (type_in scope e))
 check_step tables (Read x t k c default) = defining x (λ scope.
@@ -84,6 +92,7 @@ check_step tables (Set t k c e) = well_formed_plain (λ scope. if_so (is_wanted 
 check_step tables (Delete t k) = well_formed_plain (λ scope. if_so (is_wanted (type_in scope k) (key_type tables t)) scope)
 check_step tables (AbortIf e) = well_formed_plain (λ scope. if_so (is_bool (type_in scope e)) scope)
 check_step tables (If x e first second) = well_formed_conditional x e first second
+check_step tables (For x from to body) = well_formed_loop x body
 
 abbrev pub check : List Table → Stmt → Check
 check tables = fold-Stmt Check (check_step tables)

@@ -44,7 +44,7 @@ mod type_error;
 
 pub use catalogue::Catalogue;
 pub use checker::check;
-pub use count::count_operations;
+pub use count::{MAX_COUNT, count_operations};
 pub use procedure::Proc;
 pub use statement::{Exprs, Stmt, Stmts};
 pub use table::{Column, Columns, Table};

@@ -61,6 +61,14 @@ pub enum Stmt {
         first: Stmts,
         second: Stmts,
     },
+    /// Runs its block once for each whole number from `from` on and below `to`, ascending. In the block the variable has
+    /// that number.
+    For {
+        var: u16,
+        from: i64,
+        to: i64,
+        body: Stmts,
+    },
 }
 
 impl Exact for Stmt {
@@ -122,6 +130,17 @@ impl Exact for Stmt {
                 test: test.copy(alloc)?,
                 first: copy_all(alloc, first.as_slice())?,
                 second: copy_all(alloc, second.as_slice())?,
+            },
+            Stmt::For {
+                var,
+                from,
+                to,
+                body,
+            } => Stmt::For {
+                var: *var,
+                from: *from,
+                to: *to,
+                body: copy_all(alloc, body.as_slice())?,
             },
         })
     }
