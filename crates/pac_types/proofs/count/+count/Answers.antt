@@ -1,5 +1,6 @@
 -- A loop is counted as its turns and its block are.
-use Rattle.std.proofs.Common.{◌≡◌, ◌*◌, map, ap, sym, ◌∙◌, List, ℕ}
+use Rattle.std.proofs.Common.{◌≡◌, ◌*◌, map, ap, sym, ◌∙◌, List, ℕ, FitsSigned, w64, rules}
+use Rattle.std.proofs.lemmas.Int.{to_z-of_z}
 use Rattle.pac_types.specs.declared.statement.Stmt.{Stmt}
 use Rattle.pac_types.specs.Unrolled.{turns}
 use Rattle.pac_types.specs.Meaning.{count_step, operations}
@@ -10,7 +11,11 @@ use Rattle.pac_types.proofs.count.+count.Goals as goal
 
 pub count_one-returns-in-For : goal.count_one-returns-in-For
 count_one-returns-in-For t c =
-    let n = turns c.in-For.from c.in-For.to in
+    let from = c.in-For.from in
+    let to = c.in-For.to in
+    let fits_from : FitsSigned w64 from = search rules in
+    let fits_to : FitsSigned w64 to = search rules in
+    let many : c.count_turns.result ≡ told (turns from to) = c.count_turns.ensures ∙ (λ i. told (turns (to_z-of_z w64 from fits_from i) (to_z-of_z w64 to fits_to i))) in
     let block : c.count_operations-in-For.result ≡ told (operations c.in-For.body) = c.count_operations-in-For.ensures ∙ ap (λ (ss : List Stmt). told (operations ss)) c.as_slice-in-For.ensures in
-    c.product.ensures ∙ (λ i. told (c.count_turns.ensures i * block i)) ∙ told-product n (operations c.in-For.body)
-    ∙ ap told (sym (at-For ℕ count_step c.args.stmt.now c.in-For.var c.in-For.from c.in-For.to c.in-For.body c.in-For.is))
+    c.product.ensures ∙ (λ i. told (many i * block i)) ∙ told-product (turns from to) (operations c.in-For.body)
+    ∙ ap told (sym (at-For ℕ count_step c.args.stmt.now c.in-For.var from to c.in-For.body c.in-For.is))
