@@ -1,4 +1,6 @@
 pub mod StmtForms
+pub mod StmtShapes
+pub mod UnrolledLemmas
 pub mod ScopeLemmas
 pub mod WellFormedLemmas
 pub mod NameLemmas

@@ -1,6 +1,6 @@
 -- Statements without loops: a turn of a loop is its block with the loop's variable replaced by its number, and the operations
 -- and the variables of each turn have numbers of their own.
-use Rattle.std.specs.Prelude.{ℕ, zero, suc, ◌+◌, ◌==◌, ℤ, pos, negsuc, ◌+ℤ◌, ◌-ℤ◌, if◌then◌else◌, List, [], ◌∷◌, map, length}
+use Rattle.std.specs.Prelude.{ℕ, zero, suc, ◌+◌, ◌==◌, ℤ, pos, negsuc, ◌+ℤ◌, ◌-ℤ◌, if◌then◌else◌, List, [], ◌∷◌, map, length, Option, Some, None}
 use Rattle.pac_value.specs.declared.values.Value.{Value}
 use Rattle.pac_value.specs.declared.values.Value.TheVariants.{Int}
 use Rattle.pac_value.specs.declared.expr.Expr.{Expr}
@@ -9,6 +9,7 @@ use Rattle.pac_value.specs.declared.expr.Expr.TheOpen.{Expr-F, Lit, Var, Bin, No
 use Rattle.pac_value.specs.declared.expr.Expr.TheFolds.{fold-Expr}
 use Rattle.pac_ops.specs.declared.program.OpKind.{OpKind}
 use Rattle.pac_ops.specs.declared.program.OpKind.TheVariants as kind
+use Rattle.pac_ops.specs.Uses.{defined_variable}
 use Rattle.pac_types.specs.declared.procedure.Proc.{Proc}
 use Rattle.pac_types.specs.declared.statement.Stmt.{Stmt}
 use Rattle.pac_types.specs.declared.statement.Stmt.TheOpen.{Stmt-F, Let, Read, Has, Put, Set, Delete, AbortIf, If, For}
@@ -97,12 +98,25 @@ abbrev pub in_turns : ℕ → List Unrolling → List ℤ → Point → Steps �
 in_turns x body [] p rest = rest
 in_turns x body (i ∷ is) p rest = in_steps body (with_turn x i p) (in_turns x body is (all_after body (with_turn x i p)) rest)
 
--- an operation that defines a variable, and one that defines none
-abbrev pub unroll_defining : ℕ → (Point → OpKind) → Unrolling
-unroll_defining x kind = record { after = with_next x; steps = λ p rest. Op (kind p) rest }
+-- an operation over what its variables stand for, which defines the next variable, if it defines one
+abbrev pub renamed_kind : Point → OpKind → OpKind
+renamed_kind p (kind.Let x e) = kind.Let p.next (renamed p.names e)
+renamed_kind p (kind.Cond x e) = kind.Cond p.next (renamed p.names e)
+renamed_kind p (kind.Read x t k c d) = kind.Read p.next t (renamed p.names k) c d
+renamed_kind p (kind.Has x t k) = kind.Has p.next t (renamed p.names k)
+renamed_kind p (kind.Put t k es) = kind.Put t (renamed p.names k) (map (renamed p.names) es)
+renamed_kind p (kind.SetCol t k c e) = kind.SetCol t (renamed p.names k) c (renamed p.names e)
+renamed_kind p (kind.Delete t k) = kind.Delete t (renamed p.names k)
+renamed_kind p (kind.AbortIf e) = kind.AbortIf (renamed p.names e)
 
-abbrev pub unroll_plain : (Point → OpKind) → Unrolling
-unroll_plain kind = record { after = λ p. p; steps = λ p rest. Op (kind p) rest }
+-- from now on the variable that is defined, if any, stands for the next
+abbrev pub with_defined : Option ℕ → Point → Point
+with_defined None p = p
+with_defined (Some x) p = with_next x p
+
+-- a statement that is one operation
+abbrev pub unroll_one : OpKind → Unrolling
+unroll_one kind = record { after = with_defined (defined_variable kind); steps = λ p rest. Op (renamed_kind p kind) rest }
 
 -- a conditional's hidden variable comes before those of its blocks
 abbrev pub unroll_conditional : ℕ → Expr → List Unrolling → List Unrolling → Unrolling
@@ -116,13 +130,13 @@ abbrev pub unroll_loop : ℕ → List ℤ → List Unrolling → Unrolling
 unroll_loop x numbers body = record { after = after_turns x body numbers; steps = in_turns x body numbers }
 
 abbrev pub unroll_step : Stmt-F Unrolling → Unrolling
-unroll_step (Let x e) = unroll_defining x (λ p. kind.Let p.next (renamed p.names e))
-unroll_step (Read x t k c d) = unroll_defining x (λ p. kind.Read p.next t (renamed p.names k) c d)
-unroll_step (Has x t k) = unroll_defining x (λ p. kind.Has p.next t (renamed p.names k))
-unroll_step (Put t k es) = unroll_plain (λ p. kind.Put t (renamed p.names k) (map (renamed p.names) es))
-unroll_step (Set t k c e) = unroll_plain (λ p. kind.SetCol t (renamed p.names k) c (renamed p.names e))
-unroll_step (Delete t k) = unroll_plain (λ p. kind.Delete t (renamed p.names k))
-unroll_step (AbortIf e) = unroll_plain (λ p. kind.AbortIf (renamed p.names e))
+unroll_step (Let x e) = unroll_one (kind.Let x e)
+unroll_step (Read x t k c d) = unroll_one (kind.Read x t k c d)
+unroll_step (Has x t k) = unroll_one (kind.Has x t k)
+unroll_step (Put t k es) = unroll_one (kind.Put t k es)
+unroll_step (Set t k c e) = unroll_one (kind.SetCol t k c e)
+unroll_step (Delete t k) = unroll_one (kind.Delete t k)
+unroll_step (AbortIf e) = unroll_one (kind.AbortIf e)
 unroll_step (If x e first second) = unroll_conditional x e first second
 unroll_step (For x from to body) = unroll_loop x (numbers from to) body
 
