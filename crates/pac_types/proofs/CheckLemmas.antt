@@ -1,11 +1,12 @@
 -- What the code does, one step at a time.
-use Rattle.std.proofs.Common.{◌≡◌, ◌<◌, ◌≤◌, ℕ, ◌+◌, ◌-◌, zero, suc, List, [], ◌∷◌, ◌++◌, length, take, drop, set, get_or, replicate, map, Result, Ok, Err, refl, sym, ap, ◌∙◌, arith, append_assoc, drop-cons, add-one, length-append, length-take}
+use Rattle.std.proofs.Common.{◌≡◌, ◌<◌, ◌≤◌, ℕ, ◌+◌, ◌-◌, zero, suc, ℤ, List, [], ◌∷◌, ◌++◌, length, take, drop, set, get_or, replicate, map, Result, Ok, Err, refl, sym, ap, ◌∙◌, arith, append_assoc, drop-cons, add-one, length-append, length-take}
 use Rattle.std.specs.List.{flat_map}
 use Rattle.std.proofs.lemmas.List.{length-replicate}
+use Rattle.pac_syntax.specs.declared.tree.NameNode.{NameNode}
 use Rattle.pac_syntax.specs.declared.tree.ExprNode.{ExprNode}
-use Rattle.pac_syntax.specs.declared.tree.StmtNode.{StmtNode, If}
+use Rattle.pac_syntax.specs.declared.tree.StmtNode.{StmtNode, If, For}
 use Rattle.pac_syntax.specs.Limits.{size, size_step, sizes}
-use Rattle.pac_syntax.proofs.NodeForms.{fold-If}
+use Rattle.pac_syntax.proofs.NodeForms.{fold-If, fold-For}
 use Rattle.pac_syntax.specs.declared.tree.ProcNode.{ProcNode}
 use Rattle.pac_value.specs.Expressions.{◌>>=◌}
 use Rattle.pac_types.specs.declared.table.Table.{Table}
@@ -18,6 +19,10 @@ use Rattle.pac_types.specs.Checking.{once, checked_proc, checked_procs}
 pub size_of_if : (test : ExprNode) (first second : List StmtNode) → size (If test first second) ≡ suc (sizes first + sizes second)
 size_of_if test first second = fold-If ℕ size_step test first second
 
+-- and so is a loop
+pub size_of_for : (name : NameNode) (from to : ℤ) (body : List StmtNode) → size (For name from to body) ≡ suc (sizes body)
+size_of_for name from to body = fold-For ℕ size_step name from to body
+
 -- ---- names
 
 pub joined-map : (nodes : List StmtNode) → joined_names (map defined nodes) ≡ flat_map defined nodes
@@ -26,6 +31,9 @@ joined-map (n ∷ ns) = ap (λ names. defined n ++ names) (joined-map ns)
 
 pub defined-If : (node : StmtNode) (test : ExprNode) (first second : List StmtNode) → node ≡ If test first second → defined node ≡ flat_map defined first ++ flat_map defined second
 defined-If node test first second is = ap defined is ∙ fold-If (List (List ℕ)) defined_step test first second ∙ ap (λ names. names ++ joined_names (map defined second)) (joined-map first) ∙ ap (λ names. flat_map defined first ++ names) (joined-map second)
+
+pub defined-For : (node : StmtNode) (name : NameNode) (from to : ℤ) (body : List StmtNode) → node ≡ For name from to body → defined node ≡ name.name ∷ flat_map defined body
+defined-For node name from to body is = ap defined is ∙ fold-For (List (List ℕ)) defined_step name from to body ∙ ap (λ names. name.name ∷ names) (joined-map body)
 
 -- ---- one item after another is replaced
 

@@ -32,6 +32,7 @@ step_few (form.Set table key column value) = omega arith
 step_few (form.Delete table key) = omega arith
 step_few (form.AbortIf test) = omega arith
 step_few (form.If test first second) = omega (arith, few_joined first, few_joined second, length-append (in_a_row (map defined (nodes_of first))) (in_a_row (map defined (nodes_of second))))
+step_few (form.For name from to body) = omega (arith, few_joined body)
 
 few : (node : StmtNode) → length (defined node) ≤ size node
 few = ind-StmtNode (λ node. length (defined node) ≤ size node) (λ x y is. subst (λ z. length (defined (roll-StmtNode z)) ≤ size (roll-StmtNode z)) is

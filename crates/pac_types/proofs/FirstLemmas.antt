@@ -1,10 +1,12 @@
 -- Checking from left to right meets the first fault of a tree.
-use Rattle.std.proofs.Common.{◌≡◌, ℕ, suc, ◌+◌, List, [], ◌∷◌, ◌++◌, length, replicate, map, Option, Some, None, Result, Ok, Err, refl, sym, ap, subst, ◌∙◌, arith, append_assoc, length-append, inl, inr, ◌⊎◌, ◌≤◌, ◌<◌}
-use Rattle.std.proofs.lemmas.List.{append-nil, length-replicate}
-use Rattle.pac_value.specs.declared.values.Ty.TheVariants.{Bool as BoolTy}
+use Rattle.std.proofs.Common.{◌≡◌, ℕ, suc, ℤ, ◌+◌, List, [], ◌∷◌, ◌++◌, length, replicate, map, Option, Some, None, Result, Ok, Err, refl, sym, ap, subst, ◌∙◌, arith, append_assoc, length-append, inl, inr, ◌⊎◌, ◌≤◌, ◌<◌}
+use Rattle.std.specs.Option.{option_map}
+use Rattle.std.proofs.lemmas.List.{append-nil, length-replicate, length-map}
+use Rattle.pac_value.specs.declared.values.Ty.TheVariants.{Int as IntTy, Bool as BoolTy}
 use Rattle.pac_value.specs.Values.{type_of}
 use Rattle.pac_value.specs.declared.expr.Expr.{Expr}
 use Rattle.pac_value.specs.Expressions.{◌>>=◌}
+use Rattle.pac_syntax.specs.declared.tree.NameNode.{NameNode}
 use Rattle.pac_syntax.specs.declared.tree.ColumnNode.{ColumnNode}
 use Rattle.pac_syntax.specs.declared.tree.StmtNode.{StmtNode}
 use Rattle.pac_syntax.specs.declared.tree.StmtNode.TheOpen as form
@@ -19,9 +21,9 @@ use Rattle.pac_types.specs.declared.type_error.TypeFault.{TypeFault}
 use Rattle.pac_types.specs.declared.checker.scope.Variable.{Variable}
 use Rattle.pac_types.specs.declared.table.Table.{Table}
 use Rattle.pac_types.specs.declared.procedure.Proc.{Proc}
-use Rattle.pac_types.specs.declared.statement.Stmt.{Stmt, Delete, AbortIf, If}
+use Rattle.pac_types.specs.declared.statement.Stmt.{Stmt, Delete, AbortIf, If, For}
 use Rattle.pac_types.specs.Numbering.{table_number, variables, column_of, table_of}
-use Rattle.pac_types.specs.Faults.{twice, cell_faults, column_faults, column_wanted, wrong_type, is_fitting, Known, out_of_sight, is_test, placed, judged, Ruled, ruled_names, all_faults, ruled_plain, ruled_branching, rule_step, ruled, names_faults, tables_faults, params_known, proc_faults, procs_faults, tree_faults, IsAmong, Stands, IsFirstTypeFault}
+use Rattle.pac_types.specs.Faults.{twice, cell_faults, column_faults, column_wanted, wrong_type, is_fitting, Known, out_of_sight, is_test, placed, judged, Ruled, ruled_names, all_faults, ruled_plain, ruled_branching, ruled_looping, rule_step, ruled, names_faults, tables_faults, params_known, proc_faults, procs_faults, tree_faults, IsAmong, Stands, IsFirstTypeFault}
 use Rattle.pac_types.specs.Checking.{ScopeState, Reported, once, with_variable, left_at, checked_test, checked_cell, checked_put, run_all, block, checked_stmt_step, checked_stmt, checked_block, all_once, names_of, checked_tables, checked_params, checked_proc, checked_procs, opening_scope}
 use Rattle.pac_types.proofs.BlockLemmas.{left_is}
 use Rattle.pac_types.proofs.TreeLemmas.{variables_from}
@@ -127,6 +129,37 @@ module _ (names : List (List ℕ)) where
     if_agrees (Err f) p = (p.0 ++ (middle ++ end), ap (λ zs. zs ++ (middle ++ end)) p.1)
     if_agrees (Ok e) p = first_agrees e p (block (checking first) (at names known (next + 1))) (block_agrees first all_first known (next + 1))
 
+  -- ---- loops
+
+  module _ (body : List Case) (all_body : AllAgree body) (name : NameNode) (from to : ℤ) (known : List (Option Variable)) (next : ℕ) where
+    abbrev within : List (Option Variable)
+    within = known ++ Some (record { number = next; ty = IntTy }) ∷ []
+
+    abbrev loop : Ruled
+    loop = ruled_looping (λ k. twice names (length k) name) (ruling body)
+
+    abbrev in_block : List TypeFault
+    in_block = all_faults (ruling body) (known_types known ++ Some (Some IntTy) ∷ [])
+
+    same_types : known_types within ≡ known_types known ++ Some (Some IntTy) ∷ []
+    same_types = types-append known (Some (record { number = next; ty = IntTy }) ∷ [])
+
+    block_then : twice names (length (known_types known)) name ≡ [] → (r : Reported-all) → BlockAgrees (ruling body) within r → StmtAgrees names loop known (r >>= λ b. Ok (For next from to b.0, left_at (length known) b.1))
+    block_then clean (Ok b) p = (
+      (λ i. clean i ++ (ap (λ zs. all_faults (ruling body) zs) (sym same_types) ∙ p.0) i),
+      None ∷ replicate (ruled_names (ruling body)) None,
+      p.1,
+      ap (λ st. left_at (length known) st) (p.2 ∙ (λ i. at names (append_assoc known (Some (record { number = next; ty = IntTy }) ∷ []) (replicate (ruled_names (ruling body)) None) i) p.1))
+          ∙ left_is [] names known (Some (record { number = next; ty = IntTy }) ∷ replicate (ruled_names (ruling body)) None) (suc (ruled_names (ruling body))) p.1 (ap suc (length-replicate {A = Option Variable} (ruled_names (ruling body)) None)),
+      types-unseen (suc (ruled_names (ruling body))),
+      ap suc (length-replicate {A = Option Variable} (ruled_names (ruling body)) None),
+    )
+    block_then clean (Err f) p = (p.0, λ i. clean i ++ (ap (λ zs. all_faults (ruling body) zs) (sym same_types) ∙ p.1) i)
+
+    for_agrees : (r : Result (Unit {0}) TypeFault) → Agree (twice names (length (known_types known)) name) r → StmtAgrees names loop known (r >>= λ _. block (checking body) (at names within (next + 1)) >>= λ b. Ok (For next from to b.0, left_at (length known) b.1))
+    for_agrees (Err f) p = (p.0 ++ in_block, ap (λ zs. zs ++ in_block) p.1)
+    for_agrees (Ok x) p = block_then p (block (checking body) (at names within (next + 1))) (block_agrees body all_body within (next + 1))
+
 -- ---- every statement
 
 module _ (tables : List Table) (names : List (List ℕ)) where
@@ -180,6 +213,12 @@ module _ (tables : List Table) (names : List (List ℕ)) where
         checked = λ scope. checked_stmt_step tables (form.If test (sym (checking_is first) i) (sym (checking_is second) i)) scope;
       })
       (if_agrees names (cases first) (cases second) (all_agree first) (all_agree second) (λ k. placed is_test (judged names k test)) known next _ (test_agrees names known next test))
+  step_agrees (form.For name from to body) known next =
+      subst (λ (c : Case). StmtAgrees names c.ruled known (c.checked (at names known next))) (λ i. record {
+        ruled = ruled_looping (λ k. twice names (length k) name) (sym (ruling_is body) i);
+        checked = λ scope. checked_stmt_step tables (form.For name from to (sym (checking_is body) i)) scope;
+      })
+      (for_agrees names (cases body) (all_agree body) name from to known next _ (subst (λ k. Agree (twice names k name) (once names (length known) name)) (sym (length-map known (λ o. option_map (λ v. Some v.ty) o))) (once_agrees names (length known) name)))
 
   stmt_agrees : (node : StmtNode) → Agrees names (case_of node)
   stmt_agrees = ind-StmtNode (λ node. Agrees names (case_of node)) (λ x y is. subst (λ z. Agrees names (case_of (roll-StmtNode z))) is

@@ -9,6 +9,7 @@ pub mod ExprLemmas
 pub mod PartLemmas
 pub mod StmtLemmas
 pub mod BlockLemmas
+pub mod LoopLemmas
 pub mod TreeLemmas
 pub mod CountLemmas
 pub mod ToldLemmas

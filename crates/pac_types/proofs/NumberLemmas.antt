@@ -9,10 +9,10 @@ use Rattle.pac_syntax.specs.declared.tree.StmtNode.TheOpen.{StmtNode-F}
 use Rattle.pac_syntax.specs.declared.tree.StmtNode.TheViews.{roll-StmtNode}
 use Rattle.pac_syntax.specs.declared.tree.StmtNode.TheFolds.{fold-roll-StmtNode, ind-StmtNode, map-StmtNode}
 use Rattle.pac_types.specs.declared.table.Table.{Table}
-use Rattle.pac_types.specs.declared.statement.Stmt.{Stmt, Let, Read, Has, Put, Set, Delete, AbortIf, If}
+use Rattle.pac_types.specs.declared.statement.Stmt.{Stmt, Let, Read, Has, Put, Set, Delete, AbortIf, If, For}
 use Rattle.pac_types.specs.Variables.{variables_step, stmt_variables, defined_variables}
 use Rattle.pac_types.specs.Numbering.{Numbered, Sight, numbered, number_step, in_turn, body_of, variables_in, all_names, resolved, resolved_all, table_number, column_number, unseen}
-use Rattle.pac_types.proofs.StmtForms.{at-Let, at-Read, at-Has, at-Put, at-Set, at-Delete, at-AbortIf, at-If}
+use Rattle.pac_types.proofs.StmtForms.{at-Let, at-Read, at-Has, at-Put, at-Set, at-Delete, at-AbortIf, at-If, at-For}
 use Rattle.pac_types.proofs.PartLemmas.{map_is, then_is, cell_is}
 use Rattle.pac_types.proofs.BlockLemmas.{turn_is, if_is}
 use Rattle.pac_types.proofs.ExprLemmas.{some_is}
@@ -87,6 +87,12 @@ module _ (tables : List Table) (names : List (List ℕ)) where
       ∙ ap (λ xs. next ∷ xs ++ defined_variables p.2) (run_numbers ns (each first) sight (next + 1) p.1 p.4)
       ∙ ap (λ xs. next ∷ range_with_len (next + 1) (variables_in ns) ++ xs) (run_numbers ms (each second) (sight ++ unseen (all_names ns)) (next + 1 + variables_in ns) p.2 p.5)
       ∙ ap (λ xs. next ∷ xs) (run-append (next + 1) (variables_in ns) (variables_in ms)) ∙ ap (range_with_len next) one
+  step_numbers (form.For name from to body) sight next s h =
+      let ns = numbering_of body in
+      let p = map_is (λ b. For next from to b) (in_turn ns (sight ++ Some next ∷ []) (next + 1)) s h in
+      let one : suc (variables_in ns) ≡ 1 + variables_in ns = omega arith in
+      known_by s (For next from to p.0) (next ∷ defined_variables p.0) p.2 (at-For (List ℕ) variables_step (For next from to p.0) next from to p.0 refl)
+      ∙ ap (λ xs. next ∷ xs) (run_numbers ns (each body) (sight ++ Some next ∷ []) (next + 1) p.0 p.1) ∙ ap (range_with_len next) one
 
   takes_numbers : (node : StmtNode) → TakesNumbers (numbered tables names node)
   takes_numbers = ind-StmtNode (λ node. TakesNumbers (numbered tables names node)) (λ x y is. subst (λ z. TakesNumbers (numbered tables names (roll-StmtNode z))) is

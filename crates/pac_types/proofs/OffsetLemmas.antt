@@ -166,6 +166,7 @@ module _ (tables : List Table) (names : List (List ℕ)) where
   step_along (form.Delete table key) known = cell_along known table key
   step_along (form.AbortIf test) known = here_along names known _ test
   step_along (form.If test first second) known = both_along _ _ _ _ (here_along names known _ test) (both_along _ _ _ _ (run_along first known) (run_along second _))
+  step_along (form.For name from to body) known = both_along _ _ (Own name.at ∷ []) _ (one_along _ name.at _) (run_along body _)
 
   pub stmt_along : (node : StmtNode) (known : Known) → Along ((ruled tables names node).faults known) (stmt_offsets node)
   stmt_along = ind-StmtNode (λ node. (known : Known) → Along ((ruled tables names node).faults known) (stmt_offsets node)) (λ x y is. subst (λ z. (known : Known) → Along ((ruled tables names (roll-StmtNode z)).faults known) (stmt_offsets (roll-StmtNode z))) is

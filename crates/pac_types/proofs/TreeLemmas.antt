@@ -19,7 +19,7 @@ use Rattle.pac_types.specs.declared.checker.scope.Variable.{Variable}
 use Rattle.pac_types.specs.declared.table.Table.{Table}
 use Rattle.pac_types.specs.declared.procedure.Proc.{Proc}
 use Rattle.pac_types.specs.declared.statement.Stmt.{Stmt}
-use Rattle.pac_types.specs.Numbering.{AreDistinct, number_of, table_number, column_number, column_of, Numbered, in_a_row, defined, defined_step, numbered, number_step, branching, in_turn, body_of, numbers_from, variables, resolved}
+use Rattle.pac_types.specs.Numbering.{AreDistinct, number_of, table_number, column_number, column_of, Numbered, in_a_row, defined, defined_step, numbered, number_step, branching, looping, in_turn, body_of, numbers_from, variables, resolved}
 use Rattle.pac_types.specs.WellFormed.{IsWellFormedProc, check, in_order, scope_of, types}
 use Rattle.pac_value.specs.Scopes.{Scope}
 use Rattle.pac_types.specs.Typing.{IsProcOf}
@@ -31,6 +31,7 @@ use Rattle.pac_types.proofs.ExprLemmas.{numbers_of, said, Fit, test_passed, want
 use Rattle.pac_types.proofs.PartLemmas.{drop_first}
 use Rattle.pac_types.proofs.StmtLemmas.{at, Start, Wide, plain_reported, naming_reported, not_before, is_there, let_reported, read_reported, has_reported, put_reported, set_reported, delete_reported, abort_reported, cell_of_node, field_of_node}
 use Rattle.pac_types.proofs.BlockLemmas.{Piece, numbering, checking, defining, Holds, AllHold, BlockReported, block_reported, if_reported}
+use Rattle.pac_types.proofs.LoopLemmas.{for_reported}
 
 -- ---- statements
 
@@ -93,6 +94,14 @@ module _ (tables : List Table) (names : List (List ℕ)) (wide : Wide tables nam
         checked = λ scope. checked_stmt_step tables (form.If test (sym (checking_is first) i) (sym (checking_is second) i)) scope;
       })
       (λ known next scope rest start. if_reported tables names (pieces first) (pieces second) (all_hold first) (all_hold second) (λ sight. resolved names sight test) known next scope rest start _ (test_passed names known next scope start.fit test))
+      known next scope rest start
+  step_holds (form.For name from to body) known next scope rest start =
+      subst (Holds tables names) (λ i. record {
+        numbered = looping from to (sym (numbering_is body) i);
+        defined = name.name ∷ sym (defining_is body) i;
+        checked = λ scope. checked_stmt_step tables (form.For name from to (sym (checking_is body) i)) scope;
+      })
+      (λ known next scope rest start. for_reported tables names (pieces body) (all_hold body) name from to known next scope rest start)
       known next scope rest start
 
   pub stmt_holds : (node : StmtNode) → Holds tables names (piece node)

@@ -44,7 +44,7 @@ pub in_order-within : (cs : List Check) → AllGrow cs → (f g : Scope) → Wit
 in_order-within [] all f g w = w
 in_order-within (c ∷ cs) all f g w = then_within cs (in_order-within cs all.1) (c.after f) (c.after g) (all.0 f g w)
 
-is_some-within : (a b : Option Scope) → ScopeWithin a b → is_some a ≡ true → is_some b ≡ true
+pub is_some-within : (a b : Option Scope) → ScopeWithin a b → is_some a ≡ true → is_some b ≡ true
 is_some-within None b w h = cc
 is_some-within (Some f) None w h = absurd w
 is_some-within (Some f) (Some g) w h = refl

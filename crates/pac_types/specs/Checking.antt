@@ -23,7 +23,7 @@ use Rattle.pac_syntax.specs.declared.tree.StmtNode.TheOpen.{StmtNode-F}
 use Rattle.pac_syntax.specs.declared.tree.StmtNode.TheFolds.{fold-StmtNode}
 use Rattle.pac_types.specs.declared.table.Table.{Table}
 use Rattle.pac_types.specs.declared.procedure.Proc.{Proc}
-use Rattle.pac_types.specs.declared.statement.Stmt.{Stmt, Let, Read, Has, Put, Set, Delete, AbortIf, If}
+use Rattle.pac_types.specs.declared.statement.Stmt.{Stmt, Let, Read, Has, Put, Set, Delete, AbortIf, If, For}
 use Rattle.pac_types.specs.declared.type_error.TypeFault.{TypeFault}
 use Rattle.pac_types.specs.declared.type_error.TypeFaultKind.{TypeFaultKind}
 use Rattle.pac_types.specs.declared.type_error.TypeFaultKind.TheVariants.{UnknownName, Twice, WrongType, WrongCount, OutOfScope}
@@ -188,6 +188,8 @@ checked_stmt_step tables (form.Set table key column value) scope = checked_field
 checked_stmt_step tables (form.Delete table key) scope = checked_cell tables scope table key >>= λ c. Ok (Delete c.0 c.1, scope)
 checked_stmt_step tables (form.AbortIf test) scope = checked_test scope test >>= λ e. Ok (AbortIf e, scope)
 checked_stmt_step tables (form.If test first second) scope = checked_test scope test >>= λ e. block first (hidden_in scope) >>= λ a. block second a.1 >>= λ b. Ok (If scope.next e a.0 b.0, b.1)
+checked_stmt_step tables (form.For name from to body) scope =
+    first_time scope name >>= λ _. block body (with_variable IntTy scope) >>= λ b. Ok (For scope.next from to b.0, left_at (length scope.known) b.1)
 
 abbrev pub checked_stmt : List Table → StmtNode → ScopeState → Reported
 checked_stmt tables = fold-StmtNode (ScopeState → Reported) (checked_stmt_step tables)

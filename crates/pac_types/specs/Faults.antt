@@ -1,5 +1,5 @@
 -- The faults that stand in a tree, each at its offset. They are lists only as sets are: their order means nothing.
-use Rattle.std.specs.Prelude.{◌≡◌, ◌≤◌, ◌⊎◌, ℕ, ◌+◌, Bool, true, false, nat_lt, nat_eq, not, if◌then◌else◌, List, [], ◌∷◌, ◌++◌, length, replicate, map, slice_get, Option, Some, None}
+use Rattle.std.specs.Prelude.{◌≡◌, ◌≤◌, ◌⊎◌, ℕ, suc, ◌+◌, Bool, true, false, nat_lt, nat_eq, not, if◌then◌else◌, List, [], ◌∷◌, ◌++◌, length, replicate, map, slice_get, Option, Some, None}
 use Rattle.std.specs.Option.{option_and_then}
 use Rattle.pac_value.specs.declared.values.Ty.{Ty}
 use Rattle.pac_value.specs.declared.values.Ty.TheVariants.{Int as IntTy, Text as TextTy, Bool as BoolTy}
@@ -214,6 +214,14 @@ ruled_branching test first second = record {
   faults = λ known. test known ++ (all_faults first known ++ all_faults second (known ++ out_of_sight (ruled_names first)));
 }
 
+-- a loop's name is an int in its block; neither it nor what the block defines is visible after the loop
+abbrev pub ruled_looping : (Known → List TypeFault) → List Ruled → Ruled
+ruled_looping name body = record {
+  names = suc (ruled_names body);
+  shown = λ known. out_of_sight (suc (ruled_names body));
+  faults = λ known. name known ++ all_faults body (known ++ Some (Some IntTy) ∷ []);
+}
+
 abbrev pub cell_faults : List Table → (ExprNode → Judged) → NameNode → ExprNode → List TypeFault
 cell_faults tables judge table key = unknown (table_number tables table.name) table.at ++ placed (is_fitting (key_wanted tables (table_number tables table.name))) (judge key)
 
@@ -233,6 +241,7 @@ rule_step tables names (form.Set table key column value) = ruled_plain (λ known
 rule_step tables names (form.Delete table key) = ruled_plain (λ known. cell_faults tables (judged names known) table key)
 rule_step tables names (form.AbortIf test) = ruled_plain (λ known. placed is_test (judged names known test))
 rule_step tables names (form.If test first second) = ruled_branching (λ known. placed is_test (judged names known test)) first second
+rule_step tables names (form.For name from to body) = ruled_looping (λ known. twice names (length known) name) body
 
 -- a statement to the rules, over the tables and the names of its procedure
 abbrev pub ruled : List Table → List (List ℕ) → StmtNode → Ruled

@@ -1,5 +1,5 @@
 -- Names give way to numbers.
-use Rattle.std.specs.Prelude.{◌≢◌, ℕ, ◌+◌, List, [], ◌∷◌, ◌++◌, length, replicate, map, slice_get, Option, Some, None, bytes_eq, AllPairs}
+use Rattle.std.specs.Prelude.{◌≢◌, ℕ, suc, ◌+◌, ℤ, List, [], ◌∷◌, ◌++◌, length, replicate, map, slice_get, Option, Some, None, bytes_eq, AllPairs}
 use Rattle.std.specs.List.{position, flat_map}
 use Rattle.std.specs.Option.{option_map, option_and_then}
 use Rattle.pac_value.specs.declared.expr.Expr.{Expr, Lit, Var, Bin}
@@ -18,7 +18,7 @@ use Rattle.pac_syntax.specs.declared.tree.ProcNode.{ProcNode}
 use Rattle.pac_types.specs.declared.table.Column.{Column}
 use Rattle.pac_types.specs.declared.table.Table.{Table}
 use Rattle.pac_types.specs.declared.procedure.Proc.{Proc}
-use Rattle.pac_types.specs.declared.statement.Stmt.{Stmt, Let, Read, Has, Put, Set, Delete, AbortIf, If}
+use Rattle.pac_types.specs.declared.statement.Stmt.{Stmt, Let, Read, Has, Put, Set, Delete, AbortIf, If, For}
 
 -- no name stands twice
 abbrev pub AreDistinct : List (List ℕ) → Type 0
@@ -61,6 +61,7 @@ defined_step (form.Let name value) = name.name ∷ []
 defined_step (form.Read name table key column default) = name.name ∷ []
 defined_step (form.Has name table key) = name.name ∷ []
 defined_step (form.If test first second) = in_a_row first ++ in_a_row second
+defined_step (form.For name from to body) = name.name ∷ in_a_row body
 defined_step _ = []
 
 abbrev pub defined : StmtNode → List (List ℕ)
@@ -144,6 +145,15 @@ branching test first second = record {
       (in_turn second (sight ++ unseen (all_names first)) (n + 1 + variables_in first))) (in_turn first sight (n + 1))) (test sight);
 }
 
+-- a loop's variable comes before those of its block, in which it is visible; neither it nor they are visible after the loop
+abbrev pub looping : ℤ → ℤ → List Numbered → Numbered
+looping from to body = record {
+  names = suc (all_names body);
+  count = 1 + variables_in body;
+  shown = λ n. unseen (suc (all_names body));
+  stmt = λ sight n. option_map (λ b. For n from to b) (in_turn body (sight ++ Some n ∷ []) (n + 1));
+}
+
 abbrev pub number_step : List Table → List (List ℕ) → StmtNode-F Numbered → Numbered
 number_step tables names (form.Let name value) = naming (λ sight n. option_map (λ e. Let n e) (resolved names sight value))
 number_step tables names (form.Read name table key column default) = naming (λ sight n. cell_by (table_number tables table.name) (resolved names sight key)
@@ -156,6 +166,7 @@ number_step tables names (form.Set table key column value) = plain (λ sight n. 
 number_step tables names (form.Delete table key) = plain (λ sight n. cell_by (table_number tables table.name) (resolved names sight key) (λ t k. Some (Delete t k)))
 number_step tables names (form.AbortIf test) = plain (λ sight n. option_map (λ e. AbortIf e) (resolved names sight test))
 number_step tables names (form.If test first second) = branching (λ sight. resolved names sight test) first second
+number_step tables names (form.For name from to body) = looping from to body
 
 -- a statement to numbering
 abbrev pub numbered : List Table → List (List ℕ) → StmtNode → Numbered

@@ -43,6 +43,15 @@ fn add_name(names: &mut Vec<Name>, node: &StmtNode) -> Result<(), AllocError>
             add_names(names, first.as_slice())?;
             add_names(names, second.as_slice())?;
         }
+        StmtNode::For {
+            name,
+            from: _,
+            to: _,
+            body,
+        } => {
+            names.push(name.name)?;
+            add_names(names, body.as_slice())?;
+        }
         _ => {}
     }
     Ok(())

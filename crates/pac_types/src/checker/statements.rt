@@ -218,6 +218,25 @@ fn check_stmt(
                 second: listed(second),
             })
         }
+        StmtNode::For {
+            name,
+            from,
+            to,
+            body,
+        } => {
+            scope.once(name)?;
+            let start = scope.len();
+            let var = scope.define(Ty::Int)?;
+            let body = check_block(alloc, tables, scope, body.as_slice())?;
+            // The loop's name is visible in its block alone.
+            scope.leave(start);
+            Ok(Stmt::For {
+                var,
+                from: *from,
+                to: *to,
+                body: listed(body),
+            })
+        }
     }
 }
 
