@@ -11,3 +11,5 @@ pub mod NodeForms
 pub mod WithinLimits
 pub mod Ordered
 pub mod Trees
+pub mod DotsApart
+pub mod NoLoopsNeeded

@@ -5,3 +5,4 @@ pub mod Views
 pub mod Limits
 pub mod Reading
 pub mod Order
+pub mod WithoutLoops

@@ -22,18 +22,23 @@
 //! `only`, `fault`, `one`). `proofs/Trees.antt` shows what every tree keeps: the limits, and offsets in the order of
 //! the text.
 //!
+//! `specs/WithoutLoops.antt` is the grammar as it was before there were loops: [`texts_without_loops_stay`], a law without code,
+//! says that each text that was accepted is so still, with the same tree.
+//!
 //! The parser is proved against a machine that takes one token at a time (`specs/Machine.antt`), which no definition of
 //! what is read names: `proofs/Words.antt` and `proofs/Ends.antt` show that it accepts exactly the derivations,
 //! `proofs/Meets.antt` that it stops at the first fault, and each function of the recursive descent says how far it
 //! moves the machine (`proofs/Stepping.antt`).
 #![tactic(auto)]
 
+mod laws;
 mod limits;
 mod operator;
 mod parse;
 mod single;
 mod tree;
 
+pub use laws::texts_without_loops_stay;
 pub use limits::{Around, MAX_CATALOGUE, MAX_NESTED, MAX_OPERATORS, MAX_PARENS, MAX_TURNS};
 pub use operator::{COMPARISONS, operator_symbol, precedence_of};
 pub use pac_tokens::{
