@@ -13,3 +13,4 @@ pub mod Ordered
 pub mod Trees
 pub mod DotsApart
 pub mod NoLoopsNeeded
+pub mod NoLoopsRead

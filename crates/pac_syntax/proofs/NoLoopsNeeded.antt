@@ -1,5 +1,5 @@
 -- A text that was a catalogue before there were loops is one still, with the same tree.
-use Rattle.std.proofs.Common.{◌≡◌, ◌≢◌, ℕ, suc, ◌+◌, ◌≤◌, Bool, true, false, true≢false, List, [], ◌∷◌, ◌++◌, length, drop, None, refl, sym, ap, subst, ◌∙◌, arith, inl, inr, ◌⊎◌}
+use Rattle.std.proofs.Common.{◌≡◌, ◌≢◌, ℕ, suc, ◌+◌, ◌≤◌, Bool, true, true≢false, List, [], ◌∷◌, ◌++◌, length, drop, None, refl, sym, ap, subst, ◌∙◌, arith, inl, inr, ◌⊎◌}
 use Rattle.pac_tokens.specs.declared.token.Symbol.{Symbol}
 use Rattle.pac_tokens.specs.declared.token.Symbol.TheVariants as symbol
 use Rattle.pac_tokens.specs.declared.token.Token.{Token}
@@ -16,11 +16,11 @@ use Rattle.pac_syntax.specs.declared.tree.Tree.{Tree}
 use Rattle.pac_syntax.specs.Grammar.{StmtsForm, NoStmt, ALet, ARead, AHas, APut, ASet, ADelete, AnAbort, AnIf, AnIfElse, ProcsForm, NoProc, AProc, CatalogueForm, AreStmts, AreProcs, stmt_nodes, proc_nodes, expr_node, value_nodes, literal_node, param_nodes, table_nodes, Marked, stmts_before, procs_before, tables_before, marks_of, tokens_of, tree_of}
 use Rattle.pac_syntax.specs.Reading.{Reads}
 use Rattle.pac_syntax.specs.WithoutLoops as old
-use Rattle.pac_syntax.proofs.DotsApart.{is_dot, NoDot, DotsApart, dots_apart}
+use Rattle.pac_syntax.proofs.DotsApart.{is_dot, is_range, NoDot, DotsApart, dots_apart}
 
 -- ---- derivations
 
-abbrev stmts : old.StmtsForm → StmtsForm
+abbrev pub stmts : old.StmtsForm → StmtsForm
 stmts old.NoStmt = NoStmt
 stmts (old.ALet p0 x p1 e p2 s) = ALet p0 x p1 e p2 (stmts s)
 stmts (old.ARead p0 x p1 t p2 e p3 p4 c p5 l p6 s) = ARead p0 x p1 t p2 e p3 p4 c p5 l p6 (stmts s)
@@ -32,7 +32,7 @@ stmts (old.AnAbort p0 p1 e p2 s) = AnAbort p0 p1 e p2 (stmts s)
 stmts (old.AnIf p0 e p1 first p2 s) = AnIf p0 e p1 (stmts first) p2 (stmts s)
 stmts (old.AnIfElse p0 e p1 first p2 p3 p4 second p5 s) = AnIfElse p0 e p1 (stmts first) p2 p3 p4 (stmts second) p5 (stmts s)
 
-abbrev procs : old.ProcsForm → ProcsForm
+abbrev pub procs : old.ProcsForm → ProcsForm
 procs old.NoProc = NoProc
 procs (old.AProc p0 n p1 ps p2 p3 s p4 f) = AProc p0 n p1 ps p2 p3 (stmts s) p4 (procs f)
 
@@ -53,7 +53,7 @@ are_procs old.NoProc h = tt
 are_procs (old.AProc p0 n p1 ps p2 p3 s p4 f) h = (are_stmts s h.0, are_procs f h.1)
 
 -- the same trees
-same_stmts : (s : old.StmtsForm) → stmt_nodes (stmts s) ≡ old.stmt_nodes s
+pub same_stmts : (s : old.StmtsForm) → stmt_nodes (stmts s) ≡ old.stmt_nodes s
 same_stmts old.NoStmt = refl
 same_stmts (old.ALet p0 x p1 e p2 s) = ap (λ q. stmt.Let x (expr_node e) ∷ q) (same_stmts s)
 same_stmts (old.ARead p0 x p1 t p2 e p3 p4 c p5 l p6 s) = ap (λ q. stmt.Read x t (expr_node e) c (literal_node l) ∷ q) (same_stmts s)
@@ -65,7 +65,7 @@ same_stmts (old.AnAbort p0 p1 e p2 s) = ap (λ q. stmt.AbortIf (expr_node e) ∷
 same_stmts (old.AnIf p0 e p1 first p2 s) = λ i. stmt.If (expr_node e) (same_stmts first i) [] ∷ same_stmts s i
 same_stmts (old.AnIfElse p0 e p1 first p2 p3 p4 second p5 s) = λ i. stmt.If (expr_node e) (same_stmts first i) (same_stmts second i) ∷ same_stmts s i
 
-same_procs : (f : old.ProcsForm) → proc_nodes (procs f) ≡ old.proc_nodes f
+pub same_procs : (f : old.ProcsForm) → proc_nodes (procs f) ≡ old.proc_nodes f
 same_procs old.NoProc = refl
 same_procs (old.AProc p0 n p1 ps p2 p3 s p4 f) = λ i. record { name = n; params = param_nodes ps; body = same_stmts s i } ∷ same_procs f i
 
@@ -87,7 +87,7 @@ same_marks (old.AnIf p0 e p1 first p2 s) d rest = rw (same_marks s d rest, same_
 same_marks (old.AnIfElse p0 e p1 first p2 p3 p4 second p5 s) d rest =
     rw (same_marks s d rest, same_marks second (suc d) (_ ∷ old.stmts_before d s rest), same_marks first (suc d) (_ ∷ _ ∷ _ ∷ old.stmts_before (suc d) second (_ ∷ old.stmts_before d s rest))) refl
 
-same_proc_marks : (f : old.ProcsForm) (i : ℕ) (rest : List Marked) → procs_before i (procs f) rest ≡ old.procs_before i f rest
+pub same_proc_marks : (f : old.ProcsForm) (i : ℕ) (rest : List Marked) → procs_before i (procs f) rest ≡ old.procs_before i f rest
 same_proc_marks old.NoProc i rest = refl
 same_proc_marks (old.AProc p0 n p1 ps p2 p3 s p4 f) i rest = rw (same_proc_marks f (suc i) rest, same_marks s 0 (_ ∷ old.procs_before (suc i) f rest)) refl
 
@@ -146,10 +146,6 @@ dot_again before at behind (u ∷ us) h k =
     let dot : is_dot u.token ≡ true = ap is_dot (dot_is before u.token n.prefix n.longest.spells e n.longest.other) in
     true≢false (sym dot ∙ k)
 
-abbrev is_range : Token → Bool
-is_range (token.Symbol symbol.Range) = true
-is_range _ = false
-
 range_or : (u : Token) → (u ≡ old.range) ⊎ (u ≢ old.range)
 range_or (token.Symbol symbol.Range) = inl refl
 range_or (token.Symbol s) = inr (λ e. true≢false (sym (ap is_range e)))
@@ -185,7 +181,7 @@ next_same before bytes t len at ts n h k = record {
 lexed_same : (before : Before) (at : ℕ) (bytes : List ℕ) (ts : List Spanned) → old.Lexed before at bytes ts → DotsApart ts → Lexed before at bytes ts None
 lexed_same before at bytes [] h k = subst (λ (x : List ℕ). EndsAt before (at + gap bytes) x None) (sym h) refl
 lexed_same before at bytes (t ∷ ts) h k =
-    (h.0, next_same before (drop (gap bytes) bytes) t.token h.0 (at + gap bytes + h.0) ts h.1 h.3 k.0, h.2, lexed_same (after before t.token) (at + gap bytes + h.0) (drop h.0 (drop (gap bytes) bytes)) ts h.3 k.1)
+    (h.0, next_same before (drop (gap bytes) bytes) t.token h.0 (at + gap bytes + h.0) ts h.1 h.3 k.0.0, h.2, lexed_same (after before t.token) (at + gap bytes + h.0) (drop h.0 (drop (gap bytes) bytes)) ts h.3 k.1)
 
 -- ---- texts
 

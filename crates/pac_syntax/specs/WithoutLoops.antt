@@ -1,7 +1,7 @@
 -- The grammar of catalogues as it was before there were loops, and what a text was read as: `..` was no token, and there was no
 -- statement that begins with `for`. Expressions, columns and tables are those of `Grammar`.
-use Rattle.std.specs.Prelude.{◌≡◌, ◌≢◌, ℕ, suc, ◌+◌, ◌≤◌, List, [], ◌∷◌, ◌++◌, length, drop, false}
-use Rattle.std.specs.List.{AllByRecursion}
+use Rattle.std.specs.Prelude.{◌≡◌, ◌≢◌, ℕ, suc, ◌+◌, ◌≤◌, Bool, true, false, ◌&&◌, List, [], ◌∷◌, ◌++◌, length, drop, map, IsTrue}
+use Rattle.std.specs.List.{AllByRecursion, list_all}
 use Rattle.pac_tokens.specs.declared.token.Keyword.TheVariants as keyword
 use Rattle.pac_tokens.specs.declared.token.Symbol.TheVariants as symbol
 use Rattle.pac_tokens.specs.declared.token.Token.{Token}
@@ -13,6 +13,9 @@ use Rattle.pac_tokens.specs.Tokens.{Spells, is_long, gap, after}
 use Rattle.pac_syntax.specs.declared.tree.NameNode.{NameNode}
 use Rattle.pac_syntax.specs.declared.tree.StmtNode.{StmtNode}
 use Rattle.pac_syntax.specs.declared.tree.StmtNode.TheVariants as stmt
+use Rattle.pac_syntax.specs.declared.tree.StmtNode.TheOpen as form
+use Rattle.pac_syntax.specs.declared.tree.StmtNode.TheOpen.{StmtNode-F}
+use Rattle.pac_syntax.specs.declared.tree.StmtNode.TheFolds.{fold-StmtNode}
 use Rattle.pac_syntax.specs.declared.tree.ProcNode.{ProcNode}
 use Rattle.pac_syntax.specs.declared.tree.Tree.{Tree}
 use Rattle.pac_syntax.specs.declared.limits.TheConstants.{MAX_CATALOGUE}
@@ -165,6 +168,24 @@ procs_before i (AProc p0 n p1 ps p2 p3 s p4 procs) rest =
 
 abbrev pub marks_of : CatalogueForm → List Marked
 marks_of form = tables_before 0 form.tables (procs_before 0 form.procs [])
+
+-- ---- trees without loops
+
+abbrev pub no_loop_step : StmtNode-F Bool → Bool
+no_loop_step (form.If test first second) = list_all (λ b. b) first && list_all (λ b. b) second
+no_loop_step (form.For name from to body) = false
+no_loop_step _ = true
+
+-- a statement is no loop, and has none in its blocks
+abbrev pub is_no_loop : StmtNode → Bool
+is_no_loop = fold-StmtNode Bool no_loop_step
+
+abbrev pub are_no_loops : List StmtNode → Bool
+are_no_loops nodes = list_all (λ b. b) (map is_no_loop nodes)
+
+-- no procedure has a loop
+abbrev pub HasNoLoop : Tree → Type 0
+HasNoLoop tree = AllByRecursion (λ proc. IsTrue (are_no_loops proc.body)) tree.procs
 
 -- ---- texts
 
