@@ -225,11 +225,11 @@ fn check_stmt(
             body,
         } => {
             scope.once(name)?;
-            let start = scope.len();
+            let before = scope.len();
             let var = scope.define(Ty::Int)?;
             let body = check_block(alloc, tables, scope, body.as_slice())?;
             // The loop's name is visible in its block alone.
-            scope.leave(start);
+            scope.leave(before);
             Ok(Stmt::For {
                 var,
                 from: *from,
