@@ -9,7 +9,7 @@ use Rattle.std.proofs.lemmas.List.Sums.{sum_by-take-le}
 use Rattle.pac_ops.specs.declared.limits.TheConstants.{MAX_OPS, MAX_ALL_OPS}
 use Rattle.pac_types.specs.declared.procedure.Proc.{Proc}
 use Rattle.pac_types.specs.Meaning.{operations}
-use Rattle.pac_types.specs.OperationLimits.{all_operations, HasFewOperations, excess, excess_at, IsFirstExcess}
+use Rattle.pac_types.specs.OperationLimits.{all_operations, HasFewOperations, told, excess, excess_at, IsFirstExcess}
 
 less : (a b : ℕ) → a < b → nat_lt a b ≡ true
 less a b h = grind (arith, nat_tests)
@@ -17,20 +17,20 @@ less a b h = grind (arith, nat_tests)
 not_less : (a b : ℕ) → b ≤ a → nat_lt a b ≡ false
 not_less a b h = grind (arith, nat_tests)
 
-excess-own : (own up_to : ℕ) → MAX_OPS < own → excess own up_to ≡ Some own
-excess-own own up_to h = ap (λ b. cond b (Some own) (cond (nat_lt MAX_ALL_OPS up_to) (Some up_to) None)) (less MAX_OPS own h)
+excess-own : (own up_to : ℕ) → MAX_OPS < own → excess own up_to ≡ Some (told own)
+excess-own own up_to h = ap (λ b. cond b (Some (told own)) (cond (nat_lt MAX_ALL_OPS up_to) (Some (told up_to)) None)) (less MAX_OPS own h)
 
-excess-sum : (own up_to : ℕ) → own ≤ MAX_OPS → MAX_ALL_OPS < up_to → excess own up_to ≡ Some up_to
-excess-sum own up_to few h = ap (λ b. cond b (Some own) (cond (nat_lt MAX_ALL_OPS up_to) (Some up_to) None)) (not_less MAX_OPS own few) ∙ ap (λ b. cond b (Some up_to) None) (less MAX_ALL_OPS up_to h)
+excess-sum : (own up_to : ℕ) → own ≤ MAX_OPS → MAX_ALL_OPS < up_to → excess own up_to ≡ Some (told up_to)
+excess-sum own up_to few h = ap (λ b. cond b (Some (told own)) (cond (nat_lt MAX_ALL_OPS up_to) (Some (told up_to)) None)) (not_less MAX_OPS own few) ∙ ap (λ b. cond b (Some (told up_to)) None) (less MAX_ALL_OPS up_to h)
 
 excess-none : (own up_to : ℕ) → own ≤ MAX_OPS → up_to ≤ MAX_ALL_OPS → excess own up_to ≡ None
-excess-none own up_to few h = ap (λ b. cond b (Some own) (cond (nat_lt MAX_ALL_OPS up_to) (Some up_to) None)) (not_less MAX_OPS own few) ∙ ap (λ b. cond b (Some up_to) None) (not_less MAX_ALL_OPS up_to h)
+excess-none own up_to few h = ap (λ b. cond b (Some (told own)) (cond (nat_lt MAX_ALL_OPS up_to) (Some (told up_to)) None)) (not_less MAX_OPS own few) ∙ ap (λ b. cond b (Some (told up_to)) None) (not_less MAX_ALL_OPS up_to h)
 
 none-few : (own up_to : ℕ) → excess own up_to ≡ None → own ≤ MAX_OPS
 none-few own up_to h = go (nat_lt MAX_OPS own) refl
   where
     go : (b : Bool) → nat_lt MAX_OPS own ≡ b → own ≤ MAX_OPS
-    go true e = let wrong : Some own ≡ None = ap (λ c. cond c (Some own) (cond (nat_lt MAX_ALL_OPS up_to) (Some up_to) None)) (sym e) ∙ h in absurd cc
+    go true e = let wrong : Some (told own) ≡ None = ap (λ c. cond c (Some (told own)) (cond (nat_lt MAX_ALL_OPS up_to) (Some (told up_to)) None)) (sym e) ∙ h in absurd cc
     go false e = grind (arith, nat_tests)
 
 module _ (procs : List Proc) (n : ℕ) (proc : Proc) (within : n < length procs) (is : get_or procs n proc ≡ proc) where
@@ -40,10 +40,10 @@ module _ (procs : List Proc) (n : ℕ) (proc : Proc) (within : n < length procs)
   at_proc : excess_at procs n ≡ excess (operations proc.body) (all_operations (take (n + 1) procs))
   at_proc = ap (option_and_then (λ (p : Proc). excess (operations p.body) (all_operations (take (n + 1) procs)))) found
 
-  pub own-excess : MAX_OPS < operations proc.body → excess_at procs n ≡ Some (operations proc.body)
+  pub own-excess : MAX_OPS < operations proc.body → excess_at procs n ≡ Some (told (operations proc.body))
   own-excess h = at_proc ∙ excess-own (operations proc.body) (all_operations (take (n + 1) procs)) h
 
-  pub sum-excess : (sum : ℕ) → sum ≡ all_operations (take (n + 1) procs) → operations proc.body ≤ MAX_OPS → MAX_ALL_OPS < sum → excess_at procs n ≡ Some sum
+  pub sum-excess : (sum : ℕ) → sum ≡ all_operations (take (n + 1) procs) → operations proc.body ≤ MAX_OPS → MAX_ALL_OPS < sum → excess_at procs n ≡ Some (told sum)
   sum-excess sum same few h = at_proc ∙ ap (excess (operations proc.body)) (sym same) ∙ excess-sum (operations proc.body) sum few h
 
   pub no-excess : (sum : ℕ) → sum ≡ all_operations (take (n + 1) procs) → operations proc.body ≤ MAX_OPS → sum ≤ MAX_ALL_OPS → excess_at procs n ≡ None

@@ -3,7 +3,7 @@ use Rattle.std.proofs.Common.{◌≡◌, ◌≢◌, ℕ, zero, suc, ◌+◌, ◌
 use Rattle.std.specs.Prelude.{slice_get}
 use Rattle.std.specs.Cmp.{nat_cmp_total, unsigned_ties}
 use Rattle.std.specs.FinMap.{get, insert, get-insert}
-use Rattle.std.specs.List.{AllByRecursion, range_with_len}
+use Rattle.std.specs.List.{AllByRecursion}
 use Rattle.std.proofs.lemmas.Bool.Decides.{nat_tests}
 use Rattle.pac_value.specs.declared.values.Ty.{Ty}
 use Rattle.pac_value.specs.declared.values.Value.{Value}
@@ -18,8 +18,8 @@ use Rattle.pac_ops.specs.Reasons.{or_abort}
 use Rattle.pac_ops.specs.Operations.{State, define, touched, Effect, Nothing, Gives, Leaves, values, replaced, unless_asked, effect, row_at, with_effect, done}
 use Rattle.pac_ops.specs.Flat.{is_as_asked, all_hold, default_of, given_default, with_default, done_or_default, flat_done, flat_meaning}
 use Rattle.pac_ops.specs.Uses.{defined_variable}
+use Rattle.pac_types.proofs.RunsOnLemmas.{RunsOn, variable_list}
 use Rattle.pac_flat.specs.FlatForm.{Conditions, inside}
-use Rattle.pac_flat.proofs.StmtShapes.{variable_list}
 use Rattle.pac_flat.proofs.FormLemmas.{defined_in}
 
 -- ---- values of variables
@@ -122,22 +122,6 @@ module _ (y : ℕ) where
       kept vars ops (flat_done vars op s) p.1 ∙ op_keeps vars op s p.0
 
 -- ---- numbers one after another
-
--- the numbers run on from n
-abbrev pub RunsOn : ℕ → List ℕ → Type 0
-RunsOn n [] = Unit {0}
-RunsOn n (x ∷ xs) = (x ≡ n) × RunsOn (n + 1) xs
-
-pub runs_on-range : (n k : ℕ) → RunsOn n (range_with_len n k)
-runs_on-range n zero = tt
-runs_on-range n (suc k) = (refl, runs_on-range (n + 1) k)
-
-pub runs_on-parts : (n : ℕ) (xs ys : List ℕ) → RunsOn n (xs ++ ys) → RunsOn n xs × RunsOn (n + length xs) ys
-runs_on-parts n [] ys h = let same : n ≡ n + 0 = omega arith in (tt, subst (λ k. RunsOn k ys) same h)
-runs_on-parts n (x ∷ xs) ys h =
-    let p = runs_on-parts (n + 1) xs ys h.1 in
-    let same : n + 1 + length xs ≡ n + length (x ∷ xs) = omega arith in
-    ((h.0, p.0), subst (λ k. RunsOn k ys) same p.1)
 
 -- lower numbers are none of them
 pub lower-differs : (y n : ℕ) (xs : List ℕ) → y < n → RunsOn n xs → Differs y xs

@@ -19,20 +19,12 @@ use Rattle.pac_types.specs.declared.procedure.Proc.{Proc}
 use Rattle.pac_types.specs.declared.table.Table.{Table}
 use Rattle.pac_types.specs.Meaning.{Abort, meaning}
 use Rattle.pac_types.specs.Execution.{called_at, txn_meaning, in_txn, serial}
-use Rattle.pac_types.specs.Typing.{IsProc}
-use Rattle.pac_types.specs.Variables.{defined_variables}
+use Rattle.pac_types.specs.Unrolled.{all_after, unrolling, beginning, unrolled}
 use Rattle.pac_flat.specs.Agreement.{Agrees, MeansTheSame, AllAgree, ReplaysTheSame}
 use Rattle.pac_flat.specs.FlatForm.{flat_form, program_of}
-use Rattle.pac_flat.proofs.KeptLemmas.{RunsOn, runs_on-range}
+use Rattle.pac_flat.proofs.NumberedLemmas.{numbered-unrolled}
 use Rattle.pac_flat.proofs.MeetsLemmas.{BeginWith, Meets, meets}
 use Rattle.pac_flat.proofs.NoteLemmas.{Rises, first-rises, rises-notes, rises-replayed}
-
--- a procedure's variables run on from the first after the parameters
-abbrev pub IsNumbered : Proc → Type 0
-IsNumbered proc = RunsOn (length proc.params) (defined_variables proc.body)
-
-pub numbered-proc : (tables : List Table) (proc : Proc) → IsProc tables proc → IsNumbered proc
-numbered-proc tables proc is = subst (RunsOn (length proc.params)) (sym is.numbered) (runs_on-range (length proc.params) (length (defined_variables proc.body)))
 
 -- notes that begin with one and rise have it as the first
 first-begins : (txn : ℕ) (abort : Abort) (notes : List Note) → BeginWith [] txn abort notes → Rises notes → first_note notes ≡ Some (record { txn = txn; op = abort.0; reason = abort.1 })
@@ -40,20 +32,21 @@ first-begins txn abort notes begins rises =
     ap first_note begins.1 ∙ first-rises (record { txn = txn; op = abort.0; reason = abort.1 }) begins.0 (subst Rises begins.1 rises)
 
 -- the program of a procedure, called
-meets-called : (proc : Proc) → IsNumbered proc → (txn : ℕ) (args : List Value) (tables : Tables) → Meets (program_of proc).vars txn 0 (flat_form proc.body) (opening args tables) (meaning proc.body 0 (opening args tables))
-meets-called proc numbered txn args tables = meets (program_of proc).vars txn proc.body [] (length proc.params) 0 (opening args tables) numbered tt refl
+meets-called : (proc : Proc) (txn : ℕ) (args : List Value) (tables : Tables) → Meets (program_of proc).vars txn 0 (flat_form proc) (opening args tables) (meaning proc (opening args tables))
+meets-called proc txn args tables =
+    meets (program_of proc).vars txn (unrolled proc) [] (length proc.params) (all_after (map unrolling proc.body) (beginning proc)).next 0 (opening args tables) (numbered-unrolled proc) tt refl
 
 answers-meets : (program : Program) (txn : ℕ) (s : State) (m : Result State Abort) → Meets program.vars txn 0 program.ops s m → Agrees (in_txn txn m) (flat_meaning program.vars program.ops s) (notes_of program.vars txn 0 program.ops s)
 answers-meets program txn s (Ok t) h = h
 answers-meets program txn s (Err abort) h = first-begins txn abort (notes_of program.vars txn 0 program.ops s) h (rises-notes program.vars txn 0 program.ops s)
 
 -- the program of a procedure means what that means
-pub means_the_same : (proc : Proc) → IsNumbered proc → MeansTheSame proc (program_of proc)
-means_the_same proc numbered = record { called = λ txn args tables. answers-meets (program_of proc) txn (opening args tables) (meaning proc.body 0 (opening args tables)) (meets-called proc numbered txn args tables) }
+pub means_the_same : (proc : Proc) → MeansTheSame proc (program_of proc)
+means_the_same proc = record { called = λ txn args tables. answers-meets (program_of proc) txn (opening args tables) (meaning proc (opening args tables)) (meets-called proc txn args tables) }
 
-pub all_mean_the_same : (procs : List Proc) → AllByRecursion IsNumbered procs → AllZip MeansTheSame procs (map program_of procs)
-all_mean_the_same [] all = tt
-all_mean_the_same (proc ∷ procs) all = (means_the_same proc all.0, all_mean_the_same procs all.1)
+pub all_mean_the_same : (procs : List Proc) → AllZip MeansTheSame procs (map program_of procs)
+all_mean_the_same [] = tt
+all_mean_the_same (proc ∷ procs) = (means_the_same proc, all_mean_the_same procs)
 
 -- ---- transactions
 
@@ -72,7 +65,7 @@ tables-meet : (program : Program) (txn : ℕ) (s : State) (m : Result State Abor
 tables-meet program txn s (Ok t) h = (ap (λ (z : State). z.tables) h.0, h.1)
 tables-meet program txn s (Err abort) h = h
 
-module _ (procs : List Proc) (numbered : (n : ℕ) (proc : Proc) → slice_get procs n ≡ Some proc → IsNumbered proc) where
+module _ (procs : List Proc) where
   meets_call : (txn n : ℕ) (args : List Value) (tables : Tables)
       → MeetsTables txn (called_at (slice_get procs n) args tables) (call_state (slice_get (map program_of procs) n) args tables) (call_notes (slice_get (map program_of procs) n) txn args tables)
   meets_call txn n args tables = subst (λ (o : Option Program). MeetsTables txn (called_at (slice_get procs n) args tables) (call_state o args tables) (call_notes o txn args tables))
@@ -80,7 +73,7 @@ module _ (procs : List Proc) (numbered : (n : ℕ) (proc : Proc) → slice_get p
     where
       go : (o : Option Proc) → slice_get procs n ≡ o → MeetsTables txn (called_at o args tables) (call_state (option_map program_of o) args tables) (call_notes (option_map program_of o) txn args tables)
       go None is = (refl, refl)
-      go (Some proc) is = tables-meet (program_of proc) txn (opening args tables) (meaning proc.body 0 (opening args tables)) (meets-called proc (numbered n proc is) txn args tables)
+      go (Some proc) is = tables-meet (program_of proc) txn (opening args tables) (meaning proc (opening args tables)) (meets-called proc txn args tables)
 
   meets_txn : (n : ℕ) (txn : Txn) (tables : Tables) → MeetsTables n (txn_meaning procs txn tables) (txn_state (map program_of procs) txn tables) (txn_notes (map program_of procs) n txn tables)
   meets_txn n (ACall call) tables = meets_call n call.proc call.args tables
@@ -115,15 +108,3 @@ module _ (procs : List Proc) (numbered : (n : ℕ) (proc : Proc) → slice_get p
     executed = λ first txns tables. answers-all (serial procs first txns tables) (replayed (map program_of procs) first txns tables)
         (meets_all txns first tables) (rises-replayed (map program_of procs) txns first tables);
   }
-
--- ---- procedures of a catalogue
-
-pub numbered-at : (tables : List Table) (procs : List Proc) → All (IsProc tables) procs → (n : ℕ) (proc : Proc) → slice_get procs n ≡ Some proc → IsNumbered proc
-numbered-at tables procs all n proc found =
-    let within : n < length procs = slice_get_within procs n proc found in
-    let same : get_or procs n proc ≡ proc = let both : Some (get_or procs n proc) ≡ Some proc = sym (slice_get-get_or procs n proc within) ∙ found in cc in
-    numbered-proc tables proc (subst (λ (p : Proc). IsProc tables p) same (all n proc within))
-
-pub each-numbered : (procs : List Proc) → ((n : ℕ) (proc : Proc) → slice_get procs n ≡ Some proc → IsNumbered proc) → AllByRecursion IsNumbered procs
-each-numbered [] h = tt
-each-numbered (proc ∷ procs) h = (h 0 proc refl, each-numbered procs (λ n p is. h (suc n) p is))

@@ -1,10 +1,14 @@
-pub mod StmtShapes
+pub mod KindChecks
+pub mod StandingLemmas
+pub mod RestLemmas
 pub mod FormLemmas
 pub mod KeptLemmas
 pub mod MeetsLemmas
+pub mod NumberedLemmas
 pub mod NoteLemmas
 pub mod LawLemmas
 pub mod ExcessLemmas
 pub mod TypeLemmas
 pub mod PrefixLemmas
+pub mod UnrollTypes
 pub mod WellFormedProgram

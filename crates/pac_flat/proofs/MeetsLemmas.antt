@@ -1,7 +1,6 @@
--- The flat form does what the statements mean, up to the first abort.
-use Rattle.std.proofs.Common.{◌≡◌, ℕ, ◌+◌, ◌<◌, Bool, true, false, not, ◌&&◌, cond, List, [], ◌∷◌, ◌++◌, length, map, Some, None, Result, Ok, Err, refl, sym, ap, subst, ◌∙◌, arith, append_assoc}
+-- The flat form does what the steps do, up to the first abort.
+use Rattle.std.proofs.Common.{◌≡◌, ℕ, ◌+◌, ◌<◌, ◌≤◌, Bool, true, false, not, ◌&&◌, cond, List, [], ◌∷◌, ◌++◌, length, Some, None, Result, Ok, Err, refl, sym, ap, subst, ◌∙◌, arith, append_assoc, append-nil, length-append}
 use Rattle.std.specs.FinMap.{get}
-use Rattle.std.specs.List.{AllByRecursion}
 use Rattle.pac_value.specs.declared.values.Ty.{Ty}
 use Rattle.pac_value.specs.declared.values.Value.{Value}
 use Rattle.pac_value.specs.declared.values.Value.TheVariants.{Int, Text, Bool as Truth}
@@ -16,14 +15,19 @@ use Rattle.pac_ops.specs.declared.reason.Reason.{Reason}
 use Rattle.pac_ops.specs.Reasons.{or_abort, reason_of}
 use Rattle.pac_ops.specs.Notes.{note_at}
 use Rattle.pac_ops.specs.Operations.{State, Gives, define, done, with_effect}
+use Rattle.pac_ops.specs.Uses.{defined_variable}
 use Rattle.pac_ops.specs.Flat.{is_true, is_as_asked, all_hold, done_or_default, reason_in, flat_done, flat_reason, flat_meaning, notes_of}
-use Rattle.pac_types.specs.declared.statement.Stmt.{Stmt}
-use Rattle.pac_types.specs.Meaning.{Abort, at_operation, Code, code, runs, branch, operations}
-use Rattle.pac_types.specs.Variables.{stmt_variables, defined_variables}
-use Rattle.pac_flat.specs.FlatForm.{Conditions, Flat, flat, in_line, inside, under}
-use Rattle.pac_flat.proofs.StmtShapes.{IsOne, IsBranching, all_by_shape}
-use Rattle.pac_flat.proofs.FormLemmas.{length-flat, length-line, defined_in, defined_in-flat, defined_in-line, all_hold-inside, AllShut, shut_line}
-use Rattle.pac_flat.proofs.KeptLemmas.{get-defined, get-others, Differs, kept, RunsOn, runs_on-parts, lower-differs, Below, below-more, below-inside, all_hold-kept}
+use Rattle.pac_types.specs.Meaning.{Abort, at_operation, step_count, branch, runs}
+use Rattle.pac_types.specs.Unrolled.{Steps, End, Op, Branch}
+use Rattle.pac_types.proofs.RunsOnLemmas.{RunsOn, runs_on-joined, variable_list}
+use Rattle.pac_flat.specs.FlatForm.{Conditions, flat, inside, under}
+use Rattle.pac_flat.proofs.FormLemmas.{length-flat, defined_in, RunsTo, defined_in-append, runs_to-defined, all_hold-inside, AllShut, shut-flat}
+use Rattle.pac_flat.proofs.KeptLemmas.{get-defined, get-others, kept, lower-differs, Below, below-more, below-inside, all_hold-kept}
+
+-- what comes after two comes after the second
+then_then : {A B C E : Type 0} (r : Result A E) (f : A → Result B E) (g : B → Result C E) → ((r >>= f) >>= g) ≡ (r >>= λ a. f a >>= g)
+then_then (Ok a) f g = refl
+then_then (Err e) f g = refl
 
 module _ (vars : List Ty) (txn : ℕ) where
   pub flat_meaning-append : (xs ys : List FlatOp) (s : State) → flat_meaning vars (xs ++ ys) s ≡ flat_meaning vars ys (flat_meaning vars xs s)
@@ -100,50 +104,47 @@ module _ (vars : List Ty) (txn : ℕ) where
       go (Ok t) is = (state_is ∙ ap (done_or_default vars kind s) is, ap (λ o. note_at txn n o ++ []) (reason_is ∙ ap reason_in is))
       go (Err reason) is = ([], ap (λ o. note_at txn n o ++ []) (reason_is ∙ ap reason_in is))
 
-  -- ---- statements
+  -- ---- steps
 
-  -- what a statement is in flat form meets what it means, where the conditions round it hold and its variables run on
-  abbrev pub MeetsFlat : Flat → List ℕ → Code → Type 0
-  MeetsFlat form variables code = (conds : Conditions) (m n : ℕ) (s : State) → RunsOn m variables → Below m conds → all_hold s.env conds ≡ true → Meets n (form conds) s (code.run n s)
-
-  abbrev MeetsStmt : Stmt → Type 0
-  MeetsStmt st = MeetsFlat (flat st) (stmt_variables st) (code st)
-
-  abbrev MeetsBlock : List Stmt → Type 0
-  MeetsBlock ss = (conds : Conditions) (m n : ℕ) (s : State) → RunsOn m (defined_variables ss) → Below m conds → all_hold s.env conds ≡ true → Meets n (in_line (map flat ss) conds) s (runs (map code ss) n s)
+  -- what steps are in flat form meets what they do, where the conditions round them hold and their variables run on
+  abbrev pub MeetsSteps : Steps → Type 0
+  MeetsSteps steps = (conds : Conditions) (m k n : ℕ) (s : State) → RunsTo m steps k → Below m conds → all_hold s.env conds ≡ true → Meets n (flat steps conds) s (runs steps n s)
 
   -- after operations that define none of them, lower variables have their values
-  low_kept : (ops : List FlatOp) (m : ℕ) (s t : State) (variables : List ℕ) → defined_in ops ≡ variables → RunsOn m variables → flat_meaning vars ops s ≡ t → (y : ℕ) → y < m → get t.env y ≡ get s.env y
-  low_kept ops m s t variables are run ends y lt =
-      ap (λ (z : State). get z.env y) (sym ends) ∙ kept y vars ops s (subst (Differs y) (sym are) (lower-differs y m variables lt run))
+  low_kept : (ops : List FlatOp) (m : ℕ) (s t : State) → RunsOn m (defined_in ops) → flat_meaning vars ops s ≡ t → (y : ℕ) → y < m → get t.env y ≡ get s.env y
+  low_kept ops m s t run ends y lt = ap (λ (z : State). get z.env y) (sym ends) ∙ kept y vars ops s (lower-differs y m (defined_in ops) lt run)
 
-  meets_block : (ss : List Stmt) → AllByRecursion MeetsStmt ss → MeetsBlock ss
-  meets_block [] all conds m n s run below hold = (refl, refl)
-  meets_block (st ∷ ss) all conds m n s run below hold =
-      let parts = runs_on-parts m (stmt_variables st) (defined_variables ss) run in
-      let met : Meets n (flat st conds) s ((code st).run n s) = all.0 conds m n s parts.0 below hold in
-      let on : n + length (flat st conds) ≡ n + (code st).count = ap (λ k. n + k) (length-flat st conds) in
-      meets-append (flat st conds) (in_line (map flat ss) conds) n (n + (code st).count) s ((code st).run n s) (λ t. runs (map code ss) (n + (code st).count) t) on met (λ t e.
-      meets_block ss all.1 conds (m + length (stmt_variables st)) (n + (code st).count) t parts.1 (below-more m (m + length (stmt_variables st)) conds (omega arith) below)
-      (all_hold-kept m conds s.env t.env below (low_kept (flat st conds) m s t (stmt_variables st) (defined_in-flat st conds) parts.0 (subst (Meets n (flat st conds) s) e met).0) ∙ hold))
+  -- the variables of steps run up
+  runs_up : (steps : Steps) (m k : ℕ) → RunsTo m steps k → m ≤ k
+  runs_up End m k run = omega (arith, run)
+  runs_up (Op kind rest) m k run = omega (arith, runs_up rest (m + length (variable_list (defined_variable kind))) k run.1)
+  runs_up (Branch x e first second rest) m k (is, i, j, a, b, c) = omega (arith, runs_up first (m + 1) i a, runs_up second i j b, runs_up rest j k c)
 
-  meets_single : (st : Stmt) (kind : OpKind) → IsOne st kind → MeetsStmt st
-  meets_single st kind is conds m n s run below hold =
-      subst (λ (p : Flat × Code). Meets n (p.0 conds) s (p.1.run n s)) (λ i. (sym is.flat_is i, sym is.code_is i)) (meets_one conds kind n s hold)
+  meets_op : (kind : OpKind) (rest : Steps) → MeetsSteps rest → MeetsSteps (Op kind rest)
+  meets_op kind rest later conds m k n s run below hold =
+      let one = under conds kind ∷ [] in
+      let met : Meets n one s (at_operation n (done kind s)) = meets_one conds kind n s hold in
+      let own : RunsOn m (defined_in one) = subst (RunsOn m) (sym (append-nil (variable_list (defined_variable kind)))) run.0 in
+      meets-append one (flat rest conds) n (n + 1) s (at_operation n (done kind s)) (λ t. runs rest (n + 1) t) refl met (λ t e.
+      later conds (m + length (variable_list (defined_variable kind))) k (n + 1) t run.1 (below-more m (m + length (variable_list (defined_variable kind))) conds (omega arith) below)
+      (all_hold-kept m conds s.env t.env below (low_kept one m s t own (subst (Meets n one s) e met).0) ∙ hold))
 
-  module _ (x : ℕ) (e : Expr) (first second : List Stmt) (all : AllByRecursion MeetsStmt first) (others : AllByRecursion MeetsStmt second) (conds : Conditions) (m n : ℕ) (s : State)
-      (run : RunsOn m (x ∷ defined_variables first ++ defined_variables second)) (below : Below m conds) (hold : all_hold s.env conds ≡ true) where
+  module _ (x : ℕ) (e : Expr) (first second : Steps) (meets_first : MeetsSteps first) (meets_second : MeetsSteps second) (conds : Conditions) (m i j n : ℕ) (s : State)
+      (is : x ≡ m) (run_first : RunsTo (m + 1) first i) (run_second : RunsTo i second j) (below : Below m conds) (hold : all_hold s.env conds ≡ true) where
     abbrev a : List FlatOp
-    a = in_line (map flat first) (inside conds x true)
+    a = flat first (inside conds x true)
 
     abbrev b : List FlatOp
-    b = in_line (map flat second) (inside conds x false)
+    b = flat second (inside conds x false)
 
     abbrev run_a : State → Result State Abort
-    run_a t = runs (map code first) (n + 1) t
+    run_a t = runs first (n + 1) t
 
     abbrev run_b : State → Result State Abort
-    run_b t = runs (map code second) (n + 1 + operations first) t
+    run_b t = runs second (n + 1 + step_count first) t
+
+    up : m + 1 ≤ i
+    up = runs_up first (m + 1) i run_first
 
     -- after the test its variable has this value, and the conditions still hold
     module _ (v : Value) where
@@ -151,33 +152,30 @@ module _ (vars : List Ty) (txn : ℕ) where
       t = define x v s
 
       still : all_hold t.env conds ≡ true
-      still = all_hold-kept m conds s.env t.env below (λ y lt. get-others s x v y (λ h. let no_way : ⊥ = omega (arith, run.0, h, lt) in no_way)) ∙ hold
+      still = all_hold-kept m conds s.env t.env below (λ y lt. get-others s x v y (λ h. let no_way : ⊥ = omega (arith, is, h, lt) in no_way)) ∙ hold
 
       test_is : (asked : Bool) (u : State) → get u.env x ≡ Some v → all_hold u.env conds ≡ true → all_hold u.env (inside conds x asked) ≡ is_as_asked asked (Some v)
       test_is asked u is h = all_hold-inside u.env conds x asked ∙ ap (λ z. z && is_as_asked asked (get u.env x)) h ∙ ap (is_as_asked asked) is
 
-      parts : RunsOn (m + 1) (defined_variables first) × RunsOn (m + 1 + length (defined_variables first)) (defined_variables second)
-      parts = runs_on-parts (m + 1) (defined_variables first) (defined_variables second) run.1
-
       lt_x : x < m + 1
-      lt_x = omega (arith, run.0)
+      lt_x = omega (arith, is)
 
       met_first : is_true v ≡ true → Meets (n + 1) (a ++ b) t (run_a t)
       met_first yes_ = meets-before_idle a b (n + 1) t (run_a t) met shut
         where
           met : Meets (n + 1) a t (run_a t)
-          met = meets_block first all (inside conds x true) (m + 1) (n + 1) t parts.0 (below-inside m (m + 1) x true conds (omega arith) lt_x below) (test_is true t (get-defined s x v) still ∙ yes_)
+          met = meets_first (inside conds x true) (m + 1) i (n + 1) t run_first (below-inside m (m + 1) x true conds (omega arith) lt_x below) (test_is true t (get-defined s x v) still ∙ yes_)
 
           shut : (u : State) → run_a t ≡ Ok u → AllShut u.env b
           shut u ends =
-              let same : (y : ℕ) → y < m + 1 → get u.env y ≡ get t.env y = low_kept a (m + 1) t u (defined_variables first) (defined_in-line first (inside conds x true)) parts.0 (subst (Meets (n + 1) a t) ends met).0 in
-              shut_line second u.env (inside conds x false) (test_is false u (same x lt_x ∙ get-defined s x v) (all_hold-kept m conds t.env u.env below (λ y lt. same y (omega (arith, lt))) ∙ still) ∙ ap not yes_)
+              let same : (y : ℕ) → y < m + 1 → get u.env y ≡ get t.env y = low_kept a (m + 1) t u (runs_to-defined first (inside conds x true) (m + 1) i run_first).0 (subst (Meets (n + 1) a t) ends met).0 in
+              shut-flat second u.env (inside conds x false) (test_is false u (same x lt_x ∙ get-defined s x v) (all_hold-kept m conds t.env u.env below (λ y lt. same y (omega (arith, lt))) ∙ still) ∙ ap not yes_)
 
       met_second : is_true v ≡ false → Meets (n + 1) (a ++ b) t (run_b t)
-      met_second no_ = meets-after_idle a b (n + 1) (n + 1 + operations first) t (run_b t) (ap (λ k. n + 1 + k) (length-line first (inside conds x true)))
-          (shut_line first t.env (inside conds x true) (test_is true t (get-defined s x v) still ∙ no_))
-          (meets_block second others (inside conds x false) (m + 1 + length (defined_variables first)) (n + 1 + operations first) t parts.1
-          (below-inside m (m + 1 + length (defined_variables first)) x false conds (omega arith) (omega (arith, run.0)) below) (test_is false t (get-defined s x v) still ∙ ap not no_))
+      met_second no_ = meets-after_idle a b (n + 1) (n + 1 + step_count first) t (run_b t) (ap (λ k. n + 1 + k) (length-flat first (inside conds x true)))
+          (shut-flat first t.env (inside conds x true) (test_is true t (get-defined s x v) still ∙ no_))
+          (meets_second (inside conds x false) i j (n + 1 + step_count first) t run_second
+          (below-inside m i x false conds (omega (arith, up)) (omega (arith, is, up)) below) (test_is false t (get-defined s x v) still ∙ ap not no_))
 
     met_branch : (v : Value) → Meets (n + 1) (a ++ b) (define x v s) (branch v run_a run_b (define x v s))
     met_branch (Truth true) = met_first (Truth true) refl
@@ -194,11 +192,30 @@ module _ (vars : List Ty) (txn : ℕ) where
         (subst (Meets n (under conds (Cond x e) ∷ []) s) (ap (λ z. at_operation n ((or_abort z >>= λ w. Ok (Gives x w)) >>= λ f. Ok (with_effect None f s))) is) (meets_one conds (Cond x e) n s hold))
         (λ u ends. absurd cc)
 
-  meets_if : (st : Stmt) (x : ℕ) (e : Expr) (first second : List Stmt) → IsBranching st x e first second → AllByRecursion MeetsStmt first → AllByRecursion MeetsStmt second → MeetsStmt st
-  meets_if st x e first second is all others conds m n s run below hold =
-      subst (λ (p : Flat × Code). Meets n (p.0 conds) s (p.1.run n s)) (λ i. (sym is.flat_is i, sym is.code_is i))
-      (met_test x e first second all others conds m n s (subst (RunsOn m) is.variables run) below hold (value e s.env) refl)
+    -- the operations of the conditional define variables up to j
+    own_variables : RunsOn m (defined_in (under conds (Cond x e) ∷ (a ++ b)))
+    own_variables = (is, subst (RunsOn (m + 1)) (sym (defined_in-append a b)) (runs_on-joined (m + 1) i (defined_in a) (defined_in b) fa.1 fa.0 (runs_to-defined second (inside conds x false) i j run_second).0))
+      where
+        fa : RunsOn (m + 1) (defined_in a) × (m + 1 + length (defined_in a) ≡ i)
+        fa = runs_to-defined first (inside conds x true) (m + 1) i run_first
 
-  -- statements in flat form, under conditions that hold, meet what they mean
-  pub meets : (ss : List Stmt) → MeetsBlock ss
-  meets ss = meets_block ss (all_by_shape MeetsStmt meets_single meets_if ss)
+    long : n + length (under conds (Cond x e) ∷ (a ++ b)) ≡ n + 1 + step_count first + step_count second
+    long = omega (arith, length-append a b, length-flat first (inside conds x true), length-flat second (inside conds x false))
+
+    met_all : (rest : Steps) → MeetsSteps rest → (k : ℕ) → RunsTo j rest k → Meets n (flat (Branch x e first second rest) conds) s (runs (Branch x e first second rest) n s)
+    met_all rest later k run =
+        let end = n + 1 + step_count first + step_count second in
+        let ops = under conds (Cond x e) ∷ (a ++ b) in
+        let does = at_operation n (or_abort (value e s.env)) >>= λ v. branch v run_a run_b (define x v s) in
+        let met : Meets n ops s does = met_test (value e s.env) refl in
+        subst (Meets n (flat (Branch x e first second rest) conds) s) (then_then (at_operation n (or_abort (value e s.env))) (λ v. branch v run_a run_b (define x v s)) (λ t. runs rest end t))
+        (meets-append ops (flat rest conds) n end s does (λ t. runs rest end t) long met (λ t ends.
+        later conds j k end t run (below-more m j conds (omega (arith, up, runs_up second i j run_second)) below)
+        (all_hold-kept m conds s.env t.env below (low_kept ops m s t own_variables (subst (Meets n ops s) ends met).0) ∙ hold)))
+
+  -- steps in flat form, under conditions that hold, meet what they do
+  pub meets : (steps : Steps) → MeetsSteps steps
+  meets End conds m k n s run below hold = (refl, refl)
+  meets (Op kind rest) conds m k n s run below hold = meets_op kind rest (meets rest) conds m k n s run below hold
+  meets (Branch x e first second rest) conds m k n s (is, i, j, in_first, in_second, after) below hold =
+      met_all x e first second (meets first) (meets second) conds m i j n s is in_first in_second below hold rest (meets rest) k after

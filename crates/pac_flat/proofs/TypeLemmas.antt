@@ -21,7 +21,7 @@ use Rattle.pac_types.specs.Fits.{shape}
 use Rattle.pac_types.specs.WellFormed.{key_type, column_types_of, column_types, column_type, if_so}
 use Rattle.pac_types.proofs.PartLemmas.{equal}
 use Rattle.pac_types.proofs.ScopeLemmas.{Within, TypeWithin, type_in-within, is_wanted-within, is_bool-within, are_wanted-within}
-use Rattle.pac_flat.proofs.StmtShapes.{single_check}
+use Rattle.pac_flat.proofs.KindChecks.{single_check}
 
 pub both : (a b : Bool) → (a && b) ≡ true → (a ≡ true) × (b ≡ true)
 both true b h = (refl, h)

@@ -18,21 +18,20 @@ use Rattle.pac_ops.specs.declared.program.OpKind.TheVariants.{Let, Cond, Read, H
 use Rattle.pac_ops.specs.Programs.{IsPrefixOf, IsWellTyped, given_type, scope_in, IsDefinedBefore, IsCondition, IsWellFormedProgram, AreWellFormedPrograms}
 use Rattle.pac_ops.specs.Uses.{kind_uses, conds_use, op_uses, defined_variable, Defines}
 use Rattle.pac_types.specs.declared.procedure.Proc.{Proc}
-use Rattle.pac_types.specs.declared.statement.Stmt.{Stmt}
 use Rattle.pac_types.specs.declared.table.Table.{Table}
 use Rattle.pac_types.specs.Meaning.{operations}
 use Rattle.pac_types.specs.OperationLimits.{HasFewOperations}
 use Rattle.pac_types.specs.Typing.{IsProc}
-use Rattle.pac_types.specs.WellFormed.{types, Check, check, in_order, any_defines, without, scope_after_all, scope_of, IsWellFormedProc}
-use Rattle.pac_types.specs.Variables.{stmt_variables, defined_variables}
+use Rattle.pac_types.specs.Unrolled.{Steps, End, Op, Branch, all_after, unrolling, beginning, unrolled}
+use Rattle.pac_types.specs.WellFormed.{types, scope_after_all, scope_of}
 use Rattle.pac_types.proofs.PartLemmas.{equal}
+use Rattle.pac_types.proofs.RunsOnLemmas.{RunsOn, variable_list, runs_on-proc}
 use Rattle.pac_types.proofs.ScopeLemmas.{Within, type_in-within}
-use Rattle.pac_flat.specs.FlatForm.{Conditions, Flat, flat, flat_form, in_line, inside, under, with_type, types_after, program_of}
-use Rattle.pac_flat.proofs.StmtShapes.{variable_list, IsOne, IsBranching, all_by_shape}
-use Rattle.pac_flat.proofs.FormLemmas.{length-line, defined_in, defined_in-line}
+use Rattle.pac_flat.specs.FlatForm.{Conditions, flat, flat_form, inside, under, with_type, types_after, program_of}
+use Rattle.pac_flat.proofs.FormLemmas.{length-flat_form, defined_in, RunsTo, runs_to-defined}
 use Rattle.pac_flat.proofs.PrefixLemmas.{at-end, some-prefix, some-end, some-within, some-mapped, of-contained, prefix-itself, prefix-more, types_after-append, prefix-types_after, within-prefix}
-use Rattle.pac_flat.proofs.KeptLemmas.{RunsOn, runs_on-parts}
-use Rattle.pac_flat.proofs.LawLemmas.{IsNumbered, numbered-proc}
+use Rattle.pac_flat.proofs.NumberedLemmas.{numbered-unrolled}
+use Rattle.pac_flat.proofs.UnrollTypes.{AreWellFormed, all_steady, typed-beginning}
 use Rattle.pac_flat.proofs.TypeLemmas.{both, either, from_either, shapes, Adds, adds_one, so_is, single_well_formed, well_typed-within, visible-kind, SameThere, gives_there}
 
 module _ (tables : List Table) (params : List Ty) where
@@ -121,6 +120,11 @@ module _ (tables : List Table) (params : List Ty) where
     sees : Sees g (before ++ ops) conds
     count : length (T (before ++ ops)) ≡ length (T before) + n
 
+  -- the same up to the variable of this number
+  record GoesOn (before : List FlatOp) (ops : List FlatOp) (k : ℕ) : Type 0 where
+    fine : FineFrom before ops
+    count : length (T (before ++ ops)) ≡ k
+
   given-within : (f h : Scope) → Within f h → (kind : OpKind) (ty : Ty) → given_type f kind ≡ Some ty → given_type h kind ≡ Some ty
   given-within f h w (Let x e) ty is = type_in-within f h w e ty is
   given-within f h w (Cond x e) ty is = is
@@ -182,52 +186,26 @@ module _ (tables : List Table) (params : List Ty) where
         inr (length before, some-end (λ (op : FlatOp). (defined_variable op.kind ≡ Some x) × IsPrefixOf op.conds conds) before [] (under conds kind) (defines, prefix-itself conds)),
       )
 
-  -- ---- statements
+  -- ---- steps
 
-  abbrev GoesStmt : Stmt → Type 0
-  GoesStmt s = (conds : Conditions) (before : List FlatOp) (f g : Scope) → (check tables s).after f ≡ Some g → Sees f before conds → Knows before conds → RunsOn (length (T before)) (stmt_variables s)
-      → Goes before conds (flat s conds) (length (stmt_variables s)) g
+  abbrev GoesSteps : Steps → Type 0
+  GoesSteps steps = (conds : Conditions) (before : List FlatOp) (f : Scope) (k : ℕ) → AreWellFormed tables steps f → Sees f before conds → Knows before conds → RunsTo (length (T before)) steps k → GoesOn before (flat steps conds) k
 
-  goes_single : (s : Stmt) (kind : OpKind) → IsOne s kind → GoesStmt s
-  goes_single s kind is conds before f g well_formed sees knows run =
-      let p = single_well_formed tables kind f g (sym (ap (λ (c : Check). c.after f) (is.well_formed tables)) ∙ well_formed) in
-      subst (λ (q : Flat × List ℕ). Goes before conds (q.0 conds) (length q.1) g) (λ i. (sym is.flat_is i, sym is.variables i))
-      (goes_one conds kind before f g p.0 p.1 sees knows (subst (RunsOn (length (T before))) is.variables run))
-
-  goes_two : (before : List FlatOp) (conds : Conditions) (xs ys : List FlatOp) (n m k : ℕ) (f g : Scope) → n + m ≡ k → Goes before conds xs n f → Goes (before ++ xs) conds ys m g → Goes before conds (xs ++ ys) k g
-  goes_two before conds xs ys n m k f g sum a b = record {
-    fine = fine-append before xs ys a.fine b.fine;
-    sees = subst (λ l. Sees g l conds) (append_assoc before xs ys) b.sees;
-    count = ap (λ l. length (T l)) (sym (append_assoc before xs ys)) ∙ b.count ∙ omega (arith, a.count, sum);
+  goes_on : (before : List FlatOp) (xs ys : List FlatOp) (k : ℕ) → FineFrom before xs → GoesOn (before ++ xs) ys k → GoesOn before (xs ++ ys) k
+  goes_on before xs ys k fine b = record {
+    fine = fine-append before xs ys fine b.fine;
+    count = ap (λ l. length (T l)) (sym (append_assoc before xs ys)) ∙ b.count;
   }
 
-  then_is : (cs : List Check) (o : Option Scope) (g : Scope) → option_and_then (in_order cs) o ≡ Some g → (h : Scope) × (o ≡ Some h) × (in_order cs h ≡ Some g)
-  then_is cs None g is = absurd cc
-  then_is cs (Some h) g is = (h, refl, is)
-
-  goes_block : (ss : List Stmt) → AllByRecursion GoesStmt ss → (conds : Conditions) (before : List FlatOp) (f g : Scope) → in_order (map (check tables) ss) f ≡ Some g → Sees f before conds → Knows before conds → RunsOn (length (T before)) (defined_variables ss)
-      → Goes before conds (in_line (map flat ss) conds) (length (defined_variables ss)) g
-  goes_block [] all conds before f g well_formed sees knows run = record {
-    fine = tt;
-    sees = let same : f ≡ g = cc in subst (λ (h : Scope). Sees h (before ++ []) conds) same (sees-more f before [] conds sees);
-    count = ap (λ l. length (T l)) (append-nil before) ∙ omega arith;
-  }
-  goes_block (s ∷ ss) all conds before f g well_formed sees knows run =
-      let p = then_is (map (check tables) ss) ((check tables s).after f) g well_formed in
-      let parts = runs_on-parts (length (T before)) (stmt_variables s) (defined_variables ss) run in
-      let first = all.0 conds before f p.0 p.1 sees knows parts.0 in
-      goes_two before conds (flat s conds) (in_line (map flat ss) conds) (length (stmt_variables s)) (length (defined_variables ss)) (length (defined_variables (s ∷ ss))) p.0 g
-      (sym (length-append (stmt_variables s) (defined_variables ss))) first
-      (goes_block ss all.1 conds (before ++ flat s conds) p.0 g p.2 first.sees (knows-more before (flat s conds) conds knows) (subst (λ n. RunsOn n (defined_variables ss)) (sym first.count) parts.1))
+  goes_op : (kind : OpKind) (rest : Steps) → GoesSteps rest → GoesSteps (Op kind rest)
+  goes_op kind rest later conds before f k (g, ok, more) sees knows run =
+      let p = single_well_formed tables kind f g ok in
+      let one = under conds kind ∷ [] in
+      let first = goes_one conds kind before f g p.0 p.1 sees knows run.0 in
+      goes_on before one (flat rest conds) k first.fine
+      (later conds (before ++ one) g k more first.sees (knows-more before one conds knows) (subst (λ n. RunsTo n rest k) (sym first.count) run.1))
 
   -- ---- a conditional
-
-  without-less : (some : ℕ → Bool) (f : Scope) → Within (without some f) f
-  without-less some f x ty is = go (some x) is
-    where
-      go : (b : Bool) → (if b then None else f x) ≡ Some ty → f x ≡ Some ty
-      go true h = absurd cc
-      go false h = h
 
   conds_use-inside : (y : ℕ) (conds : Conditions) (x : ℕ) (v : Bool) → conds_use y (inside conds x v) ≡ true → (conds_use y conds ≡ true) ⊎ (x ≡ y)
   conds_use-inside y [] x v h = from_either (either (x == y) false h) (λ e. inr (equal x y e)) (λ e. absurd cc)
@@ -250,9 +228,9 @@ module _ (tables : List Table) (params : List Ty) where
   there_is None e = absurd cc
   there_is (Some h) e = (h, refl)
 
-  module _ (x : ℕ) (e : Expr) (first second : List Stmt) (all : AllByRecursion GoesStmt first) (others : AllByRecursion GoesStmt second) (conds : Conditions) (before : List FlatOp) (f ga gb : Scope)
-      (typed : is_bool (type_in f e) ≡ true) (well_formed_a : in_order (map (check tables) first) (with_var f x BoolTy) ≡ Some ga) (well_formed_b : in_order (map (check tables) second) (with_var f x BoolTy) ≡ Some gb)
-      (sees : Sees f before conds) (knows : Knows before conds) (run : RunsOn (length (T before)) (x ∷ defined_variables first ++ defined_variables second)) where
+  module _ (x : ℕ) (e : Expr) (first second rest : Steps) (goes_first : GoesSteps first) (goes_second : GoesSteps second) (goes_rest : GoesSteps rest) (conds : Conditions) (before : List FlatOp) (f : Scope) (i j k : ℕ)
+      (typed : is_bool (type_in f e) ≡ true) (well_formed_a : AreWellFormed tables first (with_var f x BoolTy)) (well_formed_b : AreWellFormed tables second (with_var f x BoolTy)) (well_formed : AreWellFormed tables rest (with_var f x BoolTy))
+      (sees : Sees f before conds) (knows : Knows before conds) (is : x ≡ length (T before)) (run_a : RunsTo (length (T before) + 1) first i) (run_b : RunsTo i second j) (run : RunsTo j rest k) where
     abbrev inner : Scope
     inner = with_var f x BoolTy
 
@@ -263,13 +241,13 @@ module _ (tables : List Table) (params : List Ty) where
     before_a = before ++ test ∷ []
 
     abbrev a : List FlatOp
-    a = in_line (map flat first) (inside conds x true)
+    a = flat first (inside conds x true)
 
     abbrev b : List FlatOp
-    b = in_line (map flat second) (inside conds x false)
+    b = flat second (inside conds x false)
 
     goes_test : Goes before conds (test ∷ []) 1 inner
-    goes_test = goes_one conds (Cond x e) before f inner typed (adds_one tables f inner (Cond x e) x BoolTy refl refl refl) sees knows (run.0, tt)
+    goes_test = goes_one conds (Cond x e) before f inner typed (adds_one tables f inner (Cond x e) x BoolTy refl refl refl) sees knows (is, tt)
 
     knows_inside : (v : Bool) → Knows before_a (inside conds x v)
     knows_inside v = record {
@@ -278,39 +256,28 @@ module _ (tables : List Table) (params : List Ty) where
       tests = tests-inside before_a conds x v (tests-more before (test ∷ []) conds knows.tests) (length before, some-end (λ (op : FlatOp). (t : Expr) × (op.kind ≡ Cond x t)) before [] test (e, refl));
     }
 
-    parts : RunsOn (length (T before) + 1) (defined_variables first) × RunsOn (length (T before) + 1 + length (defined_variables first)) (defined_variables second)
-    parts = runs_on-parts (length (T before) + 1) (defined_variables first) (defined_variables second) run.1
+    goes_a : GoesOn before_a a i
+    goes_a = goes_first (inside conds x true) before_a inner i well_formed_a (sees-inside inner before_a conds x true goes_test.sees) (knows_inside true) (subst (λ n. RunsTo n first i) (sym goes_test.count) run_a)
 
-    goes_a : Goes before_a (inside conds x true) a (length (defined_variables first)) ga
-    goes_a = goes_block first all (inside conds x true) before_a inner ga well_formed_a (sees-inside inner before_a conds x true goes_test.sees) (knows_inside true) (subst (λ n. RunsOn n (defined_variables first)) (sym goes_test.count) parts.0)
+    goes_b : GoesOn (before_a ++ a) b j
+    goes_b = goes_second (inside conds x false) (before_a ++ a) inner j well_formed_b (sees-inside inner (before_a ++ a) conds x false (sees-more inner before_a a conds goes_test.sees))
+        (knows-more before_a a (inside conds x false) (knows_inside false)) (subst (λ n. RunsTo n second j) (sym goes_a.count) run_b)
 
-    goes_b : Goes (before_a ++ a) (inside conds x false) b (length (defined_variables second)) gb
-    goes_b = goes_block second others (inside conds x false) (before_a ++ a) inner gb well_formed_b (sees-inside inner (before_a ++ a) conds x false (sees-more inner before_a a conds goes_test.sees))
-        (knows-more before_a a (inside conds x false) (knows_inside false)) (subst (λ n. RunsOn n (defined_variables second)) (sym (goes_a.count ∙ ap (λ n. n + length (defined_variables first)) goes_test.count)) parts.1)
+    goes_both : GoesOn before (test ∷ (a ++ b)) j
+    goes_both = goes_on before (test ∷ []) (a ++ b) j goes_test.fine (goes_on before_a a b j goes_a.fine goes_b)
 
-    goes_both : (g : Scope) → Within g inner → Goes before conds (test ∷ (a ++ b)) (length (x ∷ defined_variables first ++ defined_variables second)) g
-    goes_both g less = goes_two before conds (test ∷ []) (a ++ b) 1 (length (defined_variables first) + length (defined_variables second)) (length (x ∷ defined_variables first ++ defined_variables second)) inner g
-        (omega (arith, length-append (defined_variables first) (defined_variables second))) goes_test
-        (goes_two before_a conds a b (length (defined_variables first)) (length (defined_variables second)) (length (defined_variables first) + length (defined_variables second)) inner g refl
-        (record { fine = goes_a.fine; sees = sees-more inner before_a a conds goes_test.sees; count = goes_a.count })
-        (record { fine = goes_b.fine; sees = sees-less inner g ((before_a ++ a) ++ b) conds less (sees-more inner (before_a ++ a) b conds (sees-more inner before_a a conds goes_test.sees)); count = goes_b.count }))
+    sees_rest : Sees inner (before ++ (test ∷ (a ++ b))) conds
+    sees_rest = subst (λ l. Sees inner l conds) (append_assoc before (test ∷ []) (a ++ b)) (sees-more inner before_a (a ++ b) conds goes_test.sees)
 
-  goes_if : (s : Stmt) (x : ℕ) (e : Expr) (first second : List Stmt) → IsBranching s x e first second → AllByRecursion GoesStmt first → AllByRecursion GoesStmt second → GoesStmt s
-  goes_if s x e first second is all others conds before f g well_formed sees knows run =
-      let fa = in_order (map (check tables) first) (with_var f x BoolTy) in
-      let fb = in_order (map (check tables) second) (with_var f x BoolTy) in
-      let p = so_is tables (is_bool (type_in f e) && is_some fa && is_some fb) (without (any_defines (map (check tables) first)) (without (any_defines (map (check tables) second)) (with_var f x BoolTy))) g
-      (sym (ap (λ (c : Check). c.after f) (is.well_formed tables)) ∙ well_formed) in
-      let q = both (is_bool (type_in f e) && is_some fa) (is_some fb) p.0 in
-      let r = both (is_bool (type_in f e)) (is_some fa) q.0 in
-      let ga = there_is fa r.1 in
-      let gb = there_is fb q.1 in
-      subst (λ (k : Flat × List ℕ). Goes before conds (k.0 conds) (length k.1) g) (λ i. (sym is.flat_is i, sym is.variables i))
-      (goes_both x e first second all others conds before f ga.0 gb.0 r.0 ga.1 gb.1 sees knows (subst (RunsOn (length (T before))) is.variables run) g
-      (subst (λ (h : Scope). Within h (with_var f x BoolTy)) p.1 (λ y ty h. without-less (any_defines (map (check tables) second)) (with_var f x BoolTy) y ty (without-less (any_defines (map (check tables) first)) (without (any_defines (map (check tables) second)) (with_var f x BoolTy)) y ty h))))
+    goes_branch : GoesOn before (flat (Branch x e first second rest) conds) k
+    goes_branch = goes_on before (test ∷ (a ++ b)) (flat rest conds) k goes_both.fine
+        (goes_rest conds (before ++ (test ∷ (a ++ b))) inner k well_formed sees_rest (knows-more before (test ∷ (a ++ b)) conds knows) (subst (λ n. RunsTo n rest k) (sym goes_both.count) run))
 
-  goes : (ss : List Stmt) (f g : Scope) → scope_after_all tables ss f ≡ Some g → Sees f [] [] → RunsOn (length params) (defined_variables ss) → Goes [] [] (flat_form ss) (length (defined_variables ss)) g
-  goes ss f g well_formed sees run = goes_block ss (all_by_shape GoesStmt goes_single goes_if ss) [] [] f g well_formed sees (record { defined = λ x h. absurd cc; tests = tt }) run
+  goes_steps : (steps : Steps) → GoesSteps steps
+  goes_steps End conds before f k well_formed sees knows run = record { fine = tt; count = ap (λ l. length (T l)) (append-nil before) ∙ run }
+  goes_steps (Op kind rest) conds before f k well_formed sees knows run = goes_op kind rest (goes_steps rest) conds before f k well_formed sees knows run
+  goes_steps (Branch x e first second rest) conds before f k (typed, in_first, in_second, in_rest) sees knows (is, i, j, run_a, run_b, run) =
+      goes_branch x e first second rest (goes_steps first) (goes_steps second) (goes_steps rest) conds before f i j k typed in_first in_second in_rest sees knows is run_a run_b run
 
   -- ---- all operations
 
@@ -380,27 +347,40 @@ defined_somewhere (op ∷ ops) n x run low high = go (defined_variable op.kind) 
 
 -- ---- the program
 
-module _ (tables : List Table) (proc : Proc) (well_formed : IsWellFormedProc tables proc) (numbered : IsNumbered proc) (few : operations proc.body ≤ MAX_OPS) where
+module _ (tables : List Table) (proc : Proc) (proper : IsProc tables proc) (few : operations proc.body ≤ MAX_OPS) where
   abbrev params : List Ty
   params = types proc.params
 
   abbrev ops : List FlatOp
-  ops = flat_form proc.body
+  ops = flat_form proc
 
   abbrev vars : List Ty
   vars = types_after params ops
 
-  run : RunsOn (length params) (defined_variables proc.body)
-  run = subst (λ n. RunsOn n (defined_variables proc.body)) (sym (length-map proc.params (λ column. column.ty))) numbered
+  same_params : length proc.params ≡ length params
+  same_params = sym (length-map proc.params (λ column. column.ty))
+
+  abbrev end : ℕ
+  end = (all_after (map unrolling proc.body) (beginning proc)).next
+
+  run : RunsTo (length params) (unrolled proc) end
+  run = subst (λ n. RunsTo n (unrolled proc) end) same_params (numbered-unrolled proc)
 
   run_ops : RunsOn (length params) (defined_in ops)
-  run_ops = subst (RunsOn (length params)) (sym (defined_in-line proc.body [])) run
+  run_ops = (runs_to-defined (unrolled proc) [] (length params) end run).0
 
-  end : (g : Scope) × (scope_after_all tables proc.body (scope_of proc.params) ≡ Some g)
-  end = there_is tables params (scope_after_all tables proc.body (scope_of proc.params)) well_formed
+  last : (g : Scope) × (scope_after_all tables proc.body (scope_of proc.params) ≡ Some g)
+  last = there_is tables params (scope_after_all tables proc.body (scope_of proc.params)) proper.well_formed
 
-  all : Goes tables params [] [] ops (length (defined_variables proc.body)) end.0
-  all = goes tables params proc.body (scope_of proc.params) end.0 end.1 (λ x ty h. (h, inl (slice_get_within params x ty h))) run
+  visible : (x : ℕ) (ty : Ty) → scope_of proc.params x ≡ Some ty → x < length proc.params
+  visible x ty h = omega (arith, slice_get_within params x ty h, same_params)
+
+  steps_well_formed : AreWellFormed tables (unrolled proc) (scope_of proc.params)
+  steps_well_formed = all_steady tables proc.body (length proc.params) (scope_of proc.params) last.0 (runs_on-proc tables proc proper) visible last.1 (beginning proc) (scope_of proc.params)
+      (typed-beginning (scope_of proc.params) proc visible)
+
+  all : GoesOn tables params [] ops end
+  all = goes_steps tables params (unrolled proc) [] [] (scope_of proc.params) end steps_well_formed (λ x ty h. (h, inl (slice_get_within params x ty h))) (record { defined = λ x h. absurd cc; tests = tt }) run
 
   at : (j : ℕ) (op : FlatOp) → slice_get ops j ≡ Some op → Stands tables params [] ops j op
   at j op is = stands tables params [] ops all.fine j op is
@@ -447,9 +427,9 @@ module _ (tables : List Table) (proc : Proc) (well_formed : IsWellFormedProc tab
 
   pub well_formed_program : IsWellFormedProgram (shapes tables) (program_of proc)
   well_formed_program = record {
-    few = omega (arith, few, length-line proc.body []);
+    few = omega (arith, few, length-flat_form proc);
     params = prefix-types_after ops params;
-    defined = λ x low high. defined_somewhere ops (length params) x run_ops low (omega (arith, high, all.count, ap length (defined_in-line proc.body [])));
+    defined = λ x low high. defined_somewhere ops (length params) x run_ops low (omega (arith, high, all.count, (runs_to-defined (unrolled proc) [] (length params) end run).1));
     once = λ i j x. defined_once ops (length params) i j x run_ops;
     after = λ i x. lowest ops (length params) i x run_ops;
     given = given_at;
@@ -470,4 +450,4 @@ well_formed_programs tables procs all within n program is = go (slice_get procs 
         let proper : IsProc tables proc = subst (IsProc tables) one (all n proc inside_it) in
         let few : operations proc.body ≤ MAX_OPS = subst (λ (p : Proc). operations p.body ≤ MAX_OPS) one (within.each n proc inside_it) in
         let same : program_of proc ≡ program = cc in
-        subst (IsWellFormedProgram (shapes tables)) same (well_formed_program tables proc proper.well_formed (numbered-proc tables proc proper) few)
+        subst (IsWellFormedProgram (shapes tables)) same (well_formed_program tables proc proper few)

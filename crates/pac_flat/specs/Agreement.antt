@@ -22,7 +22,7 @@ Agrees (Err note) s notes = first_note notes ≡ Some note
 -- a program means what a procedure means, in a transaction of any number, for all arguments and all tables
 pub record MeansTheSame (proc : Proc) (program : Program) : Type 0 where
   pub called : (txn : ℕ) (args : List Value) (tables : Tables)
-      → Agrees (in_txn txn (meaning proc.body 0 (opening args tables))) (flat_meaning program.vars program.ops (opening args tables)) (notes_of program.vars txn 0 program.ops (opening args tables))
+      → Agrees (in_txn txn (meaning proc (opening args tables))) (flat_meaning program.vars program.ops (opening args tables)) (notes_of program.vars txn 0 program.ops (opening args tables))
 
 -- what is replayed is what serial execution gives: where that ends, the tables are the same and no note is left; where it
 -- stops, the first note says where and why

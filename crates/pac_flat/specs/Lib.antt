@@ -1,2 +1,3 @@
 pub mod FlatForm
+pub mod Names
 pub mod Agreement

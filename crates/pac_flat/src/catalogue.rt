@@ -4,7 +4,8 @@ ghost use Rattle.std.specs.List.{AllZip};
 ghost use Rattle.pac_base.specs.Refusals.{OkUnlessMemory};
 ghost use Rattle.pac_base.specs.declared.refusal.Refusal.TheVariants.{Fault as AFault};
 ghost use Rattle.pac_ops.specs.Programs.{AreWellFormedPrograms, count_ops};
-ghost use Rattle.pac_ops.specs.declared.limits.TheConstants.{MAX_ALL_OPS};
+ghost use Rattle.pac_ops.specs.declared.limits.TheConstants.{MAX_OPS, MAX_ALL_OPS};
+ghost use Rattle.pac_value.specs.declared.limits.TheConstants.{MAX_PARAMS};
 ghost use Rattle.pac_types.specs.Fits.{shape};
 ghost use Rattle.pac_types.specs.Meaning.{operations};
 ghost use Rattle.pac_types.specs.OperationLimits.{HasFewOperations, IsFirstExcess};
@@ -20,7 +21,8 @@ use std::alloc::Global;
 use thiserror::Error;
 
 /// The first procedure at which operations are too many, by its number, and how many: its own, where these are more than
-/// 256, or else those up to its end, where these are more than 4,096.
+/// 256, or else those up to its end, where these are more than 4,096. The operations of every turn of a loop count; a
+/// million stands for all larger numbers.
 #[derive(Clone, Copy, Debug, PartialEq, Eq, Error)]
 #[error("{count} operations at procedure {proc}")]
 pub struct TooManyOps {
@@ -39,8 +41,8 @@ impl From<TooManyOps> for FlatError {
     }
 }
 
-/// The programs of a catalogue's procedures, in the order of their numbers. Linear in the operations and their
-/// conditions.
+/// The programs of a catalogue's procedures, in the order of their numbers. Loops are unrolled, once operations are
+/// found to be few. Linear in the operations and their conditions, and in the turns of loops.
 ///
 /// # Errors
 ///
@@ -64,7 +66,7 @@ pub fn flatten(alloc: Global, cat: &Catalogue) -> Result<Vec<Program>, FlatError
 }
 
 /// That a catalogue's procedures have few operations enough: at most 256 each, and 4,096 in all. Takes no memory. Linear
-/// in the statements.
+/// in the statements, however many turns their loops have.
 ///
 /// # Errors
 ///
@@ -80,6 +82,8 @@ pub fn test_operations(cat: &Catalogue) -> Result<(), TooManyOps>
 
 // The program of each procedure.
 fn flat_programs(alloc: Global, procs: &[Proc]) -> Result<Vec<Program>, NoMemory>
+    requires params { All (λ proc. length proc.params ≤ MAX_PARAMS) procs.now }
+    requires few { All (λ proc. operations proc.body ≤ MAX_OPS) procs.now }
     ensures { IfOk result (λ programs. programs.items ≡ map program_of procs.now) }
 {
     let mut programs = Vec::with_capacity(alloc, procs.len())?;
@@ -92,12 +96,11 @@ fn flat_programs(alloc: Global, procs: &[Proc]) -> Result<Vec<Program>, NoMemory
 // That operations are not too many.
 fn test_counts(procs: &[Proc]) -> Result<(), TooManyOps>
     requires few { length procs.now < 2 ^ 16 }
-    requires counted { All (λ proc. operations proc.body < 2 ^ 16) procs.now }
     ensures { MatchResult result (λ _. HasFewOperations procs.now) (λ fault. IsFirstExcess procs.now fault.proc fault.count) }
 {
     let mut up_to = 0;
     for number in 0..procs.len() {
-        let own = usize::from(count_operations(procs[number].body.as_slice()));
+        let own = count_operations(procs[number].body.as_slice()) as usize;
         up_to += own;
         if own > MAX_OPS {
             return Err(too_many(number, own));

@@ -21,6 +21,7 @@
 
 mod block;
 mod catalogue;
+mod point;
 mod program;
 mod variables;
 

@@ -1,6 +1,8 @@
 pub mod StmtForms
 pub mod StmtShapes
 pub mod UnrolledLemmas
+pub mod RunsOnLemmas
+pub mod TurnLemmas
 pub mod ScopeLemmas
 pub mod WellFormedLemmas
 pub mod NameLemmas

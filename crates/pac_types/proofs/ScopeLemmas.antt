@@ -16,7 +16,7 @@ Within f g = (x : ℕ) (ty : Ty) → f x ≡ Some ty → g x ≡ Some ty
 abbrev pub TypeWithin : Option Ty → Option Ty → Type 0
 TypeWithin a b = (ty : Ty) → a ≡ Some ty → b ≡ Some ty
 
-both_within : (k : Ty → Ty → Option Ty) (l l' r r' : Option Ty) → TypeWithin l l' → TypeWithin r r'
+pub both_within : (k : Ty → Ty → Option Ty) (l l' r r' : Option Ty) → TypeWithin l l' → TypeWithin r r'
     → TypeWithin (option_and_then (λ a. option_and_then (λ b. k a b) r) l) (option_and_then (λ a. option_and_then (λ b. k a b) r') l')
 both_within k None l' r r' p q ty h = cc
 both_within k (Some a) l' None r' p q ty h = cc
@@ -24,7 +24,7 @@ both_within k (Some a) l' (Some b) r' p q ty h =
     subst (λ (o : Option Ty). option_and_then (λ a. option_and_then (λ b. k a b) r') o ≡ Some ty) (sym (p a refl))
     (subst (λ (o : Option Ty). option_and_then (λ b. k a b) o ≡ Some ty) (sym (q b refl)) h)
 
-one_within : (k : Ty → Option Ty) (e e' : Option Ty) → TypeWithin e e' → TypeWithin (option_and_then k e) (option_and_then k e')
+pub one_within : (k : Ty → Option Ty) (e e' : Option Ty) → TypeWithin e e' → TypeWithin (option_and_then k e) (option_and_then k e')
 one_within k None e' p ty h = cc
 one_within k (Some a) e' p ty h = subst (λ (o : Option Ty). option_and_then k o ≡ Some ty) (sym (p a refl)) h
 

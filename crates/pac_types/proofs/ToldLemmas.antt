@@ -49,3 +49,19 @@ told-product a b = go (either_told a) (either_told b)
     go (inl p) (inr q) = (λ i. told (p.1 i * q.1 i)) ∙ told-right a b q.0
     go (inr p) (inl q) = (λ i. told (p.1 i * q.1 i)) ∙ told-left a b p.0
     go (inr p) (inr q) = (λ i. told (p.1 i * q.1 i)) ∙ told-left MAX_COUNT MAX_COUNT (omega arith) ∙ told-right MAX_COUNT b q.0 ∙ told-left a b p.0
+
+-- no more is told than there is
+pub told-most : (n : ℕ) → told n ≤ n
+told-most n = go (either_told n)
+  where
+    go : (((n < MAX_COUNT) × (told n ≡ n)) ⊎ ((MAX_COUNT ≤ n) × (told n ≡ MAX_COUNT))) → told n ≤ n
+    go (inl p) = omega (arith, p.1)
+    go (inr p) = omega (arith, p.0, p.1)
+
+-- what is told as less than a million is told exactly
+pub told-exact : (n : ℕ) → told n < MAX_COUNT → told n ≡ n
+told-exact n h = go (either_told n)
+  where
+    go : (((n < MAX_COUNT) × (told n ≡ n)) ⊎ ((MAX_COUNT ≤ n) × (told n ≡ MAX_COUNT))) → told n ≡ n
+    go (inl p) = p.1
+    go (inr p) = let no_way : ⊥ = omega (arith, p.1, h) in absurd no_way

@@ -11,7 +11,7 @@ use Rattle.pac_types.specs.Fits.{shape}
 use Rattle.pac_flat.specs.Agreement.{MeansTheSame, ReplaysTheSame}
 use Rattle.pac_flat.specs.FlatForm.{program_of}
 use Rattle.pac_flat.proofs.FormLemmas.{count_all}
-use Rattle.pac_flat.proofs.LawLemmas.{numbered-at, each-numbered, all_mean_the_same, replays_the_same}
+use Rattle.pac_flat.proofs.LawLemmas.{all_mean_the_same, replays_the_same}
 use Rattle.pac_flat.proofs.WellFormedProgram.{well_formed_programs}
 use Rattle.pac_flat.proofs.catalogue.flatten.Goals as goal
 use Rattle.pac_flat.proofs.catalogue.flatten.Goals.{In_ok-flat_programs}
@@ -30,11 +30,11 @@ returns-in_err-test_operations-clause-fault c =
 
 pub returns-clause-means : goal.returns-clause-means
 returns-clause-means c = subst (λ (programs : List Program). AllZip MeansTheSame c.args.cat.now.procs programs) (sym (programs_are c))
-    (all_mean_the_same c.args.cat.now.procs (each-numbered c.args.cat.now.procs (numbered-at c.args.cat.now.tables c.args.cat.now.procs c.procs.ensures.well_formed)))
+    (all_mean_the_same c.args.cat.now.procs)
 
 pub returns-clause-replays : goal.returns-clause-replays
 returns-clause-replays c = subst (λ (programs : List Program). ReplaysTheSame c.args.cat.now.procs programs) (sym (programs_are c))
-    (replays_the_same c.args.cat.now.procs (numbered-at c.args.cat.now.tables c.args.cat.now.procs c.procs.ensures.well_formed))
+    (replays_the_same c.args.cat.now.procs)
 
 pub returns-clause-well_formed : goal.returns-clause-well_formed
 returns-clause-well_formed c = subst (λ (programs : List Program). AreWellFormedPrograms (map shape c.args.cat.now.tables) programs) (sym (programs_are c))
