@@ -11,7 +11,8 @@ use Rattle.pac_ops.specs.Operations.{State, with_values}
 use Rattle.pac_types.specs.declared.procedure.Proc.{Proc}
 use Rattle.pac_types.specs.declared.table.Table.{Table}
 use Rattle.pac_types.specs.Typing.{IsProc}
-use Rattle.pac_types.specs.Meaning.{Abort as AnAbort, meaning}
+use Rattle.pac_types.specs.Meaning.{Abort as AnAbort, operations}
+use Rattle.pac_types.specs.OperationLimits.{HasFewOperations}
 use Rattle.pac_types.specs.Execution.{called_at}
 use Rattle.pac_types.specs.Fits.{FitTables, FitParams, FitsCall}
 use Rattle.pac_serial.specs.declared.operation.Halt.{Halt}
@@ -21,6 +22,9 @@ use Rattle.pac_serial.specs.declared.execute.ExecError.TheVariants.{Abort as Abo
 use Rattle.pac_serial.specs.WriteSets.{Changes, as_changed}
 use Rattle.pac_serial.specs.Outcomes.{Executes, RunsFrom, error_of, limited}
 use Rattle.pac_serial.specs.Transactions.{RunsOver}
+use Rattle.pac_serial.specs.TextMeaning.{code_count, text_meaning}
+use Rattle.pac_serial.proofs.CodeLemmas.{count-all-operations}
+use Rattle.pac_serial.proofs.SameMeaning.{same-called}
 use Rattle.pac_serial.proofs.WriteSetLemmas.{seen-none, knows-none}
 
 -- the procedure that a call names, and its arguments
@@ -41,6 +45,13 @@ is-proc tables procs n proc found all =
     let same : get_or procs n proc ≡ proc = let both : Some (get_or procs n proc) ≡ Some proc = sym (slice_get-get_or procs n proc within) ∙ found in cc in
     subst (λ (p : Proc). IsProc tables p) same (all n proc within)
 
+-- and has few operations
+pub few-operations : (procs : List Proc) (n : ℕ) (proc : Proc) → slice_get procs n ≡ Some proc → HasFewOperations procs → code_count proc.body < 65536
+few-operations procs n proc found few =
+    let within : n < length procs = slice_get_within procs n proc found in
+    let same : get_or procs n proc ≡ proc = let both : Some (get_or procs n proc) ≡ Some proc = sym (slice_get-get_or procs n proc within) ∙ found in cc in
+    omega (arith, few.each n proc within, ap (λ (p : Proc). operations p.body) same, count-all-operations proc.body)
+
 -- where it begins, it has changed nothing
 pub runs-begun : (tables : List Table) (n : ℕ) (held : Tables) (write_set : Changes) → n ≡ length tables → FitTables tables held → write_set ≡ empty → RunsOver tables n held write_set
 runs-begun tables n held write_set count fits begun = subst (λ (d : Changes). RunsOver tables n held d) (sym begun) (record {
@@ -50,11 +61,12 @@ runs-begun tables n held write_set count fits begun = subst (λ (d : Changes). R
 })
 
 -- what a call means is what its statements mean from there
-pub called-is : (procs : List Proc) (n : ℕ) (proc : Proc) (args : List Value) (held : Tables) (env : Values) (write_set : Changes) → slice_get procs n ≡ Some proc → env ≡ with_values 0 args empty → write_set ≡ empty
-    → called_at (slice_get procs n) args held ≡ (meaning proc.body 0 (record { env = env; tables = as_changed held write_set }) >>= λ s. Ok s.tables)
-called-is procs n proc args held env write_set found opened begun =
+pub called-is : (ts : List Table) (procs : List Proc) (n : ℕ) (proc : Proc) (args : List Value) (held : Tables) (env : Values) (write_set : Changes) → IsProc ts proc → slice_get procs n ≡ Some proc → env ≡ with_values 0 args empty → write_set ≡ empty
+    → called_at (slice_get procs n) args held ≡ (text_meaning proc.body 0 (record { env = env; tables = as_changed held write_set }) >>= λ s. Ok s.tables)
+called-is ts procs n proc args held env write_set is found opened begun =
     ap (λ o. called_at o args held) found
-    ∙ ap (λ (s : State). meaning proc.body 0 s >>= λ t. Ok t.tables) (λ i. record { env = sym opened i; tables = (sym (seen-none held) ∙ ap (as_changed held) (sym begun)) i })
+    ∙ sym (same-called ts proc is args held)
+    ∙ ap (λ (s : State). text_meaning proc.body 0 s >>= λ t. Ok t.tables) (λ i. record { env = sym opened i; tables = (sym (seen-none held) ∙ ap (as_changed held) (sym begun)) i })
 
 -- operations that halt refuse the transaction
 pub halted : (limit : Option ℕ) (n : ℕ) (m : Result State AnAbort) (halt : Halt) (now : State) (held : Tables) (r : Result (Unit {0}) Halt) (error : Result (Unit {0}) ExecError) → r ≡ Err halt → error ≡ Err (error_of halt) → RunsFrom 0 r m now → Executes (limited limit n (m >>= λ s. Ok s.tables)) held held error

@@ -6,6 +6,9 @@ pub mod CommitLemmas
 pub mod LimitLemmas
 pub mod FitLemmas
 pub mod RowLemmas
+pub mod CodeLemmas
+pub mod TurnRunLemmas
+pub mod SameMeaning
 pub mod RunLemmas
 pub mod ExecLemmas
 pub mod OpeningLemmas

@@ -2,3 +2,4 @@ pub mod WriteSets
 pub mod Commits
 pub mod Outcomes
 pub mod Transactions
+pub mod TextMeaning

@@ -3,6 +3,7 @@ ghost use Rattle.std.specs.Prelude.{◌≡◌, Ok, None, OnOk, OnErr, map, slice
 ghost use Rattle.pac_ops.specs.Shapes.{ChangeFits, RecordsFit};
 ghost use Rattle.pac_ops.specs.Transactions.{with_change, with_changes};
 ghost use Rattle.pac_types.specs.Execution.{called_at, txn_meaning};
+ghost use Rattle.pac_types.specs.OperationLimits.{HasFewOperations};
 ghost use Rattle.pac_types.specs.Fits.{shape, FitsCatalogue, FitsCall, TxnFits};
 ghost use Rattle.pac_serial.specs.WriteSets.{as_changed, KnowsTables};
 ghost use Rattle.pac_serial.specs.Outcomes.{Executes, limited};
@@ -84,6 +85,7 @@ pub(crate) fn exec_call<R: Rows>(
     rows: &mut R,
     txn: &mut RunningTxn,
 ) -> Result<(), ExecError>
+    requires few { HasFewOperations cat.now.procs }
     requires call { FitsCall cat.now.procs proc args.now }
     requires fits { FitsCatalogue cat.now (R.tables rows.old) (R.held rows.old) }
     ensures does { Executes (limited limit (R.tables rows.old) (called_at (slice_get cat.now.procs proc) args.now (R.held rows.old))) (R.held rows.old) (R.held rows.new) result }
@@ -159,6 +161,7 @@ pub fn exec<R: Rows>(
     limit: Option<u64>,
     rows: &mut R,
 ) -> Result<(), ExecError>
+    requires few { HasFewOperations cat.now.procs }
     requires call { FitsCall cat.now.procs proc args.now }
     requires fits { FitsCatalogue cat.now (R.tables rows.old) (R.held rows.old) }
     ensures does { Executes (limited limit (R.tables rows.old) (called_at (slice_get cat.now.procs proc) args.now (R.held rows.old))) (R.held rows.old) (R.held rows.new) result }
@@ -200,6 +203,7 @@ pub(crate) fn exec_txn<R: Rows>(
     rows: &mut R,
     running: &mut RunningTxn,
 ) -> Result<(), ExecError>
+    requires few { HasFewOperations cat.now.procs }
     requires txn { TxnFits cat.now txn.now }
     requires fits { FitsCatalogue cat.now (R.tables rows.old) (R.held rows.old) }
     ensures does { Executes (limited None (R.tables rows.old) (txn_meaning cat.now.procs txn.now (R.held rows.old))) (R.held rows.old) (R.held rows.new) result }

@@ -1,6 +1,7 @@
 // Executes transactions one after another.
 ghost use Rattle.std.specs.Prelude.{◌≡◌, ◌+◌, ◌^◌, ◌<◌, length};
 ghost use Rattle.std.specs.List.{AllByRecursion};
+ghost use Rattle.pac_types.specs.OperationLimits.{HasFewOperations};
 ghost use Rattle.pac_types.specs.Fits.{FitsCatalogue, TxnFits};
 ghost use Rattle.pac_types.specs.Execution.{serial};
 ghost use Rattle.pac_serial.specs.Outcomes.{ExecutesAll};
@@ -51,6 +52,7 @@ pub fn exec_all<R: Rows>(
     batch: &Batch,
     rows: &mut R,
 ) -> Result<(), AllError>
+    requires few { HasFewOperations cat.now.procs }
     requires fit { AllByRecursion (TxnFits cat.now) batch.now.txns }
     requires rows { FitsCatalogue cat.now (R.tables rows.old) (R.held rows.old) }
     requires numbers { batch.now.first + length batch.now.txns < 2 ^ 64 }

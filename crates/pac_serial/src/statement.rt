@@ -1,10 +1,13 @@
 // Executes statements.
-ghost use Rattle.std.specs.Prelude.{◌≡◌, ◌+◌, ◌-◌, ◌<◌, ◌^◌, ℕ, length, map, IsTrue, IfErr, Ok, Err, OnOk, IfOk, IsSome};
+ghost use Rattle.std.specs.Prelude.{◌≡◌, ◌+◌, ◌-◌, ◌*◌, ◌<◌, ◌^◌, ◌==◌, ◌||◌, ◌-ℤ◌, ◌≤ℤ◌, ℕ, length, map, IsTrue, IfErr, Ok, Err, OnOk, IfOk, IsSome};
 ghost use Rattle.pac_value.specs.Expressions.{types_of, type_in, value};
 ghost use Rattle.pac_value.specs.Scopes.{is_bool};
 ghost use Rattle.pac_value.specs.declared.values.Value.TheVariants.{Bool as Truth};
-ghost use Rattle.pac_types.specs.WellFormed.{check, any_defines, scope_after, scope_after_all};
-ghost use Rattle.pac_types.specs.Meaning.{code, operations, meaning};
+ghost use Rattle.pac_value.specs.Scopes.{with_var};
+ghost use Rattle.pac_value.specs.declared.values.Ty.TheVariants.{Int as IntTy};
+ghost use Rattle.pac_types.specs.Unrolled.{natural, turns, numbers};
+ghost use Rattle.pac_types.specs.WellFormed.{without, check, any_defines, scope_after, scope_after_all};
+ghost use Rattle.pac_serial.specs.TextMeaning.{code, code_count, run_turns, text_meaning};
 ghost use Rattle.pac_serial.specs.Outcomes.{RunsFrom, IsHaltWithin, IsTrapOf, moved, Sees, KeepsTypes};
 ghost use Rattle.pac_serial.specs.Transactions.{state_of, RunsOver};
 
@@ -26,6 +29,25 @@ fn after(before: u16, halt: Halt) -> Halt
         },
         Halt::NoMemory => Halt::NoMemory,
     }
+}
+
+// How many operations statements are.
+fn count(stmts: &[Stmt]) -> u16
+    requires { code_count stmts.now < 2 ^ 16 }
+    ensures { result ≡ code_count stmts.now }
+{
+    count_operations(stmts) as u16
+}
+
+// How many operations stand in the turns before that of a number.
+fn count_before(from: i64, number: i64, body: &[Stmt]) -> u16
+    requires up { from ≤ℤ number }
+    requires block { code_count body.now < 2 ^ 16 }
+    requires all { natural (number -ℤ from) * code_count body.now < 2 ^ 16 }
+    ensures { result ≡ natural (number -ℤ from) * code_count body.now }
+{
+    let turns = (i128::from(number) - i128::from(from)) as u64;
+    (turns * u64::from(count(body))) as u16
 }
 
 // The value of a conditional's test.
@@ -107,11 +129,47 @@ fn exec_stmt<R: Rows>(
             } else {
                 match exec_block(tables, rows, second.as_slice(), txn) {
                     Ok(()) => Ok(()),
-                    Err(halt) => Err(after(1 + count_operations(first.as_slice()), halt)),
+                    Err(halt) => Err(after(1 + count(first.as_slice()), halt)),
                 }
             }
         }
+        Stmt::For {
+            var,
+            from,
+            to,
+            body,
+        } => exec_turns(tables, rows, *var, *from, *to, body.as_slice(), txn),
     }
+}
+
+// Executes a block once for each number from one on and below another, ascending. Its variables and the loop's have one
+// place each, which the next turn fills anew.
+#[cycle(exec)]
+fn exec_turns<R: Rows>(
+    tables: &[Table],
+    rows: &R,
+    var: u16,
+    from: i64,
+    to: i64,
+    body: &[Stmt],
+    txn: &mut RunningTxn,
+) -> Result<(), Halt>
+    requires well_formed { IsSome (scope_after_all tables.now body.now (with_var (without (any_defines (map (check tables.now) body.now)) (types_of txn.old.env)) var IntTy)) }
+    requires numbers { turns from to * code_count body.now < 2 ^ 16 }
+    requires over { RunsOver tables.now (R.tables rows.now) (R.held rows.now) txn.old.write_set }
+    ensures runs { (n : ℕ) → RunsFrom n result (run_turns var (map code body.now) (numbers from to) n (state_of (R.held rows.now) txn.old)) (state_of (R.held rows.now) txn.new) }
+    ensures within { IfErr result (IsHaltWithin (turns from to * code_count body.now)) }
+    ensures keeps { OnOk result (KeepsTypes (λ y. y == var || any_defines (map (check tables.now) body.now) y) txn.old.env txn.new.env) }
+    ensures over { OnOk result (RunsOver tables.now (R.tables rows.now) (R.held rows.now) txn.new.write_set) }
+{
+    for number in from..to {
+        define(&mut txn.env, var, Value::Int(number))?;
+        match exec_block(tables, rows, body, txn) {
+            Ok(()) => {}
+            Err(halt) => return Err(after(count_before(from, number, body), halt)),
+        }
+    }
+    Ok(())
 }
 
 /// Executes statements in order. Operations are counted where one aborts.
@@ -123,17 +181,17 @@ pub(crate) fn exec_block<R: Rows>(
     txn: &mut RunningTxn,
 ) -> Result<(), Halt>
     requires well_formed { IsSome (scope_after_all tables.now stmts.now (types_of txn.old.env)) }
-    requires numbers { operations stmts.now < 2 ^ 16 }
+    requires numbers { code_count stmts.now < 2 ^ 16 }
     requires over { RunsOver tables.now (R.tables rows.now) (R.held rows.now) txn.old.write_set }
-    ensures runs { (n : ℕ) → RunsFrom n result (meaning stmts.now n (state_of (R.held rows.now) txn.old)) (state_of (R.held rows.now) txn.new) }
-    ensures within { IfErr result (IsHaltWithin (operations stmts.now)) }
+    ensures runs { (n : ℕ) → RunsFrom n result (text_meaning stmts.now n (state_of (R.held rows.now) txn.old)) (state_of (R.held rows.now) txn.new) }
+    ensures within { IfErr result (IsHaltWithin (code_count stmts.now)) }
     ensures keeps { OnOk result (KeepsTypes (any_defines (map (check tables.now) stmts.now)) txn.old.env txn.new.env) }
     ensures over { OnOk result (RunsOver tables.now (R.tables rows.now) (R.held rows.now) txn.new.write_set) }
 {
     for (i, stmt) in stmts.iter().enumerate() {
         match exec_stmt(tables, rows, stmt, txn) {
             Ok(()) => {}
-            Err(halt) => return Err(after(count_operations(&stmts[..i]), halt)),
+            Err(halt) => return Err(after(count(&stmts[..i]), halt)),
         }
     }
     Ok(())

@@ -9,13 +9,14 @@ use Rattle.pac_types.specs.declared.statement.Stmt.{Stmt}
 use Rattle.pac_types.specs.declared.table.Table.{Table}
 use Rattle.pac_types.specs.WellFormed.{scope_after_all}
 use Rattle.pac_types.specs.Typing.{IsProc}
-use Rattle.pac_types.specs.Meaning.{Abort, operations, meaning}
+use Rattle.pac_types.specs.Meaning.{Abort}
+use Rattle.pac_serial.specs.TextMeaning.{code_count, text_meaning}
 use Rattle.pac_ops.specs.Operations.{State}
 use Rattle.pac_types.specs.Execution.{called_at}
 use Rattle.pac_types.specs.Fits.{FitParams}
 use Rattle.pac_serial.specs.Outcomes.{Executes, limited}
 use Rattle.pac_serial.specs.Transactions.{RunsOver, state_of}
-use Rattle.pac_serial.proofs.CallLemmas.{at-call, is-proc, runs-begun, called-is, halted}
+use Rattle.pac_serial.proofs.CallLemmas.{at-call, is-proc, few-operations, runs-begun, called-is, halted}
 use Rattle.pac_serial.proofs.OpeningLemmas.{opening-well_formed}
 use Rattle.pac_serial.proofs.execute.exec_call.Goals as goal
 
@@ -34,8 +35,7 @@ exec_block-requires-clause-numbers g c =
     let cat = c.args.cat.now in
     let proc = c.index-procs-from.result in
     let found = at-call cat.procs c.args.proc c.args.args.now c.from.result proc c.requires.call c.from.ensures (c.index-procs-from.is ∙ ap (λ (ps : List Proc). slice_index_or ps c.from.result proc) c.procs.ensures.value) in
-    let is : IsProc cat.tables proc = is-proc cat.tables cat.procs c.args.proc proc found.0 c.procs.ensures.well_formed in
-    omega (arith, ap operations c.as_slice.ensures, is.counted)
+    omega (arith, ap code_count c.as_slice.ensures, few-operations cat.procs c.args.proc proc found.0 c.requires.few)
 
 pub exec_block-requires-clause-over : goal.exec_block-requires-clause-over
 exec_block-requires-clause-over g c =
@@ -49,11 +49,12 @@ returns-in_err-exec_block-clause-does g c =
     let held = g.R.Rows.held c.args.rows.now in
     let proc = c.index-procs-from.result in
     let found = at-call cat.procs c.args.proc c.args.args.now c.from.result proc c.requires.call c.from.ensures (c.index-procs-from.is ∙ ap (λ (ps : List Proc). slice_index_or ps c.from.result proc) c.procs.ensures.value) in
-    let means = called-is cat.procs c.args.proc proc c.args.args.now held c.begin.new.self.env c.begin.new.self.write_set found.0 c.in_ok-begin.ensures.env c.in_ok-begin.ensures.write_set
-    ∙ ap (λ xs. meaning xs 0 (state_of held c.begin.new.self) >>= λ s. Ok s.tables) (sym c.as_slice.ensures) in
+    let is : IsProc cat.tables proc = is-proc cat.tables cat.procs c.args.proc proc found.0 c.procs.ensures.well_formed in
+    let means = called-is cat.tables cat.procs c.args.proc proc c.args.args.now held c.begin.new.self.env c.begin.new.self.write_set is found.0 c.in_ok-begin.ensures.env c.in_ok-begin.ensures.write_set
+    ∙ ap (λ xs. text_meaning xs 0 (state_of held c.begin.new.self) >>= λ s. Ok s.tables) (sym c.as_slice.ensures) in
     let p = err_from_is_err_and c.from_residual-in_err-exec_block.result c.from_residual-in_err-exec_block.ensures.1 in
     subst (λ (m : Result Tables Abort). Executes (limited c.args.limit (g.R.Rows.tables c.args.rows.now) m) held held c.from_residual-in_err-exec_block.result) (sym means)
-    (halted c.args.limit (g.R.Rows.tables c.args.rows.now) (meaning c.as_slice.result.now 0 (state_of held c.begin.new.self)) c.in_err-exec_block.field-0.0 (state_of held c.exec_block.new.txn) held
+    (halted c.args.limit (g.R.Rows.tables c.args.rows.now) (text_meaning c.as_slice.result.now 0 (state_of held c.begin.new.self)) c.in_err-exec_block.field-0.0 (state_of held c.exec_block.new.txn) held
     c.exec_block.result c.from_residual-in_err-exec_block.result c.in_err-exec_block.was (p.1 ∙ ap Err p.2) (c.exec_block.ensures.runs 0))
 
 pub returns-clause-does : goal.returns-clause-does
@@ -62,6 +63,7 @@ returns-clause-does g c =
     let held = g.R.Rows.held c.args.rows.now in
     let proc = c.index-procs-from.result in
     let found = at-call cat.procs c.args.proc c.args.args.now c.from.result proc c.requires.call c.from.ensures (c.index-procs-from.is ∙ ap (λ (ps : List Proc). slice_index_or ps c.from.result proc) c.procs.ensures.value) in
-    let means = called-is cat.procs c.args.proc proc c.args.args.now held c.begin.new.self.env c.begin.new.self.write_set found.0 c.in_ok-begin.ensures.env c.in_ok-begin.ensures.write_set
-    ∙ ap (λ (r : Result State Abort). r >>= λ s. Ok s.tables) (ap (λ xs. meaning xs 0 (state_of held c.begin.new.self)) (sym c.as_slice.ensures) ∙ c.in_ok-exec_block.ensures.runs 0) in
+    let is : IsProc cat.tables proc = is-proc cat.tables cat.procs c.args.proc proc found.0 c.procs.ensures.well_formed in
+    let means = called-is cat.tables cat.procs c.args.proc proc c.args.args.now held c.begin.new.self.env c.begin.new.self.write_set is found.0 c.in_ok-begin.ensures.env c.in_ok-begin.ensures.write_set
+    ∙ ap (λ (r : Result State Abort). r >>= λ s. Ok s.tables) (ap (λ xs. text_meaning xs 0 (state_of held c.begin.new.self)) (sym c.as_slice.ensures) ∙ c.in_ok-exec_block.ensures.runs 0) in
     subst (λ (m : Result Tables Abort). Executes (limited c.args.limit (g.R.Rows.tables c.args.rows.now) m) held (g.R.Rows.held c.finish.new.rows) c.finish.result) (sym means) c.finish.ensures.does
