@@ -7,12 +7,14 @@
 //! - [`no_rows`]: the tables of a catalogue, without rows. [`first_over`]: the first table with more rows than a limit.
 //!
 //! ```
+//! use pac_flat::test_operations;
 //! use pac_serial::{exec, no_rows};
 //! use pac_tables::OrderedRows;
 //! use pac_types::read_catalogue;
 //! use pac_value::Value;
 //!
 //! let cat = read_catalogue(alloc, b"table T(key int, v int); proc P(v int) { put T[1] = (v); }")?;
+//! test_operations(&cat)?; // so that each operation has a number of 16 bits
 //! let mut rows: OrderedRows = no_rows(alloc, &cat)?;
 //! exec(alloc, &cat, 0, &[Value::Int(5)], Some(1_000_000), &mut rows)?; // T[1] = (5)
 //! ```
@@ -22,6 +24,9 @@
 //! tables are unchanged. It is refused for an abort exactly where it means one, with its operation and reason; else as
 //! `Full` exactly where some table would be over the limit, with the first such table; else only when out of memory
 //! (`does`).
+//!
+//! A loop's block is executed where it stands, over values by the numbers of the text. `specs/TextMeaning.antt` says what
+//! that does, and `proofs/SameMeaning.antt` shows that it gives the tables and the aborts of the serial meaning.
 #![tactic(auto)]
 
 mod commit;

@@ -3,7 +3,8 @@
 //! - [`read_catalogue`]: the [`Catalogue`] of a text, or its first [`CatalogueFault`]. [`check`]: that of a tree, or
 //!   its first [`TypeFault`].
 //! - [`Table`], [`Column`]: a table's name, the type of its key, and its columns. [`Proc`], [`Stmt`]: a procedure's
-//!   name, its parameters and its statements. [`count_operations`]: how many operations these are.
+//!   name, its parameters and its statements. [`count_operations`]: how many operations these are, those of every turn
+//!   of a loop among them, up to a [million](MAX_COUNT).
 //!
 //! ```
 //! use pac_types::read_catalogue;
@@ -22,7 +23,9 @@
 //! - `specs/Faults.antt` says which faults a tree has, by the rules of scope and type and without an order of search.
 //!   `specs/Typing.antt` says which catalogue a tree has, by the numbers of `specs/Numbering.antt` and the types of
 //!   `specs/WellFormed.antt`. A tree has a catalogue exactly where it has no fault.
-//! - `specs/Meaning.antt` says what statements and procedures mean, by recursion on the tree: the serial meaning.
+//! - `specs/Unrolled.antt` says which steps statements are, by recursion on the tree: a loop is its block repeated for
+//!   each number, with operations and variables of its own. `specs/Meaning.antt` says what steps, and so procedures, do:
+//!   the serial meaning.
 //!   `specs/Execution.antt` says what transactions mean, one after another, and which table is over a limit;
 //!   `specs/Fits.antt` which rows and transactions fit a catalogue. Every execution is held to these.
 //! - `specs/OperationLimits.antt` says how many operations procedures may have; no call of this crate tests it.
