@@ -11,7 +11,7 @@ use Rattle.pac_serial.specs.declared.pending.Pending.{Pending}
 use Rattle.pac_serial.specs.WriteSets.{Change, laid, KnowsTable, KnowsAll}
 use Rattle.pac_serial.specs.Commits.{cells, AreIn, AreThere, IsThere, with_new_row, with_moved, without_row, emptied, with_new, without_new, with_made, with_rest}
 use Rattle.pac_serial.proofs.WriteSetLemmas.{row_or, get-laid}
-use Rattle.pac_serial.proofs.OffsetLemmas.{below_at, flipped-Less}
+use Rattle.pac_value.proofs.OffsetLemmas.{below_at, flipped-Less}
 use Rattle.pac_serial.proofs.BalanceLemmas.{find-first, find-after, none-after, sorted-after}
 
 -- a row that is moved to a cell, or what stood there

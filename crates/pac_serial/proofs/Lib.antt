@@ -1,7 +1,5 @@
 pub mod WriteSetLemmas
 pub mod BalanceLemmas
-pub mod OffsetLemmas
-pub mod ChangeLemmas
 pub mod CommitLemmas
 pub mod LimitLemmas
 pub mod FitLemmas

@@ -1,6 +1,5 @@
 -- The changes of a transaction that has not ended, and the tables as it sees them.
-use Rattle.std.specs.Prelude.{◌≡◌, ◌<◌, ◌≤◌, length, slice_index_or, ◌+◌, ◌==◌, ◌&&◌, not, cond, ℕ, List, [], ◌∷◌, is_some, Some}
-use Rattle.std.specs.declared.cmp.Ordering.TheVariants.{Less, Greater}
+use Rattle.std.specs.Prelude.{◌≡◌, ◌<◌, ◌+◌, ◌==◌, ◌&&◌, not, cond, ℕ, List, [], ◌∷◌, is_some, Some}
 use Rattle.std.specs.FinMap.{FinMap, get, find, entries}
 use Rattle.pac_value.specs.State.{Cell, cell_cmp, Tables, with_row}
 use Rattle.pac_serial.specs.declared.pending.Pending.{Pending}
@@ -32,17 +31,6 @@ KnowsTables number tables changes = (cell : Cell) (pending : Pending) → get ch
 
 abbrev pub KnowsAll : ℕ → Tables → List Change → Type 0
 KnowsAll number tables changes = (cell : Cell) (pending : Pending) → find cell_cmp cell changes ≡ Some pending → KnowsTable number tables cell pending
-
--- the change at this position is of the cell
-pub record IsOffsetOf (changes : List Change) (cell : Cell) (at : ℕ) : Type 0 where
-  pub within : at < length changes
-  pub same : (d : Change) → (slice_index_or changes at d).0 ≡ cell
-
--- the changes before this position are of lesser cells, and those from it on of greater ones
-pub record IsGapFor (changes : List Change) (cell : Cell) (at : ℕ) : Type 0 where
-  pub within : at ≤ length changes
-  pub lesser : (j : ℕ) (d : Change) → j < at → cell_cmp (slice_index_or changes j d).0 cell ≡ Less
-  pub greater : (j : ℕ) (d : Change) → at ≤ j → j < length changes → cell_cmp (slice_index_or changes j d).0 cell ≡ Greater
 
 -- a row more in the table, and one less
 abbrev pub gains : ℕ → Change → ℕ

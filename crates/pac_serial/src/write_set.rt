@@ -4,7 +4,8 @@ ghost use Rattle.std.specs.Option.{option_map};
 ghost use Rattle.std.specs.FinMap as map;
 ghost use Rattle.std.specs.FinMap.{is_sorted};
 ghost use Rattle.pac_value.specs.State.{cell_cmp, with_row};
-ghost use Rattle.pac_serial.specs.WriteSets.{as_changed, KnowsTables, IsOffsetOf, IsGapFor, gains, loses, gained, lost};
+ghost use Rattle.pac_value.specs.Sorted.{IsOffsetOf, IsGapFor};
+ghost use Rattle.pac_serial.specs.WriteSets.{as_changed, KnowsTables, gains, loses, gained, lost};
 
 use crate::commit::{apply_rest, move_new};
 use crate::pending::Pending;
@@ -47,7 +48,7 @@ impl Model for WriteSet {
 fn search(changes: &[CellChange], table: u16, key: &Key) -> Result<usize, usize>
     requires { T (is_sorted cell_cmp changes.now) }
     ensures found { IfOk result (IsOffsetOf changes.now (table, key.now)) }
-    ensures absent { IfErr result (IsGapFor changes.now (table, key.now)) }
+    ensures absent { IfErr result (IsGapFor cell_cmp changes.now (table, key.now)) }
 {
     changes.binary_search_by(|change| order(&change.0, table, key))
 }
