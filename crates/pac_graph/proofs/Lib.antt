@@ -10,6 +10,7 @@ pub mod TurnLemmas
 pub mod QueueLemmas
 pub mod DescentLemmas
 pub mod LawLemmas
+pub mod OneGrouping
 pub mod ListingLemmas
 pub mod GroupLemmas
 pub mod AddLemmas

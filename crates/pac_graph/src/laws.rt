@@ -2,9 +2,10 @@
 ghost use Rattle.std.specs.Prelude.{◌≡◌, ℕ, ◌<◌, slice_index};
 ghost use Rattle.pac_graph.specs.Graph.{HasEdge, Reach};
 ghost use Rattle.pac_graph.specs.Classes.{class_count, AreClasses};
+ghost use Rattle.pac_graph.specs.Groups.{AreGroupsOf};
 ghost use Rattle.pac_graph.specs.Numbering.{IsClassEdge, IsNumbering};
 
-use crate::{Classes, Digraph};
+use crate::{Classes, Digraph, Groups};
 
 /// The graph of classes has no cycle: where an edge leads from a class to another, no way leads back.
 pub fn no_cycle(graph: &Digraph, classes: &Classes)
@@ -37,4 +38,11 @@ pub fn one_numbering(
     requires numbers { IsNumbering graph.now classes.now order.now numbers.now }
     requires others { IsNumbering graph.now classes.now order.now others.now }
     ensures { numbers.now ≡ others.now }
+{}
+
+/// A graph has one grouping: the same groups, with the same numbers and the same edges.
+pub fn one_grouping(graph: &Digraph, groups: &Groups, others: &Groups)
+    requires groups { AreGroupsOf graph.now groups.now }
+    requires others { AreGroupsOf graph.now others.now }
+    ensures { groups.now ≡ others.now }
 {}

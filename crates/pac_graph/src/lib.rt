@@ -8,9 +8,9 @@
 //! - [`Digraph::number`] numbers the classes by the ranks of their nodes: among the classes whose predecessors are all
 //!   numbered, the one with the node of least rank is next.
 //! - [`Digraph::groups`] does both where a node's rank is its number; [`Groups`] has the edges between classes too.
-//! - [`no_cycle`], [`numbers_rise`], [`numbers_differ`] and [`one_numbering`] are laws: functions without code whose
-//!   clauses say that no path leads back between two classes, that edges lead to higher numbers, that two classes have
-//!   two numbers, and that a graph and ranks have one numbering.
+//! - [`no_cycle`], [`numbers_rise`], [`numbers_differ`], [`one_numbering`] and [`one_grouping`] are laws: functions
+//!   without code whose clauses say that no path leads back between two classes, that edges lead to higher numbers, that
+//!   two classes have two numbers, that a graph and ranks have one numbering, and that a graph has one grouping.
 //!
 //! ```
 //! use pac_graph::Digraph;
@@ -45,5 +45,5 @@ mod two_way;
 pub use classes::Classes;
 pub use digraph::Digraph;
 pub use groups::Groups;
-pub use laws::{no_cycle, numbers_differ, numbers_rise, one_numbering};
+pub use laws::{no_cycle, numbers_differ, numbers_rise, one_grouping, one_numbering};
 pub use limits::MAX_NODES;

@@ -6,3 +6,4 @@ pub mod NextLemmas
 pub mod WorldLemmas
 pub mod AdHocLemmas
 pub mod PartLemmas
+pub mod OnePlan

@@ -1,4 +1,5 @@
 // What holds of every plan. Each law is a function that does nothing.
+ghost use Rattle.std.specs.Prelude.{◌≡◌};
 ghost use Rattle.pac_plan.specs.Analysis.{IsPlan};
 ghost use Rattle.pac_plan.specs.NextPairs.{ClosedByNext, NextPairs};
 ghost use Rattle.pac_plan.specs.PieceFits.{AdHocPieces, InputsAreThere, PiecesStayFit};
@@ -11,6 +12,16 @@ pub fn is_plan(plan: &Plan)
     ensures { IsPlan plan.now }
 {
     let _parts = &plan.parts;
+}
+
+/// Programs and tables have one plan: the same blocks, with the same numbers, homes and edges.
+pub fn one_plan(plan: &Plan, other: &Plan)
+    requires programs { plan.now.programs ≡ other.now.programs }
+    requires tables { plan.now.tables ≡ other.now.tables }
+    ensures { plan.now ≡ other.now }
+{
+    is_plan(plan);
+    is_plan(other);
 }
 
 /// A variable has one definer; flow stays in a block or follows an edge, edges lead to higher numbers, and the operations

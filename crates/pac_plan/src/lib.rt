@@ -4,7 +4,8 @@
 //!   plan keeps that by its type. A contract sees a plan as its parts.
 //! - [`Plan::program`], [`Plan::table_types`], [`Plan::block_of`], [`Plan::home_of`], [`Plan::blocks`],
 //!   [`Plan::has_edge`], [`Plan::edges`], [`Plan::procs`] and [`Plan::tables`] return the parts.
-//! - [`is_plan`] and [`keeps_order`] are laws: functions that do nothing, whose clauses say what holds of every plan.
+//! - [`is_plan`], [`keeps_order`] and [`one_plan`] are laws: functions that do nothing, whose clauses say what holds of
+//!   every plan, and that programs and tables have one.
 //!   What uses a variable is in the block of the operation that defines it or in one that an edge leads to; an edge
 //!   leads to a higher number; each operation on a table is in the table's home block.
 //!
@@ -33,7 +34,7 @@ mod shared;
 
 pub use access::{Access, Touch, Touches};
 pub use code::{Code, NumberedOps};
-pub use laws::{is_plan, keeps_order, next_pairs, pieces_stay_fit};
+pub use laws::{is_plan, keeps_order, next_pairs, one_plan, pieces_stay_fit};
 pub use parts::{BlocksOf, PlanParts};
 pub use plan::Plan;
 pub use preds::Preds;

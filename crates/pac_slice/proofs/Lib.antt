@@ -2,3 +2,4 @@ pub mod FlowLemmas
 pub mod ConflictLemmas
 pub mod SliceLemmas
 pub mod PairLemmas
+pub mod OneLocalGraph

@@ -7,6 +7,7 @@
 //!   dependences and, in both directions, by conflicts. Its edges are the data dependences between different slices.
 //! - [`add_flow`] adds the data dependences alone to a graph, for a caller that links operations on tables in its own
 //!   way.
+//! - [`one_local_graph`] is a law: a function without code whose clause says that a procedure has one local graph.
 //!
 //! ```
 //! use pac_slice::{dependencies, slices};
@@ -23,7 +24,9 @@
 
 mod conflicts;
 mod deps;
+mod laws;
 mod local_graph;
 
 pub use deps::{Deps, add_flow, dependencies};
+pub use laws::one_local_graph;
 pub use local_graph::{LocalGraph, slices};
