@@ -3,6 +3,7 @@ pub mod StmtShapes
 pub mod UnrolledLemmas
 pub mod RunsOnLemmas
 pub mod TurnLemmas
+pub mod AsWrittenLemmas
 pub mod ScopeLemmas
 pub mod WellFormedLemmas
 pub mod NameLemmas

@@ -1,5 +1,5 @@
 -- Induction over statements: each is one operation, a conditional, or a loop.
-use Rattle.std.proofs.Common.{◌≡◌, ℕ, ℤ, Bool, true, false, List, [], ◌∷◌, map, Option, Some, None, refl, sym, subst}
+use Rattle.std.proofs.Common.{◌≡◌, ℕ, ℤ, Bool, true, false, List, [], ◌∷◌, map, refl, sym, subst}
 use Rattle.std.specs.List.{AllByRecursion}
 use Rattle.pac_value.specs.declared.expr.Expr.{Expr}
 use Rattle.pac_ops.specs.declared.program.OpKind.{OpKind}

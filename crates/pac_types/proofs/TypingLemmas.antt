@@ -14,7 +14,7 @@ use Rattle.pac_syntax.specs.declared.tree.TableNode.{TableNode}
 use Rattle.pac_syntax.specs.declared.tree.ProcNode.{ProcNode}
 use Rattle.pac_syntax.specs.declared.tree.Tree.{Tree}
 use Rattle.pac_syntax.proofs.Trees.{tree-within}
-use Rattle.pac_syntax.specs.Limits.{IsTableWithinLimits, IsProcWithinLimits, IsWithinLimits, HasStoredType, is_stored_type, sizes}
+use Rattle.pac_syntax.specs.Limits.{IsTableWithinLimits, IsProcWithinLimits, IsWithinLimits, HasStoredType, is_stored_type}
 use Rattle.pac_types.specs.declared.type_error.TypeFault.{TypeFault}
 use Rattle.pac_types.specs.declared.table.Column.{Column}
 use Rattle.pac_types.specs.declared.table.Table.{Table}

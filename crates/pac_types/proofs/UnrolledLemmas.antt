@@ -1,5 +1,5 @@
 -- How many operations and variables unrolled statements have.
-use Rattle.std.proofs.Common.{◌≡◌, ◌≤◌, ℕ, zero, suc, ◌+◌, ◌*◌, ℤ, Bool, true, false, List, [], ◌∷◌, length, map, Option, Some, None, refl, sym, ap, subst, ◌∙◌, arith}
+use Rattle.std.proofs.Common.{◌≡◌, ◌≤◌, ℕ, zero, suc, ◌+◌, ◌*◌, ℤ, false, List, [], ◌∷◌, length, map, Option, Some, None, refl, sym, ap, subst, ◌∙◌, arith}
 use Rattle.std.specs.List.{AllByRecursion}
 use Rattle.pac_value.specs.declared.expr.Expr.{Expr}
 use Rattle.pac_ops.specs.declared.program.OpKind.{OpKind}
@@ -7,8 +7,8 @@ use Rattle.pac_ops.specs.declared.program.OpKind.TheVariants as kind
 use Rattle.pac_ops.specs.Uses.{defined_variable}
 use Rattle.pac_types.specs.declared.procedure.Proc.{Proc}
 use Rattle.pac_types.specs.declared.statement.Stmt.{Stmt}
-use Rattle.pac_types.specs.Meaning.{together, count_step, stmt_operations, operations, step_count}
-use Rattle.pac_types.specs.Unrolled.{Steps, End, Op, Branch, turns, ascending, numbers, Point, with_next, with_turn, with_defined, Unrolling, all_after, in_steps, after_turns, in_turns, unroll_one, unroll_conditional, unroll_loop, unroll_step, unrolling, beginning, unrolled}
+use Rattle.pac_types.specs.Meaning.{count_step, stmt_operations, operations, step_count}
+use Rattle.pac_types.specs.Unrolled.{Steps, End, turns, ascending, numbers, Point, with_next, with_turn, with_defined, Unrolling, all_after, in_steps, after_turns, in_turns, unroll_one, unroll_step, unrolling, beginning, unrolled}
 use Rattle.pac_types.proofs.StmtShapes.{form_of, is_test, IsOne, IsConditional, IsLoop, by_shape, all_by_shape}
 
 -- ---- what unrolling gives for each form

@@ -1,6 +1,7 @@
 pub mod Kinds
 pub mod WellFormed
 pub mod Unrolled
+pub mod AsWritten
 pub mod Meaning
 pub mod Execution
 pub mod Numbering

@@ -1,5 +1,5 @@
 -- The serial meaning of statements and procedures.
-use Rattle.std.specs.Prelude.{◌+◌, ◌*◌, ℕ, true, List, [], ◌∷◌, map, sum, Result, Ok, Err}
+use Rattle.std.specs.Prelude.{◌+◌, ◌*◌, ℕ, true, List, [], ◌∷◌, map, Result, Ok, Err}
 use Rattle.pac_value.specs.declared.values.Value.{Value}
 use Rattle.pac_value.specs.declared.values.Value.TheVariants.{Bool as Truth}
 use Rattle.pac_value.specs.Expressions.{value, ◌>>=◌}

@@ -1,7 +1,6 @@
 -- Statements without loops: a turn of a loop is its block with the loop's variable replaced by its number, and the operations
 -- and the variables of each turn have numbers of their own.
 use Rattle.std.specs.Prelude.{ℕ, zero, suc, ◌+◌, ◌==◌, ℤ, pos, negsuc, ◌+ℤ◌, ◌-ℤ◌, if◌then◌else◌, List, [], ◌∷◌, map, length, Option, Some, None}
-use Rattle.pac_value.specs.declared.values.Value.{Value}
 use Rattle.pac_value.specs.declared.values.Value.TheVariants.{Int}
 use Rattle.pac_value.specs.declared.expr.Expr.{Expr}
 use Rattle.pac_value.specs.declared.expr.Expr.TheVariants as expr

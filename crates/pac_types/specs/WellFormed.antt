@@ -1,5 +1,5 @@
 -- When statements are well-formed: each expression has the type that its position wants.
-use Rattle.std.specs.Prelude.{ℕ, Bool, true, false, ◌&&◌, ◌||◌, ◌==◌, if◌then◌else◌, List, [], ◌∷◌, map, length, slice_get, Option, Some, None, IsSome, is_some}
+use Rattle.std.specs.Prelude.{ℕ, Bool, false, ◌&&◌, ◌||◌, ◌==◌, if◌then◌else◌, List, [], ◌∷◌, map, length, slice_get, Option, Some, None, IsSome, is_some}
 use Rattle.std.specs.Option.{option_map, option_and_then}
 use Rattle.pac_value.specs.declared.values.Ty.{Ty}
 use Rattle.pac_value.specs.declared.values.Ty.TheVariants.{Int as IntTy, Bool as BoolTy}
