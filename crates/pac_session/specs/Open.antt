@@ -8,6 +8,7 @@ use Rattle.pac_ops.specs.declared.transaction.Txn.{Txn}
 use Rattle.pac_ops.specs.contracts.transaction.Txn as txn_type
 use Rattle.pac_types.specs.contracts.catalogue.Catalogue as catalogue_type
 use Rattle.pac_types.specs.Execution.{first_over}
+use Rattle.pac_types.specs.OperationLimits.{HasFewOperations}
 use Rattle.pac_types.specs.Fits.{FitsCatalogue, TxnFits}
 use Rattle.pac_types.specs.Typing.{CatalogueState}
 use Rattle.pac_entry.specs.declared.limits.TheConstants.{MAX_BODY_LEN}
@@ -74,9 +75,10 @@ pub record IsInGroup (start : SessionState) (group : List Request) (now : Open) 
 
 -- ---- what every session keeps
 
--- The rows fit the catalogue and stand within the limit; the transactions of the group fit the catalogue and a body, whose
+-- The catalogue is within the limits on operations; the rows fit it and stand within the limit; the transactions of the group fit the catalogue and a body, whose
 -- length is kept; each has a reply, and there are no more replies than a group may hold.
 pub record IsWellFormed (now : Open) (count len : ℕ) : Type 0 where
+  pub operations : HasFewOperations now.catalogue.procs
   pub rows : FitsCatalogue now.catalogue count now.tables
   pub within : first_over now.limit (length now.catalogue.tables) now.tables ≡ None
   pub fit : All (TxnFits now.catalogue) now.txns

@@ -1,6 +1,7 @@
 // Executes one transaction under a limit of rows.
 ghost use Rattle.std.specs.Prelude.{◌≡◌, None as NoTable, Some as ATable, length};
 ghost use Rattle.pac_types.specs.Execution.{first_over, txn_meaning};
+ghost use Rattle.pac_types.specs.OperationLimits.{HasFewOperations};
 ghost use Rattle.pac_types.specs.Fits.{FitsCatalogue, TxnFits};
 ghost use Rattle.pac_serial.specs.Outcomes.{Executes, limited};
 
@@ -20,6 +21,7 @@ pub(crate) fn execute(
     limit: u64,
     rows: &mut OrderedRows,
 ) -> Result<(), ExecError>
+    requires operations { HasFewOperations cat.now.procs }
     requires txn { TxnFits cat.now txn.now }
     requires fits { FitsCatalogue cat.now rows.old.tables rows.old.rows }
     requires within { first_over limit (length cat.now.tables) rows.old.rows ≡ NoTable }

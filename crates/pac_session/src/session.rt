@@ -4,6 +4,7 @@ ghost use Rattle.std.specs.List.{All};
 ghost use Rattle.std.specs.FinMap as map;
 ghost use Rattle.pac_ops.specs.declared.limits.TheConstants.{MAX_TXNS};
 ghost use Rattle.pac_types.specs.Execution.{first_over};
+ghost use Rattle.pac_types.specs.OperationLimits.{HasFewOperations};
 ghost use Rattle.pac_types.specs.Fits.{FitsCatalogue, TxnFits};
 ghost use Rattle.pac_entry.specs.declared.limits.TheConstants.{MAX_BODY_LEN};
 ghost use Rattle.pac_request.specs.Batches.{body_len};
@@ -65,6 +66,7 @@ impl Session {
         most: u32,
         limit: u64,
     ) -> Session
+        requires operations { HasFewOperations catalogue.procs }
         requires fits { FitsCatalogue catalogue rows.tables rows.rows }
         requires within { first_over limit (length catalogue.tables) rows.rows ≡ ANone }
         requires some { 1 ≤ most }
