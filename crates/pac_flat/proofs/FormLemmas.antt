@@ -1,11 +1,10 @@
 -- What a flat form is made of: as many operations as the steps, under conditions that begin with those round them, which
 -- define variables one after another.
-use Rattle.std.proofs.Common.{◌≡◌, ◌≤◌, ℕ, ◌+◌, Bool, true, false, ◌&&◌, List, [], ◌∷◌, ◌++◌, length, map, refl, sym, ap, subst, ◌∙◌, arith, append_assoc, length-append}
+use Rattle.std.proofs.Common.{◌≡◌, ℕ, ◌+◌, Bool, true, false, ◌&&◌, List, [], ◌∷◌, ◌++◌, length, map, refl, sym, ap, subst, ◌∙◌, arith, append_assoc, length-append}
 use Rattle.std.proofs.lemmas.List.Sums.{sum_by-cons}
 use Rattle.std.specs.FinMap.{get}
 use Rattle.std.specs.List.{AllByRecursion}
 use Rattle.pac_value.specs.Expressions.{Values}
-use Rattle.pac_value.specs.declared.expr.Expr.{Expr}
 use Rattle.pac_ops.specs.declared.program.FlatOp.{FlatOp}
 use Rattle.pac_ops.specs.declared.program.OpKind.TheVariants.{Cond}
 use Rattle.pac_ops.specs.Flat.{is_as_asked, all_hold}

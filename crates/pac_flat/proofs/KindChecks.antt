@@ -1,5 +1,5 @@
 -- What a check of a statement that is one operation knows of it.
-use Rattle.std.proofs.Common.{◌≡◌, ℕ, false, List, [], ◌∷◌, Option, Some, None, refl, ◌∙◌}
+use Rattle.std.proofs.Common.{◌≡◌, false, List, None, refl, ◌∙◌}
 use Rattle.pac_ops.specs.declared.program.OpKind.{OpKind}
 use Rattle.pac_ops.specs.declared.program.OpKind.TheVariants as kind
 use Rattle.pac_types.specs.declared.statement.Stmt.{Stmt}

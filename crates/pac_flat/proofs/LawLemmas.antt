@@ -1,9 +1,9 @@
 -- Replays of flat forms are serial executions: of one procedure, and of transactions one after another.
-use Rattle.std.proofs.Common.{◌≡◌, ℕ, suc, ◌+◌, ◌<◌, List, [], ◌∷◌, ◌++◌, length, map, Option, Some, None, Result, Ok, Err, refl, sym, ap, subst, ◌∙◌, get_or, All}
+use Rattle.std.proofs.Common.{◌≡◌, ℕ, ◌+◌, List, [], ◌∷◌, ◌++◌, length, map, Option, Some, None, Result, Ok, Err, refl, sym, ap, subst, ◌∙◌}
 use Rattle.std.specs.Prelude.{slice_get}
-use Rattle.std.specs.List.{AllByRecursion, AllZip}
+use Rattle.std.specs.List.{AllZip}
 use Rattle.std.specs.Option.{option_map}
-use Rattle.std.proofs.lemmas.Option.{slice_get-map, slice_get_within, slice_get-get_or}
+use Rattle.std.proofs.lemmas.Option.{slice_get-map}
 use Rattle.pac_value.specs.declared.values.Value.{Value}
 use Rattle.pac_value.specs.Expressions.{◌>>=◌}
 use Rattle.pac_value.specs.State.{Tables}
@@ -16,7 +16,6 @@ use Rattle.pac_ops.specs.Notes.{first_note}
 use Rattle.pac_ops.specs.Operations.{State, opening}
 use Rattle.pac_ops.specs.Transactions.{call_state, call_notes, txn_state, txn_notes, Replayed, after_txn, replayed}
 use Rattle.pac_types.specs.declared.procedure.Proc.{Proc}
-use Rattle.pac_types.specs.declared.table.Table.{Table}
 use Rattle.pac_types.specs.Meaning.{Abort, meaning}
 use Rattle.pac_types.specs.Execution.{called_at, txn_meaning, in_txn, serial}
 use Rattle.pac_types.specs.Unrolled.{all_after, unrolling, beginning, unrolled}

@@ -1,5 +1,5 @@
 -- The variables of unrolled statements run on.
-use Rattle.std.proofs.Common.{◌≡◌, ℕ, ◌+◌, ℤ, false, List, [], ◌∷◌, length, map, Option, Some, None, refl, sym, subst, arith}
+use Rattle.std.proofs.Common.{◌≡◌, ℕ, ◌+◌, ℤ, false, List, [], ◌∷◌, length, map, refl, sym, subst, arith}
 use Rattle.std.specs.List.{AllByRecursion}
 use Rattle.pac_value.specs.declared.expr.Expr.{Expr}
 use Rattle.pac_ops.specs.declared.program.OpKind.{OpKind}
@@ -7,8 +7,8 @@ use Rattle.pac_ops.specs.declared.program.OpKind.TheVariants as kind
 use Rattle.pac_ops.specs.Uses.{defined_variable}
 use Rattle.pac_types.specs.declared.procedure.Proc.{Proc}
 use Rattle.pac_types.specs.declared.statement.Stmt.{Stmt}
-use Rattle.pac_types.specs.Unrolled.{Steps, End, Op, Branch, numbers, Point, with_next, with_turn, with_defined, renamed_kind, Unrolling, all_after, in_steps, after_turns, in_turns, unroll_one, unroll_step, unrolling, beginning, unrolled}
-use Rattle.pac_types.proofs.StmtShapes.{is_test, IsOne, IsConditional, IsLoop, by_shape, all_by_shape}
+use Rattle.pac_types.specs.Unrolled.{Steps, End, numbers, Point, with_next, with_turn, with_defined, renamed_kind, Unrolling, all_after, in_steps, after_turns, in_turns, unroll_step, unrolling, beginning, unrolled}
+use Rattle.pac_types.proofs.StmtShapes.{is_test, IsOne, IsConditional, IsLoop, all_by_shape}
 use Rattle.pac_types.proofs.UnrolledLemmas.{unrolling-one}
 use Rattle.pac_types.proofs.RunsOnLemmas.{RunsOn, variable_list}
 use Rattle.pac_flat.proofs.FormLemmas.{RunsTo}

@@ -1,5 +1,5 @@
 -- The operations of statements stand before those of what comes after them: one statement more, and one turn more.
-use Rattle.std.proofs.Common.{◌≡◌, ◌<◌, ℕ, suc, ◌+◌, ◌*◌, ℤ, pos, ◌+ℤ◌, ◌<ℤ◌, true, false, List, [], ◌∷◌, ◌++◌, map, refl, sym, ap, subst, ◌∙◌, append_assoc, append-nil, arith, Result, Ok, Err, OnOk}
+use Rattle.std.proofs.Common.{◌≡◌, ℕ, suc, ◌+◌, ◌*◌, ℤ, pos, ◌+ℤ◌, ◌<ℤ◌, true, false, List, [], ◌∷◌, ◌++◌, map, refl, sym, ap, subst, ◌∙◌, append_assoc, append-nil, arith, Result, Ok, Err, OnOk}
 use Rattle.std.specs.List.{AllByRecursion}
 use Rattle.pac_value.specs.declared.expr.Expr.{Expr}
 use Rattle.pac_ops.specs.declared.program.FlatOp.{FlatOp}
@@ -8,10 +8,9 @@ use Rattle.pac_ops.specs.declared.program.OpKind.TheVariants.{Cond}
 use Rattle.pac_types.specs.declared.statement.Stmt.{Stmt, If}
 use Rattle.pac_types.proofs.StmtForms.{at-If}
 use Rattle.pac_types.proofs.TurnLemmas.{turns-more, numbers-more}
-use Rattle.pac_types.specs.Meaning.{count_step, stmt_operations, operations}
-use Rattle.pac_types.specs.Unrolled.{Steps, End, turns, numbers, Point, renamed, with_next, with_turn, Unrolling, all_after, in_steps, after_turns, in_turns, unroll_one, unroll_step, unrolling}
+use Rattle.pac_types.specs.Unrolled.{Steps, End, turns, numbers, Point, renamed, with_next, with_turn, Unrolling, all_after, in_steps, after_turns, in_turns, unroll_step, unrolling}
 use Rattle.pac_types.proofs.StmtShapes.{is_test, IsOne, IsConditional, IsLoop, by_shape, all_by_shape}
-use Rattle.pac_types.proofs.UnrolledLemmas.{unrolling-one, next-grows, all_next-grows}
+use Rattle.pac_types.proofs.UnrolledLemmas.{unrolling-one}
 use Rattle.pac_flat.specs.FlatForm.{Conditions, flat, inside, under}
 
 abbrev Leads : Unrolling → Type 0

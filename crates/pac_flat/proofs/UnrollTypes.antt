@@ -1,5 +1,5 @@
 -- The steps of well-formed statements are well-formed.
-use Rattle.std.proofs.Common.{◌≡◌, ◌<◌, ◌≤◌, ℕ, ◌+◌, ◌==◌, ◌&&◌, ◌||◌, ℤ, Bool, true, false, List, [], ◌∷◌, length, map, Option, Some, None, is_some, refl, sym, ap, subst, ◌∙◌, arith}
+use Rattle.std.proofs.Common.{◌≡◌, ◌<◌, ℕ, ◌+◌, ◌==◌, ◌&&◌, ◌||◌, ℤ, Bool, true, false, List, [], ◌∷◌, length, map, Option, Some, None, is_some, refl, sym, ap, subst, ◌∙◌, arith}
 use Rattle.std.specs.Prelude.{if◌then◌else◌}
 use Rattle.std.specs.List.{AllByRecursion}
 use Rattle.std.specs.Option.{option_map, option_and_then}
@@ -8,7 +8,7 @@ use Rattle.std.proofs.lemmas.List.{length-map}
 use Rattle.pac_value.specs.declared.values.Ty.{Ty}
 use Rattle.pac_value.specs.declared.values.Ty.TheVariants.{Int as IntTy, Bool as BoolTy}
 use Rattle.pac_value.specs.declared.values.Value.TheVariants.{Int}
-use Rattle.pac_value.specs.declared.expr.Expr.{Expr, Lit, Var, Bin, Not}
+use Rattle.pac_value.specs.declared.expr.Expr.{Expr, Lit, Var}
 use Rattle.pac_value.specs.Expressions.{type_in, type_step, operator_type, negated_type}
 use Rattle.pac_value.specs.Scopes.{Scope, with_var, is_bool, is_wanted, are_wanted, is_width}
 use Rattle.pac_value.specs.Values.{type_of}
@@ -19,7 +19,7 @@ use Rattle.pac_ops.specs.Uses.{defined_variable}
 use Rattle.pac_types.specs.declared.procedure.Proc.{Proc}
 use Rattle.pac_types.specs.declared.statement.Stmt.{Stmt}
 use Rattle.pac_types.specs.declared.table.Table.{Table}
-use Rattle.pac_types.specs.Unrolled.{Steps, End, Op, Branch, numbers, naming, renamed, renamed_step, renamed_kind, Point, with_next, with_turn, with_defined, Unrolling, all_after, in_steps, after_turns, in_turns, unroll_one, unroll_step, unrolling, beginning}
+use Rattle.pac_types.specs.Unrolled.{Steps, End, Op, Branch, numbers, renamed, renamed_step, renamed_kind, Point, with_next, with_turn, with_defined, Unrolling, all_after, in_steps, after_turns, in_turns, unroll_step, unrolling, beginning}
 use Rattle.pac_types.specs.Variables.{variables_step, stmt_variables, defined_variables}
 use Rattle.pac_types.specs.WellFormed.{key_type, column_type, column_types, if_so, without, Check, any_defines, in_order, check_step, check}
 use Rattle.pac_types.proofs.PartLemmas.{equal}

@@ -1,8 +1,8 @@
 -- The flat form of a well-formed procedure is a well-formed program.
-use Rattle.std.proofs.Common.{◌≡◌, ℕ, zero, suc, ◌+◌, ◌<◌, ◌≤◌, Bool, true, false, ◌&&◌, ◌||◌, ◌==◌, List, [], ◌∷◌, ◌++◌, length, map, Option, Some, None, is_some, ◌⊎◌, inl, inr, refl, sym, ap, subst, ◌∙◌, arith, append_assoc, append-nil, length-append, get_or, All}
-use Rattle.std.specs.Prelude.{slice_get, IsSomeAnd, if◌then◌else◌, Contains}
+use Rattle.std.proofs.Common.{◌≡◌, ℕ, zero, suc, ◌+◌, ◌<◌, ◌≤◌, Bool, true, false, ◌||◌, ◌==◌, List, [], ◌∷◌, ◌++◌, length, map, Option, Some, None, is_some, ◌⊎◌, inl, inr, refl, sym, ap, subst, ◌∙◌, arith, append_assoc, append-nil, length-append, get_or, All}
+use Rattle.std.specs.Prelude.{slice_get, IsSomeAnd, Contains}
 use Rattle.std.specs.List.{AllByRecursion}
-use Rattle.std.specs.Option.{option_map, option_and_then}
+use Rattle.std.specs.Option.{option_map}
 use Rattle.std.proofs.lemmas.Bool.Decides.{nat_tests}
 use Rattle.std.proofs.lemmas.List.{length-map}
 use Rattle.std.proofs.lemmas.Option.{slice_get_within, slice_get-get_or, slice_get-map}
@@ -32,7 +32,7 @@ use Rattle.pac_flat.proofs.FormLemmas.{length-flat_form, defined_in, RunsTo, run
 use Rattle.pac_flat.proofs.PrefixLemmas.{at-end, some-prefix, some-end, some-within, some-mapped, of-contained, prefix-itself, prefix-more, types_after-append, prefix-types_after, within-prefix}
 use Rattle.pac_flat.proofs.NumberedLemmas.{numbered-unrolled}
 use Rattle.pac_flat.proofs.UnrollTypes.{AreWellFormed, all_steady, typed-beginning}
-use Rattle.pac_flat.proofs.TypeLemmas.{both, either, from_either, shapes, Adds, adds_one, so_is, single_well_formed, well_typed-within, visible-kind, SameThere, gives_there}
+use Rattle.pac_flat.proofs.TypeLemmas.{either, from_either, shapes, Adds, adds_one, single_well_formed, well_typed-within, visible-kind, SameThere, gives_there}
 
 module _ (tables : List Table) (params : List Ty) where
   -- the types of the variables after operations

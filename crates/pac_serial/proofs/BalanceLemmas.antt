@@ -1,14 +1,14 @@
 -- How many rows a table has once changes are made: as many as before, with those that are added, without those that are
 -- taken away.
-use Rattle.std.proofs.Common.{◌≡◌, ℕ, ◌+◌, ◌-◌, ◌==◌, ◌&&◌, Bool, true, false, not, cond, T, List, [], ◌∷◌, ◌++◌, map, length, Option, Some, None, is_some, refl, sym, ap, subst, ◌∙◌, arith}
+use Rattle.std.proofs.Common.{◌≡◌, ℕ, ◌+◌, ◌==◌, ◌&&◌, Bool, true, false, not, cond, T, List, [], ◌∷◌, ◌++◌, map, length, Option, Some, None, is_some, refl, sym, ap, ◌∙◌, arith}
 use Rattle.std.specs.Prelude.{filter}
 use Rattle.std.specs.declared.cmp.Ordering.{Ordering}
 use Rattle.std.specs.declared.cmp.Ordering.TheVariants.{Less, Equal, Greater}
 use Rattle.std.specs.Ordering.{is_lt, is_eq, eq_by_cmp}
-use Rattle.std.specs.FinMap.{get, find, entries, entries_sorted, is_sorted, insert, remove, len, contains_key, get-entries, get-insert, get-remove, entries-insert, len-entries, len-insert, same_map}
+use Rattle.std.specs.FinMap.{get, find, entries, entries_sorted, is_sorted, insert, remove, len, get-entries, get-insert, get-remove, entries-insert, len-entries, len-insert, same_map}
 use Rattle.std.specs.FinMap.Entries.{put, by_order, below_all}
 use Rattle.pac_value.specs.State.{Cell, cell_cmp, RowValues, Tables, with_row, keys_among, keys_of}
-use Rattle.pac_value.proofs.CellLemmas.{cells_total, cells_antisymmetric, tied_same, same-cell, get-with_row}
+use Rattle.pac_value.proofs.CellLemmas.{cells_total, cells_antisymmetric, tied_same, same-cell}
 use Rattle.pac_tables.proofs.WriteLemmas.{remove-absent}
 use Rattle.pac_serial.specs.declared.pending.Pending.{Pending}
 use Rattle.pac_serial.specs.WriteSets.{Change, Changes, laid, as_changed, KnowsTables, gains, loses, gained, lost}

@@ -1,5 +1,5 @@
 -- What statements of each form do over values by the numbers of the text, and how many operations they are.
-use Rattle.std.proofs.Common.{◌≡◌, ℕ, ◌*◌, ℤ, false, List, [], ◌∷◌, map, refl, sym, ap, ◌∙◌, arith}
+use Rattle.std.proofs.Common.{◌≡◌, ℕ, ◌*◌, ℤ, false, List, [], ◌∷◌, refl, sym, ap, ◌∙◌, arith}
 use Rattle.std.specs.List.{AllByRecursion}
 use Rattle.pac_value.specs.declared.expr.Expr.{Expr}
 use Rattle.pac_ops.specs.declared.program.OpKind.{OpKind}

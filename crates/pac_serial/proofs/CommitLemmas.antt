@@ -1,15 +1,15 @@
 -- Changes that are made in two parts leave what they leave at once, and what is taken back was never there.
-use Rattle.std.proofs.Common.{◌≡◌, ◌<◌, ℕ, zero, suc, Bool, true, false, not, cond, T, List, [], ◌∷◌, ◌++◌, map, take, drop, length, get_or, set, Option, Some, None, is_some, IsSome, refl, sym, ap, subst, ◌∙◌, ◌&&◌, ◌≤◌, arith}
+use Rattle.std.proofs.Common.{◌≡◌, ◌<◌, ℕ, zero, suc, Bool, true, false, cond, T, List, [], ◌∷◌, ◌++◌, map, take, drop, length, get_or, set, Option, Some, None, is_some, IsSome, refl, sym, ap, subst, ◌∙◌, ◌&&◌, ◌≤◌, arith}
 use Rattle.std.specs.List.{All}
-use Rattle.std.proofs.lemmas.List.Elements.{All-nil, All-cons, All-tail, All-head, All-get_or, All-from_get_or}
+use Rattle.std.proofs.lemmas.List.Elements.{All-nil, All-cons, All-tail, All-get_or, All-from_get_or}
 use Rattle.std.specs.Ordering.{eq_by_cmp, is_lt, is_eq}
-use Rattle.std.specs.FinMap.{get, find, is_sorted, insert, remove, get-insert, get-remove, same_map}
+use Rattle.std.specs.FinMap.{get, find, is_sorted, remove, get-insert, get-remove, same_map}
 use Rattle.std.specs.FinMap.Entries.{below_all}
 use Rattle.pac_value.specs.State.{Cell, cell_cmp, RowValues, Tables, with_row}
-use Rattle.pac_value.proofs.CellLemmas.{cells_total, cells_antisymmetric, tied_same, same-cell, get-with_row}
+use Rattle.pac_value.proofs.CellLemmas.{cells_total, cells_antisymmetric, tied_same, get-with_row}
 use Rattle.pac_serial.specs.declared.pending.Pending.{Pending}
-use Rattle.pac_serial.specs.WriteSets.{Change, laid, KnowsTable, KnowsAll}
-use Rattle.pac_serial.specs.Commits.{cells, AreIn, AreThere, IsThere, with_new_row, with_moved, without_row, emptied, with_new, without_new, with_made, with_rest}
+use Rattle.pac_serial.specs.WriteSets.{Change, laid, KnowsAll}
+use Rattle.pac_serial.specs.Commits.{cells, AreIn, AreThere, IsThere, with_new_row, with_moved, emptied, with_new, without_new, with_made, with_rest}
 use Rattle.pac_serial.proofs.WriteSetLemmas.{row_or, get-laid}
 use Rattle.pac_value.proofs.OffsetLemmas.{below_at, flipped-Less}
 use Rattle.pac_serial.proofs.BalanceLemmas.{find-first, find-after, none-after, sorted-after}

@@ -1,5 +1,5 @@
 -- The first table that is over a limit.
-use Rattle.std.proofs.Common.{◌≡◌, true, length, nat_lt, ℕ, zero, suc, ◌+◌, ◌-◌, ◌≤◌, Option, Some, None, refl, ap, subst, ◌∙◌, arith}
+use Rattle.std.proofs.Common.{◌≡◌, true, length, nat_lt, ℕ, zero, suc, ◌+◌, ◌-◌, ◌≤◌, Some, None, ap, subst, ◌∙◌, arith}
 use Rattle.std.specs.Prelude.{if◌then◌else◌}
 use Rattle.std.specs.Option.{option_or}
 use Rattle.pac_value.specs.State.{Tables, keys_of}

@@ -1,14 +1,13 @@
 -- What operations give, numbered from any number on.
-use Rattle.std.proofs.Common.{◌≡◌, ℕ, ◌+◌, ◌<◌, List, [], ◌∷◌, ◌++◌, map, length, get_or, take, Result, Ok, Err, IfErr, refl, sym, ap, subst, ◌∙◌, arith}
-use Rattle.std.proofs.lemmas.List.{take_more, map-append}
+use Rattle.std.proofs.Common.{◌≡◌, ℕ, ◌+◌, ◌<◌, List, [], ◌∷◌, ◌++◌, length, get_or, take, Result, Ok, Err, IfErr, sym, ap, ◌∙◌, arith}
+use Rattle.std.proofs.lemmas.List.{take_more}
 use Rattle.pac_value.specs.declared.expr.Expr.{Expr}
 use Rattle.pac_value.specs.Expressions.{◌>>=◌}
 use Rattle.pac_ops.specs.declared.reason.Reason.{Reason}
-use Rattle.pac_ops.specs.declared.program.OpKind.TheVariants as kind
 use Rattle.pac_ops.specs.Operations.{State}
 use Rattle.pac_types.specs.declared.statement.Stmt.{Stmt, Let, AbortIf}
 use Rattle.pac_types.specs.Meaning.{Abort as AnAbort}
-use Rattle.pac_serial.specs.TextMeaning.{Code, code, code_step, counts, code_count, text_meaning}
+use Rattle.pac_serial.specs.TextMeaning.{Code, code, code_step, code_count, text_meaning}
 use Rattle.pac_types.proofs.StmtForms.{at-Let, at-AbortIf}
 use Rattle.pac_serial.specs.declared.operation.Halt.{Halt}
 use Rattle.pac_serial.specs.declared.operation.Halt.TheVariants.{Abort, NoMemory}

@@ -1,5 +1,5 @@
 -- What statements do over values by the numbers of the text is what their steps do, but for the numbers of variables.
-use Rattle.std.proofs.Common.{◌≡◌, ◌≢◌, ◌<◌, ◌≤◌, ℕ, zero, suc, ◌+◌, ◌*◌, ◌==◌, ◌&&◌, ◌||◌, ℤ, Bool, true, false, cond, List, [], ◌∷◌, length, map, Option, Some, None, Result, Ok, Err, is_some, refl, sym, ap, subst, ◌∙◌, arith}
+use Rattle.std.proofs.Common.{◌≡◌, ◌≢◌, ◌<◌, ◌≤◌, ℕ, suc, ◌+◌, ◌*◌, ◌==◌, ◌&&◌, ◌||◌, ℤ, Bool, true, false, cond, List, [], ◌∷◌, length, map, Option, Some, None, Result, Ok, Err, is_some, refl, sym, ap, subst, ◌∙◌, arith}
 use Rattle.std.specs.Prelude.{if◌then◌else◌, unwrap_or, slice_get}
 use Rattle.std.specs.Cmp.{nat_cmp_total, unsigned_ties}
 use Rattle.std.specs.FinMap.{get, insert, get-insert}
@@ -12,7 +12,7 @@ use Rattle.pac_value.specs.declared.values.Ty.{Ty}
 use Rattle.pac_value.specs.declared.values.Ty.TheVariants.{Int as IntTy, Bool as BoolTy}
 use Rattle.pac_value.specs.declared.values.Value.{Value}
 use Rattle.pac_value.specs.declared.values.Value.TheVariants.{Int, Text, Bool as Truth}
-use Rattle.pac_value.specs.declared.expr.Expr.{Expr, Lit, Var, Bin, Not}
+use Rattle.pac_value.specs.declared.expr.Expr.{Expr, Lit, Var}
 use Rattle.pac_value.specs.declared.expr.Trap.{Trap}
 use Rattle.pac_value.specs.Expressions.{Values, type_in, type_step, operator_type, negated_type, value, value_step, joined, negated, ◌>>=◌}
 use Rattle.pac_value.specs.Scopes.{Scope, with_var, is_bool, is_wanted, are_wanted, is_width}
@@ -22,22 +22,22 @@ use Rattle.pac_value.proofs.ByForms.{by_forms, fold-Lit, fold-Var, fold-Bin, fol
 use Rattle.pac_ops.specs.declared.program.OpKind.{OpKind}
 use Rattle.pac_ops.specs.declared.program.OpKind.TheVariants as kind
 use Rattle.pac_ops.specs.declared.reason.Reason.{Reason}
-use Rattle.pac_ops.specs.Operations.{State, opening, define, values, column_or, replaced, unless_asked, Effect, Nothing, Gives, Leaves, with_effect, row_at, done}
-use Rattle.pac_ops.specs.Reasons.{or_abort, reason_of}
+use Rattle.pac_ops.specs.Operations.{State, opening, define, values, column_or, replaced, unless_asked, Gives, Leaves, with_effect, row_at, done}
+use Rattle.pac_ops.specs.Reasons.{or_abort}
 use Rattle.pac_ops.specs.Uses.{defined_variable}
 use Rattle.pac_types.specs.declared.procedure.Proc.{Proc}
 use Rattle.pac_types.specs.declared.statement.Stmt.{Stmt}
 use Rattle.pac_types.specs.declared.table.Table.{Table}
 use Rattle.pac_types.specs.Meaning.{Abort, at_operation, branch, step_count, runs, meaning}
 use Rattle.pac_types.specs.Typing.{IsProc}
-use Rattle.pac_types.specs.Unrolled.{Steps, End, Op, Branch, turns, numbers, naming, renamed, renamed_step, renamed_kind, Point, with_next, with_turn, with_defined, Unrolling, all_after, in_steps, after_turns, in_turns, unroll_one, unroll_step, unrolling, beginning, unrolled}
+use Rattle.pac_types.specs.Unrolled.{Steps, End, Branch, turns, numbers, renamed, renamed_step, renamed_kind, Point, with_next, with_turn, with_defined, Unrolling, all_after, in_steps, after_turns, in_turns, unroll_step, unrolling, beginning}
 use Rattle.pac_types.specs.Variables.{variables_step, stmt_variables, defined_variables}
 use Rattle.pac_types.specs.WellFormed.{types, key_type, column_type, column_types, if_so, without, Check, any_defines, in_order, check_step, check, scope_of, scope_after_all}
 use Rattle.pac_types.proofs.PartLemmas.{equal}
 use Rattle.pac_types.proofs.RunsOnLemmas.{RunsOn, runs_on-parts, runs_on-proc, variable_list, variables-one, all_names-kept, turn_names-kept}
 use Rattle.pac_types.proofs.StmtShapes.{form_of, is_test, IsOne, IsConditional, IsLoop, all_by_shape}
 use Rattle.pac_types.proofs.UnrolledLemmas.{unrolling-one, length-ascending, next-grows, all_next-grows, all_steps-count}
-use Rattle.pac_serial.specs.TextMeaning.{Code, one, counts, run_all, run_turns, code_step, code, code_count, text_meaning}
+use Rattle.pac_serial.specs.TextMeaning.{Code, run_all, run_turns, code_step, code, code_count, text_meaning}
 use Rattle.pac_serial.proofs.CodeLemmas.{code-one, count-all-operations}
 
 -- ---- values of variables

@@ -1,5 +1,5 @@
 -- The turns of a loop run one after another.
-use Rattle.std.proofs.Common.{◌≡◌, ◌<◌, ◌≤◌, ℕ, suc, ◌+◌, ◌*◌, ◌==◌, ◌||◌, ℤ, pos, ◌+ℤ◌, ◌-ℤ◌, ◌<ℤ◌, ◌≤ℤ◌, Bool, true, false, List, map, Option, Some, None, Result, Ok, Err, IsSome, refl, sym, ap, subst, ◌∙◌, arith}
+use Rattle.std.proofs.Common.{◌≡◌, ◌≤◌, ℕ, suc, ◌+◌, ◌*◌, ◌==◌, ◌||◌, ℤ, pos, ◌+ℤ◌, ◌-ℤ◌, ◌<ℤ◌, ◌≤ℤ◌, Bool, true, false, List, map, Some, None, Result, Ok, Err, IsSome, refl, sym, ap, ◌∙◌, arith}
 use Rattle.std.specs.Prelude.{if◌then◌else◌}
 use Rattle.std.proofs.lemmas.Int.{ints}
 use Rattle.pac_value.specs.declared.values.Ty.{Ty}
@@ -14,12 +14,12 @@ use Rattle.pac_types.specs.Meaning.{Abort}
 use Rattle.pac_types.specs.Unrolled.{natural, turns, numbers}
 use Rattle.pac_types.specs.WellFormed.{without, any_defines, check, scope_after_all}
 use Rattle.pac_types.proofs.ScopeLemmas.{Within}
-use Rattle.pac_types.proofs.TurnLemmas.{turns-more, numbers-more, numbers-none, turns-parts, before-next}
+use Rattle.pac_types.proofs.TurnLemmas.{turns-more, numbers-more, turns-parts, before-next}
 use Rattle.pac_types.proofs.WellFormedLemmas.{scope_after_all-within}
 use Rattle.pac_serial.specs.declared.operation.Halt.{Halt}
 use Rattle.pac_serial.specs.declared.operation.Halt.TheVariants.{Abort as AbortAt, NoMemory}
 use Rattle.pac_serial.specs.Outcomes.{RunsFrom, IsHaltWithin, moved, KeepsTypes}
-use Rattle.pac_serial.specs.TextMeaning.{code, counts, code_count, run_all, run_turns, text_meaning}
+use Rattle.pac_serial.specs.TextMeaning.{code, code_count, run_turns, text_meaning}
 use Rattle.pac_serial.proofs.ExecLemmas.{some-within}
 
 -- where a turn begins, what was visible before the loop has its type, but for what the block defines

@@ -1,9 +1,9 @@
 -- One statement more, and one turn more.
-use Rattle.std.proofs.Common.{◌≡◌, ◌<◌, ◌+◌, ℕ, true, false, ℤ, pos, ◌+ℤ◌, ◌<ℤ◌, ◌*◌, ◌∷◌, ◌++◌, List, map, drop, OnOk, FitsSigned, w64, to_z, of_z, sym, ap, subst, ◌∙◌, arith, rules, append_assoc, append-nil}
+use Rattle.std.proofs.Common.{◌≡◌, ◌+◌, true, false, pos, ◌+ℤ◌, ◌<ℤ◌, ◌*◌, ◌∷◌, ◌++◌, List, map, drop, FitsSigned, w64, to_z, of_z, sym, ap, ◌∙◌, arith, rules}
 use Rattle.std.proofs.lemmas.Int.{ints, to_z-of_z}
 use Rattle.std.proofs.lemmas.List.{drop_more}
 use Rattle.pac_types.specs.declared.statement.Stmt.{Stmt}
-use Rattle.pac_types.specs.Meaning.{operations, stmt_operations}
+use Rattle.pac_types.specs.Meaning.{operations}
 use Rattle.pac_types.specs.Unrolled.{Point, with_turn, End, unrolling, all_after, in_steps, numbers, in_turns, after_turns, turns}
 use Rattle.pac_ops.specs.declared.program.OpKind.TheVariants.{Cond}
 use Rattle.pac_flat.specs.FlatForm.{flat, inside}

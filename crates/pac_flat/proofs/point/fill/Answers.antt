@@ -1,6 +1,6 @@
 -- What is added stands for itself.
-use Rattle.std.proofs.Common.{◌≡◌, ◌++◌, ◌∷◌, [], List, ap, rules, ◌∙◌, length}
-use Rattle.pac_value.specs.declared.expr.Expr.{Expr, Var}
+use Rattle.std.proofs.Common.{◌≡◌, ◌++◌, ◌∷◌, [], ap, rules, ◌∙◌, length}
+use Rattle.pac_value.specs.declared.expr.Expr.{Var}
 use Rattle.pac_flat.specs.Names.{standing}
 use Rattle.pac_flat.proofs.StandingLemmas.{standing_itself}
 use Rattle.pac_flat.proofs.point.fill.Goals as goal

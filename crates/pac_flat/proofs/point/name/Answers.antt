@@ -1,6 +1,5 @@
 -- The variable stands for something else.
-use Rattle.std.proofs.Common.{◌≡◌, ◌<◌, ap, subst, sym, ◌∙◌, ℕ, length, slice_set, List}
-use Rattle.pac_value.specs.declared.expr.Expr.{Expr}
+use Rattle.std.proofs.Common.{ap, ◌∙◌, slice_set}
 use Rattle.pac_types.specs.Unrolled.{naming, Names}
 use Rattle.pac_flat.specs.Names.{standing}
 use Rattle.pac_flat.proofs.StandingLemmas.{standing_set}

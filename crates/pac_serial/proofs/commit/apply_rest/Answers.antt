@@ -1,11 +1,11 @@
 -- What is left to make has a row where one stands, since each change is of a cell of its own.
-use Rattle.std.proofs.Common.{◌≡◌, ◌<◌, ℕ, suc, ◌+◌, ◌∷◌, List, T, length, drop, get_or, set, IsSome, sym, ap, subst, ◌∙◌, arith}
+use Rattle.std.proofs.Common.{◌≡◌, ◌<◌, ℕ, suc, ◌+◌, ◌∷◌, List, T, length, drop, get_or, set, sym, ap, subst, ◌∙◌, arith}
 use Rattle.std.proofs.Math.Seq.{drop-cons}
 use Rattle.std.proofs.lemmas.List.Elements.{All-get_or}
-use Rattle.std.specs.FinMap.{get, is_sorted}
+use Rattle.std.specs.FinMap.{is_sorted}
 use Rattle.pac_value.specs.State.{cell_cmp, Tables}
 use Rattle.pac_serial.specs.WriteSets.{Change}
-use Rattle.pac_serial.specs.Commits.{AreIn, AreThere, IsThere, cells, with_made, with_rest}
+use Rattle.pac_serial.specs.Commits.{AreThere, IsThere, with_made, with_rest}
 use Rattle.pac_serial.proofs.CommitLemmas.{there-after, sorted-drop, cells-set, drop-set}
 use Rattle.pac_serial.proofs.commit.apply_rest.Goals as goal
 

@@ -1,13 +1,11 @@
 -- The changes so far have lost their rows; what was moved is taken back where one finds no room.
-use Rattle.std.proofs.Common.{◌≡◌, ◌<◌, ℕ, suc, ◌+◌, List, map, length, take, drop, get_or, set, Some, sym, ap, subst, ◌∙◌, arith}
+use Rattle.std.proofs.Common.{◌≡◌, ◌<◌, suc, ◌+◌, List, map, length, take, get_or, set, sym, ap, subst, ◌∙◌, arith}
 use Rattle.std.proofs.lemmas.List.{take_more}
 use Rattle.std.proofs.lemmas.List.Elements.{All-get_or}
-use Rattle.std.specs.FinMap.{find}
-use Rattle.pac_value.specs.State.{Cell, cell_cmp, Tables}
-use Rattle.pac_serial.specs.declared.pending.Pending.{Pending}
+use Rattle.pac_value.specs.State.{Tables}
 use Rattle.pac_serial.specs.WriteSets.{Change}
 use Rattle.pac_serial.specs.Commits.{AreIn, cells, emptied, with_moved, with_new, without_new}
-use Rattle.pac_serial.proofs.CommitLemmas.{are_in, moved_in, partly, partly-at, partly-set, partly-take, partly-cells, partly-all, cells-set, cells-moved, without-moved, taken-back, sorted-take, find-take, with_new-more}
+use Rattle.pac_serial.proofs.CommitLemmas.{are_in, moved_in, partly, partly-at, partly-set, partly-take, partly-cells, cells-set, without-moved, taken-back, sorted-take, find-take, with_new-more}
 use Rattle.pac_serial.proofs.commit.move_new.Goals as goal
 
 pub move_row-requires : goal.move_row-requires

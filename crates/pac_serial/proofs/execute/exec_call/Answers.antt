@@ -1,7 +1,7 @@
 -- The call begins with its arguments, over the tables as they are.
-use Rattle.std.proofs.Common.{◌≡◌, Ok, Err, Result, List, Option, IsSome, length, ap, sym, subst, ◌∙◌, arith}
+use Rattle.std.proofs.Common.{Ok, Err, Result, List, IsSome, ap, sym, subst, ◌∙◌, arith}
 use Rattle.std.proofs.lemmas.Result.{err_from_is_err_and}
-use Rattle.std.specs.Prelude.{slice_get, slice_index_or}
+use Rattle.std.specs.Prelude.{slice_index_or}
 use Rattle.pac_value.specs.Expressions.{types_of, ◌>>=◌}
 use Rattle.pac_value.specs.State.{Tables}
 use Rattle.pac_types.specs.declared.procedure.Proc.{Proc}
@@ -12,8 +12,6 @@ use Rattle.pac_types.specs.Typing.{IsProc}
 use Rattle.pac_types.specs.Meaning.{Abort}
 use Rattle.pac_serial.specs.TextMeaning.{code_count, text_meaning}
 use Rattle.pac_ops.specs.Operations.{State}
-use Rattle.pac_types.specs.Execution.{called_at}
-use Rattle.pac_types.specs.Fits.{FitParams}
 use Rattle.pac_serial.specs.Outcomes.{Executes, limited}
 use Rattle.pac_serial.specs.Transactions.{RunsOver, state_of}
 use Rattle.pac_serial.proofs.CallLemmas.{at-call, is-proc, few-operations, runs-begun, called-is, halted}

@@ -1,5 +1,5 @@
 -- Nothing is made yet.
-use Rattle.std.proofs.Common.{◌≡◌, List, map, ap, sym, subst, ◌∙◌}
+use Rattle.std.proofs.Common.{List, map, ap, sym, subst, ◌∙◌}
 use Rattle.pac_value.specs.State.{Tables}
 use Rattle.pac_ops.specs.declared.transaction.Change.{Change}
 use Rattle.pac_ops.specs.Shapes.{RecordsFit}

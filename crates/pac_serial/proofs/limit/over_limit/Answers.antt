@@ -1,8 +1,6 @@
 -- The table at hand is the first that is over the limit.
-use Rattle.std.proofs.Common.{◌≡◌, ℕ, ◌+◌, Some, None, length, nat_lt, true, sym, ap, ◌∙◌, arith}
-use Rattle.std.specs.Option.{option_map, option_or}
-use Rattle.pac_value.specs.State.{keys_of}
-use Rattle.pac_types.specs.Execution.{first_over, if_over}
+use Rattle.std.proofs.Common.{sym, ap, ◌∙◌, arith}
+use Rattle.std.specs.Option.{option_map}
 use Rattle.pac_serial.specs.WriteSets.{as_changed}
 use Rattle.pac_serial.proofs.LimitLemmas.{over-first}
 use Rattle.pac_serial.proofs.limit.over_limit.Goals as goal

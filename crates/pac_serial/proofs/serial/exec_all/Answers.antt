@@ -3,9 +3,8 @@ use Rattle.std.proofs.Common.{◌≡◌, ◌∷◌, ◌+◌, ◌<◌, length, dr
 use Rattle.std.specs.Prelude.{slice_index_or}
 use Rattle.std.specs.List.{AllByRecursion}
 use Rattle.std.proofs.lemmas.List.{drop_more}
-use Rattle.pac_value.specs.Expressions.{◌>>=◌}
 use Rattle.pac_ops.specs.declared.transaction.Txn.{Txn}
-use Rattle.pac_types.specs.Execution.{serial, in_txn}
+use Rattle.pac_types.specs.Execution.{serial}
 use Rattle.pac_types.specs.Fits.{TxnFits}
 use Rattle.pac_serial.proofs.SerialLemmas.{unlimited, goes-on, done-more}
 use Rattle.pac_serial.proofs.serial.exec_all.Goals as goal

@@ -1,9 +1,9 @@
 -- Each form of a statement runs as its operation does, and leaves the variables that it says.
-use Rattle.std.proofs.Common.{◌≡◌, ◌∷◌, ◌+◌, ◌-◌, ◌*◌, ℕ, ℤ, pos, ◌+ℤ◌, ◌-ℤ◌, ◌<ℤ◌, ◌≤ℤ◌, ap, sym, subst, ◌∙◌, arith, rules, map, drop, take, IsSome, IfErr, Result, List, FitsSigned, w64, to_z, of_z}
+use Rattle.std.proofs.Common.{◌≡◌, ◌∷◌, ◌+◌, ◌-◌, ◌*◌, ℕ, pos, ◌+ℤ◌, ◌-ℤ◌, ◌<ℤ◌, ◌≤ℤ◌, ap, sym, subst, ◌∙◌, arith, rules, map, drop, take, IsSome, IfErr, Result, List, FitsSigned, w64, to_z, of_z}
 use Rattle.std.proofs.lemmas.Int.{ints, to_z-of_z}
-use Rattle.std.proofs.lemmas.List.{drop_more, take_more}
-use Rattle.pac_value.specs.Expressions.{Values, types_of, ◌>>=◌}
-use Rattle.pac_types.specs.declared.statement.Stmt.{Stmt, Let, AbortIf}
+use Rattle.std.proofs.lemmas.List.{drop_more}
+use Rattle.pac_value.specs.Expressions.{Values, types_of}
+use Rattle.pac_types.specs.declared.statement.Stmt.{Stmt}
 use Rattle.pac_types.specs.WellFormed.{scope_after, scope_after_all, check, any_defines}
 use Rattle.pac_types.specs.Meaning.{Abort}
 use Rattle.pac_serial.specs.TextMeaning.{Code, code_step, code, code_count, run_turns, text_meaning}

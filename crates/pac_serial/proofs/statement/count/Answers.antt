@@ -1,7 +1,7 @@
 -- What is told is exact where it is few.
-use Rattle.std.proofs.Common.{◌≡◌, ◌<◌, ◌∙◌, sym, arith}
+use Rattle.std.proofs.Common.{◌∙◌, sym, arith}
 use Rattle.pac_types.specs.Meaning.{operations}
-use Rattle.pac_types.proofs.ToldLemmas.{told-most, told-exact, told-small}
+use Rattle.pac_types.proofs.ToldLemmas.{told-most, told-small}
 use Rattle.pac_serial.proofs.CodeLemmas.{count-all-operations}
 use Rattle.pac_serial.proofs.statement.count.Goals as goal
 

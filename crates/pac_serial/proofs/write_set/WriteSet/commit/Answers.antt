@@ -3,10 +3,10 @@ use Rattle.std.proofs.Common.{◌≡◌, ℕ, ◌++◌, List, map, length, take,
 use Rattle.std.proofs.Math.Seq.{drop-length}
 use Rattle.std.proofs.lemmas.List.{take_all}
 use Rattle.std.specs.FinMap as fin
-use Rattle.std.specs.FinMap.{is_sorted, find, get-from_sorted, entries-from_sorted}
+use Rattle.std.specs.FinMap.{is_sorted, get-from_sorted, entries-from_sorted}
 use Rattle.pac_value.specs.State.{Cell, cell_cmp, Tables}
 use Rattle.pac_serial.specs.declared.pending.Pending.{Pending}
-use Rattle.pac_serial.specs.WriteSets.{Change, Changes, KnowsTable, KnowsAll, laid, as_changed}
+use Rattle.pac_serial.specs.WriteSets.{Change, Changes, KnowsTable, KnowsAll, laid}
 use Rattle.pac_serial.specs.Commits.{AreIn, AreThere, emptied, with_new, with_rest}
 use Rattle.pac_serial.proofs.CommitLemmas.{moved_in, moved_there, both-parts, rest-moved, sorted-cells}
 use Rattle.pac_serial.proofs.write_set.WriteSet.commit.Goals as goal

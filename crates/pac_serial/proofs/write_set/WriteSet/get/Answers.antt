@@ -1,5 +1,5 @@
 -- The cell is changed, or the tables have it.
-use Rattle.std.proofs.Common.{◌≡◌, List, Option, Some, None, T, ap, sym, subst, ◌∙◌}
+use Rattle.std.proofs.Common.{◌≡◌, List, Option, T, ap, sym, subst, ◌∙◌}
 use Rattle.std.specs.FinMap as map
 use Rattle.std.specs.FinMap.{is_sorted}
 use Rattle.pac_value.specs.State.{Cell, cell_cmp}
