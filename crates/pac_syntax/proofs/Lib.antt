@@ -11,6 +11,8 @@ pub mod NodeForms
 pub mod WithinLimits
 pub mod Ordered
 pub mod Trees
+pub mod LoopHeads
+pub mod LeastOffset
 pub mod DotsApart
 pub mod NoLoopsNeeded
 pub mod NoLoopsRead

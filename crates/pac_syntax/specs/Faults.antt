@@ -18,8 +18,8 @@ abbrev pub past : ℕ → ℕ → Fault → Option Fault
 past limit n fault = if nat_lt limit n then Some fault else None
 
 -- The fault of a token of this role at this offset, where it is over its limit. It is reported at the token; but that of a
--- loop, which its second bound settles, at the loop's `for`. No other fault stands between these two where the bounds are
--- complete, so the fault that is settled first has the least offset.
+-- loop, which its second bound settles, at the loop's `for`. That the fault that is settled first has the least offset all the
+-- same is a law (`the_first_fault_has_the_least_offset`).
 abbrev pub over_role : Role → ℕ → Option Fault
 over_role Plain at = None
 over_role (TableWord n) at = past MAX_TABLES n (fault_of TooMany at)

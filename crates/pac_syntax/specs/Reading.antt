@@ -25,6 +25,11 @@ IsTree tree = (text : List ℕ) × Reads text tree
 abbrev pub IsFineBefore : ℕ → List Spanned → Type 0
 IsFineBefore at ts = ((tree : Tree) × ReadsTokens ts tree) ⊎ ((fault : Fault) × IsFirstFault at ts fault × (at ≤ fault.at))
 
+-- where the tokens of a text with that many bytes end: at the token that is at fault, or at the text's end
+abbrev pub end_of : ℕ → Option Fault → ℕ
+end_of bytes None = bytes
+end_of bytes (Some lexical) = lexical.at
+
 -- the first fault of the tokens of a text with that many bytes, after which this token is at fault, if any is
 abbrev pub IsFirstOf : ℕ → List Spanned → Option Fault → Fault → Type 0
 IsFirstOf end ts None fault = IsFirstFault end ts fault

@@ -19,11 +19,11 @@
 //! token, and the tree of each), `Faults` (a limit is a role of a token in a derivation; a fault is a token that can't
 //! follow or one over a limit) and `Reading` (the text as a whole). A text that has a tree is read as it, and no other;
 //! a fault is the one with the least offset, and of several there the first kind; but for out of memory (`reads`,
-//! `only`, `fault`, `one`). `proofs/Trees.antt` shows what every tree keeps: the limits, and offsets in the order of
+//! `only`, `fault`, `one`, and [`the_first_fault_has_the_least_offset`], a law). `proofs/Trees.antt` shows what every tree keeps: the limits, and offsets in the order of
 //! the text.
 //!
-//! `specs/WithoutLoops.antt` is the grammar as it was before there were loops: [`texts_without_loops_stay`], a law without code,
-//! says that each text that was accepted is so still, with the same tree.
+//! `specs/WithoutLoops.antt` is the grammar as it was before there were loops: [`texts_without_loops_stay`] says
+//! that each text that was accepted is so still, with the same tree. Laws are functions without code.
 //!
 //! The parser is proved against a machine that takes one token at a time (`specs/Machine.antt`), which no definition of
 //! what is read names: `proofs/Words.antt` and `proofs/Ends.antt` show that it accepts exactly the derivations,
@@ -38,7 +38,7 @@ mod parse;
 mod single;
 mod tree;
 
-pub use laws::texts_without_loops_stay;
+pub use laws::{texts_without_loops_stay, the_first_fault_has_the_least_offset};
 pub use limits::{Around, MAX_CATALOGUE, MAX_NESTED, MAX_OPERATORS, MAX_PARENS, MAX_TURNS};
 pub use operator::{COMPARISONS, operator_symbol, precedence_of};
 pub use pac_tokens::{
