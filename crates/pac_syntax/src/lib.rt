@@ -19,11 +19,13 @@
 //! token, and the tree of each), `Faults` (a limit is a role of a token in a derivation; a fault is a token that can't
 //! follow or one over a limit) and `Reading` (the text as a whole). A text that has a tree is read as it, and no other;
 //! a fault is the one with the least offset, and of several there the first kind; but for out of memory (`reads`,
-//! `only`, `fault`, `one`, and [`the_first_fault_has_the_least_offset`], a law). `proofs/Trees.antt` shows what every tree keeps: the limits, and offsets in the order of
+//! `only`, `fault`, `one`). `proofs/Trees.antt` shows what every tree keeps: the limits, and offsets in the order of
 //! the text.
 //!
-//! `specs/WithoutLoops.antt` is the grammar as it was before there were loops: [`texts_without_loops_stay`] says
-//! that each text that was accepted is so still, with the same tree. Laws are functions without code.
+//! Two laws, which are functions without code, say what of this isn't plain from the definitions.
+//! [`the_first_fault_has_the_least_offset`]: also where a loop has too many turns, which its second bound settles.
+//! [`texts_without_loops_stay`]: what was accepted by the grammar as it was before there were loops, which is
+//! `specs/WithoutLoops.antt`, is accepted with the same tree.
 //!
 //! The parser is proved against a machine that takes one token at a time (`specs/Machine.antt`), which no definition of
 //! what is read names: `proofs/Words.antt` and `proofs/Ends.antt` show that it accepts exactly the derivations,

@@ -1,9 +1,11 @@
 // The tokens of a line.
 use pac_tokens::{Spanned, tokens};
 
-const LINE: &[u8] = b"call Add(1, - 5, \"a\\\"b\\\\\", true) <= < = == # behind";
+const LINE: &[u8] = b"call Add(1, - 5, \"a\\\"b\\\\\", true) <= < = == .. ... # behind";
 
-const PLACES: &[usize] = &[0, 5, 8, 9, 10, 12, 14, 15, 17, 25, 27, 31, 33, 36, 38, 40];
+const PLACES: &[usize] = &[
+    0, 5, 8, 9, 10, 12, 14, 15, 17, 25, 27, 31, 33, 36, 38, 40, 43, 46, 48,
+];
 
 fn stand_there(found: &[Spanned]) -> bool {
     let mut rest = PLACES;
