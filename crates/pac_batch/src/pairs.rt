@@ -25,11 +25,7 @@ pub fn preds(alloc: Global, accesses: &[Access]) -> Result<Preds, NoMemory>
 }
 
 // Adds the pairs of one access and the later ones that conflict with it.
-fn add_later(
-    accesses: &[Access],
-    i: usize,
-    pairs: &mut Vec<(u32, u32)>,
-) -> Result<(), NoMemory>
+fn add_later(accesses: &[Access], i: usize, pairs: &mut Vec<(u32, u32)>) -> Result<(), NoMemory>
     requires few { length accesses.now ≤ 4294967295 }
     requires inside { i < length accesses.now }
     requires order { AreEarlierLater pairs.old.items }

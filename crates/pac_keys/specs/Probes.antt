@@ -1,13 +1,11 @@
 -- What is left of operations for the access of their piece: the table operations, each with its conditions on variables
 -- from elsewhere.
-use Rattle.std.specs.Prelude.{◌≡◌, ℕ, Bool, true, ◌&&◌, not, if◌then◌else◌, List, filter, Option, Some, None, IsSome}
+use Rattle.std.specs.Prelude.{◌≡◌, ℕ, Bool, true, ◌&&◌, not, if◌then◌else◌, List, filter, Option, None}
 use Rattle.std.specs.List.{filter_map, list_any}
 use Rattle.std.specs.Option.{option_map}
 use Rattle.std.specs.Result.{result_ok}
 use Rattle.pac_value.specs.declared.values.Key.{Key}
-use Rattle.pac_value.specs.declared.values.Ty.TheVariants.{Bool as BoolTy}
-use Rattle.pac_value.specs.declared.expr.Expr.{Expr}
-use Rattle.pac_value.specs.Expressions.{Values, type_in, types_of}
+use Rattle.pac_value.specs.Expressions.{Values}
 use Rattle.pac_ops.specs.declared.program.FlatOp.{FlatOp}
 use Rattle.pac_ops.specs.Uses.{modifies}
 use Rattle.pac_ops.specs.Operations.{key_at}
@@ -17,6 +15,7 @@ use Rattle.pac_plan.specs.declared.access.Touch.{Touch}
 use Rattle.pac_plan.specs.declared.access.Access.{Access}
 use Rattle.pac_plan.specs.declared.access.Access.TheVariants.{Keys, Whole}
 use Rattle.pac_plan.specs.Pieces.{avoids}
+use Rattle.pac_plan.specs.Codes.{HasStoredType}
 use Rattle.pac_keys.specs.declared.probe.Probe.{Probe}
 
 -- the conditions on variables that the operations don't define
@@ -53,10 +52,6 @@ touch_of env probe = option_map (λ key. record { table = probe.table; key = key
 abbrev pub probed : Values → List Probe → Access
 probed env probes = if list_any (is_open env) probes then Whole else Keys (filter_map (touch_of env) probes)
 
--- an expression has a key's type over the values that there are
-abbrev pub IsKeyTyped : Values → Expr → Type 0
-IsKeyTyped env key = IsSome (type_in (types_of env) key) × (type_in (types_of env) key ≡ Some BoolTy → ⊥)
-
 -- where an operation may run whose key is bounded, its key has a type
 abbrev pub CanProbe : Values → Probe → Type 0
-CanProbe env probe = probe.is_bounded ≡ true → all_hold env probe.conds ≡ true → IsKeyTyped env probe.key
+CanProbe env probe = probe.is_bounded ≡ true → all_hold env probe.conds ≡ true → HasStoredType env probe.key

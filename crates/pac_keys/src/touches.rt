@@ -1,7 +1,7 @@
 // The rows that operations may touch.
 ghost use Rattle.std.specs.Prelude.{◌≡◌, IfOk, true, false};
 ghost use Rattle.std.specs.List.{filter_map, list_any, AllByRecursion};
-ghost use Rattle.pac_keys.specs.Probes.{CanProbe, IsKeyTyped, is_open, key_touched, touch_of, probed};
+ghost use Rattle.pac_keys.specs.Probes.{CanProbe, is_open, key_touched, touch_of, probed};
 ghost use Rattle.pac_ops.specs.Flat.{all_hold};
 
 use crate::probe::Probe;

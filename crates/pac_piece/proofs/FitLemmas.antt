@@ -31,7 +31,8 @@ use Rattle.pac_ops.proofs.TypeLemmas.{wanted_is}
 use Rattle.pac_ops.proofs.TypedOver.{typed_over}
 use Rattle.pac_base.specs.Members.{Each}
 use Rattle.pac_base.proofs.TestLemmas.{or_left, or_right, and_left, and_right}
-use Rattle.pac_piece.specs.Effects.{HasStoredType, CanDo}
+use Rattle.pac_piece.specs.Effects.{CanDo}
+use Rattle.pac_plan.specs.Codes.{HasStoredType}
 use Rattle.pac_piece.specs.Frames.{defaulted, done_or_defaulted, after_op, after_ops, notes_after, CanRun}
 
 -- ---- what an operation needs

@@ -5,3 +5,4 @@ pub mod RunLemmas
 pub mod FitLemmas
 pub mod RunnableLemmas
 pub mod MeaningLemmas
+pub mod WithinLemmas

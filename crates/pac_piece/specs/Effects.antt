@@ -1,14 +1,13 @@
 -- What the execution of an operation answers, and when it can be executed.
-use Rattle.std.specs.Prelude.{◌≡◌, length, Some, Result, Ok, Err, IsSome, IsTrue}
+use Rattle.std.specs.Prelude.{◌≡◌, length, Result, Ok, Err, IsSome, IsTrue}
 use Rattle.std.specs.List.{AllByRecursion}
-use Rattle.pac_value.specs.declared.values.Ty.TheVariants.{Bool as BoolTy}
-use Rattle.pac_value.specs.declared.expr.Expr.{Expr}
 use Rattle.pac_value.specs.Expressions.{Values, type_in, types_of}
 use Rattle.pac_value.specs.Scopes.{is_width}
 use Rattle.pac_ops.specs.declared.reason.Reason.{Reason}
 use Rattle.pac_ops.specs.declared.program.OpKind.{OpKind}
 use Rattle.pac_ops.specs.declared.program.OpKind.TheVariants.{Let, Cond, Read, Has, Put, SetCol, Delete, AbortIf}
 use Rattle.pac_ops.specs.Operations.{Effect, Nothing, Gives as GivesValue, Leaves}
+use Rattle.pac_plan.specs.Codes.{HasStoredType}
 use Rattle.pac_piece.specs.declared.failed.Failed.{Failed}
 use Rattle.pac_piece.specs.declared.failed.Failed.TheVariants.{Abort, NoMemory}
 use Rattle.pac_piece.specs.declared.effects.OpEffect.{OpEffect}
@@ -31,10 +30,6 @@ abbrev pub Gives : {A : Type 0} → Result A Failed → Result A Reason → Type
 Gives (Ok x) meaning = meaning ≡ Ok x
 Gives (Err (Abort reason)) meaning = meaning ≡ Err reason
 Gives (Err NoMemory) meaning = Unit {0}
-
--- an expression has a type that columns and keys have, over the values that there are
-abbrev pub HasStoredType : Values → Expr → Type 0
-HasStoredType env e = IsSome (type_in (types_of env) e) × (type_in (types_of env) e ≡ Some BoolTy → ⊥)
 
 -- the expressions of an operation have types over the values that there are
 abbrev pub CanDo : Values → OpKind → Type 0

@@ -7,7 +7,8 @@ ghost use Rattle.pac_value.specs.Expressions.{value};
 ghost use Rattle.pac_value.specs.Scopes.{is_width};
 ghost use Rattle.pac_ops.specs.Operations.{values, column_or, replaced, effect};
 ghost use Rattle.pac_ops.specs.Reasons.{or_abort};
-ghost use Rattle.pac_piece.specs.Effects.{Answers, Gives, CanDo, HasStoredType};
+ghost use Rattle.pac_piece.specs.Effects.{Answers, Gives, CanDo};
+ghost use Rattle.pac_plan.specs.Codes.{HasStoredType};
 
 use crate::failed::Failed;
 use pac_base::{NoMemory, copy_of};

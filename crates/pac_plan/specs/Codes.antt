@@ -1,7 +1,9 @@
 -- The code of pieces: what a transaction runs in a block of a plan, and which values it finds.
-use Rattle.std.specs.Prelude.{ℕ, Bool, List, map, slice_get, Some}
+use Rattle.std.specs.Prelude.{◌≡◌, ℕ, Bool, List, map, slice_get, Some, IsSome}
 use Rattle.std.specs.List.{list_all}
-use Rattle.pac_value.specs.Expressions.{Values}
+use Rattle.pac_value.specs.declared.values.Ty.TheVariants.{Bool as BoolTy}
+use Rattle.pac_value.specs.declared.expr.Expr.{Expr}
+use Rattle.pac_value.specs.Expressions.{Values, type_in, types_of}
 use Rattle.pac_value.specs.State.{Tables}
 use Rattle.pac_ops.specs.declared.transaction.Txn.{Txn}
 use Rattle.pac_ops.specs.declared.transaction.Txn.TheVariants.{Call as ACall, AdHoc}
@@ -48,3 +50,7 @@ are_bounded os = list_all (λ o. is_bounded os (target_of o.1.kind)) os
 abbrev pub HasTxnInputs : PlanParts → ℕ → Txn → Values → Type 0
 HasTxnInputs parts block txn env =
     (rows : Tables) × RowsFit parts.tables rows × InputsAre (piece_ops parts block txn) (txn_state parts.programs txn rows).env env
+
+-- an expression has a type that keys and columns have, over the values that there are
+abbrev pub HasStoredType : Values → Expr → Type 0
+HasStoredType env e = IsSome (type_in (types_of env) e) × (type_in (types_of env) e ≡ Some BoolTy → ⊥)

@@ -21,6 +21,13 @@
 //!
 //! `specs/Pieces.antt` says what a piece is, which rows it may touch, which pieces conflict and which has to wait for
 //! which, over any world of code and blocks. `specs/Worlds.antt` makes the world of a plan and of numbered transactions.
+//! `specs/Codes.antt` says which code a transaction has in a block, when a transaction fits a plan, and when an environment has
+//! the inputs of a piece. What crates pass on of pieces is declared here:
+//!
+//! - [`Access`]: the rows that a piece may touch, each a [`Touch`], or its block whole.
+//! - [`Code`]: what a piece runs, [`NumberedOps`] or records. [`Shared`]: a value with several owners, as code is.
+//! - [`Preds`]: pairs of an earlier position and a later one that has to wait for it.
+//!
 //! [`pieces_stay_fit`] and [`next_pairs`] are laws: functions without code, whose clauses say what holds of all pieces.
 #![tactic(auto)]
 

@@ -1,10 +1,6 @@
 -- A later access that conflicts is added, and any other left out.
-use Rattle.std.proofs.Common.{◌≡◌, ◌<◌, ◌+◌, ◌++◌, ℕ, List, [], ◌∷◌, length, Some, sym, ap, ap₂, ◌∙◌, subst, get_or, arith}
-use Rattle.std.specs.Prelude.{unwrap_or, slice_get}
-use Rattle.std.proofs.lemmas.Option.{unwrap_or-slice_get}
+use Rattle.std.proofs.Common.{◌≡◌, ◌<◌, ◌+◌, ◌++◌, ℕ, List, length, sym, ap, ap₂, ◌∙◌, subst, arith}
 use Rattle.std.proofs.lemmas.List.Elements.{All-push}
-use Rattle.pac_plan.specs.declared.access.Access.{Access}
-use Rattle.pac_plan.specs.declared.access.Access.TheVariants.{Keys}
 use Rattle.pac_plan.specs.Pairs.{AreEarlierLater}
 use Rattle.pac_plan.specs.Pieces.{conflicts}
 use Rattle.pac_batch.specs.Conflicts.{access_at, between, pairs_with}
@@ -19,9 +15,9 @@ loop-j-preserved c =
     let j = c.loop-j.j in
     let inside : j < length xs = c.loop-j-test.true in
     let same : conflicts c.index-accesses-i.result c.index-accesses-j.result ≡ conflicts (access_at xs i) (access_at xs j) =
-        ap₂ conflicts (access_here xs i c.index-accesses-i.result c.requires.inside c.index-accesses-i.is) (access_here xs j c.index-accesses-j.result inside c.index-accesses-j.is) in
+    ap₂ conflicts (access_here xs i c.index-accesses-i.result c.requires.inside c.index-accesses-i.is) (access_here xs j c.index-accesses-j.result inside c.index-accesses-j.is) in
     elim c.if-conflict.branch [
-      then-conflict+in_ok-push w ↦
+      | then-conflict+in_ok-push w ↦
           let items = ap (λ (v : _). v.items) w.pairs-is ∙ w.in_ok-push.ensures.items in
           record {
             order = subst (λ (ps : List (ℕ × ℕ)). AreEarlierLater ps) (sym items) (All-push (λ (pair : ℕ × ℕ). pair.0 < pair.1) c.loop-j.pairs.items (i, j) c.loop-j.invariant.order (omega arith));

@@ -1,5 +1,5 @@
 -- The pairs so far, and those of the accesses that are left, are all.
-use Rattle.std.proofs.Common.{◌≡◌, ◌++◌, ◌+◌, ◌≤◌, length}
+use Rattle.std.proofs.Common.{◌≡◌, ◌++◌, ◌+◌, length}
 use Rattle.pac_plan.specs.Pairs.{AreEarlierLater}
 use Rattle.pac_batch.specs.Conflicts.{between, pairs_with}
 use Rattle.pac_batch.proofs.pairs.add_later.Given as goal

@@ -1,5 +1,5 @@
 -- The pairs of one more access are added.
-use Rattle.std.proofs.Common.{◌≡◌, ◌+◌, ◌++◌, ℕ, List, length, ap, ◌∙◌}
+use Rattle.std.proofs.Common.{◌+◌, ◌++◌, ℕ, List, length, ap, ◌∙◌}
 use Rattle.std.specs.List.{flat_map}
 use Rattle.pac_batch.specs.Conflicts.{between, pairs_with}
 use Rattle.pac_batch.proofs.RangeLemmas.{all_of_one}

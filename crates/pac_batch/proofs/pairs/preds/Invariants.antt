@@ -1,5 +1,5 @@
 -- The pairs so far, and those of the accesses that are left, are all.
-use Rattle.std.proofs.Common.{◌≡◌, ◌++◌, ◌+◌, ℕ, List, length}
+use Rattle.std.proofs.Common.{◌≡◌, ◌++◌, ◌+◌, length}
 use Rattle.std.specs.List.{flat_map}
 use Rattle.pac_plan.specs.Pairs.{AreEarlierLater}
 use Rattle.pac_batch.specs.Conflicts.{between, conflict_pairs, pairs_with}

@@ -1,5 +1,5 @@
 -- A transaction with a piece is added, and any other left out.
-use Rattle.std.proofs.Common.{◌≡◌, ◌<◌, ◌+◌, ◌-◌, ◌++◌, ℕ, List, length, drop, sym, ap, ◌∙◌, subst, get_or, arith}
+use Rattle.std.proofs.Common.{◌≡◌, ◌<◌, ◌+◌, ◌-◌, ◌++◌, ℕ, List, length, drop, sym, ap, ◌∙◌, subst}
 use Rattle.std.specs.List.{filter, range_with_len, AllByRecursion}
 use Rattle.std.proofs.lemmas.List.{drop_more}
 use Rattle.pac_ops.specs.declared.transaction.Txn.{Txn}
@@ -22,7 +22,7 @@ loop-i-preserved c =
     let fit : AllByRecursion (TxnFitsPlan code) (drop (i + 1) xs) = (subst (λ (ts : List Txn). AllByRecursion (TxnFitsPlan code) ts) rest c.loop-i.invariant.fit).1 in
     let same = ap (has_piece code block) (txn_here first xs i c.index-txns-i.result inside c.index-txns-i.is) in
     elim c.if-has_piece.branch [
-      then-has_piece+in_ok-push w ↦ record {
+      | then-has_piece+in_ok-push w ↦ record {
         fit = fit;
         all = ap (λ (v : _). v.items ++ filter (λ t. has_piece code block (txn_at first xs t)) (range_with_len (first + (i + 1)) (length xs - (i + 1)))) w.found-is
             ∙ ap (λ (ts : List ℕ). ts ++ filter (λ t. has_piece code block (txn_at first xs t)) (range_with_len (first + (i + 1)) (length xs - (i + 1)))) w.in_ok-push.ensures.items

@@ -1,8 +1,7 @@
 -- A block with a piece is added, and any other left out.
-use Rattle.std.proofs.Common.{◌≡◌, ◌<◌, ◌+◌, ◌-◌, ◌++◌, ℕ, List, [], ◌∷◌, map, sym, ap, ◌∙◌, subst}
+use Rattle.std.proofs.Common.{◌≡◌, ◌<◌, ◌+◌, ◌-◌, ◌++◌, List, [], ◌∷◌, map, sym, ap, ◌∙◌}
 use Rattle.std.specs.List.{filter, range_with_len}
 use Rattle.pac_ops.specs.declared.transaction.Txn.{Txn}
-use Rattle.pac_plan.specs.declared.parts.PlanParts.{PlanParts}
 use Rattle.pac_batch.specs.declared.piece_set.PieceSet.{PieceSet}
 use Rattle.pac_batch.specs.Sets.{has_txns, set_of}
 use Rattle.pac_batch.proofs.RangeLemmas.{item_in, item_out}
@@ -19,7 +18,7 @@ loop-block-preserved c =
     let inside : block < end = c.loop-block-test.true in
     let is : c.in_ok-set.set ≡ set_of code first txns block = c.in_ok-set.ensures ∙ ap (λ (ts : List Txn). set_of code first ts block) c.items-txns.ensures.value in
     elim c.if-has_txns.branch [
-      then-has_txns+in_ok-push w ↦
+      | then-has_txns+in_ok-push w ↦
           ap (λ (v : _). v.items ++ filter has_txns (map (set_of code first txns) (range_with_len (block + 1) (end - (block + 1))))) w.sets-is
           ∙ ap (λ (xs : List PieceSet). xs ++ filter has_txns (map (set_of code first txns) (range_with_len (block + 1) (end - (block + 1))))) (w.in_ok-push.ensures.items ∙ ap (λ (set : PieceSet). c.loop-block.sets.items ++ set ∷ []) is)
           ∙ item_in has_txns (set_of code first txns) block end inside c.loop-block.sets.items (ap has_txns (sym is) ∙ sym c.has_txns.ensures ∙ w.if-has_txns.true)

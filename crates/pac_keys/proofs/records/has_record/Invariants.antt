@@ -1,5 +1,5 @@
 -- No record so far is of the block.
-use Rattle.std.proofs.Common.{◌≡◌, drop, map}
+use Rattle.std.proofs.Common.{◌≡◌, drop}
 use Rattle.pac_ops.specs.Shapes.{RecordsFit}
 use Rattle.pac_plan.specs.PieceFits.{records_in}
 use Rattle.pac_keys.specs.Records.{has_items}

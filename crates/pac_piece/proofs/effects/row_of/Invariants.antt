@@ -4,7 +4,7 @@ use Rattle.std.specs.List.{AllByRecursion, list_all}
 use Rattle.pac_value.specs.Values.{is_stored}
 use Rattle.pac_value.specs.Expressions.{◌>>=◌}
 use Rattle.pac_ops.specs.Operations.{values}
-use Rattle.pac_piece.specs.Effects.{HasStoredType}
+use Rattle.pac_plan.specs.Codes.{HasStoredType}
 use Rattle.pac_piece.proofs.effects.row_of.Given as goal
 
 abbrev pub invariant-loop-expr : goal.invariant-loop-expr
