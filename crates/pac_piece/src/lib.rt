@@ -4,7 +4,7 @@
 //! - [`run`]: does the work. It requires that the work is that of a piece of a plan (`IsRunnable`), and fails only where it
 //!   is out of memory; then the work comes back.
 //! - [`Done`]: work with its value, which it keeps by its type: the rows that it wrote, the variables that it gave values,
-//!   and its least note. [`Done::into_work`] gives the work back.
+//!   and its least note. [`Done::into_parts`] gives these out, and [`Done::into_work`] the work alone.
 //! - [`is_value`] and [`work_means_piece`] are laws: functions that do nothing, whose clauses say what holds of work that is
 //!   done, and that its value is what the piece means in its plan. With the law `work` of `pac_commute` this is the piece
 //!   applied to the state, once writes and values are put in.
@@ -12,7 +12,10 @@
 //! ```
 //! let work = Work { piece, code, env, rows };
 //! match run(alloc, work) {
-//!     Ok(done) => put(done.writes(), done.outs(), done.note()),
+//!     Ok(done) => {
+//!         let (work, writes, outs, note) = done.into_parts();
+//!         finish(work, writes, outs, note)
+//!     }
 //!     Err((work, NoMemory)) => give_back(work),
 //! }
 //! ```

@@ -87,6 +87,19 @@ impl Done {
         self.note
     }
 
+    /// The work, and what it wrote, gave and noted. Takes no memory.
+    pub fn into_parts(self) -> (Work, Writes, Env, Option<Note>)
+        ensures { result ≡ (self.work, self.writes, self.outs, self.note) }
+    {
+        let Done {
+            work,
+            writes,
+            outs,
+            note,
+        } = self;
+        (work, writes, outs, note)
+    }
+
     /// The work again. Takes no memory.
     pub fn into_work(self) -> Work
         ensures { result ≡ self.work }

@@ -80,12 +80,7 @@ fn accesses(alloc: Global, rows: &[(i64, bool)], whole: bool) -> Option<Vec<Acce
     Some(accesses)
 }
 
-fn conflict_so(
-    alloc: Global,
-    rows: &[(i64, bool)],
-    whole: bool,
-    pairs: &[(u32, u32)],
-) -> bool {
+fn conflict_so(alloc: Global, rows: &[(i64, bool)], whole: bool, pairs: &[(u32, u32)]) -> bool {
     let Some(accesses) = accesses(alloc, rows, whole) else {
         return false;
     };
