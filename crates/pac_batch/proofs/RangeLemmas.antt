@@ -8,7 +8,7 @@ use Rattle.pac_ops.specs.declared.transaction.Txn.{Txn}
 use Rattle.pac_plan.specs.declared.access.Access.{Access}
 use Rattle.pac_plan.specs.declared.access.Access.TheVariants.{Keys}
 use Rattle.pac_plan.specs.Worlds.{txn_at}
-use Rattle.pac_batch.specs.Conflicts.{access_at}
+use Rattle.pac_batch.specs.Conflicts.{access_in}
 
 pub range_open : (first end : ℕ) → first < end → range_with_len first (end - first) ≡ first ∷ range_with_len (first + 1) (end - (first + 1))
 range_open first end lt = let size : end - first ≡ suc (end - (first + 1)) = omega (arith, lt) in ap (range_with_len first) size
@@ -60,7 +60,7 @@ module _ (test : ℕ → Bool) (first i n : ℕ) (lt : i < n) (found : List ℕ)
 
 -- ---- what stands at a position
 
-pub access_here : (xs : List Access) (i : ℕ) (x : Access) → i < length xs → x ≡ get_or xs i x → x ≡ access_at xs i
+pub access_here : (xs : List Access) (i : ℕ) (x : Access) → i < length xs → x ≡ get_or xs i x → x ≡ access_in xs i
 access_here xs i x lt is = sym (ap (λ o. unwrap_or o (Keys [])) (slice_get_read xs (length xs) i x refl lt is))
 
 pub txn_here : (first : ℕ) (xs : List Txn) (i : ℕ) (x : Txn) → i < length xs → x ≡ get_or xs i x → txn_at first xs (first + i) ≡ Some x

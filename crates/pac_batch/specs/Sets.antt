@@ -15,13 +15,13 @@ abbrev pub set_of : PlanParts → ℕ → List Txn → ℕ → PieceSet
 set_of parts first txns block = record { block = block; txns = filter (λ t. has_piece parts block (txn_at first txns t)) (numbers first txns) }
 
 -- there is a number
-abbrev pub has_items : List ℕ → Bool
-has_items [] = false
-has_items (t ∷ ts) = true
+abbrev pub has_numbers : List ℕ → Bool
+has_numbers [] = false
+has_numbers (t ∷ ts) = true
 
 -- there is a piece
 abbrev pub has_txns : PieceSet → Bool
-has_txns set = has_items set.txns
+has_txns set = has_numbers set.txns
 
 -- the pieces of each block that has some, the blocks ascending
 abbrev pub sets_of : PlanParts → ℕ → List Txn → List PieceSet

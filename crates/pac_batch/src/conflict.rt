@@ -3,7 +3,7 @@ ghost use Rattle.std.specs.Prelude.{◌≡◌};
 ghost use Rattle.std.specs.List.{list_any};
 ghost use Rattle.std.specs.Ordering.{eq_by_cmp};
 ghost use Rattle.pac_value.specs.State.{cell_cmp};
-ghost use Rattle.pac_plan.specs.Pieces.{cell_of, conflicts};
+ghost use Rattle.pac_plan.specs.Pieces.{named_cell, conflicts};
 ghost use Rattle.pac_batch.specs.Conflicts.{touches_conflict};
 
 use pac_plan::{Access, Touch};
@@ -42,14 +42,14 @@ fn touches_conflict(one: &Touch, other: &Touch) -> bool
 
 // Whether two touches are of one row.
 fn is_same_cell(one: &Touch, other: &Touch) -> bool
-    ensures { result ≡ eq_by_cmp cell_cmp (cell_of one.now) (cell_of other.now) }
+    ensures { result ≡ eq_by_cmp cell_cmp (named_cell one.now) (named_cell other.now) }
 {
     order(one, other).is_eq()
 }
 
 // The order of two touches by their rows.
 fn order(one: &Touch, other: &Touch) -> Ordering
-    ensures { result ≡ cell_cmp (cell_of one.now) (cell_of other.now) }
+    ensures { result ≡ cell_cmp (named_cell one.now) (named_cell other.now) }
 {
     match one.table.cmp(&other.table) {
         Ordering::Equal => one.key.cmp(&other.key),

@@ -1,7 +1,7 @@
 // All pairs that conflict.
 ghost use Rattle.std.specs.Prelude.{◌≡◌, ◌<◌, ◌≤◌, ◌++◌, ◌+◌, length, OnOk, IfOk};
 ghost use Rattle.pac_plan.specs.Pairs.{AreEarlierLater};
-ghost use Rattle.pac_batch.specs.Conflicts.{between, conflict_pairs, pairs_with};
+ghost use Rattle.pac_batch.specs.Conflicts.{numbers_between, conflict_pairs, pairs_with};
 
 use crate::conflict::conflict;
 use pac_base::NoMemory;
@@ -29,7 +29,7 @@ fn add_later(accesses: &[Access], i: usize, pairs: &mut Vec<(u32, u32)>) -> Resu
     requires few { length accesses.now ≤ 4294967295 }
     requires inside { i < length accesses.now }
     requires order { AreEarlierLater pairs.old.items }
-    ensures pairs { OnOk result (pairs.new.items ≡ pairs.old.items ++ pairs_with accesses.now i (between (i + 1) (length accesses.now))) }
+    ensures pairs { OnOk result (pairs.new.items ≡ pairs.old.items ++ pairs_with accesses.now i (numbers_between (i + 1) (length accesses.now))) }
     ensures order { OnOk result (AreEarlierLater pairs.new.items) }
 {
     for j in i + 1..accesses.len() {

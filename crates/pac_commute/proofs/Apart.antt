@@ -15,7 +15,7 @@ use Rattle.pac_ops.specs.Effects.{cell_in, NumberedOp}
 use Rattle.pac_plan.specs.declared.access.Touch.{Touch}
 use Rattle.pac_plan.specs.declared.access.Access.{Access}
 use Rattle.pac_plan.specs.declared.access.Access.TheVariants.{Keys, Whole}
-use Rattle.pac_plan.specs.Pieces.{cell_of, World, ops, access, touch, touches_of, is_loose, may_pass, op_cell, conflicts, covers, precedes}
+use Rattle.pac_plan.specs.Pieces.{named_cell, World, ops, access, touch, touches_of, is_loose, may_pass, op_cell, conflicts, covers, precedes}
 use Rattle.pac_plan.specs.WorldOrder.{WellFormed}
 use Rattle.pac_base.proofs.TestLemmas.{equal_number, and_left, and_right, and_both, or_left, or_right, any_mem, any_gives, mem_each, unlike}
 use Rattle.pac_ops.proofs.EffectLemmas.{touched-named, accessed-named, named-table}
@@ -23,14 +23,14 @@ use Rattle.pac_plan.proofs.PartLemmas.{part-mem}
 use Rattle.pac_commute.proofs.Laws.{le_split}
 
 -- each touch is at the cell of an operation
-touch_from : (os : List NumberedOp) (env : Values) (more : List NumberedOp) (e : Touch) → Mem e (touches_of os env more) → (o : NumberedOp) × Mem o more × (op_cell o.1 env ≡ Some (cell_of e))
+touch_from : (os : List NumberedOp) (env : Values) (more : List NumberedOp) (e : Touch) → Mem e (touches_of os env more) → (o : NumberedOp) × Mem o more × (op_cell o.1 env ≡ Some (named_cell e))
 touch_from os env [] e m = absurd m
 touch_from os env (o ∷ more) e m = go (may_pass os env o.1.conds) (op_cell o.1 env) refl m (touch_from os env more e)
   where
     go : (b : Bool) (c : Option Cell) → op_cell o.1 env ≡ c → Mem e (cond b (touch c (modifies o.1.kind) (touches_of os env more)) (touches_of os env more))
-        → (Mem e (touches_of os env more) → (d : NumberedOp) × Mem d more × (op_cell d.1 env ≡ Some (cell_of e))) → (d : NumberedOp) × Mem d (o ∷ more) × (op_cell d.1 env ≡ Some (cell_of e))
+        → (Mem e (touches_of os env more) → (d : NumberedOp) × Mem d more × (op_cell d.1 env ≡ Some (named_cell e))) → (d : NumberedOp) × Mem d (o ∷ more) × (op_cell d.1 env ≡ Some (named_cell e))
     go true None at m rest = let r = rest m in (r.0, inr r.1, r.2)
-    go true (Some a) at (inl same) rest = (o, inl refl, at ∙ ap (λ (x : Touch). Some (cell_of x)) (sym same))
+    go true (Some a) at (inl same) rest = (o, inl refl, at ∙ ap (λ (x : Touch). Some (named_cell x)) (sym same))
     go true (Some a) at (inr m) rest = let r = rest m in (r.0, inr r.1, r.2)
     go false c at m rest = let r = rest m in (r.0, inr r.1, r.2)
 
@@ -50,18 +50,18 @@ conflicts_turned Whole Whole c = refl
 conflicts_turned Whole (Keys m) c = refl
 conflicts_turned (Keys l) Whole c = refl
 conflicts_turned (Keys l) (Keys m) c =
-    let d = any_gives (λ (e : Touch). list_any (λ (d : Touch). eq_by_cmp cell_cmp (cell_of e) (cell_of d) && (e.is_write || d.is_write)) m) l c in
-    let x = any_gives (λ (x : Touch). eq_by_cmp cell_cmp (cell_of d.0) (cell_of x) && (d.0.is_write || x.is_write)) m d.2 in
-    any_mem (λ (e : Touch). list_any (λ (d : Touch). eq_by_cmp cell_cmp (cell_of e) (cell_of d) && (e.is_write || d.is_write)) l) x.0 m x.1
-    (any_mem (λ (y : Touch). eq_by_cmp cell_cmp (cell_of x.0) (cell_of y) && (x.0.is_write || y.is_write)) d.0 l d.1
-    (and_both _ _ (cell_turned (cell_of d.0) (cell_of x.0) (and_left _ (d.0.is_write || x.0.is_write) x.2)) (or_turned d.0.is_write x.0.is_write (and_right (eq_by_cmp cell_cmp (cell_of d.0) (cell_of x.0)) _ x.2))))
+    let d = any_gives (λ (e : Touch). list_any (λ (d : Touch). eq_by_cmp cell_cmp (named_cell e) (named_cell d) && (e.is_write || d.is_write)) m) l c in
+    let x = any_gives (λ (x : Touch). eq_by_cmp cell_cmp (named_cell d.0) (named_cell x) && (d.0.is_write || x.is_write)) m d.2 in
+    any_mem (λ (e : Touch). list_any (λ (d : Touch). eq_by_cmp cell_cmp (named_cell e) (named_cell d) && (e.is_write || d.is_write)) l) x.0 m x.1
+    (any_mem (λ (y : Touch). eq_by_cmp cell_cmp (named_cell x.0) (named_cell y) && (x.0.is_write || y.is_write)) d.0 l d.1
+    (and_both _ _ (cell_turned (named_cell d.0) (named_cell x.0) (and_left _ (d.0.is_write || x.0.is_write) x.2)) (or_turned d.0.is_write x.0.is_write (and_right (eq_by_cmp cell_cmp (named_cell d.0) (named_cell x.0)) _ x.2))))
 
 module _ (w : World) (well_formed : WellFormed w) (env : ℕ → Values) where
-  touch_home : (p : PieceId) (e : Touch) → Mem e (touches_of (ops w p) (env p.txn) (ops w p)) → p.block ≡ w.home (cell_of e).0
+  touch_home : (p : PieceId) (e : Touch) → Mem e (touches_of (ops w p) (env p.txn) (ops w p)) → p.block ≡ w.home (named_cell e).0
   touch_home p e m =
       let r = touch_from (ops w p) (env p.txn) (ops w p) e m in
       let in_part = part-mem (w.block p.txn) p.block (w.code p.txn) r.0 r.1 in
-      sym in_part.1 ∙ sym (mem_each _ (w.code p.txn) (well_formed.homes p.txn) r.0 in_part.0 (cell_of e).0 (cell_table r.0.1 (env p.txn) (cell_of e) r.2))
+      sym in_part.1 ∙ sym (mem_each _ (w.code p.txn) (well_formed.homes p.txn) r.0 in_part.0 (named_cell e).0 (cell_table r.0.1 (env p.txn) (named_cell e) r.2))
 
   pub covered_home : (p : PieceId) → (access w env p ≡ Whole → ⊥) → (a : Cell) → covers (access w env p) a ≡ true → (p.block == w.home a.0) ≡ true
   covered_home p keys a c = go (list_any (is_loose (ops w p) (env p.txn)) (ops w p)) refl c
@@ -69,8 +69,8 @@ module _ (w : World) (well_formed : WellFormed w) (env : ℕ → Values) where
       go : (b : Bool) → list_any (is_loose (ops w p) (env p.txn)) (ops w p) ≡ b → covers (cond b Whole (Keys (touches_of (ops w p) (env p.txn) (ops w p)))) a ≡ true → (p.block == w.home a.0) ≡ true
       go true e c = absurd (keys (ap (λ b. cond b Whole (Keys (touches_of (ops w p) (env p.txn) (ops w p)))) e))
       go false e c =
-          let r = any_gives (λ (e : Touch). eq_by_cmp cell_cmp (cell_of e) a) (touches_of (ops w p) (env p.txn) (ops w p)) c in
-          equal_number _ _ (touch_home p r.0 r.1 ∙ ap (λ (c : Cell). w.home c.0) (tied_same (cell_of r.0) a r.2))
+          let r = any_gives (λ (e : Touch). eq_by_cmp cell_cmp (named_cell e) a) (touches_of (ops w p) (env p.txn) (ops w p)) c in
+          equal_number _ _ (touch_home p r.0 r.1 ∙ ap (λ (c : Cell). w.home c.0) (tied_same (named_cell r.0) a r.2))
 
   -- accesses of keys that conflict are of pieces of one block
   conflict_block : (p q : PieceId) → (access w env p ≡ Whole → ⊥) → (access w env q ≡ Whole → ⊥) → conflicts (access w env p) (access w env q) ≡ true → p.block ≡ q.block
@@ -81,9 +81,9 @@ module _ (w : World) (well_formed : WellFormed w) (env : ℕ → Values) where
       go true e c f h = absurd (kp (ap (λ b. cond b Whole (Keys (touches_of (ops w p) (env p.txn) (ops w p)))) e))
       go false e true f h = absurd (kq (ap (λ b. cond b Whole (Keys (touches_of (ops w q) (env q.txn) (ops w q)))) f))
       go false e false f h =
-          let d = any_gives (λ (e : Touch). list_any (λ (d : Touch). eq_by_cmp cell_cmp (cell_of e) (cell_of d) && (e.is_write || d.is_write)) (touches_of (ops w q) (env q.txn) (ops w q))) (touches_of (ops w p) (env p.txn) (ops w p)) h in
-          let x = any_gives (λ (x : Touch). eq_by_cmp cell_cmp (cell_of d.0) (cell_of x) && (d.0.is_write || x.is_write)) (touches_of (ops w q) (env q.txn) (ops w q)) d.2 in
-          touch_home p d.0 d.1 ∙ ap (λ (c : Cell). w.home c.0) (tied_same (cell_of d.0) (cell_of x.0) (and_left _ (d.0.is_write || x.0.is_write) x.2)) ∙ sym (touch_home q x.0 x.1)
+          let d = any_gives (λ (e : Touch). list_any (λ (d : Touch). eq_by_cmp cell_cmp (named_cell e) (named_cell d) && (e.is_write || d.is_write)) (touches_of (ops w q) (env q.txn) (ops w q))) (touches_of (ops w p) (env p.txn) (ops w p)) h in
+          let x = any_gives (λ (x : Touch). eq_by_cmp cell_cmp (named_cell d.0) (named_cell x) && (d.0.is_write || x.is_write)) (touches_of (ops w q) (env q.txn) (ops w q)) d.2 in
+          touch_home p d.0 d.1 ∙ ap (λ (c : Cell). w.home c.0) (tied_same (named_cell d.0) (named_cell x.0) (and_left _ (d.0.is_write || x.0.is_write) x.2)) ∙ sym (touch_home q x.0 x.1)
 
   -- two pieces of one block, the first of an earlier transaction
   earlier : (p q : PieceId) → p.block ≡ q.block → p.txn < q.txn → precedes w env p q ≡ false → conflicts (access w env p) (access w env q) ≡ true → ⊥

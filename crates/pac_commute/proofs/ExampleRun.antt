@@ -9,7 +9,7 @@ use Rattle.pac_plan.specs.declared.access.Access.{Access}
 use Rattle.pac_plan.specs.declared.access.Access.TheVariants.{Keys, Whole}
 use Rattle.pac_plan.specs.Pieces.{apply}
 use Rattle.pac_commute.specs.HandOut.{IsReadyPiece, IsPieceTaken}
-use Rattle.pac_commute.specs.PartialFits.{TxnFitsPlan, TxnsFitPlan}
+use Rattle.pac_commute.specs.PartialFits.{TxnIsOfPlan, TxnsFitPlan}
 use Rattle.pac_commute.specs.Loads.{begin, next_in_job, loaded, and_batch}
 use Rattle.pac_commute.specs.Machine.{Machine, among, all_but, opening_machine, IsReadyAt, access_at, world_at, Step, Loaded, Given, Kept, JobSteps}
 use Rattle.pac_commute.specs.Machine as machine
@@ -27,17 +27,17 @@ taken_ready out finished p e =
 not_whole : (x : Access) (l : List Touch) → x ≡ Keys l → x ≡ Whole → ⊥
 not_whole x l k w = let wrong : Keys l ≡ Whole = sym k ∙ w in cc
 
-one_fits : (txn : Txn) → TxnFitsPlan bank txn → TxnsFitPlan bank (txn ∷ [])
-one_fits txn fits zero x e = subst (TxnFitsPlan bank) (same_Some txn x e) fits
+one_fits : (txn : Txn) → TxnIsOfPlan bank txn → TxnsFitPlan bank (txn ∷ [])
+one_fits txn fits zero x e = subst (TxnIsOfPlan bank) (same_Some txn x e) fits
 one_fits txn fits (suc i) x e = cc
 
-fits_1 : TxnFitsPlan bank (call 1 (1 ∷ 100 ∷ 7 ∷ []))
+fits_1 : TxnIsOfPlan bank (call 1 (1 ∷ 100 ∷ 7 ∷ []))
 fits_1 = refl
 
-fits_2 : TxnFitsPlan bank (puts_row 0 1 2)
+fits_2 : TxnIsOfPlan bank (puts_row 0 1 2)
 fits_2 = ((refl, refl), tt)
 
-fits_3 : TxnFitsPlan bank (call 0 (1 ∷ 40 ∷ []))
+fits_3 : TxnIsOfPlan bank (call 0 (1 ∷ 40 ∷ []))
 fits_3 = refl
 
 -- ---- the states of the machine

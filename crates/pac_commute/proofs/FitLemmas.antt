@@ -37,7 +37,7 @@ use Rattle.pac_commute.specs.Exchange.{env_after, HoldsNeeds}
 use Rattle.pac_plan.specs.Worlds.{ops_of, types_in, txn_code, txn_vars, txn_block, txn_args, txn_at, initial, numbers, blocks_in, batch_of, RecordsInTables}
 use Rattle.pac_ops.specs.StaysFit.{IsFit, StaysFitAt}
 use Rattle.pac_commute.specs.PlanLaws.{txns_of, NumbersRunOn, planned}
-use Rattle.pac_commute.specs.PartialFits.{TxnFitsPlan, TxnsFitPlan, PresentFits, PartialStaysFit}
+use Rattle.pac_commute.specs.PartialFits.{TxnIsOfPlan, TxnsFitPlan, PresentFits, PartialStaysFit}
 use Rattle.pac_base.proofs.TestLemmas.{eq_self, same_number, or_left}
 use Rattle.pac_commute.proofs.Laws.{written_env}
 use Rattle.pac_plan.proofs.PartLemmas.{part-mem}
@@ -99,7 +99,7 @@ module _ (parts : PlanParts) (is : IsPlan parts) where
 
   -- ---- whole transactions
 
-  txn_fit : (txn : Txn) (rows : Tables) → TxnFitsPlan parts txn → RowsFit parts.tables rows → RowsFit parts.tables (txn_state parts.programs txn rows).tables
+  txn_fit : (txn : Txn) (rows : Tables) → TxnIsOfPlan parts txn → RowsFit parts.tables rows → RowsFit parts.tables (txn_state parts.programs txn rows).tables
   txn_fit (ACall call) rows fits fit = go (slice_get parts.programs call.proc) refl (some_one (slice_get parts.programs call.proc) (λ program. map type_of call.args ≡ program.params) fits)
     where
       go : (o : Option Program) → slice_get parts.programs call.proc ≡ o → (program : Program) × (slice_get parts.programs call.proc ≡ Some program) × (map type_of call.args ≡ program.params) → RowsFit parts.tables (call_state o call.args rows).tables
@@ -116,7 +116,7 @@ module _ (parts : PlanParts) (is : IsPlan parts) where
     ended : (txns : List Txn) (n : ℕ) (s : Present)
         → ((i : ℕ) (x : Txn) → slice_get txns i ≡ Some x → (w.code (n + i) ≡ txn_code parts (Some x)) × (w.vars (n + i) ≡ txn_vars parts (Some x)))
         → ((i : ℕ) (x : Txn) → slice_get txns i ≡ Some x → s.envs (n + i) ≡ with_values 0 (txn_args (Some x)) empty)
-        → ((i : ℕ) (x : Txn) → slice_get txns i ≡ Some x → TxnFitsPlan parts x) → RowsFit parts.tables s.tables
+        → ((i : ℕ) (x : Txn) → slice_get txns i ≡ Some x → TxnIsOfPlan parts x) → RowsFit parts.tables s.tables
         → (i : ℕ) (x : Txn) → slice_get txns i ≡ Some x
         → (rows : Tables) × RowsFit parts.tables rows × ((replayed_in w (range_with_len n (length txns)) s).envs (n + i) ≡ (txn_state parts.programs x rows).env)
     unfolding replayed_in
@@ -146,7 +146,7 @@ module _ (parts : PlanParts) (is : IsPlan parts) where
 
         go : (((i : ℕ) (x : Txn) → slice_get ys i ≡ Some x → (w.code (n + 1 + i) ≡ txn_code parts (Some x)) × (w.vars (n + 1 + i) ≡ txn_vars parts (Some x)))
             → ((i : ℕ) (x : Txn) → slice_get ys i ≡ Some x → mid.envs (n + 1 + i) ≡ with_values 0 (txn_args (Some x)) empty)
-            → ((i : ℕ) (x : Txn) → slice_get ys i ≡ Some x → TxnFitsPlan parts x) → RowsFit parts.tables mid.tables
+            → ((i : ℕ) (x : Txn) → slice_get ys i ≡ Some x → TxnIsOfPlan parts x) → RowsFit parts.tables mid.tables
             → (i : ℕ) (x : Txn) → slice_get ys i ≡ Some x
             → (rows : Tables) × RowsFit parts.tables rows × ((replayed_in w (range_with_len (n + 1) (length ys)) mid).envs (n + 1 + i) ≡ (txn_state parts.programs x rows).env))
             → (i : ℕ) (x : Txn) → slice_get (y ∷ ys) i ≡ Some x → Goal i x

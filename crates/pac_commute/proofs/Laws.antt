@@ -16,7 +16,7 @@ use Rattle.pac_ops.specs.Effects.{flat_cell, NumberedOp, numbered_notes, is_var,
 use Rattle.pac_plan.specs.declared.access.Touch.{Touch}
 use Rattle.pac_plan.specs.declared.access.Access.{Access}
 use Rattle.pac_plan.specs.declared.access.Access.TheVariants.{Keys, Whole}
-use Rattle.pac_plan.specs.Pieces.{cell_of, Present, of_txn, with_env, part, conflicts, covers, covers_write, World, ops, apply, access, precedes, needs, InputsAre, HasInputs, Location, RowOf, VarOf, at_location, touches, writes}
+use Rattle.pac_plan.specs.Pieces.{named_cell, Present, of_txn, with_env, part, conflicts, covers, covers_write, World, ops, apply, access, precedes, needs, InputsAre, HasInputs, Location, RowOf, VarOf, at_location, touches, writes}
 use Rattle.pac_plan.specs.WorldOrder.{WellFormed}
 use Rattle.pac_commute.proofs.Turns as turns
 use Rattle.pac_base.proofs.TestLemmas.{or_left, or_right, eq_self, same_number, equal_number, and_left, and_right, and_both, and_false, or_cases, unlike, not_false, any_mem, any_gives, each_mem, mem_each}
@@ -31,8 +31,8 @@ writes-covers : (x : Access) (a : Cell) → covers_write x a ≡ true → covers
 writes-covers Whole a e = refl
 writes-covers (Keys l) a e = go (any_gives _ l e)
   where
-    go : (d : Touch) × Mem d l × ((d.is_write && eq_by_cmp cell_cmp (cell_of d) a) ≡ true) → covers (Keys l) a ≡ true
-    go (d, m, h) = any_mem (λ (e : Touch). eq_by_cmp cell_cmp (cell_of e) a) d l m (and_right d.is_write (eq_by_cmp cell_cmp (cell_of d) a) h)
+    go : (d : Touch) × Mem d l × ((d.is_write && eq_by_cmp cell_cmp (named_cell d) a) ≡ true) → covers (Keys l) a ≡ true
+    go (d, m, h) = any_mem (λ (e : Touch). eq_by_cmp cell_cmp (named_cell e) a) d l m (and_right d.is_write (eq_by_cmp cell_cmp (named_cell d) a) h)
 
 pub le_split : (a b : ℕ) → a ≤ b → (a < b) ⊎ (a ≡ b)
 le_split a b le = grind arith

@@ -17,7 +17,7 @@ use Rattle.pac_base.specs.Members.{Each, Mem}
 use Rattle.pac_plan.specs.Pieces.{Present, World, is_piece, adds, ops, apply, covers, covers_write, conflicts, precedes, needs, partial, Location, RowOf, VarOf, at_location, touches, writes, HasInputs}
 use Rattle.pac_commute.specs.Exchange.{HoldsPreds, HoldsNeeds}
 use Rattle.pac_commute.specs.PlanLaws.{txns_of, AllInTables}
-use Rattle.pac_commute.specs.PartialFits.{TxnFitsPlan, TxnsFitPlan}
+use Rattle.pac_commute.specs.PartialFits.{TxnIsOfPlan, TxnsFitPlan}
 use Rattle.pac_commute.specs.Works.{IsWork, worked, IsOutcome}
 use Rattle.pac_commute.specs.Loads.{Job, begin, next_in_job, loaded, and_batch, LoadKeeps}
 use Rattle.pac_commute.specs.Machine.{Machine, among, all_but, opening_machine, world_at, pieces_at, ends_at, access_at, PredsFinished, IsReadyAt, Step, Loaded, Given, Ran, Kept, GivenBack, JobSteps, IsOut, Invariant, OpensJob, StepsKeep, RunsKeep, FinishesReady, StaysFinished, LeavesOut, OutsApart, StaysOut, FindsTheSame, WorkStays, OutsHaveInputs}
@@ -85,7 +85,7 @@ records_in_tables parts txns fits i (AdHoc records) e = fits i (AdHoc records) e
 fit_more : (parts : PlanParts) (txns more : List Txn) → TxnsFitPlan parts txns → TxnsFitPlan parts more → TxnsFitPlan parts (txns ++ more)
 fit_more parts txns more fits fit i txn e = go (nat_lt i (length txns)) refl
   where
-    go : (b : Bool) → nat_lt i (length txns) ≡ b → TxnFitsPlan parts txn
+    go : (b : Bool) → nat_lt i (length txns) ≡ b → TxnIsOfPlan parts txn
     go true h = let lt : i < length txns = grind (arith, nat_tests) in fits i txn (sym (get-first txns more i lt) ∙ e)
     go false h = let le : length txns ≤ i = grind (arith, nat_tests) in fit (i - length txns) txn (sym (get-second txns more i (i - length txns) (omega (arith, le))) ∙ e)
 

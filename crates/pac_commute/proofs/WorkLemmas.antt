@@ -14,7 +14,7 @@ use Rattle.pac_ops.specs.Operations.{State}
 use Rattle.pac_base.specs.Members.{Mem}
 use Rattle.pac_plan.specs.declared.access.Touch.{Touch}
 use Rattle.pac_plan.specs.declared.access.Access.TheVariants.{Keys}
-use Rattle.pac_plan.specs.Pieces.{cell_of, Present, of_txn, World, ops, apply, partial, pieces, part, access, covers, HasInputs, Location, RowOf, VarOf, at_location, touches, writes}
+use Rattle.pac_plan.specs.Pieces.{named_cell, Present, of_txn, World, ops, apply, partial, pieces, part, access, covers, HasInputs, Location, RowOf, VarOf, at_location, touches, writes}
 use Rattle.pac_ops.specs.Effects.{defined_in, used_in, RowAt, VarAt}
 use Rattle.pac_plan.specs.WorldOrder.{WellFormed}
 use Rattle.pac_commute.specs.Works.{IsWork, worked, IsOutcome, put_over, given_over, IsPut, WorkIsApply, WithinAccess, Fresh, copied_rows, with_value, copied_values, CopiesAreWork}
@@ -130,15 +130,15 @@ module _ (w : World) (well_formed : WellFormed w) where
 
 row_copied : (l : List Touch) (tables : Tables) (a : Cell) → covers (Keys l) a ≡ true → get (copied_rows l tables) a ≡ get tables a
 row_copied [] tables a h = absurd (true≢false (sym h))
-row_copied (e ∷ es) tables a h = get-with_row (copied_rows es tables) (cell_of e) (get tables (cell_of e)) a ∙ go (eq_by_cmp cell_cmp a (cell_of e)) refl (row_copied es tables a)
+row_copied (e ∷ es) tables a h = get-with_row (copied_rows es tables) (named_cell e) (get tables (named_cell e)) a ∙ go (eq_by_cmp cell_cmp a (named_cell e)) refl (row_copied es tables a)
   where
-    other : eq_by_cmp cell_cmp a (cell_of e) ≡ false → eq_by_cmp cell_cmp (cell_of e) a ≡ false
-    other f = unlike _ (λ t. true≢false (sym (ap (λ x. eq_by_cmp cell_cmp a x) (tied_same (cell_of e) a t) ∙ same-cell a) ∙ f))
+    other : eq_by_cmp cell_cmp a (named_cell e) ≡ false → eq_by_cmp cell_cmp (named_cell e) a ≡ false
+    other f = unlike _ (λ t. true≢false (sym (ap (λ x. eq_by_cmp cell_cmp a x) (tied_same (named_cell e) a t) ∙ same-cell a) ∙ f))
 
-    go : (b : Bool) → eq_by_cmp cell_cmp a (cell_of e) ≡ b → (list_any (λ (e : Touch). eq_by_cmp cell_cmp (cell_of e) a) es ≡ true → get (copied_rows es tables) a ≡ get tables a)
-        → cond b (get tables (cell_of e)) (get (copied_rows es tables) a) ≡ get tables a
-    go true t rest = ap (get tables) (sym (tied_same a (cell_of e) t))
-    go false f rest = rest (⊎_elim (λ k. absurd (true≢false (sym k ∙ other f))) (λ k. k) (or_cases (eq_by_cmp cell_cmp (cell_of e) a) _ h))
+    go : (b : Bool) → eq_by_cmp cell_cmp a (named_cell e) ≡ b → (list_any (λ (e : Touch). eq_by_cmp cell_cmp (named_cell e) a) es ≡ true → get (copied_rows es tables) a ≡ get tables a)
+        → cond b (get tables (named_cell e)) (get (copied_rows es tables) a) ≡ get tables a
+    go true t rest = ap (get tables) (sym (tied_same a (named_cell e) t))
+    go false f rest = rest (⊎_elim (λ k. absurd (true≢false (sym k ∙ other f))) (λ k. k) (or_cases (eq_by_cmp cell_cmp (named_cell e) a) _ h))
 
 get-with_value : (env : Values) (x : ℕ) (v : Option Value) (y : ℕ) → get (with_value env x v) y ≡ cond (y == x) v (get env y)
 get-with_value env x None y = get-remove nat_cmp_total env x y ∙ ap (λ b. cond b None (get env y)) (sym (unsigned_ties y x))

@@ -19,13 +19,13 @@ use Rattle.pac_ops.specs.StaysFit.{StaysFitAt}
 use Rattle.pac_commute.specs.PlanLaws.{txns_of, NumbersRunOn, planned, numbers_of}
 
 -- a transaction fits a plan: a call's program is there, with parameters of the arguments' types, and records fit the tables
-abbrev pub TxnFitsPlan : PlanParts → Txn → Type 0
-TxnFitsPlan parts (ACall call) = IsSomeAnd (slice_get parts.programs call.proc) (λ program. map type_of call.args ≡ program.params)
-TxnFitsPlan parts (AdHoc records) = RecordsFit parts.tables records
+abbrev pub TxnIsOfPlan : PlanParts → Txn → Type 0
+TxnIsOfPlan parts (ACall call) = IsSomeAnd (slice_get parts.programs call.proc) (λ program. map type_of call.args ≡ program.params)
+TxnIsOfPlan parts (AdHoc records) = RecordsFit parts.tables records
 
 -- each transaction fits the plan
 abbrev pub TxnsFitPlan : PlanParts → List Txn → Type 0
-TxnsFitPlan parts txns = (i : ℕ) (txn : Txn) → slice_get txns i ≡ Some txn → TxnFitsPlan parts txn
+TxnsFitPlan parts txns = (i : ℕ) (txn : Txn) → slice_get txns i ≡ Some txn → TxnIsOfPlan parts txn
 
 -- rows fit, and the variables of each transaction have their types
 pub record PresentFits (parts : PlanParts) (w : World) (s : Present) : Type 0 where

@@ -11,7 +11,7 @@ use Rattle.pac_base.specs.Members.{Mem}
 use Rattle.pac_ops.specs.Effects.{numbered_meaning, numbered_notes, defined_in, used_in}
 use Rattle.pac_plan.specs.declared.access.Touch.{Touch}
 use Rattle.pac_plan.specs.declared.access.Access.TheVariants.{Keys}
-use Rattle.pac_plan.specs.Pieces.{cell_of, Present, World, ops, apply, partial, pieces, access, covers, HasInputs, Location, RowOf, at_location, touches, writes}
+use Rattle.pac_plan.specs.Pieces.{named_cell, Present, World, ops, apply, partial, pieces, access, covers, HasInputs, Location, RowOf, at_location, touches, writes}
 
 -- the rows of the access, the inputs, and no value of a variable that the piece defines
 pub record IsWork (w : World) (env : ℕ → Values) (p : PieceId) (s : Present) (work : State) : Type 0 where
@@ -66,7 +66,7 @@ Fresh w ts bs = (s : Present) (F : PieceId → Bool) (p : PieceId) → F p ≡ f
 -- copies of the rows at the keys of an access, and of variables
 abbrev pub copied_rows : List Touch → Tables → Tables
 copied_rows [] tables = empty
-copied_rows (e ∷ es) tables = with_row (copied_rows es tables) (cell_of e) (get tables (cell_of e))
+copied_rows (e ∷ es) tables = with_row (copied_rows es tables) (named_cell e) (get tables (named_cell e))
 
 -- a variable has this value, or none
 abbrev pub with_value : Values → ℕ → Option Value → Values

@@ -13,14 +13,14 @@ use Rattle.pac_ops.specs.Uses.{defined_variable}
 use Rattle.pac_types.specs.declared.procedure.Proc.{Proc}
 use Rattle.pac_types.specs.OperationLimits.{all_operations}
 use Rattle.pac_types.specs.Meaning.{operations, step_count}
-use Rattle.pac_types.specs.Unrolled.{Steps, End, Op, Branch, unrolled}
+use Rattle.pac_types.specs.Unrolled.{UnrolledSteps, End, Op, Branch, unrolled}
 use Rattle.pac_types.proofs.RunsOnLemmas.{RunsOn, runs_on-joined, variable_list}
 use Rattle.pac_types.proofs.UnrolledLemmas.{unrolled-count}
 use Rattle.pac_flat.specs.FlatForm.{Conditions, flat, flat_form, inside, under, program_of}
 
 -- ---- how many
 
-pub length-flat : (steps : Steps) (conds : Conditions) → length (flat steps conds) ≡ step_count steps
+pub length-flat : (steps : UnrolledSteps) (conds : Conditions) → length (flat steps conds) ≡ step_count steps
 length-flat End conds = refl
 length-flat (Op kind rest) conds = omega (arith, length-flat rest conds)
 length-flat (Branch x e first second rest) conds =
@@ -50,13 +50,13 @@ defined_in-append (x ∷ xs) ys =
     ap (λ l. variable_list (defined_variable x.kind) ++ l) (defined_in-append xs ys) ∙ sym (append_assoc (variable_list (defined_variable x.kind)) (defined_in xs) (defined_in ys))
 
 -- the variables of steps run on from the number m to before k
-abbrev pub RunsTo : ℕ → Steps → ℕ → Type 0
+abbrev pub RunsTo : ℕ → UnrolledSteps → ℕ → Type 0
 RunsTo m End k = m ≡ k
 RunsTo m (Op kind rest) k = RunsOn m (variable_list (defined_variable kind)) × RunsTo (m + length (variable_list (defined_variable kind))) rest k
 RunsTo m (Branch x e first second rest) k = (x ≡ m) × (i j : ℕ) × RunsTo (m + 1) first i × RunsTo i second j × RunsTo j rest k
 
 -- and so do those of their operations
-pub runs_to-defined : (steps : Steps) (conds : Conditions) (m k : ℕ) → RunsTo m steps k → RunsOn m (defined_in (flat steps conds)) × (m + length (defined_in (flat steps conds)) ≡ k)
+pub runs_to-defined : (steps : UnrolledSteps) (conds : Conditions) (m k : ℕ) → RunsTo m steps k → RunsOn m (defined_in (flat steps conds)) × (m + length (defined_in (flat steps conds)) ≡ k)
 runs_to-defined End conds m k run = (tt, omega (arith, run))
 runs_to-defined (Op kind rest) conds m k run =
     let n = m + length (variable_list (defined_variable kind)) in
@@ -107,7 +107,7 @@ pub shut_inside : (env : Values) (conds : Conditions) (x : ℕ) (value : Bool) �
 shut_inside env conds x value h = all_hold-inside env conds x value ∙ ap (λ b. b && is_as_asked value (get env x)) h
 
 -- under conditions that do not all hold no operation does anything
-pub shut-flat : (steps : Steps) (env : Values) (conds : Conditions) → all_hold env conds ≡ false → AllShut env (flat steps conds)
+pub shut-flat : (steps : UnrolledSteps) (env : Values) (conds : Conditions) → all_hold env conds ≡ false → AllShut env (flat steps conds)
 shut-flat End env conds h = tt
 shut-flat (Op kind rest) env conds h = (h, shut-flat rest env conds h)
 shut-flat (Branch x e first second rest) env conds h = (

@@ -18,7 +18,7 @@ use Rattle.pac_ops.specs.Operations.{State, Gives, define, done, with_effect}
 use Rattle.pac_ops.specs.Uses.{defined_variable}
 use Rattle.pac_ops.specs.Flat.{is_true, is_as_asked, all_hold, done_or_default, reason_in, flat_done, flat_reason, flat_meaning, notes_of}
 use Rattle.pac_types.specs.Meaning.{Abort, at_operation, step_count, branch, runs}
-use Rattle.pac_types.specs.Unrolled.{Steps, End, Op, Branch}
+use Rattle.pac_types.specs.Unrolled.{UnrolledSteps, End, Op, Branch}
 use Rattle.pac_types.proofs.RunsOnLemmas.{RunsOn, runs_on-joined, variable_list}
 use Rattle.pac_flat.specs.FlatForm.{Conditions, flat, inside, under}
 use Rattle.pac_flat.proofs.FormLemmas.{length-flat, defined_in, RunsTo, defined_in-append, runs_to-defined, all_hold-inside, AllShut, shut-flat}
@@ -107,7 +107,7 @@ module _ (vars : List Ty) (txn : ℕ) where
   -- ---- steps
 
   -- what steps are in flat form meets what they do, where the conditions round them hold and their variables run on
-  abbrev pub MeetsSteps : Steps → Type 0
+  abbrev pub MeetsSteps : UnrolledSteps → Type 0
   MeetsSteps steps = (conds : Conditions) (m k n : ℕ) (s : State) → RunsTo m steps k → Below m conds → all_hold s.env conds ≡ true → Meets n (flat steps conds) s (runs steps n s)
 
   -- after operations that define none of them, lower variables have their values
@@ -115,12 +115,12 @@ module _ (vars : List Ty) (txn : ℕ) where
   low_kept ops m s t run ends y lt = ap (λ (z : State). get z.env y) (sym ends) ∙ kept y vars ops s (lower-differs y m (defined_in ops) lt run)
 
   -- the variables of steps run up
-  runs_up : (steps : Steps) (m k : ℕ) → RunsTo m steps k → m ≤ k
+  runs_up : (steps : UnrolledSteps) (m k : ℕ) → RunsTo m steps k → m ≤ k
   runs_up End m k run = omega (arith, run)
   runs_up (Op kind rest) m k run = omega (arith, runs_up rest (m + length (variable_list (defined_variable kind))) k run.1)
   runs_up (Branch x e first second rest) m k (is, i, j, a, b, c) = omega (arith, runs_up first (m + 1) i a, runs_up second i j b, runs_up rest j k c)
 
-  meets_op : (kind : OpKind) (rest : Steps) → MeetsSteps rest → MeetsSteps (Op kind rest)
+  meets_op : (kind : OpKind) (rest : UnrolledSteps) → MeetsSteps rest → MeetsSteps (Op kind rest)
   meets_op kind rest later conds m k n s run below hold =
       let one = under conds kind ∷ [] in
       let met : Meets n one s (at_operation n (done kind s)) = meets_one conds kind n s hold in
@@ -129,7 +129,7 @@ module _ (vars : List Ty) (txn : ℕ) where
       later conds (m + length (variable_list (defined_variable kind))) k (n + 1) t run.1 (below-more m (m + length (variable_list (defined_variable kind))) conds (omega arith) below)
       (all_hold-kept m conds s.env t.env below (low_kept one m s t own (subst (Meets n one s) e met).0) ∙ hold))
 
-  module _ (x : ℕ) (e : Expr) (first second : Steps) (meets_first : MeetsSteps first) (meets_second : MeetsSteps second) (conds : Conditions) (m i j n : ℕ) (s : State)
+  module _ (x : ℕ) (e : Expr) (first second : UnrolledSteps) (meets_first : MeetsSteps first) (meets_second : MeetsSteps second) (conds : Conditions) (m i j n : ℕ) (s : State)
       (is : x ≡ m) (run_first : RunsTo (m + 1) first i) (run_second : RunsTo i second j) (below : Below m conds) (hold : all_hold s.env conds ≡ true) where
     abbrev a : List FlatOp
     a = flat first (inside conds x true)
@@ -202,7 +202,7 @@ module _ (vars : List Ty) (txn : ℕ) where
     long : n + length (under conds (Cond x e) ∷ (a ++ b)) ≡ n + 1 + step_count first + step_count second
     long = omega (arith, length-append a b, length-flat first (inside conds x true), length-flat second (inside conds x false))
 
-    met_all : (rest : Steps) → MeetsSteps rest → (k : ℕ) → RunsTo j rest k → Meets n (flat (Branch x e first second rest) conds) s (runs (Branch x e first second rest) n s)
+    met_all : (rest : UnrolledSteps) → MeetsSteps rest → (k : ℕ) → RunsTo j rest k → Meets n (flat (Branch x e first second rest) conds) s (runs (Branch x e first second rest) n s)
     met_all rest later k run =
         let end = n + 1 + step_count first + step_count second in
         let ops = under conds (Cond x e) ∷ (a ++ b) in
@@ -214,7 +214,7 @@ module _ (vars : List Ty) (txn : ℕ) where
         (all_hold-kept m conds s.env t.env below (low_kept ops m s t own_variables (subst (Meets n ops s) ends met).0) ∙ hold)))
 
   -- steps in flat form, under conditions that hold, meet what they do
-  pub meets : (steps : Steps) → MeetsSteps steps
+  pub meets : (steps : UnrolledSteps) → MeetsSteps steps
   meets End conds m k n s run below hold = (refl, refl)
   meets (Op kind rest) conds m k n s run below hold = meets_op kind rest (meets rest) conds m k n s run below hold
   meets (Branch x e first second rest) conds m k n s (is, i, j, in_first, in_second, after) below hold =

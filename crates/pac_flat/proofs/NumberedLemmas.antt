@@ -7,7 +7,7 @@ use Rattle.pac_ops.specs.declared.program.OpKind.TheVariants as kind
 use Rattle.pac_ops.specs.Uses.{defined_variable}
 use Rattle.pac_types.specs.declared.procedure.Proc.{Proc}
 use Rattle.pac_types.specs.declared.statement.Stmt.{Stmt}
-use Rattle.pac_types.specs.Unrolled.{Steps, End, numbers, Point, with_next, with_turn, with_defined, renamed_kind, Unrolling, all_after, in_steps, after_turns, in_turns, unroll_step, unrolling, beginning, unrolled}
+use Rattle.pac_types.specs.Unrolled.{UnrolledSteps, End, turn_numbers, Point, with_next, with_turn, with_defined, renamed_kind, Unrolling, all_after, in_steps, after_turns, in_turns, unroll_step, unrolling, beginning, unrolled}
 use Rattle.pac_types.proofs.StmtShapes.{is_test, IsOne, IsConditional, IsLoop, all_by_shape}
 use Rattle.pac_types.proofs.UnrolledLemmas.{unrolling-one}
 use Rattle.pac_types.proofs.RunsOnLemmas.{RunsOn, variable_list}
@@ -15,16 +15,16 @@ use Rattle.pac_flat.proofs.FormLemmas.{RunsTo}
 
 -- the variables of a statement's steps run on to those after it
 abbrev Numbers : Unrolling → Type 0
-Numbers u = (p : Point) (rest : Steps) (k : ℕ) → RunsTo (u.after p).next rest k → RunsTo p.next (u.steps p rest) k
+Numbers u = (p : Point) (rest : UnrolledSteps) (k : ℕ) → RunsTo (u.after p).next rest k → RunsTo p.next (u.steps p rest) k
 
 abbrev NumbersStmt : Stmt → Type 0
 NumbersStmt s = Numbers (unrolling s)
 
-numbers_all : (ss : List Stmt) → AllByRecursion NumbersStmt ss → (p : Point) (rest : Steps) (k : ℕ) → RunsTo (all_after (map unrolling ss) p).next rest k → RunsTo p.next (in_steps (map unrolling ss) p rest) k
+numbers_all : (ss : List Stmt) → AllByRecursion NumbersStmt ss → (p : Point) (rest : UnrolledSteps) (k : ℕ) → RunsTo (all_after (map unrolling ss) p).next rest k → RunsTo p.next (in_steps (map unrolling ss) p rest) k
 numbers_all [] all p rest k run = run
 numbers_all (s ∷ ss) all p rest k run = all.0 p (in_steps (map unrolling ss) ((unrolling s).after p) rest) k (numbers_all ss all.1 ((unrolling s).after p) rest k run)
 
-numbers_turns : (x : ℕ) (ss : List Stmt) → AllByRecursion NumbersStmt ss → (is : List ℤ) (p : Point) (rest : Steps) (k : ℕ) → RunsTo (after_turns x (map unrolling ss) is p).next rest k → RunsTo p.next (in_turns x (map unrolling ss) is p rest) k
+numbers_turns : (x : ℕ) (ss : List Stmt) → AllByRecursion NumbersStmt ss → (is : List ℤ) (p : Point) (rest : UnrolledSteps) (k : ℕ) → RunsTo (after_turns x (map unrolling ss) is p).next rest k → RunsTo p.next (in_turns x (map unrolling ss) is p rest) k
 numbers_turns x ss all [] p rest k run = run
 numbers_turns x ss all (i ∷ is) p rest k run =
     let next = all_after (map unrolling ss) (with_turn x i p) in
@@ -51,7 +51,7 @@ numbers-conditional s x e first second is all others = subst Numbers (sym (is Un
     (refl, between.next, (all_after (map unrolling second) between).next, numbers_all first all inner End between.next refl, numbers_all second others between End (all_after (map unrolling second) between).next refl, run))
 
 numbers-loop : (s : Stmt) (x : ℕ) (from to : ℤ) (body : List Stmt) → IsLoop s x from to body → AllByRecursion NumbersStmt body → NumbersStmt s
-numbers-loop s x from to body is all = subst Numbers (sym (is Unrolling unroll_step)) (λ p rest k run. numbers_turns x body all (numbers from to) p rest k run)
+numbers-loop s x from to body is all = subst Numbers (sym (is Unrolling unroll_step)) (λ p rest k run. numbers_turns x body all (turn_numbers from to) p rest k run)
 
 -- the variables of a procedure's steps run on from the first after the parameters
 pub numbered-unrolled : (proc : Proc) → RunsTo (length proc.params) (unrolled proc) (all_after (map unrolling proc.body) (beginning proc)).next

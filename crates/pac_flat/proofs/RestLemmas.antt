@@ -8,18 +8,18 @@ use Rattle.pac_ops.specs.declared.program.OpKind.TheVariants.{Cond}
 use Rattle.pac_types.specs.declared.statement.Stmt.{Stmt, If}
 use Rattle.pac_types.proofs.StmtForms.{at-If}
 use Rattle.pac_types.proofs.TurnLemmas.{turns-more, numbers-more}
-use Rattle.pac_types.specs.Unrolled.{Steps, End, turns, numbers, Point, renamed, with_next, with_turn, Unrolling, all_after, in_steps, after_turns, in_turns, unroll_step, unrolling}
+use Rattle.pac_types.specs.Unrolled.{UnrolledSteps, End, turns, turn_numbers, Point, renamed, with_next, with_turn, Unrolling, all_after, in_steps, after_turns, in_turns, unroll_step, unrolling}
 use Rattle.pac_types.proofs.StmtShapes.{is_test, IsOne, IsConditional, IsLoop, by_shape, all_by_shape}
 use Rattle.pac_types.proofs.UnrolledLemmas.{unrolling-one}
 use Rattle.pac_flat.specs.FlatForm.{Conditions, flat, inside, under}
 
 abbrev Leads : Unrolling → Type 0
-Leads u = (p : Point) (rest : Steps) (conds : Conditions) → flat (u.steps p rest) conds ≡ flat (u.steps p End) conds ++ flat rest conds
+Leads u = (p : Point) (rest : UnrolledSteps) (conds : Conditions) → flat (u.steps p rest) conds ≡ flat (u.steps p End) conds ++ flat rest conds
 
 abbrev LeadsStmt : Stmt → Type 0
 LeadsStmt s = Leads (unrolling s)
 
-leads_all : (ss : List Stmt) → AllByRecursion LeadsStmt ss → (p : Point) (rest : Steps) (conds : Conditions) → flat (in_steps (map unrolling ss) p rest) conds ≡ flat (in_steps (map unrolling ss) p End) conds ++ flat rest conds
+leads_all : (ss : List Stmt) → AllByRecursion LeadsStmt ss → (p : Point) (rest : UnrolledSteps) (conds : Conditions) → flat (in_steps (map unrolling ss) p rest) conds ≡ flat (in_steps (map unrolling ss) p End) conds ++ flat rest conds
 leads_all [] all p rest conds = refl
 leads_all (s ∷ ss) all p rest conds =
     let u = unrolling s in
@@ -28,7 +28,7 @@ leads_all (s ∷ ss) all p rest conds =
     ∙ sym (append_assoc (flat (u.steps p End) conds) (flat (in_steps (map unrolling ss) q End) conds) (flat rest conds))
     ∙ ap (λ l. l ++ flat rest conds) (sym (all.0 p (in_steps (map unrolling ss) q End) conds))
 
-leads_turns : (x : ℕ) (ss : List Stmt) → AllByRecursion LeadsStmt ss → (is : List ℤ) (p : Point) (rest : Steps) (conds : Conditions) → flat (in_turns x (map unrolling ss) is p rest) conds ≡ flat (in_turns x (map unrolling ss) is p End) conds ++ flat rest conds
+leads_turns : (x : ℕ) (ss : List Stmt) → AllByRecursion LeadsStmt ss → (is : List ℤ) (p : Point) (rest : UnrolledSteps) (conds : Conditions) → flat (in_turns x (map unrolling ss) is p rest) conds ≡ flat (in_turns x (map unrolling ss) is p End) conds ++ flat rest conds
 leads_turns x ss all [] p rest conds = refl
 leads_turns x ss all (i ∷ is) p rest conds =
     let turn = with_turn x i p in
@@ -50,14 +50,14 @@ leads-conditional s x e first second is all others = subst Leads (sym (is Unroll
     ap (λ l. l ++ flat rest conds) (sym (append-nil (under conds (Cond p.next (renamed p.names e)) ∷ one ++ two))))
 
 leads-loop : (s : Stmt) (x : ℕ) (from to : ℤ) (body : List Stmt) → IsLoop s x from to body → AllByRecursion LeadsStmt body → LeadsStmt s
-leads-loop s x from to body is all = subst Leads (sym (is Unrolling unroll_step)) (leads_turns x body all (numbers from to))
+leads-loop s x from to body is all = subst Leads (sym (is Unrolling unroll_step)) (leads_turns x body all (turn_numbers from to))
 
 -- the operations of a statement, and those after it
-pub flat-rest : (s : Stmt) (p : Point) (rest : Steps) (conds : Conditions) → flat ((unrolling s).steps p rest) conds ≡ flat ((unrolling s).steps p End) conds ++ flat rest conds
+pub flat-rest : (s : Stmt) (p : Point) (rest : UnrolledSteps) (conds : Conditions) → flat ((unrolling s).steps p rest) conds ≡ flat ((unrolling s).steps p End) conds ++ flat rest conds
 flat-rest = by_shape LeadsStmt leads-one leads-conditional leads-loop
 
 -- the operations of a block, and those after it
-pub flat_all-rest : (ss : List Stmt) (p : Point) (rest : Steps) (conds : Conditions) → flat (in_steps (map unrolling ss) p rest) conds ≡ flat (in_steps (map unrolling ss) p End) conds ++ flat rest conds
+pub flat_all-rest : (ss : List Stmt) (p : Point) (rest : UnrolledSteps) (conds : Conditions) → flat (in_steps (map unrolling ss) p rest) conds ≡ flat (in_steps (map unrolling ss) p End) conds ++ flat rest conds
 flat_all-rest ss = leads_all ss (all_by_shape LeadsStmt leads-one leads-conditional leads-loop ss)
 
 module _ (s : Stmt) (ss : List Stmt) (conds : Conditions) (p q : Point) (ops more : List FlatOp) (after : q ≡ (unrolling s).after p) (pushed : more ≡ ops ++ flat ((unrolling s).steps p End) conds) where
@@ -72,15 +72,15 @@ module _ (s : Stmt) (ss : List Stmt) (conds : Conditions) (p q : Point) (ops mor
       ∙ append_assoc ops (flat ((unrolling s).steps p End) conds) (flat rest conds) ∙ ap (λ l. ops ++ l) (sym (flat-rest s p rest conds))
 
 module _ (x : ℕ) (body : List Stmt) (conds : Conditions) (n to : ℤ) (below : n <ℤ to) (p q : Point) (ops more : List FlatOp) (after : q ≡ all_after (map unrolling body) (with_turn x n p)) (pushed : more ≡ ops ++ flat (in_steps (map unrolling body) (with_turn x n p) End) conds) where
-  pub turn-point : after_turns x (map unrolling body) (numbers (n +ℤ pos 1) to) q ≡ after_turns x (map unrolling body) (numbers n to) p
-  turn-point = ap (after_turns x (map unrolling body) (numbers (n +ℤ pos 1) to)) after ∙ ap (λ is. after_turns x (map unrolling body) is p) (sym (numbers-more n to below))
+  pub turn-point : after_turns x (map unrolling body) (turn_numbers (n +ℤ pos 1) to) q ≡ after_turns x (map unrolling body) (turn_numbers n to) p
+  turn-point = ap (after_turns x (map unrolling body) (turn_numbers (n +ℤ pos 1) to)) after ∙ ap (λ is. after_turns x (map unrolling body) is p) (sym (numbers-more n to below))
 
-  pub turn-ops : more ++ flat (in_turns x (map unrolling body) (numbers (n +ℤ pos 1) to) q End) conds ≡ ops ++ flat (in_turns x (map unrolling body) (numbers n to) p End) conds
+  pub turn-ops : more ++ flat (in_turns x (map unrolling body) (turn_numbers (n +ℤ pos 1) to) q End) conds ≡ ops ++ flat (in_turns x (map unrolling body) (turn_numbers n to) p End) conds
   turn-ops =
       let turn = with_turn x n p in
       let own = flat (in_steps (map unrolling body) turn End) conds in
-      let rest = in_turns x (map unrolling body) (numbers (n +ℤ pos 1) to) (all_after (map unrolling body) turn) End in
-      (λ i. pushed i ++ flat (in_turns x (map unrolling body) (numbers (n +ℤ pos 1) to) (after i) End) conds)
+      let rest = in_turns x (map unrolling body) (turn_numbers (n +ℤ pos 1) to) (all_after (map unrolling body) turn) End in
+      (λ i. pushed i ++ flat (in_turns x (map unrolling body) (turn_numbers (n +ℤ pos 1) to) (after i) End) conds)
       ∙ append_assoc ops own (flat rest conds) ∙ ap (λ l. ops ++ l) (sym (flat_all-rest body turn rest conds))
       ∙ ap (λ is. ops ++ flat (in_turns x (map unrolling body) is p End) conds) (sym (numbers-more n to below))
 

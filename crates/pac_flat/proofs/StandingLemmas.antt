@@ -6,7 +6,7 @@ use Rattle.std.proofs.lemmas.Grind.{get_or-set_at}
 use Rattle.std.proofs.lemmas.List.{get_or-set_other}
 use Rattle.std.proofs.lemmas.Option.{unwrap_or-slice_get}
 use Rattle.pac_value.specs.declared.expr.Expr.{Expr, Var}
-use Rattle.pac_types.specs.Unrolled.{naming}
+use Rattle.pac_types.specs.Unrolled.{renaming}
 use Rattle.pac_types.proofs.PartLemmas.{equal}
 use Rattle.pac_flat.specs.Names.{standing}
 
@@ -27,7 +27,7 @@ standing_itself es i y = ((λ j. unwrap_or (slice_get (es ++ Var (none (length e
         (λ i. unwrap_or (slice_get (es ++ Var (long i) ∷ []) y) (Var (next i))) ∙ go es (suc n) y ∙ (λ i. unwrap_or (slice_get es y) (Var (sym next i)))
 
 -- a variable that stands for something else
-pub standing_set : (es : List Expr) (x : ℕ) (e : Expr) → x < length es → standing (set es x e) ≡ naming (standing es) x e
+pub standing_set : (es : List Expr) (x : ℕ) (e : Expr) → x < length es → standing (set es x e) ≡ renaming (standing es) x e
 standing_set es x e inside i y = go (y == x) refl i
   where
     apart : (y x : ℕ) → (y == x) ≡ false → y ≡ x → ⊥

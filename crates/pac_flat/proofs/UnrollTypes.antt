@@ -19,7 +19,7 @@ use Rattle.pac_ops.specs.Uses.{defined_variable}
 use Rattle.pac_types.specs.declared.procedure.Proc.{Proc}
 use Rattle.pac_types.specs.declared.statement.Stmt.{Stmt}
 use Rattle.pac_types.specs.declared.table.Table.{Table}
-use Rattle.pac_types.specs.Unrolled.{Steps, End, Op, Branch, numbers, renamed, renamed_step, renamed_kind, Point, with_next, with_turn, with_defined, Unrolling, all_after, in_steps, after_turns, in_turns, unroll_step, unrolling, beginning}
+use Rattle.pac_types.specs.Unrolled.{UnrolledSteps, End, Op, Branch, turn_numbers, renamed, renamed_step, renamed_kind, Point, with_next, with_turn, with_defined, Unrolling, all_after, in_steps, after_turns, in_turns, unroll_step, unrolling, beginning}
 use Rattle.pac_types.specs.Variables.{variables_step, stmt_variables, defined_variables}
 use Rattle.pac_types.specs.WellFormed.{key_type, column_type, column_types, if_so, without, Check, any_defines, in_order, check_step, check}
 use Rattle.pac_types.proofs.PartLemmas.{equal}
@@ -190,14 +190,14 @@ module _ (tables : List Table) where
   -- ---- steps
 
   -- steps are well-formed where the variables have these types
-  abbrev pub AreWellFormed : Steps → Scope → Type 0
+  abbrev pub AreWellFormed : UnrolledSteps → Scope → Type 0
   AreWellFormed End h = Unit {0}
   AreWellFormed (Op kind rest) h = (g : Scope) × ((single_check tables kind).after h ≡ Some g) × AreWellFormed rest g
   AreWellFormed (Branch x e first second rest) h = (is_bool (type_in h e) ≡ true) × AreWellFormed first (with_var h x BoolTy) × AreWellFormed second (with_var h x BoolTy) × AreWellFormed rest (with_var h x BoolTy)
 
   -- the steps of what is well-formed are, where those after it are
   abbrev Steady : Unrolling → List ℕ → (Scope → Option Scope) → Type 0
-  Steady u xs after = (k : ℕ) (f g : Scope) → RunsOn k xs → Before k f → after f ≡ Some g → (p : Point) (h : Scope) → Typed f p h → (rest : Steps)
+  Steady u xs after = (k : ℕ) (f g : Scope) → RunsOn k xs → Before k f → after f ≡ Some g → (p : Point) (h : Scope) → Typed f p h → (rest : UnrolledSteps)
       → ((h' : Scope) → Within h h' → Typed g (u.after p) h' → Before (k + length xs) g → AreWellFormed rest h') → AreWellFormed (u.steps p rest) h
 
   abbrev SteadyStmt : Stmt → Type 0
@@ -214,7 +214,7 @@ module _ (tables : List Table) where
   there_is None e = absurd cc
   there_is (Some h) e = (h, refl)
 
-  steady_all : (ss : List Stmt) → AllByRecursion SteadyStmt ss → (k : ℕ) (f g : Scope) → RunsOn k (defined_variables ss) → Before k f → in_order (map (check tables) ss) f ≡ Some g → (p : Point) (h : Scope) → Typed f p h → (rest : Steps)
+  steady_all : (ss : List Stmt) → AllByRecursion SteadyStmt ss → (k : ℕ) (f g : Scope) → RunsOn k (defined_variables ss) → Before k f → in_order (map (check tables) ss) f ≡ Some g → (p : Point) (h : Scope) → Typed f p h → (rest : UnrolledSteps)
       → ((h' : Scope) → Within h h' → Typed g (all_after (map unrolling ss) p) h' → AreWellFormed rest h') → AreWellFormed (in_steps (map unrolling ss) p rest) h
   steady_all [] all k f g run before is p h typed rest later = let same : f ≡ g = cc in later h (λ x ty e. e) (subst (λ (z : Scope). Typed z p h) same typed)
   steady_all (s ∷ ss) all k f g run before is p h typed rest later =
@@ -289,7 +289,7 @@ module _ (tables : List Table) where
 
   module _ (x k : ℕ) (at : x ≡ k) (body : List Stmt) (all : AllByRecursion SteadyStmt body) (run : RunsOn (k + 1) (defined_variables body)) (f g : Scope) (before : Before k f)
       (ok : in_order (map (check tables) body) (with_var f x IntTy) ≡ Some g) where
-    steady_turns : (is : List ℤ) (p : Point) (h : Scope) → Typed f p h → (rest : Steps)
+    steady_turns : (is : List ℤ) (p : Point) (h : Scope) → Typed f p h → (rest : UnrolledSteps)
         → ((h' : Scope) → Within h h' → Typed f (after_turns x (map unrolling body) is p) h' → AreWellFormed rest h') → AreWellFormed (in_turns x (map unrolling body) is p rest) h
     steady_turns [] p h typed rest later = later h (λ y t i. i) typed
     steady_turns (i ∷ is) p h typed rest later =
@@ -317,8 +317,8 @@ module _ (tables : List Table) where
       let visible : Before k outer = before-less k outer f less before in
       let typed_outer : Typed outer p h = typed-later f outer p p h h k typed less visible (λ y lt. refl) (λ y t i. i) typed.below in
       let shown : Within g outer = subst (λ (z : Scope). Within z outer) a.1 (λ y t i. less_visible (y == x) (some y) (f y) t i) in
-      steady_turns x k run.0 body all run.1 outer found.0 visible found.1 (numbers from to) p h typed_outer rest (λ h' more t.
-      let end = after_turns x (map unrolling body) (numbers from to) p in
+      steady_turns x k run.0 body all run.1 outer found.0 visible found.1 (turn_numbers from to) p h typed_outer rest (λ h' more t.
+      let end = after_turns x (map unrolling body) (turn_numbers from to) p in
       later h' more (typed-later outer g end end h' h' k t shown (before-less k g outer shown visible) (λ y lt. refl) (λ y u i. i) t.below) (λ y u i. omega (arith, visible y u (shown y u i)))))
 
   pub all_steady : (ss : List Stmt) (k : ℕ) (f g : Scope) → RunsOn k (defined_variables ss) → Before k f → in_order (map (check tables) ss) f ≡ Some g → (p : Point) (h : Scope) → Typed f p h → AreWellFormed (in_steps (map unrolling ss) p End) h

@@ -22,7 +22,7 @@ use Rattle.pac_types.specs.declared.table.Table.{Table}
 use Rattle.pac_types.specs.Meaning.{operations}
 use Rattle.pac_types.specs.OperationLimits.{HasFewOperations}
 use Rattle.pac_types.specs.Typing.{IsProc}
-use Rattle.pac_types.specs.Unrolled.{Steps, End, Op, Branch, all_after, unrolling, beginning, unrolled}
+use Rattle.pac_types.specs.Unrolled.{UnrolledSteps, End, Op, Branch, all_after, unrolling, beginning, unrolled}
 use Rattle.pac_types.specs.WellFormed.{types, scope_after_all, scope_of}
 use Rattle.pac_types.proofs.PartLemmas.{equal}
 use Rattle.pac_types.proofs.RunsOnLemmas.{RunsOn, variable_list, runs_on-proc}
@@ -188,7 +188,7 @@ module _ (tables : List Table) (params : List Ty) where
 
   -- ---- steps
 
-  abbrev GoesSteps : Steps → Type 0
+  abbrev GoesSteps : UnrolledSteps → Type 0
   GoesSteps steps = (conds : Conditions) (before : List FlatOp) (f : Scope) (k : ℕ) → AreWellFormed tables steps f → Sees f before conds → Knows before conds → RunsTo (length (T before)) steps k → GoesOn before (flat steps conds) k
 
   goes_on : (before : List FlatOp) (xs ys : List FlatOp) (k : ℕ) → FineFrom before xs → GoesOn (before ++ xs) ys k → GoesOn before (xs ++ ys) k
@@ -197,7 +197,7 @@ module _ (tables : List Table) (params : List Ty) where
     count = ap (λ l. length (T l)) (sym (append_assoc before xs ys)) ∙ b.count;
   }
 
-  goes_op : (kind : OpKind) (rest : Steps) → GoesSteps rest → GoesSteps (Op kind rest)
+  goes_op : (kind : OpKind) (rest : UnrolledSteps) → GoesSteps rest → GoesSteps (Op kind rest)
   goes_op kind rest later conds before f k (g, ok, more) sees knows run =
       let p = single_well_formed tables kind f g ok in
       let one = under conds kind ∷ [] in
@@ -228,7 +228,7 @@ module _ (tables : List Table) (params : List Ty) where
   there_is None e = absurd cc
   there_is (Some h) e = (h, refl)
 
-  module _ (x : ℕ) (e : Expr) (first second rest : Steps) (goes_first : GoesSteps first) (goes_second : GoesSteps second) (goes_rest : GoesSteps rest) (conds : Conditions) (before : List FlatOp) (f : Scope) (i j k : ℕ)
+  module _ (x : ℕ) (e : Expr) (first second rest : UnrolledSteps) (goes_first : GoesSteps first) (goes_second : GoesSteps second) (goes_rest : GoesSteps rest) (conds : Conditions) (before : List FlatOp) (f : Scope) (i j k : ℕ)
       (typed : is_bool (type_in f e) ≡ true) (well_formed_a : AreWellFormed tables first (with_var f x BoolTy)) (well_formed_b : AreWellFormed tables second (with_var f x BoolTy)) (well_formed : AreWellFormed tables rest (with_var f x BoolTy))
       (sees : Sees f before conds) (knows : Knows before conds) (is : x ≡ length (T before)) (run_a : RunsTo (length (T before) + 1) first i) (run_b : RunsTo i second j) (run : RunsTo j rest k) where
     abbrev inner : Scope
@@ -273,7 +273,7 @@ module _ (tables : List Table) (params : List Ty) where
     goes_branch = goes_on before (test ∷ (a ++ b)) (flat rest conds) k goes_both.fine
         (goes_rest conds (before ++ (test ∷ (a ++ b))) inner k well_formed sees_rest (knows-more before (test ∷ (a ++ b)) conds knows) (subst (λ n. RunsTo n rest k) (sym goes_both.count) run))
 
-  goes_steps : (steps : Steps) → GoesSteps steps
+  goes_steps : (steps : UnrolledSteps) → GoesSteps steps
   goes_steps End conds before f k well_formed sees knows run = record { fine = tt; count = ap (λ l. length (T l)) (append-nil before) ∙ run }
   goes_steps (Op kind rest) conds before f k well_formed sees knows run = goes_op kind rest (goes_steps rest) conds before f k well_formed sees knows run
   goes_steps (Branch x e first second rest) conds before f k (typed, in_first, in_second, in_rest) sees knows (is, i, j, run_a, run_b, run) =

@@ -7,7 +7,7 @@ use Rattle.pac_ops.specs.declared.program.OpKind.TheVariants.{Cond}
 use Rattle.pac_ops.specs.declared.program.Program.{Program}
 use Rattle.pac_ops.specs.Programs.{given_type, scope_in}
 use Rattle.pac_types.specs.declared.procedure.Proc.{Proc}
-use Rattle.pac_types.specs.Unrolled.{Steps, End, Op, Branch, unrolled}
+use Rattle.pac_types.specs.Unrolled.{UnrolledSteps, End, Op, Branch, unrolled}
 use Rattle.pac_types.specs.WellFormed.{types}
 
 -- conditions, those of the outermost conditional first
@@ -23,7 +23,7 @@ abbrev pub inside : Conditions → ℕ → Bool → Conditions
 inside conds x value = conds ++ (x, value) ∷ []
 
 -- the operations of steps, where these conditions stand round them
-abbrev pub flat : Steps → Conditions → List FlatOp
+abbrev pub flat : UnrolledSteps → Conditions → List FlatOp
 flat End conds = []
 flat (Op kind rest) conds = under conds kind ∷ flat rest conds
 flat (Branch x e first second rest) conds = (under conds (Cond x e) ∷ flat first (inside conds x true) ++ flat second (inside conds x false)) ++ flat rest conds

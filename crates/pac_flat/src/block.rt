@@ -1,7 +1,7 @@
 // The operations of statements, under the conditions round them.
 ghost use Rattle.std.specs.Prelude.{◌≡◌, ◌+◌, ◌*◌, ◌<◌, ◌≤◌, ◌^◌, ◌++◌, ◌∷◌, [], map, length, IfOk, OnOk};
 ghost use Rattle.pac_types.specs.Meaning.{operations, stmt_operations};
-ghost use Rattle.pac_types.specs.Unrolled.{End, turns, numbers, renamed, unrolling, in_steps, all_after, in_turns, after_turns};
+ghost use Rattle.pac_types.specs.Unrolled.{End, turns, turn_numbers, renamed, unrolling, in_steps, all_after, in_turns, after_turns};
 ghost use Rattle.pac_flat.specs.FlatForm.{flat, inside, under};
 ghost use Rattle.pac_flat.specs.Names.{point_of};
 
@@ -171,8 +171,8 @@ fn push_turns(
 ) -> Result<(), NoMemory>
     requires room { point.old.next + turns from to * operations body.now < 2 ^ 16 }
     ensures next { OnOk result (point.new.next ≤ point.old.next + turns from to * operations body.now) }
-    ensures point { OnOk result (point_of point.new ≡ after_turns var (map unrolling body.now) (numbers from to) (point_of point.old)) }
-    ensures ops { OnOk result (ops.new.items ≡ ops.old.items ++ flat (in_turns var (map unrolling body.now) (numbers from to) (point_of point.old) End) conds.now) }
+    ensures point { OnOk result (point_of point.new ≡ after_turns var (map unrolling body.now) (turn_numbers from to) (point_of point.old)) }
+    ensures ops { OnOk result (ops.new.items ≡ ops.old.items ++ flat (in_turns var (map unrolling body.now) (turn_numbers from to) (point_of point.old) End) conds.now) }
 {
     for number in from..to {
         point.name_turn(var, number)?;

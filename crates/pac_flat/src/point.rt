@@ -1,6 +1,6 @@
 // What the variables of a text stand for where its loops are unrolled.
 ghost use Rattle.std.specs.Prelude.{◌≡◌, ◌+◌, ◌<◌, ◌≤◌, ◌^◌, length, IfOk, OnOk};
-ghost use Rattle.pac_types.specs.Unrolled.{naming, renamed, with_next, with_turn};
+ghost use Rattle.pac_types.specs.Unrolled.{renaming, renamed, with_next, with_turn};
 ghost use Rattle.pac_flat.specs.Names.{standing, point_of};
 
 use pac_base::{Boxed, Exact, NoMemory};
@@ -45,7 +45,7 @@ impl Point {
 // A variable of the text stands for this from now on.
 #[tactic(auto, using(crate::proofs::StandingLemmas::standing_set))]
 fn name(names: &mut Vec<Expr>, var: u16, stands_for: Expr) -> Result<(), NoMemory>
-    ensures { OnOk result (standing names.new.items ≡ naming (standing names.old.items) var stands_for) }
+    ensures { OnOk result (standing names.new.items ≡ renaming (standing names.old.items) var stands_for) }
 {
     fill(names, var)?;
     names[usize::from(var)] = stands_for;

@@ -19,7 +19,7 @@ use Rattle.pac_plan.specs.Pieces.{part, avoid_step, is_bounded, op_cell, touch, 
 use Rattle.pac_plan.specs.Worlds.{home_in, home_or}
 use Rattle.pac_plan.specs.PieceFits.{change_table, records_in}
 use Rattle.pac_plan.specs.Codes.{piece_ops}
-use Rattle.pac_keys.specs.Records.{change_key, change_touch, has_items}
+use Rattle.pac_keys.specs.Records.{change_key, change_touch, has_records}
 
 key_again : (key : Key) → as_key (key_value key) ≡ key
 key_again (IntKey n) = refl
@@ -79,18 +79,18 @@ adhoc-access parts block records env = ap₂ (λ b touches. cond b Whole (Keys t
     (record-touches parts block (rest parts block [] env 0 records) env 0 records)
 
 -- an ad hoc transaction has a piece where it has a record
-pub adhoc-exists : (parts : PlanParts) (block : ℕ) (records : List Change) → has_ops (piece_ops parts block (AdHoc records)) ≡ has_items (records_in parts block records)
+pub adhoc-exists : (parts : PlanParts) (block : ℕ) (records : List Change) → has_ops (piece_ops parts block (AdHoc records)) ≡ has_records (records_in parts block records)
 unfolding numbered_from
 adhoc-exists parts block records = go 0 records
   where
-    go : (n : ℕ) (cs : List Change) → has_ops (part (λ o. home_or parts (accessed_table o.1.kind)) block (numbered_from n (map record_op cs))) ≡ has_items (records_in parts block cs)
+    go : (n : ℕ) (cs : List Change) → has_ops (part (λ o. home_or parts (accessed_table o.1.kind)) block (numbered_from n (map record_op cs))) ≡ has_records (records_in parts block cs)
     go n [] = refl
     go n (c ∷ cs) =
         ap (λ h. has_ops (cond (h == block) ((n, record_op c) ∷ part (λ o. home_or parts (accessed_table o.1.kind)) block (numbered_from (n + 1) (map record_op cs))) (part (λ o. home_or parts (accessed_table o.1.kind)) block (numbered_from (n + 1) (map record_op cs))))) (home-record parts c)
         ∙ one (home_in parts (change_table c) == block) (go (n + 1) cs)
       where
-        one : (h : Bool) → has_ops (part (λ o. home_or parts (accessed_table o.1.kind)) block (numbered_from (n + 1) (map record_op cs))) ≡ has_items (records_in parts block cs)
+        one : (h : Bool) → has_ops (part (λ o. home_or parts (accessed_table o.1.kind)) block (numbered_from (n + 1) (map record_op cs))) ≡ has_records (records_in parts block cs)
             → has_ops (cond h ((n, record_op c) ∷ part (λ o. home_or parts (accessed_table o.1.kind)) block (numbered_from (n + 1) (map record_op cs))) (part (λ o. home_or parts (accessed_table o.1.kind)) block (numbered_from (n + 1) (map record_op cs))))
-            ≡ has_items (cond h (c ∷ records_in parts block cs) (records_in parts block cs))
+            ≡ has_records (cond h (c ∷ records_in parts block cs) (records_in parts block cs))
         one true k = refl
         one false k = k

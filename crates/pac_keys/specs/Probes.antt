@@ -15,7 +15,7 @@ use Rattle.pac_plan.specs.declared.access.Touch.{Touch}
 use Rattle.pac_plan.specs.declared.access.Access.{Access}
 use Rattle.pac_plan.specs.declared.access.Access.TheVariants.{Keys, Whole}
 use Rattle.pac_plan.specs.Pieces.{avoids}
-use Rattle.pac_plan.specs.Codes.{HasStoredType}
+use Rattle.pac_plan.specs.Codes.{IsStoredTyped}
 use Rattle.pac_keys.specs.declared.probe.Probe.{Probe}
 
 -- the conditions on variables that the operations don't define
@@ -54,4 +54,4 @@ probed env probes = if list_any (is_open env) probes then Whole else Keys (filte
 
 -- where an operation may run whose key is bounded, its key has a type
 abbrev pub CanProbe : Values → Probe → Type 0
-CanProbe env probe = probe.is_bounded ≡ true → all_hold env probe.conds ≡ true → HasStoredType env probe.key
+CanProbe env probe = probe.is_bounded ≡ true → all_hold env probe.conds ≡ true → IsStoredTyped env probe.key

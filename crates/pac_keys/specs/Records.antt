@@ -16,6 +16,6 @@ abbrev pub change_touch : Change → Touch
 change_touch change = record { table = change_table change; key = change_key change; is_write = true }
 
 -- there is a record
-abbrev pub has_items : List Change → Bool
-has_items [] = false
-has_items (change ∷ changes) = true
+abbrev pub has_records : List Change → Bool
+has_records [] = false
+has_records (change ∷ changes) = true

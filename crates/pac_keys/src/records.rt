@@ -3,7 +3,7 @@ ghost use Rattle.std.specs.Prelude.{◌≡◌, ◌<◌, IfOk, length, map};
 ghost use Rattle.std.specs.List.{AllByRecursion};
 ghost use Rattle.pac_ops.specs.Shapes.{RecordsFit};
 ghost use Rattle.pac_plan.specs.PieceFits.{change_table, records_in};
-ghost use Rattle.pac_keys.specs.Records.{change_key, change_touch, has_items};
+ghost use Rattle.pac_keys.specs.Records.{change_key, change_touch, has_records};
 
 use pac_base::{Exact, NoMemory};
 use pac_ops::Change;
@@ -56,7 +56,7 @@ pub(crate) fn records_in(
 /// Whether one of the records is of the block.
 pub(crate) fn has_record(plan: &Plan, records: &[Change], block: u16) -> bool
     requires { RecordsFit plan.now.tables records.now }
-    ensures { result ≡ has_items (records_in plan.now block records.now) }
+    ensures { result ≡ has_records (records_in plan.now block records.now) }
 {
     for change in records {
         if plan.home_of(table_of(change)) == block {

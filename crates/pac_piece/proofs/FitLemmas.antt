@@ -32,7 +32,7 @@ use Rattle.pac_ops.proofs.TypedOver.{typed_over}
 use Rattle.pac_base.specs.Members.{Each}
 use Rattle.pac_base.proofs.TestLemmas.{or_left, or_right, and_left, and_right}
 use Rattle.pac_piece.specs.Effects.{CanDo}
-use Rattle.pac_plan.specs.Codes.{HasStoredType}
+use Rattle.pac_plan.specs.Codes.{IsStoredTyped}
 use Rattle.pac_piece.specs.Frames.{defaulted, done_or_defaulted, after_op, after_ops, notes_after, CanRun}
 
 -- ---- what an operation needs
@@ -48,13 +48,13 @@ module _ (vars : List Ty) (env : Values) where
   some_over : (e : Expr) → ((x : ℕ) → expr_uses x e ≡ true → HasTyped vars env x) → IsSome (type_in (scope_in vars) e) → IsSome (type_in (types_of env) e)
   some_over e f h = subst (λ t. IsSome t) (sym (typed_over vars env e f)) h
 
-  stored_over : (e : Expr) (want : Option Ty) → ((x : ℕ) → expr_uses x e ≡ true → HasTyped vars env x) → is_wanted (type_in (scope_in vars) e) want ≡ true → HasStoredType env e
+  stored_over : (e : Expr) (want : Option Ty) → ((x : ℕ) → expr_uses x e ≡ true → HasTyped vars env x) → is_wanted (type_in (scope_in vars) e) want ≡ true → IsStoredTyped env e
   stored_over e want f h =
       let w = wanted_is (type_in (scope_in vars) e) want h in
       let over : type_in (types_of env) e ≡ type_in (scope_in vars) e = typed_over vars env e f in
       (subst (λ t. IsSome t) (sym (over ∙ w.1)) refl, λ b. w.3 (same_Some _ _ (sym (over ∙ w.1) ∙ b)))
 
-  all_stored : (es : List Expr) (types : List Ty) → ((x : ℕ) → exprs_use x es ≡ true → HasTyped vars env x) → are_wanted (map (type_in (scope_in vars)) es) types ≡ true → AllByRecursion (HasStoredType env) es
+  all_stored : (es : List Expr) (types : List Ty) → ((x : ℕ) → exprs_use x es ≡ true → HasTyped vars env x) → are_wanted (map (type_in (scope_in vars)) es) types ≡ true → AllByRecursion (IsStoredTyped env) es
   all_stored [] types f h = tt
   all_stored (e ∷ es) [] f h = cc
   all_stored (e ∷ es) (ty ∷ types) f h = (

@@ -27,7 +27,7 @@ use Rattle.pac_plan.specs.Codes.{code_ops}
 use Rattle.pac_piece.specs.declared.work.Work.{Work}
 use Rattle.pac_piece.specs.Values.{IsOutcomeOf}
 use Rattle.pac_piece.specs.declared.frame.Frame.{Frame}
-use Rattle.pac_piece.specs.Frames.{seen, done_or_defaulted, after_op, after_ops, notes_after, change_row, give_value, cell_changed, var_given, is_cell, StepsTo, RunsTo, RunsOn, IsFresh}
+use Rattle.pac_piece.specs.Frames.{state_seen, done_or_defaulted, after_op, after_ops, notes_after, change_row, give_value, cell_changed, var_given, is_cell, StepsTo, RunsTo, RunsOn, IsFreshFrame}
 use Rattle.pac_piece.specs.Records.{record_cell, record_row, ChangesOne}
 use Rattle.pac_piece.proofs.StepLemmas.{stepped}
 
@@ -38,12 +38,12 @@ or-shift false w r = refl
 
 module _ (rows : List Write) (txn : ℕ) where
   -- nothing was executed
-  pub starts : (os : List NumberedOp) (frame : Frame) → IsFresh frame → RunsOn rows txn os (seen rows frame) os frame
+  pub starts : (os : List NumberedOp) (frame : Frame) → IsFreshFrame frame → RunsOn rows txn os (state_seen rows frame) os frame
   starts os frame fresh = record {
     state = refl;
-    note = ap (λ n. least n (first_note (notes_after txn os (seen rows frame)))) fresh.note;
-    changed = λ a. ap (λ ws. is_written ws a || change_row os (seen rows frame) a) fresh.writes;
-    given = λ x. ap (λ v. is_some v || give_value os (seen rows frame) x) (none x);
+    note = ap (λ n. least n (first_note (notes_after txn os (state_seen rows frame)))) fresh.note;
+    changed = λ a. ap (λ ws. is_written ws a || change_row os (state_seen rows frame) a) fresh.writes;
+    given = λ x. ap (λ v. is_some v || give_value os (state_seen rows frame) x) (none x);
     kept = λ x v e. let wrong : None ≡ Some v = sym (none x) ∙ e in cc;
     once = subst (λ ws. IsOnce ws) (sym fresh.writes) tt;
   }
@@ -56,13 +56,13 @@ module _ (rows : List Write) (txn : ℕ) where
   goes_on os s o rest old new on step = record {
     state = ap (after_ops rest) step.state ∙ on.state;
     note = ap₂ (λ n t. least n (first_note (notes_after txn rest t))) step.note step.state
-        ∙ sym (least-assoc old.note (first_note (note_at txn o.0 (flat_reason o.1 (seen rows old)))) (first_note (notes_after txn rest (after_op o.1 (seen rows old)))))
-        ∙ ap (least old.note) (sym (first-append (note_at txn o.0 (flat_reason o.1 (seen rows old))) (notes_after txn rest (after_op o.1 (seen rows old)))))
+        ∙ sym (least-assoc old.note (first_note (note_at txn o.0 (flat_reason o.1 (state_seen rows old)))) (first_note (notes_after txn rest (after_op o.1 (state_seen rows old)))))
+        ∙ ap (least old.note) (sym (first-append (note_at txn o.0 (flat_reason o.1 (state_seen rows old))) (notes_after txn rest (after_op o.1 (state_seen rows old)))))
         ∙ on.note;
     changed = λ a. ap₂ (λ b t. b || change_row rest t a) (step.changed a) step.state
-        ∙ or-shift (is_cell a (cell_changed o.1 (seen rows old))) (is_written old.writes.items a) (change_row rest (after_op o.1 (seen rows old)) a) ∙ on.changed a;
+        ∙ or-shift (is_cell a (cell_changed o.1 (state_seen rows old))) (is_written old.writes.items a) (change_row rest (after_op o.1 (state_seen rows old)) a) ∙ on.changed a;
     given = λ x. ap₂ (λ b t. b || give_value rest t x) (step.given x) step.state
-        ∙ or-shift (is_var x (var_given o.1 (seen rows old))) (is_some (get old.outs x)) (give_value rest (after_op o.1 (seen rows old)) x) ∙ on.given x;
+        ∙ or-shift (is_var x (var_given o.1 (state_seen rows old))) (is_some (get old.outs x)) (give_value rest (after_op o.1 (state_seen rows old)) x) ∙ on.given x;
     kept = step.kept on.kept;
     once = step.once;
   }
@@ -118,9 +118,9 @@ record_silent (DeleteRow table key) s = ap reason_in (record_done (DeleteRow tab
 
 pub record_steps : (rows : List Write) (txn n : ℕ) (change : Change) (old new : Frame) → ChangesOne change old new → StepsTo rows txn (n, record_op change) old new
 record_steps rows txn n (PutRow table key row) old new h = stepped rows txn (n, record_op (PutRow table key row)) old new (Some (table, key)) (Leaves (Some row)) refl
-    (record_touched (PutRow table key row) old.env) (record_effect (PutRow table key row) old.env (row_at (seen rows old).tables (Some (table, key)))) h
+    (record_touched (PutRow table key row) old.env) (record_effect (PutRow table key row) old.env (row_at (state_seen rows old).tables (Some (table, key)))) h
 record_steps rows txn n (DeleteRow table key) old new h = stepped rows txn (n, record_op (DeleteRow table key)) old new (Some (table, key)) (Leaves None) refl
-    (record_touched (DeleteRow table key) old.env) (record_effect (DeleteRow table key) old.env (row_at (seen rows old).tables (Some (table, key)))) h
+    (record_touched (DeleteRow table key) old.env) (record_effect (DeleteRow table key) old.env (row_at (state_seen rows old).tables (Some (table, key)))) h
 
 -- ---- from the frame with which work begins
 

@@ -34,7 +34,7 @@ use Rattle.pac_plan.proofs.OrderLemmas.{order_kept}
 use Rattle.pac_plan.proofs.PartLemmas.{part-mem}
 use Rattle.pac_plan.proofs.WorldLemmas.{stands}
 use Rattle.pac_piece.specs.declared.work.Work.{Work}
-use Rattle.pac_piece.specs.Frames.{AreIn, CanRun}
+use Rattle.pac_piece.specs.Frames.{AreAmong, CanRun}
 use Rattle.pac_piece.specs.Values.{CanRunCode, begun}
 use Rattle.pac_piece.specs.Runnable.{IsRunnable}
 use Rattle.pac_piece.proofs.FitLemmas.{can_run}
@@ -49,7 +49,7 @@ module _ (parts : PlanParts) (is : IsPlan parts) (p : ℕ) (program : Program) (
   abbrev os : List NumberedOp
   os = part (λ o. block_in parts (Operation p o.0)) block (numbered_from 0 program.ops)
 
-  pub stays : RowsFit parts.tables s.tables → AreIn s.env (flat_meaning program.vars program.ops (opening args before)).env
+  pub stays : RowsFit parts.tables s.tables → AreAmong s.env (flat_meaning program.vars program.ops (opening args before)).env
       → InputsAre os (flat_meaning program.vars program.ops (opening args before)).env s.env → StaysFitAt parts.tables program.vars os s
   stays rows only inputs = pieces_stay_fit parts is p program at args before fits before_fit block s
       (record { rows = rows; types = λ x v e. end_fit.types x v (only x v e) }) inputs
@@ -66,7 +66,7 @@ runnable work r = go r.txn r.fits r.code r.inputs r.only
 
     call_runs : (call : Call) (o : Option Program) → slice_get r.parts.programs call.proc ≡ o → IsSomeAnd (option_map (λ (program : Program). program.params) o) (λ types. map type_of call.args ≡ types)
         → InputsAre (part (λ o. block_in r.parts (Operation call.proc o.0)) block (numbered_from 0 (ops_of o))) (call_state o call.args r.before).env work.env
-        → AreIn work.env (call_state o call.args r.before).env
+        → AreAmong work.env (call_state o call.args r.before).env
         → CanRun (part (λ o. block_in r.parts (Operation call.proc o.0)) block (numbered_from 0 (ops_of o))) (begun work)
     call_runs call None at f i only = absurd f
     call_runs call (Some program) at f i only =
@@ -75,7 +75,7 @@ runnable work r = go r.txn r.fits r.code r.inputs r.only
         (stays r.parts r.is_plan call.proc program at call.args r.before f r.before_fit block (begun work) r.rows only i)
 
     go : (txn : Txn) → TxnFitsPlan r.parts txn → work.code ≡ code_in r.parts block txn
-        → InputsAre (piece_ops r.parts block txn) (txn_state r.parts.programs txn r.before).env work.env → AreIn work.env (txn_state r.parts.programs txn r.before).env
+        → InputsAre (piece_ops r.parts block txn) (txn_state r.parts.programs txn r.before).env work.env → AreAmong work.env (txn_state r.parts.programs txn r.before).env
         → CanRunCode work.code (begun work)
     go (ACall call) fits code inputs only = subst (λ (c : Code). CanRunCode c (begun work)) (sym code)
         (call_runs call (slice_get r.parts.programs call.proc) refl

@@ -20,7 +20,7 @@ use Rattle.pac_ops.proofs.StateLemmas.{get-given, least_none}
 use Rattle.pac_tables.specs.declared.writes.Write.{Write}
 use Rattle.pac_tables.specs.Written.{IsOnce, is_written, written}
 use Rattle.pac_piece.specs.declared.frame.Frame.{Frame}
-use Rattle.pac_piece.specs.Frames.{seen, defaulted, done_or_defaulted, cell_changed, is_cell, AreIn, Given, StepsTo}
+use Rattle.pac_piece.specs.Frames.{state_seen, defaulted, done_or_defaulted, cell_changed, is_cell, AreAmong, Given, StepsTo}
 use Rattle.pac_piece.specs.Steps.{cell_left, var_left, Applies, GivesUp}
 
 pub on_ok : {A E P Q : Type 0} (r : Result A E) → (P → Q) → OnOk r P → OnOk r Q
@@ -43,14 +43,14 @@ module _ (var : ℕ) (v : Value) (old new : Frame) (g : Given var v old new) whe
       go true = refl
       go false = refl
 
-  pub given_kept : AreIn old.outs old.env → AreIn new.outs new.env
+  pub given_kept : AreAmong old.outs old.env → AreAmong new.outs new.env
   given_kept kept x w e = value_seen x ∙ go (x == var) (sym (value_there x) ∙ e)
     where
       go : (b : Bool) → cond b (Some v) (get old.outs x) ≡ Some w → cond b (Some v) (get old.env x) ≡ Some w
       go true h = h
       go false h = kept x w h
 
-  pub given_state : (rows : List Write) → seen rows new ≡ define var v (seen rows old)
+  pub given_state : (rows : List Write) → state_seen rows new ≡ define var v (state_seen rows old)
   given_state rows i = record { env = g.env i; tables = written (written empty rows) (g.writes i) }
 
 pub applies_gives : (var : ℕ) (v : Value) (cell : Option Cell) (old new : Frame) → IsOnce old.writes.items → Given var v old new → Applies cell (Gives var v) old new
@@ -69,7 +69,7 @@ pub gives_up : (txn : ℕ) (o : NumberedOp) (reason : Reason) (old mid new : Fra
 gives_up txn o reason old mid new var v env outs writes note is_var_ is_default g = record {
   state = λ rows. given_state var v mid new g rows
       ∙ (λ i. define var (is_default i) (record { env = env i; tables = written (written empty rows) (writes i) }))
-      ∙ ap (λ x. defaulted x (trapped_type o.1.kind) (seen rows old)) (sym is_var_);
+      ∙ ap (λ x. defaulted x (trapped_type o.1.kind) (state_seen rows old)) (sym is_var_);
   note = g.note ∙ note;
   changed = g.writes ∙ writes;
   given = λ x. given_there var v mid new g x ∙ (λ i. is_var x (sym is_var_ i) || is_some (get (outs i) x));
@@ -108,24 +108,24 @@ effect_kind (AbortIf ex) env row e is = then_of (AbortIf ex) e (or_abort (value 
 -- ---- an operation that has an effect
 
 pub stepped : (rows : List Write) (txn : ℕ) (o : NumberedOp) (old new : Frame) (cell : Option Cell) (e : Effect) → all_hold old.env o.1.conds ≡ true
-    → touched o.1.kind old.env ≡ Ok cell → effect o.1.kind old.env (row_at (seen rows old).tables cell) ≡ Ok e → Applies cell e old new → StepsTo rows txn o old new
+    → touched o.1.kind old.env ≡ Ok cell → effect o.1.kind old.env (row_at (state_seen rows old).tables cell) ≡ Ok e → Applies cell e old new → StepsTo rows txn o old new
 stepped rows txn o old new cell e hold touch has applies = record {
-  state = applies.state rows ∙ sym (ap (λ b. cond b (done_or_defaulted o.1.kind (seen rows old) (done o.1.kind (seen rows old))) (seen rows old)) hold ∙ ap (done_or_defaulted o.1.kind (seen rows old)) is_done);
-  note = applies.note ∙ sym (least_none old.note) ∙ sym (ap (λ r. least old.note (first_note (note_at txn o.0 r))) (ap (λ b. cond b (reason_in (done o.1.kind (seen rows old))) None) hold ∙ ap reason_in is_done));
+  state = applies.state rows ∙ sym (ap (λ b. cond b (done_or_defaulted o.1.kind (state_seen rows old) (done o.1.kind (state_seen rows old))) (state_seen rows old)) hold ∙ ap (done_or_defaulted o.1.kind (state_seen rows old)) is_done);
+  note = applies.note ∙ sym (least_none old.note) ∙ sym (ap (λ r. least old.note (first_note (note_at txn o.0 r))) (ap (λ b. cond b (reason_in (done o.1.kind (state_seen rows old))) None) hold ∙ ap reason_in is_done));
   changed = λ a. applies.changed a ∙ ap (λ c. is_cell a c || is_written old.writes.items a) (kind.1 cell ∙ sym changes);
   given = λ x. applies.given x ∙ ap (λ y. is_var x y || is_some (get old.outs x)) (kind.0 ∙ sym (ap (λ b. cond b (defined_variable o.1.kind) None) hold));
   kept = applies.kept;
   once = applies.once;
 }
   where
-    is_done : done o.1.kind (seen rows old) ≡ Ok (with_effect cell e (seen rows old))
-    is_done = ap (λ r. or_abort r >>= λ c. effect o.1.kind old.env (row_at (seen rows old).tables c) >>= λ d. Ok (with_effect c d (seen rows old))) touch
-        ∙ ap (λ r. r >>= λ d. Ok (with_effect cell d (seen rows old))) has
+    is_done : done o.1.kind (state_seen rows old) ≡ Ok (with_effect cell e (state_seen rows old))
+    is_done = ap (λ r. or_abort r >>= λ c. effect o.1.kind old.env (row_at (state_seen rows old).tables c) >>= λ d. Ok (with_effect c d (state_seen rows old))) touch
+        ∙ ap (λ r. r >>= λ d. Ok (with_effect cell d (state_seen rows old))) has
 
     kind : IsOfKind o.1.kind e
-    kind = effect_kind o.1.kind old.env (row_at (seen rows old).tables cell) e has
+    kind = effect_kind o.1.kind old.env (row_at (state_seen rows old).tables cell) e has
 
-    changes : cell_changed o.1 (seen rows old) ≡ cond (modifies o.1.kind && true) cell None
+    changes : cell_changed o.1 (state_seen rows old) ≡ cond (modifies o.1.kind && true) cell None
     changes =
         ap (λ r. cond (modifies o.1.kind && is_ok r) (cond (all_hold old.env o.1.conds) (cell_in (touched o.1.kind old.env)) None) None) is_done
         ∙ ap (λ b. cond (modifies o.1.kind && true) (cond b (cell_in (touched o.1.kind old.env)) None) None) hold

@@ -11,7 +11,7 @@ use Rattle.pac_value.specs.State.{Cell, cell_cmp, RowValues, Tables, with_row}
 use Rattle.pac_value.proofs.CellLemmas.{cells_total, cells_antisymmetric, same-cell, tied_same, get-with_row}
 use Rattle.pac_tables.specs.declared.writes.Write.{Write}
 use Rattle.pac_tables.specs.Written.{IsOnce, cell_written, is_written, written}
-use Rattle.pac_piece.specs.Changes.{is_at, Changes}
+use Rattle.pac_piece.specs.Changes.{is_at, ChangesCell}
 
 -- ---- two writes
 
@@ -146,9 +146,9 @@ module _ (cell : Cell) (row : Option RowValues) (w' : Write) (is_row : w'.row �
   set_once (w ∷ ws) zero r o = (ap (is_written ws) (r w) ∙ o.0, o.1)
   set_once (w ∷ ws) (suc i) r o = (set_same (cell_written w) ws i r ∙ o.0, set_once ws i r o.1)
 
-  pub replaced : (ws : List Write) (i : ℕ) → IsFirstAt cell ws i → Replaces ws i → IsOnce ws → Changes cell row ws (slice_set ws i w')
+  pub replaced : (ws : List Write) (i : ℕ) → IsFirstAt cell ws i → Replaces ws i → IsOnce ws → ChangesCell cell row ws (slice_set ws i w')
   replaced ws i f r o = record { tables = λ t. set_tables t ws i f r; at = λ a. set_at a ws i f r; once = set_once ws i r o }
 
 -- one more write, where there was none
-pub added : (w : Write) (ws : List Write) → is_written ws (cell_written w) ≡ false → IsOnce ws → Changes (cell_written w) w.row ws (w ∷ ws)
+pub added : (w : Write) (ws : List Write) → is_written ws (cell_written w) ≡ false → IsOnce ws → ChangesCell (cell_written w) w.row ws (w ∷ ws)
 added w ws n o = record { tables = λ t. refl; at = λ a. refl; once = (n, o) }

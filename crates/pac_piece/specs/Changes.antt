@@ -10,7 +10,7 @@ abbrev pub is_at : Cell → Write → Bool
 is_at cell write = eq_by_cmp cell_cmp cell (cell_written write)
 
 -- the new writes leave what the old ones and one more leave, and are at its cell too; no cell is written twice
-pub record Changes (cell : Cell) (row : Option RowValues) (old new : List Write) : Type 0 where
+pub record ChangesCell (cell : Cell) (row : Option RowValues) (old new : List Write) : Type 0 where
   pub tables : (tables : Tables) → written tables new ≡ with_row (written tables old) cell row
   pub at : (a : Cell) → is_written new a ≡ (eq_by_cmp cell_cmp a cell || is_written old a)
   pub once : IsOnce new

@@ -7,9 +7,9 @@ use Rattle.pac_ops.specs.declared.reason.Reason.{Reason}
 use Rattle.pac_ops.specs.declared.program.OpKind.{OpKind}
 use Rattle.pac_ops.specs.declared.program.OpKind.TheVariants.{Let, Cond, Read, Has, Put, SetCol, Delete, AbortIf}
 use Rattle.pac_ops.specs.Operations.{Effect, Nothing, Gives as GivesValue, Leaves}
-use Rattle.pac_plan.specs.Codes.{HasStoredType}
-use Rattle.pac_piece.specs.declared.failed.Failed.{Failed}
-use Rattle.pac_piece.specs.declared.failed.Failed.TheVariants.{Abort, NoMemory}
+use Rattle.pac_plan.specs.Codes.{IsStoredTyped}
+use Rattle.pac_piece.specs.declared.failed.OpFailed.{OpFailed}
+use Rattle.pac_piece.specs.declared.failed.OpFailed.TheVariants.{Abort, NoMemory}
 use Rattle.pac_piece.specs.declared.effects.OpEffect.{OpEffect}
 use Rattle.pac_piece.specs.declared.effects.OpEffect.TheVariants.{Nothing as ANothing, Gives as AGives, Leaves as ALeaves}
 
@@ -20,24 +20,24 @@ effect_of (AGives x v) = GivesValue x v
 effect_of (ALeaves row) = Leaves row
 
 -- an operation does what it means, fails as it means to, or finds no memory
-abbrev pub Answers : Result OpEffect Failed → Result Effect Reason → Type 0
-Answers (Ok e) meaning = meaning ≡ Ok (effect_of e)
-Answers (Err (Abort reason)) meaning = meaning ≡ Err reason
-Answers (Err NoMemory) meaning = Unit {0}
+abbrev pub AnswersEffect : Result OpEffect OpFailed → Result Effect Reason → Type 0
+AnswersEffect (Ok e) meaning = meaning ≡ Ok (effect_of e)
+AnswersEffect (Err (Abort reason)) meaning = meaning ≡ Err reason
+AnswersEffect (Err NoMemory) meaning = Unit {0}
 
 -- the same of a value that is given
-abbrev pub Gives : {A : Type 0} → Result A Failed → Result A Reason → Type 0
-Gives (Ok x) meaning = meaning ≡ Ok x
-Gives (Err (Abort reason)) meaning = meaning ≡ Err reason
-Gives (Err NoMemory) meaning = Unit {0}
+abbrev pub AnswersAs : {A : Type 0} → Result A OpFailed → Result A Reason → Type 0
+AnswersAs (Ok x) meaning = meaning ≡ Ok x
+AnswersAs (Err (Abort reason)) meaning = meaning ≡ Err reason
+AnswersAs (Err NoMemory) meaning = Unit {0}
 
 -- the expressions of an operation have types over the values that there are
 abbrev pub CanDo : Values → OpKind → Type 0
 CanDo env (Let x e) = IsSome (type_in (types_of env) e)
 CanDo env (Cond x e) = IsSome (type_in (types_of env) e)
-CanDo env (Read x t k c d) = HasStoredType env k
-CanDo env (Has x t k) = HasStoredType env k
-CanDo env (Put t k es) = HasStoredType env k × IsTrue (is_width (length es)) × AllByRecursion (HasStoredType env) es
-CanDo env (SetCol t k c e) = HasStoredType env k × HasStoredType env e
-CanDo env (Delete t k) = HasStoredType env k
+CanDo env (Read x t k c d) = IsStoredTyped env k
+CanDo env (Has x t k) = IsStoredTyped env k
+CanDo env (Put t k es) = IsStoredTyped env k × IsTrue (is_width (length es)) × AllByRecursion (IsStoredTyped env) es
+CanDo env (SetCol t k c e) = IsStoredTyped env k × IsStoredTyped env e
+CanDo env (Delete t k) = IsStoredTyped env k
 CanDo env (AbortIf e) = IsSome (type_in (types_of env) e)

@@ -78,12 +78,12 @@ CanRun (o ∷ os) s = (all_hold s.env o.1.conds ≡ true → CanDo s.env o.1.kin
 -- ---- frames
 
 -- the state that a piece sees: its values, and the rows that it wrote over its copies
-abbrev pub seen : List Write → Frame → State
-seen rows frame = record { env = frame.env; tables = written (written empty rows) frame.writes.items }
+abbrev pub state_seen : List Write → Frame → State
+state_seen rows frame = record { env = frame.env; tables = written (written empty rows) frame.writes.items }
 
 -- what was given stands in the environment
-abbrev pub AreIn : Values → Values → Type 0
-AreIn outs env = (x : ℕ) (v : Value) → get outs x ≡ Some v → get env x ≡ Some v
+abbrev pub AreAmong : Values → Values → Type 0
+AreAmong outs env = (x : ℕ) (v : Value) → get outs x ≡ Some v → get env x ≡ Some v
 
 -- a variable got a value, and nothing else happened
 pub record Given (var : ℕ) (value : Value) (old new : Frame) : Type 0 where
@@ -94,33 +94,33 @@ pub record Given (var : ℕ) (value : Value) (old new : Frame) : Type 0 where
 
 -- one operation more was executed
 pub record StepsTo (rows : List Write) (txn : ℕ) (o : NumberedOp) (old new : Frame) : Type 0 where
-  pub state : seen rows new ≡ after_op o.1 (seen rows old)
-  pub note : new.note ≡ least old.note (first_note (note_at txn o.0 (flat_reason o.1 (seen rows old))))
-  pub changed : (a : Cell) → is_written new.writes.items a ≡ (is_cell a (cell_changed o.1 (seen rows old)) || is_written old.writes.items a)
-  pub given : (x : ℕ) → is_some (get new.outs x) ≡ (is_var x (var_given o.1 (seen rows old)) || is_some (get old.outs x))
-  pub kept : AreIn old.outs old.env → AreIn new.outs new.env
+  pub state : state_seen rows new ≡ after_op o.1 (state_seen rows old)
+  pub note : new.note ≡ least old.note (first_note (note_at txn o.0 (flat_reason o.1 (state_seen rows old))))
+  pub changed : (a : Cell) → is_written new.writes.items a ≡ (is_cell a (cell_changed o.1 (state_seen rows old)) || is_written old.writes.items a)
+  pub given : (x : ℕ) → is_some (get new.outs x) ≡ (is_var x (var_given o.1 (state_seen rows old)) || is_some (get old.outs x))
+  pub kept : AreAmong old.outs old.env → AreAmong new.outs new.env
   pub once : IsOnce new.writes.items
 
 -- all were executed from a state on, and nothing had happened before
 pub record RunsTo (rows : List Write) (txn : ℕ) (os : List NumberedOp) (s : State) (frame : Frame) : Type 0 where
-  pub state : seen rows frame ≡ after_ops os s
+  pub state : state_seen rows frame ≡ after_ops os s
   pub note : frame.note ≡ first_note (notes_after txn os s)
   pub changed : (a : Cell) → is_written frame.writes.items a ≡ change_row os s a
   pub given : (x : ℕ) → is_some (get frame.outs x) ≡ give_value os s x
-  pub kept : AreIn frame.outs frame.env
+  pub kept : AreAmong frame.outs frame.env
   pub once : IsOnce frame.writes.items
 
 -- the operations so far were executed, and what is left leads to what all lead to
 pub record RunsOn (rows : List Write) (txn : ℕ) (os : List NumberedOp) (s : State) (rest : List NumberedOp) (frame : Frame) : Type 0 where
-  pub state : after_ops rest (seen rows frame) ≡ after_ops os s
-  pub note : least frame.note (first_note (notes_after txn rest (seen rows frame))) ≡ first_note (notes_after txn os s)
-  pub changed : (a : Cell) → (is_written frame.writes.items a || change_row rest (seen rows frame) a) ≡ change_row os s a
-  pub given : (x : ℕ) → (is_some (get frame.outs x) || give_value rest (seen rows frame) x) ≡ give_value os s x
-  pub kept : AreIn frame.outs frame.env
+  pub state : after_ops rest (state_seen rows frame) ≡ after_ops os s
+  pub note : least frame.note (first_note (notes_after txn rest (state_seen rows frame))) ≡ first_note (notes_after txn os s)
+  pub changed : (a : Cell) → (is_written frame.writes.items a || change_row rest (state_seen rows frame) a) ≡ change_row os s a
+  pub given : (x : ℕ) → (is_some (get frame.outs x) || give_value rest (state_seen rows frame) x) ≡ give_value os s x
+  pub kept : AreAmong frame.outs frame.env
   pub once : IsOnce frame.writes.items
 
 -- nothing has happened yet
-pub record IsFresh (frame : Frame) : Type 0 where
+pub record IsFreshFrame (frame : Frame) : Type 0 where
   pub outs : frame.outs ≡ empty
   pub writes : frame.writes.items ≡ []
   pub note : frame.note ≡ None

@@ -13,13 +13,13 @@ use Rattle.pac_plan.specs.Worlds.{txn_vars}
 use Rattle.pac_plan.specs.Codes.{TxnFitsPlan, code_in, code_ops, piece_ops}
 use Rattle.pac_piece.specs.declared.work.Work.{Work}
 use Rattle.pac_piece.specs.Frames.{notes_after, change_row}
-use Rattle.pac_piece.specs.Values.{begun, ended}
+use Rattle.pac_piece.specs.Values.{begun, work_end}
 
 -- where the code of work is that of a transaction in a block of a plan, the work ends with the state, and leaves the least note,
 -- that the transaction's operations in the block mean on the state that it begins with
 abbrev pub WorkMeansPiece : Type 0
 WorkMeansPiece = (parts : PlanParts) → IsPlan parts → (txn : Txn) → TxnFitsPlan parts txn → (work : Work) → work.code ≡ code_in parts work.piece.block txn
-    → (ended work ≡ numbered_meaning (txn_vars parts (Some txn)) (piece_ops parts work.piece.block txn) (begun work))
+    → (work_end work ≡ numbered_meaning (txn_vars parts (Some txn)) (piece_ops parts work.piece.block txn) (begun work))
     × (first_note (notes_after work.piece.txn (code_ops work.code) (begun work)) ≡ first_note (numbered_notes (txn_vars parts (Some txn)) work.piece.txn (piece_ops parts work.piece.block txn) (begun work)))
 
 -- where operations have their inputs, they change rows only at cells that their access modifies

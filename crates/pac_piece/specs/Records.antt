@@ -7,7 +7,7 @@ use Rattle.pac_ops.specs.Operations.{Leaves}
 use Rattle.pac_ops.specs.Effects.{numbered_from, record_op}
 use Rattle.pac_tables.specs.declared.writes.Write.{Write}
 use Rattle.pac_piece.specs.declared.frame.Frame.{Frame}
-use Rattle.pac_piece.specs.Frames.{RunsTo, seen}
+use Rattle.pac_piece.specs.Frames.{RunsTo, state_seen}
 use Rattle.pac_piece.specs.Steps.{Applies}
 
 -- the cell of a record
@@ -26,4 +26,4 @@ ChangesOne change old new = Applies (Some (record_cell change)) (Leaves (record_
 
 -- the records were executed as operations, over any copies and in a transaction of any number
 abbrev pub ChangesAll : List Change → Frame → Frame → Type 0
-ChangesAll records old new = (rows : List Write) (txn : ℕ) → RunsTo rows txn (numbered_from 0 (map record_op records)) (seen rows old) new
+ChangesAll records old new = (rows : List Write) (txn : ℕ) → RunsTo rows txn (numbered_from 0 (map record_op records)) (state_seen rows old) new

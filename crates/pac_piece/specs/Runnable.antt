@@ -11,7 +11,7 @@ use Rattle.pac_plan.specs.Pieces.{InputsAre}
 use Rattle.pac_plan.specs.Codes.{TxnFitsPlan, code_in, piece_ops}
 use Rattle.pac_tables.specs.Written.{written}
 use Rattle.pac_piece.specs.declared.work.Work.{Work}
-use Rattle.pac_piece.specs.Frames.{AreIn}
+use Rattle.pac_piece.specs.Frames.{AreAmong}
 
 -- a plan, a transaction that fits it and rows that fit it, over which the transaction leaves the work's inputs, and no other
 -- values are there; the code is that of the transaction in the block, and the copies of rows fit their tables
@@ -24,5 +24,5 @@ pub record IsRunnable (work : Work) : Type 0 where
   pub before : Tables
   pub before_fit : RowsFit parts.tables before
   pub inputs : InputsAre (piece_ops parts work.piece.block txn) (txn_state parts.programs txn before).env work.env
-  pub only : AreIn work.env (txn_state parts.programs txn before).env
+  pub only : AreAmong work.env (txn_state parts.programs txn before).env
   pub rows : RowsFit parts.tables (written empty work.rows)

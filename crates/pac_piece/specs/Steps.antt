@@ -12,14 +12,14 @@ use Rattle.pac_ops.specs.Effects.{NumberedOp, is_var}
 use Rattle.pac_tables.specs.declared.writes.Write.{Write}
 use Rattle.pac_tables.specs.Written.{IsOnce, is_written}
 use Rattle.pac_piece.specs.declared.effects.OpEffect.{OpEffect}
-use Rattle.pac_piece.specs.declared.failed.Failed.{Failed}
-use Rattle.pac_piece.specs.declared.failed.Failed.TheVariants.{Abort, NoMemory}
+use Rattle.pac_piece.specs.declared.failed.OpFailed.{OpFailed}
+use Rattle.pac_piece.specs.declared.failed.OpFailed.TheVariants.{Abort, NoMemory}
 use Rattle.pac_piece.specs.declared.frame.Frame.{Frame}
 use Rattle.pac_piece.specs.Effects.{effect_of}
-use Rattle.pac_piece.specs.Frames.{seen, AreIn, defaulted, is_cell}
+use Rattle.pac_piece.specs.Frames.{state_seen, AreAmong, defaulted, is_cell}
 
 -- the cell that an operation touches and its effect there; or why it would abort; or no memory
-abbrev pub AnswersAt : OpKind → State → Result (Option Cell × OpEffect) Failed → Type 0
+abbrev pub AnswersAt : OpKind → State → Result (Option Cell × OpEffect) OpFailed → Type 0
 AnswersAt kind s (Ok step) = (touched kind s.env ≡ Ok step.0) × (effect kind s.env (row_at s.tables step.0) ≡ Ok (effect_of step.1))
 AnswersAt kind s (Err (Abort reason)) = done kind s ≡ Err reason
 AnswersAt kind s (Err NoMemory) = Unit {0}
@@ -38,17 +38,17 @@ var_left (Leaves row) = None
 
 -- an effect was had
 pub record Applies (cell : Option Cell) (e : Effect) (old new : Frame) : Type 0 where
-  pub state : (rows : List Write) → seen rows new ≡ with_effect cell e (seen rows old)
+  pub state : (rows : List Write) → state_seen rows new ≡ with_effect cell e (state_seen rows old)
   pub note : new.note ≡ old.note
   pub changed : (a : Cell) → is_written new.writes.items a ≡ (is_cell a (cell_left cell e) || is_written old.writes.items a)
   pub given : (x : ℕ) → is_some (get new.outs x) ≡ (is_var x (var_left e) || is_some (get old.outs x))
-  pub kept : AreIn old.outs old.env → AreIn new.outs new.env
+  pub kept : AreAmong old.outs old.env → AreAmong new.outs new.env
   pub once : IsOnce new.writes.items
 
 -- a note was left, and the variable has its default
 pub record GivesUp (txn : ℕ) (o : NumberedOp) (reason : Reason) (old new : Frame) : Type 0 where
-  pub state : (rows : List Write) → seen rows new ≡ defaulted (defined_variable o.1.kind) (trapped_type o.1.kind) (seen rows old)
+  pub state : (rows : List Write) → state_seen rows new ≡ defaulted (defined_variable o.1.kind) (trapped_type o.1.kind) (state_seen rows old)
   pub note : new.note ≡ least old.note (Some (record { txn = txn; op = o.0; reason = reason }))
   pub changed : new.writes.items ≡ old.writes.items
   pub given : (x : ℕ) → is_some (get new.outs x) ≡ (is_var x (defined_variable o.1.kind) || is_some (get old.outs x))
-  pub kept : AreIn old.outs old.env → AreIn new.outs new.env
+  pub kept : AreAmong old.outs old.env → AreAmong new.outs new.env

@@ -5,7 +5,7 @@ ghost use Rattle.std.specs.Option.{option_map};
 ghost use Rattle.std.specs.FinMap.{get, empty};
 ghost use Rattle.pac_value.specs.State.{cell_cmp, with_row};
 ghost use Rattle.pac_tables.specs.Written.{IsOnce, cell_written, written};
-ghost use Rattle.pac_piece.specs.Changes.{is_at, Changes};
+ghost use Rattle.pac_piece.specs.Changes.{is_at, ChangesCell};
 
 use pac_base::NoMemory;
 use pac_tables::Write;
@@ -69,7 +69,7 @@ pub(crate) fn change(
     row: Option<Row>,
 ) -> Result<(), NoMemory>
     requires { IsOnce writes.old.items }
-    ensures { OnOk result (Changes (table, key) row writes.old.items writes.new.items) }
+    ensures { OnOk result (ChangesCell (table, key) row writes.old.items writes.new.items) }
 {
     match find(writes, table, &key) {
         Some(at) => writes[at].row = row,

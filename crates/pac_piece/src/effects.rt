@@ -7,10 +7,10 @@ ghost use Rattle.pac_value.specs.Expressions.{value};
 ghost use Rattle.pac_value.specs.Scopes.{is_width};
 ghost use Rattle.pac_ops.specs.Operations.{values, column_or, replaced, effect};
 ghost use Rattle.pac_ops.specs.Reasons.{or_abort};
-ghost use Rattle.pac_piece.specs.Effects.{Answers, Gives, CanDo};
-ghost use Rattle.pac_plan.specs.Codes.{HasStoredType};
+ghost use Rattle.pac_piece.specs.Effects.{AnswersEffect, AnswersAs, CanDo};
+ghost use Rattle.pac_plan.specs.Codes.{IsStoredTyped};
 
-use crate::failed::Failed;
+use crate::failed::OpFailed;
 use pac_base::{NoMemory, copy_of};
 use pac_ops::{OpKind, Reason};
 use pac_value::{Env, Expr, Row, Trap, Value, eval};
@@ -32,9 +32,9 @@ pub(crate) fn effect(
     kind: &OpKind,
     row: Option<&Row>,
     env: &Env,
-) -> Result<OpEffect, Failed>
+) -> Result<OpEffect, OpFailed>
     requires { CanDo env.now kind.now }
-    ensures { Answers result (effect kind.now env.now (option_map (λ r. r.now) row.entry)) }
+    ensures { AnswersEffect result (effect kind.now env.now (option_map (λ r. r.now) row.entry)) }
 {
     match kind {
         OpKind::Let { var, value } | OpKind::Cond { var, test: value } => Ok(OpEffect::Gives {
@@ -62,7 +62,7 @@ pub(crate) fn effect(
         }),
         OpKind::Delete { .. } => Ok(OpEffect::Leaves { row: None }),
         OpKind::AbortIf { test } => match eval(test, env)? {
-            Value::Bool(true) => Err(Failed::Abort(Reason::Asked)),
+            Value::Bool(true) => Err(OpFailed::Abort(Reason::Asked)),
             _ => Ok(OpEffect::Nothing),
         },
     }
@@ -80,7 +80,7 @@ fn column_or(row: Option<&Row>, column: u16, default: &Value) -> Value
 
 // The value of an expression that a column can hold.
 fn stored_value(expr: &Expr, env: &Env) -> Result<Value, Trap>
-    requires { HasStoredType env.now expr.now }
+    requires { IsStoredTyped env.now expr.now }
     ensures value { result ≡ value expr.now env.now }
     ensures stored { IfOk result (λ v. IsTrue (is_stored v)) }
 {
@@ -91,10 +91,10 @@ fn stored_value(expr: &Expr, env: &Env) -> Result<Value, Trap>
 }
 
 // The row of the values of expressions.
-fn row_of(alloc: Global, exprs: &[Expr], env: &Env) -> Result<Row, Failed>
+fn row_of(alloc: Global, exprs: &[Expr], env: &Env) -> Result<Row, OpFailed>
     requires width { IsTrue (is_width (length exprs.now)) }
-    requires typed { AllByRecursion (HasStoredType env.now) exprs.now }
-    ensures { Gives result (or_abort (values exprs.now env.now)) }
+    requires typed { AllByRecursion (IsStoredTyped env.now) exprs.now }
+    ensures { AnswersAs result (or_abort (values exprs.now env.now)) }
 {
     let mut row = Vec::with_capacity(alloc, exprs.len())?;
     for expr in exprs {
@@ -104,12 +104,12 @@ fn row_of(alloc: Global, exprs: &[Expr], env: &Env) -> Result<Row, Failed>
 }
 
 // A copy of the row with another value in a column.
-fn replaced(alloc: Global, row: Option<&Row>, column: u16, value: Value) -> Result<Row, Failed>
+fn replaced(alloc: Global, row: Option<&Row>, column: u16, value: Value) -> Result<Row, OpFailed>
     requires { IsTrue (is_stored value) }
-    ensures { Gives result (replaced (option_map (λ r. r.now) row.entry) column value) }
+    ensures { AnswersAs result (replaced (option_map (λ r. r.now) row.entry) column value) }
 {
     let Some(row) = row else {
-        return Err(Failed::Abort(Reason::Missing));
+        return Err(OpFailed::Abort(Reason::Missing));
     };
     Ok(with_column(alloc, row, column, value)?)
 }

@@ -6,54 +6,54 @@ use std::alloc::{AllocError, AllocFailed};
 
 /// Why an operation has no effect.
 #[derive(Clone, Copy, Debug, PartialEq, Eq)]
-pub(crate) enum Failed {
+pub(crate) enum OpFailed {
     /// It would abort.
     Abort(Reason),
     /// An allocation was refused.
     NoMemory,
 }
 
-impl From<NoMemory> for Failed {
+impl From<NoMemory> for OpFailed {
     ghost use Rattle.std.specs.Prelude.{◌≡◌};
-    ghost use Rattle.pac_piece.specs.declared.failed.Failed.TheVariants.{NoMemory};
+    ghost use Rattle.pac_piece.specs.declared.failed.OpFailed.TheVariants.{NoMemory};
 
     ghost from_gives = { λ _ failed. failed ≡ NoMemory };
 
     fn from(_: NoMemory) -> Self {
-        Failed::NoMemory
+        OpFailed::NoMemory
     }
 }
 
-impl From<AllocError> for Failed {
+impl From<AllocError> for OpFailed {
     ghost use Rattle.std.specs.Prelude.{◌≡◌};
-    ghost use Rattle.pac_piece.specs.declared.failed.Failed.TheVariants.{NoMemory};
+    ghost use Rattle.pac_piece.specs.declared.failed.OpFailed.TheVariants.{NoMemory};
 
     ghost from_gives = { λ _ failed. failed ≡ NoMemory };
 
     fn from(_: AllocError) -> Self {
-        Failed::NoMemory
+        OpFailed::NoMemory
     }
 }
 
-impl<T: Drop> From<AllocFailed<T>> for Failed {
+impl<T: Drop> From<AllocFailed<T>> for OpFailed {
     ghost use Rattle.std.specs.Prelude.{◌≡◌};
-    ghost use Rattle.pac_piece.specs.declared.failed.Failed.TheVariants.{NoMemory};
+    ghost use Rattle.pac_piece.specs.declared.failed.OpFailed.TheVariants.{NoMemory};
 
     ghost from_gives = { λ _ failed. failed ≡ NoMemory };
 
     fn from(_: AllocFailed<T>) -> Self {
-        Failed::NoMemory
+        OpFailed::NoMemory
     }
 }
 
-impl From<Trap> for Failed {
+impl From<Trap> for OpFailed {
     ghost use Rattle.std.specs.Prelude.{◌≡◌};
     ghost use Rattle.pac_ops.specs.Reasons.{reason_of};
-    ghost use Rattle.pac_piece.specs.declared.failed.Failed.TheVariants.{Abort};
+    ghost use Rattle.pac_piece.specs.declared.failed.OpFailed.TheVariants.{Abort};
 
     ghost from_gives = { λ trap failed. failed ≡ Abort (reason_of trap) };
 
     fn from(trap: Trap) -> Self {
-        Failed::Abort(Reason::from(trap))
+        OpFailed::Abort(Reason::from(trap))
     }
 }

@@ -1,6 +1,6 @@
 // The operations or the records of a piece, in order.
 ghost use Rattle.std.specs.Prelude.{OnOk};
-ghost use Rattle.pac_piece.specs.Frames.{CanRun, IsFresh, RunsTo, seen};
+ghost use Rattle.pac_piece.specs.Frames.{CanRun, IsFreshFrame, RunsTo, state_seen};
 ghost use Rattle.pac_piece.specs.Records.{ChangesOne, ChangesAll};
 ghost use Rattle.pac_tables.specs.Written.{IsOnce};
 
@@ -20,9 +20,9 @@ pub(crate) fn run_all(
     rows: &[Write],
     frame: &mut Frame,
 ) -> Result<(), NoMemory>
-    requires fresh { IsFresh frame.old }
-    requires can { CanRun ops.now (seen rows.now frame.old) }
-    ensures { OnOk result (RunsTo rows.now txn ops.now (seen rows.now frame.old) frame.new) }
+    requires fresh { IsFreshFrame frame.old }
+    requires can { CanRun ops.now (state_seen rows.now frame.old) }
+    ensures { OnOk result (RunsTo rows.now txn ops.now (state_seen rows.now frame.old) frame.new) }
 {
     for op in ops {
         run_op(alloc, txn, op, rows, frame)?;
@@ -36,7 +36,7 @@ pub(crate) fn change_all(
     records: &[Change],
     frame: &mut Frame,
 ) -> Result<(), NoMemory>
-    requires { IsFresh frame.old }
+    requires { IsFreshFrame frame.old }
     ensures { OnOk result (ChangesAll records.now frame.old frame.new) }
 {
     for change in records {

@@ -6,12 +6,12 @@ ghost use Rattle.pac_ops.specs.Defaults.{trapped_expr, trapped_type};
 ghost use Rattle.pac_ops.specs.Operations.{touched};
 ghost use Rattle.pac_tables.specs.Written.{IsOnce};
 ghost use Rattle.pac_piece.specs.Effects.{CanDo, effect_of};
-ghost use Rattle.pac_piece.specs.Frames.{StepsTo, seen};
+ghost use Rattle.pac_piece.specs.Frames.{StepsTo, state_seen};
 ghost use Rattle.pac_piece.specs.Steps.{AnswersAt, Applies, GivesUp};
 
 use crate::changes::{change, row_at};
 use crate::effects::{OpEffect, effect};
-use crate::failed::Failed;
+use crate::failed::OpFailed;
 use crate::frame::{Frame, give, lesser};
 use pac_base::NoMemory;
 use pac_ops::{FlatOp, Note, OpKind, Reason, all_hold, key_of};
@@ -36,8 +36,8 @@ pub(crate) fn run_op(
     }
     match touched_effect(alloc, &op.1.kind, rows, frame) {
         Ok((cell, effect)) => apply(cell, effect, frame),
-        Err(Failed::Abort(reason)) => give_up(txn, op, reason, frame),
-        Err(Failed::NoMemory) => Err(NoMemory),
+        Err(OpFailed::Abort(reason)) => give_up(txn, op, reason, frame),
+        Err(OpFailed::NoMemory) => Err(NoMemory),
     }
 }
 
@@ -47,9 +47,9 @@ fn touched_effect(
     kind: &OpKind,
     rows: &[Write],
     frame: &Frame,
-) -> Result<(Option<(u16, Key)>, OpEffect), Failed>
+) -> Result<(Option<(u16, Key)>, OpEffect), OpFailed>
     requires { CanDo frame.now.env kind.now }
-    ensures { AnswersAt kind.now (seen rows.now frame.now) result }
+    ensures { AnswersAt kind.now (state_seen rows.now frame.now) result }
 {
     let cell = touched(kind, &frame.env)?;
     let row = match &cell {

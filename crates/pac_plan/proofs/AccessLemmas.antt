@@ -15,7 +15,7 @@ use Rattle.pac_ops.specs.Effects.{target_of, cell_in, flat_cell, NumberedOp, def
 use Rattle.pac_plan.specs.declared.access.Touch.{Touch}
 use Rattle.pac_plan.specs.declared.access.Access.{Access}
 use Rattle.pac_plan.specs.declared.access.Access.TheVariants.{Keys, Whole}
-use Rattle.pac_plan.specs.Pieces.{cell_of, touch_at, avoid_step, avoids, is_bounded, may_pass, op_cell, touch, touches_of, is_loose, access_of, conflicts, covers, covers_write}
+use Rattle.pac_plan.specs.Pieces.{named_cell, touch_at, avoid_step, avoids, is_bounded, may_pass, op_cell, touch, touches_of, is_loose, access_of, conflicts, covers, covers_write}
 use Rattle.pac_base.proofs.TestLemmas.{or_left, or_right, eq_self, same_number, and_left, and_right, and_both, not_true, or_cases, unlike, any_mem, any_gives}
 use Rattle.pac_ops.proofs.EffectLemmas.{named, touched-named, key_uses, key-kind, named-alike, cell-holds}
 
@@ -72,8 +72,8 @@ module _ (os : List NumberedOp) (env env' : Values) (inputs : (x : ℕ) → used
           → (covers (cond b Whole (Keys (touches_of os env os))) a ≡ true) × (modifies o.1.kind ≡ true → covers_write (cond b Whole (Keys (touches_of os env os))) a ≡ true)
       go true loose = (refl, λ w. refl)
       go false loose = (
-        any_mem (λ (e : Touch). eq_by_cmp cell_cmp (cell_of e) a) _ _ entry (same-cell a),
-        λ w. any_mem (λ (e : Touch). e.is_write && eq_by_cmp cell_cmp (cell_of e) a) _ _ entry (and_both (modifies o.1.kind) (eq_by_cmp cell_cmp a a) w (same-cell a)),
+        any_mem (λ (e : Touch). eq_by_cmp cell_cmp (named_cell e) a) _ _ entry (same-cell a),
+        λ w. any_mem (λ (e : Touch). e.is_write && eq_by_cmp cell_cmp (named_cell e) a) _ _ entry (and_both (modifies o.1.kind) (eq_by_cmp cell_cmp a a) w (same-cell a)),
       )
         where
           tight : (b : Bool) → is_bounded os (target_of o.1.kind) ≡ b → b ≡ true
@@ -97,19 +97,19 @@ apart_left Whole y calm a w = absurd (true≢false calm)
 apart_left (Keys l) Whole calm a w = absurd (true≢false calm)
 apart_left (Keys l) (Keys m) calm a w = unlike _ (λ c. conflict (any_gives _ l w) (any_gives _ m c))
   where
-    conflict : (d : Touch) × Mem d l × ((d.is_write && eq_by_cmp cell_cmp (cell_of d) a) ≡ true) → (e : Touch) × Mem e m × (eq_by_cmp cell_cmp (cell_of e) a ≡ true) → ⊥
+    conflict : (d : Touch) × Mem d l × ((d.is_write && eq_by_cmp cell_cmp (named_cell d) a) ≡ true) → (e : Touch) × Mem e m × (eq_by_cmp cell_cmp (named_cell e) a ≡ true) → ⊥
     conflict (d, in_l, at_d) (e, in_m, at_e) = true≢false (sym
-        (any_mem (λ (e : Touch). list_any (λ (d : Touch). eq_by_cmp cell_cmp (cell_of e) (cell_of d) && (e.is_write || d.is_write)) m) d l in_l
-        (any_mem (λ (x : Touch). eq_by_cmp cell_cmp (cell_of d) (cell_of x) && (d.is_write || x.is_write)) e m in_m
-        (and_both (eq_by_cmp cell_cmp (cell_of d) (cell_of e)) (d.is_write || e.is_write) (tied_two a (cell_of d) (cell_of e) (and_right d.is_write (eq_by_cmp cell_cmp (cell_of d) a) at_d) at_e) (or_left d.is_write e.is_write (and_left d.is_write (eq_by_cmp cell_cmp (cell_of d) a) at_d))))) ∙ calm)
+        (any_mem (λ (e : Touch). list_any (λ (d : Touch). eq_by_cmp cell_cmp (named_cell e) (named_cell d) && (e.is_write || d.is_write)) m) d l in_l
+        (any_mem (λ (x : Touch). eq_by_cmp cell_cmp (named_cell d) (named_cell x) && (d.is_write || x.is_write)) e m in_m
+        (and_both (eq_by_cmp cell_cmp (named_cell d) (named_cell e)) (d.is_write || e.is_write) (tied_two a (named_cell d) (named_cell e) (and_right d.is_write (eq_by_cmp cell_cmp (named_cell d) a) at_d) at_e) (or_left d.is_write e.is_write (and_left d.is_write (eq_by_cmp cell_cmp (named_cell d) a) at_d))))) ∙ calm)
 
 pub apart_right : (x y : Access) → conflicts x y ≡ false → (a : Cell) → covers_write y a ≡ true → covers x a ≡ false
 apart_right Whole y calm a w = absurd (true≢false calm)
 apart_right (Keys l) Whole calm a w = absurd (true≢false calm)
 apart_right (Keys l) (Keys m) calm a w = unlike _ (λ c. conflict (any_gives _ l c) (any_gives _ m w))
   where
-    conflict : (d : Touch) × Mem d l × (eq_by_cmp cell_cmp (cell_of d) a ≡ true) → (e : Touch) × Mem e m × ((e.is_write && eq_by_cmp cell_cmp (cell_of e) a) ≡ true) → ⊥
+    conflict : (d : Touch) × Mem d l × (eq_by_cmp cell_cmp (named_cell d) a ≡ true) → (e : Touch) × Mem e m × ((e.is_write && eq_by_cmp cell_cmp (named_cell e) a) ≡ true) → ⊥
     conflict (d, in_l, at_d) (e, in_m, at_e) = true≢false (sym
-        (any_mem (λ (e : Touch). list_any (λ (d : Touch). eq_by_cmp cell_cmp (cell_of e) (cell_of d) && (e.is_write || d.is_write)) m) d l in_l
-        (any_mem (λ (x : Touch). eq_by_cmp cell_cmp (cell_of d) (cell_of x) && (d.is_write || x.is_write)) e m in_m
-        (and_both (eq_by_cmp cell_cmp (cell_of d) (cell_of e)) (d.is_write || e.is_write) (tied_two a (cell_of d) (cell_of e) at_d (and_right e.is_write (eq_by_cmp cell_cmp (cell_of e) a) at_e)) (or_right d.is_write e.is_write (and_left e.is_write (eq_by_cmp cell_cmp (cell_of e) a) at_e))))) ∙ calm)
+        (any_mem (λ (e : Touch). list_any (λ (d : Touch). eq_by_cmp cell_cmp (named_cell e) (named_cell d) && (e.is_write || d.is_write)) m) d l in_l
+        (any_mem (λ (x : Touch). eq_by_cmp cell_cmp (named_cell d) (named_cell x) && (d.is_write || x.is_write)) e m in_m
+        (and_both (eq_by_cmp cell_cmp (named_cell d) (named_cell e)) (d.is_write || e.is_write) (tied_two a (named_cell d) (named_cell e) at_d (and_right e.is_write (eq_by_cmp cell_cmp (named_cell e) a) at_e)) (or_right d.is_write e.is_write (and_left e.is_write (eq_by_cmp cell_cmp (named_cell e) a) at_e))))) ∙ calm)

@@ -8,7 +8,7 @@ use Rattle.pac_base.specs.Members.{Mem}
 use Rattle.pac_plan.specs.declared.access.Touch.{Touch}
 use Rattle.pac_plan.specs.declared.access.Access.{Access}
 use Rattle.pac_plan.specs.declared.access.Access.TheVariants.{Keys, Whole}
-use Rattle.pac_plan.specs.Pieces.{cell_of, conflicts}
+use Rattle.pac_plan.specs.Pieces.{named_cell, conflicts}
 use Rattle.pac_plan.specs.NextPairs.{is_whole, has_key, writes_key, IsNextPair, Chain, One, Then, NextPairs, ClosedByNext}
 use Rattle.pac_base.proofs.TestLemmas.{or_left, or_right, or_cases, and_left, and_right, and_both, any_mem, any_gives, same_number, equal_number, not_false}
 
@@ -24,20 +24,20 @@ conflict_meets Whole y h = inl refl
 conflict_meets (Keys l) Whole h = inl refl
 conflict_meets (Keys l) (Keys m) h = inr (go (any_gives _ l h))
   where
-    go : (e : Touch) × Mem e l × (list_any (λ (d : Touch). eq_by_cmp cell_cmp (cell_of e) (cell_of d) && (e.is_write || d.is_write)) m ≡ true) → (a : Cell) × Meet (Keys l) (Keys m) a
+    go : (e : Touch) × Mem e l × (list_any (λ (d : Touch). eq_by_cmp cell_cmp (named_cell e) (named_cell d) && (e.is_write || d.is_write)) m ≡ true) → (a : Cell) × Meet (Keys l) (Keys m) a
     go (e, in_l, h) = found (any_gives _ m h)
       where
-        found : (d : Touch) × Mem d m × ((eq_by_cmp cell_cmp (cell_of e) (cell_of d) && (e.is_write || d.is_write)) ≡ true) → (a : Cell) × Meet (Keys l) (Keys m) a
+        found : (d : Touch) × Mem d m × ((eq_by_cmp cell_cmp (named_cell e) (named_cell d) && (e.is_write || d.is_write)) ≡ true) → (a : Cell) × Meet (Keys l) (Keys m) a
         found (d, in_m, k) =
-            let same : eq_by_cmp cell_cmp (cell_of e) (cell_of d) ≡ true = and_left (eq_by_cmp cell_cmp (cell_of e) (cell_of d)) (e.is_write || d.is_write) k in (
-              (cell_of d),
+            let same : eq_by_cmp cell_cmp (named_cell e) (named_cell d) ≡ true = and_left (eq_by_cmp cell_cmp (named_cell e) (named_cell d)) (e.is_write || d.is_write) k in (
+              (named_cell d),
               (
-                any_mem (λ (e : Touch). eq_by_cmp cell_cmp (cell_of e) (cell_of d)) e l in_l same,
-                any_mem (λ (e : Touch). eq_by_cmp cell_cmp (cell_of e) (cell_of d)) d m in_m (same-cell (cell_of d)),
+                any_mem (λ (e : Touch). eq_by_cmp cell_cmp (named_cell e) (named_cell d)) e l in_l same,
+                any_mem (λ (e : Touch). eq_by_cmp cell_cmp (named_cell e) (named_cell d)) d m in_m (same-cell (named_cell d)),
                 ⊎_elim
-                    (λ w. or_left _ _ (any_mem (λ (e : Touch). e.is_write && eq_by_cmp cell_cmp (cell_of e) (cell_of d)) e l in_l (and_both e.is_write (eq_by_cmp cell_cmp (cell_of e) (cell_of d)) w same)))
-                    (λ w. or_right (writes_key (Keys l) (cell_of d)) _ (any_mem (λ (e : Touch). e.is_write && eq_by_cmp cell_cmp (cell_of e) (cell_of d)) d m in_m (and_both d.is_write (eq_by_cmp cell_cmp (cell_of d) (cell_of d)) w (same-cell (cell_of d)))))
-                    (or_cases e.is_write d.is_write (and_right (eq_by_cmp cell_cmp (cell_of e) (cell_of d)) (e.is_write || d.is_write) k)),
+                    (λ w. or_left _ _ (any_mem (λ (e : Touch). e.is_write && eq_by_cmp cell_cmp (named_cell e) (named_cell d)) e l in_l (and_both e.is_write (eq_by_cmp cell_cmp (named_cell e) (named_cell d)) w same)))
+                    (λ w. or_right (writes_key (Keys l) (named_cell d)) _ (any_mem (λ (e : Touch). e.is_write && eq_by_cmp cell_cmp (named_cell e) (named_cell d)) d m in_m (and_both d.is_write (eq_by_cmp cell_cmp (named_cell d) (named_cell d)) w (same-cell (named_cell d)))))
+                    (or_cases e.is_write d.is_write (and_right (eq_by_cmp cell_cmp (named_cell e) (named_cell d)) (e.is_write || d.is_write) k)),
               ),
             )
 
@@ -51,21 +51,21 @@ meet_conflict Whole y a h = refl
 meet_conflict (Keys l) Whole a h = refl
 meet_conflict (Keys l) (Keys m) a h = ⊎_elim left right (or_cases (writes_key (Keys l) a) (writes_key (Keys m) a) h.2)
   where
-    pair : (e d : Touch) → Mem e l → Mem d m → eq_by_cmp cell_cmp (cell_of e) a ≡ true → eq_by_cmp cell_cmp (cell_of d) a ≡ true → (e.is_write || d.is_write) ≡ true → conflicts (Keys l) (Keys m) ≡ true
-    pair e d in_l in_m at_e at_d w = any_mem (λ (e : Touch). list_any (λ (d : Touch). eq_by_cmp cell_cmp (cell_of e) (cell_of d) && (e.is_write || d.is_write)) m) e l in_l
-        (any_mem (λ (d : Touch). eq_by_cmp cell_cmp (cell_of e) (cell_of d) && (e.is_write || d.is_write)) d m in_m (and_both (eq_by_cmp cell_cmp (cell_of e) (cell_of d)) (e.is_write || d.is_write) (tied (cell_of e) (cell_of d) a at_e at_d) w))
+    pair : (e d : Touch) → Mem e l → Mem d m → eq_by_cmp cell_cmp (named_cell e) a ≡ true → eq_by_cmp cell_cmp (named_cell d) a ≡ true → (e.is_write || d.is_write) ≡ true → conflicts (Keys l) (Keys m) ≡ true
+    pair e d in_l in_m at_e at_d w = any_mem (λ (e : Touch). list_any (λ (d : Touch). eq_by_cmp cell_cmp (named_cell e) (named_cell d) && (e.is_write || d.is_write)) m) e l in_l
+        (any_mem (λ (d : Touch). eq_by_cmp cell_cmp (named_cell e) (named_cell d) && (e.is_write || d.is_write)) d m in_m (and_both (eq_by_cmp cell_cmp (named_cell e) (named_cell d)) (e.is_write || d.is_write) (tied (named_cell e) (named_cell d) a at_e at_d) w))
 
     left : writes_key (Keys l) a ≡ true → conflicts (Keys l) (Keys m) ≡ true
     left w =
-        let e = any_gives (λ (e : Touch). e.is_write && eq_by_cmp cell_cmp (cell_of e) a) l w in
-        let d = any_gives (λ (e : Touch). eq_by_cmp cell_cmp (cell_of e) a) m h.1 in
-        pair e.0 d.0 e.1 d.1 (and_right e.0.is_write (eq_by_cmp cell_cmp (cell_of e.0) a) e.2) d.2 (or_left e.0.is_write d.0.is_write (and_left e.0.is_write (eq_by_cmp cell_cmp (cell_of e.0) a) e.2))
+        let e = any_gives (λ (e : Touch). e.is_write && eq_by_cmp cell_cmp (named_cell e) a) l w in
+        let d = any_gives (λ (e : Touch). eq_by_cmp cell_cmp (named_cell e) a) m h.1 in
+        pair e.0 d.0 e.1 d.1 (and_right e.0.is_write (eq_by_cmp cell_cmp (named_cell e.0) a) e.2) d.2 (or_left e.0.is_write d.0.is_write (and_left e.0.is_write (eq_by_cmp cell_cmp (named_cell e.0) a) e.2))
 
     right : writes_key (Keys m) a ≡ true → conflicts (Keys l) (Keys m) ≡ true
     right w =
-        let e = any_gives (λ (e : Touch). eq_by_cmp cell_cmp (cell_of e) a) l h.0 in
-        let d = any_gives (λ (e : Touch). e.is_write && eq_by_cmp cell_cmp (cell_of e) a) m w in
-        pair e.0 d.0 e.1 d.1 e.2 (and_right d.0.is_write (eq_by_cmp cell_cmp (cell_of d.0) a) d.2) (or_right e.0.is_write d.0.is_write (and_left d.0.is_write (eq_by_cmp cell_cmp (cell_of d.0) a) d.2))
+        let e = any_gives (λ (e : Touch). eq_by_cmp cell_cmp (named_cell e) a) l h.0 in
+        let d = any_gives (λ (e : Touch). e.is_write && eq_by_cmp cell_cmp (named_cell e) a) m w in
+        pair e.0 d.0 e.1 d.1 e.2 (and_right d.0.is_write (eq_by_cmp cell_cmp (named_cell d.0) a) d.2) (or_right e.0.is_write d.0.is_write (and_left d.0.is_write (eq_by_cmp cell_cmp (named_cell d.0) a) d.2))
 
 -- one in between, or none
 between : (test : ℕ → Bool) (i k : ℕ) → ((m : ℕ) × (i < m) × (m ≤ i + k) × (test m ≡ true)) ⊎ ((m : ℕ) → i < m → m ≤ i + k → test m ≡ false)
@@ -84,7 +84,7 @@ between test i (suc k) = go (test (i + suc k)) refl (between test i k)
 
 has_written : (x : Access) (a : Cell) → writes_key x a ≡ true → has_key x a ≡ true
 has_written Whole a w = absurd (true≢false (sym w))
-has_written (Keys l) a w = let e = any_gives (λ (e : Touch). e.is_write && eq_by_cmp cell_cmp (cell_of e) a) l w in any_mem (λ (e : Touch). eq_by_cmp cell_cmp (cell_of e) a) e.0 l e.1 (and_right e.0.is_write (eq_by_cmp cell_cmp (cell_of e.0) a) e.2)
+has_written (Keys l) a w = let e = any_gives (λ (e : Touch). e.is_write && eq_by_cmp cell_cmp (named_cell e) a) l w in any_mem (λ (e : Touch). eq_by_cmp cell_cmp (named_cell e) a) e.0 l e.1 (and_right e.0.is_write (eq_by_cmp cell_cmp (named_cell e.0) a) e.2)
 
 module _ (at : ℕ → Access) where
   -- by keys, over a distance of at most d

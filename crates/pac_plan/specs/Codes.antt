@@ -52,5 +52,5 @@ HasTxnInputs parts block txn env =
     (rows : Tables) × RowsFit parts.tables rows × InputsAre (piece_ops parts block txn) (txn_state parts.programs txn rows).env env
 
 -- an expression has a type that keys and columns have, over the values that there are
-abbrev pub HasStoredType : Values → Expr → Type 0
-HasStoredType env e = IsSome (type_in (types_of env) e) × (type_in (types_of env) e ≡ Some BoolTy → ⊥)
+abbrev pub IsStoredTyped : Values → Expr → Type 0
+IsStoredTyped env e = IsSome (type_in (types_of env) e) × (type_in (types_of env) e ≡ Some BoolTy → ⊥)

@@ -5,7 +5,7 @@ use Rattle.std.specs.Ordering.{eq_by_cmp}
 use Rattle.pac_value.specs.State.{Cell, cell_cmp}
 use Rattle.pac_plan.specs.declared.access.Access.{Access}
 use Rattle.pac_plan.specs.declared.access.Access.TheVariants.{Keys, Whole}
-use Rattle.pac_plan.specs.Pieces.{cell_of, conflicts}
+use Rattle.pac_plan.specs.Pieces.{named_cell, conflicts}
 
 -- the access is of the whole block
 abbrev pub is_whole : Access → Bool
@@ -15,12 +15,12 @@ is_whole (Keys l) = false
 -- a whole access counts as touching and modifying no key
 abbrev pub has_key : Access → Cell → Bool
 has_key Whole a = false
-has_key (Keys l) a = list_any (λ e. eq_by_cmp cell_cmp (cell_of e) a) l
+has_key (Keys l) a = list_any (λ e. eq_by_cmp cell_cmp (named_cell e) a) l
 
 -- the access modifies the row at a key
 abbrev pub writes_key : Access → Cell → Bool
 writes_key Whole a = false
-writes_key (Keys l) a = list_any (λ e. e.is_write && eq_by_cmp cell_cmp (cell_of e) a) l
+writes_key (Keys l) a = list_any (λ e. e.is_write && eq_by_cmp cell_cmp (named_cell e) a) l
 
 -- no number between the two passes the test
 abbrev pub NoneBetween : (ℕ → Bool) → ℕ → ℕ → Type 0

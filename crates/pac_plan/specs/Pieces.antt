@@ -82,8 +82,8 @@ op_cell op env = cell_in (touched op.kind env)
 -- ---- accesses
 
 -- the cell that a touch names
-abbrev pub cell_of : Touch → Cell
-cell_of touch = (touch.table, touch.key)
+abbrev pub named_cell : Touch → Cell
+named_cell touch = (touch.table, touch.key)
 
 -- the touch of a cell
 abbrev pub touch_at : Cell → Bool → Touch
@@ -111,17 +111,17 @@ access_of os env = if list_any (is_loose os env) os then Whole else Keys (touche
 abbrev pub conflicts : Access → Access → Bool
 conflicts Whole y = true
 conflicts (Keys l) Whole = true
-conflicts (Keys l) (Keys m) = list_any (λ e. list_any (λ d. eq_by_cmp cell_cmp (cell_of e) (cell_of d) && (e.is_write || d.is_write)) m) l
+conflicts (Keys l) (Keys m) = list_any (λ e. list_any (λ d. eq_by_cmp cell_cmp (named_cell e) (named_cell d) && (e.is_write || d.is_write)) m) l
 
 -- the access names the row at a cell
 abbrev pub covers : Access → Cell → Bool
 covers Whole a = true
-covers (Keys l) a = list_any (λ e. eq_by_cmp cell_cmp (cell_of e) a) l
+covers (Keys l) a = list_any (λ e. eq_by_cmp cell_cmp (named_cell e) a) l
 
 -- the access modifies the row at a cell
 abbrev pub covers_write : Access → Cell → Bool
 covers_write Whole a = true
-covers_write (Keys l) a = list_any (λ e. e.is_write && eq_by_cmp cell_cmp (cell_of e) a) l
+covers_write (Keys l) a = list_any (λ e. e.is_write && eq_by_cmp cell_cmp (named_cell e) a) l
 
 -- ---- worlds
 

@@ -9,7 +9,7 @@ use Rattle.pac_syntax.specs.declared.tree.StmtNode.{StmtNode}
 use Rattle.pac_syntax.specs.declared.tree.StmtNode.TheVariants as stmt
 use Rattle.pac_syntax.specs.declared.tree.StmtNode.TheOpen as form
 use Rattle.pac_syntax.specs.declared.limits.Around.{Around}
-use Rattle.pac_syntax.specs.Grammar.{BoundForm, ALoop, bound_value, inside, in_loop, loop_turns, last_bound, bound_before, Role, name_mark, Marked, ExprForm, StmtsForm, NoStmt, ALet, ARead, AHas, APut, ASet, ADelete, AnAbort, AnIf, AnIfElse, expr_node, stmt_nodes, Plain, Nested, keyword_mark, symbol_mark, whole_before, stmts_before}
+use Rattle.pac_syntax.specs.Grammar.{BoundForm, ALoop, bound_value, inside_block, in_loop, loop_turns, last_bound, bound_before, Role, name_mark, Marked, ExprForm, StmtsForm, NoStmt, ALet, ARead, AHas, APut, ASet, ADelete, AnAbort, AnIf, AnIfElse, expr_node, stmt_nodes, Plain, Nested, keyword_mark, symbol_mark, whole_before, stmts_before}
 use Rattle.pac_print.specs.Canonical.{expr_text, loop_head, Indented, deeper, stmt_step, stmt_text, stmts_text}
 use Rattle.pac_print.specs.Unplaced.{unplaced_name, unplaced_expr, unplaced_stmt_step, unplaced_stmt}
 use Rattle.pac_print.proofs.Prefixes.{Stops, AreSpaces}
@@ -45,7 +45,7 @@ block_start at = joined (joined (space Value at) (sign Value (at + 1) symbol.Ope
 if_start : (e : ExprForm) (at : ℕ) (c : Around) → (w : PrintedWhole e (at + 2 + 1)) → Piece Other Other at (w.next + 1 + 1 + 1) (codes "if " ++ expr_text (expr_node e) ++ codes " {\n") (λ ms. keyword_mark keyword.If at (Nested (suc c.nested)) ∷ whole_before w.form (symbol_mark symbol.OpenBrace (w.next + 1) Plain ∷ ms)) Free
 if_start e at c w = joined (joined (word_space Other at keyword.If (Nested (suc c.nested))) (expr_piece w) (λ rest k. tt)) (block_start w.next) (λ rest k. refl)
 
-one_branch : (e : ExprForm) (first : List StmtNode) (d : Around) (indent : List ℕ) (at : ℕ) → suc d.nested ≤ 16 → AreSpaces indent → (w : PrintedWhole e (at + 2 + 1)) → PrintedStmts first (inside d) (deeper indent) (w.next + 1 + 1 + 1) → PrintedStmt (stmt.If (expr_node e) first []) d indent at
+one_branch : (e : ExprForm) (first : List StmtNode) (d : Around) (indent : List ℕ) (at : ℕ) → suc d.nested ≤ 16 → AreSpaces indent → (w : PrintedWhole e (at + 2 + 1)) → PrintedStmts first (inside_block d) (deeper indent) (w.next + 1 + 1 + 1) → PrintedStmt (stmt.If (expr_node e) first []) d indent at
 one_branch e first d indent at le all w one = record {
   add = λ s. AnIf at w.form (w.next + 1) one.form (one.next + length indent) s;
   again = stmt.If (expr_node w.form) (stmt_nodes one.form) [];
@@ -55,10 +55,10 @@ one_branch e first d indent at le all w one = record {
       ∙ sym (fold-If StmtNode unplaced_stmt_step (expr_node e) first []);
   proper = λ s h. (le, w.proper, one.proper, h);
   next = one.next + length indent + 1;
-  marks = λ c ms. keyword_mark keyword.If at (Nested (suc c.nested)) ∷ whole_before w.form (symbol_mark symbol.OpenBrace (w.next + 1) Plain ∷ stmts_before (inside c) one.form (symbol_mark symbol.CloseBrace (one.next + length indent) Plain ∷ ms));
+  marks = λ c ms. keyword_mark keyword.If at (Nested (suc c.nested)) ∷ whole_before w.form (symbol_mark symbol.OpenBrace (w.next + 1) Plain ∷ stmts_before (inside_block c) one.form (symbol_mark symbol.CloseBrace (one.next + length indent) Plain ∷ ms));
   before = λ c s ms. refl;
   piece = λ c. as_text (stmt_text (stmt.If (expr_node e) first []) indent) (stmt_step (form.If (expr_node e) (map stmt_text first) []) indent) (at_indent indent _ _ (fold-If Indented stmt_step (expr_node e) first []))
-      (joined (joined (joined (joined (if_start e at c w) (one.piece (inside c)) (λ rest k. tt)) (nothing Other one.next Free) (λ rest k. tt)) (spaces Other one.next indent all) (λ rest k. tt)) (sign Other (one.next + length indent) symbol.CloseBrace refl) (λ rest k. tt));
+      (joined (joined (joined (joined (if_start e at c w) (one.piece (inside_block c)) (λ rest k. tt)) (nothing Other one.next Free) (λ rest k. tt)) (spaces Other one.next indent all) (λ rest k. tt)) (sign Other (one.next + length indent) symbol.CloseBrace refl) (λ rest k. tt));
 }
 
 -- `} else {`
@@ -73,8 +73,8 @@ else_start indent at all =
 abbrev after_else : ℕ → List ℕ → ℕ
 after_else at indent = at + length indent + 1 + 1 + 4 + 1 + 1 + 1
 
-two_branches : (e : ExprForm) (first : List StmtNode) (s2 : StmtNode) (more : List StmtNode) (d : Around) (indent : List ℕ) (at : ℕ) → suc d.nested ≤ 16 → AreSpaces indent → (w : PrintedWhole e (at + 2 + 1)) → (one : PrintedStmts first (inside d) (deeper indent) (w.next + 1 + 1 + 1))
-    → PrintedStmts (s2 ∷ more) (inside d) (deeper indent) (after_else one.next indent) → PrintedStmt (stmt.If (expr_node e) first (s2 ∷ more)) d indent at
+two_branches : (e : ExprForm) (first : List StmtNode) (s2 : StmtNode) (more : List StmtNode) (d : Around) (indent : List ℕ) (at : ℕ) → suc d.nested ≤ 16 → AreSpaces indent → (w : PrintedWhole e (at + 2 + 1)) → (one : PrintedStmts first (inside_block d) (deeper indent) (w.next + 1 + 1 + 1))
+    → PrintedStmts (s2 ∷ more) (inside_block d) (deeper indent) (after_else one.next indent) → PrintedStmt (stmt.If (expr_node e) first (s2 ∷ more)) d indent at
 two_branches e first s2 more d indent at le all w one two =
     let brace : ℕ = one.next + length indent in
     record {
@@ -88,16 +88,16 @@ two_branches e first s2 more d indent at le all w one two =
           ∙ sym (fold-If StmtNode unplaced_stmt_step (expr_node e) first (s2 ∷ more));
       proper = λ s h. (le, w.proper, one.proper, two.proper, h);
       next = two.next + length indent + 1;
-      marks = λ c ms. keyword_mark keyword.If at (Nested (suc c.nested)) ∷ whole_before w.form (symbol_mark symbol.OpenBrace (w.next + 1) Plain ∷ stmts_before (inside c) one.form (symbol_mark symbol.CloseBrace brace Plain
-          ∷ keyword_mark keyword.Else (brace + 1 + 1) Plain ∷ symbol_mark symbol.OpenBrace (brace + 1 + 1 + 4 + 1) Plain ∷ stmts_before (inside c) two.form (symbol_mark symbol.CloseBrace (two.next + length indent) Plain ∷ ms)));
+      marks = λ c ms. keyword_mark keyword.If at (Nested (suc c.nested)) ∷ whole_before w.form (symbol_mark symbol.OpenBrace (w.next + 1) Plain ∷ stmts_before (inside_block c) one.form (symbol_mark symbol.CloseBrace brace Plain
+          ∷ keyword_mark keyword.Else (brace + 1 + 1) Plain ∷ symbol_mark symbol.OpenBrace (brace + 1 + 1 + 4 + 1) Plain ∷ stmts_before (inside_block c) two.form (symbol_mark symbol.CloseBrace (two.next + length indent) Plain ∷ ms)));
       before = λ c s ms. refl;
       piece = λ c. as_text (stmt_text (stmt.If (expr_node e) first (s2 ∷ more)) indent) (stmt_step (form.If (expr_node e) (map stmt_text first) (map stmt_text (s2 ∷ more))) indent) (at_indent indent _ _ (fold-If Indented stmt_step (expr_node e) first (s2 ∷ more)))
-          (joined (joined (joined (joined (if_start e at c w) (one.piece (inside c)) (λ rest k. tt)) (joined (else_start indent one.next all) (two.piece (inside c)) (λ rest k. tt)) (λ rest k. tt)) (spaces Other two.next indent all) (λ rest k. tt)) (sign Other (two.next + length indent) symbol.CloseBrace refl) (λ rest k. tt));
+          (joined (joined (joined (joined (if_start e at c w) (one.piece (inside_block c)) (λ rest k. tt)) (joined (else_start indent one.next all) (two.piece (inside_block c)) (λ rest k. tt)) (λ rest k. tt)) (spaces Other two.next indent all) (λ rest k. tt)) (sign Other (two.next + length indent) symbol.CloseBrace refl) (λ rest k. tt));
     }
 
 -- an `else` with no statements is left out
-if_else : (e : ExprForm) (first second : List StmtNode) (d : Around) (indent : List ℕ) (at : ℕ) → suc d.nested ≤ 16 → AreSpaces indent → (w : PrintedWhole e (at + 2 + 1)) → (one : PrintedStmts first (inside d) (deeper indent) (w.next + 1 + 1 + 1))
-    → PrintedStmts second (inside d) (deeper indent) (after_else one.next indent) → PrintedStmt (stmt.If (expr_node e) first second) d indent at
+if_else : (e : ExprForm) (first second : List StmtNode) (d : Around) (indent : List ℕ) (at : ℕ) → suc d.nested ≤ 16 → AreSpaces indent → (w : PrintedWhole e (at + 2 + 1)) → (one : PrintedStmts first (inside_block d) (deeper indent) (w.next + 1 + 1 + 1))
+    → PrintedStmts second (inside_block d) (deeper indent) (after_else one.next indent) → PrintedStmt (stmt.If (expr_node e) first second) d indent at
 if_else e first [] d indent at le all w one two = one_branch e first d indent at le all w one
 if_else e first (s ∷ more) d indent at le all w one two = two_branches e first s more d indent at le all w one two
 
@@ -193,13 +193,13 @@ stmts (AnAbort p0 p1 e p2 s) d indent at all p =
     and_more _ (stmt_nodes s) d indent at all w (stmts s d indent (w.next + 1) all p.1)
 stmts (AnIf p0 e p1 first p2 s) d indent at all p =
     let test = whole e p.1 (at + length indent + 2 + 1) in
-    let one = stmts first (inside d) (deeper indent) (test.next + 1 + 1 + 1) (spaces_deeper indent all) p.2 in
+    let one = stmts first (inside_block d) (deeper indent) (test.next + 1 + 1 + 1) (spaces_deeper indent all) p.2 in
     let w = one_branch e (stmt_nodes first) d indent (at + length indent) p.0 all test one in
     and_more _ (stmt_nodes s) d indent at all w (stmts s d indent (w.next + 1) all p.3)
 stmts (AnIfElse p0 e p1 first p2 p3 p4 second p5 s) d indent at all p =
     let test = whole e p.1 (at + length indent + 2 + 1) in
-    let one = stmts first (inside d) (deeper indent) (test.next + 1 + 1 + 1) (spaces_deeper indent all) p.2 in
-    let two = stmts second (inside d) (deeper indent) (after_else one.next indent) (spaces_deeper indent all) p.3 in
+    let one = stmts first (inside_block d) (deeper indent) (test.next + 1 + 1 + 1) (spaces_deeper indent all) p.2 in
+    let two = stmts second (inside_block d) (deeper indent) (after_else one.next indent) (spaces_deeper indent all) p.3 in
     let w = if_else e (stmt_nodes first) (stmt_nodes second) d indent (at + length indent) p.0 all test one two in
     and_more _ (stmt_nodes s) d indent at all w (stmts s d indent (w.next + 1) all p.4)
 stmts (ALoop p0 x p1 a p2 b p3 body p4 s) d indent at all p =

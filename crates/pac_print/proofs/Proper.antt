@@ -4,7 +4,7 @@ use Rattle.std.proofs.Common.{◌≡◌, ◌≤◌, ℕ, suc, List, [], ◌∷�
 use Rattle.std.specs.List.{AllByRecursion}
 use Rattle.pac_tokens.specs.declared.fault.FaultKind.TheVariants.{TooMany, TooDeep}
 use Rattle.pac_syntax.specs.declared.limits.Around.{Around}
-use Rattle.pac_syntax.specs.Grammar.{outermost, inside, in_loop, loop_turns, last_bound, bound_value, bound_before, BoundForm, ABound, ANegativeBound, ALoop, LiteralForm, AnInt, ANegative, AText, ATrue, AFalse, ExprForm, ALiteral, AName, ANot, AParen, ABinary, ValuesForm, NoValue, AValue, StmtsForm, NoStmt, ALet, ARead, AHas, APut, ASet, ADelete, AnAbort, AnIf, AnIfElse, ColumnsForm, NoColumn, AColumn, ParamsForm, NoParam, AParam, TablesForm, NoTable, ATable, ProcsForm, NoProc, AProc, CatalogueForm, IsExpr, AreValues, AreStmts, AreProcs, Role, Plain, ColumnName, ParamName, Marked, counted, literal_before, expr_before, whole_before, values_before, stmts_before, columns_before, params_before, tables_before, procs_before, marks_of, tokens_of}
+use Rattle.pac_syntax.specs.Grammar.{outermost, inside_block, in_loop, loop_turns, last_bound, bound_value, bound_before, BoundForm, ABound, ANegativeBound, ALoop, LiteralForm, AnInt, ANegative, AText, ATrue, AFalse, ExprForm, ALiteral, AName, ANot, AParen, ABinary, ValuesForm, NoValue, AValue, StmtsForm, NoStmt, ALet, ARead, AHas, APut, ASet, ADelete, AnAbort, AnIf, AnIfElse, ColumnsForm, NoColumn, AColumn, ParamsForm, NoParam, AParam, TablesForm, NoTable, ATable, ProcsForm, NoProc, AProc, CatalogueForm, IsExpr, AreValues, AreStmts, AreProcs, Role, Plain, ColumnName, ParamName, Marked, counted, literal_before, expr_before, whole_before, values_before, stmts_before, columns_before, params_before, tables_before, procs_before, marks_of, tokens_of}
 use Rattle.pac_syntax.specs.Faults.{fault_of, past, over_role, IsWithin}
 use Rattle.pac_print.proofs.TokenFacts.{IsNameToken, IsIntToken, IsNegativeToken, IsTextToken, IsToken}
 use Rattle.pac_syntax.proofs.WithinLimits.{at_most}
@@ -49,8 +49,8 @@ AreProperStmts d (APut p0 t p1 e p2 p3 p4 v vs p5 p6 s) = IsNameToken t.name × 
 AreProperStmts d (ASet p0 t p1 e p2 p3 c p4 v p5 s) = IsNameToken t.name × IsProperWhole e × IsNameToken c.name × IsProperWhole v × AreProperStmts d s
 AreProperStmts d (ADelete p0 t p1 e p2 p3 s) = IsNameToken t.name × IsProperWhole e × AreProperStmts d s
 AreProperStmts d (AnAbort p0 p1 e p2 s) = IsProperWhole e × AreProperStmts d s
-AreProperStmts d (AnIf p0 e p1 first p2 s) = (suc d.nested ≤ 16) × IsProperWhole e × AreProperStmts (inside d) first × AreProperStmts d s
-AreProperStmts d (AnIfElse p0 e p1 first p2 p3 p4 second p5 s) = (suc d.nested ≤ 16) × IsProperWhole e × AreProperStmts (inside d) first × AreProperStmts (inside d) second × AreProperStmts d s
+AreProperStmts d (AnIf p0 e p1 first p2 s) = (suc d.nested ≤ 16) × IsProperWhole e × AreProperStmts (inside_block d) first × AreProperStmts d s
+AreProperStmts d (AnIfElse p0 e p1 first p2 p3 p4 second p5 s) = (suc d.nested ≤ 16) × IsProperWhole e × AreProperStmts (inside_block d) first × AreProperStmts (inside_block d) second × AreProperStmts d s
 AreProperStmts d (ALoop p0 x p1 a p2 b p3 body p4 s) =
     (suc d.nested ≤ 16) × IsNameToken x.name × IsProperBound a × IsProperBound b × (loop_turns d (bound_value a) (bound_value b) ≤ 256) × AreProperStmts (in_loop d (bound_value a) (bound_value b)) body × AreProperStmts d s
 
@@ -184,14 +184,14 @@ fine_stmts (AnAbort p0 p1 e p2 s) d rest levels h =
     let more = fine_stmts s d rest levels.1 f.after.1 in
     record { proper = (f.proper, more.proper); after = more.after }
 fine_stmts (AnIf p0 e p1 first p2 s) d rest levels h =
-    let f = fine_whole e (_ ∷ stmts_before (inside d) first (_ ∷ stmts_before d s rest)) levels.0 h.1 in
-    let one = fine_stmts first (inside d) (_ ∷ stmts_before d s rest) levels.1 f.after.1 in
+    let f = fine_whole e (_ ∷ stmts_before (inside_block d) first (_ ∷ stmts_before d s rest)) levels.0 h.1 in
+    let one = fine_stmts first (inside_block d) (_ ∷ stmts_before d s rest) levels.1 f.after.1 in
     let more = fine_stmts s d rest levels.2 one.after.1 in
     record { proper = (at_most 16 (suc d.nested) (fault_of TooDeep p0) h.0.0, f.proper, one.proper, more.proper); after = more.after }
 fine_stmts (AnIfElse p0 e p1 first p2 p3 p4 second p5 s) d rest levels h =
-    let f = fine_whole e (_ ∷ stmts_before (inside d) first (_ ∷ _ ∷ _ ∷ stmts_before (inside d) second (_ ∷ stmts_before d s rest))) levels.0 h.1 in
-    let one = fine_stmts first (inside d) (_ ∷ _ ∷ _ ∷ stmts_before (inside d) second (_ ∷ stmts_before d s rest)) levels.1 f.after.1 in
-    let two = fine_stmts second (inside d) (_ ∷ stmts_before d s rest) levels.2 one.after.1.1.1 in
+    let f = fine_whole e (_ ∷ stmts_before (inside_block d) first (_ ∷ _ ∷ _ ∷ stmts_before (inside_block d) second (_ ∷ stmts_before d s rest))) levels.0 h.1 in
+    let one = fine_stmts first (inside_block d) (_ ∷ _ ∷ _ ∷ stmts_before (inside_block d) second (_ ∷ stmts_before d s rest)) levels.1 f.after.1 in
+    let two = fine_stmts second (inside_block d) (_ ∷ stmts_before d s rest) levels.2 one.after.1.1.1 in
     let more = fine_stmts s d rest levels.3 two.after.1 in
     record { proper = (at_most 16 (suc d.nested) (fault_of TooDeep p0) h.0.0, f.proper, one.proper, two.proper, more.proper); after = more.after }
 fine_stmts (ALoop p0 x p1 a p2 b p3 body p4 s) d rest levels h =

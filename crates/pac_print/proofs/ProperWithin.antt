@@ -6,7 +6,7 @@ use Rattle.pac_tokens.specs.declared.fault.FaultKind.TheVariants.{TooMany, TooDe
 use Rattle.pac_tokens.specs.declared.fault.Fault.{Fault}
 use Rattle.pac_tokens.specs.declared.token.Symbol.TheVariants as symbol
 use Rattle.pac_syntax.specs.declared.limits.Around.{Around}
-use Rattle.pac_syntax.specs.Grammar.{outermost, inside, in_loop, loop_turns, last_bound, bound_value, bound_before, BoundForm, ABound, ANegativeBound, ALoop, LiteralForm, AnInt, ANegative, AText, ATrue, AFalse, ExprForm, ALiteral, AName, ANot, AParen, ABinary, ValuesForm, NoValue, AValue, StmtsForm, NoStmt, ALet, ARead, AHas, APut, ASet, ADelete, AnAbort, AnIf, AnIfElse, TypeForm, AnIntType, ATextType, ColumnsForm, NoColumn, AColumn, ParamsForm, NoParam, AParam, TablesForm, NoTable, ATable, ProcsForm, NoProc, AProc, CatalogueForm, AreValues, AreStmts, AreProcs, Role, Plain, ColumnName, ParamName, Marked, symbol_mark, name_mark, type_mark, counted, literal_before, expr_before, whole_before, values_before, stmts_before, columns_before, params_before, tables_before, procs_before, marks_of}
+use Rattle.pac_syntax.specs.Grammar.{outermost, inside_block, in_loop, loop_turns, last_bound, bound_value, bound_before, BoundForm, ABound, ANegativeBound, ALoop, LiteralForm, AnInt, ANegative, AText, ATrue, AFalse, ExprForm, ALiteral, AName, ANot, AParen, ABinary, ValuesForm, NoValue, AValue, StmtsForm, NoStmt, ALet, ARead, AHas, APut, ASet, ADelete, AnAbort, AnIf, AnIfElse, TypeForm, AnIntType, ATextType, ColumnsForm, NoColumn, AColumn, ParamsForm, NoParam, AParam, TablesForm, NoTable, ATable, ProcsForm, NoProc, AProc, CatalogueForm, AreValues, AreStmts, AreProcs, Role, Plain, ColumnName, ParamName, Marked, symbol_mark, name_mark, type_mark, counted, literal_before, expr_before, whole_before, values_before, stmts_before, columns_before, params_before, tables_before, procs_before, marks_of}
 use Rattle.pac_syntax.specs.Faults.{fault_of, past, over_role, IsWithin}
 use Rattle.pac_syntax.proofs.WithinLimits.{AllWithin}
 use Rattle.pac_print.proofs.Proper.{IsProper, IsProperWhole, AreProperValues, AreProperStmts, AreProperColumns, AreProperParams, AreProperTables, AreProperProcs, IsProperCatalogue, IsLimitedTo}
@@ -67,9 +67,9 @@ within_stmts (ASet p0 t p1 e p2 p3 c p4 v p5 s) d rest p h =
 within_stmts (ADelete p0 t p1 e p2 p3 s) d rest p h = (refl, (refl, (refl, within_whole e _ p.1 (refl, (refl, within_stmts s d rest p.2 h)))))
 within_stmts (AnAbort p0 p1 e p2 s) d rest p h = (refl, (refl, within_whole e _ p.0 (refl, within_stmts s d rest p.1 h)))
 within_stmts (AnIf p0 e p1 first p2 s) d rest p h =
-    (within_most 16 (suc d.nested) (fault_of TooDeep p0) p.0, within_whole e _ p.1 (refl, within_stmts first (inside d) _ p.2 (refl, within_stmts s d rest p.3 h)))
+    (within_most 16 (suc d.nested) (fault_of TooDeep p0) p.0, within_whole e _ p.1 (refl, within_stmts first (inside_block d) _ p.2 (refl, within_stmts s d rest p.3 h)))
 within_stmts (AnIfElse p0 e p1 first p2 p3 p4 second p5 s) d rest p h =
-    (within_most 16 (suc d.nested) (fault_of TooDeep p0) p.0, within_whole e _ p.1 (refl, within_stmts first (inside d) _ p.2 (refl, (refl, (refl, within_stmts second (inside d) _ p.3 (refl, within_stmts s d rest p.4 h))))))
+    (within_most 16 (suc d.nested) (fault_of TooDeep p0) p.0, within_whole e _ p.1 (refl, within_stmts first (inside_block d) _ p.2 (refl, (refl, (refl, within_stmts second (inside_block d) _ p.3 (refl, within_stmts s d rest p.4 h))))))
 within_stmts (ALoop p0 x p1 a p2 b p3 body p4 s) d rest p h =
     let role = last_bound d p0 (bound_value a) (bound_value b) in
     let inner = in_loop d (bound_value a) (bound_value b) in
@@ -92,8 +92,8 @@ stmts_levels (APut p0 t p1 e p2 p3 p4 v vs p5 p6 s) d p = (p.1.levels, p.2.level
 stmts_levels (ASet p0 t p1 e p2 p3 c p4 v p5 s) d p = (p.1.levels, p.3.levels, stmts_levels s d p.4)
 stmts_levels (ADelete p0 t p1 e p2 p3 s) d p = (p.1.levels, stmts_levels s d p.2)
 stmts_levels (AnAbort p0 p1 e p2 s) d p = (p.0.levels, stmts_levels s d p.1)
-stmts_levels (AnIf p0 e p1 first p2 s) d p = (p.1.levels, stmts_levels first (inside d) p.2, stmts_levels s d p.3)
-stmts_levels (AnIfElse p0 e p1 first p2 p3 p4 second p5 s) d p = (p.1.levels, stmts_levels first (inside d) p.2, stmts_levels second (inside d) p.3, stmts_levels s d p.4)
+stmts_levels (AnIf p0 e p1 first p2 s) d p = (p.1.levels, stmts_levels first (inside_block d) p.2, stmts_levels s d p.3)
+stmts_levels (AnIfElse p0 e p1 first p2 p3 p4 second p5 s) d p = (p.1.levels, stmts_levels first (inside_block d) p.2, stmts_levels second (inside_block d) p.3, stmts_levels s d p.4)
 stmts_levels (ALoop p0 x p1 a p2 b p3 body p4 s) d p = (stmts_levels body (in_loop d (bound_value a) (bound_value b)) p.5, stmts_levels s d p.6)
 
 -- ---- columns, parameters, tables and procedures

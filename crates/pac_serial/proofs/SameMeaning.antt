@@ -30,14 +30,14 @@ use Rattle.pac_types.specs.declared.statement.Stmt.{Stmt}
 use Rattle.pac_types.specs.declared.table.Table.{Table}
 use Rattle.pac_types.specs.Meaning.{Abort, at_operation, branch, step_count, runs, meaning}
 use Rattle.pac_types.specs.Typing.{IsProc}
-use Rattle.pac_types.specs.Unrolled.{Steps, End, Branch, turns, numbers, renamed, renamed_step, renamed_kind, Point, with_next, with_turn, with_defined, Unrolling, all_after, in_steps, after_turns, in_turns, unroll_step, unrolling, beginning}
+use Rattle.pac_types.specs.Unrolled.{UnrolledSteps, End, Branch, turns, turn_numbers, renamed, renamed_step, renamed_kind, Point, with_next, with_turn, with_defined, Unrolling, all_after, in_steps, after_turns, in_turns, unroll_step, unrolling, beginning}
 use Rattle.pac_types.specs.Variables.{variables_step, stmt_variables, defined_variables}
 use Rattle.pac_types.specs.WellFormed.{types, key_type, column_type, column_types, if_so, without, Check, any_defines, in_order, check_step, check, scope_of, scope_after_all}
 use Rattle.pac_types.proofs.PartLemmas.{equal}
 use Rattle.pac_types.proofs.RunsOnLemmas.{RunsOn, runs_on-parts, runs_on-proc, variable_list, variables-one, all_names-kept, turn_names-kept}
 use Rattle.pac_types.proofs.StmtShapes.{form_of, is_test, IsOne, IsConditional, IsLoop, all_by_shape}
 use Rattle.pac_types.proofs.UnrolledLemmas.{unrolling-one, length-ascending, next-grows, all_next-grows, all_steps-count}
-use Rattle.pac_serial.specs.TextMeaning.{Code, run_all, run_turns, code_step, code, code_count, text_meaning}
+use Rattle.pac_serial.specs.TextMeaning.{Code, run_codes, run_turns, code_step, code, code_count, text_meaning}
 use Rattle.pac_serial.proofs.CodeLemmas.{code-one, count-all-operations}
 
 -- ---- values of variables
@@ -323,12 +323,12 @@ module _ (k : ℕ) (f g : Scope) (p : Point) (text own : Values) (pic : Pictures
 -- ---- statements
 
 -- what a text does, against what steps do: they go on with those after them, from the same tables
-abbrev Follow : ℕ → ℕ → Scope → ℕ → Point → Values → Values → Steps → Result State Abort → Result State Abort → Type 0
+abbrev Follow : ℕ → ℕ → Scope → ℕ → Point → Values → Values → UnrolledSteps → Result State Abort → Result State Abort → Type 0
 Follow k n g m q text own rest (Ok t) does = (now : Values) × Pictures g q t.env now × Keeps k text t.env × Keeps m own now × (does ≡ runs rest n (record { env = now; tables = t.tables }))
 Follow k n g m q text own rest (Err abort) does = does ≡ Err abort
 
 -- one after another
-follow-then : (k k' n n' m m' : ℕ) (f g : Scope) (p q : Point) (text own : Values) (between rest : Steps) (r does : Result State Abort) (F : State → Result State Abort) → k ≤ k' → m ≤ m'
+follow-then : (k k' n n' m m' : ℕ) (f g : Scope) (p q : Point) (text own : Values) (between rest : UnrolledSteps) (r does : Result State Abort) (F : State → Result State Abort) → k ≤ k' → m ≤ m'
     → Follow k n f m p text own between r does → ((t : State) (now : Values) → Pictures f p t.env now → Follow k' n' g m' q t.env now rest (F t) (runs between n (record { env = now; tables = t.tables }))) → Follow k n' g m q text own rest (r >>= F) does
 follow-then k k' n n' m m' f g p q text own between rest (Err abort) does F le up h later = h
 follow-then k k' n n' m m' f g p q text own between rest (Ok t) does F le up (now, pic, text_keeps, own_keeps, is) later = go (F t) (later t now pic)
@@ -344,23 +344,23 @@ follow-then k k' n n' m m' f g p q text own between rest (Ok t) does F le up (no
     )
 
 -- seen from before
-follow-from : (k k' n m m' : ℕ) (f g : Scope) (p q : Point) (text text' own own' : Values) (rest : Steps) (r does : Result State Abort) → Follow k' n f m' p text' own' rest r does
+follow-from : (k k' n m m' : ℕ) (f g : Scope) (p q : Point) (text text' own own' : Values) (rest : UnrolledSteps) (r does : Result State Abort) → Follow k' n f m' p text' own' rest r does
     → ((t : State) (now : Values) → Pictures f p t.env now → Keeps k' text' t.env → Keeps m' own' now → Pictures g q t.env now × Keeps k text t.env × Keeps m own now) → Follow k n g m q text own rest r does
 follow-from k k' n m m' f g p q text text' own own' rest (Err abort) does h from = h
 follow-from k k' n m m' f g p q text text' own own' rest (Ok t) does (now, pic, a, b, is) from = let c = from t now pic a b in (now, c.0, c.1, c.2, is)
 
 -- with what comes after it
-follow-end : (k n n' m : ℕ) (g : Scope) (q : Point) (text own : Values) (rest : Steps) (r does : Result State Abort) → Follow k n g m q text own End r does → Follow k n' g m q text own rest r (does >>= λ t. runs rest n' t)
+follow-end : (k n n' m : ℕ) (g : Scope) (q : Point) (text own : Values) (rest : UnrolledSteps) (r does : Result State Abort) → Follow k n g m q text own End r does → Follow k n' g m q text own rest r (does >>= λ t. runs rest n' t)
 follow-end k n n' m g q text own rest (Err abort) does h = ap (λ (r : Result State Abort). r >>= λ t. runs rest n' t) h
 follow-end k n n' m g q text own rest (Ok t) does (now, pic, a, b, is) = (now, pic, a, b, ap (λ (r : Result State Abort). r >>= λ t. runs rest n' t) is)
 
-follow-number : (k n n' m : ℕ) (g : Scope) (q : Point) (text own : Values) (rest : Steps) (r does : Result State Abort) → n ≡ n' → Follow k n g m q text own rest r does → Follow k n' g m q text own rest r does
+follow-number : (k n n' m : ℕ) (g : Scope) (q : Point) (text own : Values) (rest : UnrolledSteps) (r does : Result State Abort) → n ≡ n' → Follow k n g m q text own rest r does → Follow k n' g m q text own rest r does
 follow-number k n n' m g q text own rest r does same h = subst (λ z. Follow k z g m q text own rest r does) same h
 
 module _ (ts : List Table) where
   abbrev Same : Unrolling → List ℕ → Code → (Scope → Option Scope) → Type 0
   Same u xs code after = (k : ℕ) (f g : Scope) → RunsOn k xs → Before k f → after f ≡ Some g
-      → Before (k + length xs) g × ((p : Point) (text own : Values) → Pictures f p text own → (tables : Tables) (n : ℕ) (rest : Steps)
+      → Before (k + length xs) g × ((p : Point) (text own : Values) → Pictures f p text own → (tables : Tables) (n : ℕ) (rest : UnrolledSteps)
       → Follow k (n + code.count) g p.next (u.after p) text own rest (code.run n (record { env = text; tables = tables })) (runs (u.steps p rest) n (record { env = own; tables = tables })))
 
   abbrev SameStmt : Stmt → Type 0
@@ -375,7 +375,7 @@ module _ (ts : List Table) where
   there_is (Some h) e = (h, refl)
 
   same_all : (ss : List Stmt) → AllByRecursion SameStmt ss → (k : ℕ) (f g : Scope) → RunsOn k (defined_variables ss) → Before k f → in_order (map (check ts) ss) f ≡ Some g
-      → (p : Point) (text own : Values) → Pictures f p text own → (tables : Tables) (n : ℕ) (rest : Steps)
+      → (p : Point) (text own : Values) → Pictures f p text own → (tables : Tables) (n : ℕ) (rest : UnrolledSteps)
       → Follow k (n + code_count ss) g p.next (all_after (map unrolling ss) p) text own rest (text_meaning ss n (record { env = text; tables = tables })) (runs (in_steps (map unrolling ss) p rest) n (record { env = own; tables = tables }))
   same_all [] all k f g run before ok p text own pic tables n rest =
       let same : f ≡ g = cc in
@@ -388,7 +388,7 @@ module _ (ts : List Table) where
       let q = (unrolling s).after p in
       let number : n + (code s).count + code_count ss ≡ n + code_count (s ∷ ss) = omega arith in
       follow-then k (k + length (stmt_variables s)) (n + (code s).count) (n + code_count (s ∷ ss)) p.next q.next mid.0 g q (all_after (map unrolling ss) q) text own (in_steps (map unrolling ss) q rest) rest
-      ((code s).run n (record { env = text; tables = tables })) (runs (in_steps (map unrolling (s ∷ ss)) p rest) n (record { env = own; tables = tables })) (λ t. run_all (map code ss) (n + (code s).count) t)
+      ((code s).run n (record { env = text; tables = tables })) (runs (in_steps (map unrolling (s ∷ ss)) p rest) n (record { env = own; tables = tables })) (λ t. run_codes (map code ss) (n + (code s).count) t)
       (omega arith) (next-grows s p).0 (first.1 p text own pic tables n (in_steps (map unrolling ss) q rest))
       (λ t now pic'. follow-number _ _ _ _ g _ _ _ rest _ _ number (same_all ss all.1 (k + length (stmt_variables s)) mid.0 g parts.1 first.0 mid.2 q t.env now pic' t.tables (n + (code s).count) rest))
 
@@ -410,7 +410,7 @@ module _ (ts : List Table) where
   before-kind k (kind.Delete t key) f g single run before ok = before-same k f g (so_is _ f g ok).1 before
   before-kind k (kind.AbortIf e) f g single run before ok = before-same k f g (so_is _ f g ok).1 before
 
-  one-follow : (k n : ℕ) (f g : Scope) (p q : Point) (text own : Values) (pic : Pictures f p text own) (rest : Steps) (r d : Result State Reason) → Followed k f g p text own pic q r d
+  one-follow : (k n : ℕ) (f g : Scope) (p q : Point) (text own : Values) (pic : Pictures f p text own) (rest : UnrolledSteps) (r d : Result State Reason) → Followed k f g p text own pic q r d
       → Follow k (n + 1) g p.next q text own rest (at_operation n r) (at_operation n d >>= λ t. runs rest (n + 1) t)
   one-follow k n f g p q text own pic rest (Ok t) (Ok o) (tables, pic', a, b) = (o.env, pic', a, b, λ i. runs rest (n + 1) (record { env = o.env; tables = tables i }))
   one-follow k n f g p q text own pic rest (Ok t) (Err b) h = absurd h
@@ -433,7 +433,7 @@ module _ (ts : List Table) where
   module _ (x : ℕ) (e : Expr) (first second : List Stmt) (all : AllByRecursion SameStmt first) (others : AllByRecursion SameStmt second) (k : ℕ) (f g ga gb : Scope) (at : x ≡ k)
       (run_first : RunsOn (k + 1) (defined_variables first)) (run_second : RunsOn (k + 1 + length (defined_variables first)) (defined_variables second)) (before : Before k f) (typed : is_bool (type_in f e) ≡ true)
       (ok_first : in_order (map (check ts) first) (with_var f x BoolTy) ≡ Some ga) (ok_second : in_order (map (check ts) second) (with_var f x BoolTy) ≡ Some gb) (less : Less g (with_var f x BoolTy))
-      (p : Point) (text own : Values) (pic : Pictures f p text own) (tables : Tables) (n : ℕ) (rest : Steps) where
+      (p : Point) (text own : Values) (pic : Pictures f p text own) (tables : Tables) (n : ℕ) (rest : UnrolledSteps) where
     abbrev inner : Scope
     inner = with_var f x BoolTy
 
@@ -446,10 +446,10 @@ module _ (ts : List Table) where
     abbrev end : Point
     end = all_after (map unrolling second) between
 
-    abbrev a : Steps
+    abbrev a : UnrolledSteps
     a = in_steps (map unrolling first) point End
 
-    abbrev b : Steps
+    abbrev b : UnrolledSteps
     b = in_steps (map unrolling second) between End
 
     abbrev number : ℕ
@@ -564,7 +564,7 @@ module _ (ts : List Table) where
     turn-kept : (text t : Values) (v : Value) → Keeps (k + 1) (insert text x v) t → Keeps k text t
     turn-kept text t v h z lt = h z (omega (arith, lt)) ∙ keeps-insert k x text v (omega (arith, at)) z lt
 
-    same_turns : (is : List ℤ) (p : Point) (text own : Values) → Pictures f p text own → (tables : Tables) (n : ℕ) (rest : Steps)
+    same_turns : (is : List ℤ) (p : Point) (text own : Values) → Pictures f p text own → (tables : Tables) (n : ℕ) (rest : UnrolledSteps)
         → Follow k (n + length is * code_count body) f p.next (after_turns x (map unrolling body) is p) text own rest (run_turns x (map code body) is n (record { env = text; tables = tables })) (runs (in_turns x (map unrolling body) is p rest) n (record { env = own; tables = tables }))
     same_turns [] p text own pic tables n rest =
         let number : n ≡ n + 0 * code_count body = omega arith in
@@ -607,15 +607,15 @@ module _ (ts : List Table) where
       let less : Less outer f = without-less some f in
       let visible : Before k outer = λ y h. before y (less y h) in
       let shown : Less g outer = subst (λ (z : Scope). Less z outer) a.1 (λ y h. less_visible (y == x) (some y) (f y) h) in
-      let count : length (numbers from to) * code_count body ≡ turns from to * code_count body = ap (λ m. m * code_count body) (length-ascending (turns from to) from) in (
+      let count : length (turn_numbers from to) * code_count body ≡ turns from to * code_count body = ap (λ m. m * code_count body) (length-ascending (turns from to) from) in (
         λ y h. omega (arith, visible y (shown y h)),
         λ p text own pic tables n rest.
-            let q = after_turns x (map unrolling body) (numbers from to) p in
+            let q = after_turns x (map unrolling body) (turn_numbers from to) p in
             let pic_outer : Pictures outer p text own = pictures-later f outer p p text own text own k pic less visible (λ y lt. refl) (λ z lt. refl) (λ z lt. refl) (omega arith) in
-            let total : n + length (numbers from to) * code_count body ≡ n + turns from to * code_count body = omega (arith, count) in
+            let total : n + length (turn_numbers from to) * code_count body ≡ n + turns from to * code_count body = omega (arith, count) in
             follow-number k _ _ p.next g q text own rest _ _ total
             (follow-from k k _ p.next p.next outer g q q text text own own rest _ _
-            (same_turns x k run.0 body all run.1 outer found.0 visible found.1 (numbers from to) p text own pic_outer tables n rest)
+            (same_turns x k run.0 body all run.1 outer found.0 visible found.1 (turn_numbers from to) p text own pic_outer tables n rest)
             (λ t now pic' tk okp. (pictures-later outer g q q t.env now t.env now k pic' shown (λ y h. visible y (shown y h)) (λ y lt. refl) (λ z lt. refl) (λ z lt. refl) (omega arith), tk, okp))),
       ))
 

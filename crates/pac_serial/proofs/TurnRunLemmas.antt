@@ -11,7 +11,7 @@ use Rattle.pac_ops.specs.Operations.{State, define}
 use Rattle.pac_types.specs.declared.statement.Stmt.{Stmt}
 use Rattle.pac_types.specs.declared.table.Table.{Table}
 use Rattle.pac_types.specs.Meaning.{Abort}
-use Rattle.pac_types.specs.Unrolled.{natural, turns, numbers}
+use Rattle.pac_types.specs.Unrolled.{natural, turns, turn_numbers}
 use Rattle.pac_types.specs.WellFormed.{without, any_defines, check, scope_after_all}
 use Rattle.pac_types.proofs.ScopeLemmas.{Within}
 use Rattle.pac_types.proofs.TurnLemmas.{turns-more, numbers-more, turns-parts, before-next}
@@ -48,23 +48,23 @@ module _ (x : ℕ) (body : List Stmt) (from n to : ℤ) (low : from ≤ℤ n) (b
   abbrev before : ℕ
   before = natural (n -ℤ from) * code_count body
 
-  run-more : (m : ℕ) (s : State) → run_turns x (map code body) (numbers n to) m s ≡ (text_meaning body m (define x (Int n) s) >>= λ t. run_turns x (map code body) (numbers (n +ℤ pos 1) to) (m + code_count body) t)
+  run-more : (m : ℕ) (s : State) → run_turns x (map code body) (turn_numbers n to) m s ≡ (text_meaning body m (define x (Int n) s) >>= λ t. run_turns x (map code body) (turn_numbers (n +ℤ pos 1) to) (m + code_count body) t)
   run-more m s = ap (λ is. run_turns x (map code body) is m s) (numbers-more n to below)
 
   pub turn-runs : (m : ℕ) (s begun t : State) → begun ≡ define x (Int n) s → text_meaning body (m + before) begun ≡ Ok t
-      → run_turns x (map code body) (numbers (n +ℤ pos 1) to) (m + natural ((n +ℤ pos 1) -ℤ from) * code_count body) t ≡ run_turns x (map code body) (numbers n to) (m + before) s
+      → run_turns x (map code body) (turn_numbers (n +ℤ pos 1) to) (m + natural ((n +ℤ pos 1) -ℤ from) * code_count body) t ≡ run_turns x (map code body) (turn_numbers n to) (m + before) s
   turn-runs m s begun t is h =
       let all : m + natural ((n +ℤ pos 1) -ℤ from) * code_count body ≡ m + before + code_count body = ap (λ k. m + k * code_count body) (before-next from n low) ∙ times (natural (n -ℤ from)) (code_count body) in
-      ap (λ k. run_turns x (map code body) (numbers (n +ℤ pos 1) to) k t) all
-      ∙ sym (ap (λ (r : Result State Abort). r >>= λ u. run_turns x (map code body) (numbers (n +ℤ pos 1) to) (m + before + code_count body) u) (ap (text_meaning body (m + before)) (sym is) ∙ h))
+      ap (λ k. run_turns x (map code body) (turn_numbers (n +ℤ pos 1) to) k t) all
+      ∙ sym (ap (λ (r : Result State Abort). r >>= λ u. run_turns x (map code body) (turn_numbers (n +ℤ pos 1) to) (m + before + code_count body) u) (ap (text_meaning body (m + before)) (sym is) ∙ h))
       ∙ sym (run-more (m + before) s)
     where
       times : (k c : ℕ) → m + suc k * c ≡ m + k * c + c
       times k c = omega arith
 
-  pub turn-aborts : (m : ℕ) (s begun : State) (abort : Abort) → begun ≡ define x (Int n) s → text_meaning body (m + before) begun ≡ Err abort → run_turns x (map code body) (numbers n to) (m + before) s ≡ Err abort
+  pub turn-aborts : (m : ℕ) (s begun : State) (abort : Abort) → begun ≡ define x (Int n) s → text_meaning body (m + before) begun ≡ Err abort → run_turns x (map code body) (turn_numbers n to) (m + before) s ≡ Err abort
   turn-aborts m s begun abort is h =
-      run-more (m + before) s ∙ ap (λ (r : Result State Abort). r >>= λ u. run_turns x (map code body) (numbers (n +ℤ pos 1) to) (m + before + code_count body) u) (ap (text_meaning body (m + before)) (sym is) ∙ h)
+      run-more (m + before) s ∙ ap (λ (r : Result State Abort). r >>= λ u. run_turns x (map code body) (turn_numbers (n +ℤ pos 1) to) (m + before + code_count body) u) (ap (text_meaning body (m + before)) (sym is) ∙ h)
 
   -- the operations of the turn are among all
   pub turn-within : before + code_count body ≤ turns from to * code_count body

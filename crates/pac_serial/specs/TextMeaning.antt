@@ -12,7 +12,7 @@ use Rattle.pac_types.specs.declared.statement.Stmt.{Stmt}
 use Rattle.pac_types.specs.declared.statement.Stmt.TheOpen.{Stmt-F, Let, Read, Has, Put, Set, Delete, AbortIf, If, For}
 use Rattle.pac_types.specs.declared.statement.Stmt.TheFolds.{fold-Stmt}
 use Rattle.pac_types.specs.Meaning.{Abort, at_operation, branch}
-use Rattle.pac_types.specs.Unrolled.{turns, numbers}
+use Rattle.pac_types.specs.Unrolled.{turns, turn_numbers}
 
 -- what statements are: how many operations, and what they do where the first has a given number
 pub record Code : Type 0 where
@@ -29,23 +29,23 @@ counts [] = 0
 counts (code ∷ codes) = code.count + counts codes
 
 -- one after another, numbered on
-abbrev pub run_all : List Code → ℕ → State → Result State Abort
-run_all [] n s = Ok s
-run_all (code ∷ codes) n s = code.run n s >>= λ t. run_all codes (n + code.count) t
+abbrev pub run_codes : List Code → ℕ → State → Result State Abort
+run_codes [] n s = Ok s
+run_codes (code ∷ codes) n s = code.run n s >>= λ t. run_codes codes (n + code.count) t
 
 -- a block once for each number
 abbrev pub run_turns : ℕ → List Code → List ℤ → ℕ → State → Result State Abort
 run_turns x body [] n s = Ok s
-run_turns x body (i ∷ is) n s = run_all body n (define x (Int i) s) >>= λ t. run_turns x body is (n + counts body) t
+run_turns x body (i ∷ is) n s = run_codes body n (define x (Int i) s) >>= λ t. run_turns x body is (n + counts body) t
 
 abbrev pub conditional : ℕ → Expr → List Code → List Code → Code
 conditional x e first second = record {
   count = 1 + (counts first + counts second);
-  run = λ n s. at_operation n (or_abort (value e s.env)) >>= λ v. branch v (run_all first (n + 1)) (run_all second (n + 1 + counts first)) (define x v s);
+  run = λ n s. at_operation n (or_abort (value e s.env)) >>= λ v. branch v (run_codes first (n + 1)) (run_codes second (n + 1 + counts first)) (define x v s);
 }
 
 abbrev pub repeated : ℕ → ℤ → ℤ → List Code → Code
-repeated x from to body = record { count = turns from to * counts body; run = run_turns x body (numbers from to) }
+repeated x from to body = record { count = turns from to * counts body; run = run_turns x body (turn_numbers from to) }
 
 abbrev pub code_step : Stmt-F Code → Code
 code_step (Let x e) = one (kind.Let x e)
@@ -67,4 +67,4 @@ code_count stmts = counts (map code stmts)
 
 -- what statements do, where the first operation has the number n
 abbrev pub text_meaning : List Stmt → ℕ → State → Result State Abort
-text_meaning stmts = run_all (map code stmts)
+text_meaning stmts = run_codes (map code stmts)

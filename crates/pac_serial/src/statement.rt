@@ -5,7 +5,7 @@ ghost use Rattle.pac_value.specs.Scopes.{is_bool};
 ghost use Rattle.pac_value.specs.declared.values.Value.TheVariants.{Bool as Truth};
 ghost use Rattle.pac_value.specs.Scopes.{with_var};
 ghost use Rattle.pac_value.specs.declared.values.Ty.TheVariants.{Int as IntTy};
-ghost use Rattle.pac_types.specs.Unrolled.{natural, turns, numbers};
+ghost use Rattle.pac_types.specs.Unrolled.{natural, turns, turn_numbers};
 ghost use Rattle.pac_types.specs.WellFormed.{without, check, any_defines, scope_after, scope_after_all};
 ghost use Rattle.pac_serial.specs.TextMeaning.{code, code_count, run_turns, text_meaning};
 ghost use Rattle.pac_serial.specs.Outcomes.{RunsFrom, IsHaltWithin, IsTrapOf, moved, Sees, KeepsTypes};
@@ -157,7 +157,7 @@ fn exec_turns<R: Rows>(
     requires well_formed { IsSome (scope_after_all tables.now body.now (with_var (without (any_defines (map (check tables.now) body.now)) (types_of txn.old.env)) var IntTy)) }
     requires numbers { turns from to * code_count body.now < 2 ^ 16 }
     requires over { RunsOver tables.now (R.tables rows.now) (R.held rows.now) txn.old.write_set }
-    ensures runs { (n : ℕ) → RunsFrom n result (run_turns var (map code body.now) (numbers from to) n (state_of (R.held rows.now) txn.old)) (state_of (R.held rows.now) txn.new) }
+    ensures runs { (n : ℕ) → RunsFrom n result (run_turns var (map code body.now) (turn_numbers from to) n (state_of (R.held rows.now) txn.old)) (state_of (R.held rows.now) txn.new) }
     ensures within { IfErr result (IsHaltWithin (turns from to * code_count body.now)) }
     ensures keeps { OnOk result (KeepsTypes (λ y. y == var || any_defines (map (check tables.now) body.now) y) txn.old.env txn.new.env) }
     ensures over { OnOk result (RunsOver tables.now (R.tables rows.now) (R.held rows.now) txn.new.write_set) }

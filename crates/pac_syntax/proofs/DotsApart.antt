@@ -85,7 +85,7 @@ apart_values : (vs : ValuesForm) (rest : List Marked) → Apart rest → Apart (
 apart_values NoValue rest h = h
 apart_values (AValue comma e vs) rest h = ((tt, refl), apart_whole e (values_before vs rest) (apart_values vs rest h))
 
-apart_stmts : (s : old.StmtsForm) (d : ℕ) (rest : List Marked) → Apart rest → Apart (old.stmts_before d s rest)
+apart_stmts : (s : old.LooplessStmts) (d : ℕ) (rest : List Marked) → Apart rest → Apart (old.loopless_stmts_before d s rest)
 apart_stmts old.NoStmt d rest h = h
 apart_stmts (old.ALet p0 x p1 e p2 s) d rest h = ((tt, refl), ((tt, refl), ((tt, refl), apart_whole e _ ((tt, refl), apart_stmts s d rest h))))
 apart_stmts (old.ARead p0 x p1 t p2 e p3 p4 c p5 l p6 s) d rest h = ((tt, refl), ((tt, refl), ((tt, refl), ((tt, refl), ((tt, refl), apart_whole e _ ((tt, refl), ((refl, refl), ((tt, refl), ((tt, refl), apart_literal l _ ((tt, refl), apart_stmts s d rest h))))))))))
@@ -117,9 +117,9 @@ apart_tables (ATable p0 n p1 p2 k p3 c t cs p4 p5 f) i rest h =
     let first : List Marked = name_mark c (ColumnName 1) ∷ type_mark t ∷ columns_before ColumnName 1 cs more in
     ((tt, refl), ((tt, refl), ((tt, refl), ((tt, refl), apart_type k (symbol_mark symbol.Comma p3 Plain ∷ first) ((tt, refl), ((tt, refl), apart_type t (columns_before ColumnName 1 cs more) columns))))))
 
-apart_procs : (f : old.ProcsForm) (i : ℕ) → Apart (old.procs_before i f [])
+apart_procs : (f : old.LooplessProcs) (i : ℕ) → Apart (old.loopless_procs_before i f [])
 apart_procs old.NoProc i = tt
 apart_procs (old.AProc p0 n p1 ps p2 p3 s p4 f) i = ((tt, refl), ((tt, refl), ((tt, refl), apart_params ps _ ((tt, refl), ((tt, refl), apart_stmts s 0 _ ((tt, refl), apart_procs f (suc i)))))))
 
-pub dots_apart : (form : old.CatalogueForm) → DotsApart (tokens_of (old.marks_of form))
-dots_apart form = apart_tables form.tables 0 (old.procs_before 0 form.procs []) (apart_procs form.procs 0)
+pub dots_apart : (form : old.LooplessCatalogue) → DotsApart (tokens_of (old.loopless_marks form))
+dots_apart form = apart_tables form.tables 0 (old.loopless_procs_before 0 form.procs []) (apart_procs form.procs 0)

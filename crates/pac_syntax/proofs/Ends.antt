@@ -23,7 +23,7 @@ use Rattle.pac_syntax.specs.declared.tree.StmtNode.TheVariants as stmt
 use Rattle.pac_syntax.specs.declared.tree.TableNode.{TableNode}
 use Rattle.pac_syntax.specs.declared.tree.ProcNode.{ProcNode}
 use Rattle.pac_syntax.specs.declared.tree.Tree.{Tree}
-use Rattle.pac_syntax.specs.Grammar.{LiteralForm, AnInt, ANegative, AText, ATrue, AFalse, ExprForm, ALiteral, AName, ANot, AParen, ABinary, ValuesForm, NoValue, AValue, StmtsForm, NoStmt, ALet, ARead, AHas, APut, ASet, ADelete, AnAbort, AnIf, AnIfElse, ALoop, BoundForm, ABound, ANegativeBound, TypeForm, AnIntType, ATextType, ColumnsForm, NoColumn, AColumn, ParamsForm, NoParam, AParam, TablesForm, NoTable, ATable, ProcsForm, NoProc, AProc, operator_symbol, precedence, left_level, AtLevel, AreValues, AreStmts, AreProcs, literal_node, bound_value, inside, in_loop, expr_node, value_nodes, stmt_nodes, type_of_form, column_node, column_nodes, param_nodes, table_nodes, proc_nodes, Role, Plain, TableWord, ProcWord, ParamName, Operator, Paren, Nested, Marked, marked, keyword_mark, symbol_mark, name_mark, type_mark, literal_before, bound_before, last_bound, counted, expr_before, whole_before, values_before, stmts_before, columns_before, params_before, tables_before, procs_before, Whole}
+use Rattle.pac_syntax.specs.Grammar.{LiteralForm, AnInt, ANegative, AText, ATrue, AFalse, ExprForm, ALiteral, AName, ANot, AParen, ABinary, ValuesForm, NoValue, AValue, StmtsForm, NoStmt, ALet, ARead, AHas, APut, ASet, ADelete, AnAbort, AnIf, AnIfElse, ALoop, BoundForm, ABound, ANegativeBound, TypeForm, AnIntType, ATextType, ColumnsForm, NoColumn, AColumn, ParamsForm, NoParam, AParam, TablesForm, NoTable, ATable, ProcsForm, NoProc, AProc, operator_symbol, precedence, left_level, AtLevel, AreValues, AreStmts, AreProcs, literal_node, bound_value, inside_block, in_loop, expr_node, value_nodes, stmt_nodes, type_of_form, column_node, column_nodes, param_nodes, table_nodes, proc_nodes, Role, Plain, TableWord, ProcWord, ParamName, Operator, Paren, Nested, Marked, marked, keyword_mark, symbol_mark, name_mark, type_mark, literal_before, bound_before, last_bound, counted, expr_before, whole_before, values_before, stmts_before, columns_before, params_before, tables_before, procs_before, Whole}
 use Rattle.pac_syntax.specs.Machine.{Begun, Steps, Done, Want, WantName, WantType, WantLiteral, WantNegative, WantBound, WantNegativeBound, Level, Rest, MoreValues, MoreStmts, MaybeElse, MoreColumns, SomeParams, MoreTables, MoreProcs, Next, next, want_expr, begun_name, begun_literal, begun_binary, top, lay, negation_steps, paren_steps, stmt_steps, block_steps, if_steps, for_steps, column_steps, typed_steps, table_steps, proc_steps, start, literal_at, is_same_keyword_or_symbol, name_in, type_of_token, operator_of, operator_in, operator_at, of_precedence, or_else, where_true, where_some, literal_begins, negative_in, bound_begins, negative_bound_in, operand_begins, stmt_begins, feed, finish}
 use Rattle.pac_syntax.proofs.Marks.{is_same_keyword_or_symbol-true}
 use Rattle.pac_syntax.proofs.Running.{Runs}
@@ -491,7 +491,7 @@ abort_leads d ss k at z r f =
 -- a conditional, with an `else` or without
 if_leads_as : (other : ElseForm) (d : Around) (at : ℕ) (ss : List StmtNode) (k : List StmtNode → Steps) (e : ExprForm) (p1 : ℕ) (first : StmtsForm) (p2 : ℕ) (s : StmtsForm) (y : List Marked) (r : Tree)
     → AtLevel 5 e → AreStmts first → IsElse other → AreStmts s → Finishes (k ((ss ++ (stmt.If (expr_node e) (stmt_nodes first) (else_nodes other) ∷ [])) ++ stmt_nodes s)) y r
-    → Finishes (MoreStmts d ss k) (keyword_mark keyword.If at (Nested (suc d.nested)) ∷ whole_before e (symbol_mark symbol.OpenBrace p1 Plain ∷ stmts_before (inside d) first (symbol_mark symbol.CloseBrace p2 Plain ∷ else_before (inside d) other (stmts_before d s y)))) r
+    → Finishes (MoreStmts d ss k) (keyword_mark keyword.If at (Nested (suc d.nested)) ∷ whole_before e (symbol_mark symbol.OpenBrace p1 Plain ∷ stmts_before (inside_block d) first (symbol_mark symbol.CloseBrace p2 Plain ∷ else_before (inside_block d) other (stmts_before d s y)))) r
 if_leads_as NoElse d at ss k e p1 first p2 s y r le lf lo ls f =
     (AnIf at e p1 first p2 s, y, (le, lf, ls), refl, subst (λ (xs : List StmtNode). Finishes (k xs) y r) (append_assoc ss (stmt.If (expr_node e) (stmt_nodes first) [] ∷ []) (stmt_nodes s)) f)
 if_leads_as (AnElse p3 p4 second p5) d at ss k e p1 first p2 s y r le lf lo ls f =
@@ -505,7 +505,7 @@ if_leads d ss k at z r f =
     let shut = first.4 in
     let other = shut.3 in
     let g = other.4 in
-    let text = e.3 ∙ ap (whole_before e.0) (after brace.2 (first.3 ∙ ap (stmts_before (inside d) first.0) (after shut.2 (other.3 ∙ ap (else_before (inside d) other.0) g.3)))) in
+    let text = e.3 ∙ ap (whole_before e.0) (after brace.2 (first.3 ∙ ap (stmts_before (inside_block d) first.0) (after shut.2 (other.3 ∙ ap (else_before (inside_block d) other.0) g.3)))) in
     rw text (if_leads_as other.0 d at ss k e.0 brace.0 first.0 shut.0 g.0 g.1 r e.2 first.2 other.2 g.2 g.4)
 
 for_leads : (d : Around) (ss : List StmtNode) (k : List StmtNode → Steps) (at : ℕ) → Leads (MoreStmts d ss k) (token.Keyword keyword.For) at (next (for_steps d at (λ s. MoreStmts d (ss ++ (s ∷ [])) k)) (Nested (suc d.nested)))

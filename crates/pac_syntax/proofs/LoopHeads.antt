@@ -5,7 +5,7 @@ use Rattle.pac_tokens.specs.declared.token.Symbol.TheVariants as symbol
 use Rattle.pac_tokens.specs.declared.token.Spanned.{Spanned}
 use Rattle.pac_syntax.specs.declared.limits.Around.{Around}
 use Rattle.pac_syntax.specs.declared.tree.Tree.{Tree}
-use Rattle.pac_syntax.specs.Grammar.{LiteralForm, AnInt, ANegative, AText, ATrue, AFalse, ExprForm, ALiteral, AName, ANot, AParen, ABinary, ValuesForm, NoValue, AValue, BoundForm, ABound, ANegativeBound, StmtsForm, NoStmt, ALet, ARead, AHas, APut, ASet, ADelete, AnAbort, AnIf, AnIfElse, ALoop, TypeForm, AnIntType, ATextType, ColumnsForm, NoColumn, AColumn, ParamsForm, NoParam, AParam, TablesForm, NoTable, ATable, ProcsForm, NoProc, AProc, bound_value, outermost, inside, in_loop, loop_turns, last_bound, Role, Plain, TableWord, ProcWord, ColumnName, ParamName, Operator, Paren, Nested, LastBound, Marked, symbol_mark, name_mark, type_mark, literal_before, bound_before, counted, expr_before, whole_before, values_before, stmts_before, columns_before, params_before, tables_before, procs_before, Whole}
+use Rattle.pac_syntax.specs.Grammar.{LiteralForm, AnInt, ANegative, AText, ATrue, AFalse, ExprForm, ALiteral, AName, ANot, AParen, ABinary, ValuesForm, NoValue, AValue, BoundForm, ABound, ANegativeBound, StmtsForm, NoStmt, ALet, ARead, AHas, APut, ASet, ADelete, AnAbort, AnIf, AnIfElse, ALoop, TypeForm, AnIntType, ATextType, ColumnsForm, NoColumn, AColumn, ParamsForm, NoParam, AParam, TablesForm, NoTable, ATable, ProcsForm, NoProc, AProc, bound_value, outermost, inside_block, in_loop, loop_turns, last_bound, Role, Plain, TableWord, ProcWord, ColumnName, ParamName, Operator, Paren, Nested, LastBound, Marked, symbol_mark, name_mark, type_mark, literal_before, bound_before, counted, expr_before, whole_before, values_before, stmts_before, columns_before, params_before, tables_before, procs_before, Whole}
 
 -- the offset of the last `if` or `for`, where plain tokens alone stand behind it
 abbrev Head : Type 0
@@ -70,9 +70,9 @@ stmts (ASet p0 t p1 e p2 p3 c p4 v p5 s) d rest h head =
     (tt, (tt, (tt, whole e _ (λ head. (tt, (tt, (tt, (tt, whole v _ (λ head. (tt, stmts s d rest h head)) head))))) head)))
 stmts (ADelete p0 t p1 e p2 p3 s) d rest h head = (tt, (tt, (tt, whole e _ (λ head. (tt, (tt, stmts s d rest h head))) head)))
 stmts (AnAbort p0 p1 e p2 s) d rest h head = (tt, (tt, whole e _ (λ head. (tt, stmts s d rest h head)) head))
-stmts (AnIf p0 e p1 first p2 s) d rest h head = (tt, whole e _ (λ head. (tt, stmts first (inside d) _ (λ head. (tt, stmts s d rest h head)) head)) (Some p0))
+stmts (AnIf p0 e p1 first p2 s) d rest h head = (tt, whole e _ (λ head. (tt, stmts first (inside_block d) _ (λ head. (tt, stmts s d rest h head)) head)) (Some p0))
 stmts (AnIfElse p0 e p1 first p2 p3 p4 second p5 s) d rest h head =
-    (tt, whole e _ (λ head. (tt, stmts first (inside d) _ (λ head. (tt, (tt, (tt, stmts second (inside d) _ (λ head. (tt, stmts s d rest h head)) head)))) head)) (Some p0))
+    (tt, whole e _ (λ head. (tt, stmts first (inside_block d) _ (λ head. (tt, (tt, (tt, stmts second (inside_block d) _ (λ head. (tt, stmts s d rest h head)) head)))) head)) (Some p0))
 stmts (ALoop p0 x p1 a p2 b p3 body p4 s) d rest h head =
     let inner = in_loop d (bound_value a) (bound_value b) in
     let shut : List Marked = symbol_mark symbol.CloseBrace p4 Plain ∷ stmts_before d s rest in

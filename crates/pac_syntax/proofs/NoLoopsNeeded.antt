@@ -20,7 +20,7 @@ use Rattle.pac_syntax.proofs.DotsApart.{is_dot, is_range, NoDot, DotsApart, dots
 
 -- ---- derivations
 
-abbrev pub stmts : old.StmtsForm → StmtsForm
+abbrev pub stmts : old.LooplessStmts → StmtsForm
 stmts old.NoStmt = NoStmt
 stmts (old.ALet p0 x p1 e p2 s) = ALet p0 x p1 e p2 (stmts s)
 stmts (old.ARead p0 x p1 t p2 e p3 p4 c p5 l p6 s) = ARead p0 x p1 t p2 e p3 p4 c p5 l p6 (stmts s)
@@ -32,11 +32,11 @@ stmts (old.AnAbort p0 p1 e p2 s) = AnAbort p0 p1 e p2 (stmts s)
 stmts (old.AnIf p0 e p1 first p2 s) = AnIf p0 e p1 (stmts first) p2 (stmts s)
 stmts (old.AnIfElse p0 e p1 first p2 p3 p4 second p5 s) = AnIfElse p0 e p1 (stmts first) p2 p3 p4 (stmts second) p5 (stmts s)
 
-abbrev pub procs : old.ProcsForm → ProcsForm
+abbrev pub procs : old.LooplessProcs → ProcsForm
 procs old.NoProc = NoProc
 procs (old.AProc p0 n p1 ps p2 p3 s p4 f) = AProc p0 n p1 ps p2 p3 (stmts s) p4 (procs f)
 
-are_stmts : (s : old.StmtsForm) → old.AreStmts s → AreStmts (stmts s)
+are_stmts : (s : old.LooplessStmts) → old.AreLooplessStmts s → AreStmts (stmts s)
 are_stmts old.NoStmt h = tt
 are_stmts (old.ALet p0 x p1 e p2 s) h = (h.0, are_stmts s h.1)
 are_stmts (old.ARead p0 x p1 t p2 e p3 p4 c p5 l p6 s) h = (h.0, are_stmts s h.1)
@@ -48,12 +48,12 @@ are_stmts (old.AnAbort p0 p1 e p2 s) h = (h.0, are_stmts s h.1)
 are_stmts (old.AnIf p0 e p1 first p2 s) h = (h.0, are_stmts first h.1, are_stmts s h.2)
 are_stmts (old.AnIfElse p0 e p1 first p2 p3 p4 second p5 s) h = (h.0, are_stmts first h.1, are_stmts second h.2, are_stmts s h.3)
 
-are_procs : (f : old.ProcsForm) → old.AreProcs f → AreProcs (procs f)
+are_procs : (f : old.LooplessProcs) → old.AreLooplessProcs f → AreProcs (procs f)
 are_procs old.NoProc h = tt
 are_procs (old.AProc p0 n p1 ps p2 p3 s p4 f) h = (are_stmts s h.0, are_procs f h.1)
 
 -- the same trees
-pub same_stmts : (s : old.StmtsForm) → stmt_nodes (stmts s) ≡ old.stmt_nodes s
+pub same_stmts : (s : old.LooplessStmts) → stmt_nodes (stmts s) ≡ old.loopless_stmts s
 same_stmts old.NoStmt = refl
 same_stmts (old.ALet p0 x p1 e p2 s) = ap (λ q. stmt.Let x (expr_node e) ∷ q) (same_stmts s)
 same_stmts (old.ARead p0 x p1 t p2 e p3 p4 c p5 l p6 s) = ap (λ q. stmt.Read x t (expr_node e) c (literal_node l) ∷ q) (same_stmts s)
@@ -65,7 +65,7 @@ same_stmts (old.AnAbort p0 p1 e p2 s) = ap (λ q. stmt.AbortIf (expr_node e) ∷
 same_stmts (old.AnIf p0 e p1 first p2 s) = λ i. stmt.If (expr_node e) (same_stmts first i) [] ∷ same_stmts s i
 same_stmts (old.AnIfElse p0 e p1 first p2 p3 p4 second p5 s) = λ i. stmt.If (expr_node e) (same_stmts first i) (same_stmts second i) ∷ same_stmts s i
 
-pub same_procs : (f : old.ProcsForm) → proc_nodes (procs f) ≡ old.proc_nodes f
+pub same_procs : (f : old.LooplessProcs) → proc_nodes (procs f) ≡ old.loopless_procs f
 same_procs old.NoProc = refl
 same_procs (old.AProc p0 n p1 ps p2 p3 s p4 f) = λ i. record { name = n; params = param_nodes ps; body = same_stmts s i } ∷ same_procs f i
 
@@ -74,7 +74,7 @@ abbrev in_ifs : ℕ → Around
 in_ifs d = record { nested = d; turns = 1 }
 
 -- the same tokens in the same roles
-same_marks : (s : old.StmtsForm) (d : ℕ) (rest : List Marked) → stmts_before (in_ifs d) (stmts s) rest ≡ old.stmts_before d s rest
+same_marks : (s : old.LooplessStmts) (d : ℕ) (rest : List Marked) → stmts_before (in_ifs d) (stmts s) rest ≡ old.loopless_stmts_before d s rest
 same_marks old.NoStmt d rest = refl
 same_marks (old.ALet p0 x p1 e p2 s) d rest = rw (same_marks s d rest) refl
 same_marks (old.ARead p0 x p1 t p2 e p3 p4 c p5 l p6 s) d rest = rw (same_marks s d rest) refl
@@ -83,13 +83,13 @@ same_marks (old.APut p0 t p1 e p2 p3 p4 v vs p5 p6 s) d rest = rw (same_marks s 
 same_marks (old.ASet p0 t p1 e p2 p3 c p4 v p5 s) d rest = rw (same_marks s d rest) refl
 same_marks (old.ADelete p0 t p1 e p2 p3 s) d rest = rw (same_marks s d rest) refl
 same_marks (old.AnAbort p0 p1 e p2 s) d rest = rw (same_marks s d rest) refl
-same_marks (old.AnIf p0 e p1 first p2 s) d rest = rw (same_marks s d rest, same_marks first (suc d) (_ ∷ old.stmts_before d s rest)) refl
+same_marks (old.AnIf p0 e p1 first p2 s) d rest = rw (same_marks s d rest, same_marks first (suc d) (_ ∷ old.loopless_stmts_before d s rest)) refl
 same_marks (old.AnIfElse p0 e p1 first p2 p3 p4 second p5 s) d rest =
-    rw (same_marks s d rest, same_marks second (suc d) (_ ∷ old.stmts_before d s rest), same_marks first (suc d) (_ ∷ _ ∷ _ ∷ old.stmts_before (suc d) second (_ ∷ old.stmts_before d s rest))) refl
+    rw (same_marks s d rest, same_marks second (suc d) (_ ∷ old.loopless_stmts_before d s rest), same_marks first (suc d) (_ ∷ _ ∷ _ ∷ old.loopless_stmts_before (suc d) second (_ ∷ old.loopless_stmts_before d s rest))) refl
 
-pub same_proc_marks : (f : old.ProcsForm) (i : ℕ) (rest : List Marked) → procs_before i (procs f) rest ≡ old.procs_before i f rest
+pub same_proc_marks : (f : old.LooplessProcs) (i : ℕ) (rest : List Marked) → procs_before i (procs f) rest ≡ old.loopless_procs_before i f rest
 same_proc_marks old.NoProc i rest = refl
-same_proc_marks (old.AProc p0 n p1 ps p2 p3 s p4 f) i rest = rw (same_proc_marks f (suc i) rest, same_marks s 0 (_ ∷ old.procs_before (suc i) f rest)) refl
+same_proc_marks (old.AProc p0 n p1 ps p2 p3 s p4 f) i rest = rw (same_proc_marks f (suc i) rest, same_marks s 0 (_ ∷ old.loopless_procs_before (suc i) f rest)) refl
 
 -- ---- tokens
 
@@ -137,7 +137,7 @@ first_is [] rest bytes e some = absurd (omega (arith, some))
 first_is (b ∷ w) rest bytes e some = sym (ap first e)
 
 -- a dot before a dot is followed by one
-dot_again : (before : Before) (at : ℕ) (behind : List ℕ) (ts : List Spanned) → old.Lexed before at (46 ∷ behind) ts → NoDot true ts → ⊥
+dot_again : (before : Before) (at : ℕ) (behind : List ℕ) (ts : List Spanned) → old.LexedDotless before at (46 ∷ behind) ts → NoDot true ts → ⊥
 unfolding first
 dot_again before at behind [] h k = absurd cc
 dot_again before at behind (u ∷ us) h k =
@@ -152,7 +152,7 @@ range_or (token.Symbol s) = inr (λ e. true≢false (sym (ap is_range e)))
 range_or u = inr (λ e. true≢false (sym (ap is_range e)))
 
 -- where `..` spells no token, the bytes of a dot and a dot are two of them
-two_dots : (before : Before) (bytes : List ℕ) (t : Token) (len at : ℕ) (ts : List Spanned) → old.IsNext before bytes t len → old.Lexed (after before t) at (drop len bytes) ts → NoDot (is_dot t) ts
+two_dots : (before : Before) (bytes : List ℕ) (t : Token) (len at : ℕ) (ts : List Spanned) → old.IsNextDotless before bytes t len → old.LexedDotless (after before t) at (drop len bytes) ts → NoDot (is_dot t) ts
     → (v behind : List ℕ) → bytes ≡ v ++ behind → Spells before old.range v → ⊥
 unfolding first
 two_dots before bytes t len at ts n h k v behind e spells =
@@ -162,9 +162,9 @@ two_dots before bytes t len at ts n h k v behind e spells =
     let dot : t ≡ token.Symbol symbol.Dot = dot_is before t n.prefix l.spells begins l.other in
     let one : n.prefix ≡ 46 ∷ [] = subst (λ (x : Token). Spells before x n.prefix) dot l.spells in
     let next : drop len bytes ≡ 46 ∷ behind = ap (λ m. drop m bytes) (n.counted ∙ ap length one) ∙ ap (λ x. drop 1 x) text in
-    dot_again (after before t) at behind ts (subst (λ (x : List ℕ). old.Lexed (after before t) at x ts) next h) (subst (λ (b : Bool). NoDot b ts) (ap is_dot dot) k)
+    dot_again (after before t) at behind ts (subst (λ (x : List ℕ). old.LexedDotless (after before t) at x ts) next h) (subst (λ (b : Bool). NoDot b ts) (ap is_dot dot) k)
 
-next_same : (before : Before) (bytes : List ℕ) (t : Token) (len at : ℕ) (ts : List Spanned) → old.IsNext before bytes t len → old.Lexed (after before t) at (drop len bytes) ts → NoDot (is_dot t) ts → IsNext before bytes t len
+next_same : (before : Before) (bytes : List ℕ) (t : Token) (len at : ℕ) (ts : List Spanned) → old.IsNextDotless before bytes t len → old.LexedDotless (after before t) at (drop len bytes) ts → NoDot (is_dot t) ts → IsNext before bytes t len
 next_same before bytes t len at ts n h k = record {
   prefix = n.prefix;
   rest = n.rest;
@@ -178,7 +178,7 @@ next_same before bytes t len at ts n h k = record {
     by v behind u e s (inr other) = n.longest.longest v behind u other e s
 
 -- bytes with these tokens before have them still, where no dot follows a dot
-lexed_same : (before : Before) (at : ℕ) (bytes : List ℕ) (ts : List Spanned) → old.Lexed before at bytes ts → DotsApart ts → Lexed before at bytes ts None
+lexed_same : (before : Before) (at : ℕ) (bytes : List ℕ) (ts : List Spanned) → old.LexedDotless before at bytes ts → DotsApart ts → Lexed before at bytes ts None
 lexed_same before at bytes [] h k = subst (λ (x : List ℕ). EndsAt before (at + gap bytes) x None) (sym h) refl
 lexed_same before at bytes (t ∷ ts) h k =
     (h.0, next_same before (drop (gap bytes) bytes) t.token h.0 (at + gap bytes + h.0) ts h.1 h.3 k.0.0, h.2, lexed_same (after before t.token) (at + gap bytes + h.0) (drop h.0 (drop (gap bytes) bytes)) ts h.3 k.1)
@@ -188,11 +188,11 @@ lexed_same before at bytes (t ∷ ts) h k =
 pub stays : (text : List ℕ) (tree : Tree) → old.ReadsWithoutLoops text tree → Reads text tree
 stays text tree h =
     let form : CatalogueForm = record { tables = h.form.tables; procs = procs h.form.procs } in
-    let marks : marks_of form ≡ old.marks_of h.form = ap (tables_before 0 h.form.tables) (same_proc_marks h.form.procs 0 []) in
+    let marks : marks_of form ≡ old.loopless_marks h.form = ap (tables_before 0 h.form.tables) (same_proc_marks h.form.procs 0 []) in
     let trees : tree_of form ≡ tree = (λ i. record { tables = table_nodes h.form.tables; procs = same_procs h.form.procs i }) ∙ h.is_tree in
     record {
       short = h.short;
-      tokens = tokens_of (old.marks_of h.form);
-      lexed = lexed_same Other 0 text (tokens_of (old.marks_of h.form)) h.lexed (dots_apart h.form);
-      parsed = (old.marks_of h.form, record { form = form; levels = are_procs h.form.procs h.levels; spells = marks; is_tree = trees }, refl, h.within);
+      tokens = tokens_of (old.loopless_marks h.form);
+      lexed = lexed_same Other 0 text (tokens_of (old.loopless_marks h.form)) h.lexed (dots_apart h.form);
+      parsed = (old.loopless_marks h.form, record { form = form; levels = are_procs h.form.procs h.levels; spells = marks; is_tree = trees }, refl, h.within);
     }

@@ -8,7 +8,7 @@ use Rattle.pac_syntax.specs.declared.limits.Around.{Around}
 use Rattle.pac_syntax.specs.declared.tree.StmtNode.{StmtNode}
 use Rattle.pac_syntax.specs.declared.tree.StmtNode.TheVariants as stmt
 use Rattle.pac_syntax.specs.declared.tree.Tree.{Tree}
-use Rattle.pac_syntax.specs.Grammar.{LiteralForm, AnInt, ANegative, AText, ATrue, AFalse, ExprForm, ALiteral, AName, ANot, AParen, ABinary, ValuesForm, NoValue, AValue, StmtsForm, NoStmt, ALet, ARead, AHas, APut, ASet, ADelete, AnAbort, AnIf, AnIfElse, ALoop, BoundForm, ABound, ANegativeBound, TypeForm, ColumnsForm, NoColumn, AColumn, ParamsForm, NoParam, AParam, TablesForm, NoTable, ATable, ProcsForm, NoProc, AProc, literal_node, bound_value, outermost, inside, in_loop, expr_offset, expr_node, value_nodes, stmt_nodes, column_nodes, param_nodes, table_nodes, proc_nodes, Role, Plain, ColumnName, ParamName, Marked, type_mark, counted, literal_before, bound_before, last_bound, expr_before, whole_before, values_before, stmts_before, columns_before, params_before, tables_before, procs_before, marks_of, tokens_of}
+use Rattle.pac_syntax.specs.Grammar.{LiteralForm, AnInt, ANegative, AText, ATrue, AFalse, ExprForm, ALiteral, AName, ANot, AParen, ABinary, ValuesForm, NoValue, AValue, StmtsForm, NoStmt, ALet, ARead, AHas, APut, ASet, ADelete, AnAbort, AnIf, AnIfElse, ALoop, BoundForm, ABound, ANegativeBound, TypeForm, ColumnsForm, NoColumn, AColumn, ParamsForm, NoParam, AParam, TablesForm, NoTable, ATable, ProcsForm, NoProc, AProc, literal_node, bound_value, outermost, inside_block, in_loop, expr_offset, expr_node, value_nodes, stmt_nodes, column_nodes, param_nodes, table_nodes, proc_nodes, Role, Plain, ColumnName, ParamName, Marked, type_mark, counted, literal_before, bound_before, last_bound, expr_before, whole_before, values_before, stmts_before, columns_before, params_before, tables_before, procs_before, marks_of, tokens_of}
 use Rattle.pac_syntax.specs.Faults.{ReadsTokens}
 use Rattle.pac_tokens.specs.Tokens.{Lexed, IsLexed, gap, after}
 use Rattle.pac_syntax.specs.Order.{NodeOffset, Own, Shared, expr_offsets, expr_offsets_step, all_offsets, stmt_offsets, stmt_offsets_step, stmts_offsets, columns_offsets, table_offsets, proc_offsets, Climbs, Ascends, IsOrdered}
@@ -163,13 +163,13 @@ stmts (AnIf p0 e p1 first p2 s) d ms ps f =
     let z = stmts_offsets (stmt_nodes s) ++ ps in
     same_offsets (stmts_before d (AnIf p0 e p1 first p2 s) ms) _ _
     (node_then node (stmt_nodes s) ps (expr_offsets (expr_node e) ++ (stmts_offsets (stmt_nodes first) ++ [])) (fold-If (List NodeOffset) stmt_offsets_step (expr_node e) (stmt_nodes first) [] ∙ ap (λ q. expr_offsets (expr_node e) ++ (q ++ [])) (all_flat (stmt_nodes first))) ∙ append_assoc (expr_offsets (expr_node e)) (stmts_offsets (stmt_nodes first) ++ []) z ∙ ap (λ q. expr_offsets (expr_node e) ++ q) (append_assoc (stmts_offsets (stmt_nodes first)) [] z))
-    (skip _ (whole_before e (_ ∷ stmts_before (inside d) first (_ ∷ stmts_before d s ms))) _ (whole e (_ ∷ stmts_before (inside d) first (_ ∷ stmts_before d s ms)) _ (skip _ (stmts_before (inside d) first (_ ∷ stmts_before d s ms)) _ (stmts first (inside d) (_ ∷ stmts_before d s ms) _ (skip _ (stmts_before d s ms) _ (stmts s d ms ps f))))))
+    (skip _ (whole_before e (_ ∷ stmts_before (inside_block d) first (_ ∷ stmts_before d s ms))) _ (whole e (_ ∷ stmts_before (inside_block d) first (_ ∷ stmts_before d s ms)) _ (skip _ (stmts_before (inside_block d) first (_ ∷ stmts_before d s ms)) _ (stmts first (inside_block d) (_ ∷ stmts_before d s ms) _ (skip _ (stmts_before d s ms) _ (stmts s d ms ps f))))))
 stmts (AnIfElse p0 e p1 first p2 p3 p4 second p5 s) d ms ps f =
     let node = stmt.If (expr_node e) (stmt_nodes first) (stmt_nodes second) in
     let z = stmts_offsets (stmt_nodes s) ++ ps in
     same_offsets (stmts_before d (AnIfElse p0 e p1 first p2 p3 p4 second p5 s) ms) _ _
     (node_then node (stmt_nodes s) ps (expr_offsets (expr_node e) ++ (stmts_offsets (stmt_nodes first) ++ stmts_offsets (stmt_nodes second))) (fold-If (List NodeOffset) stmt_offsets_step (expr_node e) (stmt_nodes first) (stmt_nodes second) ∙ ap (λ q. expr_offsets (expr_node e) ++ (q ++ all_offsets (map stmt_offsets (stmt_nodes second)))) (all_flat (stmt_nodes first)) ∙ ap (λ q. expr_offsets (expr_node e) ++ (stmts_offsets (stmt_nodes first) ++ q)) (all_flat (stmt_nodes second))) ∙ append_assoc (expr_offsets (expr_node e)) (stmts_offsets (stmt_nodes first) ++ stmts_offsets (stmt_nodes second)) z ∙ ap (λ q. expr_offsets (expr_node e) ++ q) (append_assoc (stmts_offsets (stmt_nodes first)) (stmts_offsets (stmt_nodes second)) z))
-    (skip _ (whole_before e (_ ∷ stmts_before (inside d) first (_ ∷ _ ∷ _ ∷ stmts_before (inside d) second (_ ∷ stmts_before d s ms)))) _ (whole e (_ ∷ stmts_before (inside d) first (_ ∷ _ ∷ _ ∷ stmts_before (inside d) second (_ ∷ stmts_before d s ms))) _ (skip _ (stmts_before (inside d) first (_ ∷ _ ∷ _ ∷ stmts_before (inside d) second (_ ∷ stmts_before d s ms))) _ (stmts first (inside d) (_ ∷ _ ∷ _ ∷ stmts_before (inside d) second (_ ∷ stmts_before d s ms)) _ (skip _ (_ ∷ _ ∷ stmts_before (inside d) second (_ ∷ stmts_before d s ms)) _ (skip _ (_ ∷ stmts_before (inside d) second (_ ∷ stmts_before d s ms)) _ (skip _ (stmts_before (inside d) second (_ ∷ stmts_before d s ms)) _ (stmts second (inside d) (_ ∷ stmts_before d s ms) _ (skip _ (stmts_before d s ms) _ (stmts s d ms ps f))))))))))
+    (skip _ (whole_before e (_ ∷ stmts_before (inside_block d) first (_ ∷ _ ∷ _ ∷ stmts_before (inside_block d) second (_ ∷ stmts_before d s ms)))) _ (whole e (_ ∷ stmts_before (inside_block d) first (_ ∷ _ ∷ _ ∷ stmts_before (inside_block d) second (_ ∷ stmts_before d s ms))) _ (skip _ (stmts_before (inside_block d) first (_ ∷ _ ∷ _ ∷ stmts_before (inside_block d) second (_ ∷ stmts_before d s ms))) _ (stmts first (inside_block d) (_ ∷ _ ∷ _ ∷ stmts_before (inside_block d) second (_ ∷ stmts_before d s ms)) _ (skip _ (_ ∷ _ ∷ stmts_before (inside_block d) second (_ ∷ stmts_before d s ms)) _ (skip _ (_ ∷ stmts_before (inside_block d) second (_ ∷ stmts_before d s ms)) _ (skip _ (stmts_before (inside_block d) second (_ ∷ stmts_before d s ms)) _ (stmts second (inside_block d) (_ ∷ stmts_before d s ms) _ (skip _ (stmts_before d s ms) _ (stmts s d ms ps f))))))))))
 stmts (ALoop p0 x p1 a p2 b p3 body p4 s) d ms ps f =
     let node = stmt.For x (bound_value a) (bound_value b) (stmt_nodes body) in
     let inner = in_loop d (bound_value a) (bound_value b) in

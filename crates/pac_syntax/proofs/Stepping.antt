@@ -35,7 +35,7 @@ use Rattle.pac_syntax.specs.declared.parse.parser.Owner.TheVariants as owner
 use Rattle.pac_syntax.specs.Grammar.{Role, Plain, ParamName, precedence, in_loop, loop_turns, last_bound}
 use Rattle.pac_syntax.specs.Faults.{fault_of, over_role, offset}
 use Rattle.pac_syntax.specs.Machine.{Begun, Steps, Done, Want, WantName, WantType, WantLiteral, WantBound, Level, Rest, MoreValues, MoreStmts, MaybeElse, MoreColumns, SomeParams, MoreTables, MoreProcs, want_expr, next, literal_at, begun_name, begun_literal, begun_binary, top, lay, negation_steps, paren_steps, stmt_steps, stmt_role, stmt_word, block_steps, column_steps, typed_steps, table_steps, proc_steps, is_same_keyword_or_symbol, literal_begins, name_in, operand_begins, operator_at, operator_in, of_precedence, bar, feed, finish, reported, scan, Stop, run}
-use Rattle.pac_syntax.specs.Views.{is_too_deep, unless, IsLimit, operand_in, between, rests, next_precedence, Begins, IsNot, IsNoName, IsType, IsNoType, bool_in, name_token, role_of, limit_of}
+use Rattle.pac_syntax.specs.Views.{is_too_deep, fault_or, IsLimit, operand_in, between, rests, next_precedence, Begins, IsNot, IsNoName, IsType, IsNoType, bool_in, name_token, role_of, limit_of}
 
 abbrev Read : Type 0
 Read = Result Tree Fault
@@ -172,7 +172,7 @@ no_literal old new left end k ts t (Some at) is none other m = rw m.text (none_a
 
 -- ---- bounds of loops
 
-reported_bar : (b : Option Fault) (rest : List Spanned) (r : Result Tree Stop) → reported (bar b rest r) ≡ unless b (reported r)
+reported_bar : (b : Option Fault) (rest : List Spanned) (r : Result Tree Stop) → reported (bar b rest r) ≡ fault_or b (reported r)
 reported_bar None rest r = refl
 reported_bar (Some fault) rest r = refl
 
@@ -190,12 +190,12 @@ int_read y z ts rest e =
 
 -- what follows the int of a bound, unless it is over its limit
 bound_read : (end : ℕ) (at : ℕ) (role : ℤ → Role) (limit : ℤ → Option Fault) (k : ℤ → Steps) (s ts rest : List Spanned) (y z : ℤ) → IsLimit role limit → y ≡ z → ts ≡ rest
-    → reported (bar (over_role (role y) at) s (scan end (k y) ts)) ≡ unless (limit z) (run end (k z) rest)
+    → reported (bar (over_role (role y) at) s (scan end (k y) ts)) ≡ fault_or (limit z) (run end (k z) rest)
 unfolding run
 bound_read end at role limit k s ts rest y z is same left = reported_bar (over_role (role y) at) s (scan end (k y) ts) ∙ rw (is y at, same, left) refl
 
 bound_from : (end at : ℕ) (t : Token) (role : ℤ → Role) (limit : ℤ → Option Fault) (k : ℤ → Steps) (ts rest : List Spanned) (z : ℤ) → IsLimit role limit → int_or_text_from t ts ≡ Some (value.Int z, rest)
-    → run end (WantBound role k) (record { token = t; at = at } ∷ ts) ≡ unless (limit z) (run end (k z) rest)
+    → run end (WantBound role k) (record { token = t; at = at } ∷ ts) ≡ fault_or (limit z) (run end (k z) rest)
 unfolding run scan feed
 bound_from end at (token.Int y) role limit k ts rest z is e = let p = int_read y z ts rest e in bound_read end at role limit k _ ts rest y z is p.0 p.1
 bound_from end at (token.Text x) role limit k ts rest z is e =
@@ -206,13 +206,13 @@ bound_from end at (token.Symbol symbol.Minus) role limit k [] rest z is e = absu
 bound_from end at (token.Symbol symbol.Minus) role limit k (u ∷ us) rest z is e = following u.token u.at e
   where
     following : (t : Token) (offset : ℕ) → int_of_minus t us ≡ Some (value.Int z, rest)
-        → run end (WantBound role k) (record { token = token.Symbol symbol.Minus; at = at } ∷ record { token = t; at = offset } ∷ us) ≡ unless (limit z) (run end (k z) rest)
+        → run end (WantBound role k) (record { token = token.Symbol symbol.Minus; at = at } ∷ record { token = t; at = offset } ∷ us) ≡ fault_or (limit z) (run end (k z) rest)
     following (token.Negative y) offset e = let p = int_read y z us rest e in bound_read end offset role limit k _ us rest y z is p.0 p.1
     following _ offset e = absurd cc
 bound_from end at _ role limit k ts rest z is e = absurd cc
 
 pub bound_next : (end end' : ℕ) (role : ℤ → Role) (limit : ℤ → Option Fault) (k : ℤ → Steps) (s rest : List Spanned) (z : ℤ) → IsLimit role limit → end' ≡ end → int_or_text_in s ≡ Some (value.Int z, rest)
-    → run end (WantBound role k) s ≡ unless (limit z) (run end' (k z) rest)
+    → run end (WantBound role k) s ≡ fault_or (limit z) (run end' (k z) rest)
 bound_next end end' role limit k [] rest z is same e = absurd cc
 bound_next end end' role limit k (t ∷ ts) rest z is same e = rw same (bound_from end t.at t.token role limit k ts rest z is e)
 
@@ -277,17 +277,17 @@ inner_is : (d e : Around) → ◌≡◌ {A = Option Around} (Some d) (Some e) �
 inner_is d e is = cc
 
 pub few_turns : (d inner : Around) (loop : ℕ) (from to : ℤ) (o : Option Around) (after : Around → Read) → o ≡ AroundBlock d from to → o ≡ Some inner
-    → unless (last_limit d loop from to) (after (in_loop d from to)) ≡ after inner
+    → fault_or (last_limit d loop from to) (after (in_loop d from to)) ≡ after inner
 few_turns d inner loop from to o after is some = by_test (nat_lt 256 (loop_turns d from to)) refl
   where
-    by_test : (b : Bool) → nat_lt 256 (loop_turns d from to) ≡ b → unless (last_limit d loop from to) (after (in_loop d from to)) ≡ after inner
+    by_test : (b : Bool) → nat_lt 256 (loop_turns d from to) ≡ b → fault_or (last_limit d loop from to) (after (in_loop d from to)) ≡ after inner
     by_test true e = let conflict : ◌≡◌ {A = Option Around} (Some inner) None = sym some ∙ is ∙ rw e refl in absurd cc
     by_test false e = let same : in_loop d from to ≡ inner = inner_is _ _ (sym (sym some ∙ is ∙ rw e refl)) in rw e (ap after same)
 
-pub many_turns : (d : Around) (loop : ℕ) (from to : ℤ) (o : Option Around) (r : Read) → o ≡ AroundBlock d from to → o ≡ None → unless (last_limit d loop from to) r ≡ refused loop TooMany
+pub many_turns : (d : Around) (loop : ℕ) (from to : ℤ) (o : Option Around) (r : Read) → o ≡ AroundBlock d from to → o ≡ None → fault_or (last_limit d loop from to) r ≡ refused loop TooMany
 many_turns d loop from to o r is none = by_test (nat_lt 256 (loop_turns d from to)) refl
   where
-    by_test : (b : Bool) → nat_lt 256 (loop_turns d from to) ≡ b → unless (last_limit d loop from to) r ≡ refused loop TooMany
+    by_test : (b : Bool) → nat_lt 256 (loop_turns d from to) ≡ b → fault_or (last_limit d loop from to) r ≡ refused loop TooMany
     by_test true e = rw e refl
     by_test false e = let conflict : ◌≡◌ {A = Option Around} None (Some (in_loop d from to)) = sym none ∙ is ∙ rw e refl in absurd cc
 

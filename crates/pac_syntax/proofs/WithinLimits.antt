@@ -12,7 +12,7 @@ use Rattle.pac_syntax.specs.declared.tree.StmtNode.{StmtNode}
 use Rattle.pac_syntax.specs.declared.tree.StmtNode.TheVariants as stmt
 use Rattle.pac_syntax.specs.declared.tree.Tree.{Tree}
 use Rattle.pac_tokens.specs.declared.token.Spanned.{Spanned}
-use Rattle.pac_syntax.specs.Grammar.{LiteralForm, AnInt, ANegative, AText, ATrue, AFalse, ExprForm, ALiteral, AName, ANot, AParen, ABinary, ValuesForm, NoValue, AValue, StmtsForm, NoStmt, ALet, ARead, AHas, APut, ASet, ADelete, AnAbort, AnIf, AnIfElse, ALoop, BoundForm, ABound, ANegativeBound, TypeForm, AnIntType, ATextType, ColumnsForm, NoColumn, AColumn, ParamsForm, NoParam, AParam, TablesForm, NoTable, ATable, ProcsForm, NoProc, AProc, literal_node, bound_value, outermost, inside, in_loop, expr_node, value_nodes, stmt_nodes, type_of_form, column_node, column_nodes, param_nodes, table_nodes, proc_nodes, Role, Plain, ColumnName, ParamName, Marked, counted, literal_before, bound_before, last_bound, expr_before, whole_before, values_before, stmts_before, columns_before, params_before, tables_before, procs_before, marks_of, tokens_of}
+use Rattle.pac_syntax.specs.Grammar.{LiteralForm, AnInt, ANegative, AText, ATrue, AFalse, ExprForm, ALiteral, AName, ANot, AParen, ABinary, ValuesForm, NoValue, AValue, StmtsForm, NoStmt, ALet, ARead, AHas, APut, ASet, ADelete, AnAbort, AnIf, AnIfElse, ALoop, BoundForm, ABound, ANegativeBound, TypeForm, AnIntType, ATextType, ColumnsForm, NoColumn, AColumn, ParamsForm, NoParam, AParam, TablesForm, NoTable, ATable, ProcsForm, NoProc, AProc, literal_node, bound_value, outermost, inside_block, in_loop, expr_node, value_nodes, stmt_nodes, type_of_form, column_node, column_nodes, param_nodes, table_nodes, proc_nodes, Role, Plain, ColumnName, ParamName, Marked, counted, literal_before, bound_before, last_bound, expr_before, whole_before, values_before, stmts_before, columns_before, params_before, tables_before, procs_before, marks_of, tokens_of}
 use Rattle.pac_syntax.specs.Faults.{fault_of, past, over_role, IsWithin, ReadsTokens}
 use Rattle.pac_syntax.specs.Limits.{size, size_step, sizes, is_stored_type, IsTableWithinLimits, IsProcWithinLimits, IsWithinLimits, HasStoredType}
 use Rattle.pac_syntax.proofs.NodeForms.{fold-Let, fold-Read, fold-Has, fold-Put, fold-Set, fold-Delete, fold-AbortIf, fold-If, fold-For}
@@ -122,16 +122,16 @@ statements (AnIf p0 e p1 first p2 s) d rest =
     let n : sizes (stmt_nodes (AnIf p0 e p1 first p2 s)) ≡ suc (sizes (stmt_nodes first) + 0) + sizes (stmt_nodes s) =
     one_more (stmt.If (expr_node e) (stmt_nodes first) []) (stmt_nodes s) (suc (sizes (stmt_nodes first) + 0)) (fold-If ℕ size_step (expr_node e) (stmt_nodes first) []) in
     let more = statements s d rest in
-    let inner = statements first (inside d) (_ ∷ stmts_before d s rest) in
-    let b = after_whole e (_ ∷ stmts_before (inside d) first (_ ∷ stmts_before d s rest)) in
+    let inner = statements first (inside_block d) (_ ∷ stmts_before d s rest) in
+    let b = after_whole e (_ ∷ stmts_before (inside_block d) first (_ ∷ stmts_before d s rest)) in
     record { within = λ h. more.within (inner.within (b.within h.1).1).1; few = omega (arith, more.few, inner.few, b.longer, n) }
 statements (AnIfElse p0 e p1 first p2 p3 p4 second p5 s) d rest =
     let n : sizes (stmt_nodes (AnIfElse p0 e p1 first p2 p3 p4 second p5 s)) ≡ suc (sizes (stmt_nodes first) + sizes (stmt_nodes second)) + sizes (stmt_nodes s) =
     one_more (stmt.If (expr_node e) (stmt_nodes first) (stmt_nodes second)) (stmt_nodes s) (suc (sizes (stmt_nodes first) + sizes (stmt_nodes second))) (fold-If ℕ size_step (expr_node e) (stmt_nodes first) (stmt_nodes second)) in
     let more = statements s d rest in
-    let other = statements second (inside d) (_ ∷ stmts_before d s rest) in
-    let inner = statements first (inside d) (_ ∷ _ ∷ _ ∷ stmts_before (inside d) second (_ ∷ stmts_before d s rest)) in
-    let b = after_whole e (_ ∷ stmts_before (inside d) first (_ ∷ _ ∷ _ ∷ stmts_before (inside d) second (_ ∷ stmts_before d s rest))) in
+    let other = statements second (inside_block d) (_ ∷ stmts_before d s rest) in
+    let inner = statements first (inside_block d) (_ ∷ _ ∷ _ ∷ stmts_before (inside_block d) second (_ ∷ stmts_before d s rest)) in
+    let b = after_whole e (_ ∷ stmts_before (inside_block d) first (_ ∷ _ ∷ _ ∷ stmts_before (inside_block d) second (_ ∷ stmts_before d s rest))) in
     record { within = λ h. more.within (other.within (inner.within (b.within h.1).1).1.1.1).1; few = omega (arith, more.few, other.few, inner.few, b.longer, n) }
 statements (ALoop p0 x p1 a p2 b p3 body p4 s) d rest =
     let n : sizes (stmt_nodes (ALoop p0 x p1 a p2 b p3 body p4 s)) ≡ suc (sizes (stmt_nodes body)) + sizes (stmt_nodes s) =

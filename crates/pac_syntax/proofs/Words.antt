@@ -16,7 +16,7 @@ use Rattle.pac_syntax.specs.declared.tree.StmtNode.TheVariants as stmt
 use Rattle.pac_syntax.specs.declared.tree.TableNode.{TableNode}
 use Rattle.pac_syntax.specs.declared.tree.ProcNode.{ProcNode}
 use Rattle.pac_syntax.specs.declared.tree.Tree.{Tree}
-use Rattle.pac_syntax.specs.Grammar.{LiteralForm, AnInt, ANegative, AText, ATrue, AFalse, ExprForm, ALiteral, AName, ANot, AParen, ABinary, ValuesForm, NoValue, AValue, StmtsForm, NoStmt, ALet, ARead, AHas, APut, ASet, ADelete, AnAbort, AnIf, AnIfElse, ALoop, BoundForm, ABound, ANegativeBound, TypeForm, AnIntType, ATextType, ColumnsForm, NoColumn, AColumn, ParamsForm, NoParam, AParam, TablesForm, NoTable, ATable, ProcsForm, NoProc, AProc, operator_symbol, precedence, left_level, AtLevel, IsExpr, AreValues, AreStmts, AreProcs, literal_node, bound_value, outermost, inside, in_loop, expr_offset, expr_node, value_nodes, stmt_nodes, type_of_form, column_node, column_nodes, param_nodes, table_nodes, proc_nodes, Role, Plain, ColumnName, ParamName, Operator, Marked, symbol_mark, name_mark, type_mark, literal_before, bound_before, last_bound, counted, expr_before, whole_before, values_before, stmts_before, columns_before, params_before, tables_before, procs_before, Whole}
+use Rattle.pac_syntax.specs.Grammar.{LiteralForm, AnInt, ANegative, AText, ATrue, AFalse, ExprForm, ALiteral, AName, ANot, AParen, ABinary, ValuesForm, NoValue, AValue, StmtsForm, NoStmt, ALet, ARead, AHas, APut, ASet, ADelete, AnAbort, AnIf, AnIfElse, ALoop, BoundForm, ABound, ANegativeBound, TypeForm, AnIntType, ATextType, ColumnsForm, NoColumn, AColumn, ParamsForm, NoParam, AParam, TablesForm, NoTable, ATable, ProcsForm, NoProc, AProc, operator_symbol, precedence, left_level, AtLevel, IsExpr, AreValues, AreStmts, AreProcs, literal_node, bound_value, outermost, inside_block, in_loop, expr_offset, expr_node, value_nodes, stmt_nodes, type_of_form, column_node, column_nodes, param_nodes, table_nodes, proc_nodes, Role, Plain, ColumnName, ParamName, Operator, Marked, symbol_mark, name_mark, type_mark, literal_before, bound_before, last_bound, counted, expr_before, whole_before, values_before, stmts_before, columns_before, params_before, tables_before, procs_before, Whole}
 use Rattle.pac_syntax.specs.Machine.{Begun, Steps, WantType, WantLiteral, WantBound, Level, Rest, MoreValues, MoreStmts, MaybeElse, MoreColumns, SomeParams, MoreTables, MoreProcs, want_symbol, want_expr, begun_literal, begun_not, begun_paren, begun_binary, top, lay, columns_steps, tree_end, tree_procs, start, operator_of, operator_in, operator_at, of_precedence, feed, finish}
 use Rattle.pac_syntax.proofs.Running.{Runs}
 
@@ -304,11 +304,11 @@ module _ (tree : Tree) where
   read_stmts (AnIf p0 e p1 first p2 s) d ss k p rest lv h =
       let node = stmt.If (expr_node e) (stmt_nodes first) [] in
       let more : Follows d ss node s k p rest = read_stmts s d (ss ++ (node ∷ [])) k p rest lv.2 (subst (λ (xs : List StmtNode). Runs (k xs) (symbol_mark symbol.CloseBrace p Plain ∷ rest) tree) (sym (append_assoc ss (node ∷ []) (stmt_nodes s))) h) in
-      (_, refl, refl, read_whole e _ _ _ lv.0 refl (_, refl, refl, (read_stmts first (inside d) [] _ p2 _ lv.1 (_, refl, refl, (no_else s (inside d) d _ p rest more)))))
+      (_, refl, refl, read_whole e _ _ _ lv.0 refl (_, refl, refl, (read_stmts first (inside_block d) [] _ p2 _ lv.1 (_, refl, refl, (no_else s (inside_block d) d _ p rest more)))))
   read_stmts (AnIfElse p0 e p1 first p2 p3 p4 second p5 s) d ss k p rest lv h =
       let node = stmt.If (expr_node e) (stmt_nodes first) (stmt_nodes second) in
       let more : Follows d ss node s k p rest = read_stmts s d (ss ++ (node ∷ [])) k p rest lv.3 (subst (λ (xs : List StmtNode). Runs (k xs) (symbol_mark symbol.CloseBrace p Plain ∷ rest) tree) (sym (append_assoc ss (node ∷ []) (stmt_nodes s))) h) in
-      (_, refl, refl, read_whole e _ _ _ lv.0 refl (_, refl, refl, (read_stmts first (inside d) [] _ p2 _ lv.1 (_, refl, refl, (_, refl, refl, (_, refl, refl, (read_stmts second (inside d) [] _ p5 _ lv.2 (_, refl, refl, more))))))))
+      (_, refl, refl, read_whole e _ _ _ lv.0 refl (_, refl, refl, (read_stmts first (inside_block d) [] _ p2 _ lv.1 (_, refl, refl, (_, refl, refl, (_, refl, refl, (read_stmts second (inside_block d) [] _ p5 _ lv.2 (_, refl, refl, more))))))))
   read_stmts (ALoop p0 x p1 a p2 b p3 body p4 s) d ss k p rest lv h =
       let node = stmt.For x (bound_value a) (bound_value b) (stmt_nodes body) in
       let more : Follows d ss node s k p rest = read_stmts s d (ss ++ (node ∷ [])) k p rest lv.1 (subst (λ (xs : List StmtNode). Runs (k xs) (symbol_mark symbol.CloseBrace p Plain ∷ rest) tree) (sym (append_assoc ss (node ∷ []) (stmt_nodes s))) h) in

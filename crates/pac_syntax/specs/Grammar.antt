@@ -263,20 +263,20 @@ abbrev pub outermost : Around
 outermost = record { nested = 0; turns = 1 }
 
 -- a conditional more
-abbrev pub inside : Around → Around
-inside d = record { nested = suc d.nested; turns = d.turns }
+abbrev pub inside_block : Around → Around
+inside_block d = record { nested = suc d.nested; turns = d.turns }
 
 -- how many whole numbers there are from the one on and below the other: none where that is no greater
-abbrev pub turns : ℤ → ℤ → ℕ
-turns from to = if int_lt from to then unsigned_abs (to -ℤ from) else 0
+abbrev pub range_len : ℤ → ℤ → ℕ
+range_len from to = if int_lt from to then unsigned_abs (to -ℤ from) else 0
 
 -- a loop more: its block runs in each of its turns, in each turn of the loops round it
 abbrev pub in_loop : Around → ℤ → ℤ → Around
-in_loop d from to = record { nested = suc d.nested; turns = turns from to * d.turns }
+in_loop d from to = record { nested = suc d.nested; turns = range_len from to * d.turns }
 
 -- the turns of a loop that are limited: its own, and all that it runs
 abbrev pub loop_turns : Around → ℤ → ℤ → ℕ
-loop_turns d from to = max (turns from to) (turns from to * d.turns)
+loop_turns d from to = max (range_len from to) (range_len from to * d.turns)
 
 -- ---- the tokens of derivations, each with what it is for the limits
 
@@ -377,11 +377,11 @@ stmts_before d (AnAbort p0 p1 e p2 s) rest =
     keyword_mark keyword.Abort p0 Plain ∷ keyword_mark keyword.If p1 Plain ∷ whole_before e (symbol_mark symbol.Semicolon p2 Plain ∷ stmts_before d s rest)
 stmts_before d (AnIf p0 e p1 first p2 s) rest =
     keyword_mark keyword.If p0 (Nested (suc d.nested)) ∷ whole_before e (symbol_mark symbol.OpenBrace p1 Plain
-    ∷ stmts_before (inside d) first (symbol_mark symbol.CloseBrace p2 Plain ∷ stmts_before d s rest))
+    ∷ stmts_before (inside_block d) first (symbol_mark symbol.CloseBrace p2 Plain ∷ stmts_before d s rest))
 stmts_before d (AnIfElse p0 e p1 first p2 p3 p4 second p5 s) rest =
     keyword_mark keyword.If p0 (Nested (suc d.nested)) ∷ whole_before e (symbol_mark symbol.OpenBrace p1 Plain
-    ∷ stmts_before (inside d) first (symbol_mark symbol.CloseBrace p2 Plain ∷ keyword_mark keyword.Else p3 Plain ∷ symbol_mark symbol.OpenBrace p4 Plain
-    ∷ stmts_before (inside d) second (symbol_mark symbol.CloseBrace p5 Plain ∷ stmts_before d s rest)))
+    ∷ stmts_before (inside_block d) first (symbol_mark symbol.CloseBrace p2 Plain ∷ keyword_mark keyword.Else p3 Plain ∷ symbol_mark symbol.OpenBrace p4 Plain
+    ∷ stmts_before (inside_block d) second (symbol_mark symbol.CloseBrace p5 Plain ∷ stmts_before d s rest)))
 stmts_before d (ALoop p0 x p1 a p2 b p3 body p4 s) rest =
     keyword_mark keyword.For p0 (Nested (suc d.nested)) ∷ name_mark x Plain ∷ keyword_mark keyword.In p1 Plain
     ∷ bound_before a Plain (symbol_mark symbol.Range p2 Plain ∷ bound_before b (last_bound d p0 (bound_value a) (bound_value b)) (symbol_mark symbol.OpenBrace p3 Plain

@@ -26,7 +26,7 @@ use Rattle.pac_syntax.specs.declared.tree.StmtNode.TheVariants as stmt
 use Rattle.pac_syntax.specs.declared.tree.TableNode.{TableNode}
 use Rattle.pac_syntax.specs.declared.tree.ProcNode.{ProcNode}
 use Rattle.pac_syntax.specs.declared.tree.Tree.{Tree}
-use Rattle.pac_syntax.specs.Grammar.{Role, Plain, TableWord, ProcWord, ColumnName, ParamName, Operator, Paren, Nested, precedence, outermost, inside, in_loop, last_bound}
+use Rattle.pac_syntax.specs.Grammar.{Role, Plain, TableWord, ProcWord, ColumnName, ParamName, Operator, Paren, Nested, precedence, outermost, inside_block, in_loop, last_bound}
 use Rattle.pac_syntax.specs.Faults.{fault_of, over_role, offset}
 
 -- an expression, and where it begins, parentheses round it included
@@ -262,7 +262,7 @@ abbrev pub block_steps : Around → (List StmtNode → Steps) → Steps
 block_steps d k = want_symbol symbol.OpenBrace (MoreStmts d [] (λ b. want_symbol symbol.CloseBrace (k b)))
 
 abbrev pub if_steps : Around → (StmtNode → Steps) → Steps
-if_steps d k = want_expr (λ e. block_steps (inside d) (λ first. MaybeElse (inside d) (λ second. k (stmt.If e first second))))
+if_steps d k = want_expr (λ e. block_steps (inside_block d) (λ first. MaybeElse (inside_block d) (λ second. k (stmt.If e first second))))
 
 -- [ "-" ] INT ".." [ "-" ] INT of a loop whose `for` stands there, with what stands round its block
 abbrev pub bounds_steps : Around → ℕ → (ℤ → ℤ → Around → Steps) → Steps

@@ -112,9 +112,9 @@ abbrev pub IsLimit : (ℤ → Role) → (ℤ → Option Fault) → Type 0
 IsLimit role limit = (z : ℤ) (at : ℕ) → over_role (role z) at ≡ limit z
 
 -- what is read, unless there is a fault
-abbrev pub unless : Option Fault → Result Tree Fault → Result Tree Fault
-unless None r = r
-unless (Some fault) r = Err fault
+abbrev pub fault_or : Option Fault → Result Tree Fault → Result Tree Fault
+fault_or None r = r
+fault_or (Some fault) r = Err fault
 
 -- no more tokens are left to the parser than before
 abbrev pub NoLonger : Parser → Parser → Type 0

@@ -29,145 +29,145 @@ abbrev pub range : Token
 range = token.Symbol symbol.Range
 
 -- The longest token at the start of the bytes but for `..`: w spells it, and no longer prefix spells any.
-pub record IsLongest (before : Before) (bytes : List ℕ) (t : Token) (w rest : List ℕ) : Type 0 where
+pub record IsLongestDotless (before : Before) (bytes : List ℕ) (t : Token) (w rest : List ℕ) : Type 0 where
   pub parts : bytes ≡ w ++ rest
   pub spells : Spells before t w
   pub other : t ≢ range
   pub longest : (v behind : List ℕ) (u : Token) → u ≢ range → bytes ≡ v ++ behind → Spells before u v → length v ≤ length w
 
 -- the next token, and how many bytes it has
-pub record IsNext (before : Before) (bytes : List ℕ) (t : Token) (len : ℕ) : Type 0 where
+pub record IsNextDotless (before : Before) (bytes : List ℕ) (t : Token) (len : ℕ) : Type 0 where
   pub prefix : List ℕ
   pub rest : List ℕ
-  pub longest : IsLongest before bytes t prefix rest
+  pub longest : IsLongestDotless before bytes t prefix rest
   pub short : is_long before t prefix rest ≡ false
   pub counted : len ≡ length prefix
 
 -- from this offset on the bytes are these tokens, with white space and comments between them, up to their end
-abbrev pub Lexed : Before → ℕ → List ℕ → List Spanned → Type 0
-Lexed before at bytes [] = drop (gap bytes) bytes ≡ []
-Lexed before at bytes (t ∷ ts) =
-    (len : ℕ) × IsNext before (drop (gap bytes) bytes) t.token len × (t.at ≡ at + gap bytes)
-    × Lexed (after before t.token) (at + gap bytes + len) (drop len (drop (gap bytes) bytes)) ts
+abbrev pub LexedDotless : Before → ℕ → List ℕ → List Spanned → Type 0
+LexedDotless before at bytes [] = drop (gap bytes) bytes ≡ []
+LexedDotless before at bytes (t ∷ ts) =
+    (len : ℕ) × IsNextDotless before (drop (gap bytes) bytes) t.token len × (t.at ≡ at + gap bytes)
+    × LexedDotless (after before t.token) (at + gap bytes + len) (drop len (drop (gap bytes) bytes)) ts
 
 -- ---- derivations
 
 -- { stmt }, where a stmt is
-pub data StmtsForm : Type 0 where
-  NoStmt : StmtsForm
+pub data LooplessStmts : Type 0 where
+  NoStmt : LooplessStmts
   -- "let" NAME "=" expr ";"
-  ALet : (p0 : ℕ) → NameNode → (p1 : ℕ) → ExprForm → (p2 : ℕ) → StmtsForm → StmtsForm
+  ALet : (p0 : ℕ) → NameNode → (p1 : ℕ) → ExprForm → (p2 : ℕ) → LooplessStmts → LooplessStmts
   -- "read" NAME "=" NAME "[" expr "]" "." NAME "default" lit ";"
-  ARead : (p0 : ℕ) → NameNode → (p1 : ℕ) → NameNode → (p2 : ℕ) → ExprForm → (p3 p4 : ℕ) → NameNode → (p5 : ℕ) → LiteralForm → (p6 : ℕ) → StmtsForm → StmtsForm
+  ARead : (p0 : ℕ) → NameNode → (p1 : ℕ) → NameNode → (p2 : ℕ) → ExprForm → (p3 p4 : ℕ) → NameNode → (p5 : ℕ) → LiteralForm → (p6 : ℕ) → LooplessStmts → LooplessStmts
   -- "has" NAME "=" NAME "[" expr "]" ";"
-  AHas : (p0 : ℕ) → NameNode → (p1 : ℕ) → NameNode → (p2 : ℕ) → ExprForm → (p3 p4 : ℕ) → StmtsForm → StmtsForm
+  AHas : (p0 : ℕ) → NameNode → (p1 : ℕ) → NameNode → (p2 : ℕ) → ExprForm → (p3 p4 : ℕ) → LooplessStmts → LooplessStmts
   -- "put" NAME "[" expr "]" "=" "(" expr { "," expr } ")" ";"
-  APut : (p0 : ℕ) → NameNode → (p1 : ℕ) → ExprForm → (p2 p3 p4 : ℕ) → ExprForm → ValuesForm → (p5 p6 : ℕ) → StmtsForm → StmtsForm
+  APut : (p0 : ℕ) → NameNode → (p1 : ℕ) → ExprForm → (p2 p3 p4 : ℕ) → ExprForm → ValuesForm → (p5 p6 : ℕ) → LooplessStmts → LooplessStmts
   -- "set" NAME "[" expr "]" "." NAME "=" expr ";"
-  ASet : (p0 : ℕ) → NameNode → (p1 : ℕ) → ExprForm → (p2 p3 : ℕ) → NameNode → (p4 : ℕ) → ExprForm → (p5 : ℕ) → StmtsForm → StmtsForm
+  ASet : (p0 : ℕ) → NameNode → (p1 : ℕ) → ExprForm → (p2 p3 : ℕ) → NameNode → (p4 : ℕ) → ExprForm → (p5 : ℕ) → LooplessStmts → LooplessStmts
   -- "delete" NAME "[" expr "]" ";"
-  ADelete : (p0 : ℕ) → NameNode → (p1 : ℕ) → ExprForm → (p2 p3 : ℕ) → StmtsForm → StmtsForm
+  ADelete : (p0 : ℕ) → NameNode → (p1 : ℕ) → ExprForm → (p2 p3 : ℕ) → LooplessStmts → LooplessStmts
   -- "abort" "if" expr ";"
-  AnAbort : (p0 p1 : ℕ) → ExprForm → (p2 : ℕ) → StmtsForm → StmtsForm
+  AnAbort : (p0 p1 : ℕ) → ExprForm → (p2 : ℕ) → LooplessStmts → LooplessStmts
   -- "if" expr "{" { stmt } "}"
-  AnIf : (p0 : ℕ) → ExprForm → (p1 : ℕ) → StmtsForm → (p2 : ℕ) → StmtsForm → StmtsForm
+  AnIf : (p0 : ℕ) → ExprForm → (p1 : ℕ) → LooplessStmts → (p2 : ℕ) → LooplessStmts → LooplessStmts
   -- "if" expr "{" { stmt } "}" "else" "{" { stmt } "}"
-  AnIfElse : (p0 : ℕ) → ExprForm → (p1 : ℕ) → StmtsForm → (p2 p3 p4 : ℕ) → StmtsForm → (p5 : ℕ) → StmtsForm → StmtsForm
+  AnIfElse : (p0 : ℕ) → ExprForm → (p1 : ℕ) → LooplessStmts → (p2 p3 p4 : ℕ) → LooplessStmts → (p5 : ℕ) → LooplessStmts → LooplessStmts
 
 -- { "proc" NAME "(" params ")" "{" { stmt } "}" }
-pub data ProcsForm : Type 0 where
-  NoProc : ProcsForm
-  AProc : (p0 : ℕ) → NameNode → (p1 : ℕ) → ParamsForm → (p2 p3 : ℕ) → StmtsForm → (p4 : ℕ) → ProcsForm → ProcsForm
+pub data LooplessProcs : Type 0 where
+  NoProc : LooplessProcs
+  AProc : (p0 : ℕ) → NameNode → (p1 : ℕ) → ParamsForm → (p2 p3 : ℕ) → LooplessStmts → (p4 : ℕ) → LooplessProcs → LooplessProcs
 
 -- catalogue = { table } { proc }
-pub record CatalogueForm : Type 0 where
+pub record LooplessCatalogue : Type 0 where
   pub tables : TablesForm
-  pub procs : ProcsForm
+  pub procs : LooplessProcs
 
-abbrev pub AreStmts : StmtsForm → Type 0
-AreStmts NoStmt = Unit {0}
-AreStmts (ALet p0 x p1 e p2 s) = IsExpr e × AreStmts s
-AreStmts (ARead p0 x p1 t p2 e p3 p4 c p5 l p6 s) = IsExpr e × AreStmts s
-AreStmts (AHas p0 x p1 t p2 e p3 p4 s) = IsExpr e × AreStmts s
-AreStmts (APut p0 t p1 e p2 p3 p4 v vs p5 p6 s) = IsExpr e × IsExpr v × AreValues vs × AreStmts s
-AreStmts (ASet p0 t p1 e p2 p3 c p4 v p5 s) = IsExpr e × IsExpr v × AreStmts s
-AreStmts (ADelete p0 t p1 e p2 p3 s) = IsExpr e × AreStmts s
-AreStmts (AnAbort p0 p1 e p2 s) = IsExpr e × AreStmts s
-AreStmts (AnIf p0 e p1 first p2 s) = IsExpr e × AreStmts first × AreStmts s
-AreStmts (AnIfElse p0 e p1 first p2 p3 p4 second p5 s) = IsExpr e × AreStmts first × AreStmts second × AreStmts s
+abbrev pub AreLooplessStmts : LooplessStmts → Type 0
+AreLooplessStmts NoStmt = Unit {0}
+AreLooplessStmts (ALet p0 x p1 e p2 s) = IsExpr e × AreLooplessStmts s
+AreLooplessStmts (ARead p0 x p1 t p2 e p3 p4 c p5 l p6 s) = IsExpr e × AreLooplessStmts s
+AreLooplessStmts (AHas p0 x p1 t p2 e p3 p4 s) = IsExpr e × AreLooplessStmts s
+AreLooplessStmts (APut p0 t p1 e p2 p3 p4 v vs p5 p6 s) = IsExpr e × IsExpr v × AreValues vs × AreLooplessStmts s
+AreLooplessStmts (ASet p0 t p1 e p2 p3 c p4 v p5 s) = IsExpr e × IsExpr v × AreLooplessStmts s
+AreLooplessStmts (ADelete p0 t p1 e p2 p3 s) = IsExpr e × AreLooplessStmts s
+AreLooplessStmts (AnAbort p0 p1 e p2 s) = IsExpr e × AreLooplessStmts s
+AreLooplessStmts (AnIf p0 e p1 first p2 s) = IsExpr e × AreLooplessStmts first × AreLooplessStmts s
+AreLooplessStmts (AnIfElse p0 e p1 first p2 p3 p4 second p5 s) = IsExpr e × AreLooplessStmts first × AreLooplessStmts second × AreLooplessStmts s
 
-abbrev pub AreProcs : ProcsForm → Type 0
-AreProcs NoProc = Unit {0}
-AreProcs (AProc p0 n p1 ps p2 p3 s p4 procs) = AreStmts s × AreProcs procs
+abbrev pub AreLooplessProcs : LooplessProcs → Type 0
+AreLooplessProcs NoProc = Unit {0}
+AreLooplessProcs (AProc p0 n p1 ps p2 p3 s p4 procs) = AreLooplessStmts s × AreLooplessProcs procs
 
 -- ---- the trees of derivations
 
 -- an `else` with no statements is the same tree as none
-abbrev pub stmt_nodes : StmtsForm → List StmtNode
-stmt_nodes NoStmt = []
-stmt_nodes (ALet p0 x p1 e p2 s) = stmt.Let x (expr_node e) ∷ stmt_nodes s
-stmt_nodes (ARead p0 x p1 t p2 e p3 p4 c p5 l p6 s) = stmt.Read x t (expr_node e) c (literal_node l) ∷ stmt_nodes s
-stmt_nodes (AHas p0 x p1 t p2 e p3 p4 s) = stmt.Has x t (expr_node e) ∷ stmt_nodes s
-stmt_nodes (APut p0 t p1 e p2 p3 p4 v vs p5 p6 s) = stmt.Put t (expr_node e) (expr_node v ∷ value_nodes vs) ∷ stmt_nodes s
-stmt_nodes (ASet p0 t p1 e p2 p3 c p4 v p5 s) = stmt.Set t (expr_node e) c (expr_node v) ∷ stmt_nodes s
-stmt_nodes (ADelete p0 t p1 e p2 p3 s) = stmt.Delete t (expr_node e) ∷ stmt_nodes s
-stmt_nodes (AnAbort p0 p1 e p2 s) = stmt.AbortIf (expr_node e) ∷ stmt_nodes s
-stmt_nodes (AnIf p0 e p1 first p2 s) = stmt.If (expr_node e) (stmt_nodes first) [] ∷ stmt_nodes s
-stmt_nodes (AnIfElse p0 e p1 first p2 p3 p4 second p5 s) = stmt.If (expr_node e) (stmt_nodes first) (stmt_nodes second) ∷ stmt_nodes s
+abbrev pub loopless_stmts : LooplessStmts → List StmtNode
+loopless_stmts NoStmt = []
+loopless_stmts (ALet p0 x p1 e p2 s) = stmt.Let x (expr_node e) ∷ loopless_stmts s
+loopless_stmts (ARead p0 x p1 t p2 e p3 p4 c p5 l p6 s) = stmt.Read x t (expr_node e) c (literal_node l) ∷ loopless_stmts s
+loopless_stmts (AHas p0 x p1 t p2 e p3 p4 s) = stmt.Has x t (expr_node e) ∷ loopless_stmts s
+loopless_stmts (APut p0 t p1 e p2 p3 p4 v vs p5 p6 s) = stmt.Put t (expr_node e) (expr_node v ∷ value_nodes vs) ∷ loopless_stmts s
+loopless_stmts (ASet p0 t p1 e p2 p3 c p4 v p5 s) = stmt.Set t (expr_node e) c (expr_node v) ∷ loopless_stmts s
+loopless_stmts (ADelete p0 t p1 e p2 p3 s) = stmt.Delete t (expr_node e) ∷ loopless_stmts s
+loopless_stmts (AnAbort p0 p1 e p2 s) = stmt.AbortIf (expr_node e) ∷ loopless_stmts s
+loopless_stmts (AnIf p0 e p1 first p2 s) = stmt.If (expr_node e) (loopless_stmts first) [] ∷ loopless_stmts s
+loopless_stmts (AnIfElse p0 e p1 first p2 p3 p4 second p5 s) = stmt.If (expr_node e) (loopless_stmts first) (loopless_stmts second) ∷ loopless_stmts s
 
-abbrev pub proc_nodes : ProcsForm → List ProcNode
-proc_nodes NoProc = []
-proc_nodes (AProc p0 n p1 ps p2 p3 s p4 procs) = record { name = n; params = param_nodes ps; body = stmt_nodes s } ∷ proc_nodes procs
+abbrev pub loopless_procs : LooplessProcs → List ProcNode
+loopless_procs NoProc = []
+loopless_procs (AProc p0 n p1 ps p2 p3 s p4 procs) = record { name = n; params = param_nodes ps; body = loopless_stmts s } ∷ loopless_procs procs
 
-abbrev pub tree_of : CatalogueForm → Tree
-tree_of form = record { tables = table_nodes form.tables; procs = proc_nodes form.procs }
+abbrev pub loopless_tree : LooplessCatalogue → Tree
+loopless_tree form = record { tables = table_nodes form.tables; procs = loopless_procs form.procs }
 
 -- ---- the tokens of derivations, each with what it is for the limits
 
 -- the tokens of statements in that many conditionals
-abbrev pub stmts_before : ℕ → StmtsForm → List Marked → List Marked
-stmts_before d NoStmt rest = rest
-stmts_before d (ALet p0 x p1 e p2 s) rest =
+abbrev pub loopless_stmts_before : ℕ → LooplessStmts → List Marked → List Marked
+loopless_stmts_before d NoStmt rest = rest
+loopless_stmts_before d (ALet p0 x p1 e p2 s) rest =
     keyword_mark keyword.Let p0 Plain ∷ name_mark x Plain ∷ symbol_mark symbol.Assign p1 Plain
-    ∷ whole_before e (symbol_mark symbol.Semicolon p2 Plain ∷ stmts_before d s rest)
-stmts_before d (ARead p0 x p1 t p2 e p3 p4 c p5 l p6 s) rest =
+    ∷ whole_before e (symbol_mark symbol.Semicolon p2 Plain ∷ loopless_stmts_before d s rest)
+loopless_stmts_before d (ARead p0 x p1 t p2 e p3 p4 c p5 l p6 s) rest =
     keyword_mark keyword.Read p0 Plain ∷ name_mark x Plain ∷ symbol_mark symbol.Assign p1 Plain ∷ name_mark t Plain ∷ symbol_mark symbol.OpenBracket p2 Plain
     ∷ whole_before e (symbol_mark symbol.CloseBracket p3 Plain ∷ symbol_mark symbol.Dot p4 Plain ∷ name_mark c Plain ∷ keyword_mark keyword.Default p5 Plain
-    ∷ literal_before l (symbol_mark symbol.Semicolon p6 Plain ∷ stmts_before d s rest))
-stmts_before d (AHas p0 x p1 t p2 e p3 p4 s) rest =
+    ∷ literal_before l (symbol_mark symbol.Semicolon p6 Plain ∷ loopless_stmts_before d s rest))
+loopless_stmts_before d (AHas p0 x p1 t p2 e p3 p4 s) rest =
     keyword_mark keyword.Has p0 Plain ∷ name_mark x Plain ∷ symbol_mark symbol.Assign p1 Plain ∷ name_mark t Plain ∷ symbol_mark symbol.OpenBracket p2 Plain
-    ∷ whole_before e (symbol_mark symbol.CloseBracket p3 Plain ∷ symbol_mark symbol.Semicolon p4 Plain ∷ stmts_before d s rest)
-stmts_before d (APut p0 t p1 e p2 p3 p4 v vs p5 p6 s) rest =
+    ∷ whole_before e (symbol_mark symbol.CloseBracket p3 Plain ∷ symbol_mark symbol.Semicolon p4 Plain ∷ loopless_stmts_before d s rest)
+loopless_stmts_before d (APut p0 t p1 e p2 p3 p4 v vs p5 p6 s) rest =
     keyword_mark keyword.Put p0 Plain ∷ name_mark t Plain ∷ symbol_mark symbol.OpenBracket p1 Plain
     ∷ whole_before e (symbol_mark symbol.CloseBracket p2 Plain ∷ symbol_mark symbol.Assign p3 Plain ∷ symbol_mark symbol.OpenParen p4 Plain
-    ∷ whole_before v (values_before vs (symbol_mark symbol.CloseParen p5 Plain ∷ symbol_mark symbol.Semicolon p6 Plain ∷ stmts_before d s rest)))
-stmts_before d (ASet p0 t p1 e p2 p3 c p4 v p5 s) rest =
+    ∷ whole_before v (values_before vs (symbol_mark symbol.CloseParen p5 Plain ∷ symbol_mark symbol.Semicolon p6 Plain ∷ loopless_stmts_before d s rest)))
+loopless_stmts_before d (ASet p0 t p1 e p2 p3 c p4 v p5 s) rest =
     keyword_mark keyword.Set p0 Plain ∷ name_mark t Plain ∷ symbol_mark symbol.OpenBracket p1 Plain
     ∷ whole_before e (symbol_mark symbol.CloseBracket p2 Plain ∷ symbol_mark symbol.Dot p3 Plain ∷ name_mark c Plain ∷ symbol_mark symbol.Assign p4 Plain
-    ∷ whole_before v (symbol_mark symbol.Semicolon p5 Plain ∷ stmts_before d s rest))
-stmts_before d (ADelete p0 t p1 e p2 p3 s) rest =
+    ∷ whole_before v (symbol_mark symbol.Semicolon p5 Plain ∷ loopless_stmts_before d s rest))
+loopless_stmts_before d (ADelete p0 t p1 e p2 p3 s) rest =
     keyword_mark keyword.Delete p0 Plain ∷ name_mark t Plain ∷ symbol_mark symbol.OpenBracket p1 Plain
-    ∷ whole_before e (symbol_mark symbol.CloseBracket p2 Plain ∷ symbol_mark symbol.Semicolon p3 Plain ∷ stmts_before d s rest)
-stmts_before d (AnAbort p0 p1 e p2 s) rest =
-    keyword_mark keyword.Abort p0 Plain ∷ keyword_mark keyword.If p1 Plain ∷ whole_before e (symbol_mark symbol.Semicolon p2 Plain ∷ stmts_before d s rest)
-stmts_before d (AnIf p0 e p1 first p2 s) rest =
+    ∷ whole_before e (symbol_mark symbol.CloseBracket p2 Plain ∷ symbol_mark symbol.Semicolon p3 Plain ∷ loopless_stmts_before d s rest)
+loopless_stmts_before d (AnAbort p0 p1 e p2 s) rest =
+    keyword_mark keyword.Abort p0 Plain ∷ keyword_mark keyword.If p1 Plain ∷ whole_before e (symbol_mark symbol.Semicolon p2 Plain ∷ loopless_stmts_before d s rest)
+loopless_stmts_before d (AnIf p0 e p1 first p2 s) rest =
     keyword_mark keyword.If p0 (Nested (suc d)) ∷ whole_before e (symbol_mark symbol.OpenBrace p1 Plain
-    ∷ stmts_before (suc d) first (symbol_mark symbol.CloseBrace p2 Plain ∷ stmts_before d s rest))
-stmts_before d (AnIfElse p0 e p1 first p2 p3 p4 second p5 s) rest =
+    ∷ loopless_stmts_before (suc d) first (symbol_mark symbol.CloseBrace p2 Plain ∷ loopless_stmts_before d s rest))
+loopless_stmts_before d (AnIfElse p0 e p1 first p2 p3 p4 second p5 s) rest =
     keyword_mark keyword.If p0 (Nested (suc d)) ∷ whole_before e (symbol_mark symbol.OpenBrace p1 Plain
-    ∷ stmts_before (suc d) first (symbol_mark symbol.CloseBrace p2 Plain ∷ keyword_mark keyword.Else p3 Plain ∷ symbol_mark symbol.OpenBrace p4 Plain
-    ∷ stmts_before (suc d) second (symbol_mark symbol.CloseBrace p5 Plain ∷ stmts_before d s rest)))
+    ∷ loopless_stmts_before (suc d) first (symbol_mark symbol.CloseBrace p2 Plain ∷ keyword_mark keyword.Else p3 Plain ∷ symbol_mark symbol.OpenBrace p4 Plain
+    ∷ loopless_stmts_before (suc d) second (symbol_mark symbol.CloseBrace p5 Plain ∷ loopless_stmts_before d s rest)))
 
 -- the tokens of procedures after that many others
-abbrev pub procs_before : ℕ → ProcsForm → List Marked → List Marked
-procs_before i NoProc rest = rest
-procs_before i (AProc p0 n p1 ps p2 p3 s p4 procs) rest =
+abbrev pub loopless_procs_before : ℕ → LooplessProcs → List Marked → List Marked
+loopless_procs_before i NoProc rest = rest
+loopless_procs_before i (AProc p0 n p1 ps p2 p3 s p4 procs) rest =
     keyword_mark keyword.Proc p0 (ProcWord (suc i)) ∷ name_mark n Plain ∷ symbol_mark symbol.OpenParen p1 Plain
     ∷ params_before ps (symbol_mark symbol.CloseParen p2 Plain ∷ symbol_mark symbol.OpenBrace p3 Plain
-    ∷ stmts_before 0 s (symbol_mark symbol.CloseBrace p4 Plain ∷ procs_before (suc i) procs rest))
+    ∷ loopless_stmts_before 0 s (symbol_mark symbol.CloseBrace p4 Plain ∷ loopless_procs_before (suc i) procs rest))
 
-abbrev pub marks_of : CatalogueForm → List Marked
-marks_of form = tables_before 0 form.tables (procs_before 0 form.procs [])
+abbrev pub loopless_marks : LooplessCatalogue → List Marked
+loopless_marks form = tables_before 0 form.tables (loopless_procs_before 0 form.procs [])
 
 -- ---- trees without loops
 
@@ -184,16 +184,16 @@ abbrev pub are_no_loops : List StmtNode → Bool
 are_no_loops nodes = list_all (λ b. b) (map is_no_loop nodes)
 
 -- no procedure has a loop
-abbrev pub HasNoLoop : Tree → Type 0
-HasNoLoop tree = AllByRecursion (λ proc. IsTrue (are_no_loops proc.body)) tree.procs
+abbrev pub IsLooplessTree : Tree → Type 0
+IsLooplessTree tree = AllByRecursion (λ proc. IsTrue (are_no_loops proc.body)) tree.procs
 
 -- ---- texts
 
 -- the text was this catalogue's: it is short enough, and its tokens are the catalogue's within the limits
 pub record ReadsWithoutLoops (text : List ℕ) (tree : Tree) : Type 0 where
   pub short : length text ≤ MAX_CATALOGUE
-  pub form : CatalogueForm
-  pub levels : AreProcs form.procs
-  pub lexed : Lexed Other 0 text (tokens_of (marks_of form))
-  pub within : AllByRecursion IsWithin (marks_of form)
-  pub is_tree : tree_of form ≡ tree
+  pub form : LooplessCatalogue
+  pub levels : AreLooplessProcs form.procs
+  pub lexed : LexedDotless Other 0 text (tokens_of (loopless_marks form))
+  pub within : AllByRecursion IsWithin (loopless_marks form)
+  pub is_tree : loopless_tree form ≡ tree

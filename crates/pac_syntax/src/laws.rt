@@ -5,15 +5,15 @@ ghost use Rattle.pac_tokens.specs.declared.fault.Fault.{Fault as AFault};
 ghost use Rattle.pac_tokens.specs.declared.token.Spanned.{Spanned as ASpanned};
 ghost use Rattle.pac_syntax.specs.Faults.{FaultAt, IsFirstFault};
 ghost use Rattle.pac_syntax.specs.Reading.{Reads, end_of};
-ghost use Rattle.pac_syntax.specs.WithoutLoops.{HasNoLoop, ReadsWithoutLoops};
+ghost use Rattle.pac_syntax.specs.WithoutLoops.{IsLooplessTree, ReadsWithoutLoops};
 ghost use Rattle.pac_syntax.specs.declared.tree.Tree.{Tree as ATree};
 
 /// Each text that was a catalogue before there were loops is one still, with the same tree. These are the texts whose trees
 /// have no loop.
 pub fn texts_without_loops_stay()
     ensures stay { (text : List ℕ) (tree : ATree) → ReadsWithoutLoops text tree → Reads text tree }
-    ensures plain { (text : List ℕ) (tree : ATree) → ReadsWithoutLoops text tree → HasNoLoop tree }
-    ensures only { (text : List ℕ) (tree : ATree) → Reads text tree → HasNoLoop tree → ReadsWithoutLoops text tree }
+    ensures plain { (text : List ℕ) (tree : ATree) → ReadsWithoutLoops text tree → IsLooplessTree tree }
+    ensures only { (text : List ℕ) (tree : ATree) → Reads text tree → IsLooplessTree tree → ReadsWithoutLoops text tree }
 {}
 
 /// Of all faults of a text's tokens the first one has the least offset, though that of a loop stands before the token that

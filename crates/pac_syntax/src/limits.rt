@@ -1,6 +1,6 @@
 // How large a catalogue's text and its parts may be.
 ghost use Rattle.std.specs.Prelude.{◌≡◌, ◌<◌, Some, None, nat_lt, if◌then◌else◌};
-ghost use Rattle.pac_syntax.specs.Grammar.{inside, in_loop, loop_turns, turns};
+ghost use Rattle.pac_syntax.specs.Grammar.{inside_block, in_loop, loop_turns, range_len};
 
 /// The most bytes of a catalogue's text.
 pub const MAX_CATALOGUE: usize = 65_536;
@@ -26,7 +26,7 @@ pub struct Around {
 
 // How many turns a loop has from the one number on and below the other.
 fn turns(from: i64, to: i64) -> u64
-    ensures { result ≡ turns from to }
+    ensures { result ≡ range_len from to }
 {
     if from < to { to.abs_diff(from) } else { 0 }
 }
@@ -41,7 +41,7 @@ impl Around {
     /// What stands round the blocks of a conditional.
     pub(crate) fn inside(self) -> Around
         requires { self.nested < MAX_NESTED }
-        ensures { result ≡ inside self }
+        ensures { result ≡ inside_block self }
     {
         Around {
             nested: self.nested + 1,

@@ -10,9 +10,9 @@ use Rattle.pac_ops.specs.Uses.{defined_variable}
 use Rattle.pac_types.specs.declared.procedure.Proc.{Proc}
 use Rattle.pac_types.specs.declared.statement.Stmt.{Stmt}
 use Rattle.pac_types.specs.declared.table.Table.{Table}
-use Rattle.pac_types.specs.AsWritten.{none_loops, loopless_step, is_loopless, HasNoLoop, in_a_line, written_step, written, as_written}
+use Rattle.pac_types.specs.AsWritten.{none_loops, loopless_step, is_loopless, HasNoLoop, in_a_line, written_step, stmt_as_written, as_written}
 use Rattle.pac_types.specs.Typing.{IsProc}
-use Rattle.pac_types.specs.Unrolled.{Steps, End, Op, Branch, naming, renamed, renamed_step, renamed_kind, Point, with_next, with_defined, Unrolling, all_after, in_steps, unroll_step, unrolling, unrolled}
+use Rattle.pac_types.specs.Unrolled.{UnrolledSteps, End, Op, Branch, renaming, renamed, renamed_step, renamed_kind, Point, with_next, with_defined, Unrolling, all_after, in_steps, unroll_step, unrolling, unrolled}
 use Rattle.pac_types.specs.Variables.{variables_step, stmt_variables, defined_variables}
 use Rattle.pac_types.proofs.PartLemmas.{equal}
 use Rattle.pac_types.proofs.RunsOnLemmas.{RunsOn, runs_on-parts, runs_on-proc, variable_list, variables-one}
@@ -31,7 +31,7 @@ all_renamed-itself : (es : List Expr) → map (renamed Var) es ≡ es
 all_renamed-itself [] = refl
 all_renamed-itself (e ∷ es) = λ i. renamed-itself e i ∷ all_renamed-itself es i
 
-naming-itself : (x : ℕ) → naming Var x (Var x) ≡ Var
+naming-itself : (x : ℕ) → renaming Var x (Var x) ≡ Var
 naming-itself x i y = go (y == x) refl i
   where
     go : (b : Bool) → (y == x) ≡ b → (if y == x then Var x else Var y) ≡ Var y
@@ -43,7 +43,7 @@ abbrev plain : ℕ → Point
 plain n = record { names = Var; next = n }
 
 next-itself : (x n : ℕ) → x ≡ n → with_next x (plain n) ≡ plain (n + 1)
-next-itself x n is = λ i. record { names = ((ap (λ k. naming Var x (Var k)) (sym is)) ∙ naming-itself x) i; next = n + 1 }
+next-itself x n is = λ i. record { names = ((ap (λ k. renaming Var x (Var k)) (sym is)) ∙ naming-itself x) i; next = n + 1 }
 
 kind-itself : (kind : OpKind) (n : ℕ) → RunsOn n (variable_list (defined_variable kind)) → (renamed_kind (plain n) kind ≡ kind) × (with_defined (defined_variable kind) (plain n) ≡ plain (n + length (variable_list (defined_variable kind))))
 kind-itself (kind.Let x e) n run = ((λ i. kind.Let (sym run.0 i) (renamed-itself e i)), next-itself x n run.0)
@@ -63,14 +63,14 @@ both true b h = (refl, h)
 both false b h = absurd cc
 
 -- a statement without loops, whose variables run on from the next, is what is written
-abbrev Written : Unrolling → List ℕ → Bool → (Steps → Steps) → Type 0
-Written u xs loopless steps = loopless ≡ true → (n : ℕ) → RunsOn n xs → (u.after (plain n) ≡ plain (n + length xs)) × ((rest : Steps) → u.steps (plain n) rest ≡ steps rest)
+abbrev Written : Unrolling → List ℕ → Bool → (UnrolledSteps → UnrolledSteps) → Type 0
+Written u xs loopless steps = loopless ≡ true → (n : ℕ) → RunsOn n xs → (u.after (plain n) ≡ plain (n + length xs)) × ((rest : UnrolledSteps) → u.steps (plain n) rest ≡ steps rest)
 
 abbrev WrittenStmt : Stmt → Type 0
-WrittenStmt s = Written (unrolling s) (stmt_variables s) (is_loopless s) (written s)
+WrittenStmt s = Written (unrolling s) (stmt_variables s) (is_loopless s) (stmt_as_written s)
 
 written_all : (ss : List Stmt) → AllByRecursion WrittenStmt ss → none_loops (map is_loopless ss) ≡ true → (n : ℕ) → RunsOn n (defined_variables ss)
-    → (all_after (map unrolling ss) (plain n) ≡ plain (n + length (defined_variables ss))) × ((rest : Steps) → in_steps (map unrolling ss) (plain n) rest ≡ in_a_line (map written ss) rest)
+    → (all_after (map unrolling ss) (plain n) ≡ plain (n + length (defined_variables ss))) × ((rest : UnrolledSteps) → in_steps (map unrolling ss) (plain n) rest ≡ in_a_line (map stmt_as_written ss) rest)
 written_all [] all none n run = let same : n ≡ n + 0 = omega arith in (ap plain same, λ rest. refl)
 written_all (s ∷ ss) all none n run =
     let none_of = both (is_loopless s) (none_loops (map is_loopless ss)) none in
@@ -80,10 +80,10 @@ written_all (s ∷ ss) all none n run =
     let more = written_all ss all.1 none_of.1 m parts.1 in
     let sum : m + length (defined_variables ss) ≡ n + length (defined_variables (s ∷ ss)) = omega (arith, length-append (stmt_variables s) (defined_variables ss)) in (
       ap (all_after (map unrolling ss)) first.0 ∙ more.0 ∙ ap plain sum,
-      λ rest. first.1 (in_steps (map unrolling ss) ((unrolling s).after (plain n)) rest) ∙ ap (λ p. written s (in_steps (map unrolling ss) p rest)) first.0 ∙ ap (written s) (more.1 rest),
+      λ rest. first.1 (in_steps (map unrolling ss) ((unrolling s).after (plain n)) rest) ∙ ap (λ p. stmt_as_written s (in_steps (map unrolling ss) p rest)) first.0 ∙ ap (stmt_as_written s) (more.1 rest),
     )
 
-loopless_one : (kind : OpKind) → is_test kind ≡ false → written_step (form_of (Steps → Steps) kind) ≡ Op kind
+loopless_one : (kind : OpKind) → is_test kind ≡ false → written_step (form_of (UnrolledSteps → UnrolledSteps) kind) ≡ Op kind
 loopless_one (kind.Let x e) single = refl
 loopless_one (kind.Cond x e) single = absurd cc
 loopless_one (kind.Read x t k c d) single = refl
@@ -94,13 +94,13 @@ loopless_one (kind.Delete t k) single = refl
 loopless_one (kind.AbortIf e) single = refl
 
 written-one : (s : Stmt) (kind : OpKind) → is_test kind ≡ false → IsOne s kind → WrittenStmt s
-written-one s kind single is = subst (λ (q : Unrolling × List ℕ × (Steps → Steps)). Written q.0 q.1 (is_loopless s) q.2)
-    (λ i. (sym (unrolling-one s kind single is) i, sym (variables-one s kind single is) i, sym (is (Steps → Steps) written_step ∙ loopless_one kind single) i))
+written-one s kind single is = subst (λ (q : Unrolling × List ℕ × (UnrolledSteps → UnrolledSteps)). Written q.0 q.1 (is_loopless s) q.2)
+    (λ i. (sym (unrolling-one s kind single is) i, sym (variables-one s kind single is) i, sym (is (UnrolledSteps → UnrolledSteps) written_step ∙ loopless_one kind single) i))
     (λ none n run. let k = kind-itself kind n run in (k.1, λ rest. ap (λ z. Op z rest) k.0))
 
 written-conditional : (s : Stmt) (x : ℕ) (e : Expr) (first second : List Stmt) → IsConditional s x e first second → AllByRecursion WrittenStmt first → AllByRecursion WrittenStmt second → WrittenStmt s
-written-conditional s x e first second is all others = subst (λ (q : Unrolling × List ℕ × Bool × (Steps → Steps)). Written q.0 q.1 q.2 q.3)
-    (λ i. (sym (is Unrolling unroll_step) i, sym (is (List ℕ) variables_step) i, sym (is Bool loopless_step) i, sym (is (Steps → Steps) written_step) i))
+written-conditional s x e first second is all others = subst (λ (q : Unrolling × List ℕ × Bool × (UnrolledSteps → UnrolledSteps)). Written q.0 q.1 q.2 q.3)
+    (λ i. (sym (is Unrolling unroll_step) i, sym (is (List ℕ) variables_step) i, sym (is Bool loopless_step) i, sym (is (UnrolledSteps → UnrolledSteps) written_step) i))
     (λ none n run.
     let none_of = both (none_loops (map is_loopless first)) (none_loops (map is_loopless second)) none in
     let parts = runs_on-parts (n + 1) (defined_variables first) (defined_variables second) run.1 in

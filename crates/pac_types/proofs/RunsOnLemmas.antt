@@ -11,7 +11,7 @@ use Rattle.pac_types.specs.declared.procedure.Proc.{Proc}
 use Rattle.pac_types.specs.declared.statement.Stmt.{Stmt}
 use Rattle.pac_types.specs.declared.table.Table.{Table}
 use Rattle.pac_types.specs.Typing.{IsProc}
-use Rattle.pac_types.specs.Unrolled.{numbers, Names, naming, Point, with_next, with_turn, with_defined, Unrolling, all_after, after_turns, unroll_step, unrolling}
+use Rattle.pac_types.specs.Unrolled.{turn_numbers, Names, renaming, Point, with_next, with_turn, with_defined, Unrolling, all_after, after_turns, unroll_step, unrolling}
 use Rattle.pac_types.specs.Variables.{variables_step, stmt_variables, defined_variables}
 use Rattle.pac_types.proofs.StmtShapes.{form_of, is_test, IsOne, IsConditional, IsLoop, all_by_shape}
 use Rattle.pac_types.proofs.UnrolledLemmas.{unrolling-one}
@@ -60,13 +60,13 @@ variables-one s kind single is = is (List ℕ) variables_step ∙ defines_one ki
 
 -- ---- names
 
-named-other : (names : Names) (x : ℕ) (e : Expr) (y : ℕ) → y ≢ x → naming names x e y ≡ names y
+named-other : (names : Names) (x : ℕ) (e : Expr) (y : ℕ) → y ≢ x → renaming names x e y ≡ names y
 named-other names x e y h = ap (λ b. if b then e else names y) (unlike y x h)
   where
     unlike : (y x : ℕ) → y ≢ x → (y == x) ≡ false
     unlike y x h = grind (arith, nat_tests)
 
-lower-other : (names : Names) (x : ℕ) (e : Expr) (y k : ℕ) → x ≡ k → y < k → naming names x e y ≡ names y
+lower-other : (names : Names) (x : ℕ) (e : Expr) (y k : ℕ) → x ≡ k → y < k → renaming names x e y ≡ names y
 lower-other names x e y k is lt = named-other names x e y (λ h. let no_way : ⊥ = omega (arith, is, lt, h) in no_way)
 
 -- after a statement a variable of a lower number stands for what it stood for
@@ -106,7 +106,7 @@ keeps-conditional s x e first second is all others = subst (λ (q : Unrolling ×
 
 keeps-loop : (s : Stmt) (x : ℕ) (from to : ℤ) (body : List Stmt) → IsLoop s x from to body → AllByRecursion KeepsNamesStmt body → KeepsNamesStmt s
 keeps-loop s x from to body is all = subst (λ (q : Unrolling × List ℕ). KeepsNames q.0 q.1) (λ i. (sym (is Unrolling unroll_step) i, sym (is (List ℕ) variables_step) i))
-    (λ k run p y lt. keeps_turns x body all k run.0 run.1 (numbers from to) p y lt)
+    (λ k run p y lt. keeps_turns x body all k run.0 run.1 (turn_numbers from to) p y lt)
 
 pub all_names-kept : (ss : List Stmt) (k : ℕ) → RunsOn k (defined_variables ss) → (p : Point) (y : ℕ) → y < k → (all_after (map unrolling ss) p).names y ≡ p.names y
 all_names-kept ss = keeps_all ss (all_by_shape KeepsNamesStmt keeps-one keeps-conditional keeps-loop ss)

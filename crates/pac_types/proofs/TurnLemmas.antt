@@ -1,7 +1,7 @@
 -- The turns of a loop, one after another.
 use Rattle.std.proofs.Common.{◌≡◌, ℕ, zero, suc, ◌+◌, ℤ, pos, negsuc, ◌+ℤ◌, ◌-ℤ◌, ◌<ℤ◌, ◌≤ℤ◌, [], ◌∷◌, refl, sym, ap, ◌∙◌, arith}
 use Rattle.std.proofs.lemmas.Int.{ints}
-use Rattle.pac_types.specs.Unrolled.{natural, turns, ascending, numbers}
+use Rattle.pac_types.specs.Unrolled.{natural, turns, ascending, turn_numbers}
 
 -- one number more
 natural-suc : (z : ℤ) → pos 0 <ℤ z → natural z ≡ suc (natural (z -ℤ pos 1))
@@ -23,10 +23,10 @@ turns-more from to h =
 pub turns-none : (from to : ℤ) → to ≤ℤ from → turns from to ≡ 0
 turns-none from to h = let none : (to -ℤ from) ≤ℤ pos 0 = omega (arith, ints, h) in natural-none (to -ℤ from) none
 
-pub numbers-more : (from to : ℤ) → from <ℤ to → numbers from to ≡ from ∷ numbers (from +ℤ pos 1) to
+pub numbers-more : (from to : ℤ) → from <ℤ to → turn_numbers from to ≡ from ∷ turn_numbers (from +ℤ pos 1) to
 numbers-more from to h = ap (ascending from) (turns-more from to h)
 
-pub numbers-none : (from to : ℤ) → to ≤ℤ from → numbers from to ≡ []
+pub numbers-none : (from to : ℤ) → to ≤ℤ from → turn_numbers from to ≡ []
 numbers-none from to h = ap (ascending from) (turns-none from to h)
 
 -- a number that is none below zero

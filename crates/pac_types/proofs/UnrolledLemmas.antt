@@ -8,7 +8,7 @@ use Rattle.pac_ops.specs.Uses.{defined_variable}
 use Rattle.pac_types.specs.declared.procedure.Proc.{Proc}
 use Rattle.pac_types.specs.declared.statement.Stmt.{Stmt}
 use Rattle.pac_types.specs.Meaning.{count_step, stmt_operations, operations, step_count}
-use Rattle.pac_types.specs.Unrolled.{Steps, End, turns, ascending, numbers, Point, with_next, with_turn, with_defined, Unrolling, all_after, in_steps, after_turns, in_turns, unroll_one, unroll_step, unrolling, beginning, unrolled}
+use Rattle.pac_types.specs.Unrolled.{UnrolledSteps, End, turns, ascending, turn_numbers, Point, with_next, with_turn, with_defined, Unrolling, all_after, in_steps, after_turns, in_turns, unroll_one, unroll_step, unrolling, beginning, unrolled}
 use Rattle.pac_types.proofs.StmtShapes.{form_of, is_test, IsOne, IsConditional, IsLoop, by_shape, all_by_shape}
 
 -- ---- what unrolling gives for each form
@@ -47,16 +47,16 @@ length-ascending (suc k) i = ap suc (length-ascending k _)
 
 -- a statement's steps are as many operations as it counts, and those after it
 abbrev Counted : Unrolling → ℕ → Type 0
-Counted u k = (p : Point) (rest : Steps) → step_count (u.steps p rest) ≡ k + step_count rest
+Counted u k = (p : Point) (rest : UnrolledSteps) → step_count (u.steps p rest) ≡ k + step_count rest
 
 abbrev CountedStmt : Stmt → Type 0
 CountedStmt s = Counted (unrolling s) (stmt_operations s)
 
-counted_all : (ss : List Stmt) → AllByRecursion CountedStmt ss → (p : Point) (rest : Steps) → step_count (in_steps (map unrolling ss) p rest) ≡ operations ss + step_count rest
+counted_all : (ss : List Stmt) → AllByRecursion CountedStmt ss → (p : Point) (rest : UnrolledSteps) → step_count (in_steps (map unrolling ss) p rest) ≡ operations ss + step_count rest
 counted_all [] all p rest = omega arith
 counted_all (s ∷ ss) all p rest = omega (arith, all.0 p (in_steps (map unrolling ss) ((unrolling s).after p) rest), counted_all ss all.1 ((unrolling s).after p) rest)
 
-counted_turns : (x : ℕ) (ss : List Stmt) → AllByRecursion CountedStmt ss → (is : List ℤ) (p : Point) (rest : Steps) → step_count (in_turns x (map unrolling ss) is p rest) ≡ length is * operations ss + step_count rest
+counted_turns : (x : ℕ) (ss : List Stmt) → AllByRecursion CountedStmt ss → (is : List ℤ) (p : Point) (rest : UnrolledSteps) → step_count (in_turns x (map unrolling ss) is p rest) ≡ length is * operations ss + step_count rest
 counted_turns x ss all [] p rest = omega arith
 counted_turns x ss all (i ∷ is) p rest =
     let next = all_after (map unrolling ss) (with_turn x i p) in
@@ -72,12 +72,12 @@ counted-conditional s x e first second is all others = subst (λ (q : Unrolling 
 
 counted-loop : (s : Stmt) (x : ℕ) (from to : ℤ) (body : List Stmt) → IsLoop s x from to body → AllByRecursion CountedStmt body → CountedStmt s
 counted-loop s x from to body is all = subst (λ (q : Unrolling × ℕ). Counted q.0 q.1) (λ i. (sym (is Unrolling unroll_step) i, sym (is ℕ count_step) i))
-    (λ p rest. counted_turns x body all (numbers from to) p rest ∙ ap (λ n. n * operations body + step_count rest) (length-ascending (turns from to) from))
+    (λ p rest. counted_turns x body all (turn_numbers from to) p rest ∙ ap (λ n. n * operations body + step_count rest) (length-ascending (turns from to) from))
 
-pub steps-count : (s : Stmt) (p : Point) (rest : Steps) → step_count ((unrolling s).steps p rest) ≡ stmt_operations s + step_count rest
+pub steps-count : (s : Stmt) (p : Point) (rest : UnrolledSteps) → step_count ((unrolling s).steps p rest) ≡ stmt_operations s + step_count rest
 steps-count = by_shape CountedStmt counted-one counted-conditional counted-loop
 
-pub all_steps-count : (ss : List Stmt) (p : Point) (rest : Steps) → step_count (in_steps (map unrolling ss) p rest) ≡ operations ss + step_count rest
+pub all_steps-count : (ss : List Stmt) (p : Point) (rest : UnrolledSteps) → step_count (in_steps (map unrolling ss) p rest) ≡ operations ss + step_count rest
 all_steps-count ss = counted_all ss (all_by_shape CountedStmt counted-one counted-conditional counted-loop ss)
 
 -- a procedure's steps are as many as its operations
@@ -125,8 +125,8 @@ grows-conditional s x e first second is all others = subst (λ (q : Unrolling ×
 grows-loop : (s : Stmt) (x : ℕ) (from to : ℤ) (body : List Stmt) → IsLoop s x from to body → AllByRecursion GrowsStmt body → GrowsStmt s
 grows-loop s x from to body is all = subst (λ (q : Unrolling × ℕ). Grows q.0 q.1) (λ i. (sym (is Unrolling unroll_step) i, sym (is ℕ count_step) i))
     (λ p.
-    let g = grows_turns x body all (numbers from to) p in
-    let same : length (numbers from to) * operations body ≡ turns from to * operations body = ap (λ n. n * operations body) (length-ascending (turns from to) from) in
+    let g = grows_turns x body all (turn_numbers from to) p in
+    let same : length (turn_numbers from to) * operations body ≡ turns from to * operations body = ap (λ n. n * operations body) (length-ascending (turns from to) from) in
     (g.0, omega (arith, g.1, same)))
 
 pub next-grows : (s : Stmt) (p : Point) → (p.next ≤ ((unrolling s).after p).next) × (((unrolling s).after p).next ≤ p.next + stmt_operations s)

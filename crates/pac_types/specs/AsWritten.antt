@@ -4,7 +4,7 @@ use Rattle.pac_ops.specs.declared.program.OpKind.TheVariants as kind
 use Rattle.pac_types.specs.declared.statement.Stmt.{Stmt}
 use Rattle.pac_types.specs.declared.statement.Stmt.TheOpen.{Stmt-F, Let, Read, Has, Put, Set, Delete, AbortIf, If, For}
 use Rattle.pac_types.specs.declared.statement.Stmt.TheFolds.{fold-Stmt}
-use Rattle.pac_types.specs.Unrolled.{Steps, End, Op, Branch}
+use Rattle.pac_types.specs.Unrolled.{UnrolledSteps, End, Op, Branch}
 
 -- of several statements none has a loop
 abbrev pub none_loops : List Bool → Bool
@@ -24,12 +24,12 @@ abbrev pub HasNoLoop : List Stmt → Type 0
 HasNoLoop stmts = IsTrue (none_loops (map is_loopless stmts))
 
 -- one after another, before what comes after them
-abbrev pub in_a_line : List (Steps → Steps) → Steps → Steps
+abbrev pub in_a_line : List (UnrolledSteps → UnrolledSteps) → UnrolledSteps → UnrolledSteps
 in_a_line [] rest = rest
 in_a_line (s ∷ ss) rest = s (in_a_line ss rest)
 
 -- a loop, which is not asked for here, has no steps
-abbrev pub written_step : Stmt-F (Steps → Steps) → Steps → Steps
+abbrev pub written_step : Stmt-F (UnrolledSteps → UnrolledSteps) → UnrolledSteps → UnrolledSteps
 written_step (Let x e) = Op (kind.Let x e)
 written_step (Read x t k c d) = Op (kind.Read x t k c d)
 written_step (Has x t k) = Op (kind.Has x t k)
@@ -41,8 +41,8 @@ written_step (If x e first second) = Branch x e (in_a_line first End) (in_a_line
 written_step (For x from to body) = λ rest. rest
 
 -- the steps of a statement without loops as it is written, and of statements
-abbrev pub written : Stmt → Steps → Steps
-written = fold-Stmt (Steps → Steps) written_step
+abbrev pub stmt_as_written : Stmt → UnrolledSteps → UnrolledSteps
+stmt_as_written = fold-Stmt (UnrolledSteps → UnrolledSteps) written_step
 
-abbrev pub as_written : List Stmt → Steps
-as_written stmts = in_a_line (map written stmts) End
+abbrev pub as_written : List Stmt → UnrolledSteps
+as_written stmts = in_a_line (map stmt_as_written stmts) End

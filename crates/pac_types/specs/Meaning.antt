@@ -11,7 +11,7 @@ use Rattle.pac_types.specs.declared.procedure.Proc.{Proc}
 use Rattle.pac_types.specs.declared.statement.Stmt.{Stmt}
 use Rattle.pac_types.specs.declared.statement.Stmt.TheOpen.{Stmt-F, If, For}
 use Rattle.pac_types.specs.declared.statement.Stmt.TheFolds.{fold-Stmt}
-use Rattle.pac_types.specs.Unrolled.{Steps, End, Op, Branch, turns, unrolled}
+use Rattle.pac_types.specs.Unrolled.{UnrolledSteps, End, Op, Branch, turns, unrolled}
 
 -- an abort: the number of the operation, and the reason
 abbrev pub Abort : Type 0
@@ -45,7 +45,7 @@ abbrev pub operations : List Stmt → ℕ
 operations stmts = together (map stmt_operations stmts)
 
 -- the same of steps
-abbrev pub step_count : Steps → ℕ
+abbrev pub step_count : UnrolledSteps → ℕ
 step_count End = 0
 step_count (Op kind rest) = 1 + step_count rest
 step_count (Branch x e first second rest) = 1 + (step_count first + step_count second) + step_count rest
@@ -58,7 +58,7 @@ branch (Truth true) first second = first
 branch v first second = second
 
 -- what steps do, where the first operation has the number n
-abbrev pub runs : Steps → ℕ → State → Result State Abort
+abbrev pub runs : UnrolledSteps → ℕ → State → Result State Abort
 runs End n s = Ok s
 runs (Op kind rest) n s = at_operation n (done kind s) >>= λ t. runs rest (n + 1) t
 runs (Branch x e first second rest) n s = at_operation n (or_abort (value e s.env))

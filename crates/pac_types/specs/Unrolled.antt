@@ -15,10 +15,10 @@ use Rattle.pac_types.specs.declared.statement.Stmt.TheOpen.{Stmt-F, Let, Read, H
 use Rattle.pac_types.specs.declared.statement.Stmt.TheFolds.{fold-Stmt}
 
 -- operations one after another; a branch is a test that gives its variable a value, two blocks, and what comes after them
-pub data Steps : Type 0 where
-  End : Steps
-  Op : OpKind → Steps → Steps
-  Branch : ℕ → Expr → Steps → Steps → Steps → Steps
+pub data UnrolledSteps : Type 0 where
+  End : UnrolledSteps
+  Op : OpKind → UnrolledSteps → UnrolledSteps
+  Branch : ℕ → Expr → UnrolledSteps → UnrolledSteps → UnrolledSteps → UnrolledSteps
 
 -- ---- numbers
 
@@ -36,8 +36,8 @@ ascending i zero = []
 ascending i (suc k) = i ∷ ascending (i +ℤ pos 1) k
 
 -- the numbers of a loop's turns
-abbrev pub numbers : ℤ → ℤ → List ℤ
-numbers from to = ascending from (turns from to)
+abbrev pub turn_numbers : ℤ → ℤ → List ℤ
+turn_numbers from to = ascending from (turns from to)
 
 -- ---- names
 
@@ -61,30 +61,30 @@ pub record Point : Type 0 where
   pub next : ℕ
 
 -- from now on a variable of the text stands for this
-abbrev pub naming : Names → ℕ → Expr → Names
-naming names x e y = if y == x then e else names y
+abbrev pub renaming : Names → ℕ → Expr → Names
+renaming names x e y = if y == x then e else names y
 
 -- from now on it stands for the next variable
 abbrev pub with_next : ℕ → Point → Point
-with_next x p = record { names = naming p.names x (expr.Var p.next); next = p.next + 1 }
+with_next x p = record { names = renaming p.names x (expr.Var p.next); next = p.next + 1 }
 
 -- from now on it stands for the number of a turn
 abbrev pub with_turn : ℕ → ℤ → Point → Point
-with_turn x i p = record { names = naming p.names x (expr.Lit (Int i)); next = p.next }
+with_turn x i p = record { names = renaming p.names x (expr.Lit (Int i)); next = p.next }
 
 -- ---- statements
 
 -- what a statement is to unrolling: how far this has come after it, and its steps, which stand before those after it
 pub record Unrolling : Type 0 where
   pub after : Point → Point
-  pub steps : Point → Steps → Steps
+  pub steps : Point → UnrolledSteps → UnrolledSteps
 
 -- statements one after another
 abbrev pub all_after : List Unrolling → Point → Point
 all_after [] p = p
 all_after (u ∷ us) p = all_after us (u.after p)
 
-abbrev pub in_steps : List Unrolling → Point → Steps → Steps
+abbrev pub in_steps : List Unrolling → Point → UnrolledSteps → UnrolledSteps
 in_steps [] p rest = rest
 in_steps (u ∷ us) p rest = u.steps p (in_steps us (u.after p) rest)
 
@@ -93,7 +93,7 @@ abbrev pub after_turns : ℕ → List Unrolling → List ℤ → Point → Point
 after_turns x body [] p = p
 after_turns x body (i ∷ is) p = after_turns x body is (all_after body (with_turn x i p))
 
-abbrev pub in_turns : ℕ → List Unrolling → List ℤ → Point → Steps → Steps
+abbrev pub in_turns : ℕ → List Unrolling → List ℤ → Point → UnrolledSteps → UnrolledSteps
 in_turns x body [] p rest = rest
 in_turns x body (i ∷ is) p rest = in_steps body (with_turn x i p) (in_turns x body is (all_after body (with_turn x i p)) rest)
 
@@ -126,7 +126,7 @@ unroll_conditional x e first second = record {
 
 -- a loop stands for its block repeated once for each turn
 abbrev pub unroll_loop : ℕ → List ℤ → List Unrolling → Unrolling
-unroll_loop x numbers body = record { after = after_turns x body numbers; steps = in_turns x body numbers }
+unroll_loop x turn_numbers body = record { after = after_turns x body turn_numbers; steps = in_turns x body turn_numbers }
 
 abbrev pub unroll_step : Stmt-F Unrolling → Unrolling
 unroll_step (Let x e) = unroll_one (kind.Let x e)
@@ -137,7 +137,7 @@ unroll_step (Set t k c e) = unroll_one (kind.SetCol t k c e)
 unroll_step (Delete t k) = unroll_one (kind.Delete t k)
 unroll_step (AbortIf e) = unroll_one (kind.AbortIf e)
 unroll_step (If x e first second) = unroll_conditional x e first second
-unroll_step (For x from to body) = unroll_loop x (numbers from to) body
+unroll_step (For x from to body) = unroll_loop x (turn_numbers from to) body
 
 -- what a statement is
 abbrev pub unrolling : Stmt → Unrolling
@@ -148,5 +148,5 @@ abbrev pub beginning : Proc → Point
 beginning proc = record { names = expr.Var; next = length proc.params }
 
 -- the steps of a procedure
-abbrev pub unrolled : Proc → Steps
+abbrev pub unrolled : Proc → UnrolledSteps
 unrolled proc = in_steps (map unrolling proc.body) (beginning proc) End

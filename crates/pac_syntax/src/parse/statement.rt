@@ -3,7 +3,7 @@ ghost use Rattle.std.specs.Prelude.{◌≡◌, ◌∷◌, ◌++◌, [], ◌<◌,
 ghost use Rattle.pac_base.specs.Refusals.{Gives};
 ghost use Rattle.pac_syntax.specs.Grammar.{Role};
 ghost use Rattle.pac_syntax.specs.Machine.{Steps, MaybeElse, WantBound, MoreStmts, MoreValues, abort_steps, block_steps, bounds_steps, delete_steps, for_steps, has_steps, if_steps, let_steps, cell_steps, field_steps, put_steps, read_steps, set_steps, stmt_steps, stmt_word, run, either, values_steps};
-ghost use Rattle.pac_syntax.specs.Views.{is_too_deep, unless, IsLimit, Goes, GoesAll, NoLonger, IsShorter};
+ghost use Rattle.pac_syntax.specs.Views.{is_too_deep, fault_or, IsLimit, Goes, GoesAll, NoLonger, IsShorter};
 ghost use Rattle.pac_syntax.specs.declared.limits.Around.{Around as AnAround};
 ghost use Rattle.pac_tokens.specs.declared.fault.Fault.{Fault as AFault};
 ghost use Rattle.pac_syntax.specs.declared.tree.ExprNode.{ExprNode as AnExprNode};
@@ -209,7 +209,7 @@ impl<'a> Parser<'a> {
     // [ "-" ] INT
     fn bound(&mut self) -> Result<i64, SyntaxError>
         ensures left { OnOk result (NoLonger self.old self.new) }
-        ensures run { (role : ℤ → Role) (limit : ℤ → Option AFault) (k : ℤ → Steps) → IsLimit role limit → Gives (λ z. unless (limit z) (run self.new.end (k z) self.new.rest.now)) result (run self.old.end (WantBound role k) self.old.rest.now) }
+        ensures run { (role : ℤ → Role) (limit : ℤ → Option AFault) (k : ℤ → Steps) → IsLimit role limit → Gives (λ z. fault_or (limit z) (run self.new.end (k z) self.new.rest.now)) result (run self.old.end (WantBound role k) self.old.rest.now) }
     {
         let Some((value, rest)) = int_or_text(self.rest) else {
             // After a `-` the fault is that of the next token.

@@ -4,7 +4,7 @@ use Rattle.std.proofs.lemmas.Int.{ints, to_z-of_z}
 use Rattle.std.proofs.lemmas.List.{drop_more}
 use Rattle.pac_types.specs.declared.statement.Stmt.{Stmt}
 use Rattle.pac_types.specs.Meaning.{operations}
-use Rattle.pac_types.specs.Unrolled.{Point, with_turn, End, unrolling, all_after, in_steps, numbers, in_turns, after_turns, turns}
+use Rattle.pac_types.specs.Unrolled.{Point, with_turn, End, unrolling, all_after, in_steps, turn_numbers, in_turns, after_turns, turns}
 use Rattle.pac_ops.specs.declared.program.OpKind.TheVariants.{Cond}
 use Rattle.pac_flat.specs.FlatForm.{flat, inside}
 use Rattle.pac_flat.specs.Names.{point_of}
@@ -72,8 +72,8 @@ push_turns-loop-number-preserved t c =
     let us = map unrolling body in
     record {
       next = omega (arith, ap (λ z. turns z to * operations body) more, turn-fits n to (operations body) below, inv.next, e.next, ap (λ (z : Point). z.next) c.in_ok-name_turn.ensures);
-      point = ap (λ z. after_turns c.args.var us (numbers z to) q) more
+      point = ap (λ z. after_turns c.args.var us (turn_numbers z to) q) more
           ∙ turn-point c.args.var body c.args.conds.now n to below p q c.loop-number.ops.items c.push_block.new.ops.items after pushed ∙ inv.point;
-      ops = ap (λ z. c.push_block.new.ops.items ++ flat (in_turns c.args.var us (numbers z to) q End) c.args.conds.now) more
+      ops = ap (λ z. c.push_block.new.ops.items ++ flat (in_turns c.args.var us (turn_numbers z to) q End) c.args.conds.now) more
           ∙ turn-ops c.args.var body c.args.conds.now n to below p q c.loop-number.ops.items c.push_block.new.ops.items after pushed ∙ inv.ops;
     }

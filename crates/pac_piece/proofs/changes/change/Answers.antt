@@ -5,7 +5,7 @@ use Rattle.pac_value.specs.State.{Cell}
 use Rattle.pac_tables.specs.declared.writes.Write.{Write}
 use Rattle.pac_tables.specs.Written.{cell_written}
 use Rattle.std.specs.Prelude.{position}
-use Rattle.pac_piece.specs.Changes.{is_at, Changes}
+use Rattle.pac_piece.specs.Changes.{is_at, ChangesCell}
 use Rattle.pac_piece.proofs.WriteLookups.{first_at, none_at, replaced, added}
 use Rattle.pac_piece.proofs.changes.change.Goals as goal
 
@@ -26,5 +26,5 @@ returns-in_ok-insert-in-None c =
     let cell : Cell = (c.args.table, c.args.key) in
     let ws = c.args.writes.now.items in
     let new : Write = record { table = c.args.table; key = c.args.key; row = c.args.row } in
-    subst (λ (items : List Write). Changes cell c.args.row ws items) (sym c.in_ok-insert-in-None.ensures.items)
+    subst (λ (items : List Write). ChangesCell cell c.args.row ws items) (sym c.in_ok-insert-in-None.ensures.items)
     (added new ws (none_at cell ws (ap (position (is_at cell)) (sym c.deref.ensures.value) ∙ sym c.find.ensures ∙ c.in-None.is)) c.requires)

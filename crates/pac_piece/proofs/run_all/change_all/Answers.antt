@@ -3,7 +3,7 @@ use Rattle.std.proofs.Common.{◌≡◌, ◌<◌, ◌+◌, List, [], ◌∷◌, 
 use Rattle.std.proofs.lemmas.List.{drop_more, drop_all}
 use Rattle.pac_ops.specs.declared.transaction.Change.{Change}
 use Rattle.pac_ops.specs.Effects.{numbered_from, record_op}
-use Rattle.pac_piece.specs.Frames.{RunsOn, seen}
+use Rattle.pac_piece.specs.Frames.{RunsOn, state_seen}
 use Rattle.pac_piece.proofs.RunLemmas.{starts, goes_on, ends, record_steps}
 use Rattle.pac_piece.proofs.run_all.change_all.Goals as goal
 
@@ -21,8 +21,8 @@ loop-change-preserved c = λ rows txn.
     let change = c.change-item.result in
     let inside : i < length records = c.loop-change-test.true in
     let rest : drop i records ≡ change ∷ drop (i + 1) records = drop_more records i change inside ∙ ap (λ (x : Change). x ∷ drop (i + 1) records) (sym c.change-item.is) in
-    let on = subst (λ (cs : List Change). RunsOn rows txn (numbered_from 0 (map record_op records)) (seen rows c.args.frame.now) (numbered_from i (map record_op cs)) c.loop-change.frame) rest (c.loop-change.invariant rows txn) in
-    goes_on rows txn (numbered_from 0 (map record_op records)) (seen rows c.args.frame.now) (i, record_op change) (numbered_from (i + 1) (map record_op (drop (i + 1) records))) c.loop-change.frame c.change_one.new.frame on
+    let on = subst (λ (cs : List Change). RunsOn rows txn (numbered_from 0 (map record_op records)) (state_seen rows c.args.frame.now) (numbered_from i (map record_op cs)) c.loop-change.frame) rest (c.loop-change.invariant rows txn) in
+    goes_on rows txn (numbered_from 0 (map record_op records)) (state_seen rows c.args.frame.now) (i, record_op change) (numbered_from (i + 1) (map record_op (drop (i + 1) records))) c.loop-change.frame c.change_one.new.frame on
     (record_steps rows txn i change c.loop-change.frame c.change_one.new.frame c.in_ok-change_one.ensures)
 
 pub returns : goal.returns
@@ -31,5 +31,5 @@ returns c = λ rows txn.
     let records = c.args.records.now in
     let i = c.loop-change.change-index in
     let none : drop i records ≡ [] = drop_all i records (omega arith) in
-    ends rows txn (numbered_from 0 (map record_op records)) (seen rows c.args.frame.now) c.loop-change.frame
-    (subst (λ (cs : List Change). RunsOn rows txn (numbered_from 0 (map record_op records)) (seen rows c.args.frame.now) (numbered_from i (map record_op cs)) c.loop-change.frame) none (c.loop-change.invariant rows txn))
+    ends rows txn (numbered_from 0 (map record_op records)) (state_seen rows c.args.frame.now) c.loop-change.frame
+    (subst (λ (cs : List Change). RunsOn rows txn (numbered_from 0 (map record_op records)) (state_seen rows c.args.frame.now) (numbered_from i (map record_op cs)) c.loop-change.frame) none (c.loop-change.invariant rows txn))

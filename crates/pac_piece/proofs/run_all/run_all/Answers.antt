@@ -3,7 +3,7 @@ use Rattle.std.proofs.Common.{◌≡◌, ◌<◌, ◌+◌, List, ◌∷◌, leng
 use Rattle.std.proofs.lemmas.List.{drop_more}
 use Rattle.pac_ops.specs.Effects.{NumberedOp}
 use Rattle.pac_ops.specs.Operations.{State}
-use Rattle.pac_piece.specs.Frames.{CanRun, RunsOn, seen}
+use Rattle.pac_piece.specs.Frames.{CanRun, RunsOn, state_seen}
 use Rattle.pac_piece.proofs.RunLemmas.{starts, goes_on}
 use Rattle.pac_piece.proofs.run_all.run_all.Goals as goal
 
@@ -20,7 +20,7 @@ loop-op-preserved c =
     let rest : drop i ops ≡ op ∷ drop (i + 1) ops = drop_more ops i op inside ∙ ap (λ (x : NumberedOp). x ∷ drop (i + 1) ops) (sym c.op-item.is) in
     let step = c.in_ok-run_op.ensures in
     record {
-      can = subst (λ (s : State). CanRun (drop (i + 1) ops) s) (sym step.state) (subst (λ (os : List NumberedOp). CanRun os (seen rows c.loop-op.frame)) rest c.loop-op.invariant.can).1;
-      on = goes_on rows c.args.txn ops (seen rows c.args.frame.now) op (drop (i + 1) ops) c.loop-op.frame c.run_op.new.frame
-          (subst (λ (os : List NumberedOp). RunsOn rows c.args.txn ops (seen rows c.args.frame.now) os c.loop-op.frame) rest c.loop-op.invariant.on) step;
+      can = subst (λ (s : State). CanRun (drop (i + 1) ops) s) (sym step.state) (subst (λ (os : List NumberedOp). CanRun os (state_seen rows c.loop-op.frame)) rest c.loop-op.invariant.can).1;
+      on = goes_on rows c.args.txn ops (state_seen rows c.args.frame.now) op (drop (i + 1) ops) c.loop-op.frame c.run_op.new.frame
+          (subst (λ (os : List NumberedOp). RunsOn rows c.args.txn ops (state_seen rows c.args.frame.now) os c.loop-op.frame) rest c.loop-op.invariant.on) step;
     }

@@ -1,7 +1,7 @@
 -- The operation has its effect.
 use Rattle.std.proofs.Common.{◌≡◌, true, subst}
 use Rattle.pac_ops.specs.Flat.{all_hold}
-use Rattle.pac_piece.specs.Frames.{seen}
+use Rattle.pac_piece.specs.Frames.{state_seen}
 use Rattle.pac_piece.specs.Effects.{effect_of}
 use Rattle.pac_piece.specs.Steps.{AnswersAt}
 use Rattle.pac_piece.proofs.StepLemmas.{on_ok, stepped}
@@ -9,6 +9,6 @@ use Rattle.pac_piece.proofs.run_op.run_op.Goals as goal
 
 pub returns-in-Ok : goal.returns-in-Ok
 returns-in-Ok c =
-    let at = subst (λ (r : _). AnswersAt c.args.op.now.1.kind (seen c.args.rows.now c.args.frame.now) r) c.in-Ok.is c.touched_effect.ensures in
+    let at = subst (λ (r : _). AnswersAt c.args.op.now.1.kind (state_seen c.args.rows.now c.args.frame.now) r) c.in-Ok.is c.touched_effect.ensures in
     let holds : all_hold c.args.frame.now.env c.args.op.now.1.conds ≡ true = cc in
     on_ok c.apply.result (stepped c.args.rows.now c.args.txn c.args.op.now c.args.frame.now c.apply.new.frame c.in-Ok.cell (effect_of c.in-Ok.effect) holds at.0 at.1) c.apply.ensures

@@ -9,7 +9,7 @@ use Rattle.pac_types.specs.Meaning.{Abort}
 use Rattle.pac_serial.specs.TextMeaning.{Code, code_step, code, code_count, run_turns, text_meaning}
 use Rattle.pac_value.specs.declared.values.Value.TheVariants.{Int}
 use Rattle.pac_ops.specs.Operations.{State, define}
-use Rattle.pac_types.specs.Unrolled.{natural, turns, numbers}
+use Rattle.pac_types.specs.Unrolled.{natural, turns, turn_numbers}
 use Rattle.pac_types.proofs.StmtForms.{at-For}
 use Rattle.pac_serial.specs.declared.operation.Halt.{Halt}
 use Rattle.pac_serial.specs.WriteSets.{as_changed}
@@ -101,9 +101,9 @@ exec_stmt-returns-in-For-clause-runs g t c =
     let held = g.R.Rows.held c.args.rows.now in
     let fits_from : FitsSigned w64 e.from = search rules in
     let fits_to : FitsSigned w64 e.to = search rules in
-    let does : (code c.args.stmt.now).run ≡ run_turns e.var (map code c.as_slice-in-For.result.now) (numbers (to_z w64 (of_z w64 e.from)) (to_z w64 (of_z w64 e.to))) =
+    let does : (code c.args.stmt.now).run ≡ run_turns e.var (map code c.as_slice-in-For.result.now) (turn_numbers (to_z w64 (of_z w64 e.from)) (to_z w64 (of_z w64 e.to))) =
     ap (λ (k : Code). k.run) (at-For Code code_step c.args.stmt.now e.var e.from e.to e.body e.is)
-    ∙ (λ i. run_turns e.var (map code (sym c.as_slice-in-For.ensures i)) (numbers (sym (to_z-of_z w64 e.from fits_from) i) (sym (to_z-of_z w64 e.to fits_to) i))) in
+    ∙ (λ i. run_turns e.var (map code (sym c.as_slice-in-For.ensures i)) (turn_numbers (sym (to_z-of_z w64 e.from fits_from) i) (sym (to_z-of_z w64 e.to fits_to) i))) in
     λ n. subst (λ (run : ℕ → State → Result State Abort). RunsFrom n c.exec_turns.result (run n (state_of held c.args.txn.now)) (state_of held c.exec_turns.new.txn)) (sym does) (c.exec_turns.ensures.runs n)
 
 pub exec_stmt-returns-in-For-clause-within : goal.exec_stmt-returns-in-For-clause-within
@@ -157,10 +157,10 @@ exec_turns-returns-in-Err-clause-runs g t c =
     let fits_to : FitsSigned w64 c.args.to = search rules in
     let begun : State = record { env = c.define.new.env; tables = as_changed held c.loop-number.txn.write_set } in
     let begins : begun ≡ define c.args.var (Int n) (state_of held c.loop-number.txn) = λ i. record { env = c.in_ok-define.ensures.ok i; tables = as_changed held c.loop-number.txn.write_set } in
-    λ m. subst (λ (h : Halt). RunsFrom m (Failed h) (run_turns c.args.var (map code c.args.body.now) (numbers c.args.from c.args.to) m (state_of held c.args.txn.now)) (state_of held c.exec_block.new.txn)) (sym (c.after.ensures ∙ ap (λ k. moved k c.in-Err.halt) c.count_before.ensures))
-    (moved-runs c.in-Err.halt m (natural (n -ℤ from) * code_count c.args.body.now) (text_meaning c.args.body.now (m + natural (n -ℤ from) * code_count c.args.body.now) begun) (run_turns c.args.var (map code c.args.body.now) (numbers c.args.from c.args.to) m (state_of held c.args.txn.now))
+    λ m. subst (λ (h : Halt). RunsFrom m (Failed h) (run_turns c.args.var (map code c.args.body.now) (turn_numbers c.args.from c.args.to) m (state_of held c.args.txn.now)) (state_of held c.exec_block.new.txn)) (sym (c.after.ensures ∙ ap (λ k. moved k c.in-Err.halt) c.count_before.ensures))
+    (moved-runs c.in-Err.halt m (natural (n -ℤ from) * code_count c.args.body.now) (text_meaning c.args.body.now (m + natural (n -ℤ from) * code_count c.args.body.now) begun) (run_turns c.args.var (map code c.args.body.now) (turn_numbers c.args.from c.args.to) m (state_of held c.args.txn.now))
     (state_of held c.exec_block.new.txn) (state_of held c.exec_block.new.txn) (c.in-Err.ensures.runs (m + natural (n -ℤ from) * code_count c.args.body.now))
-    (λ abort h. (λ i. run_turns c.args.var (map code c.args.body.now) (numbers (sym (to_z-of_z w64 c.args.from fits_from) i) (sym (to_z-of_z w64 c.args.to fits_to) i)) m (state_of held c.args.txn.now)) ∙ sym (c.loop-number.invariant.so_far m)
+    (λ abort h. (λ i. run_turns c.args.var (map code c.args.body.now) (turn_numbers (sym (to_z-of_z w64 c.args.from fits_from) i) (sym (to_z-of_z w64 c.args.to fits_to) i)) m (state_of held c.args.txn.now)) ∙ sym (c.loop-number.invariant.so_far m)
     ∙ turn-aborts c.args.var c.args.body.now from n to c.loop-number.invariant.up below m (state_of held c.loop-number.txn) begun abort begins h))
 
 pub exec_turns-returns-in-Err-clause-within : goal.exec_turns-returns-in-Err-clause-within
@@ -192,7 +192,7 @@ exec_turns-loop-number-preserved g t c =
       up = subst (λ z. from ≤ℤ z) (sym more) (up-one from n c.loop-number.invariant.up);
       over = c.in-Ok.ensures.over;
       keeps = turn-keeps c.args.var (any_defines (map (check c.args.tables.now) body)) c.args.txn.now.env c.loop-number.txn.env c.define.new.env c.exec_block.new.txn.env c.loop-number.invariant.keeps c.in_ok-define.ensures.types c.in-Ok.ensures.keeps;
-      so_far = λ m. ap (λ z. run_turns c.args.var (map code body) (numbers z to) (m + natural (z -ℤ from) * code_count body) (state_of held c.exec_block.new.txn)) more
+      so_far = λ m. ap (λ z. run_turns c.args.var (map code body) (turn_numbers z to) (m + natural (z -ℤ from) * code_count body) (state_of held c.exec_block.new.txn)) more
           ∙ turn-runs c.args.var body from n to c.loop-number.invariant.up below m (state_of held c.loop-number.txn) begun (state_of held c.exec_block.new.txn) begins (c.in-Ok.ensures.runs (m + natural (n -ℤ from) * code_count body))
           ∙ c.loop-number.invariant.so_far m;
     }

@@ -3,7 +3,7 @@ use Rattle.std.proofs.Common.{◌≡◌, ◌+◌, ◌*◌, ◌==◌, ◌||◌, �
 use Rattle.pac_value.specs.Expressions.{types_of}
 use Rattle.pac_types.specs.WellFormed.{check, any_defines, scope_after_all}
 use Rattle.pac_serial.specs.TextMeaning.{code, code_count, run_turns, text_meaning}
-use Rattle.pac_types.specs.Unrolled.{natural, numbers}
+use Rattle.pac_types.specs.Unrolled.{natural, turn_numbers}
 use Rattle.pac_serial.specs.Outcomes.{KeepsTypes}
 use Rattle.pac_serial.specs.Transactions.{state_of, RunsOver}
 use Rattle.pac_serial.proofs.statement.+exec.Given as goal
@@ -22,6 +22,6 @@ invariant-exec_turns-loop-number g l = record {
   up : l.from ≤ℤ l.number;
   over : RunsOver l.tables (g.R.Rows.tables l.rows) (g.R.Rows.held l.rows) l.txn.write_set;
   keeps : KeepsTypes (λ y. y == l.var || any_defines (map (check l.tables) l.body) y) l.fn.txn.env l.txn.env;
-  so_far : (n : ℕ) → run_turns l.var (map code l.body) (numbers l.number l.to) (n + natural (l.number -ℤ l.from) * code_count l.body) (state_of (g.R.Rows.held l.rows) l.txn)
-      ≡ run_turns l.var (map code l.body) (numbers l.from l.to) n (state_of (g.R.Rows.held l.rows) l.fn.txn);
+  so_far : (n : ℕ) → run_turns l.var (map code l.body) (turn_numbers l.number l.to) (n + natural (l.number -ℤ l.from) * code_count l.body) (state_of (g.R.Rows.held l.rows) l.txn)
+      ≡ run_turns l.var (map code l.body) (turn_numbers l.from l.to) n (state_of (g.R.Rows.held l.rows) l.fn.txn);
 }

@@ -7,7 +7,7 @@ use Rattle.pac_plan.specs.declared.parts.PlanParts.{PlanParts}
 use Rattle.pac_plan.specs.Pieces.{has_ops}
 use Rattle.pac_plan.specs.PieceFits.{records_in}
 use Rattle.pac_plan.specs.Codes.{TxnFitsPlan, piece_ops}
-use Rattle.pac_keys.specs.Records.{has_items}
+use Rattle.pac_keys.specs.Records.{has_records}
 use Rattle.pac_keys.proofs.RecordTouches.{adhoc-exists}
 use Rattle.pac_keys.proofs.plan_code.PlanCode.has_piece.Goals as goal
 
@@ -21,7 +21,7 @@ pub returns-in-AdHoc : goal.returns-in-AdHoc
 returns-in-AdHoc c =
     let self = c.args.self.now in
     c.has_record.ensures
-    ∙ ap (λ (parts : PlanParts). has_items (records_in parts c.args.block c.items.result.now)) c.self.view_is
-    ∙ ap (λ (records : List Change). has_items (records_in self c.args.block records)) c.items.ensures.value
+    ∙ ap (λ (parts : PlanParts). has_records (records_in parts c.args.block c.items.result.now)) c.self.view_is
+    ∙ ap (λ (records : List Change). has_records (records_in self c.args.block records)) c.items.ensures.value
     ∙ sym (adhoc-exists self c.args.block c.in-AdHoc.records)
     ∙ ap (λ (txn : Txn). has_ops (piece_ops self c.args.block txn)) (sym c.in-AdHoc.is)
