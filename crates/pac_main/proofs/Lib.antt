@@ -3,6 +3,7 @@ pub mod InputLemmas
 pub mod StatusLemmas
 pub mod StopLemmas
 pub mod ExplainLemmas
+pub mod OneExplanation
 pub mod CommandLemmas
 pub mod InitLemmas
 pub mod RecoverLemmas

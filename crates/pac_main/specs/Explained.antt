@@ -54,9 +54,14 @@ pub record IsTreeExplanation (with_text : Bool) (tree : Tree) (written : List �
 abbrev pub IsExplanation : Bool → List ℕ → List ℕ → Type 0
 IsExplanation with_text text written = (tree : Tree) × Reads text tree × IsTreeExplanation with_text tree written
 
+-- this explains a text, and nothing else does
+pub record IsTheExplanation (with_text : Bool) (text written : List ℕ) : Type 0 where
+  pub is : IsExplanation with_text text written
+  pub only : (other : List ℕ) → IsExplanation with_text text other → other ≡ written
+
 -- the input is explained by a text with this property, where the source's bytes are known
 abbrev pub IsExplanationOf : Bool → Option (List ℕ) → (List ℕ → Type 0) → Type 0
-IsExplanationOf with_text input P = (written : List ℕ) × IfSome input (λ text. IsExplanation with_text text written) × P written
+IsExplanationOf with_text input P = (written : List ℕ) × IfSome input (λ text. IsTheExplanation with_text text written) × P written
 
 -- ---- why a catalogue isn't explained
 

@@ -4,7 +4,7 @@ ghost use Rattle.pac_outside.specs.Content.{GaveAtMost};
 ghost use Rattle.pac_syntax.specs.declared.limits.TheConstants.{MAX_CATALOGUE};
 ghost use Rattle.pac_main.specs.Causes.{ExplainStops, GivesNoExplanation};
 ghost use Rattle.pac_main.specs.Commands.{AsksExplain, IsExplain};
-ghost use Rattle.pac_main.specs.Explained.{ExplainEnds, IsExplanation, IsExplanationOf};
+ghost use Rattle.pac_main.specs.Explained.{ExplainEnds, IsExplanationOf, IsTheExplanation};
 ghost use Rattle.pac_main.specs.Stop.{status_of, line_of};
 ghost use Rattle.pac_main.specs.Streams.{IsOneOf, IsTaken, IsReported, observed};
 ghost use Rattle.pac_main.specs.declared.stop.Stop.{Stop as AStop};
@@ -25,7 +25,7 @@ fn read_explanation<I: Source>(
     with_text: bool,
     input: &mut I,
 ) -> Result<Vec<u8>, InputError>
-    ensures ok { IfOk result (λ written. IfSome (I.left input.old) (λ text. IsExplanation with_text text written.items)) }
+    ensures ok { IfOk result (λ written. IfSome (I.left input.old) (λ text. IsTheExplanation with_text text written.items)) }
     ensures stops { IfErr result (GivesNoExplanation (observed I.left I.faults input.old input.new)) }
     ensures taken { GaveAtMost (MAX_CATALOGUE + 1) (I.left input.old) (I.left input.new) }
 {

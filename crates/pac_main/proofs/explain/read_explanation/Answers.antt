@@ -6,12 +6,13 @@ use Rattle.pac_main.specs.Explained.{IsExplanation, IsUnexplained}
 use Rattle.pac_main.specs.Streams.{observed}
 use Rattle.pac_main.proofs.InputLemmas.{if_err}
 use Rattle.pac_main.proofs.ExplainLemmas.{input-explained, catalogue-unread, no-explanation}
+use Rattle.pac_main.proofs.OneExplanation.{the-explanation}
 use Rattle.pac_main.proofs.explain.read_explanation.Goals as goal
 
 pub returns-clause-ok : goal.returns-clause-ok
 returns-clause-ok g c =
-    input-explained c.args.with_text _ _ c.in_ok-text.text.items c.in_ok-explain.field-0.items c.in_ok-text.ensures.bytes c.in_ok-text.ensures.end
-    (subst (λ (text : List ℕ). IsExplanation c.args.with_text text c.in_ok-explain.field-0.items) c.deref.ensures.value c.in_ok-explain.ensures.ok)
+    the-explanation c.args.with_text _ c.in_ok-explain.field-0.items (input-explained c.args.with_text _ _ c.in_ok-text.text.items c.in_ok-explain.field-0.items c.in_ok-text.ensures.bytes c.in_ok-text.ensures.end
+    (subst (λ (text : List ℕ). IsExplanation c.args.with_text text c.in_ok-explain.field-0.items) c.deref.ensures.value c.in_ok-explain.ensures.ok))
 
 pub returns-in_err-text-clause-stops : goal.returns-in_err-text-clause-stops
 returns-in_err-text-clause-stops g c =
