@@ -50,7 +50,17 @@ impl Model for Done {
 
     ghost Value = { WorkDone };
 
-    ghost coded = { code_by (AWork × List AWrite × Values × Option ANote) (Prim.hlevel (codes, work_type.the_row.coded, write_type.the_row.coded, note_type.the_row.coded, map.code {R = nat_cmp} coded_ℕ value_type.the_row.coded)) (λ done. (done.work, done.writes, done.outs, done.note)) (λ p. record { work = p.0; writes = p.1; outs = p.2; note = p.3 }) (λ done. refl) };
+    ghost coded = { code_by (AWork × List AWrite × Values × Option ANote)
+        (Prim.hlevel (
+          codes,
+          work_type.the_row.coded,
+          write_type.the_row.coded,
+          note_type.the_row.coded,
+          map.code {R = nat_cmp} coded_ℕ value_type.the_row.coded,
+        ))
+        (λ done. (done.work, done.writes, done.outs, done.note))
+        (λ p. record { work = p.0; writes = p.1; outs = p.2; note = p.3 })
+        (λ done. refl) };
 
     ghost view = { λ done. record { work = done.work; writes = done.writes; outs = done.outs; note = done.note } };
 
