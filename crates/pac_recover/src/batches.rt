@@ -2,6 +2,7 @@
 ghost use Rattle.std.specs.Prelude.{◌≡◌, ◌+◌, ◌-◌, ◌<◌, ◌^◌, ℕ, length, Ok, Err, OnOk, IsErrOf};
 ghost use Rattle.pac_ops.specs.declared.note.Note.{Note as ANote};
 ghost use Rattle.pac_types.specs.Execution.{serial};
+ghost use Rattle.pac_types.specs.OperationLimits.{HasFewOperations};
 ghost use Rattle.pac_types.specs.Fits.{FitsCatalogue};
 ghost use Rattle.pac_recover.specs.Gates.{txns_in, RunOn};
 ghost use Rattle.pac_recover.specs.Logs.{FitBatches};
@@ -25,6 +26,7 @@ pub fn execute<R: Rows>(
     batches: &[Batch],
     rows: &mut R,
 ) -> Result<(), AllError>
+    requires operations { HasFewOperations cat.now.procs }
     requires runs { RunOn before batches.now }
     requires fit { FitBatches cat.now batches.now }
     requires fits { FitsCatalogue cat.now (R.tables rows.old) (R.held rows.old) }

@@ -76,6 +76,7 @@ pub fn recover<D: Disk, G: Gate>(
         reader,
         slots: _,
     } = load(alloc, devices)?;
+    let _few = reader.gate().catalogue(); // the same, which has few operations
     execute(alloc, &catalogue, txns, batches.as_slice(), &mut tables)?;
     test_rows(&catalogue, &tables, limit)?;
     Ok(Recovered {

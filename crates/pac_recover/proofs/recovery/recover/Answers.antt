@@ -66,7 +66,7 @@ returns-in_err-test_rows-clause-stands g c =
 pub returns-clause-recovered : goal.returns-clause-recovered
 returns-clause-recovered g c =
     stored-recovered c.in_ok-catalogue.field-0 (g.D.Disk.known c.args.devices.now.log) (g.D.Disk.known c.args.devices.now.slot_a) (g.D.Disk.known c.args.devices.now.slot_b)
-    c.as_slice.result.now c.as_slice.ensures c.execute.new.rows.rows c.txns.result _ c.in_ok-execute.ensures.done (c.txns.ensures.value ∙ ap (λ (gate : NextGate). gate.txns) c.gate.ensures) c.in_ok-catalogue.ensures.well_formed.total c.in_ok-catalogue.ensures.stored
+    c.as_slice.result.now c.as_slice.ensures c.execute.new.rows.rows c.txns.result _ c.in_ok-execute.ensures.done (c.txns.ensures.value ∙ ap (λ (gate : NextGate). gate.txns) c.gate-2.ensures) c.in_ok-catalogue.ensures.well_formed.total c.in_ok-catalogue.ensures.stored
 
 pub returns-clause-stands : goal.returns-clause-stands
 returns-clause-stands g c =
