@@ -2,6 +2,7 @@
 ghost use Rattle.std.specs.Prelude.{◌≡◌, length, IfOk};
 ghost use Rattle.std.specs.FinMap.{empty};
 ghost use Rattle.pac_types.specs.Execution.{serial};
+ghost use Rattle.pac_types.specs.OperationLimits.{HasFewOperations};
 ghost use Rattle.pac_recover.specs.Gates.{RunOn, txns_in};
 ghost use Rattle.pac_request.specs.RequestFits.{BatchesFit, BatchesHaveNumbers};
 ghost use Rattle.pac_main.specs.Replay.{DoesEnd};
@@ -19,6 +20,7 @@ pub(crate) fn executed(
     catalogue: &Catalogue,
     batches: &[Batch],
 ) -> Result<HashedRows, AllError>
+    requires operations { HasFewOperations catalogue.now.procs }
     requires fit { BatchesFit catalogue.now batches.now }
     requires small { BatchesHaveNumbers batches.now }
     requires runs { RunOn 0 batches.now }

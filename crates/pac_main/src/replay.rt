@@ -1,6 +1,7 @@
 // The command `replay`.
 ghost use Rattle.std.specs.Prelude.{◌≡◌, ◌≢◌, ◌≤◌, ◌+◌, None, IfOk, IfErr, IfSome, OnOk, OnErr, Ok, length};
 ghost use Rattle.pac_outside.specs.Content.{GaveAtMost};
+ghost use Rattle.pac_types.specs.OperationLimits.{HasFewOperations};
 ghost use Rattle.pac_request.specs.RequestFits.{BatchesFit, BatchesHaveNumbers};
 ghost use Rattle.pac_main.specs.Causes.{GivesNoScript, ReplayStops, ScriptStops};
 ghost use Rattle.pac_recover.specs.Gates.{RunOn};
@@ -40,6 +41,7 @@ fn read_whole<I: Source>(alloc: Global, input: &mut I) -> Result<Vec<u8>, InputE
 // The script that the source holds.
 fn read_input<I: Source>(alloc: Global, input: &mut I) -> Result<Script, InputError>
     ensures ok { IfOk result (λ script. IsScriptOf script (I.left input.old)) }
+    ensures operations { IfOk result (λ script. HasFewOperations script.catalogue.procs) }
     ensures fit { IfOk result (λ script. BatchesFit script.catalogue script.batches) }
     ensures small { IfOk result (λ script. BatchesHaveNumbers script.batches) }
     ensures runs { IfOk result (λ script. RunOn 0 script.batches) }
@@ -52,6 +54,7 @@ fn read_input<I: Source>(alloc: Global, input: &mut I) -> Result<Script, InputEr
 
 // The tables with which a script's transactions end, where these are within the limit.
 fn finished(alloc: Global, limit: u32, script: &Script) -> Result<HashedRows, Stop>
+    requires operations { HasFewOperations script.now.catalogue.procs }
     requires fit { BatchesFit script.now.catalogue script.now.batches }
     requires small { BatchesHaveNumbers script.now.batches }
     requires runs { RunOn 0 script.now.batches }
