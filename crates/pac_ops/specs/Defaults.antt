@@ -26,9 +26,11 @@ trapped_step (Var x) = BoolTy
 trapped_step (Bin op l r) = if is_arithmetic op then IntTy else BoolTy
 trapped_step (Not e) = BoolTy
 
+-- the type that an expression which traps stands for
 abbrev pub trapped_expr : Expr → Ty
 trapped_expr = fold-Expr Ty trapped_step
 
+-- the type of the default that an operation which traps gives its variable
 abbrev pub trapped_type : OpKind → Ty
 trapped_type (Let x e) = trapped_expr e
 trapped_type (Cond x e) = BoolTy

@@ -49,11 +49,13 @@ pub data RowChange : Type 0 where
   Same : RowChange
   Now : Option RowValues → RowChange
 
+-- what an operation gives a variable, what it does to the row at its cell, and why it would abort
 pub record FlatEffect : Type 0 where
   pub gives : Option (ℕ × Value)
   pub change : RowChange
   pub reason : Option Reason
 
+-- it does nothing
 abbrev pub nothing : FlatEffect
 nothing = record { gives = None; change = Same; reason = None }
 
@@ -62,6 +64,7 @@ abbrev pub default_in : List Ty → Option ℕ → Option (ℕ × Value)
 default_in vars None = None
 default_in vars (Some x) = option_map (λ ty. (x, default_of ty)) (slice_get vars x)
 
+-- the effect of an operation that is done
 abbrev pub done_effect : Effect → FlatEffect
 done_effect Nothing = nothing
 done_effect (Gives x v) = record { gives = Some (x, v); change = Same; reason = None }
@@ -80,10 +83,12 @@ kind_effect vars kind env row = effect_or_default vars (defined_variable kind) (
 abbrev pub flat_effect : List Ty → FlatOp → Values → Option RowValues → FlatEffect
 flat_effect vars op env row = if all_hold env op.conds then kind_effect vars op.kind env row else nothing
 
+-- values with the one that is given
 abbrev pub given : Option (ℕ × Value) → Values → Values
 given None env = env
 given (Some g) env = insert env g.0 g.1
 
+-- tables with the change of the row at a cell
 abbrev pub changed : Option Cell → RowChange → Tables → Tables
 changed None c tables = tables
 changed (Some cell) Same tables = tables
@@ -97,11 +102,12 @@ with_flat cell e s = record { env = given e.gives s.env; tables = changed cell e
 abbrev pub NumberedOp : Type 0
 NumberedOp = ℕ × FlatOp
 
--- the state after operations that have numbers, and the notes that they leave
+-- the state after operations that have numbers
 unfoldable pub numbered_meaning : List Ty → List NumberedOp → State → State
 numbered_meaning vars [] s = s
 numbered_meaning vars (o ∷ os) s = numbered_meaning vars os (flat_done vars o.1 s)
 
+-- the notes that they leave
 unfoldable pub numbered_notes : List Ty → ℕ → List NumberedOp → State → List Note
 numbered_notes vars txn [] s = []
 numbered_notes vars txn (o ∷ os) s = note_at txn o.0 (flat_reason o.1 s) ++ numbered_notes vars txn os (flat_done vars o.1 s)

@@ -43,6 +43,7 @@ reason_order Asked Overflow = refl
 reason_order Asked DivZero = refl
 reason_order Asked Asked = refl
 
+-- the derived order of notes is this one
 pub note_order : (a b : Note) → (note.ghosts).cmp a b ≡ note_cmp a b
 note_order a b = λ i. ordering_then (nat_cmp a.txn b.txn) (ordering_then (nat_cmp a.op b.op) (reason_order a.reason b.reason i))
 

@@ -28,6 +28,7 @@ abbrev pub call_state : Option Program → List Value → Tables → State
 call_state None args tables = opening args tables
 call_state (Some program) args tables = flat_meaning program.vars program.ops (opening args tables)
 
+-- the notes that a call leaves
 abbrev pub call_notes : Option Program → ℕ → List Value → Tables → List Note
 call_notes None txn args tables = []
 call_notes (Some program) txn args tables = notes_of program.vars txn 0 program.ops (opening args tables)
@@ -37,6 +38,7 @@ abbrev pub txn_state : List Program → Txn → Tables → State
 txn_state programs (ACall call) tables = call_state (slice_get programs call.proc) call.args tables
 txn_state programs (AdHoc records) tables = record { env = empty; tables = with_changes tables records }
 
+-- the notes that a transaction leaves
 abbrev pub txn_notes : List Program → ℕ → Txn → Tables → List Note
 txn_notes programs txn (ACall call) tables = call_notes (slice_get programs call.proc) txn call.args tables
 txn_notes programs txn (AdHoc records) tables = []
