@@ -41,7 +41,7 @@ same_explanation : (with_text : Bool) (tree : Tree) (written other : List ℕ) �
 same_explanation with_text tree written other a b =
     let catalogues = one_catalogue tree b.catalogue a.catalogue b.typed a.typed in
     b.is ∙ ap (λ (graph : List ℕ). (if with_text then canonical tree else []) ++ graph)
-      (same_graph_text a.catalogue a.graph b.graph a.is_graph (subst (λ (c : CatalogueState). IsGraphText c b.graph) catalogues b.is_graph)) ∙ sym a.is
+    (same_graph_text a.catalogue a.graph b.graph a.is_graph (subst (λ (c : CatalogueState). IsGraphText c b.graph) catalogues b.is_graph)) ∙ sym a.is
 
 only-one : (with_text : Bool) (text written other : List ℕ) → IsExplanation with_text text written → IsExplanation with_text text other → other ≡ written
 only-one with_text text written other (tree, reads, is) (tree', reads', is') =
