@@ -15,6 +15,7 @@ use std::thread::Threads;
 // The words of each command, and the file that is its input.
 const COMMANDS: &[(&str, &str)] = &[
     ("replay", "add.script"),
+    ("replay", "fill.script"),
     ("explain", "bank.catalogue"),
     ("init", "bank.catalogue"),
     ("run --batch 1", "bank.lines"),
