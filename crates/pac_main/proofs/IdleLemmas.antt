@@ -99,6 +99,7 @@ idle-run group_size limit left held log a b faulted = record {
   begun = idle_begun (idle_rules group_size limit) 0 idle_start log a b;
   prefix = record { count = 0; is = refl };
   whole = tt;
+  exact = λ e. absurd e;
   exit = idle_exit (idle_rules group_size limit) idle_start log a b;
   moments = idle_moments (idle_rules group_size limit) idle_start log a b;
   given = [];
