@@ -1,0 +1,5 @@
+pub mod OrderLemmas
+pub mod SetLemmas
+pub mod FrontLemmas
+pub mod OpenLemmas
+pub mod KeptLemmas

@@ -1,0 +1,61 @@
+-- What stands in a list of sets, and what is kept of each.
+use Rattle.std.proofs.Common.{◌≡◌, ◌<◌, ℕ, zero, suc, Bool, true, false, cond, T, List, [], ◌∷◌, length, get_or, Option, Some, None, refl, sym, ap, subst, ◌∙◌, arith}
+use Rattle.std.specs.Prelude.{slice_get}
+use Rattle.std.specs.declared.cmp.Ordering.{Ordering}
+use Rattle.std.specs.declared.cmp.Ordering.TheVariants.{Less, Equal, Greater}
+use Rattle.std.specs.Ordering.{eq_by_cmp}
+use Rattle.std.specs.Cmp.{Equal-is}
+use Rattle.std.specs.FinMap.{IsAntisymmetric, find, get, from_sorted, get-from_sorted, is_sorted}
+use Rattle.std.proofs.lemmas.Option.{slice_get_within, get_or_from_slice_get}
+use Rattle.pac_value.specs.Sorted.{IsOffsetOf, IsGapFor}
+use Rattle.pac_value.proofs.SortedLemmas.{found-get, gap-get}
+use Rattle.pac_value.proofs.OffsetLemmas.{less_at}
+use Rattle.pac_core.specs.declared.set_id.SetId.{SetId}
+use Rattle.pac_core.specs.SetOrder.{set_cmp}
+use Rattle.pac_core.specs.Sets.{Kept, joined, kept_of}
+use Rattle.pac_core.proofs.OrderLemmas.{sets_total, sets_antisymmetric}
+
+-- what is found of a key stands beside it
+find_place : {K X : Type 0} {R : K → K → Ordering} → IsAntisymmetric R → (k : K) (es : List (K × X)) (x : X) → find R k es ≡ Some x → (i : ℕ) × (slice_get es i ≡ Some (k, x))
+find_place exact k [] x h = absurd (cc h)
+find_place {K = K} {X = X} {R = R} exact k (e ∷ es) x h = go (eq_by_cmp R k e.0) refl h (λ g. find_place exact k es x g)
+  where
+    go : (b : Bool) → eq_by_cmp R k e.0 ≡ b → cond b (Some e.1) (find R k es) ≡ Some x → (find R k es ≡ Some x → (i : ℕ) × (slice_get es i ≡ Some (k, x))) → (i : ℕ) × (slice_get (e ∷ es) i ≡ Some (k, x))
+    go true tie is rest =
+        let key : k ≡ e.0 = exact k e.0 ((Equal-is (R k e.0)).0 tie) in
+        let value : e.1 ≡ x = cc is in
+        (0, λ i. Some (sym key i, value i))
+    go false tie is rest = let found = rest is in (suc found.0, found.1)
+
+module _ {P : Type 0} (sets : List (Kept P)) (sorted : T (is_sorted set_cmp sets)) where
+  -- of a set that stands in the list, what stands beside it is kept
+  pub kept_there : (j : ℕ) (set : SetId) (p : Option P) → slice_get sets j ≡ Some (set, p) → kept_of set sets ≡ p
+  kept_there j set p there =
+      let within : j < length sets = slice_get_within sets j (set, p) there in
+      let is = λ (d : Kept P). get_or_from_slice_get sets j (set, p) d there in
+      let offset : IsOffsetOf sets set j = record { within = within; same = λ d. ap (λ (e : Kept P). e.0) (is d) } in
+      ap joined (found-get sets_total sets sorted set j offset (set, p) ∙ ap (λ (e : Kept P). Some e.1) (is (set, p)))
+
+  -- the same where a search ended at the set
+  pub kept_offset : (set : SetId) (j : ℕ) → IsOffsetOf sets set j → (d : Kept P) → kept_of set sets ≡ (get_or sets j d).1
+  kept_offset set j offset d = ap joined (found-get sets_total sets sorted set j offset d)
+
+  -- and where it ended at a gap, nothing is kept
+  pub kept_gap : (set : SetId) (j : ℕ) → IsGapFor set_cmp sets set j → kept_of set sets ≡ None
+  kept_gap set j gap = ap joined (gap-get sets_total sets sorted set j gap)
+
+  -- what is kept of a set stands in the list
+  pub there_kept : (set : SetId) (p : P) → kept_of set sets ≡ Some p → (j : ℕ) × (slice_get sets j ≡ Some (set, Some p))
+  there_kept set p kept = go (get (from_sorted sets) set) refl kept
+    where
+      go : (r : Option (Option P)) → get (from_sorted {R = set_cmp} sets) set ≡ r → joined r ≡ Some p → (j : ℕ) × (slice_get sets j ≡ Some (set, Some p))
+      go None is h = absurd (cc h)
+      go (Some r) is h = find_place sets_antisymmetric set sets (Some p) (sym (get-from_sorted set_cmp sets set sorted) ∙ is ∙ ap Some h)
+
+  -- an earlier set is less than a later one
+  pub less_there : (i j : ℕ) (a b : Kept P) → slice_get sets i ≡ Some a → slice_get sets j ≡ Some b → i < j → set_cmp a.0 b.0 ≡ Less
+  less_there i j a b first second lt =
+      let within : j < length sets = slice_get_within sets j b second in
+      let less = less_at sets_total sets i j a sorted lt within in
+      subst (λ (x : Kept P). set_cmp a.0 x.0 ≡ Less) (get_or_from_slice_get sets j b a second)
+      (subst (λ (x : Kept P). set_cmp x.0 (get_or sets j a).0 ≡ Less) (get_or_from_slice_get sets i a a first) less)

@@ -1,0 +1,2 @@
+pub mod SetOrder
+pub mod Sets
