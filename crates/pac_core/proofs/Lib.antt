@@ -1,5 +1,0 @@
-pub mod OrderLemmas
-pub mod SetLemmas
-pub mod FrontLemmas
-pub mod OpenLemmas
-pub mod KeptLemmas

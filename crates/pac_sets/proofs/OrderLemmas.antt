@@ -1,0 +1,24 @@
+-- The order of piece-sets is total and tells them apart.
+use Rattle.std.proofs.Common.{◌≡◌, ℕ, true, ap}
+use Rattle.std.specs.Cmp.{IsTotalOrder, nat_cmp_total, Equal-is, tied_itself}
+use Rattle.std.specs.Ordering.{nat_cmp, is_eq, eq_by_cmp}
+use Rattle.std.specs.FinMap.{IsAntisymmetric}
+use Rattle.std.proofs.lemmas.Cmp.{on_total, then_total}
+use Rattle.std.proofs.lemmas.Map.Lookups.{exact_pairs, exact_unsigned}
+use Rattle.pac_sets.specs.declared.set_id.SetId.{SetId}
+use Rattle.pac_sets.specs.SetOrder.{set_cmp}
+
+pub sets_total : IsTotalOrder set_cmp
+sets_total = then_total (on_total (λ s. s.batch) nat_cmp_total) (on_total (λ s. s.block) nat_cmp_total)
+
+pub sets_antisymmetric : IsAntisymmetric set_cmp
+sets_antisymmetric a b h =
+    let same : (a.batch, a.block) ≡ (b.batch, b.block) = exact_pairs nat_cmp nat_cmp exact_unsigned exact_unsigned (a.batch, a.block) (b.batch, b.block) h in
+    ap (λ (p : ℕ × ℕ). let set : SetId = record { batch = p.0; block = p.1 } in set) same
+
+pub same_set : (s : SetId) → eq_by_cmp set_cmp s s ≡ true
+same_set s = ap is_eq (tied_itself sets_total s)
+
+-- sets that tie are one
+pub tied_sets : (a b : SetId) → eq_by_cmp set_cmp a b ≡ true → a ≡ b
+tied_sets a b h = sets_antisymmetric a b ((Equal-is (set_cmp a b)).0 h)
