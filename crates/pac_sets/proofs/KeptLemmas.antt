@@ -1,14 +1,13 @@
 -- What becomes of sets where something else is kept of one, or a set is added.
 use Rattle.std.proofs.Common.{◌≡◌, ◌⊎◌, ◌<◌, ◌≤◌, ◌+◌, ◌&&◌, ℕ, zero, suc, Bool, true, false, cond, not, eqb, T, List, [], ◌∷◌, ◌++◌, length, get_or, Option, Some, None, refl, sym, ap, subst, ◌∙◌, arith, inl, inr}
 use Rattle.std.proofs.lemmas.Bool.{cases_lt}
-use Rattle.std.proofs.Common.{set as list_set, is_lt}
+use Rattle.std.proofs.Common.{set as list_set, is_lt, take, ◌-◌, IsSome}
 use Rattle.std.specs.Prelude.{unwrap_or, slice_get, position, nat_lt, ◌==◌}
 use Rattle.std.specs.List.{position_or_len}
-use Rattle.std.specs.declared.cmp.Ordering.TheVariants.{Less}
 use Rattle.std.specs.FinMap.{is_sorted}
 use Rattle.std.specs.FinMap.Entries.{below_all}
 use Rattle.std.proofs.lemmas.Option.{slice_get_within, get_or_from_slice_get, slice_get-get_or, slice_get_read}
-use Rattle.std.proofs.lemmas.List.{length-set, length_push, get_or-set_same, get_or-set_other, get_or_append_left, get_or_push, length-take}
+use Rattle.std.proofs.lemmas.List.{length-set, length_push, get_or-set_same, get_or-set_other, get_or_append_left, get_or-append-add, length-append, length-take, length-take-le, take_more}
 use Rattle.std.proofs.lemmas.List.Folds.{position_or_len-set, position_or_len_push, length-prefix_len}
 use Rattle.std.proofs.lemmas.Bool.{cases_eq}
 use Rattle.std.proofs.lemmas.Bool.Decides.{nat_tests}
@@ -17,7 +16,7 @@ use Rattle.std.specs.Global.{Global}
 use Rattle.std.specs.Prelude.{Vec}
 use Rattle.pac_sets.specs.declared.set_id.SetId.{SetId}
 use Rattle.pac_sets.specs.SetOrder.{set_cmp}
-use Rattle.pac_sets.specs.Sets.{Kept, IsAfter, with_kept, is_left, first_of, AreSets, AreAllSources, AreFronts, IsUnfinished}
+use Rattle.pac_sets.specs.Sets.{Kept, AreLeft, with_kept, is_left, first_of, AreSets, AreAllSources, AreFronts, IsUnfinished}
 
 -- what else is kept, written into the list
 pub with_kept_set : {P : Type 0} (sets : List (Kept P)) (at : ℕ) (kept : Option P) (d : Kept P) → at < length sets → list_set sets at ((get_or sets at d).0, kept) ≡ with_kept sets at kept
@@ -111,55 +110,6 @@ fronts_move blocks fronts sets at set old there are front is = record {
             are.each block f stood ∙ sym (first_stays (is_left block) sets at None set (Some old) there (neither block other))
 
 -- ---- one set more
-
-t_left : (a b : Bool) → T (a && b) → T a
-t_left true b h = tt
-t_left false b h = h
-
-t_right : (a b : Bool) → T (a && b) → T b
-t_right true b h = h
-t_right false b h = absurd h
-
-t_both : (a b : Bool) → T a → T b → T (a && b)
-t_both true b g h = h
-t_both false b g h = absurd g
-
--- what comes before all of the sets and one more comes before them with it
-below_push : {P : Type 0} (first : SetId) (sets : List (Kept P)) (set : SetId) (kept : Option P) → T (below_all set_cmp first sets) → set_cmp first set ≡ Less → T (below_all set_cmp first (sets ++ (set, kept) ∷ []))
-below_push first [] set kept below less = t_both (is_lt (set_cmp first set)) true (subst (λ r. T (is_lt r)) (sym less) tt) tt
-below_push first (s ∷ sets) set kept below less =
-    t_both (is_lt (set_cmp first s.0)) (below_all set_cmp first (sets ++ (set, kept) ∷ [])) (t_left (is_lt (set_cmp first s.0)) (below_all set_cmp first sets) below)
-    (below_push first sets set kept (t_right (is_lt (set_cmp first s.0)) (below_all set_cmp first sets) below) less)
-
--- sets that come before one still ascend with it
-sorted_push : {P : Type 0} (sets : List (Kept P)) (set : SetId) (kept : Option P) → T (is_sorted set_cmp sets) → IsAfter sets set → T (is_sorted set_cmp (sets ++ (set, kept) ∷ []))
-sorted_push [] set kept sorted after = tt
-sorted_push (s ∷ sets) set kept sorted after =
-    t_both (below_all set_cmp s.0 (sets ++ (set, kept) ∷ [])) (is_sorted set_cmp (sets ++ (set, kept) ∷ []))
-    (below_push s.0 sets set kept (t_left (below_all set_cmp s.0 sets) (is_sorted set_cmp sets) sorted) (after 0 s refl))
-    (sorted_push sets set kept (t_right (below_all set_cmp s.0 sets) (is_sorted set_cmp sets) sorted) (λ j other there. after (suc j) other there))
-
-pub sets_push : {P : Type 0} (blocks : ℕ) (sets : List (Kept P)) (set : SetId) (kept : Option P) → AreSets blocks sets → IsAfter sets set → set.block < blocks → AreSets blocks (sets ++ (set, kept) ∷ [])
-sets_push {P} blocks sets set kept are after within = record {
-  ascend = sorted_push sets set kept are.ascend after;
-  inside = inside;
-}
-  where
-    inside : (j : ℕ) (e : Kept P) → slice_get (sets ++ (set, kept) ∷ []) j ≡ Some e → e.0.block < blocks
-    inside j e there = go (cases_lt j (length sets))
-      where
-        read : get_or (sets ++ (set, kept) ∷ []) j e ≡ e
-        read = get_or_from_slice_get (sets ++ (set, kept) ∷ []) j e e there
-
-        last : j < length sets + 1
-        last = subst (λ (n : ℕ). j < n) (length_push sets (set, kept)) (slice_get_within (sets ++ (set, kept) ∷ []) j e there)
-
-        go : (j < length sets) ⊎ (length sets ≤ j) → e.0.block < blocks
-        go (inl old) = are.inside j e (slice_get-get_or sets j e old ∙ ap Some (sym (get_or_append_left sets ((set, kept) ∷ []) e j old) ∙ read))
-        go (inr new) =
-            let at : length sets ≡ j = let within : j < length sets + 1 = last in omega arith in
-            let own : e ≡ (set, kept) = sym read ∙ get_or_push sets (set, kept) e j at in
-            subst (λ (x : Kept P). x.0.block < blocks) (sym own) within
 
 -- a first position n of len, and the one with one more
 spot : (n len m more : ℕ) (b : Bool) → n ≤ len → m ≡ cond (eqb n len) (len + cond b 0 1) n → more ≡ len + 1
@@ -273,24 +223,57 @@ holds_finish {P} edges sources fronts sets new seen at block e front left read o
     moved = subst (λ (b : ℕ). AreFronts (length fronts) (list_set fronts b front) new) (sym own)
         (subst (λ (n : List (Kept P)). AreFronts (length fronts) (list_set fronts left.0.block front) n) (sym is) (fronts_move (length fronts) fronts sets at left.0 left.1 left.2 h.2 front found))
 
-pub holds_add : {P : Type 0} (edges : List (ℕ × ℕ)) (sources : List (Vec ℕ Global)) (fronts : List (Option ℕ)) (sets new : List (Kept P)) (set : SetId) (kept : P) (block last : ℕ) (front next : Option ℕ)
-    → IsAfter sets set → set.block < length fronts → new ≡ sets ++ (set, Some kept) ∷ [] → block ≡ set.block → last ≡ length sets → front ≡ get_or fronts block front → next ≡ first_of front last
-    → Holds edges sources fronts sets → Holds edges sources (list_set fronts block next) new
-holds_add {P} edges sources fronts sets new set kept block last front next after within is of at read does h = (
-  subst (λ (k : ℕ). AreSets k new) len (subst (λ (n : List (Kept P)). AreSets (length fronts) n) (sym is) (sets_push (length fronts) sets set (Some kept) h.0 after within)),
-  moved_sources edges sources (length fronts) (length (list_set fronts block next)) len h.1,
-  subst (λ (k : ℕ). AreFronts k (list_set fronts block next) new) len pushed,
+-- what is left of more sets is left of all, behind the others
+pub left_behind : {P : Type 0} (blocks : ℕ) (sets more : List (Kept P)) → AreLeft blocks 0 more → AreLeft blocks (length sets) (sets ++ more)
+left_behind {P} blocks sets more left j e past there =
+    let n : ℕ = j - length sets in
+    let at : length sets + n ≡ j = omega arith in
+    let within : length sets + n < length sets + length more = subst (λ (k : ℕ). length sets + n < k) (length-append sets more) (subst (λ (k : ℕ). k < length (sets ++ more)) (sym at) (slice_get_within (sets ++ more) j e there)) in
+    let few : n < length more = omega arith in
+    left n e (omega arith) (slice_get-get_or more n e few ∙ ap Some (sym (get_or-append-add sets more n e) ∙ ap (λ (k : ℕ). get_or (sets ++ more) k e) at ∙ get_or_from_slice_get (sets ++ more) j e e there))
+
+-- with sets added that ascend with the others, where their fronts are known
+pub holds_add : {P : Type 0} (edges : List (ℕ × ℕ)) (sources : List (Vec ℕ Global)) (fronts next : List (Option ℕ)) (sets more new : List (Kept P)) → Holds edges sources fronts sets
+    → T (is_sorted set_cmp (sets ++ more)) → AreLeft (length fronts) 0 more → new ≡ sets ++ more → length next ≡ length fronts → AreFronts (length fronts) next new → Holds edges sources next new
+holds_add {P} edges sources fronts next sets more new h sorted left is len seen = (
+  subst (λ (k : ℕ). AreSets k new) (sym len) (subst (λ (n : List (Kept P)). AreSets (length fronts) n) (sym is) (record { ascend = sorted; inside = inside })),
+  moved_sources edges sources (length fronts) (length next) (sym len) h.1,
+  subst (λ (k : ℕ). AreFronts k next new) (sym len) seen,
 )
   where
-    len : length fronts ≡ length (list_set fronts block next)
-    len = sym (length-set fronts block next)
+    inside : (j : ℕ) (e : Kept P) → slice_get (sets ++ more) j ≡ Some e → e.0.block < length fronts
+    inside j e there = go (cases_lt j (length sets))
+      where
+        go : (j < length sets) ⊎ (length sets ≤ j) → e.0.block < length fronts
+        go (inl old) = h.0.inside j e (slice_get-get_or sets j e old ∙ ap Some (sym (get_or_append_left sets more e j old) ∙ get_or_from_slice_get (sets ++ more) j e e there))
+        go (inr past) = (left_behind (length fronts) sets more left j e past there).0
 
-    found : front ≡ get_or fronts set.block front
-    found = read ∙ ap (λ (b : ℕ). get_or fronts b front) of
+-- the block of a set that is left
+pub left_block : {P : Type 0} (blocks : ℕ) (sets : List (Kept P)) (from at : ℕ) (e : Kept P) (block : ℕ) → AreLeft blocks from sets → from ≤ at → at < length sets → e ≡ get_or sets at e → block ≡ e.0.block → block < blocks
+left_block blocks sets from at e block left past within read of =
+    let there : slice_get sets at ≡ Some e = slice_get_read sets (length sets) at e refl within read in
+    subst (λ (n : ℕ). n < blocks) (sym of) (left at e past there).0
 
-    goes : next ≡ first_of front (length sets)
-    goes = does ∙ ap (first_of front) at
+-- one set more was seen
+pub fronts_next : {P : Type 0} (blocks : ℕ) (fronts : List (Option ℕ)) (sets : List (Kept P)) (from at : ℕ) (e : Kept P) (block : ℕ) (front next : Option ℕ)
+    → AreFronts blocks fronts (take at sets) → at < length sets → from ≤ at → AreLeft blocks from sets → e ≡ get_or sets at e → block ≡ e.0.block → front ≡ get_or fronts block front → next ≡ first_of front at
+    → AreFronts blocks (list_set fronts block next) (take (at + 1) sets)
+fronts_next {P} blocks fronts sets from at e block front next are within past left read of was is = go e.1 refl own.1
+  where
+    there : slice_get sets at ≡ Some e
+    there = slice_get_read sets (length sets) at e refl within read
 
-    pushed : AreFronts (length fronts) (list_set fronts block next) new
-    pushed = subst (λ (f : List (Option ℕ)). AreFronts (length fronts) f new) (λ i. list_set fronts (sym of i) (sym goes i))
-        (subst (λ (n : List (Kept P)). AreFronts (length fronts) (list_set fronts set.block (first_of front (length sets))) n) (sym is) (fronts_push (length fronts) fronts sets set kept front h.2 within found))
+    own : (e.0.block < blocks) × IsSome e.1
+    own = left at e past there
+
+    goes : next ≡ first_of front (length (take at sets))
+    goes = is ∙ ap (first_of front) (sym (length-take-le at sets (omega arith)))
+
+    go : (o : Option P) → e.1 ≡ o → IsSome o → AreFronts blocks (list_set fronts block next) (take (at + 1) sets)
+    go None none some = cc some
+    go (Some p) kept some =
+        let last : get_or sets at e ≡ (e.0, Some p) = sym read ∙ (λ i. (e.0, kept i)) in
+        let more : take (at + 1) sets ≡ take at sets ++ (e.0, Some p) ∷ [] = take_more sets at e within ∙ ap (λ (x : Kept P). take at sets ++ x ∷ []) last in
+        subst (λ (s : List (Kept P)). AreFronts blocks (list_set fronts block next) s) (sym more)
+        (subst (λ (f : List (Option ℕ)). AreFronts blocks f (take at sets ++ (e.0, Some p) ∷ [])) (λ i. list_set fronts (sym of i) (sym goes i))
+        (fronts_push blocks fronts (take at sets) e.0 p front are own.0 (was ∙ ap (λ (b : ℕ). get_or fronts b front) of)))

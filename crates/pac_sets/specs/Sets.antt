@@ -1,8 +1,7 @@
 -- Piece-sets in their order, each with what is kept of it until it is finished: which have to wait for which.
-use Rattle.std.specs.Prelude.{◌≡◌, ◌⊎◌, ◌↔◌, ℕ, zero, suc, ◌<◌, ◌≤◌, Bool, ◌&&◌, not, ◌==◌, List, [], ◌∷◌, ◌++◌, length, slice_get, Option, Some, None, is_some, T, true, Contains, position, nat_lt}
+use Rattle.std.specs.Prelude.{◌≡◌, ◌⊎◌, ◌↔◌, ℕ, zero, suc, ◌<◌, ◌≤◌, Bool, ◌&&◌, not, ◌==◌, List, [], ◌∷◌, ◌++◌, length, slice_get, Option, Some, None, is_some, IsSome, T, true, Contains, position, nat_lt}
 use Rattle.std.specs.List.{list_all}
 use Rattle.std.specs.FinMap.{is_sorted, get, from_sorted}
-use Rattle.std.specs.declared.cmp.Ordering.TheVariants.{Less}
 use Rattle.std.specs.Global.{Global}
 use Rattle.std.specs.Prelude.{Vec}
 use Rattle.pac_sets.specs.declared.set_id.SetId.{SetId}
@@ -110,9 +109,9 @@ IsFirstBelow n edges sets from (Some at) = (from ≤ at) × IsOpen edges sets at
 abbrev pub IsAt : {P : Type 0} → List (Kept P) → SetId → ℕ → Type 0
 IsAt {P} sets set at = (kept : Option P) × (slice_get sets at ≡ Some (set, kept))
 
--- each of the sets comes before this one
-abbrev pub IsAfter : {P : Type 0} → List (Kept P) → SetId → Type 0
-IsAfter {P} sets set = (j : ℕ) (other : Kept P) → slice_get sets j ≡ Some other → set_cmp other.0 set ≡ Less
+-- each of the sets from an offset on is in one of the blocks, and unfinished
+abbrev pub AreLeft : {P : Type 0} → ℕ → ℕ → List (Kept P) → Type 0
+AreLeft {P} blocks from sets = (j : ℕ) (set : Kept P) → from ≤ j → slice_get sets j ≡ Some set → (set.0.block < blocks) × IsSome set.1
 
 -- the set at an offset isn't finished
 abbrev pub IsUnfinished : {P : Type 0} → List (Kept P) → ℕ → Type 0

@@ -6,13 +6,13 @@
 //!
 //! - [`SetId`]: a set, by the numbers of its batch and its block. Sets are ordered by batch, then by block.
 //! - [`Sets`]: the sets of what is loaded, and what is kept of each until it is finished. [`Sets::new`] knows the edges of a
-//!   plan, [`Sets::add`] adds a set after the others, and [`Sets::finish`] lets go of what is kept of one.
+//!   plan, [`Sets::add_all`] adds sets after the others, and [`Sets::finish`] lets go of what is kept of one.
 //! - [`Sets::first_open`]: the first open set from an offset on.
 //! - [`Sets::find`], [`Sets::get`], [`Sets::keep`]: where a set stands, what is kept of it, and something else to keep.
 //!
 //! ```
 //! let mut sets = Sets::new(alloc, &plan)?;
-//! sets.add(SetId { batch: 0, block: 2 }, pieces)?;
+//! sets.add_all(vec![in alloc; (SetId { batch: 0, block: 2 }, Some(pieces))]?)?;
 //! if let Some(at) = sets.first_open(0) {
 //!     let (set, kept) = sets.get(at);
 //!     sets.finish(at); // what waited for this set alone is open now

@@ -1,10 +1,10 @@
 // Piece-sets in order, and which of them may be opened.
-ghost use Rattle.std.specs.Prelude.{◌≡◌, ◌↔◌, ◌<◌, ◌≤◌, ◌+◌, IsTrue, true, IfOk, IfErr, IfSome, IfNone, ℕ, OnOk, OnErr, T, length, slice_get, slice_set, Some, None, position, [], ◌∷◌, ◌++◌};
+ghost use Rattle.std.specs.Prelude.{◌≡◌, ◌↔◌, ◌<◌, ◌≤◌, ◌+◌, IsTrue, true, IfOk, IfErr, IfSome, IfNone, ℕ, OnOk, OnErr, T, length, slice_get, slice_set, Some, None, position, [], ◌++◌, take};
 ghost use Rattle.std.specs.List.{list_all};
 ghost use Rattle.std.specs.FinMap.{is_sorted};
 ghost use Rattle.pac_value.specs.Sorted.{IsOffsetOf, IsGapFor};
 ghost use Rattle.pac_sets.specs.SetOrder.{set_cmp};
-ghost use Rattle.pac_sets.specs.Sets.{AddsSource, AreAllSources, AreFronts, AreSets, IsAfter, IsAt, IsFirstBelow, IsFirstOpen, IsFront, IsOpen, IsUnfinished, are_done, first_of, is_before, is_done, is_left, with_kept};
+ghost use Rattle.pac_sets.specs.Sets.{AddsSource, AreAllSources, AreFronts, AreLeft, AreSets, IsAt, IsFirstBelow, IsFirstOpen, IsFront, IsOpen, IsUnfinished, are_done, first_of, is_before, is_done, is_left, with_kept};
 
 use crate::set_id::SetId;
 use pac_base::{Listed, NoMemory, copy_of, listed};
@@ -193,21 +193,20 @@ impl<P> Sets<P> {
 }
 
 impl<P: Drop> Sets<P> {
-    /// A set of the block after the others, of which this is kept.
+    /// More sets after the others, all of them or none.
     ///
     /// # Errors
     ///
-    /// [`NoMemory`] where it finds no room. Then nothing is changed.
-    pub fn add(&mut self, set: SetId, kept: P) -> Result<(), NoMemory>
-        requires inside { set.block < self.old.blocks }
-        requires later { IsAfter self.old.sets set }
-        ensures ok { OnOk result (self.new ≡ record self.old { sets = self.old.sets ++ (set, Some kept) ∷ [] }) }
+    /// [`NoMemory`] where they find no room. Then nothing is changed.
+    pub fn add_all(&mut self, mut more: Vec<Kept<P>>) -> Result<(), NoMemory>
+        requires later { T (is_sorted set_cmp (self.old.sets ++ more.items)) }
+        requires each { AreLeft self.old.blocks 0 more.items }
+        ensures ok { OnOk result (self.new ≡ record self.old { sets = self.old.sets ++ more.items }) }
         ensures err { OnErr result (self.new ≡ self.old) }
     {
-        let at = self.sets.len();
-        self.sets.push((set, Some(kept)))?;
-        let block = usize::from(set.block);
-        self.fronts[block] = first_of(self.fronts[block], at);
+        let from = self.sets.len();
+        self.sets.append(&mut more)?;
+        note_fronts(&mut self.fronts, &self.sets, from);
         Ok(())
     }
 
@@ -236,6 +235,20 @@ fn set_kept<P: Drop>(sets: &mut Vec<Kept<P>>, at: usize, kept: Option<P>)
     ensures { sets.new.items ≡ with_kept sets.old.items at kept }
 {
     sets[at].1 = kept;
+}
+
+// The first unfinished set of each block, once those before an offset were seen.
+fn note_fronts<P>(fronts: &mut Vec<Option<usize>>, sets: &[Kept<P>], from: usize)
+    requires within { from ≤ length sets.now }
+    requires each { AreLeft (length fronts.old.items) from sets.now }
+    requires seen { AreFronts (length fronts.old.items) fronts.old.items (take from sets.now) }
+    ensures len { length fronts.new.items ≡ length fronts.old.items }
+    ensures seen { AreFronts (length fronts.old.items) fronts.new.items sets.now }
+{
+    for at in from..sets.len() {
+        let block = usize::from(sets[at].0.block);
+        fronts[block] = first_of(fronts[block], at);
+    }
 }
 
 // The first unfinished set, where there was one or not before this one came last.
