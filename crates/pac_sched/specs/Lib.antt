@@ -1,0 +1,4 @@
+pub mod Schedules
+pub mod ReadySets
+pub mod Orders
+pub mod Counts
