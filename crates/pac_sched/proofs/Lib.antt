@@ -5,3 +5,4 @@ pub mod StateLemmas
 pub mod KeptLemmas
 pub mod ReadyLemmas
 pub mod OpeningLemmas
+pub mod CallLemmas

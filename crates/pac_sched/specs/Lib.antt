@@ -2,3 +2,4 @@ pub mod Schedules
 pub mod ReadySets
 pub mod Orders
 pub mod Counts
+pub mod Calls

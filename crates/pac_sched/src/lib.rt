@@ -17,15 +17,20 @@
 //! }
 //! ```
 //!
+//! [`pieces_come_once`] is a law: a function without code, whose clauses say of all calls, one after another, that a piece is handed
+//! out only while it is ready, again only after it was given back, and never once it is finished.
+//!
 //! `specs/Schedules.antt` says what a schedule is, and what is ready in it, in terms of pieces, pairs and states alone.
 #![tactic(auto)]
 
 mod followers;
+mod laws;
 mod opening;
 mod positions;
 mod ready_set;
 mod sched;
 mod state;
 
+pub use laws::pieces_come_once;
 pub use sched::Sched;
 pub use state::{Pick, PieceState};
