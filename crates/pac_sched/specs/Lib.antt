@@ -1,0 +1,5 @@
+pub mod Schedules
+pub mod ReadySets
+pub mod Orders
+pub mod Counts
+pub mod Calls

@@ -1,0 +1,130 @@
+// Positions that are ready, of which the first is at hand.
+ghost use Rattle.std.specs.Prelude.{◌≡◌, ◌<◌, ◌*◌, ◌/◌, ◌+◌, ℕ, ◌≢◌, Bool, true, false, length, replicate, slice_set, slice_index_or, position, count_by, IfOk};
+ghost use Rattle.pac_sched.specs.ReadySets.{first_in, IsSettledAt};
+
+use pac_base::NoMemory;
+use std::alloc::Global;
+use std::marker::Model;
+
+/// A flag for each position. The first raised one is at hand; raising and lowering one takes time that grows with the logarithm
+/// of their number. Contracts see the list of flags.
+///
+/// Node `k` of a binary tree has the children `2k` and `2k + 1`, the root is node 1, and the flags are the last nodes. Each inner
+/// node keeps the first raised position below it.
+#[derive(Drop)]
+pub(crate) struct ReadySet {
+    flags: Vec<bool>,
+    firsts: Vec<usize>,
+    raised: usize,
+}
+
+impl Model for ReadySet {
+    ghost use Rattle.std.specs.Prelude.{List, Bool};
+    ghost use Rattle.pac_sched.specs.ReadySets.{IsFirstTree};
+
+    ghost Value = { List Bool };
+
+    ghost view = { λ set. set.flags.items };
+
+    ghost invariant = { λ set. IsFirstTree set.flags.items set.firsts.items set.raised };
+}
+
+impl ReadySet {
+    // No flags. Takes no memory.
+    pub(crate) fn empty(alloc: Global) -> ReadySet
+        ensures { result ≡ replicate 0 false }
+    {
+        ReadySet {
+            flags: Vec::new(alloc),
+            firsts: Vec::new(alloc),
+            raised: 0,
+        }
+    }
+
+    // That many flags, none of them raised.
+    pub(crate) fn new(alloc: Global, len: usize) -> Result<ReadySet, NoMemory>
+        ensures { IfOk result (λ set. set ≡ replicate len false) }
+    {
+        Ok(ReadySet {
+            flags: vec![in alloc; false; len]?,
+            firsts: vec![in alloc; len; len]?,
+            raised: 0,
+        })
+    }
+
+    // How many flags are raised.
+    pub(crate) fn raised(&self) -> usize
+        ensures { result ≡ count_by (λ flag. flag) self.now }
+    {
+        self.raised
+    }
+
+    // The first raised flag's position.
+    pub(crate) fn first(&self) -> Option<usize>
+        ensures { result ≡ position (λ flag. flag) self.now }
+    {
+        let len = self.flags.len();
+        if len == 0 {
+            return None;
+        }
+        let first = first_in(&self.flags, &self.firsts, 1);
+        if first < len { Some(first) } else { None }
+    }
+
+    // Raises a flag that is not.
+    pub(crate) fn raise(&mut self, i: usize)
+        requires inside { i < length self.old }
+        requires lowered { slice_index_or self.old i true ≡ false }
+        ensures { self.new ≡ slice_set self.old i true }
+    {
+        self.flags[i] = true;
+        self.raised += 1;
+        settle(&self.flags, &mut self.firsts, i);
+    }
+
+    // Lowers a raised flag.
+    pub(crate) fn lower(&mut self, i: usize)
+        requires inside { i < length self.old }
+        requires raised { slice_index_or self.old i false ≡ true }
+        ensures { self.new ≡ slice_set self.old i false }
+    {
+        self.flags[i] = false;
+        self.raised -= 1;
+        settle(&self.flags, &mut self.firsts, i);
+    }
+}
+
+// The first raised position below a node; the number of flags where there is none.
+fn first_in(flags: &[bool], firsts: &[usize], node: usize) -> usize
+    requires len { length firsts.now ≡ length flags.now }
+    requires node { node < 2 * length flags.now }
+    ensures { result ≡ first_in flags.now firsts.now node }
+{
+    let len = flags.len();
+    if node < len {
+        firsts[node]
+    } else if flags[node - len] {
+        node - len
+    } else {
+        len
+    }
+}
+
+// Settles the nodes above a flag that changed.
+fn settle(flags: &[bool], firsts: &mut [usize], i: usize)
+    requires len { length firsts.old ≡ length flags.now }
+    requires inside { i < length flags.now }
+    requires others { (k : ℕ) → 0 < k → k < length flags.now → k ≢ (length flags.now + i) / 2 → IsSettledAt flags.now firsts.old k }
+    ensures len { length firsts.new ≡ length flags.now }
+    ensures settled { (k : ℕ) → 0 < k → k < length flags.now → IsSettledAt flags.now firsts.new k }
+{
+    let mut node = (flags.len() + i) / 2;
+    while node > 0 {
+        let first = first_in(flags, firsts, 2 * node).min(first_in(flags, firsts, 2 * node + 1));
+        if firsts[node] == first {
+            return;
+        }
+        firsts[node] = first;
+        node /= 2;
+    }
+}
