@@ -23,6 +23,30 @@ pub struct Work {
     pub rows: Listed<Write>,
 }
 
+impl Exact for Work {
+    // The code is shared, and the copy is one more owner of it.
+    fn copy(&self, alloc: Global) -> Result<Work, NoMemory> {
+        let code = self.code.copy(alloc)?;
+        let env = self.env.copy(alloc)?;
+        let rows = copy_rows(alloc, self.rows.as_slice())?;
+        Ok(Work {
+            piece: self.piece,
+            code,
+            env,
+            rows,
+        })
+    }
+}
+
+impl Same for Work {
+    fn same(&self, other: &Work) -> bool {
+        self.piece == other.piece
+            && self.env.same(&other.env)
+            && same_rows(self.rows.as_slice(), other.rows.as_slice())
+            && self.code.same(&other.code)
+    }
+}
+
 /// Work with its value. It keeps by its type that it is that.
 #[derive(Drop)]
 pub struct Done {
