@@ -1,9 +1,10 @@
 // Work, and work that is done.
-ghost use Rattle.std.specs.Prelude.{◌≡◌, IfOk, IfErr};
+ghost use Rattle.std.specs.Prelude.{◌≡◌, ◌↔◌, IsTrue, IfOk, IfErr};
 ghost use Rattle.pac_piece.specs.Values.{CanRunCode, IsOutcomeOf, IsValueOf, begun};
 ghost use Rattle.pac_piece.specs.Runnable.{IsRunnable};
 
 use crate::frame::Frame;
+use crate::rows::{copy_rows, same_rows};
 use crate::run_all::{change_all, run_all};
 use pac_base::{Exact, Listed, NoMemory, Same};
 use pac_ops::{Note, PieceId};
