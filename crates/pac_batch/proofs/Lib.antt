@@ -1,1 +1,9 @@
 pub mod RangeLemmas
+pub mod JoinLemmas
+pub mod QueueOrder
+pub mod PairOrder
+pub mod AddedLemmas
+pub mod QueueMembers
+pub mod NextQueued
+pub mod QueueCounts
+pub mod ListLaws

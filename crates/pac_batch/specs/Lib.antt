@@ -1,2 +1,4 @@
 pub mod Conflicts
+pub mod NextLists
+pub mod Queues
 pub mod Sets

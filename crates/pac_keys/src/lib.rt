@@ -6,6 +6,8 @@
 //! - [`PlanCode::has_piece`]: whether a transaction has a piece in a block.
 //! - [`PlanCode::is_bounded`]: whether each key of these operations depends on parameters and on other blocks alone.
 //! - [`PlanCode::access`]: the rows that a piece may touch, over the values of its inputs.
+//! - [`arguments`]: the values that a transaction begins with. In a block to which no edge leads these are the inputs, by the law
+//!   [`has_arguments`].
 //!
 //! ```
 //! let code = PlanCode::new(alloc, plan)?;
@@ -20,10 +22,12 @@
 #![tactic(auto)]
 
 mod defines;
+mod inputs;
 mod piece_code;
 mod plan_code;
 mod probe;
 mod records;
 mod touches;
 
+pub use inputs::{arguments, has_arguments};
 pub use plan_code::PlanCode;

@@ -31,6 +31,7 @@ mod effects;
 mod failed;
 mod frame;
 mod laws;
+mod rows;
 mod run_all;
 mod run_op;
 mod work;

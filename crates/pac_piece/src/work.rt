@@ -1,9 +1,10 @@
 // Work, and work that is done.
-ghost use Rattle.std.specs.Prelude.{◌≡◌, IfOk, IfErr};
+ghost use Rattle.std.specs.Prelude.{◌≡◌, ◌↔◌, IsTrue, IfOk, IfErr};
 ghost use Rattle.pac_piece.specs.Values.{CanRunCode, IsOutcomeOf, IsValueOf, begun};
 ghost use Rattle.pac_piece.specs.Runnable.{IsRunnable};
 
 use crate::frame::Frame;
+use crate::rows::{copy_rows, same_rows};
 use crate::run_all::{change_all, run_all};
 use pac_base::{Exact, Listed, NoMemory, Same};
 use pac_ops::{Note, PieceId};
@@ -21,6 +22,30 @@ pub struct Work {
     pub code: Shared<Code>,
     pub env: Env,
     pub rows: Listed<Write>,
+}
+
+impl Exact for Work {
+    // The code is shared, and the copy is one more owner of it.
+    fn copy(&self, alloc: Global) -> Result<Work, NoMemory> {
+        let code = self.code.copy(alloc)?;
+        let env = self.env.copy(alloc)?;
+        let rows = copy_rows(alloc, self.rows.as_slice())?;
+        Ok(Work {
+            piece: self.piece,
+            code,
+            env,
+            rows,
+        })
+    }
+}
+
+impl Same for Work {
+    fn same(&self, other: &Work) -> bool {
+        self.piece == other.piece
+            && self.env.same(&other.env)
+            && same_rows(self.rows.as_slice(), other.rows.as_slice())
+            && self.code.same(&other.code)
+    }
 }
 
 /// Work with its value. It keeps by its type that it is that.

@@ -7,3 +7,4 @@ pub mod WorldLemmas
 pub mod AdHocLemmas
 pub mod PartLemmas
 pub mod OnePlan
+pub mod ArgumentLemmas

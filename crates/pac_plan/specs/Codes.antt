@@ -1,6 +1,7 @@
 -- The code of pieces: what a transaction runs in a block of a plan, and which values it finds.
 use Rattle.std.specs.Prelude.{◌≡◌, ℕ, Bool, List, map, slice_get, Some, IsSome}
 use Rattle.std.specs.List.{list_all}
+use Rattle.std.specs.FinMap.{empty}
 use Rattle.pac_value.specs.declared.values.Ty.TheVariants.{Bool as BoolTy}
 use Rattle.pac_value.specs.declared.expr.Expr.{Expr}
 use Rattle.pac_value.specs.Expressions.{Values, type_in, types_of}
@@ -8,15 +9,16 @@ use Rattle.pac_value.specs.State.{Tables}
 use Rattle.pac_ops.specs.declared.transaction.Txn.{Txn}
 use Rattle.pac_ops.specs.declared.transaction.Txn.TheVariants.{Call as ACall, AdHoc}
 use Rattle.pac_ops.specs.Shapes.{RowsFit, TxnFitsTypes}
+use Rattle.pac_ops.specs.Operations.{with_values}
 use Rattle.pac_ops.specs.Transactions.{txn_state}
 use Rattle.pac_ops.specs.Effects.{NumberedOp, numbered_from, record_op, target_of}
 use Rattle.pac_plan.specs.declared.code.Code.{Code}
 use Rattle.pac_plan.specs.declared.code.Code.TheVariants.{Ops, Records}
 use Rattle.pac_plan.specs.declared.parts.PlanParts.{PlanParts}
 use Rattle.pac_plan.specs.Nodes.{Operation}
-use Rattle.pac_plan.specs.Analysis.{block_in}
+use Rattle.pac_plan.specs.Analysis.{IsPlan, block_in, HasBlockEdge}
 use Rattle.pac_plan.specs.Pieces.{part, is_bounded, InputsAre}
-use Rattle.pac_plan.specs.Worlds.{ops_of, txn_code, txn_block}
+use Rattle.pac_plan.specs.Worlds.{ops_of, txn_code, txn_block, txn_args}
 use Rattle.pac_plan.specs.PieceFits.{records_in}
 
 -- the transaction is of one of the plan's programs and its arguments have the types of the parameters, or its records fit
@@ -50,6 +52,11 @@ are_bounded os = list_all (λ o. is_bounded os (target_of o.1.kind)) os
 abbrev pub HasTxnInputs : PlanParts → ℕ → Txn → Values → Type 0
 HasTxnInputs parts block txn env =
     (rows : Tables) × RowsFit parts.tables rows × InputsAre (piece_ops parts block txn) (txn_state parts.programs txn rows).env env
+
+-- in a block to which no edge leads a transaction has its arguments as inputs, over any rows
+abbrev pub ArgumentsAreInputs : Type 0
+ArgumentsAreInputs = (parts : PlanParts) → IsPlan parts → (block : ℕ) → ((from : ℕ) → HasBlockEdge parts from block → ⊥) → (txn : Txn) (rows : Tables)
+    → InputsAre (piece_ops parts block txn) (txn_state parts.programs txn rows).env (with_values 0 (txn_args (Some txn)) empty)
 
 -- an expression has a type that keys and columns have, over the values that there are
 abbrev pub IsStoredTyped : Values → Expr → Type 0

@@ -1,6 +1,7 @@
 // What holds of every plan. Each law is a function that does nothing.
 ghost use Rattle.std.specs.Prelude.{◌≡◌};
 ghost use Rattle.pac_plan.specs.Analysis.{IsPlan};
+ghost use Rattle.pac_plan.specs.Codes.{ArgumentsAreInputs};
 ghost use Rattle.pac_plan.specs.NextPairs.{ClosedByNext, NextPairs};
 ghost use Rattle.pac_plan.specs.PieceFits.{AdHocPieces, InputsAreThere, PiecesStayFit};
 ghost use Rattle.pac_plan.specs.WellFormed.{KeepsOrder};
@@ -45,4 +46,9 @@ pub fn pieces_stay_fit()
 pub fn next_pairs()
     ensures chain { NextPairs }
     ensures closed { ClosedByNext }
+{}
+
+/// A transaction in a block to which no edge leads has its arguments as inputs, over any rows.
+pub fn arguments_are_inputs()
+    ensures { ArgumentsAreInputs }
 {}

@@ -3,7 +3,8 @@
 //! - [`Plan::new`] makes a plan of its [`PlanParts`]. It requires that the parts are those of the analysis, and every
 //!   plan keeps that by its type. A contract sees a plan as its parts.
 //! - [`Plan::program`], [`Plan::table_types`], [`Plan::block_of`], [`Plan::home_of`], [`Plan::blocks`],
-//!   [`Plan::has_edge`], [`Plan::edges`], [`Plan::procs`] and [`Plan::tables`] return the parts.
+//!   [`Plan::has_edge`], [`Plan::is_entry`], [`Plan::edges`], [`Plan::procs`] and [`Plan::tables`] return the parts. [`Plan::fits`] and
+//!   [`Plan::fits_all`] test whether transactions are of the plan.
 //! - [`is_plan`], [`keeps_order`] and [`one_plan`] are laws: functions that do nothing, whose clauses say what holds of
 //!   every plan, and that programs and tables have one.
 //!   What uses a variable is in the block of the operation that defines it or in one that an edge leads to; an edge
@@ -28,11 +29,12 @@
 //! - [`Code`]: what a piece runs, [`NumberedOps`] or records. [`Shared`]: a value with several owners, as code is.
 //! - [`Preds`]: pairs of an earlier position and a later one that has to wait for it.
 //!
-//! [`pieces_stay_fit`] and [`next_pairs`] are laws: functions without code, whose clauses say what holds of all pieces.
+//! [`pieces_stay_fit`], [`arguments_are_inputs`] and [`next_pairs`] are laws: functions without code, whose clauses say what holds of all pieces.
 #![tactic(auto)]
 
 mod access;
 mod code;
+mod fits;
 mod laws;
 mod parts;
 mod plan;
@@ -41,7 +43,7 @@ mod shared;
 
 pub use access::{Access, Touch, Touches};
 pub use code::{Code, NumberedOps};
-pub use laws::{is_plan, keeps_order, next_pairs, one_plan, pieces_stay_fit};
+pub use laws::{arguments_are_inputs, is_plan, keeps_order, next_pairs, one_plan, pieces_stay_fit};
 pub use parts::{BlocksOf, PlanParts};
 pub use plan::Plan;
 pub use preds::Preds;

@@ -85,6 +85,18 @@ impl Plan {
         self.parts.edges.as_slice().contains(&(from, to))
     }
 
+    /// Whether no edge leads to a block, so that its pieces wait for no other of their transaction. It looks through the edges.
+    pub fn is_entry(&self, block: u16) -> bool
+        ensures { IsTrue result ↔ ((from : ℕ) → ¬ HasBlockEdge self.now from block) }
+    {
+        for edge in self.parts.edges.as_slice() {
+            if edge.1 == block {
+                return false;
+            }
+        }
+        true
+    }
+
     /// The edges between different blocks, each once, ascending.
     pub fn edges(&self) -> &[(u16, u16)]
         ensures { result.now ≡ self.now.edges }
