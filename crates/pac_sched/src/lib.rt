@@ -17,8 +17,9 @@
 //! }
 //! ```
 //!
-//! [`pieces_come_once`] is a law: a function without code, whose clauses say of all calls, one after another, that a piece is handed
-//! out only while it is ready, again only after it was given back, and never once it is finished.
+//! [`pieces_come_once`] and [`takes_are_exact`] are laws: functions without code. Their clauses say of all calls, one after another,
+//! that a piece is handed out only while it is ready, again only after it was given back, and never once it is finished; and of
+//! takes, which piece comes and exactly when none does.
 //!
 //! `specs/Schedules.antt` says what a schedule is, and what is ready in it, in terms of pieces, pairs and states alone.
 #![tactic(auto)]
@@ -31,6 +32,6 @@ mod ready_set;
 mod sched;
 mod state;
 
-pub use laws::pieces_come_once;
+pub use laws::{pieces_come_once, takes_are_exact};
 pub use sched::Sched;
 pub use state::{Pick, PieceState};
