@@ -10,11 +10,19 @@
 //!   are numbers.
 //!
 //! ```
+//! use pac_ops::PieceId;
+//! use pac_plan::Preds;
+//! use pac_sched::{Pick, Sched};
+//!
+//! let pieces = [PieceId { txn: 1, block: 0 }, PieceId { txn: 2, block: 0 }];
+//! let mut pairs = Vec::new(alloc);
+//! pairs.push((0_u32, 1_u32))?; // the second waits for the first
 //! let mut sched = Sched::new(alloc);
-//! sched.open_set(&pieces, &preds)?; // pieces: one set of a batch, ascending; preds: which of them conflict
-//! if let Pick::Piece(id) = sched.take() {
-//!     sched.finish(id); // what waited for this piece alone is ready now
-//! }
+//! sched.open_set(&pieces, &Preds::new(pairs))?;
+//! let first = sched.take(); // Pick::Piece(pieces[0])
+//! let none = sched.take(); // Pick::NotReady
+//! sched.finish(pieces[0]);
+//! let second = sched.take(); // Pick::Piece(pieces[1])
 //! ```
 //!
 //! [`pieces_come_once`] and [`takes_are_exact`] are laws: functions without code. Their clauses say of all calls, one after another,
