@@ -19,7 +19,7 @@ use Rattle.pac_sched.proofs.StateLemmas.{get_same, get_other}
 
 -- ---- what a take picks
 
-found_passes : {X : Type 0} (test : X → Bool) (xs : List X) (x : X) → find test xs ≡ Some x → test x ≡ true
+pub found_passes : {X : Type 0} (test : X → Bool) (xs : List X) (x : X) → find test xs ≡ Some x → test x ≡ true
 found_passes test [] x e = absurd (none-some x e)
 found_passes test (y ∷ ys) x e = go (test y) refl e (found_passes test ys x)
   where
@@ -34,7 +34,7 @@ no_piece : (b : Bool) (id : PieceId) → cond b Done NotReady ≡ Piece id → �
 no_piece true id e = grind arith
 no_piece false id e = grind arith
 
-picked : (s : Schedule) (id : PieceId) → pick s ≡ Piece id → next_ready s ≡ Some id
+pub picked : (s : Schedule) (id : PieceId) → pick s ≡ Piece id → next_ready s ≡ Some id
 picked s id e = go (next_ready s) refl e
   where
     go : (o : Option PieceId) → next_ready s ≡ o → pick_for s o ≡ Piece id → o ≡ Some id
@@ -45,7 +45,7 @@ pub hands_out_ready : HandsOutReady
 hands_out_ready s id e = found_passes (piece_is_ready s) s.pieces id (picked s id e)
 
 -- a ready piece stands somewhere, and waits there
-ready_waits : (s : Schedule) (id : PieceId) → piece_is_ready s id ≡ true → state_of_piece s id ≡ Some Waiting
+pub ready_waits : (s : Schedule) (id : PieceId) → piece_is_ready s id ≡ true → state_of_piece s id ≡ Some Waiting
 ready_waits s id e = go (position_of s id) e
   where
     and_left : (a b : Bool) → (a && b) ≡ true → a ≡ true

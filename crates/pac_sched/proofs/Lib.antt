@@ -6,3 +6,4 @@ pub mod KeptLemmas
 pub mod ReadyLemmas
 pub mod OpeningLemmas
 pub mod CallLemmas
+pub mod PickLemmas

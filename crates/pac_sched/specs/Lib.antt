@@ -3,3 +3,4 @@ pub mod ReadySets
 pub mod Orders
 pub mod Counts
 pub mod Calls
+pub mod Picks

@@ -10,15 +10,24 @@
 //!   are numbers.
 //!
 //! ```
+//! use pac_ops::PieceId;
+//! use pac_plan::Preds;
+//! use pac_sched::{Pick, Sched};
+//!
+//! let pieces = [PieceId { txn: 1, block: 0 }, PieceId { txn: 2, block: 0 }];
+//! let mut pairs = Vec::new(alloc);
+//! pairs.push((0_u32, 1_u32))?; // the second waits for the first
 //! let mut sched = Sched::new(alloc);
-//! sched.open_set(&pieces, &preds)?; // pieces: one set of a batch, ascending; preds: which of them conflict
-//! if let Pick::Piece(id) = sched.take() {
-//!     sched.finish(id); // what waited for this piece alone is ready now
-//! }
+//! sched.open_set(&pieces, &Preds::new(pairs))?;
+//! let first = sched.take(); // Pick::Piece(pieces[0])
+//! let none = sched.take(); // Pick::NotReady
+//! sched.finish(pieces[0]);
+//! let second = sched.take(); // Pick::Piece(pieces[1])
 //! ```
 //!
-//! [`pieces_come_once`] is a law: a function without code, whose clauses say of all calls, one after another, that a piece is handed
-//! out only while it is ready, again only after it was given back, and never once it is finished.
+//! [`pieces_come_once`] and [`takes_are_exact`] are laws: functions without code. Their clauses say of all calls, one after another,
+//! that a piece is handed out only while it is ready, again only after it was given back, and never once it is finished; and of
+//! takes, which piece comes and exactly when none does.
 //!
 //! `specs/Schedules.antt` says what a schedule is, and what is ready in it, in terms of pieces, pairs and states alone.
 #![tactic(auto)]
@@ -31,6 +40,6 @@ mod ready_set;
 mod sched;
 mod state;
 
-pub use laws::pieces_come_once;
+pub use laws::{pieces_come_once, takes_are_exact};
 pub use sched::Sched;
 pub use state::{Pick, PieceState};

@@ -21,6 +21,8 @@ mod plans;
 #[cfg(test)]
 mod rows;
 #[cfg(test)]
+mod schedules;
+#[cfg(test)]
 mod sends;
 #[cfg(test)]
 mod sizes;
