@@ -6,3 +6,5 @@ pub mod FitLemmas
 pub mod RunnableLemmas
 pub mod MeaningLemmas
 pub mod WithinLemmas
+pub mod ArgumentWork
+pub mod CopyLemmas

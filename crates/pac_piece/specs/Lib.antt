@@ -7,3 +7,4 @@ pub mod Values
 pub mod Results
 pub mod Runnable
 pub mod PieceLaws
+pub mod Copies

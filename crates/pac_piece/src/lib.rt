@@ -9,6 +9,9 @@
 //!   done, and that its value is what the piece means in its plan. With the law `work` of `pac_commute` this is the piece
 //!   applied to the state, once writes and values are put in.
 //!
+//! [`arguments_run`] is a law too: in a block to which no edge leads, work with the arguments and with copies of rows that
+//! [fit](rows_fit) can be run.
+//!
 //! ```
 //! let work = Work { piece, code, env, rows };
 //! match run(alloc, work) {
@@ -36,5 +39,6 @@ mod run_all;
 mod run_op;
 mod work;
 
-pub use laws::work_means_piece;
+pub use laws::{arguments_run, work_means_piece};
+pub use rows::rows_fit;
 pub use work::{Done, Work, is_value, run};

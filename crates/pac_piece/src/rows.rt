@@ -1,9 +1,43 @@
 // Copies of rows: their copies, and comparing them.
 ghost use Rattle.std.specs.Prelude.{◌≡◌, ◌↔◌, ◌<◌, length, IsTrue, IfOk};
+ghost use Rattle.std.specs.List.{AllByRecursion};
+ghost use Rattle.std.specs.FinMap.{empty};
+ghost use Rattle.pac_ops.specs.Shapes.{RowsFit};
+ghost use Rattle.pac_tables.specs.Written.{written};
+ghost use Rattle.pac_piece.specs.Copies.{CopyFits};
 
 use pac_base::{Exact, Listed, NoMemory, Same, listed};
+use pac_plan::Plan;
 use pac_tables::Write;
 use std::alloc::Global;
+
+/// Whether each copy of a row fits its table. Takes no memory.
+pub fn rows_fit(plan: &Plan, rows: &[Write]) -> bool
+    ensures each { IsTrue result ↔ AllByRecursion (CopyFits plan.now.tables) rows.now }
+    ensures tables { IsTrue result → RowsFit plan.now.tables (written empty rows.now) }
+{
+    all_fit(plan, rows)
+}
+
+fn all_fit(plan: &Plan, rows: &[Write]) -> bool
+    ensures { IsTrue result ↔ AllByRecursion (CopyFits plan.now.tables) rows.now }
+{
+    for row in rows {
+        if !copy_fits(plan, row) {
+            return false;
+        }
+    }
+    true
+}
+
+fn copy_fits(plan: &Plan, copy: &Write) -> bool
+    ensures { IsTrue result ↔ CopyFits plan.now.tables copy.now }
+{
+    match &copy.row {
+        Some(row) => plan.row_fits(copy.table, &copy.key, row.items()),
+        None => true,
+    }
+}
 
 /// An equal list.
 pub(crate) fn copy_rows(alloc: Global, rows: &[Write]) -> Result<Listed<Write>, NoMemory>

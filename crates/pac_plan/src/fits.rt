@@ -33,6 +33,13 @@ impl Plan {
         true
     }
 
+    /// Whether a key and values are those of a row of a table of the plan. Takes no memory.
+    pub fn row_fits(&self, table: u16, key: &Key, row: &[Value]) -> bool
+        ensures { IsTrue result ↔ RowFits self.now.tables (table, key.now) row.now }
+    {
+        row_fits(self.parts.tables.as_slice(), table, key, row)
+    }
+
     // Whether a call is of a procedure with such parameters.
     fn has_params(&self, call: &Call) -> bool
         ensures { IsTrue result ↔ IsSomeAnd (slice_get (map (λ program. program.params) self.now.programs) call.now.proc) (λ types. map type_of call.now.args ≡ types) }

@@ -3,8 +3,8 @@
 //! - [`Plan::new`] makes a plan of its [`PlanParts`]. It requires that the parts are those of the analysis, and every
 //!   plan keeps that by its type. A contract sees a plan as its parts.
 //! - [`Plan::program`], [`Plan::table_types`], [`Plan::block_of`], [`Plan::home_of`], [`Plan::blocks`],
-//!   [`Plan::has_edge`], [`Plan::is_entry`], [`Plan::edges`], [`Plan::procs`] and [`Plan::tables`] return the parts. [`Plan::fits`] and
-//!   [`Plan::fits_all`] test whether transactions are of the plan.
+//!   [`Plan::has_edge`], [`Plan::is_entry`], [`Plan::edges`], [`Plan::procs`] and [`Plan::tables`] return the parts. [`Plan::fits`],
+//!   [`Plan::fits_all`] and [`Plan::row_fits`] test whether transactions and rows are of the plan.
 //! - [`is_plan`], [`keeps_order`] and [`one_plan`] are laws: functions that do nothing, whose clauses say what holds of
 //!   every plan, and that programs and tables have one.
 //!   What uses a variable is in the block of the operation that defines it or in one that an edge leads to; an edge

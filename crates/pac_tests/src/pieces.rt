@@ -1,6 +1,8 @@
 // Which keys are bounded in procedures that were worked by hand, and which accesses conflict.
+mod bank;
+
 use pac_base::listed;
-use pac_batch::preds;
+use pac_batch::{preds, queue_preds};
 use pac_flat::flatten;
 use pac_global::global;
 use pac_keys::PlanCode;
@@ -26,7 +28,8 @@ fn only_piece_is_bounded(code: &PlanCode) -> Option<bool> {
     Some(code.is_bounded(0, 0))
 }
 
-fn bounded_in(alloc: Global, catalogue: &Catalogue) -> Option<bool> {
+// The plan of a catalogue, with the code of its pieces.
+fn plan_code(alloc: Global, catalogue: &Catalogue) -> Option<PlanCode> {
     let Ok(programs) = flatten(alloc, catalogue) else {
         return None;
     };
@@ -34,9 +37,13 @@ fn bounded_in(alloc: Global, catalogue: &Catalogue) -> Option<bool> {
     let Ok(plan) = global(alloc, catalogue, programs) else {
         return None;
     };
-    match PlanCode::new(alloc, plan) {
-        Ok(code) => only_piece_is_bounded(&code),
-        Err(_) => None,
+    PlanCode::new(alloc, plan).ok()
+}
+
+fn bounded_in(alloc: Global, catalogue: &Catalogue) -> Option<bool> {
+    match plan_code(alloc, catalogue) {
+        Some(code) => only_piece_is_bounded(&code),
+        None => None,
     }
 }
 
@@ -93,6 +100,19 @@ fn conflict_so(alloc: Global, rows: &[(i64, bool)], whole: bool, pairs: &[(u32, 
     }
 }
 
+fn are_next_so(alloc: Global, rows: &[(i64, bool)], whole: bool, pairs: &[(u32, u32)]) -> bool {
+    let Some(accesses) = accesses(alloc, rows, whole) else {
+        return false;
+    };
+    if accesses.len() > 1024 {
+        return false;
+    }
+    match queue_preds(alloc, &accesses) {
+        Ok(found) => found.pairs() == pairs,
+        Err(_) => false,
+    }
+}
+
 const ROWS: &[(i64, bool)] = &[(1, false), (1, true), (2, true)];
 
 #[test]
@@ -101,24 +121,51 @@ fn accesses_conflict_as_worked(rt: HostRuntime) {
     assert!(rt; conflict_so(rt.alloc(), ROWS, true, &[(0, 1), (0, 3), (1, 3), (2, 3)]));
 }
 
-// How many pairs of 1,024 writes conflict, all of one row or each of its own.
-fn pairs_of_writes(alloc: Global, is_one_row: bool) -> Option<usize> {
+// Two reads of a row between two modifications.
+const READ_TWICE: &[(i64, bool)] = &[(1, true), (1, false), (1, false), (1, true)];
+
+// Three modifications of a row, and one of another.
+const WRITTEN_ON: &[(i64, bool)] = &[(1, true), (1, true), (2, true), (1, true)];
+
+#[test]
+fn accesses_are_next_as_worked(rt: HostRuntime) {
+    assert!(rt; are_next_so(rt.alloc(), ROWS, false, &[(0, 1)]));
+    assert!(rt; are_next_so(rt.alloc(), ROWS, true, &[(0, 1), (0, 3), (1, 3), (2, 3)]));
+    assert!(rt;
+        are_next_so(
+            rt.alloc(),
+            READ_TWICE,
+            false,
+            &[(0, 1), (0, 2), (0, 3), (1, 3), (2, 3)]
+        )
+    );
+    assert!(rt; are_next_so(rt.alloc(), WRITTEN_ON, false, &[(0, 1), (1, 3)]));
+    assert!(rt; are_next_so(rt.alloc(), &[], true, &[]));
+}
+
+// 1,024 writes, all of one row or each of its own.
+fn writes(alloc: Global, is_one_row: bool) -> Option<Vec<Access>> {
     let mut accesses = Vec::new(alloc);
     for i in 0..1024_u16 {
         let access = one_row(alloc, if is_one_row { 1 } else { i64::from(i) }, true)?;
         accesses.push(access).ok()?;
     }
+    Some(accesses)
+}
+
+// How many pairs conflict, and how many are next to each other.
+fn pairs_of_writes(alloc: Global, is_one_row: bool) -> Option<(usize, usize)> {
+    let accesses = writes(alloc, is_one_row)?;
     if accesses.len() > 1024 {
         return None;
     }
-    match preds(alloc, &accesses) {
-        Ok(found) => Some(found.pairs().len()),
-        Err(_) => None,
-    }
+    let all = preds(alloc, &accesses).ok()?;
+    let next = queue_preds(alloc, &accesses).ok()?;
+    Some((all.pairs().len(), next.pairs().len()))
 }
 
 #[test]
 fn writes_of_one_row_conflict_with_each_other(rt: HostRuntime) {
-    assert!(rt; pairs_of_writes(rt.alloc(), true) == Some(523_776));
-    assert!(rt; pairs_of_writes(rt.alloc(), false) == Some(0));
+    assert!(rt; pairs_of_writes(rt.alloc(), true) == Some((523_776, 1_023)));
+    assert!(rt; pairs_of_writes(rt.alloc(), false) == Some((0, 0)));
 }

@@ -1,0 +1,75 @@
+-- Work whose inputs are the arguments of its transaction can be run.
+use Rattle.std.proofs.Common.{◌≡◌, ℕ, ◌+◌, ◌<◌, ◌==◌, Bool, true, false, cond, List, [], ◌∷◌, map, length, Option, Some, None, refl, sym, ap, ◌∙◌, subst, ◌⊎◌, inl, inr, ⊎_elim, arith}
+use Rattle.std.specs.Prelude.{slice_get, IsSomeAnd}
+use Rattle.std.specs.Option.{option_map}
+use Rattle.std.specs.Ordering.{nat_cmp}
+use Rattle.std.specs.FinMap.{get, insert, empty, get-empty, get-insert}
+use Rattle.std.specs.Cmp.{nat_cmp_total, unsigned_ties}
+use Rattle.std.proofs.lemmas.Option.{slice_get-map}
+use Rattle.std.proofs.lemmas.List.{length-map}
+use Rattle.pac_base.proofs.TestLemmas.{any_gives, unlike, same_number}
+use Rattle.pac_base.proofs.ItemLemmas.{there}
+use Rattle.pac_value.specs.declared.values.Value.{Value}
+use Rattle.pac_value.specs.Values.{type_of}
+use Rattle.pac_value.specs.Expressions.{Values}
+use Rattle.pac_value.specs.State.{Tables}
+use Rattle.pac_ops.specs.declared.program.FlatOp.{FlatOp}
+use Rattle.pac_ops.specs.declared.program.Program.{Program}
+use Rattle.pac_ops.specs.declared.transaction.Txn.{Txn}
+use Rattle.pac_ops.specs.declared.transaction.Txn.TheVariants.{Call as ACall, AdHoc}
+use Rattle.pac_ops.specs.Uses.{defined_variable, Defines}
+use Rattle.pac_ops.specs.Operations.{opening, with_values}
+use Rattle.pac_ops.specs.Transactions.{txn_state, call_state}
+use Rattle.pac_ops.specs.Effects.{NumberedOp, numbered_from, is_var, defined_in}
+use Rattle.pac_ops.proofs.DefinedLemmas.{undefined_meaning, var-named}
+use Rattle.pac_ops.proofs.RecordLemmas.{whole_meaning, number_at}
+use Rattle.pac_plan.specs.declared.parts.PlanParts.{PlanParts}
+use Rattle.pac_plan.specs.Analysis.{IsPlan}
+use Rattle.pac_plan.specs.Worlds.{txn_args}
+use Rattle.pac_plan.specs.Codes.{TxnFitsPlan}
+use Rattle.pac_piece.specs.Frames.{AreAmong}
+
+insert-at : (env : Values) (x : ℕ) (v : Value) (y : ℕ) → get (insert env x v) y ≡ cond (y == x) (Some v) (get env y)
+insert-at env x v y = get-insert nat_cmp_total env x v y ∙ ap (λ b. cond b (Some v) (get env y)) (sym (unsigned_ties y x))
+
+-- a variable with a value has it from before, or is one of those that were numbered
+numbered_below : (args : List Value) (n : ℕ) (env : Values) (x : ℕ) (v : Value) → get (with_values n args env) x ≡ Some v → (get env x ≡ Some v) ⊎ (x < n + length args)
+numbered_below [] n env x v e = inl e
+numbered_below (a ∷ rest) n env x v e = ⊎_elim
+    (λ h. pick (x == n) refl (sym (insert-at env n a x) ∙ h))
+    (λ lt. inr (omega (arith, lt)))
+    (numbered_below rest (n + 1) (insert env n a) x v e)
+  where
+    pick : (b : Bool) → (x == n) ≡ b → cond b (Some a) (get env x) ≡ Some v → (get env x ≡ Some v) ⊎ (x < n + length (a ∷ rest))
+    pick true t h = let same : x ≡ n = same_number x n t in inr (omega (arith, same))
+    pick false t h = inl h
+
+-- a variable that an operation defines is no parameter
+defines : (ops : List FlatOp) (x : ℕ) → defined_in (numbered_from 0 ops) x ≡ true → (i : ℕ) × Defines ops i x
+defines ops x e =
+    let o = any_gives (λ (o : NumberedOp). is_var x (defined_variable o.1.kind)) (numbered_from 0 ops) e in
+    let at = number_at 0 ops o.0 o.1 in
+    (at.0, there ops at.0 o.0.1 (λ (op : FlatOp). defined_variable op.kind ≡ Some x) at.2 (var-named x (defined_variable o.0.1.kind) o.2))
+
+-- a transaction keeps its arguments
+pub arguments_stay : (parts : PlanParts) → IsPlan parts → (txn : Txn) → TxnFitsPlan parts txn → (rows : Tables) → AreAmong (with_values 0 (txn_args (Some txn)) empty) (txn_state parts.programs txn rows).env
+arguments_stay parts is (AdHoc records) fits rows x v e = e
+arguments_stay parts is (ACall call) fits rows x v e =
+    go (slice_get parts.programs call.proc) refl (subst (λ o. IsSomeAnd o (λ types. map type_of call.args ≡ types)) (slice_get-map (λ (program : Program). program.params) parts.programs call.proc) fits)
+  where
+    go : (o : Option Program) → slice_get parts.programs call.proc ≡ o → IsSomeAnd (option_map (λ (program : Program). program.params) o) (λ types. map type_of call.args ≡ types)
+        → get (call_state o call.args rows).env x ≡ Some v
+    go None at f = absurd f
+    go (Some program) at f =
+        ap (λ s. get s.env x) (sym (whole_meaning program.vars 0 program.ops (opening call.args rows)))
+        ∙ undefined_meaning program.vars (numbered_from 0 program.ops) (opening call.args rows) x (unlike _ kept)
+        ∙ e
+      where
+        below : x < length program.params
+        below = ⊎_elim
+            (λ h. let wrong : ◌≡◌ {A = Option Value} None (Some v) = sym (get-empty nat_cmp x) ∙ h in absurd cc)
+            (λ lt. let same : length call.args ≡ length program.params = sym (length-map call.args type_of) ∙ ap length f in omega (arith, lt, same))
+            (numbered_below call.args 0 empty x v e)
+
+        kept : defined_in (numbered_from 0 program.ops) x ≡ true → ⊥
+        kept d = let i = defines program.ops x d in let after = (is.programs call.proc program at).after i.0 x i.1 in omega (arith, below, after)
