@@ -5,7 +5,7 @@ ghost use Rattle.pac_ops.specs.Transactions.{with_change, with_changes};
 ghost use Rattle.pac_types.specs.Execution.{called_at, txn_meaning};
 ghost use Rattle.pac_types.specs.OperationLimits.{HasFewOperations};
 ghost use Rattle.pac_types.specs.Fits.{shape, FitsCatalogue, FitsCall, TxnFits};
-ghost use Rattle.pac_serial.specs.WriteSets.{as_changed, KnowsTables};
+ghost use Rattle.pac_serial.specs.WriteSets.{as_changed, AreUnmade};
 ghost use Rattle.pac_serial.specs.Outcomes.{Executes, limited};
 ghost use Rattle.pac_serial.specs.Transactions.{RunsOver};
 
@@ -62,7 +62,7 @@ impl From<Halt> for ExecError {
 
 // Makes what the transaction has changed, where no table is over the limit then.
 fn finish<R: Rows>(limit: Option<u64>, rows: &mut R, txn: &mut RunningTxn) -> Result<(), ExecError>
-    requires { KnowsTables (R.tables rows.old) (R.held rows.old) txn.old.write_set }
+    requires { AreUnmade (R.tables rows.old) txn.old.write_set }
     ensures does { Executes (limited limit (R.tables rows.old) (Ok (as_changed (R.held rows.old) txn.old.write_set))) (R.held rows.old) (R.held rows.new) result }
     ensures made { OnOk result (R.held rows.new ≡ as_changed (R.held rows.old) txn.old.write_set) }
     ensures kept { OnErr result (R.held rows.new ≡ R.held rows.old) }
@@ -113,9 +113,9 @@ fn make<R: Rows>(
     match change {
         Change::Put { table, key, row } => {
             let row = row.copy(txn.alloc)?;
-            txn.write_set.change(rows, *table, *key, Some(row))
+            txn.write_set.change(*table, *key, Some(row))
         }
-        Change::Delete { table, key } => txn.write_set.change(rows, *table, *key, None),
+        Change::Delete { table, key } => txn.write_set.change(*table, *key, None),
     }
 }
 
