@@ -44,13 +44,21 @@ impl Model for WriteSet {
     ghost invariant = { λ write_set. T (is_sorted cell_cmp write_set.changes.items) };
 }
 
-// Where a cell is changed, or else where its change would stand.
+// Where a cell is changed, or else where its change would stand. The last change comes first: most cells are changed in order.
 fn search(changes: &[CellChange], table: u16, key: &Key) -> Result<usize, usize>
     requires { T (is_sorted cell_cmp changes.now) }
     ensures found { IfOk result (IsOffsetOf changes.now (table, key.now)) }
     ensures absent { IfErr result (IsGapFor cell_cmp changes.now (table, key.now)) }
 {
-    changes.binary_search_by(|change| order(&change.0, table, key))
+    let count = changes.len();
+    if count == 0 {
+        return Err(0);
+    }
+    match order(&changes[count - 1].0, table, key) {
+        Ordering::Less => Err(count),
+        Ordering::Equal => Ok(count - 1),
+        Ordering::Greater => changes.binary_search_by(|change| order(&change.0, table, key)),
+    }
 }
 
 // How a cell stands to the one of this table and key. Neither is copied: a key is large.
