@@ -12,7 +12,7 @@ use std::alloc::Global;
 /// after another, so that what it holds is made once. A variable that is not set yet may have a value of an earlier
 /// transaction, which well-formed statements don't see: so each variable has its place after the first call.
 #[derive(Drop)]
-pub(crate) struct RunningTxn {
+pub struct RunningTxn {
     pub(crate) alloc: Global,
     pub(crate) env: Env,
     pub(crate) write_set: WriteSet,
@@ -26,8 +26,8 @@ pub(crate) struct Target<'a> {
 }
 
 impl RunningTxn {
-    /// Takes no memory.
-    pub(crate) fn new(alloc: Global) -> RunningTxn {
+    /// Nothing is executed yet. Takes no memory.
+    pub fn new(alloc: Global) -> RunningTxn {
         RunningTxn {
             alloc,
             env: Env::new(alloc),
