@@ -1,3 +1,4 @@
 pub mod GroupLemmas
+pub mod DumpLemmas
 pub mod SliceLemmas
 pub mod BlockLemmas

@@ -5,13 +5,13 @@ use Rattle.std.specs.Prelude.{filter}
 use Rattle.std.specs.declared.cmp.Ordering.{Ordering}
 use Rattle.std.specs.declared.cmp.Ordering.TheVariants.{Less, Equal, Greater}
 use Rattle.std.specs.Ordering.{is_lt, is_eq, eq_by_cmp}
-use Rattle.std.specs.FinMap.{get, find, entries, entries_sorted, is_sorted, insert, remove, len, get-entries, get-insert, get-remove, entries-insert, len-entries, len-insert, same_map}
+use Rattle.std.specs.FinMap.{get, find, entries, entries_sorted, is_sorted, insert, remove, len, get-insert, get-remove, entries-insert, len-entries, len-insert, same_map}
 use Rattle.std.specs.FinMap.Entries.{put, by_order, below_all}
 use Rattle.pac_value.specs.State.{Cell, cell_cmp, RowValues, Tables, with_row, keys_among, keys_of}
 use Rattle.pac_value.proofs.CellLemmas.{cells_total, cells_antisymmetric, tied_same, same-cell}
 use Rattle.pac_tables.proofs.WriteLemmas.{remove-absent}
 use Rattle.pac_serial.specs.declared.pending.Pending.{Pending}
-use Rattle.pac_serial.specs.WriteSets.{Change, Changes, laid, as_changed, KnowsTables, gains, loses, gained, lost}
+use Rattle.pac_serial.specs.WriteSets.{Change, Changes, laid, as_changed, gains, loses, gained, lost}
 use Rattle.pac_serial.proofs.WriteSetLemmas.{row_or, get-laid}
 
 module _ (x : ℕ) where
@@ -148,28 +148,21 @@ module _ (c : Change) (cs : List Change) where
         other false e = e
 
 -- all changes
-module _ (x : ℕ) (t : Tables) where
-  AreKnown : List Change → Type 0
-  AreKnown cs = (q : Cell) (pending : Pending) → find cell_cmp q cs ≡ Some pending → pending.stands ≡ is_some (get t q)
-
-  balanced : (cs : List Change) → T (is_sorted cell_cmp cs) → AreKnown cs → length (keys_of (laid t cs) x) + lost x cs ≡ length (keys_of t x) + gained x cs
-  unfolding AreKnown
-  balanced [] sorted known = refl
-  balanced (c ∷ cs) sorted known =
-      let here : c.1.stands ≡ is_some (get t c.0) = known c.0 c.1 (find-first c cs) in
-      let still : c.1.stands ≡ is_some (get (laid t cs) c.0) = here ∙ sym (ap is_some (get-laid t cs c.0 ∙ ap (λ (o : Option Pending). row_or o (get t c.0)) (none-after c cs sorted))) in
-      omega (arith, change-count x (laid t cs) c.0 c.1.row (c.0.0 == x) c.1.stands refl still, balanced cs (sorted-after c cs sorted) (λ q pending found. known q pending (find-after c cs sorted q pending found)))
+balanced : (x : ℕ) (t : Tables) (cs : List Change) → T (is_sorted cell_cmp cs) → length (keys_of (laid t cs) x) + lost t x cs ≡ length (keys_of t x) + gained t x cs
+balanced x t [] sorted = refl
+balanced x t (c ∷ cs) sorted =
+    let still : is_some (get t c.0) ≡ is_some (get (laid t cs) c.0) = sym (ap is_some (get-laid t cs c.0 ∙ ap (λ (o : Option Pending). row_or o (get t c.0)) (none-after c cs sorted))) in
+    omega (arith, change-count x (laid t cs) c.0 c.1.row (c.0.0 == x) (is_some (get t c.0)) refl still, balanced x t cs (sorted-after c cs sorted))
 
 -- a table's rows as a transaction sees them
-pub seen-count : (n : ℕ) (x : ℕ) (t : Tables) (cs : Changes) → KnowsTables n t cs → length (keys_of (as_changed t cs) x) + lost x (entries cs) ≡ length (keys_of t x) + gained x (entries cs)
-unfolding AreKnown
-seen-count n x t cs knows = balanced x t (entries cs) (entries_sorted cs) (λ q pending found. (knows q pending (get-entries cs q ∙ found)).1)
+pub seen-count : (x : ℕ) (t : Tables) (cs : Changes) → length (keys_of (as_changed t cs) x) + lost t x (entries cs) ≡ length (keys_of t x) + gained t x (entries cs)
+seen-count x t cs = balanced x t (entries cs) (entries_sorted cs)
 
 -- one change more
-pub gained-more : (x : ℕ) (cs : List Change) (c : Change) → gained x (cs ++ c ∷ []) ≡ gained x cs + gains x c
-gained-more x [] c = omega arith
-gained-more x (d ∷ cs) c = omega (arith, gained-more x cs c)
+pub gained-more : (t : Tables) (x : ℕ) (cs : List Change) (c : Change) → gained t x (cs ++ c ∷ []) ≡ gained t x cs + gains t x c
+gained-more t x [] c = omega arith
+gained-more t x (d ∷ cs) c = omega (arith, gained-more t x cs c)
 
-pub lost-more : (x : ℕ) (cs : List Change) (c : Change) → lost x (cs ++ c ∷ []) ≡ lost x cs + loses x c
-lost-more x [] c = omega arith
-lost-more x (d ∷ cs) c = omega (arith, lost-more x cs c)
+pub lost-more : (t : Tables) (x : ℕ) (cs : List Change) (c : Change) → lost t x (cs ++ c ∷ []) ≡ lost t x cs + loses t x c
+lost-more t x [] c = omega arith
+lost-more t x (d ∷ cs) c = omega (arith, lost-more t x cs c)

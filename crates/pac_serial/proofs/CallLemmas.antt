@@ -25,7 +25,7 @@ use Rattle.pac_serial.specs.Transactions.{RunsOver}
 use Rattle.pac_serial.specs.TextMeaning.{code_count, text_meaning}
 use Rattle.pac_serial.proofs.CodeLemmas.{count-all-operations}
 use Rattle.pac_serial.proofs.SameMeaning.{same-called}
-use Rattle.pac_serial.proofs.WriteSetLemmas.{seen-none, knows-none}
+use Rattle.pac_serial.proofs.WriteSetLemmas.{seen-none, unmade-none}
 
 -- the procedure that a call names, and its arguments
 pub at-call : (procs : List Proc) (n : ℕ) (args : List Value) (i : ℕ) (proc : Proc) → FitsCall procs n args → i ≡ n → proc ≡ get_or procs i proc → (slice_get procs n ≡ Some proc) × FitParams proc.params args
@@ -56,16 +56,16 @@ few-operations procs n proc found few =
 pub runs-begun : (tables : List Table) (n : ℕ) (held : Tables) (write_set : Changes) → n ≡ length tables → FitTables tables held → write_set ≡ empty → RunsOver tables n held write_set
 runs-begun tables n held write_set count fits begun = subst (λ (d : Changes). RunsOver tables n held d) (sym begun) (record {
   count = count;
-  knows = knows-none n held;
+  unmade = unmade-none n;
   fits = subst (λ (t : Tables). FitTables tables t) (sym (seen-none held)) fits;
 })
 
 -- what a call means is what its statements mean from there
-pub called-is : (ts : List Table) (procs : List Proc) (n : ℕ) (proc : Proc) (args : List Value) (held : Tables) (env : Values) (write_set : Changes) → IsProc ts proc → slice_get procs n ≡ Some proc → env ≡ with_values 0 args empty → write_set ≡ empty
+pub called-is : (ts : List Table) (procs : List Proc) (n : ℕ) (proc : Proc) (args : List Value) (held : Tables) (old env : Values) (write_set : Changes) → IsProc ts proc → FitParams proc.params args → slice_get procs n ≡ Some proc → env ≡ with_values 0 args old → write_set ≡ empty
     → called_at (slice_get procs n) args held ≡ (text_meaning proc.body 0 (record { env = env; tables = as_changed held write_set }) >>= λ s. Ok s.tables)
-called-is ts procs n proc args held env write_set is found opened begun =
+called-is ts procs n proc args held old env write_set is fit found opened begun =
     ap (λ o. called_at o args held) found
-    ∙ sym (same-called ts proc is args held)
+    ∙ sym (same-called ts proc is args fit old held)
     ∙ ap (λ (s : State). text_meaning proc.body 0 s >>= λ t. Ok t.tables) (λ i. record { env = sym opened i; tables = (sym (seen-none held) ∙ ap (as_changed held) (sym begun)) i })
 
 -- operations that halt refuse the transaction

@@ -1,65 +1,58 @@
--- Changes that are made in two parts leave what they leave at once, and what is taken back was never there.
+-- Changes that are made in two parts leave what they leave at once, and what is brought back was never replaced.
 use Rattle.std.proofs.Common.{◌≡◌, ◌<◌, ℕ, zero, suc, Bool, true, false, cond, T, List, [], ◌∷◌, ◌++◌, map, take, drop, length, get_or, set, Option, Some, None, is_some, IsSome, refl, sym, ap, subst, ◌∙◌, ◌&&◌, ◌≤◌, arith}
 use Rattle.std.specs.List.{All}
 use Rattle.std.proofs.lemmas.List.Elements.{All-nil, All-cons, All-tail, All-get_or, All-from_get_or}
+use Rattle.std.specs.Option.{option_map}
 use Rattle.std.specs.Ordering.{eq_by_cmp, is_lt, is_eq}
 use Rattle.std.specs.FinMap.{get, find, is_sorted, remove, get-insert, get-remove, same_map}
 use Rattle.std.specs.FinMap.Entries.{below_all}
 use Rattle.pac_value.specs.State.{Cell, cell_cmp, RowValues, Tables, with_row}
 use Rattle.pac_value.proofs.CellLemmas.{cells_total, cells_antisymmetric, tied_same, get-with_row}
 use Rattle.pac_serial.specs.declared.pending.Pending.{Pending}
-use Rattle.pac_serial.specs.WriteSets.{Change, laid, KnowsAll}
-use Rattle.pac_serial.specs.Commits.{cells, AreIn, AreThere, IsThere, with_new_row, with_moved, emptied, with_new, without_new, with_made, with_rest}
+use Rattle.pac_serial.specs.WriteSets.{Change, laid, AreAllUnmade}
+use Rattle.pac_serial.specs.Commits.{cells, AreIn, AreThere, IsThere, with_new_row, with_put, kept_row, with_kept, exchanged, with_puts, with_deletes, with_restored, restored}
 use Rattle.pac_serial.proofs.WriteSetLemmas.{row_or, get-laid}
 use Rattle.pac_value.proofs.OffsetLemmas.{below_at, flipped-Less}
 use Rattle.pac_serial.proofs.BalanceLemmas.{find-first, find-after, none-after, sorted-after}
 
--- a row that is moved to a cell, or what stood there
+-- a row that is put at a cell, or what stood there
 abbrev new_or : Option RowValues → Option RowValues → Option RowValues
 new_or None row = row
 new_or (Some new) row = Some new
 
--- what stands at a cell with this change, or none, once what is new is moved there
-abbrev after_new : Option Pending → Option RowValues → Option RowValues
-after_new None row = row
-after_new (Some pending) row = cond pending.stands row (new_or pending.row row)
+-- what stands at a cell with this change, or none, once rows are put
+abbrev after_puts : Option Pending → Option RowValues → Option RowValues
+after_puts None row = row
+after_puts (Some pending) row = new_or pending.row row
 
--- once what was new is taken back
-abbrev after_back : Option Pending → Option RowValues → Option RowValues
-after_back None row = row
-after_back (Some pending) row = cond pending.stands row None
+-- once rows are deleted
+abbrev after_deletes : Option Pending → Option RowValues → Option RowValues
+after_deletes None row = row
+after_deletes (Some pending) row = cond pending.puts row None
 
--- once the rest is made
-abbrev after_rest : Option Pending → Option RowValues → Option RowValues
-after_rest None row = row
-after_rest (Some pending) row = cond pending.stands pending.row row
+-- once what was kept is brought back
+abbrev after_restored : Option Pending → Option RowValues → Option RowValues
+after_restored None row = row
+after_restored (Some pending) row = cond pending.puts pending.row row
 
-get-with_new_row : (t : Tables) (p : Cell) (row : Option RowValues) (q : Cell) → get (with_new_row t p row) q ≡ cond (eq_by_cmp cell_cmp q p) (new_or row (get t q)) (get t q)
-get-with_new_row t p None q = same (eq_by_cmp cell_cmp q p)
+get-with_put : (t : Tables) (c : Change) (q : Cell) → get (with_put t c) q ≡ cond (eq_by_cmp cell_cmp q c.0) (after_puts (Some c.1) (get t q)) (get t q)
+get-with_put t c q = go c.1.row (eq_by_cmp cell_cmp q c.0) refl
   where
-    same : (b : Bool) → get t q ≡ cond b (get t q) (get t q)
-    same true = refl
-    same false = refl
-get-with_new_row t p (Some row) q = get-insert cells_total t p row q
+    go : (row : Option RowValues) (b : Bool) → eq_by_cmp cell_cmp q c.0 ≡ b → get (with_new_row t c.0 row) q ≡ cond b (new_or row (get t q)) (get t q)
+    go None true e = refl
+    go None false e = refl
+    go (Some row) b e = get-insert cells_total t c.0 row q ∙ ap (λ x. cond x (Some row) (get t q)) e
 
-get-with_moved : (t : Tables) (c : Change) (q : Cell) → get (with_moved t c) q ≡ cond (eq_by_cmp cell_cmp q c.0) (after_new (Some c.1) (get t q)) (get t q)
-get-with_moved t c q = go c.1.stands (eq_by_cmp cell_cmp q c.0) (get-with_new_row t c.0 c.1.row q)
-  where
-    go : (s b : Bool) → get (with_new_row t c.0 c.1.row) q ≡ cond b (new_or c.1.row (get t q)) (get t q) → get (cond s t (with_new_row t c.0 c.1.row)) q ≡ cond b (cond s (get t q) (new_or c.1.row (get t q))) (get t q)
-    go true true h = refl
-    go true false h = refl
-    go false b h = h
-
-get-without : (t : Tables) (c : Change) (q : Cell) → get (cond c.1.stands t (remove t c.0)) q ≡ cond (eq_by_cmp cell_cmp q c.0) (after_back (Some c.1) (get t q)) (get t q)
-get-without t c q = go c.1.stands (eq_by_cmp cell_cmp q c.0) (get-remove cells_total t c.0 q)
+get-without : (t : Tables) (c : Change) (q : Cell) → get (cond c.1.puts t (remove t c.0)) q ≡ cond (eq_by_cmp cell_cmp q c.0) (after_deletes (Some c.1) (get t q)) (get t q)
+get-without t c q = go c.1.puts (eq_by_cmp cell_cmp q c.0) (get-remove cells_total t c.0 q)
   where
     go : (s b : Bool) → get (remove t c.0) q ≡ cond b None (get t q) → get (cond s t (remove t c.0)) q ≡ cond b (cond s (get t q) None) (get t q)
     go true true h = refl
     go true false h = refl
     go false b h = h
 
-get-with_made : (t : Tables) (c : Change) (q : Cell) → get (with_made t c) q ≡ cond (eq_by_cmp cell_cmp q c.0) (after_rest (Some c.1) (get t q)) (get t q)
-get-with_made t c q = go c.1.stands (eq_by_cmp cell_cmp q c.0) (get-with_row t c.0 c.1.row q)
+get-with_restored : (t : Tables) (c : Change) (q : Cell) → get (with_restored t c) q ≡ cond (eq_by_cmp cell_cmp q c.0) (after_restored (Some c.1) (get t q)) (get t q)
+get-with_restored t c q = go c.1.puts (eq_by_cmp cell_cmp q c.0) (get-with_row t c.0 c.1.row q)
   where
     go : (s b : Bool) → get (with_row t c.0 c.1.row) q ≡ cond b c.1.row (get t q) → get (cond s (with_row t c.0 c.1.row) t) q ≡ cond b (cond s c.1.row (get t q)) (get t q)
     go false true h = refl
@@ -83,67 +76,48 @@ module _ (after : Option Pending → Option RowValues → Option RowValues) (not
           ∙ nothing (after (Some c.1) (get t q))
       go false e = refl
 
-pub get-with_new : (t : Tables) (cs : List Change) (q : Cell) → T (is_sorted cell_cmp cs) → get (with_new t cs) q ≡ after_new (find cell_cmp q cs) (get t q)
-get-with_new = each_once after_new (λ row. refl) with_moved with_new (λ t. refl) (λ t c cs. refl) get-with_moved
+pub get-with_puts : (t : Tables) (cs : List Change) (q : Cell) → T (is_sorted cell_cmp cs) → get (with_puts t cs) q ≡ after_puts (find cell_cmp q cs) (get t q)
+get-with_puts = each_once after_puts (λ row. refl) with_put with_puts (λ t. refl) (λ t c cs. refl) get-with_put
 
-pub get-without_new : (t : Tables) (cs : List Change) (q : Cell) → T (is_sorted cell_cmp cs) → get (without_new t cs) q ≡ after_back (find cell_cmp q cs) (get t q)
-get-without_new = each_once after_back (λ row. refl) (λ t c. cond c.1.stands t (remove t c.0)) without_new (λ t. refl) (λ t c cs. refl) get-without
+get-with_deletes : (t : Tables) (cs : List Change) (q : Cell) → T (is_sorted cell_cmp cs) → get (with_deletes t cs) q ≡ after_deletes (find cell_cmp q cs) (get t q)
+get-with_deletes = each_once after_deletes (λ row. refl) (λ t c. cond c.1.puts t (remove t c.0)) with_deletes (λ t. refl) (λ t c cs. refl) get-without
 
-pub get-with_rest : (t : Tables) (cs : List Change) (q : Cell) → T (is_sorted cell_cmp cs) → get (with_rest t cs) q ≡ after_rest (find cell_cmp q cs) (get t q)
-get-with_rest = each_once after_rest (λ row. refl) with_made with_rest (λ t. refl) (λ t c cs. refl) get-with_made
-
-none_stands : {A : Type 0} (o : Option A) → false ≡ is_some o → o ≡ None
-none_stands None e = refl
-none_stands (Some x) e = absurd (cc)
+get-restored : (t : Tables) (cs : List Change) (q : Cell) → T (is_sorted cell_cmp cs) → get (restored t cs) q ≡ after_restored (find cell_cmp q cs) (get t q)
+get-restored = each_once after_restored (λ row. refl) with_restored restored (λ t. refl) (λ t c cs. refl) get-with_restored
 
 -- both parts together leave what the changes leave
-pub both-parts : (n : ℕ) (t : Tables) (cs : List Change) → T (is_sorted cell_cmp cs) → KnowsAll n t cs → with_rest (with_new t cs) cs ≡ laid t cs
-both-parts n t cs sorted knows = same_map cells_total cells_antisymmetric _ _ (λ q.
-    get-with_rest (with_new t cs) cs q sorted ∙ ap (after_rest (find cell_cmp q cs)) (get-with_new t cs q sorted)
+pub both-parts : (n : ℕ) (t : Tables) (cs : List Change) → T (is_sorted cell_cmp cs) → AreAllUnmade n cs → with_deletes (with_puts t cs) cs ≡ laid t cs
+both-parts n t cs sorted unmade = same_map cells_total cells_antisymmetric _ _ (λ q.
+    get-with_deletes (with_puts t cs) cs q sorted ∙ ap (after_deletes (find cell_cmp q cs)) (get-with_puts t cs q sorted)
     ∙ go q (find cell_cmp q cs) refl ∙ sym (get-laid t cs q))
   where
-    here : (q : Cell) (s : Bool) (row : Option RowValues) → s ≡ is_some (get t q) → cond s row (cond s (get t q) (new_or row (get t q))) ≡ row
-    here q true row e = refl
-    here q false None e = none_stands (get t q) e
-    here q false (Some row) e = refl
+    here : (puts : Bool) (row old : Option RowValues) → puts ≡ is_some row → cond puts (new_or row old) None ≡ row
+    here true None old e = absurd (cc)
+    here true (Some row) old e = refl
+    here false None old e = refl
+    here false (Some row) old e = absurd (cc)
 
-    go : (q : Cell) (o : Option Pending) → find cell_cmp q cs ≡ o → after_rest o (after_new o (get t q)) ≡ row_or o (get t q)
+    go : (q : Cell) (o : Option Pending) → find cell_cmp q cs ≡ o → after_deletes o (after_puts o (get t q)) ≡ row_or o (get t q)
     go q None e = refl
-    go q (Some pending) e = here q pending.stands pending.row (knows q pending e).1
+    go q (Some pending) e = here pending.puts pending.row (get t q) (unmade q pending e).1
 
--- what is moved and taken back leaves nothing
-pub taken-back : (n : ℕ) (t : Tables) (cs : List Change) → T (is_sorted cell_cmp cs) → KnowsAll n t cs → without_new (with_new t cs) cs ≡ t
-taken-back n t cs sorted knows = same_map cells_total cells_antisymmetric _ _ (λ q.
-    get-without_new (with_new t cs) cs q sorted ∙ ap (after_back (find cell_cmp q cs)) (get-with_new t cs q sorted) ∙ go q (find cell_cmp q cs) refl)
+-- ---- changes that keep what their rows replaced
+
+pub deletes-exchanged : (t m : Tables) (cs : List Change) → with_deletes m (map (exchanged t) cs) ≡ with_deletes m cs
+deletes-exchanged t m [] = refl
+deletes-exchanged t m (c ∷ cs) = deletes-exchanged t (cond c.1.puts m (remove m c.0)) cs
+
+pub cells-exchanged : (t : Tables) (cs : List Change) → cells (map (exchanged t) cs) ≡ cells cs
+cells-exchanged t [] = refl
+cells-exchanged t (c ∷ cs) = ap (λ ps. c.0 ∷ ps) (cells-exchanged t cs)
+
+find-exchanged : (t : Tables) (cs : List Change) (q : Cell) → find cell_cmp q (map (exchanged t) cs) ≡ option_map (with_kept (get t q)) (find cell_cmp q cs)
+find-exchanged t [] q = refl
+find-exchanged t (c ∷ cs) q = go (eq_by_cmp cell_cmp q c.0) refl (find-exchanged t cs q)
   where
-    here : (q : Cell) (s : Bool) (row : Option RowValues) → s ≡ is_some (get t q) → cond s (cond s (get t q) (new_or row (get t q))) None ≡ get t q
-    here q true row e = refl
-    here q false row e = sym (none_stands (get t q) e)
-
-    go : (q : Cell) (o : Option Pending) → find cell_cmp q cs ≡ o → after_back o (after_new o (get t q)) ≡ get t q
-    go q None e = refl
-    go q (Some pending) e = here q pending.stands pending.row (knows q pending e).1
-
--- ---- changes that have lost their rows
-
-stands-moved : (c : Change) → (emptied c).1.stands ≡ c.1.stands
-stands-moved c = go c.1.stands refl
-  where
-    go : (s : Bool) → c.1.stands ≡ s → (cond s c.1 (record { row = None; stands = false })).stands ≡ s
-    go true e = e
-    go false e = refl
-
-pub rest-moved : (t : Tables) (cs : List Change) → with_rest t (map emptied cs) ≡ with_rest t cs
-rest-moved t [] = refl
-rest-moved t (c ∷ cs) = ap (λ m. with_rest m (map emptied cs)) (go c.1.stands refl) ∙ rest-moved (with_made t c) cs
-  where
-    go : (s : Bool) → c.1.stands ≡ s → with_made t (c.0, cond s c.1 (record { row = None; stands = false })) ≡ cond s (with_row t c.0 c.1.row) t
-    go true e = ap (λ b. cond b (with_row t c.0 c.1.row) t) e
-    go false e = refl
-
-pub without-moved : (t : Tables) (cs : List Change) → without_new t (map emptied cs) ≡ without_new t cs
-without-moved t [] = refl
-without-moved t (c ∷ cs) = ap (λ b. without_new (cond b t (remove t c.0)) (map emptied cs)) (stands-moved c) ∙ without-moved (cond c.1.stands t (remove t c.0)) cs
+    go : (b : Bool) → eq_by_cmp cell_cmp q c.0 ≡ b → find cell_cmp q (map (exchanged t) cs) ≡ option_map (with_kept (get t q)) (find cell_cmp q cs) → cond b (Some (with_kept (get t c.0) c.1)) (find cell_cmp q (map (exchanged t) cs)) ≡ option_map (with_kept (get t q)) (cond b (Some c.1) (find cell_cmp q cs))
+    go true e h = ap (λ z. Some (with_kept (get t z) c.1)) (sym (tied_same q c.0 e))
+    go false e h = h
 
 -- ---- the order is that of the cells
 
@@ -165,38 +139,56 @@ sorted-cells (c ∷ cs) (d ∷ ds) e =
     let rest : cells cs ≡ cells ds = cc in
     ap (λ b. b && is_sorted cell_cmp cs) (below_cells c.0 cs ds rest ∙ ap (λ x. below_all cell_cmp x ds) here) ∙ ap (λ b. below_all cell_cmp d.0 ds && b) (sorted-cells cs ds rest)
 
-pub cells-moved : (cs : List Change) → cells (map emptied cs) ≡ cells cs
-cells-moved [] = refl
-cells-moved (c ∷ cs) = ap (λ ps. c.0 ∷ ps) (cells-moved cs)
+pub exchanged_sorted : (t : Tables) (cs : List Change) → T (is_sorted cell_cmp cs) → T (is_sorted cell_cmp (map (exchanged t) cs))
+exchanged_sorted t cs sorted = subst T (sym (sorted-cells (map (exchanged t) cs) cs (cells-exchanged t cs))) sorted
 
--- ---- what each change knows
+-- what is put and brought back leaves the tables as they were
+pub brought-back : (n : ℕ) (t : Tables) (cs : List Change) → T (is_sorted cell_cmp cs) → AreAllUnmade n cs → restored (with_puts t cs) (map (exchanged t) cs) ≡ t
+brought-back n t cs sorted unmade = same_map cells_total cells_antisymmetric _ _ (λ q.
+    get-restored (with_puts t cs) (map (exchanged t) cs) q (exchanged_sorted t cs sorted)
+    ∙ (λ i. after_restored (find-exchanged t cs q i) (get-with_puts t cs q sorted i)) ∙ go q (find cell_cmp q cs) refl)
+  where
+    here : (puts : Bool) (row old : Option RowValues) → puts ≡ is_some row → cond puts (kept_row row old) (new_or row old) ≡ old
+    here true None old e = absurd (cc)
+    here true (Some row) old e = refl
+    here false None old e = refl
+    here false (Some row) old e = absurd (cc)
+
+    go : (q : Cell) (o : Option Pending) → find cell_cmp q cs ≡ o → after_restored (option_map (with_kept (get t q)) o) (after_puts o (get t q)) ≡ get t q
+    go q None e = refl
+    go q (Some pending) e = here pending.puts pending.row (get t q) (unmade q pending e).1
+
+-- ---- what is so of each change
 
 all_known : (P : Change → Type 0) (cs : List Change) → T (is_sorted cell_cmp cs) → ((q : Cell) (pending : Pending) → find cell_cmp q cs ≡ Some pending → P (q, pending)) → All P cs
 all_known P [] sorted known = All-nil P
 all_known P (c ∷ cs) sorted known =
     All-cons P c cs (known c.0 c.1 (find-first c cs)) (all_known P cs (sorted-after c cs sorted) (λ q pending found. known q pending (find-after c cs sorted q pending found)))
 
-pub are_in : (n : ℕ) (t : Tables) (cs : List Change) → T (is_sorted cell_cmp cs) → KnowsAll n t cs → AreIn n cs
-are_in n t cs sorted knows = all_known (λ c. c.0.0 < n) cs sorted (λ q pending found. (knows q pending found).0)
+pub are_in : (n : ℕ) (cs : List Change) → T (is_sorted cell_cmp cs) → AreAllUnmade n cs → AreIn n cs
+are_in n cs sorted unmade = all_known (λ c. c.0.0 < n) cs sorted (λ q pending found. (unmade q pending found).0)
 
-in-moved : (n : ℕ) (cs : List Change) → AreIn n cs → AreIn n (map emptied cs)
-in-moved n [] h = All-nil (λ (c : Change). c.0.0 < n)
-in-moved n (c ∷ cs) h = All-cons (λ (c : Change). c.0.0 < n) (emptied c) (map emptied cs) (All-get_or (λ (c : Change). c.0.0 < n) (c ∷ cs) 0 c (omega arith) h) (in-moved n cs (All-tail (λ (c : Change). c.0.0 < n) c cs h))
+in-exchanged : (n : ℕ) (t : Tables) (cs : List Change) → AreIn n cs → AreIn n (map (exchanged t) cs)
+in-exchanged n t [] h = All-nil (λ (c : Change). c.0.0 < n)
+in-exchanged n t (c ∷ cs) h =
+    All-cons (λ (c : Change). c.0.0 < n) (exchanged t c) (map (exchanged t) cs) (All-get_or (λ (c : Change). c.0.0 < n) (c ∷ cs) 0 c (omega arith) h) (in-exchanged n t cs (All-tail (λ (c : Change). c.0.0 < n) c cs h))
 
-there-moved : (t : Tables) (cs : List Change) → AreThere t cs → AreThere t (map emptied cs)
-there-moved t [] h = All-nil (IsThere t)
-there-moved t (c ∷ cs) h = All-cons (IsThere t) (emptied c) (map emptied cs) (λ e. All-get_or (IsThere t) (c ∷ cs) 0 c (omega arith) h (sym (stands-moved c) ∙ e)) (there-moved t cs (All-tail (IsThere t) c cs h))
+there-exchanged : (t m : Tables) (cs : List Change) → AreThere m cs → AreThere m (map (exchanged t) cs)
+there-exchanged t m [] h = All-nil (IsThere m)
+there-exchanged t m (c ∷ cs) h = All-cons (IsThere m) (exchanged t c) (map (exchanged t) cs) (All-get_or (IsThere m) (c ∷ cs) 0 c (omega arith) h) (there-exchanged t m cs (All-tail (IsThere m) c cs h))
 
-pub moved_in : (n : ℕ) (t : Tables) (cs : List Change) → T (is_sorted cell_cmp cs) → KnowsAll n t cs → AreIn n (map emptied cs)
-moved_in n t cs sorted knows = in-moved n cs (are_in n t cs sorted knows)
+pub exchanged_in : (n : ℕ) (t : Tables) (cs : List Change) → T (is_sorted cell_cmp cs) → AreAllUnmade n cs → AreIn n (map (exchanged t) cs)
+exchanged_in n t cs sorted unmade = in-exchanged n t cs (are_in n cs sorted unmade)
 
--- what stands still stands once the new rows are there
-pub moved_there : (n : ℕ) (t : Tables) (cs : List Change) → T (is_sorted cell_cmp cs) → KnowsAll n t cs → AreThere (with_new t cs) (map emptied cs)
-moved_there n t cs sorted knows = there-moved (with_new t cs) cs (all_known (IsThere (with_new t cs)) cs sorted (λ q pending found stands.
-    let same : get (with_new t cs) q ≡ get t q =
-    get-with_new t cs q sorted ∙ ap (λ o. after_new o (get t q)) found ∙ ap (λ b. cond b (get t q) (new_or pending.row (get t q))) stands in
-    let there : is_some (get t q) ≡ true = sym (knows q pending found).1 ∙ stands in
-    subst IsSome (sym same) there))
+-- where a row was put, one stands
+pub exchanged_there : (n : ℕ) (t : Tables) (cs : List Change) → T (is_sorted cell_cmp cs) → AreAllUnmade n cs → AreThere (with_puts t cs) (map (exchanged t) cs)
+exchanged_there n t cs sorted unmade = there-exchanged t (with_puts t cs) cs (all_known (IsThere (with_puts t cs)) cs sorted (λ q pending found puts.
+    let now : get (with_puts t cs) q ≡ new_or pending.row (get t q) = get-with_puts t cs q sorted ∙ ap (λ o. after_puts o (get t q)) found in
+    subst IsSome (sym now) (here pending.row (get t q) (sym (unmade q pending found).1 ∙ puts))))
+  where
+    here : (row old : Option RowValues) → is_some row ≡ true → IsSome (new_or row old)
+    here None old e = absurd (cc)
+    here (Some row) old e = refl
 
 -- ---- the first of several changes
 
@@ -233,9 +225,9 @@ sorted-take (suc n) (c ∷ cs) h = both _ _ (below_take c.0 n cs (first _ _ h)) 
 
 -- ---- one change more
 
-pub with_new-more : (t : Tables) (cs : List Change) (c : Change) → with_new t (cs ++ c ∷ []) ≡ with_moved (with_new t cs) c
-with_new-more t [] c = refl
-with_new-more t (d ∷ cs) c = with_new-more (with_moved t d) cs c
+pub with_puts-more : (t : Tables) (cs : List Change) (c : Change) → with_puts t (cs ++ c ∷ []) ≡ with_put (with_puts t cs) c
+with_puts-more t [] c = refl
+with_puts-more t (d ∷ cs) c = with_puts-more (with_put t d) cs c
 
 pub sorted-drop : (n : ℕ) (cs : List Change) → T (is_sorted cell_cmp cs) → T (is_sorted cell_cmp (drop n cs))
 sorted-drop zero cs h = h
@@ -243,42 +235,66 @@ sorted-drop (suc n) [] h = h
 sorted-drop (suc n) (c ∷ cs) h = sorted-drop n cs (second _ _ h)
 
 -- a change leaves what stands at the cells after
-pub there-after : (t : Tables) (c : Change) (cs : List Change) → T (is_sorted cell_cmp (c ∷ cs)) → AreThere t (c ∷ cs) → AreThere (with_made t c) cs
-there-after t c cs sorted there = All-from_get_or (IsThere (with_made t c)) cs c (λ i lt stands.
+pub there-after : (t : Tables) (c : Change) (cs : List Change) → T (is_sorted cell_cmp (c ∷ cs)) → AreThere t (c ∷ cs) → AreThere (with_restored t c) cs
+there-after t c cs sorted there = All-from_get_or (IsThere (with_restored t c)) cs c (λ i lt stands.
     let other : Change = get_or cs i c in
     let apart : eq_by_cmp cell_cmp other.0 c.0 ≡ false = ap is_eq (flipped-Less cells_total c.0 other.0 (below_at cells_total c.0 cs i c (first _ _ sorted) lt)) in
-    let same : get (with_made t c) other.0 ≡ get t other.0 = get-with_made t c other.0 ∙ ap (λ b. cond b (after_rest (Some c.1) (get t other.0)) (get t other.0)) apart in
+    let same : get (with_restored t c) other.0 ≡ get t other.0 = get-with_restored t c other.0 ∙ ap (λ b. cond b (after_restored (Some c.1) (get t other.0)) (get t other.0)) apart in
     subst IsSome (sym same) (All-get_or (IsThere t) cs i c lt (All-tail (IsThere t) c cs there) stands))
 
--- ---- changes of which the first have lost their rows
+-- a change is at none of the cells of those before it
+apart-before : (n : ℕ) (cs : List Change) (d : Change) → T (is_sorted cell_cmp cs) → n < length cs → find cell_cmp (get_or cs n d).0 (take n cs) ≡ None
+apart-before zero cs d sorted lt = refl
+apart-before (suc n) [] d sorted lt = refl
+apart-before (suc n) (c ∷ cs) d sorted lt =
+    let k : Cell = (get_or cs n d).0 in
+    let other : eq_by_cmp cell_cmp k c.0 ≡ false = ap is_eq (flipped-Less cells_total c.0 k (below_at cells_total c.0 cs n d (first _ _ sorted) (omega arith))) in
+    ap (λ b. cond b (Some c.1) (find cell_cmp k (take n cs))) other ∙ apart-before n cs d (second _ _ sorted) (omega arith)
 
-abbrev pub partly : ℕ → List Change → List Change
-partly n cs = map emptied (take n cs) ++ drop n cs
+-- so its cell is as it was before they were made
+pub exchanged-now : (t : Tables) (n : ℕ) (cs : List Change) (d : Change) → T (is_sorted cell_cmp cs) → n < length cs → exchanged (with_puts t (take n cs)) (get_or cs n d) ≡ exchanged t (get_or cs n d)
+exchanged-now t n cs d sorted lt =
+    let x : Change = get_or cs n d in
+    ap (λ (old : Option RowValues). (x.0, with_kept old x.1)) (get-with_puts t (take n cs) x.0 (sorted-take n cs sorted) ∙ ap (λ o. after_puts o (get t x.0)) (apart-before n cs d sorted lt))
 
-pub partly-at : (n : ℕ) (cs : List Change) (d : Change) → n < length cs → get_or (partly n cs) n d ≡ get_or cs n d
-partly-at zero cs d lt = refl
-partly-at (suc n) [] d lt = absurd (omega arith)
-partly-at (suc n) (c ∷ cs) d lt = partly-at n cs d (omega arith)
+-- ---- changes of which the first keep what their rows replaced
 
-pub partly-set : (n : ℕ) (cs : List Change) (d : Change) → n < length cs → set (partly n cs) n (emptied (get_or cs n d)) ≡ partly (suc n) cs
-partly-set zero [] d lt = absurd (omega arith)
-partly-set zero (c ∷ cs) d lt = refl
-partly-set (suc n) [] d lt = absurd (omega arith)
-partly-set (suc n) (c ∷ cs) d lt = ap (λ (es : List Change). emptied c ∷ es) (partly-set n cs d (omega arith))
+abbrev pub partly : Tables → ℕ → List Change → List Change
+partly t n cs = map (exchanged t) (take n cs) ++ drop n cs
 
-pub partly-cells : (n : ℕ) (cs : List Change) → cells (partly n cs) ≡ cells cs
-partly-cells zero cs = refl
-partly-cells (suc n) [] = refl
-partly-cells (suc n) (c ∷ cs) = ap (λ ps. c.0 ∷ ps) (partly-cells n cs)
+pub partly-at : (t : Tables) (n : ℕ) (cs : List Change) (d : Change) → n < length cs → get_or (partly t n cs) n d ≡ get_or cs n d
+partly-at t zero cs d lt = refl
+partly-at t (suc n) [] d lt = absurd (omega arith)
+partly-at t (suc n) (c ∷ cs) d lt = partly-at t n cs d (omega arith)
 
-pub partly-take : (n : ℕ) (cs : List Change) (x : Change) → n ≤ length cs → take n (set (partly n cs) n x) ≡ map emptied (take n cs)
-partly-take zero cs x le = refl
-partly-take (suc n) [] x le = absurd (omega arith)
-partly-take (suc n) (c ∷ cs) x le = ap (λ (es : List Change). emptied c ∷ es) (partly-take n cs x (omega arith))
+pub partly-set : (t : Tables) (n : ℕ) (cs : List Change) (d : Change) → n < length cs → set (partly t n cs) n (exchanged t (get_or cs n d)) ≡ partly t (suc n) cs
+partly-set t zero [] d lt = absurd (omega arith)
+partly-set t zero (c ∷ cs) d lt = refl
+partly-set t (suc n) [] d lt = absurd (omega arith)
+partly-set t (suc n) (c ∷ cs) d lt = ap (λ (es : List Change). exchanged t c ∷ es) (partly-set t n cs d (omega arith))
 
-pub partly-all : (cs : List Change) → partly (length cs) cs ≡ map emptied cs
-partly-all [] = refl
-partly-all (c ∷ cs) = ap (λ (es : List Change). emptied c ∷ es) (partly-all cs)
+pub partly-cells : (t : Tables) (n : ℕ) (cs : List Change) → cells (partly t n cs) ≡ cells cs
+partly-cells t zero cs = refl
+partly-cells t (suc n) [] = refl
+partly-cells t (suc n) (c ∷ cs) = ap (λ ps. c.0 ∷ ps) (partly-cells t n cs)
+
+pub partly-take : (t : Tables) (n : ℕ) (cs : List Change) (x : Change) → n ≤ length cs → take n (set (partly t n cs) n x) ≡ map (exchanged t) (take n cs)
+partly-take t zero cs x le = refl
+partly-take t (suc n) [] x le = absurd (omega arith)
+partly-take t (suc n) (c ∷ cs) x le = ap (λ (es : List Change). exchanged t c ∷ es) (partly-take t n cs x (omega arith))
+
+pub partly-all : (t : Tables) (cs : List Change) → partly t (length cs) cs ≡ map (exchanged t) cs
+partly-all t [] = refl
+partly-all t (c ∷ cs) = ap (λ (es : List Change). exchanged t c ∷ es) (partly-all t cs)
+
+pub cells-append : (cs ds : List Change) → cells (cs ++ ds) ≡ cells cs ++ cells ds
+cells-append [] ds = refl
+cells-append (c ∷ cs) ds = ap (λ ps. c.0 ∷ ps) (cells-append cs ds)
+
+pub cells-parts : (n : ℕ) (cs : List Change) → cells (take n cs) ++ cells (drop n cs) ≡ cells cs
+cells-parts zero cs = refl
+cells-parts (suc n) [] = refl
+cells-parts (suc n) (c ∷ cs) = ap (λ ps. c.0 ∷ ps) (cells-parts n cs)
 
 pub cells-set : (n : ℕ) (cs : List Change) (x d : Change) → n < length cs → x.0 ≡ (get_or cs n d).0 → cells (set cs n x) ≡ cells cs
 cells-set n [] x d lt e = absurd (omega arith)

@@ -1,5 +1,5 @@
 -- What keeps the rows fit for their tables, and the variables of their types.
-use Rattle.std.proofs.Common.{◌≡◌, ℕ, zero, suc, ◌<◌, ◌==◌, ◌&&◌, Bool, true, false, cond, List, [], ◌∷◌, map, length, get_or, arith, Option, Some, None, Result, Ok, Err, OnOk, refl, sym, ap, ◌∙◌, subst}
+use Rattle.std.proofs.Common.{◌≡◌, ℕ, zero, suc, ◌<◌, ◌==◌, ◌&&◌, Bool, true, false, cond, List, [], ◌∷◌, map, length, get_or, arith, Option, Some, None, Result, Ok, Err, IsSomeAnd, OnOk, refl, sym, ap, ◌∙◌, subst}
 use Rattle.std.specs.Prelude.{if◌then◌else◌, slice_get, slice_set, unwrap_or}
 use Rattle.std.specs.List.{list_all}
 use Rattle.std.proofs.lemmas.List.{map-set, length-map}
@@ -16,6 +16,7 @@ use Rattle.pac_value.specs.Values.{type_of, is_stored, IsRow}
 use Rattle.pac_value.specs.Expressions.{Values, types_of}
 use Rattle.pac_value.specs.State.{Cell, cell_cmp, RowValues, Tables, with_row}
 use Rattle.pac_types.specs.declared.table.Table.{Table}
+use Rattle.pac_ops.specs.declared.shapes.TableTypes.{TableTypes}
 use Rattle.pac_ops.specs.Shapes.{RowFits}
 use Rattle.pac_ops.specs.Operations.{column_or}
 use Rattle.pac_types.specs.WellFormed.{column_types}
@@ -25,7 +26,7 @@ use Rattle.pac_types.specs.Fits.{shape, FitTables, FitsCatalogue}
 use Rattle.pac_types.proofs.ShapeLemmas.{columns-of_fit}
 use Rattle.pac_value.specs.Scopes.{with_var, is_wanted, are_wanted}
 use Rattle.pac_value.proofs.CellLemmas.{get-with_row, tied_same}
-use Rattle.pac_serial.specs.WriteSets.{Changes, as_changed, KnowsTables}
+use Rattle.pac_serial.specs.WriteSets.{Changes, as_changed, AreUnmade}
 use Rattle.pac_serial.specs.Transactions.{RunsOver}
 
 and-left : (a b : Bool) → (a && b) ≡ true → a ≡ true
@@ -143,13 +144,21 @@ FitTables-empty tables rows e cell row found =
     let no_way : ⊥ = cc in
     absurd no_way
 
+-- what fits a table is of one that is there
+pub table-within : (P : TableTypes → Type 0) (tables : List Table) (t : ℕ) → IsSomeAnd (slice_get (map shape tables) t) P → t < length tables
+table-within P tables t h = go (slice_get (map shape tables) t) refl h
+  where
+    go : (o : Option TableTypes) → slice_get (map shape tables) t ≡ o → IsSomeAnd o P → t < length tables
+    go None e h = absurd h
+    go (Some found) e h = omega (arith, slice_get_within (map shape tables) t found e, length-map tables shape)
+
 -- a transaction that has made one more change still runs over the rows
 pub runs-changed : (tables : List Table) (n : ℕ) (held : Tables) (old new : Changes) (p : Cell) (row : Option RowValues)
     → RunsOver tables n held old → ((r : RowValues) → row ≡ Some r → RowFits (map shape tables) p r)
-    → as_changed held new ≡ with_row (as_changed held old) p row → KnowsTables n held new → RunsOver tables n held new
-runs-changed tables n held old new p row over fits is knows = record {
+    → as_changed held new ≡ with_row (as_changed held old) p row → AreUnmade n new → RunsOver tables n held new
+runs-changed tables n held old new p row over fits is unmade = record {
   count = over.count;
-  knows = knows;
+  unmade = unmade;
   fits = subst (λ (t : Tables). FitTables tables t) (sym is) (FitTables-with_row tables (as_changed held old) p row over.fits fits);
 }
 

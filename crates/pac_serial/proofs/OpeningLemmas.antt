@@ -3,7 +3,7 @@ use Rattle.std.proofs.Common.{◌≡◌, ℕ, zero, suc, ◌+◌, ◌<◌, ◌==
 use Rattle.std.specs.Prelude.{slice_get}
 use Rattle.std.specs.Option.{option_map}
 use Rattle.std.specs.Cmp.{nat_cmp_total, unsigned_ties}
-use Rattle.std.specs.FinMap.{get, insert, empty, get-insert}
+use Rattle.std.specs.FinMap.{get, insert, get-insert}
 use Rattle.std.proofs.lemmas.Option.{slice_get-map}
 use Rattle.std.proofs.lemmas.Bool.Decides.{nat_tests}
 use Rattle.pac_value.specs.declared.values.Value.{Value}
@@ -41,22 +41,26 @@ at n (w ∷ vs) env (suc i) v h =
     let e : n + suc i ≡ (n + 1) + i = omega arith in
     ap (get (with_values (n + 1) vs (insert env n w))) e ∙ at (n + 1) vs (insert env n w) i v h
 
-opening-within : (params : List Column) (args : List Value) → FitParams params args → Within (scope_of params) (types_of (with_values 0 args empty))
-opening-within params args fit x ty h = go (slice_get args x) refl
+-- a parameter has the value of its argument
+pub argument-at : (args : List Value) (old : Values) (y : ℕ) (v : Value) → slice_get args y ≡ Some v → get (with_values 0 args old) y ≡ Some v
+argument-at args old y v found =
+    let cell : y ≡ 0 + y = omega arith in
+    ap (get (with_values 0 args old)) cell ∙ at 0 args old y v found
+
+opening-within : (params : List Column) (args : List Value) (old : Values) → FitParams params args → Within (scope_of params) (types_of (with_values 0 args old))
+opening-within params args old fit x ty h = go (slice_get args x) refl
   where
     found : option_map type_of (slice_get args x) ≡ Some ty
     found = sym (slice_get-map type_of args x) ∙ ap (λ tys. slice_get tys x) fit ∙ h
 
-    go : (o : Option Value) → slice_get args x ≡ o → types_of (with_values 0 args empty) x ≡ Some ty
+    go : (o : Option Value) → slice_get args x ≡ o → types_of (with_values 0 args old) x ≡ Some ty
     go None e = let none : None ≡ Some ty = ap (option_map type_of) (sym e) ∙ found in cc
     go (Some v) e =
-        let cell : x ≡ 0 + x = omega arith in
-        ap (λ n. option_map type_of (get (with_values 0 args empty) n)) cell
-        ∙ ap (option_map type_of) (at 0 args empty x v e ∙ sym e) ∙ found
+        ap (option_map type_of) (argument-at args old x v e ∙ sym e) ∙ found
 
 -- a well-formed procedure is well-formed where it begins
-pub opening-well_formed : (tables : List Table) (proc : Proc) (args : List Value) (env : Values) → IsWellFormedProc tables proc → FitParams proc.params args → env ≡ with_values 0 args empty → IsSome (scope_after_all tables proc.body (types_of env))
-opening-well_formed tables proc args env well_formed fit e =
+pub opening-well_formed : (tables : List Table) (proc : Proc) (args : List Value) (old env : Values) → IsWellFormedProc tables proc → FitParams proc.params args → env ≡ with_values 0 args old → IsSome (scope_after_all tables proc.body (types_of env))
+opening-well_formed tables proc args old env well_formed fit e =
     subst (λ (m : Values). IsSome (scope_after_all tables proc.body (types_of m))) (sym e)
-    (some-within (scope_after_all tables proc.body (scope_of proc.params)) (scope_after_all tables proc.body (types_of (with_values 0 args empty)))
-    (scope_after_all-within tables proc.body (scope_of proc.params) (types_of (with_values 0 args empty)) (opening-within proc.params args fit)) well_formed)
+    (some-within (scope_after_all tables proc.body (scope_of proc.params)) (scope_after_all tables proc.body (types_of (with_values 0 args old)))
+    (scope_after_all-within tables proc.body (scope_of proc.params) (types_of (with_values 0 args old)) (opening-within proc.params args old fit)) well_formed)

@@ -1,12 +1,12 @@
 -- What statements do over values by the numbers of the text is what their steps do, but for the numbers of variables.
-use Rattle.std.proofs.Common.{◌≡◌, ◌≢◌, ◌<◌, ◌≤◌, ℕ, suc, ◌+◌, ◌*◌, ◌==◌, ◌&&◌, ◌||◌, ℤ, Bool, true, false, cond, List, [], ◌∷◌, length, map, Option, Some, None, Result, Ok, Err, is_some, refl, sym, ap, subst, ◌∙◌, arith}
+use Rattle.std.proofs.Common.{◌≡◌, ◌≢◌, ◌<◌, ◌≤◌, ℕ, suc, ◌+◌, ◌*◌, ◌==◌, ◌&&◌, ◌||◌, ℤ, Bool, true, false, cond, List, [], ◌∷◌, length, get_or, map, Option, Some, None, Result, Ok, Err, is_some, refl, sym, ap, subst, ◌∙◌, arith}
 use Rattle.std.specs.Prelude.{if◌then◌else◌, unwrap_or, slice_get}
 use Rattle.std.specs.Cmp.{nat_cmp_total, unsigned_ties}
-use Rattle.std.specs.FinMap.{get, insert, get-insert}
+use Rattle.std.specs.FinMap.{get, insert, empty, get-insert}
 use Rattle.std.specs.List.{AllByRecursion}
 use Rattle.std.specs.Option.{option_map, option_and_then}
 use Rattle.std.proofs.lemmas.Bool.Decides.{nat_tests}
-use Rattle.std.proofs.lemmas.Option.{slice_get_within}
+use Rattle.std.proofs.lemmas.Option.{slice_get_within, slice_get-get_or}
 use Rattle.std.proofs.lemmas.List.{length-map}
 use Rattle.pac_value.specs.declared.values.Ty.{Ty}
 use Rattle.pac_value.specs.declared.values.Ty.TheVariants.{Int as IntTy, Bool as BoolTy}
@@ -22,7 +22,7 @@ use Rattle.pac_value.proofs.ByForms.{by_forms, fold-Lit, fold-Var, fold-Bin, fol
 use Rattle.pac_ops.specs.declared.program.OpKind.{OpKind}
 use Rattle.pac_ops.specs.declared.program.OpKind.TheVariants as kind
 use Rattle.pac_ops.specs.declared.reason.Reason.{Reason}
-use Rattle.pac_ops.specs.Operations.{State, opening, define, values, column_or, replaced, unless_asked, Gives, Leaves, with_effect, row_at, done}
+use Rattle.pac_ops.specs.Operations.{State, opening, with_values, define, values, column_or, replaced, unless_asked, Gives, Leaves, with_effect, row_at, done}
 use Rattle.pac_ops.specs.Reasons.{or_abort}
 use Rattle.pac_ops.specs.Uses.{defined_variable}
 use Rattle.pac_types.specs.declared.procedure.Proc.{Proc}
@@ -30,6 +30,7 @@ use Rattle.pac_types.specs.declared.statement.Stmt.{Stmt}
 use Rattle.pac_types.specs.declared.table.Table.{Table}
 use Rattle.pac_types.specs.Meaning.{Abort, at_operation, branch, step_count, runs, meaning}
 use Rattle.pac_types.specs.Typing.{IsProc}
+use Rattle.pac_types.specs.Fits.{FitParams}
 use Rattle.pac_types.specs.Unrolled.{UnrolledSteps, End, Branch, turns, turn_numbers, renamed, renamed_step, renamed_kind, Point, with_next, with_turn, with_defined, Unrolling, all_after, in_steps, after_turns, in_turns, unroll_step, unrolling, beginning}
 use Rattle.pac_types.specs.Variables.{variables_step, stmt_variables, defined_variables}
 use Rattle.pac_types.specs.WellFormed.{types, key_type, column_type, column_types, if_so, without, Check, any_defines, in_order, check_step, check, scope_of, scope_after_all}
@@ -39,6 +40,7 @@ use Rattle.pac_types.proofs.StmtShapes.{form_of, is_test, IsOne, IsConditional, 
 use Rattle.pac_types.proofs.UnrolledLemmas.{unrolling-one, length-ascending, next-grows, all_next-grows, all_steps-count}
 use Rattle.pac_serial.specs.TextMeaning.{Code, run_codes, run_turns, code_step, code, code_count, text_meaning}
 use Rattle.pac_serial.proofs.CodeLemmas.{code-one, count-all-operations}
+use Rattle.pac_serial.proofs.OpeningLemmas.{argument-at}
 
 -- ---- values of variables
 
@@ -628,19 +630,28 @@ same-tables : (r does : Result State Abort) (k n m : ℕ) (g : Scope) (q : Point
 same-tables (Ok t) does k n m g q text own (now, pic, a, b, is) = sym (ap (λ (r : Result State Abort). r >>= λ s. Ok s.tables) is)
 same-tables (Err abort) does k n m g q text own h = sym (ap (λ (r : Result State Abort). r >>= λ s. Ok s.tables) h)
 
--- a call gives the same tables, or aborts alike
-pub same-called : (ts : List Table) (proc : Proc) → IsProc ts proc → (args : List Value) (tables : Tables)
-    → (text_meaning proc.body 0 (opening args tables) >>= λ s. Ok s.tables) ≡ (meaning proc (opening args tables) >>= λ s. Ok s.tables)
-same-called ts proc is args tables =
+-- a call gives the same tables, or aborts alike, whatever values other variables have where it begins
+pub same-called : (ts : List Table) (proc : Proc) → IsProc ts proc → (args : List Value) → FitParams proc.params args → (old : Values) (tables : Tables)
+    → (text_meaning proc.body 0 (record { env = with_values 0 args old; tables = tables }) >>= λ s. Ok s.tables) ≡ (meaning proc (opening args tables) >>= λ s. Ok s.tables)
+same-called ts proc is args fit old tables =
     let start = opening args tables in
+    let text = with_values 0 args old in
     let f = scope_of proc.params in
     let end = there_is ts (scope_after_all ts proc.body f) is.well_formed in
     let wide : length (types proc.params) ≡ length proc.params = length-map proc.params (λ column. column.ty) in
     let before : Before (length proc.params) f = λ y h. visible (types proc.params) (length proc.params) wide y (slice_get (types proc.params) y) refl h in
-    let pic : Pictures f (beginning proc) start.env start.env = record { values = λ y h. refl; steady = λ y h. steady-var (length proc.params) y (before y h) } in
-    same-tables (text_meaning proc.body 0 start) (meaning proc start) (length proc.params) (0 + code_count proc.body) (length proc.params) end.0 (all_after (map unrolling proc.body) (beginning proc)) start.env start.env
-    (same_all ts proc.body (all_same ts proc.body) (length proc.params) f end.0 (runs_on-proc ts proc is) before end.1 (beginning proc) start.env start.env pic tables 0 End)
+    let pic : Pictures f (beginning proc) text start.env = record { values = λ y h. value-same text start.env y (argument y (before y h)); steady = λ y h. steady-var (length proc.params) y (before y h) } in
+    same-tables (text_meaning proc.body 0 (record { env = text; tables = tables })) (meaning proc start) (length proc.params) (0 + code_count proc.body) (length proc.params) end.0 (all_after (map unrolling proc.body) (beginning proc)) text start.env
+    (same_all ts proc.body (all_same ts proc.body) (length proc.params) f end.0 (runs_on-proc ts proc is) before end.1 (beginning proc) text start.env pic tables 0 End)
   where
     visible : (tys : List Ty) (n : ℕ) → length tys ≡ n → (y : ℕ) (o : Option Ty) → slice_get tys y ≡ o → is_some o ≡ true → y < n
     visible tys n wide y None found h = absurd cc
     visible tys n wide y (Some ty) found h = omega (arith, slice_get_within tys y ty found, wide)
+
+    counted : length proc.params ≡ length args
+    counted = sym (length-map proc.params (λ column. column.ty)) ∙ ap (λ (tys : List Ty). length tys) (sym fit) ∙ length-map args type_of
+
+    argument : (y : ℕ) → y < length proc.params → get (with_values 0 args empty) y ≡ get (with_values 0 args old) y
+    argument y lt =
+        let found : slice_get args y ≡ Some (get_or args y (Truth false)) = slice_get-get_or args y (Truth false) (omega (arith, lt, counted)) in
+        argument-at args empty y (get_or args y (Truth false)) found ∙ sym (argument-at args old y (get_or args y (Truth false)) found)

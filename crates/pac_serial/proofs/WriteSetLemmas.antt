@@ -5,7 +5,7 @@ use Rattle.std.specs.FinMap.{get, find, entries, insert, empty, get-entries, get
 use Rattle.pac_value.specs.State.{Cell, cell_cmp, RowValues, Tables, with_row}
 use Rattle.pac_value.proofs.CellLemmas.{cells_total, cells_antisymmetric, tied_same, get-with_row}
 use Rattle.pac_serial.specs.declared.pending.Pending.{Pending}
-use Rattle.pac_serial.specs.WriteSets.{Change, Changes, laid, as_changed, KnowsTables}
+use Rattle.pac_serial.specs.WriteSets.{Change, Changes, laid, as_changed, AreUnmade}
 
 -- the row of a change, or the one that stood there
 abbrev pub row_or : Option Pending → Option RowValues → Option RowValues
@@ -44,18 +44,18 @@ seen-insert t cs p pending = same_map cells_total cells_antisymmetric _ _ (λ q.
     go q true o = refl
     go q false o = refl
 
-pub knows-none : (n : ℕ) (t : Tables) → KnowsTables n t empty
-knows-none n t cell pending found =
+pub unmade-none : (n : ℕ) → AreUnmade n empty
+unmade-none n cell pending found =
     let none : ◌≡◌ {A = Option Pending} None (Some pending) = sym (get-empty cell_cmp cell) ∙ found in
     let no_way : ⊥ = cc in
     absurd no_way
 
-pub knows-insert : (n : ℕ) (t : Tables) (cs : Changes) (p : Cell) (new : Pending) → p.0 < n → new.stands ≡ is_some (get t p) → KnowsTables n t cs → KnowsTables n t (insert cs p new)
-knows-insert n t cs p new within stands knows q pending found = go (eq_by_cmp cell_cmp q p) refl (sym (get-insert cells_total cs p new q) ∙ found)
+pub unmade-insert : (n : ℕ) (cs : Changes) (p : Cell) (new : Pending) → p.0 < n → new.puts ≡ is_some new.row → AreUnmade n cs → AreUnmade n (insert cs p new)
+unmade-insert n cs p new within puts unmade q pending found = go (eq_by_cmp cell_cmp q p) refl (sym (get-insert cells_total cs p new q) ∙ found)
   where
-    go : (b : Bool) → eq_by_cmp cell_cmp q p ≡ b → cond b (Some new) (get cs q) ≡ Some pending → (q.0 < n) × (pending.stands ≡ is_some (get t q))
+    go : (b : Bool) → eq_by_cmp cell_cmp q p ≡ b → cond b (Some new) (get cs q) ≡ Some pending → (q.0 < n) × (pending.puts ≡ is_some pending.row)
     go true e h =
         let same : new ≡ pending = cc in
-        subst (λ (z : Cell). (z.0 < n) × (pending.stands ≡ is_some (get t z))) (sym (tied_same q p e))
-        (subst (λ (z : Pending). (p.0 < n) × (z.stands ≡ is_some (get t p))) same (within, stands))
-    go false e h = knows q pending h
+        subst (λ (z : Cell). (z.0 < n) × (pending.puts ≡ is_some pending.row)) (sym (tied_same q p e))
+        (subst (λ (z : Pending). (p.0 < n) × (z.puts ≡ is_some z.row)) same (within, puts))
+    go false e h = unmade q pending h

@@ -21,29 +21,29 @@ laid tables (change ∷ changes) = with_row (laid tables changes) change.0 chang
 abbrev pub as_changed : Tables → Changes → Tables
 as_changed tables changes = laid tables (entries changes)
 
--- the change is in one of that many tables, and knows whether a row stands at its cell
-abbrev pub KnowsTable : ℕ → Tables → Cell → Pending → Type 0
-KnowsTable number tables cell pending = (cell.0 < number) × (pending.stands ≡ is_some (get tables cell))
+-- the change is in one of that many tables, and has the row that it puts
+abbrev pub IsUnmade : ℕ → Cell → Pending → Type 0
+IsUnmade number cell pending = (cell.0 < number) × (pending.puts ≡ is_some pending.row)
 
--- each change is, and does
-abbrev pub KnowsTables : ℕ → Tables → Changes → Type 0
-KnowsTables number tables changes = (cell : Cell) (pending : Pending) → get changes cell ≡ Some pending → KnowsTable number tables cell pending
+-- each change is, and has
+abbrev pub AreUnmade : ℕ → Changes → Type 0
+AreUnmade number changes = (cell : Cell) (pending : Pending) → get changes cell ≡ Some pending → IsUnmade number cell pending
 
-abbrev pub KnowsAll : ℕ → Tables → List Change → Type 0
-KnowsAll number tables changes = (cell : Cell) (pending : Pending) → find cell_cmp cell changes ≡ Some pending → KnowsTable number tables cell pending
+abbrev pub AreAllUnmade : ℕ → List Change → Type 0
+AreAllUnmade number changes = (cell : Cell) (pending : Pending) → find cell_cmp cell changes ≡ Some pending → IsUnmade number cell pending
 
--- a row more in the table, and one less
-abbrev pub gains : ℕ → Change → ℕ
-gains table change = cond (change.0.0 == table && (is_some change.1.row && not change.1.stands)) 1 0
+-- a row more in a table, where none stands at the cell, and one less, where one stands
+abbrev pub gains : Tables → ℕ → Change → ℕ
+gains tables table change = cond (change.0.0 == table && (is_some change.1.row && not (is_some (get tables change.0)))) 1 0
 
-abbrev pub loses : ℕ → Change → ℕ
-loses table change = cond (change.0.0 == table && (not (is_some change.1.row) && change.1.stands)) 1 0
+abbrev pub loses : Tables → ℕ → Change → ℕ
+loses tables table change = cond (change.0.0 == table && (not (is_some change.1.row) && is_some (get tables change.0))) 1 0
 
 -- how many rows changes add to the table, and how many they take away
-abbrev pub gained : ℕ → List Change → ℕ
-gained table [] = 0
-gained table (change ∷ changes) = gains table change + gained table changes
+abbrev pub gained : Tables → ℕ → List Change → ℕ
+gained tables table [] = 0
+gained tables table (change ∷ changes) = gains tables table change + gained tables table changes
 
-abbrev pub lost : ℕ → List Change → ℕ
-lost table [] = 0
-lost table (change ∷ changes) = loses table change + lost table changes
+abbrev pub lost : Tables → ℕ → List Change → ℕ
+lost tables table [] = 0
+lost tables table (change ∷ changes) = loses tables table change + lost tables table changes

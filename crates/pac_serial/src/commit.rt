@@ -2,28 +2,29 @@
 ghost use Rattle.std.specs.Prelude.{◌≡◌, ◌<◌, T, OnOk, OnErr, map};
 ghost use Rattle.std.specs.FinMap.{is_sorted};
 ghost use Rattle.pac_value.specs.State.{cell_cmp};
-ghost use Rattle.pac_serial.specs.WriteSets.{KnowsAll};
-ghost use Rattle.pac_serial.specs.Commits.{AreIn, AreThere, IsThere, emptied, with_moved, with_new, without_new, with_made, with_rest, cells};
+ghost use Rattle.pac_serial.specs.WriteSets.{AreAllUnmade};
+ghost use Rattle.pac_serial.specs.Commits.{AreIn, AreThere, IsThere, exchanged, with_put, with_puts, with_deletes, with_restored, restored, cells};
 
 use crate::write_set::CellChange;
 use pac_base::NoMemory;
 use pac_tables::Rows;
 
-/// Moves the rows that are new in their tables there, or none where one finds no room. Such a change keeps no row.
-pub(crate) fn move_new<R: Rows>(rows: &mut R, changes: &mut [CellChange]) -> Result<(), NoMemory>
+/// Puts the rows of all changes that put one, or none where one finds no room. Such a change keeps the row that it
+/// replaces. One look-up a row.
+pub(crate) fn put_rows<R: Rows>(rows: &mut R, changes: &mut [CellChange]) -> Result<(), NoMemory>
     requires sorted { T (is_sorted cell_cmp changes.old) }
-    requires knows { KnowsAll (R.tables rows.old) (R.held rows.old) changes.old }
-    ensures rows { OnOk result (R.held rows.new ≡ with_new (R.held rows.old) changes.old) }
-    ensures changes { OnOk result (changes.new ≡ map emptied changes.old) }
+    requires unmade { AreAllUnmade (R.tables rows.old) changes.old }
+    ensures rows { OnOk result (R.held rows.new ≡ with_puts (R.held rows.old) changes.old) }
+    ensures changes { OnOk result (changes.new ≡ map (exchanged (R.held rows.old)) changes.old) }
     ensures cells { cells changes.new ≡ cells changes.old }
     ensures err { OnErr result (R.held rows.new ≡ R.held rows.old) }
     ensures tables { R.tables rows.new ≡ R.tables rows.old }
 {
     for at in 0..changes.len() {
-        match move_row(rows, &mut changes[at]) {
+        match put_row(rows, &mut changes[at]) {
             Ok(()) => {}
             Err(NoMemory) => {
-                roll_back(rows, &changes[..at]);
+                restore(rows, &mut changes[..at]);
                 return Err(NoMemory);
             }
         }
@@ -31,62 +32,52 @@ pub(crate) fn move_new<R: Rows>(rows: &mut R, changes: &mut [CellChange]) -> Res
     Ok(())
 }
 
-// Moves the row of a change there, where it is new in its table.
-fn move_row<R: Rows>(rows: &mut R, change: &mut CellChange) -> Result<(), NoMemory>
+// Puts the row of a change, where it has one, and keeps the one that it replaces.
+fn put_row<R: Rows>(rows: &mut R, change: &mut CellChange) -> Result<(), NoMemory>
     requires { change.old.0.0 < R.tables rows.old }
-    ensures rows { OnOk result (R.held rows.new ≡ with_moved (R.held rows.old) change.old) }
-    ensures change { OnOk result (change.new ≡ emptied change.old) }
+    ensures rows { OnOk result (R.held rows.new ≡ with_put (R.held rows.old) change.old) }
+    ensures change { OnOk result (change.new ≡ exchanged (R.held rows.old) change.old) }
     ensures cell { change.new.0 ≡ change.old.0 }
     ensures err { OnErr result (R.held rows.new ≡ R.held rows.old) }
     ensures tables { R.tables rows.new ≡ R.tables rows.old }
 {
     let ((table, key), pending) = change;
-    if pending.stands {
+    let Some(row) = pending.row.take() else {
         return Ok(());
-    }
-    match pending.row.take() {
-        Some(row) => rows.put(*table, *key, row),
-        None => Ok(()),
-    }
-}
-
-// Takes out the rows at the cells where none stood.
-fn roll_back<R: Rows>(rows: &mut R, changes: &[CellChange])
-    requires { AreIn (R.tables rows.old) changes.now }
-    ensures rows { R.held rows.new ≡ without_new (R.held rows.old) changes.now }
-    ensures tables { R.tables rows.new ≡ R.tables rows.old }
-{
-    for ((table, key), pending) in changes {
-        if !pending.stands {
-            rows.delete(*table, key);
+    };
+    match rows.insert(*table, *key, row) {
+        Ok(old) => {
+            pending.row = old;
+            Ok(())
         }
+        Err(_) => Err(NoMemory),
     }
 }
 
-/// Makes the changes at the cells where a row stands. None takes memory, and none keeps its row.
-pub(crate) fn apply_rest<R: Rows>(rows: &mut R, changes: &mut [CellChange])
+// Brings back what stood where rows were put: the row that was replaced, or none. None takes memory.
+fn restore<R: Rows>(rows: &mut R, changes: &mut [CellChange])
     requires within { AreIn (R.tables rows.old) changes.old }
     requires sorted { T (is_sorted cell_cmp changes.old) }
     requires there { AreThere (R.held rows.old) changes.old }
-    ensures rows { R.held rows.new ≡ with_rest (R.held rows.old) changes.old }
+    ensures rows { R.held rows.new ≡ restored (R.held rows.old) changes.old }
     ensures cells { cells changes.new ≡ cells changes.old }
     ensures tables { R.tables rows.new ≡ R.tables rows.old }
 {
     for at in 0..changes.len() {
-        make(rows, &mut changes[at]);
+        restore_row(rows, &mut changes[at]);
     }
 }
 
-// Makes a change at a cell where a row stands.
-fn make<R: Rows>(rows: &mut R, change: &mut CellChange)
+// Brings back what stood where a row was put.
+fn restore_row<R: Rows>(rows: &mut R, change: &mut CellChange)
     requires within { change.old.0.0 < R.tables rows.old }
     requires there { IsThere (R.held rows.old) change.old }
-    ensures rows { R.held rows.new ≡ with_made (R.held rows.old) change.old }
+    ensures rows { R.held rows.new ≡ with_restored (R.held rows.old) change.old }
     ensures cell { change.new.0 ≡ change.old.0 }
     ensures tables { R.tables rows.new ≡ R.tables rows.old }
 {
     let ((table, key), pending) = change;
-    if !pending.stands {
+    if !pending.puts {
         return;
     }
     match pending.row.take() {
@@ -96,5 +87,18 @@ fn make<R: Rows>(rows: &mut R, change: &mut CellChange)
             };
         }
         None => rows.delete(*table, key),
+    }
+}
+
+/// Deletes the rows at the cells of changes that put none. None takes memory.
+pub(crate) fn delete_rows<R: Rows>(rows: &mut R, changes: &[CellChange])
+    requires { AreIn (R.tables rows.old) changes.now }
+    ensures rows { R.held rows.new ≡ with_deletes (R.held rows.old) changes.now }
+    ensures tables { R.tables rows.new ≡ R.tables rows.old }
+{
+    for ((table, key), pending) in changes {
+        if !pending.puts {
+            rows.delete(*table, key);
+        }
     }
 }

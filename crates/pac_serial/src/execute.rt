@@ -1,11 +1,11 @@
 // Executes transactions.
-ghost use Rattle.std.specs.Prelude.{◌≡◌, Ok, None, OnOk, OnErr, map, slice_get};
+ghost use Rattle.std.specs.Prelude.{◌≡◌, Ok, OnOk, OnErr, map, slice_get};
 ghost use Rattle.pac_ops.specs.Shapes.{ChangeFits, RecordsFit};
 ghost use Rattle.pac_ops.specs.Transactions.{with_change, with_changes};
 ghost use Rattle.pac_types.specs.Execution.{called_at, txn_meaning};
 ghost use Rattle.pac_types.specs.OperationLimits.{HasFewOperations};
 ghost use Rattle.pac_types.specs.Fits.{shape, FitsCatalogue, FitsCall, TxnFits};
-ghost use Rattle.pac_serial.specs.WriteSets.{as_changed, KnowsTables};
+ghost use Rattle.pac_serial.specs.WriteSets.{as_changed, AreUnmade};
 ghost use Rattle.pac_serial.specs.Outcomes.{Executes, limited};
 ghost use Rattle.pac_serial.specs.Transactions.{RunsOver};
 
@@ -62,7 +62,7 @@ impl From<Halt> for ExecError {
 
 // Makes what the transaction has changed, where no table is over the limit then.
 fn finish<R: Rows>(limit: Option<u64>, rows: &mut R, txn: &mut RunningTxn) -> Result<(), ExecError>
-    requires { KnowsTables (R.tables rows.old) (R.held rows.old) txn.old.write_set }
+    requires { AreUnmade (R.tables rows.old) txn.old.write_set }
     ensures does { Executes (limited limit (R.tables rows.old) (Ok (as_changed (R.held rows.old) txn.old.write_set))) (R.held rows.old) (R.held rows.new) result }
     ensures made { OnOk result (R.held rows.new ≡ as_changed (R.held rows.old) txn.old.write_set) }
     ensures kept { OnErr result (R.held rows.new ≡ R.held rows.old) }
@@ -113,9 +113,9 @@ fn make<R: Rows>(
     match change {
         Change::Put { table, key, row } => {
             let row = row.copy(txn.alloc)?;
-            txn.write_set.change(rows, *table, *key, Some(row))
+            txn.write_set.change(*table, *key, Some(row))
         }
-        Change::Delete { table, key } => txn.write_set.change(rows, *table, *key, None),
+        Change::Delete { table, key } => txn.write_set.change(*table, *key, None),
     }
 }
 
@@ -196,22 +196,30 @@ pub fn exec_adhoc<R: Rows>(
     exec_records(cat, records, limit, rows, &mut RunningTxn::new(alloc))
 }
 
-/// Executes a transaction without a limit.
-pub(crate) fn exec_txn<R: Rows>(
+/// Executes a transaction, unless some table would then have more rows than the limit. What it needs beside the rows was
+/// made before, and serves the next transaction too: so it costs what [`exec`] and [`exec_adhoc`] cost, without that.
+///
+/// # Errors
+///
+/// As of [`exec`] for a call, and as of [`exec_adhoc`] for ad hoc records.
+///
+/// Whatever refuses it, the tables are as they were.
+pub fn exec_txn<R: Rows>(
     cat: &Catalogue,
     txn: &Txn,
+    limit: Option<u64>,
     rows: &mut R,
     running: &mut RunningTxn,
 ) -> Result<(), ExecError>
     requires few { HasFewOperations cat.now.procs }
     requires txn { TxnFits cat.now txn.now }
     requires fits { FitsCatalogue cat.now (R.tables rows.old) (R.held rows.old) }
-    ensures does { Executes (limited None (R.tables rows.old) (txn_meaning cat.now.procs txn.now (R.held rows.old))) (R.held rows.old) (R.held rows.new) result }
+    ensures does { Executes (limited limit (R.tables rows.old) (txn_meaning cat.now.procs txn.now (R.held rows.old))) (R.held rows.old) (R.held rows.new) result }
     ensures fits { FitsCatalogue cat.now (R.tables rows.new) (R.held rows.new) }
     ensures tables { R.tables rows.new ≡ R.tables rows.old }
 {
     match txn {
-        Txn::Call(call) => exec_call(cat, call.proc, call.args.items(), None, rows, running),
-        Txn::AdHoc { records } => exec_records(cat, records, None, rows, running),
+        Txn::Call(call) => exec_call(cat, call.proc, call.args.items(), limit, rows, running),
+        Txn::AdHoc { records } => exec_records(cat, records, limit, rows, running),
     }
 }

@@ -3,7 +3,7 @@ ghost use Rattle.std.specs.Prelude.{◌≡◌, ◌<◌, length, nat_lt};
 ghost use Rattle.std.specs.Option.{option_map};
 ghost use Rattle.pac_value.specs.State.{keys_of};
 ghost use Rattle.pac_types.specs.Execution.{first_over};
-ghost use Rattle.pac_serial.specs.WriteSets.{as_changed, KnowsTables};
+ghost use Rattle.pac_serial.specs.WriteSets.{as_changed, AreUnmade};
 
 use crate::write_set::WriteSet;
 use pac_tables::Rows;
@@ -11,17 +11,17 @@ use pac_tables::Rows;
 // Whether a table would have more rows than the limit once the changes are made.
 fn is_over<R: Rows>(rows: &R, write_set: &WriteSet, limit: u64, table: u16) -> bool
     requires within { table < R.tables rows.now }
-    requires knows { KnowsTables (R.tables rows.now) (R.held rows.now) write_set.now }
+    requires unmade { AreUnmade (R.tables rows.now) write_set.now }
     ensures { result ≡ nat_lt limit (length (keys_of (as_changed (R.held rows.now) write_set.now) table)) }
 {
-    let (gained, lost) = write_set.balance(table);
+    let (gained, lost) = write_set.balance(rows, table);
     u128::from(limit) + u128::from(lost) < u128::from(rows.count(table)) + u128::from(gained)
 }
 
-/// The first table that would have more rows than the limit once the changes are made. It asks each table for its count
-/// and looks at each change once a table, and at no row.
+/// The first table that would have more rows than the limit once the changes are made. It asks each table for its count,
+/// looks at each change once a table, and looks up each cell that is changed.
 pub(crate) fn over_limit<R: Rows>(rows: &R, write_set: &WriteSet, limit: u64) -> Option<u16>
-    requires { KnowsTables (R.tables rows.now) (R.held rows.now) write_set.now }
+    requires { AreUnmade (R.tables rows.now) write_set.now }
     ensures { result ≡ option_map (λ found. found.0) (first_over limit (R.tables rows.now) (as_changed (R.held rows.now) write_set.now)) }
 {
     for table in 0..rows.tables() {

@@ -176,7 +176,7 @@ pub(crate) fn delete<R: Rows>(
     ensures over { OnOk result (RunsOver tables.now (R.tables rows.now) (R.held rows.now) txn.new.write_set) }
 {
     let key = key_of(tables, target, &txn.env)?;
-    txn.write_set.change(rows, target.table, key, None)?;
+    txn.write_set.change(target.table, key, None)?;
     Ok(())
 }
 
@@ -218,7 +218,7 @@ pub(crate) fn put<R: Rows>(
 {
     let key = key_of(tables, target, &txn.env)?; // before the values
     let row = row_of(txn.alloc, tables, target.table, exprs, &txn.env)?;
-    txn.write_set.change(rows, target.table, key, Some(row))?;
+    txn.write_set.change(target.table, key, Some(row))?;
     Ok(())
 }
 
@@ -255,7 +255,7 @@ pub(crate) fn set<R: Rows>(
         return Err(Halt::from(Reason::Missing));
     };
     let row = with_column(txn.alloc, row, column, value)?;
-    txn.write_set.change(rows, target.table, key, Some(row))?;
+    txn.write_set.change(target.table, key, Some(row))?;
     Ok(())
 }
 

@@ -62,7 +62,7 @@ pub fn exec_all<R: Rows>(
 {
     let mut running = RunningTxn::new(alloc);
     for (i, txn) in batch.txns.items().iter().enumerate() {
-        match exec_txn(cat, txn, rows, &mut running) {
+        match exec_txn(cat, txn, None, rows, &mut running) {
             Ok(()) => {}
             Err(ExecError::Abort { op, reason }) => {
                 return Err(AllError::Abort(Note {

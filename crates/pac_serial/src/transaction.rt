@@ -9,9 +9,10 @@ use pac_value::{Env, Expr, Value};
 use std::alloc::Global;
 
 /// A transaction that has not ended: the values of its variables, and its changes. One serves many transactions, one
-/// after another, so that what it holds is made once.
+/// after another, so that what it holds is made once. A variable that is not set yet may have a value of an earlier
+/// transaction, which well-formed statements don't see: so each variable has its place after the first call.
 #[derive(Drop)]
-pub(crate) struct RunningTxn {
+pub struct RunningTxn {
     pub(crate) alloc: Global,
     pub(crate) env: Env,
     pub(crate) write_set: WriteSet,
@@ -25,8 +26,8 @@ pub(crate) struct Target<'a> {
 }
 
 impl RunningTxn {
-    /// Takes no memory.
-    pub(crate) fn new(alloc: Global) -> RunningTxn {
+    /// Nothing is executed yet. Takes no memory.
+    pub fn new(alloc: Global) -> RunningTxn {
         RunningTxn {
             alloc,
             env: Env::new(alloc),
@@ -34,14 +35,13 @@ impl RunningTxn {
         }
     }
 
-    /// Begins anew: the parameters alone have values, and nothing is changed.
+    /// Begins anew: the parameters have the values of the arguments, and nothing is changed.
     pub(crate) fn begin(&mut self, args: &[Value]) -> Result<(), NoMemory>
         requires { length args.now ≤ 65536 }
-        ensures env { OnOk result (self.new.env ≡ with_values 0 args.now map.empty) }
+        ensures env { OnOk result (self.new.env ≡ with_values 0 args.now self.old.env) }
         ensures write_set { OnOk result (self.new.write_set ≡ map.empty) }
     {
         self.write_set.clear();
-        self.env.clear();
         for (i, value) in args.iter().enumerate() {
             self.env.set(i as u16, *value)?;
         }

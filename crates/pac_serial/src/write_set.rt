@@ -1,13 +1,13 @@
 // The changes of a transaction that has not ended.
-ghost use Rattle.std.specs.Prelude.{◌≡◌, ◌<◌, ◌≤◌, T, is_some, IfOk, IfErr, OnOk, OnErr};
+ghost use Rattle.std.specs.Prelude.{◌≡◌, ◌<◌, ◌≤◌, ℕ, T, IfOk, IfErr, OnOk, OnErr};
 ghost use Rattle.std.specs.Option.{option_map};
 ghost use Rattle.std.specs.FinMap as map;
 ghost use Rattle.std.specs.FinMap.{is_sorted};
-ghost use Rattle.pac_value.specs.State.{cell_cmp, with_row};
+ghost use Rattle.pac_value.specs.State.{Tables, cell_cmp, with_row};
 ghost use Rattle.pac_value.specs.Sorted.{IsOffsetOf, IsGapFor};
-ghost use Rattle.pac_serial.specs.WriteSets.{as_changed, KnowsTables, gains, loses, gained, lost};
+ghost use Rattle.pac_serial.specs.WriteSets.{as_changed, AreUnmade, gains, loses, gained, lost};
 
-use crate::commit::{apply_rest, move_new};
+use crate::commit::{delete_rows, put_rows};
 use crate::pending::Pending;
 use pac_base::NoMemory;
 use pac_tables::Rows;
@@ -44,13 +44,21 @@ impl Model for WriteSet {
     ghost invariant = { λ write_set. T (is_sorted cell_cmp write_set.changes.items) };
 }
 
-// Where a cell is changed, or else where its change would stand.
+// Where a cell is changed, or else where its change would stand. The last change comes first: most cells are changed in order.
 fn search(changes: &[CellChange], table: u16, key: &Key) -> Result<usize, usize>
     requires { T (is_sorted cell_cmp changes.now) }
     ensures found { IfOk result (IsOffsetOf changes.now (table, key.now)) }
     ensures absent { IfErr result (IsGapFor cell_cmp changes.now (table, key.now)) }
 {
-    changes.binary_search_by(|change| order(&change.0, table, key))
+    let count = changes.len();
+    if count == 0 {
+        return Err(0);
+    }
+    match order(&changes[count - 1].0, table, key) {
+        Ordering::Less => Err(count),
+        Ordering::Equal => Ok(count - 1),
+        Ordering::Greater => changes.binary_search_by(|change| order(&change.0, table, key)),
+    }
 }
 
 // How a cell stands to the one of this table and key. Neither is copied: a key is large.
@@ -91,80 +99,63 @@ impl WriteSet {
         }
     }
 
-    /// A row is to stand at the cell, or none. The tables are looked up where the cell is changed for the first time.
-    pub(crate) fn change<R: Rows>(
-        &mut self,
-        rows: &R,
-        table: u16,
-        key: Key,
-        row: Option<Row>,
-    ) -> Result<(), NoMemory>
-        requires within { table < R.tables rows.now }
-        requires knows { KnowsTables (R.tables rows.now) (R.held rows.now) self.old }
-        ensures ok { OnOk result (as_changed (R.held rows.now) self.new ≡ with_row (as_changed (R.held rows.now) self.old) (table, key) row) }
+    /// A row is to stand at the cell, or none. The tables are not looked up.
+    pub(crate) fn change(&mut self, table: u16, key: Key, row: Option<Row>) -> Result<(), NoMemory>
+        ensures ok { (held : Tables) → OnOk result (as_changed held self.new ≡ with_row (as_changed held self.old) (table, key) row) }
         ensures err { OnErr result (self.new ≡ self.old) }
-        ensures knows { KnowsTables (R.tables rows.now) (R.held rows.now) self.new }
+        ensures unmade { (number : ℕ) → table < number → AreUnmade number self.old → AreUnmade number self.new }
     {
         match search(&self.changes, table, &key) {
             Ok(at) => self.changes[at].1.replace(row),
-            Err(at) => {
-                let stands = stands(rows, table, &key);
-                self.changes
-                    .insert(at, ((table, key), Pending { row, stands }))?;
-            }
+            Err(at) => self.changes.insert(at, ((table, key), Pending::new(row)))?,
         }
         Ok(())
     }
 
     /// How many rows the changes add to a table, and how many they take away.
-    pub(crate) fn balance(&self, table: u16) -> (u64, u64)
-        ensures gained { result.0 ≡ gained table (map.entries self.now) }
-        ensures lost { result.1 ≡ lost table (map.entries self.now) }
+    pub(crate) fn balance<R: Rows>(&self, rows: &R, table: u16) -> (u64, u64)
+        requires { table < R.tables rows.now }
+        ensures gained { result.0 ≡ gained (R.held rows.now) table (map.entries self.now) }
+        ensures lost { result.1 ≡ lost (R.held rows.now) table (map.entries self.now) }
     {
         let mut gained = 0;
         let mut lost = 0;
         for change in &self.changes {
-            gained += gain(table, change);
-            lost += loss(table, change);
+            gained += gain(rows, table, change);
+            lost += loss(rows, table, change);
         }
         (gained, lost)
     }
 
-    /// Makes the changes, or none where a row finds no room. Rows are moved, and none is copied.
+    /// Makes the changes, or none where a row finds no room. Rows are moved, and none is copied. One look-up a change.
     pub(crate) fn commit<R: Rows>(&mut self, rows: &mut R) -> Result<(), NoMemory>
-        requires { KnowsTables (R.tables rows.old) (R.held rows.old) self.old }
+        requires { AreUnmade (R.tables rows.old) self.old }
         ensures ok { OnOk result (R.held rows.new ≡ as_changed (R.held rows.old) self.old) }
         ensures err { OnErr result (R.held rows.new ≡ R.held rows.old) }
         ensures tables { R.tables rows.new ≡ R.tables rows.old }
     {
-        move_new(rows, &mut self.changes)?;
-        apply_rest(rows, &mut self.changes);
+        put_rows(rows, &mut self.changes)?;
+        delete_rows(rows, &self.changes);
         Ok(())
     }
 }
 
-// Whether the tables have a row at the cell.
-fn stands<R: Rows>(rows: &R, table: u16, key: &Key) -> bool
-    requires { table < R.tables rows.now }
-    ensures { result ≡ is_some (map.get (R.held rows.now) (table, key.now)) }
-{
-    rows.get(table, key).is_some()
-}
-
 // One where the change adds a row to the table.
-fn gain(table: u16, change: &CellChange) -> u64
-    ensures value { result ≡ gains table change.now }
+fn gain<R: Rows>(rows: &R, table: u16, change: &CellChange) -> u64
+    requires { table < R.tables rows.now }
+    ensures value { result ≡ gains (R.held rows.now) table change.now }
     ensures few { result ≤ 1 }
 {
-    let ((changed, _), pending) = change;
-    u64::from(*changed == table && (pending.row.is_some() && !pending.stands))
+    let ((changed, key), pending) = change;
+    u64::from(*changed == table && (pending.row.is_some() && rows.get(table, key).is_none()))
 }
 
 // One where the change takes a row away from the table.
-fn loss(table: u16, change: &CellChange) -> u64
-    ensures value { result ≡ loses table change.now }
+fn loss<R: Rows>(rows: &R, table: u16, change: &CellChange) -> u64
+    requires { table < R.tables rows.now }
+    ensures value { result ≡ loses (R.held rows.now) table change.now }
     ensures few { result ≤ 1 }
 {
-    let ((changed, _), pending) = change;
-    u64::from(*changed == table && (pending.row.is_none() && pending.stands))
+    let ((changed, key), pending) = change;
+    u64::from(*changed == table && (pending.row.is_none() && rows.get(table, key).is_some()))
 }

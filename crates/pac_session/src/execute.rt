@@ -7,19 +7,18 @@ ghost use Rattle.pac_serial.specs.Outcomes.{Executes, limited};
 
 use pac_base::NoMemory;
 use pac_ops::Txn;
-use pac_serial::{ExecError, exec, exec_adhoc};
+use pac_serial::{ExecError, RunningTxn, exec_txn};
 use pac_tables::OrderedRows;
 use pac_types::Catalogue;
-use std::alloc::Global;
 
 /// Executes a transaction, unless some table would then have more rows than the limit. Whatever refuses it, the tables are
 /// as they were.
 pub(crate) fn execute(
-    alloc: Global,
     cat: &Catalogue,
     txn: &Txn,
     limit: u64,
     rows: &mut OrderedRows,
+    running: &mut RunningTxn,
 ) -> Result<(), ExecError>
     requires operations { HasFewOperations cat.now.procs }
     requires txn { TxnFits cat.now txn.now }
@@ -29,8 +28,5 @@ pub(crate) fn execute(
     ensures fits { FitsCatalogue cat.now rows.new.tables rows.new.rows }
     ensures within { first_over limit (length cat.now.tables) rows.new.rows ≡ NoTable }
 {
-    match txn {
-        Txn::Call(call) => exec(alloc, cat, call.proc, call.args.items(), Some(limit), rows),
-        Txn::AdHoc { records } => exec_adhoc(alloc, cat, records, Some(limit), rows),
-    }
+    exec_txn(cat, txn, Some(limit), rows, running)
 }

@@ -20,7 +20,7 @@ use pac_base::{Exact, NoMemory};
 use pac_entry::{BODY_HEAD_LEN, MAX_BODY_LEN, entry_len};
 use pac_ops::Txn;
 use pac_request::{Replies, Reply, Request};
-use pac_serial::ExecError;
+use pac_serial::{ExecError, RunningTxn};
 use pac_tables::{OrderedRows, Rows};
 use pac_types::Catalogue;
 use pac_value::Key;
@@ -41,6 +41,8 @@ pub struct Session {
     // How many bytes the body of the transactions has.
     len: usize,
     held: Vec<Reply>,
+    // What each transaction is executed in.
+    running: RunningTxn,
 }
 
 impl Model for Session {
@@ -84,6 +86,7 @@ impl Session {
             txns: Vec::new(alloc),
             len: BODY_HEAD_LEN,
             held: Vec::new(alloc),
+            running: RunningTxn::new(alloc),
         }
     }
 
@@ -133,11 +136,11 @@ impl Session {
         ensures { OnOk result (self.new ≡ with_run txn self.old) }
     {
         match execute(
-            self.alloc,
             &self.catalogue,
             &txn,
             self.limit,
             &mut self.rows,
+            &mut self.running,
         ) {
             Ok(()) => self.commit(txn),
             Err(ExecError::Abort { op, reason }) => self.hold(Reply::Aborted { op, reason }),

@@ -1,25 +1,26 @@
 -- The keys behind a hash, told apart by `==`, are those of the finite map; once sorted, they are its keys in order.
-use Rattle.std.proofs.Common.{◌≡◌, ℕ, Bool, true, false, ◌&&◌, ◌||◌, T, cond, List, [], ◌∷◌, map, length, Option, Some, None, is_some, refl, ap, sym, subst, ◌∙◌, IsPermutation}
-use Rattle.std.specs.List.{IsDistinct, AllByRecursion, list_any, dedup}
+use Rattle.std.proofs.Common.{◌≡◌, Bool, true, false, ◌&&◌, ◌||◌, T, cond, List, [], ◌∷◌, map, length, Some, None, is_some, refl, ap, sym, subst, ◌∙◌, IsPermutation}
+use Rattle.std.specs.List.{IsDistinct, AllByRecursion, dedup}
 use Rattle.std.specs.List.Sorted.{IsSorted, IsStrictlySortedBy}
 use Rattle.std.specs.Map.{lookup, keys_of}
 use Rattle.std.specs.Set.{is_member}
 use Rattle.std.specs.declared.cmp.Ordering.{Ordering}
 use Rattle.std.specs.declared.cmp.Ordering.TheVariants.{Less, Equal, Greater}
 use Rattle.std.specs.Ordering.{is_lt, eq_by_cmp}
-use Rattle.std.specs.Cmp.{IsTotalOrder, IsEquivalence, eq_by_cmp_equiv}
-use Rattle.std.specs.FinMap.{FinMap, entries, entries_sorted, keys, get, find, is_sorted, from_entries, get-entries, len, len-entries}
+use Rattle.std.specs.Cmp.{IsEquivalence, eq_by_cmp_equiv}
+use Rattle.std.specs.FinMap.{same_map, entries, entries_sorted, keys, find, is_sorted, from_entries, get-entries, len, len-entries}
 use Rattle.std.specs.FinMap.Entries.{below_all, same_entries}
 use Rattle.std.proofs.lemmas.List.{length-map}
-use Rattle.std.proofs.lemmas.List.Sorted.{list_any-IsPermutation}
+use Rattle.std.proofs.lemmas.List.Sorted.{list_any-IsPermutation, IsPermutation-map}
 use Rattle.std.proofs.lemmas.List.Kept.{IsStrictlySortedBy-dedup}
 use Rattle.std.proofs.lemmas.Map.Keys.{IsDistinct-from_sorted}
 use Rattle.std.proofs.lemmas.Map.Made.{length-from_same_keys}
-use Rattle.indexmap.proofs.MapLemmas.{distinct_permutation}
+use Rattle.indexmap.proofs.MapLemmas.{distinct_permutation, lookup_permutation}
 use Rattle.pac_value.specs.declared.values.Key.{Key}
 use Rattle.pac_value.specs.contracts.values.KeyPartialEq.TheImpl.{ghosts}
 use Rattle.pac_value.specs.Keys.{key_cmp, key_ties, keys_total, keys_antisymmetric}
 use Rattle.pac_value.specs.State.{RowValues}
+use Rattle.pac_value.proofs.EntryLemmas.{entries-from_entries}
 use Rattle.pac_value.proofs.MapLemmas.{get-by_test}
 use Rattle.pac_tables.specs.Joined.{OneTable}
 
@@ -152,3 +153,11 @@ keys-sorted es ks distinct moved sorted =
     (λ q. ap (λ (E : Key → Key → Bool). is_member E ks q) (sym same_test)
     ∙ sym (list_any-IsPermutation (key_eq q) (keys_of es) ks moved) ∙ member-keys es q
     ∙ ap (λ (E : Key → Key → Bool). is_member E (keys made) q) same_test)
+
+-- entries that are moved into the order of their keys are those of the finite map
+pub entries-sorted : (es fs : List (Key × RowValues)) → IsDistinct key_eq (keys_of es) → IsPermutation es fs → IsSorted key_cmp (map (λ e. e.0) fs) → fs ≡ entries (from_entries {R = key_cmp} es)
+entries-sorted es fs distinct moved sorted =
+    let apart : IsDistinct key_eq (keys_of fs) = distinct_permutation same_keys (keys_of es) (keys_of fs) (IsPermutation-map (λ e. e.0) es fs moved) distinct in
+    sym (entries-from_entries keys_total fs (strict (map (λ e. e.0) fs) sorted apart))
+    ∙ ap (λ (m : OneTable). entries m) (same_map keys_total keys_antisymmetric _ _ (λ q.
+    get-by_test keys_total key_eq keys_tie fs q ∙ lookup_permutation same_keys es fs moved apart (key_eq q) (λ x y h. same_keys.congr q x y h) ∙ sym (get-by_test keys_total key_eq keys_tie es q)))

@@ -4,3 +4,4 @@ pub mod WriteLemmas
 pub mod RoomLemmas
 pub mod OnceLemmas
 mod HashedLemmas
+pub mod SortedRowLemmas

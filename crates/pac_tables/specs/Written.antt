@@ -1,9 +1,9 @@
 -- Writes, and what they make of the tables.
-use Rattle.std.specs.Prelude.{◌≡◌, ◌<◌, ℕ, Bool, false, List, [], ◌∷◌, Option, Some, None, IsSome}
+use Rattle.std.specs.Prelude.{◌≡◌, ◌<◌, ℕ, Bool, false, List, [], ◌∷◌, IsSome}
 use Rattle.std.specs.List.{All, list_any}
 use Rattle.std.specs.Ordering.{eq_by_cmp}
 use Rattle.std.specs.FinMap.{get}
-use Rattle.pac_value.specs.State.{Cell, cell_cmp, RowValues, Tables, with_row}
+use Rattle.pac_value.specs.State.{Cell, cell_cmp, Tables, with_row}
 use Rattle.pac_tables.specs.declared.writes.Write.{Write}
 
 -- where a write is made

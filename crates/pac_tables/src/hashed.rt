@@ -1,5 +1,5 @@
 // A table behind a hash of its keys.
-ghost use Rattle.std.specs.Prelude.{◌≡◌, IfOk, OnOk};
+ghost use Rattle.std.specs.Prelude.{◌≡◌, IfOk, OnOk, map as list_map};
 ghost use Rattle.std.specs.FinMap as map;
 ghost use Rattle.indexmap.specs.IndexMap as indexed;
 
@@ -73,6 +73,13 @@ impl TableRows for HashedTable {
         keys.sort()?;
         Ok(keys)
     }
+
+    fn sorted_rows(&self, alloc: Global) -> Result<Vec<(&Key, &Row)>, NoMemory> {
+        let _unique = self.rows.len();
+        let mut rows = rows_in(alloc, &self.rows)?;
+        rows.sort_by(|a, b| a.0.cmp(b.0))?;
+        Ok(rows)
+    }
 }
 
 impl Exact for HashedTable {
@@ -92,4 +99,11 @@ fn keys_in(alloc: Global, rows: &IndexMap<Key, Row>) -> Result<Vec<Key>, NoMemor
 {
     let keys = rows.keys().copied().collect(alloc)?;
     Ok(keys)
+}
+
+fn rows_in(alloc: Global, rows: &IndexMap<Key, Row>) -> Result<Vec<(&Key, &Row)>, NoMemory>
+    ensures { IfOk result (λ found. list_map (λ e. (e.0.now, e.1.now)) found.items ≡ rows.now.entries) }
+{
+    let found = rows.iter().collect(alloc)?;
+    Ok(found)
 }

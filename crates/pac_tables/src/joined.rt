@@ -91,6 +91,10 @@ impl<T: TableRows> Rows for JoinedRows<T> {
         self.tables[usize::from(table)].sorted_keys(self.alloc)
     }
 
+    fn sorted_rows(&self, table: u16) -> Result<Vec<(&Key, &Row)>, NoMemory> {
+        self.tables[usize::from(table)].sorted_rows(self.alloc)
+    }
+
     fn copy(&self) -> Result<JoinedRows<T>, NoMemory> {
         let tables = copy_of(self.alloc, &self.tables)?;
         Ok(JoinedRows {

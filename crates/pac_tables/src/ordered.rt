@@ -1,5 +1,5 @@
 // A table in the order of its keys.
-ghost use Rattle.std.specs.Prelude.{◌≡◌, IfOk, OnOk};
+ghost use Rattle.std.specs.Prelude.{◌≡◌, IfOk, OnOk, map as list_map};
 ghost use Rattle.std.specs.FinMap as map;
 ghost use Rattle.std.specs.BTreeMap as tree;
 
@@ -70,6 +70,11 @@ impl TableRows for OrderedTable {
         let _ordered = self.rows.len();
         keys_in(alloc, &self.rows)
     }
+
+    fn sorted_rows(&self, alloc: Global) -> Result<Vec<(&Key, &Row)>, NoMemory> {
+        let _ordered = self.rows.len();
+        rows_in(alloc, &self.rows)
+    }
 }
 
 impl Exact for OrderedTable {
@@ -89,4 +94,11 @@ fn keys_in(alloc: Global, rows: &BTreeMap<Key, Row>) -> Result<Vec<Key>, NoMemor
 {
     let keys = rows.keys().copied().collect(alloc)?;
     Ok(keys)
+}
+
+fn rows_in(alloc: Global, rows: &BTreeMap<Key, Row>) -> Result<Vec<(&Key, &Row)>, NoMemory>
+    ensures { IfOk result (λ found. list_map (λ e. (e.0.now, e.1.now)) found.items ≡ rows.now.entries) }
+{
+    let found = rows.iter().collect(alloc)?;
+    Ok(found)
 }

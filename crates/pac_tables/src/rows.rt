@@ -1,5 +1,5 @@
 // What every form of tables does.
-ghost use Rattle.std.specs.Prelude.{◌≡◌, ◌<◌, ℕ, length, None, IfOk, IfErr, IsOk, IsSome, OnOk, OnErr};
+ghost use Rattle.std.specs.Prelude.{◌≡◌, ◌<◌, ℕ, length, map as list_map, None, Some, IfOk, IfErr, IsOk, IsSome, OnOk, OnErr};
 ghost use Rattle.std.specs.Option.{option_map};
 ghost use Rattle.std.specs.FinMap as map;
 ghost use Rattle.pac_value.specs.State.{Tables, keys_of};
@@ -77,6 +77,16 @@ pub trait Rows: Drop {
     fn sorted_keys(&self, table: u16) -> Result<Vec<Key>, NoMemory>
         requires { table < tables self.now }
         ensures { IfOk result (λ keys. keys.items ≡ keys_of (held self.now) table) };
+
+    /// A table's rows with their keys, by ascending keys. No row is looked up.
+    ///
+    /// # Errors
+    ///
+    /// [`NoMemory`] where the list finds no room.
+    fn sorted_rows(&self, table: u16) -> Result<Vec<(&Key, &Row)>, NoMemory>
+        requires { table < tables self.now }
+        ensures keys { IfOk result (λ found. list_map (λ e. e.0.now) found.items ≡ keys_of (held self.now) table) }
+        ensures rows { IfOk result (λ found. list_map (λ e. Some e.1.now) found.items ≡ list_map (λ key. map.get (held self.now) (table, key)) (keys_of (held self.now) table)) };
 
     /// The same rows of as many tables.
     ///

@@ -1,5 +1,5 @@
 // The rows of one table.
-ghost use Rattle.std.specs.Prelude.{◌≡◌, IfOk, IfErr, None, OnOk, OnErr};
+ghost use Rattle.std.specs.Prelude.{◌≡◌, IfOk, IfErr, None, OnOk, OnErr, map as list_map};
 ghost use Rattle.std.specs.Option.{option_map};
 ghost use Rattle.std.specs.FinMap as map;
 ghost use Rattle.pac_tables.specs.Joined.{OneTable};
@@ -49,4 +49,12 @@ pub trait TableRows: Exact + Drop {
     /// [`NoMemory`] where the list finds no room.
     fn sorted_keys(&self, alloc: Global) -> Result<Vec<Key>, NoMemory>
         ensures { IfOk result (λ keys. keys.items ≡ map.keys (rows self.now)) };
+
+    /// The rows with their keys, by ascending keys. No row is looked up.
+    ///
+    /// # Errors
+    ///
+    /// [`NoMemory`] where the list finds no room.
+    fn sorted_rows(&self, alloc: Global) -> Result<Vec<(&Key, &Row)>, NoMemory>
+        ensures { IfOk result (λ found. list_map (λ e. (e.0.now, e.1.now)) found.items ≡ map.entries (rows self.now)) };
 }

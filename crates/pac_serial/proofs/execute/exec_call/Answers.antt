@@ -26,7 +26,7 @@ exec_block-requires-clause-well_formed g c =
     let is : IsProc cat.tables proc = is-proc cat.tables cat.procs c.args.proc proc found.0 c.procs.ensures.well_formed in
     subst (λ (ts : List Table). IsSome (scope_after_all ts c.as_slice.result.now (types_of c.begin.new.self.env))) (sym c.tables.ensures.value)
     (subst (λ (xs : List Stmt). IsSome (scope_after_all cat.tables xs (types_of c.begin.new.self.env))) (sym c.as_slice.ensures)
-    (opening-well_formed cat.tables proc c.args.args.now c.begin.new.self.env is.well_formed found.1 c.in_ok-begin.ensures.env))
+    (opening-well_formed cat.tables proc c.args.args.now c.args.txn.now.env c.begin.new.self.env is.well_formed found.1 c.in_ok-begin.ensures.env))
 
 pub exec_block-requires-clause-numbers : goal.exec_block-requires-clause-numbers
 exec_block-requires-clause-numbers g c =
@@ -48,7 +48,7 @@ returns-in_err-exec_block-clause-does g c =
     let proc = c.index-procs-from.result in
     let found = at-call cat.procs c.args.proc c.args.args.now c.from.result proc c.requires.call c.from.ensures (c.index-procs-from.is ∙ ap (λ (ps : List Proc). slice_index_or ps c.from.result proc) c.procs.ensures.value) in
     let is : IsProc cat.tables proc = is-proc cat.tables cat.procs c.args.proc proc found.0 c.procs.ensures.well_formed in
-    let means = called-is cat.tables cat.procs c.args.proc proc c.args.args.now held c.begin.new.self.env c.begin.new.self.write_set is found.0 c.in_ok-begin.ensures.env c.in_ok-begin.ensures.write_set
+    let means = called-is cat.tables cat.procs c.args.proc proc c.args.args.now held c.args.txn.now.env c.begin.new.self.env c.begin.new.self.write_set is found.1 found.0 c.in_ok-begin.ensures.env c.in_ok-begin.ensures.write_set
     ∙ ap (λ xs. text_meaning xs 0 (state_of held c.begin.new.self) >>= λ s. Ok s.tables) (sym c.as_slice.ensures) in
     let p = err_from_is_err_and c.from_residual-in_err-exec_block.result c.from_residual-in_err-exec_block.ensures.1 in
     subst (λ (m : Result Tables Abort). Executes (limited c.args.limit (g.R.Rows.tables c.args.rows.now) m) held held c.from_residual-in_err-exec_block.result) (sym means)
@@ -62,6 +62,6 @@ returns-clause-does g c =
     let proc = c.index-procs-from.result in
     let found = at-call cat.procs c.args.proc c.args.args.now c.from.result proc c.requires.call c.from.ensures (c.index-procs-from.is ∙ ap (λ (ps : List Proc). slice_index_or ps c.from.result proc) c.procs.ensures.value) in
     let is : IsProc cat.tables proc = is-proc cat.tables cat.procs c.args.proc proc found.0 c.procs.ensures.well_formed in
-    let means = called-is cat.tables cat.procs c.args.proc proc c.args.args.now held c.begin.new.self.env c.begin.new.self.write_set is found.0 c.in_ok-begin.ensures.env c.in_ok-begin.ensures.write_set
+    let means = called-is cat.tables cat.procs c.args.proc proc c.args.args.now held c.args.txn.now.env c.begin.new.self.env c.begin.new.self.write_set is found.1 found.0 c.in_ok-begin.ensures.env c.in_ok-begin.ensures.write_set
     ∙ ap (λ (r : Result State Abort). r >>= λ s. Ok s.tables) (ap (λ xs. text_meaning xs 0 (state_of held c.begin.new.self)) (sym c.as_slice.ensures) ∙ c.in_ok-exec_block.ensures.runs 0) in
     subst (λ (m : Result Tables Abort). Executes (limited c.args.limit (g.R.Rows.tables c.args.rows.now) m) held (g.R.Rows.held c.finish.new.rows) c.finish.result) (sym means) c.finish.ensures.does

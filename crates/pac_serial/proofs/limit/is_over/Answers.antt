@@ -5,4 +5,4 @@ use Rattle.pac_serial.proofs.BalanceLemmas.{seen-count}
 use Rattle.pac_serial.proofs.limit.is_over.Goals as goal
 
 pub returns : goal.returns
-returns g c = grind (arith, nat_tests, seen-count (g.R.Rows.tables c.args.rows.now) c.args.table (g.R.Rows.held c.args.rows.now) c.args.write_set.now c.requires.knows, c.balance-gained.ensures.gained, c.balance-gained.ensures.lost, c.count.ensures)
+returns g c = grind (arith, nat_tests, seen-count c.args.table (g.R.Rows.held c.args.rows.now) c.args.write_set.now, c.balance-gained.ensures.gained, c.balance-gained.ensures.lost, c.count.ensures)

@@ -1,5 +1,5 @@
 -- The new row has the types of the old one.
-use Rattle.std.proofs.Common.{◌≡◌, Option, Some, true, map, ap, sym, subst, ◌∙◌}
+use Rattle.std.proofs.Common.{◌≡◌, Option, Some, true, map, ap, sym, subst, ◌∙◌, arith}
 use Rattle.std.specs.FinMap as fin
 use Rattle.pac_value.specs.declared.values.Ty.{Ty}
 use Rattle.pac_value.specs.Values.{type_of}
@@ -36,4 +36,4 @@ returns-clause-over g c =
     ap (map type_of) c.in_ok-row.ensures ∙ types-set old (column_types tables c.args.target.now.table) c.args.column value (columns-of_fit tables cell old fit) wanted in
     let new : RowFits (map shape tables) cell c.in_ok-row.row = row-fits tables cell c.in_ok-row.row c.in_ok-key.ensures.typed types in
     runs-changed tables (g.R.Rows.tables c.args.rows.now) (g.R.Rows.held c.args.rows.now) c.args.txn.now.write_set c.change.new.self cell (Some c.in_ok-row.row) c.requires.over
-    (λ r e. let same : c.in_ok-row.row ≡ r = cc in subst (λ (z : RowValues). RowFits (map shape tables) cell z) same new) c.in_ok-change.ensures.ok c.in_ok-change.ensures.knows
+    (λ r e. let same : c.in_ok-row.row ≡ r = cc in subst (λ (z : RowValues). RowFits (map shape tables) cell z) same new) (c.in_ok-change.ensures.ok (g.R.Rows.held c.args.rows.now)) (c.change.ensures.unmade (g.R.Rows.tables c.args.rows.now) (omega (arith, c.requires.over.count)) c.requires.over.unmade)

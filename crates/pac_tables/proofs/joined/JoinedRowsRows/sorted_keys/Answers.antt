@@ -1,6 +1,5 @@
 -- The keys of the table.
 use Rattle.std.proofs.Common.{ap, sym, ◌∙◌, arith}
-use Rattle.std.specs.FinMap as map
 use Rattle.std.proofs.lemmas.Result.{IfOk-weaker}
 use Rattle.pac_value.specs.State.{keys_of}
 use Rattle.pac_tables.proofs.JoinedLemmas.{keys-of}
