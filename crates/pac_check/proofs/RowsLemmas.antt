@@ -202,6 +202,21 @@ key-placed held t i key row lt is found =
     some_same : {A : Type 0} {x y : A} → Some x ≡ Some y → x ≡ y
     some_same e = cc
 
+-- a list by keys has as many rows
+pub counted : {A : Type 0} (k : A → Key) (xs : List A) (held : Tables) (t : ℕ) → map k xs ≡ keys_of held t → length xs ≡ length (table_rows held t)
+counted k xs held t keys = sym (length-map xs k) ∙ ap (λ ks. length ks) keys ∙ as-many held t
+
+-- where a row of a list by keys stands
+pub entry-placed : {A : Type 0} (k : A → Key) (r : A → RowValues) (xs : List A) (held : Tables) (t i : ℕ) (x : A) → map k xs ≡ keys_of held t → map (λ y. Some (r y)) xs ≡ map (λ key. get held (t, key)) (keys_of held t)
+    → i < length xs → x ≡ get_or xs i x → (i < length (table_rows held t)) × ((k x, r x) ≡ get_or (table_rows held t) i (k x, r x))
+entry-placed k r xs held t i x keys rows lt is =
+    let within : i < length (keys_of held t) = omega (arith, lt, length-map xs k, ap (λ ks. length ks) keys) in
+    let key : k x ≡ get_or (keys_of held t) i (k x) = ap k is ∙ sym (get_or-map k xs i x (k x) lt) ∙ ap (λ ks. get_or ks i (k x)) keys in
+    let found : get held (t, k x) ≡ Some (r x) =
+    ap (λ key. get held (t, key)) key ∙ sym (get_or-map (λ key. get held (t, key)) (keys_of held t) i (k x) (Some (r x)) within)
+    ∙ ap (λ os. get_or os i (Some (r x))) (sym rows) ∙ get_or-map (λ y. Some (r y)) xs i x (Some (r x)) lt ∙ ap (λ y. Some (r y)) (sym is) in
+    key-placed held t i (k x) (r x) within key found
+
 -- each row of a table is found by its key
 pub each-row : (P : KeyedRow → Type 0) (held : Tables) (t : ℕ) → ((row : KeyedRow) (i : ℕ) → i < length (table_rows held t) → row ≡ get_or (table_rows held t) i row → get held (t, row.0) ≡ Some row.1 → P row) → AllByRecursion P (table_rows held t)
 each-row P held t each = all-by-place P (table_rows held t) (λ row i lt is. each row i lt is (row-found held t i row lt is))

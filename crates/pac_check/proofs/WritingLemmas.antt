@@ -4,7 +4,6 @@ use Rattle.std.specs.Prelude.{slice_get}
 use Rattle.std.specs.Option.{option_map}
 use Rattle.std.specs.List.{flat_map, AllByRecursion, AllZip}
 use Rattle.std.proofs.lemmas.List.{length-append}
-use Rattle.pac_value.specs.declared.values.Key.{Key}
 use Rattle.pac_value.specs.Values.{type_of, key_value}
 use Rattle.pac_value.specs.State.{Tables, keys_of}
 use Rattle.pac_types.specs.declared.table.Table.{Table}
@@ -18,7 +17,7 @@ use Rattle.pac_check.specs.Checkpoints.{KeyedRow, checkpoint_bytes, head_bytes, 
 use Rattle.pac_check.specs.Saved.{table_rows, rows_of_tables, checkpoint_of}
 use Rattle.pac_check.proofs.RowsLemmas.{ascending-rows, as-many, each-row, all-at, tables-counted, rows_from, tables-from}
 
-pub none_some : {A : Type 0} {x : A} → None ≡ Some x → ⊥
+none_some : {A : Type 0} {x : A} → None ≡ Some x → ⊥
 none_some e = cc
 
 -- with one more item, the bytes of the items so far are longer by its own
@@ -33,10 +32,6 @@ all-more P (y ∷ xs) (suc i) x lt is has all = (all.0, all-more P xs i x (omega
 
 pub all-taken : {X : Type 0} (P : X → Type 0) (xs : List X) (i : ℕ) (x : X) → i < length xs → x ≡ get_or xs i x → P x → AllByRecursion P (take i xs) → AllByRecursion P (take (i + 1) xs)
 all-taken P xs i x lt is has all = rw add-one (all-more P xs i x lt is has all)
-
--- the same key among keys that are known otherwise
-pub same-place : (xs ys : List Key) (i : ℕ) (key : Key) → xs ≡ ys → i < length xs → key ≡ get_or xs i key → (i < length ys) × (key ≡ get_or ys i key)
-same-place xs ys i key same lt is = (subst (λ (l : List Key). i < length l) same lt, subst (λ (l : List Key). key ≡ get_or l i key) same is)
 
 -- ---- what is written is a checkpoint
 

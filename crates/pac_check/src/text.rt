@@ -29,13 +29,13 @@ const MAX_ROW_LEN: u64 = (1 + MAX_COLUMNS as u64) * MAX_VALUE_LEN as u64;
 
 const MAX_TABLE_LEN: u64 = 8 + MAX_SAVED_ROWS * MAX_ROW_LEN;
 
-/// The text of the checkpoint of the rows of tables. It takes memory once, for the whole text, and besides for the keys of
-/// one table at a time; it looks up each row twice, for its length and for its bytes.
+/// The text of the checkpoint of the rows of tables. It takes memory once, for the whole text, and besides for a list of the
+/// rows of one table at a time. These are listed twice, for their length and for their bytes, and none is looked up.
 ///
 /// # Errors
 ///
 /// - [`SaveError::TooLarge`] exactly where the text and a gate byte are more than 268,435,456 bytes.
-/// - [`SaveError::NoMemory`] where the text or a list of keys finds no room.
+/// - [`SaveError::NoMemory`] where the text or a list of rows finds no room.
 pub(crate) fn checkpoint_text<R: Rows>(
     alloc: Global,
     cat: &Catalogue,
@@ -84,13 +84,10 @@ fn table_len<R: Rows>(table: u16, rows: &R) -> Result<u64, NoMemory>
     ensures exact { IfOk result (λ len. len ≡ length (rows_bytes (table_rows (R.held rows.now) table))) }
     ensures few { IfOk result (λ len. len ≤ MAX_TABLE_LEN) }
 {
-    let keys = rows.sorted_keys(table)?;
+    let found = rows.sorted_rows(table)?;
     let mut len = 8;
-    for key in &keys {
-        let Some(row) = rows.get(table, key) else {
-            unreachable!();
-        };
-        len += keyed_row_len(key, row);
+    for entry in &found {
+        len += keyed_row_len(entry.0, entry.1);
     }
     Ok(len)
 }
@@ -132,13 +129,10 @@ fn put_table<R: Rows>(out: &mut Vec<u8>, table: u16, rows: &R) -> Result<(), NoM
     ensures bytes { OnOk result (Grew out.old.items out.new.items (rows_bytes (table_rows (R.held rows.now) table))) }
     ensures form { OnOk result (AllByRecursion RowHasBytes (table_rows (R.held rows.now) table)) }
 {
-    let keys = rows.sorted_keys(table)?;
-    put_u64(out, keys.len() as u64)?;
-    for key in &keys {
-        let Some(row) = rows.get(table, key) else {
-            unreachable!();
-        };
-        put_keyed_row(out, key, row)?;
+    let found = rows.sorted_rows(table)?;
+    put_u64(out, found.len() as u64)?;
+    for entry in &found {
+        put_keyed_row(out, entry.0, entry.1)?;
     }
     Ok(())
 }

@@ -6,8 +6,8 @@ use Rattle.pac_check.specs.Checkpoints.{RowHasBytes, keyed_bytes}
 use Rattle.pac_check.specs.Saved.{table_rows}
 use Rattle.pac_check.proofs.text.put_table.Given as goal
 
-abbrev pub invariant-loop-key : goal.invariant-loop-key
-invariant-loop-key g l = record {
-  bytes : l.out.items ≡ (l.fn.out.items ++ to_le_bytes w64 (length (table_rows (g.R.Rows.held l.rows) l.table))) ++ flat_map keyed_bytes (take l.key-index (table_rows (g.R.Rows.held l.rows) l.table));
-  form : AllByRecursion RowHasBytes (take l.key-index (table_rows (g.R.Rows.held l.rows) l.table));
+abbrev pub invariant-loop-entry : goal.invariant-loop-entry
+invariant-loop-entry g l = record {
+  bytes : l.out.items ≡ (l.fn.out.items ++ to_le_bytes w64 (length (table_rows (g.R.Rows.held l.rows) l.table))) ++ flat_map keyed_bytes (take l.entry-index (table_rows (g.R.Rows.held l.rows) l.table));
+  form : AllByRecursion RowHasBytes (take l.entry-index (table_rows (g.R.Rows.held l.rows) l.table));
 }

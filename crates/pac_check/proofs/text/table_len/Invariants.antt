@@ -5,8 +5,8 @@ use Rattle.pac_check.specs.Checkpoints.{keyed_bytes}
 use Rattle.pac_check.specs.Saved.{table_rows}
 use Rattle.pac_check.proofs.text.table_len.Given as goal
 
-abbrev pub invariant-loop-key : goal.invariant-loop-key
-invariant-loop-key g l = record {
-  exact : l.len ≡ 8 + length (flat_map keyed_bytes (take l.key-index (table_rows (g.R.Rows.held l.rows) l.table)));
-  few : l.len ≤ 8 + MAX_ROW_LEN * l.key-index;
+abbrev pub invariant-loop-entry : goal.invariant-loop-entry
+invariant-loop-entry g l = record {
+  exact : l.len ≡ 8 + length (flat_map keyed_bytes (take l.entry-index (table_rows (g.R.Rows.held l.rows) l.table)));
+  few : l.len ≤ 8 + MAX_ROW_LEN * l.entry-index;
 }
