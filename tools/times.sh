@@ -1,7 +1,7 @@
 #!/bin/bash
 # Times the program and parts of it, for docs/COSTS.md.
 #
-#     tools/times.sh replay|input|parts|log|slots|runs|rows
+#     tools/times.sh replay|input|parts|log|slots|runs|rows|pieces
 #
 # `replay`, `input` and `runs` time the program, which is $PACMAN or crates/pacman/out/pacman. The others time pac_bench,
 # which is $PAC_BENCH or crates/pac_bench/out/pac_bench, as `(cd crates/pac_bench && rt run -- copy 1)` makes it. All
@@ -24,6 +24,14 @@ timed() {
     echo "$1"
     shift
     time "$@"
+}
+
+# A command, what it prints but for its output, and its instructions, as valgrind counts them.
+counted() {
+    echo "$1"
+    shift
+    valgrind --tool=callgrind --callgrind-out-file=/dev/null "$@" 2> counted
+    sed -n 's/.*Collected : */  instructions: /p' counted
 }
 
 # Lines `call Add(K, 1)`: $1 of them, with $2 keys.
@@ -73,6 +81,10 @@ parts)
     for part in write read; do timed "20,000 bodies of 1,024 calls: $part" "$bench" "$part" 20000; done
     timed "200,000 bodies: copy" "$bench" copy 200000
     for part in table tables chain; do timed "100 catalogues of 4,096 operations: $part" "$bench" "$part" 100; done
+    ;;
+pieces)
+    for part in txns sets accesses pairs; do counted "100,000 transactions of the stress test: $part" "$bench" "$part" 100; done
+    for part in queue long_queue; do for rounds in 0 100; do counted "$rounds rounds: $part" "$bench" "$part" "$rounds"; done; done
     ;;
 log)
     for part in commit commits; do

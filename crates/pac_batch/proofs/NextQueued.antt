@@ -9,7 +9,7 @@ use Rattle.pac_plan.specs.declared.access.Access.{Access}
 use Rattle.pac_plan.specs.NextPairs.{NoneBetween, IsNextPair}
 use Rattle.pac_batch.specs.declared.queues.Queued.{Queued}
 use Rattle.pac_batch.specs.Conflicts.{access_in}
-use Rattle.pac_batch.specs.Queues.{queued_from, stands_in, writes_in, entry, AreInOrder, AreJoined, AreJoinedBelow}
+use Rattle.pac_batch.specs.Queues.{queued_all, stands_in, writes_in, entry, AreInOrder, AreJoined, AreJoinedBelow}
 use Rattle.pac_batch.proofs.QueueOrder.{row_cmp, tied_rows, same_rows}
 use Rattle.pac_batch.proofs.QueueMembers.{member, placed, written}
 
@@ -64,7 +64,7 @@ is_next at i j lt (None, one, other, w, none) = (lt, inr (w, none))
 
 -- ---- entries
 
-module _ (accesses : List Access) (queued : List Queued) (moved : IsPermutation (queued_from 0 accesses) queued) (order : AreInOrder queued) where
+module _ (accesses : List Access) (queued : List Queued) (moved : IsPermutation (queued_all accesses) queued) (order : AreInOrder queued) where
   abbrev row : ℕ → Option Cell
   row p = (entry queued p).row
 

@@ -4,15 +4,24 @@ use Rattle.std.proofs.lemmas.List.{length-map}
 use Rattle.std.proofs.lemmas.List.Sums.{sum_by-cons}
 use Rattle.pac_plan.specs.declared.access.Access.{Access}
 use Rattle.pac_plan.specs.declared.access.Access.TheVariants.{Keys, Whole}
-use Rattle.pac_batch.specs.Queues.{queued_at, queued_from}
+use Rattle.pac_batch.specs.Queues.{queued_touch, queued_touches, block_from, rows_from, queued_all}
 use Rattle.pac_batch.specs.NextLists.{touches_in, count_touches}
 
-count_at : (i : ℕ) (x : Access) → length (queued_at i x) ≡ touches_in x + 1
-count_at i Whole = refl
-count_at i (Keys touches) = simp length-map (omega arith)
+count_rows_at : (i : ℕ) (x : Access) → length (queued_touches i x) ≡ touches_in x
+count_rows_at i Whole = refl
+count_rows_at i (Keys touches) = length-map touches (queued_touch i)
 
-pub count_entries : (i : ℕ) (xs : List Access) → length (queued_from i xs) ≡ count_touches xs + length xs
-count_entries i [] = refl
-count_entries i (x ∷ xs) =
-    let sum : touches_in x + 1 + (count_touches xs + length xs) ≡ touches_in x + count_touches xs + suc (length xs) = omega arith in
-    length-append (queued_at i x) (queued_from (i + 1) xs) ∙ ap₂ (λ m n. m + n) (count_at i x) (count_entries (i + 1) xs) ∙ sum ∙ ap (λ n. n + suc (length xs)) (sym (sum_by-cons touches_in x xs))
+count_block : (i : ℕ) (xs : List Access) → length (block_from i xs) ≡ length xs
+count_block i [] = refl
+count_block i (x ∷ xs) = ap suc (count_block (i + 1) xs)
+
+count_rows : (i : ℕ) (xs : List Access) → length (rows_from i xs) ≡ count_touches xs
+count_rows i [] = refl
+count_rows i (x ∷ xs) = length-append (queued_touches i x) (rows_from (i + 1) xs) ∙ ap₂ (λ m n. m + n) (count_rows_at i x) (count_rows (i + 1) xs) ∙ sym (sum_by-cons touches_in x xs)
+
+pub count_entries : (xs : List Access) → length (queued_all xs) ≡ count_touches xs + length xs
+count_entries xs =
+    let block = count_block 0 xs in
+    let rows = count_rows 0 xs in
+    let both = length-append (block_from 0 xs) (rows_from 0 xs) in
+    omega (arith, block, rows, both)

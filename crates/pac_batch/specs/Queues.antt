@@ -18,15 +18,24 @@ queued_touch i touch = record { row = Some (named_cell touch); index = i; is_wri
 abbrev pub queued_block : ℕ → Bool → Queued
 queued_block i whole = record { row = None; index = i; is_write = whole }
 
--- an access in its queues
-abbrev pub queued_at : ℕ → Access → List Queued
-queued_at i Whole = queued_block i true ∷ []
-queued_at i (Keys touches) = queued_block i false ∷ map (queued_touch i) touches
+-- an access in the queues of the rows that it touches
+abbrev pub queued_touches : ℕ → Access → List Queued
+queued_touches i Whole = []
+queued_touches i (Keys touches) = map (queued_touch i) touches
 
--- the accesses from a position on in their queues
-abbrev pub queued_from : ℕ → List Access → List Queued
-queued_from i [] = []
-queued_from i (x ∷ xs) = queued_at i x ++ queued_from (i + 1) xs
+-- the accesses from a position on in the queue of the block
+abbrev pub block_from : ℕ → List Access → List Queued
+block_from i [] = []
+block_from i (x ∷ xs) = queued_block i (is_whole x) ∷ block_from (i + 1) xs
+
+-- the accesses from a position on in the queues of rows
+abbrev pub rows_from : ℕ → List Access → List Queued
+rows_from i [] = []
+rows_from i (x ∷ xs) = queued_touches i x ++ rows_from (i + 1) xs
+
+-- accesses in their queues
+abbrev pub queued_all : List Access → List Queued
+queued_all accesses = block_from 0 accesses ++ rows_from 0 accesses
 
 -- the access stands in the queue of a row, or of the block
 abbrev pub stands_in : Access → Option Cell → Bool

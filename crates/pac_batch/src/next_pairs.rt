@@ -2,7 +2,7 @@
 ghost use Rattle.std.specs.Prelude.{◌≡◌, ◌<◌, ◌≤◌, ◌+◌, ◌*◌, ◌-◌, ◌↔◌, ℕ, length, OnOk, IfOk, IsTrue, Contains};
 ghost use Rattle.std.specs.List.Sorted.{IsPermutation};
 ghost use Rattle.pac_graph.specs.Groups.{ArePairsAscending};
-ghost use Rattle.pac_batch.specs.Queues.{queued_from, entry, AreInOrder, AreJoinedAt, AreJoinedBelow, IsStart, IsPairOf, IsPairSince, ArePairsAdded};
+ghost use Rattle.pac_batch.specs.Queues.{queued_all, entry, AreInOrder, AreJoinedAt, AreJoinedBelow, IsStart, IsPairOf, IsPairSince, ArePairsAdded};
 ghost use Rattle.pac_batch.specs.NextLists.{AreNextPairs, count_touches};
 
 use crate::queues::{Queued, in_queues};
@@ -32,7 +32,7 @@ pub fn queue_preds(alloc: Global, accesses: &[Access]) -> Result<Preds, NoMemory
 // The accesses in their queues, queue by queue.
 fn sorted_queues(alloc: Global, accesses: &[Access]) -> Result<Vec<Queued>, NoMemory>
     requires { length accesses.now ≤ 4294967295 }
-    ensures moved { IfOk result (λ queued. IsPermutation (queued_from 0 accesses.now) queued.items) }
+    ensures moved { IfOk result (λ queued. IsPermutation (queued_all accesses.now) queued.items) }
     ensures order { IfOk result (λ queued. AreInOrder queued.items) }
 {
     let mut queued = in_queues(alloc, accesses)?;

@@ -1,6 +1,7 @@
 // The accesses in their queues.
 ghost use Rattle.std.specs.Prelude.{◌≡◌, ◌≤◌, ◌++◌, length, OnOk, IfOk, map};
-ghost use Rattle.pac_batch.specs.Queues.{queued_touch, queued_at, queued_from};
+ghost use Rattle.pac_plan.specs.NextPairs.{is_whole};
+ghost use Rattle.pac_batch.specs.Queues.{queued_touch, queued_touches, block_from, rows_from, queued_all};
 
 use pac_base::NoMemory;
 use pac_plan::{Access, Touch};
@@ -18,35 +19,62 @@ pub(crate) struct Queued {
     pub is_write: bool,
 }
 
-/// The accesses in their queues, one after another.
+/// The accesses in their queues: in that of the block, and then in those of rows, so that only these are out of order.
 pub(crate) fn in_queues(alloc: Global, accesses: &[Access]) -> Result<Vec<Queued>, NoMemory>
     requires { length accesses.now ≤ 4294967295 }
-    ensures { IfOk result (λ queued. queued.items ≡ queued_from 0 accesses.now) }
+    ensures { IfOk result (λ queued. queued.items ≡ queued_all accesses.now) }
 {
-    let mut queued = Vec::new(alloc);
-    for i in 0..accesses.len() {
-        add_access(&accesses[i], i as u32, &mut queued)?;
-    }
+    let mut queued = Vec::with_capacity(alloc, accesses.len())?;
+    add_block(accesses, &mut queued)?;
+    add_rows(accesses, &mut queued)?;
     Ok(queued)
 }
 
-// Adds an access in its queues.
-fn add_access(access: &Access, index: u32, queued: &mut Vec<Queued>) -> Result<(), NoMemory>
-    ensures { OnOk result (queued.new.items ≡ queued.old.items ++ queued_at index access.now) }
+// Adds accesses in the queue of the block.
+fn add_block(accesses: &[Access], queued: &mut Vec<Queued>) -> Result<(), NoMemory>
+    requires { length accesses.now ≤ 4294967295 }
+    ensures { OnOk result (queued.new.items ≡ queued.old.items ++ block_from 0 accesses.now) }
 {
-    let is_whole = matches!(access, Access::Whole);
-    queued.push(Queued {
-        row: None,
-        index,
-        is_write: is_whole,
-    })?;
+    for i in 0..accesses.len() {
+        let is_whole = is_whole(&accesses[i]);
+        queued.push(Queued {
+            row: None,
+            index: i as u32,
+            is_write: is_whole,
+        })?;
+    }
+    Ok(())
+}
+
+// Whether an access is of the whole block.
+fn is_whole(access: &Access) -> bool
+    ensures { result ≡ is_whole access.now }
+{
+    matches!(access, Access::Whole)
+}
+
+// Adds accesses in the queues of the rows that they touch.
+fn add_rows(accesses: &[Access], queued: &mut Vec<Queued>) -> Result<(), NoMemory>
+    requires { length accesses.now ≤ 4294967295 }
+    ensures { OnOk result (queued.new.items ≡ queued.old.items ++ rows_from 0 accesses.now) }
+{
+    for i in 0..accesses.len() {
+        add_access(&accesses[i], i as u32, queued)?;
+    }
+    Ok(())
+}
+
+// Adds an access in the queues of the rows that it touches.
+fn add_access(access: &Access, index: u32, queued: &mut Vec<Queued>) -> Result<(), NoMemory>
+    ensures { OnOk result (queued.new.items ≡ queued.old.items ++ queued_touches index access.now) }
+{
     match access {
         Access::Keys(touches) => add_touches(touches.as_slice(), index, queued),
         Access::Whole => Ok(()),
     }
 }
 
-// Adds an access in the queues of the rows that it touches.
+// Adds touches of an access.
 fn add_touches(touches: &[Touch], index: u32, queued: &mut Vec<Queued>) -> Result<(), NoMemory>
     ensures { OnOk result (queued.new.items ≡ queued.old.items ++ map (queued_touch index) touches.now) }
 {

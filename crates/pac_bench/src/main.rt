@@ -12,12 +12,17 @@
 //!
 //! A round of `few` and of `many` executes 1,000 transactions, each of which puts a row where one is, over a table of 10 and
 //! of 100,000 rows; `few_limited` and `many_limited` test a limit of 1,000,000 rows after each.
+//!
+//! A round of `txns` makes 1,000 transactions of the stress test. `sets` makes the pieces of their batch too, `accesses` the
+//! accesses of those whose inputs are arguments, and `pairs` the next pairs of these. A round of `queue` and of `long_queue`
+//! makes the next pairs of 1,024 and of 2,048 pieces that modify one row; the pairs of a round are printed.
 #![tactic(auto)]
 
 mod body;
 mod graph;
 mod log;
 mod part;
+mod pieces;
 mod rows;
 mod slot;
 
@@ -28,7 +33,7 @@ use std::process::ExitCode;
 use std::{env, io};
 
 const USAGE: &str =
-    "usage: pac_bench write|read|copy|table|tables|chain|commit|commits|fill|scan|save|few|few_limited|many|many_limited ROUNDS";
+    "usage: pac_bench write|read|copy|table|tables|chain|commit|commits|fill|scan|save|few|few_limited|many|many_limited|txns|sets|accesses|pairs|queue|long_queue ROUNDS";
 
 // The part and the rounds that the words ask for.
 fn asked(words: &[String]) -> Option<(Part, u32)> {
@@ -56,6 +61,8 @@ fn make(rt: &HostRuntime, part: Part, rounds: u32) -> Result<u64, PartError> {
             rounds,
         ),
         Part::Execute(held) => rows::execute(alloc, held, rounds),
+        Part::Pieces(depth) => pieces::make(alloc, depth, rounds),
+        Part::Queue { pieces } => pieces::queue(alloc, pieces, rounds),
     }
 }
 

@@ -1,5 +1,6 @@
 // What can be made, and why it may not be.
 use crate::log::Load;
+use crate::pieces::Depth;
 use crate::rows::Held;
 use pac_base::NoMemory;
 use pac_check::{SaveError, SlotError};
@@ -31,6 +32,8 @@ pub enum Part {
     Scan,
     Save,
     Execute(Held),
+    Pieces(Depth),
+    Queue { pieces: u16 },
 }
 
 impl Part {
@@ -60,6 +63,12 @@ impl Part {
             "few" => Some(Part::over(10, None)),
             "few_limited" => Some(Part::over(10, Some(1_000_000))),
             "many" => Some(Part::over(100_000, None)),
+            "txns" => Some(Part::Pieces(Depth::Txns)),
+            "sets" => Some(Part::Pieces(Depth::Sets)),
+            "accesses" => Some(Part::Pieces(Depth::Accesses)),
+            "pairs" => Some(Part::Pieces(Depth::Pairs)),
+            "queue" => Some(Part::Queue { pieces: 1_024 }),
+            "long_queue" => Some(Part::Queue { pieces: 2_048 }),
             "many_limited" => Some(Part::over(100_000, Some(1_000_000))),
             _ => None,
         }
@@ -75,8 +84,11 @@ impl Part {
         match self {
             Part::Write | Part::Read | Part::Copy | Part::Scan => "bytes",
             Part::Graph(_) => "blocks",
-            Part::Commit(_) | Part::Execute(_) => "transactions",
+            Part::Commit(_) | Part::Execute(_) | Part::Pieces(Depth::Txns) => "transactions",
             Part::Save => "rows",
+            Part::Pieces(Depth::Sets) => "pieces",
+            Part::Pieces(Depth::Accesses) => "accesses",
+            Part::Pieces(Depth::Pairs) | Part::Queue { .. } => "pairs",
         }
     }
 }

@@ -37,7 +37,7 @@ returns-clause-next c =
 pub returns-clause-few : goal.returns-clause-few
 returns-clause-few c =
     let entries : length c.deref.result.now ≡ count_touches c.args.accesses.now + length c.args.accesses.now =
-    ap length c.deref.ensures.value ∙ length_permutation _ _ c.in_ok-queued.ensures.moved ∙ count_entries 0 c.args.accesses.now in
+    ap length c.deref.ensures.value ∙ length_permutation _ _ c.in_ok-queued.ensures.moved ∙ count_entries c.args.accesses.now in
     let joined = c.in_ok-pairs.ensures.few in
     let kept = c.order.ensures.few in
     let made : length c.new.result ≡ length c.order.new.pairs.items = ap (λ (ps : List (ℕ × ℕ)). length ps) c.new.ensures in
