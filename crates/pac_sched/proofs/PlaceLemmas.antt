@@ -92,6 +92,10 @@ only_here xs up id i lt e a b = first_at (is_piece id) xs i e lt (here_is xs id 
     same : id ≡ get_or xs i e
     same = same_piece id (get_or xs i e) (neither_is (get_or xs i e) id a b)
 
+-- a piece of an ascending list stands in one place
+pub stands_once : (xs : List PieceId) → IsAscending xs → (id : PieceId) (i : ℕ) → i < length xs → (e : PieceId) → is_piece id (get_or xs i e) ≡ true → position (is_piece id) xs ≡ Some i
+stands_once xs up id i lt e t = first_at (is_piece id) xs i e lt t (λ k kl. after_differs id (get_or xs k e) (ap (piece_before (get_or xs k e)) (same_piece id (get_or xs i e) t) ∙ up k i e kl lt))
+
 -- a piece is nowhere where it is in neither of two parts
 pub none_apart : (xs : List PieceId) (id : PieceId) (low high : ℕ) → high ≤ low
     → ((k : ℕ) (d : PieceId) → k < low → is_piece id (get_or xs k d) ≡ false) → ((k : ℕ) (d : PieceId) → high ≤ k → k < length xs → is_piece id (get_or xs k d) ≡ false)

@@ -2,40 +2,26 @@
 use Rattle.std.proofs.Common.{◌≡◌, ◌≢◌, ℕ, zero, suc, ◌+◌, ◌-◌, ◌*◌, ◌/◌, ◌<◌, ◌≤◌, Bool, true, false, cond, min, List, ◌++◌, length, take, refl, sym, ap, ◌∙◌, subst, ⊎_elim, ◌⊎◌, Some, None, arith}
 use Rattle.std.specs.Prelude.{nat_lt, position, slice_set, slice_index, slice_index_or, count_by}
 use Rattle.std.specs.List.{position_or_len}
-use Rattle.std.proofs.lemmas.Bool.Decides.{nat_tests}
 use Rattle.std.proofs.lemmas.List.{get_or-set_same, get_or-set_other, length-set, take_at}
 use Rattle.std.proofs.lemmas.List.Sums.{position_or_len_is, sum_by-set}
 use Rattle.pac_sched.proofs.PlaceLemmas.{lt_true, lt_false}
-use Rattle.pac_sched.specs.ReadySets.{first_in, IsSettledAt, IsFirstTree}
+use Rattle.pac_sched.specs.ReadySets.{IsSettledAt, at_leaf, IsFirstTree}
 
-not_lt : (a b : ℕ) → nat_lt a b ≡ false → b ≤ a
-not_lt a b h = grind (arith, nat_tests)
-
-pub inner : (flags : List Bool) (firsts : List ℕ) (k : ℕ) → k < length flags → first_in flags firsts k ≡ slice_index firsts k
-inner flags firsts k lt = grind (arith, nat_tests)
-
-pub leaf : (flags : List Bool) (firsts : List ℕ) (k : ℕ) → length flags ≤ k
-    → first_in flags firsts k ≡ cond (slice_index_or flags (k - length flags) false) (k - length flags) (length flags)
-leaf flags firsts k ge = grind (arith, nat_tests)
-
--- a node that is not the one that changed is as before
-pub unchanged : (flags : List Bool) (firsts : List ℕ) (node v k : ℕ) → k ≢ node → first_in flags (slice_set firsts node v) k ≡ first_in flags firsts k
-unchanged flags firsts node v k ne = ap (λ x. cond (nat_lt k (length flags)) x (cond (slice_index_or flags (k - length flags) false) (k - length flags) (length flags))) (get_or-set_other firsts node k v 0 ne)
+split : (a b : ℕ) → (a < b) ⊎ (b ≤ a)
+split a b = grind arith
 
 -- ---- the root is the least of all
 
-module _ (flags : List Bool) (firsts : List ℕ) (settled : (k : ℕ) → 0 < k → k < length flags → IsSettledAt flags firsts k) where
-  value : ℕ → ℕ
-  value k = first_in flags firsts k
+module _ (flags : List Bool) (firsts : List ℕ) (leaves : (i : ℕ) → i < length flags → slice_index firsts (length flags + i) ≡ at_leaf flags i)
+    (settled : (k : ℕ) → 0 < k → k < length flags → IsSettledAt firsts k) where
+  abbrev value : ℕ → ℕ
+  value k = slice_index firsts k
 
   child : (k : ℕ) → 1 < k → k < 2 * length flags → value (k / 2) ≤ value k
-  unfolding value
   child k one lt =
-      let half : ℕ = k / 2 in
-      let e : slice_index firsts (k / 2) ≡ min (first_in flags firsts (2 * (k / 2))) (first_in flags firsts (2 * (k / 2) + 1)) = settled (k / 2) (omega arith) (omega arith) in
-      let i : first_in flags firsts (k / 2) ≡ slice_index firsts (k / 2) = inner flags firsts (k / 2) (omega arith) in
-      ⊎_elim (λ even. let same : first_in flags firsts (2 * (k / 2)) ≡ first_in flags firsts k = ap (first_in flags firsts) even in omega arith)
-      (λ odd. let same : first_in flags firsts (2 * (k / 2) + 1) ≡ first_in flags firsts k = ap (first_in flags firsts) odd in omega arith)
+      let e : value (k / 2) ≡ min (value (2 * (k / 2))) (value (2 * (k / 2) + 1)) = settled (k / 2) (omega arith) (omega arith) in
+      ⊎_elim (λ even. let same : value (2 * (k / 2)) ≡ value k = ap value even in omega arith)
+      (λ odd. let same : value (2 * (k / 2) + 1) ≡ value k = ap value odd in omega arith)
       (sides k)
     where
       sides : (k : ℕ) → (2 * (k / 2) ≡ k) ⊎ (2 * (k / 2) + 1 ≡ k)
@@ -54,46 +40,38 @@ module _ (flags : List Bool) (firsts : List ℕ) (settled : (k : ℕ) → 0 < k 
   abbrev Raised : ℕ → Type 0
   Raised v = slice_index_or flags v false ≡ true
 
-  at_leaf : (i : ℕ) (b : Bool) → slice_index_or flags i false ≡ b → cond b i (length flags) < length flags → Raised (cond b i (length flags))
-  at_leaf i true e lt = e
-  at_leaf i false e lt = absurd (omega arith)
+  leaf_raised : (i : ℕ) (b : Bool) → slice_index_or flags i false ≡ b → cond b i (length flags) < length flags → Raised (cond b i (length flags))
+  leaf_raised i true e lt = e
+  leaf_raised i false e lt = absurd (omega arith)
 
   abbrev Reaches : ℕ → Type 0
   Reaches fuel = (k : ℕ) → 2 * length flags ≤ k + fuel → 0 < k → value k < length flags → k < 2 * length flags → Raised (value k)
-
-  split : (a b : ℕ) → (a < b) ⊎ (b ≤ a)
-  split a b = grind arith
 
   choose : (a b : ℕ) → (min a b ≡ a) ⊎ (min a b ≡ b)
   choose a b = grind arith
 
   reach_inner : (fuel : ℕ) → Reaches fuel → (k : ℕ) → 2 * length flags ≤ k + suc fuel → 0 < k → value k < length flags → k < length flags → Raised (value k)
-  unfolding value
   reach_inner fuel rec k le pos lt in' =
-      let e : first_in flags firsts k ≡ min (first_in flags firsts (2 * k)) (first_in flags firsts (2 * k + 1)) = inner flags firsts k in' ∙ settled k pos in' in
+      let e : value k ≡ min (value (2 * k)) (value (2 * k + 1)) = settled k pos in' in
       ⊎_elim (λ l. subst Raised (sym (e ∙ l)) (rec (2 * k) (omega arith) (omega arith) (subst (λ v. v < length flags) (e ∙ l) lt) (omega arith)))
       (λ r. subst Raised (sym (e ∙ r)) (rec (2 * k + 1) (omega arith) (omega arith) (subst (λ v. v < length flags) (e ∙ r) lt) (omega arith)))
-      (choose (first_in flags firsts (2 * k)) (first_in flags firsts (2 * k + 1)))
+      (choose (value (2 * k)) (value (2 * k + 1)))
 
-  reach_leaf : (k : ℕ) → value k < length flags → length flags ≤ k → Raised (value k)
-  unfolding value
-  reach_leaf k lt out =
-      let e = leaf flags firsts k out in
-      subst Raised (sym e) (at_leaf (k - length flags) (slice_index_or flags (k - length flags) false) refl (subst (λ v. v < length flags) e lt))
+  reach_leaf : (k : ℕ) → value k < length flags → length flags ≤ k → k < 2 * length flags → Raised (value k)
+  reach_leaf k lt out below =
+      let s : length flags + (k - length flags) ≡ k = omega arith in
+      let e : value k ≡ at_leaf flags (k - length flags) = sym (ap value s) ∙ leaves (k - length flags) (omega arith) in
+      subst Raised (sym e) (leaf_raised (k - length flags) (slice_index_or flags (k - length flags) false) refl (subst (λ v. v < length flags) e lt))
 
   reached : (fuel : ℕ) → Reaches fuel
   reached zero k le pos lt below = absurd (omega arith)
-  reached (suc fuel) k le pos lt below = ⊎_elim (λ in'. reach_inner fuel (reached fuel) k le pos lt in') (λ out. reach_leaf k lt out) (split k (length flags))
+  reached (suc fuel) k le pos lt below = ⊎_elim (λ in'. reach_inner fuel (reached fuel) k le pos lt in') (λ out. reach_leaf k lt out below) (split k (length flags))
 
   -- a raised position is at least the root's
   below_root : (i : ℕ) → i < length flags → Raised i → value 1 ≤ i
-  unfolding value
   below_root i lt up =
-      let e : first_in flags firsts (length flags + i) ≡ cond (slice_index_or flags (length flags + i - length flags) false) (length flags + i - length flags) (length flags) = leaf flags firsts (length flags + i) (omega arith) in
-      let s : length flags + i - length flags ≡ i = omega arith in
-      let f : first_in flags firsts (length flags + i) ≡ cond (slice_index_or flags i false) i (length flags) = e ∙ ap (λ j. cond (slice_index_or flags j false) j (length flags)) s in
-      let g : first_in flags firsts (length flags + i) ≡ i = f ∙ ap (λ b. cond b i (length flags)) up in
-      let l : first_in flags firsts 1 ≤ first_in flags firsts (length flags + i) = low (length flags + i) (length flags + i) (omega arith) (omega arith) (omega arith) in
+      let e : value (length flags + i) ≡ i = leaves i lt ∙ ap (λ b. cond b i (length flags)) up in
+      let l : value 1 ≤ value (length flags + i) = low (length flags + i) (length flags + i) (omega arith) (omega arith) (omega arith) in
       omega arith
 
   lowered_before : (b : Bool) (i : ℕ) → slice_index_or flags i false ≡ b → i < value 1 → i < length flags → b ≡ false
@@ -105,8 +83,7 @@ module _ (flags : List Bool) (firsts : List ℕ) (settled : (k : ℕ) → 0 < k 
       (λ k lt. lowered_before (slice_index_or flags k false) k refl (omega arith) (omega arith))
       (λ lt. subst Raised (sym e) (reached (2 * length flags) 1 (omega arith) (omega arith) (omega arith) (omega arith)))
 
-  pub found : (v : ℕ) → v ≡ first_in flags firsts 1 → v < length flags → Some v ≡ position (λ flag. flag) flags
-  unfolding value
+  pub found : (v : ℕ) → v ≡ slice_index firsts 1 → v < length flags → Some v ≡ position (λ flag. flag) flags
   found v e lt =
       let p : position_or_len (λ flag. flag) flags ≡ v = place v e (omega arith) (omega arith) in
       sym (ap (λ n. cond (nat_lt n (length flags)) (Some n) None) p ∙ ap (λ b. cond b (Some v) None) (lt_true v (length flags) lt))
@@ -114,69 +91,72 @@ module _ (flags : List Bool) (firsts : List ℕ) (settled : (k : ℕ) → 0 < k 
   no_raised : (v : ℕ) → length flags ≤ v → 0 < length flags → v ≡ value 1 → (k : ℕ) → k < length flags → slice_index_or flags k false ≡ false
   no_raised v ge pos e k lt = lowered_before (slice_index_or flags k false) k refl (omega arith) lt
 
-  pub not_found : (v : ℕ) → v ≡ first_in flags firsts 1 → length flags ≤ v → 0 < length flags → None ≡ position (λ flag. flag) flags
-  unfolding value
+  pub not_found : (v : ℕ) → v ≡ slice_index firsts 1 → length flags ≤ v → 0 < length flags → None ≡ position (λ flag. flag) flags
   not_found v e ge pos =
       let p : position_or_len (λ flag. flag) flags ≡ length flags = position_or_len_is (λ flag. flag) flags (length flags) false (omega arith) (no_raised v ge pos e) (λ lt. absurd (omega arith)) in
       sym (ap (λ n. cond (nat_lt n (length flags)) (Some n) None) p ∙ ap (λ b. cond b (Some (length flags)) None) (lt_false (length flags) (length flags) (omega arith)))
 
--- ---- a step upwards
+-- ---- steps upwards
 
-pub settled_above : (flags : List Bool) (firsts : List ℕ) (node v : ℕ) → 0 < node → node < length flags → length firsts ≡ length flags
-    → v ≡ min (first_in flags firsts (2 * node)) (first_in flags firsts (2 * node + 1))
-    → ((k : ℕ) → 0 < k → k < length flags → k ≢ node → IsSettledAt flags firsts k)
-    → (k : ℕ) → 0 < k → k < length flags → k ≢ node / 2 → IsSettledAt flags (slice_set firsts node v) k
-settled_above flags firsts node v pos inside len e others k kpos kin ne = ⊎_elim same other (equal k node)
+equal : (a b : ℕ) → (a ≡ b) ⊎ (a ≢ b)
+equal a b = grind arith
+
+-- a node that is set unsettles its parent alone
+pub kept_settled : (firsts : List ℕ) (node v k : ℕ) → k ≢ node → 2 * k ≢ node → 2 * k + 1 ≢ node → IsSettledAt firsts k → IsSettledAt (slice_set firsts node v) k
+kept_settled firsts node v k n0 n1 n2 e =
+    get_or-set_other firsts node k v 0 n0 ∙ e
+    ∙ sym (ap (λ a. min a (slice_index (slice_set firsts node v) (2 * k + 1))) (get_or-set_other firsts node (2 * k) v 0 n1) ∙ ap (λ a. min (slice_index firsts (2 * k)) a) (get_or-set_other firsts node (2 * k + 1) v 0 n2))
+
+pub settled_above : (firsts : List ℕ) (len node v : ℕ) → 0 < node → node < len → length firsts ≡ 2 * len
+    → v ≡ min (slice_index firsts (2 * node)) (slice_index firsts (2 * node + 1))
+    → ((k : ℕ) → 0 < k → k < len → k ≢ node → IsSettledAt firsts k)
+    → (k : ℕ) → 0 < k → k < len → k ≢ node / 2 → IsSettledAt (slice_set firsts node v) k
+settled_above firsts len node v pos inside size e others k kpos kin ne = ⊎_elim same other (equal k node)
   where
-    equal : (a b : ℕ) → (a ≡ b) ⊎ (a ≢ b)
-    equal a b = grind arith
-
-    children : first_in flags (slice_set firsts node v) (2 * k) ≡ first_in flags firsts (2 * k)
-    children = unchanged flags firsts node v (2 * k) (λ h. absurd (ne (omega arith)))
-
-    children' : first_in flags (slice_set firsts node v) (2 * k + 1) ≡ first_in flags firsts (2 * k + 1)
-    children' = unchanged flags firsts node v (2 * k + 1) (λ h. absurd (ne (omega arith)))
-
-    both : min (first_in flags firsts (2 * k)) (first_in flags firsts (2 * k + 1)) ≡ min (first_in flags (slice_set firsts node v) (2 * k)) (first_in flags (slice_set firsts node v) (2 * k + 1))
-    both = sym (ap (λ a. min a (first_in flags (slice_set firsts node v) (2 * k + 1))) children ∙ ap (λ a. min (first_in flags firsts (2 * k)) a) children')
-
-    same : k ≡ node → IsSettledAt flags (slice_set firsts node v) k
+    same : k ≡ node → IsSettledAt (slice_set firsts node v) k
     same eq = ap (slice_index (slice_set firsts node v)) eq ∙ get_or-set_same firsts node v 0 (omega arith) ∙ e
-        ∙ sym (ap (λ j. min (first_in flags firsts (2 * j)) (first_in flags firsts (2 * j + 1))) eq) ∙ both
+        ∙ sym (ap (λ a. min a (slice_index (slice_set firsts node v) (2 * k + 1))) (get_or-set_other firsts node (2 * k) v 0 (λ h. absurd (omega arith)) ∙ ap (λ j. slice_index firsts (2 * j)) eq)
+        ∙ ap (λ a. min (slice_index firsts (2 * node)) a) (get_or-set_other firsts node (2 * k + 1) v 0 (λ h. absurd (omega arith)) ∙ ap (λ j. slice_index firsts (2 * j + 1)) eq))
 
-    other : k ≢ node → IsSettledAt flags (slice_set firsts node v) k
-    other neq = get_or-set_other firsts node k v 0 neq ∙ others k kpos kin neq ∙ both
+    other : k ≢ node → IsSettledAt (slice_set firsts node v) k
+    other neq = kept_settled firsts node v k neq (λ h. absurd (ne (omega arith))) (λ h. absurd (ne (omega arith))) (others k kpos kin neq)
+
+-- a leaf that is set unsettles its parent alone
+pub settled_but : (firsts : List ℕ) (len i v : ℕ) → i < len → ((k : ℕ) → 0 < k → k < len → IsSettledAt firsts k)
+    → (k : ℕ) → 0 < k → k < len → k ≢ (len + i) / 2 → IsSettledAt (slice_set firsts (len + i) v) k
+settled_but firsts len i v lt settled k pos inside ne = kept_settled firsts (len + i) v k (λ h. absurd (omega arith)) (λ h. absurd (ne (omega arith))) (λ h. absurd (ne (omega arith))) (settled k pos inside)
 
 -- ---- a flag that changes
 
-pub flag_changed : (flags : List Bool) (firsts : List ℕ) (i : ℕ) (b : Bool) → i < length flags → ((k : ℕ) → 0 < k → k < length flags → IsSettledAt flags firsts k)
-    → (k : ℕ) → 0 < k → k < length (slice_set flags i b) → k ≢ (length (slice_set flags i b) + i) / 2 → IsSettledAt (slice_set flags i b) firsts k
-flag_changed flags firsts i b lt settled k pos inside ne = settled k pos (omega (arith, len)) ∙ both
-  where
-    len : length (slice_set flags i b) ≡ length flags
-    len = length-set flags i b
-
-    ne' : k ≢ (length flags + i) / 2
-    ne' = subst (λ n. k ≢ (n + i) / 2) len ne
-
-    kept : (j : ℕ) → j ≢ length flags + i → first_in (slice_set flags i b) firsts j ≡ first_in flags firsts j
-    kept j nj = ap (λ n. cond (nat_lt j n) (slice_index firsts j) (cond (slice_index_or (slice_set flags i b) (j - n) false) (j - n) n)) len ∙ by_side (nat_lt j (length flags)) refl
-      where
-        by_side : (t : Bool) → nat_lt j (length flags) ≡ t
-            → cond t (slice_index firsts j) (cond (slice_index_or (slice_set flags i b) (j - length flags) false) (j - length flags) (length flags)) ≡ cond t (slice_index firsts j) (cond (slice_index_or flags (j - length flags) false) (j - length flags) (length flags))
-        by_side true e = refl
-        by_side false e = ap (λ c. cond c (j - length flags) (length flags)) (get_or-set_other flags i (j - length flags) b false (λ h. absurd (nj (let ge : length flags ≤ j = not_lt j (length flags) e in omega arith))))
-
-    both : min (first_in flags firsts (2 * k)) (first_in flags firsts (2 * k + 1)) ≡ min (first_in (slice_set flags i b) firsts (2 * k)) (first_in (slice_set flags i b) firsts (2 * k + 1))
-    both = sym (ap (λ a. min a (first_in (slice_set flags i b) firsts (2 * k + 1))) (kept (2 * k) (λ h. absurd (ne' (omega arith)))) ∙ ap (λ a. min (first_in flags firsts (2 * k)) a) (kept (2 * k + 1) (λ h. absurd (ne' (omega arith)))))
-
 -- the tree over the flags with one changed, once it is settled
-pub changed_tree : (flags : List Bool) (firsts rest : List ℕ) (len i raised : ℕ) (b : Bool) → length firsts ≡ length (slice_set flags i b) → length firsts ≡ len
-    → ((k : ℕ) → 0 < k → k < length (slice_set flags i b) → IsSettledAt (slice_set flags i b) firsts k)
+pub changed_tree : (flags : List Bool) (before firsts rest : List ℕ) (len n i raised now : ℕ) (b : Bool) → n ≡ length flags → i < n → length firsts ≡ 2 * n → length firsts ≡ len
+    → now ≡ cond b i (length flags)
+    → ((j : ℕ) → j < length flags → slice_index before (length flags + j) ≡ at_leaf flags j)
+    → slice_index firsts (n + i) ≡ now → ((j : ℕ) → j < n → j ≢ i → slice_index firsts (n + j) ≡ slice_index before (n + j))
+    → ((k : ℕ) → 0 < k → k < n → IsSettledAt firsts k)
     → raised ≡ count_by (λ flag. flag) (slice_set flags i b)
     → IsFirstTree (slice_set flags i b) (take len (firsts ++ rest)) raised
-changed_tree flags firsts rest len i raised b same whole settled counted =
-    subst (λ f. IsFirstTree (slice_set flags i b) f raised) (sym (take_at firsts rest len whole)) (record { len = same; settled = settled; counted = counted })
+changed_tree flags before firsts rest len n i raised now b size inside twice whole is old leaf leaves settled counted =
+    subst (λ f. IsFirstTree (slice_set flags i b) f raised) (sym (take_at firsts rest len whole)) (record {
+      len = omega (arith, new_size, twice, size);
+      leaves = λ j jl. at (length (slice_set flags i b)) (sym (new_size ∙ sym size)) j (subst (λ m. j < m) (new_size ∙ sym size) jl);
+      settled = λ k pos kl. settled k pos (subst (λ m. k < m) (new_size ∙ sym size) kl);
+      counted = counted;
+    })
+  where
+    new_size : length (slice_set flags i b) ≡ length flags
+    new_size = length-set flags i b
+
+    at : (m : ℕ) → n ≡ m → (j : ℕ) → j < n → slice_index firsts (m + j) ≡ at_leaf (slice_set flags i b) j
+    at m h j jl = ap (λ m. slice_index firsts (m + j)) (sym h) ∙ ⊎_elim here others (equal j i)
+      where
+        here : j ≡ i → slice_index firsts (n + j) ≡ at_leaf (slice_set flags i b) j
+        here e = ap (λ j. slice_index firsts (n + j)) e ∙ leaf ∙ is
+            ∙ sym (ap (λ j. at_leaf (slice_set flags i b) j) e ∙ ap (λ t. cond t i (length (slice_set flags i b))) (get_or-set_same flags i b false (subst (λ m. i < m) size inside)) ∙ ap (λ m. cond b i m) new_size)
+
+        others : j ≢ i → slice_index firsts (n + j) ≡ at_leaf (slice_set flags i b) j
+        others ne = leaves j jl ne ∙ ap (λ m. slice_index before (m + j)) size ∙ old j (subst (λ m. j < m) size jl)
+            ∙ sym (ap (λ t. cond t j (length (slice_set flags i b))) (get_or-set_other flags i j b false ne) ∙ ap (λ m. cond (slice_index_or flags j false) j m) new_size)
 
 abbrev to_count : Bool → ℕ
 to_count flag = cond flag 1 0

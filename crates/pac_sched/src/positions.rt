@@ -1,5 +1,5 @@
 // Where pieces stand in a list.
-ghost use Rattle.std.specs.Prelude.{◌≡◌, [], ◌<◌, ◌≤◌, true, position};
+ghost use Rattle.std.specs.Prelude.{◌≡◌, [], ◌<◌, ◌≤◌, true, Some, IfSome, position};
 ghost use Rattle.pac_ops.specs.declared.piece.PieceId.{PieceId};
 ghost use Rattle.pac_plan.specs.Pieces.{is_piece};
 ghost use Rattle.pac_sched.specs.Orders.{piece_before, IsAscending};
@@ -58,10 +58,12 @@ impl Positions {
     pub(crate) fn find(&self, id: PieceId) -> Option<usize>
         ensures { result ≡ position (is_piece id) self.now }
     {
-        if self.ascending {
-            search(&self.pieces, id)
-        } else {
-            scan(&self.pieces, id)
+        if !self.ascending {
+            return scan(&self.pieces, id);
+        }
+        match guess(&self.pieces, id) {
+            Some(i) => Some(i),
+            None => search(&self.pieces, id),
         }
     }
 }
@@ -100,6 +102,21 @@ fn scan(pieces: &[PieceId], id: PieceId) -> Option<usize>
         if is_piece(id, pieces[i]) {
             return Some(i);
         }
+    }
+    None
+}
+
+// The position of a piece in an ascending list, if it is as far from the first as its transaction's number is.
+fn guess(pieces: &[PieceId], id: PieceId) -> Option<usize>
+    requires { IsAscending pieces.now }
+    ensures { IfSome result (λ i. position (is_piece id) pieces.now ≡ Some i) }
+{
+    if pieces.is_empty() || id.txn < pieces[0].txn {
+        return None;
+    }
+    let i = (id.txn - pieces[0].txn) as usize;
+    if i < pieces.len() && is_piece(id, pieces[i]) {
+        return Some(i);
     }
     None
 }

@@ -1,6 +1,6 @@
 // Positions that are ready, of which the first is at hand.
-ghost use Rattle.std.specs.Prelude.{◌≡◌, ◌<◌, ◌*◌, ◌/◌, ◌+◌, ℕ, ◌≢◌, Bool, true, false, length, replicate, slice_set, slice_index_or, position, count_by, IfOk};
-ghost use Rattle.pac_sched.specs.ReadySets.{first_in, IsSettledAt};
+ghost use Rattle.std.specs.Prelude.{◌≡◌, ◌<◌, ◌*◌, ◌+◌, ℕ, ◌≢◌, Bool, true, false, length, replicate, slice_set, slice_index, slice_index_or, position, count_by, IfOk};
+ghost use Rattle.pac_sched.specs.ReadySets.{IsSettledAt};
 
 use pac_base::NoMemory;
 use std::alloc::Global;
@@ -9,8 +9,8 @@ use std::marker::Model;
 /// A flag for each position. The first raised one is at hand; raising and lowering one takes time that grows with the logarithm
 /// of their number. Contracts see the list of flags.
 ///
-/// Node `k` of a binary tree has the children `2k` and `2k + 1`, the root is node 1, and the flags are the last nodes. Each inner
-/// node keeps the first raised position below it.
+/// Node `k` of a binary tree has the children `2k` and `2k + 1`, the root is node 1, and the leaves, one for each flag, are the
+/// last nodes. Each node keeps the first raised position below it, or the number of flags where there is none.
 #[derive(Drop)]
 pub(crate) struct ReadySet {
     flags: Vec<bool>,
@@ -45,9 +45,11 @@ impl ReadySet {
     pub(crate) fn new(alloc: Global, len: usize) -> Result<ReadySet, NoMemory>
         ensures { IfOk result (λ set. set ≡ replicate len false) }
     {
+        let flags = vec![in alloc; false; len]?;
+        let firsts = vec![in alloc; len; 2 * flags.len()]?;
         Ok(ReadySet {
-            flags: vec![in alloc; false; len]?,
-            firsts: vec![in alloc; len; len]?,
+            flags,
+            firsts,
             raised: 0,
         })
     }
@@ -67,7 +69,7 @@ impl ReadySet {
         if len == 0 {
             return None;
         }
-        let first = first_in(&self.flags, &self.firsts, 1);
+        let first = self.firsts[1];
         if first < len { Some(first) } else { None }
     }
 
@@ -77,9 +79,10 @@ impl ReadySet {
         requires lowered { slice_index_or self.old i true ≡ false }
         ensures { self.new ≡ slice_set self.old i true }
     {
+        let len = self.flags.len();
         self.flags[i] = true;
         self.raised += 1;
-        settle(&self.flags, &mut self.firsts, i);
+        settle(&mut self.firsts, len, i, i);
     }
 
     // Lowers a raised flag.
@@ -88,39 +91,27 @@ impl ReadySet {
         requires raised { slice_index_or self.old i false ≡ true }
         ensures { self.new ≡ slice_set self.old i false }
     {
+        let len = self.flags.len();
         self.flags[i] = false;
         self.raised -= 1;
-        settle(&self.flags, &mut self.firsts, i);
+        settle(&mut self.firsts, len, i, len);
     }
 }
 
-// The first raised position below a node; the number of flags where there is none.
-fn first_in(flags: &[bool], firsts: &[usize], node: usize) -> usize
-    requires len { length firsts.now ≡ length flags.now }
-    requires node { node < 2 * length flags.now }
-    ensures { result ≡ first_in flags.now firsts.now node }
+// Gives a leaf what it has now, and settles the nodes above it.
+fn settle(firsts: &mut [usize], len: usize, i: usize, now: usize)
+    requires len { length firsts.old ≡ 2 * len }
+    requires inside { i < len }
+    requires settled { (k : ℕ) → 0 < k → k < len → IsSettledAt firsts.old k }
+    ensures len { length firsts.new ≡ 2 * len }
+    ensures leaf { slice_index firsts.new (len + i) ≡ now }
+    ensures leaves { (j : ℕ) → j < len → j ≢ i → slice_index firsts.new (len + j) ≡ slice_index firsts.old (len + j) }
+    ensures settled { (k : ℕ) → 0 < k → k < len → IsSettledAt firsts.new k }
 {
-    let len = flags.len();
-    if node < len {
-        firsts[node]
-    } else if flags[node - len] {
-        node - len
-    } else {
-        len
-    }
-}
-
-// Settles the nodes above a flag that changed.
-fn settle(flags: &[bool], firsts: &mut [usize], i: usize)
-    requires len { length firsts.old ≡ length flags.now }
-    requires inside { i < length flags.now }
-    requires others { (k : ℕ) → 0 < k → k < length flags.now → k ≢ (length flags.now + i) / 2 → IsSettledAt flags.now firsts.old k }
-    ensures len { length firsts.new ≡ length flags.now }
-    ensures settled { (k : ℕ) → 0 < k → k < length flags.now → IsSettledAt flags.now firsts.new k }
-{
-    let mut node = (flags.len() + i) / 2;
+    firsts[len + i] = now;
+    let mut node = (len + i) / 2;
     while node > 0 {
-        let first = first_in(flags, firsts, 2 * node).min(first_in(flags, firsts, 2 * node + 1));
+        let first = firsts[2 * node].min(firsts[2 * node + 1]);
         if firsts[node] == first {
             return;
         }
