@@ -19,11 +19,11 @@ use Rattle.std.specs.Global.{Global}
 use Rattle.std.specs.Prelude.{Vec}
 use Rattle.pac_sets.specs.declared.set_id.SetId.{SetId}
 use Rattle.pac_sets.specs.SetOrder.{set_cmp}
-use Rattle.pac_sets.specs.Sets.{Kept, kept_of, IsPassed, is_left, is_done, are_done, AreSources, AreSets, AreAllSources, IsFront, IsOpen}
+use Rattle.pac_sets.specs.Sets.{Kept, kept_of, WaitsForNothing, is_unfinished_in, is_done, are_done, AreSources, AreSets, AreAllSources, IsFront, IsOpenSet}
 use Rattle.pac_sets.proofs.SetLemmas.{kept_there, there_kept, less_there}
 
 -- a set of the block that is left
-left_gives : {P : Type 0} (block : ℕ) (set : Kept P) → is_left block set ≡ true → (set.0.block ≡ block) × ((p : P) × (set.1 ≡ Some p))
+left_gives : {P : Type 0} (block : ℕ) (set : Kept P) → is_unfinished_in block set ≡ true → (set.0.block ≡ block) × ((p : P) × (set.1 ≡ Some p))
 left_gives {P} block (set, None) h = absurd (cc (and_right (set.block == block) false h))
 left_gives {P} block (set, Some p) h = (same_number set.block block (and_left (set.block == block) true h), (p, refl))
 
@@ -58,16 +58,16 @@ position_within p (x ∷ xs) i h = (position-Some p (x ∷ xs) i x h).0
 
 module _ {P : Type 0} (sets : List (Kept P)) (sorted : T (is_sorted set_cmp sets)) where
   -- an open set is the first unfinished one of its block
-  pub open_front : (edges : List (ℕ × ℕ)) (at : ℕ) (set : SetId) (kept : P) → slice_get sets at ≡ Some (set, Some kept) → IsPassed edges sets set → position (is_left set.block) sets ≡ Some at
+  pub open_front : (edges : List (ℕ × ℕ)) (at : ℕ) (set : SetId) (kept : P) → slice_get sets at ≡ Some (set, Some kept) → WaitsForNothing edges sets set → position (is_unfinished_in set.block) sets ≡ Some at
   open_front edges at set kept there passed =
-      position_is (is_left set.block) sets at d (slice_get_within sets at d there)
-      (ap (is_left set.block) (get_or_from_slice_get sets at d d there) ∙ and_both (set.block == set.block) true (equal_number set.block set.block refl) refl)
-      (λ k lt. unlike (is_left set.block (get_or sets k d)) (λ left. none k lt left))
+      position_is (is_unfinished_in set.block) sets at d (slice_get_within sets at d there)
+      (ap (is_unfinished_in set.block) (get_or_from_slice_get sets at d d there) ∙ and_both (set.block == set.block) true (equal_number set.block set.block refl) refl)
+      (λ k lt. unlike (is_unfinished_in set.block (get_or sets k d)) (λ left. none k lt left))
     where
       d : Kept P
       d = (set, Some kept)
 
-      none : (k : ℕ) → k < at → is_left set.block (get_or sets k d) ≡ true → ⊥
+      none : (k : ℕ) → k < at → is_unfinished_in set.block (get_or sets k d) ≡ true → ⊥
       none k lt left =
           let within : at < length sets = slice_get_within sets at d there in
           let e : Kept P = get_or sets k d in
@@ -79,7 +79,7 @@ module _ {P : Type 0} (sets : List (Kept P)) (sorted : T (is_sorted set_cmp sets
           let none : None ≡ Some gives.1.0 = sym gone ∙ stands ∙ gives.1.1 in
           cc none
 
-  module _ (edges : List (ℕ × ℕ)) (at : ℕ) (set : SetId) (kept : P) (there : slice_get sets at ≡ Some (set, Some kept)) (front : position (is_left set.block) sets ≡ Some at) where
+  module _ (edges : List (ℕ × ℕ)) (at : ℕ) (set : SetId) (kept : P) (there : slice_get sets at ≡ Some (set, Some kept)) (front : position (is_unfinished_in set.block) sets ≡ Some at) where
     abbrev d : Kept P
     d = (set, Some kept)
 
@@ -94,9 +94,9 @@ module _ {P : Type 0} (sets : List (Kept P)) (sorted : T (is_sorted set_cmp sets
             let batch : other.batch ≡ set.batch = ap (λ (s : SetId). s.batch) one in
             omega arith
         go (inr (inl before)) =
-            let fails : is_left set.block (get_or sets i d) ≡ false = (position-Some (is_left set.block) sets at d front).2 i before in
-            let passes : is_left set.block (get_or sets i d) ≡ true =
-            ap (is_left set.block) (get_or_from_slice_get sets i (other, Some q) d stands) ∙ and_both (other.block == set.block) true (equal_number other.block set.block same) refl in
+            let fails : is_unfinished_in set.block (get_or sets i d) ≡ false = (position-Some (is_unfinished_in set.block) sets at d front).2 i before in
+            let passes : is_unfinished_in set.block (get_or sets i d) ≡ true =
+            ap (is_unfinished_in set.block) (get_or_from_slice_get sets i (other, Some q) d stands) ∙ and_both (other.block == set.block) true (equal_number other.block set.block same) refl in
             let both : true ≡ false = sym passes ∙ fails in
             cc both
         go (inr (inr after)) =
@@ -104,7 +104,7 @@ module _ {P : Type 0} (sets : List (Kept P)) (sorted : T (is_sorted set_cmp sets
             omega arith
 
     -- with the sets of its sources finished, it waits for nothing more
-    pub passes : (sources : List ℕ) → AreSources edges set.block sources → are_done set.batch sources sets ≡ true → IsPassed edges sets set
+    pub passes : (sources : List ℕ) → AreSources edges set.block sources → are_done set.batch sources sets ≡ true → WaitsForNothing edges sets set
     passes sources are done other (inl (batch, edge)) =
         let all = AllPass-from_list_all (λ (block : ℕ). is_done (record { batch = set.batch; block = block }) sets) sources done in
         let is : is_done (record { batch = set.batch; block = other.block }) sets ≡ true = All-contains (λ (block : ℕ). is_done (record { batch = set.batch; block = block }) sets ≡ true) sources other.block all ((are other.block).1 edge) in
@@ -116,14 +116,14 @@ module _ {P : Type 0} (sets : List (Kept P)) (sorted : T (is_sorted set_cmp sets
         go (Some q) is = let stands = there_kept sets sorted other q is in absurd (none_before other q stands.0 stands.1 block batch)
 
     -- and where it waits for nothing more, they are finished
-    pub passed : (sources : List ℕ) → AreSources edges set.block sources → IsPassed edges sets set → are_done set.batch sources sets ≡ true
+    pub passed : (sources : List ℕ) → AreSources edges set.block sources → WaitsForNothing edges sets set → are_done set.batch sources sets ≡ true
     passed sources are h = list_all-from_AllPass (λ (block : ℕ). is_done (record { batch = set.batch; block = block }) sets) sources
         (λ k d lt. ap (λ o. not (is_some o)) (h (record { batch = set.batch; block = get_or sources k d }) (inl (refl, (are (get_or sources k d)).0 (Contains-get_or sources k d lt)))))
 
 -- whether a front is open, by its sources alone: as it is found, with the set and the sources that are read
 pub open_by : {P : Type 0} (edges : List (ℕ × ℕ)) (sets : List (Kept P)) (sources : List (Vec ℕ Global)) (blocks at : ℕ) → AreSets blocks sets → AreAllSources edges blocks sources → IsFront sets at
     → (e : Kept P) → e ≡ get_or sets at e → (block : ℕ) → block ≡ e.0.block → (list : Vec ℕ Global) → list ≡ get_or sources block list → (r : Bool) → r ≡ are_done e.0.batch list.items sets
-    → IsTrue r ↔ IsOpen edges sets at
+    → IsTrue r ↔ IsOpenSet edges sets at
 open_by {P} edges sets sources blocks at kept all front e read block of list listed r is = (opens, is_done_there)
   where
     same : e ≡ (front.set, Some front.kept)
@@ -144,7 +144,7 @@ open_by {P} edges sets sources blocks at kept all front e read block of list lis
     tested : r ≡ are_done front.set.batch list.items sets
     tested = is ∙ ap (λ (x : Kept P). are_done x.0.batch list.items sets) same
 
-    opens : IsTrue r → IsOpen edges sets at
+    opens : IsTrue r → IsOpenSet edges sets at
     opens h = record {
       set = front.set;
       kept = front.kept;
@@ -152,25 +152,25 @@ open_by {P} edges sets sources blocks at kept all front e read block of list lis
       passed = passes sets kept.ascend edges at front.set front.kept front.there front.first list.items sourced (sym tested ∙ h);
     }
 
-    is_done_there : IsOpen edges sets at → IsTrue r
+    is_done_there : IsOpenSet edges sets at → IsTrue r
     is_done_there h =
         let one : h.set ≡ front.set = ap (λ (o : Option (Kept P)). (unwrap_or o (front.set, Some front.kept)).0) (sym h.there ∙ front.there) in
-        tested ∙ passed sets kept.ascend edges at front.set front.kept front.there front.first list.items sourced (subst (λ (s : SetId). IsPassed edges sets s) one h.passed)
+        tested ∙ passed sets kept.ascend edges at front.set front.kept front.there front.first list.items sourced (subst (λ (s : SetId). WaitsForNothing edges sets s) one h.passed)
 
 -- where the first unfinished set of a block is found, it stands
-pub left_stands : {P : Type 0} (sets : List (Kept P)) (block at : ℕ) → position (is_left block) sets ≡ Some at → IsFront sets at
+pub left_stands : {P : Type 0} (sets : List (Kept P)) (block at : ℕ) → position (is_unfinished_in block) sets ≡ Some at → IsFront sets at
 left_stands {P} sets block at is = go (item_at sets at within)
   where
     within : at < length sets
-    within = position_within (is_left block) sets at is
+    within = position_within (is_unfinished_in block) sets at is
 
     go : (e : Kept P) × (slice_get sets at ≡ Some e) → IsFront sets at
     go (e, there) =
-        let passes : is_left block e ≡ true = ap (is_left block) (sym (get_or_from_slice_get sets at e e there)) ∙ (position-Some (is_left block) sets at e is).1 in
+        let passes : is_unfinished_in block e ≡ true = ap (is_unfinished_in block) (sym (get_or_from_slice_get sets at e e there)) ∙ (position-Some (is_unfinished_in block) sets at e is).1 in
         let gives = left_gives block e passes in
         record {
           set = e.0;
           kept = gives.1.0;
           there = there ∙ (λ i. Some (e.0, gives.1.1 i));
-          first = ap (λ (b : ℕ). position (is_left b) sets) gives.0 ∙ is;
+          first = ap (λ (b : ℕ). position (is_unfinished_in b) sets) gives.0 ∙ is;
         }

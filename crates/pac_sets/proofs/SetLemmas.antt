@@ -15,7 +15,7 @@ use Rattle.pac_value.proofs.SortedLemmas.{found-get, gap-get}
 use Rattle.pac_value.proofs.OffsetLemmas.{less_at}
 use Rattle.pac_sets.specs.declared.set_id.SetId.{SetId}
 use Rattle.pac_sets.specs.SetOrder.{set_cmp}
-use Rattle.pac_sets.specs.Sets.{Kept, IsAt, joined, kept_of}
+use Rattle.pac_sets.specs.Sets.{Kept, IsSetAt, flattened, kept_of}
 use Rattle.pac_sets.proofs.OrderLemmas.{sets_total, sets_antisymmetric}
 
 -- what is found of a key stands beside it
@@ -37,21 +37,21 @@ module _ {P : Type 0} (sets : List (Kept P)) (sorted : T (is_sorted set_cmp sets
       let within : j < length sets = slice_get_within sets j (set, p) there in
       let is = λ (d : Kept P). get_or_from_slice_get sets j (set, p) d there in
       let offset : IsOffsetOf sets set j = record { within = within; same = λ d. ap (λ (e : Kept P). e.0) (is d) } in
-      ap joined (found-get sets_total sets sorted set j offset (set, p) ∙ ap (λ (e : Kept P). Some e.1) (is (set, p)))
+      ap flattened (found-get sets_total sets sorted set j offset (set, p) ∙ ap (λ (e : Kept P). Some e.1) (is (set, p)))
 
   -- the same where a search ended at the set
   pub kept_offset : (set : SetId) (j : ℕ) → IsOffsetOf sets set j → (d : Kept P) → kept_of set sets ≡ (get_or sets j d).1
-  kept_offset set j offset d = ap joined (found-get sets_total sets sorted set j offset d)
+  kept_offset set j offset d = ap flattened (found-get sets_total sets sorted set j offset d)
 
   -- and where it ended at a gap, nothing is kept
   pub kept_gap : (set : SetId) (j : ℕ) → IsGapFor set_cmp sets set j → kept_of set sets ≡ None
-  kept_gap set j gap = ap joined (gap-get sets_total sets sorted set j gap)
+  kept_gap set j gap = ap flattened (gap-get sets_total sets sorted set j gap)
 
   -- what is kept of a set stands in the list
   pub there_kept : (set : SetId) (p : P) → kept_of set sets ≡ Some p → (j : ℕ) × (slice_get sets j ≡ Some (set, Some p))
   there_kept set p kept = go (get (from_sorted sets) set) refl kept
     where
-      go : (r : Option (Option P)) → get (from_sorted {R = set_cmp} sets) set ≡ r → joined r ≡ Some p → (j : ℕ) × (slice_get sets j ≡ Some (set, Some p))
+      go : (r : Option (Option P)) → get (from_sorted {R = set_cmp} sets) set ≡ r → flattened r ≡ Some p → (j : ℕ) × (slice_get sets j ≡ Some (set, Some p))
       go None is h = absurd (cc h)
       go (Some r) is h = find_place sets_antisymmetric set sets (Some p) (sym (get-from_sorted set_cmp sets set sorted) ∙ is ∙ ap Some h)
 
@@ -64,15 +64,15 @@ module _ {P : Type 0} (sets : List (Kept P)) (sorted : T (is_sorted set_cmp sets
       (subst (λ (x : Kept P). set_cmp x.0 (get_or sets j a).0 ≡ Less) (get_or_from_slice_get sets i a a first) less)
 
   -- a set that stands in the list is found there
-  pub at_offset : (set : SetId) (at : ℕ) → IsOffsetOf sets set at → IsAt sets set at
+  pub at_offset : (set : SetId) (at : ℕ) → IsOffsetOf sets set at → IsSetAt sets set at
   at_offset set at offset = go (item_at sets at offset.within)
     where
-      go : (e : Kept P) × (slice_get sets at ≡ Some e) → IsAt sets set at
+      go : (e : Kept P) × (slice_get sets at ≡ Some e) → IsSetAt sets set at
       go (e, there) = let same : e.0 ≡ set = ap (λ (x : Kept P). x.0) (sym (get_or_from_slice_get sets at e e there)) ∙ offset.same e in
           (e.1, there ∙ (λ i. Some (same i, e.1)))
 
   -- and one for which there is a gap stands nowhere
-  pub no_offset : (set : SetId) (gap_at : ℕ) → IsGapFor set_cmp sets set gap_at → (at : ℕ) → IsAt sets set at → ⊥
+  pub no_offset : (set : SetId) (gap_at : ℕ) → IsGapFor set_cmp sets set gap_at → (at : ℕ) → IsSetAt sets set at → ⊥
   no_offset set gap_at gap at (kept, there) = go (cases_lt at gap_at)
     where
       tie : set_cmp set set ≡ Equal

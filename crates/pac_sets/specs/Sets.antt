@@ -17,21 +17,21 @@ abbrev pub WaitsFor : List (ℕ × ℕ) → SetId → SetId → Type 0
 WaitsFor edges set other = ((other.batch ≡ set.batch) × Contains edges (other.block, set.block)) ⊎ ((other.block ≡ set.block) × (other.batch < set.batch))
 
 -- what is had where there is something, and that is had
-abbrev pub joined : {P : Type 0} → Option (Option P) → Option P
-joined None = None
-joined (Some kept) = kept
+abbrev pub flattened : {P : Type 0} → Option (Option P) → Option P
+flattened None = None
+flattened (Some kept) = kept
 
 -- what is kept of a set: nothing where it is finished, or isn't there
 abbrev pub kept_of : {P : Type 0} → SetId → List (Kept P) → Option P
-kept_of set sets = joined (get (from_sorted {R = set_cmp} sets) set)
+kept_of set sets = flattened (get (from_sorted {R = set_cmp} sets) set)
 
 -- each set that this one waits for is finished
-abbrev pub IsPassed : {P : Type 0} → List (ℕ × ℕ) → List (Kept P) → SetId → Type 0
-IsPassed edges sets set = (other : SetId) → WaitsFor edges set other → kept_of other sets ≡ None
+abbrev pub WaitsForNothing : {P : Type 0} → List (ℕ × ℕ) → List (Kept P) → SetId → Type 0
+WaitsForNothing edges sets set = (other : SetId) → WaitsFor edges set other → kept_of other sets ≡ None
 
 -- a set of the block that isn't finished
-abbrev pub is_left : {P : Type 0} → ℕ → Kept P → Bool
-is_left block set = set.0.block == block && is_some set.1
+abbrev pub is_unfinished_in : {P : Type 0} → ℕ → Kept P → Bool
+is_unfinished_in block set = set.0.block == block && is_some set.1
 
 -- the blocks from which an edge leads to a block
 abbrev pub AreSources : List (ℕ × ℕ) → ℕ → List ℕ → Type 0
@@ -52,16 +52,16 @@ pub record Setting (P : Type 0) : Type 0 where
   pub sets : List (Kept P)
 
 -- an unfinished set that waits for nothing more
-pub record IsOpen {P : Type 0} (edges : List (ℕ × ℕ)) (sets : List (Kept P)) (at : ℕ) : Type 0 where
+pub record IsOpenSet {P : Type 0} (edges : List (ℕ × ℕ)) (sets : List (Kept P)) (at : ℕ) : Type 0 where
   pub set : SetId
   pub kept : P
   pub there : slice_get sets at ≡ Some (set, Some kept)
-  pub passed : IsPassed edges sets set
+  pub passed : WaitsForNothing edges sets set
 
 -- the first open set from an offset on, or none where there is none
 abbrev pub IsFirstOpen : {P : Type 0} → List (ℕ × ℕ) → List (Kept P) → ℕ → Option ℕ → Type 0
-IsFirstOpen edges sets from None = (j : ℕ) → from ≤ j → IsOpen edges sets j → ⊥
-IsFirstOpen edges sets from (Some at) = (from ≤ at) × IsOpen edges sets at × ((j : ℕ) → from ≤ j → j < at → IsOpen edges sets j → ⊥)
+IsFirstOpen edges sets from None = (j : ℕ) → from ≤ j → IsOpenSet edges sets j → ⊥
+IsFirstOpen edges sets from (Some at) = (from ≤ at) × IsOpenSet edges sets at × ((j : ℕ) → from ≤ j → j < at → IsOpenSet edges sets j → ⊥)
 
 -- the sets ascend, each in one of the blocks
 pub record AreSets {P : Type 0} (blocks : ℕ) (sets : List (Kept P)) : Type 0 where
@@ -82,32 +82,32 @@ pub record AddsSource (edge : ℕ × ℕ) (old new : List (Vec ℕ Global)) : Ty
 -- of each block the first unfinished set is known
 pub record AreFronts {P : Type 0} (blocks : ℕ) (fronts : List (Option ℕ)) (sets : List (Kept P)) : Type 0 where
   pub all : length fronts ≡ blocks
-  pub each : (block : ℕ) (front : Option ℕ) → slice_get fronts block ≡ Some front → front ≡ position (is_left block) sets
+  pub each : (block : ℕ) (front : Option ℕ) → slice_get fronts block ≡ Some front → front ≡ position (is_unfinished_in block) sets
 
 -- the set at an offset is the first unfinished one of its block
 pub record IsFront {P : Type 0} (sets : List (Kept P)) (at : ℕ) : Type 0 where
   pub set : SetId
   pub kept : P
   pub there : slice_get sets at ≡ Some (set, Some kept)
-  pub first : position (is_left set.block) sets ≡ Some at
+  pub first : position (is_unfinished_in set.block) sets ≡ Some at
 
 -- an offset comes before another one, where there is one
-abbrev pub is_before : ℕ → Option ℕ → Bool
-is_before at None = true
-is_before at (Some other) = nat_lt at other
+abbrev pub is_earlier : ℕ → Option ℕ → Bool
+is_earlier at None = true
+is_earlier at (Some other) = nat_lt at other
 
 -- an open set in one of the first blocks
 abbrev pub IsOpenBelow : {P : Type 0} → ℕ → List (ℕ × ℕ) → List (Kept P) → ℕ → Type 0
-IsOpenBelow n edges sets j = (it : IsOpen edges sets j) × (it.set.block < n)
+IsOpenBelow n edges sets j = (it : IsOpenSet edges sets j) × (it.set.block < n)
 
 -- the first of those from an offset on, or none where there is none
 abbrev pub IsFirstBelow : {P : Type 0} → ℕ → List (ℕ × ℕ) → List (Kept P) → ℕ → Option ℕ → Type 0
 IsFirstBelow n edges sets from None = (j : ℕ) → from ≤ j → IsOpenBelow n edges sets j → ⊥
-IsFirstBelow n edges sets from (Some at) = (from ≤ at) × IsOpen edges sets at × ((j : ℕ) → from ≤ j → j < at → IsOpenBelow n edges sets j → ⊥)
+IsFirstBelow n edges sets from (Some at) = (from ≤ at) × IsOpenSet edges sets at × ((j : ℕ) → from ≤ j → j < at → IsOpenBelow n edges sets j → ⊥)
 
 -- the set stands at an offset
-abbrev pub IsAt : {P : Type 0} → List (Kept P) → SetId → ℕ → Type 0
-IsAt {P} sets set at = (kept : Option P) × (slice_get sets at ≡ Some (set, kept))
+abbrev pub IsSetAt : {P : Type 0} → List (Kept P) → SetId → ℕ → Type 0
+IsSetAt {P} sets set at = (kept : Option P) × (slice_get sets at ≡ Some (set, kept))
 
 -- each of the sets from an offset on is in one of the blocks, and unfinished
 abbrev pub AreLeft : {P : Type 0} → ℕ → ℕ → List (Kept P) → Type 0
@@ -118,12 +118,12 @@ abbrev pub IsUnfinished : {P : Type 0} → List (Kept P) → ℕ → Type 0
 IsUnfinished {P} sets at = (set : SetId) × (kept : P) × (slice_get sets at ≡ Some (set, Some kept))
 
 -- the sets with something else kept of one, or nothing
-abbrev pub with_kept : {P : Type 0} → List (Kept P) → ℕ → Option P → List (Kept P)
-with_kept [] at kept = []
-with_kept (set ∷ sets) zero kept = (set.0, kept) ∷ sets
-with_kept (set ∷ sets) (suc at) kept = set ∷ with_kept sets at kept
+abbrev pub with_kept_at : {P : Type 0} → List (Kept P) → ℕ → Option P → List (Kept P)
+with_kept_at [] at kept = []
+with_kept_at (set ∷ sets) zero kept = (set.0, kept) ∷ sets
+with_kept_at (set ∷ sets) (suc at) kept = set ∷ with_kept_at sets at kept
 
 -- a position, or where there is none, another
-abbrev pub first_of : Option ℕ → ℕ → Option ℕ
-first_of None last = Some last
-first_of (Some front) last = Some front
+abbrev pub front_or : Option ℕ → ℕ → Option ℕ
+front_or None last = Some last
+front_or (Some front) last = Some front

@@ -4,7 +4,7 @@ ghost use Rattle.std.specs.List.{list_all};
 ghost use Rattle.std.specs.FinMap.{is_sorted};
 ghost use Rattle.pac_value.specs.Sorted.{IsOffsetOf, IsGapFor};
 ghost use Rattle.pac_sets.specs.SetOrder.{set_cmp};
-ghost use Rattle.pac_sets.specs.Sets.{AddsSource, AreAllSources, AreFronts, AreLeft, AreSets, IsAt, IsFirstBelow, IsFirstOpen, IsFront, IsOpen, IsUnfinished, are_done, first_of, is_before, is_done, is_left, with_kept};
+ghost use Rattle.pac_sets.specs.Sets.{AddsSource, AreAllSources, AreFronts, AreLeft, AreSets, IsSetAt, IsFirstBelow, IsFirstOpen, IsFront, IsOpenSet, IsUnfinished, are_done, front_or, is_earlier, is_done, is_unfinished_in, with_kept_at};
 
 use crate::set_id::SetId;
 use pac_base::{Listed, NoMemory, copy_of, listed};
@@ -52,17 +52,17 @@ fn are_done<P>(sets: &[Kept<P>], batch: u64, blocks: &[u16]) -> bool
 }
 
 // Whether a set of the block is unfinished.
-fn is_left<P>(set: &Kept<P>, block: u16) -> bool
-    ensures { result ≡ is_left block set.now }
+fn is_unfinished_in<P>(set: &Kept<P>, block: u16) -> bool
+    ensures { result ≡ is_unfinished_in block set.now }
 {
     set.0.block == block && set.1.is_some()
 }
 
 // The first unfinished set of a block.
 fn front<P>(sets: &[Kept<P>], block: u16) -> Option<usize>
-    ensures { result ≡ position (is_left block) sets.now }
+    ensures { result ≡ position (is_unfinished_in block) sets.now }
 {
-    sets.iter().position(|set| is_left(set, block))
+    sets.iter().position(|set| is_unfinished_in(set, block))
 }
 
 /// The piece-sets of what is loaded, in their order, with what is kept of each until it is finished; and which of them may be
@@ -119,7 +119,7 @@ impl<P> Sets<P> {
     // Whether the first unfinished set of its block waits for nothing more.
     fn is_passed(&self, at: usize) -> bool
         requires { IsFront self.now.sets at }
-        ensures { IsTrue result ↔ IsOpen self.now.edges self.now.sets at }
+        ensures { IsTrue result ↔ IsOpenSet self.now.edges self.now.sets at }
     {
         let set = self.sets[at].0;
         let sources = &self.sources[usize::from(set.block)];
@@ -140,8 +140,8 @@ impl<P> Sets<P> {
 
     /// Where a set stands. `None`: it isn't there. A binary search.
     pub fn find(&self, set: SetId) -> Option<usize>
-        ensures found { IfSome result (IsAt self.now.sets set) }
-        ensures absent { IfNone result ((at : ℕ) → IsAt self.now.sets set at → ⊥) }
+        ensures found { IfSome result (IsSetAt self.now.sets set) }
+        ensures absent { IfNone result ((at : ℕ) → IsSetAt self.now.sets set at → ⊥) }
     {
         match search(&self.sets, set) {
             Ok(at) => Some(at),
@@ -185,10 +185,10 @@ impl<P> Sets<P> {
     // Whether the first unfinished set of its block is open and stands between the offset and the first so far.
     fn is_earlier_open(&self, from: usize, first: Option<usize>, at: usize) -> bool
         requires { IsFront self.now.sets at }
-        ensures passes { IsTrue result → (from ≤ at) × (is_before at first ≡ true) × IsOpen self.now.edges self.now.sets at }
-        ensures fails { from ≤ at → is_before at first ≡ true → IsOpen self.now.edges self.now.sets at → IsTrue result }
+        ensures passes { IsTrue result → (from ≤ at) × (is_earlier at first ≡ true) × IsOpenSet self.now.edges self.now.sets at }
+        ensures fails { from ≤ at → is_earlier at first ≡ true → IsOpenSet self.now.edges self.now.sets at → IsTrue result }
     {
-        from <= at && is_before(at, first) && self.is_passed(at)
+        from <= at && is_earlier(at, first) && self.is_passed(at)
     }
 }
 
@@ -213,15 +213,15 @@ impl<P: Drop> Sets<P> {
     /// Something else is kept of an unfinished set.
     pub fn keep(&mut self, at: usize, kept: P)
         requires { IsUnfinished self.old.sets at }
-        ensures { self.new ≡ record self.old { sets = with_kept self.old.sets at (Some kept) } }
+        ensures { self.new ≡ record self.old { sets = with_kept_at self.old.sets at (Some kept) } }
     {
         set_kept(&mut self.sets, at, Some(kept));
     }
 
     /// The set is finished: nothing is kept of it any more.
     pub fn finish(&mut self, at: usize)
-        requires { IsOpen self.old.edges self.old.sets at }
-        ensures { self.new ≡ record self.old { sets = with_kept self.old.sets at None } }
+        requires { IsOpenSet self.old.edges self.old.sets at }
+        ensures { self.new ≡ record self.old { sets = with_kept_at self.old.sets at None } }
     {
         let block = self.sets[at].0.block;
         set_kept(&mut self.sets, at, None);
@@ -232,7 +232,7 @@ impl<P: Drop> Sets<P> {
 // From now on this is kept of a set.
 fn set_kept<P: Drop>(sets: &mut Vec<Kept<P>>, at: usize, kept: Option<P>)
     requires { at < length sets.old.items }
-    ensures { sets.new.items ≡ with_kept sets.old.items at kept }
+    ensures { sets.new.items ≡ with_kept_at sets.old.items at kept }
 {
     sets[at].1 = kept;
 }
@@ -247,13 +247,13 @@ fn note_fronts<P>(fronts: &mut Vec<Option<usize>>, sets: &[Kept<P>], from: usize
 {
     for at in from..sets.len() {
         let block = usize::from(sets[at].0.block);
-        fronts[block] = first_of(fronts[block], at);
+        fronts[block] = front_or(fronts[block], at);
     }
 }
 
 // The first unfinished set, where there was one or not before this one came last.
-fn first_of(front: Option<usize>, last: usize) -> Option<usize>
-    ensures { result ≡ first_of front last }
+fn front_or(front: Option<usize>, last: usize) -> Option<usize>
+    ensures { result ≡ front_or front last }
 {
     match front {
         Some(front) => Some(front),
@@ -287,8 +287,8 @@ fn add_source(sources: &mut Vec<Vec<u16>>, edge: (u16, u16)) -> Result<(), NoMem
 }
 
 // Whether an offset comes before another, if there is one.
-fn is_before(at: usize, other: Option<usize>) -> bool
-    ensures { result ≡ is_before at other }
+fn is_earlier(at: usize, other: Option<usize>) -> bool
+    ensures { result ≡ is_earlier at other }
 {
     match other {
         Some(other) => at < other,

@@ -27,8 +27,8 @@ loop-at-preserved g c =
     let e = c.index-sets-at.result in
     let of = c.from-block.ensures ∙ ap (λ (x : Kept g.row.P.Denot). x.0.block) (sym c.index-sets-at.is) in
     record {
-      len = length-set c.loop-at.fronts.items c.from-block.result c.first_of.result ∙ c.loop-at.invariant.len;
+      len = length-set c.loop-at.fronts.items c.from-block.result c.front_or.result ∙ c.loop-at.invariant.len;
       past = omega arith;
-      seen = fronts_next (length c.args.fronts.now.items) c.loop-at.fronts.items c.args.sets.now c.args.from c.loop-at.at e c.from-block.result c.index.result.now c.first_of.result
-          c.loop-at.invariant.seen c.loop-at-test.true c.loop-at.auto.at c.requires.each c.index-sets-at.is of c.index.ensures c.first_of.ensures;
+      seen = fronts_next (length c.args.fronts.now.items) c.loop-at.fronts.items c.args.sets.now c.args.from c.loop-at.at e c.from-block.result c.index.result.now c.front_or.result
+          c.loop-at.invariant.seen c.loop-at-test.true c.loop-at.auto.at c.requires.each c.index-sets-at.is of c.index.ensures c.front_or.ensures;
     }

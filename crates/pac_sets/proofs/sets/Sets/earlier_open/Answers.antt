@@ -1,6 +1,6 @@
 -- The front of the block comes before the first so far, or doesn't.
 use Rattle.std.proofs.Common.{◌≡◌, ◌≤◌, ℕ, Some, None, sym, ap, ◌∙◌, subst}
-use Rattle.pac_sets.specs.Sets.{Setting, AreSets, AreFronts, IsOpen, is_before}
+use Rattle.pac_sets.specs.Sets.{Setting, AreSets, AreFronts, IsOpenSet, is_earlier}
 use Rattle.pac_sets.proofs.OpenLemmas.{stays, moves, front_there, front_read}
 use Rattle.pac_sets.proofs.sets.Sets.earlier_open.Goals as goal
 
@@ -26,7 +26,7 @@ returns-else-is_earlier_open g c =
     stays c.args.self.now.edges c.args.self.now.sets c.args.self.now.blocks kept c.args.block c.args.from c.args.first c.requires.first
     (λ j is least before it. let same : Some j ≡ Some c.in-Some.at = sym is ∙ front ∙ c.in-Some.is in
     let one : c.in-Some.at ≡ j = cc same in
-    let yes = c.is_earlier_open.ensures.fails (subst (λ (n : ℕ). c.args.from ≤ n) (sym one) least) (ap (λ (n : ℕ). is_before n c.args.first) one ∙ before) (subst (λ (n : ℕ). IsOpen c.args.self.now.edges c.args.self.now.sets n) (sym one) it) in
+    let yes = c.is_earlier_open.ensures.fails (subst (λ (n : ℕ). c.args.from ≤ n) (sym one) least) (ap (λ (n : ℕ). is_earlier n c.args.first) one ∙ before) (subst (λ (n : ℕ). IsOpenSet c.args.self.now.edges c.args.self.now.sets n) (sym one) it) in
     cc (yes, c.if-is_earlier_open.false))
 
 pub returns-in-None : goal.returns-in-None

@@ -1,7 +1,7 @@
 -- The sets stand as they stood, and so do the fronts.
 use Rattle.std.proofs.Common.{Some, sym, ap, ◌∙◌, subst}
 use Rattle.std.proofs.lemmas.Option.{slice_get_within}
-use Rattle.pac_sets.specs.Sets.{Setting, IsUnfinished, with_kept}
+use Rattle.pac_sets.specs.Sets.{Setting, IsUnfinished, with_kept_at}
 use Rattle.pac_sets.proofs.KeptLemmas.{holds_keep}
 use Rattle.pac_sets.proofs.sets.Sets.keep.Goals as goal
 
@@ -19,5 +19,5 @@ invariant_of-self g c =
 pub returns : goal.returns
 returns g c =
     let seen = c.self.view_is in
-    let sets = c.set_kept.ensures ∙ ap (λ (v : Setting g.row.P.Denot). with_kept v.sets c.args.at (Some c.args.kept)) seen in
+    let sets = c.set_kept.ensures ∙ ap (λ (v : Setting g.row.P.Denot). with_kept_at v.sets c.args.at (Some c.args.kept)) seen in
     λ i. record { edges = (seen i).edges; blocks = (seen i).blocks; sets = sets i }
