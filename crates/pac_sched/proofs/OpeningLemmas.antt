@@ -9,8 +9,10 @@ use Rattle.pac_plan.specs.Pairs.{AreEarlierLater}
 use Rattle.pac_ops.specs.declared.piece.PieceId.{PieceId}
 use Rattle.pac_sched.specs.declared.state.PieceState.{PieceState}
 use Rattle.pac_sched.specs.declared.state.PieceState.TheVariants.{Waiting}
-use Rattle.pac_sched.specs.Schedules.{Schedule, is_waiting, is_finished, some_passes, moved_by, put_back, reclaimed, ArePairsBelow}
+use Rattle.pac_sched.specs.Schedules.{Schedule, is_waiting, is_finished, some_passes, moved_by, put_back, reclaimed, ArePairsBelow, after_opening, nothing_open, AreDifferent}
+use Rattle.pac_sched.specs.Orders.{IsAscending}
 use Rattle.pac_sched.specs.Counts.{waits_at, finished_at, holds_up, passing, AreInside, IsUnhindered}
+use Rattle.pac_sched.proofs.PlaceLemmas.{before_differs}
 use Rattle.pac_sched.proofs.FollowerLemmas.{to_count, passing_le}
 use Rattle.pac_sched.proofs.StateLemmas.{none_passes, each_fails}
 
@@ -196,3 +198,23 @@ all_back new old p q len each = same_schedule new.pieces old.pieces p new.pairs 
     states : new.states ≡ map put_back old.states
     states = ext_get_or Waiting new.states (map put_back old.states) (len ∙ sym (length-map old.states put_back))
         (λ k kl. let ol : k < length old.states = subst (λ n. k < n) len kl in each k Waiting ol ∙ sym (get_or-map put_back old.states k Waiting Waiting ol))
+
+-- ---- a first set
+
+moved_none : (pairs : List (ℕ × ℕ)) → moved_by 0 pairs ≡ pairs
+moved_none [] = refl
+moved_none (p ∷ ps) = ap (λ (q : ℕ × ℕ). q ∷ moved_by 0 ps) (same p.0 p.1) ∙ ap (λ (qs : List (ℕ × ℕ)). p ∷ qs) (moved_none ps)
+  where
+    none : (n : ℕ) → 0 + n ≡ n
+    none n = omega arith
+
+    same : (a b : ℕ) → ◌≡◌ {A = ℕ × ℕ} (0 + a, 0 + b) (a, b)
+    same a b = ap (λ (n : ℕ). (n, 0 + b)) (none a) ∙ ap (λ (n : ℕ). (a, n)) (none b)
+
+-- a set that is opened where nothing is has its own pieces and pairs
+pub first_opened : (pieces : List PieceId) (pairs : List (ℕ × ℕ)) → after_opening nothing_open pieces pairs ≡ made pieces (replicate (length pieces) Waiting) pairs
+first_opened pieces pairs = ap (λ (ps : List (ℕ × ℕ)). made pieces (replicate (length pieces) Waiting) ps) (moved_none pairs)
+
+-- pieces that ascend are different
+pub ascending_differ : (pieces : List PieceId) → IsAscending pieces → AreDifferent pieces
+ascending_differ pieces up i j d lt inside = before_differs (get_or pieces i d) (get_or pieces j d) (up i j d lt inside)

@@ -1,6 +1,7 @@
 // What workers hand to one another can be sent between threads.
 use pac_ops::{Batch, Program};
 use pac_plan::{Access, Code, Plan, Preds, Shared};
+use pac_sched::Sched;
 use pac_tables::{HashedRows, OrderedRows};
 use pac_value::Env;
 use std::test::Fail;
@@ -22,11 +23,15 @@ fn accesses_can() -> bool {
     can_be_sent::<Access>() && can_be_sent::<Preds>() && can_be_sent::<Env>()
 }
 
+fn schedulers_can() -> bool {
+    can_be_sent::<Sched>()
+}
+
 #[test]
 fn what_workers_hand_over_can_be_sent(rt: HostRuntime) -> Result<(), Fail> {
     assert_eq!(rt;
-        (plans_can(), tables_can(), accesses_can()),
-        (true, true, true)
+        (plans_can(), tables_can(), accesses_can(), schedulers_can()),
+        (true, true, true, true)
     );
     Ok(())
 }
