@@ -1,5 +1,5 @@
 -- The first unfinished set of a block, and when it waits for nothing more.
-use Rattle.std.proofs.Common.{◌≡◌, ◌⊎◌, ◌<◌, ℕ, Bool, true, false, cond, not, T, List, [], ◌∷◌, length, get_or, Option, Some, None, is_some, refl, sym, ap, subst, ◌∙◌, arith, inl, inr}
+use Rattle.std.proofs.Common.{◌≡◌, ◌⊎◌, ◌<◌, ◌≤◌, ◌+◌, ℕ, Bool, true, false, cond, not, T, List, [], ◌∷◌, length, get_or, Option, Some, None, is_some, refl, sym, ap, subst, ◌∙◌, arith, inl, inr}
 use Rattle.std.specs.Prelude.{slice_get, position, ◌==◌, ◌↔◌, nat_lt, unwrap_or, IsTrue}
 use Rattle.std.specs.Ordering.{nat_cmp, ordering_then}
 use Rattle.std.specs.List.{position_or_len}
@@ -19,8 +19,9 @@ use Rattle.std.specs.Global.{Global}
 use Rattle.std.specs.Prelude.{Vec}
 use Rattle.pac_sets.specs.declared.set_id.SetId.{SetId}
 use Rattle.pac_sets.specs.SetOrder.{set_cmp}
-use Rattle.pac_sets.specs.Sets.{Kept, kept_of, WaitsForNothing, is_unfinished_in, is_done, are_done, AreSources, AreSets, AreAllSources, IsFront, IsOpenSet}
+use Rattle.pac_sets.specs.Sets.{Kept, kept_of, WaitsForNothing, is_unfinished_in, is_done, are_done, AreSources, AreSets, AreAllSources, IsFront, IsOpenSet, with_kept_at}
 use Rattle.pac_sets.proofs.SetLemmas.{kept_there, there_kept, less_there}
+use Rattle.pac_sets.proofs.KeptLemmas.{earlier_stay}
 
 -- a set of the block that is left
 left_gives : {P : Type 0} (block : ℕ) (set : Kept P) → is_unfinished_in block set ≡ true → (set.0.block ≡ block) × ((p : P) × (set.1 ≡ Some p))
@@ -174,3 +175,56 @@ left_stands {P} sets block at is = go (item_at sets at within)
           there = there ∙ (λ i. Some (e.0, gives.1.1 i));
           first = ap (λ (b : ℕ). position (is_unfinished_in b) sets) gives.0 ∙ is;
         }
+
+-- before an open set no unfinished one of its block stands, nor does once it is finished
+pub none_left : {P : Type 0} (edges : List (ℕ × ℕ)) (blocks at : ℕ) (sets new : List (Kept P)) → AreSets blocks sets → IsOpenSet edges sets at → new ≡ with_kept_at sets at None → (e : Kept P) → e ≡ get_or sets at e
+    → (k : ℕ) (other : Kept P) → k < at → slice_get new k ≡ Some other → is_unfinished_in e.0.block other ≡ false
+none_left {P} edges blocks at sets new are it is e read k other lt there =
+    let d : Kept P = (it.set, Some it.kept) in
+    let front = open_front sets are.ascend edges at it.set it.kept it.there it.passed in
+    let fails : is_unfinished_in it.set.block (get_or sets k d) ≡ false = (position-Some (is_unfinished_in it.set.block) sets at d front).2 k lt in
+    let stood : slice_get sets k ≡ Some other = sym (earlier_stay sets at None k lt) ∙ ap (λ s. slice_get s k) (sym is) ∙ there in
+    let own : e ≡ d = read ∙ get_or_from_slice_get sets at d e it.there in
+    (λ i. is_unfinished_in ((ap (λ (x : Kept P). x.0.block) own) i) (sym (get_or_from_slice_get sets k other d stood) i)) ∙ fails
+
+-- the block of an open set is one of the blocks
+pub open_block : {P : Type 0} (edges : List (ℕ × ℕ)) (blocks at block : ℕ) (sets : List (Kept P)) → AreSets blocks sets → IsOpenSet edges sets at → (e : Kept P) → e ≡ get_or sets at e → block ≡ e.0.block → block < blocks
+open_block {P} edges blocks at block sets are it e read of =
+    let d : Kept P = (it.set, Some it.kept) in
+    let own : e ≡ d = read ∙ get_or_from_slice_get sets at d e it.there in
+    subst (λ (n : ℕ). n < blocks) (sym (of ∙ ap (λ (x : Kept P). x.0.block) own)) (are.inside at d it.there)
+
+-- ---- a search from an offset on, before which nothing passes
+
+abbrev pub FailsBefore : {X : Type 0} → (X → Bool) → List X → ℕ → Type 0
+FailsBefore {X} p xs n = (k : ℕ) (x : X) → k < n → slice_get xs k ≡ Some x → p x ≡ false
+
+-- what passes next is first
+pub first_found : {X : Type 0} (p : X → Bool) (xs : List X) (at : ℕ) (e : X) → FailsBefore p xs at → e ≡ get_or xs at e → at < length xs → p e ≡ true → Some at ≡ position p xs
+first_found p xs at e fails read within passes =
+    sym (position_is p xs at e within (ap p (sym read) ∙ passes) (λ k lt. fails k (get_or xs k e) lt (slice_get-get_or xs k e (omega arith))))
+
+-- what fails next is one more
+pub fails_next : {X : Type 0} (p : X → Bool) (xs : List X) (at : ℕ) (e : X) → FailsBefore p xs at → e ≡ get_or xs at e → p e ≡ false → FailsBefore p xs (at + 1)
+fails_next {X} p xs at e fails read failed k x lt there = go (cases_order k at)
+  where
+    go : (k ≡ at) ⊎ ((k < at) ⊎ (at < k)) → p x ≡ false
+    go (inl same) = ap p (sym (get_or_from_slice_get xs k x e there) ∙ ap (λ n. get_or xs n e) same ∙ sym read) ∙ failed
+    go (inr (inl before)) = fails k x before there
+    go (inr (inr after)) = absurd (omega arith)
+
+-- where all fail, none is found
+pub none_found : {X : Type 0} (p : X → Bool) (xs : List X) (at : ℕ) → FailsBefore p xs at → length xs ≤ at → None ≡ position p xs
+none_found {X} p xs at fails all = go (position p xs) refl
+  where
+    go : (o : Option ℕ) → position p xs ≡ o → None ≡ position p xs
+    go None is = sym is
+    go (Some i) is = absurd (found (item_at xs i (position_within p xs i is)))
+      where
+        found : (x : X) × (slice_get xs i ≡ Some x) → ⊥
+        found (x, there) =
+            let passes : p x ≡ true = ap p (sym (get_or_from_slice_get xs i x x there)) ∙ (position-Some p xs i x is).1 in
+            let within = position_within p xs i is in
+            let fails_there : p x ≡ false = fails i x (omega arith) there in
+            let both : true ≡ false = sym passes ∙ fails_there in
+            cc both

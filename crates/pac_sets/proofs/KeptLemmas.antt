@@ -37,6 +37,13 @@ numbers_stay (s ∷ sets) zero kept (suc j) e h = (e.1, h)
 numbers_stay (s ∷ sets) (suc at) kept zero e h = (e.1, h)
 numbers_stay (s ∷ sets) (suc at) kept (suc j) e h = numbers_stay sets at kept j e h
 
+-- what stands before it stays
+pub earlier_stay : {P : Type 0} (sets : List (Kept P)) (at : ℕ) (kept : Option P) (k : ℕ) → k < at → slice_get (with_kept_at sets at kept) k ≡ slice_get sets k
+earlier_stay [] at kept k lt = refl
+earlier_stay (s ∷ sets) zero kept k lt = absurd (omega arith)
+earlier_stay (s ∷ sets) (suc at) kept zero lt = refl
+earlier_stay (s ∷ sets) (suc at) kept (suc k) lt = earlier_stay sets at kept k (omega arith)
+
 -- and so does their order
 below_stays : {P : Type 0} (set : SetId) (sets : List (Kept P)) (at : ℕ) (kept : Option P) → below_all set_cmp set (with_kept_at sets at kept) ≡ below_all set_cmp set sets
 below_stays set [] at kept = refl

@@ -1,10 +1,10 @@
 // Piece-sets in order, and which of them may be opened.
-ghost use Rattle.std.specs.Prelude.{◌≡◌, ◌↔◌, ◌<◌, ◌≤◌, ◌+◌, IsTrue, true, IfOk, IfErr, IfSome, IfNone, ℕ, OnOk, OnErr, T, length, slice_get, slice_set, Some, None, position, [], ◌++◌, take};
+ghost use Rattle.std.specs.Prelude.{◌≡◌, ◌↔◌, ◌<◌, ◌≤◌, ◌+◌, IsTrue, true, IfOk, IfErr, IfSome, IfNone, ℕ, OnOk, OnErr, T, false, length, slice_get, slice_set, Some, None, position, [], ◌++◌, take};
 ghost use Rattle.std.specs.List.{list_all};
 ghost use Rattle.std.specs.FinMap.{is_sorted};
 ghost use Rattle.pac_value.specs.Sorted.{IsOffsetOf, IsGapFor};
 ghost use Rattle.pac_sets.specs.SetOrder.{set_cmp};
-ghost use Rattle.pac_sets.specs.Sets.{AddsSource, AreAllSources, AreFronts, AreLeft, AreSets, IsSetAt, IsFirstBelow, IsFirstOpen, IsFront, IsOpenSet, IsUnfinished, are_done, front_or, is_earlier, is_done, is_unfinished_in, with_kept_at};
+ghost use Rattle.pac_sets.specs.Sets.{AddsSource, AreAllSources, AreFronts, AreLeft, AreSets, IsSetAt, IsFirstBelow, IsFirstOpen, IsFront, IsOpenSet, IsUnfinished, Kept, are_done, front_or, is_earlier, is_done, is_unfinished_in, with_kept_at};
 
 use crate::set_id::SetId;
 use pac_base::{Listed, NoMemory, copy_of, listed};
@@ -58,11 +58,17 @@ fn is_unfinished_in<P>(set: &Kept<P>, block: u16) -> bool
     set.0.block == block && set.1.is_some()
 }
 
-// The first unfinished set of a block.
-fn front<P>(sets: &[Kept<P>], block: u16) -> Option<usize>
+// The first unfinished set of a block, where none stands before an offset. It looks at the sets from there on.
+fn front_from<P>(sets: &[Kept<P>], block: u16, from: usize) -> Option<usize>
+    requires { (k : ℕ) (set : Kept P) → k < from → slice_get sets.now k ≡ Some set → is_unfinished_in block set ≡ false }
     ensures { result ≡ position (is_unfinished_in block) sets.now }
 {
-    sets.iter().position(|set| is_unfinished_in(set, block))
+    for at in from..sets.len() {
+        if is_unfinished_in(&sets[at], block) {
+            return Some(at);
+        }
+    }
+    None
 }
 
 /// The piece-sets of what is loaded, in their order, with what is kept of each until it is finished; and which of them may be
@@ -218,14 +224,14 @@ impl<P: Drop> Sets<P> {
         set_kept(&mut self.sets, at, Some(kept));
     }
 
-    /// The set is finished: nothing is kept of it any more.
+    /// The set is finished: nothing is kept of it any more. It looks for the next unfinished set of the block from there on.
     pub fn finish(&mut self, at: usize)
         requires { IsOpenSet self.old.edges self.old.sets at }
         ensures { self.new ≡ record self.old { sets = with_kept_at self.old.sets at None } }
     {
         let block = self.sets[at].0.block;
         set_kept(&mut self.sets, at, None);
-        self.fronts[usize::from(block)] = front(&self.sets, block);
+        self.fronts[usize::from(block)] = front_from(&self.sets, block, at);
     }
 }
 
