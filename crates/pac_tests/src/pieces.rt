@@ -1,5 +1,6 @@
 // Which keys are bounded in procedures that were worked by hand, and which accesses conflict.
 mod bank;
+mod order;
 
 use pac_base::listed;
 use pac_batch::{preds, queue_preds};

@@ -11,7 +11,7 @@ use pac_tables::Write;
 use pac_value::{Key, Value};
 use std::alloc::Global;
 
-const BANK: &[u8] = b"table Family(key int, spouse int);
+pub(super) const BANK: &[u8] = b"table Family(key int, spouse int);
 table Current(key int, value int);
 table Saving(key int, value int);
 table Stats(key int, count int);

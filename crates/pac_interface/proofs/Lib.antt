@@ -1,0 +1,3 @@
+pub mod VariableLemmas
+pub mod PushLemmas
+pub mod OutputLemmas
