@@ -33,7 +33,8 @@ fn interface_is_so(interfaces: &[Listed<Interface>], row: &Row) -> bool {
         return false;
     };
     match of_proc.as_slice().get(row.1) {
-        Some(interface) => interface.inputs.as_slice() == row.2 && interface.outputs.as_slice() == row.3,
+        Some(interface) => interface.inputs.as_slice() == row.2
+            && interface.outputs.as_slice() == row.3,
         None => false,
     }
 }
@@ -120,7 +121,15 @@ fn loaded(alloc: Global) -> Option<Vec<Kept<u8>>>
     ensures left { IfSome result (λ sets. AreLeft 6 0 sets.items) }
 {
     let sets = vec![in alloc;
-        set(0, 2), set(0, 3), set(0, 4), set(0, 5), set(1, 0), set(2, 0), set(2, 1), set(2, 2), set(2, 4)
+        set(0, 2),
+        set(0, 3),
+        set(0, 4),
+        set(0, 5),
+        set(1, 0),
+        set(2, 0),
+        set(2, 1),
+        set(2, 2),
+        set(2, 4),
     ];
     sets.ok()
 }
