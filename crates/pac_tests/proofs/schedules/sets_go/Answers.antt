@@ -14,5 +14,5 @@ pub open_set-requires-2-clause-distinct : goal.open_set-requires-2-clause-distin
 open_set-requires-2-clause-distinct c =
     let front : c.open_set.new.self.pieces ≡ take c.args.cut c.args.pieces.now = ap (λ (s : Schedule). s.pieces) c.in-Ok.ensures.ok ∙ ap (λ (s : Schedule). s.pieces ++ take c.args.cut c.args.pieces.now) c.new-sched.ensures in
     let all : c.open_set.new.self.pieces ++ take (length c.args.pieces.now - c.args.cut) (drop c.args.cut c.args.pieces.now) ≡ c.args.pieces.now
-        = ap (λ (xs : List PieceId). c.open_set.new.self.pieces ++ xs) (take_rest c.args.pieces.now c.args.cut) ∙ ap (λ (xs : List PieceId). xs ++ drop c.args.cut c.args.pieces.now) front ∙ take-append-drop c.args.cut c.args.pieces.now in
+    = ap (λ (xs : List PieceId). c.open_set.new.self.pieces ++ xs) (take_rest c.args.pieces.now c.args.cut) ∙ ap (λ (xs : List PieceId). xs ++ drop c.args.cut c.args.pieces.now) front ∙ take-append-drop c.args.cut c.args.pieces.now in
     subst (λ (xs : List PieceId). AreDifferent xs) (sym all) (numbered c.args.pieces.now c.requires.numbers)
