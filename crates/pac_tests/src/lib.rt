@@ -30,3 +30,5 @@ mod sizes;
 mod streams;
 #[cfg(test)]
 mod tokens;
+#[cfg(test)]
+mod undone;

@@ -8,7 +8,7 @@ use pac_value::{Key, Row, Value};
 use std::alloc::Global;
 use std::test::Fail;
 
-fn row_of(alloc: Global, number: i64) -> Result<Row, NoMemory> {
+pub(crate) fn row_of(alloc: Global, number: i64) -> Result<Row, NoMemory> {
     Ok(Row::of(vec![in alloc; Value::Int(number)]?))
 }
 
@@ -29,12 +29,12 @@ fn put_numbers(alloc: Global, rows: &mut OrderedRows, count: u32) -> Result<(), 
 }
 
 // How many rows the first table has, if there is one.
-fn count_of<R: Rows>(rows: &R) -> u64 {
+pub(crate) fn count_of<R: Rows>(rows: &R) -> u64 {
     if rows.tables() == 0 { 0 } else { rows.count(0) }
 }
 
 // The number at a key of the first table.
-fn number_at<R: Rows>(rows: &R, key: i64) -> Option<i64> {
+pub(crate) fn number_at<R: Rows>(rows: &R, key: i64) -> Option<i64> {
     if rows.tables() == 0 {
         return None;
     }
