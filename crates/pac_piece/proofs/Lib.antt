@@ -6,5 +6,6 @@ pub mod FitLemmas
 pub mod RunnableLemmas
 pub mod MeaningLemmas
 pub mod WithinLemmas
+pub mod TableLemmas
 pub mod ArgumentWork
 pub mod CopyLemmas
