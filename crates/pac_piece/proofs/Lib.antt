@@ -7,5 +7,6 @@ pub mod RunnableLemmas
 pub mod MeaningLemmas
 pub mod WithinLemmas
 pub mod TableLemmas
+pub mod AlikeLemmas
 pub mod ArgumentWork
 pub mod CopyLemmas

@@ -23,7 +23,7 @@ use Rattle.pac_piece.specs.Frames.{defaulted, done_or_defaulted, after_op, cell_
 use Rattle.pac_piece.specs.PieceLaws.{WritesWithinAccess}
 
 -- what an operation doesn't define stays
-keeps : (op : FlatOp) (s : State) (y : ℕ) → is_var y (defined_variable op.kind) ≡ false → get (after_op op s).env y ≡ get s.env y
+pub keeps : (op : FlatOp) (s : State) (y : ℕ) → is_var y (defined_variable op.kind) ≡ false → get (after_op op s).env y ≡ get s.env y
 keeps op s y e = go (all_hold s.env op.conds) refl (done op.kind s) refl
   where
     other : (x : Option ℕ) (ty : Ty) → is_var y x ≡ false → get (defaulted x ty s).env y ≡ get s.env y

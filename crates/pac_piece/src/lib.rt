@@ -13,7 +13,8 @@
 //!   applied to the state, once writes and values are put in.
 //!
 //! [`arguments_run`] is a law too: in a block to which no edge leads, work with the arguments and with copies of rows that
-//! [fit](rows_fit) can be run.
+//! [fit](rows_fit) can be run; [`arguments_run_on`] says the same of tables whose rows fit. [`code_means_piece`] says what code
+//! leaves over any rows, and that it is the same over the tables and over copies of the rows of its access.
 //!
 //! ```
 //! let work = Work { piece, code, env, rows };
@@ -44,7 +45,7 @@ mod run_op;
 mod source;
 mod work;
 
-pub use laws::{arguments_run, work_means_piece};
+pub use laws::{arguments_run, arguments_run_on, code_means_piece, work_means_piece};
 pub use on_tables::{PieceOutcome, run_on};
 pub use rows::rows_fit;
 pub use work::{Done, Work, is_value, run};
