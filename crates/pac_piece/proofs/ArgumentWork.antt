@@ -1,4 +1,4 @@
--- Work whose inputs are the arguments of its transaction can be run.
+-- The code of a piece whose inputs are the arguments of its transaction can be run.
 use Rattle.std.proofs.Common.{◌≡◌, ℕ, ◌+◌, ◌<◌, ◌==◌, Bool, true, false, cond, List, [], ◌∷◌, map, length, Option, Some, None, refl, sym, ap, ◌∙◌, subst, ◌⊎◌, inl, inr, ⊎_elim, arith}
 use Rattle.std.specs.Prelude.{slice_get, IsSomeAnd}
 use Rattle.std.specs.Option.{option_map}
@@ -12,22 +12,26 @@ use Rattle.pac_base.proofs.ItemLemmas.{there}
 use Rattle.pac_value.specs.declared.values.Value.{Value}
 use Rattle.pac_value.specs.Values.{type_of}
 use Rattle.pac_value.specs.Expressions.{Values}
-use Rattle.pac_value.specs.State.{Tables}
+use Rattle.pac_value.specs.State.{RowValues, Tables, cell_cmp}
 use Rattle.pac_ops.specs.declared.program.FlatOp.{FlatOp}
 use Rattle.pac_ops.specs.declared.program.Program.{Program}
+use Rattle.pac_ops.specs.declared.shapes.TableTypes.{TableTypes}
 use Rattle.pac_ops.specs.declared.transaction.Txn.{Txn}
 use Rattle.pac_ops.specs.declared.transaction.Txn.TheVariants.{Call as ACall, AdHoc}
+use Rattle.pac_ops.specs.Shapes.{RowsFit}
 use Rattle.pac_ops.specs.Uses.{defined_variable, Defines}
 use Rattle.pac_ops.specs.Operations.{opening, with_values}
 use Rattle.pac_ops.specs.Transactions.{txn_state, call_state}
 use Rattle.pac_ops.specs.Effects.{NumberedOp, numbered_from, is_var, defined_in}
 use Rattle.pac_ops.proofs.DefinedLemmas.{undefined_meaning, var-named}
 use Rattle.pac_ops.proofs.RecordLemmas.{whole_meaning, number_at}
+use Rattle.pac_plan.specs.declared.code.Code.{Code}
 use Rattle.pac_plan.specs.declared.parts.PlanParts.{PlanParts}
-use Rattle.pac_plan.specs.Analysis.{IsPlan}
+use Rattle.pac_plan.specs.Analysis.{IsPlan, HasBlockEdge}
 use Rattle.pac_plan.specs.Worlds.{txn_args}
-use Rattle.pac_plan.specs.Codes.{TxnFitsPlan}
+use Rattle.pac_plan.specs.Codes.{ArgumentsAreInputs, TxnFitsPlan, code_in}
 use Rattle.pac_piece.specs.Frames.{AreAmong}
+use Rattle.pac_piece.specs.Runnable.{IsRunnableOver}
 
 insert-at : (env : Values) (x : ℕ) (v : Value) (y : ℕ) → get (insert env x v) y ≡ cond (y == x) (Some v) (get env y)
 insert-at env x v y = get-insert nat_cmp_total env x v y ∙ ap (λ b. cond b (Some v) (get env y)) (sym (unsigned_ties y x))
@@ -73,3 +77,24 @@ arguments_stay parts is (ACall call) fits rows x v e =
 
         kept : defined_in (numbered_from 0 program.ops) x ≡ true → ⊥
         kept d = let i = defines program.ops x d in let after = (is.programs call.proc program at).after i.0 x i.1 in omega (arith, below, after)
+
+-- ---- the code of such a piece
+
+pub none_fit : (tables : List TableTypes) → RowsFit tables empty
+none_fit tables cell row e = let none : ◌≡◌ {A = Option RowValues} None (Some row) = sym (get-empty cell_cmp cell) ∙ e in absurd cc
+
+-- it can be run over rows that fit; its transaction over no rows leaves the arguments as inputs, as over any
+abbrev pub over_arguments : (parts : PlanParts) → IsPlan parts → (txn : Txn) → TxnFitsPlan parts txn → (block : ℕ) → ((from : ℕ) → HasBlockEdge parts from block → ⊥) → ArgumentsAreInputs
+    → (code : Code) (env : Values) (base : Tables) → code ≡ code_in parts block txn → env ≡ with_values 0 (txn_args (Some txn)) empty → RowsFit parts.tables base → IsRunnableOver block code env base
+over_arguments parts is txn fits block entry are_inputs code env base is_code is_env rows = record {
+  parts = parts;
+  is_plan = is;
+  txn = txn;
+  fits = fits;
+  code = is_code;
+  before = empty;
+  before_fit = none_fit parts.tables;
+  inputs = λ x used free. ap (λ env. get env x) is_env ∙ are_inputs parts is block entry txn empty x used free;
+  only = subst (λ (env : Values). AreAmong env (txn_state parts.programs txn empty).env) (sym is_env) (arguments_stay parts is txn fits empty);
+  rows = rows;
+}

@@ -6,5 +6,7 @@ pub mod FitLemmas
 pub mod RunnableLemmas
 pub mod MeaningLemmas
 pub mod WithinLemmas
+pub mod TableLemmas
+pub mod AlikeLemmas
 pub mod ArgumentWork
 pub mod CopyLemmas

@@ -23,10 +23,9 @@ use Rattle.pac_plan.specs.PieceFits.{records_in}
 use Rattle.pac_plan.specs.Worlds.{ops_of, types_in, home_or}
 use Rattle.pac_plan.specs.Codes.{code_ops, piece_ops}
 use Rattle.pac_plan.proofs.AdHocLemmas.{adhoc_pieces}
-use Rattle.pac_piece.specs.declared.work.Work.{Work}
 use Rattle.pac_piece.specs.Frames.{after_op, after_ops, notes_after}
 use Rattle.pac_piece.specs.Values.{begun}
-use Rattle.pac_piece.specs.PieceLaws.{WorkMeansPiece}
+use Rattle.pac_piece.specs.PieceLaws.{CodeMeansPiece, WorkMeansPiece}
 use Rattle.pac_piece.proofs.FitLemmas.{same_meaning, same_notes}
 use Rattle.pac_piece.proofs.RunnableLemmas.{typable_ops}
 use Rattle.pac_piece.proofs.RunLemmas.{record_after, record_silent}
@@ -54,38 +53,37 @@ part_silent parts b txn n (c ∷ cs) s = go (home_or parts (accessed_table (reco
         ∙ later (flat_done [] (record_op c) s)
     go false later = later s
 
-module _ (parts : PlanParts) (is : IsPlan parts) (work : Work) where
+module _ (parts : PlanParts) (is : IsPlan parts) (block number : ℕ) (s : State) where
   -- of a call
   call_means : (call : Call) (o : Option Program) → slice_get parts.programs call.proc ≡ o → IsSomeAnd (option_map (λ (program : Program). program.params) o) (λ types. map type_of call.args ≡ types)
-      → (after_ops (part (λ o. block_in parts (Operation call.proc o.0)) work.piece.block (numbered_from 0 (ops_of o))) (begun work)
-      ≡ numbered_meaning (types_in o) (part (λ o. block_in parts (Operation call.proc o.0)) work.piece.block (numbered_from 0 (ops_of o))) (begun work))
-      × (first_note (notes_after work.piece.txn (part (λ o. block_in parts (Operation call.proc o.0)) work.piece.block (numbered_from 0 (ops_of o))) (begun work))
-      ≡ first_note (numbered_notes (types_in o) work.piece.txn (part (λ o. block_in parts (Operation call.proc o.0)) work.piece.block (numbered_from 0 (ops_of o))) (begun work)))
+      → (after_ops (part (λ o. block_in parts (Operation call.proc o.0)) block (numbered_from 0 (ops_of o))) s
+      ≡ numbered_meaning (types_in o) (part (λ o. block_in parts (Operation call.proc o.0)) block (numbered_from 0 (ops_of o))) s)
+      × (first_note (notes_after number (part (λ o. block_in parts (Operation call.proc o.0)) block (numbered_from 0 (ops_of o))) s)
+      ≡ first_note (numbered_notes (types_in o) number (part (λ o. block_in parts (Operation call.proc o.0)) block (numbered_from 0 (ops_of o))) s))
   call_means call None at f = absurd f
   call_means call (Some program) at f =
-      let each = typable_ops parts is call.proc program at work.piece.block in (
-        same_meaning parts.tables program.vars _ (begun work) each,
-        ap first_note (same_notes parts.tables program.vars work.piece.txn _ (begun work) each),
+      let each = typable_ops parts is call.proc program at block in (
+        same_meaning parts.tables program.vars _ s each,
+        ap first_note (same_notes parts.tables program.vars number _ s each),
       )
 
   -- of records, whatever their numbers
   record_means : (records : List Change)
-      → (after_ops (numbered_from 0 (map record_op (records_in parts work.piece.block records))) (begun work) ≡ numbered_meaning [] (piece_ops parts work.piece.block (AdHoc records)) (begun work))
-      × (first_note (notes_after work.piece.txn (numbered_from 0 (map record_op (records_in parts work.piece.block records))) (begun work)) ≡ first_note (numbered_notes [] work.piece.txn (piece_ops parts work.piece.block (AdHoc records)) (begun work)))
+      → (after_ops (numbered_from 0 (map record_op (records_in parts block records))) s ≡ numbered_meaning [] (piece_ops parts block (AdHoc records)) s)
+      × (first_note (notes_after number (numbered_from 0 (map record_op (records_in parts block records))) s) ≡ first_note (numbered_notes [] number (piece_ops parts block (AdHoc records)) s))
   record_means records = (
-    records_after 0 (records_in parts work.piece.block records) (begun work) ∙ sym (adhoc_pieces parts [] work.piece.block 0 records (begun work)),
-    ap first_note (records_silent work.piece.txn 0 (records_in parts work.piece.block records) (begun work) ∙ sym (part_silent parts work.piece.block work.piece.txn 0 records (begun work))),
+    records_after 0 (records_in parts block records) s ∙ sym (adhoc_pieces parts [] block 0 records s),
+    ap first_note (records_silent number 0 (records_in parts block records) s ∙ sym (part_silent parts block number 0 records s)),
   )
 
+pub code_means_piece : CodeMeansPiece
+code_means_piece parts is (ACall call) fits block number s = call_means parts is block number s call (slice_get parts.programs call.proc) refl
+    (subst (λ o. IsSomeAnd o (λ types. map type_of call.args ≡ types)) (slice_get-map (λ (program : Program). program.params) parts.programs call.proc) fits)
+code_means_piece parts is (AdHoc records) fits block number s = record_means parts is block number s records
+
 pub work_means_piece : WorkMeansPiece
-work_means_piece parts is (ACall call) fits work code =
-    let h = call_means parts is work call (slice_get parts.programs call.proc) refl
-    (subst (λ o. IsSomeAnd o (λ types. map type_of call.args ≡ types)) (slice_get-map (λ (program : Program). program.params) parts.programs call.proc) fits) in (
-      ap (λ (c : Code). after_ops (code_ops c) (begun work)) code ∙ h.0,
-      ap (λ (c : Code). first_note (notes_after work.piece.txn (code_ops c) (begun work))) code ∙ h.1,
-    )
-work_means_piece parts is (AdHoc records) fits work code =
-    let h = record_means parts is work records in (
+work_means_piece parts is txn fits work code =
+    let h = code_means_piece parts is txn fits work.piece.block work.piece.txn (begun work) in (
       ap (λ (c : Code). after_ops (code_ops c) (begun work)) code ∙ h.0,
       ap (λ (c : Code). first_note (notes_after work.piece.txn (code_ops c) (begun work))) code ∙ h.1,
     )

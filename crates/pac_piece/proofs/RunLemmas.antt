@@ -1,7 +1,7 @@
 -- The operations of a piece one after another.
 use Rattle.std.proofs.Common.{◌≡◌, ℕ, Bool, true, false, ◌||◌, List, [], ◌∷◌, map, Option, Some, None, Result, Ok, refl, sym, ap, ap₂, ◌∙◌, subst}
 use Rattle.std.specs.Prelude.{is_some}
-use Rattle.std.specs.FinMap.{get, empty, get-empty}
+use Rattle.std.specs.FinMap.{get, get-empty}
 use Rattle.std.specs.Ordering.{nat_cmp}
 use Rattle.pac_value.specs.declared.values.Key.{Key}
 use Rattle.pac_value.specs.declared.values.Key.TheVariants.{Int as IntKey, Text as TextKey}
@@ -10,7 +10,7 @@ use Rattle.pac_value.specs.declared.expr.Expr.{Lit}
 use Rattle.pac_value.specs.declared.expr.Trap.{Trap}
 use Rattle.pac_value.specs.Values.{key_value, as_key}
 use Rattle.pac_value.specs.Expressions.{Values, value_step, ◌>>=◌}
-use Rattle.pac_value.specs.State.{RowValues}
+use Rattle.pac_value.specs.State.{RowValues, Tables}
 use Rattle.pac_value.proofs.ByForms.{fold-Lit}
 use Rattle.pac_ops.specs.declared.transaction.Change.{Change}
 use Rattle.pac_ops.specs.declared.transaction.Change.TheVariants.{Put as PutRow, Delete as DeleteRow}
@@ -24,8 +24,8 @@ use Rattle.pac_ops.proofs.StateLemmas.{least_none, least-assoc, first-append}
 use Rattle.pac_tables.specs.declared.writes.Write.{Write}
 use Rattle.pac_tables.specs.Written.{IsOnce, is_written, written}
 use Rattle.pac_plan.specs.Codes.{code_ops}
-use Rattle.pac_piece.specs.declared.work.Work.{Work}
-use Rattle.pac_piece.specs.Values.{IsOutcomeOf}
+use Rattle.pac_plan.specs.declared.code.Code.{Code}
+use Rattle.pac_piece.specs.Values.{IsOutcomeOver, state_over}
 use Rattle.pac_piece.specs.declared.frame.Frame.{Frame}
 use Rattle.pac_piece.specs.Frames.{state_seen, done_or_defaulted, after_op, after_ops, notes_after, change_row, give_value, cell_changed, var_given, is_cell, StepsTo, RunsTo, RunsOn, IsFreshFrame}
 use Rattle.pac_piece.specs.Records.{record_cell, record_row, ChangesOne}
@@ -36,14 +36,14 @@ or-shift true true r = refl
 or-shift true false r = refl
 or-shift false w r = refl
 
-module _ (rows : List Write) (txn : ℕ) where
+module _ (base : Tables) (txn : ℕ) where
   -- nothing was executed
-  pub starts : (os : List NumberedOp) (frame : Frame) → IsFreshFrame frame → RunsOn rows txn os (state_seen rows frame) os frame
+  pub starts : (os : List NumberedOp) (frame : Frame) → IsFreshFrame frame → RunsOn base txn os (state_seen base frame) os frame
   starts os frame fresh = record {
     state = refl;
-    note = ap (λ n. least n (first_note (notes_after txn os (state_seen rows frame)))) fresh.note;
-    changed = λ a. ap (λ ws. is_written ws a || change_row os (state_seen rows frame) a) fresh.writes;
-    given = λ x. ap (λ v. is_some v || give_value os (state_seen rows frame) x) (none x);
+    note = ap (λ n. least n (first_note (notes_after txn os (state_seen base frame)))) fresh.note;
+    changed = λ a. ap (λ ws. is_written ws a || change_row os (state_seen base frame) a) fresh.writes;
+    given = λ x. ap (λ v. is_some v || give_value os (state_seen base frame) x) (none x);
     kept = λ x v e. let wrong : None ≡ Some v = sym (none x) ∙ e in cc;
     once = subst (λ ws. IsOnce ws) (sym fresh.writes) tt;
   }
@@ -52,17 +52,17 @@ module _ (rows : List Write) (txn : ℕ) where
       none x = ap (λ m. get m x) fresh.outs ∙ get-empty nat_cmp x
 
   -- one more was
-  pub goes_on : (os : List NumberedOp) (s : State) (o : NumberedOp) (rest : List NumberedOp) (old new : Frame) → RunsOn rows txn os s (o ∷ rest) old → StepsTo rows txn o old new → RunsOn rows txn os s rest new
+  pub goes_on : (os : List NumberedOp) (s : State) (o : NumberedOp) (rest : List NumberedOp) (old new : Frame) → RunsOn base txn os s (o ∷ rest) old → StepsTo base txn o old new → RunsOn base txn os s rest new
   goes_on os s o rest old new on step = record {
     state = ap (after_ops rest) step.state ∙ on.state;
     note = ap₂ (λ n t. least n (first_note (notes_after txn rest t))) step.note step.state
-        ∙ sym (least-assoc old.note (first_note (note_at txn o.0 (flat_reason o.1 (state_seen rows old)))) (first_note (notes_after txn rest (after_op o.1 (state_seen rows old)))))
-        ∙ ap (least old.note) (sym (first-append (note_at txn o.0 (flat_reason o.1 (state_seen rows old))) (notes_after txn rest (after_op o.1 (state_seen rows old)))))
+        ∙ sym (least-assoc old.note (first_note (note_at txn o.0 (flat_reason o.1 (state_seen base old)))) (first_note (notes_after txn rest (after_op o.1 (state_seen base old)))))
+        ∙ ap (least old.note) (sym (first-append (note_at txn o.0 (flat_reason o.1 (state_seen base old))) (notes_after txn rest (after_op o.1 (state_seen base old)))))
         ∙ on.note;
     changed = λ a. ap₂ (λ b t. b || change_row rest t a) (step.changed a) step.state
-        ∙ or-shift (is_cell a (cell_changed o.1 (state_seen rows old))) (is_written old.writes.items a) (change_row rest (after_op o.1 (state_seen rows old)) a) ∙ on.changed a;
+        ∙ or-shift (is_cell a (cell_changed o.1 (state_seen base old))) (is_written old.writes.items a) (change_row rest (after_op o.1 (state_seen base old)) a) ∙ on.changed a;
     given = λ x. ap₂ (λ b t. b || give_value rest t x) (step.given x) step.state
-        ∙ or-shift (is_var x (var_given o.1 (state_seen rows old))) (is_some (get old.outs x)) (give_value rest (after_op o.1 (state_seen rows old)) x) ∙ on.given x;
+        ∙ or-shift (is_var x (var_given o.1 (state_seen base old))) (is_some (get old.outs x)) (give_value rest (after_op o.1 (state_seen base old)) x) ∙ on.given x;
     kept = step.kept on.kept;
     once = step.once;
   }
@@ -72,7 +72,7 @@ module _ (rows : List Write) (txn : ℕ) where
   or-none false = refl
 
   -- all were
-  pub ends : (os : List NumberedOp) (s : State) (frame : Frame) → RunsOn rows txn os s [] frame → RunsTo rows txn os s frame
+  pub ends : (os : List NumberedOp) (s : State) (frame : Frame) → RunsOn base txn os s [] frame → RunsTo base txn os s frame
   ends os s frame on = record {
     state = on.state;
     note = sym (least_none frame.note) ∙ on.note;
@@ -116,17 +116,16 @@ pub record_silent : (change : Change) (s : State) → flat_reason (record_op cha
 record_silent (PutRow table key row) s = ap reason_in (record_done (PutRow table key row) s)
 record_silent (DeleteRow table key) s = ap reason_in (record_done (DeleteRow table key) s)
 
-pub record_steps : (rows : List Write) (txn n : ℕ) (change : Change) (old new : Frame) → ChangesOne change old new → StepsTo rows txn (n, record_op change) old new
-record_steps rows txn n (PutRow table key row) old new h = stepped rows txn (n, record_op (PutRow table key row)) old new (Some (table, key)) (Leaves (Some row)) refl
-    (record_touched (PutRow table key row) old.env) (record_effect (PutRow table key row) old.env (row_at (state_seen rows old).tables (Some (table, key)))) h
-record_steps rows txn n (DeleteRow table key) old new h = stepped rows txn (n, record_op (DeleteRow table key)) old new (Some (table, key)) (Leaves None) refl
-    (record_touched (DeleteRow table key) old.env) (record_effect (DeleteRow table key) old.env (row_at (state_seen rows old).tables (Some (table, key)))) h
+pub record_steps : (base : Tables) (txn n : ℕ) (change : Change) (old new : Frame) → ChangesOne change old new → StepsTo base txn (n, record_op change) old new
+record_steps base txn n (PutRow table key row) old new h = stepped base txn (n, record_op (PutRow table key row)) old new (Some (table, key)) (Leaves (Some row)) refl
+    (record_touched (PutRow table key row) old.env) (record_effect (PutRow table key row) old.env (row_at (state_seen base old).tables (Some (table, key)))) h
+record_steps base txn n (DeleteRow table key) old new h = stepped base txn (n, record_op (DeleteRow table key)) old new (Some (table, key)) (Leaves None) refl
+    (record_touched (DeleteRow table key) old.env) (record_effect (DeleteRow table key) old.env (row_at (state_seen base old).tables (Some (table, key)))) h
 
--- ---- from the frame with which work begins
+-- ---- from the frame with which code begins
 
-pub outcome_of : (work : Work) (rows : List Write) (os : List NumberedOp) (env : Values) (ws : List Write) (new : Frame) → rows ≡ work.rows → env ≡ work.env → ws ≡ [] → os ≡ code_ops work.code
-    → RunsTo rows work.piece.txn os (record { env = env; tables = written (written empty rows) ws }) new → IsOutcomeOf work new
-outcome_of work rows os env ws new same_rows same_env none same_code runs =
-    subst (λ (xs : List Write). RunsTo xs work.piece.txn (code_ops work.code) (record { env = work.env; tables = written empty xs }) new) same_rows
-    (subst (λ (xs : List NumberedOp). RunsTo rows work.piece.txn xs (record { env = work.env; tables = written empty rows }) new) same_code
-    (subst (λ (s : State). RunsTo rows work.piece.txn os s new) (λ i. record { env = same_env i; tables = written (written empty rows) (none i) }) runs))
+pub outcome_of : (txn : ℕ) (code : Code) (env : Values) (base : Tables) (os : List NumberedOp) (begun : Values) (ws : List Write) (new : Frame) → begun ≡ env → ws ≡ [] → os ≡ code_ops code
+    → RunsTo base txn os (record { env = begun; tables = written base ws }) new → IsOutcomeOver txn code env base new
+outcome_of txn code env base os begun ws new same_env none same_code runs =
+    subst (λ (xs : List NumberedOp). RunsTo base txn xs (state_over env base) new) same_code
+    (subst (λ (s : State). RunsTo base txn os s new) (λ i. record { env = same_env i; tables = written base (none i) }) runs)

@@ -1,4 +1,4 @@
--- Work of a piece of a plan can be run.
+-- The code of a piece of a plan can be run.
 use Rattle.std.proofs.Common.{◌≡◌, ℕ, List, map, length, Option, Some, None, refl, sym, subst}
 use Rattle.std.specs.Prelude.{slice_get, IsSomeAnd}
 use Rattle.std.specs.Option.{option_map}
@@ -6,6 +6,7 @@ use Rattle.std.proofs.lemmas.Option.{slice_get-map}
 use Rattle.std.proofs.Math.Seq.{take-length}
 use Rattle.pac_value.specs.declared.values.Value.{Value}
 use Rattle.pac_value.specs.Values.{type_of}
+use Rattle.pac_value.specs.Expressions.{Values}
 use Rattle.pac_value.specs.State.{Tables}
 use Rattle.pac_ops.specs.declared.program.FlatOp.{FlatOp}
 use Rattle.pac_ops.specs.declared.program.Program.{Program}
@@ -33,10 +34,9 @@ use Rattle.pac_plan.proofs.InputLemmas.{pieces_stay_fit}
 use Rattle.pac_plan.proofs.OrderLemmas.{order_kept}
 use Rattle.pac_plan.proofs.PartLemmas.{part-mem}
 use Rattle.pac_plan.proofs.WorldLemmas.{stands}
-use Rattle.pac_piece.specs.declared.work.Work.{Work}
 use Rattle.pac_piece.specs.Frames.{AreAmong, CanRun}
-use Rattle.pac_piece.specs.Values.{CanRunCode, begun}
-use Rattle.pac_piece.specs.Runnable.{IsRunnable}
+use Rattle.pac_piece.specs.Values.{CanRunCode, state_over}
+use Rattle.pac_piece.specs.Runnable.{IsRunnableOver}
 use Rattle.pac_piece.proofs.FitLemmas.{can_run}
 
 pub typable_ops : (parts : PlanParts) → IsPlan parts → (p : ℕ) (program : Program) → slice_get parts.programs p ≡ Some program → (block : ℕ)
@@ -58,26 +58,25 @@ module _ (parts : PlanParts) (is : IsPlan parts) (p : ℕ) (program : Program) (
       end_fit = subst (λ (ops : List FlatOp). IsFit parts.tables program.vars (flat_meaning program.vars ops (opening args before))) (take-length program.ops)
           (stays_fit parts.tables program (is.programs p program at) args before fits before_fit (length program.ops)).0
 
-pub runnable : (work : Work) → IsRunnable work → CanRunCode work.code (begun work)
-runnable work r = go r.txn r.fits r.code r.inputs r.only
-  where
-    block : ℕ
-    block = work.piece.block
+module _ (block : ℕ) (code : Code) (env : Values) (base : Tables) (r : IsRunnableOver block code env base) where
+  -- its operations can be executed
+  pub runnable : CanRunCode code (state_over env base)
+  runnable = go r.txn r.fits r.code r.inputs r.only
+    where
+      call_runs : (call : Call) (o : Option Program) → slice_get r.parts.programs call.proc ≡ o → IsSomeAnd (option_map (λ (program : Program). program.params) o) (λ types. map type_of call.args ≡ types)
+          → InputsAre (part (λ o. block_in r.parts (Operation call.proc o.0)) block (numbered_from 0 (ops_of o))) (call_state o call.args r.before).env env
+          → AreAmong env (call_state o call.args r.before).env
+          → CanRun (part (λ o. block_in r.parts (Operation call.proc o.0)) block (numbered_from 0 (ops_of o))) (state_over env base)
+      call_runs call None at f i only = absurd f
+      call_runs call (Some program) at f i only =
+          can_run r.parts.tables program.vars _ (state_over env base)
+          (typable_ops r.parts r.is_plan call.proc program at block)
+          (stays r.parts r.is_plan call.proc program at call.args r.before f r.before_fit block (state_over env base) r.rows only i)
 
-    call_runs : (call : Call) (o : Option Program) → slice_get r.parts.programs call.proc ≡ o → IsSomeAnd (option_map (λ (program : Program). program.params) o) (λ types. map type_of call.args ≡ types)
-        → InputsAre (part (λ o. block_in r.parts (Operation call.proc o.0)) block (numbered_from 0 (ops_of o))) (call_state o call.args r.before).env work.env
-        → AreAmong work.env (call_state o call.args r.before).env
-        → CanRun (part (λ o. block_in r.parts (Operation call.proc o.0)) block (numbered_from 0 (ops_of o))) (begun work)
-    call_runs call None at f i only = absurd f
-    call_runs call (Some program) at f i only =
-        can_run r.parts.tables program.vars _ (begun work)
-        (typable_ops r.parts r.is_plan call.proc program at block)
-        (stays r.parts r.is_plan call.proc program at call.args r.before f r.before_fit block (begun work) r.rows only i)
-
-    go : (txn : Txn) → TxnFitsPlan r.parts txn → work.code ≡ code_in r.parts block txn
-        → InputsAre (piece_ops r.parts block txn) (txn_state r.parts.programs txn r.before).env work.env → AreAmong work.env (txn_state r.parts.programs txn r.before).env
-        → CanRunCode work.code (begun work)
-    go (ACall call) fits code inputs only = subst (λ (c : Code). CanRunCode c (begun work)) (sym code)
-        (call_runs call (slice_get r.parts.programs call.proc) refl
-        (subst (λ o. IsSomeAnd o (λ types. map type_of call.args ≡ types)) (slice_get-map (λ (program : Program). program.params) r.parts.programs call.proc) fits) inputs only)
-    go (AdHoc records) fits code inputs only = subst (λ (c : Code). CanRunCode c (begun work)) (sym code) tt
+      go : (txn : Txn) → TxnFitsPlan r.parts txn → code ≡ code_in r.parts block txn
+          → InputsAre (piece_ops r.parts block txn) (txn_state r.parts.programs txn r.before).env env → AreAmong env (txn_state r.parts.programs txn r.before).env
+          → CanRunCode code (state_over env base)
+      go (ACall call) fits is inputs only = subst (λ (c : Code). CanRunCode c (state_over env base)) (sym is)
+          (call_runs call (slice_get r.parts.programs call.proc) refl
+          (subst (λ o. IsSomeAnd o (λ types. map type_of call.args ≡ types)) (slice_get-map (λ (program : Program). program.params) r.parts.programs call.proc) fits) inputs only)
+      go (AdHoc records) fits is inputs only = subst (λ (c : Code). CanRunCode c (state_over env base)) (sym is) tt

@@ -1,11 +1,11 @@
 -- One operation of a piece: from what its effect made of the frame to what the operation means.
-use Rattle.std.proofs.Common.{◌≡◌, ℕ, ◌==◌, Bool, true, false, cond, ◌&&◌, ◌||◌, List, Option, Some, None, Result, Ok, Err, refl, sym, ap, ◌∙◌, subst}
+use Rattle.std.proofs.Common.{◌≡◌, ℕ, ◌==◌, Bool, true, false, cond, ◌&&◌, ◌||◌, Option, Some, None, Result, Ok, Err, refl, sym, ap, ◌∙◌, subst}
 use Rattle.std.specs.Prelude.{OnOk, is_some, is_ok}
-use Rattle.std.specs.FinMap.{get, empty}
+use Rattle.std.specs.FinMap.{get}
 use Rattle.pac_value.specs.declared.values.Value.{Value}
 use Rattle.pac_value.specs.declared.values.Value.TheVariants.{Int, Text, Bool as Truth}
 use Rattle.pac_value.specs.Expressions.{Values, value, ◌>>=◌}
-use Rattle.pac_value.specs.State.{Cell, RowValues}
+use Rattle.pac_value.specs.State.{Cell, RowValues, Tables}
 use Rattle.pac_ops.specs.declared.reason.Reason.{Reason}
 use Rattle.pac_ops.specs.declared.program.OpKind.{OpKind}
 use Rattle.pac_ops.specs.declared.program.OpKind.TheVariants.{Let, Cond, Read, Has, Put, SetCol, Delete, AbortIf}
@@ -17,7 +17,6 @@ use Rattle.pac_ops.specs.Flat.{all_hold, default_of, reason_in}
 use Rattle.pac_ops.specs.Defaults.{trapped_type}
 use Rattle.pac_ops.specs.Effects.{NumberedOp, cell_in, is_var}
 use Rattle.pac_ops.proofs.StateLemmas.{get-given, least_none}
-use Rattle.pac_tables.specs.declared.writes.Write.{Write}
 use Rattle.pac_tables.specs.Written.{IsOnce, is_written, written}
 use Rattle.pac_piece.specs.declared.frame.Frame.{Frame}
 use Rattle.pac_piece.specs.Frames.{state_seen, defaulted, done_or_defaulted, cell_changed, is_cell, AreAmong, Given, StepsTo}
@@ -50,8 +49,8 @@ module _ (var : ℕ) (v : Value) (old new : Frame) (g : Given var v old new) whe
       go true h = h
       go false h = kept x w h
 
-  pub given_state : (rows : List Write) → state_seen rows new ≡ define var v (state_seen rows old)
-  given_state rows i = record { env = g.env i; tables = written (written empty rows) (g.writes i) }
+  pub given_state : (base : Tables) → state_seen base new ≡ define var v (state_seen base old)
+  given_state base i = record { env = g.env i; tables = written base (g.writes i) }
 
 pub applies_gives : (var : ℕ) (v : Value) (cell : Option Cell) (old new : Frame) → IsOnce old.writes.items → Given var v old new → Applies cell (Gives var v) old new
 applies_gives var v cell old new once g = record {
@@ -67,9 +66,9 @@ pub gives_up : (txn : ℕ) (o : NumberedOp) (reason : Reason) (old mid new : Fra
     → mid.env ≡ old.env → mid.outs ≡ old.outs → mid.writes.items ≡ old.writes.items → mid.note ≡ least old.note (Some (record { txn = txn; op = o.0; reason = reason }))
     → defined_variable o.1.kind ≡ Some var → v ≡ default_of (trapped_type o.1.kind) → Given var v mid new → GivesUp txn o reason old new
 gives_up txn o reason old mid new var v env outs writes note is_var_ is_default g = record {
-  state = λ rows. given_state var v mid new g rows
-      ∙ (λ i. define var (is_default i) (record { env = env i; tables = written (written empty rows) (writes i) }))
-      ∙ ap (λ x. defaulted x (trapped_type o.1.kind) (state_seen rows old)) (sym is_var_);
+  state = λ base. given_state var v mid new g base
+      ∙ (λ i. define var (is_default i) (record { env = env i; tables = written base (writes i) }))
+      ∙ ap (λ x. defaulted x (trapped_type o.1.kind) (state_seen base old)) (sym is_var_);
   note = g.note ∙ note;
   changed = g.writes ∙ writes;
   given = λ x. given_there var v mid new g x ∙ (λ i. is_var x (sym is_var_ i) || is_some (get (outs i) x));
@@ -107,25 +106,25 @@ effect_kind (AbortIf ex) env row e is = then_of (AbortIf ex) e (or_abort (value 
 
 -- ---- an operation that has an effect
 
-pub stepped : (rows : List Write) (txn : ℕ) (o : NumberedOp) (old new : Frame) (cell : Option Cell) (e : Effect) → all_hold old.env o.1.conds ≡ true
-    → touched o.1.kind old.env ≡ Ok cell → effect o.1.kind old.env (row_at (state_seen rows old).tables cell) ≡ Ok e → Applies cell e old new → StepsTo rows txn o old new
-stepped rows txn o old new cell e hold touch has applies = record {
-  state = applies.state rows ∙ sym (ap (λ b. cond b (done_or_defaulted o.1.kind (state_seen rows old) (done o.1.kind (state_seen rows old))) (state_seen rows old)) hold ∙ ap (done_or_defaulted o.1.kind (state_seen rows old)) is_done);
-  note = applies.note ∙ sym (least_none old.note) ∙ sym (ap (λ r. least old.note (first_note (note_at txn o.0 r))) (ap (λ b. cond b (reason_in (done o.1.kind (state_seen rows old))) None) hold ∙ ap reason_in is_done));
+pub stepped : (base : Tables) (txn : ℕ) (o : NumberedOp) (old new : Frame) (cell : Option Cell) (e : Effect) → all_hold old.env o.1.conds ≡ true
+    → touched o.1.kind old.env ≡ Ok cell → effect o.1.kind old.env (row_at (state_seen base old).tables cell) ≡ Ok e → Applies cell e old new → StepsTo base txn o old new
+stepped base txn o old new cell e hold touch has applies = record {
+  state = applies.state base ∙ sym (ap (λ b. cond b (done_or_defaulted o.1.kind (state_seen base old) (done o.1.kind (state_seen base old))) (state_seen base old)) hold ∙ ap (done_or_defaulted o.1.kind (state_seen base old)) is_done);
+  note = applies.note ∙ sym (least_none old.note) ∙ sym (ap (λ r. least old.note (first_note (note_at txn o.0 r))) (ap (λ b. cond b (reason_in (done o.1.kind (state_seen base old))) None) hold ∙ ap reason_in is_done));
   changed = λ a. applies.changed a ∙ ap (λ c. is_cell a c || is_written old.writes.items a) (kind.1 cell ∙ sym changes);
   given = λ x. applies.given x ∙ ap (λ y. is_var x y || is_some (get old.outs x)) (kind.0 ∙ sym (ap (λ b. cond b (defined_variable o.1.kind) None) hold));
   kept = applies.kept;
   once = applies.once;
 }
   where
-    is_done : done o.1.kind (state_seen rows old) ≡ Ok (with_effect cell e (state_seen rows old))
-    is_done = ap (λ r. or_abort r >>= λ c. effect o.1.kind old.env (row_at (state_seen rows old).tables c) >>= λ d. Ok (with_effect c d (state_seen rows old))) touch
-        ∙ ap (λ r. r >>= λ d. Ok (with_effect cell d (state_seen rows old))) has
+    is_done : done o.1.kind (state_seen base old) ≡ Ok (with_effect cell e (state_seen base old))
+    is_done = ap (λ r. or_abort r >>= λ c. effect o.1.kind old.env (row_at (state_seen base old).tables c) >>= λ d. Ok (with_effect c d (state_seen base old))) touch
+        ∙ ap (λ r. r >>= λ d. Ok (with_effect cell d (state_seen base old))) has
 
     kind : IsOfKind o.1.kind e
-    kind = effect_kind o.1.kind old.env (row_at (state_seen rows old).tables cell) e has
+    kind = effect_kind o.1.kind old.env (row_at (state_seen base old).tables cell) e has
 
-    changes : cell_changed o.1 (state_seen rows old) ≡ cond (modifies o.1.kind && true) cell None
+    changes : cell_changed o.1 (state_seen base old) ≡ cond (modifies o.1.kind && true) cell None
     changes =
         ap (λ r. cond (modifies o.1.kind && is_ok r) (cond (all_hold old.env o.1.conds) (cell_in (touched o.1.kind old.env)) None) None) is_done
         ∙ ap (λ b. cond (modifies o.1.kind && true) (cond b (cell_in (touched o.1.kind old.env)) None) None) hold

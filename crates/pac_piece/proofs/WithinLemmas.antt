@@ -23,7 +23,7 @@ use Rattle.pac_piece.specs.Frames.{defaulted, done_or_defaulted, after_op, cell_
 use Rattle.pac_piece.specs.PieceLaws.{WritesWithinAccess}
 
 -- what an operation doesn't define stays
-keeps : (op : FlatOp) (s : State) (y : ℕ) → is_var y (defined_variable op.kind) ≡ false → get (after_op op s).env y ≡ get s.env y
+pub keeps : (op : FlatOp) (s : State) (y : ℕ) → is_var y (defined_variable op.kind) ≡ false → get (after_op op s).env y ≡ get s.env y
 keeps op s y e = go (all_hold s.env op.conds) refl (done op.kind s) refl
   where
     other : (x : Option ℕ) (ty : Ty) → is_var y x ≡ false → get (defaulted x ty s).env y ≡ get s.env y
@@ -37,7 +37,7 @@ keeps op s y e = go (all_hold s.env op.conds) refl (done op.kind s) refl
         ap (λ (z : State). get z.env y) (sym (ap (λ b. cond b (done_or_default [] op.kind s (done op.kind s)) s) h ∙ ap (done_or_default [] op.kind s) d))
         ∙ undefined_op [] op s y e
 
-changed_at : (op : FlatOp) (s : State) (a : Cell) → is_cell a (cell_changed op s) ≡ true → (modifies op.kind ≡ true) × (flat_cell op s.env ≡ Some a)
+pub changed_at : (op : FlatOp) (s : State) (a : Cell) → is_cell a (cell_changed op s) ≡ true → (modifies op.kind ≡ true) × (flat_cell op s.env ≡ Some a)
 changed_at op s a h = go (modifies op.kind) (is_ok (done op.kind s)) (flat_cell op s.env) refl refl h
   where
     go : (m k : Bool) (c : Option Cell) → modifies op.kind ≡ m → flat_cell op s.env ≡ c → is_cell a (cond (m && k) c None) ≡ true → (modifies op.kind ≡ true) × (flat_cell op s.env ≡ Some a)

@@ -5,7 +5,7 @@ use Rattle.std.specs.FinMap.{get, insert, empty}
 use Rattle.pac_value.specs.declared.values.Ty.{Ty}
 use Rattle.pac_value.specs.declared.values.Value.{Value}
 use Rattle.pac_value.specs.Expressions.{Values}
-use Rattle.pac_value.specs.State.{Cell, cell_cmp}
+use Rattle.pac_value.specs.State.{Cell, cell_cmp, Tables}
 use Rattle.pac_ops.specs.declared.note.Note.{Note}
 use Rattle.pac_ops.specs.declared.reason.Reason.{Reason}
 use Rattle.pac_ops.specs.declared.program.OpKind.{OpKind}
@@ -16,7 +16,6 @@ use Rattle.pac_ops.specs.Operations.{State, define, done}
 use Rattle.pac_ops.specs.Flat.{all_hold, default_of, flat_reason}
 use Rattle.pac_ops.specs.Defaults.{trapped_type}
 use Rattle.pac_ops.specs.Effects.{NumberedOp, flat_cell, is_var}
-use Rattle.pac_tables.specs.declared.writes.Write.{Write}
 use Rattle.pac_tables.specs.Written.{IsOnce, is_written, written}
 use Rattle.pac_piece.specs.declared.frame.Frame.{Frame}
 use Rattle.pac_piece.specs.Effects.{CanDo}
@@ -77,9 +76,9 @@ CanRun (o ∷ os) s = (all_hold s.env o.1.conds ≡ true → CanDo s.env o.1.kin
 
 -- ---- frames
 
--- the state that a piece sees: its values, and the rows that it wrote over its copies
-abbrev pub state_seen : List Write → Frame → State
-state_seen rows frame = record { env = frame.env; tables = written (written empty rows) frame.writes.items }
+-- the state that a piece sees: its values, and the rows that it wrote over those that it began with
+abbrev pub state_seen : Tables → Frame → State
+state_seen base frame = record { env = frame.env; tables = written base frame.writes.items }
 
 -- what was given stands in the environment
 abbrev pub AreAmong : Values → Values → Type 0
@@ -93,17 +92,17 @@ pub record Given (var : ℕ) (value : Value) (old new : Frame) : Type 0 where
   pub note : new.note ≡ old.note
 
 -- one operation more was executed
-pub record StepsTo (rows : List Write) (txn : ℕ) (o : NumberedOp) (old new : Frame) : Type 0 where
-  pub state : state_seen rows new ≡ after_op o.1 (state_seen rows old)
-  pub note : new.note ≡ least old.note (first_note (note_at txn o.0 (flat_reason o.1 (state_seen rows old))))
-  pub changed : (a : Cell) → is_written new.writes.items a ≡ (is_cell a (cell_changed o.1 (state_seen rows old)) || is_written old.writes.items a)
-  pub given : (x : ℕ) → is_some (get new.outs x) ≡ (is_var x (var_given o.1 (state_seen rows old)) || is_some (get old.outs x))
+pub record StepsTo (base : Tables) (txn : ℕ) (o : NumberedOp) (old new : Frame) : Type 0 where
+  pub state : state_seen base new ≡ after_op o.1 (state_seen base old)
+  pub note : new.note ≡ least old.note (first_note (note_at txn o.0 (flat_reason o.1 (state_seen base old))))
+  pub changed : (a : Cell) → is_written new.writes.items a ≡ (is_cell a (cell_changed o.1 (state_seen base old)) || is_written old.writes.items a)
+  pub given : (x : ℕ) → is_some (get new.outs x) ≡ (is_var x (var_given o.1 (state_seen base old)) || is_some (get old.outs x))
   pub kept : AreAmong old.outs old.env → AreAmong new.outs new.env
   pub once : IsOnce new.writes.items
 
 -- all were executed from a state on, and nothing had happened before
-pub record RunsTo (rows : List Write) (txn : ℕ) (os : List NumberedOp) (s : State) (frame : Frame) : Type 0 where
-  pub state : state_seen rows frame ≡ after_ops os s
+pub record RunsTo (base : Tables) (txn : ℕ) (os : List NumberedOp) (s : State) (frame : Frame) : Type 0 where
+  pub state : state_seen base frame ≡ after_ops os s
   pub note : frame.note ≡ first_note (notes_after txn os s)
   pub changed : (a : Cell) → is_written frame.writes.items a ≡ change_row os s a
   pub given : (x : ℕ) → is_some (get frame.outs x) ≡ give_value os s x
@@ -111,11 +110,11 @@ pub record RunsTo (rows : List Write) (txn : ℕ) (os : List NumberedOp) (s : St
   pub once : IsOnce frame.writes.items
 
 -- the operations so far were executed, and what is left leads to what all lead to
-pub record RunsOn (rows : List Write) (txn : ℕ) (os : List NumberedOp) (s : State) (rest : List NumberedOp) (frame : Frame) : Type 0 where
-  pub state : after_ops rest (state_seen rows frame) ≡ after_ops os s
-  pub note : least frame.note (first_note (notes_after txn rest (state_seen rows frame))) ≡ first_note (notes_after txn os s)
-  pub changed : (a : Cell) → (is_written frame.writes.items a || change_row rest (state_seen rows frame) a) ≡ change_row os s a
-  pub given : (x : ℕ) → (is_some (get frame.outs x) || give_value rest (state_seen rows frame) x) ≡ give_value os s x
+pub record RunsOn (base : Tables) (txn : ℕ) (os : List NumberedOp) (s : State) (rest : List NumberedOp) (frame : Frame) : Type 0 where
+  pub state : after_ops rest (state_seen base frame) ≡ after_ops os s
+  pub note : least frame.note (first_note (notes_after txn rest (state_seen base frame))) ≡ first_note (notes_after txn os s)
+  pub changed : (a : Cell) → (is_written frame.writes.items a || change_row rest (state_seen base frame) a) ≡ change_row os s a
+  pub given : (x : ℕ) → (is_some (get frame.outs x) || give_value rest (state_seen base frame) x) ≡ give_value os s x
   pub kept : AreAmong frame.outs frame.env
   pub once : IsOnce frame.writes.items
 

@@ -1,5 +1,6 @@
 pub mod Effects
 pub mod Changes
+pub mod Sources
 pub mod Frames
 pub mod Steps
 pub mod Records

@@ -1,11 +1,10 @@
 -- What records make of a frame: each is an operation with literals.
 use Rattle.std.specs.Prelude.{ℕ, List, Option, Some, None, map}
-use Rattle.pac_value.specs.State.{Cell, RowValues}
+use Rattle.pac_value.specs.State.{Cell, RowValues, Tables}
 use Rattle.pac_ops.specs.declared.transaction.Change.{Change}
 use Rattle.pac_ops.specs.declared.transaction.Change.TheVariants.{Put, Delete}
 use Rattle.pac_ops.specs.Operations.{Leaves}
 use Rattle.pac_ops.specs.Effects.{numbered_from, record_op}
-use Rattle.pac_tables.specs.declared.writes.Write.{Write}
 use Rattle.pac_piece.specs.declared.frame.Frame.{Frame}
 use Rattle.pac_piece.specs.Frames.{RunsTo, state_seen}
 use Rattle.pac_piece.specs.Steps.{Applies}
@@ -24,6 +23,6 @@ record_row (Delete table key) = None
 abbrev pub ChangesOne : Change → Frame → Frame → Type 0
 ChangesOne change old new = Applies (Some (record_cell change)) (Leaves (record_row change)) old new
 
--- the records were executed as operations, over any copies and in a transaction of any number
+-- the records were executed as operations, over any rows and in a transaction of any number
 abbrev pub ChangesAll : List Change → Frame → Frame → Type 0
-ChangesAll records old new = (rows : List Write) (txn : ℕ) → RunsTo rows txn (numbered_from 0 (map record_op records)) (state_seen rows old) new
+ChangesAll records old new = (base : Tables) (txn : ℕ) → RunsTo base txn (numbered_from 0 (map record_op records)) (state_seen base old) new

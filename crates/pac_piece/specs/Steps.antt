@@ -1,7 +1,7 @@
 -- What the parts of one operation's execution answer.
-use Rattle.std.specs.Prelude.{◌≡◌, ℕ, ◌||◌, List, Option, Some, None, is_some, Result, Ok, Err}
+use Rattle.std.specs.Prelude.{◌≡◌, ℕ, ◌||◌, Option, Some, None, is_some, Result, Ok, Err}
 use Rattle.std.specs.FinMap.{get}
-use Rattle.pac_value.specs.State.{Cell}
+use Rattle.pac_value.specs.State.{Cell, Tables}
 use Rattle.pac_ops.specs.declared.reason.Reason.{Reason}
 use Rattle.pac_ops.specs.declared.program.OpKind.{OpKind}
 use Rattle.pac_ops.specs.Notes.{least}
@@ -9,7 +9,6 @@ use Rattle.pac_ops.specs.Uses.{defined_variable}
 use Rattle.pac_ops.specs.Operations.{State, Effect, Nothing, Gives, Leaves, touched, effect, row_at, with_effect, done}
 use Rattle.pac_ops.specs.Defaults.{trapped_type}
 use Rattle.pac_ops.specs.Effects.{NumberedOp, is_var}
-use Rattle.pac_tables.specs.declared.writes.Write.{Write}
 use Rattle.pac_tables.specs.Written.{IsOnce, is_written}
 use Rattle.pac_piece.specs.declared.effects.OpEffect.{OpEffect}
 use Rattle.pac_piece.specs.declared.failed.OpFailed.{OpFailed}
@@ -38,7 +37,7 @@ var_left (Leaves row) = None
 
 -- an effect was had
 pub record Applies (cell : Option Cell) (e : Effect) (old new : Frame) : Type 0 where
-  pub state : (rows : List Write) → state_seen rows new ≡ with_effect cell e (state_seen rows old)
+  pub state : (base : Tables) → state_seen base new ≡ with_effect cell e (state_seen base old)
   pub note : new.note ≡ old.note
   pub changed : (a : Cell) → is_written new.writes.items a ≡ (is_cell a (cell_left cell e) || is_written old.writes.items a)
   pub given : (x : ℕ) → is_some (get new.outs x) ≡ (is_var x (var_left e) || is_some (get old.outs x))
@@ -47,7 +46,7 @@ pub record Applies (cell : Option Cell) (e : Effect) (old new : Frame) : Type 0 
 
 -- a note was left, and the variable has its default
 pub record GivesUp (txn : ℕ) (o : NumberedOp) (reason : Reason) (old new : Frame) : Type 0 where
-  pub state : (rows : List Write) → state_seen rows new ≡ defaulted (defined_variable o.1.kind) (trapped_type o.1.kind) (state_seen rows old)
+  pub state : (base : Tables) → state_seen base new ≡ defaulted (defined_variable o.1.kind) (trapped_type o.1.kind) (state_seen base old)
   pub note : new.note ≡ least old.note (Some (record { txn = txn; op = o.0; reason = reason }))
   pub changed : new.writes.items ≡ old.writes.items
   pub given : (x : ℕ) → is_some (get new.outs x) ≡ (is_var x (defined_variable o.1.kind) || is_some (get old.outs x))

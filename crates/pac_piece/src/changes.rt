@@ -1,8 +1,6 @@
-// Rows that are to stand at cells: of a piece's copies, and of what it wrote.
+// Rows that are to stand at cells: copies, and what a piece wrote.
 ghost use Rattle.std.specs.Prelude.{◌≡◌, ◌<◌, length, position, OnOk, IfSome};
 ghost use Rattle.std.specs.Ordering.{eq_by_cmp};
-ghost use Rattle.std.specs.Option.{option_map};
-ghost use Rattle.std.specs.FinMap.{get, empty};
 ghost use Rattle.pac_value.specs.State.{cell_cmp, with_row};
 ghost use Rattle.pac_tables.specs.Written.{IsOnce, cell_written, written};
 ghost use Rattle.pac_piece.specs.Changes.{is_at, ChangesCell};
@@ -29,36 +27,11 @@ fn is_at(write: &Write, table: u16, key: &Key) -> bool
     order(write, table, key).is_eq()
 }
 
-// Where a cell is written first.
-fn find(writes: &[Write], table: u16, key: &Key) -> Option<usize>
+/// Where a cell is written first.
+pub(crate) fn find(writes: &[Write], table: u16, key: &Key) -> Option<usize>
     ensures { result ≡ position (is_at (table, key.now)) writes.now }
 {
     writes.iter().position(|write| is_at(write, table, key))
-}
-
-/// The row at a cell, once the writes are made over rows. It looks through the lists.
-pub(crate) fn row_at<'a>(
-    rows: &'a [Write],
-    writes: &'a [Write],
-    table: u16,
-    key: &Key,
-) -> Option<&'a Row>
-    ensures { option_map (λ row. row.now) result ≡ get (written (written empty rows.now) writes.now) (table, key.now) }
-{
-    match find(writes, table, key) {
-        Some(at) => writes[at].row.as_ref(),
-        None => row_in(rows, table, key),
-    }
-}
-
-// The row at a cell of copies.
-fn row_in<'a>(rows: &'a [Write], table: u16, key: &Key) -> Option<&'a Row>
-    ensures { option_map (λ row. row.now) result ≡ get (written empty rows.now) (table, key.now) }
-{
-    match find(rows, table, key) {
-        Some(at) => rows[at].row.as_ref(),
-        None => None,
-    }
 }
 
 /// A row is to stand at the cell, or none. The write takes the place of an earlier one at the cell.

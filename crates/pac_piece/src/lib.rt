@@ -1,16 +1,20 @@
-//! The work of a piece, apart from all that other pieces do: over its inputs and copies of the rows that it may touch.
+//! The work of a piece: apart from all that other pieces do, over its inputs and copies of the rows that it may touch, or on the
+//! spot, over the tables.
 //!
 //! - [`Work`]: a piece, its code, its inputs and its copies of rows.
 //! - [`run`]: does the work. It requires that the work is that of a piece of a plan (`IsRunnable`), and fails only where it
 //!   is out of memory; then the work comes back.
 //! - [`Done`]: work with its value, which it keeps by its type: the rows that it wrote, the variables that it gave values,
 //!   and its least note. [`Done::into_parts`] gives these out, and [`Done::into_work`] the work alone.
+//! - [`run_on`]: runs a piece over tables as they stand, for a piece that may touch any row. It gives a [`PieceOutcome`]: the same
+//!   value, over the tables in place of copies. Its writes are in tables that are there, so that they can be made.
 //! - [`is_value`] and [`work_means_piece`] are laws: functions that do nothing, whose clauses say what holds of work that is
 //!   done, and that its value is what the piece means in its plan. With the law `work` of `pac_commute` this is the piece
 //!   applied to the state, once writes and values are put in.
 //!
 //! [`arguments_run`] is a law too: in a block to which no edge leads, work with the arguments and with copies of rows that
-//! [fit](rows_fit) can be run.
+//! [fit](rows_fit) can be run; [`arguments_run_on`] says the same of tables whose rows fit. [`code_means_piece`] says what code
+//! leaves over any rows, and that it is the same over the tables and over copies of the rows of its access.
 //!
 //! ```
 //! let work = Work { piece, code, env, rows };
@@ -34,11 +38,14 @@ mod effects;
 mod failed;
 mod frame;
 mod laws;
+mod on_tables;
 mod rows;
 mod run_all;
 mod run_op;
+mod source;
 mod work;
 
-pub use laws::{arguments_run, work_means_piece};
+pub use laws::{arguments_run, arguments_run_on, code_means_piece, work_means_piece};
+pub use on_tables::{PieceOutcome, run_on};
 pub use rows::rows_fit;
 pub use work::{Done, Work, is_value, run};

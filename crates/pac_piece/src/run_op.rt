@@ -7,34 +7,36 @@ ghost use Rattle.pac_ops.specs.Operations.{touched};
 ghost use Rattle.pac_tables.specs.Written.{IsOnce};
 ghost use Rattle.pac_piece.specs.Effects.{CanDo, effect_of};
 ghost use Rattle.pac_piece.specs.Frames.{StepsTo, state_seen};
+ghost use Rattle.pac_piece.specs.Sources.{HasTable};
 ghost use Rattle.pac_piece.specs.Steps.{AnswersAt, Applies, GivesUp};
 
-use crate::changes::{change, row_at};
+use crate::changes::change;
 use crate::effects::{OpEffect, effect};
 use crate::failed::OpFailed;
 use crate::frame::{Frame, give, lesser};
+use crate::source::{RowSource, row_at};
 use pac_base::NoMemory;
 use pac_ops::{FlatOp, Note, OpKind, Reason, all_hold, key_of};
-use pac_tables::Write;
 use pac_value::{BinOp, Env, Expr, Key, Text, Trap, Ty, Value};
 use std::alloc::Global;
 
-/// Runs one operation, over copies of rows and what the piece has done so far.
-pub(crate) fn run_op(
+/// Runs one operation, over the rows of a source and what the piece has done so far.
+pub(crate) fn run_op<S: RowSource>(
     alloc: Global,
     txn: u64,
     op: &(u16, FlatOp),
-    rows: &[Write],
+    source: &S,
     frame: &mut Frame,
 ) -> Result<(), NoMemory>
     requires can { all_hold frame.old.env op.now.1.conds ≡ true → CanDo frame.old.env op.now.1.kind }
+    requires there { HasTable (S.There source.now) op.now.1.kind }
     requires once { IsOnce frame.old.writes.items }
-    ensures { OnOk result (StepsTo rows.now txn op.now frame.old frame.new) }
+    ensures { OnOk result (StepsTo (S.base source.now) txn op.now frame.old frame.new) }
 {
     if !all_hold(op.1.conds.as_slice(), &frame.env) {
         return Ok(());
     }
-    match touched_effect(alloc, &op.1.kind, rows, frame) {
+    match touched_effect(alloc, &op.1.kind, source, frame) {
         Ok((cell, effect)) => apply(cell, effect, frame),
         Err(OpFailed::Abort(reason)) => give_up(txn, op, reason, frame),
         Err(OpFailed::NoMemory) => Err(NoMemory),
@@ -42,18 +44,19 @@ pub(crate) fn run_op(
 }
 
 // The cell that an operation touches, and what it does there.
-fn touched_effect(
+fn touched_effect<S: RowSource>(
     alloc: Global,
     kind: &OpKind,
-    rows: &[Write],
+    source: &S,
     frame: &Frame,
 ) -> Result<(Option<(u16, Key)>, OpEffect), OpFailed>
-    requires { CanDo frame.now.env kind.now }
-    ensures { AnswersAt kind.now (state_seen rows.now frame.now) result }
+    requires can { CanDo frame.now.env kind.now }
+    requires there { HasTable (S.There source.now) kind.now }
+    ensures { AnswersAt kind.now (state_seen (S.base source.now) frame.now) result }
 {
     let cell = touched(kind, &frame.env)?;
     let row = match &cell {
-        Some((table, key)) => row_at(rows, &frame.writes, *table, key),
+        Some((table, key)) => row_at(source, &frame.writes, *table, key),
         None => None,
     };
     let effect = effect(alloc, kind, row, &frame.env)?;

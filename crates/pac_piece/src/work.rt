@@ -1,11 +1,11 @@
 // Work, and work that is done.
 ghost use Rattle.std.specs.Prelude.{◌≡◌, ◌↔◌, IsTrue, IfOk, IfErr};
-ghost use Rattle.pac_piece.specs.Values.{CanRunCode, IsOutcomeOf, IsValueOf, begun};
+ghost use Rattle.pac_piece.specs.Values.{IsValueOf};
 ghost use Rattle.pac_piece.specs.Runnable.{IsRunnable};
 
 use crate::frame::Frame;
 use crate::rows::{copy_rows, same_rows};
-use crate::run_all::{change_all, run_all};
+use crate::run_all::run_code;
 use pac_base::{Exact, Listed, NoMemory, Same};
 use pac_ops::{Note, PieceId};
 use pac_plan::{Code, Shared};
@@ -167,7 +167,13 @@ pub fn run(alloc: Global, work: Work) -> Result<Done, (Work, NoMemory)>
     ensures ok { IfOk result (λ done. done.work ≡ work) }
     ensures err { IfErr result (λ refused. refused.0 ≡ work) }
 {
-    match outcome(alloc, &work) {
+    match run_code(
+        alloc,
+        work.piece.txn,
+        work.code.get(),
+        &work.env,
+        &work.rows,
+    ) {
         Ok(frame) => {
             let Frame {
                 env: _,
@@ -185,28 +191,4 @@ pub fn run(alloc: Global, work: Work) -> Result<Done, (Work, NoMemory)>
         }
         Err(refused) => Err((work, refused)),
     }
-}
-
-// What the operations of work leave.
-fn outcome(alloc: Global, work: &Work) -> Result<Frame, NoMemory>
-    requires { CanRunCode work.now.code (begun work.now) }
-    ensures { IfOk result (IsOutcomeOf work.now) }
-{
-    let mut frame = Frame {
-        env: work.env.copy(alloc)?,
-        outs: Env::new(alloc),
-        writes: Vec::new(alloc),
-        note: None,
-    };
-    match work.code.get() {
-        Code::Ops(ops) => run_all(
-            alloc,
-            work.piece.txn,
-            ops.as_slice(),
-            work.rows.as_slice(),
-            &mut frame,
-        )?,
-        Code::Records(records) => change_all(alloc, records.as_slice(), &mut frame)?,
-    }
-    Ok(frame)
 }

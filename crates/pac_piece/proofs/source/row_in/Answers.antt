@@ -3,7 +3,7 @@ use Rattle.std.proofs.Common.{sym, ◌∙◌}
 use Rattle.std.specs.FinMap.{empty, get-empty}
 use Rattle.pac_value.specs.State.{Cell, cell_cmp}
 use Rattle.pac_piece.proofs.WriteLookups.{first_at, get-found, get-none, none_at}
-use Rattle.pac_piece.proofs.changes.row_in.Goals as goal
+use Rattle.pac_piece.proofs.source.row_in.Goals as goal
 
 pub returns-in-Some : goal.returns-in-Some
 returns-in-Some c =
