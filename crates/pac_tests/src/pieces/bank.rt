@@ -1,13 +1,16 @@
 // The pieces of the bank's three batches, and the accesses of those that wait for no other of their transaction.
+ghost use Rattle.std.specs.Prelude.{◌≡◌};
+ghost use Rattle.std.specs.FinMap.{empty};
+
 use super::plan_code;
 use pac_base::{Exact, Listed, listed};
 use pac_batch::{PieceSet, sets};
 use pac_keys::{PlanCode, arguments, has_arguments};
 use pac_ops::{Batch, PieceId, Txn};
-use pac_piece::{Done, Work, arguments_run, rows_fit, run};
+use pac_piece::{Done, Work, arguments_run, arguments_run_on, rows_fit, run, run_on};
 use pac_plan::{Access, Touch};
 use pac_request::read_script;
-use pac_tables::Write;
+use pac_tables::{HashedRows, OrderedRows, Rows, Write};
 use pac_value::{Key, Value};
 use std::alloc::Global;
 
@@ -219,19 +222,24 @@ fn absent(alloc: Global, key: i64) -> Option<Listed<Write>> {
     Some(listed(rows))
 }
 
-// Whether what is done is that the count at a key of the statistics is written as 1.
-fn counts_one(done: &Done, key: i64) -> bool {
-    match (done.writes(), done.note()) {
-        ([write], None) => {
-            write.table == 3
+// Whether one row is written, with one value.
+fn is_one_row(writes: &[Write], table: u16, key: i64, value: i64) -> bool {
+    match writes {
+        [write] => {
+            write.table == table
                 && write.key == Key::Int(key)
                 && match &write.row {
-                    Some(row) => row.items() == [Value::Int(1)].as_slice(),
+                    Some(row) => row.items() == [Value::Int(value)].as_slice(),
                     None => false,
                 }
         }
         _ => false,
     }
+}
+
+// Whether what is done is that the count at a key of the statistics is written as 1.
+fn counts_one(done: &Done, key: i64) -> bool {
+    done.note().is_none() && is_one_row(done.writes(), 3, key, 1)
 }
 
 // Whether a deposit's work in the statistics' block counts one in a row that is not there.
@@ -291,4 +299,62 @@ fn statistics_are_so(alloc: Global, text: &[u8]) -> bool {
 #[test]
 fn a_deposit_counts_in_the_statistics(rt: HostRuntime) {
     assert!(rt; statistics_are_so(rt.alloc(), BANK));
+}
+
+// Whether a hop over tables without rows writes its value at the default of what it reads.
+fn hops_so<R: Rows>(alloc: Global, code: &PlanCode, txn: &Txn, rows: &R) -> bool
+    requires { R.held rows.now ≡ empty }
+{
+    let Txn::Call(call) = txn else {
+        return false;
+    };
+    let plan = code.plan();
+    let piece = PieceId { txn: 1, block: 0 };
+    if call.proc >= plan.procs() || piece.block >= plan.blocks() || !plan.is_entry(piece.block) {
+        return false;
+    }
+    if !plan.fits(txn) || rows.tables() < plan.tables() {
+        return false;
+    }
+    let Ok(env) = arguments(alloc, txn) else {
+        return false;
+    };
+    let ops = code.code(call.proc, piece.block).get();
+    arguments_run_on(plan, txn, piece.block, ops, &env, rows);
+    match run_on(alloc, piece, ops, &env, rows) {
+        Ok(outcome) => outcome.note.is_none() && is_one_row(outcome.writes.items(), 0, 0, 1),
+        Err(_) => false,
+    }
+}
+
+// The same over tables of both forms.
+fn first_hops(alloc: Global, code: &PlanCode, batch: &Batch) -> bool {
+    let [txn] = batch.txns.items() else {
+        return false;
+    };
+    let Ok(ordered) = OrderedRows::new(alloc, 1) else {
+        return false;
+    };
+    let Ok(hashed) = HashedRows::new(alloc, 1) else {
+        return false;
+    };
+    hops_so(alloc, code, txn, &ordered) && hops_so(alloc, code, txn, &hashed)
+}
+
+fn hop_is_so(alloc: Global, text: &[u8]) -> bool {
+    let Ok(script) = read_script(alloc, text) else {
+        return false;
+    };
+    let Some(batch) = script.batches.as_slice().first() else {
+        return false;
+    };
+    match plan_code(alloc, &script.catalogue) {
+        Some(code) => first_hops(alloc, &code, batch),
+        None => false,
+    }
+}
+
+#[test]
+fn a_hop_runs_over_the_tables(rt: HostRuntime) {
+    assert!(rt; hop_is_so(rt.alloc(), HOP));
 }
