@@ -197,7 +197,7 @@ impl Slots {
         ensures too_large { (bytes : ℕ) → IsErrOf result (SaveError.TooLarge bytes) → (MAX_SLOT_LEN < bytes) × (bytes ≡ 1 + length (checkpoint_bytes (checkpoint_of (length cat.now.tables) (head_with txns place) (R.held rows.now)))) }
         ensures room { OnOk result (1 + length (checkpoint_bytes (checkpoint_of (length cat.now.tables) (head_with txns place) (R.held rows.now))) ≤ MAX_SLOT_LEN) }
         ensures failed { IsErrOf result SaveError.DiskFault → self.new ≡ record { a = self.old.a; b = self.old.b; has_failed = true } }
-        ensures refused { (cause : ASaveError) → IsErrOf result cause → ¬ (cause ≡ SaveError.DiskFault) → (self.new ≡ self.old) × (D.known a.new ≡ D.known a.old) × (D.known b.new ≡ D.known b.old) }
+        ensures refused { (cause : ASaveError) → IsErrOf result cause → ¬ (cause ≡ SaveError.DiskFault) → (self.new ≡ self.old) × (a.new ≡ a.old) × (b.new ≡ b.old) }
 
         // No call of a device comes after one that failed.
         ensures disk_fault { IsErrOf result SaveError.DiskFault → OneFaulted (D.faults a.old ∷ D.faults b.old ∷ []) (D.faults a.new ∷ D.faults b.new ∷ []) }
