@@ -9,5 +9,6 @@ pub mod SaveLemmas
 pub mod MoveLemmas
 pub mod GroupLemmas
 pub mod StepLemmas
+pub mod RoomLemmas
 pub mod LawLemmas
 pub mod OpeningLemmas

@@ -20,3 +20,7 @@ if-err-four (Err e) p q r s step = step e p q r s
 pub on-ok : {T E : Type 0} {P Q : Type 0} (result : Result T E) → OnOk result P → (P → Q) → OnOk result Q
 on-ok (Ok x) has step = step has
 on-ok (Err e) has step = tt
+
+pub if-err-both : {T E : Type 0} {P Q R : E → Type 0} (result : Result T E) → IfErr result P → IfErr result Q → ((e : E) → P e → Q e → R e) → IfErr result R
+if-err-both (Ok x) p q step = tt
+if-err-both (Err e) p q step = step e p q

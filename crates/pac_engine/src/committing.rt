@@ -74,6 +74,7 @@ pub fn commit<D: Disk>(log: &mut Log, disk: &mut D, txns: Vec<Txn>) -> Result<()
     ensures gate { OnOk result (log.new.gate ≡ gate_past txns.items log.old.gate) }
     ensures kept { OnErr result (log.new.gate ≡ log.old.gate) }
     ensures waits { OnOk result (log.new.stage ≡ Stage.Waiting) }
+    ensures uncalled { ¬ IsErrOf result EngineCause.DiskFault → OnErr result (disk.new ≡ disk.old) }
 
     // When each refusal comes.
     ensures full { (need : ℕ) → IsErrOf result (EngineCause.LogFull need) → IsOverFull log.old.gate.place txns.items need }

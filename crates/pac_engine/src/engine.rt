@@ -14,6 +14,7 @@ ghost use Rattle.pac_session.specs.Session.{SessionState, commits};
 ghost use Rattle.pac_session.specs.Groups.{cut_one, place_after_group};
 ghost use Rattle.pac_session.specs.Open.{IsInGroup, rules_of, state_now};
 ghost use Rattle.pac_engine.specs.Closing.{Closes, CountsFault, IsKept, StopsAt, is_stop, slot_len};
+ghost use Rattle.pac_engine.specs.Handled.{StopsForRoom};
 ghost use Rattle.pac_engine.specs.Standing.{HasDevices, OnlyGrows, KeepsMore, StandsForMore, durable_of};
 
 use crate::{EngineCause, EngineFault, EngineParts};
@@ -140,6 +141,9 @@ impl Engine {
         ensures kept { IfOk result (λ given. AllByRecursion (IsKept self.new) given) }
         ensures kept_before { IfErr result (λ fault. AllByRecursion (IsKept self.new) fault.replies) }
         ensures durable { OnOk result (durable_of self.new ≡ self.new.session.before) }
+
+        // What has no room is not begun: no device is called for it, and what was durable before is all that is.
+        ensures room { IfErr result (λ fault. StopsForRoom D.known request fault.cause self.old self.new devices.old devices.new) }
 
         // The devices stand for the history at each moment, and the engine stands for it with the transactions of the request.
         ensures ready { OnOk result (HasDevices D.known self.new devices.new) }

@@ -36,6 +36,9 @@ impl EngineParts {
         ensures given { IfOk result (λ given. given ≡ self.old.session.held) }
         ensures closed { OnOk result (self.new ≡ committed_parts self.old) }
         ensures unmoved { OnErr result (IsUnmoved self.old self.new) }
+        ensures slot_a { devices.new.slot_a ≡ devices.old.slot_a }
+        ensures slot_b { devices.new.slot_b ≡ devices.old.slot_b }
+        ensures uncalled { ¬ IsErrOf result EngineCause.DiskFault → OnErr result ((devices.new ≡ devices.old) × HasDevices D.known self.new devices.new) }
         ensures ready { OnOk result (HasDevices D.known self.new devices.new) }
         ensures keeps { KeepsMore D.known [] self.old self.new devices.old devices.new }
         ensures stands { OnOk result (StandsForMore D.known [] self.old self.new devices.old devices.new) }
@@ -63,6 +66,7 @@ impl EngineParts {
         requires ready { HasDevices D.known self.old devices.old }
         ensures saved { OnOk result (self.new ≡ saved_parts self.old) }
         ensures unmoved { OnErr result (IsUnmoved self.old self.new) }
+        ensures uncalled { ¬ IsErrOf result EngineCause.DiskFault → OnErr result ((self.new ≡ self.old) × (devices.new ≡ devices.old)) }
         ensures ready { OnOk result (HasDevices D.known self.new devices.new) }
         ensures keeps { KeepsMore D.known [] self.old self.new devices.old devices.new }
         ensures stands { OnOk result (StandsForMore D.known [] self.old self.new devices.old devices.new) }

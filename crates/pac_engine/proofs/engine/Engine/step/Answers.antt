@@ -1,6 +1,7 @@
 -- The engine's parts do what the request asks, and its flag is set after them.
 use Rattle.std.proofs.Common.{refl}
 use Rattle.pac_engine.proofs.StepLemmas.{flag-keeps, flag-stands}
+use Rattle.pac_engine.proofs.RoomLemmas.{room-flagged}
 use Rattle.pac_engine.proofs.engine.Engine.step.Goals as goal
 
 pub returns-in-Ok-clause-keeps : goal.returns-in-Ok-clause-keeps
@@ -11,3 +12,6 @@ returns-in-Ok-clause-stands g c = flag-stands g.D.Disk.known c.args.request c.se
 
 pub returns-in-Err-clause-keeps : goal.returns-in-Err-clause-keeps
 returns-in-Err-clause-keeps g c = λ works. flag-keeps g.D.Disk.known c.args.request c.self.inside.parts c.args.self.now c.handle.new.self c.self.view_is c.args.devices.now c.handle.new.devices _ refl refl c.handle.ensures.handled.keeps
+
+pub returns-in-Err-clause-room : goal.returns-in-Err-clause-room
+returns-in-Err-clause-room g c = room-flagged g.D.Disk.known c.args.request c.args.self.now c.handle.new.self c.args.devices.now c.handle.new.devices c.self.inside.parts c.self.view_is _ refl c.in-Err.fault.cause c.in-Err.ensures.handled.room

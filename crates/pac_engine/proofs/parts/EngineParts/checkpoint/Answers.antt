@@ -1,13 +1,15 @@
 -- The group is closed, and then the checkpoint is saved.
-use Rattle.std.proofs.Common.{◌∙◌, List, Err, ap, subst, sym, arith}
+use Rattle.std.proofs.Common.{◌∙◌, List, Err, ap, refl, subst, sym, arith}
 use Rattle.std.proofs.lemmas.Grind.{common_steps}
 use Rattle.std.specs.List.{AllByRecursion}
 use Rattle.pac_outside.specs.Devices.{each}
 use Rattle.pac_request.specs.declared.request.Reply.{Reply}
+use Rattle.pac_request.specs.declared.request.Request.TheVariants.{Save}
 use Rattle.pac_engine.specs.declared.fault.EngineCause.{EngineCause}
 use Rattle.pac_engine.specs.Closing.{CountsFault, IsKept}
-use Rattle.pac_engine.proofs.Results.{if-err-four, if-ok-both, on-ok}
+use Rattle.pac_engine.proofs.Results.{if-err-both, if-err-four, if-ok-both, on-ok}
 use Rattle.pac_engine.proofs.StepLemmas.{checkpoint-closes, checkpoint-keeps, checkpoint-stands, checkpoint-stops, checkpoint-unsaved}
+use Rattle.pac_engine.proofs.RoomLemmas.{room-closed, room-saved, same-cause}
 use Rattle.pac_engine.proofs.parts.EngineParts.checkpoint.Goals as goal
 
 pub returns-in-Ok-clause-handled : goal.returns-in-Ok-clause-handled
@@ -19,6 +21,7 @@ returns-in-Ok-clause-handled g c =
     let on = c.save_and_report.ensures.goes_on in
     let full = c.save_and_report.ensures.full in
     let large = c.save_and_report.ensures.large in
+    let uncalled = c.save_and_report.ensures.uncalled in
     record {
       closes = λ start group within.
           if-ok-both c.save_and_report.result known saved (λ given knows becomes. checkpoint-closes c.args.self.now c.requires.live.working.counted start group within c.in-Ok.ensures.room c.close.new.self c.save_and_report.new.self c.in-Ok.replies given c.in-Ok.ensures.closed becomes c.in-Ok.ensures.given knows);
@@ -35,6 +38,7 @@ returns-in-Ok-clause-handled g c =
       stands = on-ok c.save_and_report.result stands (λ after text history.
           checkpoint-stands text history c.args.self.now c.close.new.self c.save_and_report.new.self c.in-Ok.ensures.closed _ _ _ (c.in-Ok.ensures.stands text history) (after text _));
       goes_on = on;
+      room = if-err-both c.save_and_report.result full uncalled (λ fault none same. room-saved g.D.Disk.known Save c.args.self.now c.save_and_report.new.self c.args.devices.now c.save_and_report.new.devices refl c.close.new.self c.close.new.devices c.in-Ok.ensures.closed c.close.ensures.slot_a c.close.ensures.slot_b c.in-Ok.ensures.ready fault.cause none same);
       counted = grind (arith, common_steps);
     }
 
@@ -54,5 +58,6 @@ returns-in-Err-clause-handled g c = record {
   keeps = c.close.ensures.keeps;
   stands = tt;
   goes_on = λ e. c.in-Err.ensures.goes_on (ap (λ x. Err x) (sym c.fault.ensures.cause ∙ e));
+  room = room-closed g.D.Disk.known Save c.args.self.now c.close.new.self c.args.devices.now c.close.new.devices c.fault.result.cause (λ not. c.in-Err.ensures.uncalled (λ e. not (c.fault.ensures.cause ∙ same-cause e))) (ap (λ gate. gate.txns) c.in-Err.ensures.unmoved.gate) (λ bytes e. c.in-Err.ensures.known bytes (ap (λ x. Err x) (sym c.fault.ensures.cause ∙ e)));
   counted = subst (λ (cause : EngineCause). CountsFault cause (each g.D.Disk.faults c.args.devices.now) (each g.D.Disk.faults c.close.new.devices)) (sym c.fault.ensures.cause) c.in-Err.ensures.faults;
 }

@@ -10,6 +10,7 @@ use Rattle.pac_engine.specs.Closing.{CountsFault, IsKept}
 use Rattle.pac_engine.specs.Standing.{durable_of, saved_of}
 use Rattle.pac_engine.specs.declared.parts.EngineParts.{EngineParts}
 use Rattle.pac_engine.proofs.StepLemmas.{asked-keeps-known, asked-stands-known, after-closed, after-keeps, after-later, after-stands, after-stops, closed-kept}
+use Rattle.pac_engine.proofs.RoomLemmas.{room-closed, same-cause}
 use Rattle.pac_engine.proofs.parts.EngineParts.close_after.Goals as goal
 
 pub returns-then-not-ends_group : goal.returns-then-not-ends_group
@@ -25,6 +26,7 @@ returns-then-not-ends_group g c = λ before asked is. record {
   keeps = λ text history. asked-keeps-known text history before asked is.fits is.live.working.counted c.args.self.now (ap durable_of is.becomes) (ap saved_of is.becomes) _;
   stands = λ text history. asked-stands-known text history before asked is.fits is.live.working.counted c.args.self.now is.becomes _;
   goes_on = tt;
+  room = tt;
   counted = refl;
 }
 
@@ -41,6 +43,7 @@ returns-in-Ok g c = λ before asked is. record {
   keeps = λ text history. after-keeps text history before asked is.fits is.live.working.counted c.args.self.now is.becomes c.close.new.self _ _ (c.close.ensures.keeps text _);
   stands = λ text history. after-stands text history before asked is.fits is.live.working.counted c.args.self.now is.becomes c.close.new.self _ _ (c.in-Ok.ensures.stands text _);
   goes_on = tt;
+  room = tt;
   counted = c.in-Ok.ensures.faults;
 }
 
@@ -60,5 +63,6 @@ returns-in-Err g c = λ before asked is. record {
   keeps = λ text history. after-keeps text history before asked is.fits is.live.working.counted c.args.self.now is.becomes c.close.new.self _ _ (c.close.ensures.keeps text _);
   stands = tt;
   goes_on = λ e. c.in-Err.ensures.goes_on (ap (λ x. Err x) (sym c.fault.ensures.cause ∙ e));
+  room = room-closed g.D.Disk.known asked before c.close.new.self c.args.devices.now c.close.new.devices c.fault.result.cause (λ not. c.in-Err.ensures.uncalled (λ e. not (c.fault.ensures.cause ∙ same-cause e))) (ap (λ gate. gate.txns) c.in-Err.ensures.unmoved.gate ∙ ap durable_of is.becomes) (λ bytes e. c.in-Err.ensures.known bytes (ap (λ x. Err x) (sym c.fault.ensures.cause ∙ e)));
   counted = subst (λ (cause : EngineCause). CountsFault cause (each g.D.Disk.faults c.args.devices.now) (each g.D.Disk.faults c.close.new.devices)) (sym c.fault.ensures.cause) c.in-Err.ensures.faults;
 }

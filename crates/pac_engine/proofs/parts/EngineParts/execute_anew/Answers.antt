@@ -9,6 +9,7 @@ use Rattle.pac_engine.specs.Closing.{CountsFault, IsKept}
 use Rattle.pac_engine.specs.Standing.{durable_of}
 use Rattle.pac_engine.proofs.StepLemmas.{anew-closes, anew-keeps, anew-stands, anew-stops, anew-unrun, closed-kept, ran-parts, same-fits}
 use Rattle.pac_engine.proofs.MoveLemmas.{run-asked, with_session}
+use Rattle.pac_engine.proofs.RoomLemmas.{room-closed, same-cause}
 use Rattle.pac_engine.proofs.parts.EngineParts.execute_anew.Goals as goal
 
 pub returns-in-Err : goal.returns-in-Err
@@ -28,6 +29,7 @@ returns-in-Err g c = λ asked asks. record {
       anew-keeps text history c.args.self.now asked (same-fits c.args.self.now asked c.args.txn asks c.requires.fits) c.requires.live.working.counted c.close.new.self _ _ (c.close.ensures.keeps text history) _ refl refl;
   stands = tt;
   goes_on = λ e. c.in-Err.ensures.goes_on (ap (λ x. Err x) (sym c.fault.ensures.cause ∙ e));
+  room = room-closed g.D.Disk.known asked c.args.self.now c.close.new.self c.args.devices.now c.close.new.devices c.fault.result.cause (λ not. c.in-Err.ensures.uncalled (λ e. not (c.fault.ensures.cause ∙ same-cause e))) (ap (λ gate. gate.txns) c.in-Err.ensures.unmoved.gate) (λ bytes e. c.in-Err.ensures.known bytes (ap (λ x. Err x) (sym c.fault.ensures.cause ∙ e)));
   counted = subst (λ (cause : EngineCause). CountsFault cause (each g.D.Disk.faults c.args.devices.now) (each g.D.Disk.faults c.close.new.devices)) (sym c.fault.ensures.cause) c.in-Err.ensures.faults;
 }
 
@@ -48,6 +50,7 @@ returns-in-Ok-run g c = λ asked asks. record {
       anew-stands text history c.args.self.now asked (same-fits c.args.self.now asked c.args.txn asks c.requires.fits) c.requires.live.working.counted c.close.new.self _ _ (c.close.ensures.keeps text history) c.in-Ok.ensures.closed (c.in-Ok.ensures.stands text history) _
       (ap (λ now. with_session now c.close.new.self) (c.in-Ok-run.ensures ∙ run-asked asked c.close.new.self.session c.args.txn asks));
   goes_on = tt;
+  room = tt;
   counted = c.in-Ok.ensures.faults;
 }
 
@@ -65,5 +68,6 @@ returns-in-Err-run g c = λ asked asks. record {
       anew-keeps text history c.args.self.now asked (same-fits c.args.self.now asked c.args.txn asks c.requires.fits) c.requires.live.working.counted c.close.new.self _ _ (c.close.ensures.keeps text history) _ refl refl;
   stands = tt;
   goes_on = λ e. absurd (cc e);
+  room = tt;
   counted = c.in-Ok.ensures.faults;
 }

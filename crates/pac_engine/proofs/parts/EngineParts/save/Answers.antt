@@ -16,7 +16,7 @@ returns-in_err-save-clause-keeps g c = λ text history.
     (any-here e c.catalogue.result.now c.txns-txns.result c.place-place.result c.rows.result.now.rows c.catalogue.ensures txns place c.rows.ensures.value _ _ _ c.save.ensures.any_moment) c.save.ensures.other
     c.in_err-save.field-0.0 c.save.new.self
     (λ is. (form-here e c.catalogue.result.now c.txns-txns.result c.place-place.result c.rows.result.now.rows c.catalogue.ensures txns place c.rows.ensures.value (c.save.ensures.form (c.in_err-save.was ∙ ap (λ x. Err x) is)), c.save.ensures.failed (c.in_err-save.was ∙ ap (λ x. Err x) is)))
-    (λ not. c.save.ensures.refused _ c.in_err-save.was not)
+    (λ not. let same = c.save.ensures.refused _ c.in_err-save.was not in (same.0, ap g.D.Disk.known same.1, ap g.D.Disk.known same.2))
 
 pub returns-clause-keeps : goal.returns-clause-keeps
 returns-clause-keeps g c = λ text history.
