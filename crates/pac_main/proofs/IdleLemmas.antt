@@ -100,6 +100,8 @@ idle-run group_size limit left held log a b faulted = record {
   prefix = record { count = 0; is = refl };
   whole = tt;
   exact = λ e. absurd e;
+  full = λ need e. absurd cc;
+  there = inl (tt, refl);
   exit = idle_exit (idle_rules group_size limit) idle_start log a b;
   moments = idle_moments (idle_rules group_size limit) idle_start log a b;
   given = [];

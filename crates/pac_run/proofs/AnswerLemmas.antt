@@ -5,6 +5,7 @@ use Rattle.std.specs.List.{AllByRecursion}
 use Rattle.std.proofs.lemmas.List.{append-nil}
 use Rattle.pac_ops.specs.declared.transaction.Txn.{Txn}
 use Rattle.pac_outside.specs.Devices.{all_known}
+use Rattle.pac_outside.specs.declared.devices.Devices.{Devices}
 use Rattle.pac_outside.specs.Disk.{DiskHistory}
 use Rattle.pac_types.specs.Typing.{CatalogueState}
 use Rattle.pac_check.specs.declared.limits.TheConstants.{MAX_SLOT_LEN}
@@ -14,14 +15,19 @@ use Rattle.pac_request.specs.declared.request.Reply.{Reply}
 use Rattle.pac_session.specs.Session.{Rules, SessionState, commits, committed, ends}
 use Rattle.pac_session.specs.Groups.{GroupCut, all_requests, cut_on, cut_one, place_after_group}
 use Rattle.pac_session.specs.Open.{IsInGroup, rules_of, state_now}
+use Rattle.pac_engine.specs.declared.fault.EngineCause.{EngineCause}
+use Rattle.pac_engine.specs.declared.fault.EngineCause.TheVariants as cause
 use Rattle.pac_engine.specs.declared.parts.EngineParts.{EngineParts}
 use Rattle.pac_engine.specs.Closing.{Closes, IsKept, slot_len}
-use Rattle.pac_engine.specs.Standing.{OnlyGrows, StandsOn, durable_of}
+use Rattle.pac_engine.specs.Handled.{StopsForRoom}
+use Rattle.pac_engine.specs.Standing.{HasDevices, OnlyGrows, StandsOn, durable_of}
 use Rattle.pac_engine.proofs.DeviceLemmas.{rest-known}
 use Rattle.pac_engine.proofs.LawLemmas.{closes-then}
 use Rattle.pac_run.specs.declared.stop.RunStop.{RunStop}
-use Rattle.pac_run.specs.declared.stop.RunStop.TheVariants.{NoMemory, OutputFault}
-use Rattle.pac_run.specs.Serving.{Answered, Broke, KeepsEach, StandsForEach, StepStops, WasHandled}
+use Rattle.pac_run.specs.declared.stop.RunStop.TheVariants.{LogFull, NoMemory, OutputFault}
+use Rattle.pac_run.specs.Causes.{stop_of_engine}
+use Rattle.pac_run.specs.Serving.{Answered, Broke, KeepsEach, StandsForEach, StaysDurable, WasHandled}
+use Rattle.pac_run.specs.Stopping.{HasWorked, StepStops}
 use Rattle.pac_run.specs.Texts.{IsTextPrefix, IsPlain, SaysUnlessFault, texts}
 use Rattle.pac_run.proofs.ServeLemmas.{took-nothing, whole-prefix}
 use Rattle.pac_run.proofs.StepLemmas.{nothing-keeps}
@@ -34,6 +40,31 @@ only-err (Err e) a b only is = same only is
   where
     same : {T E : Type 0} {e a b : E} → ◌≡◌ {A = Result T E} (Err e) (Err a) → ◌≡◌ {A = Result T E} (Err e) (Err b) → b ≡ a
     same f g = cc
+
+-- ---- a step that finds no room
+
+module _ {D : Type 0} (known : D → Option DiskHistory) (asked : Request) (before now : EngineParts) (old new : Devices D) where
+  pub room-stays : (why : EngineCause) → StopsForRoom known asked why before now old new → StaysDurable asked before now (stop_of_engine why)
+  room-stays (cause.LogFull need) is = is.1
+  room-stays (cause.TooLarge bytes) is = (is.0, is.3)
+  room-stays cause.DiskFault is = tt
+  room-stays cause.NoMemory is = tt
+  room-stays cause.Ended is = tt
+
+  -- the engine knows what the devices hold
+  pub room-worked : (why : EngineCause) → StopsForRoom known asked why before now old new → HasWorked {A = Unit {0}} (Err (stop_of_engine why)) → HasDevices known now new
+  room-worked (cause.LogFull need) is worked = absurd worked
+  room-worked (cause.TooLarge bytes) is worked = is.4
+  room-worked cause.DiskFault is worked = absurd worked
+  room-worked cause.NoMemory is worked = absurd worked
+  room-worked cause.Ended is worked = absurd worked
+
+  pub room-full : (why : EngineCause) → StopsForRoom known asked why before now old new → (need : ℕ) → stop_of_engine why ≡ LogFull need → HasDevices known now new
+  room-full (cause.LogFull more) is need same = is.2
+  room-full (cause.TooLarge bytes) is need same = is.4
+  room-full cause.DiskFault is need same = absurd cc
+  room-full cause.NoMemory is need same = absurd cc
+  room-full cause.Ended is need same = absurd cc
 
 module _ (asked : Request) (old new : EngineParts) (known known' : List (Option DiskHistory)) where
   keeps-one : KeepsEach (commits (rules_of old.session) (state_now old.session) asked) old new known known' → KeepsEach (committed (rules_of old.session) (state_now old.session) (asked ∷ [])) old new known known'
@@ -58,6 +89,7 @@ module _ (asked : Request) (old new : EngineParts) (known known' : List (Option 
     kept = tt;
     plain = tt;
     handled = λ out. absurd (no-output (sym is ∙ out));
+    room = subst (λ (s : RunStop). StaysDurable asked old new s) (sym is) tt;
   }
     where
       no-output : NoMemory ≡ OutputFault → ⊥
@@ -66,9 +98,9 @@ module _ (asked : Request) (old new : EngineParts) (known known' : List (Option 
   pub broke-of : (catalogue : CatalogueState) (held held' : Option (List ℕ)) (faulted : Type 0) (stop : RunStop) (more : List Reply) (text : List ℕ) → text ≡ texts catalogue more → SaysUnlessFault held text held' faulted
       → KeepsEach (commits (rules_of old.session) (state_now old.session) asked) old new known known' → OnlyGrows old new → AllByRecursion (IsKept new) more → AllByRecursion IsPlain more
       → ((start : SessionState) (group : List Request) → IsInGroup start group old.session → StepStops (rules_of old.session) old.log.gate.place start (cut_one (rules_of old.session) start group asked).closed more stop)
-      → (stop ≡ OutputFault → WasHandled asked more old new)
+      → (stop ≡ OutputFault → WasHandled asked more old new) → StaysDurable asked old new stop
       → Broke catalogue asked old new held held' known known' faulted stop
-  broke-of catalogue held held' faulted stop more text is (inl took) keeps grows kept plain stops handled = record {
+  broke-of catalogue held held' faulted stop more text is (inl took) keeps grows kept plain stops handled room = record {
     more = more;
     out = text;
     took = took;
@@ -80,8 +112,9 @@ module _ (asked : Request) (old new : EngineParts) (known known' : List (Option 
     kept = kept;
     plain = plain;
     handled = handled;
+    room = room;
   }
-  broke-of catalogue held held' faulted stop more text is (inr fault) keeps grows kept plain stops handled = record {
+  broke-of catalogue held held' faulted stop more text is (inr fault) keeps grows kept plain stops handled room = record {
     more = more;
     out = take fault.1.count text;
     took = fault.1.prefix;
@@ -93,6 +126,7 @@ module _ (asked : Request) (old new : EngineParts) (known known' : List (Option 
     kept = kept;
     plain = plain;
     handled = handled;
+    room = room;
   }
 
   -- the groups that it closes are those of the step

@@ -1,6 +1,6 @@
 -- The whole run.
 use Rattle.std.proofs.Common.{◌≡◌, ◌∙◌, ◌⊎◌, inl, inr, ℕ, List, [], ◌∷◌, ◌++◌, length, take, Option, Some, None, Result, Ok, Err, OnOk, refl, sym, ap, subst, arith, append_assoc, drop}
-use Rattle.std.specs.Prelude.{IfErr, IfSome, MatchResult, map}
+use Rattle.std.specs.Prelude.{IfErr, IfSome, IsErrOf, MatchResult, map}
 use Rattle.std.specs.FinMap.{empty}
 use Rattle.std.proofs.KnownBytes.{prepend_known-nil}
 use Rattle.std.proofs.lemmas.Grind.{flat_map-append}
@@ -35,7 +35,7 @@ use Rattle.pac_run.specs.Causes.{stop_of_opening}
 use Rattle.pac_run.specs.Opening.{AllStand, BeginsOver, IsFresh, IsOpenedFrom, StandsForPrefix}
 use Rattle.pac_run.specs.Run.{AtExit, AtMoments, DevicesHave, IsBegun, IsExit, IsRun, IsWholeRun, IfSeenKnown, history_after}
 use Rattle.pac_run.specs.Serving.{IsDone, Served}
-use Rattle.pac_run.specs.Stopping.{AreFirst, HasWorked, IsStopped, IsStoppedAt, IsUnopened, MayNotOpen, RefusesStore, closed_number}
+use Rattle.pac_run.specs.Stopping.{AreFirst, HasWorked, IsStopped, IsStoppedAt, IsUnopened, MayNotOpen, RefusesStore, StopsThere, closed_number}
 use Rattle.pac_run.specs.Texts.{IsTextPrefix, texts}
 use Rattle.pac_run.proofs.AckedLemmas.{acknowledged, known-saved}
 use Rattle.pac_run.proofs.NameLemmas.{names-of}
@@ -157,6 +157,8 @@ not-opened batch limit left held l a b known' faulted error stop is runs =
       all = inl refl;
       stopped = inl (early, refl, refl);
       exact = λ worked. absurd (not-worked stop early worked);
+      full = λ need full. absurd (subst MayNotOpen (same-stop stop (LogFull need) full) early);
+      there = inl (early, refl);
     }
 
 -- ---- one that is
@@ -171,7 +173,7 @@ stops-part (Err stop) P R S is step = step stop is
 
 module _ (batch limit : ℕ) (engine new : EngineParts) (left left' held held' : Option (List ℕ)) (l a b : Option DiskHistory) (middle known' : List (Option DiskHistory)) (faulted : Type 0) (result : Result (Unit {0}) RunStop) (fresh : IsFresh batch limit engine)
     (within : first_over limit (length engine.session.catalogue.tables) engine.session.tables ≡ None) (opened : IfReadKnown (IsOpenedFrom engine) l a b) (begins : IfAllKnown (BeginsOver engine) (l ∷ a ∷ b ∷ []) middle) (runs : IfAllKnown RunsAsBefore (l ∷ a ∷ b ∷ []) middle)
-    (served : Served engine new left left' held held' middle known' faulted result) (ended : HasWorked result → EndsAt new.log.gate known') where
+    (served : Served engine new left left' held held' middle known' faulted result) (ended : HasWorked result → EndsAt new.log.gate known') (full : (need : ℕ) → IsErrOf result (LogFull need) → EndsAt new.log.gate known') where
   abbrev rules : Rules
   rules = rules_of engine.session
 
@@ -266,6 +268,11 @@ module _ (batch limit : ℕ) (engine new : EngineParts) (left left' held held' :
     moments-known (Some t) (Some m) None begin run keep = λ all. keep (begin text catalogue history least all).stands
     moments-known (Some t) (Some m) (Some n) begin run keep = λ all. let prefix = begin text catalogue history least all in each-moment t m n prefix (text-of (take (durable_of engine) history) m prefix.stands) (keep prefix.stands) run
 
+  then-there : (run : Result (Unit {0}) RunStop) → IfErr run (λ stop. StopsThere (rules_of engine.session) engine.log.gate.place (state_now engine.session) served.requests served.given served.out stop)
+      → IfErr run (λ stop. (MayNotOpen stop × (served.requests ≡ [])) ⊎ StopsThere (rules_of engine.session) engine.log.gate.place (state_now engine.session) served.requests served.given served.out stop)
+  then-there (Ok done) is = tt
+  then-there (Err stop) is = inr is
+
   pub is-run : IsRun batch limit left left' held held' (l ∷ a ∷ b ∷ []) known' faulted result
   is-run = record {
     lines = served.lines;
@@ -294,5 +301,7 @@ module _ (batch limit : ℕ) (engine new : EngineParts) (left left' held held' :
     written = served.prefix;
     all = served.whole;
     exact = λ worked. ends-exactly new.log.gate (closed_number rules start served.requests) (served.durable worked) known' (ended worked);
+    full = λ need is. let last = served.full need is in (last.0, last.1, last.2, ends-exactly new.log.gate (closed_number rules start last.0) last.3 known' (full need is));
+    there = then-there result served.there;
     stopped = stops-part result (IsDone rules engine.log.gate.place start served.requests served.given served.out) (λ stop. IsStoppedAt rules engine.log.gate.place start served.requests served.given stop) (λ stop. IsStopped rules engine.log.gate.place start served.requests served.given stop) served.ending (λ stop at. inr at);
   }

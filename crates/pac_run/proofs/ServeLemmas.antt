@@ -19,6 +19,8 @@ use Rattle.pac_report.specs.Replies.{reply_text}
 use Rattle.pac_session.specs.Session.{Rules, SessionState, ends, replies}
 use Rattle.pac_session.specs.Groups.{GroupCut, all_requests, cut, cut_on, cut_one}
 use Rattle.pac_session.specs.Open.{rules_of, state_now}
+use Rattle.pac_session.proofs.CutLemmas.{whole-cut}
+use Rattle.pac_session.proofs.SessionLemmas.{ends-append}
 use Rattle.pac_engine.specs.declared.parts.EngineParts.{EngineParts}
 use Rattle.pac_engine.specs.Closing.{IsKept}
 use Rattle.pac_engine.specs.Standing.{durable_of}
@@ -26,12 +28,12 @@ use Rattle.pac_run.specs.declared.limits.TheConstants.{MAX_INPUT}
 use Rattle.pac_run.specs.declared.stop.RunStop.{RunStop}
 use Rattle.pac_run.specs.declared.stop.RunStop.TheVariants.{NoStore, Damaged, AbortInLog, RowsOver, InputFault, OutputFault, DiskFault, NoMemory, LogFull, TooLong, TooLarge}
 use Rattle.pac_run.specs.Asked.{WereAsked, IsOverLong, TookAtMost, WereHandled}
-use Rattle.pac_run.specs.Serving.{Broke, LineServed, Replied, Served, Serving, StepStops}
-use Rattle.pac_run.specs.Stopping.{HasWorked, IsStoppedAt, closed_number}
+use Rattle.pac_run.specs.Serving.{Broke, LineServed, Replied, Served, Serving, StaysDurable}
+use Rattle.pac_run.specs.Stopping.{HasWorked, IsStoppedAt, StepStops, closed_number}
 use Rattle.pac_run.specs.Texts.{IsTextPrefix, IsPlain, texts}
 use Rattle.pac_run.proofs.ReadLemmas.{lines-ask, more-read}
-use Rattle.pac_run.proofs.StepLemmas.{all-both, cut-more, goes-more, grown-then, keeps-more, kept-grows}
-use Rattle.pac_run.proofs.StopLemmas.{all-replied, never-stops, no-stop-both, stopped-first, stopped-more, stopped-reading, stops-last}
+use Rattle.pac_run.proofs.StepLemmas.{all-both, cut-more, goes-more, grown-then, keeps-more, kept-grows, reached}
+use Rattle.pac_run.proofs.StopLemmas.{all-replied, never-stops, no-stop-both, stopped-first, stopped-more, stopped-reading, stops-last, stops-there, there-reading}
 
 -- ---- what was written
 
@@ -63,19 +65,25 @@ never-fails rules place start closed more stop stops is = subst (λ (s : RunStop
 never-long : (rules : Rules) (place : ℕ) (start : SessionState) (closed : List (List Request)) (more : List Reply) (stop : RunStop) → StepStops rules place start closed more stop → stop ≡ TooLong → ⊥
 never-long rules place start closed more stop stops is = subst (λ (s : RunStop). StepStops rules place start closed more s) is stops
 
--- an engine that worked, where no step stops so: only the output failed
-worked-output : (stop : RunStop) → HasWorked {A = Unit {0}} (Err stop) → (stop ≡ InputFault → ⊥) → (stop ≡ TooLong → ⊥) → stop ≡ OutputFault
-worked-output OutputFault worked input long = refl
-worked-output InputFault worked input long = absurd (input refl)
-worked-output TooLong worked input long = absurd (long refl)
-worked-output NoStore worked input long = absurd worked
-worked-output (Damaged damage) worked input long = absurd worked
-worked-output (AbortInLog note) worked input long = absurd worked
-worked-output (RowsOver table rows limit) worked input long = absurd worked
-worked-output DiskFault worked input long = absurd worked
-worked-output NoMemory worked input long = absurd worked
-worked-output (LogFull need) worked input long = absurd worked
-worked-output (TooLarge bytes) worked input long = absurd worked
+-- each closed group is in the log, where no step stops so: the output failed, or a checkpoint was too large
+worked-stop : (stop : RunStop) → HasWorked {A = Unit {0}} (Err stop) → (stop ≡ InputFault → ⊥) → (stop ≡ TooLong → ⊥) → (stop ≡ OutputFault) ⊎ ((bytes : ℕ) × (stop ≡ TooLarge bytes))
+worked-stop OutputFault worked input long = inl refl
+worked-stop (TooLarge bytes) worked input long = inr (bytes, refl)
+worked-stop InputFault worked input long = absurd (input refl)
+worked-stop TooLong worked input long = absurd (long refl)
+worked-stop NoStore worked input long = absurd worked
+worked-stop (Damaged damage) worked input long = absurd worked
+worked-stop (AbortInLog note) worked input long = absurd worked
+worked-stop (RowsOver table rows limit) worked input long = absurd worked
+worked-stop DiskFault worked input long = absurd worked
+worked-stop NoMemory worked input long = absurd worked
+worked-stop (LogFull need) worked input long = absurd worked
+
+-- no line that isn't read stops a run by a full log
+reads-on : (stop : RunStop) → (stop ≡ InputFault) ⊎ ((stop ≡ TooLong) ⊎ (stop ≡ NoMemory)) → (need : ℕ) → ◌≡◌ {A = Result (Unit {0}) RunStop} (Err stop) (Err (LogFull need)) → ⊥
+reads-on stop (inl is) need same = let e : stop ≡ LogFull need = cc in let no : InputFault ≡ LogFull need = sym is ∙ e in absurd cc
+reads-on stop (inr (inl is)) need same = let e : stop ≡ LogFull need = cc in let no : TooLong ≡ LogFull need = sym is ∙ e in absurd cc
+reads-on stop (inr (inr is)) need same = let e : stop ≡ LogFull need = cc in let no : NoMemory ≡ LogFull need = sym is ∙ e in absurd cc
 
 -- ---- an end
 
@@ -126,6 +134,8 @@ module _ (first now : EngineParts) (left mid : Option (List ℕ)) (reader : Read
           firsts = stopped-first rules place start serving.requests serving.given stop stopped;
           ending = stopped;
           durable = λ worked. serving.goes.durable ∙ sym serving.goes.closes.within.begun;
+          full = λ need is. absurd (reads-on stop why need is);
+          there = there-reading first now serving.requests serving.given known known' serving.goes stop why;
         }
 
   -- a request was not answered
@@ -169,7 +179,9 @@ module _ (first now : EngineParts) (left mid : Option (List ℕ)) (reader : Read
       plain = all-both IsPlain serving.given broke.more serving.goes.plain broke.plain;
       firsts = stopped-first rules place start (serving.requests ++ asks ∷ []) (serving.given ++ broke.more) stop stopped;
       ending = stopped;
-      durable = λ worked. durable-at (worked-output stop worked (λ is. at is) (λ is. long-at is));
+      durable = λ worked. durable-by (worked-stop stop worked (λ is. at is) (λ is. long-at is));
+      full = λ need is. (serving.requests, asks, refl, durable-before need (same-full need is));
+      there = stops-there first now serving.requests serving.given known known' serving.goes asks broke.more stop broke.stops broke.out;
     }
       where
         risen : (broke.out ≡ texts catalogue broke.more) ⊎ faulted' → (broke.out ≡ texts catalogue broke.more) ⊎ faulted
@@ -182,12 +194,39 @@ module _ (first now : EngineParts) (left mid : Option (List ℕ)) (reader : Read
         long-at : stop ≡ TooLong → ⊥
         long-at = never-long (rules_of now.session) now.log.gate.place middle (cut_one (rules_of now.session) middle whole.rest asks).closed broke.more stop (broke.stops middle whole.rest serving.goes.closes.within)
 
+        same-full : (need : ℕ) → ◌≡◌ {A = Result (Unit {0}) RunStop} (Err stop) (Err (LogFull need)) → stop ≡ LogFull need
+        same-full need e = cc
+
+        -- of a full log: what was durable before the last request
+        durable-before : (need : ℕ) → stop ≡ LogFull need → durable_of new ≡ closed_number (rules_of first.session) (state_now first.session) serving.requests
+        durable-before need is = subst (λ (s : RunStop). StaysDurable asks now new s) is broke.room ∙ serving.goes.durable ∙ sym serving.goes.closes.within.begun
+
+        -- a save closes its group, and commits no more
+        save-number : (ends rules start (all_requests (cut rules start (serving.requests ++ request.Save ∷ [])).closed)).number ≡ durable_of now + length now.session.txns
+        save-number =
+            let all = cut rules start (serving.requests ++ request.Save ∷ []) in
+            let none : all.rest ≡ [] = ap (λ (c : GroupCut). c.rest) (fold-append (cut_on rules start) (record { closed = []; rest = [] }) serving.requests (request.Save ∷ [])) in
+            let those : all_requests all.closed ≡ serving.requests ++ request.Save ∷ [] = sym (append-nil (all_requests all.closed)) ∙ ap (λ (l : List Request). all_requests all.closed ++ l) (sym none) ∙ whole-cut rules start (serving.requests ++ request.Save ∷ []) in
+            ap (λ (l : List Request). (ends rules start l).number) those
+            ∙ ap (λ (s : SessionState). s.number) (ends-append rules start serving.requests (request.Save ∷ []))
+            ∙ ap (λ (s : SessionState). s.number) (sym (reached first now serving.requests serving.given known known' serving.goes))
+            ∙ ap (λ (n : ℕ). n + length now.session.txns) (sym serving.goes.durable)
+
+        durable-large : (bytes : ℕ) → stop ≡ TooLarge bytes → durable_of new ≡ closed_number (rules_of first.session) (state_now first.session) (serving.requests ++ asks ∷ [])
+        durable-large bytes is =
+            let stays = subst (λ (s : RunStop). StaysDurable asks now new s) is broke.room in
+            stays.1 ∙ sym save-number ∙ ap (λ (r : Request). (ends rules start (all_requests (cut rules start (serving.requests ++ r ∷ [])).closed)).number) (sym stays.0)
+
         durable-at : stop ≡ OutputFault → durable_of new ≡ closed_number (rules_of first.session) (state_now first.session) (serving.requests ++ asks ∷ [])
         durable-at out =
             let handled = broke.handled out in
             let closes = handled.closes rules place start whole serving.given serving.goes.closes in
             handled.durable ∙ sym closes.within.begun
             ∙ ap (λ (c : GroupCut). (ends rules start (all_requests c.closed)).number) (sym (cut-more first now serving.requests serving.given known known' serving.goes (asks ∷ [])))
+
+        durable-by : (stop ≡ OutputFault) ⊎ ((bytes : ℕ) × (stop ≡ TooLarge bytes)) → durable_of new ≡ closed_number (rules_of first.session) (state_now first.session) (serving.requests ++ asks ∷ [])
+        durable-by (inl out) = durable-at out
+        durable-by (inr large) = durable-large large.0 large.1
 
   -- a stop was answered
   pub stop-served : (left' held'' : Option (List ℕ)) (known'' : List (Option DiskHistory)) (new : EngineParts) (faulted : Type 0) (lines : List (List ℕ)) (ahead : List ℕ) → WereHandled left lines ahead left' → TookAtMost MAX_INPUT left left'
@@ -222,10 +261,15 @@ module _ (first now : EngineParts) (left mid : Option (List ℕ)) (reader : Read
         firsts = record { rest = []; split = sym answers ∙ sym (append-nil given) };
         ending = record { before = serving.requests; stops = refl; replied = answers; written = written; fit = goes.closes.fit; saves = goes.saves };
         durable = λ worked. goes.durable ∙ sym goes.closes.within.begun;
+        full = λ need is. absurd (no-full need is);
+        there = tt;
       }
     where
       no-err : ◌≡◌ {A = Result (Unit {0}) RunStop} (Ok tt) (Err TooLong) → ⊥
       no-err e = cc
+
+      no-full : (need : ℕ) → ◌≡◌ {A = Result (Unit {0}) RunStop} (Ok tt) (Err (LogFull need)) → ⊥
+      no-full need e = cc
 
       no-input : ◌≡◌ {A = Result (Unit {0}) RunStop} (Ok tt) (Err InputFault) → ⊥
       no-input e = cc

@@ -14,12 +14,13 @@ use Rattle.pac_session.proofs.CutLemmas.{joined-append, whole-cut, described-rep
 use Rattle.pac_engine.specs.declared.fault.EngineCause.{EngineCause}
 use Rattle.pac_engine.specs.declared.fault.EngineCause.TheVariants as cause
 use Rattle.pac_engine.specs.declared.parts.EngineParts.{EngineParts}
-use Rattle.pac_engine.specs.Closing.{Closes, IsUnsaved, StopsAt, is_stop}
+use Rattle.pac_engine.specs.Closing.{Closes, IsUnsaved, StopsAt, is_stop, place_after}
 use Rattle.pac_engine.proofs.LawLemmas.{stops-then}
 use Rattle.pac_run.specs.Asked.{NoStop, StopsLast}
 use Rattle.pac_run.specs.Causes.{stop_of_engine}
-use Rattle.pac_run.specs.Serving.{GoesFrom, StepStops}
-use Rattle.pac_run.specs.Stopping.{AreFirst, IsStoppedAt, closed_groups}
+use Rattle.pac_run.specs.Serving.{GoesFrom}
+use Rattle.pac_run.specs.Stopping.{AreFirst, IsStoppedAt, StepStops, StopsInLast, StopsThere, closed_groups}
+use Rattle.pac_run.specs.Texts.{texts}
 use Rattle.pac_run.specs.declared.stop.RunStop.{RunStop}
 use Rattle.pac_run.specs.declared.stop.RunStop.TheVariants.{NoStore, Damaged, AbortInLog, RowsOver, InputFault, OutputFault, DiskFault, NoMemory, LogFull, TooLong, TooLarge}
 use Rattle.pac_run.proofs.StepLemmas.{cut-more}
@@ -150,7 +151,50 @@ module _ (first now : EngineParts) (requests : List Request) (given : List Reply
         → IsStoppedAt (rules_of first.session) first.log.gate.place (state_now first.session) (requests ++ asked ∷ []) (given ++ more) stop
     stopped-more stop stops = stopped-there stop (subst (λ (r : Rules). StepStops r now.log.gate.place middle (cut_one r middle whole.rest asked).closed more stop) goes.closes.same (stops middle whole.rest goes.closes.within))
 
+    -- and before it all that was due was written
+    pub stops-there : (stop : RunStop) → ((from : SessionState) (group : List Request) → IsInGroup from group now.session → StepStops (rules_of now.session) now.log.gate.place from (cut_one (rules_of now.session) from group asked).closed more stop) → (out : List ℕ)
+        → StopsThere (rules_of first.session) first.log.gate.place (state_now first.session) (requests ++ asked ∷ []) (given ++ more) (texts first.session.catalogue given ++ out) stop
+    stops-there stop stops out = by stop at refl
+      where
+        at : StepStops rules (place_after place (closed_groups rules place start requests)) middle (cut_one rules middle whole.rest asked).closed more stop
+        at = subst (λ (p : ℕ). StepStops rules p middle (cut_one rules middle whole.rest asked).closed more stop) goes.closes.there
+            (subst (λ (r : Rules). StepStops r now.log.gate.place middle (cut_one r middle whole.rest asked).closed more stop) goes.closes.same (stops middle whole.rest goes.closes.within))
+
+        in-last : StopsInLast rules place start (requests ++ asked ∷ []) (given ++ more) (texts first.session.catalogue given ++ out) stop
+        in-last = record {
+          before = requests;
+          asked = asked;
+          split = refl;
+          more = more;
+          replied = ap (λ (l : List Reply). l ++ more) goes.closes.replied;
+          rest = out;
+          written = ap (λ (l : List Reply). texts first.session.catalogue l ++ out) goes.closes.replied;
+          here = at;
+        }
+
+        by : (s : RunStop) → StepStops rules (place_after place (closed_groups rules place start requests)) middle (cut_one rules middle whole.rest asked).closed more s → stop ≡ s
+            → StopsThere rules place start (requests ++ asked ∷ []) (given ++ more) (texts first.session.catalogue given ++ out) s
+        by NoStore never is = absurd never
+        by (Damaged damage) never is = absurd never
+        by (AbortInLog note) never is = absurd never
+        by (RowsOver table rows limit) never is = absurd never
+        by InputFault never is = absurd never
+        by TooLong never is = absurd never
+        by OutputFault here is = subst (λ (s : RunStop). StopsInLast rules place start (requests ++ asked ∷ []) (given ++ more) (texts first.session.catalogue given ++ out) s) is in-last
+        by DiskFault here is = subst (λ (s : RunStop). StopsInLast rules place start (requests ++ asked ∷ []) (given ++ more) (texts first.session.catalogue given ++ out) s) is in-last
+        by NoMemory here is = inr (subst (λ (s : RunStop). StopsInLast rules place start (requests ++ asked ∷ []) (given ++ more) (texts first.session.catalogue given ++ out) s) is in-last)
+        by (LogFull need) here is = subst (λ (s : RunStop). StopsInLast rules place start (requests ++ asked ∷ []) (given ++ more) (texts first.session.catalogue given ++ out) s) is in-last
+        by (TooLarge bytes) here is = subst (λ (s : RunStop). StopsInLast rules place start (requests ++ asked ∷ []) (given ++ more) (texts first.session.catalogue given ++ out) s) is in-last
+
   -- where no more is read
+  pub there-reading : (stop : RunStop) → (stop ≡ InputFault) ⊎ ((stop ≡ TooLong) ⊎ (stop ≡ NoMemory)) → StopsThere (rules_of first.session) first.log.gate.place (state_now first.session) requests given (texts first.session.catalogue given) stop
+  there-reading stop why = by why
+    where
+      by : (stop ≡ InputFault) ⊎ ((stop ≡ TooLong) ⊎ (stop ≡ NoMemory)) → StopsThere rules place start requests given (texts first.session.catalogue given) stop
+      by (inl is) = subst (λ (s : RunStop). StopsThere rules place start requests given (texts first.session.catalogue given) s) (sym is) refl
+      by (inr (inl is)) = subst (λ (s : RunStop). StopsThere rules place start requests given (texts first.session.catalogue given) s) (sym is) refl
+      by (inr (inr is)) = subst (λ (s : RunStop). StopsThere rules place start requests given (texts first.session.catalogue given) s) (sym is) (inl refl)
+
   pub stopped-reading : (stop : RunStop) → (stop ≡ InputFault) ⊎ ((stop ≡ TooLong) ⊎ (stop ≡ NoMemory)) → NoStop requests → IsStoppedAt (rules_of first.session) first.log.gate.place (state_now first.session) requests given stop
   stopped-reading stop why none = by why
     where

@@ -22,11 +22,11 @@ use Rattle.pac_engine.specs.Closing.{GroupFits}
 use Rattle.pac_engine.specs.Standing.{StandsWith, WhileAllKnown}
 use Rattle.pac_run.specs.declared.limits.TheConstants.{MAX_INPUT}
 use Rattle.pac_run.specs.declared.stop.RunStop.{RunStop}
-use Rattle.pac_run.specs.declared.stop.RunStop.TheVariants.{InputFault, TooLong}
+use Rattle.pac_run.specs.declared.stop.RunStop.TheVariants.{InputFault, LogFull, TooLong}
 use Rattle.pac_run.specs.Acked.{Acknowledges, ReportsSaved}
 use Rattle.pac_run.specs.Asked.{WereAsked, IsOverLong, StopsLast, TookAtMost, WereHandled}
 use Rattle.pac_run.specs.Opening.{AllStand}
-use Rattle.pac_run.specs.Stopping.{HasWorked, IsStopped, IsUnopened, SaveFits, closed_groups, closed_number}
+use Rattle.pac_run.specs.Stopping.{BeforeLast, HasWorked, IsStopped, IsUnopened, MayNotOpen, SaveFits, StopsThere, closed_groups, closed_number}
 use Rattle.pac_run.specs.Texts.{IsTextPrefix, texts}
 
 -- ---- where the session begins
@@ -128,8 +128,10 @@ pub record IsRun (batch limit : ℕ) (left left' held held' : Option (List ℕ))
   pub prefix : IsTextPrefix out (texts rules.catalogue (replies rules start requests))
   pub whole : OnOk result (IsWholeRun rules place start requests out)
   -- (b) and (e) what the devices hold at the exit, (c) and at each moment
-  -- where the engine worked to the end, the log has exactly the transactions of the groups that were closed: the open one is dropped
+  -- the log has exactly the transactions of the groups that were closed: the open one is dropped; a full log has exactly those
+  -- of the groups that were closed before the last request
   pub exact : HasWorked result → DevicesHave (closed_number rules start requests) known'
+  pub full : (need : ℕ) → IsErrOf result (LogFull need) → BeforeLast (λ before. DevicesHave (closed_number rules start before) known') requests
   pub exit : WhileAllStand (λ text catalogue history least. AtExit text catalogue history rules place start requests out) known known'
   pub moments : WhileAllStand (λ text catalogue history least. AtMoments text catalogue history least rules start requests) known known'
   -- (d) where it stopped: the output is the texts of these replies, unless the output's count of faults rose
@@ -137,3 +139,5 @@ pub record IsRun (batch limit : ℕ) (left left' held held' : Option (List ℕ))
   pub written : IsTextPrefix out (texts rules.catalogue given)
   pub all : (out ≡ texts rules.catalogue given) ⊎ faulted
   pub stopped : IfErr result (λ stop. IsStopped rules place start requests given stop)
+  -- and within which request: all that was due before it was written
+  pub there : IfErr result (λ stop. (MayNotOpen stop × (requests ≡ [])) ⊎ StopsThere rules place start requests given out stop)

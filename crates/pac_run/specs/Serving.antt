@@ -1,5 +1,5 @@
 -- What an engine does while lines are served, from one to the next.
-use Rattle.std.specs.Prelude.{◌≡◌, ◌⊎◌, ◌≤◌, ℕ, Bool, true, false, List, [], ◌∷◌, ◌++◌, length, Option, Some, IfSome, Result, MatchResult, IsErrOf}
+use Rattle.std.specs.Prelude.{◌≡◌, ◌⊎◌, ◌+◌, ◌≤◌, ℕ, Bool, true, false, List, [], ◌∷◌, ◌++◌, length, Option, Some, IfErr, IfSome, Result, MatchResult, IsErrOf}
 use Rattle.std.specs.Io.KnownBytes.{prepend_known}
 use Rattle.std.specs.List.{AllByRecursion, fold}
 use Rattle.pac_ops.specs.declared.transaction.Txn.{Txn}
@@ -13,18 +13,17 @@ use Rattle.pac_request.specs.declared.request.Request.{Request}
 use Rattle.pac_request.specs.declared.request.Request.TheVariants as request
 use Rattle.pac_request.specs.declared.request.Reply.{Reply}
 use Rattle.pac_session.specs.Session.{Rules, SessionState, committed, replies}
-use Rattle.pac_session.specs.Groups.{GroupCut, all_replies, cut, cut_on, cut_one, described, place_after_group}
+use Rattle.pac_session.specs.Groups.{GroupCut, cut, cut_on, cut_one, place_after_group}
 use Rattle.pac_session.specs.Open.{IsInGroup, rules_of, state_now}
 use Rattle.pac_check.specs.declared.limits.TheConstants.{MAX_SLOT_LEN}
-use Rattle.pac_engine.specs.declared.fault.EngineCause.TheVariants as cause
 use Rattle.pac_engine.specs.declared.parts.EngineParts.{EngineParts}
-use Rattle.pac_engine.specs.Closing.{Closes, GroupFits, IsKept, StopsAt, slot_len}
+use Rattle.pac_engine.specs.Closing.{Closes, GroupFits, IsKept, slot_len}
 use Rattle.pac_engine.specs.Standing.{OnlyGrows, KeepsHistory, StandsOn, WhileAllKnown, durable_of}
 use Rattle.pac_run.specs.declared.limits.TheConstants.{MAX_INPUT}
 use Rattle.pac_run.specs.declared.stop.RunStop.{RunStop}
 use Rattle.pac_run.specs.declared.stop.RunStop.TheVariants.{NoStore, Damaged, AbortInLog, RowsOver, InputFault, OutputFault, DiskFault, NoMemory, LogFull, TooLong, TooLarge}
 use Rattle.pac_run.specs.Asked.{WereAsked, IsOverLong, LineAsks, LinesAsk, NoStop, StopsLast, TookAtMost, WereHandled}
-use Rattle.pac_run.specs.Stopping.{AreFirst, HasWorked, IsStoppedAt, SaveFits, closed_groups, closed_number}
+use Rattle.pac_run.specs.Stopping.{AreFirst, BeforeLast, HasWorked, IsStoppedAt, SaveFits, StepStops, StopsThere, closed_groups, closed_number}
 use Rattle.pac_run.specs.Texts.{IsTextPrefix, IsPlain, texts}
 
 -- ---- one line
@@ -56,25 +55,25 @@ pub record Replied (catalogue : CatalogueState) (asked : List Request) (old new 
   pub took : Took held (texts catalogue more) held'
   pub answered : Answered asked more old new histories histories'
 
--- which replies were to be written where a request was not answered, and these groups were to be closed
-abbrev pub StepStops : Rules → ℕ → SessionState → List (List Request) → List Reply → RunStop → Type 0
-StepStops rules place start closed more NoStore = ⊥
-StepStops rules place start closed more (Damaged damage) = ⊥
-StepStops rules place start closed more (AbortInLog note) = ⊥
-StepStops rules place start closed more (RowsOver table rows limit) = ⊥
-StepStops rules place start closed more InputFault = ⊥
-StepStops rules place start closed more TooLong = ⊥
-StepStops rules place start closed more OutputFault = more ≡ all_replies (described rules place start closed)
-StepStops rules place start closed more (LogFull need) = StopsAt rules place start closed more (cause.LogFull need)
-StepStops rules place start closed more (TooLarge bytes) = StopsAt rules place start closed more (cause.TooLarge bytes)
-StepStops rules place start closed more DiskFault = StopsAt rules place start closed more cause.DiskFault
-StepStops rules place start closed more NoMemory = StopsAt rules place start closed more cause.NoMemory
-
 -- a request was handled, and the groups that it closes were, though their replies could not be written
 pub record WasHandled (asked : Request) (more : List Reply) (old new : EngineParts) : Type 0 where
   pub closes : (rules : Rules) (place : ℕ) (start : SessionState) (whole : GroupCut) (given : List Reply) → Closes rules place start whole given old
       → Closes rules place start (cut_on rules start whole asked) (given ++ more) new
   pub durable : durable_of new ≡ new.session.before
+
+-- What is durable where there was no room: as much as before, or with the group that a save ends.
+abbrev pub StaysDurable : Request → EngineParts → EngineParts → RunStop → Type 0
+StaysDurable asked old new (LogFull need) = durable_of new ≡ durable_of old
+StaysDurable asked old new (TooLarge bytes) = (asked ≡ request.Save) × (durable_of new ≡ durable_of old + length old.session.txns)
+StaysDurable asked old new NoStore = Unit {0}
+StaysDurable asked old new (Damaged damage) = Unit {0}
+StaysDurable asked old new (AbortInLog note) = Unit {0}
+StaysDurable asked old new (RowsOver table rows limit) = Unit {0}
+StaysDurable asked old new InputFault = Unit {0}
+StaysDurable asked old new OutputFault = Unit {0}
+StaysDurable asked old new DiskFault = Unit {0}
+StaysDurable asked old new NoMemory = Unit {0}
+StaysDurable asked old new TooLong = Unit {0}
 
 -- One request was not answered, and a prefix of the texts of those replies was written, all of it unless the sink's count rose.
 pub record Broke (catalogue : CatalogueState) (asked : Request) (old new : EngineParts) (held held' : Option (List ℕ)) (histories histories' : List (Option DiskHistory)) (faulted : Type 0) (stop : RunStop) : Type 0 where
@@ -90,6 +89,7 @@ pub record Broke (catalogue : CatalogueState) (asked : Request) (old new : Engin
   pub kept : AllByRecursion (IsKept new) more
   pub plain : AllByRecursion IsPlain more
   pub handled : stop ≡ OutputFault → WasHandled asked more old new
+  pub room : StaysDurable asked old new stop
 
 -- all is as it was: there was no memory to know what the line asks
 pub record IsUntouched (old new : EngineParts) (held held' : Option (List ℕ)) (histories histories' : List (Option DiskHistory)) (stop : RunStop) : Type 0 where
@@ -179,4 +179,6 @@ pub record Served (first now : EngineParts) (left left' held held' : Option (Lis
   pub plain : AllByRecursion IsPlain given
   pub firsts : AreFirst given (replies (rules_of first.session) (state_now first.session) requests)
   pub durable : HasWorked result → durable_of now ≡ closed_number (rules_of first.session) (state_now first.session) requests
+  pub full : (need : ℕ) → IsErrOf result (LogFull need) → BeforeLast (λ before. durable_of now ≡ closed_number (rules_of first.session) (state_now first.session) before) requests
+  pub there : IfErr result (λ stop. StopsThere (rules_of first.session) first.log.gate.place (state_now first.session) requests given out stop)
   pub ending : MatchResult result (λ _. IsDone (rules_of first.session) first.log.gate.place (state_now first.session) requests given out) (λ stop. IsStoppedAt (rules_of first.session) first.log.gate.place (state_now first.session) requests given stop)

@@ -5,10 +5,11 @@ use Rattle.pac_request.specs.declared.request.Request.{Request}
 use Rattle.pac_request.specs.declared.request.Request.TheVariants as request
 use Rattle.pac_request.specs.declared.request.Reply.{Reply}
 use Rattle.pac_session.specs.Session.{Rules, SessionState, ends}
-use Rattle.pac_session.specs.Groups.{Group, all_replies, all_requests, cut, described}
+use Rattle.pac_session.specs.Groups.{Group, all_replies, all_requests, cut, cut_one, described}
 use Rattle.pac_engine.specs.declared.fault.EngineCause.TheVariants as cause
 use Rattle.pac_engine.specs.Closing.{StopsAt, place_after, slot_len}
 use Rattle.pac_run.specs.Asked.{NoStop}
+use Rattle.pac_run.specs.Texts.{texts}
 use Rattle.pac_run.specs.declared.stop.RunStop.{RunStop}
 use Rattle.pac_run.specs.declared.stop.RunStop.TheVariants.{NoStore, Damaged, AbortInLog, RowsOver, InputFault, OutputFault, DiskFault, NoMemory, LogFull, TooLong, TooLarge}
 
@@ -20,8 +21,9 @@ closed_groups rules place start requests = described rules place start (cut rule
 abbrev pub closed_number : Rules → SessionState → List Request → ℕ
 closed_number rules start requests = (ends rules start (all_requests (cut rules start requests).closed)).number
 
--- The engine worked to the end: all was done, or the run stopped at a fault of the input or of the output, or since the
--- input was too long. The open group was dropped then.
+-- Each group that was closed is in the log, and no other: all was done, or the run stopped at a fault of the input or of the
+-- output, since the input was too long, or since a checkpoint was, after the group that the save ends. An open group was
+-- dropped then.
 abbrev pub HasWorked : {A : Type 0} → Result A RunStop → Type 0
 HasWorked (Ok done) = Unit {0}
 HasWorked (Err InputFault) = Unit {0}
@@ -34,7 +36,7 @@ HasWorked (Err (RowsOver table rows limit)) = ⊥
 HasWorked (Err DiskFault) = ⊥
 HasWorked (Err NoMemory) = ⊥
 HasWorked (Err (LogFull need)) = ⊥
-HasWorked (Err (TooLarge bytes)) = ⊥
+HasWorked (Err (TooLarge bytes)) = Unit {0}
 
 -- Which replies were to be written before a stop, where these requests were handled.
 abbrev pub IsStoppedAt : Rules → ℕ → SessionState → List Request → List Reply → RunStop → Type 0
@@ -97,6 +99,52 @@ IsStopped rules place start requests given stop = (MayNotOpen stop × (requests 
 -- a save after these requests has room in a slot
 abbrev pub SaveFits : Rules → ℕ → SessionState → List Request → Type 0
 SaveFits rules place start before = slot_len rules (ends rules start before) (place_after place (closed_groups rules place start (before ++ request.Save ∷ []))) ≤ MAX_SLOT_LEN
+
+-- which replies were to be written where a request was not answered, and these groups were to be closed
+abbrev pub StepStops : Rules → ℕ → SessionState → List (List Request) → List Reply → RunStop → Type 0
+StepStops rules place start closed more NoStore = ⊥
+StepStops rules place start closed more (Damaged damage) = ⊥
+StepStops rules place start closed more (AbortInLog note) = ⊥
+StepStops rules place start closed more (RowsOver table rows limit) = ⊥
+StepStops rules place start closed more InputFault = ⊥
+StepStops rules place start closed more TooLong = ⊥
+StepStops rules place start closed more OutputFault = more ≡ all_replies (described rules place start closed)
+StepStops rules place start closed more (LogFull need) = StopsAt rules place start closed more (cause.LogFull need)
+StepStops rules place start closed more (TooLarge bytes) = StopsAt rules place start closed more (cause.TooLarge bytes)
+StepStops rules place start closed more DiskFault = StopsAt rules place start closed more cause.DiskFault
+StepStops rules place start closed more NoMemory = StopsAt rules place start closed more cause.NoMemory
+
+-- The last of these requests was not answered to its end: with the groups that it closes the run stops so. Before it all
+-- replies were written that were due.
+pub record StopsInLast (rules : Rules) (place : ℕ) (start : SessionState) (requests : List Request) (given : List Reply) (out : List ℕ) (stop : RunStop) : Type 0 where
+  pub before : List Request
+  pub asked : Request
+  pub split : requests ≡ before ++ asked ∷ []
+  pub more : List Reply
+  pub replied : given ≡ all_replies (closed_groups rules place start before) ++ more
+  pub rest : List ℕ
+  pub written : out ≡ texts rules.catalogue (all_replies (closed_groups rules place start before)) ++ rest
+  pub here : StepStops rules (place_after place (closed_groups rules place start before)) (ends rules start (all_requests (cut rules start before).closed))
+      (cut_one rules (ends rules start (all_requests (cut rules start before).closed)) (cut rules start before).rest asked).closed more stop
+
+-- Where a run stopped whose store was open. All replies were written that were due, and no more was read; or the last request
+-- was not answered to its end.
+abbrev pub StopsThere : Rules → ℕ → SessionState → List Request → List Reply → List ℕ → RunStop → Type 0
+StopsThere rules place start requests given out NoStore = ⊥
+StopsThere rules place start requests given out (Damaged damage) = ⊥
+StopsThere rules place start requests given out (AbortInLog note) = ⊥
+StopsThere rules place start requests given out (RowsOver table rows limit) = ⊥
+StopsThere rules place start requests given out InputFault = out ≡ texts rules.catalogue given
+StopsThere rules place start requests given out TooLong = out ≡ texts rules.catalogue given
+StopsThere rules place start requests given out NoMemory = (out ≡ texts rules.catalogue given) ⊎ StopsInLast rules place start requests given out NoMemory
+StopsThere rules place start requests given out OutputFault = StopsInLast rules place start requests given out OutputFault
+StopsThere rules place start requests given out DiskFault = StopsInLast rules place start requests given out DiskFault
+StopsThere rules place start requests given out (LogFull need) = StopsInLast rules place start requests given out (LogFull need)
+StopsThere rules place start requests given out (TooLarge bytes) = StopsInLast rules place start requests given out (TooLarge bytes)
+
+-- this is said of the requests before the last
+abbrev pub BeforeLast : (List Request → Type 0) → List Request → Type 0
+BeforeLast P requests = (before : List Request) × (asked : Request) × (requests ≡ before ++ asked ∷ []) × P before
 
 -- the replies are the first of these
 pub record AreFirst (given all : List Reply) : Type 0 where

@@ -80,6 +80,7 @@ fn answer<O: Sink, D: Disk>(
     ensures stopped { OnOk result (engine.new.ended ≡ is_stop asked) }
     ensures ready { OnOk result (HasDevices D.known engine.new devices.new) }
     ensures worked { HasWorked result → HasDevices D.known engine.new devices.new }
+    ensures full { (need : ℕ) → IsErrOf result (RunStop.LogFull need) → HasDevices D.known engine.new devices.new }
     ensures later { O.faults output.old ≤ O.faults output.new }
     ensures output_fault { IsErrOf result RunStop.OutputFault → Faulted (O.faults output.old) (O.faults output.new) }
     ensures disk_fault { IsErrOf result RunStop.DiskFault → OneFaulted (each D.faults devices.old) (each D.faults devices.new) }
@@ -115,6 +116,7 @@ fn serve_line<O: Sink, D: Disk>(
     ensures stopped { IfOk result (λ stops. engine.new.ended ≡ stops) }
     ensures ready { OnOk result (HasDevices D.known engine.new devices.new) }
     ensures worked { HasWorked result → HasDevices D.known engine.new devices.new }
+    ensures full { (need : ℕ) → IsErrOf result (RunStop.LogFull need) → HasDevices D.known engine.new devices.new }
     ensures later { O.faults output.old ≤ O.faults output.new }
     ensures output_fault { IsErrOf result RunStop.OutputFault → Faulted (O.faults output.old) (O.faults output.new) }
     ensures disk_fault { IsErrOf result RunStop.DiskFault → OneFaulted (each D.faults devices.old) (each D.faults devices.new) }
@@ -145,6 +147,7 @@ fn serve_lines<I: Source, O: Sink, D: Disk>(
     requires ready { HasDevices D.known engine.old devices.old }
     ensures served { Served engine.old engine.new (I.left input.old) (I.left input.new) (O.held output.old) (O.held output.new) (each D.known devices.old) (each D.known devices.new) (Faulted (O.faults output.old) (O.faults output.new)) result }
     ensures worked { HasWorked result → HasDevices D.known engine.new devices.new }
+    ensures full { (need : ℕ) → IsErrOf result (RunStop.LogFull need) → HasDevices D.known engine.new devices.new }
     ensures input_fault { IsErrOf result RunStop.InputFault → Faulted (I.faults input.old) (I.faults input.new) }
     ensures output_fault { IsErrOf result RunStop.OutputFault → Faulted (O.faults output.old) (O.faults output.new) }
     ensures disk_fault { IsErrOf result RunStop.DiskFault → OneFaulted (each D.faults devices.old) (each D.faults devices.new) }
@@ -188,6 +191,7 @@ pub fn serve<I: Source, O: Sink, D: Disk>(
     requires ready { HasDevices D.known engine.old devices.old }
     ensures served { Served engine.old engine.new (I.left input.old) (I.left input.new) (O.held output.old) (O.held output.new) (each D.known devices.old) (each D.known devices.new) (Faulted (O.faults output.old) (O.faults output.new)) result }
     ensures worked { HasWorked result → HasDevices D.known engine.new devices.new }
+    ensures full { (need : ℕ) → IsErrOf result (RunStop.LogFull need) → HasDevices D.known engine.new devices.new }
     ensures input_fault { IsErrOf result RunStop.InputFault → Faulted (I.faults input.old) (I.faults input.new) }
     ensures output_fault { IsErrOf result RunStop.OutputFault → Faulted (O.faults output.old) (O.faults output.new) }
     ensures disk_fault { IsErrOf result RunStop.DiskFault → OneFaulted (each D.faults devices.old) (each D.faults devices.new) }

@@ -1,5 +1,5 @@
 -- A request is answered, and its replies are written, or not.
-use Rattle.std.proofs.Common.{◌∙◌, ℕ, List, [], sym, ap, subst}
+use Rattle.std.proofs.Common.{◌∙◌, ℕ, List, [], Err, sym, ap, subst}
 use Rattle.std.proofs.lemmas.Result.{err_from_is_err_and}
 use Rattle.std.specs.List.{AllByRecursion}
 use Rattle.pac_outside.specs.Content.{Took}
@@ -9,9 +9,10 @@ use Rattle.pac_session.specs.Open.{rules_of}
 use Rattle.pac_recover.proofs.CauseLemmas.{same-error, the-error}
 use Rattle.pac_engine.proofs.Results.{on-ok}
 use Rattle.pac_run.specs.declared.stop.RunStop.{RunStop}
-use Rattle.pac_run.specs.Serving.{StepStops}
+use Rattle.pac_run.specs.Serving.{StaysDurable}
+use Rattle.pac_run.specs.Stopping.{HasWorked, StepStops}
 use Rattle.pac_run.specs.Texts.{IsPlain, texts}
-use Rattle.pac_run.proofs.AnswerLemmas.{answered-one, broke-of, no-text, only-err, was-handled}
+use Rattle.pac_run.proofs.AnswerLemmas.{answered-one, broke-of, no-text, only-err, room-full, room-stays, room-worked, was-handled}
 use Rattle.pac_run.proofs.StopLemmas.{no-output, step-stops}
 use Rattle.pac_run.proofs.serving.answer.Goals as goal
 
@@ -50,6 +51,7 @@ returns-in_ok-text-in-Ok-clause-err g c = λ stop is.
     broke-of c.args.asked old c.step.new.self _ _ cat _ _ _ stop c.in-Ok.replies c.deref.result.now text c.write.ensures.says (e.keeps c.requires.goes_on) e.grows e.kept plain
     (λ start group within. subst (λ (s : RunStop). StepStops (rules_of old.session) old.log.gate.place start (cut_one (rules_of old.session) start group c.args.asked).closed c.in-Ok.replies s) (sym same) (e.closes start group within).replied)
     (λ out. was-handled c.args.asked old c.step.new.self [] [] c.in-Ok.replies e.closes e.durable)
+    (subst (λ (s : RunStop). StaysDurable c.args.asked old c.step.new.self s) (sym same) tt)
 
 pub returns-in_ok-text-in-Err-clause-err : goal.returns-in_ok-text-in-Err-clause-err
 returns-in_ok-text-in-Err-clause-err g c = λ stop is.
@@ -62,3 +64,13 @@ returns-in_ok-text-in-Err-clause-err g c = λ stop is.
     broke-of c.args.asked old c.step.new.self _ _ cat _ _ _ stop c.in-Err.fault.replies c.deref-in-Err.result.now text c.write-in-Err.ensures.says (e.keeps c.requires.goes_on) e.grows e.kept_before plain
     (λ start group within. step-stops (rules_of old.session) old.log.gate.place start (cut_one (rules_of old.session) start group c.args.asked).closed c.in-Err.fault.replies c.in-Err.fault.cause stop same (e.stops c.requires.goes_on start group within))
     (λ out. absurd (no-output c.in-Err.fault.cause (sym same ∙ out)))
+    (subst (λ (s : RunStop). StaysDurable c.args.asked old c.step.new.self s) (sym same) (room-stays g.D.Disk.known c.args.asked old c.step.new.self c.args.devices.now c.step.new.devices c.in-Err.fault.cause e.room))
+
+pub returns-in_ok-text-in-Err-clause-worked : goal.returns-in_ok-text-in-Err-clause-worked
+returns-in_ok-text-in-Err-clause-worked g c = λ worked.
+    room-worked g.D.Disk.known c.args.asked c.args.engine.now c.step.new.self c.args.devices.now c.step.new.devices c.in-Err.fault.cause c.in-Err.ensures.room
+    (subst (λ (s : RunStop). HasWorked {A = Unit {0}} (Err s)) c.stop_of_engine.ensures worked)
+
+pub returns-in_ok-text-in-Err-clause-full : goal.returns-in_ok-text-in-Err-clause-full
+returns-in_ok-text-in-Err-clause-full g c = λ need is.
+    room-full g.D.Disk.known c.args.asked c.args.engine.now c.step.new.self c.args.devices.now c.step.new.devices c.in-Err.fault.cause c.in-Err.ensures.room need (sym c.stop_of_engine.ensures ∙ same-error _ _ is)
