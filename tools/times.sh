@@ -1,11 +1,12 @@
 #!/bin/bash
 # Times the program and parts of it, for docs/COSTS.md.
 #
-#     tools/times.sh replay|input|parts|log|slots|runs|rows|pieces
+#     tools/times.sh replay|input|parts|log|slots|runs|committed|rows|pieces
 #
-# `replay`, `input` and `runs` time the program, which is $PACMAN or crates/pacman/out/pacman. The others time pac_bench,
-# which is $PAC_BENCH or crates/pac_bench/out/pac_bench, as `(cd crates/pac_bench && rt run -- copy 1)` makes it. All
-# files are made in a new folder of the current directory, which is removed: its disk is what `log`, `slots` and `runs` time.
+# `replay`, `input` and `runs` time the program, which is $PACMAN or crates/pacman/out/pacman, and `committed` counts its
+# instructions. The others time pac_bench, which is $PAC_BENCH or crates/pac_bench/out/pac_bench, as
+# `(cd crates/pac_bench && rt run -- copy 1)` makes it. All files are made in a new folder of the current directory, which
+# is removed: its disk is what `log`, `slots` and `runs` time.
 set -eu
 top=$(cd "$(dirname "$0")/.." && pwd)
 pacman=$(realpath "${PACMAN:-$top/crates/pacman/out/pacman}")
@@ -26,12 +27,19 @@ timed() {
     time "$@"
 }
 
-# A command, what it prints but for its output, and its instructions, as valgrind counts them.
+# A command's instructions, as valgrind counts them, go to the file `count`, and what it prints to `printed`.
+instructions() {
+    valgrind --tool=callgrind --callgrind-out-file=/dev/null "$@" > printed 2> counted
+    sed -n 's/.*Collected : *//p' counted > count
+}
+
+# A command, what it prints but for its output, and its instructions.
 counted() {
     echo "$1"
     shift
-    valgrind --tool=callgrind --callgrind-out-file=/dev/null "$@" 2> counted
-    sed -n 's/.*Collected : */  instructions: /p' counted
+    instructions "$@"
+    cat printed
+    echo "  instructions: $(cat count)"
 }
 
 # Lines `call Add(K, 1)`: $1 of them, with $2 keys.
@@ -120,11 +128,24 @@ END
     echo "recover of a million transactions"
     memory recover /dev/null
     ;;
+committed)
+    head -2 "$add" > catalogue
+    calls 6464 1000 > lines
+    for count in 64 6464; do
+        rm -f pacman.*
+        "$pacman" init < catalogue
+        head -n "$count" lines > some
+        instructions "$pacman" run --batch 64 < some
+        [ "$(tail -1 printed)" = "committed $count" ]
+        mv count "count.$count"
+    done
+    echo "a committed call in groups of 64: $((($(cat count.6464) - $(cat count.64)) / 6400)) instructions"
+    ;;
 rows)
     for part in few few_limited many many_limited; do timed "5,000 times 1,000 transactions: $part" "$bench" "$part" 5000; done
     ;;
 *)
-    sed -n '2,8s/^# \{0,1\}//p' "$0"
+    sed -n '2,9s/^# \{0,1\}//p' "$0"
     exit 1
     ;;
 esac
