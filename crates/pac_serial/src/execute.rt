@@ -11,9 +11,10 @@ ghost use Rattle.pac_serial.specs.Transactions.{RunsOver};
 
 use crate::limit::over_limit;
 use crate::operation::Halt;
+use crate::spare::row_copy;
 use crate::statement::exec_block;
 use crate::transaction::RunningTxn;
-use pac_base::{Exact, NoMemory};
+use pac_base::NoMemory;
 use pac_ops::{Change, Reason, Records, Txn};
 use pac_tables::Rows;
 use pac_types::{Catalogue, Table};
@@ -112,7 +113,7 @@ fn make<R: Rows>(
 {
     match change {
         Change::Put { table, key, row } => {
-            let row = row.copy(txn.alloc)?;
+            let row = row_copy(txn.alloc, &mut txn.spare, row)?;
             txn.write_set.change(*table, *key, Some(row))
         }
         Change::Delete { table, key } => txn.write_set.change(*table, *key, None),

@@ -38,6 +38,7 @@ mod operation;
 mod over;
 mod pending;
 mod serial;
+mod spare;
 mod statement;
 mod transaction;
 mod write_set;

@@ -14,8 +14,9 @@ ghost use Rattle.pac_types.specs.WellFormed.{key_type, column_type, column_types
 ghost use Rattle.pac_serial.specs.Outcomes.{Does, DoesGive};
 ghost use Rattle.pac_serial.specs.Transactions.{state_of, RunsOver};
 
+use crate::spare::{row_room, values_copy};
 use crate::transaction::{RunningTxn, Target};
-use pac_base::{NoMemory, copy_of};
+use pac_base::{Listed, NoMemory};
 use pac_ops::Reason;
 use pac_tables::Rows;
 use pac_types::Table;
@@ -183,6 +184,7 @@ pub(crate) fn delete<R: Rows>(
 // The values of a row.
 fn row_of(
     alloc: Global,
+    spare: &mut Listed<Row>,
     tables: &[Table],
     table: u16,
     exprs: &[Expr],
@@ -193,7 +195,7 @@ fn row_of(
     ensures does { DoesGive result (or_abort (values exprs.now env.now)) }
     ensures typed { IfOk result (λ row. map type_of row ≡ column_types tables.now table) }
 {
-    let mut row = Vec::with_capacity(alloc, exprs.len())?;
+    let mut row = row_room(alloc, spare, exprs.len())?;
     for expr in exprs {
         row.push(eval(expr, env)?)?;
     }
@@ -217,18 +219,31 @@ pub(crate) fn put<R: Rows>(
     ensures over { OnOk result (RunsOver tables.now (R.tables rows.now) (R.held rows.now) txn.new.write_set) }
 {
     let key = key_of(tables, target, &txn.env)?; // before the values
-    let row = row_of(txn.alloc, tables, target.table, exprs, &txn.env)?;
+    let row = row_of(
+        txn.alloc,
+        &mut txn.spare,
+        tables,
+        target.table,
+        exprs,
+        &txn.env,
+    )?;
     txn.write_set.change(target.table, key, Some(row))?;
     Ok(())
 }
 
 // The row with another value in a column.
-fn with_column(alloc: Global, row: &Row, column: u16, value: Value) -> Result<Row, NoMemory>
+fn with_column(
+    alloc: Global,
+    spare: &mut Listed<Row>,
+    row: &Row,
+    column: u16,
+    value: Value,
+) -> Result<Row, NoMemory>
     requires column { column < length row.now }
     requires stored { IsTrue (is_stored value) }
     ensures { IfOk result (λ r. r ≡ slice_set row.now column value) }
 {
-    let mut values = copy_of(alloc, row.items())?;
+    let mut values = values_copy(alloc, spare, row.items())?;
     values[usize::from(column)] = value;
     Ok(Row::of(values))
 }
@@ -254,7 +269,7 @@ pub(crate) fn set<R: Rows>(
     let Some(row) = txn.write_set.get(rows, target.table, &key) else {
         return Err(Halt::from(Reason::Missing));
     };
-    let row = with_column(txn.alloc, row, column, value)?;
+    let row = with_column(txn.alloc, &mut txn.spare, row, column, value)?;
     txn.write_set.change(target.table, key, Some(row))?;
     Ok(())
 }

@@ -1,5 +1,6 @@
 // The changes of a transaction that has not ended.
-ghost use Rattle.std.specs.Prelude.{◌≡◌, ◌<◌, ◌≤◌, ℕ, T, IfOk, IfErr, OnOk, OnErr};
+ghost use Rattle.std.specs.Prelude.{◌≡◌, ◌<◌, ◌≤◌, ℕ, T, vec_len, IfOk, IfErr, OnOk, OnErr};
+ghost use Rattle.std.specs.List.{insert};
 ghost use Rattle.std.specs.Option.{option_map};
 ghost use Rattle.std.specs.FinMap as map;
 ghost use Rattle.std.specs.FinMap.{is_sorted};
@@ -9,12 +10,15 @@ ghost use Rattle.pac_serial.specs.WriteSets.{as_changed, AreUnmade, gains, loses
 
 use crate::commit::{delete_rows, put_rows};
 use crate::pending::Pending;
-use pac_base::NoMemory;
+use pac_base::{Listed, NoMemory};
 use pac_tables::Rows;
 use pac_value::{Key, Row};
 use std::alloc::Global;
 use std::cmp::Ordering;
 use std::marker::Model;
+
+// The most rows that are kept for their room.
+const MAX_SPARE: usize = 64;
 
 /// A change, and the cell that is changed.
 pub(crate) type CellChange = ((u16, Key), Pending);
@@ -71,6 +75,31 @@ fn order(cell: &(u16, Key), table: u16, key: &Key) -> Ordering
     }
 }
 
+// Adds a change at an offset. Behind all others, none of these is moved.
+fn add_at(changes: &mut Vec<CellChange>, at: usize, change: CellChange) -> Result<(), NoMemory>
+    requires { at ≤ vec_len changes.old }
+    ensures ok { OnOk result (changes.new.items ≡ insert changes.old.items at change) }
+    ensures err { OnErr result (changes.new.items ≡ changes.old.items) }
+{
+    if at == changes.len() {
+        changes.push(change)?;
+    } else {
+        changes.insert(at, change)?;
+    }
+    Ok(())
+}
+
+// Takes the rows of changes away, up to so many that are kept. The others are dropped.
+fn take_rows(changes: &mut [CellChange], spare: &mut Listed<Row>) {
+    for at in 0..changes.len() {
+        if let Some(row) = changes[at].1.row.take()
+            && spare.len() < MAX_SPARE
+        {
+            let _ = spare.push(row);
+        }
+    }
+}
+
 impl WriteSet {
     /// Nothing is changed yet. Takes no memory.
     pub(crate) fn new(alloc: Global) -> WriteSet
@@ -81,10 +110,11 @@ impl WriteSet {
         }
     }
 
-    /// Forgets all changes, and keeps their room.
-    pub(crate) fn clear(&mut self)
+    /// Forgets all changes, and keeps their room. Their rows become spare ones.
+    pub(crate) fn clear(&mut self, spare: &mut Listed<Row>)
         ensures { self.new ≡ map.empty }
     {
+        take_rows(&mut self.changes, spare);
         self.changes.clear();
     }
 
@@ -107,7 +137,7 @@ impl WriteSet {
     {
         match search(&self.changes, table, &key) {
             Ok(at) => self.changes[at].1.replace(row),
-            Err(at) => self.changes.insert(at, ((table, key), Pending::new(row)))?,
+            Err(at) => add_at(&mut self.changes, at, ((table, key), Pending::new(row)))?,
         }
         Ok(())
     }

@@ -51,27 +51,27 @@ invariant_of-self-in-Continue-1 c =
     let cell : Cell = (c.args.table, c.args.key) in
     let all = c.self.inside.changes.items in
     let gap = subst (λ (es : List Change). IsGapFor cell_cmp es cell c.in-Err.at) c.deref.ensures.value c.in-Err.ensures.absent in
-    subst (λ (es : List Change). T (is_sorted cell_cmp es)) (sym c.in_ok-insert-in-Err.ensures.items) (gap-sorted cells_total all c.self.invariant cell c.in-Err.at gap c.new.result)
+    subst (λ (es : List Change). T (is_sorted cell_cmp es)) (sym c.in_ok-add_at-in-Err.ensures.ok) (gap-sorted cells_total all c.self.invariant cell c.in-Err.at gap c.new.result)
 
-pub returns-in_ok-insert-in-Err-clause-ok : goal.returns-in_ok-insert-in-Err-clause-ok
-returns-in_ok-insert-in-Err-clause-ok c held =
+pub returns-in_ok-add_at-in-Err-clause-ok : goal.returns-in_ok-add_at-in-Err-clause-ok
+returns-in_ok-add_at-in-Err-clause-ok c held =
     let cell : Cell = (c.args.table, c.args.key) in
     let all = c.self.inside.changes.items in
     let gap = subst (λ (es : List Change). IsGapFor cell_cmp es cell c.in-Err.at) c.deref.ensures.value c.in-Err.ensures.absent in
     let pending : Pending = c.new.result in
-    let new = ap (map.from_sorted {R = cell_cmp}) c.in_ok-insert-in-Err.ensures.items ∙ gap-map cells_total all c.self.invariant cell c.in-Err.at gap pending ∙ ap (λ (m : Changes). map.insert m cell pending) c.self.view_is in
-    seen held c.args.self.now (map.from_sorted c.insert.new.self.items) cell pending new
+    let new = ap (map.from_sorted {R = cell_cmp}) c.in_ok-add_at-in-Err.ensures.ok ∙ gap-map cells_total all c.self.invariant cell c.in-Err.at gap pending ∙ ap (λ (m : Changes). map.insert m cell pending) c.self.view_is in
+    seen held c.args.self.now (map.from_sorted c.add_at.new.changes.items) cell pending new
     ∙ ap (λ (p : Pending). with_row (as_changed held c.args.self.now) cell p.row) c.new.ensures
 
-pub returns-in_ok-insert-in-Err-clause-unmade : goal.returns-in_ok-insert-in-Err-clause-unmade
-returns-in_ok-insert-in-Err-clause-unmade c number within unmade =
+pub returns-in_ok-add_at-in-Err-clause-unmade : goal.returns-in_ok-add_at-in-Err-clause-unmade
+returns-in_ok-add_at-in-Err-clause-unmade c number within unmade =
     let cell : Cell = (c.args.table, c.args.key) in
     let all = c.self.inside.changes.items in
     let gap = subst (λ (es : List Change). IsGapFor cell_cmp es cell c.in-Err.at) c.deref.ensures.value c.in-Err.ensures.absent in
     let pending : Pending = c.new.result in
-    let new = ap (map.from_sorted {R = cell_cmp}) c.in_ok-insert-in-Err.ensures.items ∙ gap-map cells_total all c.self.invariant cell c.in-Err.at gap pending ∙ ap (λ (m : Changes). map.insert m cell pending) c.self.view_is in
+    let new = ap (map.from_sorted {R = cell_cmp}) c.in_ok-add_at-in-Err.ensures.ok ∙ gap-map cells_total all c.self.invariant cell c.in-Err.at gap pending ∙ ap (λ (m : Changes). map.insert m cell pending) c.self.view_is in
     let puts = ap (λ (p : Pending). p.puts) c.new.ensures ∙ sym (ap (λ (p : Pending). is_some p.row) c.new.ensures) in
-    still_unmade number c.args.self.now (map.from_sorted c.insert.new.self.items) cell pending new within puts unmade
+    still_unmade number c.args.self.now (map.from_sorted c.add_at.new.changes.items) cell pending new within puts unmade
 
-pub returns-in_err-insert-in-Err-clause-unmade : goal.returns-in_err-insert-in-Err-clause-unmade
-returns-in_err-insert-in-Err-clause-unmade c number within unmade = subst (λ (m : Changes). AreUnmade number m) (sym (ap (map.from_sorted {R = cell_cmp}) c.in_err-insert-in-Err.ensures.items ∙ c.self.view_is)) unmade
+pub returns-in_err-add_at-in-Err-clause-unmade : goal.returns-in_err-add_at-in-Err-clause-unmade
+returns-in_err-add_at-in-Err-clause-unmade c number within unmade = subst (λ (m : Changes). AreUnmade number m) (sym (ap (map.from_sorted {R = cell_cmp}) c.in_err-add_at-in-Err.ensures.err ∙ c.self.view_is)) unmade
