@@ -1,6 +1,6 @@
 -- How many rows a table has once changes are made: as many as before, with those that are added, without those that are
 -- taken away.
-use Rattle.std.proofs.Common.{◌≡◌, ℕ, ◌+◌, ◌==◌, ◌&&◌, Bool, true, false, not, cond, T, List, [], ◌∷◌, ◌++◌, map, length, Option, Some, None, is_some, refl, sym, ap, ◌∙◌, arith}
+use Rattle.std.proofs.Common.{◌≡◌, ℕ, ◌+◌, ◌≤◌, ◌==◌, ◌&&◌, Bool, true, false, not, cond, T, List, [], ◌∷◌, ◌++◌, map, length, Option, Some, None, is_some, refl, sym, ap, ◌∙◌, arith}
 use Rattle.std.specs.Prelude.{filter}
 use Rattle.std.specs.declared.cmp.Ordering.{Ordering}
 use Rattle.std.specs.declared.cmp.Ordering.TheVariants.{Less, Equal, Greater}
@@ -157,6 +157,15 @@ balanced x t (c ∷ cs) sorted =
 -- a table's rows as a transaction sees them
 pub seen-count : (x : ℕ) (t : Tables) (cs : Changes) → length (keys_of (as_changed t cs) x) + lost t x (entries cs) ≡ length (keys_of t x) + gained t x (entries cs)
 seen-count x t cs = balanced x t (entries cs) (entries_sorted cs)
+
+-- no more are added than there are changes
+pub gained-few : (t : Tables) (x : ℕ) (cs : List Change) → gained t x cs ≤ length cs
+gained-few t x [] = omega arith
+gained-few t x (c ∷ cs) = omega (arith, one (c.0.0 == x && (is_some c.1.row && not (is_some (get t c.0)))), gained-few t x cs)
+  where
+    one : (b : Bool) → cond b 1 0 ≤ 1
+    one true = omega arith
+    one false = omega arith
 
 -- one change more
 pub gained-more : (t : Tables) (x : ℕ) (cs : List Change) (c : Change) → gained t x (cs ++ c ∷ []) ≡ gained t x cs + gains t x c

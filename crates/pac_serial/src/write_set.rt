@@ -1,5 +1,5 @@
 // The changes of a transaction that has not ended.
-ghost use Rattle.std.specs.Prelude.{◌≡◌, ◌<◌, ◌≤◌, ℕ, T, vec_len, IfOk, IfErr, OnOk, OnErr};
+ghost use Rattle.std.specs.Prelude.{◌≡◌, ◌<◌, ◌≤◌, ℕ, T, length, vec_len, IfOk, IfErr, OnOk, OnErr};
 ghost use Rattle.std.specs.List.{insert};
 ghost use Rattle.std.specs.Option.{option_map};
 ghost use Rattle.std.specs.FinMap as map;
@@ -140,6 +140,13 @@ impl WriteSet {
             Err(at) => add_at(&mut self.changes, at, ((table, key), Pending::new(row)))?,
         }
         Ok(())
+    }
+
+    /// How many cells are changed.
+    pub(crate) fn len(&self) -> u64
+        ensures { result ≡ length (map.entries self.now) }
+    {
+        self.changes.len() as u64
     }
 
     /// How many rows the changes add to a table, and how many they take away.
