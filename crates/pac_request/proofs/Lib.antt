@@ -5,6 +5,7 @@ pub mod LineMeets
 pub mod MeaningLemmas
 pub mod LineOnce
 pub mod RequestFitLemmas
+pub mod CallWord
 pub mod PlainLemmas
 pub mod LineDivision
 pub mod CutLemmas

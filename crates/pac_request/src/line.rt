@@ -72,7 +72,10 @@ pub fn read_line(
         return Err(refused(MAX_LINE, LineFaultKind::TooLong));
     }
     if let Some(call) = plain_call(alloc, catalogue, line)? {
-        return Ok(Some(call));
+        return Ok(Some(Request::Call {
+            proc: call.proc,
+            args: call.args,
+        }));
     }
     let lexed = lex(alloc, line)?;
     answer_of(alloc, catalogue, &lexed, line.len())
@@ -123,7 +126,10 @@ pub fn read_script_line(
         return Err(refused(MAX_LINE, LineFaultKind::TooLong));
     }
     if let Some(call) = plain_call(alloc, catalogue, line)? {
-        return Ok(Some(call));
+        return Ok(Some(Request::Call {
+            proc: call.proc,
+            args: call.args,
+        }));
     }
     let lexed = lex(alloc, line)?;
     if let Some(at) = out_of_place(&lexed.items) {

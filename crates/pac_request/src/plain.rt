@@ -1,16 +1,20 @@
 // Reads a call from the bytes of a line, with no list of its tokens: most lines are calls.
-ghost use Rattle.std.specs.Prelude.{◌≡◌, ◌≤◌, ◌<◌, ◌∷◌, [], length, drop, IfOk, IfSome, IsTrue, MatchOption, Some};
-ghost use Rattle.pac_tokens.specs.Tokens.{gap};
+ghost use Rattle.std.specs.Prelude.{◌≡◌, ◌≤◌, ◌<◌, ◌∷◌, [], length, drop, take, codes, nat_eq, IfOk, IfSome, IsTrue, MatchOption, Some};
+ghost use Rattle.std.specs.Cmp.Lexicographic.{pointwise};
+ghost use Rattle.pac_tokens.specs.Tokens.{gap, IsPlainNext};
+ghost use Rattle.pac_tokens.specs.declared.token.Token.TheVariants as token;
 ghost use Rattle.pac_value.specs.declared.limits.TheConstants.{MAX_PARAMS};
 ghost use Rattle.pac_types.specs.WellFormed.{types};
+ghost use Rattle.pac_request.specs.LineForms.{verb_word};
+ghost use Rattle.pac_request.specs.declared.node.Verb.TheVariants as verb;
+ghost use Rattle.pac_request.specs.declared.request.Request.TheVariants.{Call as ACall};
 ghost use Rattle.pac_request.specs.RequestMeaning.{value_of};
 ghost use Rattle.pac_request.specs.PlainCalls.{IsCalled, HasArguments, AsksPlainly, TakesLiteral, IsLiteralRead, IsEndRead};
 
 use crate::meaning::proc_named;
 use crate::node::Verb;
-use crate::request::Request;
 use pac_base::NoMemory;
-use pac_ops::Args;
+use pac_ops::{Args, Call};
 use pac_tokens::{gap_len, leading_literal, leading_name};
 use pac_types::{Catalogue, Column, Proc};
 use pac_value::{Ty, Value};
@@ -33,6 +37,31 @@ fn after_byte(byte: u8, bytes: &[u8]) -> Option<&[u8]>
     }
 }
 
+// Whether `call` and a space come first.
+fn begins_call(bytes: &[u8]) -> bool
+    ensures { result ≡ pointwise nat_eq (take 5 bytes.now) (codes "call ") }
+{
+    match bytes {
+        [b'c', b'a', b'l', b'l', b' ', ..] => true,
+        _ => false,
+    }
+}
+
+// How many bytes the word `call` has, where it stands here. In most lines a space comes after it.
+fn call_len(bytes: &[u8]) -> Option<usize>
+    ensures call { IfSome result (λ len. IsPlainNext bytes.now (token.Name (verb_word verb.Call)) len) }
+    ensures within { IfSome result (λ len. len ≤ length bytes.now) }
+{
+    if begins_call(bytes) {
+        return Some(4);
+    }
+    let len = leading_name(bytes)?;
+    if &bytes[..len] != Verb::Call.word() {
+        return None;
+    }
+    Some(len)
+}
+
 // The procedure that is called, and the bytes after `call NAME (`. `None`: the line is no call, or none of a procedure
 // of the catalogue.
 fn called<'a, 'b>(catalogue: &'a Catalogue, line: &'b [u8]) -> Option<(u16, &'a Proc, &'b [u8])>
@@ -40,10 +69,7 @@ fn called<'a, 'b>(catalogue: &'a Catalogue, line: &'b [u8]) -> Option<(u16, &'a 
     ensures few { IfSome result (λ p. length p.1.now.params ≤ MAX_PARAMS) }
 {
     let word = after_gap(line);
-    let len = leading_name(word)?;
-    if &word[..len] != Verb::Call.word() {
-        return None;
-    }
+    let len = call_len(word)?;
     let name = after_gap(&word[len..]);
     let len = leading_name(name)?;
     let (number, proc) = proc_named(catalogue, &name[..len])?;
@@ -142,8 +168,8 @@ pub(crate) fn plain_call(
     alloc: Global,
     catalogue: &Catalogue,
     line: &[u8],
-) -> Result<Option<Request>, NoMemory>
-    ensures { IfOk result (λ found. IfSome found (AsksPlainly catalogue.now line.now)) }
+) -> Result<Option<Call>, NoMemory>
+    ensures { IfOk result (λ found. IfSome found (λ call. AsksPlainly catalogue.now line.now (ACall call.proc call.args))) }
 {
     let Some((proc, called, after)) = called(catalogue, line) else {
         return Ok(None);
@@ -152,5 +178,5 @@ pub(crate) fn plain_call(
         return Ok(None);
     };
     let args = Args::of(values);
-    Ok(Some(Request::Call { proc, args }))
+    Ok(Some(Call { proc, args }))
 }
