@@ -3,8 +3,8 @@
 //! - [`dump`]: the text of all tables, each with its rows by ascending key.
 //! - [`explain_text`]: the text of the graph of a catalogue: the slices of its procedures, the blocks of its plan, and
 //!   the edges between them.
-//! - [`reply_text`]: the line of a reply. [`fault_text`]: the line of a status, a [`StatusLine`]; [`StatusLine::text`]:
-//!   the same without memory, for a line without a name or number.
+//! - [`reply_text`]: the line of a reply; [`push_reply`] appends it. [`fault_text`]: the line of a status, a [`StatusLine`];
+//!   [`StatusLine::text`]: the same without memory, for a line without a name or number.
 //!
 //! ```
 //! use pac_report::{dump, reply_text};
@@ -29,6 +29,6 @@ mod tables;
 mod words;
 
 pub use explain::explain_text;
-pub use replies::reply_text;
+pub use replies::{push_reply, reply_text};
 pub use status::{StatusLine, fault_text};
 pub use tables::dump;

@@ -26,11 +26,23 @@ pub fn reply_text(alloc: Global, cat: &Catalogue, reply: &Reply) -> Result<Vec<u
 {
     let mut out = Vec::new(alloc);
     push_reply(&mut out, cat, reply)?;
-    out.extend_from_slice(b"\n")?;
     Ok(out)
 }
 
-fn push_reply(out: &mut Vec<u8>, cat: &Catalogue, reply: &Reply) -> Result<(), NoMemory>
+/// Appends the line that reports a reply, as [`reply_text`] makes it.
+///
+/// # Errors
+///
+/// [`NoMemory`] where the line finds no room.
+pub fn push_reply(out: &mut Vec<u8>, cat: &Catalogue, reply: &Reply) -> Result<(), NoMemory>
+    ensures { OnOk result (Grew out.old.items out.new.items (reply_text cat.now reply.now)) }
+{
+    push_reply_words(out, cat, reply)?;
+    out.extend_from_slice(b"\n")?;
+    Ok(())
+}
+
+fn push_reply_words(out: &mut Vec<u8>, cat: &Catalogue, reply: &Reply) -> Result<(), NoMemory>
     ensures { OnOk result (Grew out.old.items out.new.items (reply_words cat.now reply.now)) }
 {
     match reply {

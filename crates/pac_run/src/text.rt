@@ -8,7 +8,7 @@ ghost use Rattle.pac_report.specs.Replies.{shown_row};
 ghost use Rattle.pac_run.specs.Texts.{IsPlain, texts};
 
 use pac_base::NoMemory;
-use pac_report::reply_text;
+use pac_report::push_reply;
 use pac_request::Reply;
 use pac_types::Catalogue;
 use pac_value::{Key, Row, Value};
@@ -105,8 +105,7 @@ pub(crate) fn reply_texts(
     let mut text = Vec::new(alloc);
     for reply in replies {
         plain_reply(reply);
-        let line = reply_text(alloc, cat, reply)?;
-        text.extend_from_slice(&line)?;
+        push_reply(&mut text, cat, reply)?;
     }
     Ok(text)
 }
