@@ -1,5 +1,5 @@
 -- What arithmetic wants and gives.
-use Rattle.std.proofs.Common.{◌≡◌, ℤ, Bool, true, false, Option, Some, None, Result, Ok, Err, ℕ, IsSome, refl, sym, ap, subst, ◌∙◌}
+use Rattle.std.proofs.Common.{◌≡◌, ℤ, true, Option, Some, None, Result, Ok, Err, ℕ, IsSome, refl, sym, ap, subst, ◌∙◌}
 use Rattle.std.specs.Option.{option_and_then}
 use Rattle.pac_value.specs.declared.values.Ty.{Ty}
 use Rattle.pac_value.specs.declared.values.Ty.TheVariants.{Int as IntTy, Text as TextTy, Bool as BoolTy}
@@ -83,7 +83,7 @@ arithmetic_from_type op (Some x) None e = absurd (cc)
 arithmetic_from_type op (Some x) (Some y) e = gives_int op x y e
 
 -- arithmetic gives an int, where it gives anything
-int_given : (a b : Ty) → IsSome (arithmetic_type a b) → arithmetic_type a b ≡ Some IntTy
+pub int_given : (a b : Ty) → IsSome (arithmetic_type a b) → arithmetic_type a b ≡ Some IntTy
 int_given IntTy IntTy e = refl
 int_given IntTy TextTy e = absurd (cc)
 int_given IntTy BoolTy e = absurd (cc)

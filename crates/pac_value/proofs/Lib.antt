@@ -7,3 +7,4 @@ pub mod ByForms
 pub mod OffsetLemmas
 pub mod SortedLemmas
 pub mod ArithmeticLemmas
+pub mod KeyTypes

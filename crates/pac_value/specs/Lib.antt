@@ -10,3 +10,4 @@ pub mod Sorted
 pub mod State
 pub mod Literals
 pub mod Growth
+pub mod Forms

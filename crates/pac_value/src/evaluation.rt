@@ -1,12 +1,13 @@
 // The values of expressions.
 ghost use Rattle.std.specs.Prelude.{◌≡◌, true, false, Some, IsSome, IfOk};
-ghost use Rattle.pac_value.specs.Values.{type_of, value_cmp};
+ghost use Rattle.pac_value.specs.Values.{type_of, value_cmp, as_key, key_value};
+ghost use Rattle.pac_value.specs.Forms.{calculates, tests, key_given};
 ghost use Rattle.pac_value.specs.Expressions.{value, type_in, types_of, decides, is_arithmetic, as_value, operator_type, applied, divided, quotient, remainder};
-ghost use Rattle.pac_value.specs.declared.values.Ty.TheVariants.{Int as IntTy, Text as TextTy};
+ghost use Rattle.pac_value.specs.declared.values.Ty.TheVariants.{Int as IntTy, Bool as BoolTy};
 ghost use Rattle.pac_value.specs.declared.values.Value.TheVariants.{Int as AnInt};
 ghost use Rattle.pac_value.specs.declared.expr.BinOp.TheVariants.{Lt};
 
-use crate::{BinOp, Env, Expr, Trap, Value};
+use crate::{BinOp, Env, Expr, Key, Trap, Value};
 use std::cmp::Ordering;
 
 /// The value of an expression that is well typed where its variables have the types of their values. Operands are
@@ -17,6 +18,8 @@ use std::cmp::Ordering;
 ///
 /// The first trap that is met: `Overflow` exactly where a result leaves the 64 bits of an int, `DivZero` exactly where a
 /// divisor is zero. An operand's trap comes before that of its operator.
+#[cycle(eval)]
+#[inline(always)]
 pub fn eval(expr: &Expr, env: &Env) -> Result<Value, Trap>
     requires { IsSome (type_in (types_of env.now) expr.now) }
     ensures value { result ≡ value expr.now env.now }
@@ -24,11 +27,27 @@ pub fn eval(expr: &Expr, env: &Env) -> Result<Value, Trap>
 {
     match expr {
         Expr::Lit(value) => Ok(*value),
-        Expr::Var(var) => Ok(env.get(*var).unwrap()),
-        Expr::Bin { op, left, right } => {
+        Expr::Var(var) => Ok(*env.value_of(*var).unwrap()),
+        Expr::Bin { op, .. } => {
             if is_arithmetic(*op) {
                 return Ok(Value::Int(eval_int(expr, env)?));
             }
+            eval_test(expr, env)
+        }
+        Expr::Not(_) => eval_test(expr, env),
+    }
+}
+
+// The value of a test. It stands apart, since a call pays for the values that it may hold.
+#[cycle(eval)]
+fn eval_test(expr: &Expr, env: &Env) -> Result<Value, Trap>
+    requires typed { IsSome (type_in (types_of env.now) expr.now) }
+    requires test { tests expr.now ≡ true }
+    ensures value { result ≡ value expr.now env.now }
+    ensures typed { IfOk result (λ v. type_in (types_of env.now) expr.now ≡ Some (type_of v)) }
+{
+    match expr {
+        Expr::Bin { op, left, right } => {
             let first = eval(left.get(), env)?;
             if decides(*op, first) {
                 Ok(first)
@@ -40,10 +59,45 @@ pub fn eval(expr: &Expr, env: &Env) -> Result<Value, Trap>
             Value::Bool(truth) => Ok(Value::Bool(!truth)),
             _ => unreachable!(),
         },
+        Expr::Lit(_) | Expr::Var(_) => unreachable!(),
+    }
+}
+
+/// The key that an expression of an int or a text gives. Takes no memory.
+///
+/// # Errors
+///
+/// The trap that stops the expression, as [`eval`] returns it.
+pub fn eval_key(expr: &Expr, env: &Env) -> Result<Key, Trap>
+    requires typed { IsSome (type_in (types_of env.now) expr.now) }
+    requires stored { type_in (types_of env.now) expr.now ≡ Some BoolTy → ⊥ }
+    ensures key { result ≡ key_given expr.now env.now }
+    ensures typed { IfOk result (λ key. type_in (types_of env.now) expr.now ≡ Some (type_of (key_value key))) }
+{
+    match expr {
+        Expr::Lit(value) => Ok(key_of(value)),
+        Expr::Var(var) => Ok(key_of(env.value_of(*var).unwrap())),
+        Expr::Bin { .. } => Ok(Key::Int(eval_int(expr, env)?)),
+        Expr::Not(_) => unreachable!(),
+    }
+}
+
+// The key with an int's or a text's value.
+fn key_of(value: &Value) -> Key
+    requires { type_of value.now ≡ BoolTy → ⊥ }
+    ensures key { result ≡ as_key value.now }
+    ensures typed { type_of (key_value result) ≡ type_of value.now }
+{
+    match value {
+        Value::Int(number) => Key::Int(*number),
+        Value::Text(text) => Key::Text(*text),
+        Value::Bool(_) => unreachable!(),
     }
 }
 
 // The value of an expression that is an int. A value is large, so that it pays to hand on the number alone.
+#[cycle(int)]
+#[inline(always)]
 fn eval_int(expr: &Expr, env: &Env) -> Result<i64, Trap>
     requires { type_in (types_of env.now) expr.now ≡ Some IntTy }
     ensures { as_value result ≡ value expr.now env.now }
@@ -51,6 +105,19 @@ fn eval_int(expr: &Expr, env: &Env) -> Result<i64, Trap>
     match expr {
         Expr::Lit(value) => Ok(int_of(value)),
         Expr::Var(var) => Ok(int_of(env.value_of(*var).unwrap())),
+        Expr::Bin { .. } => calculation(expr, env),
+        Expr::Not(_) => unreachable!(),
+    }
+}
+
+// What arithmetic gives. Operands that are variables or written out take no call.
+#[cycle(int)]
+fn calculation(expr: &Expr, env: &Env) -> Result<i64, Trap>
+    requires int { type_in (types_of env.now) expr.now ≡ Some IntTy }
+    requires form { calculates expr.now ≡ true }
+    ensures { as_value result ≡ value expr.now env.now }
+{
+    match expr {
         Expr::Bin { op, left, right } => {
             let first = eval_int(left.get(), env)?;
             match eval_int(right.get(), env) {
@@ -58,7 +125,7 @@ fn eval_int(expr: &Expr, env: &Env) -> Result<i64, Trap>
                 Err(trap) => Err(trap),
             }
         }
-        Expr::Not(_) => unreachable!(),
+        _ => unreachable!(),
     }
 }
 

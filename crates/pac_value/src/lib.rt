@@ -6,7 +6,7 @@
 //! - [`Ty`], [`Value`]: an int, a text or a bool. [`Key`]: an int or a text; ints sort before texts. [`Row`]: 1 to 8
 //!   values, none of them a bool.
 //! - [`Env`]: the values of variables. [`Expr`], [`BinOp`]: an expression; [`eval`] returns its value, or the [`Trap`]
-//!   that stops it.
+//!   that stops it, and [`eval_key`] the key that it is.
 //! - [`push_value`], [`push_key`], [`push_values`]: append values as literals to a text (`specs/Literals.antt`).
 //!   [`push_count`] appends a count.
 //!
@@ -42,7 +42,7 @@ mod text;
 mod values;
 
 pub use env::Env;
-pub use evaluation::eval;
+pub use evaluation::{eval, eval_key};
 pub use expr::{BinOp, Expr, Trap};
 pub use limits::{MAX_COLUMNS, MAX_NAME, MAX_PARAMS, MAX_PROCS, MAX_TABLES, MAX_TEXT};
 pub use literals::{push_count, push_key, push_value, push_values};
