@@ -1,8 +1,10 @@
 // Reads ints, and the `-` before them.
-ghost use Rattle.std.specs.Prelude.{◌≡◌, pos, neg_ℤ, ◌≤◌, ◌^◌, Some, None, nat_le, if◌then◌else◌};
+ghost use Rattle.std.specs.Prelude.{◌≡◌, pos, neg_ℤ, ◌≤◌, ◌^◌, Some, None, Ok, IfSome, nat_le, if◌then◌else◌};
 ghost use Rattle.std.specs.List.{take_while};
 ghost use Rattle.pac_tokens.specs.Tokens.{is_digit, digits_value, next_digits};
 ghost use Rattle.pac_tokens.specs.Lexing.{int_at, minus_at};
+ghost use Rattle.pac_tokens.specs.declared.lexer.Before.TheVariants.{Other};
+ghost use Rattle.pac_tokens.specs.declared.token.Token.TheVariants.{Int};
 
 use crate::fault::FaultKind;
 use crate::lexer::{Before, digits_len, gap_len};
@@ -42,6 +44,19 @@ pub(crate) fn int(before: Before, bytes: &[u8]) -> Result<(Token, usize), FaultK
             Ok(value) => Ok((Token::Int(value), digits.len())),
             Err(_) => Err(FaultKind::TooLong),
         },
+    }
+}
+
+/// The int of the digits at the start, where no `-` of a literal stands before them, and how many they are. `None`: it is
+/// above the greatest `i64`.
+pub(crate) fn plain_int(bytes: &[u8]) -> Option<(i64, usize)>
+    ensures { IfSome result (λ p. int_at Other (take_while is_digit bytes.now) ≡ Ok (Int p.0, p.1)) }
+{
+    let digits = &bytes[..digits_len(bytes)];
+    let value = magnitude(digits)?;
+    match i64::try_from(value) {
+        Ok(value) => Some((value, digits.len())),
+        Err(_) => None,
     }
 }
 

@@ -4,8 +4,8 @@ ghost use Rattle.pac_tokens.specs.declared.token.Token.TheVariants as token;
 ghost use Rattle.pac_tokens.specs.Tokens.{IsPlainNext};
 ghost use Rattle.pac_tokens.specs.Literal.{literal_token};
 
-use crate::int::int;
-use crate::lexer::{Before, find_keyword, is_digit_byte, is_letter_byte, word_len};
+use crate::int::plain_int;
+use crate::lexer::{find_keyword, is_digit_byte, is_letter_byte, word_len};
 use crate::text::text;
 use crate::token::Token;
 use pac_value::{Name, Value};
@@ -31,12 +31,11 @@ pub fn leading_name(bytes: &[u8]) -> Option<usize>
     }
 }
 
-// The int or text that a token is.
-fn value_of(token: Token) -> Option<Value>
+// The text that a token is.
+fn text_of(token: Token) -> Option<Value>
     ensures { IfSome result (λ value. token ≡ literal_token value) }
 {
     match token {
-        Token::Int(number) => Some(Value::Int(number)),
         Token::Text(text) => Some(Value::Text(text)),
         _ => None,
     }
@@ -52,11 +51,8 @@ pub fn leading_literal(bytes: &[u8]) -> Option<(Value, usize)>
         return None;
     };
     if is_digit_byte(*first) {
-        let Ok((token, len)) = int(Before::Other, bytes) else {
-            return None;
-        };
-        let value = value_of(token)?;
-        return Some((value, len));
+        let (number, len) = plain_int(bytes)?;
+        return Some((Value::Int(number), len));
     }
     if *first != b'"' {
         return None;
@@ -64,6 +60,6 @@ pub fn leading_literal(bytes: &[u8]) -> Option<(Value, usize)>
     let Ok((token, len)) = text(after) else {
         return None;
     };
-    let value = value_of(token)?;
+    let value = text_of(token)?;
     Some((value, len))
 }
