@@ -5,7 +5,7 @@ ghost use Rattle.pac_value.specs.Expressions.{type_in, types_of};
 ghost use Rattle.pac_ops.specs.Flat.{is_as_asked, all_hold};
 ghost use Rattle.pac_ops.specs.Operations.{key_at};
 
-use pac_value::{Env, Expr, Key, Trap, Value, eval};
+use pac_value::{Env, Expr, Key, Trap, Value, eval_key};
 
 /// Whether all conditions hold. One on a variable without a value doesn't.
 pub fn all_hold(conds: &[(u16, bool)], env: &Env) -> bool
@@ -40,9 +40,5 @@ pub fn key_of(key: &Expr, env: &Env) -> Result<Key, Trap>
     requires stored { type_in (types_of env.now) key.now ≡ Some BoolTy → ⊥ }
     ensures { result ≡ key_at key.now env.now }
 {
-    match eval(key, env)? {
-        Value::Int(number) => Ok(Key::Int(number)),
-        Value::Text(text) => Ok(Key::Text(text)),
-        Value::Bool(_) => unreachable!(),
-    }
+    eval_key(key, env)
 }
