@@ -7,7 +7,6 @@ ghost use Rattle.pac_value.specs.Values.{is_stored};
 ghost use Rattle.pac_bytes.specs.Values.{HasBytes};
 ghost use Rattle.pac_entry.specs.Entries.{counted_bytes, change_bytes, txn_bytes, ChangeHasBytes, TxnHasBytes};
 
-use crate::entry_len;
 use pac_base::NoMemory;
 use pac_bytes::{put_key, put_u8, put_u16, put_value};
 use pac_ops::{Change, Txn};
@@ -23,7 +22,7 @@ pub(crate) const PUT: u8 = 1;
 
 pub(crate) const DELETE: u8 = 2;
 
-/// Appends the entry of a transaction. It takes memory once, for the whole entry.
+/// Appends the entry of a transaction. It takes memory where there is no room for [`entry_len`](crate::entry_len) bytes.
 ///
 /// # Errors
 ///
@@ -34,7 +33,6 @@ pub fn write_entry(txn: &Txn, out: &mut Vec<u8>) -> Result<(), NoMemory>
     // It is one that is read again, where it fits the catalogue.
     ensures form { OnOk result (TxnHasBytes txn.now) }
 {
-    out.reserve(entry_len(txn))?;
     match txn {
         Txn::Call(call) => {
             put_u8(out, CALL)?;
