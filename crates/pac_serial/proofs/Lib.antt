@@ -4,6 +4,7 @@ pub mod CommitLemmas
 pub mod LimitLemmas
 pub mod FitLemmas
 pub mod RowLemmas
+pub mod KeyLemmas
 pub mod CodeLemmas
 pub mod TurnRunLemmas
 pub mod SameMeaning

@@ -20,7 +20,7 @@ use pac_base::{Listed, NoMemory};
 use pac_ops::Reason;
 use pac_tables::Rows;
 use pac_types::Table;
-use pac_value::{Env, Expr, Key, Row, Trap, Value, eval};
+use pac_value::{Env, Expr, Key, Row, Trap, Value, eval, eval_key};
 use std::alloc::{AllocError, AllocFailed, Global};
 
 /// Why operations are not executed.
@@ -105,11 +105,7 @@ fn key_of(tables: &[Table], target: &Target<'_>, env: &Env) -> Result<Key, Trap>
     ensures within { target.now.table < length tables.now }
     ensures trap { IfErr result (λ trap. cell_at target.now.table target.now.key.now env.now ≡ Err trap) }
 {
-    match eval(target.key, env)? {
-        Value::Int(number) => Ok(Key::Int(number)),
-        Value::Text(text) => Ok(Key::Text(text)),
-        Value::Bool(_) => unreachable!(),
-    }
+    eval_key(target.key, env)
 }
 
 // The column of a row, or the default where there is no row.
