@@ -4,13 +4,15 @@ use Rattle.std.specs.Prelude.{slice_get}
 use Rattle.std.proofs.lemmas.List.{append-nil, length-append, length-map, map-append, take-append-drop, drop_at}
 use Rattle.pac_ops.specs.declared.batch.Batch.{Batch}
 use Rattle.pac_ops.specs.declared.transaction.Txn.{Txn}
+use Rattle.pac_log.specs.declared.position.NextGate.{NextGate}
 use Rattle.pac_log.specs.Bodies.{body_bytes}
 use Rattle.pac_log.specs.Logs.{log_prefix, all_txns}
+use Rattle.pac_log.specs.Places.{IsAfter}
 use Rattle.pac_log.proofs.LogLemmas.{prefix_pushed, all_txns-append}
 use Rattle.pac_check.specs.declared.head.Head.{Head}
 use Rattle.pac_recover.specs.declared.gates.GatePlace.{GatePlace}
 use Rattle.pac_recover.specs.Damages.{IsAmongGates, IsAtGate}
-use Rattle.pac_recover.specs.Gates.{gate_after_txns, gate_after_batches, gates_from, last_gate, txns_in, txns_by_batch, RunOn}
+use Rattle.pac_recover.specs.Gates.{gate_after_txns, gate_after_batches, gates_from, last_gate, place_of, txns_in, txns_by_batch, RunOn}
 
 -- ---- one batch more
 
@@ -51,7 +53,7 @@ gate-there g (t ∷ before) after = gate-there (gate_after_txns g t) before afte
 
 -- ---- the gates of a log
 
-same-gate : (p q n m : ℕ) → p ≡ q → n ≡ m → ◌≡◌ {A = GatePlace} (record { place = p; txns = n }) (record { place = q; txns = m })
+pub same-gate : (p q n m : ℕ) → p ≡ q → n ≡ m → ◌≡◌ {A = GatePlace} (record { place = p; txns = n }) (record { place = q; txns = m })
 same-gate p q n m e f = ap₂ the_gate e f
   where
     the_gate : ℕ → ℕ → GatePlace
@@ -72,6 +74,16 @@ last-after text before [] = ap (λ (l : List (List Txn)). gate_after_batches tex
 last-after text before (t ∷ bs) =
     ap (λ (g : GatePlace). last_gate g bs) (after-after text before t) ∙ last-after text (before ++ t ∷ []) bs
     ∙ ap (λ (l : List (List Txn)). gate_after_batches text l) (append_assoc before (t ∷ []) bs)
+
+-- the gates up to one more batch
+pub gates-more : (text : List ℕ) (batches : List (List Txn)) (txns : List Txn) (new : NextGate) (gates : List GatePlace) → gates ≡ gates_from (gate_after_batches text []) batches → IsAfter text (batches ++ txns ∷ []) new
+    → gates ++ place_of new ∷ [] ≡ gates_from (gate_after_batches text []) (batches ++ txns ∷ [])
+gates-more text batches txns new gates are after =
+    let last : gate_after_txns (last_gate (gate_after_batches text []) batches) txns ≡ gate_after_batches text (batches ++ txns ∷ [])
+    = ap (λ (g : GatePlace). gate_after_txns g txns) (last-after text [] batches) ∙ after-after text batches txns in
+    ap (λ (l : List GatePlace). l ++ place_of new ∷ []) are
+    ∙ ap (λ (g : GatePlace). gates_from (gate_after_batches text []) batches ++ g ∷ []) (same-gate _ _ _ _ after.place after.txns ∙ sym last)
+    ∙ sym (gates-push (gate_after_batches text []) batches txns)
 
 -- a gate among those of a log is one of it, and the other way round
 pub among-gate : (text : List ℕ) (bs : List (List Txn)) (head : Head) → IsAmongGates (gates_from (gate_after_batches text []) bs) head → IsAtGate text bs head

@@ -7,3 +7,5 @@ pub mod LoadLemmas
 pub mod RecoverLemmas
 pub mod StandsLemmas
 pub mod ReportLemmas
+pub mod ReplayLemmas
+pub mod EndLemmas

@@ -105,25 +105,18 @@ placed text batches gates slot Empty are at = tt
 placed text batches gates slot Closed are at = tt
 placed text batches gates slot (Open head) are at = among-gate text batches head (subst (λ (l : List GatePlace). IsAmongGates l head) are at)
 
--- the damage of the slots beside the gates that were read is one beside the log
-pub damaged-beside : (log : WholeLog) (images : Images) (slot : SlotName) (at : ℕ) (kind : SlotDamageKind) → HoldsWhole log images.log
-    → IsSlotDamage (IsAmongGates log.gates.items) log.reader.gate.catalogue.tables slot at kind images.slot_a images.slot_b → IsDamagedSlot slot at kind images
-damaged-beside log images slot at kind holds damage = record {
-  text = holds.text;
-  catalogue = log.reader.gate.catalogue;
-  batches = txns_by_batch log.batches.items;
-  log = holds.holds.log;
-  damage = go damage;
-}
+-- the damage of the slots beside the gates of a log is one beside the log
+pub damaged-at-gates : (text : List ℕ) (catalogue : CatalogueState) (batches : List (List Txn)) (gates : List GatePlace) (images : Images) (slot : SlotName) (at : ℕ) (kind : SlotDamageKind) → HoldsLog text catalogue batches images.log
+    → gates ≡ gates_from (gate_after_batches text []) batches → IsSlotDamage (IsAmongGates gates) catalogue.tables slot at kind images.slot_a images.slot_b → IsDamagedSlot slot at kind images
+damaged-at-gates text catalogue batches gates images slot at kind holds are damage = record { text = text; catalogue = catalogue; batches = batches; log = holds; damage = go damage }
   where
-    to : (head : Head) → IsAmongGates log.gates.items head → IsAtGate holds.text (txns_by_batch log.batches.items) head
-    to head among = among-gate holds.text (txns_by_batch log.batches.items) head (subst (λ (l : List GatePlace). IsAmongGates l head) holds.gates among)
+    to : (head : Head) → IsAmongGates gates head → IsAtGate text batches head
+    to head among = among-gate text batches head (subst (λ (l : List GatePlace). IsAmongGates l head) are among)
 
-    back : (head : Head) → IsAtGate holds.text (txns_by_batch log.batches.items) head → IsAmongGates log.gates.items head
-    back head is = subst (λ (l : List GatePlace). IsAmongGates l head) (sym holds.gates) (gate-among holds.text (txns_by_batch log.batches.items) head is)
+    back : (head : Head) → IsAtGate text batches head → IsAmongGates gates head
+    back head is = subst (λ (l : List GatePlace). IsAmongGates l head) (sym are) (gate-among text batches head is)
 
-    go : IsSlotDamage (IsAmongGates log.gates.items) log.reader.gate.catalogue.tables slot at kind images.slot_a images.slot_b
-        → IsSlotDamage (IsAtGate holds.text (txns_by_batch log.batches.items)) log.reader.gate.catalogue.tables slot at kind images.slot_a images.slot_b
+    go : IsSlotDamage (IsAmongGates gates) catalogue.tables slot at kind images.slot_a images.slot_b → IsSlotDamage (IsAtGate text batches) catalogue.tables slot at kind images.slot_a images.slot_b
     go (inl broken) = inl broken
     go (inr (at_9, place, wrong)) = inr (
       at_9,
@@ -139,6 +132,12 @@ damaged-beside log images slot at kind holds damage = record {
         first = λ b other open_a. to other (wrong.first b other open_a);
       },
     )
+
+-- the same of a log that was read
+pub damaged-beside : (log : WholeLog) (images : Images) (slot : SlotName) (at : ℕ) (kind : SlotDamageKind) → HoldsWhole log images.log
+    → IsSlotDamage (IsAmongGates log.gates.items) log.reader.gate.catalogue.tables slot at kind images.slot_a images.slot_b → IsDamagedSlot slot at kind images
+damaged-beside log images slot at kind holds damage =
+    damaged-at-gates holds.text log.reader.gate.catalogue (txns_by_batch log.batches.items) log.gates.items images slot at kind holds.holds.log holds.gates damage
 
 module _ (log : WholeLog) (loaded : Loaded) (count : ℕ) (is : IsWhole log) (prefix : IsPrefix log.batches.items (newest_of loaded.slots) count)
     (same : loaded.catalogue ≡ log.reader.gate.catalogue) (batches : loaded.batches ≡ drop count log.batches.items) (number : loaded.txns ≡ saved_txns (newest_of loaded.slots)) (reader : loaded.reader ≡ log.reader) where

@@ -87,7 +87,7 @@ module _ (limit : ℕ) (log a b : Option DiskHistory) where
     over = λ table rows most e. absurd (loaded-over cause table rows most (same-error _ _ e));
   })
 
-  execute-knows : (result : Result Recovered RecoverError) (answer : RecoverError) (cause : AllError) → result ≡ Err answer → answer ≡ not_executed cause
+  pub execute-knows : (result : Result Recovered RecoverError) (answer : RecoverError) (cause : AllError) → result ≡ Err answer → answer ≡ not_executed cause
       → ((note : Note) → cause ≡ serial.Abort note → IfReadKnown (AbortsIn note) log a b) → ReportsAnswer limit result log a b
   execute-knows result answer cause is same abort =
       let other = executed-else cause (not_executed cause) refl in
@@ -103,7 +103,7 @@ module _ (limit : ℕ) (log a b : Option DiskHistory) where
   over-is : (t u : List ℕ) (m n k l : ℕ) → error.RowsOver t m k ≡ error.RowsOver u n l → (t ≡ u) × (m ≡ n) × (k ≡ l)
   over-is t u m n k l e = (cc, cc, cc)
 
-  over-knows : (result : Result Recovered RecoverError) (answer : RecoverError) (table : List ℕ) (rows most : ℕ) → result ≡ Err answer → answer ≡ error.RowsOver table rows most
+  pub over-knows : (result : Result Recovered RecoverError) (answer : RecoverError) (table : List ℕ) (rows most : ℕ) → result ≡ Err answer → answer ≡ error.RowsOver table rows most
       → most ≡ limit → IfReadKnown (IsOverIn table rows limit) log a b → ReportsAnswer limit result log a b
   over-knows result answer table rows most is same at over = as-answer result answer (error.RowsOver table rows most) is same (record {
     recovered = tt;
@@ -148,15 +148,3 @@ module _ (loaded : Loaded) (log a b : Option DiskHistory) (slice : List Batch) (
   stored-recovered held txns count done known counted known_stored =
       known-weaker (λ images. IsStored images (stored_of loaded)) (IsRecoveredFrom loaded.catalogue held txns)
       (λ images is. record { stored = stored_of loaded; is = is; same = refl; ends = ends-as (Ok held) done; counted = known ∙ counted }) log a b known_stored
-
-  -- an execution that stops, and tables over the limit, say what is answered of them
-
-  pub stopped-knows : (limit : ℕ) (result : Result Recovered RecoverError) (answer : RecoverError) (cause : AllError) → result ≡ Err answer → answer ≡ not_executed cause
-      → ((note : Note) → cause ≡ serial.Abort note → executed loaded.catalogue.procs (loaded.txns + 1) (txns_in slice) loaded.tables.rows ≡ Err note)
-      → IfReadKnown (λ images. IsStored images (stored_of loaded)) log a b → ReportsAnswer limit result log a b
-  stopped-knows limit result answer cause is same stops known = execute-knows limit log a b result answer cause is same (λ note e. stored-aborts note (stops note e) known)
-
-  pub full-knows : (limit : ℕ) (result : Result Recovered RecoverError) (answer : RecoverError) (table : List ℕ) (rows most : ℕ) → result ≡ Err answer → answer ≡ error.RowsOver table rows most → most ≡ limit
-      → (held : Tables) → executed loaded.catalogue.procs (loaded.txns + 1) (txns_in slice) loaded.tables.rows ≡ Ok held → IsFirstOver limit loaded.catalogue.tables held table rows
-      → IfReadKnown (λ images. IsStored images (stored_of loaded)) log a b → ReportsAnswer limit result log a b
-  full-knows limit result answer table rows most is same at held done over known = over-knows limit log a b result answer table rows most is same at (stored-over table rows limit held done over known)

@@ -19,7 +19,7 @@ use Rattle.pac_recover.specs.declared.errors.LoadError.{LoadError}
 use Rattle.pac_recover.specs.declared.errors.LoadError.TheVariants as load
 use Rattle.pac_recover.specs.declared.gates.GatePlace.{GatePlace}
 use Rattle.pac_recover.specs.Causes.{slot_not_loaded}
-use Rattle.pac_recover.specs.Damages.{IsAmongGates, IsSlotDamage}
+use Rattle.pac_recover.specs.Damages.{IsAmongGates, IsBrokenSlot, IsSlotDamage}
 use Rattle.pac_recover.specs.Loading.{IsInfoAmong}
 
 -- ---- the bytes of a slot
@@ -33,14 +33,29 @@ slot-cause slot.NoMemory name at kind e = absurd cc
 not-b : A ≡ B → ⊥
 not-b e = cc
 
+pub broken-slot : (tables : List Table) (name : SlotName) (at : ℕ) (kind : SlotDamageKind) (a b : Option DiskHistory)
+    → IfKnown (λ h. slot_read tables h.now.seen ≡ Err (slot_fault kind at)) (by_slot name a b)
+    → (name ≡ B → IfKnown (λ h. (state : SlotState) × IsSlot tables state h.now.seen) a)
+    → IfKnown (λ x. IfKnown (λ y. IsBrokenSlot tables name (slot_fault kind at) x.now.seen y.now.seen) b) a
+broken-slot tables name at kind None b fault first = tt
+broken-slot tables name at kind (Some x) None fault first = tt
+broken-slot tables A at kind (Some x) (Some y) fault first = record { fault_of = fault; first = λ e. absurd (not-b e) }
+broken-slot tables B at kind (Some x) (Some y) fault first = record { fault_of = fault; first = first }
+
 pub broken : (gates : List GatePlace) (tables : List Table) (name : SlotName) (at : ℕ) (kind : SlotDamageKind) (a b : Option DiskHistory)
     → IfKnown (λ h. slot_read tables h.now.seen ≡ Err (slot_fault kind at)) (by_slot name a b)
     → (name ≡ B → IfKnown (λ h. (state : SlotState) × IsSlot tables state h.now.seen) a)
     → IfKnown (λ x. IfKnown (λ y. IsSlotDamage (IsAmongGates gates) tables name at kind x.now.seen y.now.seen) b) a
 broken gates tables name at kind None b fault first = tt
 broken gates tables name at kind (Some x) None fault first = tt
-broken gates tables A at kind (Some x) (Some y) fault first = inl (record { fault_of = fault; first = λ e. absurd (not-b e) })
-broken gates tables B at kind (Some x) (Some y) fault first = inl (record { fault_of = fault; first = first })
+broken gates tables name at kind (Some x) (Some y) fault first = inl (broken-slot tables name at kind (Some x) (Some y) fault first)
+
+-- slots that are whole are not broken
+pub whole-broken : (tables : List Table) (name : SlotName) (at : ℕ) (kind : SlotDamageKind) (a b : Option DiskHistory) → IfKnown (λ x. IfKnown (λ y. ⊥) b) a
+    → IfKnown (λ x. IfKnown (λ y. IsBrokenSlot tables name (slot_fault kind at) x.now.seen y.now.seen) b) a
+whole-broken tables name at kind None b none = tt
+whole-broken tables name at kind (Some x) None none = tt
+whole-broken tables name at kind (Some x) (Some y) none = absurd none
 
 -- ---- the offset of a slot
 
@@ -54,7 +69,7 @@ open-at name Empty info e = absurd cc
 open-at name Closed info e = absurd cc
 open-at name (Open head) info e = (head, refl, sym (ap (slot_in name) e))
 
-same-damage : (s t : SlotName) (m n : ℕ) (k l : SlotDamageKind) → load.Damaged (Slot s m k) ≡ load.Damaged (Slot t n l) → (s ≡ t) × (m ≡ n) × (k ≡ l)
+pub same-damage : (s t : SlotName) (m n : ℕ) (k l : SlotDamageKind) → load.Damaged (Slot s m k) ≡ load.Damaged (Slot t n l) → (s ≡ t) × (m ≡ n) × (k ≡ l)
 same-damage s t m n k l e = (cc, cc, cc)
 
 -- an open slot that is at none of the gates, after one that is at one
@@ -63,24 +78,31 @@ module _ (gates : List GatePlace) (tables : List Table) (name : SlotName) (state
   opens : (head : Head) × (by_slot name state_a state_b ≡ Open head) × (found.slot ≡ name)
   opens = open-at name (by_slot name state_a state_b) found (sym is ∙ there)
 
+  -- on these images, by the slot's name
+  pub misplaced-here : (a b : List ℕ) → IsSlot tables state_a a → IsSlot tables state_b b → (found.slot ≡ name) × IsSlotDamage (IsAmongGates gates) tables name 9 Place a b
+  misplaced-here a b is_a is_b = (
+    opens.2,
+    inr (
+      refl,
+      refl,
+      record {
+        state_a = state_a;
+        state_b = state_b;
+        is_a = is_a;
+        is_b = is_b;
+        head = opens.0;
+        opens = opens.1;
+        misfit = λ among. misfit (subst (λ (o : Option SlotInfo). IsInfoAmong gates o) (sym is) (subst (λ (s : SlotState). IsInfoAmong gates (info_of name s)) (sym opens.1) among));
+        first = λ b other open_a. subst (λ (s : SlotState). IsInfoAmong gates (info_of A s)) open_a (prefix b);
+      },
+    ),
+  )
+
   beside : (a b : Option DiskHistory) → IfKnown (λ h. IsSlot tables state_a h.now.seen × OpensExactly tables state_a h.now.seen) a → IfKnown (λ h. IsSlot tables state_b h.now.seen × OpensExactly tables state_b h.now.seen) b
       → IfKnown (λ x. IfKnown (λ y. IsSlotDamage (IsAmongGates gates) tables name 9 Place x.now.seen y.now.seen) b) a
   beside None b is_a is_b = tt
   beside (Some x) None is_a is_b = tt
-  beside (Some x) (Some y) is_a is_b = inr (
-    refl,
-    refl,
-    record {
-      state_a = state_a;
-      state_b = state_b;
-      is_a = is_a.0;
-      is_b = is_b.0;
-      head = opens.0;
-      opens = opens.1;
-      misfit = λ among. misfit (subst (λ (o : Option SlotInfo). IsInfoAmong gates o) (sym is) (subst (λ (s : SlotState). IsInfoAmong gates (info_of name s)) (sym opens.1) among));
-      first = λ b other open_a. subst (λ (s : SlotState). IsInfoAmong gates (info_of A s)) open_a (prefix b);
-    },
-  )
+  beside (Some x) (Some y) is_a is_b = (misplaced-here x.now.seen y.now.seen is_a.0 is_b.0).1
 
   pub misplaced : (error : LoadError) → error ≡ load.Damaged (Slot found.slot 9 Place) → (slot : SlotName) (at : ℕ) (kind : SlotDamageKind) → error ≡ load.Damaged (Slot slot at kind)
       → (a b : Option DiskHistory) → IfKnown (λ h. IsSlot tables state_a h.now.seen × OpensExactly tables state_a h.now.seen) a → IfKnown (λ h. IsSlot tables state_b h.now.seen × OpensExactly tables state_b h.now.seen) b

@@ -6,3 +6,6 @@ pub mod Damages
 pub mod Refusals
 pub mod Loading
 pub mod Recovering
+pub mod Outcomes
+pub mod Replays
+pub mod Ends

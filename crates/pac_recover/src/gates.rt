@@ -1,5 +1,5 @@
 // The gates of a log, by their offsets.
-ghost use Rattle.std.specs.Prelude.{◌≡◌, ◌≢◌, ℕ, IfSome, slice_get, Some as HasIt, None as NoPlace};
+ghost use Rattle.std.specs.Prelude.{◌≡◌, ◌≢◌, ◌↔◌, ℕ, IfSome, IsTrue, slice_get, Some as HasIt, None as NoPlace};
 
 use pac_log::Position;
 
@@ -20,6 +20,13 @@ pub(crate) fn gate_place(gate: &Position) -> GatePlace
         place: gate.place(),
         txns: gate.txns(),
     }
+}
+
+/// Whether the two are one gate.
+pub(crate) fn is_same(a: GatePlace, b: GatePlace) -> bool
+    ensures { IsTrue result ↔ (a ≡ b) }
+{
+    a == b
 }
 
 /// The first number in a list that is that of this gate. `None`: it isn't there.

@@ -2,7 +2,7 @@
 //! or what is wrong. The devices are only read.
 //!
 //! - [`recover`]: the tables after all stored transactions, [`Recovered`]; or the first transaction that aborts, or the
-//!   first table over a limit of rows, or damage: a [`RecoverError`].
+//!   first table over a limit of rows, or damage: a [`RecoverError`]. It executes each batch as soon as it is read.
 //! - [`load`]: what is stored, [`Loaded`]: the catalogue with its plan, the tables of the newest slot, the batches of
 //!   the log after them, the log's reader and the slots. Or the first [`Damage`], a [`LoadError`].
 //! - [`execute`]: serial execution of consecutive batches over any tables. [`test_rows`]: the first table over a limit,
@@ -28,7 +28,12 @@ mod limit;
 mod loading;
 mod log;
 mod recovery;
+mod remainder;
+mod replay;
+mod replayed_log;
+mod skipping;
 mod slots;
+mod store;
 
 pub use batches::execute;
 pub use errors::{Damage, LoadError, RecoverError};

@@ -46,8 +46,12 @@ pub(crate) fn read_log<D: Disk>(alloc: Global, disk: &mut D) -> Result<WholeLog,
     })
 }
 
-// All batches from the reader's gate on, and that gate and those after each of them.
-fn read_batches<D: Disk>(
+/// All batches from the reader's gate on, and that gate and those after each of them.
+///
+/// # Errors
+///
+/// Those of [`LogReader::next_batch`].
+pub(crate) fn read_batches<D: Disk>(
     alloc: Global,
     reader: &mut LogReader,
     disk: &mut D,
@@ -77,8 +81,8 @@ fn read_batches<D: Disk>(
     unreachable!()
 }
 
-// Puts an item after the others.
-fn push<T: Drop>(items: &mut Vec<T>, item: T) -> Result<(), LogError>
+/// Puts an item after the others.
+pub(crate) fn push<T: Drop>(items: &mut Vec<T>, item: T) -> Result<(), LogError>
     ensures items { OnOk result (items.new.items ≡ items.old.items ++ item ∷ []) }
     ensures memory { OnErr result (IsErrOf result LogError.NoMemory) }
 {

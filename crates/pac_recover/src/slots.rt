@@ -11,7 +11,8 @@ ghost use Rattle.pac_check.specs.SlotStates.{IsSlot, info_of, newest_of, saved_t
 ghost use Rattle.pac_store.specs.Images.{Images};
 ghost use Rattle.pac_recover.specs.declared.errors.Damage.TheVariants.{Log as InLog, Slot as InSlot};
 ghost use Rattle.pac_recover.specs.declared.errors.LoadError.{LoadError as ALoadError};
-ghost use Rattle.pac_recover.specs.Damages.{IsAmongGates, IsSlotDamage};
+ghost use Rattle.pac_recover.specs.Damages.{IsAmongGates, IsBrokenSlot, IsSlotDamage};
+ghost use Rattle.pac_check.specs.Kinds.{slot_fault};
 ghost use Rattle.pac_recover.specs.Loading.{AreNewestOf, IsInfoAmong};
 
 use crate::gates::{GatePlace, number_of};
@@ -19,7 +20,7 @@ use crate::{Damage, LoadError};
 use pac_check::{SlotDamageKind, SlotInfo, SlotName, Slots};
 use pac_outside::Disk;
 use pac_serial::no_rows;
-use pac_tables::OrderedRows;
+use pac_tables::{HashedRows, JoinedRows, TableRows};
 use pac_types::Catalogue;
 use std::alloc::Global;
 
@@ -59,8 +60,12 @@ pub(crate) fn read_slots<D: Disk>(
     Ok(slots)
 }
 
-// That an open slot is at one of these gates.
-fn test_place(gates: &[GatePlace], info: Option<SlotInfo>) -> Result<(), LoadError>
+/// That an open slot is at one of these gates.
+///
+/// # Errors
+///
+/// `Place`, of that slot.
+pub(crate) fn test_place(gates: &[GatePlace], info: Option<SlotInfo>) -> Result<(), LoadError>
     ensures ok { OnOk result (IsInfoAmong gates.now info) }
     ensures err { (error : ALoadError) → IsErrOf result error → (found : ASlotInfo) × (info ≡ HasInfo found) × (error ≡ LoadError.Damaged (InSlot found.slot 9 SlotDamageKind.Place)) × ¬ IsInfoAmong gates.now info }
 {
@@ -77,8 +82,8 @@ fn test_place(gates: &[GatePlace], info: Option<SlotInfo>) -> Result<(), LoadErr
     }
 }
 
-// The gate that a slot names.
-fn place_in(info: &SlotInfo) -> GatePlace
+/// The gate that a slot names.
+pub(crate) fn place_in(info: &SlotInfo) -> GatePlace
     ensures { result ≡ record { place = info.now.place; txns = info.now.txns } }
 {
     GatePlace {
@@ -107,13 +112,13 @@ pub(crate) fn batches_before(gates: &[GatePlace], newest: Option<SlotInfo>) -> u
 /// # Errors
 ///
 /// Those of [`Slots::load_newest`].
-pub(crate) fn read_tables<D: Disk>(
+pub(crate) fn read_tables<D: Disk, T: TableRows>(
     alloc: Global,
     cat: &Catalogue,
     slots: &Slots,
     a: &mut D,
     b: &mut D,
-) -> Result<OrderedRows, LoadError>
+) -> Result<JoinedRows<T>, LoadError>
     requires holds_a { IfKnown (λ old. IsSlot cat.now.tables slots.now.a old.now.seen) (D.known a.old) }
     requires holds_b { IfKnown (λ old. IsSlot cat.now.tables slots.now.b old.now.seen) (D.known b.old) }
     ensures fits { IfOk result (λ rows. FitsCatalogue cat.now rows.tables rows.rows) }
@@ -130,4 +135,42 @@ pub(crate) fn read_tables<D: Disk>(
     let mut rows = no_rows(alloc, cat)?;
     slots.load_newest(alloc, cat, a, b, &mut rows)?;
     Ok(rows)
+}
+
+/// The slots of a store, and the tables of the newest.
+#[derive(Drop)]
+pub(crate) struct Newest {
+    pub slots: Slots,
+    /// Without rows where no slot is open.
+    pub tables: HashedRows,
+}
+
+/// What stands in two slots, and the tables of the newest. Where the slots are at is not tested.
+///
+/// # Errors
+///
+/// Those of [`Slots::attach`] and [`Slots::load_newest`].
+pub(crate) fn read_newest<D: Disk>(
+    alloc: Global,
+    cat: &Catalogue,
+    a: &mut D,
+    b: &mut D,
+) -> Result<Newest, LoadError>
+    ensures a { IfOk result (λ newest. IfKnown (λ old. IsSlot cat.now.tables newest.slots.a old.now.seen) (D.known a.old)) }
+    ensures b { IfOk result (λ newest. IfKnown (λ old. IsSlot cat.now.tables newest.slots.b old.now.seen) (D.known b.old)) }
+    ensures fits { IfOk result (λ newest. FitsCatalogue cat.now newest.tables.tables newest.tables.rows) }
+    ensures newest { IfOk result (λ newest. IfKnown (λ x. IfKnown (λ y. AreNewestOf cat.now newest.slots newest.tables.rows x.now.seen y.now.seen) (D.known b.old)) (D.known a.old)) }
+    ensures damaged { (slot : ASlotName) (at : ℕ) (kind : ASlotDamage) → IsErrOf result (LoadError.Damaged (InSlot slot at kind))
+        → IfKnown (λ x. IfKnown (λ y. IsBrokenSlot cat.now.tables slot (slot_fault kind at) x.now.seen y.now.seen) (D.known b.old)) (D.known a.old) }
+    ensures no_log { (at : ℕ) (kind : ALogDamage) → ¬ IsErrOf result (LoadError.Damaged (InLog at kind)) }
+    ensures no_store { ¬ IsErrOf result LoadError.NoStore }
+    ensures same_a { D.known a.new ≡ D.known a.old }
+    ensures same_b { D.known b.new ≡ D.known b.old }
+    ensures disk_fault { IsErrOf result LoadError.DiskFault → OneFaulted (D.faults a.old ∷ D.faults b.old ∷ []) (D.faults a.new ∷ D.faults b.new ∷ []) }
+    ensures quiet_a { ¬ IsErrOf result LoadError.DiskFault → D.faults a.new ≡ D.faults a.old }
+    ensures quiet_b { ¬ IsErrOf result LoadError.DiskFault → D.faults b.new ≡ D.faults b.old }
+{
+    let slots = Slots::attach(alloc, cat, a, b)?;
+    let tables = read_tables(alloc, cat, &slots, a, b)?;
+    Ok(Newest { slots, tables })
 }

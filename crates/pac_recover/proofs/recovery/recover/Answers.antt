@@ -1,11 +1,12 @@
 -- What is recovered is what serial execution of what is stored gives.
 use Rattle.std.proofs.Common.{◌∙◌, Ok, refl, ap}
 use Rattle.std.proofs.lemmas.Result.{err_from_is_err_and}
-use Rattle.pac_log.specs.declared.position.NextGate.{NextGate}
 use Rattle.pac_recover.specs.declared.recovery.Recovered.{Recovered}
 use Rattle.pac_recover.proofs.CauseLemmas.{as-error}
 use Rattle.pac_recover.proofs.StandsLemmas.{recovers}
-use Rattle.pac_recover.proofs.ReportLemmas.{full-knows, load-knows, recovered-knows, stopped-knows, stored-recovered}
+use Rattle.pac_recover.specs.Outcomes.{outcome_of}
+use Rattle.pac_recover.proofs.ReportLemmas.{load-knows, recovered-knows}
+use Rattle.pac_recover.proofs.EndLemmas.{ended-full, ended-recovered, ended-stopped}
 use Rattle.pac_recover.proofs.recovery.recover.Goals as goal
 
 pub returns-in_err-catalogue-clause-stands : goal.returns-in_err-catalogue-clause-stands
@@ -19,29 +20,30 @@ returns-in_err-catalogue-clause-stands g c =
     (λ e. c.in_err-catalogue.ensures.no_store (as-error _ _ e)) (λ at kind e. c.in_err-catalogue.ensures.log_damage at kind (as-error _ _ e))
     (λ slot at kind e. c.in_err-catalogue.ensures.slot_damage slot at kind (as-error _ _ e)))
 
-pub returns-in_err-execute-clause-abort : goal.returns-in_err-execute-clause-abort
-returns-in_err-execute-clause-abort g c =
+pub returns-in_err-tables-clause-abort : goal.returns-in_err-tables-clause-abort
+returns-in_err-tables-clause-abort g c =
     let d = c.args.devices.now in
-    let r = c.from_residual-in_err-execute in
+    let r = c.from_residual-in_err-tables in
     let p = err_from_is_err_and r.result r.ensures.1 in
-    (stopped-knows c.in_ok-catalogue.field-0 (g.D.Disk.known d.log) (g.D.Disk.known d.slot_a) (g.D.Disk.known d.slot_b) c.as_slice.result.now c.as_slice.ensures c.args.limit r.result p.0 c.in_err-execute.field-0.0 p.1 p.2
-    (λ note e. c.in_err-execute.ensures.abort note (as-error _ _ e)) c.in_ok-catalogue.ensures.stored).abort
+    let found = c.in_err-tables.ensures.aborted c.in_err-tables.field-0.0 refl in
+    (ended-stopped c.in_ok-catalogue.field-0 (g.D.Disk.known d.log) (g.D.Disk.known d.slot_a) (g.D.Disk.known d.slot_b) c.in_ok-catalogue.ensures.ends c.args.limit r.result p.0 found.0 p.1 (p.2 ∙ found.1) (ap outcome_of found.2)).abort
 
-pub returns-in_err-execute-clause-over : goal.returns-in_err-execute-clause-over
-returns-in_err-execute-clause-over g c =
+pub returns-in_err-tables-clause-over : goal.returns-in_err-tables-clause-over
+returns-in_err-tables-clause-over g c =
     let d = c.args.devices.now in
-    let r = c.from_residual-in_err-execute in
+    let r = c.from_residual-in_err-tables in
     let p = err_from_is_err_and r.result r.ensures.1 in
-    (stopped-knows c.in_ok-catalogue.field-0 (g.D.Disk.known d.log) (g.D.Disk.known d.slot_a) (g.D.Disk.known d.slot_b) c.as_slice.result.now c.as_slice.ensures c.args.limit r.result p.0 c.in_err-execute.field-0.0 p.1 p.2
-    (λ note e. c.in_err-execute.ensures.abort note (as-error _ _ e)) c.in_ok-catalogue.ensures.stored).over
+    let found = c.in_err-tables.ensures.aborted c.in_err-tables.field-0.0 refl in
+    (ended-stopped c.in_ok-catalogue.field-0 (g.D.Disk.known d.log) (g.D.Disk.known d.slot_a) (g.D.Disk.known d.slot_b) c.in_ok-catalogue.ensures.ends c.args.limit r.result p.0 found.0 p.1 (p.2 ∙ found.1) (ap outcome_of found.2)).over
 
-pub returns-in_err-execute-clause-stands : goal.returns-in_err-execute-clause-stands
-returns-in_err-execute-clause-stands g c =
+pub returns-in_err-tables-clause-stands : goal.returns-in_err-tables-clause-stands
+returns-in_err-tables-clause-stands g c =
     let d = c.args.devices.now in
-    let r = c.from_residual-in_err-execute in
+    let r = c.from_residual-in_err-tables in
     let p = err_from_is_err_and r.result r.ensures.1 in
-    recovers c.args.limit r.result (g.D.Disk.known d.log) (g.D.Disk.known d.slot_a) (g.D.Disk.known d.slot_b) (stopped-knows c.in_ok-catalogue.field-0 (g.D.Disk.known d.log) (g.D.Disk.known d.slot_a) (g.D.Disk.known d.slot_b) c.as_slice.result.now c.as_slice.ensures c.args.limit r.result p.0 c.in_err-execute.field-0.0 p.1 p.2
-    (λ note e. c.in_err-execute.ensures.abort note (as-error _ _ e)) c.in_ok-catalogue.ensures.stored)
+    let found = c.in_err-tables.ensures.aborted c.in_err-tables.field-0.0 refl in
+    recovers c.args.limit r.result (g.D.Disk.known d.log) (g.D.Disk.known d.slot_a) (g.D.Disk.known d.slot_b)
+    (ended-stopped c.in_ok-catalogue.field-0 (g.D.Disk.known d.log) (g.D.Disk.known d.slot_a) (g.D.Disk.known d.slot_b) c.in_ok-catalogue.ensures.ends c.args.limit r.result p.0 found.0 p.1 (p.2 ∙ found.1) (ap outcome_of found.2))
 
 pub returns-in_err-test_rows-clause-over : goal.returns-in_err-test_rows-clause-over
 returns-in_err-test_rows-clause-over g c =
@@ -50,8 +52,8 @@ returns-in_err-test_rows-clause-over g c =
     let p = err_from_is_err_and r.result r.ensures.1 in
     let excess = c.in_err-test_rows.field-0.0 in
     let found = c.in_err-test_rows.ensures.over excess refl in
-    (full-knows c.in_ok-catalogue.field-0 (g.D.Disk.known d.log) (g.D.Disk.known d.slot_a) (g.D.Disk.known d.slot_b) c.as_slice.result.now c.as_slice.ensures c.args.limit r.result p.0 excess.table excess.rows excess.limit p.1 p.2 found.1
-    c.execute.new.rows.rows c.in_ok-execute.ensures.done found.0 c.in_ok-catalogue.ensures.stored).over
+    (ended-full c.in_ok-catalogue.field-0 (g.D.Disk.known d.log) (g.D.Disk.known d.slot_a) (g.D.Disk.known d.slot_b) c.in_ok-catalogue.ensures.ends c.args.limit r.result p.0 excess.table excess.rows excess.limit p.1 p.2 found.1
+    c.in_ok-tables.tables.rows (ap outcome_of c.in_ok-tables.ensures.ok) found.0).over
 
 pub returns-in_err-test_rows-clause-stands : goal.returns-in_err-test_rows-clause-stands
 returns-in_err-test_rows-clause-stands g c =
@@ -60,18 +62,20 @@ returns-in_err-test_rows-clause-stands g c =
     let p = err_from_is_err_and r.result r.ensures.1 in
     let excess = c.in_err-test_rows.field-0.0 in
     let found = c.in_err-test_rows.ensures.over excess refl in
-    recovers c.args.limit r.result (g.D.Disk.known d.log) (g.D.Disk.known d.slot_a) (g.D.Disk.known d.slot_b) (full-knows c.in_ok-catalogue.field-0 (g.D.Disk.known d.log) (g.D.Disk.known d.slot_a) (g.D.Disk.known d.slot_b) c.as_slice.result.now c.as_slice.ensures c.args.limit r.result p.0 excess.table excess.rows excess.limit p.1 p.2 found.1
-    c.execute.new.rows.rows c.in_ok-execute.ensures.done found.0 c.in_ok-catalogue.ensures.stored)
+    recovers c.args.limit r.result (g.D.Disk.known d.log) (g.D.Disk.known d.slot_a) (g.D.Disk.known d.slot_b)
+    (ended-full c.in_ok-catalogue.field-0 (g.D.Disk.known d.log) (g.D.Disk.known d.slot_a) (g.D.Disk.known d.slot_b) c.in_ok-catalogue.ensures.ends c.args.limit r.result p.0 excess.table excess.rows excess.limit p.1 p.2 found.1
+    c.in_ok-tables.tables.rows (ap outcome_of c.in_ok-tables.ensures.ok) found.0)
 
 pub returns-clause-recovered : goal.returns-clause-recovered
 returns-clause-recovered g c =
-    stored-recovered c.in_ok-catalogue.field-0 (g.D.Disk.known c.args.devices.now.log) (g.D.Disk.known c.args.devices.now.slot_a) (g.D.Disk.known c.args.devices.now.slot_b)
-    c.as_slice.result.now c.as_slice.ensures c.execute.new.rows.rows c.txns.result _ c.in_ok-execute.ensures.done (c.txns.ensures.value ∙ ap (λ (gate : NextGate). gate.txns) c.gate-2.ensures) c.in_ok-catalogue.ensures.well_formed.total c.in_ok-catalogue.ensures.stored
+    ended-recovered c.in_ok-catalogue.field-0 (g.D.Disk.known c.args.devices.now.log) (g.D.Disk.known c.args.devices.now.slot_a) (g.D.Disk.known c.args.devices.now.slot_b)
+    c.in_ok-catalogue.ensures.ends c.in_ok-tables.tables.rows (ap outcome_of c.in_ok-tables.ensures.ok)
 
 pub returns-clause-stands : goal.returns-clause-stands
 returns-clause-stands g c =
     let log = g.D.Disk.known c.args.devices.now.log in
     let a = g.D.Disk.known c.args.devices.now.slot_a in
     let b = g.D.Disk.known c.args.devices.now.slot_b in
-    let recovered : Recovered = record { catalogue = c.in_ok-catalogue.field-0.catalogue; tables = c.execute.new.rows; txns = c.txns.result } in
+    let ended = c.in_ok-catalogue.field-0 in
+    let recovered : Recovered = record { catalogue = ended.catalogue; tables = c.in_ok-tables.tables; txns = ended.txns } in
     recovers c.args.limit (Ok recovered) log a b (recovered-knows c.args.limit log a b recovered (returns-clause-recovered g c))

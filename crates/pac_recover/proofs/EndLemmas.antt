@@ -1,0 +1,215 @@
+-- With what the execution of what is stored ends, beside the slots.
+use Rattle.std.proofs.Common.{◌≡◌, ◌∙◌, inl, ℕ, ◌≤◌, ◌+◌, List, [], length, drop, Option, Some, None, Result, Ok, Err, refl, sym, ap, subst, arith}
+use Rattle.std.specs.Prelude.{IfOk}
+use Rattle.std.proofs.lemmas.List.{length-drop}
+use Rattle.pac_value.specs.State.{Tables}
+use Rattle.pac_ops.specs.declared.batch.Batch.{Batch}
+use Rattle.pac_ops.specs.declared.note.Note.{Note}
+use Rattle.pac_ops.specs.declared.transaction.Txn.{Txn}
+use Rattle.pac_outside.specs.Disk.{DiskHistory, IfKnown}
+use Rattle.pac_types.specs.Typing.{CatalogueState}
+use Rattle.pac_log.specs.declared.damage.DamageKind.{DamageKind}
+use Rattle.pac_log.specs.declared.errors.LogError.{LogError}
+use Rattle.pac_log.specs.declared.errors.LogError.TheVariants as log_error
+use Rattle.pac_log.specs.declared.position.NextGate.{NextGate}
+use Rattle.pac_log.specs.Logs.{HoldsLog, all_txns}
+use Rattle.pac_log.specs.Reading.{IsStore, StandsAfter}
+use Rattle.pac_check.specs.declared.damage.SlotDamageKind.{SlotDamageKind}
+use Rattle.pac_check.specs.declared.damage.SlotDamageKind.TheVariants.{Place}
+use Rattle.pac_check.specs.declared.head.Head.{Head}
+use Rattle.pac_check.specs.declared.info.SlotInfo.{SlotInfo}
+use Rattle.pac_check.specs.declared.info.SlotName.{SlotName}
+use Rattle.pac_check.specs.declared.info.SlotName.TheVariants.{A, B}
+use Rattle.pac_check.specs.declared.slots.Slots.{Slots}
+use Rattle.pac_check.specs.Kinds.{slot_fault}
+use Rattle.pac_check.specs.SlotStates.{by_slot, info_of, newest_of, saved_txns, IsSlot}
+use Rattle.pac_serial.specs.declared.serial.AllError.TheVariants as serial
+use Rattle.pac_store.specs.Images.{Images, IfReadKnown}
+use Rattle.pac_recover.specs.declared.errors.Damage.TheVariants.{Log, Slot}
+use Rattle.pac_recover.specs.declared.errors.LoadError.{LoadError}
+use Rattle.pac_recover.specs.declared.errors.LoadError.TheVariants as load
+use Rattle.pac_recover.specs.declared.errors.RecoverError.{RecoverError}
+use Rattle.pac_recover.specs.declared.errors.RecoverError.TheVariants as recover
+use Rattle.pac_recover.specs.declared.gates.GatePlace.{GatePlace}
+use Rattle.pac_recover.specs.declared.recovery.Recovered.{Recovered}
+use Rattle.pac_recover.specs.declared.replay.Replayed.{Replayed}
+use Rattle.pac_recover.specs.declared.store.Ended.{Ended}
+use Rattle.pac_recover.specs.Causes.{log_not_loaded}
+use Rattle.pac_recover.specs.Damages.{IsAmongGates, IsBrokenSlot, IsDamagedLog, IsDamagedSlot, IsSlotDamage}
+use Rattle.pac_recover.specs.Ends.{EndsBeside, EndsSo, IsDamagedBeside, IsWholeLog}
+use Rattle.pac_recover.specs.Gates.{txns_by_batch}
+use Rattle.pac_recover.specs.Limits.{IsFirstOver}
+use Rattle.pac_recover.specs.Loading.{AreNewestOf, IsInfoAmong}
+use Rattle.pac_recover.specs.Logs.{ReadsTo}
+use Rattle.pac_recover.specs.Outcomes.{outcome_of}
+use Rattle.pac_recover.specs.Recovering.{AbortsIn, IsOverIn, IsRecoveredFrom}
+use Rattle.pac_recover.specs.Replays.{IsReplayOf}
+use Rattle.pac_recover.proofs.LoadLemmas.{damaged-at-gates, known-weaker, newest-among, placed}
+use Rattle.pac_recover.proofs.SlotLemmas.{misplaced-here, same-damage}
+use Rattle.pac_recover.proofs.StandsLemmas.{ReportsAnswer}
+use Rattle.pac_recover.proofs.ReportLemmas.{execute-knows, over-knows}
+
+-- ---- a log that was executed, beside slots
+
+module _ (text : List ℕ) (catalogue : CatalogueState) (slots : Slots) (base : Tables) (new : NextGate) (replayed : Replayed) (gates : List GatePlace) where
+  abbrev pub IsReplay : List ℕ → Type 0
+  IsReplay image = IsReplayOf text catalogue (newest_of slots) base new replayed gates image
+
+  -- where the slots are at gates of it
+  ends-here : (ended : Ended) → ended.catalogue ≡ catalogue → ended.replayed ≡ replayed → ended.txns ≡ new.txns → IsInfoAmong gates (info_of A slots.a) → IsInfoAmong gates (info_of B slots.b)
+      → (log a b : List ℕ) → IsReplay log → EndsBeside catalogue slots base ended log a b
+  ends-here ended same gives counted at_a at_b log a b is = λ is_a is_b newest.
+      let among = newest-among gates slots.a slots.b (newest_of slots) refl at_a at_b in
+      let number = saved_txns (newest_of slots) in
+      record {
+        stored = record { catalogue = catalogue; base = base; number = number; rest = drop number (all_txns is.batches) };
+        is = record {
+          text = text;
+          batches = is.batches;
+          log = is.log;
+          a = slots.a;
+          b = slots.b;
+          is_a = is_a;
+          is_b = is_b;
+          placed_a = placed text is.batches gates A slots.a is.are at_a;
+          placed_b = placed text is.batches gates B slots.b is.are at_b;
+          newest = newest;
+          after = refl;
+        };
+        same = sym same;
+        outcome = sym (is.outcome among) ∙ ap outcome_of (sym gives);
+        counted = omega (arith, counted, is.end.txns, is.number among, length-drop number (all_txns is.batches));
+      }
+
+  pub ends-beside : (ended : Ended) → ended.catalogue ≡ catalogue → ended.replayed ≡ replayed → ended.txns ≡ new.txns → IsInfoAmong gates (info_of A slots.a) → IsInfoAmong gates (info_of B slots.b)
+      → (first : NextGate) (a b : List ℕ) (known : Option DiskHistory) → IfKnown (λ h. StandsAfter text [] first h.now.seen → IsReplay h.now.seen) known
+      → IfKnown (λ h. StandsAfter text [] first h.now.seen → EndsBeside catalogue slots base ended h.now.seen a b) known
+  ends-beside ended same gives counted at_a at_b first a b None is = tt
+  ends-beside ended same gives counted at_a at_b first a b (Some h) is = λ stands. ends-here ended same gives counted at_a at_b h.now.seen a b (is stands)
+
+  -- where one is not
+  pub misplaced-beside : (name : SlotName) (info : Option SlotInfo) (found : SlotInfo) → info ≡ info_of name (by_slot name slots.a slots.b) → info ≡ Some found → (IsInfoAmong gates info → ⊥) → (name ≡ B → IsInfoAmong gates (info_of A slots.a))
+      → (error : LoadError) → error ≡ load.Damaged (Slot found.slot 9 Place) → (slot : SlotName) (at : ℕ) (kind : SlotDamageKind) → error ≡ load.Damaged (Slot slot at kind)
+      → (first : NextGate) (a b : List ℕ) (known : Option DiskHistory) → IfKnown (λ h. StandsAfter text [] first h.now.seen → IsReplay h.now.seen) known
+      → IfKnown (λ h. StandsAfter text [] first h.now.seen → IsDamagedBeside catalogue slots slot at kind h.now.seen a b) known
+  misplaced-beside name info found is there misfit prefix error made slot at kind said first a b None replay = tt
+  misplaced-beside name info found is there misfit prefix error made slot at kind said first a b (Some h) replay = λ stands is_a is_b.
+      let r = replay stands in
+      let images : Images = record { log = h.now.seen; slot_a = a; slot_b = b } in
+      let same = same-damage found.slot slot 9 at Place kind (sym made ∙ said) in
+      let here = misplaced-here gates catalogue.tables name slots.a slots.b info found is there misfit prefix a b is_a is_b in
+      damaged-at-gates text catalogue r.batches gates images slot at kind r.log r.are
+      (subst (λ (s : SlotName). IsSlotDamage (IsAmongGates gates) catalogue.tables s at kind a b) (sym here.0 ∙ same.0)
+      (subst (λ (n : ℕ). IsSlotDamage (IsAmongGates gates) catalogue.tables name n kind a b) same.1
+      (subst (λ (k : SlotDamageKind). IsSlotDamage (IsAmongGates gates) catalogue.tables name 9 k a b) same.2 here.1)))
+
+-- ---- from the header of the log on
+
+abbrev pub IsAttachedTo : NextGate → DiskHistory → Type 0
+IsAttachedTo first h = (text : List ℕ) × IsStore text first.catalogue h.now.seen × StandsAfter text [] first h.now.seen
+
+-- what is said after the first gate of a log's text is said of the log
+pub from-first : (first : NextGate) (P : DiskHistory → Type 0) (known now : Option DiskHistory) → now ≡ known → IfKnown (IsAttachedTo first) known
+    → ((text : List ℕ) → IfKnown (λ h. StandsAfter text [] first h.now.seen → P h) now) → IfKnown P known
+from-first first P None now same attached says = tt
+from-first first P (Some h) now same attached says = (subst (λ (t : Option DiskHistory). IfKnown (λ k. StandsAfter attached.0 [] first k.now.seen → P k) t) same (says attached.0)) attached.2
+
+-- where the log and the slots are known
+pub ends-known : (catalogue : CatalogueState) (slots : Slots) (base : Tables) (ended : Ended) (first : NextGate) (log a b now : Option DiskHistory) → now ≡ log → IfKnown (IsAttachedTo first) log
+    → ((text x y : List ℕ) → IfKnown (λ h. StandsAfter text [] first h.now.seen → EndsBeside catalogue slots base ended h.now.seen x y) now)
+    → IfKnown (λ h. IsSlot catalogue.tables slots.a h.now.seen) a → IfKnown (λ h. IsSlot catalogue.tables slots.b h.now.seen) b
+    → IfKnown (λ x. IfKnown (λ y. AreNewestOf catalogue slots base x.now.seen y.now.seen) b) a → IfReadKnown (EndsSo ended) log a b
+ends-known catalogue slots base ended first None a b now same attached ends is_a is_b newest = tt
+ends-known catalogue slots base ended first (Some h) None b now same attached ends is_a is_b newest = tt
+ends-known catalogue slots base ended first (Some h) (Some x) None now same attached ends is_a is_b newest = tt
+ends-known catalogue slots base ended first (Some h) (Some x) (Some y) now same attached ends is_a is_b newest =
+    (from-first first (λ k. EndsBeside catalogue slots base ended k.now.seen x.now.seen y.now.seen) (Some h) now same attached (λ text. ends text x.now.seen y.now.seen)) is_a is_b newest
+
+pub misplaced-known : (catalogue : CatalogueState) (slots : Slots) (slot : SlotName) (at : ℕ) (kind : SlotDamageKind) (first : NextGate) (log a b now : Option DiskHistory) → now ≡ log → IfKnown (IsAttachedTo first) log
+    → ((text x y : List ℕ) → IfKnown (λ h. StandsAfter text [] first h.now.seen → IsDamagedBeside catalogue slots slot at kind h.now.seen x y) now)
+    → IfKnown (λ h. IsSlot catalogue.tables slots.a h.now.seen) a → IfKnown (λ h. IsSlot catalogue.tables slots.b h.now.seen) b → IfReadKnown (IsDamagedSlot slot at kind) log a b
+misplaced-known catalogue slots slot at kind first None a b now same attached damaged is_a is_b = tt
+misplaced-known catalogue slots slot at kind first (Some h) None b now same attached damaged is_a is_b = tt
+misplaced-known catalogue slots slot at kind first (Some h) (Some x) None now same attached damaged is_a is_b = tt
+misplaced-known catalogue slots slot at kind first (Some h) (Some x) (Some y) now same attached damaged is_a is_b =
+    (from-first first (λ k. IsDamagedBeside catalogue slots slot at kind k.now.seen x.now.seen y.now.seen) (Some h) now same attached (λ text. damaged text x.now.seen y.now.seen)) is_a is_b
+
+-- the bytes of a slot are damaged, and the log is whole
+pub broken-known : (catalogue : CatalogueState) (slot : SlotName) (at : ℕ) (kind : SlotDamageKind) (first : NextGate) → catalogue ≡ first.catalogue → (log a b now : Option DiskHistory) → now ≡ log → IfKnown (IsAttachedTo first) log
+    → ((text : List ℕ) → IfKnown (λ h. StandsAfter text [] first h.now.seen → IsWholeLog text first.catalogue h.now.seen) now)
+    → IfKnown (λ x. IfKnown (λ y. IsBrokenSlot catalogue.tables slot (slot_fault kind at) x.now.seen y.now.seen) b) a → IfReadKnown (IsDamagedSlot slot at kind) log a b
+broken-known catalogue slot at kind first is None a b now same attached whole broken = tt
+broken-known catalogue slot at kind first is (Some h) None b now same attached whole broken = tt
+broken-known catalogue slot at kind first is (Some h) (Some x) None now same attached whole broken = tt
+broken-known catalogue slot at kind first is (Some h) (Some x) (Some y) now same attached whole broken =
+    let log = from-first first (λ k. (text : List ℕ) × IsWholeLog text first.catalogue k.now.seen) (Some h) now same attached (with-text now whole) in
+    record {
+      text = log.0;
+      catalogue = first.catalogue;
+      batches = log.1.0;
+      log = log.1.1;
+      damage = inl (subst (λ (c : CatalogueState). IsBrokenSlot c.tables slot (slot_fault kind at) x.now.seen y.now.seen) is broken);
+    }
+  where
+    with-text : (now : Option DiskHistory) → ((text : List ℕ) → IfKnown (λ k. StandsAfter text [] first k.now.seen → IsWholeLog text first.catalogue k.now.seen) now)
+        → (text : List ℕ) → IfKnown (λ k. StandsAfter text [] first k.now.seen → (t : List ℕ) × IsWholeLog t first.catalogue k.now.seen) now
+    with-text None whole text = tt
+    with-text (Some k) whole text = λ stands. (text, whole text stands)
+
+-- the same of what was answered
+pub ends-all : (catalogue : CatalogueState) (slots : Slots) (base : Tables) (first : NextGate) (log a b now : Option DiskHistory) → now ≡ log → IfKnown (IsAttachedTo first) log → (result : Result Ended LoadError)
+    → IfOk result (λ ended. (text x y : List ℕ) → IfKnown (λ h. StandsAfter text [] first h.now.seen → EndsBeside catalogue slots base ended h.now.seen x y) now)
+    → IfKnown (λ h. IsSlot catalogue.tables slots.a h.now.seen) a → IfKnown (λ h. IsSlot catalogue.tables slots.b h.now.seen) b
+    → IfKnown (λ x. IfKnown (λ y. AreNewestOf catalogue slots base x.now.seen y.now.seen) b) a → IfOk result (λ ended. IfReadKnown (EndsSo ended) log a b)
+ends-all catalogue slots base first log a b now same attached (Ok ended) ends is_a is_b newest = ends-known catalogue slots base ended first log a b now same attached ends is_a is_b newest
+ends-all catalogue slots base first log a b now same attached (Err error) ends is_a is_b newest = tt
+
+-- what is reported as damage of the log is damage of it
+pub log-cause : (cause : LogError) (at : ℕ) (kind : DamageKind) → log_not_loaded cause ≡ load.Damaged (Log at kind) → cause ≡ log_error.Damaged at kind
+log-cause log_error.NoStore at kind e = absurd cc
+log-cause (log_error.Damaged place what) at kind e = cc
+log-cause log_error.DiskFault at kind e = absurd cc
+log-cause log_error.NoMemory at kind e = absurd cc
+
+-- a log that was read to its end is whole
+pub reads-whole : (text : List ℕ) (old new : NextGate) (batches : List Batch) (known : Option DiskHistory) → IfKnown (λ h. ReadsTo text old new batches h.now.seen) known
+    → IfKnown (λ h. StandsAfter text [] old h.now.seen → IsWholeLog text old.catalogue h.now.seen) known
+reads-whole text old new batches None reads = tt
+reads-whole text old new batches (Some h) reads = λ stands. (txns_by_batch batches, (reads stands).log)
+
+-- ---- what is answered of it
+
+module _ (ended : Ended) (log a b : Option DiskHistory) (ends : IfReadKnown (EndsSo ended) log a b) where
+  pub ended-aborts : (note : Note) → outcome_of ended.replayed ≡ Err note → IfReadKnown (AbortsIn note) log a b
+  ended-aborts note is = known-weaker (EndsSo ended) (AbortsIn note) (λ images e. record { stored = e.stored; is = e.is; stops = e.outcome ∙ is }) log a b ends
+
+  pub ended-over : (held : Tables) (table : List ℕ) (rows limit : ℕ) → outcome_of ended.replayed ≡ Ok held → IsFirstOver limit ended.catalogue.tables held table rows → IfReadKnown (IsOverIn table rows limit) log a b
+  ended-over held table rows limit is over = known-weaker (EndsSo ended) (IsOverIn table rows limit) (λ images e. record {
+    stored = e.stored;
+    is = e.is;
+    held = held;
+    ends = e.outcome ∙ is;
+    over = subst (λ (c : CatalogueState). IsFirstOver limit c.tables held table rows) (sym e.same) over;
+  }) log a b ends
+
+  pub ended-recovered : (held : Tables) → outcome_of ended.replayed ≡ Ok held → IfReadKnown (IsRecoveredFrom ended.catalogue held ended.txns) log a b
+  ended-recovered held is = known-weaker (EndsSo ended) (IsRecoveredFrom ended.catalogue held ended.txns) (λ images e. record {
+    stored = e.stored;
+    is = e.is;
+    same = e.same;
+    ends = e.outcome ∙ is;
+    counted = e.counted;
+  }) log a b ends
+
+  -- an execution that stops, and tables over the limit, say what is answered of them
+
+  pub ended-stopped : (limit : ℕ) (result : Result Recovered RecoverError) (answer : RecoverError) (note : Note) → result ≡ Err answer → answer ≡ recover.AbortInLog note → outcome_of ended.replayed ≡ Err note → ReportsAnswer limit result log a b
+  ended-stopped limit result answer note is same stops =
+      execute-knows limit log a b result answer (serial.Abort note) is same (λ other e. ended-aborts other (stops ∙ ap (λ (n : Note). Err n) (the-note note other e)))
+    where
+      the-note : (one other : Note) → serial.Abort one ≡ serial.Abort other → one ≡ other
+      the-note one other e = cc
+
+  pub ended-full : (limit : ℕ) (result : Result Recovered RecoverError) (answer : RecoverError) (table : List ℕ) (rows most : ℕ) → result ≡ Err answer → answer ≡ recover.RowsOver table rows most → most ≡ limit
+      → (held : Tables) → outcome_of ended.replayed ≡ Ok held → IsFirstOver limit ended.catalogue.tables held table rows → ReportsAnswer limit result log a b
+  ended-full limit result answer table rows most is same at held done over = over-knows limit log a b result answer table rows most is same at (ended-over held table rows limit done over)

@@ -1,0 +1,44 @@
+-- What is said after the header of the log is said of the devices.
+use Rattle.std.proofs.Common.{◌≡◌, ◌∙◌, ap}
+use Rattle.pac_log.specs.declared.position.NextGate.{NextGate}
+use Rattle.pac_recover.specs.Damages.{IsDamagedLog}
+use Rattle.pac_recover.specs.declared.errors.Damage.TheVariants.{Slot}
+use Rattle.pac_recover.specs.declared.errors.LoadError.TheVariants as load
+use Rattle.pac_recover.proofs.CauseLemmas.{as-error, same-error}
+use Rattle.pac_recover.proofs.EndLemmas.{broken-known, ends-all, from-first, misplaced-known}
+use Rattle.pac_recover.proofs.store.replay_store.Goals as goal
+
+pub returns-in-Ok-clause-ends : goal.returns-in-Ok-clause-ends
+returns-in-Ok-clause-ends g c =
+    let d = c.args.devices.now in
+    let newest = c.in-Ok.newest in
+    ends-all c.in_ok-catalogue.catalogue newest.slots newest.tables.rows c.in_ok-reader.reader.gate (g.D.Disk.known d.log) (g.D.Disk.known d.slot_a) (g.D.Disk.known d.slot_b) (g.D.Disk.known c.attach.new.disk)
+    c.in_ok-reader.ensures.same c.in_ok-reader.ensures.store c.replay_after.result c.replay_after.ensures.ends c.in-Ok.ensures.a c.in-Ok.ensures.b c.in-Ok.ensures.newest
+
+pub returns-in-Ok-clause-log_damage : goal.returns-in-Ok-clause-log_damage
+returns-in-Ok-clause-log_damage g c = λ at kind is.
+    from-first c.in_ok-reader.reader.gate (λ h. IsDamagedLog at kind h.now.seen) (g.D.Disk.known c.args.devices.now.log) (g.D.Disk.known c.attach.new.disk) c.in_ok-reader.ensures.same c.in_ok-reader.ensures.store
+    (c.replay_after.ensures.log_damage at kind is)
+
+pub returns-in-Ok-clause-slot_damage : goal.returns-in-Ok-clause-slot_damage
+returns-in-Ok-clause-slot_damage g c = λ slot at kind is.
+    let d = c.args.devices.now in
+    misplaced-known c.in_ok-catalogue.catalogue c.in-Ok.newest.slots slot at kind c.in_ok-reader.reader.gate (g.D.Disk.known d.log) (g.D.Disk.known d.slot_a) (g.D.Disk.known d.slot_b) (g.D.Disk.known c.attach.new.disk)
+    c.in_ok-reader.ensures.same c.in_ok-reader.ensures.store (c.replay_after.ensures.slot_damage slot at kind is) c.in-Ok.ensures.a c.in-Ok.ensures.b
+
+pub returns-in-Err-Damaged-clause-log_damage : goal.returns-in-Err-Damaged-clause-log_damage
+returns-in-Err-Damaged-clause-log_damage g c = λ at kind is.
+    from-first c.in_ok-reader.reader.gate (λ h. IsDamagedLog at kind h.now.seen) (g.D.Disk.known c.args.devices.now.log) (g.D.Disk.known c.attach.new.disk) c.in_ok-reader.ensures.same c.in_ok-reader.ensures.store
+    (c.first_damage.ensures.log_damage at kind (same-error _ _ is))
+
+pub returns-in-Err-Damaged-clause-slot_damage : goal.returns-in-Err-Damaged-clause-slot_damage
+returns-in-Err-Damaged-clause-slot_damage g c = λ slot at kind is.
+    let d = c.args.devices.now in
+    let answer = same-error _ _ is in
+    let same = c.in_ok-catalogue.ensures ∙ c.catalogue.ensures.value ∙ ap (λ (gate : NextGate). gate.catalogue) c.gate.ensures in
+    let damage = c.first_damage.ensures.slot_damage slot at kind answer in
+    let is_damaged = c.in-Err-Damaged.is in
+    let was : c.in-Err-Damaged.field-0 ≡ load.Damaged (Slot slot at kind) = cc in
+    broken-known c.in_ok-catalogue.catalogue slot at kind c.in_ok-reader.reader.gate same (g.D.Disk.known d.log) (g.D.Disk.known d.slot_a) (g.D.Disk.known d.slot_b) (g.D.Disk.known c.attach.new.disk)
+    c.in_ok-reader.ensures.same c.in_ok-reader.ensures.store (c.first_damage.ensures.whole slot at kind answer)
+    (c.in-Err-Damaged.ensures.damaged slot at kind (as-error _ _ was))

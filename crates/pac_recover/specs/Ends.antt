@@ -1,0 +1,39 @@
+-- With what the execution of what is stored ends, and what stands against it.
+use Rattle.std.specs.Prelude.{◌≡◌, ◌+◌, ℕ, List, length}
+use Rattle.pac_value.specs.State.{Tables}
+use Rattle.pac_ops.specs.declared.transaction.Txn.{Txn}
+use Rattle.pac_types.specs.Typing.{CatalogueState}
+use Rattle.pac_log.specs.Logs.{HoldsLog}
+use Rattle.pac_check.specs.declared.damage.SlotDamageKind.{SlotDamageKind}
+use Rattle.pac_check.specs.declared.info.SlotName.{SlotName}
+use Rattle.pac_check.specs.declared.slots.Slots.{Slots}
+use Rattle.pac_check.specs.SlotStates.{IsSlot}
+use Rattle.pac_store.specs.Images.{Images}
+use Rattle.pac_store.specs.Stored.{IsStored, Stored}
+use Rattle.pac_recover.specs.declared.store.Ended.{Ended}
+use Rattle.pac_recover.specs.Damages.{IsDamagedSlot}
+use Rattle.pac_recover.specs.Loading.{AreNewestOf}
+use Rattle.pac_recover.specs.Outcomes.{outcome_of}
+use Rattle.pac_recover.specs.Recovering.{stored_outcome}
+
+-- the image is that of a log with this text and catalogue
+abbrev pub IsWholeLog : List ℕ → CatalogueState → List ℕ → Type 0
+IsWholeLog text catalogue image = (batches : List (List Txn)) × HoldsLog text catalogue batches image
+
+-- serial execution of what is stored in these images ends so
+pub record EndsSo (ended : Ended) (images : Images) : Type 0 where
+  pub stored : Stored
+  pub is : IsStored images stored
+  pub same : stored.catalogue ≡ ended.catalogue
+  pub outcome : stored_outcome stored ≡ outcome_of ended.replayed
+  pub counted : ended.txns ≡ stored.number + length stored.rest
+
+-- the same of a log, beside slots in these states, the newest of which has these tables
+abbrev pub EndsBeside : CatalogueState → Slots → Tables → Ended → List ℕ → List ℕ → List ℕ → Type 0
+EndsBeside catalogue slots base ended log a b = IsSlot catalogue.tables slots.a a → IsSlot catalogue.tables slots.b b → AreNewestOf catalogue slots base a b
+    → EndsSo ended (record { log = log; slot_a = a; slot_b = b })
+
+-- this is the first damage of the slots, in these states, beside a log
+abbrev pub IsDamagedBeside : CatalogueState → Slots → SlotName → ℕ → SlotDamageKind → List ℕ → List ℕ → List ℕ → Type 0
+IsDamagedBeside catalogue slots slot at kind log a b = IsSlot catalogue.tables slots.a a → IsSlot catalogue.tables slots.b b
+    → IsDamagedSlot slot at kind (record { log = log; slot_a = a; slot_b = b })

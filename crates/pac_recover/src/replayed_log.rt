@@ -1,0 +1,120 @@
+// Reads a log to its end, and executes what stands after the newest slot.
+ghost use Rattle.std.specs.Prelude.{◌≡◌, [], ℕ, List, IfOk, IsErrOf, Some as HasInfo, None as NoInfo};
+ghost use Rattle.pac_outside.specs.Causes.{one_more};
+ghost use Rattle.pac_outside.specs.Disk.{IfKnown};
+ghost use Rattle.pac_types.specs.Fits.{FitsCatalogue};
+ghost use Rattle.pac_types.specs.OperationLimits.{HasFewOperations};
+ghost use Rattle.pac_log.specs.declared.damage.DamageKind.{DamageKind as ALogDamage};
+ghost use Rattle.pac_log.specs.Reading.{StandsAfter};
+ghost use Rattle.pac_recover.specs.Damages.{IsDamagedLog};
+ghost use Rattle.pac_recover.specs.Outcomes.{FitsReplayed};
+ghost use Rattle.pac_recover.specs.Replays.{IsReplayOf};
+
+use crate::gates::{GatePlace, gate_place};
+use crate::log::push;
+use crate::remainder::replay_rest;
+use crate::replay::Replayed;
+use crate::skipping::skip_to;
+use crate::slots::place_in;
+use pac_check::SlotInfo;
+use pac_log::{LogError, LogReader};
+use pac_outside::Disk;
+use pac_tables::HashedRows;
+use pac_types::Catalogue;
+use std::alloc::Global;
+
+/// A log that was read to its end, and what the execution of its transactions after the newest slot gives.
+#[derive(Drop)]
+pub(crate) struct ReplayedLog {
+    pub replayed: Replayed,
+    /// The first gate, and the one after each batch.
+    pub gates: Vec<GatePlace>,
+}
+
+/// Reads a log from its first gate to its end, and executes what stands after the gate of the newest slot over its tables.
+/// Where that gate isn't there, nothing is executed.
+///
+/// # Errors
+///
+/// Those of [`LogReader::next_batch`], and [`LogError::NoMemory`] where there was no memory for the tables.
+pub(crate) fn replay_log<D: Disk>(
+    alloc: Global,
+    cat: &Catalogue,
+    newest: Option<SlotInfo>,
+    tables: HashedRows,
+    reader: &mut LogReader,
+    disk: &mut D,
+) -> Result<ReplayedLog, LogError>
+    requires operations { HasFewOperations cat.now.procs }
+    requires same { reader.old.gate.catalogue ≡ cat.now }
+    requires rows { FitsCatalogue cat.now tables.tables tables.rows }
+    ensures rows { IfOk result (λ log. FitsReplayed cat.now log.replayed) }
+    ensures replayed { IfOk result (λ log. (text : List ℕ) → IfKnown (λ old. StandsAfter text [] reader.old.gate old.now.seen
+        → IsReplayOf text cat.now newest tables.rows reader.new.gate log.replayed log.gates.items old.now.seen) (D.known disk.old)) }
+    ensures damaged { (at : ℕ) (kind : ALogDamage) → IsErrOf result (LogError.Damaged at kind) → (text : List ℕ) → IfKnown (λ old. StandsAfter text [] reader.old.gate old.now.seen → IsDamagedLog at kind old.now.seen) (D.known disk.old) }
+    ensures known { ¬ IsErrOf result LogError.NoStore }
+    ensures same { D.known disk.new ≡ D.known disk.old }
+    ensures counted { IsErrOf result LogError.DiskFault → D.faults disk.new ≡ one_more (D.faults disk.old) }
+    ensures kept { ¬ IsErrOf result LogError.DiskFault → D.faults disk.new ≡ D.faults disk.old }
+{
+    match newest {
+        None => replay_whole(alloc, cat, tables, reader, disk),
+        Some(info) => replay_from(alloc, cat, info, tables, reader, disk),
+    }
+}
+
+// The same where no slot is open.
+fn replay_whole<D: Disk>(
+    alloc: Global,
+    cat: &Catalogue,
+    tables: HashedRows,
+    reader: &mut LogReader,
+    disk: &mut D,
+) -> Result<ReplayedLog, LogError>
+    requires operations { HasFewOperations cat.now.procs }
+    requires same { reader.old.gate.catalogue ≡ cat.now }
+    requires rows { FitsCatalogue cat.now tables.tables tables.rows }
+    ensures rows { IfOk result (λ log. FitsReplayed cat.now log.replayed) }
+    ensures replayed { IfOk result (λ log. (text : List ℕ) → IfKnown (λ old. StandsAfter text [] reader.old.gate old.now.seen
+        → IsReplayOf text cat.now NoInfo tables.rows reader.new.gate log.replayed log.gates.items old.now.seen) (D.known disk.old)) }
+    ensures damaged { (at : ℕ) (kind : ALogDamage) → IsErrOf result (LogError.Damaged at kind) → (text : List ℕ) → IfKnown (λ old. StandsAfter text [] reader.old.gate old.now.seen → IsDamagedLog at kind old.now.seen) (D.known disk.old) }
+    ensures known { ¬ IsErrOf result LogError.NoStore }
+    ensures same { D.known disk.new ≡ D.known disk.old }
+    ensures counted { IsErrOf result LogError.DiskFault → D.faults disk.new ≡ one_more (D.faults disk.old) }
+    ensures kept { ¬ IsErrOf result LogError.DiskFault → D.faults disk.new ≡ D.faults disk.old }
+{
+    let mut gates = Vec::new(alloc);
+    push(&mut gates, gate_place(reader.gate()))?;
+    let replayed = replay_rest(alloc, cat, tables, &mut gates, reader, disk)?;
+    Ok(ReplayedLog { replayed, gates })
+}
+
+// The same from the gate of a slot on.
+fn replay_from<D: Disk>(
+    alloc: Global,
+    cat: &Catalogue,
+    info: SlotInfo,
+    tables: HashedRows,
+    reader: &mut LogReader,
+    disk: &mut D,
+) -> Result<ReplayedLog, LogError>
+    requires operations { HasFewOperations cat.now.procs }
+    requires same { reader.old.gate.catalogue ≡ cat.now }
+    requires rows { FitsCatalogue cat.now tables.tables tables.rows }
+    ensures rows { IfOk result (λ log. FitsReplayed cat.now log.replayed) }
+    ensures replayed { IfOk result (λ log. (text : List ℕ) → IfKnown (λ old. StandsAfter text [] reader.old.gate old.now.seen
+        → IsReplayOf text cat.now (HasInfo info) tables.rows reader.new.gate log.replayed log.gates.items old.now.seen) (D.known disk.old)) }
+    ensures damaged { (at : ℕ) (kind : ALogDamage) → IsErrOf result (LogError.Damaged at kind) → (text : List ℕ) → IfKnown (λ old. StandsAfter text [] reader.old.gate old.now.seen → IsDamagedLog at kind old.now.seen) (D.known disk.old) }
+    ensures known { ¬ IsErrOf result LogError.NoStore }
+    ensures same { D.known disk.new ≡ D.known disk.old }
+    ensures counted { IsErrOf result LogError.DiskFault → D.faults disk.new ≡ one_more (D.faults disk.old) }
+    ensures kept { ¬ IsErrOf result LogError.DiskFault → D.faults disk.new ≡ D.faults disk.old }
+{
+    let (is_there, mut gates) = skip_to(alloc, place_in(&info), reader, disk)?;
+    if !is_there {
+        let replayed = Replayed::Tables(tables);
+        return Ok(ReplayedLog { replayed, gates });
+    }
+    let replayed = replay_rest(alloc, cat, tables, &mut gates, reader, disk)?;
+    Ok(ReplayedLog { replayed, gates })
+}
