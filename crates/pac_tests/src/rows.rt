@@ -132,16 +132,16 @@ fn keys_of<R: Rows>(alloc: Global, rows: &R) -> Result<Vec<Key>, NoMemory> {
     rows.sorted_keys(0)
 }
 
-// In how many of 10,000 operations over 500 keys the tables answer differently.
+// In how many of 10,000 operations over 500 keys the tables answer differently. They are made by the numbers by which the
+// stress test makes its transactions.
 fn differences(
     alloc: Global,
     ordered: &mut OrderedRows,
     hashed: &mut HashedRows,
 ) -> Result<usize, NoMemory> {
-    let mut step: u32 = 1;
     let mut found: usize = 0;
-    for _ in 0..10_000u32 {
-        step = step.wrapping_mul(1_103_515_245).wrapping_add(12_345);
+    for number in 1..10_001u32 {
+        let step = number.wrapping_mul(2_654_435_761);
         if operate(alloc, ordered, step)? != operate(alloc, hashed, step)? {
             found = found.wrapping_add(1);
         }
