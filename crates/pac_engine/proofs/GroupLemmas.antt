@@ -18,9 +18,9 @@ use Rattle.pac_engine.specs.declared.fault.EngineCause.{EngineCause}
 use Rattle.pac_engine.specs.declared.fault.EngineCause.TheVariants.{DiskFault, LogFull, TooLarge, Ended, NoMemory}
 use Rattle.pac_engine.specs.declared.parts.EngineParts.{EngineParts}
 use Rattle.pac_engine.specs.Committing.{HasRoomAt, IsCalledFor, IsOverFull, gate_past}
-use Rattle.pac_engine.specs.Closing.{Closes, GroupFits, IsTooLarge, IsUnsaved, StopsAt, place_after, slot_len}
+use Rattle.pac_engine.specs.Closing.{Closes, GroupFits, IsGateAfter, IsTooLarge, IsUnsaved, StopsAt, place_after, slot_len}
 use Rattle.pac_engine.specs.Moves.{committed_parts, saved_parts, with_request}
-use Rattle.pac_engine.proofs.BodyLemmas.{place-after}
+use Rattle.pac_engine.proofs.BodyLemmas.{place-after, txns-after}
 
 -- ---- the open group, one request more, and closed
 
@@ -127,6 +127,17 @@ module _ (mid : EngineParts) (start : SessionState) (group : List Request) (is :
       subst (λ (e : EngineParts). Closes (rules_of mid.session) mid.log.gate.place start cut given e) (sym becomes)
       (closes-one (rules_of mid.session) mid.log.gate.place start cut group (asked ∷ []) given (with_request asked (committed_parts mid)) is_cut (gave ∙ is.answers) group-room group-place refl
       (group-asked (ends (rules_of mid.session) start group) [] asked (with_closed mid.session) (group-closed start group mid.session is)))
+
+-- the log's gate after a group that is closed
+pub gate-closed : (e : EngineParts) → e.log.gate.txns ≡ e.session.before → (start : SessionState) (group : List Request) → IsInGroup start group e.session → (closed : List (List Request)) → closed ≡ group ∷ []
+    → IsGateAfter (rules_of e.session) e.log.gate.place start closed (gate_past e.session.txns e.log.gate)
+gate-closed e counted start group is closed is_one =
+    let rules : Rules = rules_of e.session in
+    record {
+      counted = txns-after e.session.txns e.log.gate ∙ ap (λ (n : ℕ). n + length e.session.txns) counted ∙ ap (λ (s : SessionState). s.number) (sym is.here)
+          ∙ ap (λ (l : List Request). (ends rules start l).number) (sym (append-nil group)) ∙ ap (λ (c : List (List Request)). (ends rules start (all_requests c)).number) (sym is_one);
+      there = place-after e.session.txns e.log.gate ∙ ap (λ (l : List Txn). place_after_group e.log.gate.place l) is.body ∙ ap (λ (c : List (List Request)). place_after e.log.gate.place (described rules e.log.gate.place start c)) (sym is_one);
+    }
 
 -- ---- where a step stops
 

@@ -21,7 +21,8 @@ use Rattle.pac_session.proofs.CutLemmas.{joined-append}
 use Rattle.pac_engine.specs.declared.fault.EngineCause.{EngineCause}
 use Rattle.pac_engine.specs.declared.fault.EngineCause.TheVariants.{DiskFault, LogFull, TooLarge, Ended, NoMemory}
 use Rattle.pac_engine.specs.declared.parts.EngineParts.{EngineParts}
-use Rattle.pac_engine.specs.Closing.{Closes, GroupFits, CallsDevice, IsUnsaved, IsUpToGroup, IsUpToSome, NeedsTooMuch, StopsAt, place_after, slot_len}
+use Rattle.pac_log.specs.declared.position.NextGate.{NextGate}
+use Rattle.pac_engine.specs.Closing.{Closes, GroupFits, CallsDevice, IsGateAfter, IsUnsaved, IsUpToGroup, IsUpToSome, NeedsTooMuch, StopsAt, place_after, slot_len}
 
 -- ---- lists of groups
 
@@ -83,6 +84,14 @@ module _ (rules : Rules) (place : ℕ) (start : SessionState) (whole : GroupCut)
         there = then.there ∙ ap (λ (p : ℕ). place_after p after) is.there ∙ sym (place-both place groups after) ∙ sym (ap (λ (g : List Group). place_after place g) all);
         same = then.same;
         within = subst (λ (s : SessionState). IsInGroup s next.rest new.session) (sym (ends-both rules start whole.closed next.closed)) then.within;
+      }
+
+  pub gate-then : (more : List (List Request)) (gate : NextGate) → IsGateAfter rules old.log.gate.place (ends rules start (all_requests whole.closed)) more gate → IsGateAfter rules place start (whole.closed ++ more) gate
+  gate-then more gate is_after =
+      let then = described rules old.log.gate.place middle more in
+      record {
+        counted = is_after.counted ∙ ap (λ (s : SessionState). s.number) (sym (ends-both rules start whole.closed more));
+        there = is_after.there ∙ ap (λ (p : ℕ). place_after p then) is.there ∙ sym (place-both place groups then) ∙ sym (ap (λ (g : List Group). place_after place g) (all-groups more));
       }
 
   module _ (more : List (List Request)) (known : List Reply) where

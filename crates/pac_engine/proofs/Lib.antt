@@ -10,5 +10,6 @@ pub mod MoveLemmas
 pub mod GroupLemmas
 pub mod StepLemmas
 pub mod RoomLemmas
+pub mod TornLemmas
 pub mod LawLemmas
 pub mod OpeningLemmas

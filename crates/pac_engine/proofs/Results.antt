@@ -1,5 +1,5 @@
 -- What holds of an answer, by its variant.
-use Rattle.std.proofs.Common.{Result, Ok, Err, IfErr, IfOk, OnOk}
+use Rattle.std.proofs.Common.{Result, Ok, Err, IfErr, IfOk, OnErr, OnOk}
 
 pub if-ok : {T E : Type 0} {P Q : T → Type 0} (result : Result T E) → IfOk result P → ((x : T) → P x → Q x) → IfOk result Q
 if-ok (Ok x) has step = step x has
@@ -24,3 +24,11 @@ on-ok (Err e) has step = tt
 pub if-err-both : {T E : Type 0} {P Q R : E → Type 0} (result : Result T E) → IfErr result P → IfErr result Q → ((e : E) → P e → Q e → R e) → IfErr result R
 if-err-both (Ok x) p q step = tt
 if-err-both (Err e) p q step = step e p q
+
+pub if-err-all : {T E : Type 0} {P : E → Type 0} (result : Result T E) → ((e : E) → P e) → IfErr result P
+if-err-all (Ok x) has = tt
+if-err-all (Err e) has = has e
+
+pub on-err-all : {T E : Type 0} {P : Type 0} (result : Result T E) → P → OnErr result P
+on-err-all (Ok x) has = tt
+on-err-all (Err e) has = has

@@ -9,21 +9,24 @@ use Rattle.pac_engine.specs.declared.fault.EngineCause.TheVariants.{DiskFault, L
 use Rattle.pac_engine.specs.declared.parts.EngineParts.{EngineParts}
 use Rattle.pac_engine.specs.Handled.{StopsForRoom}
 use Rattle.pac_engine.specs.Moves.{committed_parts}
-use Rattle.pac_engine.specs.Standing.{HasDevices, durable_of}
-use Rattle.pac_engine.proofs.BodyLemmas.{txns-after}
+use Rattle.pac_engine.specs.Standing.{HasDevices}
 
 -- of two answers that are the same error
 pub same-cause : {T : Type 0} {a b : EngineCause} → ◌≡◌ {A = Result T EngineCause} (Err a) (Err b) → a ≡ b
 same-cause e = cc
 
+-- want of memory is no fault of a device
+pub memory-no-disk : NoMemory ≡ DiskFault → ⊥
+memory-no-disk e = cc
+
 module _ {D : Type 0} (known : D → Option DiskHistory) (asked : Request) (before now : EngineParts) (old new : Devices D) where
   -- the group was not closed
-  pub room-closed : (cause : EngineCause) → ((cause ≡ DiskFault → ⊥) → (new ≡ old) × HasDevices known now new) → durable_of now ≡ durable_of before → ((bytes : ℕ) → cause ≡ TooLarge bytes → ⊥) → StopsForRoom known asked cause before now old new
-  room-closed (LogFull need) uncalled durable small = let here = uncalled (λ e. cc) in (here.0, durable, here.1)
-  room-closed (TooLarge bytes) uncalled durable small = absurd (small bytes refl)
-  room-closed DiskFault uncalled durable small = tt
-  room-closed NoMemory uncalled durable small = tt
-  room-closed Ended uncalled durable small = tt
+  pub room-closed : (cause : EngineCause) → ((cause ≡ DiskFault → ⊥) → (new ≡ old) × HasDevices known now new) → now.log.gate ≡ before.log.gate → ((bytes : ℕ) → cause ≡ TooLarge bytes → ⊥) → StopsForRoom known asked cause before now old new
+  room-closed (LogFull need) uncalled gate small = let here = uncalled (λ e. cc) in (here.0, gate, here.1)
+  room-closed (TooLarge bytes) uncalled gate small = absurd (small bytes refl)
+  room-closed DiskFault uncalled gate small = tt
+  room-closed NoMemory uncalled gate small = tt
+  room-closed Ended uncalled gate small = tt
 
   -- there was no memory
   pub room-none : (cause : EngineCause) → cause ≡ NoMemory → StopsForRoom known asked cause before now old new
@@ -38,7 +41,7 @@ module _ {D : Type 0} (known : D → Option DiskHistory) (asked : Request) (befo
         save,
         ap (λ (d : Devices D). d.slot_a) here.1 ∙ a,
         ap (λ (d : Devices D). d.slot_b) here.1 ∙ b,
-        ap durable_of here.0 ∙ ap durable_of closed ∙ txns-after before.session.txns before.log.gate,
+        ap (λ (e : EngineParts). e.log.gate) here.0 ∙ ap (λ (e : EngineParts). e.log.gate) closed,
         subst (λ (e : EngineParts). HasDevices known e new) (sym here.0) (subst (λ (d : Devices D). HasDevices known mid d) (sym here.1) has),
       )
   room-saved save mid middle closed a b has DiskFault some uncalled = tt

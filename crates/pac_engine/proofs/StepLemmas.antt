@@ -21,15 +21,15 @@ use Rattle.pac_store.specs.Stands.{IsHistory}
 use Rattle.pac_engine.specs.declared.fault.EngineCause.{EngineCause}
 use Rattle.pac_engine.specs.declared.fault.EngineCause.TheVariants.{DiskFault, LogFull, TooLarge, Ended, NoMemory}
 use Rattle.pac_engine.specs.declared.parts.EngineParts.{EngineParts}
-use Rattle.pac_engine.specs.Committing.{HasRoomAt, IsCalledFor, IsOverFull}
+use Rattle.pac_engine.specs.Committing.{HasRoomAt, IsCalledFor, IsOverFull, gate_past}
 use Rattle.pac_check.specs.declared.limits.TheConstants.{MAX_SLOT_LEN}
-use Rattle.pac_engine.specs.Closing.{Closes, IsKept, StopsAt, slot_len}
+use Rattle.pac_engine.specs.Closing.{Closes, IsGateAfter, IsKept, StopsAt, slot_len}
 use Rattle.pac_engine.specs.Moves.{IsAsked, IsHeldBy, IsLive, IsWorking, committed_parts, saved_parts, with_request}
 use Rattle.pac_engine.specs.Standing.{EngineStands, KeepsHistory, KeepsMore, StandsForMore, StandsOn, WhileKnown, durable_of, saved_of}
 use Rattle.pac_engine.proofs.BodyLemmas.{txns-after}
 use Rattle.pac_engine.proofs.SavingLemmas.{saves-all}
 use Rattle.pac_engine.proofs.DeviceLemmas.{rest-known, known-then, known-weaken}
-use Rattle.pac_engine.proofs.GroupLemmas.{close-stops, closed-state, closed-stops, closes-before, closes-closed, closes-none, closes-saved, cut-before, cut-closed, cut-later, group-asked, save-commits, save-stops}
+use Rattle.pac_engine.proofs.GroupLemmas.{close-stops, closed-state, closed-stops, closes-before, closes-closed, closes-none, closes-saved, cut-before, cut-closed, cut-later, gate-closed, group-asked, save-commits, save-stops}
 use Rattle.pac_engine.proofs.MoveLemmas.{all-held-kept, kept-and-saved, one-reply, run-asked, with_session}
 use Rattle.pac_engine.proofs.StandingLemmas.{asked-history, asked-keeps, asked-stands, keeps-as, keeps-longer, keeps-then}
 
@@ -70,6 +70,11 @@ module _ (before now : EngineParts) (asked : Request) (closing : Bool) (is : IsA
       after-stops cause given none not_large on full called =
           close-stops rules before.log.gate.place start (cut_one rules start group asked).closed (group ++ asked ∷ []) (ap (λ (cut : GroupCut). cut.closed) cut-is) (with_asked asked before.session).txns more.body cause given none not_large on
           (λ need e. subst (λ (p : EngineParts). IsOverFull p.log.gate.place p.session.txns need) is.becomes (full need e)) (λ e. subst (λ (p : EngineParts). IsCalledFor p.log.gate.place p.session.txns) is.becomes (called e))
+
+      pub after-gate : before.log.gate.txns ≡ before.session.before
+          → IsGateAfter (rules_of before.session) before.log.gate.place start (cut_one (rules_of before.session) start group asked).closed (gate_past now.session.txns now.log.gate)
+      after-gate counted = subst (λ (p : EngineParts). IsGateAfter rules before.log.gate.place start (cut_one rules start group asked).closed (gate_past p.session.txns p.log.gate)) (sym is.becomes)
+          (gate-closed (with_request asked before) counted start (group ++ asked ∷ []) more (cut_one rules start group asked).closed (ap (λ (cut : GroupCut). cut.closed) cut-is))
 
 -- what is reported of a group that was closed is durable
 pub closed-kept : (e now : EngineParts) (given : List Reply) → IsWorking e → durable_of now ≡ durable_of (committed_parts e) → given ≡ e.session.held → AllByRecursion (IsKept now) given
@@ -199,6 +204,9 @@ module _ (e : EngineParts) (live : IsLive e) (asked : Request) (txn : Txn) (asks
   pub anew-unrun : (given : List Reply) → given ≡ e.session.held → StopsAt (rules_of e.session) e.log.gate.place start (cut_one (rules_of e.session) start group asked).closed given NoMemory
   anew-unrun given gave = closed-stops (rules_of e.session) e.log.gate.place start (cut_one (rules_of e.session) start group asked).closed group (ap (λ (cut : GroupCut). cut.closed) anew-cut) e.session.txns within.body given (gave ∙ within.answers)
 
+  pub anew-gate : IsGateAfter (rules_of e.session) e.log.gate.place start (cut_one (rules_of e.session) start group asked).closed (gate_past e.session.txns e.log.gate)
+  anew-gate = gate-closed e live.working.counted start group within (cut_one (rules_of e.session) start group asked).closed (ap (λ (cut : GroupCut). cut.closed) anew-cut)
+
 -- a transaction that was run, as a request
 pub ran-parts : (e mid : EngineParts) (ran : Open) (asked : Request) (txn : Txn) → txn_of asked ≡ Some txn → mid ≡ committed_parts e → ran ≡ with_run txn mid.session → with_session ran mid ≡ with_request asked (committed_parts e)
 ran-parts e mid ran asked txn asks_txn closed is = ap (λ (now : Open). with_session now mid) (is ∙ run-asked asked mid.session txn asks_txn) ∙ ap (λ (p : EngineParts). with_request asked p) closed
@@ -236,6 +244,10 @@ module _ (e : EngineParts) (counted : e.log.gate.txns ≡ e.session.before) (sta
       → StopsAt (rules_of e.session) e.log.gate.place start (cut_one (rules_of e.session) start group request.Save).closed given cause
   checkpoint-stops = close-stops (rules_of e.session) e.log.gate.place start (cut_one (rules_of e.session) start group request.Save).closed (group ++ request.Save ∷ []) (ap (λ (cut : GroupCut). cut.closed) save-cut)
       e.session.txns (within.body ∙ sym (save-commits (rules_of e.session) start group))
+
+  pub checkpoint-gate : IsGateAfter (rules_of e.session) e.log.gate.place start (cut_one (rules_of e.session) start group request.Save).closed (gate_past e.session.txns e.log.gate)
+  checkpoint-gate = subst (λ (txns : List Txn). IsGateAfter (rules_of e.session) e.log.gate.place start (cut_one (rules_of e.session) start group request.Save).closed (gate_past txns e.log.gate)) (append-nil e.session.txns)
+      (gate-closed (with_request request.Save e) counted start (group ++ request.Save ∷ []) (group-asked start group request.Save e.session within) (cut_one (rules_of e.session) start group request.Save).closed (ap (λ (cut : GroupCut). cut.closed) save-cut))
 
   -- the group's replies were given out, but not that of the save
   pub checkpoint-unsaved : HasRoomAt e.log.gate.place e.session.txns → (mid : EngineParts) (replies given : List Reply) → mid ≡ committed_parts e → replies ≡ e.session.held → given ≡ replies

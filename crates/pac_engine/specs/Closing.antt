@@ -1,7 +1,9 @@
 -- Which replies a step returns, and where it stops.
-use Rattle.std.specs.Prelude.{◌≡◌, ◌⊎◌, ◌+◌, ◌<◌, ◌≤◌, ℕ, Bool, false, true, List, [], ◌∷◌, ◌++◌, length}
+use Rattle.std.specs.Prelude.{◌≡◌, ◌⊎◌, ◌+◌, ◌<◌, ◌≤◌, ℕ, Bool, false, true, List, [], ◌∷◌, ◌++◌, length, Option}
 use Rattle.std.specs.List.{AllByRecursion}
 use Rattle.pac_outside.specs.Devices.{OneFaulted}
+use Rattle.pac_outside.specs.Disk.{DiskHistory}
+use Rattle.pac_engine.specs.Parts.{OfLog}
 use Rattle.pac_request.specs.declared.request.Request.{Request}
 use Rattle.pac_request.specs.declared.request.Request.TheVariants as request
 use Rattle.pac_request.specs.declared.request.Reply.{Reply}
@@ -9,6 +11,8 @@ use Rattle.pac_request.specs.declared.request.Reply.TheVariants as reply
 use Rattle.pac_check.specs.declared.limits.TheConstants.{MAX_SLOT_LEN}
 use Rattle.pac_check.specs.Checkpoints.{checkpoint_bytes, head_with}
 use Rattle.pac_check.specs.Saved.{checkpoint_of}
+use Rattle.pac_log.specs.declared.position.NextGate.{NextGate}
+use Rattle.pac_log.specs.Torn.{LogEndsAtEither}
 use Rattle.pac_session.specs.Session.{Rules, SessionState, ends}
 use Rattle.pac_session.specs.Groups.{Group, GroupCut, all_replies, all_requests, described, place_after_group}
 use Rattle.pac_session.specs.Open.{IsInGroup, rules_of}
@@ -28,6 +32,17 @@ GroupFits group = HasRoomAt group.place group.txns
 abbrev pub place_after : ℕ → List Group → ℕ
 place_after place [] = place
 place_after place (group ∷ more) = place_after (place_after_group place group.txns) more
+
+-- the gate stands after these groups: after their transactions, and at the offset up to which they reach
+pub record IsGateAfter (rules : Rules) (place : ℕ) (start : SessionState) (closed : List (List Request)) (gate : NextGate) : Type 0 where
+  pub counted : gate.txns ≡ (ends rules start (all_requests closed)).number
+  pub there : gate.place ≡ place_after place (described rules place start closed)
+
+-- each image of the log that a crash may leave ends at this gate, or after these groups
+pub record MayEndAfter (rules : Rules) (start : SessionState) (closed : List (List Request)) (gate : NextGate) (devices : List (Option DiskHistory)) : Type 0 where
+  pub next : NextGate
+  pub after : IsGateAfter rules gate.place start closed next
+  pub either : OfLog (LogEndsAtEither gate next) devices
 
 -- Groups were closed: each fits the log, and their replies were given out. The engine is within the next one, and goes by
 -- the same rules.

@@ -1,5 +1,5 @@
 -- What an engine does with one request, whatever its answer.
-use Rattle.std.specs.Prelude.{◌≡◌, ◌+◌, ℕ, List, Option, Result, IfErr, IfOk, MatchResult, OnOk, length}
+use Rattle.std.specs.Prelude.{◌≡◌, ℕ, List, Option, Result, IfErr, IfOk, MatchResult, OnOk}
 use Rattle.std.specs.List.{AllByRecursion}
 use Rattle.pac_outside.specs.Devices.{each}
 use Rattle.pac_outside.specs.Disk.{DiskHistory}
@@ -14,23 +14,25 @@ use Rattle.pac_engine.specs.declared.fault.EngineCause.{EngineCause}
 use Rattle.pac_engine.specs.declared.fault.EngineCause.TheVariants.{DiskFault, LogFull, TooLarge, Ended, NoMemory}
 use Rattle.pac_engine.specs.declared.fault.EngineFault.{EngineFault}
 use Rattle.pac_engine.specs.declared.parts.EngineParts.{EngineParts}
-use Rattle.pac_engine.specs.Closing.{Closes, CountsFault, IsKept, StopsAt}
+use Rattle.pac_engine.specs.Closing.{Closes, CountsFault, IsKept, MayEndAfter, StopsAt}
+use Rattle.pac_engine.specs.Committing.{gate_past}
 use Rattle.pac_engine.specs.Moves.{IsLive}
-use Rattle.pac_engine.specs.Standing.{HasDevices, KeepsMore, OnlyGrows, StandsForMore, durable_of}
+use Rattle.pac_engine.specs.Standing.{HasDevices, KeepsMore, OnlyGrows, StandsForMore}
 
--- What a step leaves where there is no room. Where the log has none for a group, no device is called, and as much is durable
--- as before. Where a slot has none for the checkpoint of a save, no slot is called, and the group that the save ends is durable.
+-- What a step leaves where there is no room. Where the log has none for a group, no device is called, and the log ends where it
+-- ended. Where a slot has none for the checkpoint of a save, no slot is called, and the log ends after the group that the save ends.
 -- The engine knows what the devices hold then.
 abbrev pub StopsForRoom : {D : Type 0} → (D → Option DiskHistory) → Request → EngineCause → EngineParts → EngineParts → Devices D → Devices D → Type 0
-StopsForRoom known asked (LogFull need) before now old new = (new ≡ old) × (durable_of now ≡ durable_of before) × HasDevices known now new
-StopsForRoom known asked (TooLarge bytes) before now old new = (asked ≡ Save) × (new.slot_a ≡ old.slot_a) × (new.slot_b ≡ old.slot_b) × (durable_of now ≡ durable_of before + length before.session.txns) × HasDevices known now new
+StopsForRoom known asked (LogFull need) before now old new = (new ≡ old) × (now.log.gate ≡ before.log.gate) × HasDevices known now new
+StopsForRoom known asked (TooLarge bytes) before now old new = (asked ≡ Save) × (new.slot_a ≡ old.slot_a) × (new.slot_b ≡ old.slot_b) × (now.log.gate ≡ gate_past before.session.txns before.log.gate) × HasDevices known now new
 StopsForRoom known asked DiskFault before now old new = Unit {0}
 StopsForRoom known asked NoMemory before now old new = Unit {0}
 StopsForRoom known asked Ended before now old new = Unit {0}
 
 -- The request was handled by the engine as it was before. The replies are those of the groups that it closes, or it stops at
 -- one of these; what they report is durable; the devices stand for the history at each moment, and the engine for that with
--- the transactions of the request; what has no room is not begun; and no call of a device comes after one that failed.
+-- the transactions of the request; only a save calls a slot; what has no room is not begun; where a device failed the log
+-- ends where it ended, or after the group; and no call of a device comes after one that failed.
 pub record IsHandled {D : Type 0} (known : D → Option DiskHistory) (faults : D → ℕ) (asked : Request) (before now : EngineParts) (old new : Devices D) (result : Result (List Reply) EngineFault) : Type 0 where
   pub closes : (start : SessionState) (group : List Request) → IsInGroup start group before.session
       → IfOk result (λ given. Closes (rules_of before.session) before.log.gate.place start (cut_one (rules_of before.session) start group asked) given now)
@@ -45,5 +47,8 @@ pub record IsHandled {D : Type 0} (known : D → Option DiskHistory) (faults : D
   pub keeps : KeepsMore known (commits (rules_of before.session) (state_now before.session) asked) before now old new
   pub stands : OnOk result (StandsForMore known (commits (rules_of before.session) (state_now before.session) asked) before now old new)
   pub goes_on : IfErr result (λ fault. ¬ (fault.cause ≡ Ended))
+  pub slots : (asked ≡ Save → ⊥) → (new.slot_a ≡ old.slot_a) × (new.slot_b ≡ old.slot_b)
   pub room : IfErr result (λ fault. StopsForRoom known asked fault.cause before now old new)
+  pub torn : IfErr result (λ fault. fault.cause ≡ DiskFault → (start : SessionState) (group : List Request) → IsInGroup start group before.session
+      → MayEndAfter (rules_of before.session) start (cut_one (rules_of before.session) start group asked).closed before.log.gate (each known new))
   pub counted : MatchResult result (λ _. each faults new ≡ each faults old) (λ fault. CountsFault fault.cause (each faults old) (each faults new))

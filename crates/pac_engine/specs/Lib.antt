@@ -1,4 +1,5 @@
 pub mod Causes
+pub mod Parts
 pub mod Committing
 pub mod Standing
 pub mod Closing

@@ -10,6 +10,7 @@ ghost use Rattle.pac_log.specs.declared.limits.TheConstants.{MAX_LOG_LEN};
 ghost use Rattle.pac_log.specs.declared.log.Stage.{Stage};
 ghost use Rattle.pac_log.specs.Bodies.{body_bytes};
 ghost use Rattle.pac_log.specs.Places.{IsAfter, IsPrepared, LogEndsAt, need_of};
+ghost use Rattle.pac_log.specs.Torn.{LogEndsAtEither};
 ghost use Rattle.pac_engine.specs.Committing.{HasAdded, HasRoomAt, IsCalledFor, IsOverFull, MayAdd, gate_past, with_batch};
 
 use crate::fault::EngineCause;
@@ -75,6 +76,7 @@ pub fn commit<D: Disk>(log: &mut Log, disk: &mut D, txns: Vec<Txn>) -> Result<()
     ensures kept { OnErr result (log.new.gate ≡ log.old.gate) }
     ensures waits { OnOk result (log.new.stage ≡ Stage.Waiting) }
     ensures uncalled { ¬ IsErrOf result EngineCause.DiskFault → OnErr result (disk.new ≡ disk.old) }
+    ensures torn { OnErr result (IfKnown (λ new. LogEndsAtEither log.old.gate (gate_past txns.items log.old.gate) new.now) (D.known disk.new)) }
 
     // When each refusal comes.
     ensures full { (need : ℕ) → IsErrOf result (EngineCause.LogFull need) → IsOverFull log.old.gate.place txns.items need }

@@ -13,7 +13,7 @@ ghost use Rattle.pac_request.specs.RequestFits.{RequestFits};
 ghost use Rattle.pac_session.specs.Session.{SessionState, commits};
 ghost use Rattle.pac_session.specs.Groups.{cut_one, place_after_group};
 ghost use Rattle.pac_session.specs.Open.{IsInGroup, rules_of, state_now};
-ghost use Rattle.pac_engine.specs.Closing.{Closes, CountsFault, IsKept, StopsAt, is_stop, slot_len};
+ghost use Rattle.pac_engine.specs.Closing.{Closes, CountsFault, IsKept, MayEndAfter, StopsAt, is_stop, slot_len};
 ghost use Rattle.pac_engine.specs.Handled.{StopsForRoom};
 ghost use Rattle.pac_engine.specs.Standing.{HasDevices, OnlyGrows, KeepsMore, StandsForMore, durable_of};
 
@@ -142,8 +142,15 @@ impl Engine {
         ensures kept_before { IfErr result (λ fault. AllByRecursion (IsKept self.new) fault.replies) }
         ensures durable { OnOk result (durable_of self.new ≡ self.new.session.before) }
 
+        // Only a save calls a slot.
+        ensures slots { ¬ (request ≡ ARequest.Save) → (devices.new.slot_a ≡ devices.old.slot_a) × (devices.new.slot_b ≡ devices.old.slot_b) }
+
         // What has no room is not begun: no device is called for it, and what was durable before is all that is.
         ensures room { IfErr result (λ fault. StopsForRoom D.known request fault.cause self.old self.new devices.old devices.new) }
+
+        // Where a device failed, each image of the log ends where the log ended, or after the group that the request closes.
+        ensures torn { IfErr result (λ fault. fault.cause ≡ EngineCause.DiskFault → (start : SessionState) (group : List ARequest) → IsInGroup start group self.old.session
+            → MayEndAfter (rules_of self.old.session) start (cut_one (rules_of self.old.session) start group request).closed self.old.log.gate (each D.known devices.new)) }
 
         // The devices stand for the history at each moment, and the engine stands for it with the transactions of the request.
         ensures ready { OnOk result (HasDevices D.known self.new devices.new) }

@@ -178,6 +178,7 @@ impl EngineParts {
         ensures large { IfErr result (λ fault. (bytes : ℕ) → fault.cause ≡ EngineCause.TooLarge bytes → (bytes ≡ slot_len (rules_of self.old.session) (state_now self.old.session) self.old.log.gate.place) × (MAX_SLOT_LEN < bytes)) }
         ensures small { OnOk result (slot_len (rules_of self.old.session) (state_now self.old.session) self.old.log.gate.place ≤ MAX_SLOT_LEN) }
         ensures uncalled { IfErr result (λ fault. (bytes : ℕ) → fault.cause ≡ EngineCause.TooLarge bytes → (self.new ≡ self.old) × (devices.new ≡ devices.old)) }
+        ensures log { devices.new.log ≡ devices.old.log }
         ensures full { IfErr result (λ fault. (need : ℕ) → ¬ (fault.cause ≡ EngineCause.LogFull need)) }
         ensures goes_on { IfErr result (λ fault. ¬ (fault.cause ≡ EngineCause.Ended)) }
         ensures faults { MatchResult result (λ _. each D.faults devices.new ≡ each D.faults devices.old) (λ fault. CountsFault fault.cause (each D.faults devices.old) (each D.faults devices.new)) }

@@ -1,10 +1,12 @@
 // What an engine holds, and the moves that call devices.
 ghost use Rattle.std.specs.Prelude.{◌≡◌, ◌<◌, ◌≤◌, ℕ, [], length, IfOk, IsErrOf, MatchResult, OnErr, OnOk};
 ghost use Rattle.pac_outside.specs.Devices.{each};
+ghost use Rattle.pac_outside.specs.Disk.{IfKnown};
+ghost use Rattle.pac_log.specs.Torn.{LogEndsAtEither};
 ghost use Rattle.pac_check.specs.declared.limits.TheConstants.{MAX_SLOT_LEN};
 ghost use Rattle.pac_session.specs.Open.{rules_of, state_now};
 ghost use Rattle.pac_engine.specs.Closing.{CountsFault, slot_len};
-ghost use Rattle.pac_engine.specs.Committing.{HasRoomAt, IsCalledFor, IsOverFull};
+ghost use Rattle.pac_engine.specs.Committing.{HasRoomAt, IsCalledFor, IsOverFull, gate_past};
 ghost use Rattle.pac_engine.specs.Moves.{IsLive, IsUnmoved, IsWorking, committed_parts, saved_parts};
 ghost use Rattle.pac_engine.specs.Standing.{HasDevices, KeepsMore, StandsForMore};
 
@@ -39,6 +41,7 @@ impl EngineParts {
         ensures slot_a { devices.new.slot_a ≡ devices.old.slot_a }
         ensures slot_b { devices.new.slot_b ≡ devices.old.slot_b }
         ensures uncalled { ¬ IsErrOf result EngineCause.DiskFault → OnErr result ((devices.new ≡ devices.old) × HasDevices D.known self.new devices.new) }
+        ensures torn { OnErr result (IfKnown (λ new. LogEndsAtEither self.old.log.gate (gate_past self.old.session.txns self.old.log.gate) new.now) (D.known devices.new.log)) }
         ensures ready { OnOk result (HasDevices D.known self.new devices.new) }
         ensures keeps { KeepsMore D.known [] self.old self.new devices.old devices.new }
         ensures stands { OnOk result (StandsForMore D.known [] self.old self.new devices.old devices.new) }
@@ -67,6 +70,7 @@ impl EngineParts {
         ensures saved { OnOk result (self.new ≡ saved_parts self.old) }
         ensures unmoved { OnErr result (IsUnmoved self.old self.new) }
         ensures uncalled { ¬ IsErrOf result EngineCause.DiskFault → OnErr result ((self.new ≡ self.old) × (devices.new ≡ devices.old)) }
+        ensures log { devices.new.log ≡ devices.old.log }
         ensures ready { OnOk result (HasDevices D.known self.new devices.new) }
         ensures keeps { KeepsMore D.known [] self.old self.new devices.old devices.new }
         ensures stands { OnOk result (StandsForMore D.known [] self.old self.new devices.old devices.new) }

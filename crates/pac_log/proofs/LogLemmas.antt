@@ -1,5 +1,5 @@
 -- A log whose next gate is opened.
-use Rattle.std.proofs.Common.{◌≡◌, ◌∙◌, ◌⊎◌, inl, inr, ⊎_elim, ℕ, ◌+◌, ◌*◌, ◌≤◌, List, [], ◌∷◌, ◌++◌, length, Option, Some, None, refl, sym, ap, subst, arith, append_assoc}
+use Rattle.std.proofs.Common.{◌≡◌, ◌∙◌, ◌⊎◌, inl, inr, ⊎_elim, ℕ, zero, suc, ◌+◌, ◌*◌, ◌≤◌, List, [], ◌∷◌, ◌++◌, length, Option, Some, None, refl, sym, ap, subst, arith, append_assoc}
 use Rattle.std.proofs.lemmas.List.Concat.{flat_map-cons}
 use Rattle.std.proofs.lemmas.List.{append-nil, length-append}
 use Rattle.std.proofs.lemmas.List.Elements.{All-append, All-cons, All-nil}
@@ -9,9 +9,11 @@ use Rattle.pac_ops.specs.declared.transaction.Txn.TheVariants.{Call, AdHoc}
 use Rattle.pac_bytes.proofs.Numbers.{width32}
 use Rattle.pac_entry.specs.Entries.{txn_bytes}
 use Rattle.pac_types.specs.Typing.{CatalogueState}
-use Rattle.pac_outside.specs.Disk.{DiskHistory, IfKnown, BothKnown}
+use Rattle.pac_outside.specs.Disk.{DiskHistory, IfKnown, BothKnown, Leaves, LeavesOnly, settled}
 use Rattle.pac_outside.specs.GateByte.{IsShut, IsOpen, OneImage, ShutOrOpen, Opens}
 use Rattle.pac_outside.proofs.Histories.{both, weaken}
+use Rattle.pac_outside.proofs.RunLaws.{alone_runs}
+use Rattle.pac_outside.proofs.Runs.{run_end}
 use Rattle.pac_log.specs.declared.position.NextGate.{NextGate}
 use Rattle.pac_log.specs.declared.log.Stage.{Stage}
 use Rattle.pac_log.specs.declared.log.Stage.TheVariants.{Ready}
@@ -19,6 +21,7 @@ use Rattle.pac_log.specs.Bodies.{entries_bytes, body_bytes, IsBody}
 use Rattle.pac_log.specs.Logs.{header_bytes, open_bodies, log_prefix, all_txns, AreBatches, HoldsLog, KeepsOrAdds, AddsBatch}
 use Rattle.pac_log.specs.Gates.{gate_after}
 use Rattle.pac_log.specs.Places.{IsAfter, LogEndsAt}
+use Rattle.pac_log.specs.Torn.{LogEndsAtEither}
 
 open_bodies-append : (a b : List (List Txn)) → open_bodies (a ++ b) ≡ open_bodies a ++ open_bodies b
 open_bodies-append [] b = refl
@@ -143,3 +146,30 @@ ends_again R old new (Some a) (Some b) txns both ends adds following same = reco
   holds = subst (λ (c : CatalogueState). OneImage (HoldsLog ends.text c (ends.batches ++ txns ∷ [])) b.now) (sym same) (adds ends.text ends.batches ends.after ends.holds);
   after = following ends.text ends.batches ends.after;
 }
+
+-- the first of these images has P
+abbrev FirstHas : (List ℕ → Type 0) → List (List ℕ) → Type 0
+FirstHas P [] = Unit {0}
+FirstHas P (image ∷ images) = P image
+
+-- what calls leave at each moment they leave at the last one
+leaves_last : (P : List ℕ → Type 0) (a b : DiskHistory) → LeavesOnly P a b → Leaves P b.now
+leaves_last P a b run = λ image is. run_end (FirstHas P) (a ∷ []) (b ∷ []) (alone_runs (FirstHas P) a b run) (image ∷ []) (is, tt)
+
+-- there are bytes up to each offset
+pub up_to : (offset : ℕ) → (prefix : List ℕ) × (offset ≡ length prefix)
+up_to zero = ([], refl)
+up_to (suc offset) = let before = up_to offset in (0 ∷ before.0, omega (arith, before.1))
+
+-- and if adding it failed, each image ends at the gate, or after the batch
+pub ends_torn : (R : DiskHistory → DiskHistory → Type 0) (gate : NextGate) (before after : Option DiskHistory) (txns : List Txn) → BothKnown R before after → IfKnown (λ h. LogEndsAt gate h.now) before
+    → ((text : List ℕ) (batches : List (List Txn)) → IsAfter text batches gate → BothKnown (KeepsOrAdds text gate.catalogue batches txns) before after)
+    → IfKnown (λ h. LogEndsAtEither gate (gate_after (length txns) (1 + length (body_bytes txns)) gate) h.now) after
+ends_torn R gate None None txns both at keeps = tt
+ends_torn R gate None (Some b) txns both at keeps = absurd both
+ends_torn R gate (Some a) None txns both at keeps = absurd both
+ends_torn R gate (Some a) (Some b) txns both at keeps = λ image is. either image (leaves_last (λ i. HoldsLog at.text gate.catalogue at.batches i ⊎ HoldsLog at.text gate.catalogue (at.batches ++ txns ∷ []) i) a b (keeps at.text at.batches at.after at.holds) image is)
+  where
+    either : (image : List ℕ) → HoldsLog at.text gate.catalogue at.batches image ⊎ HoldsLog at.text gate.catalogue (at.batches ++ txns ∷ []) image → LogEndsAt gate (settled image) ⊎ LogEndsAt (gate_after (length txns) (1 + length (body_bytes txns)) gate) (settled image)
+    either image (inl holds) = inl (record { text = at.text; batches = at.batches; holds = record { one = refl; has = holds }; after = at.after })
+    either image (inr holds) = inr (record { text = at.text; batches = at.batches ++ txns ∷ []; holds = record { one = refl; has = holds }; after = after_more at.text at.batches txns gate at.after })

@@ -5,5 +5,6 @@ pub mod BodyReading
 pub mod Logs
 pub mod Gates
 pub mod Places
+pub mod Torn
 pub mod Reading
 pub mod Looked

@@ -10,6 +10,7 @@ ghost use Rattle.pac_log.specs.Bodies.{body_bytes};
 ghost use Rattle.pac_log.specs.Logs.{AddsBatch, KeepsOrAdds};
 ghost use Rattle.pac_log.specs.Gates.{gate_after};
 ghost use Rattle.pac_log.specs.Places.{LogEndsAt, HasFailed, IsAfter, IsPrepared, HasReady, need_of};
+ghost use Rattle.pac_log.specs.Torn.{LogEndsAtEither};
 
 use crate::position::Position;
 use crate::{LogReader, MAX_LOG_LEN, PrepareError, body_len, write_body};
@@ -130,7 +131,7 @@ impl Log {
     /// # Errors
     ///
     /// [`Failed`] where a call of the device failed, so only where its count of faults rose; no call comes after it, and the
-    /// log has failed.
+    /// log has failed. A crash leaves a log that ends where it ended, or after the batch.
     pub fn commit<D: Disk>(&mut self, disk: &mut D) -> Result<(), Failed>
         requires ready { HasReady self.old.stage }
         requires ends { IfKnown (λ old. LogEndsAt self.old.gate old.now) (D.known disk.old) }
@@ -146,6 +147,9 @@ impl Log {
             → IsAfter text (batches ++ txns ∷ []) self.new.gate) }
         ensures gate { OnOk result ((txns : List ATxn) → IsPrepared self.old txns → self.new.gate ≡ gate_after (length txns) (1 + length (body_bytes txns)) self.old.gate) }
         ensures still_ends { OnOk result ((txns : List ATxn) → IsPrepared self.old txns → IfKnown (λ new. LogEndsAt self.new.gate new.now) (D.known disk.new)) }
+        // After an error each image ends where the log ended, or after the batch.
+        ensures torn { OnErr result ((txns : List ATxn) → IsPrepared self.old txns
+            → IfKnown (λ new. LogEndsAtEither self.old.gate (gate_after (length txns) (1 + length (body_bytes txns)) self.old.gate) new.now) (D.known disk.new)) }
         // Nothing but the body and the bytes of both gates is written.
         ensures durable { OnOk result ((txns : List ATxn) → IsPrepared self.old txns → BothKnown (IsDurable self.old.gate.place (1 ∷ (body_bytes txns ++ 0 ∷ []))) (D.known disk.old) (D.known disk.new)) }
         ensures catalogue { self.new.gate.catalogue ≡ self.old.gate.catalogue }

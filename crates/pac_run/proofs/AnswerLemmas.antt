@@ -1,12 +1,13 @@
 -- One request is answered, or not.
-use Rattle.std.proofs.Common.{◌≡◌, ◌∙◌, inl, inr, ℕ, ◌≤◌, List, [], ◌∷◌, ◌++◌, take, Option, Result, Ok, Err, refl, sym, ap, subst, arith}
+use Rattle.std.proofs.Common.{◌≡◌, ◌∙◌, inl, inr, ℕ, ◌≤◌, List, [], ◌∷◌, ◌++◌, take, Option, Result, Ok, Err, refl, sym, ap, ap₂, subst, arith}
 use Rattle.std.specs.Prelude.{IsErrOf, OnErr}
 use Rattle.std.specs.List.{AllByRecursion}
 use Rattle.std.proofs.lemmas.List.{append-nil}
 use Rattle.pac_ops.specs.declared.transaction.Txn.{Txn}
-use Rattle.pac_outside.specs.Devices.{all_known}
+use Rattle.pac_outside.specs.Devices.{all_known, each}
 use Rattle.pac_outside.specs.declared.devices.Devices.{Devices}
 use Rattle.pac_outside.specs.Disk.{DiskHistory}
+use Rattle.pac_engine.specs.Parts.{slots_of}
 use Rattle.pac_types.specs.Typing.{CatalogueState}
 use Rattle.pac_check.specs.declared.limits.TheConstants.{MAX_SLOT_LEN}
 use Rattle.pac_request.specs.declared.request.Request.{Request}
@@ -18,15 +19,15 @@ use Rattle.pac_session.specs.Open.{IsInGroup, rules_of, state_now}
 use Rattle.pac_engine.specs.declared.fault.EngineCause.{EngineCause}
 use Rattle.pac_engine.specs.declared.fault.EngineCause.TheVariants as cause
 use Rattle.pac_engine.specs.declared.parts.EngineParts.{EngineParts}
-use Rattle.pac_engine.specs.Closing.{Closes, IsKept, slot_len}
+use Rattle.pac_engine.specs.Closing.{Closes, IsKept, MayEndAfter, slot_len}
 use Rattle.pac_engine.specs.Handled.{StopsForRoom}
 use Rattle.pac_engine.specs.Standing.{HasDevices, OnlyGrows, StandsOn, durable_of}
 use Rattle.pac_engine.proofs.DeviceLemmas.{rest-known}
 use Rattle.pac_engine.proofs.LawLemmas.{closes-then}
 use Rattle.pac_run.specs.declared.stop.RunStop.{RunStop}
-use Rattle.pac_run.specs.declared.stop.RunStop.TheVariants.{LogFull, NoMemory, OutputFault}
+use Rattle.pac_run.specs.declared.stop.RunStop.TheVariants.{DiskFault, LogFull, NoMemory, OutputFault}
 use Rattle.pac_run.specs.Causes.{stop_of_engine}
-use Rattle.pac_run.specs.Serving.{Answered, Broke, KeepsEach, StandsForEach, StaysDurable, WasHandled}
+use Rattle.pac_run.specs.Serving.{Answered, Broke, KeepsEach, KeepsGate, StandsForEach, WasHandled}
 use Rattle.pac_run.specs.Stopping.{HasWorked, StepStops}
 use Rattle.pac_run.specs.Texts.{IsTextPrefix, IsPlain, SaysUnlessFault, texts}
 use Rattle.pac_run.proofs.ServeLemmas.{took-nothing, whole-prefix}
@@ -41,10 +42,25 @@ only-err (Err e) a b only is = same only is
     same : {T E : Type 0} {e a b : E} → ◌≡◌ {A = Result T E} (Err e) (Err a) → ◌≡◌ {A = Result T E} (Err e) (Err b) → b ≡ a
     same f g = cc
 
+-- no slot was called
+pub slots-same : {D : Type 0} (known : D → Option DiskHistory) (old new : Devices D) → (new.slot_a ≡ old.slot_a) × (new.slot_b ≡ old.slot_b) → slots_of (each known new) ≡ slots_of (each known old)
+slots-same known old new is = ap₂ (λ (a b : Option DiskHistory). a ∷ b ∷ []) (ap known is.0) (ap known is.1)
+
+-- a run stops at a device where a step does
+pub disk-cause : (why : EngineCause) → stop_of_engine why ≡ DiskFault → why ≡ cause.DiskFault
+disk-cause cause.DiskFault e = refl
+disk-cause (cause.LogFull need) e = absurd cc
+disk-cause (cause.TooLarge bytes) e = absurd cc
+disk-cause cause.Ended e = absurd cc
+disk-cause cause.NoMemory e = absurd cc
+
+pub output-no-disk : OutputFault ≡ DiskFault → ⊥
+output-no-disk e = cc
+
 -- ---- a step that finds no room
 
 module _ {D : Type 0} (known : D → Option DiskHistory) (asked : Request) (before now : EngineParts) (old new : Devices D) where
-  pub room-stays : (why : EngineCause) → StopsForRoom known asked why before now old new → StaysDurable asked before now (stop_of_engine why)
+  pub room-stays : (why : EngineCause) → StopsForRoom known asked why before now old new → KeepsGate asked before now (stop_of_engine why)
   room-stays (cause.LogFull need) is = is.1
   room-stays (cause.TooLarge bytes) is = (is.0, is.3)
   room-stays cause.DiskFault is = tt
@@ -75,8 +91,8 @@ module _ (asked : Request) (old new : EngineParts) (known known' : List (Option 
 
   -- nothing was written, since there was no memory for the text
   pub no-text : (catalogue : CatalogueState) (held : Option (List ℕ)) (faulted : Type 0) (stop : RunStop) → stop ≡ NoMemory → KeepsEach (commits (rules_of old.session) (state_now old.session) asked) old new known known' → OnlyGrows old new
-      → Broke catalogue asked old new held held known known' faulted stop
-  no-text catalogue held faulted stop is keeps grows = record {
+      → ((asked ≡ request.Save → ⊥) → slots_of known' ≡ slots_of known) → Broke catalogue asked old new held held known known' faulted stop
+  no-text catalogue held faulted stop is keeps grows slots = record {
     more = [];
     out = [];
     took = took-nothing held;
@@ -89,18 +105,24 @@ module _ (asked : Request) (old new : EngineParts) (known known' : List (Option 
     kept = tt;
     plain = tt;
     handled = λ out. absurd (no-output (sym is ∙ out));
-    room = subst (λ (s : RunStop). StaysDurable asked old new s) (sym is) tt;
+    room = subst (λ (s : RunStop). KeepsGate asked old new s) (sym is) tt;
+    slots = slots;
+    torn = λ disk. absurd (no-disk (sym is ∙ disk));
   }
     where
       no-output : NoMemory ≡ OutputFault → ⊥
       no-output e = cc
 
+      no-disk : NoMemory ≡ DiskFault → ⊥
+      no-disk e = cc
+
   pub broke-of : (catalogue : CatalogueState) (held held' : Option (List ℕ)) (faulted : Type 0) (stop : RunStop) (more : List Reply) (text : List ℕ) → text ≡ texts catalogue more → SaysUnlessFault held text held' faulted
       → KeepsEach (commits (rules_of old.session) (state_now old.session) asked) old new known known' → OnlyGrows old new → AllByRecursion (IsKept new) more → AllByRecursion IsPlain more
       → ((start : SessionState) (group : List Request) → IsInGroup start group old.session → StepStops (rules_of old.session) old.log.gate.place start (cut_one (rules_of old.session) start group asked).closed more stop)
-      → (stop ≡ OutputFault → WasHandled asked more old new) → StaysDurable asked old new stop
+      → (stop ≡ OutputFault → WasHandled asked more old new) → KeepsGate asked old new stop → ((asked ≡ request.Save → ⊥) → slots_of known' ≡ slots_of known)
+      → (stop ≡ DiskFault → (start : SessionState) (group : List Request) → IsInGroup start group old.session → MayEndAfter (rules_of old.session) start (cut_one (rules_of old.session) start group asked).closed old.log.gate known')
       → Broke catalogue asked old new held held' known known' faulted stop
-  broke-of catalogue held held' faulted stop more text is (inl took) keeps grows kept plain stops handled room = record {
+  broke-of catalogue held held' faulted stop more text is (inl took) keeps grows kept plain stops handled room slots torn = record {
     more = more;
     out = text;
     took = took;
@@ -113,8 +135,10 @@ module _ (asked : Request) (old new : EngineParts) (known known' : List (Option 
     plain = plain;
     handled = handled;
     room = room;
+    slots = slots;
+    torn = torn;
   }
-  broke-of catalogue held held' faulted stop more text is (inr fault) keeps grows kept plain stops handled room = record {
+  broke-of catalogue held held' faulted stop more text is (inr fault) keeps grows kept plain stops handled room slots torn = record {
     more = more;
     out = take fault.1.count text;
     took = fault.1.prefix;
@@ -127,6 +151,8 @@ module _ (asked : Request) (old new : EngineParts) (known known' : List (Option 
     plain = plain;
     handled = handled;
     room = room;
+    slots = slots;
+    torn = torn;
   }
 
   -- the groups that it closes are those of the step
@@ -146,9 +172,9 @@ module _ (asked : Request) (old new : EngineParts) (known known' : List (Option 
       → KeepsEach (commits (rules_of old.session) (state_now old.session) asked) old new known known' → StandsForEach (commits (rules_of old.session) (state_now old.session) asked) old new known known'
       → rules_of new.session ≡ rules_of old.session → OnlyGrows old new → AllByRecursion (IsKept new) more → AllByRecursion IsPlain more
       → (asked ≡ request.Save → slot_len (rules_of old.session) (state_now old.session) (place_after_group old.log.gate.place old.session.txns) ≤ MAX_SLOT_LEN)
-      → durable_of new ≡ new.session.before
+      → durable_of new ≡ new.session.before → ((asked ≡ request.Save → ⊥) → slots_of known' ≡ slots_of known)
       → Answered (asked ∷ []) more old new known known'
-  answered-one more closes keeps stands same grows kept plain small durable = record {
+  answered-one more closes keeps stands same grows kept plain small durable slots = record {
     closes = handled-closes more closes;
     keeps = keeps-one keeps;
     stands = stands-one stands;
@@ -159,8 +185,13 @@ module _ (asked : Request) (old new : EngineParts) (known known' : List (Option 
     few = omega arith;
     saves = λ is. small (first-same is);
     durable = λ before. durable;
+    slots = λ none. slots none.0;
+    still = λ none. absurd (some none);
   }
     where
+      some : asked ∷ [] ≡ [] → ⊥
+      some e = cc
+
       first-same : asked ∷ [] ≡ request.Save ∷ [] → asked ≡ request.Save
       first-same e = cc
 
@@ -177,6 +208,8 @@ answered-none e known stands = record {
   few = omega arith;
   saves = λ is. absurd (none is);
   durable = λ is. is;
+  slots = λ none. refl;
+  still = λ none. refl;
 }
   where
     none : [] ≡ request.Save ∷ [] → ⊥

@@ -8,10 +8,12 @@ use Rattle.std.proofs.Math.Seq.{take-append_seam}
 use Rattle.std.proofs.lemmas.List.{take-append-drop}
 use Rattle.pac_ops.specs.declared.transaction.Txn.{Txn}
 use Rattle.pac_outside.specs.Devices.{AreImages, RunsAsBefore, OnceKnown, IfAllKnown, all_known}
-use Rattle.pac_outside.specs.Disk.{DiskHistory, IfKnown}
+use Rattle.pac_outside.specs.Disk.{DiskHistory, DiskState, settled}
+use Rattle.pac_engine.specs.Parts.{OfLog, known_reads, slots_of}
 use Rattle.pac_outside.proofs.Runs.{run_end, run_then, weaken_run}
 use Rattle.pac_log.specs.declared.position.NextGate.{NextGate}
 use Rattle.pac_log.specs.Places.{LogEndsAt}
+use Rattle.pac_log.specs.Torn.{LogEndsAtEither}
 use Rattle.pac_types.specs.CatalogueText.{HasCatalogue}
 use Rattle.pac_types.specs.Execution.{first_over}
 use Rattle.pac_types.specs.Typing.{CatalogueState}
@@ -33,9 +35,9 @@ use Rattle.pac_run.specs.declared.stop.RunStop.TheVariants.{NoStore, Damaged, Ab
 use Rattle.pac_run.specs.Asked.{WereHandled}
 use Rattle.pac_run.specs.Causes.{stop_of_opening}
 use Rattle.pac_run.specs.Opening.{AllStand, BeginsOver, IsFresh, IsOpenedFrom, StandsForPrefix}
-use Rattle.pac_run.specs.Run.{AtExit, AtMoments, DevicesHave, IsBegun, IsExit, IsRun, IsWholeRun, IfSeenKnown, history_after}
+use Rattle.pac_run.specs.Run.{AtExit, AtMoments, IsBegun, IsExit, IsRun, IsWholeRun, IfSeenKnown, LogHas, LogHasEither, history_after}
 use Rattle.pac_run.specs.Serving.{IsDone, Served}
-use Rattle.pac_run.specs.Stopping.{AreFirst, HasWorked, IsStopped, IsStoppedAt, IsUnopened, MayNotOpen, RefusesStore, StopsThere, closed_number}
+use Rattle.pac_run.specs.Stopping.{AreFirst, EndsGroups, HasWorked, IsStopped, IsStoppedAt, IsTorn, IsUnopened, MayNotOpen, RefusesStore, StopsThere}
 use Rattle.pac_run.specs.Texts.{IsTextPrefix, texts}
 use Rattle.pac_run.proofs.AckedLemmas.{acknowledged, known-saved}
 use Rattle.pac_run.proofs.NameLemmas.{names-of}
@@ -106,26 +108,49 @@ not-worked (LogFull need) early worked = early
 not-worked TooLong early worked = early
 not-worked (TooLarge bytes) early worked = early
 
--- the log, the first of the devices, ends at the gate
-abbrev pub EndsAt : NextGate → List (Option DiskHistory) → Type 0
-EndsAt gate [] = ⊥
-EndsAt gate (log ∷ []) = ⊥
-EndsAt gate (log ∷ a ∷ []) = ⊥
-EndsAt gate (log ∷ a ∷ b ∷ []) = IfKnown (λ now. LogEndsAt gate now.now) log
-EndsAt gate (log ∷ a ∷ b ∷ device ∷ devices) = ⊥
+-- what is said of the log leads to something else
+of-log : (P Q : DiskState → Type 0) → ((state : DiskState) → P state → Q state) → (known : List (Option DiskHistory)) → OfLog P known → OfLog Q known
+of-log P Q step [] has = absurd has
+of-log P Q step (log ∷ []) has = absurd has
+of-log P Q step (log ∷ a ∷ []) has = absurd has
+of-log P Q step (None ∷ a ∷ b ∷ []) has = tt
+of-log P Q step (Some l ∷ a ∷ b ∷ []) has = step l.now has
+of-log P Q step (log ∷ a ∷ b ∷ device ∷ devices) has = absurd has
 
--- then it has as many transactions as stand before the gate
-ends-exactly : (gate : NextGate) (number : ℕ) → gate.txns ≡ number → (known : List (Option DiskHistory)) → EndsAt gate known → DevicesHave number known
-ends-exactly gate number is [] at = absurd at
-ends-exactly gate number is (log ∷ []) at = absurd at
-ends-exactly gate number is (log ∷ a ∷ []) at = absurd at
-ends-exactly gate number is (None ∷ a ∷ b ∷ []) at = tt
-ends-exactly gate number is (Some l ∷ a ∷ b ∷ []) at = record { text = at.text; catalogue = gate.catalogue; batches = at.batches; log = at.holds; exactly = sym at.after.txns ∙ is }
-ends-exactly gate number is (log ∷ a ∷ b ∷ device ∷ devices) at = absurd at
+module _ (rules : Rules) (place : ℕ) (start : SessionState) where
+  -- a log that ends after groups has their transactions
+  log-has : (requests : List Request) (gate : NextGate) → EndsGroups rules place start requests gate → (state : DiskState) → LogEndsAt gate state → LogHas rules place start requests state
+  log-has requests gate after state at = record { text = at.text; catalogue = gate.catalogue; batches = at.batches; log = at.holds; exactly = sym at.after.txns ∙ after.counted; there = sym at.after.place ∙ after.there }
+
+  pub log-has-one : (requests : List Request) (gate : NextGate) → EndsGroups rules place start requests gate → (known : List (Option DiskHistory)) → OfLog (LogEndsAt gate) known → OfLog (LogHas rules place start requests) known
+  log-has-one requests gate after = of-log (LogEndsAt gate) (LogHas rules place start requests) (log-has requests gate after)
+
+  pub log-has-either : (before requests : List Request) (known : List (Option DiskHistory)) → IsTorn rules place start before requests known → OfLog (LogHasEither rules place start before requests) known
+  log-has-either before requests known torn = of-log (LogEndsAtEither torn.gate torn.next) (LogHasEither rules place start before requests) (λ state either image is. one image (either image is)) known torn.either
+    where
+      one : (image : List ℕ) → LogEndsAt torn.gate (settled image) ⊎ LogEndsAt torn.next (settled image) → LogHas rules place start before (settled image) ⊎ LogHas rules place start requests (settled image)
+      one image (inl at) = inl (log-has before torn.gate torn.ended (settled image) at)
+      one image (inr at) = inr (log-has requests torn.next torn.ends (settled image) at)
+
+-- what a read gives of the slots is as it was, where it is of all devices
+after_first : List (Option (List ℕ)) → List (Option (List ℕ))
+after_first [] = []
+after_first (read ∷ reads) = reads
+
+slot-reads : (known : List (Option DiskHistory)) → after_first (known_reads known) ≡ known_reads (slots_of known)
+slot-reads [] = refl
+slot-reads (log ∷ slots) = refl
+
+pub slots-seen : (known known' : List (Option DiskHistory)) → known_reads known' ≡ known_reads known → known_reads (slots_of known') ≡ known_reads (slots_of known)
+slots-seen known known' same = sym (slot-reads known') ∙ ap after_first same ∙ slot-reads known
+
+-- no device failed
+abbrev pub IsNoDisk : RecoverError → Type 0
+IsNoDisk why = why ≡ error.DiskFault → ⊥
 
 pub not-opened : (batch limit : ℕ) (left held : Option (List ℕ)) (l a b : Option DiskHistory) (known' : List (Option DiskHistory)) (faulted : Type 0) (error : RecoverError) (stop : RunStop) → stop ≡ stop_of_opening error → IfAllKnown RunsAsBefore (l ∷ a ∷ b ∷ []) known'
-    → IsRun batch limit left left held held (l ∷ a ∷ b ∷ []) known' faulted (Err stop)
-not-opened batch limit left held l a b known' faulted error stop is runs =
+    → (IsNoDisk error → known_reads known' ≡ known_reads (l ∷ a ∷ b ∷ [])) → IsRun batch limit left left held held (l ∷ a ∷ b ∷ []) known' faulted (Err stop)
+not-opened batch limit left held l a b known' faulted error stop is runs seen =
     let rules : Rules = record { catalogue = record { tables = []; procs = [] }; limit = limit; most = batch } in
     let start : SessionState = record { tables = empty; number = 0 } in
     let early : MayNotOpen stop = subst MayNotOpen (sym is) (early-stop error) in
@@ -158,6 +183,9 @@ not-opened batch limit left held l a b known' faulted error stop is runs =
       stopped = inl (early, refl, refl);
       exact = λ worked. absurd (not-worked stop early worked);
       full = λ need full. absurd (subst MayNotOpen (same-stop stop (LogFull need) full) early);
+      torn = λ disk. inl refl;
+      slots = λ open none. slots-seen (l ∷ a ∷ b ∷ []) known' (seen (λ disk. open (ap (λ (s : RunStop). Err s) (is ∙ ap stop_of_opening disk)) refl));
+      still = λ other none. seen (λ disk. other (ap (λ (s : RunStop). Err s) (is ∙ ap stop_of_opening disk)));
       there = inl (early, refl);
     }
 
@@ -173,7 +201,7 @@ stops-part (Err stop) P R S is step = step stop is
 
 module _ (batch limit : ℕ) (engine new : EngineParts) (left left' held held' : Option (List ℕ)) (l a b : Option DiskHistory) (middle known' : List (Option DiskHistory)) (faulted : Type 0) (result : Result (Unit {0}) RunStop) (fresh : IsFresh batch limit engine)
     (within : first_over limit (length engine.session.catalogue.tables) engine.session.tables ≡ None) (opened : IfReadKnown (IsOpenedFrom engine) l a b) (begins : IfAllKnown (BeginsOver engine) (l ∷ a ∷ b ∷ []) middle) (runs : IfAllKnown RunsAsBefore (l ∷ a ∷ b ∷ []) middle)
-    (served : Served engine new left left' held held' middle known' faulted result) (ended : HasWorked result → EndsAt new.log.gate known') (full : (need : ℕ) → IsErrOf result (LogFull need) → EndsAt new.log.gate known') where
+    (seen : known_reads middle ≡ known_reads (l ∷ a ∷ b ∷ [])) (served : Served engine new left left' held held' middle known' faulted result) (ended : HasWorked result → OfLog (LogEndsAt new.log.gate) known') (full : (need : ℕ) → IsErrOf result (LogFull need) → OfLog (LogEndsAt new.log.gate) known') where
   abbrev rules : Rules
   rules = rules_of engine.session
 
@@ -300,8 +328,11 @@ module _ (batch limit : ℕ) (engine new : EngineParts) (left left' held held' :
     given = served.given;
     written = served.prefix;
     all = served.whole;
-    exact = λ worked. ends-exactly new.log.gate (closed_number rules start served.requests) (served.durable worked) known' (ended worked);
-    full = λ need is. let last = served.full need is in (last.0, last.1, last.2, ends-exactly new.log.gate (closed_number rules start last.0) last.3 known' (full need is));
+    exact = λ worked. log-has-one rules engine.log.gate.place start served.requests new.log.gate (served.durable worked) known' (ended worked);
+    full = λ need is. let last = served.full need is in (last.0, last.1, last.2, log-has-one rules engine.log.gate.place start last.0 new.log.gate last.3 known' (full need is));
+    torn = λ is. let last = served.torn is in inr (last.0, last.1, last.2, log-has-either rules engine.log.gate.place start last.0 served.requests known' last.3);
+    slots = λ open none. ap (λ (known : List (Option DiskHistory)). known_reads known) (served.slots none) ∙ slots-seen (l ∷ a ∷ b ∷ []) middle seen;
+    still = λ other none. ap (λ (known : List (Option DiskHistory)). known_reads known) (served.still none) ∙ seen;
     there = then-there result served.there;
     stopped = stops-part result (IsDone rules engine.log.gate.place start served.requests served.given served.out) (λ stop. IsStoppedAt rules engine.log.gate.place start served.requests served.given stop) (λ stop. IsStopped rules engine.log.gate.place start served.requests served.given stop) served.ending (λ stop at. inr at);
   }

@@ -11,6 +11,7 @@ use Rattle.pac_outside.specs.Disk.{DiskHistory}
 use Rattle.pac_lines.specs.Lines.{HasNoFeed}
 use Rattle.pac_lines.specs.Calls.{IsCall, KeepsLimit}
 use Rattle.pac_lines.specs.Reading.{ReaderState}
+use Rattle.pac_log.specs.declared.position.NextGate.{NextGate}
 use Rattle.pac_types.specs.Typing.{CatalogueState}
 use Rattle.pac_request.specs.declared.request.Request.{Request}
 use Rattle.pac_request.specs.declared.request.Request.TheVariants as request
@@ -19,20 +20,19 @@ use Rattle.pac_report.specs.Replies.{reply_text}
 use Rattle.pac_session.specs.Session.{Rules, SessionState, ends, replies}
 use Rattle.pac_session.specs.Groups.{GroupCut, all_requests, cut, cut_on, cut_one}
 use Rattle.pac_session.specs.Open.{rules_of, state_now}
-use Rattle.pac_session.proofs.CutLemmas.{whole-cut}
-use Rattle.pac_session.proofs.SessionLemmas.{ends-append}
 use Rattle.pac_engine.specs.declared.parts.EngineParts.{EngineParts}
-use Rattle.pac_engine.specs.Closing.{IsKept}
-use Rattle.pac_engine.specs.Standing.{durable_of}
+use Rattle.pac_engine.specs.Closing.{IsGateAfter, IsKept}
+use Rattle.pac_engine.specs.Committing.{gate_past}
+use Rattle.pac_engine.proofs.StepLemmas.{checkpoint-gate}
 use Rattle.pac_run.specs.declared.limits.TheConstants.{MAX_INPUT}
 use Rattle.pac_run.specs.declared.stop.RunStop.{RunStop}
 use Rattle.pac_run.specs.declared.stop.RunStop.TheVariants.{NoStore, Damaged, AbortInLog, RowsOver, InputFault, OutputFault, DiskFault, NoMemory, LogFull, TooLong, TooLarge}
 use Rattle.pac_run.specs.Asked.{WereAsked, IsOverLong, TookAtMost, WereHandled}
-use Rattle.pac_run.specs.Serving.{Broke, LineServed, Replied, Served, Serving, StaysDurable}
-use Rattle.pac_run.specs.Stopping.{HasWorked, IsStoppedAt, StepStops, closed_number}
+use Rattle.pac_run.specs.Serving.{Broke, KeepsGate, LineServed, Replied, Served, Serving}
+use Rattle.pac_run.specs.Stopping.{EndsGroups, HasWorked, IsStoppedAt, IsTorn, StepStops}
 use Rattle.pac_run.specs.Texts.{IsTextPrefix, IsPlain, texts}
 use Rattle.pac_run.proofs.ReadLemmas.{lines-ask, more-read}
-use Rattle.pac_run.proofs.StepLemmas.{all-both, cut-more, goes-more, grown-then, keeps-more, kept-grows, reached}
+use Rattle.pac_run.proofs.StepLemmas.{all-both, both-parts, cut-more, gate-more, gate-reached, goes-more, grown-then, keeps-more, kept-grows, never-none}
 use Rattle.pac_run.proofs.StopLemmas.{all-replied, never-stops, no-stop-both, stopped-first, stopped-more, stopped-reading, stops-last, stops-there, there-reading}
 
 -- ---- what was written
@@ -85,6 +85,12 @@ reads-on stop (inl is) need same = let e : stop ≡ LogFull need = cc in let no 
 reads-on stop (inr (inl is)) need same = let e : stop ≡ LogFull need = cc in let no : TooLong ≡ LogFull need = sym is ∙ e in absurd cc
 reads-on stop (inr (inr is)) need same = let e : stop ≡ LogFull need = cc in let no : NoMemory ≡ LogFull need = sym is ∙ e in absurd cc
 
+-- nor by a device
+reads-disk : (stop : RunStop) → (stop ≡ InputFault) ⊎ ((stop ≡ TooLong) ⊎ (stop ≡ NoMemory)) → ◌≡◌ {A = Result (Unit {0}) RunStop} (Err stop) (Err DiskFault) → ⊥
+reads-disk stop (inl is) same = let e : stop ≡ DiskFault = cc in let no : InputFault ≡ DiskFault = sym is ∙ e in absurd cc
+reads-disk stop (inr (inl is)) same = let e : stop ≡ DiskFault = cc in let no : TooLong ≡ DiskFault = sym is ∙ e in absurd cc
+reads-disk stop (inr (inr is)) same = let e : stop ≡ DiskFault = cc in let no : NoMemory ≡ DiskFault = sym is ∙ e in absurd cc
+
 -- ---- an end
 
 module _ (first now : EngineParts) (left mid : Option (List ℕ)) (reader : ReaderState) (held held' : Option (List ℕ)) (known known' : List (Option DiskHistory)) (serving : Serving first now left mid reader held held' known known') where
@@ -133,8 +139,11 @@ module _ (first now : EngineParts) (left mid : Option (List ℕ)) (reader : Read
           plain = serving.goes.plain;
           firsts = stopped-first rules place start serving.requests serving.given stop stopped;
           ending = stopped;
-          durable = λ worked. serving.goes.durable ∙ sym serving.goes.closes.within.begun;
+          durable = λ worked. gate-reached first now serving.requests serving.given known known' serving.goes;
           full = λ need is. absurd (reads-on stop why need is);
+          torn = λ is. absurd (reads-disk stop why is);
+          slots = serving.goes.slots;
+          still = serving.goes.still;
           there = there-reading first now serving.requests serving.given known known' serving.goes stop why;
         }
 
@@ -181,6 +190,9 @@ module _ (first now : EngineParts) (left mid : Option (List ℕ)) (reader : Read
       ending = stopped;
       durable = λ worked. durable-by (worked-stop stop worked (λ is. at is) (λ is. long-at is));
       full = λ need is. (serving.requests, asks, refl, durable-before need (same-full need is));
+      torn = λ is. (serving.requests, asks, refl, torn-here (same-disk is));
+      slots = λ none. let parts = both-parts (λ r. r ≡ request.Save → ⊥) serving.requests (asks ∷ []) none in broke.slots parts.1.0 ∙ serving.goes.slots parts.0;
+      still = λ none. absurd (never-none serving.requests asks none);
       there = stops-there first now serving.requests serving.given known known' serving.goes asks broke.more stop broke.stops broke.out;
     }
       where
@@ -197,34 +209,43 @@ module _ (first now : EngineParts) (left mid : Option (List ℕ)) (reader : Read
         same-full : (need : ℕ) → ◌≡◌ {A = Result (Unit {0}) RunStop} (Err stop) (Err (LogFull need)) → stop ≡ LogFull need
         same-full need e = cc
 
-        -- of a full log: what was durable before the last request
-        durable-before : (need : ℕ) → stop ≡ LogFull need → durable_of new ≡ closed_number (rules_of first.session) (state_now first.session) serving.requests
-        durable-before need is = subst (λ (s : RunStop). StaysDurable asks now new s) is broke.room ∙ serving.goes.durable ∙ sym serving.goes.closes.within.begun
+        same-disk : ◌≡◌ {A = Result (Unit {0}) RunStop} (Err stop) (Err DiskFault) → stop ≡ DiskFault
+        same-disk e = cc
 
-        -- a save closes its group, and commits no more
-        save-number : (ends rules start (all_requests (cut rules start (serving.requests ++ request.Save ∷ [])).closed)).number ≡ durable_of now + length now.session.txns
-        save-number =
-            let all = cut rules start (serving.requests ++ request.Save ∷ []) in
-            let none : all.rest ≡ [] = ap (λ (c : GroupCut). c.rest) (fold-append (cut_on rules start) (record { closed = []; rest = [] }) serving.requests (request.Save ∷ [])) in
-            let those : all_requests all.closed ≡ serving.requests ++ request.Save ∷ [] = sym (append-nil (all_requests all.closed)) ∙ ap (λ (l : List Request). all_requests all.closed ++ l) (sym none) ∙ whole-cut rules start (serving.requests ++ request.Save ∷ []) in
-            ap (λ (l : List Request). (ends rules start l).number) those
-            ∙ ap (λ (s : SessionState). s.number) (ends-append rules start serving.requests (request.Save ∷ []))
-            ∙ ap (λ (s : SessionState). s.number) (sym (reached first now serving.requests serving.given known known' serving.goes))
-            ∙ ap (λ (n : ℕ). n + length now.session.txns) (sym serving.goes.durable)
+        -- of a full log: its gate stands where it stood before the last request
+        durable-before : (need : ℕ) → stop ≡ LogFull need → EndsGroups (rules_of first.session) first.log.gate.place (state_now first.session) serving.requests new.log.gate
+        durable-before need is =
+            let stays : new.log.gate ≡ now.log.gate = subst (λ (s : RunStop). KeepsGate asks now new s) is broke.room in
+            subst (λ (gate : NextGate). EndsGroups rules place start serving.requests gate) (sym stays) (gate-reached first now serving.requests serving.given known known' serving.goes)
 
-        durable-large : (bytes : ℕ) → stop ≡ TooLarge bytes → durable_of new ≡ closed_number (rules_of first.session) (state_now first.session) (serving.requests ++ asks ∷ [])
+        durable-large : (bytes : ℕ) → stop ≡ TooLarge bytes → EndsGroups (rules_of first.session) first.log.gate.place (state_now first.session) (serving.requests ++ asks ∷ []) new.log.gate
         durable-large bytes is =
-            let stays = subst (λ (s : RunStop). StaysDurable asks now new s) is broke.room in
-            stays.1 ∙ sym save-number ∙ ap (λ (r : Request). (ends rules start (all_requests (cut rules start (serving.requests ++ r ∷ [])).closed)).number) (sym stays.0)
+            let stays : (asks ≡ request.Save) × (new.log.gate ≡ gate_past now.session.txns now.log.gate) = subst (λ (s : RunStop). KeepsGate asks now new s) is broke.room in
+            let past = gate_past now.session.txns now.log.gate in
+            subst (λ (gate : NextGate). EndsGroups rules place start (serving.requests ++ asks ∷ []) gate) (sym stays.1)
+            (gate-more first now serving.requests serving.given known known' serving.goes asks past
+            (subst (λ (r : Request). IsGateAfter (rules_of now.session) now.log.gate.place middle (cut_one (rules_of now.session) middle whole.rest r).closed past) (sym stays.0) (checkpoint-gate now serving.goes.durable middle whole.rest serving.goes.closes.within)))
 
-        durable-at : stop ≡ OutputFault → durable_of new ≡ closed_number (rules_of first.session) (state_now first.session) (serving.requests ++ asks ∷ [])
+        durable-at : stop ≡ OutputFault → EndsGroups (rules_of first.session) first.log.gate.place (state_now first.session) (serving.requests ++ asks ∷ []) new.log.gate
         durable-at out =
             let handled = broke.handled out in
             let closes = handled.closes rules place start whole serving.given serving.goes.closes in
-            handled.durable ∙ sym closes.within.begun
-            ∙ ap (λ (c : GroupCut). (ends rules start (all_requests c.closed)).number) (sym (cut-more first now serving.requests serving.given known known' serving.goes (asks ∷ [])))
+            let after : IsGateAfter rules place start (cut_on rules start whole asks).closed new.log.gate = record { counted = handled.durable ∙ sym closes.within.begun; there = closes.there } in
+            subst (λ (c : GroupCut). IsGateAfter rules place start c.closed new.log.gate) (sym (cut-more first now serving.requests serving.given known known' serving.goes (asks ∷ []))) after
 
-        durable-by : (stop ≡ OutputFault) ⊎ ((bytes : ℕ) × (stop ≡ TooLarge bytes)) → durable_of new ≡ closed_number (rules_of first.session) (state_now first.session) (serving.requests ++ asks ∷ [])
+        -- of a device that failed: the log ends where it ended, or after the group that the last request closes
+        torn-here : stop ≡ DiskFault → IsTorn (rules_of first.session) first.log.gate.place (state_now first.session) serving.requests (serving.requests ++ asks ∷ []) known''
+        torn-here is =
+            let torn = broke.torn is middle whole.rest serving.goes.closes.within in
+            record {
+              gate = now.log.gate;
+              next = torn.next;
+              ended = gate-reached first now serving.requests serving.given known known' serving.goes;
+              ends = gate-more first now serving.requests serving.given known known' serving.goes asks torn.next torn.after;
+              either = torn.either;
+            }
+
+        durable-by : (stop ≡ OutputFault) ⊎ ((bytes : ℕ) × (stop ≡ TooLarge bytes)) → EndsGroups (rules_of first.session) first.log.gate.place (state_now first.session) (serving.requests ++ asks ∷ []) new.log.gate
         durable-by (inl out) = durable-at out
         durable-by (inr large) = durable-large large.0 large.1
 
@@ -260,8 +281,11 @@ module _ (first now : EngineParts) (left mid : Option (List ℕ)) (reader : Read
         plain = goes.plain;
         firsts = record { rest = []; split = sym answers ∙ sym (append-nil given) };
         ending = record { before = serving.requests; stops = refl; replied = answers; written = written; fit = goes.closes.fit; saves = goes.saves };
-        durable = λ worked. goes.durable ∙ sym goes.closes.within.begun;
+        durable = λ worked. gate-reached first new requests given known known'' goes;
         full = λ need is. absurd (no-full need is);
+        torn = λ is. absurd (no-disk is);
+        slots = goes.slots;
+        still = goes.still;
         there = tt;
       }
     where
@@ -273,6 +297,9 @@ module _ (first now : EngineParts) (left mid : Option (List ℕ)) (reader : Read
 
       no-input : ◌≡◌ {A = Result (Unit {0}) RunStop} (Ok tt) (Err InputFault) → ⊥
       no-input e = cc
+
+      no-disk : ◌≡◌ {A = Result (Unit {0}) RunStop} (Ok tt) (Err DiskFault) → ⊥
+      no-disk e = cc
 
       stop-closes : (rules : Rules) (start : SessionState) (before : List Request) → (cut rules start (before ++ request.Stop ∷ [])).rest ≡ []
       stop-closes rules start before = ap (λ (c : GroupCut). c.rest) (fold-append (cut_on rules start) (record { closed = []; rest = [] }) before (request.Stop ∷ []))

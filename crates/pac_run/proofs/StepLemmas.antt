@@ -5,23 +5,24 @@ use Rattle.std.proofs.lemmas.List.{append-nil}
 use Rattle.std.proofs.lemmas.List.Sums.{fold-append}
 use Rattle.pac_ops.specs.declared.transaction.Txn.{Txn}
 use Rattle.pac_outside.specs.Disk.{DiskHistory}
+use Rattle.pac_log.specs.declared.position.NextGate.{NextGate}
 use Rattle.pac_check.specs.declared.limits.TheConstants.{MAX_SLOT_LEN}
 use Rattle.pac_request.specs.declared.request.Request.{Request}
 use Rattle.pac_request.specs.declared.request.Request.TheVariants as request
 use Rattle.pac_request.specs.declared.request.Reply.{Reply}
 use Rattle.pac_request.specs.declared.request.Reply.TheVariants as reply
 use Rattle.pac_session.specs.Session.{Rules, SessionState, committed, ends}
-use Rattle.pac_session.specs.Groups.{GroupCut, all_requests, cut, cut_on, place_after_group}
+use Rattle.pac_session.specs.Groups.{GroupCut, all_requests, cut, cut_on, cut_one, place_after_group}
 use Rattle.pac_session.specs.Open.{rules_of, state_now}
 use Rattle.pac_session.proofs.SessionLemmas.{committed-append, ends-append}
 use Rattle.pac_session.proofs.CutLemmas.{whole-cut}
 use Rattle.pac_engine.specs.declared.parts.EngineParts.{EngineParts}
-use Rattle.pac_engine.specs.Closing.{Closes, IsKept, place_after, slot_len}
+use Rattle.pac_engine.specs.Closing.{Closes, IsGateAfter, IsKept, place_after, slot_len}
 use Rattle.pac_engine.specs.Standing.{OnlyGrows, KeepsHistory, StandsOn, WhileAllKnown, durable_of, saved_of}
-use Rattle.pac_engine.proofs.LawLemmas.{begins, history-then, stands-then}
+use Rattle.pac_engine.proofs.LawLemmas.{begins, gate-then, history-then, stands-then}
 use Rattle.pac_engine.proofs.KnownLemmas.{refused-keeps}
 use Rattle.pac_run.specs.Serving.{Answered, GoesFrom, KeepsEach, StandsForEach}
-use Rattle.pac_run.specs.Stopping.{SaveFits, closed_groups}
+use Rattle.pac_run.specs.Stopping.{EndsGroups, SaveFits, closed_groups}
 use Rattle.pac_run.specs.Texts.{IsPlain}
 
 -- ---- lists
@@ -78,6 +79,31 @@ data-free (z ∷ zs) (b ∷ bs) rest x y same = go (data-free zs bs rest x y (ta
     go (inl is) = inl (ap₂ (λ (r : Request) (l : List Request). r ∷ l) (sym first) is.0, is.1)
     go (inr is) = inr (is.0, ap₂ (λ (r : Request) (l : List Request). r ∷ l) first is.1)
 
+-- what is said of all requests, and one request more
+pub both-parts : (P : Request → Type 0) (xs ys : List Request) → AllByRecursion P (xs ++ ys) → AllByRecursion P xs × AllByRecursion P ys
+both-parts P [] ys all = (tt, all)
+both-parts P (x ∷ xs) ys all = let rest = both-parts P xs ys all.1 in ((all.0, rest.0), rest.1)
+
+none-before : (xs ys : List Request) → xs ++ ys ≡ [] → xs ≡ []
+none-before [] ys e = refl
+none-before (x ∷ xs) ys e = absurd (none e)
+  where
+    none : x ∷ (xs ++ ys) ≡ [] → ⊥
+    none h = cc
+
+none-after : (xs ys : List Request) → xs ++ ys ≡ [] → ys ≡ []
+none-after [] ys e = e
+none-after (x ∷ xs) ys e = absurd (none e)
+  where
+    none : x ∷ (xs ++ ys) ≡ [] → ⊥
+    none h = cc
+
+pub never-none : (xs : List Request) (x : Request) → xs ++ x ∷ [] ≡ [] → ⊥
+never-none xs x e = none (none-after xs (x ∷ []) e)
+  where
+    none : x ∷ [] ≡ [] → ⊥
+    none h = cc
+
 -- ---- nothing is asked
 
 pub nothing-keeps : (e : EngineParts) (known : List (Option DiskHistory)) → KeepsEach [] e e known known
@@ -110,6 +136,17 @@ module _ (first now : EngineParts) (requests : List Request) (given : List Reply
 
   pub cut-more : (asked : List Request) → cut (rules_of first.session) (state_now first.session) (requests ++ asked) ≡ fold (cut_on (rules_of first.session) (state_now first.session)) (cut (rules_of first.session) (state_now first.session) requests) asked
   cut-more asked = fold-append (cut_on rules start) (record { closed = []; rest = [] }) requests asked
+
+  -- the log's gate stands after the groups that were closed, and after those of one request more
+  pub gate-reached : EndsGroups (rules_of first.session) first.log.gate.place (state_now first.session) requests now.log.gate
+  gate-reached = record { counted = goes.durable ∙ sym goes.closes.within.begun; there = goes.closes.there }
+
+  pub gate-more : (asked : Request) (gate : NextGate)
+      → IsGateAfter (rules_of now.session) now.log.gate.place (ends (rules_of first.session) (state_now first.session) (all_requests (cut (rules_of first.session) (state_now first.session) requests).closed)) (cut_one (rules_of now.session) (ends (rules_of first.session) (state_now first.session) (all_requests (cut (rules_of first.session) (state_now first.session) requests).closed)) (cut (rules_of first.session) (state_now first.session) requests).rest asked).closed gate
+      → EndsGroups (rules_of first.session) first.log.gate.place (state_now first.session) (requests ++ asked ∷ []) gate
+  gate-more asked gate after =
+      let here : IsGateAfter rules now.log.gate.place middle (cut_one rules middle whole.rest asked).closed gate = subst (λ (r : Rules). IsGateAfter r now.log.gate.place middle (cut_one r middle whole.rest asked).closed gate) goes.closes.same after in
+      subst (λ (c : GroupCut). IsGateAfter rules place start c.closed gate) (sym (cut-more (asked ∷ []))) (gate-then rules place start whole given now goes.closes (cut_one rules middle whole.rest asked).closed gate here)
 
   module _ (new : EngineParts) (known'' : List (Option DiskHistory)) where
     pub keeps-more : (asked : List Request) → KeepsEach (committed (rules_of now.session) (state_now now.session) asked) now new known' known''
@@ -163,6 +200,8 @@ module _ (first now : EngineParts) (requests : List Request) (given : List Reply
         plain = all-both IsPlain given more goes.plain answered.plain;
         saves = saves-more;
         durable = answered.durable goes.durable;
+        slots = λ none. let parts = both-parts (λ r. r ≡ request.Save → ⊥) requests asked none in answered.slots parts.1 ∙ goes.slots parts.0;
+        still = λ none. answered.still (none-after requests asked none) ∙ goes.still (none-before requests asked none);
       }
 
 -- ---- from the beginning
@@ -178,6 +217,8 @@ goes-first first known txns held stands durable = record {
   plain = tt;
   saves = λ before rest same. absurd (none before rest same);
   durable = durable;
+  slots = λ none. refl;
+  still = λ none. refl;
 }
   where
     none : (before rest : List Request) → [] ≡ before ++ request.Save ∷ rest → ⊥

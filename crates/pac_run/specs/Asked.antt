@@ -37,10 +37,15 @@ LinesAsk catalogue (line ∷ lines) requests = (asked : List Request) × (rest :
 abbrev pub WereAsked : CatalogueState → List (List ℕ) → Option (List ℕ) → List Request → Type 0
 WereAsked catalogue lines left requests = LinesAsk catalogue lines requests ⊎ ((before : List Request) × LinesAsk catalogue lines before × (requests ≡ before ++ request.Stop ∷ []) × IsAtEnd left)
 
--- none of the requests is a stop; none but the last
+-- none of the requests is a stop
 abbrev pub NoStop : List Request → Type 0
 NoStop requests = AllByRecursion (λ asked. is_stop asked ≡ false) requests
 
+-- none of them is a save
+abbrev pub NoSave : List Request → Type 0
+NoSave requests = AllByRecursion (λ asked. asked ≡ request.Save → ⊥) requests
+
+-- none of them but the last is a stop
 abbrev pub StopsLast : List Request → Type 0
 StopsLast [] = Unit {0}
 StopsLast (asked ∷ []) = Unit {0}

@@ -5,8 +5,9 @@ use Rattle.std.specs.List.{AllByRecursion}
 use Rattle.pac_ops.specs.declared.transaction.Txn.{Txn}
 use Rattle.pac_outside.specs.Content.{Took}
 use Rattle.pac_outside.specs.Devices.{AllLeave, AreImages, RunLeaves, all_known}
-use Rattle.pac_outside.specs.Disk.{DiskHistory, DiskState, IfKnown}
+use Rattle.pac_outside.specs.Disk.{DiskHistory, DiskState, Leaves, settled}
 use Rattle.pac_outside.specs.GateByte.{OneImage}
+use Rattle.pac_engine.specs.Parts.{OfLog, known_reads, slots_of}
 use Rattle.pac_lines.specs.Lines.{HasNoFeed}
 use Rattle.pac_types.specs.Execution.{first_over}
 use Rattle.pac_types.specs.Typing.{CatalogueState}
@@ -18,13 +19,13 @@ use Rattle.pac_request.specs.declared.request.Request.TheVariants as request
 use Rattle.pac_request.specs.declared.request.Reply.{Reply}
 use Rattle.pac_session.specs.Session.{Rules, SessionState, committed, replies}
 use Rattle.pac_recover.specs.Recovering.{IsRecoveredFrom}
-use Rattle.pac_engine.specs.Closing.{GroupFits}
+use Rattle.pac_engine.specs.Closing.{GroupFits, place_after}
 use Rattle.pac_engine.specs.Standing.{StandsWith, WhileAllKnown}
 use Rattle.pac_run.specs.declared.limits.TheConstants.{MAX_INPUT}
 use Rattle.pac_run.specs.declared.stop.RunStop.{RunStop}
-use Rattle.pac_run.specs.declared.stop.RunStop.TheVariants.{InputFault, LogFull, TooLong}
+use Rattle.pac_run.specs.declared.stop.RunStop.TheVariants.{DiskFault, InputFault, LogFull, TooLong}
 use Rattle.pac_run.specs.Acked.{Acknowledges, ReportsSaved}
-use Rattle.pac_run.specs.Asked.{WereAsked, IsOverLong, StopsLast, TookAtMost, WereHandled}
+use Rattle.pac_run.specs.Asked.{NoSave, WereAsked, IsOverLong, StopsLast, TookAtMost, WereHandled}
 use Rattle.pac_run.specs.Opening.{AllStand}
 use Rattle.pac_run.specs.Stopping.{BeforeLast, HasWorked, IsStopped, IsUnopened, MayNotOpen, SaveFits, StopsThere, closed_groups, closed_number}
 use Rattle.pac_run.specs.Texts.{IsTextPrefix, texts}
@@ -68,23 +69,21 @@ AtExit text catalogue history rules place start requests out entry now =
     ((out ≡ []) × AllLeave (AreImages entry) now)
     ⊎ (OfThree (IsBegun rules place start) (map (λ device. device.now.seen) entry) × IsExit text catalogue (history_after history rules start requests) start.number out now)
 
--- a crash leaves one image of the log, with exactly that many transactions
-pub record LogHas (number : ℕ) (state : DiskState) : Type 0 where
+-- a crash leaves one image of the log, with exactly the transactions of the groups that these requests close: as many, and up
+-- to the same offset
+pub record LogHas (rules : Rules) (place : ℕ) (start : SessionState) (requests : List Request) (state : DiskState) : Type 0 where
   pub text : List ℕ
   pub catalogue : CatalogueState
   pub batches : List (List Txn)
   pub log : OneImage (HoldsLog text catalogue batches) state
-  pub exactly : length (all_txns batches) ≡ number
+  pub exactly : length (all_txns batches) ≡ closed_number rules start requests
+  pub there : length (log_prefix text batches) ≡ place_after place (closed_groups rules place start requests)
 
--- the first of three devices, where it is known, is such a log
-abbrev pub DevicesHave : ℕ → List (Option DiskHistory) → Type 0
-DevicesHave number [] = ⊥
-DevicesHave number (log ∷ []) = ⊥
-DevicesHave number (log ∷ a ∷ []) = ⊥
-DevicesHave number (log ∷ a ∷ b ∷ []) = IfKnown (λ now. LogHas number now.now) log
-DevicesHave number (log ∷ a ∷ b ∷ device ∷ devices) = ⊥
+-- each image of the log that a crash may leave has exactly those of the groups that the first of these lists closes, or the second
+abbrev pub LogHasEither : Rules → ℕ → SessionState → List Request → List Request → DiskState → Type 0
+LogHasEither rules place start before requests = Leaves (λ image. LogHas rules place start before (settled image) ⊎ LogHas rules place start requests (settled image))
 
--- and so it is of each image that a crash at a moment of the run might have left
+-- and each image that a crash at a moment of the run might have left is one of entry, or stands for the history
 abbrev pub AtMoments : List ℕ → CatalogueState → List Txn → ℕ → Rules → SessionState → List Request → List DiskHistory → List DiskHistory → Type 0
 AtMoments text catalogue history least rules start requests entry now =
     RunLeaves (λ images. AreImages entry images ⊎ OfThree (StandsFor text catalogue (history_after history rules start requests) least) images) entry now
@@ -129,9 +128,14 @@ pub record IsRun (batch limit : ℕ) (left left' held held' : Option (List ℕ))
   pub whole : OnOk result (IsWholeRun rules place start requests out)
   -- (b) and (e) what the devices hold at the exit, (c) and at each moment
   -- the log has exactly the transactions of the groups that were closed: the open one is dropped; a full log has exactly those
-  -- of the groups that were closed before the last request
-  pub exact : HasWorked result → DevicesHave (closed_number rules start requests) known'
-  pub full : (need : ℕ) → IsErrOf result (LogFull need) → BeforeLast (λ before. DevicesHave (closed_number rules start before) known') requests
+  -- of the groups that were closed before the last request, and where a device failed it is one or the other
+  pub exact : HasWorked result → OfLog (LogHas rules place start requests) known'
+  pub full : (need : ℕ) → IsErrOf result (LogFull need) → BeforeLast (λ before. OfLog (LogHas rules place start before) known') requests
+  pub torn : IsErrOf result DiskFault → (requests ≡ []) ⊎ BeforeLast (λ before. OfLog (LogHasEither rules place start before requests) known') requests
+  -- a read of a slot gives what it gave, unless a save was asked for; of each device it does, where nothing was; it is said of
+  -- each run but one whose first syncs failed
+  pub slots : (IsErrOf result DiskFault → requests ≡ [] → ⊥) → NoSave requests → known_reads (slots_of known') ≡ known_reads (slots_of known)
+  pub still : ¬ IsErrOf result DiskFault → requests ≡ [] → known_reads known' ≡ known_reads known
   pub exit : WhileAllStand (λ text catalogue history least. AtExit text catalogue history rules place start requests out) known known'
   pub moments : WhileAllStand (λ text catalogue history least. AtMoments text catalogue history least rules start requests) known known'
   -- (d) where it stopped: the output is the texts of these replies, unless the output's count of faults rose

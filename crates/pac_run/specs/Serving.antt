@@ -1,10 +1,11 @@
 -- What an engine does while lines are served, from one to the next.
-use Rattle.std.specs.Prelude.{◌≡◌, ◌⊎◌, ◌+◌, ◌≤◌, ℕ, Bool, true, false, List, [], ◌∷◌, ◌++◌, length, Option, Some, IfErr, IfSome, Result, MatchResult, IsErrOf}
+use Rattle.std.specs.Prelude.{◌≡◌, ◌⊎◌, ◌≤◌, ℕ, Bool, true, false, List, [], ◌∷◌, ◌++◌, length, Option, Some, IfErr, IfSome, Result, MatchResult, IsErrOf}
 use Rattle.std.specs.Io.KnownBytes.{prepend_known}
 use Rattle.std.specs.List.{AllByRecursion, fold}
 use Rattle.pac_ops.specs.declared.transaction.Txn.{Txn}
 use Rattle.pac_outside.specs.Content.{Gave, Took}
 use Rattle.pac_outside.specs.Disk.{DiskHistory}
+use Rattle.pac_engine.specs.Parts.{slots_of}
 use Rattle.pac_lines.specs.Calls.{known}
 use Rattle.pac_lines.specs.Lines.{HandsOut, HasNoFeed}
 use Rattle.pac_lines.specs.Reading.{ReaderState}
@@ -17,13 +18,14 @@ use Rattle.pac_session.specs.Groups.{GroupCut, cut, cut_on, cut_one, place_after
 use Rattle.pac_session.specs.Open.{IsInGroup, rules_of, state_now}
 use Rattle.pac_check.specs.declared.limits.TheConstants.{MAX_SLOT_LEN}
 use Rattle.pac_engine.specs.declared.parts.EngineParts.{EngineParts}
-use Rattle.pac_engine.specs.Closing.{Closes, GroupFits, IsKept, slot_len}
+use Rattle.pac_engine.specs.Closing.{Closes, GroupFits, IsKept, MayEndAfter, slot_len}
+use Rattle.pac_engine.specs.Committing.{gate_past}
 use Rattle.pac_engine.specs.Standing.{OnlyGrows, KeepsHistory, StandsOn, WhileAllKnown, durable_of}
 use Rattle.pac_run.specs.declared.limits.TheConstants.{MAX_INPUT}
 use Rattle.pac_run.specs.declared.stop.RunStop.{RunStop}
 use Rattle.pac_run.specs.declared.stop.RunStop.TheVariants.{NoStore, Damaged, AbortInLog, RowsOver, InputFault, OutputFault, DiskFault, NoMemory, LogFull, TooLong, TooLarge}
-use Rattle.pac_run.specs.Asked.{WereAsked, IsOverLong, LineAsks, LinesAsk, NoStop, StopsLast, TookAtMost, WereHandled}
-use Rattle.pac_run.specs.Stopping.{AreFirst, BeforeLast, HasWorked, IsStoppedAt, SaveFits, StepStops, StopsThere, closed_groups, closed_number}
+use Rattle.pac_run.specs.Asked.{WereAsked, IsOverLong, LineAsks, LinesAsk, NoSave, NoStop, StopsLast, TookAtMost, WereHandled}
+use Rattle.pac_run.specs.Stopping.{AreFirst, BeforeLast, EndsGroups, HasWorked, IsStoppedAt, IsTorn, SaveFits, StepStops, StopsThere, closed_groups}
 use Rattle.pac_run.specs.Texts.{IsTextPrefix, IsPlain, texts}
 
 -- ---- one line
@@ -48,6 +50,8 @@ pub record Answered (asked : List Request) (more : List Reply) (old new : Engine
   pub few : length asked ≤ 1
   pub saves : asked ≡ request.Save ∷ [] → slot_len (rules_of old.session) (state_now old.session) (place_after_group old.log.gate.place old.session.txns) ≤ MAX_SLOT_LEN
   pub durable : durable_of old ≡ old.session.before → durable_of new ≡ new.session.before
+  pub slots : NoSave asked → slots_of histories' ≡ slots_of histories
+  pub still : asked ≡ [] → histories' ≡ histories
 
 -- and their texts were written
 pub record Replied (catalogue : CatalogueState) (asked : List Request) (old new : EngineParts) (held held' : Option (List ℕ)) (histories histories' : List (Option DiskHistory)) : Type 0 where
@@ -61,19 +65,19 @@ pub record WasHandled (asked : Request) (more : List Reply) (old new : EnginePar
       → Closes rules place start (cut_on rules start whole asked) (given ++ more) new
   pub durable : durable_of new ≡ new.session.before
 
--- What is durable where there was no room: as much as before, or with the group that a save ends.
-abbrev pub StaysDurable : Request → EngineParts → EngineParts → RunStop → Type 0
-StaysDurable asked old new (LogFull need) = durable_of new ≡ durable_of old
-StaysDurable asked old new (TooLarge bytes) = (asked ≡ request.Save) × (durable_of new ≡ durable_of old + length old.session.txns)
-StaysDurable asked old new NoStore = Unit {0}
-StaysDurable asked old new (Damaged damage) = Unit {0}
-StaysDurable asked old new (AbortInLog note) = Unit {0}
-StaysDurable asked old new (RowsOver table rows limit) = Unit {0}
-StaysDurable asked old new InputFault = Unit {0}
-StaysDurable asked old new OutputFault = Unit {0}
-StaysDurable asked old new DiskFault = Unit {0}
-StaysDurable asked old new NoMemory = Unit {0}
-StaysDurable asked old new TooLong = Unit {0}
+-- Where the log ends where there was no room: where it ended, or after the group that a save ends.
+abbrev pub KeepsGate : Request → EngineParts → EngineParts → RunStop → Type 0
+KeepsGate asked old new (LogFull need) = new.log.gate ≡ old.log.gate
+KeepsGate asked old new (TooLarge bytes) = (asked ≡ request.Save) × (new.log.gate ≡ gate_past old.session.txns old.log.gate)
+KeepsGate asked old new NoStore = Unit {0}
+KeepsGate asked old new (Damaged damage) = Unit {0}
+KeepsGate asked old new (AbortInLog note) = Unit {0}
+KeepsGate asked old new (RowsOver table rows limit) = Unit {0}
+KeepsGate asked old new InputFault = Unit {0}
+KeepsGate asked old new OutputFault = Unit {0}
+KeepsGate asked old new DiskFault = Unit {0}
+KeepsGate asked old new NoMemory = Unit {0}
+KeepsGate asked old new TooLong = Unit {0}
 
 -- One request was not answered, and a prefix of the texts of those replies was written, all of it unless the sink's count rose.
 pub record Broke (catalogue : CatalogueState) (asked : Request) (old new : EngineParts) (held held' : Option (List ℕ)) (histories histories' : List (Option DiskHistory)) (faulted : Type 0) (stop : RunStop) : Type 0 where
@@ -89,7 +93,10 @@ pub record Broke (catalogue : CatalogueState) (asked : Request) (old new : Engin
   pub kept : AllByRecursion (IsKept new) more
   pub plain : AllByRecursion IsPlain more
   pub handled : stop ≡ OutputFault → WasHandled asked more old new
-  pub room : StaysDurable asked old new stop
+  pub room : KeepsGate asked old new stop
+  pub slots : (asked ≡ request.Save → ⊥) → slots_of histories' ≡ slots_of histories
+  pub torn : stop ≡ DiskFault → (start : SessionState) (group : List Request) → IsInGroup start group old.session
+      → MayEndAfter (rules_of old.session) start (cut_one (rules_of old.session) start group asked).closed old.log.gate histories'
 
 -- all is as it was: there was no memory to know what the line asks
 pub record IsUntouched (old new : EngineParts) (held held' : Option (List ℕ)) (histories histories' : List (Option DiskHistory)) (stop : RunStop) : Type 0 where
@@ -127,6 +134,8 @@ pub record GoesFrom (first now : EngineParts) (requests : List Request) (given :
   pub plain : AllByRecursion IsPlain given
   pub saves : (before rest : List Request) → requests ≡ before ++ request.Save ∷ rest → SaveFits (rules_of first.session) first.log.gate.place (state_now first.session) before
   pub durable : durable_of now ≡ now.session.before
+  pub slots : NoSave requests → slots_of histories' ≡ slots_of histories
+  pub still : requests ≡ [] → histories' ≡ histories
 
 -- lines were handed out, and that many bytes were taken, not too many
 pub record HasRead (left left' : Option (List ℕ)) (reader : ReaderState) (lines : List (List ℕ)) : Type 0 where
@@ -178,7 +187,10 @@ pub record Served (first now : EngineParts) (left left' held held' : Option (Lis
   pub kept : AllByRecursion (IsKept now) given
   pub plain : AllByRecursion IsPlain given
   pub firsts : AreFirst given (replies (rules_of first.session) (state_now first.session) requests)
-  pub durable : HasWorked result → durable_of now ≡ closed_number (rules_of first.session) (state_now first.session) requests
-  pub full : (need : ℕ) → IsErrOf result (LogFull need) → BeforeLast (λ before. durable_of now ≡ closed_number (rules_of first.session) (state_now first.session) before) requests
+  pub durable : HasWorked result → EndsGroups (rules_of first.session) first.log.gate.place (state_now first.session) requests now.log.gate
+  pub full : (need : ℕ) → IsErrOf result (LogFull need) → BeforeLast (λ before. EndsGroups (rules_of first.session) first.log.gate.place (state_now first.session) before now.log.gate) requests
+  pub torn : IsErrOf result DiskFault → BeforeLast (λ before. IsTorn (rules_of first.session) first.log.gate.place (state_now first.session) before requests histories') requests
+  pub slots : NoSave requests → slots_of histories' ≡ slots_of histories
+  pub still : requests ≡ [] → histories' ≡ histories
   pub there : IfErr result (λ stop. StopsThere (rules_of first.session) first.log.gate.place (state_now first.session) requests given out stop)
   pub ending : MatchResult result (λ _. IsDone (rules_of first.session) first.log.gate.place (state_now first.session) requests given out) (λ stop. IsStoppedAt (rules_of first.session) first.log.gate.place (state_now first.session) requests given stop)

@@ -1,5 +1,9 @@
 -- Where a run stops.
-use Rattle.std.specs.Prelude.{◌≡◌, ◌⊎◌, ◌≤◌, ℕ, List, [], ◌∷◌, ◌++◌, Result, Ok, Err}
+use Rattle.std.specs.Prelude.{◌≡◌, ◌⊎◌, ◌≤◌, ℕ, List, [], ◌∷◌, ◌++◌, Option, Result, Ok, Err}
+use Rattle.pac_outside.specs.Disk.{DiskHistory}
+use Rattle.pac_engine.specs.Parts.{OfLog}
+use Rattle.pac_log.specs.declared.position.NextGate.{NextGate}
+use Rattle.pac_log.specs.Torn.{LogEndsAtEither}
 use Rattle.pac_check.specs.declared.limits.TheConstants.{MAX_SLOT_LEN}
 use Rattle.pac_request.specs.declared.request.Request.{Request}
 use Rattle.pac_request.specs.declared.request.Request.TheVariants as request
@@ -7,7 +11,7 @@ use Rattle.pac_request.specs.declared.request.Reply.{Reply}
 use Rattle.pac_session.specs.Session.{Rules, SessionState, ends}
 use Rattle.pac_session.specs.Groups.{Group, all_replies, all_requests, cut, cut_one, described}
 use Rattle.pac_engine.specs.declared.fault.EngineCause.TheVariants as cause
-use Rattle.pac_engine.specs.Closing.{StopsAt, place_after, slot_len}
+use Rattle.pac_engine.specs.Closing.{IsGateAfter, StopsAt, place_after, slot_len}
 use Rattle.pac_run.specs.Asked.{NoStop}
 use Rattle.pac_run.specs.Texts.{texts}
 use Rattle.pac_run.specs.declared.stop.RunStop.{RunStop}
@@ -20,6 +24,18 @@ closed_groups rules place start requests = described rules place start (cut rule
 -- how many transactions there are with those of the groups that were closed
 abbrev pub closed_number : Rules → SessionState → List Request → ℕ
 closed_number rules start requests = (ends rules start (all_requests (cut rules start requests).closed)).number
+
+-- the log's gate stands after the groups that these requests close
+abbrev pub EndsGroups : Rules → ℕ → SessionState → List Request → NextGate → Type 0
+EndsGroups rules place start requests gate = IsGateAfter rules place start (cut rules start requests).closed gate
+
+-- each image of the log that a crash may leave ends after the groups that the first of these lists closes, or the second
+pub record IsTorn (rules : Rules) (place : ℕ) (start : SessionState) (before requests : List Request) (devices : List (Option DiskHistory)) : Type 0 where
+  pub gate : NextGate
+  pub next : NextGate
+  pub ended : EndsGroups rules place start before gate
+  pub ends : EndsGroups rules place start requests next
+  pub either : OfLog (LogEndsAtEither gate next) devices
 
 -- Each group that was closed is in the log, and no other: all was done, or the run stopped at a fault of the input or of the
 -- output, since the input was too long, or since a checkpoint was, after the group that the save ends. An open group was

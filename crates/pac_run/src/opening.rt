@@ -4,6 +4,7 @@ ghost use Rattle.pac_ops.specs.declared.limits.TheConstants.{MAX_TXNS};
 ghost use Rattle.pac_ops.specs.declared.note.Note.{Note as ANote};
 ghost use Rattle.pac_outside.specs.Devices.{AreSettled, EndsAtOneFault, OneFaulted, RunsAsBefore, IfAllKnown, each};
 ghost use Rattle.pac_outside.specs.Disk.{IfKnown, after_sync};
+ghost use Rattle.pac_engine.specs.Parts.{known_reads};
 ghost use Rattle.pac_log.specs.declared.damage.DamageKind.{DamageKind as ALogDamage};
 ghost use Rattle.pac_check.specs.declared.damage.SlotDamageKind.{SlotDamageKind as ASlotDamage};
 ghost use Rattle.pac_check.specs.declared.info.SlotName.{SlotName as ASlotName};
@@ -114,6 +115,7 @@ pub fn open<D: Disk>(
 
     // No device is written, and no call of one comes after one that failed.
     ensures settled { ¬ IsErrOf result RecoverError.DiskFault → IfAllKnown AreSettled (each D.known devices.old) (each D.known devices.new) }
+    ensures seen { ¬ IsErrOf result RecoverError.DiskFault → known_reads (each D.known devices.new) ≡ known_reads (each D.known devices.old) }
     ensures disk_fault { IsErrOf result RecoverError.DiskFault → OneFaulted (each D.faults devices.old) (each D.faults devices.new) }
     ensures quiet { ¬ IsErrOf result RecoverError.DiskFault → each D.faults devices.new ≡ each D.faults devices.old }
 {

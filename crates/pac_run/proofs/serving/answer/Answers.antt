@@ -9,10 +9,10 @@ use Rattle.pac_session.specs.Open.{rules_of}
 use Rattle.pac_recover.proofs.CauseLemmas.{same-error, the-error}
 use Rattle.pac_engine.proofs.Results.{on-ok}
 use Rattle.pac_run.specs.declared.stop.RunStop.{RunStop}
-use Rattle.pac_run.specs.Serving.{StaysDurable}
+use Rattle.pac_run.specs.Serving.{KeepsGate}
 use Rattle.pac_run.specs.Stopping.{HasWorked, StepStops}
 use Rattle.pac_run.specs.Texts.{IsPlain, texts}
-use Rattle.pac_run.proofs.AnswerLemmas.{answered-one, broke-of, no-text, only-err, room-full, room-stays, room-worked, was-handled}
+use Rattle.pac_run.proofs.AnswerLemmas.{answered-one, broke-of, disk-cause, no-text, only-err, output-no-disk, room-full, room-stays, room-worked, slots-same, was-handled}
 use Rattle.pac_run.proofs.StopLemmas.{no-output, step-stops}
 use Rattle.pac_run.proofs.serving.answer.Goals as goal
 
@@ -21,12 +21,14 @@ returns-in_err-text-in-Ok-clause-err g c = λ stop is.
     let r = c.from_residual in
     let p = err_from_is_err_and r.result r.ensures.1 in
     no-text c.args.asked c.args.engine.now c.step.new.self _ _ c.args.catalogue.now _ _ stop (sym (the-error r.result p.0 stop p.1 is) ∙ p.2) (c.step.ensures.keeps c.requires.goes_on) c.step.ensures.grows
+    (λ other. slots-same g.D.Disk.known c.args.devices.now c.step.new.devices (c.step.ensures.slots other))
 
 pub returns-in_err-text-in-Err-clause-err : goal.returns-in_err-text-in-Err-clause-err
 returns-in_err-text-in-Err-clause-err g c = λ stop is.
     let r = c.from_residual-in_err-text-in-Err in
     let p = err_from_is_err_and r.result r.ensures.1 in
     no-text c.args.asked c.args.engine.now c.step.new.self _ _ c.args.catalogue.now _ _ stop (sym (the-error r.result p.0 stop p.1 is) ∙ p.2) (c.step.ensures.keeps c.requires.goes_on) c.step.ensures.grows
+    (λ other. slots-same g.D.Disk.known c.args.devices.now c.step.new.devices (c.step.ensures.slots other))
 
 pub returns-in_ok-text-in-Ok-clause-ok : goal.returns-in_ok-text-in-Ok-clause-ok
 returns-in_ok-text-in-Ok-clause-ok g c =
@@ -37,7 +39,7 @@ returns-in_ok-text-in-Ok-clause-ok g c =
     on-ok c.write.result c.write.ensures.ok (λ took. record {
       more = c.in-Ok.replies;
       took = subst (λ (l : List ℕ). Took (g.O.Sink.held c.args.output.now) l (g.O.Sink.held c.write.new.output)) text took;
-      answered = answered-one c.args.asked c.args.engine.now c.step.new.self _ _ c.in-Ok.replies e.closes (e.keeps c.requires.goes_on) e.stands e.same e.grows e.kept plain e.small e.durable;
+      answered = answered-one c.args.asked c.args.engine.now c.step.new.self _ _ c.in-Ok.replies e.closes (e.keeps c.requires.goes_on) e.stands e.same e.grows e.kept plain e.small e.durable (λ other. slots-same g.D.Disk.known c.args.devices.now c.step.new.devices (e.slots other));
     })
 
 pub returns-in_ok-text-in-Ok-clause-err : goal.returns-in_ok-text-in-Ok-clause-err
@@ -51,7 +53,9 @@ returns-in_ok-text-in-Ok-clause-err g c = λ stop is.
     broke-of c.args.asked old c.step.new.self _ _ cat _ _ _ stop c.in-Ok.replies c.deref.result.now text c.write.ensures.says (e.keeps c.requires.goes_on) e.grows e.kept plain
     (λ start group within. subst (λ (s : RunStop). StepStops (rules_of old.session) old.log.gate.place start (cut_one (rules_of old.session) start group c.args.asked).closed c.in-Ok.replies s) (sym same) (e.closes start group within).replied)
     (λ out. was-handled c.args.asked old c.step.new.self [] [] c.in-Ok.replies e.closes e.durable)
-    (subst (λ (s : RunStop). StaysDurable c.args.asked old c.step.new.self s) (sym same) tt)
+    (subst (λ (s : RunStop). KeepsGate c.args.asked old c.step.new.self s) (sym same) tt)
+    (λ other. slots-same g.D.Disk.known c.args.devices.now c.step.new.devices (e.slots other))
+    (λ disk. absurd (output-no-disk (sym same ∙ disk)))
 
 pub returns-in_ok-text-in-Err-clause-err : goal.returns-in_ok-text-in-Err-clause-err
 returns-in_ok-text-in-Err-clause-err g c = λ stop is.
@@ -64,7 +68,9 @@ returns-in_ok-text-in-Err-clause-err g c = λ stop is.
     broke-of c.args.asked old c.step.new.self _ _ cat _ _ _ stop c.in-Err.fault.replies c.deref-in-Err.result.now text c.write-in-Err.ensures.says (e.keeps c.requires.goes_on) e.grows e.kept_before plain
     (λ start group within. step-stops (rules_of old.session) old.log.gate.place start (cut_one (rules_of old.session) start group c.args.asked).closed c.in-Err.fault.replies c.in-Err.fault.cause stop same (e.stops c.requires.goes_on start group within))
     (λ out. absurd (no-output c.in-Err.fault.cause (sym same ∙ out)))
-    (subst (λ (s : RunStop). StaysDurable c.args.asked old c.step.new.self s) (sym same) (room-stays g.D.Disk.known c.args.asked old c.step.new.self c.args.devices.now c.step.new.devices c.in-Err.fault.cause e.room))
+    (subst (λ (s : RunStop). KeepsGate c.args.asked old c.step.new.self s) (sym same) (room-stays g.D.Disk.known c.args.asked old c.step.new.self c.args.devices.now c.step.new.devices c.in-Err.fault.cause e.room))
+    (λ other. slots-same g.D.Disk.known c.args.devices.now c.step.new.devices (e.slots other))
+    (λ disk. e.torn (disk-cause c.in-Err.fault.cause (sym same ∙ disk)))
 
 pub returns-in_ok-text-in-Err-clause-worked : goal.returns-in_ok-text-in-Err-clause-worked
 returns-in_ok-text-in-Err-clause-worked g c = λ worked.

@@ -5,11 +5,15 @@ use Rattle.std.specs.List.{AllByRecursion}
 use Rattle.pac_outside.specs.Devices.{each}
 use Rattle.pac_request.specs.declared.request.Reply.{Reply}
 use Rattle.pac_request.specs.declared.request.Request.TheVariants.{Save}
+use Rattle.pac_session.specs.Groups.{cut_one}
+use Rattle.pac_session.specs.Open.{rules_of}
 use Rattle.pac_engine.specs.declared.fault.EngineCause.{EngineCause}
 use Rattle.pac_engine.specs.Closing.{CountsFault, IsKept}
-use Rattle.pac_engine.proofs.Results.{if-err-both, if-err-four, if-ok-both, on-ok}
-use Rattle.pac_engine.proofs.StepLemmas.{checkpoint-closes, checkpoint-keeps, checkpoint-stands, checkpoint-stops, checkpoint-unsaved}
+use Rattle.pac_engine.specs.Committing.{gate_past}
+use Rattle.pac_engine.proofs.Results.{if-err-all, if-err-both, if-err-four, if-ok-both, on-ok}
+use Rattle.pac_engine.proofs.StepLemmas.{checkpoint-closes, checkpoint-gate, checkpoint-keeps, checkpoint-stands, checkpoint-stops, checkpoint-unsaved}
 use Rattle.pac_engine.proofs.RoomLemmas.{room-closed, room-saved, same-cause}
+use Rattle.pac_engine.proofs.TornLemmas.{may-end, torn-saved}
 use Rattle.pac_engine.proofs.parts.EngineParts.checkpoint.Goals as goal
 
 pub returns-in-Ok-clause-handled : goal.returns-in-Ok-clause-handled
@@ -38,7 +42,10 @@ returns-in-Ok-clause-handled g c =
       stands = on-ok c.save_and_report.result stands (λ after text history.
           checkpoint-stands text history c.args.self.now c.close.new.self c.save_and_report.new.self c.in-Ok.ensures.closed _ _ _ (c.in-Ok.ensures.stands text history) (after text _));
       goes_on = on;
+      slots = λ other. absurd (other refl);
       room = if-err-both c.save_and_report.result full uncalled (λ fault none same. room-saved g.D.Disk.known Save c.args.self.now c.save_and_report.new.self c.args.devices.now c.save_and_report.new.devices refl c.close.new.self c.close.new.devices c.in-Ok.ensures.closed c.close.ensures.slot_a c.close.ensures.slot_b c.in-Ok.ensures.ready fault.cause none same);
+      torn = if-err-all c.save_and_report.result (λ fault is start group within. may-end g.D.Disk.known (rules_of c.args.self.now.session) start (cut_one (rules_of c.args.self.now.session) start group Save).closed c.args.self.now.log.gate (gate_past c.args.self.now.session.txns c.args.self.now.log.gate) c.save_and_report.new.devices
+          (checkpoint-gate c.args.self.now c.requires.live.working.counted start group within) (torn-saved g.D.Disk.known c.args.self.now c.close.new.self c.close.new.devices c.save_and_report.new.devices c.in-Ok.ensures.closed c.in-Ok.ensures.ready c.save_and_report.ensures.log));
       counted = grind (arith, common_steps);
     }
 
@@ -58,6 +65,9 @@ returns-in-Err-clause-handled g c = record {
   keeps = c.close.ensures.keeps;
   stands = tt;
   goes_on = λ e. c.in-Err.ensures.goes_on (ap (λ x. Err x) (sym c.fault.ensures.cause ∙ e));
-  room = room-closed g.D.Disk.known Save c.args.self.now c.close.new.self c.args.devices.now c.close.new.devices c.fault.result.cause (λ not. c.in-Err.ensures.uncalled (λ e. not (c.fault.ensures.cause ∙ same-cause e))) (ap (λ gate. gate.txns) c.in-Err.ensures.unmoved.gate) (λ bytes e. c.in-Err.ensures.known bytes (ap (λ x. Err x) (sym c.fault.ensures.cause ∙ e)));
+  slots = λ other. absurd (other refl);
+  room = room-closed g.D.Disk.known Save c.args.self.now c.close.new.self c.args.devices.now c.close.new.devices c.fault.result.cause (λ not. c.in-Err.ensures.uncalled (λ e. not (c.fault.ensures.cause ∙ same-cause e))) c.in-Err.ensures.unmoved.gate (λ bytes e. c.in-Err.ensures.known bytes (ap (λ x. Err x) (sym c.fault.ensures.cause ∙ e)));
+  torn = λ is start group within. may-end g.D.Disk.known (rules_of c.args.self.now.session) start (cut_one (rules_of c.args.self.now.session) start group Save).closed c.args.self.now.log.gate (gate_past c.args.self.now.session.txns c.args.self.now.log.gate) c.close.new.devices
+      (checkpoint-gate c.args.self.now c.requires.live.working.counted start group within) c.in-Err.ensures.torn;
   counted = subst (λ (cause : EngineCause). CountsFault cause (each g.D.Disk.faults c.args.devices.now) (each g.D.Disk.faults c.close.new.devices)) (sym c.fault.ensures.cause) c.in-Err.ensures.faults;
 }

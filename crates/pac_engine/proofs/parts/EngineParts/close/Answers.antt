@@ -1,10 +1,14 @@
 -- The log is called, and the slots stand still.
-use Rattle.std.proofs.Common.{rules, arith, ap, List, length}
+use Rattle.std.proofs.Common.{rules, arith, ap, subst, List, length}
 use Rattle.pac_ops.specs.declared.transaction.Txn.{Txn}
+use Rattle.pac_outside.specs.Disk.{IfKnown}
 use Rattle.pac_log.specs.Bodies.{body_bytes}
+use Rattle.pac_log.specs.Torn.{LogEndsAtEither}
 use Rattle.pac_log.specs.declared.position.NextGate.{NextGate}
+use Rattle.pac_engine.specs.Committing.{gate_past}
 use Rattle.pac_engine.proofs.BodyLemmas.{body_len-bytes}
 use Rattle.pac_engine.proofs.KnownLemmas.{closed-fails, closed-keeps, closed-stands}
+use Rattle.pac_engine.proofs.Results.{on-err-all}
 use Rattle.pac_engine.proofs.parts.EngineParts.close.Goals as goal
 
 pub commit-requires-clause-short : goal.commit-requires-clause-short
@@ -15,6 +19,11 @@ commit-requires-clause-short g c =
 pub returns-in_err-commit-clause-keeps : goal.returns-in_err-commit-clause-keeps
 returns-in_err-commit-clause-keeps g c = λ text history.
     closed-fails text history c.args.self.now c.requires.working.same c.close-txns.result.0.items c.close-txns.ensures.txns _ _ _ _ c.commit.ensures.moments _ (ap (λ (gate : NextGate). gate.txns) c.in_err-commit.ensures.kept) (search rules)
+
+pub returns-in_err-commit-clause-torn : goal.returns-in_err-commit-clause-torn
+returns-in_err-commit-clause-torn g c =
+    let gate = c.args.self.now.log.gate in
+    on-err-all c.from_residual.result (subst (λ (txns : List Txn). IfKnown (λ h. LogEndsAtEither gate (gate_past txns gate) h.now) (g.D.Disk.known c.commit.new.disk)) c.close-txns.ensures.txns c.in_err-commit.ensures.torn)
 
 pub returns-clause-keeps : goal.returns-clause-keeps
 returns-clause-keeps g c = λ text history.

@@ -1,5 +1,5 @@
 -- A transaction for which there is room, or for which there is no memory.
-use Rattle.std.proofs.Common.{refl, subst, sym, arith, rules}
+use Rattle.std.proofs.Common.{◌∙◌, refl, subst, sym, arith, rules}
 use Rattle.std.proofs.lemmas.Grind.{common_steps}
 use Rattle.pac_outside.specs.Devices.{each}
 use Rattle.pac_session.specs.Open.{Open}
@@ -8,7 +8,7 @@ use Rattle.pac_engine.specs.Closing.{CountsFault}
 use Rattle.pac_engine.specs.Moves.{IsWorking}
 use Rattle.pac_engine.proofs.MoveLemmas.{with_session, working-run}
 use Rattle.pac_engine.proofs.StepLemmas.{asked-keeps-known, same-fits}
-use Rattle.pac_engine.proofs.RoomLemmas.{room-none}
+use Rattle.pac_engine.proofs.RoomLemmas.{memory-no-disk, room-none}
 use Rattle.pac_engine.proofs.parts.EngineParts.execute.Goals as goal
 
 pub close_after-requires-clause-working : goal.close_after-requires-clause-working
@@ -31,6 +31,8 @@ returns-in-Err g c = λ asked asks. record {
       asked-keeps-known text history c.args.self.now asked (same-fits c.args.self.now asked c.args.txn asks c.requires.fits) c.requires.live.working.counted _ refl refl _;
   stands = tt;
   goes_on = grind (arith, common_steps);
+  slots = λ other. (refl, refl);
   room = room-none g.D.Disk.known asked c.args.self.now _ c.args.devices.now c.args.devices.now c.fault.result.cause c.fault.ensures.cause;
+  torn = λ is. absurd (memory-no-disk (sym c.fault.ensures.cause ∙ is));
   counted = subst (λ (cause : EngineCause). CountsFault cause (each g.D.Disk.faults c.args.devices.now) (each g.D.Disk.faults c.args.devices.now)) (sym c.fault.ensures.cause) refl;
 }

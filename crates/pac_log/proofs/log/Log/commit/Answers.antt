@@ -6,7 +6,7 @@ use Rattle.pac_log.specs.declared.position.NextGate.{NextGate}
 use Rattle.pac_log.specs.Bodies.{body_bytes}
 use Rattle.pac_log.specs.Logs.{log_prefix}
 use Rattle.pac_log.specs.Places.{IsAfter}
-use Rattle.pac_log.proofs.LogLemmas.{keeps_or_adds, adds_batch, ready_parts, after_so, gate_so, ends_again}
+use Rattle.pac_log.proofs.LogLemmas.{keeps_or_adds, adds_batch, ready_parts, after_so, gate_so, ends_again, ends_torn, up_to}
 use Rattle.pac_log.proofs.log.Log.commit.Goals as goal
 
 pub returns-in-Ok-clause-any_moment : goal.returns-in-Ok-clause-any_moment
@@ -40,6 +40,11 @@ pub returns-in-Ok-clause-still_ends : goal.returns-in-Ok-clause-still_ends
 returns-in-Ok-clause-still_ends g c = λ txns prepared.
     ends_again (IsDurable c.place.result (1 ∷ c.as_slice-2.result.now)) _ _ _ _ txns c.in-Ok.ensures.durable c.requires.ends (λ text batches after. returns-in-Ok-clause-committed g c text batches txns after prepared) (λ text batches after. returns-in-Ok-clause-after g c text batches txns after prepared)
     (ap (λ (gate : NextGate). gate.catalogue) c.advance.ensures ∙ ap (λ (p : LogParts). p.gate.catalogue) c.self.view_is)
+
+pub returns-in-Err-clause-torn : goal.returns-in-Err-clause-torn
+returns-in-Err-clause-torn g c = λ txns prepared.
+    let some = up_to c.place.result in
+    ends_torn _ _ _ _ txns (c.open_after.ensures.any_moment some.0 some.1) c.requires.ends (λ text batches after. returns-in-Err-clause-any_moment g c text batches txns after prepared)
 
 pub returns-in-Ok-clause-durable : goal.returns-in-Ok-clause-durable
 returns-in-Ok-clause-durable g c = λ txns prepared.
