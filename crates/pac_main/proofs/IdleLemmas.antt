@@ -86,6 +86,7 @@ idle-run group_size limit left held log a b faulted = record {
   few = λ other. record { bytes = []; gave = prepend_none left; few = omega arith };
   long = λ e. absurd cc;
   cut = λ e. refl;
+  behind = λ input long memory. omega arith;
   rules = idle_rules group_size limit;
   requests = [];
   asked = inl refl;

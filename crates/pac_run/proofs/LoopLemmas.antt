@@ -1,9 +1,10 @@
 -- The ways in which the loop over lines ends.
-use Rattle.std.proofs.Common.{◌≡◌, inl, inr, ℕ, Bool, true, false, List, [], ◌∷◌, ◌++◌, Option, Result, Ok, Err, refl, sym, subst}
+use Rattle.std.proofs.Common.{◌≡◌, ◌<◌, inl, inr, ℕ, Bool, true, false, List, [], ◌∷◌, ◌++◌, length, Option, Result, Ok, Err, refl, sym, ap, subst, arith}
 use Rattle.std.specs.Prelude.{IsErrOf}
 use Rattle.pac_outside.specs.Disk.{DiskHistory}
 use Rattle.pac_lines.specs.Calls.{IsCall, KeepsLimit}
 use Rattle.pac_lines.specs.Reading.{ReaderState}
+use Rattle.pac_lines.specs.declared.limits.TheConstants.{MAX_READ}
 use Rattle.pac_lines.specs.declared.line_error.LineError.{LineError}
 use Rattle.pac_lines.specs.declared.line_error.LineError.TheVariants as line
 use Rattle.pac_request.specs.declared.request.Request.{Request}
@@ -43,14 +44,17 @@ module _ (first now : EngineParts) (left mid : Option (List ℕ)) (reader : Read
     module _ (held'' : Option (List ℕ)) (known'' : List (Option DiskHistory)) (new : EngineParts) where
       -- the end was met, and the stop after it was answered or not
       module _ (call : IsCall reader next mid left' (Ok false)) (keeps : KeepsLimit next (Ok false)) where
+        none-ahead : length (reader.ahead ++ call.given) < MAX_READ
+        none-ahead = omega (arith, ap (λ (t : List ℕ). length t) call.answer.1)
+
         pub end-served : Replied first.session.catalogue (request.Stop ∷ []) now new held' held'' known' known'' → Served first new left left' held held'' known known'' faulted (Ok tt)
         end-served replied = stop-served first now left mid reader held held' known known' serving left' held'' known'' new faulted serving.lines (reader.ahead ++ call.given)
-            (still-handled left mid left' reader next serving.lines serving.read (Ok false) call) (not-long left mid left' reader next serving.lines serving.read (Ok false) call keeps (ok-no-long false))
+            (still-handled left mid left' reader next serving.lines serving.read (Ok false) call) (not-long left mid left' reader next serving.lines serving.read (Ok false) call keeps (ok-no-long false)) none-ahead
             (inr (serving.requests, serving.asked, refl, at-end left mid left' reader next serving.lines serving.read call)) replied
 
         pub end-broke : (faulted' : Type 0) (stop : RunStop) → (faulted' → faulted) → Broke first.session.catalogue request.Stop now new held' held'' known' known'' faulted' stop → Served first new left left' held held'' known known'' faulted (Err stop)
         end-broke faulted' stop later broke = broke-served first now left mid reader held held' known known' serving left' held'' known'' new request.Stop faulted faulted' stop serving.lines (reader.ahead ++ call.given)
-            (still-handled left mid left' reader next serving.lines serving.read (Ok false) call) (not-long left mid left' reader next serving.lines serving.read (Ok false) call keeps (ok-no-long false))
+            (still-handled left mid left' reader next serving.lines serving.read (Ok false) call) (not-long left mid left' reader next serving.lines serving.read (Ok false) call keeps (ok-no-long false)) none-ahead
             (inr (serving.requests, serving.asked, refl, at-end left mid left' reader next serving.lines serving.read call)) later broke
 
       -- a line was served, and is a stop; or it was not served
@@ -60,13 +64,13 @@ module _ (first now : EngineParts) (left mid : Option (List ℕ)) (reader : Read
 
         pub line-stopped : LineServed first.session.catalogue next.line true now new held' held'' known' known'' → Served first new left left' held held'' known known'' faulted (Ok tt)
         line-stopped served = stop-served first now left mid reader held held' known known' serving left' held'' known'' new faulted (serving.lines ++ next.line ∷ []) next.ahead
-            read.handed (not-long left mid left' reader next serving.lines serving.read (Ok true) call keeps (ok-no-long true))
+            read.handed (not-long left mid left' reader next serving.lines serving.read (Ok true) call keeps (ok-no-long true)) read.short
             (inl (subst (λ (l : List Request). LinesAsk first.session.catalogue (serving.lines ++ next.line ∷ []) (serving.requests ++ l)) served.stop (lines-ask first.session.catalogue serving.lines next.line serving.requests served.asked serving.asked served.asks)))
             (subst (λ (l : List Request). Replied first.session.catalogue l now new held' held'' known' known'') served.stop served.replied)
 
         pub line-broke : (faulted' : Type 0) (stop : RunStop) → (faulted' → faulted) → LineBroke first.session.catalogue next.line now new held' held'' known' known'' faulted' stop → Served first new left left' held held'' known known'' faulted (Err stop)
         line-broke faulted' stop later (inr broke) = broke-served first now left mid reader held held' known known' serving left' held'' known'' new broke.0 faulted faulted' stop (serving.lines ++ next.line ∷ []) next.ahead
-            read.handed (not-long left mid left' reader next serving.lines serving.read (Ok true) call keeps (ok-no-long true))
+            read.handed (not-long left mid left' reader next serving.lines serving.read (Ok true) call keeps (ok-no-long true)) read.short
             (inl (lines-ask first.session.catalogue serving.lines next.line serving.requests (broke.0 ∷ []) serving.asked broke.1)) later broke.2
         line-broke faulted' stop later (inl same) =
             subst (λ (e : EngineParts). Served first e left left' held held'' known known'' faulted (Err stop)) (sym same.engine)

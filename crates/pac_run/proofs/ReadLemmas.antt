@@ -1,14 +1,15 @@
 -- Lines that were handed out one after another.
-use Rattle.std.proofs.Common.{◌≡◌, ◌∙◌, ◌⊎◌, inl, inr, ℕ, ◌+◌, ◌≤◌, ◌<◌, Bool, true, false, ltb, List, [], ◌∷◌, ◌++◌, length, Option, Some, None, Result, Ok, Err, refl, sym, ap, subst, arith, length-append}
-use Rattle.std.proofs.lemmas.Bool.{ltb-true, ltb-false}
+use Rattle.std.proofs.Common.{◌≡◌, ◌∙◌, ◌⊎◌, inl, inr, ℕ, ◌+◌, ◌≤◌, ◌<◌, Bool, true, false, ltb, List, [], ◌∷◌, ◌++◌, length, Option, Some, None, Result, Ok, Err, refl, sym, ap, subst, arith, append_assoc, length-append}
+use Rattle.std.proofs.lemmas.Bool.{ltb-true, ltb-false, or_parts}
 use Rattle.std.specs.Prelude.{IfSome, IsErrOf}
 use Rattle.std.specs.Io.KnownBytes.{prepend_known}
 use Rattle.std.proofs.KnownBytes.{prepend_known-nil}
 use Rattle.pac_outside.specs.Content.{Gave, IsAtEnd}
 use Rattle.pac_outside.proofs.ContentLemmas.{Gave-append}
-use Rattle.pac_lines.specs.Calls.{IsCall, KeepsLimit, known}
-use Rattle.pac_lines.specs.Lines.{HandsOut, IsEndedLine, IsLastLine}
+use Rattle.pac_lines.specs.Calls.{IsCall, IsReadOn, KeepsLimit, known}
+use Rattle.pac_lines.specs.Lines.{HandsOut, HasNoFeed, IsEndedLine, IsLastLine, has_feed}
 use Rattle.pac_lines.specs.Reading.{ReaderState}
+use Rattle.pac_lines.specs.declared.limits.TheConstants.{MAX_READ}
 use Rattle.pac_lines.specs.declared.line_error.LineError.{LineError}
 use Rattle.pac_lines.specs.declared.line_error.LineError.TheVariants as line
 use Rattle.pac_lines.proofs.CallLemmas.{known_before, lines_of_text}
@@ -33,6 +34,34 @@ lines-ask catalogue (l ∷ lines) text requests asked before one =
     assoc [] ys zs = refl
     assoc (x ∷ xs) ys zs = ap (λ (r : List Request). x ∷ r) (assoc xs ys zs)
 
+-- ---- what is ahead of a line
+
+-- bytes without a line feed reach no further than the line
+feed-behind : (front last back rest : List ℕ) → HasNoFeed front → front ++ back ≡ last ++ 10 ∷ rest → length front ≤ length last
+feed-behind [] last back rest none same = omega arith
+feed-behind (b ∷ front) [] back rest none same = absurd (no (subst (λ (n : ℕ). has_feed (n ∷ front) ≡ false) (first same) none))
+  where
+    first : b ∷ (front ++ back) ≡ 10 ∷ rest → b ≡ 10
+    first e = cc
+
+    no : true ≡ false → ⊥
+    no e = cc
+feed-behind (b ∷ front) (c ∷ last) back rest none same =
+    let shorter = feed-behind front last back rest (or_parts _ _ none).1 (others same) in
+    omega (arith, shorter)
+  where
+    others : b ∷ (front ++ back) ≡ c ∷ (last ++ 10 ∷ rest) → front ++ back ≡ last ++ 10 ∷ rest
+    others e = cc
+
+-- what is ahead after a line is of the read that gave its end
+short-ahead : (before now : ReaderState) (given : List ℕ) → (given ≡ []) ⊎ IsReadOn before.ahead given → length before.ahead < MAX_READ → IsEndedLine (before.ahead ++ given) now.line now.ahead → length now.ahead < MAX_READ
+short-ahead before now given (inl none) short ended =
+    omega (arith, short, length-append before.ahead given, ap (λ (t : List ℕ). length t) none, ap (λ (t : List ℕ). length t) ended.split, length-append now.line (10 ∷ now.ahead))
+short-ahead before now given (inr read) short ended =
+    let same : (before.ahead ++ read.earlier) ++ read.last ≡ now.line ++ 10 ∷ now.ahead = append_assoc before.ahead read.earlier read.last ∙ ap (λ (t : List ℕ). before.ahead ++ t) (sym read.split) ∙ ended.split in
+    let reach = feed-behind (before.ahead ++ read.earlier) now.line read.last now.ahead read.none same in
+    omega (arith, reach, read.chunk, ap (λ (t : List ℕ). length t) same, length-append (before.ahead ++ read.earlier) read.last, length-append now.line (10 ∷ now.ahead))
+
 -- ---- one line more
 
 hands-out-more : (text mid rest line : List ℕ) (lines : List (List ℕ)) → HandsOut text lines mid → IsEndedLine mid line rest ⊎ IsLastLine mid line rest → HandsOut text (lines ++ line ∷ []) rest
@@ -41,7 +70,7 @@ hands-out-more text mid rest line (l ∷ lines) is one = (is.0, is.1, hands-out-
 
 -- what a reader has read at first
 pub first-read : (left : Option (List ℕ)) → HasRead left left (record { line = []; ahead = []; taken = 0; limit = MAX_INPUT }) []
-first-read left = record { handed = by left; bytes = []; gave = sym (prepend_known-nil left); counted = refl; limit = refl; within = omega arith }
+first-read left = record { handed = by left; bytes = []; gave = sym (prepend_known-nil left); counted = refl; limit = refl; within = omega arith; short = omega arith }
   where
     by : (l : Option (List ℕ)) → IfSome l (λ text. (rest : List ℕ) × (prepend_known [] l ≡ Some rest) × HandsOut text [] rest)
     by None = tt
@@ -94,8 +123,13 @@ module _ (left mid left' : Option (List ℕ)) (before now : ReaderState) (lines 
     counted = taken-now (Ok true) call;
     limit = call.limit ∙ read.limit;
     within = (omega (arith, few, call.limit, read.limit));
+    short = short call.answer;
   }
     where
+      short : IsEndedLine (before.ahead ++ call.given) now.line now.ahead ⊎ (IsLastLine (before.ahead ++ call.given) now.line now.ahead × IsAtEnd left') → length now.ahead < MAX_READ
+      short (inl ended) = short-ahead before now call.given call.read read.short ended
+      short (inr last) = omega (arith, ap (λ (t : List ℕ). length t) last.0.end)
+
       no-err : ◌≡◌ {A = Result Bool LineError} (Ok true) (Err line.TooLong) → ⊥
       no-err e = cc
 

@@ -161,6 +161,7 @@ not-opened batch limit left held l a b known' faulted error stop is runs seen =
       few = λ other. record { bytes = []; gave = sym (prepend_known-nil left); few = omega arith };
       long = λ long. absurd (opening-long error (sym is ∙ same-stop stop TooLong long));
       cut = λ cut. refl;
+      behind = λ input far memory. omega arith;
       rules = rules;
       requests = [];
       asked = inl refl;
@@ -309,6 +310,7 @@ module _ (batch limit : ℕ) (engine new : EngineParts) (left left' held held' :
     few = served.few;
     long = served.long;
     cut = served.cut;
+    behind = served.behind;
     rules = rules;
     requests = served.requests;
     asked = served.asked;

@@ -1,5 +1,5 @@
 -- Lines that are served one after another, up to an end.
-use Rattle.std.proofs.Common.{◌≡◌, ◌∙◌, ◌⊎◌, inl, inr, ℕ, ◌+◌, true, false, List, [], ◌∷◌, ◌++◌, length, take, Option, Some, None, Result, Ok, Err, refl, sym, ap, subst}
+use Rattle.std.proofs.Common.{◌≡◌, ◌∙◌, ◌⊎◌, inl, inr, ℕ, ◌+◌, ◌<◌, true, false, List, [], ◌∷◌, ◌++◌, length, take, Option, Some, None, Result, Ok, Err, refl, sym, ap, subst}
 use Rattle.std.specs.Io.KnownBytes.{prepend_known}
 use Rattle.std.proofs.lemmas.List.{append-nil}
 use Rattle.std.proofs.lemmas.List.Sums.{fold-append}
@@ -11,6 +11,7 @@ use Rattle.pac_outside.specs.Disk.{DiskHistory}
 use Rattle.pac_lines.specs.Lines.{HasNoFeed}
 use Rattle.pac_lines.specs.Calls.{IsCall, KeepsLimit}
 use Rattle.pac_lines.specs.Reading.{ReaderState}
+use Rattle.pac_lines.specs.declared.limits.TheConstants.{MAX_READ}
 use Rattle.pac_log.specs.declared.position.NextGate.{NextGate}
 use Rattle.pac_types.specs.Typing.{CatalogueState}
 use Rattle.pac_request.specs.declared.request.Request.{Request}
@@ -91,6 +92,13 @@ reads-disk stop (inl is) same = let e : stop ≡ DiskFault = cc in let no : Inpu
 reads-disk stop (inr (inl is)) same = let e : stop ≡ DiskFault = cc in let no : TooLong ≡ DiskFault = sym is ∙ e in absurd cc
 reads-disk stop (inr (inr is)) same = let e : stop ≡ DiskFault = cc in let no : NoMemory ≡ DiskFault = sym is ∙ e in absurd cc
 
+-- they are the ways in which a read stops it
+reads-stop : (stop : RunStop) → (stop ≡ InputFault) ⊎ ((stop ≡ TooLong) ⊎ (stop ≡ NoMemory)) → (◌≡◌ {A = Result (Unit {0}) RunStop} (Err stop) (Err InputFault) → ⊥) → (◌≡◌ {A = Result (Unit {0}) RunStop} (Err stop) (Err TooLong) → ⊥)
+    → (◌≡◌ {A = Result (Unit {0}) RunStop} (Err stop) (Err NoMemory) → ⊥) → ⊥
+reads-stop stop (inl is) input long memory = input (ap (λ (s : RunStop). Err s) is)
+reads-stop stop (inr (inl is)) input long memory = long (ap (λ (s : RunStop). Err s) is)
+reads-stop stop (inr (inr is)) input long memory = memory (ap (λ (s : RunStop). Err s) is)
+
 -- ---- an end
 
 module _ (first now : EngineParts) (left mid : Option (List ℕ)) (reader : ReaderState) (held held' : Option (List ℕ)) (known known' : List (Option DiskHistory)) (serving : Serving first now left mid reader held held' known known') where
@@ -125,6 +133,7 @@ module _ (first now : EngineParts) (left mid : Option (List ℕ)) (reader : Read
           few = λ other. few (λ is. other (ap (λ (s : RunStop). Err s) is));
           long = λ is. long (same-stop is);
           cut = λ is. none (same-fault is);
+          behind = λ input far memory. absurd (reads-stop stop why input far memory);
           requests = serving.requests;
           asked = inl serving.asked;
           last = never-stops serving.requests serving.unstopped;
@@ -149,7 +158,7 @@ module _ (first now : EngineParts) (left mid : Option (List ℕ)) (reader : Read
 
   -- a request was not answered
   module _ (left' held'' : Option (List ℕ)) (known'' : List (Option DiskHistory)) (new : EngineParts) (asks : Request) (faulted faulted' : Type 0) (stop : RunStop) (lines : List (List ℕ)) (ahead : List ℕ)
-      (handled : WereHandled left lines ahead left') (few : TookAtMost MAX_INPUT left left') (asked : WereAsked first.session.catalogue lines (prepend_known ahead left') (serving.requests ++ asks ∷ [])) (later : faulted' → faulted)
+      (handled : WereHandled left lines ahead left') (few : TookAtMost MAX_INPUT left left') (short : length ahead < MAX_READ) (asked : WereAsked first.session.catalogue lines (prepend_known ahead left') (serving.requests ++ asks ∷ [])) (later : faulted' → faulted)
       (broke : Broke first.session.catalogue asks now new held' held'' known' known'' faulted' stop) where
     abbrev whole : GroupCut
     whole = cut (rules_of first.session) (state_now first.session) serving.requests
@@ -174,6 +183,7 @@ module _ (first now : EngineParts) (left mid : Option (List ℕ)) (reader : Read
       few = λ other. few;
       long = λ is. absurd (never-long (rules_of now.session) now.log.gate.place middle (cut_one (rules_of now.session) middle whole.rest asks).closed broke.more stop (broke.stops middle whole.rest serving.goes.closes.within) (same-too is));
       cut = λ is. absurd (never-fails (rules_of now.session) now.log.gate.place middle (cut_one (rules_of now.session) middle whole.rest asks).closed broke.more stop (broke.stops middle whole.rest serving.goes.closes.within) (same-input is));
+      behind = λ input far memory. short;
       requests = serving.requests ++ asks ∷ [];
       asked = asked;
       last = stops-last serving.requests asks serving.unstopped;
@@ -250,10 +260,10 @@ module _ (first now : EngineParts) (left mid : Option (List ℕ)) (reader : Read
         durable-by (inr large) = durable-large large.0 large.1
 
   -- a stop was answered
-  pub stop-served : (left' held'' : Option (List ℕ)) (known'' : List (Option DiskHistory)) (new : EngineParts) (faulted : Type 0) (lines : List (List ℕ)) (ahead : List ℕ) → WereHandled left lines ahead left' → TookAtMost MAX_INPUT left left'
+  pub stop-served : (left' held'' : Option (List ℕ)) (known'' : List (Option DiskHistory)) (new : EngineParts) (faulted : Type 0) (lines : List (List ℕ)) (ahead : List ℕ) → WereHandled left lines ahead left' → TookAtMost MAX_INPUT left left' → length ahead < MAX_READ
       → WereAsked first.session.catalogue lines (prepend_known ahead left') (serving.requests ++ request.Stop ∷ []) → Replied first.session.catalogue (request.Stop ∷ []) now new held' held'' known' known''
       → Served first new left left' held held'' known known'' faulted (Ok tt)
-  stop-served left' held'' known'' new faulted lines ahead handled few asked replied =
+  stop-served left' held'' known'' new faulted lines ahead handled few short asked replied =
       let goes = goes-more first now serving.requests serving.given known known' serving.goes new known'' (request.Stop ∷ []) replied.more replied.answered in
       let requests = serving.requests ++ request.Stop ∷ [] in
       let given = serving.given ++ replied.more in
@@ -267,6 +277,7 @@ module _ (first now : EngineParts) (left mid : Option (List ℕ)) (reader : Read
         few = λ other. few;
         long = λ is. absurd (no-err is);
         cut = λ is. absurd (no-input is);
+        behind = λ input far memory. short;
         requests = requests;
         asked = asked;
         last = stops-last serving.requests request.Stop serving.unstopped;

@@ -1,5 +1,5 @@
 -- What a run reads, writes and leaves.
-use Rattle.std.specs.Prelude.{◌≡◌, ◌⊎◌, ◌≤◌, ℕ, List, [], ◌∷◌, ◌++◌, length, map, take, Option, None, IfSome, Result, IfErr, IsErrOf, OnOk}
+use Rattle.std.specs.Prelude.{◌≡◌, ◌⊎◌, ◌<◌, ◌≤◌, ℕ, List, [], ◌∷◌, ◌++◌, length, map, take, Option, None, IfSome, Result, IfErr, IsErrOf, OnOk}
 use Rattle.std.specs.Io.KnownBytes.{prepend_known}
 use Rattle.std.specs.List.{AllByRecursion}
 use Rattle.pac_ops.specs.declared.transaction.Txn.{Txn}
@@ -9,6 +9,7 @@ use Rattle.pac_outside.specs.Disk.{DiskHistory, DiskState, Leaves, settled}
 use Rattle.pac_outside.specs.GateByte.{OneImage}
 use Rattle.pac_engine.specs.Parts.{OfLog, known_reads, slots_of}
 use Rattle.pac_lines.specs.Lines.{HasNoFeed}
+use Rattle.pac_lines.specs.declared.limits.TheConstants.{MAX_READ}
 use Rattle.pac_types.specs.Execution.{first_over}
 use Rattle.pac_types.specs.Typing.{CatalogueState}
 use Rattle.pac_log.specs.Logs.{HoldsLog, all_txns, log_prefix}
@@ -23,7 +24,7 @@ use Rattle.pac_engine.specs.Closing.{GroupFits, place_after}
 use Rattle.pac_engine.specs.Standing.{StandsWith, WhileAllKnown}
 use Rattle.pac_run.specs.declared.limits.TheConstants.{MAX_INPUT}
 use Rattle.pac_run.specs.declared.stop.RunStop.{RunStop}
-use Rattle.pac_run.specs.declared.stop.RunStop.TheVariants.{DiskFault, InputFault, LogFull, TooLong}
+use Rattle.pac_run.specs.declared.stop.RunStop.TheVariants.{DiskFault, InputFault, LogFull, NoMemory, TooLong}
 use Rattle.pac_run.specs.Acked.{Acknowledges, ReportsSaved}
 use Rattle.pac_run.specs.Asked.{NoSave, WereAsked, IsOverLong, StopsLast, TookAtMost, WereHandled}
 use Rattle.pac_run.specs.Opening.{AllStand}
@@ -111,6 +112,8 @@ pub record IsRun (batch limit : ℕ) (left left' held held' : Option (List ℕ))
   pub few : ¬ IsErrOf result TooLong → TookAtMost MAX_INPUT left left'
   pub long : IsErrOf result TooLong → IsOverLong ahead left left'
   pub cut : IsErrOf result InputFault → HasNoFeed ahead  -- no whole line was taken and not handled
+  -- nothing was read behind the last line: what was taken and not handled is of the read that gave its end
+  pub behind : ¬ IsErrOf result InputFault → ¬ IsErrOf result TooLong → ¬ IsErrOf result NoMemory → length ahead < MAX_READ
   pub rules : Rules
   pub requests : List Request
   pub asked : WereAsked rules.catalogue lines (prepend_known ahead left') requests

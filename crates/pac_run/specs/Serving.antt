@@ -1,5 +1,5 @@
 -- What an engine does while lines are served, from one to the next.
-use Rattle.std.specs.Prelude.{◌≡◌, ◌⊎◌, ◌≤◌, ℕ, Bool, true, false, List, [], ◌∷◌, ◌++◌, length, Option, Some, IfErr, IfSome, Result, MatchResult, IsErrOf}
+use Rattle.std.specs.Prelude.{◌≡◌, ◌⊎◌, ◌<◌, ◌≤◌, ℕ, Bool, true, false, List, [], ◌∷◌, ◌++◌, length, Option, Some, IfErr, IfSome, Result, MatchResult, IsErrOf}
 use Rattle.std.specs.Io.KnownBytes.{prepend_known}
 use Rattle.std.specs.List.{AllByRecursion, fold}
 use Rattle.pac_ops.specs.declared.transaction.Txn.{Txn}
@@ -9,6 +9,7 @@ use Rattle.pac_engine.specs.Parts.{slots_of}
 use Rattle.pac_lines.specs.Calls.{known}
 use Rattle.pac_lines.specs.Lines.{HandsOut, HasNoFeed}
 use Rattle.pac_lines.specs.Reading.{ReaderState}
+use Rattle.pac_lines.specs.declared.limits.TheConstants.{MAX_READ}
 use Rattle.pac_types.specs.Typing.{CatalogueState}
 use Rattle.pac_request.specs.declared.request.Request.{Request}
 use Rattle.pac_request.specs.declared.request.Request.TheVariants as request
@@ -137,7 +138,7 @@ pub record GoesFrom (first now : EngineParts) (requests : List Request) (given :
   pub slots : NoSave requests → slots_of histories' ≡ slots_of histories
   pub still : requests ≡ [] → histories' ≡ histories
 
--- lines were handed out, and that many bytes were taken, not too many
+-- lines were handed out, and that many bytes were taken, not too many; those ahead are of one read
 pub record HasRead (left left' : Option (List ℕ)) (reader : ReaderState) (lines : List (List ℕ)) : Type 0 where
   pub handed : IfSome left (λ text. (rest : List ℕ) × (known reader left' ≡ Some rest) × HandsOut text lines rest)
   pub bytes : List ℕ
@@ -145,6 +146,7 @@ pub record HasRead (left left' : Option (List ℕ)) (reader : ReaderState) (line
   pub counted : length bytes ≡ reader.taken
   pub limit : reader.limit ≡ MAX_INPUT
   pub within : reader.taken ≤ MAX_INPUT
+  pub short : length reader.ahead < MAX_READ
 
 -- between two lines
 pub record Serving (first now : EngineParts) (left left' : Option (List ℕ)) (reader : ReaderState) (held held' : Option (List ℕ)) (histories histories' : List (Option DiskHistory)) : Type 0 where
@@ -174,6 +176,7 @@ pub record Served (first now : EngineParts) (left left' held held' : Option (Lis
   pub few : ¬ IsErrOf result TooLong → TookAtMost MAX_INPUT left left'
   pub long : IsErrOf result TooLong → IsOverLong ahead left left'
   pub cut : IsErrOf result InputFault → HasNoFeed ahead
+  pub behind : ¬ IsErrOf result InputFault → ¬ IsErrOf result TooLong → ¬ IsErrOf result NoMemory → length ahead < MAX_READ
   pub requests : List Request
   pub asked : WereAsked first.session.catalogue lines (prepend_known ahead left') requests
   pub last : StopsLast requests
