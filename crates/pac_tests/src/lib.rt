@@ -15,6 +15,8 @@ mod files;
 #[cfg(test)]
 mod lines;
 #[cfg(test)]
+mod many;
+#[cfg(test)]
 mod pieces;
 #[cfg(test)]
 mod plans;
