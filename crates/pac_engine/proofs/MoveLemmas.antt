@@ -26,7 +26,7 @@ use Rattle.pac_session.specs.Open.{Open, rules_of, state_now, with_asked, with_r
 use Rattle.pac_engine.specs.declared.parts.EngineParts.{EngineParts}
 use Rattle.pac_engine.specs.Closing.{IsKept}
 use Rattle.pac_engine.specs.Moves.{AreHeld, IsHeldBy, IsLive, IsUnmoved, IsWorking, committed_parts, saved_parts, with_request}
-use Rattle.pac_engine.specs.Standing.{OnlyGrows, durable_of, saved_of}
+use Rattle.pac_engine.specs.Standing.{OnlyGrows, durable_of, reach_of, saved_of}
 use Rattle.pac_engine.proofs.SavingLemmas.{saves-all}
 use Rattle.pac_engine.proofs.BodyLemmas.{txns-after, catalogue-after}
 
@@ -85,7 +85,7 @@ pub all-held-kept : (e : EngineParts) (n : ℕ) → n ≤ durable_of e → (xs :
 all-held-kept e n le [] all = tt
 all-held-kept e n le (x ∷ xs) all = (held-kept e n le x all.0, all-held-kept e n le xs all.1)
 
-pub kept-and-saved : (e : EngineParts) (n : ℕ) (xs : List Reply) → n ≤ saved_of e → AllByRecursion (IsKept e) xs → AllByRecursion (IsKept e) (xs ++ reply.Saved n ∷ [])
+pub kept-and-saved : (e : EngineParts) (n : ℕ) (xs : List Reply) → n < saved_of e → AllByRecursion (IsKept e) xs → AllByRecursion (IsKept e) (xs ++ reply.Saved n ∷ [])
 kept-and-saved e n [] le all = (le, tt)
 kept-and-saved e n (x ∷ xs) le all = (all.0, kept-and-saved e n xs le all.1)
 
@@ -181,49 +181,53 @@ live-closed e is = record { working = working-closed e is; unfull = is.some }
 
 -- ---- a checkpoint is saved
 
-not-ahead : (x y : Option SlotInfo) (n : ℕ) → saved_txns x ≤ n → saved_txns y ≤ n → saved_txns (with_more x y) ≤ n
+pub reach_within : (newest : Option SlotInfo) (number : ℕ) → saved_txns newest ≤ number → reach_of newest ≤ number + 1
+reach_within None number within = omega arith
+reach_within (Some info) number within = omega (arith, within)
+
+not-ahead : (x y : Option SlotInfo) (n : ℕ) → reach_of x ≤ n → reach_of y ≤ n → reach_of (with_more x y) ≤ n
 not-ahead None y n first second = second
 not-ahead (Some x) None n first second = first
 not-ahead (Some x) (Some y) n first second = go (nat_lt x.txns y.txns)
   where
-    go : (t : Bool) → saved_txns (if t then Some y else Some x) ≤ n
+    go : (t : Bool) → reach_of (if t then Some y else Some x) ≤ n
     go true = second
     go false = first
 
-at-most-a : (x y : Option SlotInfo) → saved_txns x ≤ saved_txns (with_more x y)
+at-most-a : (x y : Option SlotInfo) → reach_of x ≤ reach_of (with_more x y)
 at-most-a None y = omega arith
 at-most-a (Some x) None = omega arith
 at-most-a (Some x) (Some y) = go (nat_lt x.txns y.txns) refl
   where
-    go : (t : Bool) → nat_lt x.txns y.txns ≡ t → x.txns ≤ saved_txns (if t then Some y else Some x)
+    go : (t : Bool) → nat_lt x.txns y.txns ≡ t → x.txns + 1 ≤ reach_of (if t then Some y else Some x)
     go true e = let less : x.txns < y.txns = grind (arith, e) in omega arith
     go false e = omega arith
 
-at-most-b : (x y : Option SlotInfo) → saved_txns y ≤ saved_txns (with_more x y)
+at-most-b : (x y : Option SlotInfo) → reach_of y ≤ reach_of (with_more x y)
 at-most-b None y = omega arith
 at-most-b (Some x) None = omega arith
 at-most-b (Some x) (Some y) = go (nat_lt x.txns y.txns) refl
   where
-    go : (t : Bool) → nat_lt x.txns y.txns ≡ t → y.txns ≤ saved_txns (if t then Some y else Some x)
+    go : (t : Bool) → nat_lt x.txns y.txns ≡ t → y.txns + 1 ≤ reach_of (if t then Some y else Some x)
     go true e = omega arith
     go false e = let more : y.txns ≤ x.txns = ltb-false _ _ e in omega arith
 
 -- the new checkpoint is as far as the log, and so is none ahead of it
-saved-within : (e : EngineParts) → saved_of e ≤ durable_of e → saved_of (saved_parts e) ≤ durable_of e
+saved-within : (e : EngineParts) → saved_of e ≤ durable_of e + 1 → saved_of (saved_parts e) ≤ durable_of e + 1
 saved-within e le = go (spare_of e.slots) refl
   where
     new_head : Head
     new_head = head_with e.log.gate.txns e.log.gate.place
 
-    first : saved_txns (info_of A e.slots.a) ≤ e.log.gate.txns
+    first : reach_of (info_of A e.slots.a) ≤ e.log.gate.txns + 1
     first = omega (arith, le, at-most-a (info_of A e.slots.a) (info_of B e.slots.b))
 
-    second : saved_txns (info_of B e.slots.b) ≤ e.log.gate.txns
+    second : reach_of (info_of B e.slots.b) ≤ e.log.gate.txns + 1
     second = omega (arith, le, at-most-b (info_of A e.slots.a) (info_of B e.slots.b))
 
-    go : (spare : SlotName) → spare_of e.slots ≡ spare → saved_txns (newest_of (by_slot (spare_of e.slots) (record (e.slots) { a = OpenSlot (head_with e.log.gate.txns e.log.gate.place) }) (record (e.slots) { b = OpenSlot (head_with e.log.gate.txns e.log.gate.place) }))) ≤ e.log.gate.txns
-    go A is = rw is (not-ahead (info_of A (OpenSlot (head_with e.log.gate.txns e.log.gate.place))) (info_of B e.slots.b) e.log.gate.txns (omega arith) second)
-    go B is = rw is (not-ahead (info_of A e.slots.a) (info_of B (OpenSlot (head_with e.log.gate.txns e.log.gate.place))) e.log.gate.txns first (omega arith))
+    go : (spare : SlotName) → spare_of e.slots ≡ spare → reach_of (newest_of (by_slot (spare_of e.slots) (record (e.slots) { a = OpenSlot (head_with e.log.gate.txns e.log.gate.place) }) (record (e.slots) { b = OpenSlot (head_with e.log.gate.txns e.log.gate.place) }))) ≤ e.log.gate.txns + 1
+    go A is = rw is (not-ahead (info_of A (OpenSlot (head_with e.log.gate.txns e.log.gate.place))) (info_of B e.slots.b) (e.log.gate.txns + 1) (omega arith) second)
+    go B is = rw is (not-ahead (info_of A e.slots.a) (info_of B (OpenSlot (head_with e.log.gate.txns e.log.gate.place))) (e.log.gate.txns + 1) first (omega arith))
 
 kept-working : (slots : Slots) (spare : SlotName) (head : Head) → (by_slot spare (record slots { a = OpenSlot head }) (record slots { b = OpenSlot head })).has_failed ≡ slots.has_failed
 kept-working slots A head = refl
@@ -255,5 +259,5 @@ grown-saved e new is becomes = record { durable = omega (arith, ap durable_of be
 pub grown-unmoved : (e new : EngineParts) → IsUnmoved e new → OnlyGrows e new
 grown-unmoved e new is = record {
   durable = omega (arith, ap (λ (gate : NextGate). gate.txns) is.gate);
-  saved = omega (arith, ap (λ (x : SlotState). saved_txns (with_more (info_of A x) (info_of B new.slots.b))) is.slot_a, ap (λ (y : SlotState). saved_txns (with_more (info_of A e.slots.a) (info_of B y))) is.slot_b);
+  saved = omega (arith, ap (λ (x : SlotState). reach_of (with_more (info_of A x) (info_of B new.slots.b))) is.slot_a, ap (λ (y : SlotState). reach_of (with_more (info_of A e.slots.a) (info_of B y))) is.slot_b);
 }

@@ -16,9 +16,9 @@ use Rattle.pac_check.specs.declared.slots.Slots.{Slots}
 use Rattle.pac_check.specs.Checkpoints.{Checkpoint, IsCheckpoint, checkpoint_bytes, head_with}
 use Rattle.pac_check.specs.Replacing.{HasByte, IsOldShutOrNew}
 use Rattle.pac_check.specs.Saved.{checkpoint_of}
-use Rattle.pac_check.specs.SlotStates.{HoldsCheckpoint, HoldsRows, by_slot, saved_txns, spare_of}
+use Rattle.pac_check.specs.SlotStates.{HoldsCheckpoint, HoldsRows, by_slot, spare_of}
 use Rattle.pac_engine.specs.declared.parts.EngineParts.{EngineParts}
-use Rattle.pac_engine.specs.Standing.{KeepsHistory, StandsOn, WhileAllKnown}
+use Rattle.pac_engine.specs.Standing.{KeepsHistory, StandsOn, WhileAllKnown, reach_of}
 use Rattle.pac_check.specs.SlotStates.{newest_of}
 use Rattle.pac_engine.proofs.KnownLemmas.{NewIn, Replacing, refused-keeps, unsaved-keeps}
 
@@ -81,7 +81,7 @@ unchanged : (text : List ℕ) (history : List Txn) (e : EngineParts) (l a b a' b
 unchanged text history e l a b a' b' slots same =
     subst (λ (y : Option DiskHistory). WhileAllKnown (StandsOn text history e) (KeepsHistory text (history ++ []) e (record e { slots = slots })) (l ∷ a ∷ b ∷ []) (l ∷ a' ∷ y ∷ [])) (sym same.2)
     (subst (λ (x : Option DiskHistory). WhileAllKnown (StandsOn text history e) (KeepsHistory text (history ++ []) e (record e { slots = slots })) (l ∷ a ∷ b ∷ []) (l ∷ x ∷ b ∷ [])) (sym same.1)
-    (refused-keeps text history e (record e { slots = slots }) (all_known (l ∷ a ∷ b ∷ [])) refl (ap (λ (s : Slots). saved_txns (newest_of s)) same.0)))
+    (refused-keeps text history e (record e { slots = slots }) (all_known (l ∷ a ∷ b ∷ [])) refl (ap (λ (s : Slots). reach_of (newest_of s)) same.0)))
 
 pub save-fails : (text : List ℕ) (history : List Txn) (e : EngineParts) → e.session.txns ≡ [] → FitTables e.session.catalogue.tables e.session.tables → (l a b a' b' : Option DiskHistory)
     → (HasByte (by_slot (spare_of e.slots) e.slots.a e.slots.b) → BothKnown (Replacing e) (by_slot (spare_of e.slots) a b) (by_slot (spare_of e.slots) a' b'))
@@ -92,6 +92,6 @@ pub save-fails : (text : List ℕ) (history : List Txn) (e : EngineParts) → e.
     → WhileAllKnown (StandsOn text history e) (KeepsHistory text (history ++ []) e (record e { slots = slots })) (l ∷ a ∷ b ∷ []) (l ∷ a' ∷ b' ∷ [])
 save-fails text history e none fit l a b a' b' any other save.DiskFault slots failed refused =
     let facts = failed refl in
-    unsaved-keeps text history e none fit l a b a' b' any other facts.0 (record e { slots = slots }) refl (ap (λ (s : Slots). saved_txns (newest_of s)) facts.1)
+    unsaved-keeps text history e none fit l a b a' b' any other facts.0 (record e { slots = slots }) refl (ap (λ (s : Slots). reach_of (newest_of s)) facts.1)
 save-fails text history e none fit l a b a' b' any other (save.TooLarge bytes) slots failed refused = unchanged text history e l a b a' b' slots (refused (λ h. cc))
 save-fails text history e none fit l a b a' b' any other save.NoMemory slots failed refused = unchanged text history e l a b a' b' slots (refused (λ h. cc))

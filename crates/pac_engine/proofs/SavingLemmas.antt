@@ -22,14 +22,14 @@ use Rattle.pac_check.specs.declared.state.SlotState.TheVariants.{Empty, Closed, 
 use Rattle.pac_check.specs.Checkpoints.{IsCheckpoint, checkpoint_bytes, head_with}
 use Rattle.pac_check.specs.Replacing.{HasByte, IsOldShutOrNew}
 use Rattle.pac_check.specs.Saved.{checkpoint_of}
-use Rattle.pac_check.specs.SlotStates.{HoldsRows, IsSlot, by_slot, info_of, newest_of, saved_txns, spare_beside, spare_of, with_more}
+use Rattle.pac_check.specs.SlotStates.{HoldsRows, IsSlot, by_slot, info_of, newest_of, spare_beside, spare_of, with_more}
 use Rattle.pac_check.proofs.SlotLemmas.{begins, read_held}
 use Rattle.pac_store.specs.Images.{Images}
 use Rattle.pac_store.specs.Stands.{EndsWith, HoldsSaved, IsShutOrPrefix}
 use Rattle.pac_store.proofs.StandsLemmas.{newest-one}
 use Rattle.pac_engine.specs.declared.parts.EngineParts.{EngineParts}
 use Rattle.pac_engine.specs.Moves.{saved_parts}
-use Rattle.pac_engine.specs.Standing.{EngineStands, MayLeave, StandsWith, durable_of, saved_of}
+use Rattle.pac_engine.specs.Standing.{EngineStands, MayLeave, StandsWith, durable_of, reach_of, saved_of}
 use Rattle.pac_engine.proofs.DeviceLemmas.{three, image-of, a-runs, b-runs}
 use Rattle.pac_engine.proofs.StandingLemmas.{durable-is, open-saved, some-open, stands-at, tables-few}
 
@@ -58,7 +58,7 @@ info-of-b slots spare info newest = go info.slot refl (newest-one (info_of A slo
     go B e which = let no : A ≡ B = sym (ap (λ (s : SlotName). by_slot s B A) e) ∙ beside in absurd cc
 
 -- once a checkpoint is saved, the newest slot has at least as many transactions
-at-least : (x y : Option SlotInfo) (n : ℕ) → (info : SlotInfo) × (info.txns ≡ n) × ((x ≡ Some info) ⊎ (y ≡ Some info)) → n ≤ saved_txns (with_more x y)
+at-least : (x y : Option SlotInfo) (n : ℕ) → (info : SlotInfo) × (info.txns ≡ n) × ((x ≡ Some info) ⊎ (y ≡ Some info)) → n < reach_of (with_more x y)
 at-least None None n (info, is, inl e) = absurd cc
 at-least None None n (info, is, inr e) = absurd cc
 at-least None (Some y) n (info, is, inl e) = absurd cc
@@ -67,16 +67,16 @@ at-least (Some x) None n (info, is, inl e) = let same : x ≡ info = cc in omega
 at-least (Some x) None n (info, is, inr e) = absurd cc
 at-least (Some x) (Some y) n (info, is, which) = go (nat_lt x.txns y.txns) refl which
   where
-    go : (t : Bool) → nat_lt x.txns y.txns ≡ t → (Some x ≡ Some info) ⊎ (Some y ≡ Some info) → n ≤ saved_txns (if t then Some y else Some x)
+    go : (t : Bool) → nat_lt x.txns y.txns ≡ t → (Some x ≡ Some info) ⊎ (Some y ≡ Some info) → n < reach_of (if t then Some y else Some x)
     go true e (inl h) = let same : x ≡ info = cc in let less : x.txns < y.txns = grind (arith, e) in omega (arith, is, ap (λ (i : SlotInfo). i.txns) same)
     go true e (inr h) = let same : y ≡ info = cc in omega (arith, is, ap (λ (i : SlotInfo). i.txns) same)
     go false e (inl h) = let same : x ≡ info = cc in omega (arith, is, ap (λ (i : SlotInfo). i.txns) same)
     go false e (inr h) = let same : y ≡ info = cc in let more : y.txns ≤ x.txns = ltb-false _ _ e in omega (arith, is, ap (λ (i : SlotInfo). i.txns) same)
 
-pub saves-all : (e : EngineParts) → e.log.gate.txns ≤ saved_of (saved_parts e)
+pub saves-all : (e : EngineParts) → e.log.gate.txns < saved_of (saved_parts e)
 saves-all e = go (spare_of e.slots) refl
   where
-    go : (spare : SlotName) → spare_of e.slots ≡ spare → e.log.gate.txns ≤ saved_txns (newest_of (by_slot (spare_of e.slots) (record (e.slots) { a = Open (head_with e.log.gate.txns e.log.gate.place) }) (record (e.slots) { b = Open (head_with e.log.gate.txns e.log.gate.place) })))
+    go : (spare : SlotName) → spare_of e.slots ≡ spare → e.log.gate.txns < reach_of (newest_of (by_slot (spare_of e.slots) (record (e.slots) { a = Open (head_with e.log.gate.txns e.log.gate.place) }) (record (e.slots) { b = Open (head_with e.log.gate.txns e.log.gate.place) })))
     go A is = rw is (at-least (info_of A (Open (head_with e.log.gate.txns e.log.gate.place))) (info_of B e.slots.b) e.log.gate.txns (record { slot = A; txns = e.log.gate.txns; place = e.log.gate.place }, refl, inl refl))
     go B is = rw is (at-least (info_of A e.slots.a) (info_of B (Open (head_with e.log.gate.txns e.log.gate.place))) e.log.gate.txns (record { slot = B; txns = e.log.gate.txns; place = e.log.gate.place }, refl, inr refl))
 
@@ -134,7 +134,7 @@ module _ (text : List ℕ) (history : List Txn) (e : EngineParts) (l a b : DiskH
         saves : (x : List ℕ) → HoldsSaved e.session.catalogue (saved_of e) (three l.now.seen x b.now.seen)
         saves x = go (newest_of e.slots) refl
           where
-            go : (newest : Option SlotInfo) → newest_of e.slots ≡ newest → HoldsSaved e.session.catalogue (saved_txns newest) (three l.now.seen x b.now.seen)
+            go : (newest : Option SlotInfo) → newest_of e.slots ≡ newest → HoldsSaved e.session.catalogue (reach_of newest) (three l.now.seen x b.now.seen)
             go None h = inl refl
             go (Some info) h = inr (inr (open-saved text e.session.catalogue (tables-few text history e l a b is) is.batches b.now.seen e.slots.b is.slot_b.has is.known_b B info (info-of-a e.slots spare info h)))
 
@@ -147,7 +147,7 @@ module _ (text : List ℕ) (history : List Txn) (e : EngineParts) (l a b : DiskH
         saves : (y : List ℕ) → HoldsSaved e.session.catalogue (saved_of e) (three l.now.seen a.now.seen y)
         saves y = go (newest_of e.slots) refl
           where
-            go : (newest : Option SlotInfo) → newest_of e.slots ≡ newest → HoldsSaved e.session.catalogue (saved_txns newest) (three l.now.seen a.now.seen y)
+            go : (newest : Option SlotInfo) → newest_of e.slots ≡ newest → HoldsSaved e.session.catalogue (reach_of newest) (three l.now.seen a.now.seen y)
             go None h = inl refl
             go (Some info) h = inr (inl (open-saved text e.session.catalogue (tables-few text history e l a b is) is.batches a.now.seen e.slots.a is.slot_a.has is.known_a A info (info-of-b e.slots spare info h)))
 

@@ -27,7 +27,7 @@ use Rattle.pac_check.specs.declared.slots.Slots.{Slots}
 use Rattle.pac_check.specs.declared.damage.SlotFault.{SlotFault}
 use Rattle.pac_check.specs.declared.state.SlotState.{SlotState}
 use Rattle.pac_check.specs.declared.state.SlotState.TheVariants.{Empty, Closed, Open}
-use Rattle.pac_check.specs.SlotStates.{info_of, newest_of, saved_txns, IsSlot}
+use Rattle.pac_check.specs.SlotStates.{info_of, newest_of, IsSlot}
 use Rattle.pac_check.specs.Saved.{checkpoint_of}
 use Rattle.pac_store.specs.Images.{Images}
 use Rattle.pac_store.specs.Stands.{EndsWith, HasSaved, HoldsSaved, IsHistory, IsShutOrPrefix}
@@ -38,7 +38,7 @@ use Rattle.pac_session.proofs.SessionLemmas.{after-serial, serial-then}
 use Rattle.pac_engine.specs.declared.parts.EngineParts.{EngineParts}
 use Rattle.pac_engine.specs.Committing.{HasAdded, MayAdd, gate_past, with_batch}
 use Rattle.pac_engine.specs.Moves.{committed_parts, with_request}
-use Rattle.pac_engine.specs.Standing.{EngineStands, KeepsHistory, MayLeave, StandsWith, durable_of, saved_of}
+use Rattle.pac_engine.specs.Standing.{EngineStands, KeepsHistory, MayLeave, StandsWith, durable_of, reach_of, saved_of}
 use Rattle.pac_engine.proofs.DeviceLemmas.{three, image-of, of-three, weaken-three, log-runs}
 
 -- ---- a log with the transactions of a group after it
@@ -76,7 +76,7 @@ some-open slot (Open head) info e = let same : info ≡ record { slot = slot; tx
 
 module _ (text : List ℕ) (catalogue : CatalogueState) (few_tables : length catalogue.tables < 65536) (batches : List (List Txn)) where
   -- an open slot has a checkpoint with the number that is known of it
-  pub open-saved : (image : List ℕ) (state : SlotState) → IsShutOrPrefix text catalogue batches image → IsSlot catalogue.tables state image → (slot : SlotName) (info : SlotInfo) → info_of slot state ≡ Some info → HasSaved catalogue info.txns image
+  pub open-saved : (image : List ℕ) (state : SlotState) → IsShutOrPrefix text catalogue batches image → IsSlot catalogue.tables state image → (slot : SlotName) (info : SlotInfo) → info_of slot state ≡ Some info → HasSaved catalogue (info.txns + 1) image
   open-saved image state is known slot info e =
       let read = readable text catalogue few_tables batches image is in
       let found = some-open slot state info e in
@@ -85,10 +85,10 @@ module _ (text : List ℕ) (catalogue : CatalogueState) (few_tables : length cat
 
   -- so the newest slot has one
   pub saved-now : (slots : Slots) (images : Images) → IsShutOrPrefix text catalogue batches images.slot_a → IsShutOrPrefix text catalogue batches images.slot_b
-      → IsSlot catalogue.tables slots.a images.slot_a → IsSlot catalogue.tables slots.b images.slot_b → HoldsSaved catalogue (saved_txns (newest_of slots)) images
+      → IsSlot catalogue.tables slots.a images.slot_a → IsSlot catalogue.tables slots.b images.slot_b → HoldsSaved catalogue (reach_of (newest_of slots)) images
   saved-now slots images is_a is_b known_a known_b = go (newest_of slots) refl
     where
-      go : (newest : Option SlotInfo) → newest_of slots ≡ newest → HoldsSaved catalogue (saved_txns newest) images
+      go : (newest : Option SlotInfo) → newest_of slots ≡ newest → HoldsSaved catalogue (reach_of newest) images
       go None e = inl refl
       go (Some info) e = ⊎_elim (λ a. inr (inl (open-saved images.slot_a slots.a is_a known_a A info a))) (λ b. inr (inr (open-saved images.slot_b slots.b is_b known_b B info b))) (newest-one (info_of A slots.a) (info_of B slots.b) info e)
 

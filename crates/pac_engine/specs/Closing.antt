@@ -62,7 +62,7 @@ IsKept engine (reply.Aborted op reason) = Unit {0}
 IsKept engine (reply.AbortedFull table) = Unit {0}
 IsKept engine (reply.Shown table key row) = Unit {0}
 IsKept engine (reply.Refused fault) = Unit {0}
-IsKept engine (reply.Saved txns) = txns ≤ saved_of engine
+IsKept engine (reply.Saved txns) = txns < saved_of engine
 
 -- ---- where a step stops
 

@@ -41,7 +41,7 @@ pub record IsWorking (engine : EngineParts) : Type 0 where
   pub fewer : length engine.session.txns ≤ length engine.session.held
   pub held : AreHeld engine.session
   pub limit : engine.session.limit ≤ MAX_SAVED_ROWS
-  pub saved : saved_of engine ≤ durable_of engine
+  pub saved : saved_of engine ≤ durable_of engine + 1
 
 -- between requests the open group isn't full
 pub record IsLive (engine : EngineParts) : Type 0 where

@@ -1,5 +1,5 @@
 -- Which history an engine stands for on its devices, and what is kept of it while the devices are called.
-use Rattle.std.specs.Prelude.{◌≡◌, ◌≤◌, ℕ, List, [], ◌∷◌, ◌++◌, take, Option, Some, None}
+use Rattle.std.specs.Prelude.{◌≡◌, ◌≤◌, ◌+◌, ℕ, List, [], ◌∷◌, ◌++◌, take, Option, Some, None}
 use Rattle.std.specs.List.{All}
 use Rattle.pac_ops.specs.declared.transaction.Txn.{Txn}
 use Rattle.pac_outside.specs.Devices.{AllLeave, RunLeaves, all_known, each}
@@ -10,7 +10,8 @@ use Rattle.pac_types.specs.Fits.{TxnFits}
 use Rattle.pac_types.specs.Typing.{CatalogueState}
 use Rattle.pac_log.specs.Logs.{HoldsLog, all_txns}
 use Rattle.pac_log.specs.Places.{IsAfter, LogEndsAt}
-use Rattle.pac_check.specs.SlotStates.{IsSlot, newest_of, saved_txns}
+use Rattle.pac_check.specs.declared.info.SlotInfo.{SlotInfo}
+use Rattle.pac_check.specs.SlotStates.{IsSlot, newest_of}
 use Rattle.pac_store.specs.Images.{Images, OfThree}
 use Rattle.pac_store.specs.Stands.{EndsWith, HoldsSaved, IsShutOrPrefix, StandsFor}
 use Rattle.pac_engine.specs.declared.parts.EngineParts.{EngineParts}
@@ -19,9 +20,13 @@ use Rattle.pac_engine.specs.declared.parts.EngineParts.{EngineParts}
 abbrev pub durable_of : EngineParts → ℕ
 durable_of engine = engine.log.gate.txns
 
--- how many are in the newest checkpoint
+-- how far the newest checkpoint reaches: one more than how many it has, and 0 where no slot is open
+abbrev pub reach_of : Option SlotInfo → ℕ
+reach_of None = 0
+reach_of (Some info) = info.txns + 1
+
 abbrev pub saved_of : EngineParts → ℕ
-saved_of engine = saved_txns (newest_of engine.slots)
+saved_of engine = reach_of (newest_of engine.slots)
 
 -- what is durable and saved stays so
 pub record OnlyGrows (before now : EngineParts) : Type 0 where
@@ -35,7 +40,7 @@ pub record HasDevices {D : Type 0} (known : D → Option DiskHistory) (engine : 
   pub slot_a : IfKnown (λ now. OneImage (IsSlot engine.session.catalogue.tables engine.slots.a) now.now) (known devices.slot_a)
   pub slot_b : IfKnown (λ now. OneImage (IsSlot engine.session.catalogue.tables engine.slots.b) now.now) (known devices.slot_b)
 
--- The devices stand for the history, of which the log has at least that many transactions and some slot at least that many.
+-- The devices stand for the history, of which the log has at least that many transactions, and some slot reaches so far.
 pub record StandsWith (text : List ℕ) (catalogue : CatalogueState) (history : List Txn) (least saved : ℕ) (images : Images) : Type 0 where
   pub stands : StandsFor text catalogue history least images
   pub saves : HoldsSaved catalogue saved images

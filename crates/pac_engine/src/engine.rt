@@ -60,6 +60,7 @@ fn is_stop(request: &Request) -> bool
 impl Engine {
     /// The engine over these tables, a log and slots. A group holds at most `batch` replies, and each table has at most
     /// `limit` rows. Takes no memory.
+    #[tactic(auto, using(crate::proofs::MoveLemmas::reach_within))]
     pub fn new(
         alloc: Global,
         catalogue: Catalogue,

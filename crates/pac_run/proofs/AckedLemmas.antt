@@ -112,8 +112,8 @@ after-name (b ∷ v) (c ∷ w) x y r s all other none still same = after-name v 
 
 -- ---- what lines say
 
-abbrev pub ReportsAtMost : List ℕ → ℕ → List ℕ → Type 0
-ReportsAtMost word most line = (number : ℕ) → number < 2 ^ 64 → word ++ decimal number ≡ line → number ≤ most
+abbrev pub ReportsOnly : List ℕ → (ℕ → Type 0) → List ℕ → Type 0
+ReportsOnly word P line = (number : ℕ) → number < 2 ^ 64 → word ++ decimal number ≡ line → P number
 
 same-number : (prefix : List ℕ) (m n : ℕ) → m < 2 ^ 64 → n < 2 ^ 64 → prefix ++ decimal m ≡ prefix ++ decimal n → m ≡ n
 same-number [] m n small small' same = decimal_injective m n small small' same
@@ -129,7 +129,7 @@ shown-other word name more number all named same =
 shown-split : (name key row : List ℕ) → name ++ codes "[" ++ key ++ codes "]" ++ row ≡ name ++ 91 ∷ ((key ++ 93 ∷ []) ++ row)
 shown-split name key row = ap (λ (l : List ℕ). (l ++ (93 ∷ [])) ++ row) (append_assoc name (91 ∷ []) key) ∙ ap (λ (l : List ℕ). l ++ row) (append_assoc name (91 ∷ key) (93 ∷ [])) ∙ append_assoc name ((91 ∷ key) ++ (93 ∷ [])) row
 
-kept-knows : (catalogue : CatalogueState) → AreNamed catalogue.tables → (engine : EngineParts) (r : Reply) → IsPlain r → IsKept engine r → ReportsAtMost (codes "committed ") (durable_of engine) (reply_words catalogue r)
+kept-knows : (catalogue : CatalogueState) → AreNamed catalogue.tables → (engine : EngineParts) (r : Reply) → IsPlain r → IsKept engine r → ReportsOnly (codes "committed ") (λ n. n ≤ durable_of engine) (reply_words catalogue r)
 kept-knows catalogue names engine (Committed txn) plain kept number few same =
     let is = same-number (codes "committed ") number txn few plain same in
     let k : txn ≤ durable_of engine = kept in
@@ -140,10 +140,10 @@ kept-knows catalogue names engine (Shown table key row) plain kept number few sa
 kept-knows catalogue names engine (Refused fault) plain kept number few same = let h : 99 ≡ 114 = heads _ _ _ _ same in omega (arith, h)
 kept-knows catalogue names engine (Saved txns) plain kept number few same = let h : 99 ≡ 115 = heads _ _ _ _ same in omega (arith, h)
 
-kept-saved : (catalogue : CatalogueState) → AreNamed catalogue.tables → (engine : EngineParts) (r : Reply) → IsPlain r → IsKept engine r → ReportsAtMost (codes "saved ") (saved_of engine) (reply_words catalogue r)
+kept-saved : (catalogue : CatalogueState) → AreNamed catalogue.tables → (engine : EngineParts) (r : Reply) → IsPlain r → IsKept engine r → ReportsOnly (codes "saved ") (λ n. n < saved_of engine) (reply_words catalogue r)
 kept-saved catalogue names engine (Saved txns) plain kept number few same =
     let is = same-number (codes "saved ") number txns few plain same in
-    let k : txns ≤ saved_of engine = kept in
+    let k : txns < saved_of engine = kept in
     omega (arith, is, k)
 kept-saved catalogue names engine (Aborted op reason) plain kept number few same = let h : 115 ≡ 97 = heads _ _ _ _ same in omega (arith, h)
 kept-saved catalogue names engine (AbortedFull table) plain kept number few same = let h : 115 ≡ 97 = heads _ _ _ _ same in omega (arith, h)
@@ -191,11 +191,11 @@ one-among P line (first ∷ lines) each (inl same) = (first, same, each.0)
 one-among P line (first ∷ lines) each (inr is) = one-among P line lines each.1 is
 
 module _ (catalogue : CatalogueState) (names : AreNamed catalogue.tables) (engine : EngineParts) (replies : List Reply) (output : List ℕ) (plain : AllByRecursion IsPlain replies) (kept : AllByRecursion (IsKept engine) replies) (prefix : IsTextPrefix output (texts catalogue replies)) where
-  knows : (word : List ℕ) (most : ℕ) → AllByRecursion (λ r. ReportsAtMost word most (reply_words catalogue r)) replies → (number : ℕ) → (number < 2 ^ 64) × IsOneOfLines (word ++ decimal number) (whole_lines output) → number ≤ most
-  knows word most each number is =
+  knows : (word : List ℕ) (P : ℕ → Type 0) → AllByRecursion (λ r. ReportsOnly word P (reply_words catalogue r)) replies → (number : ℕ) → (number < 2 ^ 64) × IsOneOfLines (word ++ decimal number) (whole_lines output) → P number
+  knows word P each number is =
       let feeds = each-of IsPlain (λ r. Unit {0}) (λ r. HasNoFeed (reply_words catalogue r)) (λ r p u. words-no-feed catalogue names r p) replies plain (all-unit replies) in
-      let lines = subst (λ (t : List ℕ). AllByRecursion (ReportsAtMost word most) (whole_lines t)) (sym prefix.is) (each-line (ReportsAtMost word most) catalogue replies feeds each prefix.count) in
-      let one = one-among (ReportsAtMost word most) (word ++ decimal number) (whole_lines output) lines is.1 in
+      let lines = subst (λ (t : List ℕ). AllByRecursion (ReportsOnly word P) (whole_lines t)) (sym prefix.is) (each-line (ReportsOnly word P) catalogue replies feeds each prefix.count) in
+      let one = one-among (ReportsOnly word P) (word ++ decimal number) (whole_lines output) lines is.1 in
       one.2 number is.0 one.1
     where
       all-unit : (rs : List Reply) → AllByRecursion (λ r. Unit {0}) rs
@@ -204,7 +204,7 @@ module _ (catalogue : CatalogueState) (names : AreNamed catalogue.tables) (engin
 
   -- an output that is a prefix of the texts of kept replies acknowledges nothing but what is durable
   pub acknowledged : (number : ℕ) → Acknowledges output number → number ≤ durable_of engine
-  acknowledged = knows (codes "committed ") (durable_of engine) (each-of IsPlain (IsKept engine) (λ r. ReportsAtMost (codes "committed ") (durable_of engine) (reply_words catalogue r)) (λ r p k. kept-knows catalogue names engine r p k) replies plain kept)
+  acknowledged = knows (codes "committed ") (λ n. n ≤ durable_of engine) (each-of IsPlain (IsKept engine) (λ r. ReportsOnly (codes "committed ") (λ n. n ≤ durable_of engine) (reply_words catalogue r)) (λ r p k. kept-knows catalogue names engine r p k) replies plain kept)
 
-  pub known-saved : (number : ℕ) → ReportsSaved output number → number ≤ saved_of engine
-  known-saved = knows (codes "saved ") (saved_of engine) (each-of IsPlain (IsKept engine) (λ r. ReportsAtMost (codes "saved ") (saved_of engine) (reply_words catalogue r)) (λ r p k. kept-saved catalogue names engine r p k) replies plain kept)
+  pub known-saved : (number : ℕ) → ReportsSaved output number → number < saved_of engine
+  known-saved = knows (codes "saved ") (λ n. n < saved_of engine) (each-of IsPlain (IsKept engine) (λ r. ReportsOnly (codes "saved ") (λ n. n < saved_of engine) (reply_words catalogue r)) (λ r p k. kept-saved catalogue names engine r p k) replies plain kept)

@@ -37,7 +37,7 @@ kept-one old new grows (reply.Aborted op reason) is = tt
 kept-one old new grows (reply.AbortedFull table) is = tt
 kept-one old new grows (reply.Shown table key row) is = tt
 kept-one old new grows (reply.Refused fault) is = tt
-kept-one old new grows (reply.Saved txns) is = let k : txns ≤ saved_of old = is in omega (arith, k, grows.saved)
+kept-one old new grows (reply.Saved txns) is = let k : txns < saved_of old = is in omega (arith, k, grows.saved)
 
 pub kept-grows : (old new : EngineParts) → OnlyGrows old new → (given : List Reply) → AllByRecursion (IsKept old) given → AllByRecursion (IsKept new) given
 kept-grows old new grows [] kept = tt

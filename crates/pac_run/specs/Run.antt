@@ -54,13 +54,13 @@ abbrev pub history_after : List Txn → Rules → SessionState → List Request 
 history_after history rules start requests = take start.number history ++ committed rules start requests
 
 -- Each image that a crash may leave at the exit stands for the history. The log has what it had at entry, and each
--- transaction that the output acknowledges; some slot has a checkpoint of as many as the output says that one has.
+-- transaction that the output acknowledges; where that says `saved N`, some slot is open with a checkpoint of at least N.
 pub record IsExit (text : List ℕ) (catalogue : CatalogueState) (history : List Txn) (entered : ℕ) (out : List ℕ) (now : List DiskHistory) : Type 0 where
   pub least : ℕ
   pub saved : ℕ
   pub more : entered ≤ least
   pub acknowledged : (number : ℕ) → Acknowledges out number → number ≤ least
-  pub kept : (number : ℕ) → ReportsSaved out number → number ≤ saved
+  pub kept : (number : ℕ) → ReportsSaved out number → number < saved
   pub stands : AllLeave (λ images. OfThree (StandsWith text catalogue history least saved) images) now
 
 -- Each image at the exit is one of entry, and nothing was written; or the session began with what is stored at entry, and

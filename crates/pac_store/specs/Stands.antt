@@ -1,5 +1,5 @@
 -- Which history of transactions the devices stand for.
-use Rattle.std.specs.Prelude.{◌≡◌, ◌≤◌, ◌⊎◌, ℕ, List, [], ◌++◌, length, take, Ok}
+use Rattle.std.specs.Prelude.{◌≡◌, ◌≤◌, ◌⊎◌, ◌+◌, ℕ, List, [], ◌++◌, length, take, Ok}
 use Rattle.std.specs.FinMap.{empty}
 use Rattle.std.specs.List.{All}
 use Rattle.pac_value.specs.State.{Tables}
@@ -51,12 +51,13 @@ pub record StandsFor (text : List ℕ) (catalogue : CatalogueState) (history : L
   pub slot_a : IsShutOrPrefix text catalogue batches images.slot_a
   pub slot_b : IsShutOrPrefix text catalogue batches images.slot_b
 
--- a slot is open with a checkpoint of at least that many transactions
-pub record HasSaved (catalogue : CatalogueState) (saved : ℕ) (image : List ℕ) : Type 0 where
+-- A slot is open with a checkpoint that reaches so far. A checkpoint of N transactions reaches N + 1, and none reaches 0, so that
+-- one of no transactions is more than none.
+pub record HasSaved (catalogue : CatalogueState) (reach : ℕ) (image : List ℕ) : Type 0 where
   pub checkpoint : Checkpoint
   pub holds : HoldsCheckpoint catalogue.tables checkpoint image
-  pub enough : saved ≤ checkpoint.head.txns
+  pub enough : reach ≤ checkpoint.head.txns + 1
 
--- some slot is; of 0 transactions nothing is said
+-- some slot is; of 0 nothing is said
 abbrev pub HoldsSaved : CatalogueState → ℕ → Images → Type 0
-HoldsSaved catalogue saved images = (saved ≡ 0) ⊎ (HasSaved catalogue saved images.slot_a ⊎ HasSaved catalogue saved images.slot_b)
+HoldsSaved catalogue reach images = (reach ≡ 0) ⊎ (HasSaved catalogue reach images.slot_a ⊎ HasSaved catalogue reach images.slot_b)
