@@ -37,7 +37,7 @@ use Rattle.pac_run.specs.Causes.{stop_of_opening}
 use Rattle.pac_run.specs.Opening.{AllStand, BeginsOver, IsFresh, IsOpenedFrom, StandsForPrefix}
 use Rattle.pac_run.specs.Run.{AtExit, AtMoments, IsBegun, IsExit, IsRun, IsWholeRun, IfSeenKnown, LogHas, LogHasEither, history_after}
 use Rattle.pac_run.specs.Serving.{IsDone, Served}
-use Rattle.pac_run.specs.Stopping.{AreFirst, EndsGroups, HasWorked, IsStopped, IsStoppedAt, IsTorn, IsUnopened, MayNotOpen, RefusesStore, StopsThere}
+use Rattle.pac_run.specs.Stopping.{AreFirst, EndsGroups, HasWorked, IsStopped, IsStoppedAt, IsTorn, IsUnopened, MayNotOpen, StopsThere}
 use Rattle.pac_run.specs.Texts.{IsTextPrefix, texts}
 use Rattle.pac_run.proofs.AckedLemmas.{acknowledged, known-saved}
 use Rattle.pac_run.proofs.NameLemmas.{names-of}
@@ -133,7 +133,7 @@ module _ (rules : Rules) (place : ℕ) (start : SessionState) where
       one image (inr at) = inr (log-has requests torn.next torn.ends (settled image) at)
 
 -- what a read gives of the slots is as it was, where it is of all devices
-after_first : List (Option (List ℕ)) → List (Option (List ℕ))
+abbrev after_first : List (Option (List ℕ)) → List (Option (List ℕ))
 after_first [] = []
 after_first (read ∷ reads) = reads
 
@@ -185,7 +185,7 @@ not-opened batch limit left held l a b known' faulted error stop is runs seen =
       exact = λ worked. absurd (not-worked stop early worked);
       full = λ need full. absurd (subst MayNotOpen (same-stop stop (LogFull need) full) early);
       torn = λ disk. inl refl;
-      slots = λ open none. slots-seen (l ∷ a ∷ b ∷ []) known' (seen (λ disk. open (ap (λ (s : RunStop). Err s) (is ∙ ap stop_of_opening disk)) refl));
+      slots = λ opens none. slots-seen (l ∷ a ∷ b ∷ []) known' (seen (λ disk. opens (ap (λ (s : RunStop). Err s) (is ∙ ap stop_of_opening disk)) refl));
       still = λ other none. seen (λ disk. other (ap (λ (s : RunStop). Err s) (is ∙ ap stop_of_opening disk)));
       there = inl (early, refl);
     }
@@ -333,7 +333,7 @@ module _ (batch limit : ℕ) (engine new : EngineParts) (left left' held held' :
     exact = λ worked. log-has-one rules engine.log.gate.place start served.requests new.log.gate (served.durable worked) known' (ended worked);
     full = λ need is. let last = served.full need is in (last.0, last.1, last.2, log-has-one rules engine.log.gate.place start last.0 new.log.gate last.3 known' (full need is));
     torn = λ is. let last = served.torn is in inr (last.0, last.1, last.2, log-has-either rules engine.log.gate.place start last.0 served.requests known' last.3);
-    slots = λ open none. ap (λ (known : List (Option DiskHistory)). known_reads known) (served.slots none) ∙ slots-seen (l ∷ a ∷ b ∷ []) middle seen;
+    slots = λ opens none. ap (λ (known : List (Option DiskHistory)). known_reads known) (served.slots none) ∙ slots-seen (l ∷ a ∷ b ∷ []) middle seen;
     still = λ other none. ap (λ (known : List (Option DiskHistory)). known_reads known) (served.still none) ∙ seen;
     there = then-there result served.there;
     stopped = stops-part result (IsDone rules engine.log.gate.place start served.requests served.given served.out) (λ stop. IsStoppedAt rules engine.log.gate.place start served.requests served.given stop) (λ stop. IsStopped rules engine.log.gate.place start served.requests served.given stop) served.ending (λ stop at. inr at);
