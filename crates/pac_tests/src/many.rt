@@ -98,10 +98,7 @@ fn catalogue_text(alloc: Global) -> Result<Vec<u8>, AllocError> {
 
 // Each table is a block with the one operation on it, and none waits for another.
 fn has_a_block_each(plan: &Plan) -> bool {
-    plan.blocks() == 64
-        && plan.procs() == 64
-        && plan.tables() == 64
-        && plan.edges().is_empty()
+    plan.blocks() == 64 && plan.procs() == 64 && plan.tables() == 64 && plan.edges().is_empty()
 }
 
 fn copy_has_a_block_each(alloc: Global, plan: &Plan) -> bool {
