@@ -8,4 +8,5 @@ pub const MAX_SAVED_ROWS: u64 = 10_000_000;
 
 // No test saves as much as these.
 const _: () = prove!(MAX_SLOT_LEN == 1 << 28);
+
 const _: () = prove!(MAX_SAVED_ROWS == 10 * 1_000 * 1_000);
