@@ -1,5 +1,4 @@
 pub mod Causes
-pub mod Parts
 pub mod Committing
 pub mod Standing
 pub mod Closing

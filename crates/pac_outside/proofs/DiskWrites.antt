@@ -80,3 +80,8 @@ synced old new seen (Ok x) made unmade = subst (LeavesAsBefore old) (sym made) (
   each = (λ image is. subst (IsImage old.now) (sym (one_image old.now.seen image is)) seen, tt);
 })
 synced old new seen (Err e) made unmade = subst (LeavesAsBefore old) (sym unmade) (stays (IsImage old.now) old (λ image is. is))
+
+-- and what a read gives
+pub synced_seen : {T E : Type 0} (old new : DiskHistory) (result : Result T E) → OnOk result (new ≡ after_sync old) → OnErr result (new ≡ old) → new.now.seen ≡ old.now.seen
+synced_seen old new (Ok x) made unmade = ap (λ (h : DiskHistory). h.now.seen) made
+synced_seen old new (Err e) made unmade = ap (λ (h : DiskHistory). h.now.seen) unmade

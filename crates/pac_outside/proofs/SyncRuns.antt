@@ -1,8 +1,9 @@
 -- Devices that are synced one after another leave what they might have left before.
-use Rattle.std.proofs.Common.{List, [], ◌∷◌, ◌++◌, Option}
+use Rattle.std.proofs.Common.{◌≡◌, ◌∙◌, ℕ, List, [], ◌∷◌, ◌++◌, Option, ap}
 use Rattle.pac_outside.specs.Disk.{DiskHistory, LeavesAsBefore, BothKnown}
 use Rattle.pac_outside.specs.Devices.{AreImages, RunsAsBefore, IfAllKnown, all_known}
 use Rattle.pac_outside.specs.Devices.RunLeaves.{rests}
+use Rattle.pac_outside.specs.Parts.{known_read, known_reads}
 use Rattle.pac_outside.proofs.Runs.{run_then, run_end, sync_runs, knows_on, knows_then, device_knows}
 
 -- what was as before a call is as before after it
@@ -34,3 +35,8 @@ two_synced l m a c b first second = started (l ∷ a ∷ b ∷ []) (m ∷ c ∷ 
 
 pub three_synced : (l m a c b d : Option DiskHistory) → BothKnown LeavesAsBefore l m → BothKnown LeavesAsBefore a c → BothKnown LeavesAsBefore b d → IfAllKnown RunsAsBefore (l ∷ a ∷ b ∷ []) (m ∷ c ∷ d ∷ [])
 three_synced l m a c b d first second third = started (l ∷ a ∷ b ∷ []) (m ∷ c ∷ d ∷ []) (both_stay (l ∷ a ∷ b ∷ []) (m ∷ c ∷ b ∷ []) (m ∷ c ∷ d ∷ []) (two_stay l m a c b first second) (synced (m ∷ c ∷ []) [] b d third))
+
+-- what a read gives of each device stays
+pub three_reads : (l m a c b d : Option DiskHistory) → known_read m ≡ known_read l → known_read c ≡ known_read a → known_read d ≡ known_read b → known_reads (m ∷ c ∷ d ∷ []) ≡ known_reads (l ∷ a ∷ b ∷ [])
+three_reads l m a c b d first second third =
+    ap (λ (r : Option (List ℕ)). r ∷ known_read c ∷ known_read d ∷ []) first ∙ ap (λ (r : Option (List ℕ)). known_read l ∷ r ∷ known_read d ∷ []) second ∙ ap (λ (r : Option (List ℕ)). known_read l ∷ known_read a ∷ r ∷ []) third

@@ -3,6 +3,7 @@ ghost use Rattle.std.specs.Prelude.{◌≡◌, ◌≤◌, ℕ, Option, None, IfO
 ghost use Rattle.std.specs.Io.{ReadsAtMost};
 ghost use Rattle.pac_outside.specs.Causes.{EndsAtFault, HasCause, one_more};
 ghost use Rattle.pac_outside.specs.Disk.{BothKnown, DiskHistory, HasImages, LeavesAsBefore, LeavesTorn, SeenIsImage, SeenOutside, IfKnown, after_sync, after_write};
+ghost use Rattle.pac_outside.specs.Parts.{known_read};
 
 use crate::Failed;
 use crate::faults::Faults;
@@ -60,10 +61,12 @@ pub trait Disk {
     ///
     /// # Errors
     ///
-    /// [`Failed`] only where the count of faults rose. A crash may leave what it might have left before.
+    /// [`Failed`] only where the count of faults rose. A crash may leave what it might have left before, and a read gives
+    /// what it gave.
     fn sync(&mut self) -> Result<(), Failed>
         ensures durable { OnOk result (known self.new ≡ option_map after_sync (known self.old)) }
         ensures moments { BothKnown LeavesAsBefore (known self.old) (known self.new) }
+        ensures seen { known_read (known self.new) ≡ known_read (known self.old) }
         ensures cause { HasCause (faults self.old) (faults self.new) result }
         ensures counted { EndsAtFault (faults self.old) (faults self.new) result };
 

@@ -1,5 +1,5 @@
 // The devices of a store.
-ghost use Rattle.std.specs.Prelude.{OnOk};
+ghost use Rattle.std.specs.Prelude.{◌≡◌, OnOk};
 
 use crate::{Disk, Failed};
 
@@ -13,9 +13,10 @@ pub struct Devices<D> {
 
 impl<D: Disk> Devices<D> {
     ghost use Rattle.pac_outside.specs.Devices.{AreSettled, EndsAtOneFault, RunsAsBefore, IfAllKnown, each};
+    ghost use Rattle.pac_outside.specs.Parts.{known_reads};
 
     /// Syncs each device. After Ok a crash leaves of each what a read gives. At each moment a crash leaves images that it
-    /// might have left before.
+    /// might have left before, and a read gives of each what it gave, whatever the answer.
     ///
     /// # Errors
     ///
@@ -24,6 +25,7 @@ impl<D: Disk> Devices<D> {
     pub fn sync(&mut self) -> Result<(), Failed>
         ensures settled { OnOk result (IfAllKnown AreSettled (each D.known self.old) (each D.known self.new)) }
         ensures moments { IfAllKnown RunsAsBefore (each D.known self.old) (each D.known self.new) }
+        ensures seen { known_reads (each D.known self.new) ≡ known_reads (each D.known self.old) }
 
         // No call of a device comes after one that failed.
         ensures once { EndsAtOneFault (each D.faults self.old) (each D.faults self.new) result }

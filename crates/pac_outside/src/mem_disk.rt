@@ -189,6 +189,7 @@ impl Disk for MemDisk {
     fn sync(&mut self) -> Result<(), Failed>
         ensures durable { OnOk result (history_of self.new ≡ after_sync (history_of self.old)) }
         ensures moments { LeavesAsBefore (history_of self.old) (history_of self.new) }
+        ensures seen { (history_of self.new).now.seen ≡ (history_of self.old).now.seen }
         ensures cause { HasCause (calls_of self.old).faults (calls_of self.new).faults result }
         ensures once { EndsAtFault (calls_of self.old).faults (calls_of self.new).faults result }
 

@@ -7,7 +7,7 @@ use Rattle.pac_ops.specs.declared.transaction.Txn.{Txn}
 use Rattle.pac_outside.specs.Devices.{all_known, each}
 use Rattle.pac_outside.specs.declared.devices.Devices.{Devices}
 use Rattle.pac_outside.specs.Disk.{DiskHistory}
-use Rattle.pac_engine.specs.Parts.{slots_of}
+use Rattle.pac_outside.specs.Parts.{slots_of}
 use Rattle.pac_types.specs.Typing.{CatalogueState}
 use Rattle.pac_check.specs.declared.limits.TheConstants.{MAX_SLOT_LEN}
 use Rattle.pac_request.specs.declared.request.Request.{Request}

@@ -28,7 +28,6 @@ use Rattle.pac_recover.specs.Logs.{HoldsLogUpTo}
 use Rattle.pac_recover.specs.Recovering.{IsRecoveredPrefix}
 use Rattle.pac_recover.proofs.StandsLemmas.{recovers-prefix}
 use Rattle.pac_engine.specs.declared.parts.EngineParts.{EngineParts}
-use Rattle.pac_engine.specs.Parts.{known_read, known_reads}
 use Rattle.pac_engine.specs.Standing.{EngineStands, HasDevices, durable_of}
 use Rattle.pac_run.specs.Opening.{BeginsOver, IsFresh, IsOpenedFrom, StandsForPrefix}
 
@@ -166,16 +165,6 @@ read-before P l a b m x y is_m is_x is_y known =
     go (Some l) (Some a) None known = tt
     go (Some l) (Some a) (Some b) known = known
 
--- a read after a sync gives what it gave
-read-synced : (known : Option DiskHistory) → known_read (option_map after_sync known) ≡ known_read known
-read-synced None = refl
-read-synced (Some h) = refl
-
-reads-synced : (l a b : Option DiskHistory) → known_reads (option_map after_sync l ∷ option_map after_sync a ∷ option_map after_sync b ∷ []) ≡ known_reads (l ∷ a ∷ b ∷ [])
-reads-synced l a b =
-    ap (λ (r : Option (List ℕ)). r ∷ known_read (option_map after_sync a) ∷ known_read (option_map after_sync b) ∷ []) (read-synced l)
-    ∙ ap (λ (r : Option (List ℕ)). known_read l ∷ r ∷ known_read (option_map after_sync b) ∷ []) (read-synced a) ∙ ap (λ (r : Option (List ℕ)). known_read l ∷ known_read a ∷ r ∷ []) (read-synced b)
-
 -- ---- what is opened
 
 module _ {D : Type 0} (known : D → Option DiskHistory) (devices : Devices D) (l a b m x y : Option DiskHistory) (is_m : m ≡ option_map after_sync l) (is_x : x ≡ option_map after_sync a) (is_y : y ≡ option_map after_sync b) (same : each known devices ≡ m ∷ x ∷ y ∷ []) where
@@ -203,9 +192,3 @@ module _ {D : Type 0} (known : D → Option DiskHistory) (devices : Devices D) (
     where
       all-same : (t : List (Option DiskHistory)) (m x y l a b : Option DiskHistory) → t ≡ m ∷ x ∷ y ∷ [] → m ≡ option_map after_sync l → x ≡ option_map after_sync a → y ≡ option_map after_sync b → t ≡ option_map after_sync l ∷ option_map after_sync a ∷ option_map after_sync b ∷ []
       all-same t m x y l a b e is_m is_x is_y = cc
-
-  pub seen-before : known_reads (each known devices) ≡ known_reads (l ∷ a ∷ b ∷ [])
-  seen-before =
-      ap (λ (t : List (Option DiskHistory)). known_reads t) same
-      ∙ ap (λ (t : Option DiskHistory). known_reads (t ∷ x ∷ y ∷ [])) is_m ∙ ap (λ (t : Option DiskHistory). known_reads (option_map after_sync l ∷ t ∷ y ∷ [])) is_x ∙ ap (λ (t : Option DiskHistory). known_reads (option_map after_sync l ∷ option_map after_sync a ∷ t ∷ [])) is_y
-      ∙ reads-synced l a b

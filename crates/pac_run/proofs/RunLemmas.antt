@@ -9,7 +9,7 @@ use Rattle.std.proofs.lemmas.List.{take-append-drop}
 use Rattle.pac_ops.specs.declared.transaction.Txn.{Txn}
 use Rattle.pac_outside.specs.Devices.{AreImages, RunsAsBefore, OnceKnown, IfAllKnown, all_known}
 use Rattle.pac_outside.specs.Disk.{DiskHistory, DiskState, settled}
-use Rattle.pac_engine.specs.Parts.{OfLog, known_reads, slots_of}
+use Rattle.pac_outside.specs.Parts.{OfLog, known_reads, slots_of}
 use Rattle.pac_outside.proofs.Runs.{run_end, run_then, weaken_run}
 use Rattle.pac_log.specs.declared.position.NextGate.{NextGate}
 use Rattle.pac_log.specs.Places.{LogEndsAt}
@@ -144,12 +144,8 @@ slot-reads (log ∷ slots) = refl
 pub slots-seen : (known known' : List (Option DiskHistory)) → known_reads known' ≡ known_reads known → known_reads (slots_of known') ≡ known_reads (slots_of known)
 slots-seen known known' same = sym (slot-reads known') ∙ ap after_first same ∙ slot-reads known
 
--- no device failed
-abbrev pub IsNoDisk : RecoverError → Type 0
-IsNoDisk why = why ≡ error.DiskFault → ⊥
-
 pub not-opened : (batch limit : ℕ) (left held : Option (List ℕ)) (l a b : Option DiskHistory) (known' : List (Option DiskHistory)) (faulted : Type 0) (error : RecoverError) (stop : RunStop) → stop ≡ stop_of_opening error → IfAllKnown RunsAsBefore (l ∷ a ∷ b ∷ []) known'
-    → (IsNoDisk error → known_reads known' ≡ known_reads (l ∷ a ∷ b ∷ [])) → IsRun batch limit left left held held (l ∷ a ∷ b ∷ []) known' faulted (Err stop)
+    → known_reads known' ≡ known_reads (l ∷ a ∷ b ∷ []) → IsRun batch limit left left held held (l ∷ a ∷ b ∷ []) known' faulted (Err stop)
 not-opened batch limit left held l a b known' faulted error stop is runs seen =
     let rules : Rules = record { catalogue = record { tables = []; procs = [] }; limit = limit; most = batch } in
     let start : SessionState = record { tables = empty; number = 0 } in
@@ -185,8 +181,8 @@ not-opened batch limit left held l a b known' faulted error stop is runs seen =
       exact = λ worked. absurd (not-worked stop early worked);
       full = λ need full. absurd (subst MayNotOpen (same-stop stop (LogFull need) full) early);
       torn = λ disk. inl refl;
-      slots = λ opens none. slots-seen (l ∷ a ∷ b ∷ []) known' (seen (λ disk. opens (ap (λ (s : RunStop). Err s) (is ∙ ap stop_of_opening disk)) refl));
-      still = λ other none. seen (λ disk. other (ap (λ (s : RunStop). Err s) (is ∙ ap stop_of_opening disk)));
+      slots = λ none. slots-seen (l ∷ a ∷ b ∷ []) known' seen;
+      still = λ none. seen;
       there = inl (early, refl);
     }
 
@@ -333,8 +329,8 @@ module _ (batch limit : ℕ) (engine new : EngineParts) (left left' held held' :
     exact = λ worked. log-has-one rules engine.log.gate.place start served.requests new.log.gate (served.durable worked) known' (ended worked);
     full = λ need is. let last = served.full need is in (last.0, last.1, last.2, log-has-one rules engine.log.gate.place start last.0 new.log.gate last.3 known' (full need is));
     torn = λ is. let last = served.torn is in inr (last.0, last.1, last.2, log-has-either rules engine.log.gate.place start last.0 served.requests known' last.3);
-    slots = λ opens none. ap (λ (known : List (Option DiskHistory)). known_reads known) (served.slots none) ∙ slots-seen (l ∷ a ∷ b ∷ []) middle seen;
-    still = λ other none. ap (λ (known : List (Option DiskHistory)). known_reads known) (served.still none) ∙ seen;
+    slots = λ none. ap (λ (known : List (Option DiskHistory)). known_reads known) (served.slots none) ∙ slots-seen (l ∷ a ∷ b ∷ []) middle seen;
+    still = λ none. ap (λ (known : List (Option DiskHistory)). known_reads known) (served.still none) ∙ seen;
     there = then-there result served.there;
     stopped = stops-part result (IsDone rules engine.log.gate.place start served.requests served.given served.out) (λ stop. IsStoppedAt rules engine.log.gate.place start served.requests served.given stop) (λ stop. IsStopped rules engine.log.gate.place start served.requests served.given stop) served.ending (λ stop at. inr at);
   }

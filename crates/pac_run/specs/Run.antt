@@ -7,7 +7,7 @@ use Rattle.pac_outside.specs.Content.{Took}
 use Rattle.pac_outside.specs.Devices.{AllLeave, AreImages, RunLeaves, all_known}
 use Rattle.pac_outside.specs.Disk.{DiskHistory, DiskState, Leaves, settled}
 use Rattle.pac_outside.specs.GateByte.{OneImage}
-use Rattle.pac_engine.specs.Parts.{OfLog, known_reads, slots_of}
+use Rattle.pac_outside.specs.Parts.{OfLog, known_reads, slots_of}
 use Rattle.pac_lines.specs.Lines.{HasNoFeed}
 use Rattle.pac_lines.specs.declared.limits.TheConstants.{MAX_READ}
 use Rattle.pac_types.specs.Execution.{first_over}
@@ -135,10 +135,9 @@ pub record IsRun (batch limit : ℕ) (left left' held held' : Option (List ℕ))
   pub exact : HasWorked result → OfLog (LogHas rules place start requests) known'
   pub full : (need : ℕ) → IsErrOf result (LogFull need) → BeforeLast (λ before. OfLog (LogHas rules place start before) known') requests
   pub torn : IsErrOf result DiskFault → (requests ≡ []) ⊎ BeforeLast (λ before. OfLog (LogHasEither rules place start before requests) known') requests
-  -- a read of a slot gives what it gave, unless a save was asked for; of each device it does, where nothing was; it is said of
-  -- each run but one whose first syncs failed
-  pub slots : (IsErrOf result DiskFault → requests ≡ [] → ⊥) → NoSave requests → known_reads (slots_of known') ≡ known_reads (slots_of known)
-  pub still : ¬ IsErrOf result DiskFault → requests ≡ [] → known_reads known' ≡ known_reads known
+  -- a read of a slot gives what it gave, unless a save was asked for; of each device it does, where nothing was
+  pub slots : NoSave requests → known_reads (slots_of known') ≡ known_reads (slots_of known)
+  pub still : requests ≡ [] → known_reads known' ≡ known_reads known
   pub exit : WhileAllStand (λ text catalogue history least. AtExit text catalogue history rules place start requests out) known known'
   pub moments : WhileAllStand (λ text catalogue history least. AtMoments text catalogue history least rules start requests) known known'
   -- (d) where it stopped: the output is the texts of these replies, unless the output's count of faults rose

@@ -5,7 +5,7 @@ use Rattle.std.specs.List.{AllByRecursion, fold}
 use Rattle.pac_ops.specs.declared.transaction.Txn.{Txn}
 use Rattle.pac_outside.specs.Content.{Gave, Took}
 use Rattle.pac_outside.specs.Disk.{DiskHistory}
-use Rattle.pac_engine.specs.Parts.{slots_of}
+use Rattle.pac_outside.specs.Parts.{slots_of}
 use Rattle.pac_lines.specs.Calls.{known}
 use Rattle.pac_lines.specs.Lines.{HandsOut, HasNoFeed}
 use Rattle.pac_lines.specs.Reading.{ReaderState}

@@ -1,7 +1,7 @@
 -- Where a run stops.
 use Rattle.std.specs.Prelude.{◌≡◌, ◌⊎◌, ◌≤◌, ℕ, List, [], ◌∷◌, ◌++◌, Option, Result, Ok, Err}
 use Rattle.pac_outside.specs.Disk.{DiskHistory}
-use Rattle.pac_engine.specs.Parts.{OfLog}
+use Rattle.pac_outside.specs.Parts.{OfLog}
 use Rattle.pac_log.specs.declared.position.NextGate.{NextGate}
 use Rattle.pac_log.specs.Torn.{LogEndsAtEither}
 use Rattle.pac_check.specs.declared.limits.TheConstants.{MAX_SLOT_LEN}

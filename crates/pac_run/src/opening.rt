@@ -4,7 +4,7 @@ ghost use Rattle.pac_ops.specs.declared.limits.TheConstants.{MAX_TXNS};
 ghost use Rattle.pac_ops.specs.declared.note.Note.{Note as ANote};
 ghost use Rattle.pac_outside.specs.Devices.{AreSettled, EndsAtOneFault, OneFaulted, RunsAsBefore, IfAllKnown, each};
 ghost use Rattle.pac_outside.specs.Disk.{IfKnown, after_sync};
-ghost use Rattle.pac_engine.specs.Parts.{known_reads};
+ghost use Rattle.pac_outside.specs.Parts.{known_reads};
 ghost use Rattle.pac_log.specs.declared.damage.DamageKind.{DamageKind as ALogDamage};
 ghost use Rattle.pac_check.specs.declared.damage.SlotDamageKind.{SlotDamageKind as ASlotDamage};
 ghost use Rattle.pac_check.specs.declared.info.SlotName.{SlotName as ASlotName};
@@ -31,6 +31,7 @@ fn settle<D: Disk>(devices: &mut Devices<D>) -> Result<(), Failed>
     ensures slot_a { OnOk result (D.known devices.new.slot_a ≡ option_map after_sync (D.known devices.old.slot_a)) }
     ensures slot_b { OnOk result (D.known devices.new.slot_b ≡ option_map after_sync (D.known devices.old.slot_b)) }
     ensures moments { IfAllKnown RunsAsBefore (each D.known devices.old) (each D.known devices.new) }
+    ensures seen { known_reads (each D.known devices.new) ≡ known_reads (each D.known devices.old) }
     ensures once { EndsAtOneFault (each D.faults devices.old) (each D.faults devices.new) result }
 {
     devices.log.sync()?;
@@ -108,14 +109,15 @@ pub fn open<D: Disk>(
     ensures abort { (note : ANote) → IsErrOf result (RecoverError.AbortInLog note) → IfImagesKnown (AbortsIn note) (each D.known devices.old) }
     ensures over { (table : List ℕ) (rows most : ℕ) → IsErrOf result (RecoverError.RowsOver table rows most) → (most ≡ limit) × IfImagesKnown (IsOverIn table rows limit) (each D.known devices.old) }
 
-    // The engine stands for what was stored, and at each moment a crash leaves what it might have left at entry.
+    // The engine stands for what was stored, at each moment a crash leaves what it might have left at entry, and a read gives
+    // what it gave, whatever the answer.
     ensures ready { IfOk result (λ engine. HasDevices D.known engine devices.new) }
     ensures begins { IfOk result (λ engine. IfAllKnown (BeginsOver engine) (each D.known devices.old) (each D.known devices.new)) }
     ensures moments { IfAllKnown RunsAsBefore (each D.known devices.old) (each D.known devices.new) }
+    ensures seen { known_reads (each D.known devices.new) ≡ known_reads (each D.known devices.old) }
 
     // No device is written, and no call of one comes after one that failed.
     ensures settled { ¬ IsErrOf result RecoverError.DiskFault → IfAllKnown AreSettled (each D.known devices.old) (each D.known devices.new) }
-    ensures seen { ¬ IsErrOf result RecoverError.DiskFault → known_reads (each D.known devices.new) ≡ known_reads (each D.known devices.old) }
     ensures disk_fault { IsErrOf result RecoverError.DiskFault → OneFaulted (each D.faults devices.old) (each D.faults devices.new) }
     ensures quiet { ¬ IsErrOf result RecoverError.DiskFault → each D.faults devices.new ≡ each D.faults devices.old }
 {

@@ -1,10 +1,12 @@
 -- The devices are synced, and an engine is made over them.
-use Rattle.std.proofs.Common.{ℕ, List}
+use Rattle.std.proofs.Common.{◌∙◌, ℕ, List, Option, ap}
+use Rattle.pac_outside.specs.Disk.{DiskHistory}
+use Rattle.pac_outside.specs.Parts.{known_reads}
 use Rattle.pac_types.specs.Typing.{CatalogueState}
 use Rattle.pac_log.specs.Reading.{IsStore}
 use Rattle.pac_recover.specs.Damages.{IsDamagedLog, IsDamagedSlot}
 use Rattle.pac_recover.specs.Recovering.{AbortsIn, IsOverIn}
-use Rattle.pac_run.proofs.OpenLemmas.{opened-before, opened-begins, opened-ready, read-before, seen-before, settled-before, known-before}
+use Rattle.pac_run.proofs.OpenLemmas.{opened-before, opened-begins, opened-ready, read-before, settled-before, known-before}
 use Rattle.pac_run.proofs.opening.open.Goals as goal
 
 pub returns-in-Ok-clause-opened : goal.returns-in-Ok-clause-opened
@@ -50,6 +52,4 @@ returns-in-Ok-clause-settled g c = λ other.
     settled-before g.D.Disk.known c.engine_over.new.devices _ _ _ _ _ _ e.log e.slot_a e.slot_b c.engine_over.ensures.same
 
 pub returns-in-Ok-clause-seen : goal.returns-in-Ok-clause-seen
-returns-in-Ok-clause-seen g c = λ other.
-    let e = c.in-Ok.ensures in
-    seen-before g.D.Disk.known c.engine_over.new.devices _ _ _ _ _ _ e.log e.slot_a e.slot_b c.engine_over.ensures.same
+returns-in-Ok-clause-seen g c = ap (λ (known : List (Option DiskHistory)). known_reads known) c.engine_over.ensures.same ∙ c.in-Ok.ensures.seen

@@ -1,5 +1,6 @@
--- At each moment the devices leave what they might have left before.
-use Rattle.pac_outside.proofs.SyncRuns.{one_synced, two_synced, three_synced}
+-- At each moment the devices leave what they might have left before, and a read gives what it gave.
+use Rattle.std.proofs.Common.{refl}
+use Rattle.pac_outside.proofs.SyncRuns.{one_synced, two_synced, three_reads, three_synced}
 use Rattle.pac_run.proofs.opening.settle.Goals as goal
 
 pub returns-in_err-sync-clause-moments : goal.returns-in_err-sync-clause-moments
@@ -10,3 +11,12 @@ returns-in_err-sync-2-clause-moments g c = two_synced _ _ _ _ _ c.sync.ensures.m
 
 pub returns-clause-moments : goal.returns-clause-moments
 returns-clause-moments g c = three_synced _ _ _ _ _ _ c.sync.ensures.moments c.sync-2.ensures.moments c.sync-3.ensures.moments
+
+pub returns-in_err-sync-clause-seen : goal.returns-in_err-sync-clause-seen
+returns-in_err-sync-clause-seen g c = three_reads _ _ _ _ _ _ c.sync.ensures.seen refl refl
+
+pub returns-in_err-sync-2-clause-seen : goal.returns-in_err-sync-2-clause-seen
+returns-in_err-sync-2-clause-seen g c = three_reads _ _ _ _ _ _ c.sync.ensures.seen c.sync-2.ensures.seen refl
+
+pub returns-clause-seen : goal.returns-clause-seen
+returns-clause-seen g c = three_reads _ _ _ _ _ _ c.sync.ensures.seen c.sync-2.ensures.seen c.sync-3.ensures.seen
