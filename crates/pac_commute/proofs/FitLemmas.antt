@@ -184,7 +184,7 @@ module _ (parts : PlanParts) (is : IsPlan parts) where
         go true lt h = absurd cc
         go false lt h = (t - first, (let le : first ≤ t = grind (arith, nat_tests) in omega (arith, le)), h)
 
-    env_is : (t : ℕ) (x : Txn) → txn_at first txns t ≡ Some x → (rows : Tables) × RowsFit parts.tables rows × (env t ≡ (txn_state parts.programs x rows).env)
+    pub env_is : (t : ℕ) (x : Txn) → txn_at first txns t ≡ Some x → (rows : Tables) × RowsFit parts.tables rows × (env t ≡ (txn_state parts.programs x rows).env)
     env_is t x e =
         let k = number_of t x e in
         let r = ended w txns first start

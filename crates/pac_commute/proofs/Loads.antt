@@ -20,7 +20,7 @@ use Rattle.pac_plan.specs.Pieces.{Present, of_txn, with_env, left_by, run_ops, p
 use Rattle.pac_commute.specs.Exchange.{env_after}
 use Rattle.pac_plan.specs.Worlds.{has_edge, batch_of, txn_code, txn_vars, txn_block, txn_args, txn_at, world, initial, numbers, blocks_in}
 use Rattle.pac_commute.specs.PlanLaws.{txns_of, NumbersRunOn}
-use Rattle.pac_commute.specs.Loads.{Job, world_of, end_values, next_in_job, loaded, and_batch, LoadsKeep}
+use Rattle.pac_commute.specs.Loads.{Job, pieces_of, world_of, end_values, next_in_job, loaded, and_batch, LoadsKeep}
 use Rattle.pac_base.proofs.TestLemmas.{same_number, and_left, and_right, or_cases, unlike}
 use Rattle.pac_plan.proofs.WorldLemmas.{batches_rise}
 use Rattle.pac_commute.proofs.BatchLemmas.{txns-more, batch-more, get-first}
@@ -275,7 +275,7 @@ module _ (job : Job) (batches : List Batch) (batch : Batch) (run : NumbersRunOn 
       (facts job.parts job.first (batch_of batches) (batch_of (and_batch batches batch)) (txns_of batches) batch.txns job.tables)
 
   -- the batch of an old transaction, and of a new one
-  old_batch : (t : ℕ) → t < next_in_job job batches → batch_of (and_batch batches batch) t ≡ batch_of batches t
+  pub old_batch : (t : ℕ) → t < next_in_job job batches → batch_of (and_batch batches batch) t ≡ batch_of batches t
   old_batch t lt =
       batch-more batches batch t ∙ ap (λ b. batch_of batches t + cond b 1 0) (let below : t < batch.first = omega (arith, lt, next) in not_begun batch.first t below) ∙ none (batch_of batches t)
     where
@@ -340,6 +340,15 @@ module _ (job : Job) (batches : List Batch) (batch : Batch) (run : NumbersRunOn 
           let two : (p.block == q.block && batch_of (and_batch batches batch) p.txn == batch_of (and_batch batches batch) q.txn) ≡ true
           = and_left _ (nat_lt p.txn q.txn) (and_left _ (conflicts (access (world_of job (and_batch batches batch)) (end_values job (and_batch batches batch)) p) (access (world_of job (and_batch batches batch)) (end_values job (and_batch batches batch)) q)) h) in
           differ ((Decides-eqb _ _).0 (and_right (p.block == q.block) _ two))
+
+-- the pieces of more batches are the old ones and those of the new transactions
+pub pieces_more : (job : Job) (batches : List Batch) (batch : Batch)
+    → pieces_of job (and_batch batches batch) ≡ pieces_of job batches ++ pieces (world_of job (and_batch batches batch)) (range_with_len (next_in_job job batches) (length batch.txns)) (blocks_in job.parts)
+pieces_more job batches batch = subst
+    (λ all. pieces (world job.parts job.first (batch_of (and_batch batches batch)) all) (numbers job.first all) (blocks_in job.parts)
+    ≡ pieces_of job batches ++ pieces (world job.parts job.first (batch_of (and_batch batches batch)) all) (range_with_len (next_in_job job batches) (length batch.txns)) (blocks_in job.parts))
+    (sym (txns-more batches batch))
+    (split job.parts job.first (batch_of batches) (batch_of (and_batch batches batch)) (txns_of batches) batch.txns job.tables)
 
 pub loads_keep : LoadsKeep
 loads_keep job batches batch run next = let all = all_facts job batches batch run next in record {

@@ -37,18 +37,18 @@ same_piece p q e = λ i. record {
   block = (Decides-eqb p.block q.block).0 (and_right (p.txn == q.txn) (p.block == q.block) e) i;
 }
 
-piece_self : (p : PieceId) → is_piece p p ≡ true
+pub piece_self : (p : PieceId) → is_piece p p ≡ true
 piece_self p = and_both _ _ (eq_self p.txn) (eq_self p.block)
 
-among_mem : (ps : List PieceId) (q : PieceId) → among ps q ≡ true → Mem q ps
+pub among_mem : (ps : List PieceId) (q : PieceId) → among ps q ≡ true → Mem q ps
 among_mem ps q e = let r = any_gives (λ p. is_piece p q) ps e in subst (λ x. Mem x ps) (same_piece r.0 q r.2) r.1
 
-mem_among : (ps : List PieceId) (q : PieceId) → Mem q ps → among ps q ≡ true
+pub mem_among : (ps : List PieceId) (q : PieceId) → Mem q ps → among ps q ≡ true
 mem_among [] q m = absurd m
 mem_among (p ∷ ps) q (inl e) = or_left (is_piece p q) (among ps q) (ap (λ x. is_piece x q) (sym e) ∙ piece_self q)
 mem_among (p ∷ ps) q (inr m) = or_right (is_piece p q) (among ps q) (mem_among ps q m)
 
-not_among : (p : PieceId) (out : List PieceId) → among out p ≡ false → all_but p out ≡ out
+pub not_among : (p : PieceId) (out : List PieceId) → among out p ≡ false → all_but p out ≡ out
 not_among p [] e = refl
 not_among p (q ∷ qs) e =
     let parts : (is_piece q p ≡ false) × (among qs p ≡ false) = or_none (is_piece q p) (among qs p) e in
@@ -56,7 +56,7 @@ not_among p (q ∷ qs) e =
     ∙ ap (λ l. q ∷ l) (not_among p qs parts.1)
 
 -- what is taken out is gone
-gone : (p : PieceId) (out : List PieceId) → among (all_but p out) p ≡ true → ⊥
+pub gone : (p : PieceId) (out : List PieceId) → among (all_but p out) p ≡ true → ⊥
 gone p [] e = true≢false (sym e)
 gone p (q ∷ qs) e = go (is_piece p q) refl e (gone p qs)
   where
@@ -64,7 +64,7 @@ gone p (q ∷ qs) e = go (is_piece p q) refl e (gone p qs)
     go true h k rest = rest k
     go false h k rest = ⊎_elim (λ same. true≢false (sym (ap (λ x. is_piece p x) (same_piece q p same) ∙ piece_self p) ∙ h)) rest (or_cases (is_piece q p) (among (all_but p qs) p) k)
 
-fewer : (R : PieceId → Type 0) (p : PieceId) (out : List PieceId) → Each R out → Each R (all_but p out)
+pub fewer : (R : PieceId → Type 0) (p : PieceId) (out : List PieceId) → Each R out → Each R (all_but p out)
 fewer R p [] e = tt
 fewer R p (q ∷ qs) e = go (is_piece p q) (fewer R p qs e.1)
   where

@@ -140,7 +140,7 @@ row_copied (e ∷ es) tables a h = get-with_row (copied_rows es tables) (named_c
     go true t rest = ap (get tables) (sym (tied_same a (named_cell e) t))
     go false f rest = rest (⊎_elim (λ k. absurd (true≢false (sym k ∙ other f))) (λ k. k) (or_cases (eq_by_cmp cell_cmp (named_cell e) a) _ h))
 
-get-with_value : (env : Values) (x : ℕ) (v : Option Value) (y : ℕ) → get (with_value env x v) y ≡ cond (y == x) v (get env y)
+pub get-with_value : (env : Values) (x : ℕ) (v : Option Value) (y : ℕ) → get (with_value env x v) y ≡ cond (y == x) v (get env y)
 get-with_value env x None y = get-remove nat_cmp_total env x y ∙ ap (λ b. cond b None (get env y)) (sym (unsigned_ties y x))
 get-with_value env x (Some v) y = get-insert nat_cmp_total env x v y ∙ ap (λ b. cond b (Some v) (get env y)) (sym (unsigned_ties y x))
 

@@ -28,7 +28,7 @@ use Rattle.pac_ops.proofs.RecordLemmas.{whole_meaning, number_at}
 use Rattle.pac_plan.specs.declared.code.Code.{Code}
 use Rattle.pac_plan.specs.declared.parts.PlanParts.{PlanParts}
 use Rattle.pac_plan.specs.Analysis.{IsPlan, HasBlockEdge}
-use Rattle.pac_plan.specs.Worlds.{txn_args}
+use Rattle.pac_plan.specs.Worlds.{ops_of, txn_args, txn_code}
 use Rattle.pac_plan.specs.Codes.{ArgumentsAreInputs, TxnFitsPlan, code_in}
 use Rattle.pac_piece.specs.Frames.{AreAmong}
 use Rattle.pac_piece.specs.Runnable.{IsRunnableOver}
@@ -55,6 +55,27 @@ defines ops x e =
     let at = number_at 0 ops o.0 o.1 in
     (at.0, there ops at.0 o.0.1 (λ (op : FlatOp). defined_variable op.kind ≡ Some x) at.2 (var-named x (defined_variable o.0.1.kind) o.2))
 
+-- no operation defines an argument
+pub arguments_undefined : (parts : PlanParts) → IsPlan parts → (txn : Txn) → TxnFitsPlan parts txn → (x : ℕ) (v : Value) → get (with_values 0 (txn_args (Some txn)) empty) x ≡ Some v
+    → defined_in (txn_code parts (Some txn)) x ≡ false
+arguments_undefined parts is (AdHoc records) fits x v e = let wrong : ◌≡◌ {A = Option Value} None (Some v) = sym (get-empty nat_cmp x) ∙ e in absurd cc
+arguments_undefined parts is (ACall call) fits x v e =
+    go (slice_get parts.programs call.proc) refl (subst (λ o. IsSomeAnd o (λ types. map type_of call.args ≡ types)) (slice_get-map (λ (program : Program). program.params) parts.programs call.proc) fits)
+  where
+    go : (o : Option Program) → slice_get parts.programs call.proc ≡ o → IsSomeAnd (option_map (λ (program : Program). program.params) o) (λ types. map type_of call.args ≡ types)
+        → defined_in (numbered_from 0 (ops_of o)) x ≡ false
+    go None at f = absurd f
+    go (Some program) at f = unlike _ kept
+      where
+        below : x < length program.params
+        below = ⊎_elim
+            (λ h. let wrong : ◌≡◌ {A = Option Value} None (Some v) = sym (get-empty nat_cmp x) ∙ h in absurd cc)
+            (λ lt. let same : length call.args ≡ length program.params = sym (length-map call.args type_of) ∙ ap length f in omega (arith, lt, same))
+            (numbered_below call.args 0 empty x v e)
+
+        kept : defined_in (numbered_from 0 program.ops) x ≡ true → ⊥
+        kept d = let i = defines program.ops x d in let after = (is.programs call.proc program at).after i.0 x i.1 in omega (arith, below, after)
+
 -- a transaction keeps its arguments
 pub arguments_stay : (parts : PlanParts) → IsPlan parts → (txn : Txn) → TxnFitsPlan parts txn → (rows : Tables) → AreAmong (with_values 0 (txn_args (Some txn)) empty) (txn_state parts.programs txn rows).env
 arguments_stay parts is (AdHoc records) fits rows x v e = e
@@ -66,17 +87,8 @@ arguments_stay parts is (ACall call) fits rows x v e =
     go None at f = absurd f
     go (Some program) at f =
         ap (λ s. get s.env x) (sym (whole_meaning program.vars 0 program.ops (opening call.args rows)))
-        ∙ undefined_meaning program.vars (numbered_from 0 program.ops) (opening call.args rows) x (unlike _ kept)
+        ∙ undefined_meaning program.vars (numbered_from 0 program.ops) (opening call.args rows) x (ap (λ o. defined_in (numbered_from 0 (ops_of o)) x) (sym at) ∙ arguments_undefined parts is (ACall call) fits x v e)
         ∙ e
-      where
-        below : x < length program.params
-        below = ⊎_elim
-            (λ h. let wrong : ◌≡◌ {A = Option Value} None (Some v) = sym (get-empty nat_cmp x) ∙ h in absurd cc)
-            (λ lt. let same : length call.args ≡ length program.params = sym (length-map call.args type_of) ∙ ap length f in omega (arith, lt, same))
-            (numbered_below call.args 0 empty x v e)
-
-        kept : defined_in (numbered_from 0 program.ops) x ≡ true → ⊥
-        kept d = let i = defines program.ops x d in let after = (is.programs call.proc program at).after i.0 x i.1 in omega (arith, below, after)
 
 -- ---- the code of such a piece
 

@@ -93,7 +93,7 @@ runnable_tables block code env tables held r =
 -- ---- of writes
 
 -- a row that operations change is in a table that they access
-changed_there : (There : ℕ → Type 0) (os : List NumberedOp) (s : State) (a : Cell) → HaveTables There os → change_row os s a ≡ true → There a.0
+pub changed_there : (There : ℕ → Type 0) (os : List NumberedOp) (s : State) (a : Cell) → HaveTables There os → change_row os s a ≡ true → There a.0
 changed_there There [] s a h e = cc
 changed_there There (o ∷ os) s a h e = ⊎_elim
     (λ here. h.0 a.0 (cell-table o.1 s.env a (changed_at o.1 s a here).1))

@@ -93,6 +93,19 @@ impl Model for Done {
 }
 
 impl Done {
+    /// Work with its value again, for one who took it apart and has no use for it yet. Takes no memory.
+    pub fn of_parts(work: Work, writes: Writes, outs: Env, note: Option<Note>) -> Done
+        requires { IsValueOf work writes outs note }
+        ensures { result ≡ record { work = work; writes = writes; outs = outs; note = note } }
+    {
+        Done {
+            work,
+            writes,
+            outs,
+            note,
+        }
+    }
+
     /// The work.
     pub fn work(&self) -> &Work
         ensures { result.now ≡ self.now.work }

@@ -23,7 +23,7 @@ split a b = grind arith
 
 -- ---- a piece by its pairs
 
-start_preds : (s : Schedule) (i : ℕ) → may_start s i ≡ true → PredsDone s i
+pub start_preds : (s : Schedule) (i : ℕ) → may_start s i ≡ true → PredsDone s i
 start_preds s i e k d lt at = waits ((get_or s.pairs k d).1 == i) (agree (get_or s.pairs k d).1 i at) (AllPass-from_list_all (λ (pair : ℕ × ℕ). not (pair.1 == i) || is_finished_at s pair.0) s.pairs e k d lt)
   where
     agree : (a b : ℕ) → a ≡ b → (a == b) ≡ true
@@ -57,7 +57,7 @@ ready_by_pairs s id i at = (
 -- ---- the first ready one
 
 -- what stands at the position of a piece is that piece
-stands : (s : Schedule) (id : PieceId) (i : ℕ) → position_of s id ≡ Some i → (i < length s.pieces) × (get_or s.pieces i id ≡ id)
+pub stands : (s : Schedule) (id : PieceId) (i : ℕ) → position_of s id ≡ Some i → (i < length s.pieces) × (get_or s.pieces i id ≡ id)
 stands s id i e = let p = position-Some (is_piece id) s.pieces i id e in (p.0, sym (same_piece id (get_or s.pieces i id) p.1))
 
 pub picks_first : PicksFirst

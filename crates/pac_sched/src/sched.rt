@@ -123,6 +123,17 @@ impl Sched {
         Sched::of(alloc, all, states, pairs)
     }
 
+    /// What a take would answer. It takes no time that grows with the number of pieces, and no memory.
+    pub fn peek(&self) -> Pick
+        ensures { result ≡ pick self.now }
+    {
+        match self.ready.first() {
+            Some(i) => Pick::Piece(self.positions.pieces()[i]),
+            None if self.unfinished == 0 => Pick::Done,
+            None => Pick::NotReady,
+        }
+    }
+
     /// Hands out the first ready piece, in the order of opening. It takes time that grows with the logarithm of the number of
     /// pieces, and no memory.
     pub fn take(&mut self) -> Pick

@@ -4,13 +4,14 @@ ghost use Rattle.std.specs.List.{list_all};
 ghost use Rattle.std.specs.FinMap.{is_sorted};
 ghost use Rattle.pac_value.specs.Sorted.{IsOffsetOf, IsGapFor};
 ghost use Rattle.pac_sets.specs.SetOrder.{set_cmp};
-ghost use Rattle.pac_sets.specs.Sets.{AddsSource, AreAllSources, AreFronts, AreLeft, AreSets, IsSetAt, IsFirstBelow, IsFirstOpen, IsFront, IsOpenSet, IsUnfinished, Kept, are_done, front_or, is_earlier, is_done, is_unfinished_in, with_kept_at};
+ghost use Rattle.pac_sets.specs.Sets.{AddsSource, AreAllSources, AreFronts, AreLeft, AreSets, IsSetAt, IsFirstBelow, IsFirstOpen, IsFront, IsOpenSet, IsUnfinished, Keeps, Kept, are_done, front_or, is_earlier, is_done, is_unfinished_in, with_kept_at};
 
 use crate::set_id::SetId;
 use pac_base::{Listed, NoMemory, copy_of, listed};
 use pac_plan::Plan;
 use std::alloc::Global;
 use std::marker::Model;
+use std::mem;
 
 /// A set, and what is kept of it: nothing once it is finished.
 pub type Kept<P> = (SetId, Option<P>);
@@ -224,6 +225,15 @@ impl<P: Drop> Sets<P> {
         set_kept(&mut self.sets, at, Some(kept));
     }
 
+    /// Something else is kept of an unfinished set. What was kept comes back.
+    pub fn exchange(&mut self, at: usize, kept: P) -> P
+        requires { IsUnfinished self.old.sets at }
+        ensures old { Keeps self.old.sets at result }
+        ensures new { self.new ≡ record self.old { sets = with_kept_at self.old.sets at (Some kept) } }
+    {
+        exchange_kept(&mut self.sets, at, kept)
+    }
+
     /// The set is finished: nothing is kept of it any more. It looks for the next unfinished set of the block from there on.
     pub fn finish(&mut self, at: usize)
         requires { IsOpenSet self.old.edges self.old.sets at }
@@ -241,6 +251,18 @@ fn set_kept<P: Drop>(sets: &mut Vec<Kept<P>>, at: usize, kept: Option<P>)
     ensures { sets.new.items ≡ with_kept_at sets.old.items at kept }
 {
     sets[at].1 = kept;
+}
+
+// From now on this is kept of an unfinished set. What was kept comes back.
+fn exchange_kept<P: Drop>(sets: &mut Vec<Kept<P>>, at: usize, kept: P) -> P
+    requires { IsUnfinished sets.old.items at }
+    ensures old { Keeps sets.old.items at result }
+    ensures new { sets.new.items ≡ with_kept_at sets.old.items at (Some kept) }
+{
+    match mem::replace(&mut sets[at].1, Some(kept)) {
+        Some(old) => old,
+        None => unreachable!(),
+    }
 }
 
 // The first unfinished set of each block, once those before an offset were seen.
