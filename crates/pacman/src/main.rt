@@ -2,7 +2,7 @@
 #![tactic(auto)]
 
 use pac_main::{ArgumentsError, pacman, refuse_arguments};
-use pac_outside::{Devices, FileDisk, OpenGate, Stream};
+use pac_outside::{OpenGate, Stream, store_devices};
 use std::env::Env;
 use std::io::ErrorKind;
 use std::process::ExitCode;
@@ -25,11 +25,7 @@ fn main(rt: HostRuntime) -> ExitCode {
     let mut input = Stream::new(rt.stdin());
     let mut output = Stream::new(rt.stdout());
     let mut errors = Stream::new(rt.stderr());
-    let mut devices = Devices {
-        log: FileDisk::new(&rt, "pacman.log"),
-        slot_a: FileDisk::new(&rt, "pacman.a"),
-        slot_b: FileDisk::new(&rt, "pacman.b"),
-    };
+    let mut devices = store_devices(&rt);
     let status = match read_arguments(&rt) {
         Ok(arguments) => pacman(
             &rt,
