@@ -201,16 +201,8 @@ fn serve_lines<I: Source, O: Sink, D: Disk>(
         match reader.next_line(input) {
             Ok(true) => {}
             Ok(false) => {
-                let ahead = Vec::new(alloc);
-                return answer(
-                    alloc,
-                    catalogue,
-                    engine,
-                    Request::Stop,
-                    ahead,
-                    output,
-                    devices,
-                );
+                let (stop, ahead) = (Request::Stop, Vec::new(alloc));
+                return answer(alloc, catalogue, engine, stop, ahead, output, devices);
             }
             Err(error) => return Err(stop_of_read(error)),
         }
