@@ -15,7 +15,7 @@ use std::path::Path;
 ///
 /// At the first write or sync the file is locked until the disk is dropped. The call fails where another disk has it
 /// locked, in this process or another, and where its length isn't the one that was answered last. Then its folder is synced,
-/// so that the file itself outlasts a crash. From the first sync on what is read comes from the device, or was written since.
+/// so that the file itself outlasts a crash.
 #[derive(Drop)]
 pub struct FileDisk<'a, S: FileSystem> {
     file: OneFile<'a, S>,
@@ -33,7 +33,6 @@ impl<'a, S: FileSystem> FileDisk<'a, S> {
                 path,
                 opened: None,
                 is_writable: false,
-                is_forgotten: false,
                 is_doubtful: false,
                 answered: None,
             },
@@ -75,8 +74,6 @@ struct OneFile<'a, S: FileSystem> {
     path: &'a str,
     opened: Option<S::File>,
     is_writable: bool,
-    // What the system had kept of the file before it was opened is forgotten.
-    is_forgotten: bool,
     // A sync failed.
     is_doubtful: bool,
     // The length that was answered last.
@@ -119,12 +116,7 @@ impl<'a, S: FileSystem> OneFile<'a, S> {
         let Some(file) = &self.opened else {
             return Ok(());
         };
-        unless_doubtful(&mut self.is_doubtful, file.sync_data())?;
-        if !self.is_forgotten {
-            file.forget()?;
-            self.is_forgotten = true;
-        }
-        Ok(())
+        unless_doubtful(&mut self.is_doubtful, file.sync_data())
     }
 
     fn open_to_read(&mut self) -> io::Result<()> {

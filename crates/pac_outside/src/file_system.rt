@@ -50,9 +50,6 @@ pub trait FileCalls: FileExt {
 
     /// Locks the file against others that ask for its lock, and fails where one has it. Closing the file unlocks it.
     fn try_lock(&self) -> io::Result<()>;
-
-    /// Asks that what is read next comes from the device, and not from what the system has kept of the file.
-    fn forget(&self) -> io::Result<()>;
 }
 
 impl<R: Files<File = File>> FileSystem for R {
@@ -93,13 +90,6 @@ impl FileCalls for File {
     fn try_lock(&self) -> io::Result<()> {
         File::try_lock(self)?;
         Ok(())
-    }
-
-    fn forget(&self) -> io::Result<()> {
-        match libc::posix_fadvise(self.as_raw_fd(), 0, 0, libc::POSIX_FADV_DONTNEED) {
-            0 => Ok(()),
-            error => Err(io::Error::from_raw_os_error(error)),
-        }
     }
 }
 

@@ -61,7 +61,7 @@ loop-engine-preserved g c =
       ready = c.in_ok-serve_line.ensures.ready;
       serving = more-any c.args.engine.now c.loop-engine.engine _ _ _ c.loop-engine.reader c.next_line.new.self _ _ _ _ _ _ i.serving c.serve_line.new.engine c.args.catalogue.now c.requires.same c.in-Ok-true.field-0 c.in-Ok-true.field-0-test c.in-Ok-true.ensures.call c.in-Ok-true.ensures.limit
           c.line.result.now c.line.ensures c.in_ok-serve_line.field-0 c.if-branch.false c.in_ok-serve_line.ensures.ok;
-      quiet = c.in_ok-serve_line.ensures.quiet (λ e. absurd cc) (λ e. absurd cc) ∙ i.quiet;
+      quiet = c.in_ok-serve_line.ensures.quiet (λ e. absurd cc) ∙ i.quiet;
       later_output = omega (arith, i.later_output, c.serve_line.ensures.later);
       later_input = omega (arith, i.later_input, c.next_line.ensures.later);
     }
