@@ -14,7 +14,6 @@ pwrite log 0 3
 pwrite log 3 3
 pwrite log 6 1
 fdatasync log
-fadvise log
 fdatasync log
 ";
 

@@ -209,12 +209,6 @@ impl<'a> FileCalls for Recorded<'a> {
         self.has_lock.set(true);
         Ok(())
     }
-
-    fn forget(&self) -> io::Result<()> {
-        let path = self.path.as_str();
-        let line = format!(in self.recorder.alloc; "fadvise {path}")?;
-        self.recorder.note(line.as_str())
-    }
 }
 
 /// It gives the lock back.
