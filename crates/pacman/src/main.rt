@@ -1,6 +1,8 @@
 //! The program: the real outside, handed to the top call.
 #![tactic(auto)]
 
+ghost use Rattle.std.specs.Prelude.{◌≡◌, ◌↔◌};
+
 use pac_main::{ArgumentsError, pacman, refuse_arguments};
 use pac_outside::{OpenGate, Stream, store_devices};
 use std::env::Env;
@@ -13,8 +15,10 @@ fn read_arguments<R: Env + Alloc>(rt: &R) -> io::Result<Vec<String<R::A>, R::A>>
     Ok(env::args(rt)?.skip(1).collect(rt.alloc())?)
 }
 
-// What is wrong with arguments that can't be read.
-fn arguments_error(kind: ErrorKind) -> ArgumentsError {
+// What is wrong with arguments that can't be read: there was no memory for them, or they are no text.
+fn arguments_error(kind: ErrorKind) -> ArgumentsError
+    ensures { (result ≡ ArgumentsError.NoMemory) ↔ (kind ≡ ErrorKind.OutOfMemory) }
+{
     match kind {
         ErrorKind::OutOfMemory => ArgumentsError::NoMemory,
         _ => ArgumentsError::Usage,
