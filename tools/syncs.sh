@@ -1,8 +1,9 @@
 #!/bin/bash
 # Compares what the program asks of the system, as strace sees it, with the lists of crates/pac_tests/src/store_files.rt: what
 # `init`, a run with a commit and a save, and one with two of each open, lock, write and sync, in order. Then it tries what only
-# processes show: that a second run ends with 8 while a first one is there, and goes on when that is killed, that only plain
-# files are opened, and that no command makes a file where there is no store. It ends with 1 at the first that goes otherwise.
+# processes show: that a second run ends with 8 while a first one is there, and goes on when that is killed; that no reply goes to
+# a file of the store; that only plain files are opened; and that no command but `init` makes one. It ends with 1 at the first
+# that goes otherwise.
 #
 #     tools/syncs.sh      the program is $PACMAN or crates/pacman/out/pacman
 set -eu
@@ -93,6 +94,14 @@ ends 0 run < /dev/null
 ends 0 recover < /dev/null
 printf 'table T 3\n1 (2)\n3 (4)\n5 (6)\n' | cmp - ../output || wrong "what was committed isn't there"
 echo "a second run: it ends with 8, and writes nothing; the first loses nothing, and its end frees the store"
+
+# A file of the store doesn't get the number of a stream that is closed, or a reply would stand in it.
+status=0
+"$program" run --batch 1 < ../lines >&- 2> ../errors || status=$?
+[ "$status" = 7 ] || wrong "a run with its output closed ended with $status"
+ends 0 recover < /dev/null
+printf 'table T 3\n1 (2)\n3 (4)\n5 (6)\n' | cmp - ../output || wrong "a run with its output closed changed what is stored"
+echo "a run with its output closed: it ends with 7, and leaves the files right"
 
 # What isn't a plain file is refused at once, whatever the device.
 for kind in folder pipe link device; do
