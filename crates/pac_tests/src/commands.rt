@@ -1,7 +1,7 @@
 // The calls of one command each, over sinks that take one byte a call.
 use crate::streams::OneByte;
 use pac_main::{ArgumentsError, explain_command, init_command, refuse_arguments, run_command};
-use pac_outside::{Devices, MemDisk, MemSink, MemSource};
+use pac_outside::{Devices, Disk, MemDisk, MemSink, MemSource};
 use std::alloc::{AllocError, Global};
 use std::test::Fail;
 
@@ -46,11 +46,11 @@ fn arguments_of(alloc: Global, word: &str) -> Result<Vec<String>, AllocError> {
 }
 
 // What the command of this one word answers.
-fn status_of(
+fn status_of<D: Disk>(
     alloc: Global,
     arguments: &[String],
     streams: &mut Streams,
-    devices: &mut Devices<MemDisk>,
+    devices: &mut Devices<D>,
 ) -> u8 {
     let Streams {
         input,
@@ -69,11 +69,11 @@ fn status_of(
 }
 
 // Whether the word ends with this status, output and line over the streams.
-fn knows(
+fn knows<D: Disk>(
     alloc: Global,
     word: &str,
     streams: &mut Streams,
-    devices: &mut Devices<MemDisk>,
+    devices: &mut Devices<D>,
     end: (u8, &str, &str),
 ) -> Result<bool, AllocError> {
     let arguments = arguments_of(alloc, word)?;
@@ -85,12 +85,12 @@ fn knows(
     )
 }
 
-// The same over this input.
-fn ends(
+/// Whether a command ends with this status, output and line over this input.
+pub fn ends<D: Disk>(
     alloc: Global,
     word: &str,
     input: Vec<u8>,
-    devices: &mut Devices<MemDisk>,
+    devices: &mut Devices<D>,
     end: (u8, &str, &str),
 ) -> Result<bool, AllocError> {
     let mut streams = streams_over(alloc, input);

@@ -1,5 +1,5 @@
 // A disk over a file: what the system's calls give.
-use pac_outside::{Disk, Failed, FileDisk, open_after, read_piece};
+use pac_outside::{Disk, Failed, FileCalls, FileDisk, open_after, read_piece};
 use std::fs;
 use std::os::unix::fs::symlink;
 use std::test::Fail;
@@ -135,4 +135,16 @@ fn is_not_made(rt: &HostRuntime) -> bool {
 #[test]
 fn no_folder_is_made(rt: HostRuntime) {
     assert!(rt; is_not_made(&rt) && fs::metadata(&rt, "no_such_folder").is_err());
+}
+
+fn is_synced_by_no_call<F: FileCalls>(file: &F) -> bool {
+    file.sync_data().is_ok() || file.sync_all().is_ok()
+}
+
+// The system refuses to sync what isn't on a disk, so a sync that succeeds there was no call of it.
+#[test]
+fn syncs_are_calls_of_the_system(rt: HostRuntime) -> Result<(), Fail> {
+    let file = fs::open(&rt, "/dev/null")?;
+    assert!(rt; !is_synced_by_no_call(&file));
+    Ok(())
 }

@@ -33,6 +33,8 @@ mod sends;
 #[cfg(test)]
 mod sizes;
 #[cfg(test)]
+mod store_files;
+#[cfg(test)]
 mod streams;
 #[cfg(test)]
 mod tokens;
