@@ -20,6 +20,8 @@ const COMMANDS: &[(&str, &str)] = &[
     ("init", "bank.catalogue"),
     ("run --batch 1", "bank.lines"),
     ("recover", "/dev/null"),
+    ("run", "saves.lines"),
+    ("recover", "/dev/null"),
 ];
 
 // Does what the words of a line say over this file, and answers the status.
