@@ -19,6 +19,7 @@ const FULL_WEIGHT: u64 = 1_024;
 const WORTH_WAKING: u64 = 64;
 
 /// What a worker does next.
+#[derive(Clone, Copy)]
 pub(crate) enum Next {
     /// It runs what it took.
     Run,
