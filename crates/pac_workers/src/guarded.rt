@@ -99,7 +99,7 @@ impl<M: Machine, L: Lent> Guarded<M, L> {
         requires { All M.can_run hand.old.works.items }
         ensures { All M.can_run hand.new.works.items }
     {
-        if self.is_better_resting(tally) {
+        if hand.has_run && self.is_better_resting() {
             return Next::Rest;
         }
         match self.take(tally) {
@@ -125,9 +125,9 @@ impl<M: Machine, L: Lent> Guarded<M, L> {
         self.resting = self.resting.saturating_sub(1);
     }
 
-    // Whether a worker that has run something leaves what is ready to those that are active.
-    fn is_better_resting(&self, tally: &Tally<L>) -> bool {
-        tally.count > 0 && self.active > 0 && self.machine.ready().weight < WORTH_WAKING
+    // Whether what is ready is left to those that are active.
+    fn is_better_resting(&self) -> bool {
+        self.active > 0 && self.machine.ready().weight < WORTH_WAKING
     }
 
     // A worker gets a piece, and more where it isn't alone and enough is ready.

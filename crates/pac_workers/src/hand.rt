@@ -1,5 +1,5 @@
 // What a worker holds outside the lock.
-ghost use Rattle.std.specs.Prelude.{◌≡◌, [], All, IfOk};
+ghost use Rattle.std.specs.Prelude.{◌≡◌, All};
 
 use crate::machine::Machine;
 use pac_base::NoMemory;
@@ -12,6 +12,8 @@ use std::collections::VecDeque;
 pub(crate) struct Hand<M: Machine> {
     pub works: VecDeque<M::Work>,
     pub dones: VecDeque<M::Done>,
+    /// Whether it ever ran a piece.
+    pub has_run: bool,
 }
 
 impl<M: Machine> Hand<M> {
@@ -20,6 +22,7 @@ impl<M: Machine> Hand<M> {
         Ok(Hand {
             works: VecDeque::with_capacity(alloc, pieces)?,
             dones: VecDeque::with_capacity(alloc, pieces)?,
+            has_run: false,
         })
     }
 
@@ -32,6 +35,7 @@ impl<M: Machine> Hand<M> {
     pub fn run_all<G: Gate>(&mut self, alloc: Global, gate: &G, worker: u32)
         requires { All M.can_run self.old.works.items }
     {
+        self.has_run = true;
         while let Some(work) = self.works.pop_front() {
             let piece = M::piece(&work);
             gate.enter(worker, piece.txn, piece.block);

@@ -27,7 +27,7 @@
 //! - In one hold of the lock a worker hands in what it ran and takes what comes next. One that is alone takes one piece in each
 //!   hold. With others it takes up to 64, as long as what it has weighs less than its share of what is ready and than 1,024; and it
 //!   leaves a piece for each other worker.
-//! - A worker rests where no piece is ready. One that has finished a piece rests too where what is ready isn't worth a wake-up,
+//! - A worker rests where no piece is ready. One that has run a piece rests too where what is ready isn't worth a wake-up,
 //!   while another worker is active: handing light pieces from thread to thread costs more than running them.
 //! - A worker that took something wakes one that rests, if what is still ready is worth it: if it weighs 64 or more. One that ends
 //!   wakes all.

@@ -1,5 +1,5 @@
 // What workers run.
-ghost use Rattle.std.specs.Prelude.{◌≡◌, ◌+◌, ℕ, Bool, true, IfOk, IfErr, OnOk, OnErr};
+ghost use Rattle.std.specs.Prelude.{◌≡◌, ◌+◌, ℕ, Bool, true, IfOk, OnOk, OnErr};
 ghost use Rattle.std.specs.Coded.{Coded};
 ghost use Rattle.pac_workers.specs.Takes.{ForWork, ran_by};
 
@@ -31,8 +31,7 @@ pub struct Ready {
 
 /// A replay that workers may share under a lock: pieces are taken, run by whoever took them, and handed in.
 ///
-/// In its contracts `job` is what there is to do: the machine as it is, closed, before any piece is taken. No call changes it.
-/// `left` is the number of pieces that aren't finished.
+/// In its contracts `job` is what there is to do: the machine, closed, as it is before any piece is taken. No call changes it.
 pub trait Machine: Drop {
     /// A piece that is handed out, with all that it takes to run it.
     type Work: Drop + Send;
@@ -40,18 +39,22 @@ pub trait Machine: Drop {
     /// Work with its result.
     type Done: Drop + Send;
 
+    // what there is to do
     ghost job: { Self → Self };
 
     // how a proof stores a machine
     ghost coded: { Coded Self };
 
+    // whether no more pieces come
     ghost is_closed: { Self → Bool };
 
+    // how many pieces aren't finished
     ghost left: { Self → ℕ };
 
     // no piece is out
     ghost is_idle: { Self → Type 0 };
 
+    // the work may be run
     ghost can_run: { Self.Work → Type 0 };
 
     /// How many pieces aren't finished.
