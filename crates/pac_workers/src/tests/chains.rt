@@ -75,15 +75,15 @@ pub struct Chains {
 }
 
 impl Model for Chains {
-    ghost Value = { ℕ × ℕ × Bool };
+    ghost Value = { ℕ × (ℕ × Bool) };
 
-    ghost view = { λ c. (c.total, c.left, c.is_closed) };
+    ghost view = { λ c. (c.total, (c.left, c.is_closed)) };
 }
 
 impl Chains {
     /// No piece is taken.
     pub fn new(alloc: Global, shape: Shape) -> Result<Chains, NoMemory>
-        ensures { IfOk result (λ machine. machine.2 ≡ true) }
+        ensures { IfOk result (λ machine. machine.1.1 ≡ true) }
     {
         Ok(Chains {
             shape,
@@ -153,8 +153,8 @@ impl Chains {
 
     // The next piece of a chain is finished, and left this value.
     fn finish_next(&mut self, chain: u16, value: u64)
-        requires { 0 < self.old.1 }
-        ensures { (self.new.0 ≡ self.old.0) × (self.new.1 + 1 ≡ self.old.1) × (self.new.2 ≡ self.old.2) }
+        requires { 0 < self.old.1.0 }
+        ensures { (self.new.0 ≡ self.old.0) × (self.new.1.0 + 1 ≡ self.old.1.0) × (self.new.1.1 ≡ self.old.1.1) }
     {
         if let Some(chain) = self.chains.get_mut(usize::from(chain)) {
             chain.finished = chain.finished.saturating_add(1);
@@ -170,13 +170,13 @@ impl Machine for Chains {
 
     type Done = Stepped;
 
-    ghost job = { λ m. (m.0, 0, true) };
+    ghost job = { λ m. (m.0, (0, true)) };
 
     ghost coded = { coded× coded_ℕ (coded× coded_ℕ coded_bool) };
 
-    ghost is_closed = { λ m. m.2 };
+    ghost is_closed = { λ m. m.1.1 };
 
-    ghost left = { λ m. m.1 };
+    ghost left = { λ m. m.1.0 };
 
     ghost is_idle = { λ _. Unit {0} };
 
