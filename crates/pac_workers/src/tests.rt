@@ -3,7 +3,7 @@ mod chains;
 mod gates;
 
 use crate::replay;
-use crate::tests::chains::{Chains, Shape};
+use crate::tests::chains::{Chains, Pattern};
 use crate::tests::gates::{Counting, Logging, Meeting};
 use pac_base::NoMemory;
 use std::alloc::Global;
@@ -13,16 +13,16 @@ use std::alloc::Global;
 fn two_workers_meet(rt: HostRuntime) -> Result<(), NoMemory> {
     let alloc: Global = rt.alloc();
     for round in 0..200u16 {
-        let shape = Shape {
+        let pattern = Pattern {
             chains: 2 + round % 5,
             length: 3,
             turns: if round % 2 == 0 { 0 } else { 500 },
             spot_every: 0,
         };
         let gate = Meeting::new();
-        let replayed = replay(&rt, alloc, 2, Chains::new(alloc, shape)?, &gate)?;
+        let replayed = replay(&rt, alloc, 2, Chains::new(alloc, pattern)?, &gate)?;
         assert!(rt; gate.have_met(), "round {round}");
-        assert_eq!(rt; sum(replayed.tallies.as_slice()), shape.pieces());
+        assert_eq!(rt; sum(replayed.tallies.as_slice()), pattern.pieces());
         assert_eq!(rt; replayed.drained, 0);
         assert!(rt; replayed.machine.is_right());
     }
@@ -36,14 +36,14 @@ const IN_ORDER: &[(u64, u64)] = &[(0, 1), (0, 2), (1, 0), (1, 2), (2, 0), (2, 1)
 #[test]
 fn one_worker_order(rt: HostRuntime) -> Result<(), NoMemory> {
     let alloc: Global = rt.alloc();
-    let shape = Shape {
+    let pattern = Pattern {
         chains: 3,
         length: 3,
         turns: 200,
         spot_every: 4,
     };
     let gate = Logging::new(alloc, 16)?;
-    let replayed = replay(&rt, alloc, 1, Chains::new(alloc, shape)?, &gate)?;
+    let replayed = replay(&rt, alloc, 1, Chains::new(alloc, pattern)?, &gate)?;
     let entered = gate.entered(alloc)?;
     assert_eq!(rt; entered.as_slice(), IN_ORDER);
     assert_eq!(rt; replayed.tallies.as_slice().len(), 1);
@@ -66,20 +66,20 @@ fn each_piece_once(rt: HostRuntime) -> Result<(), NoMemory> {
             (64, 40, 500, 0),
             (5, 100, 300, 7),
         ] {
-            let shape = Shape {
+            let pattern = Pattern {
                 chains,
                 length,
                 turns,
                 spot_every,
             };
-            let gate = Counting::new(alloc, shape)?;
-            let replayed = replay(&rt, alloc, workers, Chains::new(alloc, shape)?, &gate)?;
+            let gate = Counting::new(alloc, pattern)?;
+            let replayed = replay(&rt, alloc, workers, Chains::new(alloc, pattern)?, &gate)?;
             assert!(rt;
-                gate.is_each_once(shape),
+                gate.is_each_once(pattern),
                 "{workers} workers, {chains} chains of {length}"
             );
             assert_eq!(rt; replayed.tallies.as_slice().len(), workers as usize);
-            assert_eq!(rt; sum(replayed.tallies.as_slice()), shape.pieces());
+            assert_eq!(rt; sum(replayed.tallies.as_slice()), pattern.pieces());
             assert_eq!(rt; replayed.drained, 0);
             assert!(rt; replayed.machine.is_right());
         }
@@ -92,7 +92,7 @@ fn each_piece_once(rt: HostRuntime) -> Result<(), NoMemory> {
 #[test]
 fn workers_that_end_give_back(rt: HostRuntime) -> Result<(), NoMemory> {
     let alloc: Global = rt.alloc();
-    let shape = Shape {
+    let pattern = Pattern {
         chains: 8,
         length: 20,
         turns: 300,
@@ -108,13 +108,13 @@ fn workers_that_end_give_back(rt: HostRuntime) -> Result<(), NoMemory> {
         (4, 0, u32::MAX),
         (16, 5, 5),
     ] {
-        let mut machine = Chains::new(alloc, shape)?;
+        let mut machine = Chains::new(alloc, pattern)?;
         machine.starve(starved);
         machine.refuse(refused);
-        let gate = Counting::new(alloc, shape)?;
+        let gate = Counting::new(alloc, pattern)?;
         let replayed = replay(&rt, alloc, workers, machine, &gate)?;
         let counted = sum(replayed.tallies.as_slice());
-        assert_eq!(rt; counted.saturating_add(replayed.drained), shape.pieces());
+        assert_eq!(rt; counted.saturating_add(replayed.drained), pattern.pieces());
         assert!(rt; replayed.machine.is_right());
         let ended = starved.saturating_add(refused);
         if ended < workers {

@@ -11,14 +11,14 @@ use std::marker::Model;
 /// How many chains there are, how long each is, how many turns each piece takes, and which pieces are run on the spot: every so many
 /// of all, or none for 0.
 #[derive(Clone, Copy)]
-pub struct Shape {
+pub struct Pattern {
     pub chains: u16,
     pub length: u32,
     pub turns: u32,
     pub spot_every: u64,
 }
 
-impl Shape {
+impl Pattern {
     /// How many pieces there are.
     pub fn pieces(&self) -> u64 {
         u64::from(self.chains).saturating_mul(u64::from(self.length))
@@ -47,7 +47,7 @@ struct Chain {
 
 /// A piece that is handed out: where it stands, how many turns it takes, the value before it, and whether it will find no memory.
 #[derive(Drop)]
-pub struct Step {
+pub struct Task {
     chain: u16,
     at: u32,
     turns: u32,
@@ -57,15 +57,15 @@ pub struct Step {
 
 /// A piece with the value after it.
 #[derive(Drop)]
-pub struct Stepped {
-    step: Step,
+pub struct TaskDone {
+    task: Task,
     value: u64,
 }
 
 /// The pieces of some chains. Contracts see how many there are, how many aren't finished, and whether no more come.
 #[derive(Drop)]
 pub struct Chains {
-    shape: Shape,
+    pattern: Pattern,
     chains: Vec<Chain>,
     total: u64,
     left: u64,
@@ -82,14 +82,14 @@ impl Model for Chains {
 
 impl Chains {
     /// No piece is taken.
-    pub fn new(alloc: Global, shape: Shape) -> Result<Chains, NoMemory>
+    pub fn new(alloc: Global, pattern: Pattern) -> Result<Chains, NoMemory>
         ensures { IfOk result (λ machine. machine.1.1 ≡ true) }
     {
         Ok(Chains {
-            shape,
-            chains: begun(alloc, shape.chains)?,
-            total: shape.pieces(),
-            left: shape.pieces(),
+            pattern,
+            chains: begun(alloc, pattern.chains)?,
+            total: pattern.pieces(),
+            left: pattern.pieces(),
             is_closed: true,
             starved: 0,
             refused: 0,
@@ -113,8 +113,8 @@ impl Chains {
     /// Whether each chain has the value that its pieces leave one after another.
     pub fn is_right(&self) -> bool {
         let mut value = 0;
-        for at in 0..self.shape.length {
-            value = value_after(value, at, self.shape.turns);
+        for at in 0..self.pattern.length {
+            value = value_after(value, at, self.pattern.turns);
         }
         for chain in &self.chains {
             if chain.value != value {
@@ -127,7 +127,7 @@ impl Chains {
     // The chain whose next piece comes first of those that are ready.
     fn first_ready(&self) -> Option<(u16, Chain)> {
         let mut first: Option<(u16, Chain)> = None;
-        for number in 0..self.shape.chains {
+        for number in 0..self.pattern.chains {
             let Some(chain) = self.chains.get(usize::from(number)) else {
                 break;
             };
@@ -135,7 +135,7 @@ impl Chains {
                 Some((_, other)) => chain.finished < other.finished,
                 None => true,
             };
-            if comes_first && is_ready(chain, self.shape.length) {
+            if comes_first && is_ready(chain, self.pattern.length) {
                 first = Some((number, *chain));
             }
         }
@@ -166,9 +166,9 @@ impl Chains {
 }
 
 impl Machine for Chains {
-    type Work = Step;
+    type Work = Task;
 
-    type Done = Stepped;
+    type Done = TaskDone;
 
     ghost job = { λ m. (m.0, (0, true)) };
 
@@ -187,57 +187,57 @@ impl Machine for Chains {
     }
 
     fn ready(&self) -> Ready {
-        let length = self.shape.length;
+        let length = self.pattern.length;
         let mut pieces = 0u64;
         for chain in &self.chains {
             pieces = pieces.saturating_add(u64::from(is_ready(chain, length)));
         }
         Ready {
             pieces,
-            weight: pieces.saturating_mul(u64::from(self.shape.turns)),
+            weight: pieces.saturating_mul(u64::from(self.pattern.turns)),
         }
     }
 
-    fn piece(work: &Step) -> PieceId {
+    fn piece(work: &Task) -> PieceId {
         PieceId {
             txn: u64::from(work.at),
             block: work.chain,
         }
     }
 
-    fn weight(work: &Step) -> u64 {
+    fn weight(work: &Task) -> u64 {
         u64::from(work.turns)
     }
 
-    fn run(_: Global, work: Step) -> Result<Stepped, (Step, NoMemory)> {
+    fn run(_: Global, work: Task) -> Result<TaskDone, (Task, NoMemory)> {
         if work.is_starved {
             return Err((work, NoMemory));
         }
         let value = value_after(work.value, work.at, work.turns);
-        Ok(Stepped { step: work, value })
+        Ok(TaskDone { task: work, value })
     }
 
-    fn into_work(done: Stepped) -> Step {
-        let Stepped { step, value: _ } = done;
-        step
+    fn into_work(done: TaskDone) -> Task {
+        let TaskDone { task, value: _ } = done;
+        task
     }
 
     fn close(&mut self) {
         self.is_closed = true;
     }
 
-    fn take(&mut self) -> Result<Taken<Step>, NoMemory> {
+    fn take(&mut self) -> Result<Taken<Task>, NoMemory> {
         if self.left == 0 && self.is_closed {
             return Ok(Taken::Done);
         }
         let Some((number, chain)) = self.first_ready() else {
             return Ok(Taken::NotReady);
         };
-        let turns = self.shape.turns;
+        let turns = self.pattern.turns;
         if self.left > 0
             && !self
-                .shape
-                .passes_gate(self.shape.number(number, chain.finished))
+                .pattern
+                .passes_gate(self.pattern.number(number, chain.finished))
         {
             self.finish_next(number, value_after(chain.value, chain.finished, turns));
             return Ok(Taken::Ran);
@@ -245,7 +245,7 @@ impl Machine for Chains {
         let is_starved = self.starved > 0;
         self.starved = self.starved.saturating_sub(1);
         self.set_out(number, true);
-        Ok(Taken::Work(Step {
+        Ok(Taken::Work(Task {
             chain: number,
             at: chain.finished,
             turns,
@@ -254,23 +254,23 @@ impl Machine for Chains {
         }))
     }
 
-    fn finish(&mut self, done: Stepped) -> Result<(), Stepped> {
+    fn finish(&mut self, done: TaskDone) -> Result<(), TaskDone> {
         if self.refused > 0 || self.left == 0 {
             self.refused = self.refused.saturating_sub(1);
             return Err(done);
         }
-        let is_own = match self.chains.get(usize::from(done.step.chain)) {
-            Some(chain) => chain.is_out && chain.finished == done.step.at,
+        let is_own = match self.chains.get(usize::from(done.task.chain)) {
+            Some(chain) => chain.is_out && chain.finished == done.task.at,
             None => false,
         };
         if !is_own {
             return Err(done);
         }
-        self.finish_next(done.step.chain, done.value);
+        self.finish_next(done.task.chain, done.value);
         Ok(())
     }
 
-    fn give_back(&mut self, work: Step) {
+    fn give_back(&mut self, work: Task) {
         self.set_out(work.chain, false);
     }
 
@@ -280,7 +280,7 @@ impl Machine for Chains {
 
     fn drain(&mut self) -> Result<u64, NoMemory> {
         let drained = self.left;
-        drain_all(self.chains.as_mut_slice(), self.shape);
+        drain_all(self.chains.as_mut_slice(), self.pattern);
         self.left = 0;
         Ok(drained)
     }
@@ -312,13 +312,13 @@ fn reclaim_all(chains: &mut [Chain]) {
 }
 
 // What is left of each chain is run.
-fn drain_all(chains: &mut [Chain], shape: Shape) {
+fn drain_all(chains: &mut [Chain], pattern: Pattern) {
     for chain in chains {
         let from = chain.finished;
-        for at in from..shape.length {
-            chain.value = value_after(chain.value, at, shape.turns);
+        for at in from..pattern.length {
+            chain.value = value_after(chain.value, at, pattern.turns);
         }
-        chain.finished = shape.length;
+        chain.finished = pattern.length;
     }
 }
 

@@ -1,5 +1,5 @@
 // Gates that tell who passed.
-use crate::tests::chains::Shape;
+use crate::tests::chains::Pattern;
 use pac_base::NoMemory;
 use pac_outside::Gate;
 use std::alloc::Global;
@@ -97,18 +97,18 @@ pub struct Counting {
 
 impl Counting {
     /// Nobody has entered.
-    pub fn new(alloc: Global, shape: Shape) -> Result<Counting, NoMemory> {
+    pub fn new(alloc: Global, pattern: Pattern) -> Result<Counting, NoMemory> {
         Ok(Counting {
-            chains: u64::from(shape.chains),
-            counts: zeros(alloc, shape.pieces())?,
+            chains: u64::from(pattern.chains),
+            counts: zeros(alloc, pattern.pieces())?,
         })
     }
 
     /// Whether each piece that passes the gate entered once, and no other.
-    pub fn is_each_once(&self, shape: Shape) -> bool {
+    pub fn is_each_once(&self, pattern: Pattern) -> bool {
         for at in 0..self.counts.len() {
             let count = self.counts[at].load(Ordering::SeqCst);
-            if count != u64::from(shape.passes_gate(at as u64)) {
+            if count != u64::from(pattern.passes_gate(at as u64)) {
                 return false;
             }
         }
