@@ -1,0 +1,211 @@
+// What lies under the lock.
+ghost use base.Stored.{Gv-set};
+ghost use Rattle.std.specs.Prelude.{◌≡◌, ◌+◌, ◌^◌, ◌<◌, [], All, IfOk, OnOk, OnErr};
+ghost use Rattle.pac_workers.specs.Takes.{ForWork, ran_by};
+
+use crate::hand::Hand;
+use crate::machine::{Machine, Taken};
+use crate::tally::{Lent, Tally};
+use pac_base::NoMemory;
+use std::sync::ledger::Book;
+
+/// The most pieces that are taken in one hold of the lock.
+pub(crate) const MAX_TAKEN: usize = 64;
+
+// Pieces are taken in one hold until they weigh so much.
+const FULL_WEIGHT: u64 = 1_024;
+
+// Ready pieces that weigh so much are worth a wake-up.
+const WORTH_WAKING: u64 = 64;
+
+/// What a worker does next.
+#[derive(Clone, Copy)]
+pub(crate) enum Next {
+    /// It runs what it took.
+    Run,
+    /// It takes again: a piece was run on the spot.
+    Take,
+    /// It rests until it is woken.
+    Rest,
+    /// It ends: all is finished, or there is no memory.
+    End,
+}
+
+/// What lies under the lock. Whenever the lock is free, the machine has the job of the one that was lent, and what isn't finished of
+/// its pieces is what wasn't at first, but for those in the book.
+#[derive(Drop)]
+pub(crate) struct Guarded<M: Machine, L: Lent> {
+    machine: M,
+    book: Book<L>,
+    // How many workers hold pieces, and how many rest. There are never so many that a count stands at its type's end.
+    active: u32,
+    resting: u32,
+    ghost same_job: { M.coded.code (M.job machine) ≡ L.job } by { Gv-set (M.coded.code (M.job machine)) L.job },
+    ghost counted: { M.left machine + book.total ≡ L.left },
+    ghost fits: { L.left < 2 ^ 64 },
+}
+
+impl<M: Machine, L: Lent> Guarded<M, L> {
+    /// The machine that was lent. Nobody has begun.
+    pub fn new(machine: M, book: Book<L>) -> Guarded<M, L>
+        requires job { M.coded.code (M.job machine) ≡ L.job }
+        requires left { (M.left machine ≡ L.left) × (book.total ≡ 0) }
+        requires fits { L.left < 2 ^ 64 }
+    {
+        Guarded {
+            machine,
+            book,
+            active: 0,
+            resting: 0,
+        }
+    }
+
+    /// The machine, and the book of what was finished of it.
+    pub fn into_parts(self) -> (M, Book<L>)
+        ensures job { M.coded.code (M.job result.0) ≡ L.job }
+        ensures counted { M.left result.0 + result.1.total ≡ L.left }
+    {
+        let Guarded {
+            machine,
+            book,
+            active: _,
+            resting: _,
+        } = self;
+        (machine, book)
+    }
+
+    /// Hands in what a worker ran, and gives back what it didn't run. Whether it ran all, and all was kept.
+    pub fn hand_in(&mut self, tally: &mut Tally<L>, hand: &mut Hand<M>) -> bool
+        ensures { hand.new.works.items ≡ [] }
+    {
+        if !hand.is_empty() {
+            self.active = self.active.saturating_sub(1);
+        }
+        let mut is_all_kept = hand.works.is_empty();
+        while let Some(done) = hand.dones.pop_front() {
+            if let Err(done) = self.finish(tally, done) {
+                self.machine.give_back(M::into_work(done));
+                is_all_kept = false;
+            }
+        }
+        while let Some(work) = hand.works.pop_front() {
+            self.machine.give_back(work);
+        }
+        is_all_kept
+    }
+
+    /// Takes what comes next, if it isn't better to rest.
+    pub fn next(&mut self, workers: u32, tally: &mut Tally<L>, hand: &mut Hand<M>) -> Next
+        requires { All M.can_run hand.old.works.items }
+        ensures { All M.can_run hand.new.works.items }
+    {
+        if hand.has_run && self.is_better_resting() {
+            return Next::Rest;
+        }
+        match self.take(tally) {
+            Ok(Taken::Work(work)) => self.hand_out(workers, tally, hand, work),
+            Ok(Taken::Ran) => Next::Take,
+            Ok(Taken::NotReady) if self.active > 0 => Next::Rest,
+            Ok(Taken::NotReady | Taken::Done) | Err(_) => Next::End,
+        }
+    }
+
+    /// Whether a worker is to be woken: one rests, and what is ready is worth it.
+    pub fn is_waking(&self) -> bool {
+        self.resting > 0 && self.machine.ready().weight >= WORTH_WAKING
+    }
+
+    /// A worker begins to rest.
+    pub fn rest(&mut self) {
+        self.resting = self.resting.saturating_add(1);
+    }
+
+    /// A worker rests no more.
+    pub fn wake(&mut self) {
+        self.resting = self.resting.saturating_sub(1);
+    }
+
+    // Whether what is ready is left to those that are active.
+    fn is_better_resting(&self) -> bool {
+        self.active > 0 && self.machine.ready().weight < WORTH_WAKING
+    }
+
+    // A worker gets a piece, and more where it isn't alone and enough is ready.
+    fn hand_out(
+        &mut self,
+        workers: u32,
+        tally: &mut Tally<L>,
+        hand: &mut Hand<M>,
+        work: M::Work,
+    ) -> Next
+        requires work { M.can_run work }
+        requires works { All M.can_run hand.old.works.items }
+        ensures { All M.can_run hand.new.works.items }
+    {
+        let weight = M::weight(&work);
+        if let Err(refused) = hand.works.push_back(work) {
+            self.machine.give_back(refused.value);
+            return Next::End;
+        }
+        self.active = self.active.saturating_add(1);
+        if workers > 1 {
+            self.hand_out_more(workers, tally, hand, weight);
+        }
+        Next::Run
+    }
+
+    // A worker gets its share of what is ready, and a piece is left for each other worker.
+    fn hand_out_more(&mut self, workers: u32, tally: &mut Tally<L>, hand: &mut Hand<M>, weight: u64)
+        requires workers { 1 < workers }
+        requires works { All M.can_run hand.old.works.items }
+        ensures { All M.can_run hand.new.works.items }
+    {
+        let workers = u64::from(workers);
+        let share = self.machine.ready().weight / (2 * workers);
+        let full = share.min(FULL_WEIGHT);
+        let mut weight = weight;
+        for _ in 1..MAX_TAKEN {
+            if weight >= full || self.machine.ready().pieces < workers {
+                return;
+            }
+            match self.take(tally) {
+                Ok(Taken::Work(work)) => {
+                    weight = weight.saturating_add(M::weight(&work));
+                    if let Err(refused) = hand.works.push_back(work) {
+                        self.machine.give_back(refused.value);
+                        return;
+                    }
+                }
+                Ok(Taken::Ran) => {}
+                Ok(Taken::NotReady | Taken::Done) | Err(_) => return,
+            }
+        }
+    }
+
+    // Takes a piece, and counts it if it was run on the spot.
+    fn take(&mut self, tally: &mut Tally<L>) -> Result<Taken<M::Work>, NoMemory>
+        ensures count { IfOk result (λ taken. tally.new.count ≡ tally.old.count + ran_by taken) }
+        ensures work { IfOk result (ForWork M.can_run) }
+        ensures err { OnErr result (tally.new.count ≡ tally.old.count) }
+    {
+        let Guarded { machine, book, .. } = self;
+        let taken = machine.take()?;
+        if let Taken::Ran = &taken {
+            tally.count_one(book);
+        }
+        Ok(taken)
+    }
+
+    // Hands in a result, and counts its piece if it was kept.
+    fn finish(&mut self, tally: &mut Tally<L>, done: M::Done) -> Result<(), M::Done>
+        ensures kept { OnOk result (tally.new.count ≡ tally.old.count + 1) }
+        ensures refused { OnErr result (tally.new.count ≡ tally.old.count) }
+    {
+        let Guarded { machine, book, .. } = self;
+        let handed_in = machine.finish(done);
+        if handed_in.is_ok() {
+            tally.count_one(book);
+        }
+        handed_in
+    }
+}

@@ -1,0 +1,48 @@
+//! Workers: threads that share a replay under a lock, and finish it together.
+//!
+//! - [`Machine`]: what is replayed. Its pieces are taken under the lock, run outside it by whoever took them, and handed in under
+//!   it. The trait asks only for what workers need, so that any order of pieces may stand behind it.
+//! - [`replay`]: finishes a machine by so many workers, and returns it as [`Replayed`], with the number of pieces that each worker
+//!   finished and the number of those that were left by all.
+//!
+//! ```
+//! use pac_outside::OpenGate;
+//! use pac_workers::replay;
+//!
+//! let replayed = replay(rt, alloc, 4, machine, &OpenGate)?;
+//! let machine = replayed.machine; // each piece is finished
+//! ```
+//!
+//! Whatever the order in which workers get the lock, the machine that comes back is closed and finished, has the job of the one that
+//! was lent, and the tallies and what was drained add up to what was unfinished. None of this is tested when the program runs. What
+//! lies under the lock keeps by its type that its machine has that job, and that what was finished of it is in a ledger, of which
+//! each tally has a part. The ledger is that of this very call, so that no other machine fits it.
+//!
+//! That is all that is proved of threads. That several of them run, that each gets on, and that a wake-up comes are not; tests show
+//! it. A machine should see to two things for it: where it is closed and no piece is out, it is done or a piece is ready; and
+//! it refuses no result of a piece that it handed out.
+//!
+//! How workers go about it:
+//!
+//! - In one hold of the lock a worker hands in what it ran and takes what comes next. One that is alone takes one piece in each
+//!   hold. With others it takes up to 64, as long as what it has weighs less than its share of what is ready and than 1,024; and it
+//!   leaves a piece for each other worker.
+//! - A worker rests where no piece is ready. One that has run a piece rests too where what is ready isn't worth a wake-up,
+//!   while another worker is active: handing light pieces from thread to thread costs more than running them.
+//! - A worker that took something wakes one that rests, if what is still ready is worth it: if it weighs 64 or more. One that ends
+//!   wakes all.
+//! - A worker ends where all is finished. It ends too where there is no memory for a piece, or a result is refused: then it gives
+//!   back what it has, and counts nothing for it. What all workers leave is drained by the caller's thread.
+#![tactic(auto)]
+
+mod guarded;
+mod hand;
+mod machine;
+mod tally;
+#[cfg(test)]
+mod tests;
+mod threads;
+mod worker;
+
+pub use machine::{Machine, Ready, Taken};
+pub use threads::{Replayed, replay};

@@ -1,0 +1,135 @@
+// Tests of what no clause says: that threads run, wait, wake each other and end.
+mod chains;
+mod gates;
+
+use crate::replay;
+use crate::tests::chains::{Chains, Pattern};
+use crate::tests::gates::{Counting, Logging, Meeting};
+use pac_base::NoMemory;
+use std::alloc::Global;
+
+// Two workers enter the gate, where there is work for both: the first waits there for the second.
+#[test]
+fn two_workers_meet(rt: HostRuntime) -> Result<(), NoMemory> {
+    let alloc: Global = rt.alloc();
+    for round in 0..200u16 {
+        let pattern = Pattern {
+            chains: 2 + round % 5,
+            length: 3,
+            turns: if round % 2 == 0 { 0 } else { 500 },
+            spot_every: 0,
+        };
+        let gate = Meeting::new();
+        let replayed = replay(&rt, alloc, 2, Chains::new(alloc, pattern)?, &gate)?;
+        assert!(rt; gate.have_met(), "round {round}");
+        assert_eq!(rt; sum(replayed.tallies.as_slice()), pattern.pieces());
+        assert_eq!(rt; replayed.drained, 0);
+        assert!(rt; replayed.machine.is_right());
+    }
+    Ok(())
+}
+
+// The transactions and blocks of pieces that pass the gate, in order.
+const IN_ORDER: &[(u64, u64)] = &[(0, 1), (0, 2), (1, 0), (1, 2), (2, 0), (2, 1)];
+
+// One worker runs the pieces in their order, one in each hold of the lock. Those that are run on the spot don't pass the gate.
+#[test]
+fn one_worker_order(rt: HostRuntime) -> Result<(), NoMemory> {
+    let alloc: Global = rt.alloc();
+    let pattern = Pattern {
+        chains: 3,
+        length: 3,
+        turns: 200,
+        spot_every: 4,
+    };
+    let gate = Logging::new(alloc, 16)?;
+    let replayed = replay(&rt, alloc, 1, Chains::new(alloc, pattern)?, &gate)?;
+    let entered = gate.entered(alloc)?;
+    assert_eq!(rt; entered.as_slice(), IN_ORDER);
+    assert_eq!(rt; replayed.tallies.as_slice().len(), 1);
+    assert_eq!(rt; sum(replayed.tallies.as_slice()), 9);
+    assert_eq!(rt; replayed.drained, 0);
+    assert!(rt; replayed.machine.is_right());
+    Ok(())
+}
+
+// However many workers there are, and however heavy the pieces: each piece is run once, in the order of its chain, and is in a tally.
+#[test]
+fn each_piece_once(rt: HostRuntime) -> Result<(), NoMemory> {
+    let alloc: Global = rt.alloc();
+    for workers in [1u32, 2, 4, 16, 64] {
+        for (chains, length, turns, spot_every) in [
+            (0u16, 0u32, 0u32, 0u64),
+            (1, 1, 0, 0),
+            (1, 400, 100, 0),
+            (64, 40, 0, 0),
+            (64, 40, 500, 0),
+            (5, 100, 300, 7),
+        ] {
+            let pattern = Pattern {
+                chains,
+                length,
+                turns,
+                spot_every,
+            };
+            let gate = Counting::new(alloc, pattern)?;
+            let replayed = replay(&rt, alloc, workers, Chains::new(alloc, pattern)?, &gate)?;
+            assert!(rt;
+                gate.is_each_once(pattern),
+                "{workers} workers, {chains} chains of {length}"
+            );
+            assert_eq!(rt; replayed.tallies.as_slice().len(), workers as usize);
+            assert_eq!(rt; sum(replayed.tallies.as_slice()), pattern.pieces());
+            assert_eq!(rt; replayed.drained, 0);
+            assert!(rt; replayed.machine.is_right());
+        }
+    }
+    Ok(())
+}
+
+// A worker that finds no memory, or whose result is refused, gives back what it took and ends. The others do what is left; what all
+// leave is drained.
+#[test]
+fn workers_that_end_give_back(rt: HostRuntime) -> Result<(), NoMemory> {
+    let alloc: Global = rt.alloc();
+    let pattern = Pattern {
+        chains: 8,
+        length: 20,
+        turns: 300,
+        spot_every: 0,
+    };
+    for (workers, starved, refused) in [
+        (1u32, 1u32, 0u32),
+        (1, 0, 1),
+        (4, 1, 0),
+        (4, 0, 1),
+        (4, 2, 1),
+        (4, u32::MAX, 0),
+        (4, 0, u32::MAX),
+        (16, 5, 5),
+    ] {
+        let mut machine = Chains::new(alloc, pattern)?;
+        machine.starve(starved);
+        machine.refuse(refused);
+        let gate = Counting::new(alloc, pattern)?;
+        let replayed = replay(&rt, alloc, workers, machine, &gate)?;
+        let counted = sum(replayed.tallies.as_slice());
+        assert_eq!(rt; counted.saturating_add(replayed.drained), pattern.pieces());
+        assert!(rt; replayed.machine.is_right());
+        let ended = starved.saturating_add(refused);
+        if ended < workers {
+            assert_eq!(rt; replayed.drained, 0, "{workers} workers, {ended} ended");
+        }
+        if workers == 1 || ended == u32::MAX {
+            assert_eq!(rt; counted, 0);
+        }
+    }
+    Ok(())
+}
+
+// The numbers, added up.
+fn sum(numbers: &[u64]) -> u64 {
+    numbers
+        .iter()
+        .fold(0, |sum: u64, number| sum.saturating_add(*number))
+}
