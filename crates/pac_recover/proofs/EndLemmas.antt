@@ -51,12 +51,12 @@ use Rattle.pac_recover.proofs.ReportLemmas.{execute-knows, over-knows}
 
 -- ---- a log that was executed, beside slots
 
-module _ (text : List ℕ) (catalogue : CatalogueState) (slots : Slots) (base : Tables) (new : NextGate) (replayed : Replayed) (gates : List GatePlace) where
+module _ {T : Type 0} (text : List ℕ) (catalogue : CatalogueState) (slots : Slots) (base : Tables) (new : NextGate) (replayed : Replayed T) (gates : List GatePlace) where
   abbrev pub IsReplay : List ℕ → Type 0
   IsReplay image = IsReplayOf text catalogue (newest_of slots) base new replayed gates image
 
   -- where the slots are at gates of it
-  ends-here : (ended : Ended) → ended.catalogue ≡ catalogue → ended.replayed ≡ replayed → ended.txns ≡ new.txns → IsInfoAmong gates (info_of A slots.a) → IsInfoAmong gates (info_of B slots.b)
+  ends-here : (ended : Ended T) → ended.catalogue ≡ catalogue → ended.replayed ≡ replayed → ended.txns ≡ new.txns → IsInfoAmong gates (info_of A slots.a) → IsInfoAmong gates (info_of B slots.b)
       → (log a b : List ℕ) → IsReplay log → EndsBeside catalogue slots base ended log a b
   ends-here ended same gives counted at_a at_b log a b is = λ is_a is_b newest.
       let among = newest-among gates slots.a slots.b (newest_of slots) refl at_a at_b in
@@ -81,7 +81,7 @@ module _ (text : List ℕ) (catalogue : CatalogueState) (slots : Slots) (base : 
         counted = omega (arith, counted, is.end.txns, is.number among, length-drop number (all_txns is.batches));
       }
 
-  pub ends-beside : (ended : Ended) → ended.catalogue ≡ catalogue → ended.replayed ≡ replayed → ended.txns ≡ new.txns → IsInfoAmong gates (info_of A slots.a) → IsInfoAmong gates (info_of B slots.b)
+  pub ends-beside : (ended : Ended T) → ended.catalogue ≡ catalogue → ended.replayed ≡ replayed → ended.txns ≡ new.txns → IsInfoAmong gates (info_of A slots.a) → IsInfoAmong gates (info_of B slots.b)
       → (first : NextGate) (a b : List ℕ) (known : Option DiskHistory) → IfKnown (λ h. StandsAfter text [] first h.now.seen → IsReplay h.now.seen) known
       → IfKnown (λ h. StandsAfter text [] first h.now.seen → EndsBeside catalogue slots base ended h.now.seen a b) known
   ends-beside ended same gives counted at_a at_b first a b None is = tt
@@ -115,7 +115,7 @@ from-first first P None now same attached says = tt
 from-first first P (Some h) now same attached says = (subst (λ (t : Option DiskHistory). IfKnown (λ k. StandsAfter attached.0 [] first k.now.seen → P k) t) same (says attached.0)) attached.2
 
 -- where the log and the slots are known
-pub ends-known : (catalogue : CatalogueState) (slots : Slots) (base : Tables) (ended : Ended) (first : NextGate) (log a b now : Option DiskHistory) → now ≡ log → IfKnown (IsAttachedTo first) log
+pub ends-known : {T : Type 0} (catalogue : CatalogueState) (slots : Slots) (base : Tables) (ended : Ended T) (first : NextGate) (log a b now : Option DiskHistory) → now ≡ log → IfKnown (IsAttachedTo first) log
     → ((text x y : List ℕ) → IfKnown (λ h. StandsAfter text [] first h.now.seen → EndsBeside catalogue slots base ended h.now.seen x y) now)
     → IfKnown (λ h. IsSlot catalogue.tables slots.a h.now.seen) a → IfKnown (λ h. IsSlot catalogue.tables slots.b h.now.seen) b
     → IfKnown (λ x. IfKnown (λ y. AreNewestOf catalogue slots base x.now.seen y.now.seen) b) a → IfReadKnown (EndsSo ended) log a b
@@ -157,7 +157,7 @@ broken-known catalogue slot at kind first is (Some h) (Some x) (Some y) now same
     with-text (Some k) whole text = λ stands. (text, whole text stands)
 
 -- the same of what was answered
-pub ends-all : (catalogue : CatalogueState) (slots : Slots) (base : Tables) (first : NextGate) (log a b now : Option DiskHistory) → now ≡ log → IfKnown (IsAttachedTo first) log → (result : Result Ended LoadError)
+pub ends-all : {T : Type 0} (catalogue : CatalogueState) (slots : Slots) (base : Tables) (first : NextGate) (log a b now : Option DiskHistory) → now ≡ log → IfKnown (IsAttachedTo first) log → (result : Result (Ended T) LoadError)
     → IfOk result (λ ended. (text x y : List ℕ) → IfKnown (λ h. StandsAfter text [] first h.now.seen → EndsBeside catalogue slots base ended h.now.seen x y) now)
     → IfKnown (λ h. IsSlot catalogue.tables slots.a h.now.seen) a → IfKnown (λ h. IsSlot catalogue.tables slots.b h.now.seen) b
     → IfKnown (λ x. IfKnown (λ y. AreNewestOf catalogue slots base x.now.seen y.now.seen) b) a → IfOk result (λ ended. IfReadKnown (EndsSo ended) log a b)
@@ -179,7 +179,7 @@ reads-whole text old new batches (Some h) reads = λ stands. (txns_by_batch batc
 
 -- ---- what is answered of it
 
-module _ (ended : Ended) (log a b : Option DiskHistory) (ends : IfReadKnown (EndsSo ended) log a b) where
+module _ {T : Type 0} (ended : Ended T) (log a b : Option DiskHistory) (ends : IfReadKnown (EndsSo ended) log a b) where
   pub ended-aborts : (note : Note) → outcome_of ended.replayed ≡ Err note → IfReadKnown (AbortsIn note) log a b
   ended-aborts note is = known-weaker (EndsSo ended) (AbortsIn note) (λ images e. record { stored = e.stored; is = e.is; stops = e.outcome ∙ is }) log a b ends
 

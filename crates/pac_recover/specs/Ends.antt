@@ -21,7 +21,7 @@ abbrev pub IsWholeLog : List ℕ → CatalogueState → List ℕ → Type 0
 IsWholeLog text catalogue image = (batches : List (List Txn)) × HoldsLog text catalogue batches image
 
 -- serial execution of what is stored in these images ends so
-pub record EndsSo (ended : Ended) (images : Images) : Type 0 where
+pub record EndsSo {T : Type 0} (ended : Ended T) (images : Images) : Type 0 where
   pub stored : Stored
   pub is : IsStored images stored
   pub same : stored.catalogue ≡ ended.catalogue
@@ -29,7 +29,7 @@ pub record EndsSo (ended : Ended) (images : Images) : Type 0 where
   pub counted : ended.txns ≡ stored.number + length stored.rest
 
 -- the same of a log, beside slots in these states, the newest of which has these tables
-abbrev pub EndsBeside : CatalogueState → Slots → Tables → Ended → List ℕ → List ℕ → List ℕ → Type 0
+abbrev pub EndsBeside : {T : Type 0} → CatalogueState → Slots → Tables → Ended T → List ℕ → List ℕ → List ℕ → Type 0
 EndsBeside catalogue slots base ended log a b = IsSlot catalogue.tables slots.a a → IsSlot catalogue.tables slots.b b → AreNewestOf catalogue slots base a b
     → EndsSo ended (record { log = log; slot_a = a; slot_b = b })
 

@@ -20,7 +20,7 @@ use crate::replay::Replayed;
 use crate::store::{Ended, replay_store};
 use crate::{RecoverError, test_rows};
 use pac_outside::{Devices, Disk, Gate};
-use pac_tables::HashedRows;
+use pac_tables::{HashedRows, JoinedRows, TableRows};
 use pac_types::Catalogue;
 use std::alloc::Global;
 
@@ -87,7 +87,7 @@ pub fn recover<D: Disk, G: Gate>(
 }
 
 // The tables with which the execution ends, unless a transaction aborts.
-fn tables_of(replayed: Replayed) -> Result<HashedRows, RecoverError>
+fn tables_of<T: TableRows>(replayed: Replayed<T>) -> Result<JoinedRows<T>, RecoverError>
     ensures ok { IfOk result (λ tables. replayed ≡ Replayed.Tables tables) }
     ensures aborted { (error : ARecoverError) → IsErrOf result error → (note : ANote) × (error ≡ RecoverError.AbortInLog note) × (replayed ≡ Replayed.Aborted note) }
 {

@@ -15,7 +15,7 @@ use crate::log::push;
 use crate::replay::{Replayed, replay};
 use pac_log::{LogError, LogReader};
 use pac_outside::Disk;
-use pac_tables::HashedRows;
+use pac_tables::{JoinedRows, TableRows};
 use pac_types::Catalogue;
 use std::alloc::Global;
 
@@ -25,14 +25,14 @@ use std::alloc::Global;
 /// # Errors
 ///
 /// Those of [`LogReader::next_batch`], and [`LogError::NoMemory`] where there was no memory for the tables.
-pub(crate) fn replay_rest<D: Disk>(
+pub(crate) fn replay_rest<D: Disk, T: TableRows>(
     alloc: Global,
     cat: &Catalogue,
-    tables: HashedRows,
+    tables: JoinedRows<T>,
     gates: &mut Vec<GatePlace>,
     reader: &mut LogReader,
     disk: &mut D,
-) -> Result<Replayed, LogError>
+) -> Result<Replayed<T>, LogError>
     requires operations { HasFewOperations cat.now.procs }
     requires same { reader.old.gate.catalogue ≡ cat.now }
     requires rows { FitsCatalogue cat.now tables.tables tables.rows }

@@ -19,14 +19,14 @@ use crate::slots::place_in;
 use pac_check::SlotInfo;
 use pac_log::{LogError, LogReader};
 use pac_outside::Disk;
-use pac_tables::HashedRows;
+use pac_tables::{JoinedRows, TableRows};
 use pac_types::Catalogue;
 use std::alloc::Global;
 
 /// A log that was read to its end, and what the execution of its transactions after the newest slot gives.
 #[derive(Drop)]
-pub(crate) struct ReplayedLog {
-    pub replayed: Replayed,
+pub(crate) struct ReplayedLog<T: TableRows> {
+    pub replayed: Replayed<T>,
     /// The first gate, and the one after each batch.
     pub gates: Vec<GatePlace>,
 }
@@ -37,14 +37,14 @@ pub(crate) struct ReplayedLog {
 /// # Errors
 ///
 /// Those of [`LogReader::next_batch`], and [`LogError::NoMemory`] where there was no memory for the tables.
-pub(crate) fn replay_log<D: Disk>(
+pub(crate) fn replay_log<D: Disk, T: TableRows>(
     alloc: Global,
     cat: &Catalogue,
     newest: Option<SlotInfo>,
-    tables: HashedRows,
+    tables: JoinedRows<T>,
     reader: &mut LogReader,
     disk: &mut D,
-) -> Result<ReplayedLog, LogError>
+) -> Result<ReplayedLog<T>, LogError>
     requires operations { HasFewOperations cat.now.procs }
     requires same { reader.old.gate.catalogue ≡ cat.now }
     requires rows { FitsCatalogue cat.now tables.tables tables.rows }
@@ -64,13 +64,13 @@ pub(crate) fn replay_log<D: Disk>(
 }
 
 // The same where no slot is open.
-fn replay_whole<D: Disk>(
+fn replay_whole<D: Disk, T: TableRows>(
     alloc: Global,
     cat: &Catalogue,
-    tables: HashedRows,
+    tables: JoinedRows<T>,
     reader: &mut LogReader,
     disk: &mut D,
-) -> Result<ReplayedLog, LogError>
+) -> Result<ReplayedLog<T>, LogError>
     requires operations { HasFewOperations cat.now.procs }
     requires same { reader.old.gate.catalogue ≡ cat.now }
     requires rows { FitsCatalogue cat.now tables.tables tables.rows }
@@ -90,14 +90,14 @@ fn replay_whole<D: Disk>(
 }
 
 // The same from the gate of a slot on.
-fn replay_from<D: Disk>(
+fn replay_from<D: Disk, T: TableRows>(
     alloc: Global,
     cat: &Catalogue,
     info: SlotInfo,
-    tables: HashedRows,
+    tables: JoinedRows<T>,
     reader: &mut LogReader,
     disk: &mut D,
-) -> Result<ReplayedLog, LogError>
+) -> Result<ReplayedLog<T>, LogError>
     requires operations { HasFewOperations cat.now.procs }
     requires same { reader.old.gate.catalogue ≡ cat.now }
     requires rows { FitsCatalogue cat.now tables.tables tables.rows }

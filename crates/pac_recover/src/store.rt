@@ -24,14 +24,15 @@ use pac_base::Exact;
 use pac_check::SlotName;
 use pac_log::LogReader;
 use pac_outside::{Devices, Disk};
+use pac_tables::TableRows;
 use pac_types::Catalogue;
 use std::alloc::Global;
 
 /// What the execution of all stored transactions gives.
 #[derive(Drop)]
-pub(crate) struct Ended {
+pub(crate) struct Ended<T: TableRows> {
     pub catalogue: Catalogue,
-    pub replayed: Replayed,
+    pub replayed: Replayed<T>,
     /// How many transactions the log has.
     pub txns: u64,
 }
@@ -41,10 +42,10 @@ pub(crate) struct Ended {
 /// # Errors
 ///
 /// Those of [`load`](crate::load), in its order.
-pub(crate) fn replay_store<D: Disk>(
+pub(crate) fn replay_store<D: Disk, T: TableRows>(
     alloc: Global,
     devices: &mut Devices<D>,
-) -> Result<Ended, LoadError>
+) -> Result<Ended<T>, LoadError>
     ensures ends { IfOk result (λ ended. IfReadKnown (EndsSo ended) (D.known devices.old.log) (D.known devices.old.slot_a) (D.known devices.old.slot_b)) }
     ensures rows { IfOk result (λ ended. FitsReplayed ended.catalogue ended.replayed) }
     ensures no_store { IsErrOf result LoadError.NoStore → HasNoStore (each D.known devices.old) }
@@ -91,13 +92,13 @@ fn first_damage<D: Disk>(
 }
 
 // Executes what a log holds after the newest slot, and then sees that the slots are at gates of it.
-fn replay_after<D: Disk>(
+fn replay_after<D: Disk, T: TableRows>(
     alloc: Global,
     catalogue: Catalogue,
-    newest: Newest,
+    newest: Newest<T>,
     mut reader: LogReader,
     disk: &mut D,
-) -> Result<Ended, LoadError>
+) -> Result<Ended<T>, LoadError>
     requires same { catalogue ≡ reader.gate.catalogue }
     requires rows { FitsCatalogue catalogue newest.tables.tables newest.tables.rows }
     ensures ends { IfOk result (λ ended. (text a b : List ℕ) → IfKnown (λ old. StandsAfter text [] reader.gate old.now.seen → EndsBeside catalogue newest.slots newest.tables.rows ended old.now.seen a b) (D.known disk.old)) }
