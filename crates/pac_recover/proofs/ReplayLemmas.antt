@@ -44,7 +44,7 @@ pub record IsSkipping (text : List ℕ) (wanted : GatePlace) (gate : NextGate) (
   pub are : gates ++ place_of gate ∷ [] ≡ gates_from (gate_after_batches text []) batches
   pub absent : IsNone gates wanted
 
-none-push : (gates : List GatePlace) (wanted place : GatePlace) → IsNone gates wanted → (place ≡ wanted → ⊥) → IsNone (gates ++ place ∷ []) wanted
+pub none-push : (gates : List GatePlace) (wanted place : GatePlace) → IsNone gates wanted → (place ≡ wanted → ⊥) → IsNone (gates ++ place ∷ []) wanted
 none-push [] wanted place none other zero e = other (some-same place wanted e)
 none-push [] wanted place none other (suc n) e = absurd cc
 none-push (g ∷ gates) wanted place none other zero e = none zero e

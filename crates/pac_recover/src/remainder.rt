@@ -1,5 +1,5 @@
 // Reads a log to its end, and executes its batches.
-ghost use Rattle.std.specs.Prelude.{◌≡◌, ℕ, List, IfOk, IsErrOf};
+ghost use Rattle.std.specs.Prelude.{◌≡◌, ◌≤◌, true, ℕ, List, IfOk, IsErrOf};
 ghost use Rattle.pac_outside.specs.Causes.{one_more};
 ghost use Rattle.pac_outside.specs.Disk.{IfKnown};
 ghost use Rattle.pac_ops.specs.declared.transaction.Txn.{Txn as ATxn};
@@ -37,6 +37,9 @@ pub(crate) fn replay_rest<D: Disk, T: TableRows>(
     requires same { reader.old.gate.catalogue ≡ cat.now }
     requires rows { FitsCatalogue cat.now tables.tables tables.rows }
     ensures rows { IfOk result (λ replayed. FitsReplayed cat.now replayed) }
+    ensures end { IfOk result (λ _. reader.new.is_at_end ≡ true) }
+    ensures catalogue { IfOk result (λ _. reader.new.gate.catalogue ≡ reader.old.gate.catalogue) }
+    ensures grows { IfOk result (λ _. reader.old.gate.txns ≤ reader.new.gate.txns) }
     ensures rest { IfOk result (λ replayed. (text : List ℕ) (before : List (List ATxn)) → IfKnown (λ old. HasGatesTo text before reader.old.gate gates.old.items old.now.seen
         → IsRestOf text cat.now before reader.old.gate reader.new.gate tables.rows replayed gates.new.items old.now.seen) (D.known disk.old)) }
     ensures damaged { (at : ℕ) (kind : ADamageKind) → IsErrOf result (LogError.Damaged at kind) → (text : List ℕ) (before : List (List ATxn))

@@ -1,12 +1,14 @@
 // Reads a log to its end, and executes what stands after the newest slot.
-ghost use Rattle.std.specs.Prelude.{◌≡◌, [], ℕ, List, IfOk, IsErrOf, Some as HasInfo, None as NoInfo};
+ghost use Rattle.std.specs.Prelude.{◌≡◌, ◌≤◌, [], true, ℕ, List, IfOk, IsErrOf, Some as HasInfo, None as NoInfo};
 ghost use Rattle.pac_outside.specs.Causes.{one_more};
 ghost use Rattle.pac_outside.specs.Disk.{IfKnown};
 ghost use Rattle.pac_types.specs.Fits.{FitsCatalogue};
 ghost use Rattle.pac_types.specs.OperationLimits.{HasFewOperations};
 ghost use Rattle.pac_log.specs.declared.damage.DamageKind.{DamageKind as ALogDamage};
 ghost use Rattle.pac_log.specs.Reading.{StandsAfter};
+ghost use Rattle.pac_check.specs.SlotStates.{saved_txns};
 ghost use Rattle.pac_recover.specs.Damages.{IsDamagedLog};
+ghost use Rattle.pac_recover.specs.Loading.{IsInfoAmong};
 ghost use Rattle.pac_recover.specs.Outcomes.{FitsReplayed};
 ghost use Rattle.pac_recover.specs.Replays.{IsReplayOf};
 
@@ -49,6 +51,9 @@ pub(crate) fn replay_log<D: Disk, T: TableRows>(
     requires same { reader.old.gate.catalogue ≡ cat.now }
     requires rows { FitsCatalogue cat.now tables.tables tables.rows }
     ensures rows { IfOk result (λ log. FitsReplayed cat.now log.replayed) }
+    ensures end { IfOk result (λ _. reader.new.is_at_end ≡ true) }
+    ensures catalogue { IfOk result (λ _. reader.new.gate.catalogue ≡ reader.old.gate.catalogue) }
+    ensures number { IfOk result (λ log. IsInfoAmong log.gates.items newest → saved_txns newest ≤ reader.new.gate.txns) }
     ensures replayed { IfOk result (λ log. (text : List ℕ) → IfKnown (λ old. StandsAfter text [] reader.old.gate old.now.seen
         → IsReplayOf text cat.now newest tables.rows reader.new.gate log.replayed log.gates.items old.now.seen) (D.known disk.old)) }
     ensures damaged { (at : ℕ) (kind : ALogDamage) → IsErrOf result (LogError.Damaged at kind) → (text : List ℕ) → IfKnown (λ old. StandsAfter text [] reader.old.gate old.now.seen → IsDamagedLog at kind old.now.seen) (D.known disk.old) }
@@ -75,6 +80,9 @@ fn replay_whole<D: Disk, T: TableRows>(
     requires same { reader.old.gate.catalogue ≡ cat.now }
     requires rows { FitsCatalogue cat.now tables.tables tables.rows }
     ensures rows { IfOk result (λ log. FitsReplayed cat.now log.replayed) }
+    ensures end { IfOk result (λ _. reader.new.is_at_end ≡ true) }
+    ensures catalogue { IfOk result (λ _. reader.new.gate.catalogue ≡ reader.old.gate.catalogue) }
+    ensures number { IfOk result (λ log. IsInfoAmong log.gates.items NoInfo → saved_txns NoInfo ≤ reader.new.gate.txns) }
     ensures replayed { IfOk result (λ log. (text : List ℕ) → IfKnown (λ old. StandsAfter text [] reader.old.gate old.now.seen
         → IsReplayOf text cat.now NoInfo tables.rows reader.new.gate log.replayed log.gates.items old.now.seen) (D.known disk.old)) }
     ensures damaged { (at : ℕ) (kind : ALogDamage) → IsErrOf result (LogError.Damaged at kind) → (text : List ℕ) → IfKnown (λ old. StandsAfter text [] reader.old.gate old.now.seen → IsDamagedLog at kind old.now.seen) (D.known disk.old) }
@@ -102,6 +110,9 @@ fn replay_from<D: Disk, T: TableRows>(
     requires same { reader.old.gate.catalogue ≡ cat.now }
     requires rows { FitsCatalogue cat.now tables.tables tables.rows }
     ensures rows { IfOk result (λ log. FitsReplayed cat.now log.replayed) }
+    ensures end { IfOk result (λ _. reader.new.is_at_end ≡ true) }
+    ensures catalogue { IfOk result (λ _. reader.new.gate.catalogue ≡ reader.old.gate.catalogue) }
+    ensures number { IfOk result (λ log. IsInfoAmong log.gates.items (HasInfo info) → saved_txns (HasInfo info) ≤ reader.new.gate.txns) }
     ensures replayed { IfOk result (λ log. (text : List ℕ) → IfKnown (λ old. StandsAfter text [] reader.old.gate old.now.seen
         → IsReplayOf text cat.now (HasInfo info) tables.rows reader.new.gate log.replayed log.gates.items old.now.seen) (D.known disk.old)) }
     ensures damaged { (at : ℕ) (kind : ALogDamage) → IsErrOf result (LogError.Damaged at kind) → (text : List ℕ) → IfKnown (λ old. StandsAfter text [] reader.old.gate old.now.seen → IsDamagedLog at kind old.now.seen) (D.known disk.old) }
