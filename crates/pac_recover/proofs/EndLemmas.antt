@@ -56,7 +56,7 @@ module _ {T : Type 0} (text : List ℕ) (catalogue : CatalogueState) (slots : Sl
   IsReplay image = IsReplayOf text catalogue (newest_of slots) base new replayed gates image
 
   -- where the slots are at gates of it
-  ends-here : (ended : Ended T) → ended.catalogue ≡ catalogue → ended.replayed ≡ replayed → ended.txns ≡ new.txns → IsInfoAmong gates (info_of A slots.a) → IsInfoAmong gates (info_of B slots.b)
+  ends-here : (ended : Ended T) → ended.catalogue ≡ catalogue → ended.replayed ≡ replayed → ended.reader.gate.txns ≡ new.txns → IsInfoAmong gates (info_of A slots.a) → IsInfoAmong gates (info_of B slots.b)
       → (log a b : List ℕ) → IsReplay log → EndsBeside catalogue slots base ended log a b
   ends-here ended same gives counted at_a at_b log a b is = λ is_a is_b newest.
       let among = newest-among gates slots.a slots.b (newest_of slots) refl at_a at_b in
@@ -81,7 +81,7 @@ module _ {T : Type 0} (text : List ℕ) (catalogue : CatalogueState) (slots : Sl
         counted = omega (arith, counted, is.end.txns, is.number among, length-drop number (all_txns is.batches));
       }
 
-  pub ends-beside : (ended : Ended T) → ended.catalogue ≡ catalogue → ended.replayed ≡ replayed → ended.txns ≡ new.txns → IsInfoAmong gates (info_of A slots.a) → IsInfoAmong gates (info_of B slots.b)
+  pub ends-beside : (ended : Ended T) → ended.catalogue ≡ catalogue → ended.replayed ≡ replayed → ended.reader.gate.txns ≡ new.txns → IsInfoAmong gates (info_of A slots.a) → IsInfoAmong gates (info_of B slots.b)
       → (first : NextGate) (a b : List ℕ) (known : Option DiskHistory) → IfKnown (λ h. StandsAfter text [] first h.now.seen → IsReplay h.now.seen) known
       → IfKnown (λ h. StandsAfter text [] first h.now.seen → EndsBeside catalogue slots base ended h.now.seen a b) known
   ends-beside ended same gives counted at_a at_b first a b None is = tt
@@ -192,8 +192,8 @@ module _ {T : Type 0} (ended : Ended T) (log a b : Option DiskHistory) (ends : I
     over = subst (λ (c : CatalogueState). IsFirstOver limit c.tables held table rows) (sym e.same) over;
   }) log a b ends
 
-  pub ended-recovered : (held : Tables) → outcome_of ended.replayed ≡ Ok held → IfReadKnown (IsRecoveredFrom ended.catalogue held ended.txns) log a b
-  ended-recovered held is = known-weaker (EndsSo ended) (IsRecoveredFrom ended.catalogue held ended.txns) (λ images e. record {
+  pub ended-recovered : (held : Tables) → outcome_of ended.replayed ≡ Ok held → IfReadKnown (IsRecoveredFrom ended.catalogue held ended.reader.gate.txns) log a b
+  ended-recovered held is = known-weaker (EndsSo ended) (IsRecoveredFrom ended.catalogue held ended.reader.gate.txns) (λ images e. record {
     stored = e.stored;
     is = e.is;
     same = e.same;

@@ -158,6 +158,7 @@ pub(crate) fn read_newest<D: Disk, T: TableRows>(
 ) -> Result<Newest<T>, LoadError>
     ensures a { IfOk result (λ newest. IfKnown (λ old. IsSlot cat.now.tables newest.slots.a old.now.seen) (D.known a.old)) }
     ensures b { IfOk result (λ newest. IfKnown (λ old. IsSlot cat.now.tables newest.slots.b old.now.seen) (D.known b.old)) }
+    ensures works { IfOk result (λ newest. newest.slots.has_failed ≡ false) }
     ensures fits { IfOk result (λ newest. FitsCatalogue cat.now newest.tables.tables newest.tables.rows) }
     ensures newest { IfOk result (λ newest. IfKnown (λ x. IfKnown (λ y. AreNewestOf cat.now newest.slots newest.tables.rows x.now.seen y.now.seen) (D.known b.old)) (D.known a.old)) }
     ensures damaged { (slot : ASlotName) (at : ℕ) (kind : ASlotDamage) → IsErrOf result (LoadError.Damaged (InSlot slot at kind))

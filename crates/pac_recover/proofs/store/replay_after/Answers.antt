@@ -59,9 +59,9 @@ returns-clause-ends g c = λ text a b.
     let first = c.args.reader.gate in
     let log = c.in_ok-log.log in
     let known = g.D.Disk.known c.args.disk.now in
-    let ended : Ended = record { catalogue = c.args.catalogue; replayed = log.replayed; txns = c.txns.result } in
+    let ended = record { catalogue = c.args.catalogue; replayed = log.replayed; reader = c.replay_log.new.reader; slots = c.args.newest.slots } in
     ends-beside text c.args.catalogue c.args.newest.slots c.args.newest.tables.rows c.replay_log.new.reader.gate log.replayed log.gates.items ended refl refl
-    (c.txns.ensures.value ∙ ap (λ (gate : NextGate). gate.txns) c.gate-2.ensures)
+    refl
     (subst (λ (o : Option SlotInfo). IsInfoAmong log.gates.items o) c.info.ensures (subst (λ (l : List GatePlace). IsInfoAmong l c.info.result) c.deref.ensures.value c.in_ok-test_place.ensures.ok))
     (subst (λ (o : Option SlotInfo). IsInfoAmong log.gates.items o) c.info-2.ensures (subst (λ (l : List GatePlace). IsInfoAmong l c.info-2.result) c.deref-2.ensures.value c.in_ok-test_place-2.ensures.ok))
     first a b known
