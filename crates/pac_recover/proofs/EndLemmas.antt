@@ -40,7 +40,7 @@ use Rattle.pac_recover.specs.Ends.{EndsBeside, EndsSo, IsDamagedBeside, IsWholeL
 use Rattle.pac_recover.specs.Gates.{txns_by_batch}
 use Rattle.pac_recover.specs.Limits.{IsFirstOver}
 use Rattle.pac_recover.specs.Loading.{AreNewestOf, IsInfoAmong}
-use Rattle.pac_recover.specs.Logs.{ReadsTo}
+use Rattle.pac_recover.specs.Logs.{HoldsLogUpTo, ReadsTo}
 use Rattle.pac_recover.specs.Outcomes.{outcome_of}
 use Rattle.pac_recover.specs.Recovering.{AbortsIn, IsOverIn, IsRecoveredFrom}
 use Rattle.pac_recover.specs.Replays.{IsReplayOf}
@@ -87,6 +87,14 @@ module _ {T : Type 0} (text : List ℕ) (catalogue : CatalogueState) (slots : Sl
   ends-beside ended same gives counted at_a at_b first a b None is = tt
   ends-beside ended same gives counted at_a at_b first a b (Some h) is = λ stands. ends-here ended same gives counted at_a at_b h.now.seen a b (is stands)
 
+  -- the reader is at its end
+  pub replay-log : (first : NextGate) (known : Option DiskHistory) → new.catalogue ≡ catalogue → IfKnown (λ h. StandsAfter text [] first h.now.seen → IsReplay h.now.seen) known
+      → IfKnown (λ h. StandsAfter text [] first h.now.seen → HoldsLogUpTo new h.now.seen) known
+  replay-log first None same is = tt
+  replay-log first (Some h) same is = λ stands.
+      let r = is stands in
+      record { text = text; batches = r.batches; log = subst (λ (c : CatalogueState). HoldsLog text c r.batches h.now.seen) (sym same) r.log; end = r.end }
+
   -- where one is not
   pub misplaced-beside : (name : SlotName) (info : Option SlotInfo) (found : SlotInfo) → info ≡ info_of name (by_slot name slots.a slots.b) → info ≡ Some found → (IsInfoAmong gates info → ⊥) → (name ≡ B → IsInfoAmong gates (info_of A slots.a))
       → (error : LoadError) → error ≡ load.Damaged (Slot found.slot 9 Place) → (slot : SlotName) (at : ℕ) (kind : SlotDamageKind) → error ≡ load.Damaged (Slot slot at kind)
@@ -113,6 +121,15 @@ pub from-first : (first : NextGate) (P : DiskHistory → Type 0) (known now : Op
     → ((text : List ℕ) → IfKnown (λ h. StandsAfter text [] first h.now.seen → P h) now) → IfKnown P known
 from-first first P None now same attached says = tt
 from-first first P (Some h) now same attached says = (subst (λ (t : Option DiskHistory). IfKnown (λ k. StandsAfter attached.0 [] first k.now.seen → P k) t) same (says attached.0)) attached.2
+
+-- what holds of an answer's value, by one or two facts of it
+pub ok-by : {A E : Type 0} {P Q : A → Type 0} (result : Result A E) → IfOk result P → ((x : A) → P x → Q x) → IfOk result Q
+ok-by (Ok x) has step = step x has
+ok-by (Err e) has step = tt
+
+pub ok-by-both : {A E : Type 0} {P Q R : A → Type 0} (result : Result A E) → IfOk result P → IfOk result Q → ((x : A) → P x → Q x → R x) → IfOk result R
+ok-by-both (Ok x) p q step = step x p q
+ok-by-both (Err e) p q step = tt
 
 -- where the log and the slots are known
 pub ends-known : {T : Type 0} (catalogue : CatalogueState) (slots : Slots) (base : Tables) (ended : Ended T) (first : NextGate) (log a b now : Option DiskHistory) → now ≡ log → IfKnown (IsAttachedTo first) log
@@ -201,15 +218,22 @@ module _ {T : Type 0} (ended : Ended T) (log a b : Option DiskHistory) (ends : I
     counted = e.counted;
   }) log a b ends
 
-  -- an execution that stops, and tables over the limit, say what is answered of them
+  -- what is answered of an execution that stops, and of tables over the limit
 
-  pub ended-stopped : (limit : ℕ) (result : Result Recovered RecoverError) (answer : RecoverError) (note : Note) → result ≡ Err answer → answer ≡ recover.AbortInLog note → outcome_of ended.replayed ≡ Err note → ReportsAnswer limit result log a b
-  ended-stopped limit result answer note is same stops =
-      execute-knows limit log a b result answer (serial.Abort note) is same (λ other e. ended-aborts other (stops ∙ ap (λ (n : Note). Err n) (the-note note other e)))
-    where
-      the-note : (one other : Note) → serial.Abort one ≡ serial.Abort other → one ≡ other
-      the-note one other e = cc
+  module _ {A : Type 0} (result : Result A RecoverError) (answer : RecoverError) (is : result ≡ Err answer) where
+    pub stopped-aborts : (note : Note) → answer ≡ recover.AbortInLog note → outcome_of ended.replayed ≡ Err note → (other : Note) → result ≡ Err (recover.AbortInLog other) → IfReadKnown (AbortsIn other) log a b
+    stopped-aborts note same stops other e =
+        let one : note ≡ other = cc in
+        subst (λ (n : Note). IfReadKnown (AbortsIn n) log a b) one (ended-aborts note stops)
 
-  pub ended-full : (limit : ℕ) (result : Result Recovered RecoverError) (answer : RecoverError) (table : List ℕ) (rows most : ℕ) → result ≡ Err answer → answer ≡ recover.RowsOver table rows most → most ≡ limit
-      → (held : Tables) → outcome_of ended.replayed ≡ Ok held → IsFirstOver limit ended.catalogue.tables held table rows → ReportsAnswer limit result log a b
-  ended-full limit result answer table rows most is same at held done over = over-knows limit log a b result answer table rows most is same at (ended-over held table rows limit done over)
+    pub stopped-within : (note : Note) → answer ≡ recover.AbortInLog note → (table : List ℕ) (rows most : ℕ) → result ≡ Err (recover.RowsOver table rows most) → ⊥
+    stopped-within note same table rows most e = cc
+
+    pub over-limit : (limit : ℕ) (name : List ℕ) (count top : ℕ) → answer ≡ recover.RowsOver name count top → top ≡ limit → (held : Tables) → outcome_of ended.replayed ≡ Ok held → IsFirstOver limit ended.catalogue.tables held name count
+        → (table : List ℕ) (rows most : ℕ) → result ≡ Err (recover.RowsOver table rows most) → (most ≡ limit) × IfReadKnown (IsOverIn table rows limit) log a b
+    over-limit limit name count top same at held done over table rows most e =
+        let one : name ≡ table = cc in
+        let two : count ≡ rows = cc in
+        let three : top ≡ most = cc in
+        ( sym three ∙ at
+        , subst (λ (n : List ℕ). IfReadKnown (IsOverIn n rows limit) log a b) one (subst (λ (n : ℕ). IfReadKnown (IsOverIn name n limit) log a b) two (ended-over held name count limit done over)) )

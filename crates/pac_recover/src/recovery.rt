@@ -15,7 +15,7 @@ ghost use Rattle.pac_recover.specs.declared.errors.Damage.TheVariants.{Log as In
 ghost use Rattle.pac_recover.specs.Recovering.{AbortsIn, IsOverIn, IsRecoveredFrom, Recovers};
 ghost use Rattle.pac_recover.specs.Refusals.{HasDamage, HasNoStore, IfImagesKnown};
 
-use crate::{RecoverError, restore};
+use crate::{RecoverError, Restored, restore};
 use pac_outside::{Devices, Disk, Gate};
 use pac_tables::HashedRows;
 use pac_types::Catalogue;
@@ -61,12 +61,16 @@ pub fn recover<D: Disk, G: Gate>(
     ensures disk_fault { IsErrOf result RecoverError.DiskFault → OneFaulted (each D.faults devices.old) (each D.faults devices.new) }
     ensures quiet { ¬ IsErrOf result RecoverError.DiskFault → each D.faults devices.new ≡ each D.faults devices.old }
 {
-    match restore(alloc, limit, devices) {
-        Ok(restored) => Ok(Recovered {
-            txns: restored.reader.gate().txns(),
-            catalogue: restored.catalogue,
-            tables: restored.tables,
-        }),
-        Err(error) => Err(error),
-    }
+    let Restored {
+        catalogue,
+        tables,
+        reader,
+        slots: _,
+    } = restore(alloc, limit, devices)?;
+    let txns = reader.gate().txns();
+    Ok(Recovered {
+        catalogue,
+        tables,
+        txns,
+    })
 }
