@@ -32,7 +32,7 @@ use Rattle.pac_recover.specs.declared.errors.RecoverError.{RecoverError}
 use Rattle.pac_recover.specs.declared.errors.RecoverError.TheVariants as recover
 use Rattle.pac_recover.specs.declared.gates.GatePlace.{GatePlace}
 use Rattle.pac_recover.specs.declared.recovery.Recovered.{Recovered}
-use Rattle.pac_recover.specs.declared.replay.Replayed.{Replayed}
+use Rattle.pac_recover.specs.declared.replay.Outcome.{Outcome}
 use Rattle.pac_recover.specs.declared.store.Ended.{Ended}
 use Rattle.pac_recover.specs.Causes.{log_not_loaded}
 use Rattle.pac_recover.specs.Damages.{IsAmongGates, IsBrokenSlot, IsDamagedLog, IsDamagedSlot, IsSlotDamage}
@@ -51,7 +51,7 @@ use Rattle.pac_recover.proofs.ReportLemmas.{execute-knows, over-knows}
 
 -- ---- a log that was executed, beside slots
 
-module _ {T : Type 0} (text : List ℕ) (catalogue : CatalogueState) (slots : Slots) (base : Tables) (new : NextGate) (replayed : Replayed T) (gates : List GatePlace) where
+module _ {T : Type 0} (text : List ℕ) (catalogue : CatalogueState) (slots : Slots) (base : Tables) (new : NextGate) (replayed : Outcome T) (gates : List GatePlace) where
   abbrev pub IsReplay : List ℕ → Type 0
   IsReplay image = IsReplayOf text catalogue (newest_of slots) base new replayed gates image
 
@@ -234,6 +234,7 @@ module _ {T : Type 0} (ended : Ended T) (log a b : Option DiskHistory) (ends : I
     over-limit limit name count top same at held done over table rows most e =
         let one : name ≡ table = cc in
         let two : count ≡ rows = cc in
-        let three : top ≡ most = cc in
-        ( sym three ∙ at
-        , subst (λ (n : List ℕ). IfReadKnown (IsOverIn n rows limit) log a b) one (subst (λ (n : ℕ). IfReadKnown (IsOverIn name n limit) log a b) two (ended-over held name count limit done over)) )
+        let three : top ≡ most = cc in (
+          sym three ∙ at,
+          subst (λ (n : List ℕ). IfReadKnown (IsOverIn n rows limit) log a b) one (subst (λ (n : ℕ). IfReadKnown (IsOverIn name n limit) log a b) two (ended-over held name count limit done over)),
+        )

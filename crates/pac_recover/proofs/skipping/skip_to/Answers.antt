@@ -76,6 +76,7 @@ returns-then-is_same-clause-there g c = λ _. sym (c.gate_place-here.ensures ∙
 
 pub returns-in-None-clause-absent : goal.returns-in-None-clause-absent
 returns-in-None-clause-absent g c = λ _.
-    let end = ap (λ (p : ReaderParts). p.is_at_end) (c.in_ok-next_batch.ensures.end (ap (λ (o : Option Batch). Ok o) c.in-None.is)) in
-    ( subst (λ (l : List GatePlace). IsNone l c.args.wanted) (sym c.in_ok-push.ensures.items) (none-push c.loop.gates.items c.args.wanted c.gate_place-here.result c.loop.invariant.none (differs c.is_same.result c.gate_place-here.result c.args.wanted c.is_same.ensures.1 c.if-is_same.false))
-    , end )
+    let end = ap (λ (p : ReaderParts). p.is_at_end) (c.in_ok-next_batch.ensures.end (ap (λ (o : Option Batch). Ok o) c.in-None.is)) in (
+      subst (λ (l : List GatePlace). IsNone l c.args.wanted) (sym c.in_ok-push.ensures.items) (none-push c.loop.gates.items c.args.wanted c.gate_place-here.result c.loop.invariant.none (differs c.is_same.result c.gate_place-here.result c.args.wanted c.is_same.ensures.1 c.if-is_same.false)),
+      end,
+    )
