@@ -32,7 +32,7 @@ use Rattle.pac_recover.specs.declared.errors.RecoverError.{RecoverError}
 use Rattle.pac_recover.specs.declared.errors.RecoverError.TheVariants as recover
 use Rattle.pac_recover.specs.declared.gates.GatePlace.{GatePlace}
 use Rattle.pac_recover.specs.declared.recovery.Recovered.{Recovered}
-use Rattle.pac_recover.specs.declared.replay.Outcome.{Outcome}
+use Rattle.pac_recover.specs.declared.replay.Executed.{Executed}
 use Rattle.pac_recover.specs.declared.store.Ended.{Ended}
 use Rattle.pac_recover.specs.Causes.{log_not_loaded}
 use Rattle.pac_recover.specs.Damages.{IsAmongGates, IsBrokenSlot, IsDamagedLog, IsDamagedSlot, IsSlotDamage}
@@ -51,7 +51,7 @@ use Rattle.pac_recover.proofs.ReportLemmas.{execute-knows, over-knows}
 
 -- ---- a log that was executed, beside slots
 
-module _ {T : Type 0} (text : List ℕ) (catalogue : CatalogueState) (slots : Slots) (base : Tables) (new : NextGate) (replayed : Outcome T) (gates : List GatePlace) where
+module _ {T : Type 0} (text : List ℕ) (catalogue : CatalogueState) (slots : Slots) (base : Tables) (new : NextGate) (replayed : Executed T) (gates : List GatePlace) where
   abbrev pub IsReplay : List ℕ → Type 0
   IsReplay image = IsReplayOf text catalogue (newest_of slots) base new replayed gates image
 

@@ -12,7 +12,7 @@ ghost use Rattle.pac_recover.specs.Replays.{HasGatesTo, IsRestOf};
 
 use crate::gates::{GatePlace, gate_place};
 use crate::log::push;
-use crate::replay::{Outcome, replay};
+use crate::replay::{Executed, replay};
 use pac_log::{LogError, LogReader};
 use pac_outside::Disk;
 use pac_tables::{JoinedRows, TableRows};
@@ -32,7 +32,7 @@ pub(crate) fn replay_rest<D: Disk, T: TableRows>(
     gates: &mut Vec<GatePlace>,
     reader: &mut LogReader,
     disk: &mut D,
-) -> Result<Outcome<T>, LogError>
+) -> Result<Executed<T>, LogError>
     requires operations { HasFewOperations cat.now.procs }
     requires same { reader.old.gate.catalogue ≡ cat.now }
     requires rows { FitsCatalogue cat.now tables.tables tables.rows }
@@ -49,7 +49,7 @@ pub(crate) fn replay_rest<D: Disk, T: TableRows>(
     ensures counted { IsErrOf result LogError.DiskFault → D.faults disk.new ≡ one_more (D.faults disk.old) }
     ensures kept { ¬ IsErrOf result LogError.DiskFault → D.faults disk.new ≡ D.faults disk.old }
 {
-    let mut replayed = Outcome::Tables(tables);
+    let mut replayed = Executed::Tables(tables);
     for _ in 0..u64::MAX {
         match reader.next_batch(disk)? {
             None => return Ok(replayed),

@@ -15,7 +15,7 @@ use std::alloc::Global;
 
 /// What the stored transactions give that were executed so far.
 #[derive(Drop)]
-pub(crate) enum Outcome<T: TableRows> {
+pub(crate) enum Executed<T: TableRows> {
     /// The tables after all of them.
     Tables(JoinedRows<T>),
     /// The first that aborts.
@@ -30,9 +30,9 @@ pub(crate) enum Outcome<T: TableRows> {
 pub(crate) fn replay<T: TableRows>(
     alloc: Global,
     cat: &Catalogue,
-    before: Outcome<T>,
+    before: Executed<T>,
     batch: Batch,
-) -> Result<Outcome<T>, LogError>
+) -> Result<Executed<T>, LogError>
     requires operations { HasFewOperations cat.now.procs }
     requires fit { AllByRecursion (TxnFits cat.now) batch.txns }
     requires rows { FitsReplayed cat.now before }
@@ -42,8 +42,8 @@ pub(crate) fn replay<T: TableRows>(
     ensures memory { OnErr result (IsErrOf result LogError.NoMemory) }
 {
     match before {
-        Outcome::Aborted(note) => Ok(Outcome::Aborted(note)),
-        Outcome::Tables(rows) => replay_over(alloc, cat, rows, &batch),
+        Executed::Aborted(note) => Ok(Executed::Aborted(note)),
+        Executed::Tables(rows) => replay_over(alloc, cat, rows, &batch),
     }
 }
 
@@ -53,7 +53,7 @@ fn replay_over<T: TableRows>(
     cat: &Catalogue,
     mut rows: JoinedRows<T>,
     batch: &Batch,
-) -> Result<Outcome<T>, LogError>
+) -> Result<Executed<T>, LogError>
     requires operations { HasFewOperations cat.now.procs }
     requires fit { AllByRecursion (TxnFits cat.now) batch.now.txns }
     requires rows { FitsCatalogue cat.now rows.tables rows.rows }
@@ -63,8 +63,8 @@ fn replay_over<T: TableRows>(
     ensures memory { OnErr result (IsErrOf result LogError.NoMemory) }
 {
     match exec_all(alloc, cat, batch, &mut rows) {
-        Ok(()) => Ok(Outcome::Tables(rows)),
-        Err(AllError::Abort(note)) => Ok(Outcome::Aborted(note)),
+        Ok(()) => Ok(Executed::Tables(rows)),
+        Err(AllError::Abort(note)) => Ok(Executed::Aborted(note)),
         Err(AllError::NoMemory) => Err(LogError::NoMemory),
     }
 }

@@ -15,7 +15,7 @@ ghost use Rattle.pac_recover.specs.Replays.{IsReplayOf};
 use crate::gates::{GatePlace, gate_place};
 use crate::log::push;
 use crate::remainder::replay_rest;
-use crate::replay::Outcome;
+use crate::replay::Executed;
 use crate::skipping::skip_to;
 use crate::slots::place_in;
 use pac_check::SlotInfo;
@@ -28,7 +28,7 @@ use std::alloc::Global;
 /// A log that was read to its end, and what the execution of its transactions after the newest slot gives.
 #[derive(Drop)]
 pub(crate) struct ReplayedLog<T: TableRows> {
-    pub replayed: Outcome<T>,
+    pub replayed: Executed<T>,
     /// The first gate, and the one after each batch.
     pub gates: Vec<GatePlace>,
 }
@@ -123,7 +123,7 @@ fn replay_from<D: Disk, T: TableRows>(
 {
     let (is_there, mut gates) = skip_to(alloc, place_in(&info), reader, disk)?;
     if !is_there {
-        let replayed = Outcome::Tables(tables);
+        let replayed = Executed::Tables(tables);
         return Ok(ReplayedLog { replayed, gates });
     }
     let replayed = replay_rest(alloc, cat, tables, &mut gates, reader, disk)?;

@@ -17,7 +17,7 @@ ghost use Rattle.pac_recover.specs.Restoring.{IsRestored};
 ghost use Rattle.pac_recover.specs.Logs.{HoldsLogUpTo};
 ghost use Rattle.pac_recover.specs.Refusals.{HasDamage, HasNoStore, IfImagesKnown};
 
-use crate::replay::Outcome;
+use crate::replay::Executed;
 use crate::store::{Ended, replay_store};
 use crate::{RecoverError, test_rows};
 use pac_check::Slots;
@@ -95,12 +95,12 @@ pub fn restore<D: Disk, T: TableRows>(
 }
 
 // The tables with which the execution ends, unless a transaction aborts.
-fn tables_of<T: TableRows>(replayed: Outcome<T>) -> Result<JoinedRows<T>, RecoverError>
-    ensures ok { IfOk result (λ tables. replayed ≡ Outcome.Tables tables) }
-    ensures aborted { (error : ARecoverError) → IsErrOf result error → (note : ANote) × (error ≡ RecoverError.AbortInLog note) × (replayed ≡ Outcome.Aborted note) }
+fn tables_of<T: TableRows>(replayed: Executed<T>) -> Result<JoinedRows<T>, RecoverError>
+    ensures ok { IfOk result (λ tables. replayed ≡ Executed.Tables tables) }
+    ensures aborted { (error : ARecoverError) → IsErrOf result error → (note : ANote) × (error ≡ RecoverError.AbortInLog note) × (replayed ≡ Executed.Aborted note) }
 {
     match replayed {
-        Outcome::Tables(tables) => Ok(tables),
-        Outcome::Aborted(note) => Err(RecoverError::AbortInLog(note)),
+        Executed::Tables(tables) => Ok(tables),
+        Executed::Aborted(note) => Err(RecoverError::AbortInLog(note)),
     }
 }

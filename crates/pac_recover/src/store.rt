@@ -18,7 +18,7 @@ ghost use Rattle.pac_recover.specs.Logs.{HoldsLogUpTo};
 ghost use Rattle.pac_recover.specs.Ends.{IsEnded, EndsBeside, EndsSo, IsDamagedBeside, IsWholeLog};
 
 use crate::log::read_batches;
-use crate::replay::Outcome;
+use crate::replay::Executed;
 use crate::replayed_log::replay_log;
 use crate::slots::{Newest, read_newest, test_place};
 use crate::{Damage, LoadError};
@@ -34,7 +34,7 @@ use std::alloc::Global;
 #[derive(Drop)]
 pub(crate) struct Ended<T: TableRows> {
     pub catalogue: Catalogue,
-    pub replayed: Outcome<T>,
+    pub replayed: Executed<T>,
     /// The reader of the log, at its end.
     pub reader: LogReader,
     pub slots: Slots,
