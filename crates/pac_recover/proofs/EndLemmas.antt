@@ -32,7 +32,7 @@ use Rattle.pac_recover.specs.declared.errors.RecoverError.{RecoverError}
 use Rattle.pac_recover.specs.declared.errors.RecoverError.TheVariants as recover
 use Rattle.pac_recover.specs.declared.gates.GatePlace.{GatePlace}
 use Rattle.pac_recover.specs.declared.recovery.Recovered.{Recovered}
-use Rattle.pac_recover.specs.declared.replay.Replayed.{Replayed}
+use Rattle.pac_recover.specs.declared.replay.Executed.{Executed}
 use Rattle.pac_recover.specs.declared.store.Ended.{Ended}
 use Rattle.pac_recover.specs.Causes.{log_not_loaded}
 use Rattle.pac_recover.specs.Damages.{IsAmongGates, IsBrokenSlot, IsDamagedLog, IsDamagedSlot, IsSlotDamage}
@@ -40,7 +40,7 @@ use Rattle.pac_recover.specs.Ends.{EndsBeside, EndsSo, IsDamagedBeside, IsWholeL
 use Rattle.pac_recover.specs.Gates.{txns_by_batch}
 use Rattle.pac_recover.specs.Limits.{IsFirstOver}
 use Rattle.pac_recover.specs.Loading.{AreNewestOf, IsInfoAmong}
-use Rattle.pac_recover.specs.Logs.{ReadsTo}
+use Rattle.pac_recover.specs.Logs.{HoldsLogUpTo, ReadsTo}
 use Rattle.pac_recover.specs.Outcomes.{outcome_of}
 use Rattle.pac_recover.specs.Recovering.{AbortsIn, IsOverIn, IsRecoveredFrom}
 use Rattle.pac_recover.specs.Replays.{IsReplayOf}
@@ -51,12 +51,12 @@ use Rattle.pac_recover.proofs.ReportLemmas.{execute-knows, over-knows}
 
 -- ---- a log that was executed, beside slots
 
-module _ (text : List ℕ) (catalogue : CatalogueState) (slots : Slots) (base : Tables) (new : NextGate) (replayed : Replayed) (gates : List GatePlace) where
+module _ {T : Type 0} (text : List ℕ) (catalogue : CatalogueState) (slots : Slots) (base : Tables) (new : NextGate) (replayed : Executed T) (gates : List GatePlace) where
   abbrev pub IsReplay : List ℕ → Type 0
   IsReplay image = IsReplayOf text catalogue (newest_of slots) base new replayed gates image
 
   -- where the slots are at gates of it
-  ends-here : (ended : Ended) → ended.catalogue ≡ catalogue → ended.replayed ≡ replayed → ended.txns ≡ new.txns → IsInfoAmong gates (info_of A slots.a) → IsInfoAmong gates (info_of B slots.b)
+  ends-here : (ended : Ended T) → ended.catalogue ≡ catalogue → ended.replayed ≡ replayed → ended.reader.gate.txns ≡ new.txns → IsInfoAmong gates (info_of A slots.a) → IsInfoAmong gates (info_of B slots.b)
       → (log a b : List ℕ) → IsReplay log → EndsBeside catalogue slots base ended log a b
   ends-here ended same gives counted at_a at_b log a b is = λ is_a is_b newest.
       let among = newest-among gates slots.a slots.b (newest_of slots) refl at_a at_b in
@@ -81,11 +81,19 @@ module _ (text : List ℕ) (catalogue : CatalogueState) (slots : Slots) (base : 
         counted = omega (arith, counted, is.end.txns, is.number among, length-drop number (all_txns is.batches));
       }
 
-  pub ends-beside : (ended : Ended) → ended.catalogue ≡ catalogue → ended.replayed ≡ replayed → ended.txns ≡ new.txns → IsInfoAmong gates (info_of A slots.a) → IsInfoAmong gates (info_of B slots.b)
+  pub ends-beside : (ended : Ended T) → ended.catalogue ≡ catalogue → ended.replayed ≡ replayed → ended.reader.gate.txns ≡ new.txns → IsInfoAmong gates (info_of A slots.a) → IsInfoAmong gates (info_of B slots.b)
       → (first : NextGate) (a b : List ℕ) (known : Option DiskHistory) → IfKnown (λ h. StandsAfter text [] first h.now.seen → IsReplay h.now.seen) known
       → IfKnown (λ h. StandsAfter text [] first h.now.seen → EndsBeside catalogue slots base ended h.now.seen a b) known
   ends-beside ended same gives counted at_a at_b first a b None is = tt
   ends-beside ended same gives counted at_a at_b first a b (Some h) is = λ stands. ends-here ended same gives counted at_a at_b h.now.seen a b (is stands)
+
+  -- the reader is at its end
+  pub replay-log : (first : NextGate) (known : Option DiskHistory) → new.catalogue ≡ catalogue → IfKnown (λ h. StandsAfter text [] first h.now.seen → IsReplay h.now.seen) known
+      → IfKnown (λ h. StandsAfter text [] first h.now.seen → HoldsLogUpTo new h.now.seen) known
+  replay-log first None same is = tt
+  replay-log first (Some h) same is = λ stands.
+      let r = is stands in
+      record { text = text; batches = r.batches; log = subst (λ (c : CatalogueState). HoldsLog text c r.batches h.now.seen) (sym same) r.log; end = r.end }
 
   -- where one is not
   pub misplaced-beside : (name : SlotName) (info : Option SlotInfo) (found : SlotInfo) → info ≡ info_of name (by_slot name slots.a slots.b) → info ≡ Some found → (IsInfoAmong gates info → ⊥) → (name ≡ B → IsInfoAmong gates (info_of A slots.a))
@@ -114,8 +122,17 @@ pub from-first : (first : NextGate) (P : DiskHistory → Type 0) (known now : Op
 from-first first P None now same attached says = tt
 from-first first P (Some h) now same attached says = (subst (λ (t : Option DiskHistory). IfKnown (λ k. StandsAfter attached.0 [] first k.now.seen → P k) t) same (says attached.0)) attached.2
 
+-- what holds of an answer's value, by one or two facts of it
+pub ok-by : {A E : Type 0} {P Q : A → Type 0} (result : Result A E) → IfOk result P → ((x : A) → P x → Q x) → IfOk result Q
+ok-by (Ok x) has step = step x has
+ok-by (Err e) has step = tt
+
+pub ok-by-both : {A E : Type 0} {P Q R : A → Type 0} (result : Result A E) → IfOk result P → IfOk result Q → ((x : A) → P x → Q x → R x) → IfOk result R
+ok-by-both (Ok x) p q step = step x p q
+ok-by-both (Err e) p q step = tt
+
 -- where the log and the slots are known
-pub ends-known : (catalogue : CatalogueState) (slots : Slots) (base : Tables) (ended : Ended) (first : NextGate) (log a b now : Option DiskHistory) → now ≡ log → IfKnown (IsAttachedTo first) log
+pub ends-known : {T : Type 0} (catalogue : CatalogueState) (slots : Slots) (base : Tables) (ended : Ended T) (first : NextGate) (log a b now : Option DiskHistory) → now ≡ log → IfKnown (IsAttachedTo first) log
     → ((text x y : List ℕ) → IfKnown (λ h. StandsAfter text [] first h.now.seen → EndsBeside catalogue slots base ended h.now.seen x y) now)
     → IfKnown (λ h. IsSlot catalogue.tables slots.a h.now.seen) a → IfKnown (λ h. IsSlot catalogue.tables slots.b h.now.seen) b
     → IfKnown (λ x. IfKnown (λ y. AreNewestOf catalogue slots base x.now.seen y.now.seen) b) a → IfReadKnown (EndsSo ended) log a b
@@ -157,7 +174,7 @@ broken-known catalogue slot at kind first is (Some h) (Some x) (Some y) now same
     with-text (Some k) whole text = λ stands. (text, whole text stands)
 
 -- the same of what was answered
-pub ends-all : (catalogue : CatalogueState) (slots : Slots) (base : Tables) (first : NextGate) (log a b now : Option DiskHistory) → now ≡ log → IfKnown (IsAttachedTo first) log → (result : Result Ended LoadError)
+pub ends-all : {T : Type 0} (catalogue : CatalogueState) (slots : Slots) (base : Tables) (first : NextGate) (log a b now : Option DiskHistory) → now ≡ log → IfKnown (IsAttachedTo first) log → (result : Result (Ended T) LoadError)
     → IfOk result (λ ended. (text x y : List ℕ) → IfKnown (λ h. StandsAfter text [] first h.now.seen → EndsBeside catalogue slots base ended h.now.seen x y) now)
     → IfKnown (λ h. IsSlot catalogue.tables slots.a h.now.seen) a → IfKnown (λ h. IsSlot catalogue.tables slots.b h.now.seen) b
     → IfKnown (λ x. IfKnown (λ y. AreNewestOf catalogue slots base x.now.seen y.now.seen) b) a → IfOk result (λ ended. IfReadKnown (EndsSo ended) log a b)
@@ -179,7 +196,7 @@ reads-whole text old new batches (Some h) reads = λ stands. (txns_by_batch batc
 
 -- ---- what is answered of it
 
-module _ (ended : Ended) (log a b : Option DiskHistory) (ends : IfReadKnown (EndsSo ended) log a b) where
+module _ {T : Type 0} (ended : Ended T) (log a b : Option DiskHistory) (ends : IfReadKnown (EndsSo ended) log a b) where
   pub ended-aborts : (note : Note) → outcome_of ended.replayed ≡ Err note → IfReadKnown (AbortsIn note) log a b
   ended-aborts note is = known-weaker (EndsSo ended) (AbortsIn note) (λ images e. record { stored = e.stored; is = e.is; stops = e.outcome ∙ is }) log a b ends
 
@@ -192,8 +209,8 @@ module _ (ended : Ended) (log a b : Option DiskHistory) (ends : IfReadKnown (End
     over = subst (λ (c : CatalogueState). IsFirstOver limit c.tables held table rows) (sym e.same) over;
   }) log a b ends
 
-  pub ended-recovered : (held : Tables) → outcome_of ended.replayed ≡ Ok held → IfReadKnown (IsRecoveredFrom ended.catalogue held ended.txns) log a b
-  ended-recovered held is = known-weaker (EndsSo ended) (IsRecoveredFrom ended.catalogue held ended.txns) (λ images e. record {
+  pub ended-recovered : (held : Tables) → outcome_of ended.replayed ≡ Ok held → IfReadKnown (IsRecoveredFrom ended.catalogue held ended.reader.gate.txns) log a b
+  ended-recovered held is = known-weaker (EndsSo ended) (IsRecoveredFrom ended.catalogue held ended.reader.gate.txns) (λ images e. record {
     stored = e.stored;
     is = e.is;
     same = e.same;
@@ -201,15 +218,23 @@ module _ (ended : Ended) (log a b : Option DiskHistory) (ends : IfReadKnown (End
     counted = e.counted;
   }) log a b ends
 
-  -- an execution that stops, and tables over the limit, say what is answered of them
+  -- what is answered of an execution that stops, and of tables over the limit
 
-  pub ended-stopped : (limit : ℕ) (result : Result Recovered RecoverError) (answer : RecoverError) (note : Note) → result ≡ Err answer → answer ≡ recover.AbortInLog note → outcome_of ended.replayed ≡ Err note → ReportsAnswer limit result log a b
-  ended-stopped limit result answer note is same stops =
-      execute-knows limit log a b result answer (serial.Abort note) is same (λ other e. ended-aborts other (stops ∙ ap (λ (n : Note). Err n) (the-note note other e)))
-    where
-      the-note : (one other : Note) → serial.Abort one ≡ serial.Abort other → one ≡ other
-      the-note one other e = cc
+  module _ {A : Type 0} (result : Result A RecoverError) (answer : RecoverError) (is : result ≡ Err answer) where
+    pub stopped-aborts : (note : Note) → answer ≡ recover.AbortInLog note → outcome_of ended.replayed ≡ Err note → (other : Note) → result ≡ Err (recover.AbortInLog other) → IfReadKnown (AbortsIn other) log a b
+    stopped-aborts note same stops other e =
+        let one : note ≡ other = cc in
+        subst (λ (n : Note). IfReadKnown (AbortsIn n) log a b) one (ended-aborts note stops)
 
-  pub ended-full : (limit : ℕ) (result : Result Recovered RecoverError) (answer : RecoverError) (table : List ℕ) (rows most : ℕ) → result ≡ Err answer → answer ≡ recover.RowsOver table rows most → most ≡ limit
-      → (held : Tables) → outcome_of ended.replayed ≡ Ok held → IsFirstOver limit ended.catalogue.tables held table rows → ReportsAnswer limit result log a b
-  ended-full limit result answer table rows most is same at held done over = over-knows limit log a b result answer table rows most is same at (ended-over held table rows limit done over)
+    pub stopped-within : (note : Note) → answer ≡ recover.AbortInLog note → (table : List ℕ) (rows most : ℕ) → result ≡ Err (recover.RowsOver table rows most) → ⊥
+    stopped-within note same table rows most e = cc
+
+    pub over-limit : (limit : ℕ) (name : List ℕ) (count top : ℕ) → answer ≡ recover.RowsOver name count top → top ≡ limit → (held : Tables) → outcome_of ended.replayed ≡ Ok held → IsFirstOver limit ended.catalogue.tables held name count
+        → (table : List ℕ) (rows most : ℕ) → result ≡ Err (recover.RowsOver table rows most) → (most ≡ limit) × IfReadKnown (IsOverIn table rows limit) log a b
+    over-limit limit name count top same at held done over table rows most e =
+        let one : name ≡ table = cc in
+        let two : count ≡ rows = cc in
+        let three : top ≡ most = cc in (
+          sym three ∙ at,
+          subst (λ (n : List ℕ). IfReadKnown (IsOverIn n rows limit) log a b) one (subst (λ (n : ℕ). IfReadKnown (IsOverIn name n limit) log a b) two (ended-over held name count limit done over)),
+        )

@@ -20,7 +20,7 @@ use Rattle.pac_log.specs.Reading.{StandsAfter}
 use Rattle.pac_log.proofs.LogLemmas.{all_txns-append}
 use Rattle.pac_check.specs.declared.info.SlotInfo.{SlotInfo}
 use Rattle.pac_recover.specs.declared.gates.GatePlace.{GatePlace}
-use Rattle.pac_recover.specs.declared.replay.Replayed.{Replayed}
+use Rattle.pac_recover.specs.declared.replay.Executed.{Executed}
 use Rattle.pac_recover.specs.Damages.{IsDamagedLog}
 use Rattle.pac_recover.specs.Gates.{gate_after_batches, gates_from, place_of}
 use Rattle.pac_recover.specs.Outcomes.{outcome_of}
@@ -44,7 +44,7 @@ pub record IsSkipping (text : List ℕ) (wanted : GatePlace) (gate : NextGate) (
   pub are : gates ++ place_of gate ∷ [] ≡ gates_from (gate_after_batches text []) batches
   pub absent : IsNone gates wanted
 
-none-push : (gates : List GatePlace) (wanted place : GatePlace) → IsNone gates wanted → (place ≡ wanted → ⊥) → IsNone (gates ++ place ∷ []) wanted
+pub none-push : (gates : List GatePlace) (wanted place : GatePlace) → IsNone gates wanted → (place ≡ wanted → ⊥) → IsNone (gates ++ place ∷ []) wanted
 none-push [] wanted place none other zero e = other (some-same place wanted e)
 none-push [] wanted place none other (suc n) e = absurd cc
 none-push (g ∷ gates) wanted place none other zero e = none zero e
@@ -107,17 +107,17 @@ module _ (text : List ℕ) (wanted : GatePlace) (old mid new : NextGate) (gates 
 -- ---- batches that are executed
 
 -- after the batches before the old gate more stand in the image, up to the new gate, and they were executed over the tables
-pub record IsReplaying (text : List ℕ) (catalogue : CatalogueState) (before : List (List Txn)) (old mid : NextGate) (base : Tables) (replayed : Replayed) (gates : List GatePlace) (image : List ℕ) : Type 0 where
+pub record IsReplaying {T : Type 0} (text : List ℕ) (catalogue : CatalogueState) (before : List (List Txn)) (old mid : NextGate) (base : Tables) (replayed : Executed T) (gates : List GatePlace) (image : List ℕ) : Type 0 where
   pub after : List (List Txn)
   pub stands : StandsAfter text (before ++ after) mid image
   pub are : gates ≡ gates_from (gate_after_batches text []) (before ++ after)
   pub outcome : outcome_of replayed ≡ serial catalogue.procs (old.txns + 1) (all_txns after) base
 
-module _ (text : List ℕ) (catalogue : CatalogueState) (before : List (List Txn)) (old : NextGate) (first : List GatePlace) (base : Tables) where
-  abbrev pub Replays : NextGate → Replayed → List GatePlace → DiskHistory → Type 0
+module _ {T : Type 0} (text : List ℕ) (catalogue : CatalogueState) (before : List (List Txn)) (old : NextGate) (first : List GatePlace) (base : Tables) where
+  abbrev pub Replays : NextGate → Executed T → List GatePlace → DiskHistory → Type 0
   Replays mid replayed gates h = HasGatesTo text before old first h.now.seen → IsReplaying text catalogue before old mid base replayed gates h.now.seen
 
-  pub replays-nothing : (replayed : Replayed) (gates : List GatePlace) (known : Option DiskHistory) → gates ≡ first → outcome_of replayed ≡ Ok base → IfKnown (Replays old replayed gates) known
+  pub replays-nothing : (replayed : Executed T) (gates : List GatePlace) (known : Option DiskHistory) → gates ≡ first → outcome_of replayed ≡ Ok base → IfKnown (Replays old replayed gates) known
   replays-nothing replayed gates None same none = tt
   replays-nothing replayed gates (Some h) same none = λ reached. record {
     after = [];
@@ -126,7 +126,7 @@ module _ (text : List ℕ) (catalogue : CatalogueState) (before : List (List Txn
     outcome = none;
   }
 
-  module _ (mid new : NextGate) (replayed : Replayed) (gates : List GatePlace) where
+  module _ (mid new : NextGate) (replayed : Executed T) (gates : List GatePlace) where
     -- the next batch is numbered after those that were executed
     number : (h : DiskHistory) (batch : Batch) → batch.first ≡ mid.txns + 1 → HasGatesTo text before old first h.now.seen → (s : IsReplaying text catalogue before old mid base replayed gates h.now.seen)
         → batch.first ≡ old.txns + 1 + length (all_txns s.after)
@@ -143,7 +143,7 @@ module _ (text : List ℕ) (catalogue : CatalogueState) (before : List (List Txn
     more : (after : List (List Txn)) (txns : List Txn) → all_txns after ++ txns ≡ all_txns (after ++ txns ∷ [])
     more after txns = ap (λ (l : List Txn). all_txns after ++ l) (sym (append-nil txns)) ∙ sym (all_txns-append after (txns ∷ []))
 
-    pub replays-more : (batch : Batch) (next : Replayed) (pushed : List GatePlace) (place : GatePlace) (known : Option DiskHistory)
+    pub replays-more : (batch : Batch) (next : Executed T) (pushed : List GatePlace) (place : GatePlace) (known : Option DiskHistory)
         → outcome_of next ≡ (outcome_of replayed >>= λ tables. serial catalogue.procs batch.first batch.txns tables) → batch.first ≡ mid.txns + 1
         → pushed ≡ gates ++ place ∷ [] → place ≡ place_of new → IfKnown (Replays mid replayed gates) known → ReportsNext mid new (Ok (Some batch)) known → IfKnown (Replays new next pushed) known
     replays-more batch next pushed place None does first_is pushes placed so_far knows = tt
@@ -185,7 +185,7 @@ module _ (text : List ℕ) (catalogue : CatalogueState) (before : List (List Txn
 
 -- ---- a whole log
 
-module _ (text : List ℕ) (catalogue : CatalogueState) (old new : NextGate) (base : Tables) (replayed : Replayed) (gates : List GatePlace) where
+module _ {T : Type 0} (text : List ℕ) (catalogue : CatalogueState) (old new : NextGate) (base : Tables) (replayed : Executed T) (gates : List GatePlace) where
   abbrev pub Rests : NextGate → List (List Txn) → List GatePlace → DiskHistory → Type 0
   Rests mid before reached h = HasGatesTo text before mid reached h.now.seen → IsRestOf text catalogue before mid new base replayed gates h.now.seen
 

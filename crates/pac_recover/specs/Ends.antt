@@ -1,5 +1,5 @@
 -- With what the execution of what is stored ends, and what stands against it.
-use Rattle.std.specs.Prelude.{◌≡◌, ◌+◌, ℕ, List, length}
+use Rattle.std.specs.Prelude.{◌≡◌, ◌≤◌, ◌+◌, true, false, ℕ, List, length}
 use Rattle.pac_value.specs.State.{Tables}
 use Rattle.pac_ops.specs.declared.transaction.Txn.{Txn}
 use Rattle.pac_types.specs.Typing.{CatalogueState}
@@ -7,7 +7,7 @@ use Rattle.pac_log.specs.Logs.{HoldsLog}
 use Rattle.pac_check.specs.declared.damage.SlotDamageKind.{SlotDamageKind}
 use Rattle.pac_check.specs.declared.info.SlotName.{SlotName}
 use Rattle.pac_check.specs.declared.slots.Slots.{Slots}
-use Rattle.pac_check.specs.SlotStates.{IsSlot}
+use Rattle.pac_check.specs.SlotStates.{IsSlot, newest_of, saved_txns}
 use Rattle.pac_store.specs.Images.{Images}
 use Rattle.pac_store.specs.Stored.{IsStored, Stored}
 use Rattle.pac_recover.specs.declared.store.Ended.{Ended}
@@ -20,16 +20,24 @@ use Rattle.pac_recover.specs.Recovering.{stored_outcome}
 abbrev pub IsWholeLog : List ℕ → CatalogueState → List ℕ → Type 0
 IsWholeLog text catalogue image = (batches : List (List Txn)) × HoldsLog text catalogue batches image
 
+-- On whatever devices: the reader is at the end of a log of this catalogue, the slots take a save, and the newest has no more
+-- transactions than the log.
+pub record IsEnded {T : Type 0} (ended : Ended T) : Type 0 where
+  pub end : ended.reader.is_at_end ≡ true
+  pub same : ended.reader.gate.catalogue ≡ ended.catalogue
+  pub works : ended.slots.has_failed ≡ false
+  pub number : saved_txns (newest_of ended.slots) ≤ ended.reader.gate.txns
+
 -- serial execution of what is stored in these images ends so
-pub record EndsSo (ended : Ended) (images : Images) : Type 0 where
+pub record EndsSo {T : Type 0} (ended : Ended T) (images : Images) : Type 0 where
   pub stored : Stored
   pub is : IsStored images stored
   pub same : stored.catalogue ≡ ended.catalogue
   pub outcome : stored_outcome stored ≡ outcome_of ended.replayed
-  pub counted : ended.txns ≡ stored.number + length stored.rest
+  pub counted : ended.reader.gate.txns ≡ stored.number + length stored.rest
 
 -- the same of a log, beside slots in these states, the newest of which has these tables
-abbrev pub EndsBeside : CatalogueState → Slots → Tables → Ended → List ℕ → List ℕ → List ℕ → Type 0
+abbrev pub EndsBeside : {T : Type 0} → CatalogueState → Slots → Tables → Ended T → List ℕ → List ℕ → List ℕ → Type 0
 EndsBeside catalogue slots base ended log a b = IsSlot catalogue.tables slots.a a → IsSlot catalogue.tables slots.b b → AreNewestOf catalogue slots base a b
     → EndsSo ended (record { log = log; slot_a = a; slot_b = b })
 

@@ -9,3 +9,4 @@ pub mod Recovering
 pub mod Outcomes
 pub mod Replays
 pub mod Ends
+pub mod Restoring

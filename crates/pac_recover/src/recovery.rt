@@ -11,14 +11,11 @@ ghost use Rattle.pac_check.specs.declared.damage.SlotDamageKind.{SlotDamageKind 
 ghost use Rattle.pac_check.specs.declared.info.SlotName.{SlotName as ASlotName};
 ghost use Rattle.pac_store.specs.Images.{IfReadKnown};
 ghost use Rattle.pac_store.specs.Stands.{StandsFor};
-ghost use Rattle.pac_recover.specs.declared.errors.RecoverError.{RecoverError as ARecoverError};
 ghost use Rattle.pac_recover.specs.declared.errors.Damage.TheVariants.{Log as InLog, Slot as InSlot};
 ghost use Rattle.pac_recover.specs.Recovering.{AbortsIn, IsOverIn, IsRecoveredFrom, Recovers};
 ghost use Rattle.pac_recover.specs.Refusals.{HasDamage, HasNoStore, IfImagesKnown};
 
-use crate::replay::Replayed;
-use crate::store::{Ended, replay_store};
-use crate::{RecoverError, test_rows};
+use crate::{RecoverError, Restored, restore};
 use pac_outside::{Devices, Disk, Gate};
 use pac_tables::HashedRows;
 use pac_types::Catalogue;
@@ -33,20 +30,12 @@ pub struct Recovered {
     pub txns: u64,
 }
 
-/// Recovers the tables of a store, on devices that are only read: executes the transactions of the log after the newest
-/// slot over that one's tables, one after another, and then tests the limit of rows. The number of workers has no effect,
-/// and no gate is entered.
-///
-/// The slots are read before the log's batches. Each batch is executed as soon as it is read, and freed, so that memory is
-/// taken for the tables, for one batch, and 16 bytes for each; all batches are held only where a slot is damaged.
+/// Recovers the tables of a store, as [`restore`] does, over hashed tables. The number of workers has no effect, and no gate is
+/// entered.
 ///
 /// # Errors
 ///
-/// - Those of [`load`](crate::load), in its order.
-/// - [`RecoverError::AbortInLog`] exactly where serial execution of the stored transactions stops, with the transaction that
-///   aborts.
-/// - [`RecoverError::RowsOver`] exactly where the tables then have more rows than the limit: the first such table.
-/// - [`RecoverError::NoMemory`] where there was no memory for the tables.
+/// Those of [`restore`].
 pub fn recover<D: Disk, G: Gate>(
     alloc: Global,
     _workers: u32,
@@ -72,27 +61,16 @@ pub fn recover<D: Disk, G: Gate>(
     ensures disk_fault { IsErrOf result RecoverError.DiskFault → OneFaulted (each D.faults devices.old) (each D.faults devices.new) }
     ensures quiet { ¬ IsErrOf result RecoverError.DiskFault → each D.faults devices.new ≡ each D.faults devices.old }
 {
-    let Ended {
+    let Restored {
         catalogue,
-        replayed,
-        txns,
-    } = replay_store(alloc, devices)?;
-    let tables = tables_of(replayed)?;
-    test_rows(&catalogue, &tables, limit)?;
+        tables,
+        reader,
+        slots: _,
+    } = restore(alloc, limit, devices)?;
+    let txns = reader.gate().txns();
     Ok(Recovered {
         catalogue,
         tables,
         txns,
     })
-}
-
-// The tables with which the execution ends, unless a transaction aborts.
-fn tables_of(replayed: Replayed) -> Result<HashedRows, RecoverError>
-    ensures ok { IfOk result (λ tables. replayed ≡ Replayed.Tables tables) }
-    ensures aborted { (error : ARecoverError) → IsErrOf result error → (note : ANote) × (error ≡ RecoverError.AbortInLog note) × (replayed ≡ Replayed.Aborted note) }
-{
-    match replayed {
-        Replayed::Tables(tables) => Ok(tables),
-        Replayed::Aborted(note) => Err(RecoverError::AbortInLog(note)),
-    }
 }

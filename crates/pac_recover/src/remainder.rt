@@ -1,5 +1,5 @@
 // Reads a log to its end, and executes its batches.
-ghost use Rattle.std.specs.Prelude.{◌≡◌, ℕ, List, IfOk, IsErrOf};
+ghost use Rattle.std.specs.Prelude.{◌≡◌, ◌≤◌, true, ℕ, List, IfOk, IsErrOf};
 ghost use Rattle.pac_outside.specs.Causes.{one_more};
 ghost use Rattle.pac_outside.specs.Disk.{IfKnown};
 ghost use Rattle.pac_ops.specs.declared.transaction.Txn.{Txn as ATxn};
@@ -12,10 +12,10 @@ ghost use Rattle.pac_recover.specs.Replays.{HasGatesTo, IsRestOf};
 
 use crate::gates::{GatePlace, gate_place};
 use crate::log::push;
-use crate::replay::{Replayed, replay};
+use crate::replay::{Executed, replay};
 use pac_log::{LogError, LogReader};
 use pac_outside::Disk;
-use pac_tables::HashedRows;
+use pac_tables::{JoinedRows, TableRows};
 use pac_types::Catalogue;
 use std::alloc::Global;
 
@@ -25,18 +25,21 @@ use std::alloc::Global;
 /// # Errors
 ///
 /// Those of [`LogReader::next_batch`], and [`LogError::NoMemory`] where there was no memory for the tables.
-pub(crate) fn replay_rest<D: Disk>(
+pub(crate) fn replay_rest<D: Disk, T: TableRows>(
     alloc: Global,
     cat: &Catalogue,
-    tables: HashedRows,
+    tables: JoinedRows<T>,
     gates: &mut Vec<GatePlace>,
     reader: &mut LogReader,
     disk: &mut D,
-) -> Result<Replayed, LogError>
+) -> Result<Executed<T>, LogError>
     requires operations { HasFewOperations cat.now.procs }
     requires same { reader.old.gate.catalogue ≡ cat.now }
     requires rows { FitsCatalogue cat.now tables.tables tables.rows }
     ensures rows { IfOk result (λ replayed. FitsReplayed cat.now replayed) }
+    ensures end { IfOk result (λ _. reader.new.is_at_end ≡ true) }
+    ensures catalogue { IfOk result (λ _. reader.new.gate.catalogue ≡ reader.old.gate.catalogue) }
+    ensures grows { IfOk result (λ _. reader.old.gate.txns ≤ reader.new.gate.txns) }
     ensures rest { IfOk result (λ replayed. (text : List ℕ) (before : List (List ATxn)) → IfKnown (λ old. HasGatesTo text before reader.old.gate gates.old.items old.now.seen
         → IsRestOf text cat.now before reader.old.gate reader.new.gate tables.rows replayed gates.new.items old.now.seen) (D.known disk.old)) }
     ensures damaged { (at : ℕ) (kind : ADamageKind) → IsErrOf result (LogError.Damaged at kind) → (text : List ℕ) (before : List (List ATxn))
@@ -46,7 +49,7 @@ pub(crate) fn replay_rest<D: Disk>(
     ensures counted { IsErrOf result LogError.DiskFault → D.faults disk.new ≡ one_more (D.faults disk.old) }
     ensures kept { ¬ IsErrOf result LogError.DiskFault → D.faults disk.new ≡ D.faults disk.old }
 {
-    let mut replayed = Replayed::Tables(tables);
+    let mut replayed = Executed::Tables(tables);
     for _ in 0..u64::MAX {
         match reader.next_batch(disk)? {
             None => return Ok(replayed),

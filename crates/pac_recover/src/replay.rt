@@ -9,15 +9,15 @@ ghost use Rattle.pac_recover.specs.Outcomes.{FitsReplayed, outcome_of, then_seri
 use pac_log::LogError;
 use pac_ops::{Batch, Note};
 use pac_serial::{AllError, exec_all};
-use pac_tables::HashedRows;
+use pac_tables::{JoinedRows, TableRows};
 use pac_types::Catalogue;
 use std::alloc::Global;
 
 /// What the stored transactions give that were executed so far.
 #[derive(Drop)]
-pub(crate) enum Replayed {
+pub(crate) enum Executed<T: TableRows> {
     /// The tables after all of them.
-    Tables(HashedRows),
+    Tables(JoinedRows<T>),
     /// The first that aborts.
     Aborted(Note),
 }
@@ -27,12 +27,12 @@ pub(crate) enum Replayed {
 /// # Errors
 ///
 /// [`LogError::NoMemory`] where there was no memory for the tables.
-pub(crate) fn replay(
+pub(crate) fn replay<T: TableRows>(
     alloc: Global,
     cat: &Catalogue,
-    before: Replayed,
+    before: Executed<T>,
     batch: Batch,
-) -> Result<Replayed, LogError>
+) -> Result<Executed<T>, LogError>
     requires operations { HasFewOperations cat.now.procs }
     requires fit { AllByRecursion (TxnFits cat.now) batch.txns }
     requires rows { FitsReplayed cat.now before }
@@ -42,18 +42,18 @@ pub(crate) fn replay(
     ensures memory { OnErr result (IsErrOf result LogError.NoMemory) }
 {
     match before {
-        Replayed::Aborted(note) => Ok(Replayed::Aborted(note)),
-        Replayed::Tables(rows) => replay_over(alloc, cat, rows, &batch),
+        Executed::Aborted(note) => Ok(Executed::Aborted(note)),
+        Executed::Tables(rows) => replay_over(alloc, cat, rows, &batch),
     }
 }
 
 // Executes a batch over tables.
-fn replay_over(
+fn replay_over<T: TableRows>(
     alloc: Global,
     cat: &Catalogue,
-    mut rows: HashedRows,
+    mut rows: JoinedRows<T>,
     batch: &Batch,
-) -> Result<Replayed, LogError>
+) -> Result<Executed<T>, LogError>
     requires operations { HasFewOperations cat.now.procs }
     requires fit { AllByRecursion (TxnFits cat.now) batch.now.txns }
     requires rows { FitsCatalogue cat.now rows.tables rows.rows }
@@ -63,8 +63,8 @@ fn replay_over(
     ensures memory { OnErr result (IsErrOf result LogError.NoMemory) }
 {
     match exec_all(alloc, cat, batch, &mut rows) {
-        Ok(()) => Ok(Replayed::Tables(rows)),
-        Err(AllError::Abort(note)) => Ok(Replayed::Aborted(note)),
+        Ok(()) => Ok(Executed::Tables(rows)),
+        Err(AllError::Abort(note)) => Ok(Executed::Aborted(note)),
         Err(AllError::NoMemory) => Err(LogError::NoMemory),
     }
 }

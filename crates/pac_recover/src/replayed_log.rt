@@ -1,32 +1,34 @@
 // Reads a log to its end, and executes what stands after the newest slot.
-ghost use Rattle.std.specs.Prelude.{◌≡◌, [], ℕ, List, IfOk, IsErrOf, Some as HasInfo, None as NoInfo};
+ghost use Rattle.std.specs.Prelude.{◌≡◌, ◌≤◌, [], true, ℕ, List, IfOk, IsErrOf, Some as HasInfo, None as NoInfo};
 ghost use Rattle.pac_outside.specs.Causes.{one_more};
 ghost use Rattle.pac_outside.specs.Disk.{IfKnown};
 ghost use Rattle.pac_types.specs.Fits.{FitsCatalogue};
 ghost use Rattle.pac_types.specs.OperationLimits.{HasFewOperations};
 ghost use Rattle.pac_log.specs.declared.damage.DamageKind.{DamageKind as ALogDamage};
 ghost use Rattle.pac_log.specs.Reading.{StandsAfter};
+ghost use Rattle.pac_check.specs.SlotStates.{saved_txns};
 ghost use Rattle.pac_recover.specs.Damages.{IsDamagedLog};
+ghost use Rattle.pac_recover.specs.Loading.{IsInfoAmong};
 ghost use Rattle.pac_recover.specs.Outcomes.{FitsReplayed};
 ghost use Rattle.pac_recover.specs.Replays.{IsReplayOf};
 
 use crate::gates::{GatePlace, gate_place};
 use crate::log::push;
 use crate::remainder::replay_rest;
-use crate::replay::Replayed;
+use crate::replay::Executed;
 use crate::skipping::skip_to;
 use crate::slots::place_in;
 use pac_check::SlotInfo;
 use pac_log::{LogError, LogReader};
 use pac_outside::Disk;
-use pac_tables::HashedRows;
+use pac_tables::{JoinedRows, TableRows};
 use pac_types::Catalogue;
 use std::alloc::Global;
 
 /// A log that was read to its end, and what the execution of its transactions after the newest slot gives.
 #[derive(Drop)]
-pub(crate) struct ReplayedLog {
-    pub replayed: Replayed,
+pub(crate) struct ReplayedLog<T: TableRows> {
+    pub replayed: Executed<T>,
     /// The first gate, and the one after each batch.
     pub gates: Vec<GatePlace>,
 }
@@ -37,18 +39,21 @@ pub(crate) struct ReplayedLog {
 /// # Errors
 ///
 /// Those of [`LogReader::next_batch`], and [`LogError::NoMemory`] where there was no memory for the tables.
-pub(crate) fn replay_log<D: Disk>(
+pub(crate) fn replay_log<D: Disk, T: TableRows>(
     alloc: Global,
     cat: &Catalogue,
     newest: Option<SlotInfo>,
-    tables: HashedRows,
+    tables: JoinedRows<T>,
     reader: &mut LogReader,
     disk: &mut D,
-) -> Result<ReplayedLog, LogError>
+) -> Result<ReplayedLog<T>, LogError>
     requires operations { HasFewOperations cat.now.procs }
     requires same { reader.old.gate.catalogue ≡ cat.now }
     requires rows { FitsCatalogue cat.now tables.tables tables.rows }
     ensures rows { IfOk result (λ log. FitsReplayed cat.now log.replayed) }
+    ensures end { IfOk result (λ _. reader.new.is_at_end ≡ true) }
+    ensures catalogue { IfOk result (λ _. reader.new.gate.catalogue ≡ reader.old.gate.catalogue) }
+    ensures number { IfOk result (λ log. IsInfoAmong log.gates.items newest → saved_txns newest ≤ reader.new.gate.txns) }
     ensures replayed { IfOk result (λ log. (text : List ℕ) → IfKnown (λ old. StandsAfter text [] reader.old.gate old.now.seen
         → IsReplayOf text cat.now newest tables.rows reader.new.gate log.replayed log.gates.items old.now.seen) (D.known disk.old)) }
     ensures damaged { (at : ℕ) (kind : ALogDamage) → IsErrOf result (LogError.Damaged at kind) → (text : List ℕ) → IfKnown (λ old. StandsAfter text [] reader.old.gate old.now.seen → IsDamagedLog at kind old.now.seen) (D.known disk.old) }
@@ -64,17 +69,20 @@ pub(crate) fn replay_log<D: Disk>(
 }
 
 // The same where no slot is open.
-fn replay_whole<D: Disk>(
+fn replay_whole<D: Disk, T: TableRows>(
     alloc: Global,
     cat: &Catalogue,
-    tables: HashedRows,
+    tables: JoinedRows<T>,
     reader: &mut LogReader,
     disk: &mut D,
-) -> Result<ReplayedLog, LogError>
+) -> Result<ReplayedLog<T>, LogError>
     requires operations { HasFewOperations cat.now.procs }
     requires same { reader.old.gate.catalogue ≡ cat.now }
     requires rows { FitsCatalogue cat.now tables.tables tables.rows }
     ensures rows { IfOk result (λ log. FitsReplayed cat.now log.replayed) }
+    ensures end { IfOk result (λ _. reader.new.is_at_end ≡ true) }
+    ensures catalogue { IfOk result (λ _. reader.new.gate.catalogue ≡ reader.old.gate.catalogue) }
+    ensures number { IfOk result (λ log. IsInfoAmong log.gates.items NoInfo → saved_txns NoInfo ≤ reader.new.gate.txns) }
     ensures replayed { IfOk result (λ log. (text : List ℕ) → IfKnown (λ old. StandsAfter text [] reader.old.gate old.now.seen
         → IsReplayOf text cat.now NoInfo tables.rows reader.new.gate log.replayed log.gates.items old.now.seen) (D.known disk.old)) }
     ensures damaged { (at : ℕ) (kind : ALogDamage) → IsErrOf result (LogError.Damaged at kind) → (text : List ℕ) → IfKnown (λ old. StandsAfter text [] reader.old.gate old.now.seen → IsDamagedLog at kind old.now.seen) (D.known disk.old) }
@@ -90,18 +98,21 @@ fn replay_whole<D: Disk>(
 }
 
 // The same from the gate of a slot on.
-fn replay_from<D: Disk>(
+fn replay_from<D: Disk, T: TableRows>(
     alloc: Global,
     cat: &Catalogue,
     info: SlotInfo,
-    tables: HashedRows,
+    tables: JoinedRows<T>,
     reader: &mut LogReader,
     disk: &mut D,
-) -> Result<ReplayedLog, LogError>
+) -> Result<ReplayedLog<T>, LogError>
     requires operations { HasFewOperations cat.now.procs }
     requires same { reader.old.gate.catalogue ≡ cat.now }
     requires rows { FitsCatalogue cat.now tables.tables tables.rows }
     ensures rows { IfOk result (λ log. FitsReplayed cat.now log.replayed) }
+    ensures end { IfOk result (λ _. reader.new.is_at_end ≡ true) }
+    ensures catalogue { IfOk result (λ _. reader.new.gate.catalogue ≡ reader.old.gate.catalogue) }
+    ensures number { IfOk result (λ log. IsInfoAmong log.gates.items (HasInfo info) → saved_txns (HasInfo info) ≤ reader.new.gate.txns) }
     ensures replayed { IfOk result (λ log. (text : List ℕ) → IfKnown (λ old. StandsAfter text [] reader.old.gate old.now.seen
         → IsReplayOf text cat.now (HasInfo info) tables.rows reader.new.gate log.replayed log.gates.items old.now.seen) (D.known disk.old)) }
     ensures damaged { (at : ℕ) (kind : ALogDamage) → IsErrOf result (LogError.Damaged at kind) → (text : List ℕ) → IfKnown (λ old. StandsAfter text [] reader.old.gate old.now.seen → IsDamagedLog at kind old.now.seen) (D.known disk.old) }
@@ -112,7 +123,7 @@ fn replay_from<D: Disk>(
 {
     let (is_there, mut gates) = skip_to(alloc, place_in(&info), reader, disk)?;
     if !is_there {
-        let replayed = Replayed::Tables(tables);
+        let replayed = Executed::Tables(tables);
         return Ok(ReplayedLog { replayed, gates });
     }
     let replayed = replay_rest(alloc, cat, tables, &mut gates, reader, disk)?;

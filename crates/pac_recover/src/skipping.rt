@@ -1,11 +1,12 @@
 // Reads past the batches of a log that a checkpoint has.
-ghost use Rattle.std.specs.Prelude.{◌≡◌, [], ℕ, List, IfOk, IsErrOf};
+ghost use Rattle.std.specs.Prelude.{◌≡◌, [], true, false, ℕ, List, IfOk, IsErrOf};
 ghost use Rattle.pac_outside.specs.Causes.{one_more};
 ghost use Rattle.pac_outside.specs.Disk.{IfKnown};
 ghost use Rattle.pac_log.specs.declared.damage.DamageKind.{DamageKind as ADamageKind};
 ghost use Rattle.pac_log.specs.Reading.{StandsAfter};
 ghost use Rattle.pac_recover.specs.Damages.{IsDamagedLog};
-ghost use Rattle.pac_recover.specs.Replays.{HasSkipped};
+ghost use Rattle.pac_recover.specs.Gates.{place_of};
+ghost use Rattle.pac_recover.specs.Replays.{HasSkipped, IsNone};
 
 use crate::gates::{GatePlace, gate_place, is_same};
 use crate::log::push;
@@ -27,6 +28,8 @@ pub(crate) fn skip_to<D: Disk>(
 ) -> Result<(bool, Vec<GatePlace>), LogError>
     ensures catalogue { IfOk result (λ _. reader.new.gate.catalogue ≡ reader.old.gate.catalogue) }
     ensures skipped { IfOk result (λ skipped. (text : List ℕ) → IfKnown (λ old. StandsAfter text [] reader.old.gate old.now.seen → HasSkipped text wanted skipped.0 reader.new.gate skipped.1.items old.now.seen) (D.known disk.old)) }
+    ensures there { IfOk result (λ skipped. skipped.0 ≡ true → place_of reader.new.gate ≡ wanted) }
+    ensures absent { IfOk result (λ skipped. skipped.0 ≡ false → IsNone skipped.1.items wanted × (reader.new.is_at_end ≡ true)) }
     ensures damaged { (at : ℕ) (kind : ADamageKind) → IsErrOf result (LogError.Damaged at kind) → (text : List ℕ) → IfKnown (λ old. StandsAfter text [] reader.old.gate old.now.seen → IsDamagedLog at kind old.now.seen) (D.known disk.old) }
     ensures known { ¬ IsErrOf result LogError.NoStore }
     ensures same { D.known disk.new ≡ D.known disk.old }

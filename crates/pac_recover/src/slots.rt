@@ -20,7 +20,7 @@ use crate::{Damage, LoadError};
 use pac_check::{SlotDamageKind, SlotInfo, SlotName, Slots};
 use pac_outside::Disk;
 use pac_serial::no_rows;
-use pac_tables::{HashedRows, JoinedRows, TableRows};
+use pac_tables::{JoinedRows, TableRows};
 use pac_types::Catalogue;
 use std::alloc::Global;
 
@@ -139,10 +139,10 @@ pub(crate) fn read_tables<D: Disk, T: TableRows>(
 
 /// The slots of a store, and the tables of the newest.
 #[derive(Drop)]
-pub(crate) struct Newest {
+pub(crate) struct Newest<T: TableRows> {
     pub slots: Slots,
     /// Without rows where no slot is open.
-    pub tables: HashedRows,
+    pub tables: JoinedRows<T>,
 }
 
 /// What stands in two slots, and the tables of the newest. Where the slots are at is not tested.
@@ -150,14 +150,15 @@ pub(crate) struct Newest {
 /// # Errors
 ///
 /// Those of [`Slots::attach`] and [`Slots::load_newest`].
-pub(crate) fn read_newest<D: Disk>(
+pub(crate) fn read_newest<D: Disk, T: TableRows>(
     alloc: Global,
     cat: &Catalogue,
     a: &mut D,
     b: &mut D,
-) -> Result<Newest, LoadError>
+) -> Result<Newest<T>, LoadError>
     ensures a { IfOk result (λ newest. IfKnown (λ old. IsSlot cat.now.tables newest.slots.a old.now.seen) (D.known a.old)) }
     ensures b { IfOk result (λ newest. IfKnown (λ old. IsSlot cat.now.tables newest.slots.b old.now.seen) (D.known b.old)) }
+    ensures works { IfOk result (λ newest. newest.slots.has_failed ≡ false) }
     ensures fits { IfOk result (λ newest. FitsCatalogue cat.now newest.tables.tables newest.tables.rows) }
     ensures newest { IfOk result (λ newest. IfKnown (λ x. IfKnown (λ y. AreNewestOf cat.now newest.slots newest.tables.rows x.now.seen y.now.seen) (D.known b.old)) (D.known a.old)) }
     ensures damaged { (slot : ASlotName) (at : ℕ) (kind : ASlotDamage) → IsErrOf result (LoadError.Damaged (InSlot slot at kind))

@@ -1,5 +1,5 @@
 // Executes what is stored while it is read.
-ghost use Rattle.std.specs.Prelude.{◌≡◌, [], ℕ, List, IfOk, IsErrOf};
+ghost use Rattle.std.specs.Prelude.{◌≡◌, [], false, ℕ, List, IfOk, IsErrOf};
 ghost use Rattle.pac_outside.specs.Causes.{one_more};
 ghost use Rattle.pac_outside.specs.Devices.{OneFaulted, each};
 ghost use Rattle.pac_outside.specs.Disk.{IfKnown};
@@ -8,32 +8,36 @@ ghost use Rattle.pac_log.specs.declared.damage.DamageKind.{DamageKind as ALogDam
 ghost use Rattle.pac_log.specs.Reading.{StandsAfter};
 ghost use Rattle.pac_check.specs.declared.damage.SlotDamageKind.{SlotDamageKind as ASlotDamage};
 ghost use Rattle.pac_check.specs.declared.info.SlotName.{SlotName as ASlotName};
+ghost use Rattle.pac_check.specs.SlotStates.{IsSlot};
 ghost use Rattle.pac_store.specs.Images.{IfReadKnown};
 ghost use Rattle.pac_recover.specs.declared.errors.Damage.TheVariants.{Log as InLog, Slot as InSlot};
 ghost use Rattle.pac_recover.specs.Damages.{IsDamagedLog};
 ghost use Rattle.pac_recover.specs.Outcomes.{FitsReplayed};
 ghost use Rattle.pac_recover.specs.Refusals.{HasDamage, HasNoStore};
-ghost use Rattle.pac_recover.specs.Ends.{EndsBeside, EndsSo, IsDamagedBeside, IsWholeLog};
+ghost use Rattle.pac_recover.specs.Logs.{HoldsLogUpTo};
+ghost use Rattle.pac_recover.specs.Ends.{IsEnded, EndsBeside, EndsSo, IsDamagedBeside, IsWholeLog};
 
 use crate::log::read_batches;
-use crate::replay::Replayed;
+use crate::replay::Executed;
 use crate::replayed_log::replay_log;
 use crate::slots::{Newest, read_newest, test_place};
 use crate::{Damage, LoadError};
 use pac_base::Exact;
-use pac_check::SlotName;
+use pac_check::{SlotName, Slots};
 use pac_log::LogReader;
 use pac_outside::{Devices, Disk};
+use pac_tables::TableRows;
 use pac_types::Catalogue;
 use std::alloc::Global;
 
-/// What the execution of all stored transactions gives.
+/// What the execution of all stored transactions gives, and where the log and the slots stand.
 #[derive(Drop)]
-pub(crate) struct Ended {
+pub(crate) struct Ended<T: TableRows> {
     pub catalogue: Catalogue,
-    pub replayed: Replayed,
-    /// How many transactions the log has.
-    pub txns: u64,
+    pub replayed: Executed<T>,
+    /// The reader of the log, at its end.
+    pub reader: LogReader,
+    pub slots: Slots,
 }
 
 /// Executes what is stored on devices, which are only read: the slots, and then the log once, batch by batch.
@@ -41,11 +45,15 @@ pub(crate) struct Ended {
 /// # Errors
 ///
 /// Those of [`load`](crate::load), in its order.
-pub(crate) fn replay_store<D: Disk>(
+pub(crate) fn replay_store<D: Disk, T: TableRows>(
     alloc: Global,
     devices: &mut Devices<D>,
-) -> Result<Ended, LoadError>
+) -> Result<Ended<T>, LoadError>
     ensures ends { IfOk result (λ ended. IfReadKnown (EndsSo ended) (D.known devices.old.log) (D.known devices.old.slot_a) (D.known devices.old.slot_b)) }
+    ensures ended { IfOk result IsEnded }
+    ensures log { IfOk result (λ ended. IfKnown (λ old. HoldsLogUpTo ended.reader.gate old.now.seen) (D.known devices.old.log)) }
+    ensures slot_a { IfOk result (λ ended. IfKnown (λ old. IsSlot ended.catalogue.tables ended.slots.a old.now.seen) (D.known devices.old.slot_a)) }
+    ensures slot_b { IfOk result (λ ended. IfKnown (λ old. IsSlot ended.catalogue.tables ended.slots.b old.now.seen) (D.known devices.old.slot_b)) }
     ensures rows { IfOk result (λ ended. FitsReplayed ended.catalogue ended.replayed) }
     ensures no_store { IsErrOf result LoadError.NoStore → HasNoStore (each D.known devices.old) }
     ensures log_damage { (at : ℕ) (kind : ALogDamage) → IsErrOf result (LoadError.Damaged (InLog at kind)) → HasDamage (InLog at kind) (each D.known devices.old) }
@@ -91,15 +99,20 @@ fn first_damage<D: Disk>(
 }
 
 // Executes what a log holds after the newest slot, and then sees that the slots are at gates of it.
-fn replay_after<D: Disk>(
+fn replay_after<D: Disk, T: TableRows>(
     alloc: Global,
     catalogue: Catalogue,
-    newest: Newest,
+    newest: Newest<T>,
     mut reader: LogReader,
     disk: &mut D,
-) -> Result<Ended, LoadError>
+) -> Result<Ended<T>, LoadError>
     requires same { catalogue ≡ reader.gate.catalogue }
     requires rows { FitsCatalogue catalogue newest.tables.tables newest.tables.rows }
+    requires works { newest.slots.has_failed ≡ false }
+    ensures ended { IfOk result IsEnded }
+    ensures catalogue { IfOk result (λ ended. ended.catalogue ≡ catalogue) }
+    ensures slots { IfOk result (λ ended. ended.slots ≡ newest.slots) }
+    ensures log { IfOk result (λ ended. (text : List ℕ) → IfKnown (λ old. StandsAfter text [] reader.gate old.now.seen → HoldsLogUpTo ended.reader.gate old.now.seen) (D.known disk.old)) }
     ensures ends { IfOk result (λ ended. (text a b : List ℕ) → IfKnown (λ old. StandsAfter text [] reader.gate old.now.seen → EndsBeside catalogue newest.slots newest.tables.rows ended old.now.seen a b) (D.known disk.old)) }
     ensures rows { IfOk result (λ ended. FitsReplayed ended.catalogue ended.replayed) }
     ensures log_damage { (at : ℕ) (kind : ALogDamage) → IsErrOf result (LoadError.Damaged (InLog at kind)) → (text : List ℕ) → IfKnown (λ old. StandsAfter text [] reader.gate old.now.seen → IsDamagedLog at kind old.now.seen) (D.known disk.old) }
@@ -119,6 +132,7 @@ fn replay_after<D: Disk>(
     Ok(Ended {
         catalogue,
         replayed: log.replayed,
-        txns: reader.gate().txns(),
+        reader,
+        slots,
     })
 }

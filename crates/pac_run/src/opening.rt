@@ -22,7 +22,7 @@ ghost use Rattle.pac_run.specs.Opening.{BeginsOver, IsFresh, IsOpenedFrom};
 use pac_engine::Engine;
 use pac_log::Log;
 use pac_outside::{Devices, Disk};
-use pac_recover::{Loaded, RecoverError, execute, load, test_rows};
+use pac_recover::{RecoverError, Restored, restore};
 use std::alloc::Global;
 
 // An engine over what is stored on devices, which are only read.
@@ -50,23 +50,18 @@ fn engine_over<D: Disk>(
     ensures disk_fault { IsErrOf result RecoverError.DiskFault → OneFaulted (each D.faults devices.old) (each D.faults devices.new) }
     ensures quiet { ¬ IsErrOf result RecoverError.DiskFault → each D.faults devices.new ≡ each D.faults devices.old }
 {
-    let Loaded {
+    let Restored {
         catalogue,
-        plan: _,
-        mut tables,
-        txns,
-        batches,
+        tables,
         reader,
         slots,
-    } = load(alloc, devices)?;
-    execute(alloc, &catalogue, txns, batches.as_slice(), &mut tables)?;
-    test_rows(&catalogue, &tables, limit)?;
+    } = restore(alloc, limit, devices)?;
     let log = Log::resume(reader);
     Ok(Engine::new(alloc, catalogue, tables, log, slots, batch, limit))
 }
 
-/// Opens a store: syncs its devices, loads it, executes the stored transactions one after another, and tests the limit of
-/// rows. No device is written. A group of the engine holds at most `batch` replies.
+/// Opens a store: syncs its devices, and restores it: executes the stored transactions one after another as they are read,
+/// and tests the limit of rows. No device is written. A group of the engine holds at most `batch` replies.
 ///
 /// # Errors
 ///

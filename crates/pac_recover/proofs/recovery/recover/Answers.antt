@@ -1,81 +1,42 @@
--- What is recovered is what serial execution of what is stored gives.
-use Rattle.std.proofs.Common.{◌∙◌, Ok, refl, ap}
+-- What is restored is what is recovered.
+use Rattle.std.proofs.Common.{◌∙◌, ℕ, Result, Ok, Err, IfOk, ap, sym, subst}
+use Rattle.std.specs.Prelude.{IsErrOf}
 use Rattle.std.proofs.lemmas.Result.{err_from_is_err_and}
+use Rattle.pac_log.specs.declared.position.NextGate.{NextGate}
+use Rattle.pac_store.specs.Images.{IfReadKnown}
 use Rattle.pac_recover.specs.declared.recovery.Recovered.{Recovered}
-use Rattle.pac_recover.proofs.CauseLemmas.{as-error}
+use Rattle.pac_recover.specs.declared.errors.RecoverError.{RecoverError}
+use Rattle.pac_recover.specs.Recovering.{IsRecoveredFrom}
+use Rattle.pac_recover.proofs.CauseLemmas.{as-error, the-cause}
 use Rattle.pac_recover.proofs.StandsLemmas.{recovers}
-use Rattle.pac_recover.specs.Outcomes.{outcome_of}
-use Rattle.pac_recover.proofs.ReportLemmas.{load-knows, recovered-knows}
-use Rattle.pac_recover.proofs.EndLemmas.{ended-full, ended-recovered, ended-stopped}
+use Rattle.pac_recover.proofs.ReportLemmas.{recovered-knows}
 use Rattle.pac_recover.proofs.recovery.recover.Goals as goal
-
-pub returns-in_err-catalogue-clause-stands : goal.returns-in_err-catalogue-clause-stands
-returns-in_err-catalogue-clause-stands g c =
-    let r = c.from_residual in
-    let p = err_from_is_err_and r.result r.ensures.1 in
-    let log = g.D.Disk.known c.args.devices.now.log in
-    let a = g.D.Disk.known c.args.devices.now.slot_a in
-    let b = g.D.Disk.known c.args.devices.now.slot_b in
-    recovers c.args.limit r.result log a b (load-knows c.args.limit log a b r.result p.0 c.in_err-catalogue.field-0.0 p.1 p.2
-    (λ e. c.in_err-catalogue.ensures.no_store (as-error _ _ e)) (λ at kind e. c.in_err-catalogue.ensures.log_damage at kind (as-error _ _ e))
-    (λ slot at kind e. c.in_err-catalogue.ensures.slot_damage slot at kind (as-error _ _ e)))
-
-pub returns-in_err-tables-clause-abort : goal.returns-in_err-tables-clause-abort
-returns-in_err-tables-clause-abort g c =
-    let d = c.args.devices.now in
-    let r = c.from_residual-in_err-tables in
-    let p = err_from_is_err_and r.result r.ensures.1 in
-    let found = c.in_err-tables.ensures.aborted c.in_err-tables.field-0.0 refl in
-    (ended-stopped c.in_ok-catalogue.field-0 (g.D.Disk.known d.log) (g.D.Disk.known d.slot_a) (g.D.Disk.known d.slot_b) c.in_ok-catalogue.ensures.ends c.args.limit r.result p.0 found.0 p.1 (p.2 ∙ found.1) (ap outcome_of found.2)).abort
-
-pub returns-in_err-tables-clause-over : goal.returns-in_err-tables-clause-over
-returns-in_err-tables-clause-over g c =
-    let d = c.args.devices.now in
-    let r = c.from_residual-in_err-tables in
-    let p = err_from_is_err_and r.result r.ensures.1 in
-    let found = c.in_err-tables.ensures.aborted c.in_err-tables.field-0.0 refl in
-    (ended-stopped c.in_ok-catalogue.field-0 (g.D.Disk.known d.log) (g.D.Disk.known d.slot_a) (g.D.Disk.known d.slot_b) c.in_ok-catalogue.ensures.ends c.args.limit r.result p.0 found.0 p.1 (p.2 ∙ found.1) (ap outcome_of found.2)).over
-
-pub returns-in_err-tables-clause-stands : goal.returns-in_err-tables-clause-stands
-returns-in_err-tables-clause-stands g c =
-    let d = c.args.devices.now in
-    let r = c.from_residual-in_err-tables in
-    let p = err_from_is_err_and r.result r.ensures.1 in
-    let found = c.in_err-tables.ensures.aborted c.in_err-tables.field-0.0 refl in
-    recovers c.args.limit r.result (g.D.Disk.known d.log) (g.D.Disk.known d.slot_a) (g.D.Disk.known d.slot_b)
-    (ended-stopped c.in_ok-catalogue.field-0 (g.D.Disk.known d.log) (g.D.Disk.known d.slot_a) (g.D.Disk.known d.slot_b) c.in_ok-catalogue.ensures.ends c.args.limit r.result p.0 found.0 p.1 (p.2 ∙ found.1) (ap outcome_of found.2))
-
-pub returns-in_err-test_rows-clause-over : goal.returns-in_err-test_rows-clause-over
-returns-in_err-test_rows-clause-over g c =
-    let d = c.args.devices.now in
-    let r = c.from_residual-in_err-test_rows in
-    let p = err_from_is_err_and r.result r.ensures.1 in
-    let excess = c.in_err-test_rows.field-0.0 in
-    let found = c.in_err-test_rows.ensures.over excess refl in
-    (ended-full c.in_ok-catalogue.field-0 (g.D.Disk.known d.log) (g.D.Disk.known d.slot_a) (g.D.Disk.known d.slot_b) c.in_ok-catalogue.ensures.ends c.args.limit r.result p.0 excess.table excess.rows excess.limit p.1 p.2 found.1
-    c.in_ok-tables.tables.rows (ap outcome_of c.in_ok-tables.ensures.ok) found.0).over
-
-pub returns-in_err-test_rows-clause-stands : goal.returns-in_err-test_rows-clause-stands
-returns-in_err-test_rows-clause-stands g c =
-    let d = c.args.devices.now in
-    let r = c.from_residual-in_err-test_rows in
-    let p = err_from_is_err_and r.result r.ensures.1 in
-    let excess = c.in_err-test_rows.field-0.0 in
-    let found = c.in_err-test_rows.ensures.over excess refl in
-    recovers c.args.limit r.result (g.D.Disk.known d.log) (g.D.Disk.known d.slot_a) (g.D.Disk.known d.slot_b)
-    (ended-full c.in_ok-catalogue.field-0 (g.D.Disk.known d.log) (g.D.Disk.known d.slot_a) (g.D.Disk.known d.slot_b) c.in_ok-catalogue.ensures.ends c.args.limit r.result p.0 excess.table excess.rows excess.limit p.1 p.2 found.1
-    c.in_ok-tables.tables.rows (ap outcome_of c.in_ok-tables.ensures.ok) found.0)
-
-pub returns-clause-recovered : goal.returns-clause-recovered
-returns-clause-recovered g c =
-    ended-recovered c.in_ok-catalogue.field-0 (g.D.Disk.known c.args.devices.now.log) (g.D.Disk.known c.args.devices.now.slot_a) (g.D.Disk.known c.args.devices.now.slot_b)
-    c.in_ok-catalogue.ensures.ends c.in_ok-tables.tables.rows (ap outcome_of c.in_ok-tables.ensures.ok)
 
 pub returns-clause-stands : goal.returns-clause-stands
 returns-clause-stands g c =
     let log = g.D.Disk.known c.args.devices.now.log in
     let a = g.D.Disk.known c.args.devices.now.slot_a in
     let b = g.D.Disk.known c.args.devices.now.slot_b in
-    let ended = c.in_ok-catalogue.field-0 in
-    let recovered : Recovered = record { catalogue = ended.catalogue; tables = c.in_ok-tables.tables; txns = ended.txns } in
-    recovers c.args.limit (Ok recovered) log a b (recovered-knows c.args.limit log a b recovered (returns-clause-recovered g c))
+    let restored = c.in_ok-catalogue.field-0 in
+    let recovered : Recovered = record { catalogue = restored.catalogue; tables = restored.tables; txns = c.txns-txns.result } in
+    recovers c.args.limit (Ok recovered) log a b (recovered-knows c.args.limit log a b recovered
+    (subst (λ (n : ℕ). IfReadKnown (IsRecoveredFrom restored.catalogue restored.tables.rows n) log a b) (sym (c.txns-txns.ensures.value ∙ ap (λ (gate : NextGate). gate.txns) c.gate.ensures)) c.in_ok-catalogue.ensures.restored))
+
+pub returns-in_err-catalogue-clause-stands : goal.returns-in_err-catalogue-clause-stands
+returns-in_err-catalogue-clause-stands g c =
+    let log = g.D.Disk.known c.args.devices.now.log in
+    let a = g.D.Disk.known c.args.devices.now.slot_a in
+    let b = g.D.Disk.known c.args.devices.now.slot_b in
+    let h = c.in_err-catalogue.ensures in
+    let r = c.from_residual in
+    let p = err_from_is_err_and r.result r.ensures.1 in
+    let error = c.in_err-catalogue.field-0.0 in
+    let said = λ (other : RecoverError) (is : IsErrOf r.result other). the-cause r.result p.0 error other p.1 p.2 is in
+    recovers c.args.limit r.result log a b (record {
+      recovered = subst (λ (q : Result Recovered RecoverError). IfOk q (λ recovered. IfReadKnown (IsRecoveredFrom recovered.catalogue recovered.tables.rows recovered.txns) log a b)) (sym p.1) tt;
+      no_store = λ e. h.no_store (as-error _ _ (said _ e));
+      log_damage = λ at kind e. h.log_damage at kind (as-error _ _ (said _ e));
+      slot_damage = λ slot at kind e. h.slot_damage slot at kind (as-error _ _ (said _ e));
+      abort = λ note e. h.abort note (as-error _ _ (said _ e));
+      over = λ table rows most e. h.over table rows most (as-error _ _ (said _ e));
+    })

@@ -1,5 +1,5 @@
 -- Batch after batch is read and executed.
-use Rattle.std.proofs.Common.{◌∙◌, ◌≡◌, Ok, Err, Option, List, All, ap, refl, subst, arith}
+use Rattle.std.proofs.Common.{◌∙◌, ◌≡◌, Ok, Err, Option, List, All, ap, refl, sym, subst, arith}
 use Rattle.std.specs.List.{AllByRecursion}
 use Rattle.std.proofs.lemmas.List.Elements.{recursion_from_All}
 use Rattle.std.proofs.lemmas.Result.{err_from_is_err_and}
@@ -43,6 +43,7 @@ returns-in-None-clause-rest g c = λ text before.
 pub loop-init : goal.loop-init
 loop-init g c = record {
   catalogue = c.requires.same;
+  grows = omega arith;
   counted = omega arith;
   rows = c.requires.rows;
   replays = λ text before. replays-nothing text c.args.cat.now before c.args.reader.now.gate c.args.gates.now.items c.args.tables.rows _ c.args.gates.now.items (g.D.Disk.known c.args.disk.now) refl refl;
@@ -60,6 +61,7 @@ loop-preserved g c =
     let knows = subst (λ (t : Option DiskHistory). ReportsNext mid new (Ok c.in_ok-next_batch.field-0) t) c.loop.invariant.same c.in_ok-next_batch.ensures.reads_on in
     record {
       catalogue = ap (λ (gate : NextGate). gate.catalogue) next.gate ∙ c.loop.invariant.catalogue;
+      grows = omega (arith, c.loop.invariant.grows, more-txns mid new batch next);
       counted = omega (arith, c.loop.invariant.counted, more-txns mid new batch next);
       rows = c.in_ok-replayed-in-Some.ensures.rows;
       replays = λ text before. replays-more text c.args.cat.now before c.args.reader.now.gate c.args.gates.now.items c.args.tables.rows mid new c.loop.replayed c.loop.gates.items
@@ -68,3 +70,12 @@ loop-preserved g c =
       same = c.in_ok-next_batch.ensures.same ∙ c.loop.invariant.same;
       quiet = c.in_ok-next_batch.ensures.kept (no-error _ _) ∙ c.loop.invariant.quiet;
     }
+
+pub returns-in-None-clause-end : goal.returns-in-None-clause-end
+returns-in-None-clause-end g c = ap (λ (p : ReaderParts). p.is_at_end) (c.in_ok-next_batch.ensures.end (ap (λ (o : Option Batch). Ok o) c.in-None.is))
+
+pub returns-in-None-clause-catalogue : goal.returns-in-None-clause-catalogue
+returns-in-None-clause-catalogue g c = ap (λ (p : ReaderParts). p.gate.catalogue) (c.in_ok-next_batch.ensures.end (ap (λ (o : Option Batch). Ok o) c.in-None.is)) ∙ c.loop.invariant.catalogue ∙ sym c.requires.same
+
+pub returns-in-None-clause-grows : goal.returns-in-None-clause-grows
+returns-in-None-clause-grows g c = omega (arith, c.loop.invariant.grows, ap (λ (p : ReaderParts). p.gate.txns) (c.in_ok-next_batch.ensures.end (ap (λ (o : Option Batch). Ok o) c.in-None.is)))

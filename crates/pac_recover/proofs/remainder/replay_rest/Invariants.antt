@@ -9,6 +9,7 @@ use Rattle.pac_recover.proofs.remainder.replay_rest.Given as goal
 abbrev pub invariant-loop : goal.invariant-loop
 invariant-loop g l = record {
   catalogue : l.reader.gate.catalogue ≡ l.cat;
+  grows : l.fn.reader.gate.txns ≤ l.reader.gate.txns;
   counted : l.counter ≤ l.reader.gate.txns;
   rows : FitsReplayed l.cat l.replayed;
   replays : (text : List ℕ) (before : List (List Txn)) → IfKnown (Replays text l.cat before l.fn.reader.gate l.fn.gates.items l.fn.tables.rows l.reader.gate l.replayed l.gates.items) (g.D.Disk.known l.fn.disk);

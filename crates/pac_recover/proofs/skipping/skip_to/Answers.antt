@@ -1,5 +1,5 @@
 -- Gate after gate is looked at, and the batch after it passed over.
-use Rattle.std.proofs.Common.{◌∙◌, ◌≡◌, Ok, Err, Option, Bool, true, false, ap, subst, arith}
+use Rattle.std.proofs.Common.{◌∙◌, ◌≡◌, Ok, Err, Option, List, Bool, true, false, ap, sym, subst, arith}
 use Rattle.std.proofs.lemmas.Result.{err_from_is_err_and}
 use Rattle.pac_ops.specs.declared.batch.Batch.{Batch}
 use Rattle.pac_outside.specs.Disk.{DiskHistory}
@@ -10,9 +10,10 @@ use Rattle.pac_log.specs.declared.reader.ReaderParts.{ReaderParts}
 use Rattle.pac_log.specs.Reading.{IsNextBatch}
 use Rattle.pac_recover.specs.declared.gates.GatePlace.{GatePlace}
 use Rattle.pac_recover.specs.Gates.{place_of}
+use Rattle.pac_recover.specs.Replays.{IsNone}
 use Rattle.pac_recover.proofs.CauseLemmas.{at-some, no-error, the-cause}
 use Rattle.pac_recover.proofs.ReadLemmas.{ReportsNext, more-txns}
-use Rattle.pac_recover.proofs.ReplayLemmas.{skips-all, skips-damage, skips-more, skips-there}
+use Rattle.pac_recover.proofs.ReplayLemmas.{none-push, skips-all, skips-damage, skips-more, skips-there}
 use Rattle.pac_recover.proofs.skipping.skip_to.Goals as goal
 
 pub returns-in_err-next_batch-clause-damaged : goal.returns-in_err-next_batch-clause-damaged
@@ -63,8 +64,19 @@ loop-preserved g c =
     record {
       catalogue = ap (λ (gate : NextGate). gate.catalogue) next.gate ∙ c.loop.invariant.catalogue;
       counted = omega (arith, c.loop.invariant.counted, more-txns mid new batch next);
+      none = subst (λ (l : List GatePlace). IsNone l c.args.wanted) (sym c.in_ok-push.ensures.items) (none-push c.loop.gates.items c.args.wanted c.gate_place-here.result c.loop.invariant.none (differs c.is_same.result c.gate_place-here.result c.args.wanted c.is_same.ensures.1 c.if-is_same.false));
       skips = λ text. skips-more text c.args.wanted old mid new c.loop.gates.items c.push.new.items.items c.gate_place-here.result c.in_ok-push.ensures.items (c.gate_place-here.ensures ∙ ap (λ (gate : NextGate). place_of gate) c.gate.ensures)
           batch known (differs c.is_same.result c.gate_place-here.result c.args.wanted c.is_same.ensures.1 c.if-is_same.false) (c.loop.invariant.skips text) (subst (λ (o : Option Batch). ReportsNext mid new (Ok o) known) c.in-Some.is knows);
       same = c.in_ok-next_batch.ensures.same ∙ c.loop.invariant.same;
       quiet = c.in_ok-next_batch.ensures.kept (no-error _ _) ∙ c.loop.invariant.quiet;
     }
+
+pub returns-then-is_same-clause-there : goal.returns-then-is_same-clause-there
+returns-then-is_same-clause-there g c = λ _. sym (c.gate_place-here.ensures ∙ ap (λ (gate : NextGate). place_of gate) c.gate.ensures) ∙ c.is_same.ensures.0 c.if-is_same.true
+
+pub returns-in-None-clause-absent : goal.returns-in-None-clause-absent
+returns-in-None-clause-absent g c = λ _.
+    let end = ap (λ (p : ReaderParts). p.is_at_end) (c.in_ok-next_batch.ensures.end (ap (λ (o : Option Batch). Ok o) c.in-None.is)) in (
+      subst (λ (l : List GatePlace). IsNone l c.args.wanted) (sym c.in_ok-push.ensures.items) (none-push c.loop.gates.items c.args.wanted c.gate_place-here.result c.loop.invariant.none (differs c.is_same.result c.gate_place-here.result c.args.wanted c.is_same.ensures.1 c.if-is_same.false)),
+      end,
+    )

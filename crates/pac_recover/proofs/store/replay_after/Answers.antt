@@ -13,7 +13,7 @@ use Rattle.pac_recover.specs.declared.store.Ended.{Ended}
 use Rattle.pac_recover.specs.Loading.{IsInfoAmong}
 use Rattle.pac_recover.specs.Replays.{IsReplayOf}
 use Rattle.pac_recover.proofs.CauseLemmas.{as-error, the-cause, the-error}
-use Rattle.pac_recover.proofs.EndLemmas.{ends-beside, log-cause, misplaced-beside}
+use Rattle.pac_recover.proofs.EndLemmas.{ends-beside, log-cause, misplaced-beside, replay-log}
 use Rattle.pac_recover.proofs.store.replay_after.Goals as goal
 
 pub returns-in_err-log-clause-log_damage : goal.returns-in_err-log-clause-log_damage
@@ -59,10 +59,18 @@ returns-clause-ends g c = λ text a b.
     let first = c.args.reader.gate in
     let log = c.in_ok-log.log in
     let known = g.D.Disk.known c.args.disk.now in
-    let ended : Ended = record { catalogue = c.args.catalogue; replayed = log.replayed; txns = c.txns.result } in
+    let ended : Ended g.row.T.Denot = record { catalogue = c.args.catalogue; replayed = log.replayed; reader = c.replay_log.new.reader; slots = c.args.newest.slots } in
     ends-beside text c.args.catalogue c.args.newest.slots c.args.newest.tables.rows c.replay_log.new.reader.gate log.replayed log.gates.items ended refl refl
-    (c.txns.ensures.value ∙ ap (λ (gate : NextGate). gate.txns) c.gate-2.ensures)
+    refl
     (subst (λ (o : Option SlotInfo). IsInfoAmong log.gates.items o) c.info.ensures (subst (λ (l : List GatePlace). IsInfoAmong l c.info.result) c.deref.ensures.value c.in_ok-test_place.ensures.ok))
     (subst (λ (o : Option SlotInfo). IsInfoAmong log.gates.items o) c.info-2.ensures (subst (λ (l : List GatePlace). IsInfoAmong l c.info-2.result) c.deref-2.ensures.value c.in_ok-test_place-2.ensures.ok))
     first a b known
+    (subst (λ (n : Option SlotInfo). IfKnown (λ h. StandsAfter text [] first h.now.seen → IsReplayOf text c.args.catalogue n c.args.newest.tables.rows c.replay_log.new.reader.gate log.replayed log.gates.items h.now.seen) known) c.newest-latest.ensures (c.in_ok-log.ensures.replayed text))
+
+pub returns-clause-log : goal.returns-clause-log
+returns-clause-log g c = λ text.
+    let first = c.args.reader.gate in
+    let log = c.in_ok-log.log in
+    let known = g.D.Disk.known c.args.disk.now in
+    replay-log text c.args.catalogue c.args.newest.slots c.args.newest.tables.rows c.replay_log.new.reader.gate log.replayed log.gates.items first known (c.in_ok-log.ensures.catalogue ∙ sym c.requires.same)
     (subst (λ (n : Option SlotInfo). IfKnown (λ h. StandsAfter text [] first h.now.seen → IsReplayOf text c.args.catalogue n c.args.newest.tables.rows c.replay_log.new.reader.gate log.replayed log.gates.items h.now.seen) known) c.newest-latest.ensures (c.in_ok-log.ensures.replayed text))

@@ -1,11 +1,14 @@
 -- What is said after the header of the log is said of the devices.
 use Rattle.std.proofs.Common.{◌≡◌, ◌∙◌, ap}
 use Rattle.pac_log.specs.declared.position.NextGate.{NextGate}
+use Rattle.pac_check.specs.declared.slots.Slots.{Slots}
 use Rattle.pac_recover.specs.Damages.{IsDamagedLog}
+use Rattle.pac_recover.specs.Logs.{HoldsLogUpTo}
 use Rattle.pac_recover.specs.declared.errors.Damage.TheVariants.{Slot}
 use Rattle.pac_recover.specs.declared.errors.LoadError.TheVariants as load
 use Rattle.pac_recover.proofs.CauseLemmas.{as-error, same-error}
-use Rattle.pac_recover.proofs.EndLemmas.{broken-known, ends-all, from-first, misplaced-known}
+use Rattle.pac_recover.proofs.EndLemmas.{broken-known, ends-all, from-first, misplaced-known, ok-by, ok-by-both}
+use Rattle.pac_recover.proofs.LoadLemmas.{slot-known}
 use Rattle.pac_recover.proofs.store.replay_store.Goals as goal
 
 pub returns-in-Ok-clause-ends : goal.returns-in-Ok-clause-ends
@@ -42,3 +45,20 @@ returns-in-Err-Damaged-clause-slot_damage g c = λ slot at kind is.
     broken-known c.in_ok-catalogue.catalogue slot at kind c.in_ok-reader.reader.gate same (g.D.Disk.known d.log) (g.D.Disk.known d.slot_a) (g.D.Disk.known d.slot_b) (g.D.Disk.known c.attach.new.disk)
     c.in_ok-reader.ensures.same c.in_ok-reader.ensures.store (c.first_damage.ensures.whole slot at kind answer)
     (c.in-Err-Damaged.ensures.damaged slot at kind (as-error _ _ was))
+
+pub returns-in-Ok-clause-log : goal.returns-in-Ok-clause-log
+returns-in-Ok-clause-log g c =
+    ok-by c.replay_after.result c.replay_after.ensures.log (λ ended says. from-first c.in_ok-reader.reader.gate (λ h. HoldsLogUpTo ended.reader.gate h.now.seen) (g.D.Disk.known c.args.devices.now.log) (g.D.Disk.known c.attach.new.disk) c.in_ok-reader.ensures.same c.in_ok-reader.ensures.store says)
+
+pub returns-in-Ok-clause-slot_a : goal.returns-in-Ok-clause-slot_a
+returns-in-Ok-clause-slot_a g c =
+    ok-by-both c.replay_after.result c.replay_after.ensures.catalogue c.replay_after.ensures.slots (λ ended catalogue slots.
+    slot-known c.in_ok-catalogue.catalogue ended.catalogue c.in-Ok.newest.slots.a ended.slots.a (g.D.Disk.known c.args.devices.now.slot_a) catalogue (ap (λ (s : Slots). s.a) slots) c.in-Ok.ensures.a)
+
+pub returns-in-Ok-clause-slot_b : goal.returns-in-Ok-clause-slot_b
+returns-in-Ok-clause-slot_b g c =
+    ok-by-both c.replay_after.result c.replay_after.ensures.catalogue c.replay_after.ensures.slots (λ ended catalogue slots.
+    slot-known c.in_ok-catalogue.catalogue ended.catalogue c.in-Ok.newest.slots.b ended.slots.b (g.D.Disk.known c.args.devices.now.slot_b) catalogue (ap (λ (s : Slots). s.b) slots) c.in-Ok.ensures.b)
+
+pub returns-in-Err-clause-ended : goal.returns-in-Err-clause-ended
+returns-in-Err-clause-ended g c = tt

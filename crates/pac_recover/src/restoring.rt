@@ -1,0 +1,106 @@
+// Executes what is stored.
+ghost use Rattle.std.specs.Prelude.{◌≡◌, ◌+◌, ℕ, List, IfOk, IsErrOf, None, length};
+ghost use Rattle.pac_outside.specs.Devices.{OneFaulted, each};
+ghost use Rattle.pac_ops.specs.declared.note.Note.{Note as ANote};
+ghost use Rattle.pac_types.specs.Execution.{first_over};
+ghost use Rattle.pac_types.specs.Fits.{FitsCatalogue};
+ghost use Rattle.pac_log.specs.declared.damage.DamageKind.{DamageKind as ALogDamage};
+ghost use Rattle.pac_check.specs.declared.damage.SlotDamageKind.{SlotDamageKind as ASlotDamage};
+ghost use Rattle.pac_check.specs.declared.info.SlotName.{SlotName as ASlotName};
+ghost use Rattle.pac_check.specs.SlotStates.{IsSlot};
+ghost use Rattle.pac_outside.specs.Disk.{IfKnown};
+ghost use Rattle.pac_store.specs.Images.{IfReadKnown};
+ghost use Rattle.pac_recover.specs.declared.errors.RecoverError.{RecoverError as ARecoverError};
+ghost use Rattle.pac_recover.specs.declared.errors.Damage.TheVariants.{Log as InLog, Slot as InSlot};
+ghost use Rattle.pac_recover.specs.Recovering.{AbortsIn, IsOverIn, IsRecoveredFrom};
+ghost use Rattle.pac_recover.specs.Restoring.{IsRestored};
+ghost use Rattle.pac_recover.specs.Logs.{HoldsLogUpTo};
+ghost use Rattle.pac_recover.specs.Refusals.{HasDamage, HasNoStore, IfImagesKnown};
+
+use crate::replay::Executed;
+use crate::store::{Ended, replay_store};
+use crate::{RecoverError, test_rows};
+use pac_check::Slots;
+use pac_log::LogReader;
+use pac_outside::{Devices, Disk};
+use pac_tables::{JoinedRows, TableRows};
+use pac_types::Catalogue;
+use std::alloc::Global;
+
+/// A store that was read, and whose transactions were executed.
+#[derive(Drop)]
+pub struct Restored<T: TableRows> {
+    pub catalogue: Catalogue,
+    /// The tables after all stored transactions.
+    pub tables: JoinedRows<T>,
+    /// The reader of the log, at its end.
+    pub reader: LogReader,
+    pub slots: Slots,
+}
+
+/// Reads a store, on devices that are only read, executes the transactions of the log after the newest slot over that one's
+/// tables, one after another, and then tests the limit of rows.
+///
+/// The slots are read before the log's batches. Each batch is executed as soon as it is read, and freed, so that memory is
+/// taken for the tables, for one batch, and 16 bytes for each; all batches are held only where a slot is damaged.
+///
+/// # Errors
+///
+/// - Those of [`load`](crate::load), in its order.
+/// - [`RecoverError::AbortInLog`] exactly where serial execution of the stored transactions stops, with the transaction that
+///   aborts.
+/// - [`RecoverError::RowsOver`] exactly where the tables then have more rows than the limit: the first such table.
+/// - [`RecoverError::NoMemory`] where there was no memory for the tables.
+pub fn restore<D: Disk, T: TableRows>(
+    alloc: Global,
+    limit: u64,
+    devices: &mut Devices<D>,
+) -> Result<Restored<T>, RecoverError>
+    // On every device.
+    ensures well_formed { IfOk result IsRestored }
+    ensures within { IfOk result (λ restored. first_over limit (length restored.catalogue.tables) restored.tables.rows ≡ None) }
+
+    // What stands on each known device, and what serial execution of it gives.
+    ensures log { IfOk result (λ restored. IfKnown (λ old. HoldsLogUpTo restored.reader.gate old.now.seen) (D.known devices.old.log)) }
+    ensures slot_a { IfOk result (λ restored. IfKnown (λ old. IsSlot restored.catalogue.tables restored.slots.a old.now.seen) (D.known devices.old.slot_a)) }
+    ensures slot_b { IfOk result (λ restored. IfKnown (λ old. IsSlot restored.catalogue.tables restored.slots.b old.now.seen) (D.known devices.old.slot_b)) }
+    ensures restored { IfOk result (λ restored. IfReadKnown (IsRecoveredFrom restored.catalogue restored.tables.rows restored.reader.gate.txns) (D.known devices.old.log) (D.known devices.old.slot_a) (D.known devices.old.slot_b)) }
+
+    // When each refusal comes.
+    ensures no_store { IsErrOf result RecoverError.NoStore → HasNoStore (each D.known devices.old) }
+    ensures log_damage { (at : ℕ) (kind : ALogDamage) → IsErrOf result (RecoverError.Damaged (InLog at kind)) → HasDamage (InLog at kind) (each D.known devices.old) }
+    ensures slot_damage { (slot : ASlotName) (at : ℕ) (kind : ASlotDamage) → IsErrOf result (RecoverError.Damaged (InSlot slot at kind)) → HasDamage (InSlot slot at kind) (each D.known devices.old) }
+    ensures abort { (note : ANote) → IsErrOf result (RecoverError.AbortInLog note) → IfImagesKnown (AbortsIn note) (each D.known devices.old) }
+    ensures over { (table : List ℕ) (rows most : ℕ) → IsErrOf result (RecoverError.RowsOver table rows most) → (most ≡ limit) × IfImagesKnown (IsOverIn table rows limit) (each D.known devices.old) }
+
+    // The devices are only read, and no call of one comes after one that failed.
+    ensures same { each D.known devices.new ≡ each D.known devices.old }
+    ensures disk_fault { IsErrOf result RecoverError.DiskFault → OneFaulted (each D.faults devices.old) (each D.faults devices.new) }
+    ensures quiet { ¬ IsErrOf result RecoverError.DiskFault → each D.faults devices.new ≡ each D.faults devices.old }
+{
+    let Ended {
+        catalogue,
+        replayed,
+        reader,
+        slots,
+    } = replay_store(alloc, devices)?;
+    let tables = tables_of(replayed)?;
+    test_rows(&catalogue, &tables, limit)?;
+    Ok(Restored {
+        catalogue,
+        tables,
+        reader,
+        slots,
+    })
+}
+
+// The tables with which the execution ends, unless a transaction aborts.
+fn tables_of<T: TableRows>(replayed: Executed<T>) -> Result<JoinedRows<T>, RecoverError>
+    ensures ok { IfOk result (λ tables. replayed ≡ Executed.Tables tables) }
+    ensures aborted { (error : ARecoverError) → IsErrOf result error → (note : ANote) × (error ≡ RecoverError.AbortInLog note) × (replayed ≡ Executed.Aborted note) }
+{
+    match replayed {
+        Executed::Tables(tables) => Ok(tables),
+        Executed::Aborted(note) => Err(RecoverError::AbortInLog(note)),
+    }
+}
