@@ -1,8 +1,9 @@
 //! Recovery: from what the devices of a store hold, the tables that serial execution of the stored transactions gives,
 //! or what is wrong. The devices are only read.
 //!
-//! - [`recover`]: the tables after all stored transactions, [`Recovered`]; or the first transaction that aborts, or the
-//!   first table over a limit of rows, or damage: a [`RecoverError`]. It executes each batch as soon as it is read.
+//! - [`restore`]: the tables after all stored transactions, over any kind of tables, the log's reader and the slots,
+//!   [`Restored`]; or the first transaction that aborts, or the first table over a limit of rows, or damage: a
+//!   [`RecoverError`]. It executes each batch as soon as it is read. [`recover`] does so over hashed tables, [`Recovered`].
 //! - [`load`]: what is stored, [`Loaded`]: the catalogue with its plan, the tables of the newest slot, the batches of
 //!   the log after them, the log's reader and the slots. Or the first [`Damage`], a [`LoadError`].
 //! - [`execute`]: serial execution of consecutive batches over any tables. [`test_rows`]: the first table over a limit,
