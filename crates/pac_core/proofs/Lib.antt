@@ -20,3 +20,5 @@ pub mod Copies
 pub mod Runs
 pub mod ValueSteps
 pub mod Finding
+pub mod CellOrder
+pub mod TouchedCells

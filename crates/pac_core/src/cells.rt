@@ -1,7 +1,9 @@
 // The cells at which a piece may touch rows, and copies of the rows there.
-ghost use Rattle.std.specs.Prelude.{◌≡◌, ◌↔◌, ◌<◌, IfOk, IsTrue};
+ghost use Rattle.std.specs.Prelude.{◌≡◌, ◌↔◌, ◌<◌, AllPairs, Contains, IfOk, IsTrue};
+ghost use Rattle.std.specs.declared.cmp.Ordering.TheVariants.{Less};
 ghost use Rattle.std.specs.List.{All};
 ghost use Rattle.std.specs.Option.{option_map};
+ghost use Rattle.pac_value.specs.State.{Cell, cell_cmp};
 ghost use Rattle.pac_plan.specs.declared.access.Access.TheVariants.{Keys};
 ghost use Rattle.pac_core.specs.Cells.{AreCellsOf, AreOf, copies_at, copy_at};
 
@@ -38,9 +40,17 @@ fn touched(alloc: Global, touches: &[Touch]) -> Result<Vec<(u16, Key)>, NoMemory
     for touch in touches {
         cells.push((touch.table, touch.key))?;
     }
+    order(&mut cells);
+    Ok(cells)
+}
+
+// Sorts cells, and keeps each once.
+fn order(cells: &mut Vec<(u16, Key)>)
+    ensures ascending { AllPairs (λ a b. cell_cmp a b ≡ Less) cells.new.items }
+    ensures same { (a : Cell) → Contains cells.new.items a ↔ Contains cells.old.items a }
+{
     cells.sort_unstable();
     cells.dedup();
-    Ok(cells)
 }
 
 /// Copies of what stands at cells.
