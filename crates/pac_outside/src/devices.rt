@@ -1,5 +1,5 @@
 // The devices of a store.
-ghost use Rattle.std.specs.Prelude.{◌≡◌, OnOk};
+ghost use Rattle.std.specs.Prelude.{◌≡◌, OnOk, option_map};
 
 use crate::{Disk, Failed};
 
@@ -12,7 +12,8 @@ pub struct Devices<D> {
 }
 
 impl<D: Disk> Devices<D> {
-    ghost use Rattle.pac_outside.specs.Devices.{AreSettled, EndsAtOneFault, RunsAsBefore, IfAllKnown, each};
+    ghost use Rattle.pac_outside.specs.Devices.{EndsAtOneFault, RunsAsBefore, IfAllKnown, each};
+    ghost use Rattle.pac_outside.specs.Disk.{after_sync};
     ghost use Rattle.pac_outside.specs.Parts.{known_reads};
 
     /// Syncs each device. After Ok a crash leaves of each what a read gives. At each moment a crash leaves images that it
@@ -23,7 +24,9 @@ impl<D: Disk> Devices<D> {
     /// [`Failed`] where a call of a device failed, so only where the count of faults of one rose; no call of any device
     /// comes after it.
     pub fn sync(&mut self) -> Result<(), Failed>
-        ensures settled { OnOk result (IfAllKnown AreSettled (each D.known self.old) (each D.known self.new)) }
+        ensures log { OnOk result (D.known self.new.log ≡ option_map after_sync (D.known self.old.log)) }
+        ensures slot_a { OnOk result (D.known self.new.slot_a ≡ option_map after_sync (D.known self.old.slot_a)) }
+        ensures slot_b { OnOk result (D.known self.new.slot_b ≡ option_map after_sync (D.known self.old.slot_b)) }
         ensures moments { IfAllKnown RunsAsBefore (each D.known self.old) (each D.known self.new) }
         ensures seen { known_reads (each D.known self.new) ≡ known_reads (each D.known self.old) }
 

@@ -1,9 +1,9 @@
 // How a store is opened.
-ghost use Rattle.std.specs.Prelude.{◌≡◌, ◌≤◌, ℕ, List, None, length, IfOk, IsErrOf, OnOk, option_map};
+ghost use Rattle.std.specs.Prelude.{◌≡◌, ◌≤◌, ℕ, List, None, length, IfOk, IsErrOf};
 ghost use Rattle.pac_ops.specs.declared.limits.TheConstants.{MAX_TXNS};
 ghost use Rattle.pac_ops.specs.declared.note.Note.{Note as ANote};
-ghost use Rattle.pac_outside.specs.Devices.{AreSettled, EndsAtOneFault, OneFaulted, RunsAsBefore, IfAllKnown, each};
-ghost use Rattle.pac_outside.specs.Disk.{IfKnown, after_sync};
+ghost use Rattle.pac_outside.specs.Devices.{AreSettled, OneFaulted, RunsAsBefore, IfAllKnown, each};
+ghost use Rattle.pac_outside.specs.Disk.{IfKnown};
 ghost use Rattle.pac_outside.specs.Parts.{known_reads};
 ghost use Rattle.pac_log.specs.declared.damage.DamageKind.{DamageKind as ALogDamage};
 ghost use Rattle.pac_check.specs.declared.damage.SlotDamageKind.{SlotDamageKind as ASlotDamage};
@@ -21,23 +21,9 @@ ghost use Rattle.pac_run.specs.Opening.{BeginsOver, IsFresh, IsOpenedFrom};
 
 use pac_engine::Engine;
 use pac_log::Log;
-use pac_outside::{Devices, Disk, Failed};
+use pac_outside::{Devices, Disk};
 use pac_recover::{Loaded, RecoverError, execute, load, test_rows};
 use std::alloc::Global;
-
-// Syncs each device. What is known of each is said of it by itself.
-fn settle<D: Disk>(devices: &mut Devices<D>) -> Result<(), Failed>
-    ensures log { OnOk result (D.known devices.new.log ≡ option_map after_sync (D.known devices.old.log)) }
-    ensures slot_a { OnOk result (D.known devices.new.slot_a ≡ option_map after_sync (D.known devices.old.slot_a)) }
-    ensures slot_b { OnOk result (D.known devices.new.slot_b ≡ option_map after_sync (D.known devices.old.slot_b)) }
-    ensures moments { IfAllKnown RunsAsBefore (each D.known devices.old) (each D.known devices.new) }
-    ensures seen { known_reads (each D.known devices.new) ≡ known_reads (each D.known devices.old) }
-    ensures once { EndsAtOneFault (each D.faults devices.old) (each D.faults devices.new) result }
-{
-    devices.log.sync()?;
-    devices.slot_a.sync()?;
-    devices.slot_b.sync()
-}
 
 // An engine over what is stored on devices, which are only read.
 fn engine_over<D: Disk>(
@@ -121,7 +107,7 @@ pub fn open<D: Disk>(
     ensures disk_fault { IsErrOf result RecoverError.DiskFault → OneFaulted (each D.faults devices.old) (each D.faults devices.new) }
     ensures quiet { ¬ IsErrOf result RecoverError.DiskFault → each D.faults devices.new ≡ each D.faults devices.old }
 {
-    match settle(devices) {
+    match devices.sync() {
         Ok(()) => engine_over(alloc, batch, limit, devices),
         Err(_) => Err(RecoverError::DiskFault),
     }

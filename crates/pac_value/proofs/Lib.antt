@@ -8,3 +8,4 @@ pub mod OffsetLemmas
 pub mod SortedLemmas
 pub mod ArithmeticLemmas
 pub mod KeyTypes
+mod RestrictedLemmas

@@ -1,12 +1,12 @@
 -- What an entry that is set or added makes of sorted entries, and where a search among them ends.
-use Rattle.std.proofs.Common.{◌≡◌, ◌<◌, ◌≤◌, ℕ, T, List, [], length, get_or, set, Option, Some, None, Result, Ok, Err, IfOk, IfErr, refl, sym, ap, subst, ◌∙◌, arith}
+use Rattle.std.proofs.Common.{◌≡◌, ℕ, T, List, [], length, get_or, set, Some, None, Result, Ok, Err, IfOk, IfErr, sym, ap, subst, ◌∙◌, arith}
 use Rattle.std.specs.List.{insert}
 use Rattle.std.specs.List.Sorted.{IsSearchInRange, IsBinarySearchResult}
 use Rattle.std.specs.Bool.{Decides}
 use Rattle.std.specs.declared.cmp.Ordering.{Ordering}
 use Rattle.std.specs.declared.cmp.Ordering.TheVariants.{Equal}
 use Rattle.std.specs.Cmp.{IsTotalOrder, tied_itself}
-use Rattle.std.specs.FinMap.{FinMap, IsAntisymmetric, get, find, put, is_sorted, entries, from_sorted, get-from_sorted, entries-from_sorted, same_map}
+use Rattle.std.specs.FinMap.{IsAntisymmetric, get, put, is_sorted, entries, from_sorted, get-from_sorted, entries-from_sorted, same_map}
 use Rattle.std.specs.FinMap as fin
 use Rattle.std.specs.FinMap.Entries.{is_sorted-put}
 use Rattle.pac_value.specs.Sorted.{IsOffsetOf, IsGapFor}

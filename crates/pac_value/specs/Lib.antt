@@ -10,4 +10,5 @@ pub mod Sorted
 pub mod State
 pub mod Literals
 pub mod Growth
+pub mod Restricted
 pub mod Forms

@@ -1,9 +1,10 @@
 // The values of variables.
-ghost use Rattle.std.specs.Prelude.{◌≡◌, T, IfOk, IfErr, OnOk, OnErr};
+ghost use Rattle.std.specs.Prelude.{◌≡◌, ◌↔◌, T, IsTrue, IfOk, IfErr, OnOk, OnErr};
 ghost use Rattle.std.specs.Option.{option_map};
 ghost use Rattle.std.specs.Ordering.{nat_cmp};
 ghost use Rattle.std.specs.FinMap as map;
 ghost use Rattle.std.specs.FinMap.{is_sorted};
+ghost use Rattle.pac_value.specs.Restricted.{HasOnly};
 ghost use Rattle.pac_value.specs.Sorted.{IsOffsetOf, IsGapFor};
 
 use crate::Value;
@@ -52,6 +53,17 @@ fn search(values: &[(u16, Value)], var: u16) -> Result<usize, usize>
     values.binary_search_by(|entry| entry.0.cmp(&var))
 }
 
+// Whether the two are the same value, or both none.
+fn is_same_value(one: Option<&Value>, other: Option<&Value>) -> bool
+    ensures { IsTrue result ↔ (option_map (λ value. value.now) one.entry ≡ option_map (λ value. value.now) other.entry) }
+{
+    match (one, other) {
+        (Some(one), Some(other)) => *one == *other,
+        (None, None) => true,
+        _ => false,
+    }
+}
+
 impl Env {
     /// No variable has a value. Takes no memory.
     pub fn new(alloc: Global) -> Self
@@ -67,6 +79,24 @@ impl Env {
         ensures { self.new ≡ map.empty }
     {
         self.values.clear();
+    }
+
+    /// Whether it has the values that another has of these variables, and no others. It takes time that grows with the number of its
+    /// values times that of the variables.
+    pub fn has_only(&self, vars: &[u16], other: &Env) -> bool
+        ensures { IsTrue result ↔ HasOnly vars.now other.now self.now }
+    {
+        for (var, _) in self.values.iter() {
+            if !vars.contains(var) {
+                return false;
+            }
+        }
+        for var in vars {
+            if !is_same_value(self.value_of(*var), other.value_of(*var)) {
+                return false;
+            }
+        }
+        true
     }
 
     /// The value of a variable. `None`: it has none.

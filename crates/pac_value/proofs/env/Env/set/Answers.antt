@@ -1,5 +1,5 @@
 -- One value is set at its variable, or added at the gap for it.
-use Rattle.std.proofs.Common.{◌≡◌, ℕ, List, T, set, ap, sym, subst, ◌∙◌}
+use Rattle.std.proofs.Common.{ℕ, List, T, set, ap, sym, subst, ◌∙◌}
 use Rattle.std.specs.Cmp.{nat_cmp_total}
 use Rattle.std.specs.Ordering.{nat_cmp}
 use Rattle.std.specs.FinMap as map

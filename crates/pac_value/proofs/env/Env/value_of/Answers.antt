@@ -1,9 +1,8 @@
 -- The variable has the value that stands at its position, or none.
-use Rattle.std.proofs.Common.{◌≡◌, ℕ, List, Some, T, ap, sym, subst, ◌∙◌}
+use Rattle.std.proofs.Common.{ℕ, List, Some, ap, sym, subst, ◌∙◌}
 use Rattle.std.specs.Cmp.{nat_cmp_total}
 use Rattle.std.specs.Ordering.{nat_cmp}
 use Rattle.std.specs.FinMap as map
-use Rattle.std.specs.FinMap.{is_sorted}
 use Rattle.pac_value.specs.declared.values.Value.{Value}
 use Rattle.pac_value.specs.Sorted.{IsOffsetOf, IsGapFor}
 use Rattle.pac_value.specs.Expressions.{Values}
