@@ -19,7 +19,7 @@ use Rattle.pac_plan.proofs.WorldLemmas.{record_uses}
 use Rattle.pac_plan.specs.declared.parts.PlanParts.{PlanParts}
 use Rattle.pac_commute.specs.Works.{given_over}
 use Rattle.pac_core.specs.Inputs.{Finds, LeavesValues, is_found, is_left}
-use Rattle.pac_core.specs.Restricted.{HasOnly}
+use Rattle.pac_value.specs.Restricted.{HasOnly}
 use Rattle.pac_core.specs.Values.{GivesTo}
 
 -- an operation of records is a record's

@@ -22,3 +22,5 @@ pub mod ValueSteps
 pub mod Finding
 pub mod CellOrder
 pub mod TouchedCells
+pub mod NextReady
+pub mod PlacedPieces

@@ -9,7 +9,7 @@ use Rattle.pac_base.proofs.TestLemmas.{eq_self, equal_number, same_number}
 use Rattle.pac_value.specs.declared.values.Value.{Value}
 use Rattle.pac_value.specs.Expressions.{Values}
 use Rattle.pac_commute.specs.Works.{given_over}
-use Rattle.pac_core.specs.Restricted.{HasOnly}
+use Rattle.pac_value.specs.Restricted.{HasOnly}
 use Rattle.pac_core.specs.Values.{GivesTo}
 
 insert-at : (env : Values) (x : ℕ) (v : Value) (y : ℕ) → get (insert env x v) y ≡ cond (y == x) (Some v) (get env y)

@@ -154,3 +154,7 @@ pub record IsCore (p : Progress) (undo : Undoable) : Type 0 where
   pub progress : KeepsProgress (job_of p undo) p
   pub tables : undo.tables ≡ length p.pieces.tables
   pub rows : undo.current ≡ (present_of (replay_of (job_of p undo) p)).tables
+
+-- the replay that a core's parts stand for
+abbrev pub core_of : Progress → Undoable → Replay
+core_of p undo = replay_of (job_of p undo) p

@@ -4,7 +4,7 @@ ghost use Rattle.pac_plan.specs.Codes.{TxnFitsPlan, code_in};
 ghost use Rattle.pac_interface.specs.Interfaces.{IsInterfaceOf};
 ghost use Rattle.pac_ops.specs.Shapes.{RecordsFit};
 ghost use Rattle.pac_plan.specs.PieceFits.{records_in};
-ghost use Rattle.pac_core.specs.Restricted.{HasOnly};
+ghost use Rattle.pac_value.specs.Restricted.{HasOnly};
 ghost use Rattle.pac_core.specs.Inputs.{Finds, LeavesValues};
 
 use crate::values::{values_of, with_outputs};
@@ -99,9 +99,12 @@ impl PlanPieces {
         match txn {
             Txn::Call(call) => {
                 let interface = self.interface(call.proc, block);
-                has_only(env, interface.inputs.as_slice(), kept)
+                env.has_only(interface.inputs.as_slice(), kept)
             }
-            Txn::AdHoc { .. } => has_only(env, &[], kept),
+            Txn::AdHoc { .. } => {
+                is_plan(self.code.plan());
+                env.has_only(&[], kept)
+            }
         }
     }
 
@@ -161,13 +164,6 @@ impl PlanPieces {
             (Txn::AdHoc { .. }, Code::Ops(_)) => false,
         }
     }
-}
-
-// To come from pac_value.
-fn has_only(env: &Env, vars: &[u16], other: &Env) -> bool
-    ensures { IsTrue result ↔ HasOnly vars.now other.now env.now }
-{
-    false
 }
 
 // To come from pac_keys.

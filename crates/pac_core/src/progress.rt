@@ -71,6 +71,7 @@ impl Progress {
         ensures same { (job : Job) → KeepsProgress job self.old → replay_of job self.new ≡ replay_of job self.old }
         ensures next { (job : Job) → KeepsProgress job self.old → IfOk result (IsNextAt job self.new) }
     {
+        let count = self.sets.len();
         let mut from = 0;
         while let Some(at) = self.sets.first_open(from) {
             self.open(at)?;

@@ -1,6 +1,6 @@
 // Values that pass between the pieces of a transaction.
 ghost use Rattle.std.specs.Prelude.{IfOk};
-ghost use Rattle.pac_core.specs.Restricted.{HasOnly};
+ghost use Rattle.pac_value.specs.Restricted.{HasOnly};
 ghost use Rattle.pac_core.specs.Values.{GivesTo};
 
 use pac_base::{Exact, NoMemory};

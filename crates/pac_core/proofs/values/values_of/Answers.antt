@@ -1,7 +1,7 @@
 -- One variable after another.
 use Rattle.std.proofs.Common.{◌≡◌, ℕ, ◌+◌, List, ◌∷◌, [], ◌++◌, get_or, take, sym, ◌∙◌, subst}
 use Rattle.std.proofs.lemmas.List.{take_more}
-use Rattle.pac_core.specs.Restricted.{HasOnly}
+use Rattle.pac_value.specs.Restricted.{HasOnly}
 use Rattle.pac_core.proofs.ValueSteps.{no_value, none_yet, one_value}
 use Rattle.pac_core.proofs.values.values_of.Goals as goal
 use Rattle.pac_core.proofs.values.values_of.Goals.{in-Some+in_ok-set, in_default}

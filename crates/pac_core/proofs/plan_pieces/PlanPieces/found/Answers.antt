@@ -9,7 +9,7 @@ use Rattle.pac_ops.specs.declared.transaction.Txn.{Txn}
 use Rattle.pac_ops.specs.declared.transaction.Txn.TheVariants.{Call as ACall}
 use Rattle.pac_plan.specs.Analysis.{IsPlan}
 use Rattle.pac_core.specs.Inputs.{Finds, is_found}
-use Rattle.pac_core.specs.Restricted.{HasOnly}
+use Rattle.pac_value.specs.Restricted.{HasOnly}
 use Rattle.pac_core.proofs.Finding.{finds_of, records_find}
 use Rattle.pac_core.proofs.plan_pieces.PlanPieces.found.Goals as goal
 
