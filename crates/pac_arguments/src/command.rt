@@ -1,5 +1,5 @@
 // What the arguments of the command line say is to be done.
-ghost use Rattle.std.specs.Prelude.{◌≡◌, ◌∷◌, [], codes, IfOk, Some, None, map, option_map};
+ghost use Rattle.std.specs.Prelude.{◌≡◌, ◌∷◌, [], codes, true, false, IfOk, Some, None, map, option_map};
 ghost use Rattle.std.specs.String.{string_bytes};
 ghost use Rattle.clap.specs.Words.{rows_of, found_of};
 ghost use Rattle.pac_arguments.specs.Found.{found_rows};
@@ -229,4 +229,9 @@ pub fn spelled_law()
     ensures count { command_of (codes "stress" ∷ codes "--workers=2" ∷ codes "8" ∷ []) ≡ Some (Command.Stress 8 2) }
     ensures missing { command_of (codes "stress" ∷ []) ≡ None }
     ensures help { command_of (codes "run" ∷ codes "--help" ∷ []) ≡ None }
+    ensures init { command_of (codes "init" ∷ []) ≡ Some Command.Init }
+    ensures more { command_of (codes "init" ∷ codes "here" ∷ []) ≡ None }
+    ensures plain { command_of (codes "explain" ∷ []) ≡ Some (Command.Explain false) }
+    ensures text { command_of (codes "explain" ∷ codes "--text" ∷ []) ≡ Some (Command.Explain true) }
+    ensures replay { command_of (codes "replay" ∷ []) ≡ Some (Command.Replay 4 1000000) }
 {}

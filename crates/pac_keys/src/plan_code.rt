@@ -1,5 +1,5 @@
 // A plan with the code of its pieces at hand.
-ghost use Rattle.std.specs.Prelude.{◌≡◌, ◌<◌, length, IfOk, slice_get, Some};
+ghost use Rattle.std.specs.Prelude.{◌≡◌, ◌↔◌, ◌<◌, length, IfOk, IsTrue, slice_get, Some};
 ghost use Rattle.pac_ops.specs.Shapes.{RecordsFit};
 ghost use Rattle.pac_plan.specs.declared.code.Code.TheVariants.{Ops, Records};
 ghost use Rattle.pac_plan.specs.Pieces.{access_of, has_ops};
@@ -9,7 +9,7 @@ ghost use Rattle.pac_keys.specs.PlanCodes.{piece_code};
 
 use crate::piece_code::{PieceCode, PieceCodes, procs_of};
 use crate::probe::all_bounded;
-use crate::records::{has_record, record_touches, records_in};
+use crate::records::{are_records_in, has_record, record_touches, records_in};
 use crate::touches::probed;
 use pac_base::{Listed, NoMemory, listed};
 use pac_ops::{Change, Txn};
@@ -94,6 +94,14 @@ impl PlanCode {
     {
         let records = records_in(alloc, &self.plan, records, block)?;
         Shared::new(alloc, Code::Records(listed(records)))
+    }
+
+    /// Whether these are the records of the block, in their order. Takes no memory.
+    pub fn are_records(&self, records: &[Change], block: u16, own: &[Change]) -> bool
+        requires { RecordsFit self.now.tables records.now }
+        ensures { IsTrue result ↔ (own.now ≡ records_in self.now block records.now) }
+    {
+        are_records_in(&self.plan, records, block, own)
     }
 
     /// Whether a transaction has a piece in a block. Takes no memory, and for an ad hoc transaction time that grows with

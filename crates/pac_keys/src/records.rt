@@ -1,11 +1,11 @@
 // The records of ad hoc transactions.
-ghost use Rattle.std.specs.Prelude.{◌≡◌, ◌<◌, IfOk, length, map};
+ghost use Rattle.std.specs.Prelude.{◌≡◌, ◌↔◌, ◌<◌, IfOk, IsTrue, length, map};
 ghost use Rattle.std.specs.List.{AllByRecursion};
 ghost use Rattle.pac_ops.specs.Shapes.{RecordsFit};
 ghost use Rattle.pac_plan.specs.PieceFits.{change_table, records_in};
 ghost use Rattle.pac_keys.specs.Records.{change_key, change_touch, has_records};
 
-use pac_base::{Exact, NoMemory};
+use pac_base::{Exact, NoMemory, Same};
 use pac_ops::Change;
 use pac_plan::{Plan, Touch};
 use pac_value::Key;
@@ -51,6 +51,23 @@ pub(crate) fn records_in(
         }
     }
     Ok(found)
+}
+
+/// Whether others are the records of a block, in their order.
+pub(crate) fn are_records_in(plan: &Plan, records: &[Change], block: u16, own: &[Change]) -> bool
+    requires { RecordsFit plan.now.tables records.now }
+    ensures { IsTrue result ↔ (own.now ≡ records_in plan.now block records.now) }
+{
+    let mut at = 0;
+    for change in records {
+        if plan.home_of(table_of(change)) == block {
+            if at == own.len() || !own[at].same(change) {
+                return false;
+            }
+            at += 1;
+        }
+    }
+    at == own.len()
 }
 
 /// Whether one of the records is of the block.

@@ -118,8 +118,8 @@ abbrev pub IsUnfinished : {P : Type 0} → List (Kept P) → ℕ → Type 0
 IsUnfinished {P} sets at = (set : SetId) × (kept : P) × (slice_get sets at ≡ Some (set, Some kept))
 
 -- this is kept of the set at an offset
-abbrev pub Keeps : {P : Type 0} → List (Kept P) → ℕ → P → Type 0
-Keeps sets at kept = (set : SetId) × (slice_get sets at ≡ Some (set, Some kept))
+abbrev pub IsKeptAt : {P : Type 0} → List (Kept P) → ℕ → P → Type 0
+IsKeptAt sets at kept = (set : SetId) × (slice_get sets at ≡ Some (set, Some kept))
 
 -- the sets with something else kept of one, or nothing
 abbrev pub with_kept_at : {P : Type 0} → List (Kept P) → ℕ → Option P → List (Kept P)

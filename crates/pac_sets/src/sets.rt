@@ -4,7 +4,7 @@ ghost use Rattle.std.specs.List.{list_all};
 ghost use Rattle.std.specs.FinMap.{is_sorted};
 ghost use Rattle.pac_value.specs.Sorted.{IsOffsetOf, IsGapFor};
 ghost use Rattle.pac_sets.specs.SetOrder.{set_cmp};
-ghost use Rattle.pac_sets.specs.Sets.{AddsSource, AreAllSources, AreFronts, AreLeft, AreSets, IsSetAt, IsFirstBelow, IsFirstOpen, IsFront, IsOpenSet, IsUnfinished, Keeps, Kept, are_done, front_or, is_earlier, is_done, is_unfinished_in, with_kept_at};
+ghost use Rattle.pac_sets.specs.Sets.{AddsSource, AreAllSources, AreFronts, AreLeft, AreSets, IsSetAt, IsFirstBelow, IsFirstOpen, IsFront, IsOpenSet, IsUnfinished, IsKeptAt, Kept, are_done, front_or, is_earlier, is_done, is_unfinished_in, with_kept_at};
 
 use crate::set_id::SetId;
 use pac_base::{Listed, NoMemory, copy_of, listed};
@@ -228,7 +228,7 @@ impl<P: Drop> Sets<P> {
     /// Something else is kept of an unfinished set. What was kept comes back.
     pub fn exchange(&mut self, at: usize, kept: P) -> P
         requires { IsUnfinished self.old.sets at }
-        ensures old { Keeps self.old.sets at result }
+        ensures old { IsKeptAt self.old.sets at result }
         ensures new { self.new ≡ record self.old { sets = with_kept_at self.old.sets at (Some kept) } }
     {
         exchange_kept(&mut self.sets, at, kept)
@@ -256,7 +256,7 @@ fn set_kept<P: Drop>(sets: &mut Vec<Kept<P>>, at: usize, kept: Option<P>)
 // From now on this is kept of an unfinished set. What was kept comes back.
 fn exchange_kept<P: Drop>(sets: &mut Vec<Kept<P>>, at: usize, kept: P) -> P
     requires { IsUnfinished sets.old.items at }
-    ensures old { Keeps sets.old.items at result }
+    ensures old { IsKeptAt sets.old.items at result }
     ensures new { sets.new.items ≡ with_kept_at sets.old.items at (Some kept) }
 {
     match mem::replace(&mut sets[at].1, Some(kept)) {

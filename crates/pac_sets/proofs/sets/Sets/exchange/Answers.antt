@@ -1,6 +1,6 @@
 -- The sets stand as they stood, and so do the fronts.
 use Rattle.std.proofs.Common.{Some, sym, ap, ◌∙◌, subst}
-use Rattle.pac_sets.specs.Sets.{Setting, IsUnfinished, Keeps, with_kept_at}
+use Rattle.pac_sets.specs.Sets.{Setting, IsUnfinished, IsKeptAt, with_kept_at}
 use Rattle.pac_sets.proofs.KeptLemmas.{holds_keep}
 use Rattle.pac_sets.proofs.sets.Sets.exchange.Goals as goal
 
@@ -14,7 +14,7 @@ invariant_of-self g c =
     holds_keep in_it.edges in_it.sources.items in_it.fronts.items in_it.sets.items c.exchange_kept.new.sets.items c.args.at c.args.kept left c.exchange_kept.ensures.new c.self.invariant
 
 pub returns-clause-old : goal.returns-clause-old
-returns-clause-old g c = subst (λ (v : Setting g.row.P.Denot). Keeps v.sets c.args.at c.exchange_kept.result) c.self.view_is c.exchange_kept.ensures.old
+returns-clause-old g c = subst (λ (v : Setting g.row.P.Denot). IsKeptAt v.sets c.args.at c.exchange_kept.result) c.self.view_is c.exchange_kept.ensures.old
 
 pub returns-clause-new : goal.returns-clause-new
 returns-clause-new g c =
