@@ -100,7 +100,7 @@ module _ (job : Job) (p : Progress) (keeps : KeepsProgress job p) where
   m = machine_of r
 
   -- a piece stands where its set does
-  pub placed_at : (q : PieceId) → Placed job p keeps q → (j : ℕ) (kept : Option Stage) → slice_get p.sets.sets j ≡ Some (set_of_piece (batches_of p) q, kept) → Placed job p keeps q
+  abbrev pub placed_at : (q : PieceId) → Placed job p keeps q → (j : ℕ) (kept : Option Stage) → slice_get p.sets.sets j ≡ Some (set_of_piece (batches_of p) q, kept) → Placed job p keeps q
   placed_at q place j kept there = record {
     k = place.k;
     i = place.i;

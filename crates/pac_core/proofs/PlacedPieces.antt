@@ -101,7 +101,7 @@ module _ (job : Job) (p : Progress) (keeps : KeepsProgress job p) (place : Place
   pub batch_there : slice_get (batches_of p) place.batch ≡ Some loaded.batch
   batch_there = at_map (λ (l : Loaded). l.batch) p.batches.items place.batch loaded at.txn.there
 
-  pub stands_at : Stands (batches_of p) piece.txn place.batch place.index
+  abbrev pub stands_at : Stands (batches_of p) piece.txn place.batch place.index
   stands_at = record { batch = loaded.batch; there = batch_there; inside = at.txn.inside; number = at.txn.number }
 
   pub loaded_there : slice_get p.batches.items id.batch ≡ Some loaded

@@ -159,17 +159,9 @@ impl PlanPieces {
         match (txn, code) {
             (Txn::Call(call), code) => self.code.code(call.proc, block).get().same(code),
             (Txn::AdHoc { records }, Code::Records(own)) => {
-                are_records(&self.code, records.items(), block, own.as_slice())
+                self.code.are_records(records.items(), block, own.as_slice())
             }
             (Txn::AdHoc { .. }, Code::Ops(_)) => false,
         }
     }
-}
-
-// To come from pac_keys.
-fn are_records(code: &PlanCode, records: &[Change], block: u16, own: &[Change]) -> bool
-    requires { RecordsFit code.now.tables records.now }
-    ensures { IsTrue result ↔ (own.now ≡ records_in code.now block records.now) }
-{
-    false
 }
