@@ -51,3 +51,10 @@ module _ (parts : PlanParts) (block : ℕ) (txn : Txn) (vars : List ℕ) (kept e
       go : (b : Bool) → is_left parts block txn x ≡ b → get env x ≡ cond b (given_over (get outs x) (get kept x)) (get kept x)
       go true e = has.own x ((are x).1 e)
       go false e = has.others x (λ c. true≢false (sym ((are x).0 c) ∙ e))
+
+  -- what finds has those alone
+  pub has_of : ((x : ℕ) → Contains vars x ↔ (is_found parts block txn x ≡ true)) → Finds parts block txn kept env → HasOnly vars kept env
+  has_of are finds = record {
+    own = λ x c. finds x ∙ ap (λ b. cond b (get kept x) None) ((are x).0 c);
+    none = λ x n. finds x ∙ ap (λ b. cond b (get kept x) None) (unlike (is_found parts block txn x) (λ t. n ((are x).1 t)));
+  }

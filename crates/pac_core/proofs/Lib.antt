@@ -24,3 +24,10 @@ pub mod CellOrder
 pub mod TouchedCells
 pub mod NextReady
 pub mod PlacedPieces
+pub mod ValuesKept
+pub mod OpeningLists
+pub mod TxnPlaces
+pub mod OutPlaces
+pub mod ReadyPlaces
+pub mod Moved
+pub mod OpenedSets

@@ -1,5 +1,5 @@
 -- What the parts of a core's calls leave.
-use Rattle.std.specs.Prelude.{◌≡◌, ◌⊎◌, ◌<◌, ◌-◌, ◌+◌, ◌==◌, if◌then◌else◌, slice_set, ℕ, T, false, List, [], ◌∷◌, ◌++◌, map, length, replicate, slice_get, Option, Some, None, sum_by, unwrap_or}
+use Rattle.std.specs.Prelude.{◌≡◌, ◌<◌, ◌-◌, ◌+◌, ◌==◌, if◌then◌else◌, slice_set, ℕ, T, false, List, [], ◌∷◌, ◌++◌, map, length, replicate, slice_get, Option, Some, None, sum_by, unwrap_or}
 use Rattle.std.specs.List.{AllByRecursion, AllZip}
 use Rattle.std.specs.FinMap.{empty, is_sorted}
 use Rattle.pac_value.specs.Expressions.{Values}
@@ -75,12 +75,18 @@ pub record StandsOpen (p : Progress) (at : ℕ) : Type 0 where
   pub opening : OpenSet
   pub there : slice_get p.sets.sets at ≡ Some (set, Some (Open opening))
 
--- the set at an offset was open, or it is opened now
-abbrev pub IsOpenedAt : Progress → ℕ → Progress → Type 0
-IsOpenedAt old at new = (new ≡ old) ⊎ ((set : SetId) × (txns : List ℕ) × (opening : OpenSet) × (loaded : Loaded)
-    × (slice_get old.sets.sets at ≡ Some (set, Some (Waiting txns))) × (slice_get old.batches.items set.batch ≡ Some loaded)
-    × IsFreshlyOpen old.pieces loaded set.block txns opening
-    × (new ≡ record old { sets = record old.sets { sets = with_kept_at old.sets.sets at (Some (Open opening)) } }))
+-- the pieces of the set at an offset, which waits, are opened so
+pub record IsOpeningOf (p : Progress) (at : ℕ) (opening : OpenSet) : Type 0 where
+  pub set : SetId
+  pub txns : List ℕ
+  pub loaded : Loaded
+  pub there : slice_get p.sets.sets at ≡ Some (set, Some (Waiting txns))
+  pub loaded_there : slice_get p.batches.items set.batch ≡ Some loaded
+  pub fresh : IsFreshlyOpen p.pieces loaded set.block txns opening
+
+-- the set at an offset is open now
+abbrev pub opened_at : Progress → ℕ → OpenSet → Progress
+opened_at p at opening = record p { sets = record p.sets { sets = with_kept_at p.sets.sets at (Some (Open opening)) } }
 
 -- ---- what comes next
 

@@ -1,8 +1,10 @@
 // How pieces move: out, back, and finished.
-ghost use Rattle.std.specs.Prelude.{◌≡◌, ◌↔◌, ◌<◌, IsTrue, length};
+ghost use Rattle.std.specs.Prelude.{◌≡◌, ◌↔◌, ◌<◌, IsTrue, T, length};
+ghost use Rattle.std.specs.FinMap.{is_sorted};
 ghost use Rattle.pac_ops.specs.Notes.{least};
 ghost use Rattle.pac_sched.specs.declared.state.PieceState.TheVariants.{Finished, Waiting as StillWaiting};
 ghost use Rattle.pac_sched.specs.Schedules.{after_take, with_state};
+ghost use Rattle.pac_sets.specs.SetOrder.{set_cmp};
 ghost use Rattle.pac_sets.specs.Sets.{IsOpenSet};
 ghost use Rattle.pac_core.specs.Links.{IsUnfinishedBatch};
 ghost use Rattle.pac_core.specs.Moves.{AreInBlocks, AreValuesKept, HasValuesAt, IsFinishedAt, IsLifted, IsMovedTo, IsOrderAfter, IsPieceOut, IsSetEnded, IsSetUnfinished, MayFinish, StandsOpen, WasOpen, keeps_none, keeps_now_at};
@@ -65,6 +67,7 @@ impl Progress {
     fn end_set(&mut self, at: usize, batch: usize)
         requires open { IsOpenSet self.old.sets.edges self.old.sets.sets at }
         requires blocks { AreInBlocks self.old }
+        requires ascend { T (is_sorted set_cmp self.old.sets.sets) }
         requires batch { batch < length self.old.batches.items }
         ensures { IsSetEnded self.old at self.new }
     {
@@ -89,7 +92,8 @@ impl Progress {
 
     // Whether a set of the batch isn't finished.
     fn is_left(&self, batch: usize) -> bool
-        requires { AreInBlocks self.now }
+        requires blocks { AreInBlocks self.now }
+        requires ascend { T (is_sorted set_cmp self.now.sets.sets) }
         ensures { IsTrue result ↔ IsUnfinishedBatch self.now.sets.sets batch }
     {
         for block in 0..self.pieces.code().plan().blocks() {
@@ -105,6 +109,7 @@ impl Progress {
 
     // Whether a set isn't finished.
     fn is_unfinished(&self, set: SetId) -> bool
+        requires { T (is_sorted set_cmp self.now.sets.sets) }
         ensures { IsTrue result ↔ IsSetUnfinished self.now.sets.sets set }
     {
         match self.sets.find(set) {

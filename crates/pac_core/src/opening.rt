@@ -40,6 +40,7 @@ pub(crate) fn open_set(
     requires inputs { HasAllInputs plan.now loaded.now block }
     ensures { IfOk result (IsFreshlyOpen plan.now loaded.now block txns.now) }
 {
+    let _few = loaded.batch.txns.items();
     let mut accesses = Vec::with_capacity(alloc, txns.len())?;
     let mut cells = Vec::with_capacity(alloc, txns.len())?;
     let mut pieces = Vec::with_capacity(alloc, txns.len())?;

@@ -92,14 +92,14 @@ impl Progress {
         let (set, _) = self.sets.get(at);
         let batch = set.batch as usize;
         let index = (piece.txn - self.batches[batch].batch.first) as usize;
-        let Some(position) = self.open_at(at).sched.position(piece) else {
-            unreachable!()
-        };
-        Place {
-            at,
-            position,
-            batch,
-            index,
+        match self.open_at(at).sched.position(piece) {
+            Some(position) => Place {
+                at,
+                position,
+                batch,
+                index,
+            },
+            None => unreachable!(),
         }
     }
 

@@ -3,12 +3,12 @@ ghost use Rattle.std.specs.Prelude.{◌≡◌, IfOk, IfNone, IfSome, OnOk};
 ghost use Rattle.pac_commute.specs.Loads.{Job};
 ghost use Rattle.pac_sets.specs.Sets.{IsOpenSet};
 ghost use Rattle.pac_core.specs.Links.{IsKept, KeepsProgress, replay_of};
-ghost use Rattle.pac_core.specs.Moves.{HasNoneReady, IsNextAt, IsOpenedAt, IsOpening, IsReadyAtOffset, StandsOpen};
+ghost use Rattle.pac_core.specs.Moves.{HasNoneReady, IsNextAt, IsOpening, IsOpeningOf, IsReadyAtOffset, StandsOpen};
 
 use crate::loaded::Loaded;
 use crate::opening::open_set;
 use crate::plan_pieces::PlanPieces;
-use crate::stage::Stage;
+use crate::stage::{OpenSet, Stage};
 use pac_base::NoMemory;
 use pac_ops::{Note, PieceId};
 use pac_plan::Plan;
@@ -90,15 +90,39 @@ impl Progress {
         ensures keeps { (job : Job) → KeepsProgress job self.old → KeepsProgress job self.new }
         ensures same { (job : Job) → KeepsProgress job self.old → replay_of job self.new ≡ replay_of job self.old }
         ensures open { OnOk result (StandsOpen self.new at) }
-        ensures sets { IsOpenedAt self.old at self.new }
     {
-        let (set, stage) = self.sets.get(at);
-        if let Some(Stage::Waiting(txns)) = stage {
-            let loaded = &self.batches[set.batch as usize];
-            let open = open_set(self.alloc, &self.pieces, loaded, set.block, txns.as_slice())?;
-            self.sets.keep(at, Stage::Open(open));
+        match self.opening_of(at)? {
+            Some(open) => {
+                self.sets.keep(at, Stage::Open(open));
+                Ok(())
+            }
+            None => Ok(()),
         }
-        Ok(())
+    }
+
+    // The pieces of a set once they are opened. `None`: they are.
+    fn opening_of(&self, at: usize) -> Result<Option<OpenSet>, NoMemory>
+        requires keeps { IsKept self.now }
+        requires open { IsOpenSet self.now.sets.edges self.now.sets.sets at }
+        ensures waiting { IfOk result (λ opening. IfSome opening (IsOpeningOf self.now at)) }
+        ensures opened { IfOk result (λ opening. IfNone opening (StandsOpen self.now at)) }
+    {
+        let (set, kept) = self.sets.get(at);
+        let Some(stage) = kept else { unreachable!() };
+        match stage {
+            Stage::Waiting(txns) => {
+                let loaded = &self.batches[set.batch as usize];
+                let open = open_set(
+                    self.alloc,
+                    &self.pieces,
+                    loaded,
+                    set.block,
+                    txns.as_slice(),
+                )?;
+                Ok(Some(open))
+            }
+            Stage::Open(_) => Ok(None),
+        }
     }
 
     // The first ready piece of an open set.
