@@ -23,7 +23,7 @@ module _ (exists : ℕ → ℕ → Bool) where
   add_sums f g [] = refl
   add_sums f g (x ∷ xs) = let e = add_sums f g xs in omega (arith, e)
 
-  sums_alike : (f g : ℕ → ℕ) (xs : List ℕ) → ((x : ℕ) → f x ≡ g x) → sums f xs ≡ sums g xs
+  pub sums_alike : (f g : ℕ → ℕ) (xs : List ℕ) → ((x : ℕ) → f x ≡ g x) → sums f xs ≡ sums g xs
   sums_alike f g [] same = refl
   sums_alike f g (x ∷ xs) same = ap₂ (λ a b. a + b) (same x) (sums_alike f g xs same)
 

@@ -249,7 +249,7 @@ module _ (job : Job) (p : Progress) (keeps : KeepsProgress job p) (batch : Batch
   finished_there : (q : PieceId) → Mem q r'.finished → Mem q (loaded_pieces r')
   finished_there q mem = (facts.there q (filter_of (λ q. is_finished (mark_in bs p.sets.sets q)) (loaded_pieces r) q mem).0).1
 
-  present_now : now ≡ present_of r'
+  pub present_now : now ≡ present_of r'
   present_now = present_is r' r.out r.finished now stepped (λ q mem. refl) finished_there (λ q mem. steps.mem_among r.out q mem)
 
   invariant_now : Invariant job (machine_of r')

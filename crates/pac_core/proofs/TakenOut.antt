@@ -96,7 +96,7 @@ module _ (job : Job) (p : Progress) (keeps : KeepsProgress job p) (at : ℕ) (id
   invariant_now : Invariant job (machine_of (with_out r piece))
   invariant_now = invariant_is (with_out r piece) (piece ∷ r.out) r.finished m.now stepped (λ q mem. refl) (λ q mem. (filter_of _ (loaded_pieces r) q mem).0) out_among
 
-  present_now : m.now ≡ present_of (with_out r piece)
+  pub present_now : m.now ≡ present_of (with_out r piece)
   present_now = present_is (with_out r piece) (piece ∷ r.out) r.finished m.now stepped (λ q mem. refl) (λ q mem. (filter_of _ (loaded_pieces r) q mem).0) out_among
 
   opened_still : (s : SetId) (ts : List ℕ) (o : OpenSet) → IsOpened r p.sets.sets s ts o → IsOpened (with_out r piece) new.sets.sets s ts o
