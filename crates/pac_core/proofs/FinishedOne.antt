@@ -50,7 +50,7 @@ use Rattle.pac_core.specs.Inputs.{LeavesValues, is_found, is_left}
 use Rattle.pac_core.specs.Links.{AreStages, IsOpened, piece_in, set_ids, set_of_piece, IsStageOf, IsUnfinishedBatch, KeepsBatch, KeepsInputs, KeepsProgress, KeepsValues, batches_of, mark, mark_in, marked, replay_of}
 use Rattle.pac_core.specs.Moves.{IsFinishedTo, after_finish}
 use Rattle.pac_core.specs.Replay.{Replay, left, loaded_pieces, machine_of, present_of, with_finished}
-use Rattle.pac_core.proofs.PieceValue.{IsGiven}
+use Rattle.pac_core.specs.Results.{IsGiven}
 use Rattle.pac_core.proofs.Alike.{invariant_is, present_is}
 use Rattle.pac_core.proofs.KeptAt.{equal_or_not, get_changed, get_other, ids_stay, kept_changed, kept_stays, passes_still, still_up}
 use Rattle.pac_core.proofs.Lists.{at_map, at_mem, filter_alike, filter_of, mem_at, set_other, set_same}
@@ -99,7 +99,7 @@ all_are (x ∷ xs) all zero s e = sym (same_Some x s e) ∙ finished x (and_left
 all_are (x ∷ xs) all (suc j) s e = all_are xs (and_right (is_finished x) (list_all is_finished xs) all) j s e
 
 -- what was out and isn't the one is out still
-out_but : (p : PieceId) (out : List PieceId) (q : PieceId) → among out q ≡ true → is_piece p q ≡ false → among (all_but p out) q ≡ true
+pub out_but : (p : PieceId) (out : List PieceId) (q : PieceId) → among out q ≡ true → is_piece p q ≡ false → among (all_but p out) q ≡ true
 out_but p [] q e differ = e
 out_but p (o ∷ os) q e differ = go (is_piece p o) refl (or_cases (is_piece o q) (among os q) e) (λ more. out_but p os q more differ)
   where

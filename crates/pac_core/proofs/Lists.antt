@@ -89,3 +89,9 @@ set_other (z ∷ zs) zero zero y differ = absurd (differ refl)
 set_other (z ∷ zs) zero (suc j) y differ = refl
 set_other (z ∷ zs) (suc i) zero y differ = refl
 set_other (z ∷ zs) (suc i) (suc j) y differ = set_other zs i j y (λ e. differ (ap suc e))
+
+-- what stands in what stands at an offset is one
+pub same_item : {A B : Type 0} (xs : List A) (i : ℕ) (within : A → List B) (j : ℕ) (one other : B) → (a : A) × (slice_get xs i ≡ Some a) × (slice_get (within a) j ≡ Some one)
+    → (b : A) × (slice_get xs i ≡ Some b) × (slice_get (within b) j ≡ Some other) → one ≡ other
+same_item xs i within j one other first second =
+    same_Some one other (sym first.2 ∙ ap (λ x. slice_get (within x) j) (same_Some first.0 second.0 (sym first.1 ∙ second.1)) ∙ second.2)

@@ -61,7 +61,7 @@ filter_append f (x ∷ xs) ys = go (f x) (filter_append f xs ys)
     go true e = ap (λ l. x ∷ l) e
     go false e = e
 
-filter_none : {A : Type 0} (f : A → Bool) (xs : List A) → ((x : A) → Mem x xs → f x ≡ false) → filter f xs ≡ []
+pub filter_none : {A : Type 0} (f : A → Bool) (xs : List A) → ((x : A) → Mem x xs → f x ≡ false) → filter f xs ≡ []
 filter_none f [] none = refl
 filter_none f (x ∷ xs) none = ap (λ b. cond b (x ∷ filter f xs) (filter f xs)) (none x (inl refl)) ∙ filter_none f xs (λ y m. none y (inr m))
 

@@ -9,7 +9,8 @@ use Rattle.pac_ops.specs.declared.transaction.Txn.{Txn}
 use Rattle.pac_plan.specs.declared.access.Access.{Access}
 use Rattle.pac_plan.specs.declared.parts.PlanParts.{PlanParts}
 use Rattle.pac_batch.specs.NextLists.{AreNextPairs}
-use Rattle.pac_batch.specs.Sets.{set_of}
+use Rattle.pac_plan.specs.Worlds.{txn_at}
+use Rattle.pac_batch.specs.Sets.{has_piece, set_of}
 use Rattle.pac_sched.specs.Schedules.{ArePairsBelow}
 use Rattle.pac_core.specs.declared.cells.PieceCells.{PieceCells}
 use Rattle.pac_core.specs.Cells.{AreOf, HasCellsOf}
@@ -61,7 +62,7 @@ module _ (parts : PlanParts) (first : ℕ) (txns : List Txn) (block : ℕ) (ts :
   -- they are no more than the batch has
   pub set_fewer : length ts ≤ length txns
   set_fewer =
-      let le = filter_fewer _ (range_with_len first (length txns)) in
+      let le = filter_fewer (λ t. has_piece parts block (txn_at first txns t)) (range_with_len first (length txns)) in
       let len = range_len first (length txns) in
       let same : length ts ≡ length (set_of parts first txns block).txns = ap length are in
       omega (arith, le, len, same)

@@ -67,7 +67,7 @@ module _ (job : Job) (p : Progress) (keeps : KeepsProgress job p) (piece : Piece
         let other = batch_at job.parts job.first (batches_of p) keeps.machine.run_on piece.txn b i s in
         omega (arith, own, other)
 
-    set_same : (q : Placed job p keeps piece) → record { batch = q.k; block = piece.block } ≡ record { batch = b; block = piece.block }
+    set_same : (q : Placed job p keeps piece) → ◌≡◌ {A = SetId} (record { batch = q.k; block = piece.block }) (record { batch = b; block = piece.block })
     set_same q = λ k. record { batch = batch_same q k; block = piece.block }
 
     pub no_set_out : ((at : ℕ) → IsSetAt p.sets.sets (record { batch = b; block = piece.block }) at → ⊥) → among r.out piece ≡ false

@@ -52,6 +52,7 @@ use Rattle.pac_commute.proofs.PlanFacts.{well_formed_plan}
 use Rattle.pac_commute.proofs.Steps.{outs_have_inputs}
 use Rattle.pac_commute.proofs.WorkLemmas.{fresh_law, get-with_value, work_is_apply}
 use Rattle.pac_core.specs.Inputs.{Finds}
+use Rattle.pac_core.specs.Results.{IsGiven}
 use Rattle.pac_core.proofs.Unnumbered.{code_changes, code_gives, record_named}
 
 -- ---- values that are given
@@ -169,14 +170,6 @@ written_same (v ∷ vs) a one other e =
     go false h rest = rest (⊎_elim (λ k. absurd (true≢false (sym k ∙ h))) (λ k. k) (or_cases (eq_by_cmp cell_cmp a (cell_written v)) (is_written vs a) e))
 
 -- ---- the value is the piece applied
-
--- what the value of code makes of a state
-pub record IsGiven (p : PieceId) (os : List NumberedOp) (writes : List Write) (outs : Values) (note : Option Note) (before after : Present) : Type 0 where
-  pub tables : after.tables ≡ written before.tables writes
-  pub own : (x : ℕ) → get (after.envs p.txn) x ≡ given_over (get outs x) (get (before.envs p.txn) x)
-  pub others : (u x : ℕ) → (u ≡ p.txn → ⊥) → get (after.envs u) x ≡ get (before.envs u) x
-  pub note_is : after.note ≡ least before.note note
-  pub defined : (x : ℕ) (v : Value) → get outs x ≡ Some v → defined_in os x ≡ true
 
 module _ (job : Job) (is_plan : IsPlan job.parts) (m : Machine) (inv : Invariant job m) (p : PieceId) (preds : PredsFinished job m p) (unfinished : among m.finished p ≡ false)
     (txn : Txn) (there : txn_at job.first (txns_of m.batches) p.txn ≡ Some txn) (fits : TxnFitsPlan job.parts txn)

@@ -1,5 +1,5 @@
 -- What the calls of a core answer, and what each makes of the replay.
-use Rattle.std.specs.Prelude.{◌≡◌, ◌≢◌, ℕ, Bool, true, false, [], length, Option, Some, None}
+use Rattle.std.specs.Prelude.{◌≡◌, ◌≢◌, ◌<◌, ℕ, Bool, true, false, [], length, Option, Some, None}
 use Rattle.pac_value.specs.State.{Tables}
 use Rattle.pac_ops.specs.declared.batch.Batch.{Batch}
 use Rattle.pac_ops.specs.declared.note.Note.{Note}
@@ -39,6 +39,10 @@ IsTaken old (Ran piece) new = IsNext old (Some piece) × (access_in old piece �
 IsTaken old NotReady new = IsNext old None × (IsDone old → ⊥) × (new ≡ old)
 IsTaken old Done new = IsDone old × (new ≡ old)
 
+-- work of a piece whose access is of keys: as the replay has it, and may be run
+abbrev pub IsGivenWork : Replay → PieceId → Work → Type 0
+IsGivenWork r piece work = (work.piece ≡ piece) × (access_in r piece ≢ Whole) × IsWorkIn r work × IsRunnable work
+
 -- work is of a piece that is out, and as the replay has it
 abbrev pub IsOwn : Replay → Work → Type 0
 IsOwn r work = (among r.out work.piece ≡ true) × IsWorkIn r work
@@ -52,6 +56,17 @@ IsHandedIn old done (finish.NoMemory back) new = IsOwn old done.work × (back �
 -- own work that is given back: its piece is out no more
 abbrev pub IsGivenBack : Replay → Work → Replay → Type 0
 IsGivenBack old work new = (IsOwn old work → new ≡ without_out old work.piece) × ((IsOwn old work → ⊥) → new ≡ old)
+
+-- where none is out, one is ready while any is left
+abbrev pub HasReady : Replay → Type 0
+HasReady r = r.out ≡ [] → 0 < left r → IsNext r None → ⊥
+
+-- the same is loaded, and no piece is out
+pub record IsDrained (old new : Replay) : Type 0 where
+  pub job : new.job ≡ old.job
+  pub batches : new.batches ≡ old.batches
+  pub closed : new.is_closed ≡ old.is_closed
+  pub none : new.out ≡ []
 
 -- the tables and the note of a replay that is done are those of executing its transactions one after another
 pub record IsOutcome (r : Replay) (tables : Tables) (note : Option Note) : Type 0 where

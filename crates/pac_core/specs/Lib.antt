@@ -7,3 +7,4 @@ pub mod Links
 pub mod Places
 pub mod Moves
 pub mod Calls
+pub mod Results

@@ -19,7 +19,7 @@ use Rattle.pac_batch.specs.NextLists.{AreNextPairs}
 use Rattle.pac_batch.specs.Sets.{sets_of}
 use Rattle.pac_sched.specs.declared.state.PieceState.TheVariants as state
 use Rattle.pac_sched.specs.declared.state.Pick.TheVariants.{Piece}
-use Rattle.pac_sched.specs.Schedules.{IsInOrder, Schedule, all_finished, pick, state_of_piece, with_state}
+use Rattle.pac_sched.specs.Schedules.{IsInOrder, Schedule, all_finished, pick, reclaimed, state_of_piece, with_state}
 use Rattle.pac_sets.specs.declared.set_id.SetId.{SetId}
 use Rattle.pac_sets.specs.SetOrder.{set_cmp}
 use Rattle.pac_sets.specs.Sets.{IsOpenSet, Kept, with_kept_at}
@@ -247,3 +247,24 @@ pub record IsAlike (p new : Progress) : Type 0 where
   pub next : new.next ≡ p.next
   pub unfinished : new.unfinished ≡ p.unfinished
   pub closed : new.is_closed ≡ p.is_closed
+
+-- ---- pieces that are out wait again
+
+-- none of the pieces that are opened is out any more
+abbrev pub reclaimed_stage : Stage → Stage
+reclaimed_stage (Waiting txns) = Waiting txns
+reclaimed_stage (Open opening) = Open (record { sched = reclaimed opening.sched; cells = opening.cells })
+
+-- of what is kept of a set
+abbrev pub reclaimed_kept : Option Stage → Option Stage
+reclaimed_kept None = None
+reclaimed_kept (Some stage) = Some (reclaimed_stage stage)
+
+-- of all sets
+abbrev pub reclaimed_sets : List (Kept Stage) → List (Kept Stage)
+reclaimed_sets sets = map (λ (set : Kept Stage). (set.0, reclaimed_kept set.1)) sets
+
+-- of the set at an offset
+abbrev pub IsReclaimedAt : Progress → ℕ → Progress → Type 0
+IsReclaimedAt p at new = (set : SetId) (kept : Option Stage) → slice_get p.sets.sets at ≡ Some (set, kept)
+    → new ≡ record p { sets = record p.sets { sets = with_kept_at p.sets.sets at (reclaimed_kept kept) } }

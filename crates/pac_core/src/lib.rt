@@ -3,6 +3,7 @@
 
 mod answers;
 mod cells;
+mod events;
 mod loaded;
 mod loading;
 mod moves;
@@ -10,6 +11,11 @@ mod opening;
 mod place;
 mod plan_pieces;
 mod progress;
+mod reclaiming;
+mod replay;
 mod stage;
 mod values;
 mod work;
+
+pub use answers::{Finish, Outcome, Take};
+pub use replay::Core;

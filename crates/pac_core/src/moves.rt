@@ -77,8 +77,8 @@ impl Progress {
         }
     }
 
-    // The open set at an offset, to be changed. One without pieces stands there meanwhile.
-    fn lift(&mut self, at: usize) -> OpenSet
+    /// The open set at an offset, to be changed. One without pieces stands there meanwhile.
+    pub fn lift(&mut self, at: usize) -> OpenSet
         requires { StandsOpen self.old at }
         ensures was { WasOpen self.old at result }
         ensures now { IsLifted self.old at self.new }

@@ -87,7 +87,8 @@ impl Progress {
     pub fn place_of_ready(&self, at: usize, piece: PieceId) -> Place
         requires kept { IsKept self.now }
         requires ready { IsReadyAtOffset self.now at piece }
-        ensures { IsPlaced self.now result piece Waiting }
+        ensures placed { IsPlaced self.now result piece Waiting }
+        ensures at { result.at ≡ at }
     {
         let (set, _) = self.sets.get(at);
         let batch = set.batch as usize;

@@ -1,5 +1,5 @@
 // How far a replay is: its batches and sets, and the values that are kept.
-ghost use Rattle.std.specs.Prelude.{◌≡◌, IfOk, IfNone, IfSome, OnOk};
+ghost use Rattle.std.specs.Prelude.{◌≡◌, ◌↔◌, true, IfOk, IfNone, IfSome, IsTrue, OnOk};
 ghost use Rattle.pac_commute.specs.Loads.{Job};
 ghost use Rattle.pac_sets.specs.Sets.{IsOpenSet};
 ghost use Rattle.pac_core.specs.Links.{IsKept, KeepsProgress, replay_of};
@@ -92,8 +92,8 @@ impl Progress {
         ensures open { OnOk result (StandsOpen self.new at) }
     {
         match self.opening_of(at)? {
-            Some(open) => {
-                self.sets.keep(at, Stage::Open(open));
+            Some(opening) => {
+                self.sets.keep(at, Stage::Open(opening));
                 Ok(())
             }
             None => Ok(()),
@@ -112,14 +112,14 @@ impl Progress {
         match stage {
             Stage::Waiting(txns) => {
                 let loaded = &self.batches[set.batch as usize];
-                let open = open_set(
+                let opening = open_set(
                     self.alloc,
                     &self.pieces,
                     loaded,
                     set.block,
                     txns.as_slice(),
                 )?;
-                Ok(Some(open))
+                Ok(Some(opening))
             }
             Stage::Open(_) => Ok(None),
         }
@@ -140,5 +140,12 @@ impl Progress {
             Pick::Piece(piece) => Some(piece),
             Pick::NotReady | Pick::Done => None,
         }
+    }
+
+    /// Whether no more batches come and each piece is finished. Takes no memory.
+    pub fn is_done(&self) -> bool
+        ensures { IsTrue result ↔ ((self.now.is_closed ≡ true) × (self.now.unfinished ≡ 0)) }
+    {
+        self.is_closed && self.unfinished == 0
     }
 }

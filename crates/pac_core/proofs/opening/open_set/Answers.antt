@@ -55,8 +55,8 @@ queue_preds-requires c =
     let all : take i txns ≡ txns = take_all i txns c.loop-txn-test.false in
     let len : length c.deref.result.now ≡ length txns = ap length (c.deref.ensures.value ∙ c.loop-txn.invariant.accesses) ∙ length-map (take i txns) _ ∙ ap length all in
     let fewer = set_fewer c.args.plan.now c.args.loaded.now.batch.first c.args.loaded.now.batch.txns c.args.block txns c.requires.txns in
-    let most = c.items-_few.ensures.rule.1 in
-    let same : length c.items-_few.result.now ≡ length c.args.loaded.now.batch.txns = ap length c.items-_few.ensures.value in
+    let most = c.items-few.ensures.rule.1 in
+    let same : length c.items-few.result.now ≡ length c.args.loaded.now.batch.txns = ap length c.items-few.ensures.value in
     omega (arith, len, fewer, most, same)
 
 pub open_set-requires-clause-distinct : goal.open_set-requires-clause-distinct

@@ -40,8 +40,8 @@ unreachable-requires c =
     let at = position_there c.requires.kept.job p c.requires.kept.keeps c.args.at c.args.piece ready in
     none-some at.0 (sym c.in-None.is ∙ c.position.ensures ∙ ap (λ (x : OpenSet). position_of x.sched c.args.piece) o ∙ at.1)
 
-pub returns : goal.returns
-returns c =
+pub returns-clause-placed : goal.returns-clause-placed
+returns-clause-placed c =
     let p = c.args.self.now in
     let ready = c.requires.ready in
     let o : c.open_at.result.now ≡ ready.stands.opening = same_open p c.args.at ready.stands.set ready.stands.opening c.open_at.result.now ready.stands.there c.open_at.ensures in
