@@ -1,5 +1,5 @@
 -- What the calls of a core answer, and what each makes of the replay.
-use Rattle.std.specs.Prelude.{◌≡◌, ◌≢◌, ◌<◌, ℕ, Bool, true, false, [], length, Option, Some, None}
+use Rattle.std.specs.Prelude.{◌≡◌, ◌≢◌, ◌<◌, ◌+◌, ◌^◌, ⊤, ℕ, Bool, true, false, List, [], ◌∷◌, length, Option, Some, None}
 use Rattle.pac_value.specs.State.{Tables}
 use Rattle.pac_ops.specs.declared.batch.Batch.{Batch}
 use Rattle.pac_ops.specs.declared.note.Note.{Note}
@@ -7,6 +7,7 @@ use Rattle.pac_ops.specs.declared.piece.PieceId.{PieceId}
 use Rattle.pac_ops.specs.Notes.{first_note}
 use Rattle.pac_ops.specs.Transactions.{replayed}
 use Rattle.pac_plan.specs.declared.access.Access.TheVariants.{Whole}
+use Rattle.pac_plan.specs.declared.parts.PlanParts.{PlanParts}
 use Rattle.pac_piece.specs.declared.work.Work.{Work}
 use Rattle.pac_piece.specs.Results.{WorkDone}
 use Rattle.pac_piece.specs.Runnable.{IsRunnable}
@@ -18,7 +19,7 @@ use Rattle.pac_core.specs.declared.answers.Take.{Take}
 use Rattle.pac_core.specs.declared.answers.Take.TheVariants.{Given, Ran, NotReady, Done}
 use Rattle.pac_core.specs.declared.answers.Finish.{Finish}
 use Rattle.pac_core.specs.declared.answers.Finish.TheVariants as finish
-use Rattle.pac_core.specs.Replay.{Replay, left, present_of, with_finished, with_out, without_out}
+use Rattle.pac_core.specs.Replay.{Replay, left, present_of, with_batch, with_finished, with_out, without_out}
 use Rattle.pac_core.specs.Takes.{IsNext, IsWorkIn, access_in}
 
 -- a batch may be loaded: more may come, its numbers run on, and its transactions fit the plan
@@ -72,3 +73,22 @@ pub record IsDrained (old new : Replay) : Type 0 where
 pub record IsOutcome (r : Replay) (tables : Tables) (note : Option Note) : Type 0 where
   pub tables_are : tables ≡ (replayed r.job.parts.programs r.job.first (txns_of r.batches) r.job.tables).tables
   pub note_is : note ≡ first_note (replayed r.job.parts.programs r.job.first (txns_of r.batches) r.job.tables).notes
+
+-- this tells the job of a replay and what is loaded: the plan, the number of the first transaction, how many tables there are and their rows at the
+-- opening, and the batches
+pub record IsJobOf (r : Replay) (parts : PlanParts) (first tables : ℕ) (held : Tables) (batches : List Batch) : Type 0 where
+  pub parts_are : parts ≡ r.job.parts
+  pub first_is : first ≡ r.job.first
+  pub tables_are : tables ≡ length r.job.parts.tables
+  pub held_is : held ≡ r.job.tables
+  pub batches_are : batches ≡ r.batches
+
+-- so may batches be loaded one after another, where each number fits
+abbrev pub MayLoadAll : Replay → List Batch → Type 0
+MayLoadAll r [] = ⊤
+MayLoadAll r (batch ∷ batches) = MayLoad r batch × (batch.first + length batch.txns < 2 ^ 64) × MayLoadAll (with_batch r batch) batches
+
+-- they are loaded one after another
+abbrev pub with_batches : Replay → List Batch → Replay
+with_batches r [] = r
+with_batches r (batch ∷ batches) = with_batches (with_batch r batch) batches

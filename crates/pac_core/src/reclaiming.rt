@@ -40,4 +40,25 @@ impl Progress {
             Stage::Waiting(_) => false,
         }
     }
+
+    /// How many pairs are kept of the sets that are opened, or the greatest `u64`. Takes no memory.
+    pub fn pairs(&self) -> u64 {
+        let mut pairs: u64 = 0;
+        for at in 0..self.sets.len() {
+            pairs = pairs.saturating_add(self.pairs_at(at));
+        }
+        pairs
+    }
+
+    // How many pairs are kept of the set at an offset.
+    fn pairs_at(&self, at: usize) -> u64
+        requires { at < length self.now.sets.sets }
+    {
+        let (_, kept) = self.sets.get(at);
+        let Some(stage) = kept else { return 0 };
+        match stage {
+            Stage::Open(open) => open.sched.pairs() as u64,
+            Stage::Waiting(_) => 0,
+        }
+    }
 }

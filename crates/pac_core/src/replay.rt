@@ -3,13 +3,14 @@ ghost use Rattle.std.specs.Prelude.{◌≡◌, ◌↔◌, ◌<◌, ◌+◌, ◌^
 ghost use Rattle.pac_ops.specs.Shapes.{RowsFit};
 ghost use Rattle.pac_piece.specs.Runnable.{IsRunnable};
 ghost use Rattle.pac_commute.specs.Loads.{next_in_job};
-ghost use Rattle.pac_core.specs.Calls.{HasReady, IsDone, IsDrained, IsGivenBack, IsHandedIn, IsOutcome, IsOwn, IsTaken, MayLoad};
+ghost use Rattle.pac_core.specs.Calls.{HasReady, IsDone, IsDrained, IsGivenBack, IsHandedIn, IsJobOf, IsOutcome, IsOwn, IsTaken, MayLoad, MayLoadAll, with_batches};
 ghost use Rattle.pac_core.specs.Replay.{closed, left, opening_replay, with_batch, with_finished, with_none_out, without_out};
 
 use crate::answers::{Finish, Outcome, Take};
 use crate::events::{give_back, hand_in, take_next};
+use crate::job::{Job, batch_copies};
 use crate::progress::Progress;
-use pac_base::NoMemory;
+use pac_base::{Exact, NoMemory, listed};
 use pac_ops::Batch;
 use pac_piece::{Done, Work, run};
 use pac_plan::{Plan, is_plan};
@@ -217,6 +218,70 @@ impl<R: Rows> Core<R> {
                 Err(refused)
             }
         }
+    }
+
+    /// A copy of what tells the core's job.
+    ///
+    /// # Errors
+    ///
+    /// [`NoMemory`] where it finds no room.
+    pub fn job(&self) -> Result<Job<R>, NoMemory>
+        ensures { IfOk result (λ job. IsJobOf self.now job.plan job.first (R.tables job.opening) (R.held job.opening) job.batches) }
+    {
+        let alloc = self.progress.alloc;
+        let plan = self.progress.pieces.code().plan().copy(alloc)?;
+        let opening = self.rows.opening()?;
+        let batches = listed(batch_copies(alloc, &self.progress.batches)?);
+        Ok(Job {
+            plan,
+            first: self.progress.first,
+            opening,
+            batches,
+        })
+    }
+
+    /// A closed core in its opening state, with the batches of a job loaded.
+    ///
+    /// # Errors
+    ///
+    /// [`NoMemory`] where they, or copies of them, find no room.
+    pub fn from_job(alloc: Global, job: Job<R>) -> Result<Core<R>, NoMemory>
+        requires tables { R.tables job.opening ≡ length job.plan.tables }
+        requires fit { RowsFit job.plan.tables (R.held job.opening) }
+        requires may { MayLoadAll (opening_replay (record { parts = job.plan; first = job.first; tables = R.held job.opening })) job.batches }
+        ensures { IfOk result (λ core. core ≡ closed (with_batches (opening_replay (record { parts = job.plan; first = job.first; tables = R.held job.opening })) job.batches)) }
+    {
+        let Job {
+            plan,
+            first,
+            opening,
+            batches,
+        } = job;
+        let mut core = Core::new(alloc, plan, first, opening)?;
+        core.load_all(batches.as_slice())?;
+        core.close();
+        Ok(core)
+    }
+
+    // Loads copies of batches one after another.
+    fn load_all(&mut self, batches: &[Batch]) -> Result<(), NoMemory>
+        requires { MayLoadAll self.old batches.now }
+        ensures { OnOk result (self.new ≡ with_batches self.old batches.now) }
+    {
+        let alloc = self.progress.alloc;
+        for batch in batches {
+            let batch = batch.copy(alloc)?;
+            if self.load(batch).is_err() {
+                return Err(NoMemory);
+            }
+        }
+        Ok(())
+    }
+
+    /// How many pairs of pieces, one of which waits for the other, are kept of the sets that are opened; the greatest `u64` where there
+    /// are more. Takes no memory, and time that grows with the number of loaded sets.
+    pub fn pairs(&self) -> u64 {
+        self.progress.pairs()
     }
 
     /// What the replay leaves. Takes no memory.
