@@ -47,3 +47,5 @@ pub mod TakeNext
 pub mod ReclaimSteps
 pub mod ReclaimedCore
 pub mod DrainSteps
+pub mod SameLists
+pub mod JobFacts

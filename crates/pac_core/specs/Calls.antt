@@ -11,6 +11,7 @@ use Rattle.pac_plan.specs.declared.parts.PlanParts.{PlanParts}
 use Rattle.pac_piece.specs.declared.work.Work.{Work}
 use Rattle.pac_piece.specs.Results.{WorkDone}
 use Rattle.pac_piece.specs.Runnable.{IsRunnable}
+use Rattle.pac_undo.specs.Undo.{AreSameIn}
 use Rattle.pac_commute.specs.Loads.{next_in_job}
 use Rattle.pac_commute.specs.Machine.{among}
 use Rattle.pac_commute.specs.PartialFits.{TxnsFitPlan}
@@ -82,6 +83,10 @@ pub record IsJobOf (r : Replay) (parts : PlanParts) (first tables : ℕ) (held :
   pub tables_are : tables ≡ length r.job.parts.tables
   pub held_is : held ≡ r.job.tables
   pub batches_are : batches ≡ r.batches
+
+-- the same, where each of the tables has the rows of the opening
+abbrev pub IsOfJob : Replay → PlanParts → ℕ → ℕ → Tables → List Batch → Type 0
+IsOfJob r parts first tables held batches = (parts ≡ r.job.parts) × (first ≡ r.job.first) × (batches ≡ r.batches) × (tables ≡ length r.job.parts.tables) × AreSameIn tables held r.job.tables
 
 -- so may batches be loaded one after another, where each number fits
 abbrev pub MayLoadAll : Replay → List Batch → Type 0

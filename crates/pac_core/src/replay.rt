@@ -3,12 +3,12 @@ ghost use Rattle.std.specs.Prelude.{◌≡◌, ◌↔◌, ◌<◌, ◌+◌, ◌^
 ghost use Rattle.pac_ops.specs.Shapes.{RowsFit};
 ghost use Rattle.pac_piece.specs.Runnable.{IsRunnable};
 ghost use Rattle.pac_commute.specs.Loads.{next_in_job};
-ghost use Rattle.pac_core.specs.Calls.{HasReady, IsDone, IsDrained, IsGivenBack, IsHandedIn, IsJobOf, IsOutcome, IsOwn, IsTaken, MayLoad, MayLoadAll, with_batches};
+ghost use Rattle.pac_core.specs.Calls.{HasReady, IsDone, IsDrained, IsGivenBack, IsHandedIn, IsJobOf, IsOfJob, IsOutcome, IsOwn, IsTaken, MayLoad, MayLoadAll, with_batches};
 ghost use Rattle.pac_core.specs.Replay.{closed, left, opening_replay, with_batch, with_finished, with_none_out, without_out};
 
 use crate::answers::{Finish, Outcome, Take};
 use crate::events::{give_back, hand_in, take_next};
-use crate::job::{Job, batch_copies};
+use crate::job::{Job, are_batches, are_same_plans, batch_copies};
 use crate::progress::Progress;
 use pac_base::{Exact, NoMemory, listed};
 use pac_ops::Batch;
@@ -238,6 +238,26 @@ impl<R: Rows> Core<R> {
             opening,
             batches,
         })
+    }
+
+    /// Whether this tells the core's job: its plan, its first number, the tables of its opening and the loaded batches.
+    ///
+    /// # Errors
+    ///
+    /// [`NoMemory`] where a list of a table's rows finds no room.
+    pub fn is_of(&self, job: &Job<R>) -> Result<bool, NoMemory>
+        ensures { IfOk result (λ is. IsTrue is ↔ IsOfJob self.now job.now.plan job.now.first (R.tables job.now.opening) (R.held job.now.opening) job.now.batches) }
+    {
+        if !are_same_plans(self.progress.pieces.code().plan(), &job.plan) {
+            return Ok(false);
+        }
+        if self.progress.first != job.first {
+            return Ok(false);
+        }
+        if !are_batches(&self.progress.batches, job.batches.as_slice()) {
+            return Ok(false);
+        }
+        self.rows.has_opening(&job.opening)
     }
 
     /// A closed core in its opening state, with the batches of a job loaded.
