@@ -1,14 +1,14 @@
 -- The access of operations depends on the values of their inputs alone.
-use Rattle.std.proofs.Common.{◌≡◌, ℕ, ◌==◌, Bool, true, false, cond, ◌&&◌, ◌||◌, not, List, [], ◌∷◌, Option, refl, sym, ap, ◌∙◌, subst, true≢false, inl, inr, arith}
+use Rattle.std.proofs.Common.{◌≡◌, ℕ, ◌==◌, Bool, true, false, cond, ◌&&◌, ◌||◌, not, List, [], ◌∷◌, refl, sym, ap, ◌∙◌, true≢false, inl, inr}
 use Rattle.std.specs.List.{list_any}
 use Rattle.std.specs.FinMap.{get}
 use Rattle.pac_base.specs.Members.{Mem}
-use Rattle.pac_base.proofs.TestLemmas.{any_mem, eq_self, or_left, or_none, or_right, unlike}
+use Rattle.pac_base.proofs.TestLemmas.{any_mem, eq_self, or_left, or_none, or_right}
 use Rattle.pac_value.specs.Expressions.{Values}
 use Rattle.pac_ops.specs.Flat.{is_as_asked}
 use Rattle.pac_ops.specs.Uses.{conds_use, kind_uses, modifies, op_uses}
 use Rattle.pac_ops.specs.Effects.{NumberedOp, cell_in, defined_in, target_of, used_in}
-use Rattle.pac_ops.proofs.EffectLemmas.{key_uses, key-kind, named-alike, touched-named}
+use Rattle.pac_ops.proofs.EffectLemmas.{key-kind, named-alike, touched-named}
 use Rattle.pac_plan.specs.declared.access.Access.TheVariants.{Keys, Whole}
 use Rattle.pac_plan.specs.Pieces.{InputsAre, access_of, is_bounded, is_loose, may_pass, op_cell, touch, touches_of}
 use Rattle.pac_plan.proofs.AccessLemmas.{bounded-uses}

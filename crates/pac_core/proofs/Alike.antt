@@ -4,7 +4,7 @@ use Rattle.pac_base.specs.Members.{Mem}
 use Rattle.pac_base.proofs.TestLemmas.{each_mem, mem_each}
 use Rattle.pac_ops.specs.declared.piece.PieceId.{PieceId}
 use Rattle.pac_plan.specs.Pieces.{Present}
-use Rattle.pac_commute.specs.Loads.{Job, begin}
+use Rattle.pac_commute.specs.Loads.{begin}
 use Rattle.pac_commute.specs.Machine.{Invariant, IsOut, Machine, among, world_at}
 use Rattle.pac_commute.proofs.Steps.{among_mem}
 use Rattle.pac_commute.proofs.Theorem.{same_picks}

@@ -1,10 +1,8 @@
 -- The pieces of a set stand by their transactions, ascending, so that a piece stands at one position alone.
-use Rattle.std.proofs.Common.{◌≡◌, ◌⊎◌, ℕ, zero, suc, ◌+◌, ◌<◌, ◌≤◌, ◌==◌, nat_lt, Bool, true, false, cond, ◌&&◌, ◌||◌, List, [], ◌∷◌, map, length, get_or, Option, Some, None, refl, sym, ap, ◌∙◌, subst, true≢false, inl, inr, ⊎_elim, arith}
+use Rattle.std.proofs.Common.{◌≡◌, ◌⊎◌, ℕ, zero, suc, ◌<◌, Bool, true, false, cond, List, [], ◌∷◌, map, length, get_or, Some, None, sym, ap, ◌∙◌, subst, inl, inr, arith}
 use Rattle.std.specs.Prelude.{slice_get, filter, position}
-use Rattle.std.proofs.lemmas.Bool.Decides.{nat_tests}
-use Rattle.std.proofs.lemmas.List.{length-map}
 use Rattle.std.proofs.lemmas.Option.{same_Some, slice_get-get_or, slice_get_within}
-use Rattle.pac_base.specs.Members.{Each, Mem, Rises}
+use Rattle.pac_base.specs.Members.{Rises}
 use Rattle.pac_base.proofs.TestLemmas.{eq_self, and_both, mem_each, or_left, each_mem}
 use Rattle.pac_ops.specs.declared.piece.PieceId.{PieceId}
 use Rattle.pac_ops.specs.declared.transaction.Txn.{Txn}
@@ -16,7 +14,7 @@ use Rattle.pac_plan.specs.Worlds.{txn_at}
 use Rattle.pac_sched.specs.Orders.{IsAscending, piece_before}
 use Rattle.pac_sched.proofs.PlaceLemmas.{lt_true, stands_once}
 use Rattle.pac_core.specs.Links.{piece_in}
-use Rattle.pac_core.proofs.Lists.{at_mem, at_map, filter_of, map_at, mem_at}
+use Rattle.pac_core.proofs.Lists.{at_mem, at_map, filter_of, map_at}
 
 rises_filter : (f : ℕ → Bool) (xs : List ℕ) → Rises xs → Rises (filter f xs)
 rises_filter f [] r = tt

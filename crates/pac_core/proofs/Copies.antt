@@ -1,9 +1,9 @@
 -- Copies of what stands at cells: what is found there.
-use Rattle.std.proofs.Common.{◌≡◌, ◌⊎◌, Bool, true, false, cond, List, [], ◌∷◌, Option, None, Some, refl, sym, ap, ◌∙◌, true≢false, inl, inr}
+use Rattle.std.proofs.Common.{◌≡◌, ◌⊎◌, Bool, true, false, cond, List, [], ◌∷◌, None, refl, sym, ap, ◌∙◌, true≢false, inl, inr}
 use Rattle.std.specs.Ordering.{eq_by_cmp}
 use Rattle.std.specs.FinMap.{empty, get, get-empty}
 use Rattle.pac_base.specs.Members.{Mem}
-use Rattle.pac_value.specs.State.{Cell, RowValues, Tables, cell_cmp}
+use Rattle.pac_value.specs.State.{Cell, Tables, cell_cmp}
 use Rattle.pac_value.proofs.CellLemmas.{get-with_row, same-cell, tied_same}
 use Rattle.pac_tables.specs.Written.{written}
 use Rattle.pac_core.specs.Cells.{copies_at}

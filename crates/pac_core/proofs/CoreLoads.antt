@@ -1,24 +1,21 @@
 -- What becomes of a core where a batch is loaded, where nothing is, and where nothing that counts is changed.
-use Rattle.std.proofs.Common.{◌≡◌, ◌⊎◌, ℕ, ◌+◌, Bool, true, false, cond, not, List, [], ◌∷◌, ◌++◌, map, length, Result, Ok, Err, OnErr, OnOk, Option, Some, None, refl, sym, ap, ap₂, subst, ◌∙◌, inl, inr, arith}
-use Rattle.std.specs.Prelude.{filter, slice_get, sum_by, T}
+use Rattle.std.proofs.Common.{◌≡◌, ◌⊎◌, ℕ, ◌+◌, Bool, true, false, cond, not, List, [], ◌∷◌, ◌++◌, map, length, Result, Ok, Err, OnErr, OnOk, refl, sym, ap, ap₂, subst, ◌∙◌, inl, inr, arith}
+use Rattle.std.specs.Prelude.{filter, slice_get, T}
 use Rattle.std.specs.FinMap.{is_sorted}
 use Rattle.pac_base.specs.Members.{Mem}
 use Rattle.pac_value.specs.State.{Tables}
 use Rattle.pac_ops.specs.declared.batch.Batch.{Batch}
-use Rattle.pac_ops.specs.declared.note.Note.{Note}
 use Rattle.pac_ops.specs.Shapes.{RowsFit}
 use Rattle.pac_plan.specs.declared.parts.PlanParts.{PlanParts}
 use Rattle.pac_plan.specs.Analysis.{IsPlan}
 use Rattle.pac_plan.specs.Pieces.{Present}
-use Rattle.pac_batch.specs.declared.piece_set.PieceSet.{PieceSet}
-use Rattle.pac_batch.specs.Sets.{sets_of}
 use Rattle.pac_sched.specs.Schedules.{is_finished, is_out}
 use Rattle.pac_sets.specs.declared.set_id.SetId.{SetId}
 use Rattle.pac_sets.specs.SetOrder.{set_cmp}
 use Rattle.pac_sets.specs.Sets.{Kept, Setting}
 use Rattle.pac_undo.specs.Undo.{Undoable}
 use Rattle.pac_commute.specs.Loads.{Job, begin, next_in_job}
-use Rattle.pac_commute.specs.Machine.{Invariant, among, opening_machine}
+use Rattle.pac_commute.specs.Machine.{Invariant, among}
 use Rattle.pac_commute.specs.PartialFits.{TxnsFitPlan}
 use Rattle.pac_commute.proofs.Ends.{machine_ends}
 use Rattle.pac_commute.proofs.Steps as steps
@@ -28,7 +25,7 @@ use Rattle.pac_core.specs.declared.stage.OpenSet.{OpenSet}
 use Rattle.pac_core.specs.declared.stage.Stage.{Stage}
 use Rattle.pac_core.specs.declared.stage.Stage.TheVariants.{Waiting, Open}
 use Rattle.pac_core.specs.Calls.{IsDone, IsOutcome}
-use Rattle.pac_core.specs.Links.{AreStages, IsCore, IsOpened, KeepsBatch, KeepsProgress, KeepsValues, batches_of, core_of, job_of, marked, replay_of, set_ids}
+use Rattle.pac_core.specs.Links.{AreStages, IsCore, IsOpened, KeepsProgress, KeepsValues, batches_of, core_of, job_of, marked, replay_of, set_ids}
 use Rattle.pac_core.specs.Moves.{IsAlike, IsLoadedTo, IsOpening}
 use Rattle.pac_core.specs.Replay.{Replay, left, loaded_pieces, machine_of, opening_replay, present_of, with_batch}
 use Rattle.pac_core.proofs.Alike.{invariant_is, present_is}
@@ -216,7 +213,7 @@ module _ (p : Progress) (u : Undoable) (core : IsCore p u) (done : IsDone (core_
   pub outcome_is : IsOutcome (core_of p u) u.current p.note
   outcome_is =
       let ends = machine_ends (job_of p u) core.progress.is_plan (machine_of (core_of p u)) core.progress.machine
-          (all_pass (among (core_of p u).finished) (loaded_pieces (core_of p u)) done.1) in
+      (all_pass (among (core_of p u).finished) (loaded_pieces (core_of p u)) done.1) in
       record { tables_are = core.rows ∙ ends.0; note_is = core.progress.note ∙ ends.1 }
 
 -- ---- no more come

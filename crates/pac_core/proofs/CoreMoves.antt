@@ -1,7 +1,5 @@
 -- What becomes of a core where a piece at a place is handed out, given back or finished.
-use Rattle.std.proofs.Common.{◌≡◌, ◌⊎◌, ℕ, ◌+◌, ◌-◌, ◌<◌, Bool, true, false, List, [], ◌∷◌, length, Option, Some, None, refl, sym, ap, subst, ◌∙◌, true≢false, inl, inr, arith}
-use Rattle.std.specs.Prelude.{slice_get}
-use Rattle.pac_base.specs.Members.{Mem}
+use Rattle.std.proofs.Common.{◌≡◌, ℕ, true, false, List, length, Option, Some, sym, ap, subst, ◌∙◌}
 use Rattle.pac_value.specs.Expressions.{Values}
 use Rattle.pac_value.specs.State.{Tables}
 use Rattle.pac_ops.specs.declared.note.Note.{Note}
@@ -9,19 +7,18 @@ use Rattle.pac_ops.specs.declared.piece.PieceId.{PieceId}
 use Rattle.pac_ops.specs.declared.transaction.Txn.{Txn}
 use Rattle.pac_plan.specs.declared.access.Access.TheVariants.{Whole}
 use Rattle.pac_plan.specs.declared.parts.PlanParts.{PlanParts}
-use Rattle.pac_plan.specs.Pieces.{Present, apply, is_piece}
+use Rattle.pac_plan.specs.Pieces.{Present, apply}
 use Rattle.pac_tables.specs.declared.writes.Write.{Write}
 use Rattle.pac_tables.specs.Written.{written}
 use Rattle.pac_sched.specs.declared.state.PieceState.{PieceState}
 use Rattle.pac_sched.specs.declared.state.PieceState.TheVariants as state
 use Rattle.pac_sched.specs.declared.state.Pick.TheVariants.{Piece}
-use Rattle.pac_sched.specs.Schedules.{IsInOrder, Schedule, after_take, handed_out, is_finished, is_out, next_ready, pick, with_state}
+use Rattle.pac_sched.specs.Schedules.{IsInOrder, Schedule, after_take, handed_out, is_finished, pick, with_state}
 use Rattle.pac_sched.proofs.CallLemmas.{picked}
-use Rattle.pac_sets.specs.declared.set_id.SetId.{SetId}
 use Rattle.pac_sets.specs.Sets.{with_kept_at}
 use Rattle.pac_undo.specs.Undo.{Undoable}
 use Rattle.pac_commute.specs.Loads.{Job}
-use Rattle.pac_commute.specs.Machine.{Invariant, IsReadyAt, Kept as KeptStep, Machine, Ran, access_at, all_but, among, world_at}
+use Rattle.pac_commute.specs.Machine.{IsReadyAt, Kept as KeptStep, Ran, access_at, all_but, among, world_at}
 use Rattle.pac_commute.proofs.Steps as steps
 use Rattle.pac_core.specs.declared.place.Place.{Place}
 use Rattle.pac_core.specs.declared.progress.Progress.{Progress}
@@ -31,7 +28,7 @@ use Rattle.pac_core.specs.Inputs.{LeavesValues}
 use Rattle.pac_core.specs.Links.{IsCore, KeepsProgress, core_of, job_of, piece_in, replay_of}
 use Rattle.pac_core.specs.Moves.{IsFinishedAt, IsFinishedTo, IsMovedTo, IsOrderAfter}
 use Rattle.pac_core.specs.Places.{AreValuesAt, IsPlaced, IsTxnAt}
-use Rattle.pac_core.specs.Replay.{Replay, loaded_pieces, machine_of, present_of, with_finished, with_out, without_out}
+use Rattle.pac_core.specs.Replay.{machine_of, present_of, with_finished, with_out, without_out}
 use Rattle.pac_core.specs.Results.{IsKeptAfter, IsResult}
 use Rattle.pac_core.proofs.BackIn as back
 use Rattle.pac_core.proofs.FinishedOne as finished

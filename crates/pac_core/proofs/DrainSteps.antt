@@ -1,7 +1,6 @@
 -- Where no piece is out, the next one is finished at once: one less is left, and none is out.
-use Rattle.std.proofs.Common.{◌≡◌, ◌⊎◌, ℕ, ◌+◌, ◌<◌, Bool, true, false, cond, not, ◌&&◌, ◌||◌, List, [], ◌∷◌, length, Result, Ok, Err, OnErr, OnOk, Option, Some, None, refl, sym, ap, subst, ◌∙◌, true≢false, inl, inr, arith}
+use Rattle.std.proofs.Common.{◌≡◌, ℕ, ◌+◌, ◌<◌, Bool, true, false, cond, not, ◌&&◌, ◌||◌, List, [], ◌∷◌, length, Result, Ok, Err, OnErr, OnOk, Some, refl, sym, ap, subst, ◌∙◌, inl, inr, arith}
 use Rattle.std.specs.Prelude.{filter}
-use Rattle.std.specs.List.{range_with_len}
 use Rattle.pac_base.specs.Members.{Mem}
 use Rattle.pac_ops.specs.declared.piece.PieceId.{PieceId}
 use Rattle.pac_plan.specs.Pieces.{adds, is_piece}
@@ -17,7 +16,7 @@ use Rattle.pac_commute.proofs.Steps.{piece_self}
 use Rattle.pac_commute.proofs.Theorem.{in_order}
 use Rattle.pac_core.specs.declared.progress.Progress.{Progress}
 use Rattle.pac_core.specs.Calls.{HasReady, IsDrained, IsOwn}
-use Rattle.pac_core.specs.Links.{IsCore, core_of, job_of}
+use Rattle.pac_core.specs.Links.{IsCore, core_of}
 use Rattle.pac_core.specs.Replay.{Replay, left, loaded_pieces, machine_of, with_finished, with_out, without_out}
 use Rattle.pac_core.specs.Takes.{IsNext, IsWorkIn}
 use Rattle.pac_core.proofs.Lists.{filter_alike}

@@ -1,11 +1,10 @@
 -- Sets where one is opened, moved or finished: each stays in its block, and one that is open stays open.
-use Rattle.std.proofs.Common.{◌≡◌, ℕ, ◌<◌, Bool, true, false, List, map, Option, Some, None, sym, ap, subst, ◌∙◌, true≢false}
-use Rattle.std.specs.Prelude.{slice_get, T, IfNone}
+use Rattle.std.proofs.Common.{◌≡◌, ℕ, ◌<◌, List, Option, Some, None, sym, ap, subst, ◌∙◌}
+use Rattle.std.specs.Prelude.{slice_get, T}
 use Rattle.std.specs.FinMap.{is_sorted}
-use Rattle.std.proofs.lemmas.Option.{same_Some}
 use Rattle.pac_sets.specs.declared.set_id.SetId.{SetId}
 use Rattle.pac_sets.specs.SetOrder.{set_cmp}
-use Rattle.pac_sets.specs.Sets.{IsOpenSet, Kept, WaitsForNothing, with_kept_at}
+use Rattle.pac_sets.specs.Sets.{IsOpenSet, Kept, with_kept_at}
 use Rattle.pac_core.proofs.KeptAt.{get_changed, ids_stay, passes_still}
 use Rattle.pac_core.proofs.Lists.{at_map, map_at}
 

@@ -1,6 +1,6 @@
 -- What a core has for a piece at a place: its work, what the work may be run on, and what its value makes of the replay.
-use Rattle.std.proofs.Common.{◌≡◌, ◌↔◌, ℕ, ◌<◌, ◌≤◌, Bool, true, false, List, [], ◌∷◌, length, get_or, Option, Some, None, refl, sym, ap, subst, ◌∙◌, true≢false, arith}
-use Rattle.std.specs.Prelude.{All, Contains}
+use Rattle.std.proofs.Common.{◌≡◌, ℕ, ◌<◌, ◌≤◌, true, false, List, [], ◌∷◌, length, get_or, Option, Some, refl, sym, ap, subst, ◌∙◌, arith}
+use Rattle.std.specs.Prelude.{All}
 use Rattle.std.specs.FinMap.{empty, get}
 use Rattle.std.proofs.lemmas.List.Elements.{Contains-get_or}
 use Rattle.std.proofs.lemmas.Option.{same_Some}
@@ -25,20 +25,19 @@ use Rattle.pac_piece.specs.Values.{IsValueOf, IsValueOver, state_over}
 use Rattle.pac_piece.proofs.TableLemmas.{plan_tables, writes_there}
 use Rattle.pac_sched.specs.declared.state.PieceState.{PieceState}
 use Rattle.pac_sched.specs.declared.state.PieceState.TheVariants as state
-use Rattle.pac_sched.specs.Schedules.{is_finished, is_out}
+use Rattle.pac_sched.specs.Schedules.{is_finished}
 use Rattle.pac_undo.specs.Undo.{Undoable}
 use Rattle.pac_commute.specs.Loads.{Job}
-use Rattle.pac_commute.specs.Machine.{IsOut, IsReadyAt, Machine, PredsFinished, access_at, among, ends_at, world_at}
+use Rattle.pac_commute.specs.Machine.{IsOut, Machine, PredsFinished, access_at, among, ends_at, world_at}
 use Rattle.pac_commute.specs.PlanLaws.{txns_of}
 use Rattle.pac_commute.proofs.Steps.{among_mem}
-use Rattle.pac_core.specs.declared.cells.PieceCells.TheVariants as piece_cells
 use Rattle.pac_core.specs.declared.place.Place.{Place}
 use Rattle.pac_core.specs.declared.progress.Progress.{Progress}
 use Rattle.pac_core.specs.Calls.{IsGivenWork, IsOwn}
 use Rattle.pac_core.specs.Cells.{AreCellsOf, copies_at}
 use Rattle.pac_core.specs.Inputs.{Finds}
 use Rattle.pac_core.specs.Links.{IsCore, KeepsProgress, batches_of, core_of, job_of}
-use Rattle.pac_core.specs.Places.{AreCellsAt, AreValuesAt, IsPlaced, IsTxnAt}
+use Rattle.pac_core.specs.Places.{AreValuesAt, IsPlaced, IsTxnAt}
 use Rattle.pac_core.specs.Replay.{Replay, machine_of, present_of}
 use Rattle.pac_core.specs.Results.{IsResult}
 use Rattle.pac_core.specs.Takes.{IsWorkIn, IsWorkOver, access_in}
@@ -136,10 +135,10 @@ module _ (p : Progress) (u : Undoable) (core : IsCore p u) (place : Place) (piec
 
       in_replay : InReplay work.piece
       in_replay = subst InReplay (sym over.piece_is) (
-          there,
-          named,
-          record { piece_is = over.piece_is; code = over.code; inputs = finds_now work.env over.inputs; rows = over.rows ∙ ap (λ (t : Tables). copies_at t cells) core.rows },
-        )
+        there,
+        named,
+        record { piece_is = over.piece_is; code = over.code; inputs = finds_now work.env over.inputs; rows = over.rows ∙ ap (λ (t : Tables). copies_at t cells) core.rows },
+      )
 
       pub work_in : IsWorkIn r work
       work_in = record { txn = txn; there = in_replay.0; cells = cells; named = in_replay.1; over = in_replay.2 }

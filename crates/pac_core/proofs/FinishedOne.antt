@@ -1,5 +1,5 @@
 -- A piece is finished: the replay has it finished, its state is the piece applied, and all is kept.
-use Rattle.std.proofs.Common.{◌≡◌, ◌⊎◌, ℕ, zero, suc, ◌+◌, ◌-◌, ◌<◌, ◌≤◌, ◌==◌, Bool, true, false, cond, not, ◌&&◌, ◌||◌, List, [], ◌∷◌, map, length, Option, Some, None, refl, sym, ap, ap₂, subst, ◌∙◌, true≢false, inl, inr, ⊎_elim, arith}
+use Rattle.std.proofs.Common.{◌≡◌, ◌⊎◌, ℕ, zero, suc, ◌+◌, ◌-◌, ◌<◌, ◌==◌, Bool, true, false, cond, not, ◌&&◌, ◌||◌, List, [], ◌∷◌, map, length, Option, Some, None, refl, sym, ap, ap₂, subst, ◌∙◌, true≢false, inl, inr, arith}
 use Rattle.std.specs.Prelude.{slice_get, slice_set, filter, unwrap_or, T}
 use Rattle.std.specs.List.{list_all}
 use Rattle.std.specs.FinMap.{get, is_sorted}

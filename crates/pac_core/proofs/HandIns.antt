@@ -1,6 +1,5 @@
 -- Own work that is handed in or given back: its result may be written, and its piece is finished then, or waits again.
-use Rattle.std.proofs.Common.{◌≡◌, ℕ, ◌<◌, Bool, true, false, List, length, Option, Some, None, refl, sym, ap, subst, ◌∙◌, arith}
-use Rattle.std.specs.Prelude.{slice_get}
+use Rattle.std.proofs.Common.{◌≡◌, ◌<◌, List, length, Option, refl, arith}
 use Rattle.pac_base.proofs.ItemLemmas.{item_at}
 use Rattle.pac_value.specs.Expressions.{Values}
 use Rattle.pac_ops.specs.declared.note.Note.{Note}
@@ -25,7 +24,7 @@ use Rattle.pac_core.specs.Replay.{machine_of, with_finished}
 use Rattle.pac_core.specs.Results.{IsKeptAfter, IsResult}
 use Rattle.pac_core.specs.Takes.{IsWorkOver}
 use Rattle.pac_core.proofs.CoreMoves.{end_core, end_is, kept_step, ran_step}
-use Rattle.pac_core.proofs.EventFacts.{is_out_now, of_own, out_preds, work_result, work_within}
+use Rattle.pac_core.proofs.EventFacts.{of_own, out_preds, work_result, work_within}
 use Rattle.pac_core.proofs.PlacedPieces as placed
 
 -- ---- what stands at a place

@@ -1,5 +1,5 @@
 -- What tells a core's job is compared part by part.
-use Rattle.std.proofs.Common.{◌≡◌, ◌↔◌, ℕ, Bool, true, false, List, Result, Ok, Err, length, sym, ap, subst, ◌∙◌, true≢false}
+use Rattle.std.proofs.Common.{◌≡◌, ◌↔◌, ℕ, Bool, false, List, Result, Ok, Err, sym, subst, ◌∙◌, true≢false}
 use Rattle.std.specs.Prelude.{IfOk, IsTrue}
 use Rattle.pac_value.specs.State.{Tables}
 use Rattle.pac_ops.specs.declared.batch.Batch.{Batch}
@@ -30,8 +30,8 @@ module _ (p : Progress) (u : Undoable) (core : IsCore p u) (parts : PlanParts) (
   pub by_tables : p.pieces ≡ parts → p.first ≡ first → batches_of p ≡ batches → (is : Bool) → (IsTrue is ↔ HasOpening u tables held) → IsTrue is ↔ Is
   by_tables plan begins loaded is opening = (
     (λ t.
-      let has = opening.0 t in
-      (sym plan, sym begins, sym loaded, has.0 ∙ core.tables, subst (λ (n : ℕ). AreSameIn n held u.opening) (sym has.0) has.1)),
+        let has = opening.0 t in
+        (sym plan, sym begins, sym loaded, has.0 ∙ core.tables, subst (λ (n : ℕ). AreSameIn n held u.opening) (sym has.0) has.1)),
     (λ all. opening.1 (all.3 ∙ sym core.tables, subst (λ (n : ℕ). AreSameIn n held u.opening) (all.3 ∙ sym core.tables) all.4)),
   )
 

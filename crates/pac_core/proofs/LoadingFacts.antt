@@ -1,7 +1,6 @@
 -- The sets of a batch stand behind those of the batches before it, in order; and their pieces are as many as the batch adds.
-use Rattle.std.proofs.Common.{◌≡◌, ◌⊎◌, ℕ, zero, suc, ◌+◌, ◌-◌, ◌<◌, ◌≤◌, ◌&&◌, ◌==◌, Bool, true, false, cond, is_lt, List, [], ◌∷◌, ◌++◌, map, length, Option, Some, None, refl, sym, ap, ap₂, subst, ◌∙◌, true≢false, inl, inr, arith}
+use Rattle.std.proofs.Common.{◌≡◌, ℕ, ◌+◌, ◌-◌, ◌<◌, ◌==◌, Bool, true, false, cond, is_lt, List, [], ◌∷◌, ◌++◌, map, length, Some, refl, sym, ap, ap₂, subst, ◌∙◌, true≢false, inl, inr, arith}
 use Rattle.std.specs.Prelude.{filter, slice_get, sum_by, IsSome, T}
-use Rattle.std.specs.declared.cmp.Ordering.{Ordering}
 use Rattle.std.specs.declared.cmp.Ordering.TheVariants.{Less, Equal, Greater}
 use Rattle.std.specs.Ordering.{nat_cmp, ordering_then}
 use Rattle.std.specs.List.{AllZip, range_with_len}
@@ -11,7 +10,7 @@ use Rattle.std.specs.Cmp.{nat_cmp_total, tied_itself}
 use Rattle.std.proofs.lemmas.List.{length-map}
 use Rattle.std.proofs.lemmas.List.Sums.{sum_by-cons}
 use Rattle.std.proofs.lemmas.Option.{slice_get_within}
-use Rattle.pac_base.specs.Members.{Each, Mem, Rises}
+use Rattle.pac_base.specs.Members.{Mem, Rises}
 use Rattle.pac_base.proofs.TestLemmas.{and_both, and_left, and_right, each_mem, mem_each}
 use Rattle.pac_base.proofs.ItemLemmas.{item_at}
 use Rattle.pac_ops.specs.declared.batch.Batch.{Batch}

@@ -1,40 +1,38 @@
 -- Where a loaded piece stands: its transaction in a batch, and its set; and what its set says of how far it is.
-use Rattle.std.proofs.Common.{◌≡◌, ◌⊎◌, ℕ, zero, suc, ◌+◌, ◌-◌, ◌<◌, ◌≤◌, nat_lt, Bool, true, false, cond, ◌&&◌, List, [], ◌∷◌, map, length, Option, Some, None, refl, sym, ap, subst, ◌∙◌, true≢false, inl, inr, ⊎_elim, arith}
-use Rattle.std.specs.Prelude.{slice_get, filter, IsSomeAnd, T, unwrap_or}
+use Rattle.std.proofs.Common.{◌≡◌, ℕ, ◌+◌, ◌-◌, ◌<◌, Bool, true, false, List, map, length, Option, Some, refl, sym, ap, subst, ◌∙◌, true≢false, arith}
+use Rattle.std.specs.Prelude.{slice_get, filter, IsSomeAnd}
 use Rattle.std.specs.Option.{option_map}
-use Rattle.std.proofs.lemmas.Option.{same_Some, slice_get-map}
+use Rattle.std.proofs.lemmas.Option.{slice_get-map}
 use Rattle.pac_base.specs.Members.{Mem}
-use Rattle.pac_base.proofs.ItemLemmas.{item_at, some_one, there}
-use Rattle.pac_base.proofs.TestLemmas.{any_gives, unlike}
+use Rattle.pac_base.proofs.ItemLemmas.{item_at, some_one}
+use Rattle.pac_base.proofs.TestLemmas.{unlike}
 use Rattle.pac_value.specs.Values.{type_of}
-use Rattle.pac_ops.specs.declared.batch.Batch.{Batch}
 use Rattle.pac_ops.specs.declared.piece.PieceId.{PieceId}
 use Rattle.pac_ops.specs.declared.program.Program.{Program}
 use Rattle.pac_ops.specs.declared.transaction.Txn.{Txn}
 use Rattle.pac_ops.specs.declared.transaction.Txn.TheVariants.{Call as ACall, AdHoc}
 use Rattle.pac_plan.specs.declared.parts.PlanParts.{PlanParts}
-use Rattle.pac_plan.specs.Pieces.{World, has_ops, ops, part, piece_exists}
-use Rattle.pac_plan.specs.Worlds.{batch_of, blocks_in, txn_at, txn_block, txn_code}
-use Rattle.pac_plan.specs.Codes.{TxnFitsPlan, piece_ops}
-use Rattle.pac_batch.specs.Sets.{has_piece, has_txns, set_of, sets_of}
-use Rattle.pac_sched.specs.declared.state.PieceState.{PieceState}
+use Rattle.pac_plan.specs.Pieces.{World, has_ops, part, piece_exists}
+use Rattle.pac_plan.specs.Worlds.{blocks_in, txn_at, txn_block, txn_code}
+use Rattle.pac_plan.specs.Codes.{TxnFitsPlan}
+use Rattle.pac_batch.specs.Sets.{has_piece, set_of}
 use Rattle.pac_sched.specs.Schedules.{is_finished, is_out}
 use Rattle.pac_sets.specs.declared.set_id.SetId.{SetId}
 use Rattle.pac_sets.specs.Sets.{Kept, kept_of}
 use Rattle.pac_sets.proofs.SetLemmas.{kept_there}
 use Rattle.pac_commute.specs.Loads.{Job}
-use Rattle.pac_commute.specs.Machine.{Machine, among, pieces_at}
+use Rattle.pac_commute.specs.Machine.{Machine, among}
 use Rattle.pac_commute.specs.PartialFits.{TxnIsOfPlan}
 use Rattle.pac_commute.specs.PlanLaws.{numbers_of, planned, txns_of}
 use Rattle.pac_commute.proofs.Loads.{in-range}
 use Rattle.pac_commute.proofs.Replays.{at_number}
-use Rattle.pac_commute.proofs.Steps.{among_mem, mem_among, same_piece}
+use Rattle.pac_commute.proofs.Steps.{among_mem, mem_among}
 use Rattle.pac_core.specs.declared.progress.Progress.{Progress}
 use Rattle.pac_core.specs.declared.stage.Stage.{Stage}
 use Rattle.pac_core.specs.Links.{KeepsProgress, batches_of, mark, mark_in, piece_in, replay_of, set_ids, set_of_piece}
 use Rattle.pac_core.specs.Replay.{Replay, loaded_pieces, machine_of}
 use Rattle.pac_core.proofs.Lists.{filter_in, filter_of, map_at, mem_at}
-use Rattle.pac_core.proofs.SetFacts.{Stands, batch_at, ops_at, piece_is, piece_there, range-in, stands, txn_there}
+use Rattle.pac_core.proofs.SetFacts.{Stands, batch_at, piece_is, stands, txn_there}
 use Rattle.pac_core.proofs.SetLists.{id_in, set_in, txn_in}
 
 -- ---- transactions of the plan

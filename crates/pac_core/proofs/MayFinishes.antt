@@ -1,7 +1,6 @@
 -- A piece that is out may be finished; and so may a ready one once it is handed out, which makes of the replay what finishing it at once would.
-use Rattle.std.proofs.Common.{◌≡◌, ℕ, zero, suc, ◌+◌, ◌<◌, Bool, true, false, cond, not, List, [], ◌∷◌, map, length, Option, Some, None, refl, sym, ap, subst, ◌∙◌, true≢false, inl, inr, arith}
-use Rattle.std.specs.Prelude.{filter, slice_get, slice_set, T}
-use Rattle.std.specs.FinMap.{is_sorted}
+use Rattle.std.proofs.Common.{◌≡◌, ℕ, zero, suc, ◌<◌, Bool, true, false, cond, not, List, [], ◌∷◌, length, Option, Some, None, refl, sym, ap, subst, ◌∙◌, true≢false, inl, inr, arith}
+use Rattle.std.specs.Prelude.{filter, slice_get, slice_set}
 use Rattle.std.proofs.lemmas.Option.{same_Some, slice_get_within}
 use Rattle.pac_base.specs.Members.{Mem}
 use Rattle.pac_value.specs.Expressions.{Values}
@@ -15,7 +14,6 @@ use Rattle.pac_sched.specs.Schedules.{IsInOrder, Schedule, after_take, handed_ou
 use Rattle.pac_sched.proofs.CallLemmas.{picked}
 use Rattle.pac_sched.proofs.StateLemmas.{get_same}
 use Rattle.pac_sets.specs.declared.set_id.SetId.{SetId}
-use Rattle.pac_sets.specs.SetOrder.{set_cmp}
 use Rattle.pac_sets.specs.Sets.{IsOpenSet, Kept, WaitsForNothing, with_kept_at}
 use Rattle.pac_commute.specs.Loads.{Job}
 use Rattle.pac_commute.specs.Machine.{among}
@@ -89,7 +87,7 @@ module _ (job : Job) (p : Progress) (keeps : KeepsProgress job p) where
     counted : (far : PieceState) (at : IsPlaced p place piece far) → is_finished far ≡ false → 0 < p.unfinished
     counted far at unfinished =
         let some = some_left (λ q. not (among (replay_of job p).finished q)) (loaded_pieces (replay_of job p)) piece (placed.loaded_is job p keeps place piece far at)
-            (ap not (placed.finished_now job p keeps place piece far at ∙ unfinished)) in
+        (ap not (placed.finished_now job p keeps place piece far at ∙ unfinished)) in
         let count : p.unfinished ≡ left (replay_of job p) = keeps.unfinished in
         subst (λ n. 0 < n) (sym count) some
 
@@ -163,8 +161,10 @@ module _ (job : Job) (p : Progress) (keeps : KeepsProgress job p) where
               let is = subst (λ (q : Progress). IsFinishedAt q place piece kept note new) out_is to at.stands.set out_open out_there own in
               record {
                 pieces = is.pieces;
-                sets = is.sets ∙ (λ k. record p.sets { sets = (kept_twice p.sets.sets place.at (Some (Open out_open)) (after_finish (record { sched = with_state out_open.sched piece state.Finished; cells = out_open.cells }))
-                    ∙ ap (λ (o : OpenSet). with_kept_at p.sets.sets place.at (after_finish o)) twice) k });
+                sets = is.sets ∙ (λ k. record p.sets {
+                  sets = (kept_twice p.sets.sets place.at (Some (Open out_open)) (after_finish (record { sched = with_state out_open.sched piece state.Finished; cells = out_open.cells }))
+                      ∙ ap (λ (o : OpenSet). with_kept_at p.sets.sets place.at (after_finish o)) twice) k;
+                });
                 note_is = is.note_is;
                 first = is.first;
                 next = is.next;

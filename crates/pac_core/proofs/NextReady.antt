@@ -1,5 +1,5 @@
 -- Sets are looked at in their order, each opened where it may be: the first piece that the schedule of one has ready is the next.
-use Rattle.std.proofs.Common.{◌≡◌, ◌⊎◌, ℕ, zero, suc, ◌+◌, ◌-◌, ◌<◌, ◌≤◌, ◌==◌, nat_lt, Bool, true, false, ◌&&◌, ◌||◌, List, [], ◌∷◌, map, length, Option, Some, None, refl, sym, ap, subst, ◌∙◌, true≢false, inl, inr, ⊎_elim, arith}
+use Rattle.std.proofs.Common.{◌≡◌, ◌⊎◌, ℕ, ◌+◌, ◌-◌, ◌<◌, ◌≤◌, ◌==◌, nat_lt, Bool, true, false, ◌&&◌, ◌||◌, List, map, Option, Some, None, refl, sym, ap, subst, ◌∙◌, true≢false, inl, inr, arith}
 use Rattle.std.specs.Prelude.{slice_get}
 use Rattle.std.specs.declared.cmp.Ordering.{Ordering}
 use Rattle.std.specs.declared.cmp.Ordering.TheVariants.{Less, Equal, Greater}
@@ -7,9 +7,7 @@ use Rattle.std.specs.Ordering.{nat_cmp, ordering_then}
 use Rattle.std.proofs.lemmas.Bool.Decides.{nat_tests}
 use Rattle.std.proofs.lemmas.Cmp.{ranked}
 use Rattle.std.proofs.lemmas.Option.{same_Some, slice_get-get_or}
-use Rattle.pac_base.specs.Members.{Mem}
 use Rattle.pac_base.proofs.TestLemmas.{same_number, unlike}
-use Rattle.pac_ops.specs.declared.batch.Batch.{Batch}
 use Rattle.pac_ops.specs.declared.piece.PieceId.{PieceId}
 use Rattle.pac_plan.specs.declared.parts.PlanParts.{PlanParts}
 use Rattle.pac_plan.specs.Worlds.{batch_of}
@@ -25,11 +23,10 @@ use Rattle.pac_commute.specs.HandOut.{comes_before}
 use Rattle.pac_commute.specs.Loads.{Job}
 use Rattle.pac_commute.specs.Machine.{IsReadyAt, Machine, world_at}
 use Rattle.pac_core.specs.declared.progress.Progress.{Progress}
-use Rattle.pac_core.specs.declared.stage.OpenSet.{OpenSet}
 use Rattle.pac_core.specs.declared.stage.Stage.{Stage}
 use Rattle.pac_core.specs.declared.stage.Stage.TheVariants.{Open}
 use Rattle.pac_core.specs.Links.{KeepsProgress, batches_of, piece_in, replay_of, set_ids, set_of_piece}
-use Rattle.pac_core.specs.Moves.{HasNoneReady, IsNextAt, IsReadyAtOffset, StandsOpen}
+use Rattle.pac_core.specs.Moves.{HasNoneReady, StandsOpen}
 use Rattle.pac_core.specs.Replay.{Replay, machine_of}
 use Rattle.pac_core.specs.Takes.{IsNext}
 use Rattle.pac_core.proofs.Ascending.{rises_at}
@@ -152,9 +149,13 @@ module _ (job : Job) (p : Progress) (keeps : KeepsProgress job p) where
         let id : opened.set ≡ record { batch = place.k; block = q.block } = same ∙ set_is job p keeps q place in
         let block : opened.set.block ≡ q.block = ap (λ (s : SetId). s.block) id in
         let i = mem_at ts q.txn (placed_here job p keeps q place at opened.set (Some (Open opened.opening)) set (ap (λ (s : SetId). s.batch) id) block) in
-        let own : piece_in opened.set.block q.txn ≡ q = λ k. record { txn = q.txn; block = block k } in
-        (i.0, i.1, own, ap (piece_is_ready opened.opening.sched) (sym own)
-        ∙ there_ready job p keeps at opened.set opened.opening set i.0 q.txn i.1 (subst (IsReadyAt job m) (sym own) ready))
+        let own : piece_in opened.set.block q.txn ≡ q = λ k. record { txn = q.txn; block = block k } in (
+          i.0,
+          i.1,
+          own,
+          ap (piece_is_ready opened.opening.sched) (sym own)
+              ∙ there_ready job p keeps at opened.set opened.opening set i.0 q.txn i.1 (subst (IsReadyAt job m) (sym own) ready),
+        )
 
     -- where it has none, none is of it
     pub from_next : ReadyFrom job p at → HasNoneReady p at → ReadyFrom job p (at + 1)

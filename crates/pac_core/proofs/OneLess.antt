@@ -1,12 +1,12 @@
 -- Of pieces in order one less passes a test where one more fails it.
-use Rattle.std.proofs.Common.{◌≡◌, ◌⊎◌, ℕ, suc, ◌+◌, ◌<◌, Bool, true, false, cond, not, ◌&&◌, ◌||◌, List, [], ◌∷◌, length, refl, sym, ap, subst, ◌∙◌, true≢false, inl, inr, ⊎_elim, arith}
+use Rattle.std.proofs.Common.{◌≡◌, ◌+◌, Bool, true, false, cond, List, [], ◌∷◌, length, refl, sym, ap, subst, ◌∙◌, inl, inr, arith}
 use Rattle.std.specs.Prelude.{filter}
 use Rattle.pac_base.specs.Members.{Each, Mem}
 use Rattle.pac_base.proofs.TestLemmas.{mem_each, unlike}
 use Rattle.pac_ops.specs.declared.piece.PieceId.{PieceId}
 use Rattle.pac_plan.specs.Pieces.{is_piece}
 use Rattle.pac_commute.proofs.Law.{Below, InOrder}
-use Rattle.pac_commute.proofs.Steps.{piece_self, same_piece}
+use Rattle.pac_commute.proofs.Steps.{same_piece}
 use Rattle.pac_core.proofs.Lists.{filter_alike}
 
 -- no piece stands below itself

@@ -1,17 +1,13 @@
 -- The pieces of an open set may be opened, and that keeps all.
-use Rattle.std.proofs.Common.{◌≡◌, ℕ, zero, suc, ◌+◌, ◌-◌, ◌<◌, Bool, true, false, cond, List, [], ◌∷◌, length, Option, Some, None, refl, sym, ap, subst, ◌∙◌, arith}
+use Rattle.std.proofs.Common.{◌≡◌, ℕ, suc, ◌+◌, ◌-◌, ◌<◌, Bool, true, false, cond, List, [], ◌∷◌, Some, None, refl, sym, ap, subst, ◌∙◌}
 use Rattle.std.specs.Prelude.{slice_get}
 use Rattle.std.specs.List.{AllByRecursion}
 use Rattle.std.proofs.lemmas.Option.{same_Some, slice_get_within}
-use Rattle.pac_base.proofs.ItemLemmas.{item_at}
-use Rattle.pac_value.specs.Expressions.{Values}
-use Rattle.pac_ops.specs.declared.batch.Batch.{Batch}
 use Rattle.pac_ops.specs.declared.transaction.Txn.{Txn}
 use Rattle.pac_plan.specs.declared.parts.PlanParts.{PlanParts}
 use Rattle.pac_plan.specs.Codes.{HasTxnInputs, TxnFitsPlan}
 use Rattle.pac_plan.specs.Worlds.{txn_at}
 use Rattle.pac_batch.specs.Sets.{set_of}
-use Rattle.pac_sets.specs.declared.set_id.SetId.{SetId}
 use Rattle.pac_sets.specs.Sets.{IsOpenSet, Kept, WaitsForNothing}
 use Rattle.pac_commute.specs.Loads.{Job}
 use Rattle.pac_commute.specs.PlanLaws.{txns_of}
@@ -19,7 +15,7 @@ use Rattle.pac_core.specs.declared.loaded.Loaded.{Loaded}
 use Rattle.pac_core.specs.declared.progress.Progress.{Progress}
 use Rattle.pac_core.specs.declared.stage.OpenSet.{OpenSet}
 use Rattle.pac_core.specs.declared.stage.Stage.{Stage}
-use Rattle.pac_core.specs.declared.stage.Stage.TheVariants.{Open, Waiting}
+use Rattle.pac_core.specs.declared.stage.Stage.TheVariants.{Waiting}
 use Rattle.pac_core.specs.Inputs.{Finds}
 use Rattle.pac_core.specs.Links.{KeepsBatch, KeepsProgress, batches_of, replay_of}
 use Rattle.pac_core.specs.Moves.{HasAllInputs, IsOpeningOf, opened_at}
@@ -27,7 +23,7 @@ use Rattle.pac_core.specs.Replay.{present_of}
 use Rattle.pac_core.proofs.Lists.{at_map, map_at}
 use Rattle.pac_core.proofs.Marks.{fits_plan}
 use Rattle.pac_core.proofs.Opens.{has_txn_inputs, opens_keep, same_replay}
-use Rattle.pac_core.proofs.Ready.{SetAt, set_at}
+use Rattle.pac_core.proofs.Ready.{set_at}
 use Rattle.pac_core.proofs.SetFacts.{Stands, txn_there}
 
 -- what holds of each item holds of all

@@ -1,29 +1,25 @@
 -- Opening the pieces of a set changes nothing of the replay, and keeps all that is kept.
-use Rattle.std.proofs.Common.{◌≡◌, ◌⊎◌, ℕ, zero, suc, ◌+◌, ◌-◌, ◌<◌, ◌≤◌, ◌==◌, Bool, true, false, cond, not, ◌&&◌, List, [], ◌∷◌, map, length, Option, Some, None, refl, sym, ap, subst, ◌∙◌, true≢false, inl, inr, ⊎_elim, arith, replicate}
-use Rattle.std.specs.Prelude.{slice_get, filter, unwrap_or, T, Contains}
+use Rattle.std.proofs.Common.{◌≡◌, ◌⊎◌, ℕ, zero, suc, ◌+◌, ◌-◌, ◌<◌, ◌==◌, Bool, true, false, cond, not, ◌&&◌, List, [], ◌∷◌, map, length, Option, Some, None, refl, sym, ap, subst, ◌∙◌, true≢false, inl, inr, arith, replicate}
+use Rattle.std.specs.Prelude.{slice_get, unwrap_or}
 use Rattle.std.specs.List.{list_all}
-use Rattle.std.specs.FinMap.{empty, get, is_sorted}
+use Rattle.std.specs.FinMap.{empty, get}
 use Rattle.std.proofs.lemmas.List.{length-map, length-replicate}
-use Rattle.std.proofs.lemmas.Option.{same_Some, slice_get-map, slice_get_within}
+use Rattle.std.proofs.lemmas.Option.{same_Some}
 use Rattle.pac_base.specs.Members.{Mem}
 use Rattle.pac_base.proofs.ItemLemmas.{item_at}
 use Rattle.pac_base.proofs.TestLemmas.{and_left, and_right, and_both, same_number}
 use Rattle.pac_value.specs.Expressions.{Values}
-use Rattle.pac_value.specs.State.{Tables}
 use Rattle.pac_ops.specs.declared.batch.Batch.{Batch}
 use Rattle.pac_ops.specs.declared.piece.PieceId.{PieceId}
 use Rattle.pac_ops.specs.declared.transaction.Txn.{Txn}
-use Rattle.pac_ops.specs.Shapes.{RowsFit}
-use Rattle.pac_ops.specs.Transactions.{txn_state}
 use Rattle.pac_ops.specs.Effects.{defined_in, used_in}
-use Rattle.pac_plan.specs.declared.access.Access.{Access}
 use Rattle.pac_plan.specs.declared.parts.PlanParts.{PlanParts}
-use Rattle.pac_plan.specs.Pieces.{HasInputs, InputsAre, Present, access_of, ops, part}
+use Rattle.pac_plan.specs.Pieces.{HasInputs, InputsAre, access_of, ops, part}
 use Rattle.pac_plan.specs.Worlds.{batch_of, txn_at, txn_block, txn_code}
 use Rattle.pac_plan.specs.Codes.{HasTxnInputs, piece_ops}
 use Rattle.pac_plan.proofs.WorldLemmas.{has-edge}
 use Rattle.pac_batch.specs.NextLists.{AreNextPairs}
-use Rattle.pac_batch.specs.Sets.{has_numbers, has_txns, set_of}
+use Rattle.pac_batch.specs.Sets.{has_numbers, set_of}
 use Rattle.pac_sched.specs.declared.state.PieceState.{PieceState}
 use Rattle.pac_sched.specs.declared.state.PieceState.TheVariants as state
 use Rattle.pac_sched.specs.Schedules.{at_position, is_finished, is_out, is_waiting, position_of, some_passes}
@@ -32,7 +28,7 @@ use Rattle.pac_sets.specs.Sets.{Kept, WaitsForNothing, kept_of, with_kept_at}
 use Rattle.pac_sets.proofs.SetLemmas.{kept_there}
 use Rattle.pac_commute.specs.Loads.{Job, begin, pieces_of}
 use Rattle.pac_commute.specs.Machine.{Invariant, Machine, among, access_at, ends_at, world_at}
-use Rattle.pac_commute.specs.PlanLaws.{numbers_of, planned, txns_of}
+use Rattle.pac_commute.specs.PlanLaws.{txns_of}
 use Rattle.pac_commute.proofs.FitLemmas.{env_is}
 use Rattle.pac_commute.proofs.PlanFacts.{inputs_plan}
 use Rattle.pac_commute.proofs.Steps.{holds_needs, in_tables}
@@ -44,13 +40,13 @@ use Rattle.pac_core.specs.declared.stage.Stage.TheVariants.{Waiting, Open}
 use Rattle.pac_core.specs.Cells.{HasCellsOf}
 use Rattle.pac_core.specs.Inputs.{Finds}
 use Rattle.pac_core.specs.Links.{AreStages, IsOpened, IsStageOf, KeepsBatch, IsUnfinishedBatch, KeepsInputs, KeepsProgress, KeepsValues, batches_of, mark, mark_in, marked, piece_in, replay_of, set_of_piece}
-use Rattle.pac_core.specs.Moves.{HasAllInputs, IsFreshlyOpen, access_over}
+use Rattle.pac_core.specs.Moves.{IsFreshlyOpen, access_over}
 use Rattle.pac_core.specs.Replay.{Replay, left, loaded_pieces, machine_of, present_of}
 use Rattle.pac_core.proofs.AccessInputs.{access_same}
 use Rattle.pac_core.proofs.KeptAt.{equal_or_not, get_changed, get_other, ids_stay, kept_changed, kept_stays, passes_still, still_up}
-use Rattle.pac_core.proofs.Lists.{at_map, at_mem, filter_alike, map_at, mem_at}
-use Rattle.pac_core.proofs.Marks.{Placed, finished_is, fits_plan, local_txn, placed, set_is}
-use Rattle.pac_core.proofs.Ready.{SetAt, own_piece, set_at, stands_set, txns}
+use Rattle.pac_core.proofs.Lists.{at_map, filter_alike}
+use Rattle.pac_core.proofs.Marks.{finished_is, placed, set_is}
+use Rattle.pac_core.proofs.Ready.{SetAt, set_at, stands_set, txns}
 use Rattle.pac_core.proofs.SetFacts.{Stands, batch_at, ops_at, txn_there}
 
 -- ---- the inputs of a set that waits for nothing

@@ -1,15 +1,13 @@
 -- Where a piece that is out belongs; and a piece that is found nowhere isn't out.
-use Rattle.std.proofs.Common.{◌≡◌, ℕ, ◌+◌, ◌-◌, ◌<◌, Bool, true, false, List, length, Option, Some, None, refl, sym, ap, subst, ◌∙◌, true≢false, arith}
+use Rattle.std.proofs.Common.{◌≡◌, ℕ, ◌+◌, ◌<◌, true, false, length, Option, Some, None, sym, ap, subst, ◌∙◌, true≢false, arith}
 use Rattle.std.specs.Prelude.{IfNone, IfSome, slice_get}
-use Rattle.std.proofs.lemmas.Option.{same_Some}
 use Rattle.pac_base.specs.Members.{Mem}
 use Rattle.pac_base.proofs.TestLemmas.{unlike}
 use Rattle.pac_ops.specs.declared.piece.PieceId.{PieceId}
-use Rattle.pac_sched.specs.declared.state.PieceState.{PieceState}
 use Rattle.pac_sched.specs.declared.state.PieceState.TheVariants.{Out}
 use Rattle.pac_sched.specs.Schedules.{at_position, is_out, position_of, state_of_piece}
 use Rattle.pac_sets.specs.declared.set_id.SetId.{SetId}
-use Rattle.pac_sets.specs.Sets.{IsSetAt, Kept, kept_of}
+use Rattle.pac_sets.specs.Sets.{IsSetAt, kept_of}
 use Rattle.pac_sets.proofs.SetLemmas.{kept_there}
 use Rattle.pac_commute.specs.Loads.{Job}
 use Rattle.pac_commute.specs.Machine.{among}
@@ -17,7 +15,6 @@ use Rattle.pac_commute.proofs.Steps.{among_mem}
 use Rattle.pac_core.specs.declared.loaded.Loaded.{Loaded}
 use Rattle.pac_core.specs.declared.progress.Progress.{Progress}
 use Rattle.pac_core.specs.declared.stage.OpenSet.{OpenSet}
-use Rattle.pac_core.specs.declared.stage.Stage.{Stage}
 use Rattle.pac_core.specs.declared.stage.Stage.TheVariants.{Open}
 use Rattle.pac_core.specs.Links.{KeepsProgress, batches_of, mark, mark_in, replay_of, set_of_piece}
 use Rattle.pac_core.specs.Places.{IsNotOutOf, IsPieceIn, IsTxnIn, IsTxnNowhere}

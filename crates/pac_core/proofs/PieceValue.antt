@@ -1,11 +1,10 @@
 -- The value of a piece's code, over tables that are as those of now at the cells of its access and over the values of its inputs, is the
 -- piece applied: its writes made in the tables, its values given to its variables, and its note among the notes.
-use Rattle.std.proofs.Common.{◌≡◌, ℕ, zero, suc, ◌+◌, ◌<◌, ◌==◌, Bool, true, false, cond, ◌&&◌, not, List, [], ◌∷◌, map, length, Option, Some, None, refl, sym, ap, ◌∙◌, subst, true≢false, ◌⊎◌, inl, inr, ⊎_elim, arith}
-use Rattle.std.specs.Prelude.{slice_get, IsSomeAnd, is_some, filter}
-use Rattle.std.specs.List.{list_any}
-use Rattle.std.specs.Ordering.{eq_by_cmp, nat_cmp}
-use Rattle.std.specs.FinMap.{get, empty, get-empty}
-use Rattle.std.proofs.lemmas.Option.{slice_get-map, same_Some}
+use Rattle.std.proofs.Common.{◌≡◌, ℕ, ◌+◌, ◌==◌, Bool, true, false, cond, ◌&&◌, not, List, [], ◌∷◌, map, Option, Some, None, refl, sym, ap, ◌∙◌, subst, true≢false, ◌⊎◌, inl, inr, ⊎_elim}
+use Rattle.std.specs.Prelude.{slice_get, is_some}
+use Rattle.std.specs.Ordering.{eq_by_cmp}
+use Rattle.std.specs.FinMap.{get, empty}
+use Rattle.std.proofs.lemmas.Option.{same_Some}
 use Rattle.pac_base.specs.Members.{Each, Mem}
 use Rattle.pac_base.proofs.TestLemmas.{and_both, and_false, any_gives, any_mem, eq_self, equal_number, same_number, mem_each, each_mem, or_cases, or_left, or_none, or_right, unlike}
 use Rattle.pac_value.specs.declared.values.Value.{Value}
@@ -27,24 +26,22 @@ use Rattle.pac_plan.specs.declared.parts.PlanParts.{PlanParts}
 use Rattle.pac_plan.specs.Analysis.{IsPlan, block_in}
 use Rattle.pac_plan.specs.PieceFits.{change_table, records_in}
 use Rattle.pac_plan.specs.Nodes.{Operation}
-use Rattle.pac_plan.specs.Pieces.{InputsAre, Present, World, apply, covers, covers_write, ops, part, partial, with_env, HasInputs, RowOf, writes}
+use Rattle.pac_plan.specs.Pieces.{InputsAre, Present, World, apply, covers, covers_write, ops, part, with_env, HasInputs, RowOf, writes}
 use Rattle.pac_plan.specs.Worlds.{blocks_in, home_in, ops_of, txn_at, txn_block, txn_code, txn_vars, txn_args}
 use Rattle.pac_plan.specs.Codes.{TxnFitsPlan, code_in, code_ops, piece_ops, proc_ops}
-use Rattle.pac_plan.specs.WorldOrder.{WellFormed}
 use Rattle.pac_plan.proofs.PartLemmas.{part-mem}
 use Rattle.pac_tables.specs.declared.writes.Write.{Write}
 use Rattle.pac_tables.specs.Written.{cell_written, is_written, written}
-use Rattle.pac_interface.specs.Interfaces.{is_input}
 use Rattle.pac_piece.specs.Frames.{after_op, after_ops, change_row, done_or_defaulted, give_value, notes_after, var_given}
 use Rattle.pac_piece.specs.Values.{IsValueOver, state_over}
-use Rattle.pac_piece.specs.Sources.{HasTable, HaveTables}
+use Rattle.pac_piece.specs.Sources.{HaveTables}
 use Rattle.pac_piece.proofs.MeaningLemmas.{code_means_piece}
 use Rattle.pac_piece.proofs.TableLemmas.{changed_there}
 use Rattle.pac_piece.proofs.ArgumentWork.{arguments_undefined}
 use Rattle.pac_piece.proofs.WithinLemmas.{keeps, writes_within_access}
 use Rattle.pac_piece.proofs.WriteLookups.{get-none}
 use Rattle.pac_commute.specs.Loads.{Job, begin}
-use Rattle.pac_commute.specs.Machine.{Machine, among, access_at, ends_at, pieces_at, world_at, Invariant, PredsFinished}
+use Rattle.pac_commute.specs.Machine.{Machine, among, access_at, ends_at, world_at, Invariant, PredsFinished}
 use Rattle.pac_commute.specs.PlanLaws.{numbers_of, txns_of}
 use Rattle.pac_commute.specs.Works.{IsWork, IsOutcome, IsPut, given_over, put_over, with_value, worked}
 use Rattle.pac_commute.proofs.Laws.{other_env, written_env}

@@ -1,21 +1,17 @@
 -- What stands at the place of a piece: its transaction, the values that are kept of it, and the cells of its access.
-use Rattle.std.proofs.Common.{◌≡◌, ℕ, ◌+◌, ◌-◌, ◌<◌, Bool, true, false, cond, not, ◌&&◌, List, map, length, get_or, Option, Some, None, refl, sym, ap, subst, ◌∙◌, arith}
+use Rattle.std.proofs.Common.{◌≡◌, ℕ, ◌+◌, ◌-◌, ◌<◌, Bool, true, false, cond, List, length, Option, Some, None, refl, sym, ap, subst, ◌∙◌, arith}
 use Rattle.std.specs.Prelude.{slice_get}
 use Rattle.std.specs.FinMap.{get}
 use Rattle.std.proofs.lemmas.List.{length-map}
-use Rattle.std.proofs.lemmas.Option.{same_Some, slice_get-get_or, slice_get_within}
+use Rattle.std.proofs.lemmas.Option.{same_Some, slice_get-get_or}
 use Rattle.pac_base.specs.Members.{Mem}
-use Rattle.pac_base.proofs.ItemLemmas.{item_at}
 use Rattle.pac_value.specs.Expressions.{Values}
 use Rattle.pac_ops.specs.declared.batch.Batch.{Batch}
 use Rattle.pac_ops.specs.declared.piece.PieceId.{PieceId}
 use Rattle.pac_ops.specs.declared.transaction.Txn.{Txn}
-use Rattle.pac_plan.specs.declared.access.Access.{Access}
 use Rattle.pac_plan.specs.Codes.{TxnFitsPlan}
 use Rattle.pac_plan.specs.Worlds.{txn_at}
-use Rattle.pac_batch.specs.Sets.{set_of}
 use Rattle.pac_sched.specs.declared.state.PieceState.{PieceState}
-use Rattle.pac_sched.specs.declared.state.PieceState.TheVariants as state
 use Rattle.pac_sched.specs.Schedules.{is_finished, is_out}
 use Rattle.pac_sched.proofs.PickLemmas.{stands}
 use Rattle.pac_sets.specs.declared.set_id.SetId.{SetId}

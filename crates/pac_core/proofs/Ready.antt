@@ -1,11 +1,11 @@
 -- The pieces that the schedule of an open set has ready are those that are ready in the replay, and no piece of a set that waits is.
-use Rattle.std.proofs.Common.{◌≡◌, ◌⊎◌, ℕ, zero, suc, ◌+◌, ◌-◌, ◌<◌, ◌≤◌, ◌==◌, nat_lt, Bool, true, false, cond, not, ◌&&◌, ◌||◌, List, [], ◌∷◌, map, length, get_or, Option, Some, None, refl, sym, ap, subst, ◌∙◌, true≢false, inl, inr, ⊎_elim, arith}
+use Rattle.std.proofs.Common.{◌≡◌, ℕ, suc, ◌+◌, ◌-◌, ◌<◌, ◌≤◌, ◌==◌, nat_lt, Bool, true, false, cond, not, ◌&&◌, ◌||◌, List, [], ◌∷◌, map, length, get_or, Option, Some, None, refl, sym, ap, subst, ◌∙◌, true≢false, inl, inr, ⊎_elim, arith}
 use Rattle.std.specs.Prelude.{slice_get, Contains, position, unwrap_or}
 use Rattle.std.proofs.lemmas.Bool.Decides.{nat_tests}
 use Rattle.std.specs.List.{list_all}
 use Rattle.std.proofs.lemmas.List.{length-map}
 use Rattle.std.proofs.lemmas.List.Elements.{Contains-get_or}
-use Rattle.std.proofs.lemmas.Option.{same_Some, slice_get-get_or, slice_get_within}
+use Rattle.std.proofs.lemmas.Option.{same_Some, slice_get_within}
 use Rattle.pac_base.specs.Members.{Mem, Rises}
 use Rattle.pac_base.proofs.ItemLemmas.{item_at}
 use Rattle.pac_base.proofs.TestLemmas.{eq_self, or_cases, or_left, or_right, same_number}
@@ -17,12 +17,11 @@ use Rattle.pac_plan.specs.declared.access.Access.TheVariants.{Keys}
 use Rattle.pac_plan.specs.Pieces.{conflicts, is_piece, precedes}
 use Rattle.pac_plan.specs.Worlds.{blocks_in, txn_at}
 use Rattle.pac_batch.specs.Conflicts.{access_in}
-use Rattle.pac_batch.specs.NextLists.{AreNextPairs}
 use Rattle.pac_batch.specs.Sets.{has_numbers, has_txns, set_of}
 use Rattle.pac_batch.proofs.ListLaws.{pairs_suffice}
 use Rattle.pac_sched.specs.declared.state.PieceState.{PieceState}
 use Rattle.pac_sched.specs.declared.state.PieceState.TheVariants as state
-use Rattle.pac_sched.specs.Schedules.{Schedule, all_finished, at_position, is_finished, is_finished_at, is_out, is_waiting, piece_is_ready, position_of, some_passes, state_of_piece}
+use Rattle.pac_sched.specs.Schedules.{at_position, is_finished, is_finished_at, is_out, is_waiting, piece_is_ready, position_of, some_passes, state_of_piece}
 use Rattle.pac_sched.specs.Picks.{PredsDone}
 use Rattle.pac_sched.proofs.CallLemmas.{ready_waits}
 use Rattle.pac_sched.proofs.PickLemmas.{ready_by_pairs, start_preds}
@@ -30,19 +29,19 @@ use Rattle.pac_sets.specs.declared.set_id.SetId.{SetId}
 use Rattle.pac_sets.specs.Sets.{IsOpenSet, Kept, WaitsFor, WaitsForNothing, kept_of}
 use Rattle.pac_sets.proofs.SetLemmas.{kept_there, there_kept}
 use Rattle.pac_commute.specs.Loads.{Job}
-use Rattle.pac_commute.specs.Machine.{Machine, among, access_at, ends_at, pieces_at, world_at, IsReadyAt, PredsFinished}
+use Rattle.pac_commute.specs.Machine.{Machine, among, access_at, ends_at, world_at, IsReadyAt, PredsFinished}
 use Rattle.pac_commute.specs.PlanLaws.{numbers_of, planned, txns_of}
 use Rattle.pac_core.specs.declared.progress.Progress.{Progress}
 use Rattle.pac_core.specs.declared.stage.OpenSet.{OpenSet}
 use Rattle.pac_core.specs.declared.stage.Stage.{Stage}
 use Rattle.pac_core.specs.declared.stage.Stage.TheVariants.{Waiting, Open}
-use Rattle.pac_core.specs.Links.{IsOpened, KeepsProgress, batches_of, mark, mark_in, piece_in, replay_of, set_ids, set_of_piece}
+use Rattle.pac_core.specs.Links.{IsOpened, KeepsProgress, batches_of, mark, mark_in, piece_in, replay_of}
 use Rattle.pac_core.specs.Replay.{Replay, loaded_pieces, machine_of}
 use Rattle.pac_core.proofs.Ascending.{order_of, position_in, rises_at, set_rises}
-use Rattle.pac_core.proofs.Lists.{at_map, at_mem, map_at, map_in, mem_at}
+use Rattle.pac_core.proofs.Lists.{at_map, at_mem, map_in, mem_at}
 use Rattle.pac_core.proofs.Marks.{Placed, finished_is, has_is, mark_is, out_is, placed, set_is}
 use Rattle.pac_core.proofs.SetFacts.{batch_at, ByBatch, ByConflict, ByEdge, Precedes, Stands, by_precedes, piece_there, precedes_by, range-in, txn_there}
-use Rattle.pac_core.proofs.SetLists.{IsSetOf, id_of, txn_of_set}
+use Rattle.pac_core.proofs.SetLists.{id_of, txn_of_set}
 
 -- ---- numbers
 

@@ -1,5 +1,5 @@
 -- Where the first ready piece of an open set belongs.
-use Rattle.std.proofs.Common.{◌≡◌, ℕ, ◌+◌, ◌-◌, ◌<◌, ◌≤◌, Bool, true, false, List, map, length, Option, Some, None, refl, sym, ap, subst, ◌∙◌, true≢false, arith}
+use Rattle.std.proofs.Common.{◌≡◌, ℕ, ◌+◌, ◌-◌, ◌<◌, ◌≤◌, true, List, map, length, Option, Some, None, refl, sym, ap, ◌∙◌, true≢false, arith}
 use Rattle.std.specs.Prelude.{slice_get}
 use Rattle.std.proofs.lemmas.Option.{same_Some, slice_get-get_or}
 use Rattle.pac_ops.specs.declared.batch.Batch.{Batch}
@@ -11,7 +11,6 @@ use Rattle.pac_sched.proofs.PickLemmas.{picks_first, stands}
 use Rattle.pac_sets.specs.declared.set_id.SetId.{SetId}
 use Rattle.pac_commute.specs.Loads.{Job}
 use Rattle.pac_core.specs.declared.loaded.Loaded.{Loaded}
-use Rattle.pac_core.specs.declared.place.Place.{Place}
 use Rattle.pac_core.specs.declared.progress.Progress.{Progress}
 use Rattle.pac_core.specs.declared.stage.OpenSet.{OpenSet}
 use Rattle.pac_core.specs.declared.stage.Stage.{Stage}

@@ -1,5 +1,5 @@
 -- Each piece that is out waits again: the replay has none out, and all is kept.
-use Rattle.std.proofs.Common.{◌≡◌, ◌⊎◌, ℕ, zero, suc, ◌<◌, Bool, true, false, cond, not, ◌&&◌, List, [], ◌∷◌, ◌++◌, drop, map, length, take, Option, Some, None, refl, sym, ap, ap₂, subst, ◌∙◌, true≢false, arith}
+use Rattle.std.proofs.Common.{◌≡◌, ℕ, false, cond, ◌&&◌, List, [], ◌∷◌, map, Option, Some, None, refl, sym, ap, ap₂, subst, ◌∙◌}
 use Rattle.std.specs.Prelude.{slice_get, filter, T, unwrap_or}
 use Rattle.std.specs.List.{list_all}
 use Rattle.std.specs.Option.{option_map}
@@ -9,24 +9,23 @@ use Rattle.std.proofs.Common.{is_lt}
 use Rattle.std.proofs.lemmas.List.{length-map}
 use Rattle.std.proofs.lemmas.Option.{same_Some, slice_get-map}
 use Rattle.pac_base.specs.Members.{Mem}
-use Rattle.pac_ops.specs.declared.batch.Batch.{Batch}
 use Rattle.pac_ops.specs.declared.piece.PieceId.{PieceId}
 use Rattle.pac_plan.specs.Pieces.{Present}
 use Rattle.pac_batch.specs.Sets.{set_of}
 use Rattle.pac_sched.specs.declared.state.PieceState.{PieceState}
 use Rattle.pac_sched.specs.declared.state.PieceState.TheVariants as state
-use Rattle.pac_sched.specs.Schedules.{IsInOrder, Schedule, at_position, is_finished, is_out, position_of, put_back, reclaimed}
+use Rattle.pac_sched.specs.Schedules.{IsInOrder, at_position, is_finished, is_out, position_of, put_back, reclaimed}
 use Rattle.pac_sets.specs.declared.set_id.SetId.{SetId}
 use Rattle.pac_sets.specs.SetOrder.{set_cmp}
-use Rattle.pac_sets.specs.Sets.{Kept, WaitsForNothing, kept_of, with_kept_at}
+use Rattle.pac_sets.specs.Sets.{Kept, WaitsForNothing, kept_of}
 use Rattle.pac_sets.proofs.SetLemmas.{kept_there, there_kept}
 use Rattle.pac_commute.specs.Loads.{Job, pieces_of}
-use Rattle.pac_commute.specs.Machine.{Invariant, Machine, among}
+use Rattle.pac_commute.specs.Machine.{Invariant}
 use Rattle.pac_core.specs.declared.progress.Progress.{Progress}
 use Rattle.pac_core.specs.declared.stage.OpenSet.{OpenSet}
 use Rattle.pac_core.specs.declared.stage.Stage.{Stage}
 use Rattle.pac_core.specs.declared.stage.Stage.TheVariants.{Waiting, Open}
-use Rattle.pac_core.specs.Links.{AreStages, IsOpened, IsStageOf, IsUnfinishedBatch, KeepsBatch, KeepsProgress, KeepsValues, batches_of, mark, mark_in, marked, replay_of, set_of_piece}
+use Rattle.pac_core.specs.Links.{AreStages, IsStageOf, IsUnfinishedBatch, KeepsBatch, KeepsProgress, KeepsValues, batches_of, mark, mark_in, marked, replay_of, set_of_piece}
 use Rattle.pac_core.specs.Moves.{reclaimed_kept, reclaimed_sets, reclaimed_stage}
 use Rattle.pac_core.specs.Replay.{Replay, left, loaded_pieces, machine_of, present_of, with_none_out}
 use Rattle.pac_core.proofs.Alike.{invariant_is, present_is}

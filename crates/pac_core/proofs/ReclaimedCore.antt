@@ -1,5 +1,5 @@
 -- A core none of whose pieces is out any more.
-use Rattle.std.proofs.Common.{◌≡◌, ℕ, Option, Some, sym, ap, subst, ◌∙◌}
+use Rattle.std.proofs.Common.{◌≡◌, ℕ, Some, sym, ap, subst, ◌∙◌}
 use Rattle.std.specs.Prelude.{slice_get}
 use Rattle.pac_plan.specs.Pieces.{Present}
 use Rattle.pac_sched.specs.Schedules.{IsInOrder, reclaimed}

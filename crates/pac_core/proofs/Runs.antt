@@ -1,16 +1,14 @@
 -- The work of a piece whose predecessors are finished can be done.
-use Rattle.std.proofs.Common.{◌≡◌, ◌≤◌, ◌⊎◌, ℕ, Bool, true, false, cond, not, ◌&&◌, List, length, Option, None, Some, refl, sym, ap, subst, ◌∙◌, ⊎_elim}
+use Rattle.std.proofs.Common.{◌≡◌, ◌≤◌, ℕ, Bool, true, false, cond, not, List, length, Option, None, Some, refl, sym, ap, subst, ◌∙◌, ⊎_elim}
 use Rattle.std.specs.FinMap.{empty, get}
 use Rattle.pac_base.proofs.TestLemmas.{and_both, and_left, and_right, not_true}
-use Rattle.pac_value.specs.declared.values.Value.{Value}
 use Rattle.pac_value.specs.Expressions.{Values}
 use Rattle.pac_value.specs.State.{Cell, RowValues, Tables}
 use Rattle.pac_ops.specs.declared.piece.PieceId.{PieceId}
 use Rattle.pac_ops.specs.declared.transaction.Txn.{Txn}
-use Rattle.pac_ops.specs.Shapes.{RowFits, RowsFit}
+use Rattle.pac_ops.specs.Shapes.{RowsFit}
 use Rattle.pac_ops.specs.Transactions.{txn_state}
 use Rattle.pac_ops.specs.Effects.{defined_in, used_in}
-use Rattle.pac_plan.specs.declared.code.Code.{Code}
 use Rattle.pac_plan.specs.Analysis.{IsPlan}
 use Rattle.pac_plan.specs.Pieces.{HasInputs, InputsAre, ops, part}
 use Rattle.pac_plan.specs.Worlds.{txn_at, txn_block, txn_code}

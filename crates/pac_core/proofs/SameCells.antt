@@ -1,12 +1,10 @@
 -- Two lists of the cells of an access are one; and the cells are of tables of the plan.
-use Rattle.std.proofs.Common.{◌≡◌, ◌⊎◌, ℕ, zero, suc, ◌<◌, Bool, true, false, cond, List, [], ◌∷◌, length, get_or, Option, None, Some, refl, sym, ap, ap₂, subst, ◌∙◌, true≢false, inl, inr, arith}
-use Rattle.std.specs.Prelude.{AllPairs, Contains, All}
-use Rattle.std.specs.declared.cmp.Ordering.{Ordering}
+use Rattle.std.proofs.Common.{◌≡◌, ◌⊎◌, ℕ, zero, suc, Bool, true, false, cond, List, [], ◌∷◌, Option, None, Some, refl, sym, ap, ap₂, subst, ◌∙◌, inl, inr, arith}
+use Rattle.std.specs.Prelude.{AllPairs, Contains}
 use Rattle.std.specs.declared.cmp.Ordering.TheVariants.{Less, Equal}
 use Rattle.std.specs.Ordering.{eq_by_cmp, ordering_reverse}
 use Rattle.std.specs.List.{list_any}
 use Rattle.std.specs.Cmp.{tied_itself}
-use Rattle.std.proofs.lemmas.List.Elements.{Contains-get_or}
 use Rattle.pac_base.specs.Members.{Each, Mem}
 use Rattle.pac_base.proofs.TestLemmas.{any_gives, each_mem, mem_each}
 use Rattle.pac_value.specs.Expressions.{Values}
@@ -22,7 +20,6 @@ use Rattle.pac_plan.specs.declared.access.Touch.{Touch}
 use Rattle.pac_plan.specs.Pieces.{access_of, covers, is_loose, may_pass, named_cell, op_cell, touch, touches_of}
 use Rattle.pac_piece.specs.Sources.{HasTable, HaveTables}
 use Rattle.pac_core.specs.Cells.{AreCellsOf}
-use Rattle.pac_core.proofs.Lists.{mem_at}
 
 -- ---- members
 

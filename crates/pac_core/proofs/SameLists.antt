@@ -1,5 +1,5 @@
 -- An item that stands at an offset is what is read there.
-use Rattle.std.proofs.Common.{◌≡◌, ℕ, List, get_or, Option, Some, sym, ap, ◌∙◌}
+use Rattle.std.proofs.Common.{◌≡◌, ℕ, List, get_or, Some, sym, ◌∙◌}
 use Rattle.std.specs.Prelude.{slice_get}
 use Rattle.std.proofs.lemmas.Option.{same_Some, slice_get-get_or, slice_get_within}
 

@@ -1,27 +1,23 @@
 -- Pieces by their batches: where a transaction stands, which pieces there are, and which come before which.
-use Rattle.std.proofs.Common.{◌≡◌, ◌⊎◌, ℕ, zero, suc, ◌+◌, ◌-◌, ◌<◌, ◌≤◌, nat_lt, Bool, true, false, cond, ◌&&◌, ◌||◌, List, [], ◌∷◌, ◌++◌, length, Option, Some, None, refl, sym, ap, subst, ◌∙◌, inl, inr, arith}
-use Rattle.std.specs.Prelude.{slice_get, ◌==◌, filter, Contains}
+use Rattle.std.proofs.Common.{◌≡◌, ◌⊎◌, ℕ, zero, suc, ◌+◌, ◌-◌, ◌<◌, ◌≤◌, nat_lt, Bool, true, false, cond, ◌&&◌, ◌||◌, List, [], ◌∷◌, ◌++◌, length, Some, refl, sym, ap, ◌∙◌, inl, inr, arith}
+use Rattle.std.specs.Prelude.{slice_get, ◌==◌, Contains}
 use Rattle.std.specs.List.{range_with_len}
 use Rattle.std.proofs.lemmas.Bool.{cases_lt}
 use Rattle.std.proofs.lemmas.Bool.Decides.{nat_tests}
 use Rattle.std.proofs.lemmas.List.{length-append}
-use Rattle.std.proofs.lemmas.Option.{slice_get_within}
 use Rattle.pac_value.specs.Expressions.{Values}
 use Rattle.pac_ops.specs.declared.batch.Batch.{Batch}
 use Rattle.pac_ops.specs.declared.piece.PieceId.{PieceId}
 use Rattle.pac_ops.specs.declared.transaction.Txn.{Txn}
 use Rattle.pac_base.specs.Members.{Mem}
-use Rattle.pac_base.proofs.ItemLemmas.{item_at}
 use Rattle.pac_base.proofs.TestLemmas.{and_left, and_right, and_both, or_cases, or_left, or_right, same_number, equal_number}
 use Rattle.pac_plan.specs.declared.parts.PlanParts.{PlanParts}
-use Rattle.pac_plan.specs.Analysis.{HasBlockEdge}
-use Rattle.pac_plan.specs.Pieces.{World, access, conflicts, precedes, ops, part, has_ops, piece_exists, blocks_of, pieces}
-use Rattle.pac_plan.specs.Worlds.{txn_at, txn_block, txn_code, batch_of, blocks_in, has_edge}
+use Rattle.pac_plan.specs.Pieces.{World, access, conflicts, precedes, ops, part, piece_exists, blocks_of, pieces}
+use Rattle.pac_plan.specs.Worlds.{txn_at, txn_block, txn_code, batch_of}
 use Rattle.pac_plan.specs.Codes.{piece_ops}
 use Rattle.pac_plan.proofs.WorldLemmas.{edge-has, has-edge}
-use Rattle.pac_commute.specs.PlanLaws.{txns_of, NumbersRunOn, planned, numbers_of}
+use Rattle.pac_commute.specs.PlanLaws.{txns_of, NumbersRunOn, planned}
 use Rattle.pac_commute.proofs.BatchLemmas.{numbers_tied}
-use Rattle.pac_commute.proofs.Loads.{in-range}
 
 -- ---- where a transaction stands
 

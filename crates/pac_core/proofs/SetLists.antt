@@ -1,23 +1,20 @@
 -- Sets of loaded batches: each piece has its set, and each set is of a loaded batch and has its pieces.
-use Rattle.std.proofs.Common.{◌≡◌, ◌⊎◌, ℕ, zero, suc, ◌+◌, ◌-◌, ◌<◌, ◌≤◌, Bool, true, false, cond, List, [], ◌∷◌, ◌++◌, map, length, Option, Some, None, refl, sym, ap, subst, ◌∙◌, true≢false, inl, inr, arith}
-use Rattle.std.specs.Prelude.{slice_get, filter}
+use Rattle.std.proofs.Common.{◌≡◌, ◌⊎◌, ℕ, zero, suc, ◌+◌, ◌<◌, ◌≤◌, true, List, [], ◌∷◌, map, length, Some, None, refl, sym, ap, subst, ◌∙◌, inl, inr, arith}
+use Rattle.std.specs.Prelude.{slice_get}
 use Rattle.std.specs.List.{range_with_len}
 use Rattle.std.proofs.lemmas.Option.{same_Some}
 use Rattle.pac_base.specs.Members.{Mem}
 use Rattle.pac_ops.specs.declared.batch.Batch.{Batch}
-use Rattle.pac_ops.specs.declared.piece.PieceId.{PieceId}
 use Rattle.pac_ops.specs.declared.transaction.Txn.{Txn}
 use Rattle.pac_plan.specs.declared.parts.PlanParts.{PlanParts}
-use Rattle.pac_plan.specs.Pieces.{has_ops, part, piece_exists}
-use Rattle.pac_plan.specs.Worlds.{blocks_in, txn_at, txn_block, txn_code}
+use Rattle.pac_plan.specs.Worlds.{blocks_in, txn_at}
 use Rattle.pac_batch.specs.declared.piece_set.PieceSet.{PieceSet}
 use Rattle.pac_batch.specs.Sets.{has_numbers, has_piece, has_txns, set_of, sets_of}
-use Rattle.pac_commute.specs.PlanLaws.{NumbersRunOn, planned, txns_of}
 use Rattle.pac_commute.proofs.Loads.{in-range}
 use Rattle.pac_sets.specs.declared.set_id.SetId.{SetId}
 use Rattle.pac_core.specs.Links.{set_ids}
 use Rattle.pac_core.proofs.Lists.{filter_in, filter_of, map_in, map_of, mem_either, mem_first, mem_second}
-use Rattle.pac_core.proofs.SetFacts.{Stands, range-in, txn_there}
+use Rattle.pac_core.proofs.SetFacts.{range-in}
 
 -- a list with a member isn't empty
 has_one : (ts : List ℕ) (t : ℕ) → Mem t ts → has_numbers ts ≡ true

@@ -1,17 +1,14 @@
 -- The next piece is looked for, which changes nothing that counts; and what is answered of it.
-use Rattle.std.proofs.Common.{◌≡◌, ◌≢◌, ◌↔◌, ℕ, Bool, true, false, List, Option, Some, None, Result, Ok, Err, refl, sym, ap, subst, ◌∙◌, true≢false}
-use Rattle.std.specs.Prelude.{IfOk, IsTrue, slice_get}
+use Rattle.std.proofs.Common.{◌≡◌, ◌↔◌, ℕ, Bool, true, false, Option, None, Result, Ok, Err, refl, sym, subst, ◌∙◌, true≢false}
+use Rattle.std.specs.Prelude.{IfOk, IsTrue}
 use Rattle.pac_value.specs.Expressions.{Values}
-use Rattle.pac_value.specs.State.{Tables}
 use Rattle.pac_ops.specs.declared.piece.PieceId.{PieceId}
 use Rattle.pac_ops.specs.declared.transaction.Txn.{Txn}
-use Rattle.pac_plan.specs.declared.access.Access.TheVariants.{Whole}
 use Rattle.pac_sched.specs.declared.state.PieceState.{PieceState}
 use Rattle.pac_sched.specs.declared.state.Pick.TheVariants.{Piece}
 use Rattle.pac_sched.specs.Schedules.{pick}
 use Rattle.pac_undo.specs.Undo.{Undoable}
 use Rattle.pac_commute.specs.Loads.{Job}
-use Rattle.pac_commute.specs.Machine.{IsReadyAt}
 use Rattle.pac_core.specs.declared.answers.Take.{Take}
 use Rattle.pac_core.specs.declared.answers.Take.TheVariants.{NotReady, Done}
 use Rattle.pac_core.specs.declared.loaded.Loaded.{Loaded}
@@ -23,7 +20,7 @@ use Rattle.pac_core.specs.Inputs.{LeavesValues}
 use Rattle.pac_core.specs.Links.{IsCore, KeepsProgress, core_of, job_of, replay_of}
 use Rattle.pac_core.specs.Moves.{IsNextAt, IsReadyAtOffset}
 use Rattle.pac_core.specs.Places.{AreValuesAt, IsPlaced, IsTxnAt}
-use Rattle.pac_core.specs.Replay.{Replay, machine_of}
+use Rattle.pac_core.specs.Replay.{Replay}
 use Rattle.pac_core.specs.Results.{IsKeptAfter}
 use Rattle.pac_core.proofs.CoreLoads.{goes_on, same_job}
 use Rattle.pac_core.proofs.Lists.{same_item}

@@ -1,18 +1,14 @@
 -- What operations touch, change, give and use doesn't depend on their numbers, so that records, which are numbered anew in each block, are as the
 -- operations of their transaction.
-use Rattle.std.proofs.Common.{◌≡◌, ℕ, ◌+◌, ◌==◌, Bool, true, false, cond, ◌&&◌, ◌||◌, not, List, [], ◌∷◌, map, Option, Some, None, refl, sym, ap, ◌∙◌, subst}
-use Rattle.std.specs.Prelude.{filter}
-use Rattle.std.specs.List.{list_any}
-use Rattle.pac_value.specs.Expressions.{Values}
+use Rattle.std.proofs.Common.{◌≡◌, ℕ, ◌+◌, ◌==◌, Bool, true, false, cond, ◌||◌, List, [], ◌∷◌, map, Some, refl, sym, ap, ◌∙◌}
 use Rattle.pac_value.specs.State.{Cell}
-use Rattle.pac_ops.specs.declared.program.FlatOp.{FlatOp}
 use Rattle.pac_ops.specs.declared.transaction.Change.{Change}
 use Rattle.pac_ops.specs.declared.transaction.Change.TheVariants.{Put as PutRow, Delete as DeleteRow}
 use Rattle.pac_ops.specs.declared.transaction.Txn.{Txn}
 use Rattle.pac_ops.specs.declared.transaction.Txn.TheVariants.{Call as ACall, AdHoc}
-use Rattle.pac_ops.specs.Uses.{accessed_table, defined_variable, modifies, op_uses}
+use Rattle.pac_ops.specs.Uses.{accessed_table, defined_variable, op_uses}
 use Rattle.pac_ops.specs.Operations.{State}
-use Rattle.pac_ops.specs.Effects.{NumberedOp, numbered_from, defined_in, used_in, is_var, record_op, target_of}
+use Rattle.pac_ops.specs.Effects.{NumberedOp, numbered_from, defined_in, used_in, is_var, record_op}
 use Rattle.pac_plan.specs.declared.parts.PlanParts.{PlanParts}
 use Rattle.pac_plan.specs.PieceFits.{change_table, records_in}
 use Rattle.pac_plan.specs.Pieces.{part}

@@ -1,10 +1,9 @@
 -- Of one batch other values are kept.
-use Rattle.std.proofs.Common.{◌≡◌, ◌⊎◌, ℕ, zero, suc, ◌==◌, Bool, true, false, cond, List, [], ◌∷◌, map, Option, None, Some, refl, sym, ap, ◌∙◌, inl, inr}
+use Rattle.std.proofs.Common.{◌≡◌, ◌⊎◌, ℕ, zero, suc, ◌==◌, cond, List, [], ◌∷◌, map, Some, refl, sym, ap, ◌∙◌, inl, inr}
 use Rattle.std.specs.Prelude.{slice_get, slice_set}
 use Rattle.std.proofs.lemmas.Option.{same_Some}
 use Rattle.pac_base.proofs.TestLemmas.{equal_number, same_number, unlike}
 use Rattle.pac_value.specs.Expressions.{Values}
-use Rattle.pac_ops.specs.declared.batch.Batch.{Batch}
 use Rattle.pac_core.specs.declared.loaded.Loaded.{Loaded}
 use Rattle.pac_core.specs.Moves.{AreValuesKept}
 use Rattle.pac_core.proofs.KeptAt.{equal_or_not}

@@ -1,5 +1,5 @@
 -- What the calls of a core answer, and what each makes of the replay.
-use Rattle.std.specs.Prelude.{◌≡◌, ◌≢◌, ◌<◌, ◌+◌, ◌^◌, ⊤, ℕ, Bool, true, false, List, [], ◌∷◌, length, Option, Some, None}
+use Rattle.std.specs.Prelude.{◌≡◌, ◌≢◌, ◌<◌, ◌+◌, ◌^◌, ⊤, ℕ, true, false, List, [], ◌∷◌, length, Option, Some, None}
 use Rattle.pac_value.specs.State.{Tables}
 use Rattle.pac_ops.specs.declared.batch.Batch.{Batch}
 use Rattle.pac_ops.specs.declared.note.Note.{Note}
@@ -20,7 +20,7 @@ use Rattle.pac_core.specs.declared.answers.Take.{Take}
 use Rattle.pac_core.specs.declared.answers.Take.TheVariants.{Given, Ran, NotReady, Done}
 use Rattle.pac_core.specs.declared.answers.Finish.{Finish}
 use Rattle.pac_core.specs.declared.answers.Finish.TheVariants as finish
-use Rattle.pac_core.specs.Replay.{Replay, left, present_of, with_batch, with_finished, with_out, without_out}
+use Rattle.pac_core.specs.Replay.{Replay, left, with_batch, with_finished, with_out, without_out}
 use Rattle.pac_core.specs.Takes.{IsNext, IsWorkIn, access_in}
 
 -- a batch may be loaded: more may come, its numbers run on, and its transactions fit the plan

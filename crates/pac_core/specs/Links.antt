@@ -3,12 +3,9 @@
 use Rattle.std.specs.Prelude.{◌≡◌, ◌<◌, ◌-◌, ◌+◌, ℕ, Bool, true, false, List, [], ◌∷◌, ◌++◌, map, filter, length, slice_get, Option, Some, None, T, unwrap_or}
 use Rattle.std.specs.FinMap.{get, is_sorted}
 use Rattle.pac_value.specs.Expressions.{Values}
-use Rattle.pac_value.specs.State.{Tables}
 use Rattle.pac_ops.specs.declared.batch.Batch.{Batch}
-use Rattle.pac_ops.specs.declared.note.Note.{Note}
 use Rattle.pac_ops.specs.declared.piece.PieceId.{PieceId}
 use Rattle.pac_ops.specs.declared.transaction.Txn.{Txn}
-use Rattle.pac_ops.specs.declared.transaction.Txn.TheVariants.{Call as ACall, AdHoc}
 use Rattle.pac_ops.specs.Shapes.{RowsFit}
 use Rattle.pac_plan.specs.declared.parts.PlanParts.{PlanParts}
 use Rattle.pac_plan.specs.Analysis.{IsPlan}

@@ -11,7 +11,7 @@ use Rattle.pac_plan.specs.Codes.{code_in}
 use Rattle.pac_piece.specs.declared.work.Work.{Work}
 use Rattle.pac_commute.specs.HandOut.{IsPieceTaken}
 use Rattle.pac_commute.specs.PlanLaws.{txns_of}
-use Rattle.pac_commute.specs.Machine.{among, access_at, ends_at, world_at, IsReadyAt}
+use Rattle.pac_commute.specs.Machine.{among, access_at, ends_at, world_at}
 use Rattle.pac_core.specs.Cells.{AreCellsOf, copies_at}
 use Rattle.pac_core.specs.Inputs.{Finds}
 use Rattle.pac_core.specs.Replay.{Replay, loaded_pieces, machine_of, present_of}

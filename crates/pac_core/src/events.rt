@@ -229,9 +229,7 @@ pub(crate) fn hand_in<R: Rows>(
             progress.finish(place, piece, kept, note);
             Finish::Kept
         }
-        Err((writes, NoMemory)) => {
-            Finish::NoMemory(Done::of_parts(work, writes, outs, note))
-        }
+        Err((writes, NoMemory)) => { Finish::NoMemory(Done::of_parts(work, writes, outs, note)) }
     }
 }
 

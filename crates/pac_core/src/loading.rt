@@ -54,7 +54,11 @@ impl Progress {
         if self.batches.reserve(1).is_err() {
             return Err((batch, NoMemory));
         }
-        let Added { sets, kept, pieces: _ } = added;
+        let Added {
+            sets,
+            kept,
+            pieces: _,
+        } = added;
         if self.sets.add_all(sets).is_err() {
             return Err((batch, NoMemory));
         }

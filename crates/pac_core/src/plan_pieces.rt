@@ -159,7 +159,8 @@ impl PlanPieces {
         match (txn, code) {
             (Txn::Call(call), code) => self.code.code(call.proc, block).get().same(code),
             (Txn::AdHoc { records }, Code::Records(own)) => {
-                self.code.are_records(records.items(), block, own.as_slice())
+                self.code
+                    .are_records(records.items(), block, own.as_slice())
             }
             (Txn::AdHoc { .. }, Code::Ops(_)) => false,
         }

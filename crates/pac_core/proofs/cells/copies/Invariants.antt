@@ -1,6 +1,5 @@
 -- The copies so far, and those of the cells that are left, are all.
-use Rattle.std.proofs.Common.{◌≡◌, ◌<◌, ◌++◌, drop}
-use Rattle.std.specs.List.{All}
+use Rattle.std.proofs.Common.{◌≡◌, ◌++◌, drop}
 use Rattle.pac_core.specs.Cells.{copies_at}
 use Rattle.pac_core.proofs.cells.copies.Given as goal
 

@@ -1,5 +1,5 @@
 -- The piece of own work waits again; other work changes nothing.
-use Rattle.std.proofs.Common.{◌≡◌, ℕ, Option, Some, ap, ◌∙◌}
+use Rattle.std.proofs.Common.{ap, ◌∙◌}
 use Rattle.pac_sched.specs.Schedules.{at_position}
 use Rattle.pac_core.proofs.CoreMoves.{back_core, back_is}
 use Rattle.pac_core.proofs.events.give_back.Goals as goal

@@ -1,9 +1,8 @@
 -- By the cells of the piece, and what is kept for it.
-use Rattle.std.proofs.Common.{◌≡◌, List, sym, ap, subst, ◌∙◌}
+use Rattle.std.proofs.Common.{sym, subst}
 use Rattle.pac_value.specs.State.{Tables}
 use Rattle.pac_sched.specs.declared.state.PieceState.TheVariants as state
 use Rattle.pac_commute.specs.Machine.{access_at}
-use Rattle.pac_core.specs.declared.cells.PieceCells.{PieceCells}
 use Rattle.pac_core.specs.Cells.{AreCellsOf, AreOf}
 use Rattle.pac_core.specs.Links.{core_of, job_of}
 use Rattle.pac_core.specs.Replay.{machine_of}

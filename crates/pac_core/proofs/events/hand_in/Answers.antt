@@ -7,7 +7,6 @@ use Rattle.pac_tables.specs.Written.{AreWithin, written}
 use Rattle.pac_piece.specs.declared.work.Work.{Work}
 use Rattle.pac_sched.specs.declared.state.PieceState.TheVariants as state
 use Rattle.pac_sched.specs.Schedules.{with_state}
-use Rattle.pac_undo.specs.Undo.{Undoable}
 use Rattle.pac_core.specs.Calls.{IsOwn}
 use Rattle.pac_core.specs.Links.{core_of, job_of}
 use Rattle.pac_core.specs.Moves.{IsFinishedAt, IsOrderAfter, MayFinish}

@@ -1,5 +1,5 @@
 -- By the transaction of the piece, which fits the plan.
-use Rattle.std.proofs.Common.{◌≡◌, ◌<◌, subst}
+use Rattle.std.proofs.Common.{◌<◌, subst}
 use Rattle.pac_plan.specs.declared.parts.PlanParts.{PlanParts}
 use Rattle.pac_plan.specs.Codes.{TxnFitsPlan}
 use Rattle.pac_core.proofs.PlacedPieces as placed

@@ -1,16 +1,15 @@
 -- By what the core has for the piece.
-use Rattle.std.proofs.Common.{◌≡◌, ◌<◌, Result, Ok, Err, refl, sym, ap, subst, ◌∙◌}
+use Rattle.std.proofs.Common.{Result, Ok, Err, refl, sym, ap, subst, ◌∙◌}
 use Rattle.std.specs.Prelude.{IfOk}
 use Rattle.std.specs.FinMap.{get}
 use Rattle.pac_base.specs.declared.no_memory.NoMemory.{NoMemory}
-use Rattle.pac_value.specs.State.{Cell, Tables}
+use Rattle.pac_value.specs.State.{Tables}
 use Rattle.pac_plan.specs.declared.code.Code.{Code}
 use Rattle.pac_plan.specs.Codes.{code_in}
 use Rattle.pac_piece.specs.declared.on_tables.PieceOutcome.{PieceOutcome}
 use Rattle.pac_piece.specs.Values.{IsValueOver}
 use Rattle.pac_sched.specs.declared.state.PieceState.TheVariants as state
 use Rattle.pac_core.specs.Links.{core_of}
-use Rattle.pac_core.specs.Replay.{present_of}
 use Rattle.pac_core.specs.Results.{IsResult}
 use Rattle.pac_core.proofs.EventFacts.{block_inside, fits, may_run_on, result_is}
 use Rattle.pac_core.proofs.events.outcome_of.Goals as goal

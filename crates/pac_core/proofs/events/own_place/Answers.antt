@@ -1,15 +1,12 @@
 -- By the place of the piece that is out, and what is kept for it.
-use Rattle.std.proofs.Common.{◌≡◌, ◌↔◌, ℕ, Bool, true, false, List, Option, Some, None, refl, sym, ap, subst, ◌∙◌, true≢false}
-use Rattle.std.specs.Prelude.{All, IfNone, IfSome}
-use Rattle.pac_value.specs.State.{Cell}
+use Rattle.std.proofs.Common.{sym, subst, ◌∙◌, true≢false}
 use Rattle.pac_sched.specs.declared.state.PieceState.TheVariants as state
-use Rattle.pac_commute.specs.Machine.{access_at, among}
-use Rattle.pac_core.specs.declared.cells.PieceCells.{PieceCells}
+use Rattle.pac_commute.specs.Machine.{access_at}
 use Rattle.pac_core.specs.Cells.{AreCellsOf, AreOf}
 use Rattle.pac_core.specs.Links.{core_of, job_of}
 use Rattle.pac_core.specs.Replay.{machine_of}
-use Rattle.pac_core.specs.Takes.{IsWorkOver, access_in}
-use Rattle.pac_core.proofs.EventFacts.{block_inside, cells_within, fits, of_own, own_of, whole_foreign}
+use Rattle.pac_core.specs.Takes.{IsWorkOver}
+use Rattle.pac_core.proofs.EventFacts.{block_inside, cells_within, fits, of_own, own_of}
 use Rattle.pac_core.proofs.OutPlaces.{if_none}
 use Rattle.pac_core.proofs.PlacedPieces.{cells_are}
 use Rattle.pac_core.proofs.events.own_place.Goals as goal

@@ -1,5 +1,4 @@
 -- What it leaves is written, and it is handed out and finished.
-use Rattle.std.proofs.Common.{◌≡◌}
 use Rattle.pac_sched.specs.declared.state.PieceState.TheVariants as state
 use Rattle.pac_core.specs.Links.{job_of}
 use Rattle.pac_core.proofs.HandIns.{ran_core, ran_is}

@@ -1,7 +1,6 @@
 -- The next piece is looked for, and taken.
-use Rattle.std.proofs.Common.{◌≡◌, ℕ, Bool, true, false, Option, None, Some, Result, Ok, Err, sym, ap, subst, ◌∙◌}
+use Rattle.std.proofs.Common.{◌≡◌, None, Some, Result, Ok, Err, subst}
 use Rattle.std.specs.Prelude.{IfOk, OnErr}
-use Rattle.pac_ops.specs.declared.piece.PieceId.{PieceId}
 use Rattle.pac_core.specs.declared.answers.Take.TheVariants.{Done, NotReady}
 use Rattle.pac_core.specs.Calls.{IsTaken}
 use Rattle.pac_core.specs.Links.{core_of, job_of}

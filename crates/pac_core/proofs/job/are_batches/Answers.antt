@@ -1,10 +1,8 @@
 -- One batch more is the same.
-use Rattle.std.proofs.Common.{◌≡◌, ℕ, zero, suc, ◌<◌, List, [], ◌∷◌, map, length, get_or, refl, sym, ap, subst, ◌∙◌, arith}
+use Rattle.std.proofs.Common.{◌≡◌, ℕ, zero, suc, ◌<◌, List, [], ◌∷◌, map, length, get_or, refl, sym, subst, ◌∙◌, arith}
 use Rattle.std.proofs.lemmas.List.{length-map, take_more_same}
-use Rattle.pac_ops.specs.declared.batch.Batch.{Batch}
 use Rattle.pac_core.specs.declared.loaded.Loaded.{Loaded}
 use Rattle.pac_core.proofs.job.are_batches.Goals as goal
-
 
 get_map : {A B : Type 0} (f : A → B) (xs : List A) (i : ℕ) (d : B) (e : A) → i < length xs → get_or (map f xs) i d ≡ f (get_or xs i e)
 get_map f [] i d e lt = absurd (omega (arith, lt))

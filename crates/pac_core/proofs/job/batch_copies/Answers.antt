@@ -1,5 +1,5 @@
 -- One batch more.
-use Rattle.std.proofs.Common.{◌≡◌, ◌+◌, List, [], ◌∷◌, ◌++◌, drop, map, sym, ap, ◌∙◌}
+use Rattle.std.proofs.Common.{◌+◌, [], ◌∷◌, ◌++◌, drop, map, sym, ap, ◌∙◌}
 use Rattle.std.proofs.lemmas.List.{append-nil, append_assoc, drop_all, drop_more}
 use Rattle.pac_ops.specs.declared.batch.Batch.{Batch}
 use Rattle.pac_core.specs.declared.loaded.Loaded.{Loaded}

@@ -1,9 +1,8 @@
 -- One set more.
-use Rattle.std.proofs.Common.{◌≡◌, ◌+◌, List, [], ◌∷◌, ◌++◌, get_or, take, Option, Some, sym, ap, subst, ◌∙◌}
+use Rattle.std.proofs.Common.{List, [], ◌∷◌, ◌++◌, get_or, take, Some, sym, ap, subst, ◌∙◌}
 use Rattle.std.specs.List.{AllZip}
 use Rattle.std.proofs.lemmas.List.{take_all, take_more}
 use Rattle.pac_batch.specs.declared.piece_set.PieceSet.{PieceSet}
-use Rattle.pac_sets.specs.declared.set_id.SetId.{SetId}
 use Rattle.pac_sets.specs.Sets.{Kept}
 use Rattle.pac_core.specs.declared.stage.Stage.{Stage}
 use Rattle.pac_core.specs.declared.stage.Stage.TheVariants.{Waiting}

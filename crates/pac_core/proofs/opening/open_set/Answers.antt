@@ -1,15 +1,15 @@
 -- One transaction more, and at the end the schedule that the next pairs give.
-use Rattle.std.proofs.Common.{◌≡◌, ℕ, ◌+◌, ◌<◌, List, [], ◌∷◌, ◌++◌, map, length, get_or, replicate, take, refl, sym, ap, subst, ◌∙◌, arith}
+use Rattle.std.proofs.Common.{◌≡◌, List, [], ◌∷◌, ◌++◌, map, length, get_or, replicate, take, refl, sym, ap, subst, ◌∙◌, arith}
 use Rattle.std.proofs.lemmas.List.{length-map, take_all}
 use Rattle.pac_base.specs.Members.{Rises}
 use Rattle.pac_ops.specs.declared.piece.PieceId.{PieceId}
 use Rattle.pac_plan.specs.declared.access.Access.{Access}
 use Rattle.pac_batch.specs.NextLists.{AreNextPairs}
 use Rattle.pac_sched.specs.declared.state.PieceState.TheVariants as state
-use Rattle.pac_sched.specs.Schedules.{AreDifferent, ArePairsBelow, Schedule, after_opening, nothing_open}
+use Rattle.pac_sched.specs.Schedules.{AreDifferent, Schedule, after_opening}
 use Rattle.pac_sched.proofs.OpeningLemmas.{ascending_differ, first_opened}
 use Rattle.pac_core.specs.declared.cells.PieceCells.{PieceCells}
-use Rattle.pac_core.specs.Cells.{AreOf, HasCellsOf}
+use Rattle.pac_core.specs.Cells.{HasCellsOf}
 use Rattle.pac_core.specs.Links.{piece_in}
 use Rattle.pac_core.specs.Moves.{access_over}
 use Rattle.pac_core.proofs.Ascending.{ascending, set_rises}

@@ -1,6 +1,5 @@
 -- By the batches that begin at or before the number.
 use Rattle.std.proofs.Common.{◌-◌, ◌<◌, ◌≤◌, leb, List, length, get_or, subst, rules}
-use Rattle.std.specs.List.Sorted.{IsPartitionPoint}
 use Rattle.std.proofs.lemmas.List.Sorted.{IsPartitionPoint-from_clause, IsPartitionedBy-leb}
 use Rattle.pac_ops.specs.declared.transaction.Txn.{Txn}
 use Rattle.pac_core.specs.declared.loaded.Loaded.{Loaded}

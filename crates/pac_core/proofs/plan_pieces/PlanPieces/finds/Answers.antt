@@ -12,9 +12,9 @@ use Rattle.pac_core.proofs.plan_pieces.PlanPieces.finds.Goals as goal
 
 pub returns-in-Call : goal.returns-in-Call
 returns-in-Call c = subst (λ (txn : Txn). IsTrue c.has_only.result ↔ Finds c.args.self.now c.args.block txn c.args.kept.now c.args.env.now) (sym c.in-Call.is) (
-    (λ t. finds_of c.args.self.now c.args.block txn c.as_slice.result.now c.args.kept.now c.args.env.now are (c.has_only.ensures.0 t)),
-    (λ f. c.has_only.ensures.1 (has_of c.args.self.now c.args.block txn c.as_slice.result.now c.args.kept.now c.args.env.now are f)),
-  )
+  (λ t. finds_of c.args.self.now c.args.block txn c.as_slice.result.now c.args.kept.now c.args.env.now are (c.has_only.ensures.0 t)),
+  (λ f. c.has_only.ensures.1 (has_of c.args.self.now c.args.block txn c.as_slice.result.now c.args.kept.now c.args.env.now are f)),
+)
   where
     txn : Txn
     txn = ACall c.in-Call.call

@@ -1,5 +1,5 @@
 -- By the outputs of the interface.
-use Rattle.std.proofs.Common.{◌≡◌, ◌↔◌, ℕ, List, true, Ok, Err, Result, sym, ap, ◌∙◌, subst}
+use Rattle.std.proofs.Common.{◌≡◌, ◌↔◌, ℕ, List, true, Ok, Err, Result, sym, subst}
 use Rattle.std.specs.Prelude.{Contains, IfOk}
 use Rattle.pac_value.specs.Expressions.{Values}
 use Rattle.pac_base.specs.declared.no_memory.NoMemory.{NoMemory}

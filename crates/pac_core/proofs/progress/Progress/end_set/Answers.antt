@@ -1,9 +1,8 @@
 -- Where values are cleared, no set of the batch is left.
-use Rattle.std.proofs.Common.{◌≡◌, ◌⊎◌, ℕ, ◌<◌, ◌==◌, Bool, true, false, cond, List, [], map, Option, None, Some, refl, sym, ap, subst, ◌∙◌, true≢false, inl, inr}
+use Rattle.std.proofs.Common.{◌≡◌, ◌⊎◌, ℕ, ◌<◌, ◌==◌, cond, [], None, Some, refl, sym, ap, subst, ◌∙◌, true≢false, inl, inr}
 use Rattle.std.specs.Prelude.{slice_get, T}
 use Rattle.std.specs.FinMap.{is_sorted}
 use Rattle.pac_base.proofs.TestLemmas.{same_number, unlike}
-use Rattle.pac_value.specs.Expressions.{Values}
 use Rattle.pac_sets.specs.SetOrder.{set_cmp}
 use Rattle.pac_sets.specs.Sets.{Kept, Setting}
 use Rattle.pac_sets.proofs.KeptLemmas.{sorted_stays}

@@ -1,12 +1,10 @@
 -- The set is lifted, its piece is finished, and it is kept again or ends.
-use Rattle.std.proofs.Common.{◌≡◌, ℕ, ◌+◌, ◌-◌, ◌<◌, ◌==◌, Bool, true, false, List, [], map, length, Option, Some, None, refl, sym, ap, subst, ◌∙◌, arith}
+use Rattle.std.proofs.Common.{◌≡◌, ℕ, ◌<◌, ◌==◌, true, false, [], map, length, Option, Some, refl, sym, ap, subst, ◌∙◌, arith}
 use Rattle.std.specs.Prelude.{slice_get, T}
 use Rattle.std.specs.FinMap.{is_sorted}
 use Rattle.std.proofs.lemmas.List.{length-map}
 use Rattle.std.proofs.lemmas.Option.{slice_get_within}
 use Rattle.pac_base.proofs.TestLemmas.{equal_number, same_number, unlike}
-use Rattle.pac_ops.specs.declared.note.Note.{Note}
-use Rattle.pac_ops.specs.Notes.{least}
 use Rattle.pac_sched.specs.declared.state.PieceState.TheVariants as state
 use Rattle.pac_sched.specs.Schedules.{IsInOrder, Schedule, all_finished, unfinished_pieces, with_state}
 use Rattle.pac_sets.specs.SetOrder.{set_cmp}
@@ -28,7 +26,7 @@ keep-requires c = (
   c.requires.placed.stands.set,
   Waiting [],
   ap (λ (p : Progress). slice_get p.sets.sets c.args.place.at) c.lift-open.ensures.now
-  ∙ get_changed c.args.self.now.sets.sets c.args.place.at (c.requires.placed.stands.set, Some (Open c.requires.placed.stands.opening)) (Some (Waiting [])) c.requires.placed.stands.there,
+      ∙ get_changed c.args.self.now.sets.sets c.args.place.at (c.requires.placed.stands.set, Some (Open c.requires.placed.stands.opening)) (Some (Waiting [])) c.requires.placed.stands.there,
 )
 
 pub keep_values-requires : goal.keep_values-requires

@@ -1,5 +1,5 @@
 -- The set is lifted, a piece is taken, and it is kept again.
-use Rattle.std.proofs.Common.{◌≡◌, List, [], Some, ap, ◌∙◌}
+use Rattle.std.proofs.Common.{[], Some, ap, ◌∙◌}
 use Rattle.std.specs.Prelude.{slice_get}
 use Rattle.pac_sched.specs.Schedules.{after_take}
 use Rattle.pac_core.specs.declared.progress.Progress.{Progress}

@@ -1,5 +1,5 @@
 -- One block more; and each set is in one of the blocks.
-use Rattle.std.proofs.Common.{◌≡◌, ◌⊎◌, ℕ, ◌+◌, ◌<◌, ◌≤◌, true, false, sym, ap, subst, ◌∙◌, true≢false, inl, inr, arith}
+use Rattle.std.proofs.Common.{◌≡◌, ◌⊎◌, ℕ, ◌+◌, ◌<◌, sym, ap, subst, ◌∙◌, true≢false, inl, inr, arith}
 use Rattle.pac_plan.specs.declared.parts.PlanParts.{PlanParts}
 use Rattle.pac_sets.specs.declared.set_id.SetId.{SetId}
 use Rattle.pac_core.specs.Moves.{IsSetUnfinished}
@@ -22,10 +22,10 @@ pub returns : goal.returns
 returns c = (
   (λ t. absurd (true≢false (sym t))),
   (λ u.
-    let set = u.1 in
-    let inside : set.block < c.args.self.now.pieces.blocks = c.requires.blocks u.0 _ u.3 in
-    let blocks : c.blocks-block-end.result ≡ c.args.self.now.pieces.blocks = c.blocks-block-end.ensures ∙ ap (λ (p : PlanParts). p.blocks) (c.plan.ensures ∙ c.code.ensures) in
-    let end = c.loop-block-test.false in
-    let lt : set.block < c.loop-block.block = omega (arith, inside, blocks, end) in
-    absurd (c.loop-block.invariant set u.4 lt (u.0, u.2, u.3))),
+      let set = u.1 in
+      let inside : set.block < c.args.self.now.pieces.blocks = c.requires.blocks u.0 _ u.3 in
+      let blocks : c.blocks-block-end.result ≡ c.args.self.now.pieces.blocks = c.blocks-block-end.ensures ∙ ap (λ (p : PlanParts). p.blocks) (c.plan.ensures ∙ c.code.ensures) in
+      let end = c.loop-block-test.false in
+      let lt : set.block < c.loop-block.block = omega (arith, inside, blocks, end) in
+      absurd (c.loop-block.invariant set u.4 lt (u.0, u.2, u.3))),
 )

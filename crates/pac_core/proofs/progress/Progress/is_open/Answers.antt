@@ -1,10 +1,9 @@
 -- By what is kept of it.
-use Rattle.std.proofs.Common.{◌≡◌, ℕ, Bool, true, false, List, Option, Some, None, refl, sym, ap, ◌∙◌, true≢false}
+use Rattle.std.proofs.Common.{◌≡◌, ℕ, List, Option, Some, refl, sym, ap, ◌∙◌, true≢false}
 use Rattle.std.specs.Prelude.{slice_get}
 use Rattle.std.proofs.lemmas.Option.{same_Some}
 use Rattle.pac_sets.specs.declared.set_id.SetId.{SetId}
 use Rattle.pac_sets.specs.Sets.{Kept}
-use Rattle.pac_core.specs.declared.stage.OpenSet.{OpenSet}
 use Rattle.pac_core.specs.declared.stage.Stage.{Stage}
 use Rattle.pac_core.specs.declared.stage.Stage.TheVariants.{Open, Waiting}
 use Rattle.pac_core.proofs.progress.Progress.is_open.Goals as goal
@@ -27,6 +26,6 @@ pub returns-in-Waiting : goal.returns-in-Waiting
 returns-in-Waiting c = (
   (λ t. absurd (true≢false (sym t))),
   (λ stands.
-    let is : ◌≡◌ {A = Option Stage} (Some (Open stands.opening)) (Some (Waiting c.in-Waiting.field-0)) = read_is c.args.self.now.sets.sets c.args.at c.get.result.now _ _ stands.set c.get.ensures (c.in-Some.is ∙ ap (λ (s : Stage). Some s) c.in-Waiting.is) stands.there in
-    absurd cc),
+      let is : ◌≡◌ {A = Option Stage} (Some (Open stands.opening)) (Some (Waiting c.in-Waiting.field-0)) = read_is c.args.self.now.sets.sets c.args.at c.get.result.now _ _ stands.set c.get.ensures (c.in-Some.is ∙ ap (λ (s : Stage). Some s) c.in-Waiting.is) stands.there in
+      absurd cc),
 )

@@ -1,12 +1,10 @@
 -- By what is kept of it.
-use Rattle.std.proofs.Common.{◌≡◌, Bool, true, false, Option, Some, None, sym, ap, ◌∙◌, true≢false}
-use Rattle.std.specs.Prelude.{is_some, slice_get}
-use Rattle.pac_sets.specs.declared.set_id.SetId.{SetId}
+use Rattle.std.proofs.Common.{◌≡◌, true, Option, Some, None, sym, ap, ◌∙◌, true≢false}
+use Rattle.std.specs.Prelude.{is_some}
 use Rattle.pac_sets.specs.Sets.{Kept}
 use Rattle.std.proofs.lemmas.Option.{same_Some}
 use Rattle.pac_sets.proofs.SetLemmas.{kept_there}
 use Rattle.pac_core.specs.declared.stage.Stage.{Stage}
-use Rattle.pac_core.specs.Moves.{IsSetUnfinished}
 use Rattle.pac_core.proofs.progress.Progress.is_unfinished.Goals as goal
 
 some_stage : (o : Option Stage) → is_some o ≡ true → (s : Stage) × (o ≡ Some s)

@@ -1,17 +1,14 @@
 -- No set before the offset has a ready piece, and each step is one set further.
-use Rattle.std.proofs.Common.{◌≡◌, ℕ, ◌+◌, ◌-◌, ◌<◌, ◌≤◌, List, map, length, Option, Some, None, refl, sym, ap, subst, ◌∙◌, arith}
-use Rattle.std.specs.Prelude.{IfNone, IfSome, OnOk}
+use Rattle.std.proofs.Common.{◌≡◌, ℕ, ◌<◌, length, Some, refl, sym, ap, ◌∙◌, arith}
 use Rattle.std.proofs.lemmas.List.{length-map}
 use Rattle.std.proofs.lemmas.Option.{slice_get_within}
-use Rattle.pac_ops.specs.declared.piece.PieceId.{PieceId}
 use Rattle.pac_commute.specs.Loads.{Job}
-use Rattle.pac_sets.specs.Sets.{IsFirstOpen, IsOpenSet, Kept}
+use Rattle.pac_sets.specs.Sets.{IsOpenSet, Kept}
 use Rattle.pac_core.specs.declared.progress.Progress.{Progress}
 use Rattle.pac_core.specs.declared.stage.Stage.{Stage}
-use Rattle.pac_core.specs.Links.{KeepsProgress, batches_of, replay_of, set_ids}
-use Rattle.pac_core.specs.Moves.{HasNoneReady, IsReadyAtOffset, StandsOpen}
+use Rattle.pac_core.specs.Links.{KeepsProgress, replay_of, set_ids}
 use Rattle.pac_core.specs.Replay.{Replay}
-use Rattle.pac_core.proofs.NextReady.{ReadyFrom, from_next, from_open, from_same, next_here, none_left}
+use Rattle.pac_core.proofs.NextReady.{from_next, from_open, from_same, next_here, none_left}
 use Rattle.pac_core.proofs.progress.Progress.next_ready.Goals as goal
 
 -- as many sets as before

@@ -1,6 +1,6 @@
 -- What is opened is kept.
-use Rattle.std.proofs.Common.{◌≡◌, Option, Some, sym, ap, subst, ◌∙◌}
-use Rattle.std.specs.Prelude.{IfNone, IfSome, slice_get}
+use Rattle.std.proofs.Common.{Option, Some, sym, ap, subst, ◌∙◌}
+use Rattle.std.specs.Prelude.{IfSome, slice_get}
 use Rattle.pac_sets.specs.Sets.{Setting}
 use Rattle.pac_core.specs.declared.stage.OpenSet.{OpenSet}
 use Rattle.pac_core.specs.declared.stage.Stage.{Stage}

@@ -1,5 +1,5 @@
 -- By the values that are kept of its batch.
-use Rattle.std.proofs.Common.{◌≡◌, ℕ, ◌<◌, List, length, get_or, Option, None, Some, refl, sym, ap, subst, ◌∙◌, arith}
+use Rattle.std.proofs.Common.{◌≡◌, ℕ, ◌<◌, List, length, get_or, Some, refl, sym, ap, subst, ◌∙◌, arith}
 use Rattle.std.specs.Prelude.{slice_get}
 use Rattle.std.proofs.lemmas.Option.{same_Some, slice_get_read, slice_get_within}
 use Rattle.pac_batch.specs.Sets.{set_of}
@@ -8,7 +8,7 @@ use Rattle.pac_sets.specs.Sets.{IsOpenSet, Kept}
 use Rattle.pac_core.specs.declared.loaded.Loaded.{Loaded}
 use Rattle.pac_core.specs.declared.progress.Progress.{Progress}
 use Rattle.pac_core.specs.declared.stage.Stage.{Stage}
-use Rattle.pac_core.specs.declared.stage.Stage.TheVariants.{Open, Waiting}
+use Rattle.pac_core.specs.declared.stage.Stage.TheVariants.{Waiting}
 use Rattle.pac_core.specs.Moves.{HasAllInputs, IsFreshlyOpen}
 use Rattle.pac_core.proofs.OpenedSets.{batch_fits, block_inside, inputs_are, loaded_there, txns_are}
 use Rattle.pac_core.proofs.progress.Progress.opening_of.Goals as goal

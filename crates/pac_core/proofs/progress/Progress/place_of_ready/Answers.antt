@@ -1,5 +1,5 @@
 -- By its set, its batch and its schedule.
-use Rattle.std.proofs.Common.{◌≡◌, ℕ, ◌-◌, ◌<◌, length, get_or, refl, sym, ap, subst, ◌∙◌, arith}
+use Rattle.std.proofs.Common.{◌≡◌, ◌-◌, ◌<◌, length, get_or, refl, sym, ap, subst, ◌∙◌, arith}
 use Rattle.std.proofs.lemmas.Option.{none-some, same_Some, slice_get_read, slice_get_within}
 use Rattle.pac_sched.specs.declared.state.PieceState.TheVariants.{Waiting}
 use Rattle.pac_sched.specs.Schedules.{position_of}

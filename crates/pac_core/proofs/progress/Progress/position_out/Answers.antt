@@ -1,5 +1,5 @@
 -- It stands where the schedule has it.
-use Rattle.std.proofs.Common.{◌≡◌, Some, sym, ap, ◌∙◌}
+use Rattle.std.proofs.Common.{Some, sym, ap, ◌∙◌}
 use Rattle.pac_core.proofs.OutPlaces.{found_out}
 use Rattle.pac_core.proofs.progress.Progress.position_out.Goals as goal
 

@@ -1,5 +1,5 @@
 -- The set is lifted, the piece waits again, and it is kept again.
-use Rattle.std.proofs.Common.{◌≡◌, List, [], Some, ap, ◌∙◌}
+use Rattle.std.proofs.Common.{[], Some, ap, ◌∙◌}
 use Rattle.std.specs.Prelude.{slice_get}
 use Rattle.pac_sched.specs.declared.state.PieceState.TheVariants as state
 use Rattle.pac_sched.specs.Schedules.{with_state}

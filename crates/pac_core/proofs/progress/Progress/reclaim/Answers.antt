@@ -1,10 +1,10 @@
 -- One set more.
-use Rattle.std.proofs.Common.{◌≡◌, ℕ, suc, ◌+◌, ◌<◌, ◌≤◌, length, Some, refl, sym, ap, subst, ◌∙◌, arith}
+use Rattle.std.proofs.Common.{◌≡◌, ℕ, suc, ◌+◌, ◌<◌, ◌≤◌, length, Some, refl, ap, ◌∙◌, arith}
 use Rattle.std.specs.Prelude.{slice_get}
 use Rattle.pac_base.proofs.ItemLemmas.{item_at}
 use Rattle.pac_sets.specs.Sets.{with_kept_at}
 use Rattle.pac_core.specs.declared.progress.Progress.{Progress}
-use Rattle.pac_core.specs.Moves.{reclaimed_kept, reclaimed_sets}
+use Rattle.pac_core.specs.Moves.{reclaimed_kept}
 use Rattle.pac_core.proofs.ReclaimSteps.{upto, upto_all, upto_get, upto_len, upto_step}
 use Rattle.pac_core.proofs.progress.Progress.reclaim.Goals as goal
 

@@ -1,5 +1,4 @@
 -- Only that no more come is changed.
-use Rattle.std.proofs.Common.{◌≡◌}
 use Rattle.pac_core.proofs.CoreLoads.{closed_core}
 use Rattle.pac_core.proofs.replay.Core.close.Goals as goal
 

@@ -1,7 +1,6 @@
 -- One step more, while any is left.
-use Rattle.std.proofs.Common.{◌≡◌, ◌<◌, refl, sym, ◌∙◌, true≢false, arith}
-use Rattle.pac_core.specs.Replay.{left}
-use Rattle.pac_core.proofs.DrainSteps.{drained_then, some_left}
+use Rattle.std.proofs.Common.{refl}
+use Rattle.pac_core.proofs.DrainSteps.{drained_then}
 use Rattle.pac_core.proofs.replay.Core.drain.Goals as goal
 
 pub loop-self-init : goal.loop-self-init

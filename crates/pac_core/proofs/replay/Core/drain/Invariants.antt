@@ -1,5 +1,4 @@
 -- The same is loaded, and no piece is out.
-use Rattle.std.proofs.Common.{◌≡◌}
 use Rattle.pac_core.specs.Calls.{IsDrained}
 use Rattle.pac_core.specs.Replay.{left}
 use Rattle.pac_core.proofs.replay.Core.drain.Given as goal

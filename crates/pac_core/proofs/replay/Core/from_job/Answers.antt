@@ -1,6 +1,5 @@
 -- Its batches are loaded, and it is closed.
-use Rattle.std.proofs.Common.{◌≡◌, List, sym, ap, subst, ◌∙◌}
-use Rattle.pac_ops.specs.declared.batch.Batch.{Batch}
+use Rattle.std.proofs.Common.{sym, ap, subst, ◌∙◌}
 use Rattle.pac_core.specs.Calls.{MayLoadAll, with_batches}
 use Rattle.pac_core.specs.Replay.{Replay, closed}
 use Rattle.pac_core.proofs.replay.Core.from_job.Goals as goal

@@ -1,7 +1,5 @@
 -- What is kept tells it.
-use Rattle.std.proofs.Common.{◌≡◌, List, length, map, sym, ap, subst, ◌∙◌}
-use Rattle.pac_ops.specs.declared.batch.Batch.{Batch}
-use Rattle.pac_plan.specs.declared.parts.PlanParts.{PlanParts}
+use Rattle.std.proofs.Common.{map, sym, ap, subst, ◌∙◌}
 use Rattle.pac_core.specs.declared.loaded.Loaded.{Loaded}
 use Rattle.pac_core.specs.Calls.{IsJobOf}
 use Rattle.pac_core.specs.Replay.{Replay}

@@ -1,10 +1,7 @@
 -- The batch is added, or all is as it was.
-use Rattle.std.proofs.Common.{◌≡◌, Result, Ok, Err, sym, ap, subst, ◌∙◌}
+use Rattle.std.proofs.Common.{◌≡◌, sym, subst, ◌∙◌}
 use Rattle.std.specs.Prelude.{OnErr, OnOk}
-use Rattle.std.specs.List.{AllByRecursion}
 use Rattle.pac_plan.specs.Codes.{TxnFitsPlan}
-use Rattle.pac_commute.specs.Loads.{next_in_job}
-use Rattle.pac_commute.specs.PartialFits.{TxnsFitPlan}
 use Rattle.pac_core.specs.Calls.{MayLoad}
 use Rattle.pac_core.specs.Links.{core_of}
 use Rattle.pac_core.specs.Replay.{Replay, with_batch}

@@ -1,5 +1,5 @@
 -- One batch more.
-use Rattle.std.proofs.Common.{◌≡◌, ◌+◌, Bool, true, false, List, [], ◌∷◌, drop, get_or, Result, Ok, Err, refl, sym, ap, subst, ◌∙◌, true≢false}
+use Rattle.std.proofs.Common.{◌≡◌, ◌+◌, false, ◌∷◌, drop, get_or, Result, Ok, Err, refl, sym, ap, subst, ◌∙◌, true≢false}
 use Rattle.std.specs.Prelude.{OnOk, is_err}
 use Rattle.std.proofs.lemmas.List.{drop_all, drop_more}
 use Rattle.pac_ops.specs.declared.batch.Batch.{Batch}

@@ -1,5 +1,4 @@
 -- Nothing is loaded.
-use Rattle.std.proofs.Common.{◌≡◌}
 use Rattle.pac_core.proofs.CoreLoads.{opening_core, opening_core_is}
 use Rattle.pac_core.proofs.replay.Core.new.Goals as goal
 

@@ -1,5 +1,5 @@
 -- Each piece is finished: what stands is what executing the transactions one after another makes.
-use Rattle.std.proofs.Common.{◌≡◌, sym, subst}
+use Rattle.std.proofs.Common.{sym, subst}
 use Rattle.pac_value.specs.State.{Tables}
 use Rattle.pac_core.specs.Calls.{IsDone, IsOutcome}
 use Rattle.pac_core.specs.Links.{core_of}

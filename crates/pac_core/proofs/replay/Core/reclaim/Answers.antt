@@ -1,5 +1,5 @@
 -- None is out any more.
-use Rattle.std.proofs.Common.{◌≡◌, ap, ◌∙◌}
+use Rattle.std.proofs.Common.{ap, ◌∙◌}
 use Rattle.pac_core.specs.Replay.{with_none_out}
 use Rattle.pac_core.proofs.ReclaimedCore.{reclaimed_core, reclaimed_is}
 use Rattle.pac_core.proofs.replay.Core.reclaim.Goals as goal

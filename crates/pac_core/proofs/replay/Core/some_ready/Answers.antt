@@ -1,5 +1,5 @@
 -- The least piece that is left is ready.
-use Rattle.std.proofs.Common.{◌≡◌, subst}
+use Rattle.std.proofs.Common.{subst}
 use Rattle.pac_core.specs.Calls.{HasReady}
 use Rattle.pac_core.proofs.DrainSteps.{has_ready}
 use Rattle.pac_core.proofs.replay.Core.some_ready.Goals as goal
