@@ -44,8 +44,8 @@ impl Progress {
     /// How many pairs are kept of the sets that are opened, or the greatest `u64`. Takes no memory.
     pub fn pairs(&self) -> u64 {
         let mut pairs: u64 = 0;
-        for at in 0..self.sets.len() {
-            pairs = pairs.saturating_add(self.pairs_at(at));
+        for i in 0..self.sets.len() {
+            pairs = pairs.saturating_add(self.pairs_at(i));
         }
         pairs
     }
