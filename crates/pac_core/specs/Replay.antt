@@ -1,8 +1,7 @@
 -- A replay, as contracts see it: what is replayed, what is loaded, and which pieces are out and finished; and what it does.
-use Rattle.std.specs.Prelude.{◌≡◌, ℕ, Bool, true, false, ◌&&◌, not, List, [], filter, length}
+use Rattle.std.specs.Prelude.{ℕ, Bool, true, false, ◌&&◌, not, List, [], filter, length}
 use Rattle.pac_ops.specs.declared.batch.Batch.{Batch}
 use Rattle.pac_ops.specs.declared.piece.PieceId.{PieceId}
-use Rattle.pac_base.specs.Members.{Mem}
 use Rattle.pac_plan.specs.Pieces.{Present, partial, is_piece, adds}
 use Rattle.pac_commute.specs.Loads.{Job, world_of, pieces_of, begin, and_batch}
 use Rattle.pac_commute.specs.Machine.{Machine, among}
@@ -35,10 +34,6 @@ machine_of r = record { batches = r.batches; out = r.out; finished = r.finished;
 -- how many of its pieces are not finished
 abbrev pub left : Replay → ℕ
 left r = length (filter (λ p. not (among r.finished p)) (loaded_pieces r))
-
--- each of its pieces is finished
-abbrev pub IsAllFinished : Replay → Type 0
-IsAllFinished r = (p : PieceId) → Mem p (loaded_pieces r) → among r.finished p ≡ true
 
 -- ---- what each call makes of it
 

@@ -9,7 +9,8 @@ use pac_plan::{Plan, one_plan};
 use pac_tables::Rows;
 use std::alloc::Global;
 
-/// What tells a core's job: its plan, the number of its first transaction, the tables of its opening, and the loaded batches in order.
+/// What tells a core's job: its plan, the number of its first transaction, the tables of its opening, and the loaded batches
+/// in order.
 #[derive(Drop)]
 pub struct Job<R: Rows> {
     pub plan: Plan,

@@ -35,8 +35,8 @@ impl Progress {
     ///
     /// # Errors
     ///
-    /// [`NoMemory`] with the batch, where its pieces find no room, or where there would be more unfinished ones than a count can tell.
-    /// What is kept stays.
+    /// [`NoMemory`] with the batch, where its pieces find no room, or where there would be more unfinished ones than a count
+    /// can tell. What is kept stays.
     pub fn load(&mut self, batch: Batch) -> Result<(), (Batch, NoMemory)>
         requires kept { IsKept self.old }
         requires may { MayAdd self.old batch }

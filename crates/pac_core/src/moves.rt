@@ -44,7 +44,8 @@ impl Progress {
         self.sets.keep(at, Stage::Open(open));
     }
 
-    /// A piece that is out of an open set is finished, with values that are kept of its transaction, and a note. Takes no memory.
+    /// A piece that is out of an open set is finished, with values that are kept of its transaction, and a note. Takes no
+    /// memory.
     pub fn finish(&mut self, place: Place, piece: PieceId, kept: Env, note: Option<Note>)
         requires { MayFinish self.old place piece }
         ensures finished { IsFinishedAt self.old place piece kept note self.new }

@@ -21,8 +21,8 @@ use pac_plan::Access;
 use pac_sched::Sched;
 use std::alloc::Global;
 
-/// Opens the pieces that these transactions of a batch have in a block: computes their accesses, and from them which of the pieces
-/// wait for which.
+/// Opens the pieces that these transactions of a batch have in a block: computes their accesses, and from them which of the
+/// pieces wait for which.
 ///
 /// # Errors
 ///

@@ -16,8 +16,8 @@ use pac_sched::PieceState;
 use pac_sets::SetId;
 use pac_value::Env;
 
-/// Where a piece of an open set belongs: the offset of the set and the position of the piece there, the offset of its batch and the
-/// index of its transaction there.
+/// Where a piece of an open set belongs: the offset of the set and the position of the piece there, the offset of its batch
+/// and the index of its transaction there.
 #[derive(Clone, Copy)]
 pub(crate) struct Place {
     pub at: usize,

@@ -59,8 +59,8 @@ impl Progress {
         })
     }
 
-    /// The first ready piece, and the offset of its set. It opens the sets up to that one that may be opened and aren't. `None`:
-    /// no piece is ready.
+    /// The first ready piece, and the offset of its set. It opens the sets up to that one that may be opened and aren't.
+    /// `None`: no piece is ready.
     ///
     /// # Errors
     ///

@@ -6,7 +6,8 @@ use crate::progress::Progress;
 use crate::stage::Stage;
 
 impl Progress {
-    /// Each piece that is out waits again. Takes no memory, and time that grows with the number of sets and of pieces that are opened.
+    /// Each piece that is out waits again. Takes no memory, and time that grows with the number of sets and of pieces that
+    /// are opened.
     pub fn reclaim(&mut self)
         ensures { self.new ≡ record self.old { sets = record self.old.sets { sets = reclaimed_sets self.old.sets.sets } } }
     {

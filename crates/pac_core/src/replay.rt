@@ -19,8 +19,8 @@ use pac_undo::UndoRows;
 use std::alloc::Global;
 use std::marker::Model;
 
-/// The state of a replay: what is loaded, which pieces are out and which are finished, and the tables that these leave. Contracts see a
-/// `Replay`.
+/// The state of a replay: what is loaded, which pieces are out and which are finished, and the tables that these leave.
+/// Contracts see a `Replay`.
 #[derive(Drop)]
 pub struct Core<R: Rows> {
     progress: Progress,
@@ -109,7 +109,8 @@ impl<R: Rows> Core<R> {
     ///
     /// # Errors
     ///
-    /// [`NoMemory`] with the batch, where its pieces find no room, or would be more than a count can tell. Nothing is changed.
+    /// [`NoMemory`] with the batch, where its pieces find no room, or would be more than a count can tell. Nothing is
+    /// changed.
     pub fn load(&mut self, batch: Batch) -> Result<(), (Batch, NoMemory)>
         requires may { MayLoad self.old batch }
         requires numbers { batch.first + length batch.txns < 2 ^ 64 }
@@ -120,11 +121,13 @@ impl<R: Rows> Core<R> {
         self.progress.load(batch)
     }
 
-    /// The piece that comes next, by batch, block and transaction: handed out, or run on the spot where it may touch any row of its block.
+    /// The piece that comes next, by batch, block and transaction: handed out, or run on the spot where it may touch any row
+    /// of its block.
     ///
     /// # Errors
     ///
-    /// [`NoMemory`] where sets that are opened, or the work, find no room. Which pieces are out or finished, and the tables, are as before.
+    /// [`NoMemory`] where sets that are opened, or the work, find no room. Which pieces are out or finished, and the tables,
+    /// are as before.
     pub fn take(&mut self) -> Result<Take, NoMemory>
         ensures ok { IfOk result (λ take. IsTaken self.old take self.new) }
         ensures err { OnErr result (self.new ≡ self.old) }
@@ -132,15 +135,16 @@ impl<R: Rows> Core<R> {
         take_next(&mut self.progress, &mut self.rows)
     }
 
-    /// A result is handed in. Its piece is finished, where it was out and the result is of the work that the replay has for it.
+    /// A result is handed in. Its piece is finished, where it was out and the result is of the work that the replay has for
+    /// it.
     pub fn finish(&mut self, done: Done) -> Finish
         ensures { IsHandedIn self.old done result self.new }
     {
         hand_in(&mut self.progress, &mut self.rows, done)
     }
 
-    /// Work is given back that wasn't done: its piece is ready again. Other work than that of a piece that is out changes nothing. Takes no
-    /// memory.
+    /// Work is given back that wasn't done: its piece is ready again. Other work than that of a piece that is out changes
+    /// nothing. Takes no memory.
     pub fn give_back(&mut self, work: Work)
         ensures { IsGivenBack self.old work self.new }
     {
@@ -298,8 +302,8 @@ impl<R: Rows> Core<R> {
         Ok(())
     }
 
-    /// How many pairs of pieces, one of which waits for the other, are kept of the sets that are opened; the greatest `u64` where there
-    /// are more. Takes no memory, and time that grows with the number of loaded sets.
+    /// How many pairs of pieces, one of which waits for the other, are kept of the sets that are opened; the greatest `u64`
+    /// where there are more. Takes no memory, and time that grows with the number of loaded sets.
     pub fn pairs(&self) -> u64 {
         self.progress.pairs()
     }
