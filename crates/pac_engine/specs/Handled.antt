@@ -1,5 +1,5 @@
 -- What an engine does with one request, whatever its answer.
-use Rattle.std.specs.Prelude.{◌≡◌, ℕ, List, Option, Result, IfErr, IfOk, MatchResult, OnOk}
+use Rattle.std.specs.Prelude.{◌≡◌, ◌⊎◌, ℕ, List, [], Option, Result, IfErr, IfOk, MatchResult, OnOk}
 use Rattle.std.specs.List.{AllByRecursion}
 use Rattle.pac_outside.specs.Devices.{each}
 use Rattle.pac_outside.specs.Disk.{DiskHistory}
@@ -9,7 +9,7 @@ use Rattle.pac_request.specs.declared.request.Request.TheVariants.{Save}
 use Rattle.pac_request.specs.declared.request.Reply.{Reply}
 use Rattle.pac_session.specs.Session.{SessionState, commits}
 use Rattle.pac_session.specs.Groups.{cut_one}
-use Rattle.pac_session.specs.Open.{IsInGroup, rules_of, state_now}
+use Rattle.pac_session.specs.Open.{IsInGroup, Open, rules_of, state_now}
 use Rattle.pac_engine.specs.declared.fault.EngineCause.{EngineCause}
 use Rattle.pac_engine.specs.declared.fault.EngineCause.TheVariants.{DiskFault, LogFull, TooLarge, Ended, NoMemory}
 use Rattle.pac_engine.specs.declared.fault.EngineFault.{EngineFault}
@@ -29,10 +29,15 @@ StopsForRoom known asked DiskFault before now old new = Unit {0}
 StopsForRoom known asked NoMemory before now old new = Unit {0}
 StopsForRoom known asked Ended before now old new = Unit {0}
 
+-- What is given out of an open group before a device fails: nothing, or the replies of the group that a save closes.
+abbrev pub GivesBefore : Request → Open → List Reply → Type 0
+GivesBefore asked session given = (given ≡ []) ⊎ ((asked ≡ Save) × (given ≡ session.held))
+
 -- The request was handled by the engine as it was before. The replies are those of the groups that it closes, or it stops at
 -- one of these; what they report is durable; the devices stand for the history at each moment, and the engine for that with
--- the transactions of the request; only a save calls a slot; what has no room is not begun; where a device failed the log
--- ends where it ended, or after the group; and no call of a device comes after one that failed.
+-- the transactions of the request; only a save calls a slot, and only a save gives out replies before a device fails; what has
+-- no room is not begun; where a device failed the log ends where it ended, or after the group; and no call of a device comes
+-- after one that failed.
 pub record IsHandled {D : Type 0} (known : D → Option DiskHistory) (faults : D → ℕ) (asked : Request) (before now : EngineParts) (old new : Devices D) (result : Result (List Reply) EngineFault) : Type 0 where
   pub closes : (start : SessionState) (group : List Request) → IsInGroup start group before.session
       → IfOk result (λ given. Closes (rules_of before.session) before.log.gate.place start (cut_one (rules_of before.session) start group asked) given now)
@@ -47,6 +52,7 @@ pub record IsHandled {D : Type 0} (known : D → Option DiskHistory) (faults : D
   pub keeps : KeepsMore known (commits (rules_of before.session) (state_now before.session) asked) before now old new
   pub stands : OnOk result (StandsForMore known (commits (rules_of before.session) (state_now before.session) asked) before now old new)
   pub goes_on : IfErr result (λ fault. ¬ (fault.cause ≡ Ended))
+  pub given : IfErr result (λ fault. fault.cause ≡ DiskFault → GivesBefore asked before.session fault.replies)
   pub slots : (asked ≡ Save → ⊥) → (new.slot_a ≡ old.slot_a) × (new.slot_b ≡ old.slot_b)
   pub room : IfErr result (λ fault. StopsForRoom known asked fault.cause before now old new)
   pub torn : IfErr result (λ fault. fault.cause ≡ DiskFault → (start : SessionState) (group : List Request) → IsInGroup start group before.session

@@ -14,14 +14,14 @@ ghost use Rattle.pac_session.specs.Session.{SessionState, commits};
 ghost use Rattle.pac_session.specs.Groups.{cut_one, place_after_group};
 ghost use Rattle.pac_session.specs.Open.{IsInGroup, rules_of, state_now};
 ghost use Rattle.pac_engine.specs.Closing.{Closes, CountsFault, IsKept, MayEndAfter, StopsAt, is_stop, slot_len};
-ghost use Rattle.pac_engine.specs.Handled.{StopsForRoom};
+ghost use Rattle.pac_engine.specs.Handled.{GivesBefore, StopsForRoom};
 ghost use Rattle.pac_engine.specs.Standing.{HasDevices, OnlyGrows, KeepsMore, StandsForMore, durable_of};
 
 use crate::{EngineCause, EngineFault, EngineParts};
 use pac_check::Slots;
 use pac_log::Log;
 use pac_outside::{Devices, Disk};
-use pac_request::{Replies, Request};
+use pac_request::{Replies, Reply, Request};
 use pac_session::Session;
 use pac_tables::OrderedRows;
 use pac_types::Catalogue;
@@ -105,6 +105,13 @@ impl Engine {
         self.parts.session.catalogue()
     }
 
+    /// The replies that the open group holds, first to last: they are given out once it is closed.
+    pub fn held(&self) -> &[Reply]
+        ensures { result.now ≡ self.now.session.held }
+    {
+        self.parts.session.held()
+    }
+
     /// Does what one request asks. A transaction is executed, and where the open group has no room for its entry that is
     /// closed first; the reply is held. The group is closed where it is full then, or the request closes it: its transactions
     /// are committed, and the replies that it held are given out. A save then puts a checkpoint into a slot, and a stop ends
@@ -142,6 +149,9 @@ impl Engine {
         ensures kept { IfOk result (λ given. AllByRecursion (IsKept self.new) given) }
         ensures kept_before { IfErr result (λ fault. AllByRecursion (IsKept self.new) fault.replies) }
         ensures durable { OnOk result (durable_of self.new ≡ self.new.session.before) }
+
+        // Where a device failed only a save gives out replies before, those of its group.
+        ensures given { IfErr result (λ fault. fault.cause ≡ EngineCause.DiskFault → GivesBefore request self.old.session fault.replies) }
 
         // Only a save calls a slot.
         ensures slots { ¬ (request ≡ ARequest.Save) → (devices.new.slot_a ≡ devices.old.slot_a) × (devices.new.slot_b ≡ devices.old.slot_b) }

@@ -5,7 +5,7 @@
 #![tactic(auto)]
 
 use pac_main::pacman;
-use pac_outside::{Devices, FileDisk, OpenGate, Sink, Stream};
+use pac_outside::{OpenGate, Sink, Stream, store_devices};
 use std::fs::{self, File, Files};
 use std::io;
 use std::process::ExitCode;
@@ -35,11 +35,7 @@ fn run<RT: AllocGlobal + Files<File = File> + Threads + Wait + Sync, O: Sink, E:
         arguments.push(String::from_str(rt.alloc(), word)?)?;
     }
     let mut input = Stream::new(fs::open(rt, input)?);
-    let mut devices = Devices {
-        log: FileDisk::new(rt, "pacman.log"),
-        slot_a: FileDisk::new(rt, "pacman.a"),
-        slot_b: FileDisk::new(rt, "pacman.b"),
-    };
+    let mut devices = store_devices(rt);
     Ok(pacman(
         rt,
         rt.alloc(),

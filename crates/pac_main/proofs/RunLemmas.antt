@@ -168,7 +168,7 @@ refuses_of (run.LogFull need) early = let no : ◌≡◌ {A = Bool} false true =
 refuses_of run.TooLong early = let no : ◌≡◌ {A = Bool} false true = early in absurd cc
 refuses_of (run.TooLarge bytes) early = let no : ◌≡◌ {A = Bool} false true = early in absurd cc
 
--- no other stop has the status of a failed device, and none that of running out of memory
+-- no other stop has the status of a failed device, and its line takes no memory
 disk_status : (why : RunStop) → IsStop why run.DiskFault → status_of (stop_of_run why) ≡ 8
 disk_status run.DiskFault e = refl
 disk_status run.NoStore e = absurd cc
@@ -182,18 +182,18 @@ disk_status (run.LogFull need) e = absurd cc
 disk_status run.TooLong e = absurd cc
 disk_status (run.TooLarge bytes) e = absurd cc
 
-memory_status : (why : RunStop) → IsStop why run.NoMemory → status_of (stop_of_run why) ≡ 9
-memory_status run.DiskFault e = absurd cc
-memory_status run.NoStore e = absurd cc
-memory_status (run.Damaged damage) e = absurd cc
-memory_status (run.AbortInLog note) e = absurd cc
-memory_status (run.RowsOver name rows most) e = absurd cc
-memory_status run.InputFault e = absurd cc
-memory_status run.OutputFault e = absurd cc
-memory_status run.NoMemory e = refl
-memory_status (run.LogFull need) e = absurd cc
-memory_status run.TooLong e = absurd cc
-memory_status (run.TooLarge bytes) e = absurd cc
+no_memory_disk : (why : RunStop) → IsTrue (takes_memory (stop_of_run why)) → IsStop why run.DiskFault → ⊥
+no_memory_disk run.DiskFault memory e = let no : ◌≡◌ {A = Bool} false true = memory in absurd cc
+no_memory_disk run.NoStore memory e = absurd cc
+no_memory_disk (run.Damaged damage) memory e = absurd cc
+no_memory_disk (run.AbortInLog note) memory e = absurd cc
+no_memory_disk (run.RowsOver name rows most) memory e = absurd cc
+no_memory_disk run.InputFault memory e = absurd cc
+no_memory_disk run.OutputFault memory e = absurd cc
+no_memory_disk run.NoMemory memory e = absurd cc
+no_memory_disk (run.LogFull need) memory e = absurd cc
+no_memory_disk run.TooLong memory e = absurd cc
+no_memory_disk (run.TooLarge bytes) memory e = absurd cc
 
 none_given : (rules : Rules) (place : ℕ) (start : SessionState) (requests : List Request) (given : List Reply) (why : RunStop)
     → IsOneOf (status_of (stop_of_run why)) (3 ∷ 4 ∷ 5 ∷ []) → IsStopped rules place start requests given why → given ≡ []
@@ -230,9 +230,9 @@ module _ (group_size limit : ℕ) (source sink errors : Observed) (log a b : Opt
   end_is : (why other : RunStop) → why ≡ other → ◌≡◌ {A = Result (Unit {0}) RunStop} (Err why) (Err other)
   end_is why other e = cc
 
-  -- no device failed, unless that is why it stopped, or memory ran out
+  -- no device failed, unless that is why it stopped
   abbrev Quiet : RunStop → Type 0
-  Quiet why = (IsStop why run.DiskFault → ⊥) → (IsStop why run.NoMemory → ⊥) → is ≡ was
+  Quiet why = (IsStop why run.DiskFault → ⊥) → is ≡ was
 
   -- what the store's refusal leaves
   abbrev Left : RunStop → Type 0
@@ -261,12 +261,12 @@ module _ (group_size limit : ℕ) (source sink errors : Observed) (log a b : Opt
     too_long = λ eleven. end_is why run.TooLong (run_long_of why eleven);
     too_large = λ twelve. let t = run_large_of why twelve in (t.bytes, end_is why (run.TooLarge t.bytes) t.is, subst LineReported t.is line);
     untouched = λ early. left (refuses_of why early);
-    quiet = λ eight nine. quiet (λ e. eight (disk_status why e)) (λ e. nine (memory_status why e));
+    quiet = λ eight. quiet (λ e. eight (disk_status why e));
   }
 
   -- running out of memory has no cause
-  pub run-memory : (end : Result (Unit {0}) RunStop) (n : ℕ) → n ≡ 9 → Ran end → RunEnds group_size limit n source sink errors devices
-  run-memory end n nine ran = record {
+  pub run-memory : (end : Result (Unit {0}) RunStop) (n : ℕ) → n ≡ 9 → Ran end → is ≡ was → RunEnds group_size limit n source sink errors devices
+  run-memory end n nine ran quiet = record {
     statuses = subst (λ (m : ℕ). IsOneOf m (0 ∷ 3 ∷ 4 ∷ 5 ∷ 6 ∷ 7 ∷ 8 ∷ 9 ∷ 10 ∷ 11 ∷ 12 ∷ [])) (sym nine) refl;
     end = end;
     is = ran;
@@ -285,13 +285,13 @@ module _ (group_size limit : ℕ) (source sink errors : Observed) (log a b : Opt
     too_long = λ e. absurd (omega (arith, nine, e));
     too_large = λ e. absurd (omega (arith, nine, e));
     untouched = λ early. let no : ◌≡◌ {A = Bool} false true = subst (λ (m : ℕ). IsOneOf m (3 ∷ 4 ∷ 5 ∷ [])) nine early in absurd cc;
-    quiet = λ eight other. absurd (other nine);
+    quiet = λ eight. quiet;
   }
 
   pub run-ends : (why : RunStop) (reported : Stop) (n : ℕ) → n ≡ status_of reported → Reported (stop_of_run why) reported → Ran (Err why) → Cause why → IsReported errors (line_of reported) → Left why → Quiet why → RunEnds group_size limit n source sink errors devices
   run-ends why reported n same (inl e) ran h line left quiet =
       subst (λ (m : ℕ). RunEnds group_size limit m source sink errors devices) (sym (same ∙ ap status_of e)) (itself why ran h (subst (λ (s : Stop). IsReported errors (line_of s)) e line) left quiet)
-  run-ends why reported n same (inr e) ran h line left quiet = run-memory (Err why) n (same ∙ ap status_of e.0) ran
+  run-ends why reported n same (inr e) ran h line left quiet = run-memory (Err why) n (same ∙ ap status_of e.0) ran (quiet (no_memory_disk why e.1))
 
   pub run-done : Ran (Ok tt) → is ≡ was → RunEnds group_size limit 0 source sink errors devices
   run-done ran quiet = record {
@@ -313,7 +313,7 @@ module _ (group_size limit : ℕ) (source sink errors : Observed) (log a b : Opt
     too_long = λ e. absurd (omega (arith, e));
     too_large = λ e. absurd (omega (arith, e));
     untouched = λ early. let no : ◌≡◌ {A = Bool} false true = early in absurd cc;
-    quiet = λ eight nine. quiet;
+    quiet = λ eight. quiet;
   }
 
 -- ---- running out of memory for the arguments: no stream and no device is called
@@ -324,4 +324,4 @@ still bytes faults = record { before = bytes; after = bytes; faults_before = fau
 
 pub run-idle : (group_size limit n : ℕ) (left held : Option (List ℕ)) (reads writes : ℕ) (log a b : Option DiskHistory) (faults : List ℕ) (errors : Observed) → n ≡ 9 → RunEnds group_size limit n (still left reads) (still held writes) errors (uncalled log a b faults)
 run-idle group_size limit n left held reads writes log a b faults errors nine =
-    run-memory group_size limit (still left reads) (still held writes) errors log a b (log ∷ a ∷ b ∷ []) faults faults (Err run.NoMemory) n nine (idle-run group_size limit left held log a b (AnyFaulted (still held writes)))
+    run-memory group_size limit (still left reads) (still held writes) errors log a b (log ∷ a ∷ b ∷ []) faults faults (Err run.NoMemory) n nine (idle-run group_size limit left held log a b (AnyFaulted (still held writes))) refl

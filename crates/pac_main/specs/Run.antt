@@ -51,5 +51,5 @@ pub record RunEnds (group_size limit status : ℕ) (input output errors : Observ
   pub too_large : status ≡ 12 → (bytes : ℕ) × IsErrOf end (run.TooLarge bytes) × IsReported errors (too_large_line bytes)
   -- a store that is refused is left as it was, no input is taken, and nothing is written
   pub untouched : IsOneOf status (3 ∷ 4 ∷ 5 ∷ []) → LeavesStore input output devices
-  -- no count of a device rose but with 8, or with 9 where memory ran out for replies that were due as a device failed
-  pub quiet : status ≢ 8 → status ≢ 9 → devices.faults_after ≡ devices.faults_before
+  -- no count of a device rose but with 8
+  pub quiet : status ≢ 8 → devices.faults_after ≡ devices.faults_before

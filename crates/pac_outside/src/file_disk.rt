@@ -1,44 +1,47 @@
-// A disk over one file of the system.
+// A disk over one file.
 ghost use Rattle.std.specs.Prelude.{◌≡◌, ◌≤◌, IfOk, None, length};
 
 use crate::faults::Faults;
-use crate::{Disk, Failed};
-use std::fs::{File, Files, OpenOptions};
+use crate::{Access, Disk, Failed, FileCalls, FileSystem, PathKind};
 use std::io;
-use std::os::fd::AsRawFd;
 use std::os::unix::fs::FileExt;
 use std::path::Path;
 
 /// A disk over one file. Nothing is known of what the file holds: that a real file keeps the contracts of [`Disk`] is
 /// trusted.
 ///
-/// Until the first write or sync the file is opened for reading alone, and a missing one reads as an empty disk. The
-/// first write or sync makes it where it is missing, and syncs its folder, so that the file itself outlasts a crash.
+/// Until the first write or sync the file is opened for reading alone. A missing one reads as an empty disk; a write makes
+/// it, and a sync leaves it missing. A folder, a link, a pipe and a device are refused: each call fails.
+///
+/// At the first write or sync the file is locked until the disk is dropped. The call fails where another disk has it
+/// locked, in this process or another, and where its length isn't the one that was answered last. Then its folder is synced,
+/// so that the file itself outlasts a crash.
 #[derive(Drop)]
-pub struct FileDisk<'a, R> {
-    file: OneFile<'a, R>,
+pub struct FileDisk<'a, S: FileSystem> {
+    file: OneFile<'a, S>,
     faults: Faults,
 }
 
-impl<'a, R: Files<File = File>> FileDisk<'a, R> {
+impl<'a, S: FileSystem> FileDisk<'a, S> {
     /// The file at a path, which isn't opened yet.
-    pub fn new(files: &'a R, path: &'a str) -> Self
+    pub fn new(system: &'a S, path: &'a str) -> Self
         ensures { result.faults ≡ 0 }
     {
         FileDisk {
             file: OneFile {
-                files,
+                system,
                 path,
-                file: None,
+                opened: None,
                 is_writable: false,
                 is_doubtful: false,
+                answered: None,
             },
             faults: Faults::new(),
         }
     }
 }
 
-impl<'a, R: Files<File = File>> Disk for FileDisk<'a, R> {
+impl<'a, S: FileSystem> Disk for FileDisk<'a, S> {
     ghost known = { λ _. None };
 
     ghost faults = { λ disk. disk.faults };
@@ -66,22 +69,26 @@ impl<'a, R: Files<File = File>> Disk for FileDisk<'a, R> {
 
 // The file, and what the system answers of it. std's calls go on where a signal stops them, and over short counts.
 #[derive(Drop)]
-struct OneFile<'a, R> {
-    files: &'a R,
+struct OneFile<'a, S: FileSystem> {
+    system: &'a S,
     path: &'a str,
-    file: Option<File>,
+    opened: Option<S::File>,
     is_writable: bool,
     // A sync failed.
     is_doubtful: bool,
+    // The length that was answered last.
+    answered: Option<u64>,
 }
 
-impl<'a, R: Files<File = File>> OneFile<'a, R> {
+impl<'a, S: FileSystem> OneFile<'a, S> {
     fn len(&mut self) -> io::Result<u64> {
         self.open_to_read()?;
-        match &self.file {
-            Some(file) => Ok(file.metadata()?.len()),
-            None => Ok(0),
-        }
+        let len = match &self.opened {
+            Some(file) => file.len()?,
+            None => 0,
+        };
+        self.answered = Some(len);
+        Ok(len)
     }
 
     fn read(&mut self, at: u64, buf: &mut [u8]) -> io::Result<usize>
@@ -89,74 +96,87 @@ impl<'a, R: Files<File = File>> OneFile<'a, R> {
     {
         let rest = self.len()?.saturating_sub(at);
         let count = rest.min(buf.len() as u64) as usize;
-        if let Some(file) = &self.file {
+        if let Some(file) = &self.opened {
             file.read_exact_at(&mut buf[..count], at)?;
         }
         Ok(count)
     }
 
     fn write(&mut self, at: u64, piece: &[u8]) -> io::Result<()> {
-        self.open_to_write()?;
-        match &self.file {
+        self.open_to_write(Access::Make)?;
+        match &self.opened {
             Some(file) => file.write_all_at(piece, at),
             None => Err(io::ErrorKind::NotFound.into()),
         }
     }
 
+    // Nothing was written to a file that is missing.
     fn sync(&mut self) -> io::Result<()> {
-        self.open_to_write()?;
-        match &self.file {
-            Some(file) => sync_or_doubt(file, &mut self.is_doubtful),
-            None => Err(io::ErrorKind::NotFound.into()),
-        }
+        self.open_to_write(Access::Write)?;
+        let Some(file) = &self.opened else {
+            return Ok(());
+        };
+        unless_doubtful(&mut self.is_doubtful, file.sync_data())
     }
 
     fn open_to_read(&mut self) -> io::Result<()> {
-        if self.file.is_none() {
-            match OpenOptions::new().read(true).open(self.files, self.path) {
-                Ok(file) => self.file = Some(above_standard(file)?),
-                Err(error) if error.kind() == io::ErrorKind::NotFound => {}
-                Err(error) => return Err(error),
+        if self.opened.is_none() {
+            match self.system.kind(self.path)? {
+                PathKind::Missing => {}
+                PathKind::Plain => self.opened = Some(self.system.open(self.path, Access::Read)?),
+                PathKind::Other => return Err(not_plain()),
             }
         }
         Ok(())
     }
 
-    // The folder is synced also where the file is there already: whoever made it may have been stopped before.
-    fn open_to_write(&mut self) -> io::Result<()> {
-        if !self.is_writable {
-            let file = OpenOptions::new()
-                .read(true)
-                .write(true)
-                .create(true)
-                .open(self.files, self.path)?;
-            let folder = File::open(self.files, folder_of(self.path))?;
-            sync_or_doubt(&folder, &mut self.is_doubtful)?;
-            self.file = Some(above_standard(file)?);
-            self.is_writable = true;
+    // A missing file is made where that is asked for, and else is left missing.
+    fn open_to_write(&mut self, missing: Access) -> io::Result<()> {
+        if self.is_writable {
+            return Ok(());
         }
+        let access = match self.system.kind(self.path)? {
+            PathKind::Plain => Access::Write,
+            PathKind::Missing if missing == Access::Make => Access::Make,
+            PathKind::Missing if self.opened.is_none() => return Ok(()),
+            PathKind::Missing | PathKind::Other => return Err(not_plain()),
+        };
+        let file = self.system.open(self.path, access)?;
+        file.try_lock()?;
+        self.test_length(&file)?;
+        self.sync_folder()?;
+        self.opened = Some(file);
+        self.is_writable = true;
         Ok(())
+    }
+
+    // Another may have written the file before it was locked.
+    fn test_length(&self, file: &S::File) -> io::Result<()> {
+        match self.answered {
+            Some(len) if file.len()? != len => Err(io::Error::other("another wrote the file")),
+            _ => Ok(()),
+        }
+    }
+
+    // The folder is synced also where the file is there already: whoever made it may have been stopped before.
+    fn sync_folder(&mut self) -> io::Result<()> {
+        let folder = self.system.open(folder_of(self.path), Access::Read)?;
+        unless_doubtful(&mut self.is_doubtful, folder.sync_all())
     }
 }
 
 // After a sync that failed none succeeds any more: what was written before it may be lost, and the system may say that
 // once only.
-fn sync_or_doubt(file: &File, is_doubtful: &mut bool) -> io::Result<()> {
+fn unless_doubtful(is_doubtful: &mut bool, synced: io::Result<()>) -> io::Result<()> {
+    *is_doubtful |= synced.is_err();
     if *is_doubtful {
-        return Err(io::Error::other("an earlier sync failed"));
+        return Err(io::Error::other("this sync or an earlier one failed"));
     }
-    let synced = file.sync_all();
-    *is_doubtful = synced.is_err();
-    synced
+    Ok(())
 }
 
-// The numbers 0 to 2 are those of the standard streams. Where one of these is closed the system gives its number to a
-// file, and a line of output would then stand in the file.
-fn above_standard(file: File) -> io::Result<File> {
-    if file.as_raw_fd() > 2 {
-        return Ok(file);
-    }
-    file.try_clone()
+fn not_plain() -> io::Error {
+    io::Error::other("not a plain file")
 }
 
 // The folder that a file stands in.

@@ -10,7 +10,8 @@
 //! - [`MemSource`], [`MemSink`] and [`MemDisk`] are in memory and fail at chosen calls. [`MemDisk::image`] returns what
 //!   a crash may leave, by a [`Fill`].
 //! - [`Stream`] is an adapter over a reader or a writer of std, [`FileDisk`] over a file, [`NoDisk`] is no device: each
-//!   of its calls fails.
+//!   of its calls fails. [`store_devices`] are the three files of a store.
+//! - [`FileSystem`] is what a [`FileDisk`] asks of the system: the runtime is one, and a test puts another in its place.
 //! - [`Gate`] is passed by a worker before each piece of work; [`OpenGate`] never blocks.
 //!
 //! ```
@@ -37,6 +38,7 @@ mod durable;
 mod failed;
 mod faults;
 mod file_disk;
+mod file_system;
 mod gate;
 mod gate_byte;
 mod laws;
@@ -44,6 +46,7 @@ mod mem_disk;
 mod memory;
 mod moment;
 mod piece;
+mod store_files;
 mod streams;
 mod whole;
 
@@ -53,6 +56,7 @@ pub use devices::Devices;
 pub use durable::{open_after, write_and_sync};
 pub use failed::{Failed, ReadError};
 pub use file_disk::FileDisk;
+pub use file_system::{Access, FileCalls, FileSystem, PathKind};
 pub use gate::{Gate, OpenGate};
 pub use gate_byte::{GATE_OPEN, GATE_SHUT};
 pub use laws::{
@@ -62,5 +66,6 @@ pub use mem_disk::MemDisk;
 pub use memory::{MemSink, MemSource};
 pub use moment::Fill;
 pub use piece::read_piece;
+pub use store_files::store_devices;
 pub use streams::Stream;
 pub use whole::{read_up_to, write_all};

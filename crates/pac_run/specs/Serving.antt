@@ -16,7 +16,7 @@ use Rattle.pac_request.specs.declared.request.Request.TheVariants as request
 use Rattle.pac_request.specs.declared.request.Reply.{Reply}
 use Rattle.pac_session.specs.Session.{Rules, SessionState, committed, replies}
 use Rattle.pac_session.specs.Groups.{GroupCut, cut, cut_on, cut_one, place_after_group}
-use Rattle.pac_session.specs.Open.{IsInGroup, rules_of, state_now}
+use Rattle.pac_session.specs.Open.{IsInGroup, Open, rules_of, state_now}
 use Rattle.pac_check.specs.declared.limits.TheConstants.{MAX_SLOT_LEN}
 use Rattle.pac_engine.specs.declared.parts.EngineParts.{EngineParts}
 use Rattle.pac_engine.specs.Closing.{Closes, GroupFits, IsKept, MayEndAfter, slot_len}
@@ -65,6 +65,10 @@ pub record WasHandled (asked : Request) (more : List Reply) (old new : EnginePar
   pub closes : (rules : Rules) (place : ℕ) (start : SessionState) (whole : GroupCut) (given : List Reply) → Closes rules place start whole given old
       → Closes rules place start (cut_on rules start whole asked) (given ++ more) new
   pub durable : durable_of new ≡ new.session.before
+
+-- what a save may give out of the open group before a device fails; of another request nothing is said
+abbrev pub IsAhead : CatalogueState → Request → Open → List ℕ → Type 0
+IsAhead catalogue asked session ahead = asked ≡ request.Save → ahead ≡ texts catalogue session.held
 
 -- Where the log ends where there was no room: where it ended, or after the group that a save ends.
 abbrev pub KeepsGate : Request → EngineParts → EngineParts → RunStop → Type 0

@@ -50,8 +50,7 @@ pub fn run<I: Source, O: Sink, D: Disk>(
     ensures input_fault { IsErrOf result RunStop.InputFault → Faulted (I.faults input.old) (I.faults input.new) }
     ensures output_fault { IsErrOf result RunStop.OutputFault → Faulted (O.faults output.old) (O.faults output.new) }
     ensures disk_fault { IsErrOf result RunStop.DiskFault → OneFaulted (each D.faults devices.old) (each D.faults devices.new) }
-    // Where memory ran out for the replies that were due, a device may have failed just before.
-    ensures quiet { ¬ IsErrOf result RunStop.DiskFault → ¬ IsErrOf result RunStop.NoMemory → each D.faults devices.new ≡ each D.faults devices.old }
+    ensures quiet { ¬ IsErrOf result RunStop.DiskFault → each D.faults devices.new ≡ each D.faults devices.old }
 
     // A store that is refused is left as it was, no input is taken, and nothing is written.
     ensures settled { IfErr result (λ stop. RefusesStore stop → IfAllKnown AreSettled (each D.known devices.old) (each D.known devices.new)) }

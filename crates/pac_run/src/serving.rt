@@ -1,5 +1,5 @@
 // Request lines served one after another.
-ghost use Rattle.std.specs.Prelude.{◌≡◌, ◌≤◌, ◌∷◌, ℕ, List, [], Bool, false, true, IfOk, OnOk, OnErr, IsErrOf};
+ghost use Rattle.std.specs.Prelude.{◌≡◌, ◌⊎◌, ◌≤◌, ◌∷◌, ℕ, List, [], Bool, false, true, IfOk, OnOk, OnErr, IsErrOf};
 ghost use Rattle.std.specs.List.{AllByRecursion};
 ghost use Rattle.pac_outside.specs.Causes.{Faulted};
 ghost use Rattle.pac_outside.specs.Content.{Took};
@@ -9,16 +9,16 @@ ghost use Rattle.pac_request.specs.RequestFits.{AskedFits, RequestFits};
 ghost use Rattle.pac_engine.specs.Closing.{is_stop};
 ghost use Rattle.pac_engine.specs.Standing.{HasDevices, durable_of};
 ghost use Rattle.pac_run.specs.Asked.{LineAsks, listed_asked};
-ghost use Rattle.pac_run.specs.Serving.{Broke, LineBroke, LineServed, Replied, Served};
+ghost use Rattle.pac_run.specs.Serving.{Broke, IsAhead, LineBroke, LineServed, Replied, Served};
 ghost use Rattle.pac_run.specs.Stopping.{HasWorked};
 ghost use Rattle.pac_run.specs.Texts.{IsPlain, SaysUnlessFault, texts};
 ghost use Rattle.pac_run.specs.declared.stop.RunStop.{RunStop as AStop};
 
 use crate::limits::MAX_INPUT;
 use crate::stop::{RunStop, stop_of_engine, stop_of_read};
-use crate::text::reply_texts;
+use crate::text::{plain_replies, reply_texts};
 use pac_base::{Exact, NoMemory, Refusal};
-use pac_engine::Engine;
+use pac_engine::{Engine, EngineCause, EngineFault};
 use pac_lines::LineReader;
 use pac_outside::{Devices, Disk, Sink, Source, write_all};
 use pac_request::{Request, read_line};
@@ -62,12 +62,53 @@ fn is_stop(asked: &Request) -> bool
     matches!(asked, Request::Stop)
 }
 
-// Has one request answered, and writes the replies that are given out.
+// What a save may give out before a device fails: the texts of the open group's replies. Nothing for another request.
+fn texts_ahead(
+    alloc: Global,
+    catalogue: &Catalogue,
+    engine: &Engine,
+    asked: &Request,
+) -> Result<Vec<u8>, NoMemory>
+    ensures text { IfOk result (λ ahead. IsAhead catalogue.now asked.now engine.now.session ahead.items) }
+{
+    match asked {
+        Request::Save => reply_texts(alloc, catalogue, engine.held()),
+        _ => Ok(Vec::new(alloc)),
+    }
+}
+
+// The texts of what was given out before a fault. After a failed device it takes no memory: they were made ahead.
+fn texts_before(
+    alloc: Global,
+    catalogue: &Catalogue,
+    fault: &EngineFault,
+    ahead: Vec<u8>,
+) -> Result<Vec<u8>, NoMemory>
+    requires ahead { fault.now.cause ≡ EngineCause.DiskFault → (fault.now.replies ≡ []) ⊎ (ahead.items ≡ texts catalogue.now fault.now.replies) }
+    ensures text { IfOk result (λ text. text.items ≡ texts catalogue.now fault.now.replies) }
+    ensures plain { IfOk result (λ _. AllByRecursion IsPlain fault.now.replies) }
+    ensures known { OnErr result (¬ (fault.now.cause ≡ EngineCause.DiskFault)) }
+{
+    let replies = fault.replies.items();
+    if fault.cause != EngineCause::DiskFault {
+        return reply_texts(alloc, catalogue, replies);
+    }
+    plain_replies(replies);
+    if replies.is_empty() {
+        Ok(Vec::new(alloc))
+    } else {
+        Ok(ahead)
+    }
+}
+
+// Has one request answered, and writes the replies that are given out; `ahead` is what a save may give out before a device
+// fails.
 fn answer<O: Sink, D: Disk>(
     alloc: Global,
     catalogue: &Catalogue,
     engine: &mut Engine,
     asked: Request,
+    ahead: Vec<u8>,
     output: &mut O,
     devices: &mut Devices<D>,
 ) -> Result<(), RunStop>
@@ -75,6 +116,7 @@ fn answer<O: Sink, D: Disk>(
     requires fits { RequestFits catalogue.now asked }
     requires goes_on { engine.old.ended ≡ false }
     requires ready { HasDevices D.known engine.old devices.old }
+    requires ahead { IsAhead catalogue.now asked engine.old.session ahead.items }
     ensures ok { OnOk result (Replied catalogue.now (asked ∷ []) engine.old engine.new (O.held output.old) (O.held output.new) (each D.known devices.old) (each D.known devices.new)) }
     ensures err { (stop : AStop) → IsErrOf result stop → Broke catalogue.now asked engine.old engine.new (O.held output.old) (O.held output.new) (each D.known devices.old) (each D.known devices.new) (Faulted (O.faults output.old) (O.faults output.new)) stop }
     ensures stopped { OnOk result (engine.new.ended ≡ is_stop asked) }
@@ -84,7 +126,7 @@ fn answer<O: Sink, D: Disk>(
     ensures later { O.faults output.old ≤ O.faults output.new }
     ensures output_fault { IsErrOf result RunStop.OutputFault → Faulted (O.faults output.old) (O.faults output.new) }
     ensures disk_fault { IsErrOf result RunStop.DiskFault → OneFaulted (each D.faults devices.old) (each D.faults devices.new) }
-    ensures quiet { ¬ IsErrOf result RunStop.DiskFault → ¬ IsErrOf result RunStop.NoMemory → each D.faults devices.new ≡ each D.faults devices.old }
+    ensures quiet { ¬ IsErrOf result RunStop.DiskFault → each D.faults devices.new ≡ each D.faults devices.old }
 {
     match engine.step(asked, devices) {
         Ok(replies) => {
@@ -92,7 +134,7 @@ fn answer<O: Sink, D: Disk>(
             write(output, &text)
         }
         Err(fault) => {
-            let text = reply_texts(alloc, catalogue, fault.replies.items())?;
+            let text = texts_before(alloc, catalogue, &fault, ahead)?;
             let _ = write(output, &text);
             Err(stop_of_engine(fault.cause))
         }
@@ -120,13 +162,14 @@ fn serve_line<O: Sink, D: Disk>(
     ensures later { O.faults output.old ≤ O.faults output.new }
     ensures output_fault { IsErrOf result RunStop.OutputFault → Faulted (O.faults output.old) (O.faults output.new) }
     ensures disk_fault { IsErrOf result RunStop.DiskFault → OneFaulted (each D.faults devices.old) (each D.faults devices.new) }
-    ensures quiet { ¬ IsErrOf result RunStop.DiskFault → ¬ IsErrOf result RunStop.NoMemory → each D.faults devices.new ≡ each D.faults devices.old }
+    ensures quiet { ¬ IsErrOf result RunStop.DiskFault → each D.faults devices.new ≡ each D.faults devices.old }
 {
     let Some(asked) = request_of(alloc, catalogue, line)? else {
         return Ok(false);
     };
     let stops = is_stop(&asked);
-    answer(alloc, catalogue, engine, asked, output, devices)?;
+    let ahead = texts_ahead(alloc, catalogue, engine, &asked)?;
+    answer(alloc, catalogue, engine, asked, ahead, output, devices)?;
     Ok(stops)
 }
 
@@ -151,14 +194,15 @@ fn serve_lines<I: Source, O: Sink, D: Disk>(
     ensures input_fault { IsErrOf result RunStop.InputFault → Faulted (I.faults input.old) (I.faults input.new) }
     ensures output_fault { IsErrOf result RunStop.OutputFault → Faulted (O.faults output.old) (O.faults output.new) }
     ensures disk_fault { IsErrOf result RunStop.DiskFault → OneFaulted (each D.faults devices.old) (each D.faults devices.new) }
-    ensures quiet { ¬ IsErrOf result RunStop.DiskFault → ¬ IsErrOf result RunStop.NoMemory → each D.faults devices.new ≡ each D.faults devices.old }
+    ensures quiet { ¬ IsErrOf result RunStop.DiskFault → each D.faults devices.new ≡ each D.faults devices.old }
 {
     let mut reader = LineReader::new(alloc, MAX_INPUT);
     loop {
         match reader.next_line(input) {
             Ok(true) => {}
             Ok(false) => {
-                return answer(alloc, catalogue, engine, Request::Stop, output, devices);
+                let (stop, ahead) = (Request::Stop, Vec::new(alloc));
+                return answer(alloc, catalogue, engine, stop, ahead, output, devices);
             }
             Err(error) => return Err(stop_of_read(error)),
         }
@@ -195,7 +239,7 @@ pub fn serve<I: Source, O: Sink, D: Disk>(
     ensures input_fault { IsErrOf result RunStop.InputFault → Faulted (I.faults input.old) (I.faults input.new) }
     ensures output_fault { IsErrOf result RunStop.OutputFault → Faulted (O.faults output.old) (O.faults output.new) }
     ensures disk_fault { IsErrOf result RunStop.DiskFault → OneFaulted (each D.faults devices.old) (each D.faults devices.new) }
-    ensures quiet { ¬ IsErrOf result RunStop.DiskFault → ¬ IsErrOf result RunStop.NoMemory → each D.faults devices.new ≡ each D.faults devices.old }
+    ensures quiet { ¬ IsErrOf result RunStop.DiskFault → each D.faults devices.new ≡ each D.faults devices.old }
 {
     let catalogue = engine.catalogue().copy(alloc)?;
     serve_lines(alloc, &catalogue, engine, input, output, devices)

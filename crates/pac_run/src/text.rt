@@ -93,6 +93,15 @@ fn plain_reply(reply: &Reply)
     }
 }
 
+// Replies are plain by the types of what they hold. This does nothing.
+pub(crate) fn plain_replies(replies: &[Reply])
+    ensures { AllByRecursion IsPlain replies.now }
+{
+    for reply in replies {
+        plain_reply(reply);
+    }
+}
+
 /// The lines of replies, one after another.
 pub(crate) fn reply_texts(
     alloc: Global,

@@ -24,7 +24,7 @@ wanted-no-bool a b h e = go b (subst (λ (o : Option Ty). is_wanted o b ≡ true
 pub key-cell : (t : ℕ) (e : Expr) (env : Values) (r : Result Key Trap) → r ≡ key_given e env → IfOk r (λ k. cell_at t e env ≡ Ok (Some (t, k)))
 key-cell t e env r is = subst (λ (q : Result Key Trap). IfOk q (λ k. cell_at t e env ≡ Ok (Some (t, k)))) (sym is) (go (value e env))
   where
-    go : (v : Result Value Trap) → IfOk (v >>= λ x. Ok (as_key x)) (λ k. (v >>= λ x. Ok (Some (t, as_key x))) ≡ Ok (Some (t, k)))
+    go : (v : Result Value Trap) → IfOk (v >>= λ x. Ok (as_key x)) (λ k. (◌>>=◌ {B = Option (ℕ × Key)} v (λ x. Ok (Some (t, as_key x)))) ≡ Ok (Some (t, k)))
     go (Ok v) = refl
     go (Err trap) = tt
 
@@ -32,7 +32,7 @@ key-cell t e env r is = subst (λ (q : Result Key Trap). IfOk q (λ k. cell_at t
 pub key-trap : (t : ℕ) (e : Expr) (env : Values) (r : Result Key Trap) → r ≡ key_given e env → IfErr r (λ trap. cell_at t e env ≡ Err trap)
 key-trap t e env r is = subst (λ (q : Result Key Trap). IfErr q (λ trap. cell_at t e env ≡ Err trap)) (sym is) (go (value e env))
   where
-    go : (v : Result Value Trap) → IfErr (v >>= λ x. Ok (as_key x)) (λ trap. (v >>= λ x. Ok (Some (t, as_key x))) ≡ Err trap)
+    go : (v : Result Value Trap) → IfErr (v >>= λ x. Ok (as_key x)) (λ trap. (◌>>=◌ {B = Option (ℕ × Key)} v (λ x. Ok (Some (t, as_key x)))) ≡ Err trap)
     go (Ok v) = tt
     go (Err trap) = refl
 

@@ -106,6 +106,13 @@ impl Session {
         &self.rows
     }
 
+    /// The replies that the open group holds, first to last.
+    pub fn held(&self) -> &[Reply]
+        ensures { result.now ≡ self.now.held }
+    {
+        &self.held
+    }
+
     /// Whether the body of the open group has no room for the entry of a transaction. A group without transactions has it.
     /// Linear in the transaction's values.
     pub fn lacks_room(&self, txn: &Txn) -> bool

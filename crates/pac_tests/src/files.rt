@@ -1,6 +1,7 @@
 // A disk over a file: what the system's calls give.
 use pac_outside::{Disk, Failed, FileDisk, open_after, read_piece};
 use std::fs;
+use std::os::unix::fs::symlink;
 use std::test::Fail;
 
 type HostDisk<'a> = FileDisk<'a, HostRuntime>;
@@ -10,6 +11,8 @@ const FOLDER: &str = "disks_over_files";
 const LOG: &str = "disks_over_files/log";
 
 const SLOT: &str = "disks_over_files/slot";
+
+const LINK: &str = "link_of_a_disk";
 
 // Whether a missing file is empty, and isn't made by reading.
 fn is_missing(rt: &HostRuntime, disk: &mut HostDisk<'_>) -> bool {
@@ -36,24 +39,16 @@ fn ends_at_six(disk: &mut HostDisk<'_>) -> bool {
         && disk.read(u64::MAX, &mut buf) == Ok(0)
 }
 
-// Whether another disk over the file finds its bytes, and opens a gate in it.
-fn opens_a_gate(rt: &HostRuntime) -> bool {
+// Whether another disk over the file reads its bytes, and neither writes nor syncs.
+fn is_kept_out(rt: &HostRuntime) -> bool {
     let mut disk = FileDisk::new(rt, LOG);
-    disk.len() == Ok(6) && open_after(&mut disk, 0, b"piece!") == Ok(())
+    disk.len() == Ok(6) && disk.write_at(0, b"x") == Err(Failed) && disk.sync() == Err(Failed)
 }
 
-// Whether that gate and its piece are read.
-fn has_piece(rt: &HostRuntime, disk: &mut HostDisk<'_>) -> bool {
-    match read_piece(rt.alloc(), disk, 0, 9) {
-        Ok(piece) => piece.as_slice() == b"\x01piece!".as_slice(),
-        Err(_) => false,
-    }
-}
-
-// Whether a sync makes the file too.
-fn is_made_by_a_sync(rt: &HostRuntime) -> bool {
+// Whether a sync leaves a missing file missing.
+fn is_left_missing(rt: &HostRuntime) -> bool {
     let mut disk = FileDisk::new(rt, SLOT);
-    disk.sync() == Ok(()) && disk.len() == Ok(0) && fs::metadata(rt, SLOT).is_ok()
+    disk.sync() == Ok(()) && disk.len() == Ok(0) && fs::metadata(rt, SLOT).is_err()
 }
 
 // What is wrong first of a disk over a file.
@@ -66,12 +61,10 @@ fn first_wrong(rt: &HostRuntime, disk: &mut HostDisk<'_>) -> &'static str {
         "reads"
     } else if !ends_at_six(disk) {
         "the end"
-    } else if !opens_a_gate(rt) {
-        "a gate byte"
-    } else if !has_piece(rt, disk) {
-        "the piece after a gate byte"
-    } else if !is_made_by_a_sync(rt) {
-        "a sync"
+    } else if !is_kept_out(rt) {
+        "the lock"
+    } else if !is_left_missing(rt) {
+        "a sync of a missing file"
     } else {
         "nothing"
     }
@@ -83,33 +76,63 @@ fn first_wrong_in_folder(rt: &HostRuntime) -> &'static str {
     first_wrong(rt, &mut disk)
 }
 
+// Whether another disk over the file finds its bytes once the first is gone, and opens a gate in it.
+fn opens_a_gate(rt: &HostRuntime) -> bool {
+    let mut disk = FileDisk::new(rt, LOG);
+    disk.sync() == Ok(()) && disk.len() == Ok(6) && open_after(&mut disk, 0, b"piece!") == Ok(())
+}
+
+// Whether that gate and its piece are read.
+fn has_piece(rt: &HostRuntime) -> bool {
+    let mut disk = FileDisk::new(rt, LOG);
+    match read_piece(rt.alloc(), &mut disk, 0, 9) {
+        Ok(piece) => piece.as_slice() == b"\x01piece!".as_slice(),
+        Err(_) => false,
+    }
+}
+
 #[test]
 fn a_disk_over_a_file_keeps_what_is_written(rt: HostRuntime) -> Result<(), Fail> {
     let _ = fs::remove_dir_all(&rt, FOLDER);
     fs::create_dir(&rt, FOLDER)?;
     assert_eq!(rt; first_wrong_in_folder(&rt), "nothing");
+    assert!(rt; opens_a_gate(&rt));
+    assert!(rt; has_piece(&rt));
     fs::remove_dir_all(&rt, FOLDER)?;
     Ok(())
 }
 
-// Whether no write and no sync comes to a file at this path.
+// Whether each call fails at this path.
 fn is_refused(rt: &HostRuntime, path: &str) -> bool {
-    let mut disk = FileDisk::new(rt, path);
-    disk.len().is_ok() && disk.write_at(0, b"a") == Err(Failed) && disk.sync() == Err(Failed)
-}
-
-// Whether not even a length comes.
-fn is_no_path(rt: &HostRuntime, path: &str) -> bool {
+    let mut buf = [0u8; 1];
     let mut disk = FileDisk::new(rt, path);
     disk.len() == Err(Failed)
+        && disk.read(0, &mut buf) == Err(Failed)
+        && disk.write_at(0, b"a") == Err(Failed)
+        && disk.sync() == Err(Failed)
 }
 
-// The first stands in a folder that isn't there, and the second is a folder.
+// A folder, a device, a link, and what is no path.
 #[test]
-fn a_disk_over_a_file_that_cannot_be_written_fails(rt: HostRuntime) {
-    let fails = is_refused(&rt, "no_such_folder/log")
-        && is_refused(&rt, ".")
-        && is_no_path(&rt, "no\0name")
-        && fs::metadata(&rt, "no_such_folder").is_err();
+fn only_plain_files_are_opened(rt: HostRuntime) -> Result<(), Fail> {
+    let _ = fs::remove_file(&rt, LINK);
+    symlink(&rt, "no_such_file", LINK)?;
+    let fails = is_refused(&rt, ".")
+        && is_refused(&rt, "/dev/zero")
+        && is_refused(&rt, LINK)
+        && is_refused(&rt, "no\0name");
     assert!(rt; fails);
+    fs::remove_file(&rt, LINK)?;
+    Ok(())
+}
+
+// Whether no write comes to a file whose folder isn't there.
+fn is_not_made(rt: &HostRuntime) -> bool {
+    let mut disk = FileDisk::new(rt, "no_such_folder/log");
+    disk.len() == Ok(0) && disk.write_at(0, b"a") == Err(Failed)
+}
+
+#[test]
+fn no_folder_is_made(rt: HostRuntime) {
+    assert!(rt; is_not_made(&rt) && fs::metadata(&rt, "no_such_folder").is_err());
 }

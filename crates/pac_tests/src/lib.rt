@@ -11,6 +11,8 @@ mod commands;
 #[cfg(test)]
 mod copies;
 #[cfg(test)]
+mod file_calls;
+#[cfg(test)]
 mod files;
 #[cfg(test)]
 mod lines;
@@ -20,6 +22,8 @@ mod many;
 mod pieces;
 #[cfg(test)]
 mod plans;
+#[cfg(test)]
+mod recorder;
 #[cfg(test)]
 mod rows;
 #[cfg(test)]

@@ -1,5 +1,5 @@
 // Many new rows at once, and a plan of many blocks.
-ghost use Rattle.std.specs.Prelude.{◌≡◌, IfOk};
+ghost use Rattle.std.specs.Prelude.{◌≡◌, IfOk, pos};
 ghost use Rattle.pac_tables.specs.Written.{AreWithin};
 
 use crate::rows::{count_of, number_at, row_of};
@@ -14,9 +14,11 @@ use std::alloc::{AllocError, Global};
 use std::test::Fail;
 
 // A put of a key's own number there, in the first table.
-fn put_of(alloc: Global, key: i64) -> Result<Write, NoMemory>
-    ensures { IfOk result (λ write. write.table ≡ 0) }
+fn put_of(alloc: Global, key: u32) -> Result<Write, NoMemory>
+    ensures table { IfOk result (λ write. write.table ≡ 0) }
+    ensures key { IfOk result (λ write. write.key ≡ Key.Int (pos key)) }
 {
+    let key = i64::from(key);
     Ok(Write {
         table: 0,
         key: Key::Int(key),
@@ -24,13 +26,13 @@ fn put_of(alloc: Global, key: i64) -> Result<Write, NoMemory>
     })
 }
 
-// Such puts at the keys from 1 to 64.
+// Such puts at the keys from 63 down to 0.
 fn puts(alloc: Global) -> Result<Writes, NoMemory>
     ensures { IfOk result (λ writes. AreWithin 1 writes) }
 {
     let mut writes = Vec::new(alloc);
     for key in 0..64u32 {
-        writes.push(put_of(alloc, i64::from(key) + 1)?)?;
+        writes.insert(0, put_of(alloc, key)?)?;
     }
     Ok(Writes::of(writes))
 }
@@ -55,8 +57,8 @@ fn applied(alloc: Global) -> Result<OrderedRows, NoMemory> {
 #[test]
 fn many_new_rows_are_written_together(rt: HostRuntime) -> Result<(), Fail> {
     let rows = applied(rt.alloc())?;
-    let numbers = (number_at(&rows, 1), number_at(&rows, 64));
-    assert_eq!(rt; (count_of(&rows), numbers), (64, (Some(1), Some(64))));
+    let numbers = (number_at(&rows, 0), number_at(&rows, 63));
+    assert_eq!(rt; (count_of(&rows), numbers), (64, (Some(0), Some(63))));
     Ok(())
 }
 

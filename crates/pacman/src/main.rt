@@ -1,8 +1,10 @@
 //! The program: the real outside, handed to the top call.
 #![tactic(auto)]
 
+ghost use Rattle.std.specs.Prelude.{◌≡◌, ◌↔◌};
+
 use pac_main::{ArgumentsError, pacman, refuse_arguments};
-use pac_outside::{Devices, FileDisk, OpenGate, Stream};
+use pac_outside::{OpenGate, Stream, store_devices};
 use std::env::Env;
 use std::io::ErrorKind;
 use std::process::ExitCode;
@@ -13,8 +15,10 @@ fn read_arguments<R: Env + Alloc>(rt: &R) -> io::Result<Vec<String<R::A>, R::A>>
     Ok(env::args(rt)?.skip(1).collect(rt.alloc())?)
 }
 
-// What is wrong with arguments that can't be read.
-fn arguments_error(kind: ErrorKind) -> ArgumentsError {
+// What is wrong with arguments that can't be read: there was no memory for them, or they are no text.
+fn arguments_error(kind: ErrorKind) -> ArgumentsError
+    ensures { (result ≡ ArgumentsError.NoMemory) ↔ (kind ≡ ErrorKind.OutOfMemory) }
+{
     match kind {
         ErrorKind::OutOfMemory => ArgumentsError::NoMemory,
         _ => ArgumentsError::Usage,
@@ -25,11 +29,7 @@ fn main(rt: HostRuntime) -> ExitCode {
     let mut input = Stream::new(rt.stdin());
     let mut output = Stream::new(rt.stdout());
     let mut errors = Stream::new(rt.stderr());
-    let mut devices = Devices {
-        log: FileDisk::new(&rt, "pacman.log"),
-        slot_a: FileDisk::new(&rt, "pacman.a"),
-        slot_b: FileDisk::new(&rt, "pacman.b"),
-    };
+    let mut devices = store_devices(&rt);
     let status = match read_arguments(&rt) {
         Ok(arguments) => pacman(
             &rt,

@@ -21,7 +21,7 @@ returns-in-Ok-clause-ends g c =
     let errors = observed g.E.Sink.held g.E.Sink.faults c.args.errors.now c.args.errors.now in
     run-done c.args.group_size c.args.limit source sink errors (g.D.Disk.known old.log) (g.D.Disk.known old.slot_a) (g.D.Disk.known old.slot_b) (each g.D.Disk.known new) (each g.D.Disk.faults old) (each g.D.Disk.faults new)
     (subst (λ (n : ℕ). IsRun c.args.group_size n source.before source.after sink.before sink.after (each g.D.Disk.known old) (each g.D.Disk.known new) (Faulted sink.faults_before sink.faults_after) (Ok tt)) c.from.ensures c.in-Ok.ensures.run)
-    (c.in-Ok.ensures.quiet (λ e. absurd cc) (λ e. absurd cc))
+    (c.in-Ok.ensures.quiet (λ e. absurd cc))
 
 pub returns-in-Err-clause-ends : goal.returns-in-Err-clause-ends
 returns-in-Err-clause-ends g c =

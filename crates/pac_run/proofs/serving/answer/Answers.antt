@@ -62,10 +62,9 @@ returns-in_ok-text-in-Err-clause-err g c = λ stop is.
     let cat = c.args.catalogue.now in
     let old = c.args.engine.now in
     let e = c.in-Err.ensures in
-    let text = c.deref-in-Err.ensures.value ∙ c.in_ok-text-in-Err.ensures.text ∙ ap (texts cat) c.items-in-Err.ensures.value in
-    let plain = subst (λ (l : List Reply). AllByRecursion IsPlain l) c.items-in-Err.ensures.value c.in_ok-text-in-Err.ensures.plain in
+    let text = c.deref-in-Err.ensures.value ∙ c.in_ok-text-in-Err.ensures.text in
     let same = sym (same-error _ _ is) ∙ c.stop_of_engine.ensures in
-    broke-of c.args.asked old c.step.new.self _ _ cat _ _ _ stop c.in-Err.fault.replies c.deref-in-Err.result.now text c.write-in-Err.ensures.says (e.keeps c.requires.goes_on) e.grows e.kept_before plain
+    broke-of c.args.asked old c.step.new.self _ _ cat _ _ _ stop c.in-Err.fault.replies c.deref-in-Err.result.now text c.write-in-Err.ensures.says (e.keeps c.requires.goes_on) e.grows e.kept_before c.in_ok-text-in-Err.ensures.plain
     (λ start group within. step-stops (rules_of old.session) old.log.gate.place start (cut_one (rules_of old.session) start group c.args.asked).closed c.in-Err.fault.replies c.in-Err.fault.cause stop same (e.stops c.requires.goes_on start group within))
     (λ out. absurd (no-output c.in-Err.fault.cause (sym same ∙ out)))
     (subst (λ (s : RunStop). KeepsGate c.args.asked old c.step.new.self s) (sym same) (room-stays g.D.Disk.known c.args.asked old c.step.new.self c.args.devices.now c.step.new.devices c.in-Err.fault.cause e.room))

@@ -5,8 +5,8 @@ use Rattle.pac_engine.specs.Standing.{HasDevices}
 use Rattle.pac_run.specs.Serving.{Serving}
 use Rattle.pac_run.proofs.serving.serve_lines.Given as goal
 
-abbrev pub invariant-loop-engine : goal.invariant-loop-engine
-invariant-loop-engine g l = record {
+abbrev pub invariant-loop-stop : goal.invariant-loop-stop
+invariant-loop-stop g l = record {
   same : l.fn.engine.session.catalogue ≡ l.engine.session.catalogue;
   goes_on : l.engine.ended ≡ false;
   ready : HasDevices g.D.Disk.known l.engine l.devices;
@@ -16,5 +16,5 @@ invariant-loop-engine g l = record {
   later_input : g.I.Source.faults l.fn.input ≤ g.I.Source.faults l.input;
 }
 
-abbrev pub decreases-loop-engine : goal.decreases-loop-engine
-decreases-loop-engine g l = length l.reader.ahead + l.reader.limit - l.reader.taken
+abbrev pub decreases-loop-stop : goal.decreases-loop-stop
+decreases-loop-stop g l = length l.reader.ahead + l.reader.limit - l.reader.taken

@@ -8,6 +8,7 @@ use Rattle.pac_session.specs.Open.{IsInGroup, rules_of}
 use Rattle.pac_engine.specs.declared.fault.EngineCause.TheVariants.{DiskFault}
 use Rattle.pac_engine.specs.declared.parts.EngineParts.{EngineParts}
 use Rattle.pac_engine.specs.Closing.{MayEndAfter}
+use Rattle.pac_engine.specs.Handled.{GivesBefore}
 use Rattle.pac_engine.proofs.StepLemmas.{flag-keeps, flag-stands}
 use Rattle.pac_engine.proofs.RoomLemmas.{room-flagged}
 use Rattle.pac_engine.proofs.engine.Engine.step.Goals as goal
@@ -27,3 +28,6 @@ returns-in-Err-clause-room g c = room-flagged g.D.Disk.known c.args.request c.ar
 pub returns-in-Err-clause-torn : goal.returns-in-Err-clause-torn
 returns-in-Err-clause-torn g c = subst (λ (e : EngineParts). c.in-Err.fault.cause ≡ DiskFault → (start : SessionState) (group : List Request) → IsInGroup start group e.session
     → MayEndAfter (rules_of e.session) start (cut_one (rules_of e.session) start group c.args.request).closed e.log.gate (each g.D.Disk.known c.handle.new.devices)) c.self.view_is c.in-Err.ensures.handled.torn
+
+pub returns-in-Err-clause-given : goal.returns-in-Err-clause-given
+returns-in-Err-clause-given g c = subst (λ (e : EngineParts). c.in-Err.fault.cause ≡ DiskFault → GivesBefore c.args.request e.session c.in-Err.fault.replies) c.self.view_is c.in-Err.ensures.handled.given

@@ -1,5 +1,5 @@
 -- Where the reply isn't held, no device was called.
-use Rattle.std.proofs.Common.{◌∙◌, refl, subst, sym, arith, rules}
+use Rattle.std.proofs.Common.{inl, ◌∙◌, refl, subst, sym, arith, rules}
 use Rattle.std.proofs.lemmas.Grind.{common_steps}
 use Rattle.pac_outside.specs.Devices.{each}
 use Rattle.pac_engine.specs.declared.fault.EngineCause.{EngineCause}
@@ -24,6 +24,7 @@ returns-in-Err g c = record {
   keeps = λ text history. asked-keeps-known text history c.args.self.now c.args.request (none-fits c.args.self.now c.args.request c.requires.none) c.requires.live.working.counted _ refl refl _;
   stands = tt;
   goes_on = grind (arith, common_steps);
+  given = λ is. inl c.fault.ensures.replies;
   slots = λ other. (refl, refl);
   room = room-none g.D.Disk.known c.args.request c.args.self.now _ c.args.devices.now c.args.devices.now c.fault.result.cause c.fault.ensures.cause;
   torn = λ is. absurd (memory-no-disk (sym c.fault.ensures.cause ∙ is));

@@ -1,5 +1,5 @@
 -- The group is closed, and then the checkpoint is saved.
-use Rattle.std.proofs.Common.{◌∙◌, List, Err, ap, refl, subst, sym, arith}
+use Rattle.std.proofs.Common.{inl, inr, ◌∙◌, List, Err, ap, refl, subst, sym, arith}
 use Rattle.std.proofs.lemmas.Grind.{common_steps}
 use Rattle.std.specs.List.{AllByRecursion}
 use Rattle.pac_outside.specs.Devices.{each}
@@ -10,7 +10,7 @@ use Rattle.pac_session.specs.Open.{rules_of}
 use Rattle.pac_engine.specs.declared.fault.EngineCause.{EngineCause}
 use Rattle.pac_engine.specs.Closing.{CountsFault, IsKept}
 use Rattle.pac_engine.specs.Committing.{gate_past}
-use Rattle.pac_engine.proofs.Results.{if-err-all, if-err-both, if-err-four, if-ok-both, on-ok}
+use Rattle.pac_engine.proofs.Results.{if-err, if-err-all, if-err-both, if-err-four, if-ok-both, on-ok}
 use Rattle.pac_engine.proofs.StepLemmas.{checkpoint-closes, checkpoint-gate, checkpoint-keeps, checkpoint-stands, checkpoint-stops, checkpoint-unsaved}
 use Rattle.pac_engine.proofs.RoomLemmas.{room-closed, room-saved, same-cause}
 use Rattle.pac_engine.proofs.TornLemmas.{may-end, torn-saved}
@@ -42,6 +42,7 @@ returns-in-Ok-clause-handled g c =
       stands = on-ok c.save_and_report.result stands (λ after text history.
           checkpoint-stands text history c.args.self.now c.close.new.self c.save_and_report.new.self c.in-Ok.ensures.closed _ _ _ (c.in-Ok.ensures.stands text history) (after text _));
       goes_on = on;
+      given = if-err c.save_and_report.result unknown (λ fault same is. inr (refl, same ∙ c.in-Ok.ensures.given));
       slots = λ other. absurd (other refl);
       room = if-err-both c.save_and_report.result full uncalled (λ fault none same. room-saved g.D.Disk.known Save c.args.self.now c.save_and_report.new.self c.args.devices.now c.save_and_report.new.devices refl c.close.new.self c.close.new.devices c.in-Ok.ensures.closed c.close.ensures.slot_a c.close.ensures.slot_b c.in-Ok.ensures.ready fault.cause none same);
       torn = if-err-all c.save_and_report.result (λ fault is start group within. may-end g.D.Disk.known (rules_of c.args.self.now.session) start (cut_one (rules_of c.args.self.now.session) start group Save).closed c.args.self.now.log.gate (gate_past c.args.self.now.session.txns c.args.self.now.log.gate) c.save_and_report.new.devices
@@ -65,6 +66,7 @@ returns-in-Err-clause-handled g c = record {
   keeps = c.close.ensures.keeps;
   stands = tt;
   goes_on = λ e. c.in-Err.ensures.goes_on (ap (λ x. Err x) (sym c.fault.ensures.cause ∙ e));
+  given = λ is. inl c.fault.ensures.replies;
   slots = λ other. absurd (other refl);
   room = room-closed g.D.Disk.known Save c.args.self.now c.close.new.self c.args.devices.now c.close.new.devices c.fault.result.cause (λ not. c.in-Err.ensures.uncalled (λ e. not (c.fault.ensures.cause ∙ same-cause e))) c.in-Err.ensures.unmoved.gate (λ bytes e. c.in-Err.ensures.known bytes (ap (λ x. Err x) (sym c.fault.ensures.cause ∙ e)));
   torn = λ is start group within. may-end g.D.Disk.known (rules_of c.args.self.now.session) start (cut_one (rules_of c.args.self.now.session) start group Save).closed c.args.self.now.log.gate (gate_past c.args.self.now.session.txns c.args.self.now.log.gate) c.close.new.devices

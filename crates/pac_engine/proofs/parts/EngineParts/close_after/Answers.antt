@@ -1,5 +1,5 @@
 -- The group is closed after the request, or stays open.
-use Rattle.std.proofs.Common.{◌∙◌, List, Err, ap, refl, subst, sym, arith, rules}
+use Rattle.std.proofs.Common.{inl, ◌∙◌, List, Err, ap, refl, subst, sym, arith, rules}
 use Rattle.std.proofs.lemmas.Grind.{common_steps}
 use Rattle.std.specs.List.{AllByRecursion}
 use Rattle.pac_outside.specs.Devices.{each}
@@ -32,6 +32,7 @@ returns-then-not-ends_group g c = λ before asked is. record {
   keeps = λ text history. asked-keeps-known text history before asked is.fits is.live.working.counted c.args.self.now (ap durable_of is.becomes) (ap saved_of is.becomes) _;
   stands = λ text history. asked-stands-known text history before asked is.fits is.live.working.counted c.args.self.now is.becomes _;
   goes_on = tt;
+  given = tt;
   slots = λ other. (refl, refl);
   room = tt;
   torn = tt;
@@ -51,6 +52,7 @@ returns-in-Ok g c = λ before asked is. record {
   keeps = λ text history. after-keeps text history before asked is.fits is.live.working.counted c.args.self.now is.becomes c.close.new.self _ _ (c.close.ensures.keeps text _);
   stands = λ text history. after-stands text history before asked is.fits is.live.working.counted c.args.self.now is.becomes c.close.new.self _ _ (c.in-Ok.ensures.stands text _);
   goes_on = tt;
+  given = tt;
   slots = λ other. (c.close.ensures.slot_a, c.close.ensures.slot_b);
   room = tt;
   torn = tt;
@@ -73,6 +75,7 @@ returns-in-Err g c = λ before asked is. record {
   keeps = λ text history. after-keeps text history before asked is.fits is.live.working.counted c.args.self.now is.becomes c.close.new.self _ _ (c.close.ensures.keeps text _);
   stands = tt;
   goes_on = λ e. c.in-Err.ensures.goes_on (ap (λ x. Err x) (sym c.fault.ensures.cause ∙ e));
+  given = λ is. inl c.fault.ensures.replies;
   slots = λ other. (c.close.ensures.slot_a, c.close.ensures.slot_b);
   room = room-closed g.D.Disk.known asked before c.close.new.self c.args.devices.now c.close.new.devices c.fault.result.cause (λ not. c.in-Err.ensures.uncalled (λ e. not (c.fault.ensures.cause ∙ same-cause e))) (c.in-Err.ensures.unmoved.gate ∙ ap (λ (e : EngineParts). e.log.gate) is.becomes) (λ bytes e. c.in-Err.ensures.known bytes (ap (λ x. Err x) (sym c.fault.ensures.cause ∙ e)));
   torn = λ fault start group within. may-end g.D.Disk.known (rules_of before.session) start (cut_one (rules_of before.session) start group asked).closed before.log.gate (gate_past c.args.self.now.session.txns c.args.self.now.log.gate) c.close.new.devices

@@ -1,5 +1,5 @@
 -- A transaction for which there is room, or for which there is no memory.
-use Rattle.std.proofs.Common.{◌∙◌, refl, subst, sym, arith, rules}
+use Rattle.std.proofs.Common.{inl, ◌∙◌, refl, subst, sym, arith, rules}
 use Rattle.std.proofs.lemmas.Grind.{common_steps}
 use Rattle.pac_outside.specs.Devices.{each}
 use Rattle.pac_session.specs.Open.{Open}
@@ -31,6 +31,7 @@ returns-in-Err g c = λ asked asks. record {
       asked-keeps-known text history c.args.self.now asked (same-fits c.args.self.now asked c.args.txn asks c.requires.fits) c.requires.live.working.counted _ refl refl _;
   stands = tt;
   goes_on = grind (arith, common_steps);
+  given = λ is. inl c.fault.ensures.replies;
   slots = λ other. (refl, refl);
   room = room-none g.D.Disk.known asked c.args.self.now _ c.args.devices.now c.args.devices.now c.fault.result.cause c.fault.ensures.cause;
   torn = λ is. absurd (memory-no-disk (sym c.fault.ensures.cause ∙ is));

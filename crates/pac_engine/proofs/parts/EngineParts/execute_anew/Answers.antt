@@ -1,5 +1,5 @@
 -- The open group is closed, and the transaction is the first of the next one.
-use Rattle.std.proofs.Common.{◌∙◌, List, Err, ap, refl, subst, sym, arith}
+use Rattle.std.proofs.Common.{inl, ◌∙◌, List, Err, ap, refl, subst, sym, arith}
 use Rattle.std.proofs.lemmas.Grind.{common_steps}
 use Rattle.std.specs.List.{AllByRecursion}
 use Rattle.pac_outside.specs.Devices.{each}
@@ -33,6 +33,7 @@ returns-in-Err g c = λ asked asks. record {
       anew-keeps text history c.args.self.now asked (same-fits c.args.self.now asked c.args.txn asks c.requires.fits) c.requires.live.working.counted c.close.new.self _ _ (c.close.ensures.keeps text history) _ refl refl;
   stands = tt;
   goes_on = λ e. c.in-Err.ensures.goes_on (ap (λ x. Err x) (sym c.fault.ensures.cause ∙ e));
+  given = λ is. inl c.fault.ensures.replies;
   slots = λ other. (c.close.ensures.slot_a, c.close.ensures.slot_b);
   room = room-closed g.D.Disk.known asked c.args.self.now c.close.new.self c.args.devices.now c.close.new.devices c.fault.result.cause (λ not. c.in-Err.ensures.uncalled (λ e. not (c.fault.ensures.cause ∙ same-cause e))) c.in-Err.ensures.unmoved.gate (λ bytes e. c.in-Err.ensures.known bytes (ap (λ x. Err x) (sym c.fault.ensures.cause ∙ e)));
   torn = λ fault start group within. may-end g.D.Disk.known (rules_of c.args.self.now.session) start (cut_one (rules_of c.args.self.now.session) start group asked).closed c.args.self.now.log.gate (gate_past c.args.self.now.session.txns c.args.self.now.log.gate) c.close.new.devices
@@ -57,6 +58,7 @@ returns-in-Ok-run g c = λ asked asks. record {
       anew-stands text history c.args.self.now asked (same-fits c.args.self.now asked c.args.txn asks c.requires.fits) c.requires.live.working.counted c.close.new.self _ _ (c.close.ensures.keeps text history) c.in-Ok.ensures.closed (c.in-Ok.ensures.stands text history) _
       (ap (λ now. with_session now c.close.new.self) (c.in-Ok-run.ensures ∙ run-asked asked c.close.new.self.session c.args.txn asks));
   goes_on = tt;
+  given = tt;
   slots = λ other. (c.close.ensures.slot_a, c.close.ensures.slot_b);
   room = tt;
   torn = tt;
@@ -77,6 +79,7 @@ returns-in-Err-run g c = λ asked asks. record {
       anew-keeps text history c.args.self.now asked (same-fits c.args.self.now asked c.args.txn asks c.requires.fits) c.requires.live.working.counted c.close.new.self _ _ (c.close.ensures.keeps text history) _ refl refl;
   stands = tt;
   goes_on = λ e. absurd (cc e);
+  given = λ is. absurd (memory-no-disk is);
   slots = λ other. (c.close.ensures.slot_a, c.close.ensures.slot_b);
   room = tt;
   torn = λ is. absurd (memory-no-disk is);
