@@ -1,0 +1,230 @@
+-- What becomes of a core where a piece at a place is handed out, given back or finished.
+use Rattle.std.proofs.Common.{◌≡◌, ℕ, true, false, List, length, Option, Some, sym, ap, subst, ◌∙◌}
+use Rattle.pac_value.specs.Expressions.{Values}
+use Rattle.pac_value.specs.State.{Tables}
+use Rattle.pac_ops.specs.declared.note.Note.{Note}
+use Rattle.pac_ops.specs.declared.piece.PieceId.{PieceId}
+use Rattle.pac_ops.specs.declared.transaction.Txn.{Txn}
+use Rattle.pac_plan.specs.declared.access.Access.TheVariants.{Whole}
+use Rattle.pac_plan.specs.declared.parts.PlanParts.{PlanParts}
+use Rattle.pac_plan.specs.Pieces.{Present, apply}
+use Rattle.pac_tables.specs.declared.writes.Write.{Write}
+use Rattle.pac_tables.specs.Written.{written}
+use Rattle.pac_sched.specs.declared.state.PieceState.{PieceState}
+use Rattle.pac_sched.specs.declared.state.PieceState.TheVariants as state
+use Rattle.pac_sched.specs.declared.state.Pick.TheVariants.{Piece}
+use Rattle.pac_sched.specs.Schedules.{IsInOrder, Schedule, after_take, handed_out, is_finished, pick, with_state}
+use Rattle.pac_sched.proofs.CallLemmas.{picked}
+use Rattle.pac_sets.specs.Sets.{with_kept_at}
+use Rattle.pac_undo.specs.Undo.{Undoable}
+use Rattle.pac_commute.specs.Loads.{Job}
+use Rattle.pac_commute.specs.Machine.{IsReadyAt, Kept as KeptStep, Ran, access_at, all_but, among, world_at}
+use Rattle.pac_commute.proofs.Steps as steps
+use Rattle.pac_core.specs.declared.place.Place.{Place}
+use Rattle.pac_core.specs.declared.progress.Progress.{Progress}
+use Rattle.pac_core.specs.declared.stage.OpenSet.{OpenSet}
+use Rattle.pac_core.specs.declared.stage.Stage.TheVariants.{Open}
+use Rattle.pac_core.specs.Inputs.{LeavesValues}
+use Rattle.pac_core.specs.Links.{IsCore, KeepsProgress, core_of, job_of, piece_in, replay_of}
+use Rattle.pac_core.specs.Moves.{IsFinishedAt, IsFinishedTo, IsMovedTo, IsOrderAfter}
+use Rattle.pac_core.specs.Places.{AreValuesAt, IsPlaced, IsTxnAt}
+use Rattle.pac_core.specs.Replay.{machine_of, present_of, with_finished, with_out, without_out}
+use Rattle.pac_core.specs.Results.{IsKeptAfter, IsResult}
+use Rattle.pac_core.proofs.BackIn as back
+use Rattle.pac_core.proofs.FinishedOne as finished
+use Rattle.pac_core.proofs.FinishedOne.{IsStepped, out_but}
+use Rattle.pac_core.proofs.PlacedPieces as placed
+use Rattle.pac_core.proofs.TakenOut as taken
+
+-- ---- it is handed out
+
+module _ (p : Progress) (u : Undoable) (core : IsCore p u) (place : Place) (piece : PieceId) (at : IsPlaced p place piece state.Waiting)
+    (ready : IsReadyAt (job_of p u) (machine_of (core_of p u)) piece) (keys : access_at (job_of p u) (machine_of (core_of p u)) piece ≡ Whole → ⊥)
+    (first : pick at.stands.opening.sched ≡ Piece piece) (new : Progress) (to : IsMovedTo after_take p place.at new) (order : IsOrderAfter after_take p place.at) where
+  abbrev job : Job
+  job = job_of p u
+
+  abbrev q : PieceId
+  q = piece_in at.stands.set.block piece.txn
+
+  own : q ≡ piece
+  own = placed.own job p core.progress place piece state.Waiting at
+
+  sched_is : after_take at.stands.opening.sched ≡ with_state at.stands.opening.sched q state.Out
+  sched_is = ap (handed_out at.stands.opening.sched) (picked at.stands.opening.sched piece first) ∙ ap (λ x. with_state at.stands.opening.sched x state.Out) (sym own)
+
+  abbrev out_open : OpenSet
+  out_open = record { sched = with_state at.stands.opening.sched q state.Out; cells = at.stands.opening.cells }
+
+  abbrev out_progress : Progress
+  out_progress = record p { sets = record p.sets { sets = with_kept_at p.sets.sets place.at (Some (Open out_open)) } }
+
+  new_is : new ≡ out_progress
+  new_is =
+      to at.stands.set at.stands.opening at.stands.there
+      ∙ ap (λ (s : Schedule). record p { sets = record p.sets { sets = with_kept_at p.sets.sets place.at (Some (Open (record { sched = s; cells = at.stands.opening.cells }))) } }) sched_is
+
+  ready_q : IsReadyAt job (machine_of (core_of p u)) q
+  ready_q = subst (IsReadyAt job (machine_of (core_of p u))) (sym own) ready
+
+  keys_q : access_at job (machine_of (core_of p u)) q ≡ Whole → ⊥
+  keys_q = subst (λ (x : PieceId). access_at job (machine_of (core_of p u)) x ≡ Whole → ⊥) (sym own) keys
+
+  order_q : IsInOrder (with_state at.stands.opening.sched q state.Out)
+  order_q = subst IsInOrder sched_is (order at.stands.set at.stands.opening at.stands.there)
+
+  out_is : replay_of job out_progress ≡ with_out (core_of p u) q
+  out_is = taken.out_now job p core.progress place.at at.stands.set at.stands.opening (placed.set job p core.progress place piece state.Waiting at) place.position piece.txn
+      (placed.index_is job p core.progress place piece state.Waiting at) at.stands.far_is ready_q keys_q order_q
+
+  out_core : IsCore out_progress u
+  out_core = record {
+    progress = taken.taken_keeps job p core.progress place.at at.stands.set at.stands.opening (placed.set job p core.progress place piece state.Waiting at) place.position piece.txn
+        (placed.index_is job p core.progress place piece state.Waiting at) at.stands.far_is ready_q keys_q order_q;
+    tables = core.tables;
+    rows = core.rows ∙ ap (λ (s : Present). s.tables)
+        (taken.present_now job p core.progress place.at at.stands.set at.stands.opening (placed.set job p core.progress place piece state.Waiting at) place.position piece.txn
+        (placed.index_is job p core.progress place piece state.Waiting at) at.stands.far_is ready_q keys_q order_q
+        ∙ ap present_of (sym out_is));
+  }
+
+  pub taken_core : IsCore new u
+  taken_core = subst (λ (x : Progress). IsCore x u) (sym new_is) out_core
+
+  pub taken_is : core_of new u ≡ with_out (core_of p u) piece
+  taken_is = ap (λ (x : Progress). core_of x u) new_is ∙ out_is ∙ ap (with_out (core_of p u)) own
+
+-- ---- it is given back
+
+module _ (p : Progress) (u : Undoable) (core : IsCore p u) (place : Place) (piece : PieceId) (at : IsPlaced p place piece state.Out)
+    (new : Progress) (to : IsMovedTo (λ sched. with_state sched piece state.Waiting) p place.at new) (order : IsOrderAfter (λ sched. with_state sched piece state.Waiting) p place.at) where
+  abbrev back_job : Job
+  back_job = job_of p u
+
+  abbrev back_piece : PieceId
+  back_piece = piece_in at.stands.set.block piece.txn
+
+  back_own : back_piece ≡ piece
+  back_own = placed.own back_job p core.progress place piece state.Out at
+
+  sched_back : with_state at.stands.opening.sched piece state.Waiting ≡ with_state at.stands.opening.sched back_piece state.Waiting
+  sched_back = ap (λ x. with_state at.stands.opening.sched x state.Waiting) (sym back_own)
+
+  abbrev back_progress : Progress
+  back_progress = record p { sets = record p.sets { sets = with_kept_at p.sets.sets place.at (Some (Open (record { sched = with_state at.stands.opening.sched back_piece state.Waiting; cells = at.stands.opening.cells }))) } }
+
+  new_back : new ≡ back_progress
+  new_back =
+      to at.stands.set at.stands.opening at.stands.there
+      ∙ ap (λ (s : Schedule). record p { sets = record p.sets { sets = with_kept_at p.sets.sets place.at (Some (Open (record { sched = s; cells = at.stands.opening.cells }))) } }) sched_back
+
+  order_back : IsInOrder (with_state at.stands.opening.sched back_piece state.Waiting)
+  order_back = subst IsInOrder sched_back (order at.stands.set at.stands.opening at.stands.there)
+
+  back_replay : replay_of back_job back_progress ≡ without_out (core_of p u) back_piece
+  back_replay = back.back_now back_job p core.progress place.at at.stands.set at.stands.opening (placed.set back_job p core.progress place piece state.Out at) place.position piece.txn
+      (placed.index_is back_job p core.progress place piece state.Out at) at.stands.far_is order_back
+
+  core_back : IsCore back_progress u
+  core_back = record {
+    progress = back.back_keeps back_job p core.progress place.at at.stands.set at.stands.opening (placed.set back_job p core.progress place piece state.Out at) place.position piece.txn
+        (placed.index_is back_job p core.progress place piece state.Out at) at.stands.far_is order_back;
+    tables = core.tables;
+    rows = core.rows ∙ ap (λ (s : Present). s.tables)
+        (back.present_now back_job p core.progress place.at at.stands.set at.stands.opening (placed.set back_job p core.progress place piece state.Out at) place.position piece.txn
+        (placed.index_is back_job p core.progress place piece state.Out at) at.stands.far_is order_back
+        ∙ ap present_of (sym back_replay));
+  }
+
+  pub back_core : IsCore new u
+  back_core = subst (λ (x : Progress). IsCore x u) (sym new_back) core_back
+
+  pub back_is : core_of new u ≡ without_out (core_of p u) piece
+  back_is = ap (λ (x : Progress). core_of x u) new_back ∙ back_replay ∙ ap (without_out (core_of p u)) back_own
+
+-- ---- it is finished
+
+-- a piece that is out is finished by a step of the machine
+pub kept_step : (p : Progress) (u : Undoable) (core : IsCore p u) (piece : PieceId) → among (core_of p u).out piece ≡ true → IsStepped (core_of p u) piece
+kept_step p u core piece out = record {
+  out = all_but piece (core_of p u).out;
+  invariant = steps.keeps (job_of p u) core.progress.is_plan (KeptStep (machine_of (core_of p u)) piece (steps.among_mem (core_of p u).out piece out)) core.progress.machine;
+  others = λ q h differ. out_but piece (core_of p u).out q h differ;
+}
+
+-- and so is a ready one
+pub ran_step : (p : Progress) (u : Undoable) (core : IsCore p u) (piece : PieceId) → IsReadyAt (job_of p u) (machine_of (core_of p u)) piece → IsStepped (core_of p u) piece
+ran_step p u core piece ready = record {
+  out = (core_of p u).out;
+  invariant = steps.keeps (job_of p u) core.progress.is_plan (Ran (machine_of (core_of p u)) piece ready) core.progress.machine;
+  others = λ q h differ. h;
+}
+
+module _ (p : Progress) (u : Undoable) (core : IsCore p u) (place : Place) (piece : PieceId) (far : PieceState) (at : IsPlaced p place piece far) (unfinished : is_finished far ≡ false)
+    (stepped : IsStepped (core_of p u) piece) (txn : Txn) (txn_is : IsTxnAt p place txn) (kept : Values) (kept_is : AreValuesAt p place kept)
+    (writes : List Write) (outs : Values) (note : Option Note) (result : IsResult (core_of p u) piece writes outs note) (kept_now : Values) (leaves : IsKeptAfter p place piece outs kept_now)
+    (new : Progress) (to : IsFinishedAt p place piece kept_now note new) (order : IsOrderAfter (λ sched. with_state sched piece state.Finished) p place.at) where
+  abbrev end_job : Job
+  end_job = job_of p u
+
+  abbrev end_piece : PieceId
+  end_piece = piece_in at.stands.set.block piece.txn
+
+  end_own : end_piece ≡ piece
+  end_own = placed.own end_job p core.progress place piece far at
+
+  order_end : IsInOrder (with_state at.stands.opening.sched end_piece state.Finished)
+  order_end = subst (λ (x : PieceId). IsInOrder (with_state at.stands.opening.sched x state.Finished)) (sym end_own) (order at.stands.set at.stands.opening at.stands.there)
+
+  to_end : IsFinishedTo p place.at at.stands.set at.stands.opening end_piece place.index kept_now note new
+  to_end = subst (λ (x : PieceId). IsFinishedTo p place.at at.stands.set at.stands.opening x place.index kept_now note new) (sym end_own)
+      (to at.stands.set at.stands.opening at.stands.there (placed.batch_is end_job p core.progress place piece far at))
+
+  stepped_end : IsStepped (core_of p u) end_piece
+  stepped_end = subst (IsStepped (core_of p u)) (sym end_own) stepped
+
+  result_end : IsResult (core_of p u) end_piece writes outs note
+  result_end = subst (λ (x : PieceId). IsResult (core_of p u) x writes outs note) (sym end_own) result
+
+  leaves_end : LeavesValues end_job.parts at.stands.set.block txn outs kept kept_now
+  leaves_end = subst (λ (b : ℕ). LeavesValues p.pieces b txn outs kept kept_now) (sym (placed.block_is end_job p core.progress place piece far at)) (leaves txn kept txn_is kept_is)
+
+  end_replay : replay_of end_job new ≡ with_finished (core_of p u) end_piece
+  end_replay = finished.finishes end_job p core.progress place.at at.stands.set at.stands.opening (placed.set end_job p core.progress place piece far at) place.position piece.txn
+      (placed.index_is end_job p core.progress place piece far at) far at.stands.far_is unfinished order_end stepped_end place.index txn (placed.number_is end_job p core.progress place piece far at)
+      (placed.in_set_batch end_job p core.progress place piece far at txn txn_is) writes outs note result_end kept kept_now at.txn.loaded (placed.loaded_there end_job p core.progress place piece far at)
+      (placed.before_is end_job p core.progress place piece far at txn txn_is kept kept_is) leaves_end new to_end
+
+  end_keeps : KeepsProgress end_job new
+  end_keeps = finished.finish_keeps end_job p core.progress place.at at.stands.set at.stands.opening (placed.set end_job p core.progress place piece far at) place.position piece.txn
+      (placed.index_is end_job p core.progress place piece far at) far at.stands.far_is unfinished order_end stepped_end place.index txn (placed.number_is end_job p core.progress place piece far at)
+      (placed.in_set_batch end_job p core.progress place piece far at txn txn_is) writes outs note result_end kept kept_now at.txn.loaded (placed.loaded_there end_job p core.progress place piece far at)
+      (placed.before_is end_job p core.progress place piece far at txn txn_is kept kept_is) leaves_end new to_end
+
+  end_present : apply (world_at end_job (machine_of (core_of p u))) end_piece (present_of (core_of p u)) ≡ present_of (with_finished (core_of p u) end_piece)
+  end_present = finished.present_now end_job p core.progress place.at at.stands.set at.stands.opening (placed.set end_job p core.progress place piece far at) place.position piece.txn
+      (placed.index_is end_job p core.progress place piece far at) far at.stands.far_is unfinished order_end stepped_end place.index txn (placed.number_is end_job p core.progress place piece far at)
+      (placed.in_set_batch end_job p core.progress place piece far at txn txn_is) writes outs note result_end kept kept_now at.txn.loaded (placed.loaded_there end_job p core.progress place piece far at)
+      (placed.before_is end_job p core.progress place piece far at txn txn_is kept kept_is) leaves_end new to_end
+
+  -- the job is the same
+  job_same : (after : Undoable) → after.opening ≡ u.opening → job_of new after ≡ end_job
+  job_same after same = λ k. record { parts = to_end.pieces k; first = to_end.first k; tables = same k }
+
+  module _ (after : Undoable) (undo : after ≡ record u { current = written u.current writes }) where
+    opening_same : after.opening ≡ u.opening
+    opening_same = ap (λ (x : Undoable). x.opening) undo
+
+    pub end_is : core_of new after ≡ with_finished (core_of p u) piece
+    end_is = ap (λ (j : Job). replay_of j new) (job_same after opening_same) ∙ end_replay ∙ ap (with_finished (core_of p u)) end_own
+
+    pub end_core : IsCore new after
+    end_core = record {
+      progress = subst (λ (j : Job). KeepsProgress j new) (sym (job_same after opening_same)) end_keeps;
+      tables = ap (λ (x : Undoable). x.tables) undo ∙ core.tables ∙ ap (λ (parts : PlanParts). length parts.tables) (sym to_end.pieces);
+      rows =
+          ap (λ (x : Undoable). x.current) undo
+          ∙ ap (λ (t : Tables). written t writes) core.rows
+          ∙ sym result_end.tables
+          ∙ ap (λ (s : Present). s.tables) (end_present ∙ ap present_of (sym end_replay) ∙ ap (λ (j : Job). present_of (replay_of j new)) (sym (job_same after opening_same)));
+    }

@@ -1,0 +1,187 @@
+-- What stands at the place of a piece: its transaction, the values that are kept of it, and the cells of its access.
+use Rattle.std.proofs.Common.{◌≡◌, ℕ, ◌+◌, ◌-◌, ◌<◌, Bool, true, false, cond, List, length, Option, Some, None, refl, sym, ap, subst, ◌∙◌, arith}
+use Rattle.std.specs.Prelude.{slice_get}
+use Rattle.std.specs.FinMap.{get}
+use Rattle.std.proofs.lemmas.List.{length-map}
+use Rattle.std.proofs.lemmas.Option.{same_Some, slice_get-get_or}
+use Rattle.pac_base.specs.Members.{Mem}
+use Rattle.pac_value.specs.Expressions.{Values}
+use Rattle.pac_ops.specs.declared.batch.Batch.{Batch}
+use Rattle.pac_ops.specs.declared.piece.PieceId.{PieceId}
+use Rattle.pac_ops.specs.declared.transaction.Txn.{Txn}
+use Rattle.pac_plan.specs.Codes.{TxnFitsPlan}
+use Rattle.pac_plan.specs.Worlds.{txn_at}
+use Rattle.pac_sched.specs.declared.state.PieceState.{PieceState}
+use Rattle.pac_sched.specs.Schedules.{is_finished, is_out}
+use Rattle.pac_sched.proofs.PickLemmas.{stands}
+use Rattle.pac_sets.specs.declared.set_id.SetId.{SetId}
+use Rattle.pac_commute.specs.Loads.{Job}
+use Rattle.pac_commute.specs.Machine.{Machine, access_at, among}
+use Rattle.pac_commute.specs.PartialFits.{TxnIsOfPlan}
+use Rattle.pac_commute.specs.PlanLaws.{txns_of}
+use Rattle.pac_core.specs.declared.cells.PieceCells.{PieceCells}
+use Rattle.pac_core.specs.declared.loaded.Loaded.{Loaded}
+use Rattle.pac_core.specs.declared.place.Place.{Place}
+use Rattle.pac_core.specs.declared.progress.Progress.{Progress}
+use Rattle.pac_core.specs.declared.stage.OpenSet.{OpenSet}
+use Rattle.pac_core.specs.declared.stage.Stage.{Stage}
+use Rattle.pac_core.specs.declared.stage.Stage.TheVariants.{Open}
+use Rattle.pac_core.specs.Cells.{AreOf}
+use Rattle.pac_core.specs.Inputs.{Finds, is_found}
+use Rattle.pac_core.specs.Links.{IsOpened, KeepsBatch, KeepsInputs, KeepsProgress, batches_of, mark_in, piece_in, replay_of}
+use Rattle.pac_core.specs.Places.{AreCellsAt, AreValuesAt, IsPlaced, IsTxnAt}
+use Rattle.pac_core.specs.Replay.{Replay, loaded_pieces, machine_of, present_of}
+use Rattle.pac_core.proofs.Lists.{at_map, at_mem, map_at}
+use Rattle.pac_core.proofs.Marks.{finished_is, fits_plan, out_is}
+use Rattle.pac_core.proofs.Ready.{SetAt, mark_at, own_piece, set_at, txns}
+use Rattle.pac_core.proofs.SetFacts.{Stands, txn_there}
+
+module _ (job : Job) (p : Progress) (keeps : KeepsProgress job p) (place : Place) (piece : PieceId) (far : PieceState) (at : IsPlaced p place piece far) where
+  abbrev pub r : Replay
+  r = replay_of job p
+
+  abbrev pub m : Machine
+  m = machine_of r
+
+  abbrev pub id : SetId
+  id = at.stands.set
+
+  abbrev pub opening : OpenSet
+  opening = at.stands.opening
+
+  -- ---- its set
+
+  abbrev pub set : SetAt job p keeps place.at at.stands.set (Some (Open at.stands.opening))
+  set = set_at job p keeps place.at at.stands.set (Some (Open at.stands.opening)) at.stands.there
+
+  abbrev pub ts : List ℕ
+  ts = txns job p keeps place.at id (Some (Open opening)) set
+
+  opened : IsOpened r p.sets.sets id ts opening
+  opened = keeps.stages place.at id (Open opening) set.batch at.stands.there set.batch_there
+
+  pub batch_is : id.batch ≡ place.batch
+  batch_is = ap (λ (s : SetId). s.batch) at.set_is
+
+  pub block_is : id.block ≡ piece.block
+  block_is = ap (λ (s : SetId). s.block) at.set_is
+
+  pub own : piece_in id.block piece.txn ≡ piece
+  own = λ k. record { txn = piece.txn; block = block_is k }
+
+  -- where its transaction is among those of the set
+  pub index_is : slice_get ts place.position ≡ Some piece.txn
+  index_is =
+      let s = stands opening.sched piece place.position at.stands.position_is in
+      let found = map_at (piece_in id.block) ts place.position piece
+      (ap (λ ps. slice_get ps place.position) (sym opened.pieces) ∙ slice_get-get_or opening.sched.pieces place.position piece s.0 ∙ ap (λ x. Some x) s.1) in
+      found.1 ∙ ap (λ (q : PieceId). Some q.txn) found.2
+
+  pub loaded_is : Mem piece (loaded_pieces r)
+  loaded_is = subst (λ q. Mem q (loaded_pieces r)) own (own_piece job p keeps place.at id (Some (Open opening)) set piece.txn (at_mem ts place.position piece.txn index_is))
+
+  pub mark_is : mark_in (batches_of p) p.sets.sets piece ≡ far
+  mark_is = ap (mark_in (batches_of p) p.sets.sets) (sym own) ∙ mark_at job p keeps place.at id opening set place.position piece.txn far index_is at.stands.far_is
+
+  pub out_now : among r.out piece ≡ is_out far
+  out_now = out_is job p keeps piece loaded_is ∙ ap is_out mark_is
+
+  pub finished_now : among r.finished piece ≡ is_finished far
+  finished_now = finished_is job p keeps piece loaded_is ∙ ap is_finished mark_is
+
+  -- ---- its transaction
+
+  abbrev pub loaded : Loaded
+  loaded = at.txn.loaded
+
+  pub batch_there : slice_get (batches_of p) place.batch ≡ Some loaded.batch
+  batch_there = at_map (λ (l : Loaded). l.batch) p.batches.items place.batch loaded at.txn.there
+
+  abbrev pub stands_at : Stands (batches_of p) piece.txn place.batch place.index
+  stands_at = record { batch = loaded.batch; there = batch_there; inside = at.txn.inside; number = at.txn.number }
+
+  pub loaded_there : slice_get p.batches.items id.batch ≡ Some loaded
+  loaded_there = ap (slice_get p.batches.items) batch_is ∙ at.txn.there
+
+  pub set_batch : set.batch ≡ loaded.batch
+  set_batch = same_Some _ _ (sym set.batch_there ∙ ap (slice_get (batches_of p)) batch_is ∙ batch_there)
+
+  pub number_is : piece.txn ≡ set.batch.first + place.index
+  number_is = at.txn.number ∙ ap (λ (b : Batch). b.first + place.index) (sym set_batch)
+
+  pub block_inside : piece.block < job.parts.blocks
+  block_inside = subst (λ (b : ℕ). b < job.parts.blocks) block_is set.inside
+
+  module _ (txn : Txn) (txn_is : IsTxnAt p place txn) where
+    pub in_batch : slice_get loaded.batch.txns place.index ≡ Some txn
+    in_batch = ap (λ (l : Loaded). slice_get l.batch.txns place.index) (same_Some _ _ (sym at.txn.there ∙ txn_is.1)) ∙ txn_is.2
+
+    pub in_set_batch : slice_get set.batch.txns place.index ≡ Some txn
+    in_set_batch = ap (λ (b : Batch). slice_get b.txns place.index) set_batch ∙ in_batch
+
+    pub there : txn_at job.first (txns_of (batches_of p)) piece.txn ≡ Some txn
+    there = txn_there job.parts job.first (batches_of p) keeps.machine.run_on piece.txn place.batch place.index stands_at ∙ in_batch
+
+    pub fits : TxnFitsPlan job.parts txn
+    fits = fits_plan job.parts txn (fits_there (txns_of (batches_of p)) (piece.txn - job.first) (found there))
+      where
+        found : txn_at job.first (txns_of (batches_of p)) piece.txn ≡ Some txn → slice_get (txns_of (batches_of p)) (piece.txn - job.first) ≡ Some txn
+        found e = go _ e
+          where
+            go : (b : Bool) → cond b None (slice_get (txns_of (batches_of p)) (piece.txn - job.first)) ≡ Some txn → slice_get (txns_of (batches_of p)) (piece.txn - job.first) ≡ Some txn
+            go true e = let wrong : None ≡ Some txn = e in absurd cc
+            go false e = e
+
+        fits_there : (l : List Txn) (i : ℕ) → slice_get (txns_of (batches_of p)) i ≡ Some txn → TxnIsOfPlan job.parts txn
+        fits_there l i e = keeps.machine.fit i txn e
+
+    -- ---- the values that are kept
+
+    module _ (kept : Values) (kept_is : AreValuesAt p place kept) where
+      values : KeepsBatch job.parts (present_of r) loaded
+      values = keeps.values place.batch loaded at.txn.there (place.at, id, Open opening, at.stands.there, batch_is)
+
+      pub before_is : slice_get loaded.kept.items place.index ≡ Some kept
+      before_is = ap (λ (l : Loaded). slice_get l.kept.items place.index) (same_Some _ _ (sym at.txn.there ∙ kept_is.1)) ∙ kept_is.2
+
+      pub inputs : KeepsInputs job.parts txn kept ((present_of r).envs piece.txn)
+      inputs = subst (λ (t : ℕ). KeepsInputs job.parts txn kept ((present_of r).envs t)) (sym at.txn.number) (values.each place.index txn kept in_batch before_is)
+
+      -- what a piece finds of them it finds of those of now
+      pub finds_now : (env : Values) → Finds job.parts piece.block txn kept env → Finds job.parts piece.block txn ((present_of r).envs piece.txn) env
+      finds_now env finds x = finds x ∙ go (is_found job.parts piece.block txn x) refl
+        where
+          go : (b : Bool) → is_found job.parts piece.block txn x ≡ b → cond b (get kept x) None ≡ cond b (get ((present_of r).envs piece.txn) x) None
+          go true f = inputs piece.block x block_inside f
+          go false f = refl
+
+      pub finds_kept : (env : Values) → Finds job.parts piece.block txn ((present_of r).envs piece.txn) env → Finds job.parts piece.block txn kept env
+      finds_kept env finds x = finds x ∙ go (is_found job.parts piece.block txn x) refl
+        where
+          go : (b : Bool) → is_found job.parts piece.block txn x ≡ b → cond b (get ((present_of r).envs piece.txn) x) None ≡ cond b (get kept x) None
+          go true f = sym (inputs piece.block x block_inside f)
+          go false f = refl
+
+  -- there is room for them
+  pub kept_len : length loaded.kept.items ≡ length loaded.batch.txns
+  kept_len = (keeps.values place.batch loaded at.txn.there (place.at, id, Open opening, at.stands.there, batch_is)).all
+
+  -- ---- its cells
+
+  pub cells_len : place.position < length opening.cells.items
+  cells_len =
+      let within = (stands opening.sched piece place.position at.stands.position_is).0 in
+      let all = opened.cells.all in
+      let len = length-map opening.sched.pieces (access_at job m) in
+      omega (arith, within, all, len)
+
+  pub cells_are : (cells : PieceCells) → AreCellsAt p place cells → AreOf (access_at job m piece) cells
+  cells_are cells is =
+      let s = stands opening.sched piece place.position at.stands.position_is in
+      let there : slice_get opening.sched.pieces place.position ≡ Some piece = slice_get-get_or opening.sched.pieces place.position piece s.0 ∙ ap (λ x. Some x) s.1 in
+      let same : Open is.1 ≡ Open opening = same_Some _ _ (ap (λ (x : SetId × Option Stage). x.1) (same_Some _ _ (sym is.2 ∙ at.stands.there))) in
+      opened.cells.each place.position (access_at job m piece) cells (at_map (access_at job m) opening.sched.pieces place.position piece there)
+      (ap (λ (o : OpenSet). slice_get o.cells.items place.position) (sym (opens same)) ∙ is.3)
+    where
+      opens : {a b : OpenSet} → ◌≡◌ {A = Stage} (Open a) (Open b) → a ≡ b
+      opens e = cc

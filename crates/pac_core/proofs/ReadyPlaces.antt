@@ -1,0 +1,111 @@
+-- Where the first ready piece of an open set belongs.
+use Rattle.std.proofs.Common.{◌≡◌, ℕ, ◌+◌, ◌-◌, ◌<◌, ◌≤◌, true, List, map, length, Option, Some, None, refl, sym, ap, ◌∙◌, true≢false, arith}
+use Rattle.std.specs.Prelude.{slice_get}
+use Rattle.std.proofs.lemmas.Option.{same_Some, slice_get-get_or}
+use Rattle.pac_ops.specs.declared.batch.Batch.{Batch}
+use Rattle.pac_ops.specs.declared.piece.PieceId.{PieceId}
+use Rattle.pac_sched.specs.declared.state.PieceState.TheVariants.{Waiting}
+use Rattle.pac_sched.specs.Schedules.{at_position, piece_is_ready, position_is_ready, position_of, some_passes}
+use Rattle.pac_sched.proofs.CallLemmas.{ready_waits}
+use Rattle.pac_sched.proofs.PickLemmas.{picks_first, stands}
+use Rattle.pac_sets.specs.declared.set_id.SetId.{SetId}
+use Rattle.pac_commute.specs.Loads.{Job}
+use Rattle.pac_core.specs.declared.loaded.Loaded.{Loaded}
+use Rattle.pac_core.specs.declared.progress.Progress.{Progress}
+use Rattle.pac_core.specs.declared.stage.OpenSet.{OpenSet}
+use Rattle.pac_core.specs.declared.stage.Stage.{Stage}
+use Rattle.pac_core.specs.declared.stage.Stage.TheVariants.{Open}
+use Rattle.pac_core.specs.Links.{KeepsProgress, batches_of, piece_in}
+use Rattle.pac_core.specs.Moves.{IsReadyAtOffset}
+use Rattle.pac_core.specs.Places.{IsOpenAt, IsPlaced}
+use Rattle.pac_core.proofs.Lists.{at_mem, map_at}
+use Rattle.pac_core.proofs.Ready.{SetAt, set_at, stands_set, txns}
+use Rattle.pac_core.proofs.SetFacts.{Stands}
+
+-- the open set at an offset is one
+pub same_open : (p : Progress) (at : ℕ) (set : SetId) (opening other : OpenSet) → slice_get p.sets.sets at ≡ Some (set, Some (Open opening)) → IsOpenAt p at other → other ≡ opening
+same_open p at set opening other there is = opens (same_Some _ _ (ap (λ (x : SetId × Option Stage). x.1) (same_Some _ _ (sym is.1 ∙ there))))
+  where
+    opens : {a b : OpenSet} → ◌≡◌ {A = Stage} (Open a) (Open b) → a ≡ b
+    opens e = cc
+
+module _ (job : Job) (p : Progress) (keeps : KeepsProgress job p) (at : ℕ) (piece : PieceId) (ready : IsReadyAtOffset p at piece) where
+  abbrev pub id : SetId
+  id = ready.stands.set
+
+  abbrev pub opening : OpenSet
+  opening = ready.stands.opening
+
+  abbrev pub set : SetAt job p keeps at ready.stands.set (Some (Open ready.stands.opening))
+  set = set_at job p keeps at ready.stands.set (Some (Open ready.stands.opening)) ready.stands.there
+
+  abbrev ts : List ℕ
+  ts = txns job p keeps at id (Some (Open opening)) set
+
+  is_ready : piece_is_ready opening.sched piece ≡ true
+  is_ready = (picks_first opening.sched piece ready.picked).0
+
+  -- it stands among the pieces
+  pub position_there : (i : ℕ) × (position_of opening.sched piece ≡ Some i)
+  position_there = go (position_of opening.sched piece) refl
+    where
+      go : (o : Option ℕ) → position_of opening.sched piece ≡ o → (i : ℕ) × (position_of opening.sched piece ≡ Some i)
+      go (Some i) e = (i, e)
+      go None e = absurd (true≢false (sym is_ready ∙ ap (some_passes (position_is_ready opening.sched)) e))
+
+  found : (t : ℕ) × (slice_get ts position_there.0 ≡ Some t) × (piece_in id.block t ≡ piece)
+  found =
+      let s = stands opening.sched piece position_there.0 position_there.1 in
+      let pieces : opening.sched.pieces ≡ map (piece_in id.block) ts = (keeps.stages at id (Open opening) set.batch ready.stands.there set.batch_there).pieces in
+      map_at (piece_in id.block) ts position_there.0 piece
+      (ap (λ ps. slice_get ps position_there.0) (sym pieces) ∙ slice_get-get_or opening.sched.pieces position_there.0 piece s.0 ∙ ap (λ x. Some x) s.1)
+
+  txn_is : found.0 ≡ piece.txn
+  txn_is = ap (λ (q : PieceId). q.txn) found.2
+
+  pub loaded_there : (l : Loaded) × (slice_get p.batches.items id.batch ≡ Some l) × (l.batch ≡ set.batch)
+  loaded_there = map_at (λ (l : Loaded). l.batch) p.batches.items id.batch set.batch set.batch_there
+
+  stands_in : Stands (batches_of p) found.0 id.batch (found.0 - set.batch.first)
+  stands_in = stands_set job p keeps at id (Some (Open opening)) set found.0 (at_mem ts position_there.0 found.0 found.1)
+
+  module _ (l : Loaded) (there : slice_get p.batches.items id.batch ≡ Some l) where
+    same_batch : l.batch ≡ set.batch
+    same_batch = ap (λ (x : Loaded). x.batch) (same_Some _ _ (sym there ∙ loaded_there.1)) ∙ loaded_there.2
+
+    pub begins : l.batch.first ≤ piece.txn
+    begins =
+        let s = stands_in in
+        let b : s.batch ≡ l.batch = same_Some _ _ (sym s.there ∙ set.batch_there) ∙ sym same_batch in
+        let first : s.batch.first ≡ l.batch.first = ap (λ (x : Batch). x.first) b in
+        let number : found.0 ≡ s.batch.first + (found.0 - set.batch.first) = s.number in
+        let txn = txn_is in
+        omega (arith, first, number, txn)
+
+    pub placed_ready : (i : ℕ) → position_of opening.sched piece ≡ Some i → IsPlaced p (record { at = at; position = i; batch = id.batch; index = piece.txn - l.batch.first }) piece Waiting
+    placed_ready i at_i = record {
+      txn = record {
+        loaded = l;
+        there = there;
+        inside = inside;
+        number = (let le = begins in omega (arith, le));
+      };
+      stands = record {
+        set = id;
+        opening = opening;
+        there = ready.stands.there;
+        position_is = at_i;
+        far_is = ap (at_position opening.sched.states) (sym at_i) ∙ ready_waits opening.sched piece is_ready;
+      };
+      set_is = λ k. record { batch = id.batch; block = ap (λ (q : PieceId). q.block) found.2 k };
+    }
+      where
+        inside : piece.txn - l.batch.first < length l.batch.txns
+        inside =
+            let s = stands_in in
+            let b : s.batch ≡ l.batch = same_Some _ _ (sym s.there ∙ set.batch_there) ∙ sym same_batch in
+            let lt : found.0 - set.batch.first < length s.batch.txns = s.inside in
+            let len : length s.batch.txns ≡ length l.batch.txns = ap (λ (x : Batch). length x.txns) b in
+            let first : l.batch.first ≡ set.batch.first = ap (λ (x : Batch). x.first) same_batch in
+            let txn = txn_is in
+            omega (arith, lt, len, first, txn)

@@ -1,0 +1,22 @@
+-- The piece of own work waits again; other work changes nothing.
+use Rattle.std.proofs.Common.{ap, ◌∙◌}
+use Rattle.pac_sched.specs.Schedules.{at_position}
+use Rattle.pac_core.proofs.CoreMoves.{back_core, back_is}
+use Rattle.pac_core.proofs.events.give_back.Goals as goal
+
+pub put_back-requires : goal.put_back-requires
+put_back-requires g c =
+    let at = c.in-Some.ensures.place in
+    record {
+      stands = record { set = at.stands.set; opening = at.stands.opening; there = at.stands.there };
+      out = ap (at_position at.stands.opening.sched.states) at.stands.position_is ∙ at.stands.far_is;
+    }
+
+pub returns-in-Some-clause-keeps : goal.returns-in-Some-clause-keeps
+returns-in-Some-clause-keeps g c = back_core c.args.progress.now c.args.rows.now c.requires c.in-Some.place c.args.work.now.piece c.in-Some.ensures.place c.put_back.new.self c.put_back.ensures.moved c.put_back.ensures.order
+
+pub returns-in-Some-clause-back : goal.returns-in-Some-clause-back
+returns-in-Some-clause-back g c = (
+  (λ own. back_is c.args.progress.now c.args.rows.now c.requires c.in-Some.place c.args.work.now.piece c.in-Some.ensures.place c.put_back.new.self c.put_back.ensures.moved c.put_back.ensures.order),
+  (λ foreign. absurd (foreign c.in-Some.ensures.own)),
+)

@@ -1,0 +1,68 @@
+-- No set before the offset has a ready piece, and each step is one set further.
+use Rattle.std.proofs.Common.{◌≡◌, ℕ, ◌<◌, length, Some, refl, sym, ap, ◌∙◌, arith}
+use Rattle.std.proofs.lemmas.List.{length-map}
+use Rattle.std.proofs.lemmas.Option.{slice_get_within}
+use Rattle.pac_commute.specs.Loads.{Job}
+use Rattle.pac_sets.specs.Sets.{IsOpenSet, Kept}
+use Rattle.pac_core.specs.declared.progress.Progress.{Progress}
+use Rattle.pac_core.specs.declared.stage.Stage.{Stage}
+use Rattle.pac_core.specs.Links.{KeepsProgress, replay_of, set_ids}
+use Rattle.pac_core.specs.Replay.{Replay}
+use Rattle.pac_core.proofs.NextReady.{from_next, from_open, from_same, next_here, none_left}
+use Rattle.pac_core.proofs.progress.Progress.next_ready.Goals as goal
+
+-- as many sets as before
+same_count : (job : Job) (p new : Progress) → KeepsProgress job p → KeepsProgress job new → replay_of job new ≡ replay_of job p → length new.sets.sets ≡ length p.sets.sets
+same_count job p new keeps keeps_new same =
+    sym (length-map new.sets.sets (λ (s : Kept Stage). s.0))
+    ∙ ap length (keeps_new.sets ∙ ap (λ (r : Replay). set_ids job.parts 0 r.batches) same ∙ sym keeps.sets)
+    ∙ length-map p.sets.sets (λ (s : Kept Stage). s.0)
+
+open_within : (p : Progress) (at : ℕ) → IsOpenSet p.sets.edges p.sets.sets at → at < length p.sets.sets
+open_within p at opened = slice_get_within p.sets.sets at (opened.set, Some opened.kept) opened.there
+
+pub loop-at-init : goal.loop-at-init
+loop-at-init c = record { keeps = λ job keeps. keeps; same = λ job keeps. refl; from = λ job keeps q j kept ready there. omega arith; count = c.len-count.ensures }
+
+pub open-requires-clause-keeps : goal.open-requires-clause-keeps
+open-requires-clause-keeps c = record { job = c.requires.job; keeps = c.loop-at.invariant.keeps c.requires.job c.requires.keeps }
+
+pub returns-in-Some-ready_in-clause-next : goal.returns-in-Some-ready_in-clause-next
+returns-in-Some-ready_in-clause-next c = λ job keeps.
+    let before = c.loop-at.invariant.keeps job keeps in
+    let after = c.in_ok-open.ensures.keeps job before in
+    let from = from_same job c.loop-at.self c.open.new.self before after (c.in_ok-open.ensures.same job before) c.in-Some.at
+    (from_open job c.loop-at.self before c.loop-at.from c.in-Some.at (c.loop-at.invariant.from job keeps) c.in-Some.ensures) in
+    (next_here job c.open.new.self after c.in-Some.at c.in-Some-ready_in.ensures.found.stands from c.in-Some-ready_in.piece c.in-Some-ready_in.ensures.found.picked, c.in-Some-ready_in.ensures.found)
+
+pub overflow_add-from : goal.overflow_add-from
+overflow_add-from c =
+    let lt = open_within c.loop-at.self c.in-Some.at c.in-Some.ensures.1 in
+    let count = c.loop-at.invariant.count in
+    omega (arith, lt, count)
+
+pub loop-at-smaller : goal.loop-at-smaller
+loop-at-smaller c =
+    let lt = open_within c.loop-at.self c.in-Some.at c.in-Some.ensures.1 in
+    let le = c.in-Some.ensures.0 in
+    let count = c.loop-at.invariant.count in
+    omega (arith, lt, le, count)
+
+pub loop-at-preserved : goal.loop-at-preserved
+loop-at-preserved c = record {
+  keeps = λ job keeps. c.in_ok-open.ensures.keeps job (c.loop-at.invariant.keeps job keeps);
+  same = λ job keeps. c.in_ok-open.ensures.same job (c.loop-at.invariant.keeps job keeps) ∙ c.loop-at.invariant.same job keeps;
+  from = λ job keeps.
+      let before = c.loop-at.invariant.keeps job keeps in
+      let after = c.in_ok-open.ensures.keeps job before in
+      from_next job c.open.new.self after c.in-Some.at c.in_ok-open.ensures.open
+      (from_same job c.loop-at.self c.open.new.self before after (c.in_ok-open.ensures.same job before) c.in-Some.at
+      (from_open job c.loop-at.self before c.loop-at.from c.in-Some.at (c.loop-at.invariant.from job keeps) c.in-Some.ensures))
+      c.in_default-ready_in.ensures.none;
+  count =
+      let before = c.loop-at.invariant.keeps c.requires.job c.requires.keeps in
+      c.loop-at.invariant.count ∙ sym (same_count c.requires.job c.loop-at.self c.open.new.self before (c.in_ok-open.ensures.keeps c.requires.job before) (c.in_ok-open.ensures.same c.requires.job before));
+}
+
+pub returns-clause-next : goal.returns-clause-next
+returns-clause-next c = λ job keeps. none_left job c.loop-at.self (c.loop-at.invariant.keeps job keeps) c.loop-at.from (c.loop-at.invariant.from job keeps) c.in_default.ensures

@@ -1,0 +1,89 @@
+-- By the values that are kept of its batch.
+use Rattle.std.proofs.Common.{◌≡◌, ℕ, ◌<◌, List, length, get_or, Some, refl, sym, ap, subst, ◌∙◌, arith}
+use Rattle.std.specs.Prelude.{slice_get}
+use Rattle.std.proofs.lemmas.Option.{same_Some, slice_get_read, slice_get_within}
+use Rattle.pac_batch.specs.Sets.{set_of}
+use Rattle.pac_sets.specs.declared.set_id.SetId.{SetId}
+use Rattle.pac_sets.specs.Sets.{IsOpenSet, Kept}
+use Rattle.pac_core.specs.declared.loaded.Loaded.{Loaded}
+use Rattle.pac_core.specs.declared.progress.Progress.{Progress}
+use Rattle.pac_core.specs.declared.stage.Stage.{Stage}
+use Rattle.pac_core.specs.declared.stage.Stage.TheVariants.{Waiting}
+use Rattle.pac_core.specs.Moves.{HasAllInputs, IsFreshlyOpen}
+use Rattle.pac_core.proofs.OpenedSets.{batch_fits, block_inside, inputs_are, loaded_there, txns_are}
+use Rattle.pac_core.proofs.progress.Progress.opening_of.Goals as goal
+
+-- what was read is the open set
+module _ (p : Progress) (at : ℕ) (opened : IsOpenSet p.sets.edges p.sets.sets at) (read : Kept Stage) (here : slice_get p.sets.sets at ≡ Some read) where
+  set_read : opened.set ≡ read.0
+  set_read = ap (λ (x : Kept Stage). x.0) (same_Some _ _ (sym opened.there ∙ here))
+
+  stage_read : (stage : Stage) → read.1 ≡ Some stage → opened.kept ≡ stage
+  stage_read stage e = same_Some _ _ (ap (λ (x : Kept Stage). x.1) (same_Some _ _ (sym opened.there ∙ here)) ∙ e)
+
+  batch_read : (loaded read_loaded : Loaded) → slice_get p.batches.items opened.set.batch ≡ Some loaded → read_loaded ≡ get_or p.batches.items read.0.batch read_loaded → slice_get p.batches.items opened.set.batch ≡ Some read_loaded
+  batch_read loaded read_loaded there is =
+      slice_get_read p.batches.items (length p.batches.items) opened.set.batch read_loaded refl (slice_get_within p.batches.items opened.set.batch loaded there)
+      (is ∙ ap (λ (s : SetId). get_or p.batches.items s.batch read_loaded) (sym set_read))
+
+pub index-loaded-requires : goal.index-loaded-requires
+index-loaded-requires c =
+    let p = c.args.self.now in
+    let l = loaded_there c.requires.keeps.job p c.requires.keeps.keeps c.args.at c.requires.open in
+    let lt : c.requires.open.set.batch < length p.batches.items = slice_get_within p.batches.items c.requires.open.set.batch l.0 l.1 in
+    let same : c.requires.open.set.batch ≡ c.get.result.now.0.batch = ap (λ (s : SetId). s.batch) (set_read p c.args.at c.requires.open c.get.result.now c.get.ensures) in
+    omega (arith, lt, same, p.batches.ok.0)
+
+pub open_set-requires-clause-fit : goal.open_set-requires-clause-fit
+open_set-requires-clause-fit c =
+    let p = c.args.self.now in
+    let l = loaded_there c.requires.keeps.job p c.requires.keeps.keeps c.args.at c.requires.open in
+    batch_fits c.requires.keeps.job p c.requires.keeps.keeps c.requires.open.set.batch c.index-loaded.result.now
+    (batch_read p c.args.at c.requires.open c.get.result.now c.get.ensures l.0 c.index-loaded.result.now l.1 c.index-loaded.ensures)
+
+pub open_set-requires-clause-block : goal.open_set-requires-clause-block
+open_set-requires-clause-block c =
+    let p = c.args.self.now in
+    subst (λ (s : SetId). s.block < p.pieces.blocks) (set_read p c.args.at c.requires.open c.get.result.now c.get.ensures) (block_inside c.requires.keeps.job p c.requires.keeps.keeps c.args.at c.requires.open)
+
+pub open_set-requires-clause-txns : goal.open_set-requires-clause-txns
+open_set-requires-clause-txns c =
+    let p = c.args.self.now in
+    let l = loaded_there c.requires.keeps.job p c.requires.keeps.keeps c.args.at c.requires.open in
+    let read = c.index-loaded.result.now in
+    let there = batch_read p c.args.at c.requires.open c.get.result.now c.get.ensures l.0 read l.1 c.index-loaded.ensures in
+    let kept : c.requires.open.kept ≡ Waiting c.in-Waiting.txns = stage_read p c.args.at c.requires.open c.get.result.now c.get.ensures c.in-Some.stage c.in-Some.is ∙ c.in-Waiting.is in
+    c.as_slice.ensures
+    ∙ txns_are c.requires.keeps.job p c.requires.keeps.keeps c.args.at c.requires.open read there c.in-Waiting.txns kept
+    ∙ ap (λ (s : SetId). (set_of p.pieces read.batch.first read.batch.txns s.block).txns) (set_read p c.args.at c.requires.open c.get.result.now c.get.ensures)
+
+pub open_set-requires-clause-inputs : goal.open_set-requires-clause-inputs
+open_set-requires-clause-inputs c =
+    let p = c.args.self.now in
+    let l = loaded_there c.requires.keeps.job p c.requires.keeps.keeps c.args.at c.requires.open in
+    let read = c.index-loaded.result.now in
+    let there = batch_read p c.args.at c.requires.open c.get.result.now c.get.ensures l.0 read l.1 c.index-loaded.ensures in
+    subst (λ (s : SetId). HasAllInputs p.pieces read s.block) (set_read p c.args.at c.requires.open c.get.result.now c.get.ensures)
+    (inputs_are c.requires.keeps.job p c.requires.keeps.keeps c.args.at c.requires.open read there)
+
+pub returns-in_ok-opening-in-Waiting-clause-waiting : goal.returns-in_ok-opening-in-Waiting-clause-waiting
+returns-in_ok-opening-in-Waiting-clause-waiting c =
+    let p = c.args.self.now in
+    let l = loaded_there c.requires.keeps.job p c.requires.keeps.keeps c.args.at c.requires.open in
+    let read = c.index-loaded.result.now in
+    let there = batch_read p c.args.at c.requires.open c.get.result.now c.get.ensures l.0 read l.1 c.index-loaded.ensures in
+    record {
+      set = c.get.result.now.0;
+      txns = c.in-Waiting.txns;
+      loaded = read;
+      there = c.get.ensures ∙ (λ k. Some (c.get.result.now.0, (c.in-Some.is ∙ ap (λ (s : Stage). Some s) c.in-Waiting.is) k));
+      loaded_there = ap (λ (s : SetId). slice_get p.batches.items s.batch) (sym (set_read p c.args.at c.requires.open c.get.result.now c.get.ensures)) ∙ there;
+      fresh = subst (λ (ts : List ℕ). IsFreshlyOpen p.pieces read c.get.result.now.0.block ts c.in_ok-opening-in-Waiting.opening) c.as_slice.ensures c.in_ok-opening-in-Waiting.ensures;
+    }
+
+pub returns-in-Open-clause-opened : goal.returns-in-Open-clause-opened
+returns-in-Open-clause-opened c = record {
+  set = c.get.result.now.0;
+  opening = c.in-Open.field-0;
+  there = c.get.ensures ∙ (λ k. Some (c.get.result.now.0, (c.in-Some.is ∙ ap (λ (s : Stage). Some s) c.in-Open.is) k));
+}

@@ -1,0 +1,10 @@
+pub mod Replay
+pub mod Cells
+pub mod Values
+pub mod Inputs
+pub mod Takes
+pub mod Links
+pub mod Places
+pub mod Moves
+pub mod Calls
+pub mod Results

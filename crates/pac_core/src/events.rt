@@ -1,0 +1,245 @@
+// What each event of a core does, over its parts.
+ghost use Rattle.std.specs.Prelude.{◌≡◌, IfNone, IfOk, IfSome, OnErr, OnOk};
+ghost use Rattle.pac_plan.specs.declared.access.Access.TheVariants.{Whole};
+ghost use Rattle.pac_tables.specs.Written.{AreWithin};
+ghost use Rattle.pac_sched.specs.declared.state.PieceState.TheVariants.{Out, Waiting};
+ghost use Rattle.pac_commute.specs.Machine.{IsReadyAt};
+ghost use Rattle.pac_core.specs.Calls.{IsGivenBack, IsGivenWork, IsHandedIn, IsOwn, IsTaken};
+ghost use Rattle.pac_core.specs.Links.{IsCore, IsKept, core_of, job_of};
+ghost use Rattle.pac_core.specs.Moves.{IsNextAt, IsReadyAtOffset};
+ghost use Rattle.pac_core.specs.Places.{HasPlace, IsPlaced};
+ghost use Rattle.pac_core.specs.Replay.{machine_of, with_finished};
+ghost use Rattle.pac_core.specs.Results.{IsKeptAfter, IsResult};
+ghost use Rattle.pac_core.specs.Takes.{access_in};
+
+use crate::answers::{Finish, Take};
+use crate::cells::PieceCells;
+use crate::place::Place;
+use crate::progress::Progress;
+use crate::work::{is_work_of, work_of};
+use pac_base::NoMemory;
+use pac_ops::PieceId;
+use pac_piece::{Done, PieceOutcome, Work, is_value, run_on};
+use pac_tables::Rows;
+use pac_undo::UndoRows;
+use pac_value::Env;
+
+/// The piece that comes next is handed out, or run on the spot.
+///
+/// # Errors
+///
+/// [`NoMemory`] where sets that are opened, or what the piece needs, find no room.
+pub(crate) fn take_next<R: Rows>(
+    progress: &mut Progress,
+    rows: &mut UndoRows<R>,
+) -> Result<Take, NoMemory>
+    requires { IsCore progress.old rows.old }
+    ensures keeps { IsCore progress.new rows.new }
+    ensures ok { IfOk result (λ take. IsTaken (core_of progress.old rows.old) take (core_of progress.new rows.new)) }
+    ensures err { OnErr result (core_of progress.new rows.new ≡ core_of progress.old rows.old) }
+{
+    match progress.next_ready()? {
+        Some((at, piece)) => take_piece(progress, rows, at, piece),
+        None if progress.is_done() => Ok(Take::Done),
+        None => Ok(Take::NotReady),
+    }
+}
+
+// A piece that comes next is handed out, or run on the spot.
+fn take_piece<R: Rows>(
+    progress: &mut Progress,
+    rows: &mut UndoRows<R>,
+    at: usize,
+    piece: PieceId,
+) -> Result<Take, NoMemory>
+    requires core { IsCore progress.old rows.old }
+    requires next { IsNextAt (job_of progress.old rows.old) progress.old (Some (at, piece)) }
+    ensures keeps { IsCore progress.new rows.new }
+    ensures ok { IfOk result (λ take. IsTaken (core_of progress.old rows.old) take (core_of progress.new rows.new)) }
+    ensures err { OnErr result (core_of progress.new rows.new ≡ core_of progress.old rows.old) }
+{
+    let place = progress.place_of_ready(at, piece);
+    match given(progress, rows, place, piece)? {
+        Some(work) => {
+            progress.hand_out(place.at);
+            Ok(Take::Given(work))
+        }
+        None => {
+            run_here(progress, rows, place, piece)?;
+            Ok(Take::Ran(piece))
+        }
+    }
+}
+
+// The work of a ready piece whose access is of keys. `None`: it may touch any row of its block.
+fn given<R: Rows>(
+    progress: &Progress,
+    rows: &UndoRows<R>,
+    place: Place,
+    piece: PieceId,
+) -> Result<Option<Work>, NoMemory>
+    requires core { IsCore progress.now rows.now }
+    requires place { IsPlaced progress.now place piece Waiting }
+    requires ready { IsReadyAt (job_of progress.now rows.now) (machine_of (core_of progress.now rows.now)) piece }
+    ensures given { IfOk result (λ given. IfSome given (IsGivenWork (core_of progress.now rows.now) piece)) }
+    ensures whole { IfOk result (λ given. IfNone given (access_in (core_of progress.now rows.now) piece ≡ Whole)) }
+{
+    match progress.cells_at(place, piece) {
+        PieceCells::Keys(cells) => {
+            let txn = progress.txn_at(place, piece);
+            let kept = progress.values_at(place, piece);
+            let work = work_of(
+                progress.alloc,
+                &progress.pieces,
+                piece,
+                txn,
+                kept,
+                cells.as_slice(),
+                rows.rows(),
+            )?;
+            Ok(Some(work))
+        }
+        PieceCells::Whole => Ok(None),
+    }
+}
+
+// A ready piece is run over the tables, and is finished. On an error it isn't.
+fn run_here<R: Rows>(
+    progress: &mut Progress,
+    rows: &mut UndoRows<R>,
+    place: Place,
+    piece: PieceId,
+) -> Result<(), NoMemory>
+    requires core { IsCore progress.old rows.old }
+    requires place { IsPlaced progress.old place piece Waiting }
+    requires ready { IsReadyAt (job_of progress.old rows.old) (machine_of (core_of progress.old rows.old)) piece }
+    requires first { IsReadyAtOffset progress.old place.at piece }
+    ensures keeps { IsCore progress.new rows.new }
+    ensures ok { OnOk result (core_of progress.new rows.new ≡ with_finished (core_of progress.old rows.old) piece) }
+    ensures err { OnErr result (core_of progress.new rows.new ≡ core_of progress.old rows.old) }
+{
+    let outcome = outcome_of(progress, rows, place, piece)?;
+    let kept = kept_after(progress, place, piece, &outcome.outs)?;
+    let PieceOutcome {
+        writes,
+        outs: _,
+        note,
+    } = outcome;
+    match rows.apply(writes) {
+        Ok(()) => {
+            progress.hand_out(place.at);
+            progress.finish(place, piece, kept, note);
+            Ok(())
+        }
+        Err((_, refused)) => Err(refused),
+    }
+}
+
+// What a ready piece leaves that is run over the tables.
+fn outcome_of<R: Rows>(
+    progress: &Progress,
+    rows: &UndoRows<R>,
+    place: Place,
+    piece: PieceId,
+) -> Result<PieceOutcome, NoMemory>
+    requires core { IsCore progress.now rows.now }
+    requires place { IsPlaced progress.now place piece Waiting }
+    requires ready { IsReadyAt (job_of progress.now rows.now) (machine_of (core_of progress.now rows.now)) piece }
+    ensures result { IfOk result (λ outcome. IsResult (core_of progress.now rows.now) piece outcome.writes outcome.outs outcome.note) }
+    ensures within { IfOk result (λ outcome. AreWithin rows.now.tables outcome.writes) }
+{
+    let alloc = progress.alloc;
+    let txn = progress.txn_at(place, piece);
+    let kept = progress.values_at(place, piece);
+    let code = progress.pieces.code_of(alloc, txn, piece.block)?;
+    let env = progress.pieces.found(alloc, txn, piece.block, kept)?;
+    run_on(alloc, piece, code.get(), &env, rows.rows())
+}
+
+// What is kept of a piece's transaction once the piece gave values.
+fn kept_after(
+    progress: &Progress,
+    place: Place,
+    piece: PieceId,
+    outs: &Env,
+) -> Result<Env, NoMemory>
+    requires kept { IsKept progress.now }
+    requires place { HasPlace progress.now piece place }
+    ensures { IfOk result (IsKeptAfter progress.now place piece outs.now) }
+{
+    let txn = progress.txn_at(place, piece);
+    let kept = progress.values_at(place, piece);
+    progress
+        .pieces
+        .left(progress.alloc, txn, piece.block, kept, outs)
+}
+
+// Where the piece of work belongs, if it is out and the work is its own. Takes no memory.
+fn own_place<R: Rows>(progress: &Progress, rows: &UndoRows<R>, work: &Work) -> Option<Place>
+    requires { IsCore progress.now rows.now }
+    ensures own { IfSome result (λ place. IsOwn (core_of progress.now rows.now) work.now) }
+    ensures place { IfSome result (λ place. IsPlaced progress.now place work.now.piece Out) }
+    ensures foreign { IfNone result (IsOwn (core_of progress.now rows.now) work.now → ⊥) }
+{
+    let piece = work.piece;
+    let place = progress.place_of_out(piece)?;
+    match progress.cells_at(place, piece) {
+        PieceCells::Keys(cells) => {
+            let txn = progress.txn_at(place, piece);
+            let kept = progress.values_at(place, piece);
+            if is_work_of(
+                &progress.pieces,
+                piece,
+                txn,
+                kept,
+                cells.as_slice(),
+                rows.rows(),
+                work,
+            ) {
+                Some(place)
+            } else {
+                None
+            }
+        }
+        PieceCells::Whole => None,
+    }
+}
+
+/// A result is handed in. It is kept where its piece is out and it is of the work that the replay has for it.
+pub(crate) fn hand_in<R: Rows>(
+    progress: &mut Progress,
+    rows: &mut UndoRows<R>,
+    done: Done,
+) -> Finish
+    requires { IsCore progress.old rows.old }
+    ensures keeps { IsCore progress.new rows.new }
+    ensures answer { IsHandedIn (core_of progress.old rows.old) done result (core_of progress.new rows.new) }
+{
+    let Some(place) = own_place(progress, rows, done.work()) else {
+        return Finish::Foreign(done);
+    };
+    let piece = done.work().piece;
+    let Ok(kept) = kept_after(progress, place, piece, done.outs()) else {
+        return Finish::NoMemory(done);
+    };
+    is_value(&done);
+    let (work, writes, outs, note) = done.into_parts();
+    match rows.apply(writes) {
+        Ok(()) => {
+            progress.finish(place, piece, kept, note);
+            Finish::Kept
+        }
+        Err((writes, NoMemory)) => { Finish::NoMemory(Done::of_parts(work, writes, outs, note)) }
+    }
+}
+
+/// Work is given back. Its piece is ready again where it is out and the work is its own. Takes no memory.
+pub(crate) fn give_back<R: Rows>(progress: &mut Progress, rows: &UndoRows<R>, work: &Work)
+    requires { IsCore progress.old rows.now }
+    ensures keeps { IsCore progress.new rows.now }
+    ensures back { IsGivenBack (core_of progress.old rows.now) work.now (core_of progress.new rows.now) }
+{
+    if let Some(place) = own_place(progress, rows, work) {
+        progress.put_back(place.at, work.piece);
+    }
+}

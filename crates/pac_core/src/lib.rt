@@ -1,0 +1,49 @@
+//! The state of a replay: batches are loaded, and their pieces are handed out, run elsewhere on copies of rows, and
+//! finished, in any order that the plan allows.
+//!
+//! - [`Core::new`] makes a core over any tables. It copies none of them: of each row that a replay changes it keeps how the
+//!   row stood first. [`Core::load`] takes a batch, and after [`Core::close`] none comes any more.
+//! - [`Core::take`] hands out the work of the ready piece that comes first by batch, block and transaction, or runs it where
+//!   it may touch any row of its block. [`Core::finish`] takes the result, [`Core::give_back`] the work undone, and
+//!   [`Core::reclaim`] all that is out. Work of another core, or over rows that have changed since, is refused as foreign.
+//! - [`Core::drain`] runs what is left, and [`Core::outcome`] gives the tables, and the first transaction that aborted.
+//! - [`Core::next_txn`], [`Core::is_closed`], [`Core::is_finished`], [`Core::unfinished`] and [`Core::pairs`] say how far it
+//!   is. [`Core::job`] copies what tells its job, and [`Core::from_job`] begins that anew.
+//!
+//! ```
+//! let mut core = Core::new(alloc, plan, 1, rows)?;
+//! core.load(batch)?;
+//! core.close();
+//! while let Take::Given(work) = core.take()? {
+//!     core.finish(run(alloc, work)?);
+//! }
+//! core.drain()?; // what is ready later
+//! let Outcome { tables, first_note } = core.outcome();
+//! ```
+//!
+//! A contract sees a core as a `Replay` (`specs/Replay.antt`): its job, the loaded batches, and which of their pieces are
+//! out and which are finished. `specs/Calls.antt` says what each call answers and makes of it. The tables and values of now
+//! are those of the finished pieces, applied in the order of transactions, by the laws of `pac_commute`; so the outcome is
+//! that of executing the transactions one after another.
+#![tactic(auto)]
+
+mod answers;
+mod cells;
+mod events;
+mod job;
+mod loaded;
+mod loading;
+mod moves;
+mod opening;
+mod place;
+mod plan_pieces;
+mod progress;
+mod reclaiming;
+mod replay;
+mod stage;
+mod values;
+mod work;
+
+pub use answers::{Finish, Outcome, Take};
+pub use job::Job;
+pub use replay::Core;

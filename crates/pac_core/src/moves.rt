@@ -1,0 +1,148 @@
+// How pieces move: out, back, and finished.
+ghost use Rattle.std.specs.Prelude.{◌≡◌, ◌↔◌, ◌<◌, IsTrue, T, length};
+ghost use Rattle.std.specs.FinMap.{is_sorted};
+ghost use Rattle.pac_ops.specs.Notes.{least};
+ghost use Rattle.pac_sched.specs.declared.state.PieceState.TheVariants.{Finished, Waiting as StillWaiting};
+ghost use Rattle.pac_sched.specs.Schedules.{after_take, with_state};
+ghost use Rattle.pac_sets.specs.SetOrder.{set_cmp};
+ghost use Rattle.pac_sets.specs.Sets.{IsOpenSet};
+ghost use Rattle.pac_core.specs.Links.{IsUnfinishedBatch};
+ghost use Rattle.pac_core.specs.Moves.{AreInBlocks, AreValuesKept, HasValuesAt, IsFinishedAt, IsLifted, IsMovedTo, IsOrderAfter, IsPieceOut, IsSetEnded, IsSetUnfinished, MayFinish, StandsOpen, WasOpen, keeps_none, keeps_now_at};
+
+use crate::loaded::Loaded;
+use crate::place::Place;
+use crate::progress::Progress;
+use crate::stage::{OpenSet, Stage};
+use pac_base::listed;
+use pac_ops::{Note, PieceId};
+use pac_sets::SetId;
+use pac_value::Env;
+use std::alloc::Global;
+
+impl Progress {
+    /// The first ready piece of an open set is out. Takes no memory.
+    pub fn hand_out(&mut self, at: usize)
+        requires { StandsOpen self.old at }
+        ensures moved { IsMovedTo after_take self.old at self.new }
+        ensures order { IsOrderAfter after_take self.old at }
+    {
+        let mut open = self.lift(at);
+        open.sched.take();
+        open.sched.keeps_order();
+        self.sets.keep(at, Stage::Open(open));
+    }
+
+    /// A piece that is out of an open set waits again. Takes no memory.
+    pub fn put_back(&mut self, at: usize, piece: PieceId)
+        requires { IsPieceOut self.old at piece }
+        ensures moved { IsMovedTo (λ sched. with_state sched piece StillWaiting) self.old at self.new }
+        ensures order { IsOrderAfter (λ sched. with_state sched piece StillWaiting) self.old at }
+    {
+        let mut open = self.lift(at);
+        open.sched.give_back(piece);
+        open.sched.keeps_order();
+        self.sets.keep(at, Stage::Open(open));
+    }
+
+    /// A piece that is out of an open set is finished, with values that are kept of its transaction, and a note. Takes no
+    /// memory.
+    pub fn finish(&mut self, place: Place, piece: PieceId, kept: Env, note: Option<Note>)
+        requires { MayFinish self.old place piece }
+        ensures finished { IsFinishedAt self.old place piece kept note self.new }
+        ensures order { IsOrderAfter (λ sched. with_state sched piece Finished) self.old place.at }
+    {
+        let mut open = self.lift(place.at);
+        open.sched.finish(piece);
+        open.sched.keeps_order();
+        let is_done = open.sched.unfinished() == 0;
+        self.sets.keep(place.at, Stage::Open(open));
+        keep_values(&mut self.batches, place.batch, place.index, kept);
+        self.note = lesser(self.note, note);
+        self.unfinished -= 1;
+        if is_done {
+            self.end_set(place.at, place.batch);
+        }
+    }
+
+    // A set of a batch is finished. Where it is the last one of the batch, nothing is kept of its transactions any more.
+    fn end_set(&mut self, at: usize, batch: usize)
+        requires open { IsOpenSet self.old.sets.edges self.old.sets.sets at }
+        requires blocks { AreInBlocks self.old }
+        requires ascend { T (is_sorted set_cmp self.old.sets.sets) }
+        requires batch { batch < length self.old.batches.items }
+        ensures { IsSetEnded self.old at self.new }
+    {
+        self.sets.finish(at);
+        if !self.is_left(batch) {
+            clear_values(self.alloc, &mut self.batches, batch);
+        }
+    }
+
+    /// The open set at an offset, to be changed. One without pieces stands there meanwhile.
+    pub fn lift(&mut self, at: usize) -> OpenSet
+        requires { StandsOpen self.old at }
+        ensures was { WasOpen self.old at result }
+        ensures now { IsLifted self.old at self.new }
+    {
+        let nothing = Stage::Waiting(listed(Vec::new(self.alloc)));
+        match self.sets.exchange(at, nothing) {
+            Stage::Open(open) => open,
+            Stage::Waiting(_) => unreachable!(),
+        }
+    }
+
+    // Whether a set of the batch isn't finished.
+    fn is_left(&self, batch: usize) -> bool
+        requires blocks { AreInBlocks self.now }
+        requires ascend { T (is_sorted set_cmp self.now.sets.sets) }
+        ensures { IsTrue result ↔ IsUnfinishedBatch self.now.sets.sets batch }
+    {
+        for block in 0..self.pieces.code().plan().blocks() {
+            if self.is_unfinished(SetId {
+                batch: batch as u64,
+                block,
+            }) {
+                return true;
+            }
+        }
+        false
+    }
+
+    // Whether a set isn't finished.
+    fn is_unfinished(&self, set: SetId) -> bool
+        requires { T (is_sorted set_cmp self.now.sets.sets) }
+        ensures { IsTrue result ↔ IsSetUnfinished self.now.sets.sets set }
+    {
+        match self.sets.find(set) {
+            Some(at) => self.sets.get(at).1.is_some(),
+            None => false,
+        }
+    }
+}
+
+// Other values are kept of a transaction.
+fn keep_values(batches: &mut Vec<Loaded>, batch: usize, index: usize, kept: Env)
+    requires { HasValuesAt batches.old.items batch index }
+    ensures { AreValuesKept batches.old.items batch (keeps_now_at index kept) batches.new.items }
+{
+    batches[batch].kept[index] = kept;
+}
+
+// No values are kept of a batch's transactions.
+fn clear_values(alloc: Global, batches: &mut Vec<Loaded>, batch: usize)
+    requires { batch < length batches.old.items }
+    ensures { AreValuesKept batches.old.items batch keeps_none batches.new.items }
+{
+    batches[batch].kept = Vec::new(alloc);
+}
+
+// The lesser of two notes.
+fn lesser(one: Option<Note>, other: Option<Note>) -> Option<Note>
+    ensures { result ≡ least one other }
+{
+    match (one, other) {
+        (None, other) => other,
+        (one, None) => one,
+        (Some(one), Some(other)) => Some(if other.cmp(&one).is_lt() { other } else { one }),
+    }
+}

@@ -1,0 +1,151 @@
+// How far a replay is: its batches and sets, and the values that are kept.
+ghost use Rattle.std.specs.Prelude.{◌≡◌, ◌↔◌, true, IfOk, IfNone, IfSome, IsTrue, OnOk};
+ghost use Rattle.pac_commute.specs.Loads.{Job};
+ghost use Rattle.pac_sets.specs.Sets.{IsOpenSet};
+ghost use Rattle.pac_core.specs.Links.{IsKept, KeepsProgress, replay_of};
+ghost use Rattle.pac_core.specs.Moves.{HasNoneReady, IsNextAt, IsOpening, IsOpeningOf, IsReadyAtOffset, StandsOpen};
+
+use crate::loaded::Loaded;
+use crate::opening::open_set;
+use crate::plan_pieces::PlanPieces;
+use crate::stage::{OpenSet, Stage};
+use pac_base::NoMemory;
+use pac_ops::{Note, PieceId};
+use pac_plan::Plan;
+use pac_sched::Pick;
+use pac_sets::Sets;
+use std::alloc::Global;
+
+/// What a core holds beside its rows.
+#[derive(Drop)]
+pub(crate) struct Progress {
+    pub alloc: Global,
+    pub pieces: PlanPieces,
+    /// Batches in the order in which they were loaded.
+    pub batches: Vec<Loaded>,
+    /// Their sets.
+    pub sets: Sets<Stage>,
+    /// The least note of the pieces that are finished.
+    pub note: Option<Note>,
+    /// The numbers of the first transaction, and of that after the last one.
+    pub first: u64,
+    pub next: u64,
+    /// How many pieces are not finished.
+    pub unfinished: u64,
+    pub is_closed: bool,
+}
+
+impl Progress {
+    /// Nothing is loaded. Takes memory for what is known of the plan's blocks.
+    ///
+    /// # Errors
+    ///
+    /// [`NoMemory`] where that finds no room.
+    pub fn new(alloc: Global, plan: Plan, first: u64) -> Result<Progress, NoMemory>
+        ensures { IfOk result (IsOpening plan first) }
+    {
+        let pieces = PlanPieces::new(alloc, plan)?;
+        let sets = Sets::new(alloc, pieces.code().plan())?;
+        Ok(Progress {
+            alloc,
+            pieces,
+            batches: Vec::new(alloc),
+            sets,
+            note: None,
+            first,
+            next: first,
+            unfinished: 0,
+            is_closed: false,
+        })
+    }
+
+    /// The first ready piece, and the offset of its set. It opens the sets up to that one that may be opened and aren't.
+    /// `None`: no piece is ready.
+    ///
+    /// # Errors
+    ///
+    /// [`NoMemory`] where a set that is opened finds no room. Others may have been opened.
+    pub fn next_ready(&mut self) -> Result<Option<(usize, PieceId)>, NoMemory>
+        requires { IsKept self.old }
+        ensures keeps { (job : Job) → KeepsProgress job self.old → KeepsProgress job self.new }
+        ensures same { (job : Job) → KeepsProgress job self.old → replay_of job self.new ≡ replay_of job self.old }
+        ensures next { (job : Job) → KeepsProgress job self.old → IfOk result (IsNextAt job self.new) }
+    {
+        let count = self.sets.len();
+        let mut from = 0;
+        while let Some(at) = self.sets.first_open(from) {
+            self.open(at)?;
+            if let Some(piece) = self.ready_in(at) {
+                return Ok(Some((at, piece)));
+            }
+            from = at + 1;
+        }
+        Ok(None)
+    }
+
+    // Opens the pieces of a set, unless they are.
+    fn open(&mut self, at: usize) -> Result<(), NoMemory>
+        requires keeps { IsKept self.old }
+        requires open { IsOpenSet self.old.sets.edges self.old.sets.sets at }
+        ensures keeps { (job : Job) → KeepsProgress job self.old → KeepsProgress job self.new }
+        ensures same { (job : Job) → KeepsProgress job self.old → replay_of job self.new ≡ replay_of job self.old }
+        ensures open { OnOk result (StandsOpen self.new at) }
+    {
+        match self.opening_of(at)? {
+            Some(opening) => {
+                self.sets.keep(at, Stage::Open(opening));
+                Ok(())
+            }
+            None => Ok(()),
+        }
+    }
+
+    // The pieces of a set once they are opened. `None`: they are.
+    fn opening_of(&self, at: usize) -> Result<Option<OpenSet>, NoMemory>
+        requires keeps { IsKept self.now }
+        requires open { IsOpenSet self.now.sets.edges self.now.sets.sets at }
+        ensures waiting { IfOk result (λ opening. IfSome opening (IsOpeningOf self.now at)) }
+        ensures opened { IfOk result (λ opening. IfNone opening (StandsOpen self.now at)) }
+    {
+        let (set, kept) = self.sets.get(at);
+        let Some(stage) = kept else { unreachable!() };
+        match stage {
+            Stage::Waiting(txns) => {
+                let loaded = &self.batches[set.batch as usize];
+                let opening = open_set(
+                    self.alloc,
+                    &self.pieces,
+                    loaded,
+                    set.block,
+                    txns.as_slice(),
+                )?;
+                Ok(Some(opening))
+            }
+            Stage::Open(_) => Ok(None),
+        }
+    }
+
+    // The first ready piece of an open set.
+    fn ready_in(&self, at: usize) -> Option<PieceId>
+        requires { StandsOpen self.now at }
+        ensures found { IfSome result (IsReadyAtOffset self.now at) }
+        ensures none { IfNone result (HasNoneReady self.now at) }
+    {
+        let (_, kept) = self.sets.get(at);
+        let Some(stage) = kept else { unreachable!() };
+        let Stage::Open(open) = stage else {
+            unreachable!()
+        };
+        match open.sched.peek() {
+            Pick::Piece(piece) => Some(piece),
+            Pick::NotReady | Pick::Done => None,
+        }
+    }
+
+    /// Whether no more batches come and each piece is finished. Takes no memory.
+    pub fn is_done(&self) -> bool
+        ensures { IsTrue result ↔ ((self.now.is_closed ≡ true) × (self.now.unfinished ≡ 0)) }
+    {
+        self.is_closed && self.unfinished == 0
+    }
+}

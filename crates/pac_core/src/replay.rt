@@ -1,0 +1,322 @@
+// The state of a replay.
+ghost use Rattle.std.specs.Prelude.{◌≡◌, ◌↔◌, ◌<◌, ◌+◌, ◌^◌, [], true, length, IfErr, IfOk, IsTrue, OnErr, OnOk};
+ghost use Rattle.pac_ops.specs.Shapes.{RowsFit};
+ghost use Rattle.pac_piece.specs.Runnable.{IsRunnable};
+ghost use Rattle.pac_commute.specs.Loads.{next_in_job};
+ghost use Rattle.pac_core.specs.Calls.{HasReady, IsDone, IsDrained, IsGivenBack, IsHandedIn, IsJobOf, IsOfJob, IsOutcome, IsOwn, IsTaken, MayLoad, MayLoadAll, with_batches};
+ghost use Rattle.pac_core.specs.Replay.{closed, left, opening_replay, with_batch, with_finished, with_none_out, without_out};
+
+use crate::answers::{Finish, Outcome, Take};
+use crate::events::{give_back, hand_in, take_next};
+use crate::job::{Job, are_batches, are_same_plans, batch_copies};
+use crate::progress::Progress;
+use pac_base::{Exact, NoMemory, listed};
+use pac_ops::Batch;
+use pac_piece::{Done, Work, run};
+use pac_plan::{Plan, is_plan};
+use pac_tables::Rows;
+use pac_undo::UndoRows;
+use std::alloc::Global;
+use std::marker::Model;
+
+/// The state of a replay: what is loaded, which pieces are out and which are finished, and the tables that these leave.
+/// Contracts see a `Replay`.
+#[derive(Drop)]
+pub struct Core<R: Rows> {
+    progress: Progress,
+    rows: UndoRows<R>,
+}
+
+impl<R: Rows> Model for Core<R> {
+    ghost use Rattle.std.specs.Prelude.{List, ℕ, Bool, refl};
+    ghost use Rattle.std.specs.Coded.{code_by, codes};
+    ghost use Rattle.pac_value.specs.State.{Tables, tables_code};
+    ghost use Rattle.pac_ops.specs.declared.batch.Batch.{Batch as ABatch};
+    ghost use Rattle.pac_ops.specs.contracts.batch.Batch as batch_type;
+    ghost use Rattle.pac_ops.specs.declared.piece.PieceId.{PieceId as APieceId};
+    ghost use Rattle.pac_ops.specs.contracts.piece.PieceId as piece_type;
+    ghost use Rattle.pac_plan.specs.declared.parts.PlanParts.{PlanParts};
+    ghost use Rattle.pac_plan.specs.contracts.parts.PlanParts as plan_type;
+    ghost use Rattle.pac_core.specs.Replay.{Replay};
+    ghost use Rattle.pac_core.specs.Links.{IsCore, core_of};
+
+    ghost Value = { Replay };
+
+    ghost coded = { code_by ((PlanParts × ℕ × Tables) × List ABatch × Bool × List APieceId × List APieceId)
+        (Prim.hlevel (codes, plan_type.the_row.coded, batch_type.the_row.coded, piece_type.the_row.coded, tables_code))
+        (λ r. ((r.job.parts, r.job.first, r.job.tables), r.batches, r.is_closed, r.out, r.finished))
+        (λ p. record { job = record { parts = p.0.0; first = p.0.1; tables = p.0.2 }; batches = p.1; is_closed = p.2; out = p.3; finished = p.4 })
+        (λ r. refl) };
+
+    ghost view = { λ core. core_of core.progress core.rows };
+
+    ghost invariant = { λ core. IsCore core.progress core.rows };
+}
+
+impl<R: Rows> Core<R> {
+    /// Nothing is loaded. Transactions begin with number `first`.
+    ///
+    /// # Errors
+    ///
+    /// [`NoMemory`] where what is known of the plan's blocks finds no room.
+    pub fn new(alloc: Global, plan: Plan, first: u64, tables: R) -> Result<Core<R>, NoMemory>
+        requires tables { R.tables tables ≡ length plan.tables }
+        requires fit { RowsFit plan.tables (R.held tables) }
+        ensures { IfOk result (λ core. core ≡ opening_replay (record { parts = plan; first = first; tables = R.held tables })) }
+    {
+        is_plan(&plan);
+        let progress = Progress::new(alloc, plan, first)?;
+        let rows = UndoRows::new(alloc, tables);
+        Ok(Core { progress, rows })
+    }
+
+    /// The number of the next transaction that may be loaded. Takes no memory.
+    pub fn next_txn(&self) -> u64
+        ensures { result ≡ next_in_job self.now.job self.now.batches }
+    {
+        self.progress.next
+    }
+
+    /// Whether no more batches come. Takes no memory.
+    pub fn is_closed(&self) -> bool
+        ensures { result ≡ self.now.is_closed }
+    {
+        self.progress.is_closed
+    }
+
+    /// How many of the loaded pieces are not finished. Takes no memory.
+    pub fn unfinished(&self) -> u64
+        ensures { result ≡ left self.now }
+    {
+        self.progress.unfinished
+    }
+
+    /// Whether each loaded piece is finished. Takes no memory.
+    pub fn is_finished(&self) -> bool
+        ensures { IsTrue result ↔ (left self.now ≡ 0) }
+    {
+        self.progress.unfinished == 0
+    }
+
+    /// No more batches come. Takes no memory.
+    pub fn close(&mut self)
+        ensures { self.new ≡ closed self.old }
+    {
+        self.progress.is_closed = true;
+    }
+
+    /// Loads a batch.
+    ///
+    /// # Errors
+    ///
+    /// [`NoMemory`] with the batch, where its pieces find no room, or would be more than a count can tell. Nothing is
+    /// changed.
+    pub fn load(&mut self, batch: Batch) -> Result<(), (Batch, NoMemory)>
+        requires may { MayLoad self.old batch }
+        requires numbers { batch.first + length batch.txns < 2 ^ 64 }
+        ensures ok { OnOk result (self.new ≡ with_batch self.old batch) }
+        ensures err { OnErr result (self.new ≡ self.old) }
+        ensures batch { IfErr result (λ refused. refused.0 ≡ batch) }
+    {
+        self.progress.load(batch)
+    }
+
+    /// The piece that comes next, by batch, block and transaction: handed out, or run on the spot where it may touch any row
+    /// of its block.
+    ///
+    /// # Errors
+    ///
+    /// [`NoMemory`] where sets that are opened, or the work, find no room. Which pieces are out or finished, and the tables,
+    /// are as before.
+    pub fn take(&mut self) -> Result<Take, NoMemory>
+        ensures ok { IfOk result (λ take. IsTaken self.old take self.new) }
+        ensures err { OnErr result (self.new ≡ self.old) }
+    {
+        take_next(&mut self.progress, &mut self.rows)
+    }
+
+    /// A result is handed in. Its piece is finished, where it was out and the result is of the work that the replay has for
+    /// it.
+    pub fn finish(&mut self, done: Done) -> Finish
+        ensures { IsHandedIn self.old done result self.new }
+    {
+        hand_in(&mut self.progress, &mut self.rows, done)
+    }
+
+    /// Work is given back that wasn't done: its piece is ready again. Other work than that of a piece that is out changes
+    /// nothing. Takes no memory.
+    pub fn give_back(&mut self, work: Work)
+        ensures { IsGivenBack self.old work self.new }
+    {
+        give_back(&mut self.progress, &self.rows, &work);
+    }
+
+    /// Each piece that is out is ready again. Takes no memory.
+    pub fn reclaim(self) -> Core<R>
+        ensures { result ≡ with_none_out self }
+    {
+        let Core { mut progress, rows } = self;
+        progress.reclaim();
+        Core { progress, rows }
+    }
+
+    /// Runs all that is left, and returns how many pieces that were.
+    ///
+    /// # Errors
+    ///
+    /// [`NoMemory`] where a piece finds no room. Then no piece is out, and what was finished stays finished.
+    pub fn drain(&mut self) -> Result<u64, NoMemory>
+        requires closed { self.old.is_closed ≡ true }
+        requires none { self.old.out ≡ [] }
+        ensures done { OnOk result (IsDone self.new) }
+        ensures pieces { IfOk result (λ pieces. pieces ≡ left self.old) }
+        ensures drained { IsDrained self.old self.new }
+    {
+        let pieces = self.unfinished();
+        while !self.is_finished() {
+            self.step()?;
+        }
+        Ok(pieces)
+    }
+
+    // The piece that comes next is finished.
+    fn step(&mut self) -> Result<(), NoMemory>
+        requires none { self.old.out ≡ [] }
+        requires some { 0 < left self.old }
+        ensures ok { OnOk result (left self.new + 1 ≡ left self.old) }
+        ensures drained { IsDrained self.old self.new }
+    {
+        self.some_ready();
+        match self.take()? {
+            Take::Given(work) => self.run(work),
+            Take::Ran(_) => Ok(()),
+            Take::NotReady | Take::Done => unreachable!(),
+        }
+    }
+
+    // Where no piece is out, one is ready while any is left.
+    fn some_ready(&self)
+        ensures { HasReady self.now }
+    {
+        let _progress = &self.progress;
+    }
+
+    // Work that was handed out is done, and its result handed in. On an error it is given back.
+    fn run(&mut self, work: Work) -> Result<(), NoMemory>
+        requires own { IsOwn self.old work }
+        requires run { IsRunnable work }
+        ensures ok { OnOk result (self.new ≡ with_finished self.old work.piece) }
+        ensures err { OnErr result (self.new ≡ without_out self.old work.piece) }
+    {
+        match run(self.progress.alloc, work) {
+            Ok(done) => match self.finish(done) {
+                Finish::Kept => Ok(()),
+                Finish::NoMemory(done) => {
+                    self.give_back(done.into_work());
+                    Err(NoMemory)
+                }
+                Finish::Foreign(_) => unreachable!(),
+            },
+            Err((work, refused)) => {
+                self.give_back(work);
+                Err(refused)
+            }
+        }
+    }
+
+    /// A copy of what tells the core's job.
+    ///
+    /// # Errors
+    ///
+    /// [`NoMemory`] where it finds no room.
+    pub fn job(&self) -> Result<Job<R>, NoMemory>
+        ensures { IfOk result (λ job. IsJobOf self.now job.plan job.first (R.tables job.opening) (R.held job.opening) job.batches) }
+    {
+        let alloc = self.progress.alloc;
+        let plan = self.progress.pieces.code().plan().copy(alloc)?;
+        let opening = self.rows.opening()?;
+        let batches = listed(batch_copies(alloc, &self.progress.batches)?);
+        Ok(Job {
+            plan,
+            first: self.progress.first,
+            opening,
+            batches,
+        })
+    }
+
+    /// Whether this tells the core's job: its plan, its first number, the tables of its opening and the loaded batches.
+    ///
+    /// # Errors
+    ///
+    /// [`NoMemory`] where a list of a table's rows finds no room.
+    pub fn is_of(&self, job: &Job<R>) -> Result<bool, NoMemory>
+        ensures { IfOk result (λ is. IsTrue is ↔ IsOfJob self.now job.now.plan job.now.first (R.tables job.now.opening) (R.held job.now.opening) job.now.batches) }
+    {
+        if !are_same_plans(self.progress.pieces.code().plan(), &job.plan) {
+            return Ok(false);
+        }
+        if self.progress.first != job.first {
+            return Ok(false);
+        }
+        if !are_batches(&self.progress.batches, job.batches.as_slice()) {
+            return Ok(false);
+        }
+        self.rows.has_opening(&job.opening)
+    }
+
+    /// A closed core in its opening state, with the batches of a job loaded.
+    ///
+    /// # Errors
+    ///
+    /// [`NoMemory`] where they, or copies of them, find no room.
+    pub fn from_job(alloc: Global, job: Job<R>) -> Result<Core<R>, NoMemory>
+        requires tables { R.tables job.opening ≡ length job.plan.tables }
+        requires fit { RowsFit job.plan.tables (R.held job.opening) }
+        requires may { MayLoadAll (opening_replay (record { parts = job.plan; first = job.first; tables = R.held job.opening })) job.batches }
+        ensures { IfOk result (λ core. core ≡ closed (with_batches (opening_replay (record { parts = job.plan; first = job.first; tables = R.held job.opening })) job.batches)) }
+    {
+        let Job {
+            plan,
+            first,
+            opening,
+            batches,
+        } = job;
+        let mut core = Core::new(alloc, plan, first, opening)?;
+        core.load_all(batches.as_slice())?;
+        core.close();
+        Ok(core)
+    }
+
+    // Loads copies of batches one after another.
+    fn load_all(&mut self, batches: &[Batch]) -> Result<(), NoMemory>
+        requires { MayLoadAll self.old batches.now }
+        ensures { OnOk result (self.new ≡ with_batches self.old batches.now) }
+    {
+        let alloc = self.progress.alloc;
+        for batch in batches {
+            let batch = batch.copy(alloc)?;
+            if self.load(batch).is_err() {
+                return Err(NoMemory);
+            }
+        }
+        Ok(())
+    }
+
+    /// How many pairs of pieces, one of which waits for the other, are kept of the sets that are opened; the greatest `u64`
+    /// where there are more. Takes no memory, and time that grows with the number of loaded sets.
+    pub fn pairs(&self) -> u64 {
+        self.progress.pairs()
+    }
+
+    /// What the replay leaves. Takes no memory.
+    pub fn outcome(self) -> Outcome<R>
+        requires { IsDone self }
+        ensures { IsOutcome self (R.held result.tables) result.first_note }
+    {
+        let Core { progress, rows } = self;
+        Outcome {
+            tables: rows.into_rows(),
+            first_note: progress.note,
+        }
+    }
+}
