@@ -19,15 +19,15 @@ use Rattle.pac_commute.specs.Machine.{Invariant, among}
 use Rattle.pac_commute.specs.PartialFits.{TxnsFitPlan}
 use Rattle.pac_commute.proofs.Ends.{machine_ends}
 use Rattle.pac_commute.proofs.Steps as steps
-use Rattle.pac_core.specs.declared.loaded.Loaded.{Loaded}
+use Rattle.pac_core.specs.declared.loaded.LoadedBatch.{LoadedBatch}
 use Rattle.pac_core.specs.declared.progress.Progress.{Progress}
 use Rattle.pac_core.specs.declared.stage.OpenSet.{OpenSet}
-use Rattle.pac_core.specs.declared.stage.Stage.{Stage}
-use Rattle.pac_core.specs.declared.stage.Stage.TheVariants.{Waiting, Open}
-use Rattle.pac_core.specs.Calls.{IsDone, IsOutcome}
-use Rattle.pac_core.specs.Links.{AreStages, IsCore, IsOpened, KeepsProgress, KeepsValues, batches_of, core_of, job_of, marked, replay_of, set_ids}
-use Rattle.pac_core.specs.Moves.{IsAlike, IsLoadedTo, IsOpening}
-use Rattle.pac_core.specs.Replay.{Replay, left, loaded_pieces, machine_of, opening_replay, present_of, with_batch}
+use Rattle.pac_core.specs.declared.stage.SetStage.{SetStage}
+use Rattle.pac_core.specs.declared.stage.SetStage.TheVariants.{Waiting, Open}
+use Rattle.pac_core.specs.Calls.{IsReplayDone, IsOutcome}
+use Rattle.pac_core.specs.Links.{AreStages, IsCore, IsOpened, KeepsProgress, KeepsValues, batches_of, core_of, job_of, pieces_marked, replay_so_far, set_ids}
+use Rattle.pac_core.specs.Moves.{IsAlike, IsLoadedTo, IsOpeningProgress}
+use Rattle.pac_core.specs.Replay.{Replay, left, loaded_pieces, machine_of, opening_replay, present_of, with_batch_loaded}
 use Rattle.pac_core.proofs.Alike.{invariant_is, present_is}
 use Rattle.pac_core.proofs.LoadedMore as more
 use Rattle.pac_core.proofs.LoadingFacts.{pieces_counted, sets_sorted}
@@ -36,38 +36,38 @@ use Rattle.pac_core.proofs.LoadingFacts.{pieces_counted, sets_sorted}
 
 module _ (job : Job) (p new : Progress) (a : IsAlike p new) (keeps : KeepsProgress job p) where
   batches_same : batches_of new ≡ batches_of p
-  batches_same = ap (map (λ (l : Loaded). l.batch)) a.batches
+  batches_same = ap (map (λ (l : LoadedBatch). l.batch)) a.batches
 
   sets_same : new.sets.sets ≡ p.sets.sets
-  sets_same = ap (λ (s : Setting Stage). s.sets) a.sets
+  sets_same = ap (λ (s : Setting SetStage). s.sets) a.sets
 
-  pub alike_same : replay_of job new ≡ replay_of job p
+  pub alike_same : replay_so_far job new ≡ replay_so_far job p
   alike_same = λ k. record {
     job = job;
     batches = batches_same k;
     is_closed = a.closed k;
-    out = ap₂ (λ bs ss. marked is_out job bs ss) batches_same sets_same k;
-    finished = ap₂ (λ bs ss. marked is_finished job bs ss) batches_same sets_same k;
+    out = ap₂ (λ bs ss. pieces_marked is_out job bs ss) batches_same sets_same k;
+    finished = ap₂ (λ bs ss. pieces_marked is_finished job bs ss) batches_same sets_same k;
   }
 
   pub alike_keeps : KeepsProgress job new
   alike_keeps = record {
     parts = keeps.parts ∙ sym a.pieces;
     first = keeps.first ∙ sym a.first;
-    edges = ap (λ (s : Setting Stage). s.edges) a.sets ∙ keeps.edges ∙ ap (λ (parts : PlanParts). parts.edges) (sym a.pieces);
-    blocks = ap (λ (s : Setting Stage). s.blocks) a.sets ∙ keeps.blocks ∙ ap (λ (parts : PlanParts). parts.blocks) (sym a.pieces);
+    edges = ap (λ (s : Setting SetStage). s.edges) a.sets ∙ keeps.edges ∙ ap (λ (parts : PlanParts). parts.edges) (sym a.pieces);
+    blocks = ap (λ (s : Setting SetStage). s.blocks) a.sets ∙ keeps.blocks ∙ ap (λ (parts : PlanParts). parts.blocks) (sym a.pieces);
     is_plan = keeps.is_plan;
     fit = keeps.fit;
     machine = subst (λ (x : Replay). Invariant job (machine_of x)) (sym alike_same) keeps.machine;
     note = a.note_is ∙ keeps.note ∙ ap (λ (x : Replay). (present_of x).note) (sym alike_same);
     next = a.next ∙ keeps.next ∙ ap (next_in_job job) (sym batches_same);
     unfinished = a.unfinished ∙ keeps.unfinished ∙ ap left (sym alike_same);
-    sets = ap (map (λ (set : Kept Stage). set.0)) sets_same ∙ keeps.sets ∙ ap (set_ids job.parts 0) (sym batches_same);
-    ascend = subst (λ (ss : List (Kept Stage)). T (is_sorted set_cmp ss)) (sym sets_same) keeps.ascend;
-    stages = subst (λ (x : Replay). AreStages x new.sets.sets) (sym alike_same) (subst (AreStages (replay_of job p)) (sym sets_same) keeps.stages);
+    sets = ap (map (λ (set : Kept SetStage). set.0)) sets_same ∙ keeps.sets ∙ ap (set_ids job.parts 0) (sym batches_same);
+    ascend = subst (λ (ss : List (Kept SetStage)). T (is_sorted set_cmp ss)) (sym sets_same) keeps.ascend;
+    stages = subst (λ (x : Replay). AreStages x new.sets.sets) (sym alike_same) (subst (AreStages (replay_so_far job p)) (sym sets_same) keeps.stages);
     values = subst (λ (x : Replay). KeepsValues x new.batches.items new.sets.sets) (sym alike_same)
-        (subst (λ (ss : List (Kept Stage)). KeepsValues (replay_of job p) new.batches.items ss) (sym sets_same)
-        (subst (λ (ls : List Loaded). KeepsValues (replay_of job p) ls p.sets.sets) (sym a.batches) keeps.values));
+        (subst (λ (ss : List (Kept SetStage)). KeepsValues (replay_so_far job p) new.batches.items ss) (sym sets_same)
+        (subst (λ (ls : List LoadedBatch). KeepsValues (replay_so_far job p) ls p.sets.sets) (sym a.batches) keeps.values));
   }
 
 -- the job of a core stays where its plan and its first number do
@@ -75,7 +75,7 @@ pub same_job : (p new : Progress) (u : Undoable) → new.pieces ≡ p.pieces →
 same_job p new u pieces first = λ k. record { parts = pieces k; first = first k; tables = u.opening }
 
 -- so does a core whose progress goes on for the same job, with the same tables
-pub goes_on : (p new : Progress) (u : Undoable) (core : IsCore p u) → KeepsProgress (job_of p u) new → (replay_of (job_of p u) new ≡ core_of p u) → IsCore new u × (core_of new u ≡ core_of p u)
+pub goes_on : (p new : Progress) (u : Undoable) (core : IsCore p u) → KeepsProgress (job_of p u) new → (replay_so_far (job_of p u) new ≡ core_of p u) → IsCore new u × (core_of new u ≡ core_of p u)
 goes_on p new u core keeps same = (
   record {
     progress = subst (λ (j : Job). KeepsProgress j new) (sym job) keeps;
@@ -89,7 +89,7 @@ goes_on p new u core keeps same = (
     job = same_job p new u (sym keeps.parts) (sym keeps.first)
 
     replay : core_of new u ≡ core_of p u
-    replay = ap (λ (j : Job). replay_of j new) job ∙ same
+    replay = ap (λ (j : Job). replay_so_far j new) job ∙ same
 
 -- ---- a batch is loaded
 
@@ -106,11 +106,11 @@ module _ (p : Progress) (u : Undoable) (core : IsCore p u) (batch : Batch) (firs
   job_is : job_of new u ≡ job
   job_is = same_job p new u to.pieces to.first
 
-  replay_is : replay_of job new ≡ with_batch (core_of p u) batch
+  replay_is : replay_so_far job new ≡ with_batch_loaded (core_of p u) batch
   replay_is = more.loads job p core.progress batch first_is fits new to up
 
-  pub loaded_is : core_of new u ≡ with_batch (core_of p u) batch
-  loaded_is = ap (λ (j : Job). replay_of j new) job_is ∙ replay_is
+  pub loaded_is : core_of new u ≡ with_batch_loaded (core_of p u) batch
+  loaded_is = ap (λ (j : Job). replay_so_far j new) job_is ∙ replay_is
 
   pub loaded_core : IsCore new u
   loaded_core = record {
@@ -122,31 +122,31 @@ module _ (p : Progress) (u : Undoable) (core : IsCore p u) (batch : Batch) (firs
 
 -- ---- nothing is loaded
 
-module _ (parts : PlanParts) (is_plan : IsPlan parts) (first : ℕ) (tables : Tables) (fit : RowsFit parts.tables tables) (p : Progress) (opening : IsOpening parts first p) where
+module _ (parts : PlanParts) (is_plan : IsPlan parts) (first : ℕ) (tables : Tables) (fit : RowsFit parts.tables tables) (p : Progress) (opening : IsOpeningProgress parts first p) where
   abbrev opened_job : Job
   opened_job = record { parts = parts; first = first; tables = tables }
 
   none_loaded : batches_of p ≡ []
-  none_loaded = ap (map (λ (l : Loaded). l.batch)) opening.batches
+  none_loaded = ap (map (λ (l : LoadedBatch). l.batch)) opening.batches
 
   none_kept : p.sets.sets ≡ []
-  none_kept = ap (λ (s : Setting Stage). s.sets) opening.sets
+  none_kept = ap (λ (s : Setting SetStage). s.sets) opening.sets
 
-  pub opening_is : replay_of opened_job p ≡ opening_replay opened_job
+  pub opening_is : replay_so_far opened_job p ≡ opening_replay opened_job
   opening_is = λ k. record {
     job = opened_job;
     batches = none_loaded k;
     is_closed = opening.opening k;
-    out = ap₂ (λ bs ss. marked is_out opened_job bs ss) none_loaded none_kept k;
-    finished = ap₂ (λ bs ss. marked is_finished opened_job bs ss) none_loaded none_kept k;
+    out = ap₂ (λ bs ss. pieces_marked is_out opened_job bs ss) none_loaded none_kept k;
+    finished = ap₂ (λ bs ss. pieces_marked is_finished opened_job bs ss) none_loaded none_kept k;
   }
 
   pub opening_keeps : KeepsProgress opened_job p
   opening_keeps = record {
     parts = sym opening.pieces;
     first = sym opening.first_is;
-    edges = ap (λ (s : Setting Stage). s.edges) opening.sets ∙ ap (λ (x : PlanParts). x.edges) (sym opening.pieces);
-    blocks = ap (λ (s : Setting Stage). s.blocks) opening.sets ∙ ap (λ (x : PlanParts). x.blocks) (sym opening.pieces);
+    edges = ap (λ (s : Setting SetStage). s.edges) opening.sets ∙ ap (λ (x : PlanParts). x.edges) (sym opening.pieces);
+    blocks = ap (λ (s : Setting SetStage). s.blocks) opening.sets ∙ ap (λ (x : PlanParts). x.blocks) (sym opening.pieces);
     is_plan = is_plan;
     fit = fit;
     machine = subst (λ (x : Replay). Invariant opened_job (machine_of x)) (sym opening_is)
@@ -155,13 +155,13 @@ module _ (parts : PlanParts) (is_plan : IsPlan parts) (first : ℕ) (tables : Ta
         ∙ ap (λ (x : Replay). (present_of x).note) (sym opening_is);
     next = opening.next ∙ (let e : first ≡ first + 0 = omega arith in e) ∙ ap (next_in_job opened_job) (sym none_loaded);
     unfinished = opening.unfinished ∙ ap left (sym opening_is);
-    sets = ap (map (λ (set : Kept Stage). set.0)) none_kept ∙ ap (set_ids parts 0) (sym none_loaded);
-    ascend = subst (λ (ss : List (Kept Stage)). T (is_sorted set_cmp ss)) (sym none_kept) tt;
-    stages = subst (AreStages (replay_of opened_job p)) (sym none_kept) (λ j set stage batch e there. absurd (cc e));
+    sets = ap (map (λ (set : Kept SetStage). set.0)) none_kept ∙ ap (set_ids parts 0) (sym none_loaded);
+    ascend = subst (λ (ss : List (Kept SetStage)). T (is_sorted set_cmp ss)) (sym none_kept) tt;
+    stages = subst (AreStages (replay_so_far opened_job p)) (sym none_kept) (λ j set stage batch e there. absurd (cc e));
     values = λ k loaded there left. absurd (cc (ap (λ ls. slice_get ls k) (sym opening.batches) ∙ there));
   }
 
-module _ (parts : PlanParts) (is_plan : IsPlan parts) (first : ℕ) (tables : Tables) (fit : RowsFit parts.tables tables) (p : Progress) (opening : IsOpening parts first p)
+module _ (parts : PlanParts) (is_plan : IsPlan parts) (first : ℕ) (tables : Tables) (fit : RowsFit parts.tables tables) (p : Progress) (opening : IsOpeningProgress parts first p)
     (u : Undoable) (n : ℕ) (undo : u ≡ record { tables = n; opening = tables; current = tables }) (count : n ≡ length parts.tables) where
   abbrev new_job : Job
   new_job = record { parts = parts; first = first; tables = tables }
@@ -170,7 +170,7 @@ module _ (parts : PlanParts) (is_plan : IsPlan parts) (first : ℕ) (tables : Ta
   new_job_is = λ k. record { parts = opening.pieces k; first = opening.first_is k; tables = (undo k).opening }
 
   pub opening_core_is : core_of p u ≡ opening_replay new_job
-  opening_core_is = ap (λ (j : Job). replay_of j p) new_job_is ∙ opening_is parts is_plan first tables fit p opening
+  opening_core_is = ap (λ (j : Job). replay_so_far j p) new_job_is ∙ opening_is parts is_plan first tables fit p opening
 
   pub opening_core : IsCore p u
   opening_core = record {
@@ -188,7 +188,7 @@ module _ (p : Progress) (u : Undoable) (core : IsCore p u) (batch : Batch) (firs
   load_core (Ok a) ok err = loaded_core p u core batch first fits new ok
   load_core (Err e) ok err = (goes_on p new u core (alike_keeps (job_of p u) p new err core.progress) (alike_same (job_of p u) p new err core.progress)).0
 
-  pub load_is : {A E : Type 0} (r : Result A E) → OnOk r (IsLoadedTo p batch new) → OnOk r (core_of new u ≡ with_batch (core_of p u) batch)
+  pub load_is : {A E : Type 0} (r : Result A E) → OnOk r (IsLoadedTo p batch new) → OnOk r (core_of new u ≡ with_batch_loaded (core_of p u) batch)
   load_is (Ok a) ok = loaded_is p u core batch first fits new ok
   load_is (Err e) ok = tt
 
@@ -209,7 +209,7 @@ all_pass {A} test (y ∷ ys) e x m = go (test y) refl e m (all_pass test ys)
     go true t e (inr n) rest = rest e x n
     go false t e n rest = absurd (omega (arith, e))
 
-module _ (p : Progress) (u : Undoable) (core : IsCore p u) (done : IsDone (core_of p u)) where
+module _ (p : Progress) (u : Undoable) (core : IsCore p u) (done : IsReplayDone (core_of p u)) where
   pub outcome_is : IsOutcome (core_of p u) u.current p.note
   outcome_is =
       let ends = machine_ends (job_of p u) core.progress.is_plan (machine_of (core_of p u)) core.progress.machine

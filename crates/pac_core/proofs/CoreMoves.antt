@@ -23,11 +23,11 @@ use Rattle.pac_commute.proofs.Steps as steps
 use Rattle.pac_core.specs.declared.place.Place.{Place}
 use Rattle.pac_core.specs.declared.progress.Progress.{Progress}
 use Rattle.pac_core.specs.declared.stage.OpenSet.{OpenSet}
-use Rattle.pac_core.specs.declared.stage.Stage.TheVariants.{Open}
+use Rattle.pac_core.specs.declared.stage.SetStage.TheVariants.{Open}
 use Rattle.pac_core.specs.Inputs.{LeavesValues}
-use Rattle.pac_core.specs.Links.{IsCore, KeepsProgress, core_of, job_of, piece_in, replay_of}
+use Rattle.pac_core.specs.Links.{IsCore, KeepsProgress, core_of, job_of, piece_in, replay_so_far}
 use Rattle.pac_core.specs.Moves.{IsFinishedAt, IsFinishedTo, IsMovedTo, IsOrderAfter}
-use Rattle.pac_core.specs.Places.{AreValuesAt, IsPlaced, IsTxnAt}
+use Rattle.pac_core.specs.Places.{AreValuesAt, IsPieceAt, IsTxnAt}
 use Rattle.pac_core.specs.Replay.{machine_of, present_of, with_finished, with_out, without_out}
 use Rattle.pac_core.specs.Results.{IsKeptAfter, IsResult}
 use Rattle.pac_core.proofs.BackIn as back
@@ -38,7 +38,7 @@ use Rattle.pac_core.proofs.TakenOut as taken
 
 -- ---- it is handed out
 
-module _ (p : Progress) (u : Undoable) (core : IsCore p u) (place : Place) (piece : PieceId) (at : IsPlaced p place piece state.Waiting)
+module _ (p : Progress) (u : Undoable) (core : IsCore p u) (place : Place) (piece : PieceId) (at : IsPieceAt p place piece state.Waiting)
     (ready : IsReadyAt (job_of p u) (machine_of (core_of p u)) piece) (keys : access_at (job_of p u) (machine_of (core_of p u)) piece ≡ Whole → ⊥)
     (first : pick at.stands.opening.sched ≡ Piece piece) (new : Progress) (to : IsMovedTo after_take p place.at new) (order : IsOrderAfter after_take p place.at) where
   abbrev job : Job
@@ -73,7 +73,7 @@ module _ (p : Progress) (u : Undoable) (core : IsCore p u) (place : Place) (piec
   order_q : IsInOrder (with_state at.stands.opening.sched q state.Out)
   order_q = subst IsInOrder sched_is (order at.stands.set at.stands.opening at.stands.there)
 
-  out_is : replay_of job out_progress ≡ with_out (core_of p u) q
+  out_is : replay_so_far job out_progress ≡ with_out (core_of p u) q
   out_is = taken.out_now job p core.progress place.at at.stands.set at.stands.opening (placed.set job p core.progress place piece state.Waiting at) place.position piece.txn
       (placed.index_is job p core.progress place piece state.Waiting at) at.stands.far_is ready_q keys_q order_q
 
@@ -96,7 +96,7 @@ module _ (p : Progress) (u : Undoable) (core : IsCore p u) (place : Place) (piec
 
 -- ---- it is given back
 
-module _ (p : Progress) (u : Undoable) (core : IsCore p u) (place : Place) (piece : PieceId) (at : IsPlaced p place piece state.Out)
+module _ (p : Progress) (u : Undoable) (core : IsCore p u) (place : Place) (piece : PieceId) (at : IsPieceAt p place piece state.Out)
     (new : Progress) (to : IsMovedTo (λ sched. with_state sched piece state.Waiting) p place.at new) (order : IsOrderAfter (λ sched. with_state sched piece state.Waiting) p place.at) where
   abbrev back_job : Job
   back_job = job_of p u
@@ -121,7 +121,7 @@ module _ (p : Progress) (u : Undoable) (core : IsCore p u) (place : Place) (piec
   order_back : IsInOrder (with_state at.stands.opening.sched back_piece state.Waiting)
   order_back = subst IsInOrder sched_back (order at.stands.set at.stands.opening at.stands.there)
 
-  back_replay : replay_of back_job back_progress ≡ without_out (core_of p u) back_piece
+  back_replay : replay_so_far back_job back_progress ≡ without_out (core_of p u) back_piece
   back_replay = back.back_now back_job p core.progress place.at at.stands.set at.stands.opening (placed.set back_job p core.progress place piece state.Out at) place.position piece.txn
       (placed.index_is back_job p core.progress place piece state.Out at) at.stands.far_is order_back
 
@@ -160,7 +160,7 @@ ran_step p u core piece ready = record {
   others = λ q h differ. h;
 }
 
-module _ (p : Progress) (u : Undoable) (core : IsCore p u) (place : Place) (piece : PieceId) (far : PieceState) (at : IsPlaced p place piece far) (unfinished : is_finished far ≡ false)
+module _ (p : Progress) (u : Undoable) (core : IsCore p u) (place : Place) (piece : PieceId) (far : PieceState) (at : IsPieceAt p place piece far) (unfinished : is_finished far ≡ false)
     (stepped : IsStepped (core_of p u) piece) (txn : Txn) (txn_is : IsTxnAt p place txn) (kept : Values) (kept_is : AreValuesAt p place kept)
     (writes : List Write) (outs : Values) (note : Option Note) (result : IsResult (core_of p u) piece writes outs note) (kept_now : Values) (leaves : IsKeptAfter p place piece outs kept_now)
     (new : Progress) (to : IsFinishedAt p place piece kept_now note new) (order : IsOrderAfter (λ sched. with_state sched piece state.Finished) p place.at) where
@@ -189,7 +189,7 @@ module _ (p : Progress) (u : Undoable) (core : IsCore p u) (place : Place) (piec
   leaves_end : LeavesValues end_job.parts at.stands.set.block txn outs kept kept_now
   leaves_end = subst (λ (b : ℕ). LeavesValues p.pieces b txn outs kept kept_now) (sym (placed.block_is end_job p core.progress place piece far at)) (leaves txn kept txn_is kept_is)
 
-  end_replay : replay_of end_job new ≡ with_finished (core_of p u) end_piece
+  end_replay : replay_so_far end_job new ≡ with_finished (core_of p u) end_piece
   end_replay = finished.finishes end_job p core.progress place.at at.stands.set at.stands.opening (placed.set end_job p core.progress place piece far at) place.position piece.txn
       (placed.index_is end_job p core.progress place piece far at) far at.stands.far_is unfinished order_end stepped_end place.index txn (placed.number_is end_job p core.progress place piece far at)
       (placed.in_set_batch end_job p core.progress place piece far at txn txn_is) writes outs note result_end kept kept_now at.txn.loaded (placed.loaded_there end_job p core.progress place piece far at)
@@ -216,7 +216,7 @@ module _ (p : Progress) (u : Undoable) (core : IsCore p u) (place : Place) (piec
     opening_same = ap (λ (x : Undoable). x.opening) undo
 
     pub end_is : core_of new after ≡ with_finished (core_of p u) piece
-    end_is = ap (λ (j : Job). replay_of j new) (job_same after opening_same) ∙ end_replay ∙ ap (with_finished (core_of p u)) end_own
+    end_is = ap (λ (j : Job). replay_so_far j new) (job_same after opening_same) ∙ end_replay ∙ ap (with_finished (core_of p u)) end_own
 
     pub end_core : IsCore new after
     end_core = record {
@@ -226,5 +226,5 @@ module _ (p : Progress) (u : Undoable) (core : IsCore p u) (place : Place) (piec
           ap (λ (x : Undoable). x.current) undo
           ∙ ap (λ (t : Tables). written t writes) core.rows
           ∙ sym result_end.tables
-          ∙ ap (λ (s : Present). s.tables) (end_present ∙ ap present_of (sym end_replay) ∙ ap (λ (j : Job). present_of (replay_of j new)) (sym (job_same after opening_same)));
+          ∙ ap (λ (s : Present). s.tables) (end_present ∙ ap present_of (sym end_replay) ∙ ap (λ (j : Job). present_of (replay_so_far j new)) (sym (job_same after opening_same)));
     }

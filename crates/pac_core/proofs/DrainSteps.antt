@@ -15,10 +15,10 @@ use Rattle.pac_commute.proofs.Ready as ready
 use Rattle.pac_commute.proofs.Steps.{piece_self}
 use Rattle.pac_commute.proofs.Theorem.{in_order}
 use Rattle.pac_core.specs.declared.progress.Progress.{Progress}
-use Rattle.pac_core.specs.Calls.{HasReady, IsDrained, IsOwn}
+use Rattle.pac_core.specs.Calls.{HasReadyPiece, IsDrained, IsOwn}
 use Rattle.pac_core.specs.Links.{IsCore, core_of}
 use Rattle.pac_core.specs.Replay.{Replay, left, loaded_pieces, machine_of, with_finished, with_out, without_out}
-use Rattle.pac_core.specs.Takes.{IsNext, IsWorkIn}
+use Rattle.pac_core.specs.Takes.{IsNextPiece, IsWorkIn}
 use Rattle.pac_core.proofs.Lists.{filter_alike}
 use Rattle.pac_core.proofs.LoadedMore.{filter_none}
 use Rattle.pac_core.proofs.Marks.{among_filter}
@@ -35,7 +35,7 @@ one_fails test (p ∷ ps) lt = go (test p) refl lt (one_fails test ps)
     go true e lt rest = let r = rest lt in (r.0, inr r.1, r.2)
 
 -- one is ready while any is left
-pub has_ready : (p : Progress) (u : Undoable) → IsCore p u → HasReady (core_of p u)
+pub has_ready : (p : Progress) (u : Undoable) → IsCore p u → HasReadyPiece (core_of p u)
 has_ready p u core none some next =
     let r = core_of p u in
     let q = one_fails (among r.finished) (loaded_pieces r) some in
@@ -43,7 +43,7 @@ has_ready p u core none some next =
     (λ x. ap (λ l. among l x) none) q.0 q.1 q.2 in
     next found.0 found.1
 
-module _ (r : Replay) (p : PieceId) (next : IsNext r (Some p)) where
+module _ (r : Replay) (p : PieceId) (next : IsNextPiece r (Some p)) where
   loaded : Mem p (loaded_pieces r)
   loaded = next.0.0
 

@@ -35,9 +35,9 @@ use Rattle.pac_core.specs.declared.place.Place.{Place}
 use Rattle.pac_core.specs.declared.progress.Progress.{Progress}
 use Rattle.pac_core.specs.Calls.{IsGivenWork, IsOwn}
 use Rattle.pac_core.specs.Cells.{AreCellsOf, copies_at}
-use Rattle.pac_core.specs.Inputs.{Finds}
+use Rattle.pac_core.specs.Inputs.{FindsInputs}
 use Rattle.pac_core.specs.Links.{IsCore, KeepsProgress, batches_of, core_of, job_of}
-use Rattle.pac_core.specs.Places.{AreValuesAt, IsPlaced, IsTxnAt}
+use Rattle.pac_core.specs.Places.{AreValuesAt, IsPieceAt, IsTxnAt}
 use Rattle.pac_core.specs.Replay.{Replay, machine_of, present_of}
 use Rattle.pac_core.specs.Results.{IsResult}
 use Rattle.pac_core.specs.Takes.{IsWorkIn, IsWorkOver, access_in}
@@ -58,7 +58,7 @@ with_numbers : (There : ℕ → Type 0) (os : List NumberedOp) → HaveTables Th
 with_numbers There [] h = tt
 with_numbers There (o ∷ os) h = (h.0, with_numbers There os h.1)
 
-module _ (p : Progress) (u : Undoable) (core : IsCore p u) (place : Place) (piece : PieceId) (far : PieceState) (at : IsPlaced p place piece far) (txn : Txn) (txn_is : IsTxnAt p place txn) where
+module _ (p : Progress) (u : Undoable) (core : IsCore p u) (place : Place) (piece : PieceId) (far : PieceState) (at : IsPieceAt p place piece far) (txn : Txn) (txn_is : IsTxnAt p place txn) where
   abbrev pub job : Job
   job = job_of p u
 
@@ -100,13 +100,13 @@ module _ (p : Progress) (u : Undoable) (core : IsCore p u) (place : Place) (piec
       covered_there (λ t. t < n) (ops (world_at job m) piece) (ends_at job m piece.txn) (ops_there n e) named.keys (get_or cells k d) ((named.each (get_or cells k d)).0 (Contains-get_or cells k d lt))
 
   module _ (kept : Values) (kept_is : AreValuesAt p place kept) where
-    pub finds_now : (env : Values) → Finds p.pieces piece.block txn kept env → Finds p.pieces piece.block txn ((present_of r).envs piece.txn) env
+    pub finds_now : (env : Values) → FindsInputs p.pieces piece.block txn kept env → FindsInputs p.pieces piece.block txn ((present_of r).envs piece.txn) env
     finds_now env finds = placed.finds_now job p keeps place piece far at txn txn_is kept kept_is env finds
 
     module _ (preds : PredsFinished job m piece) where
       -- ---- what it may be run on
 
-      pub may_run_on : (env : Values) → Finds p.pieces piece.block txn kept env → (code : Code) → code ≡ code_in p.pieces piece.block txn → (n : ℕ) → u.tables ≡ n → (held : Tables) → held ≡ u.current → IsRunnableOn piece.block code env n held
+      pub may_run_on : (env : Values) → FindsInputs p.pieces piece.block txn kept env → (code : Code) → code ≡ code_in p.pieces piece.block txn → (n : ℕ) → u.tables ≡ n → (held : Tables) → held ≡ u.current → IsRunnableOn piece.block code env n held
       may_run_on env finds code code_is n e held held_is =
           subst (λ (c : Code). IsRunnableOn piece.block c env n held) (sym code_is)
           (subst (λ (t : Tables). IsRunnableOn piece.block (code_in p.pieces piece.block txn) env n t) (sym (held_is ∙ core.rows))
@@ -118,7 +118,7 @@ module _ (p : Progress) (u : Undoable) (core : IsCore p u) (place : Place) (piec
       -- ---- what its value makes of the replay
 
       module _ (unfinished : is_finished far ≡ false) where
-        pub result_is : (env : Values) → Finds p.pieces piece.block txn kept env → (base : Tables) → ((a : Cell) → covers (access_at job m piece) a ≡ true → get base a ≡ get (present_of r).tables a)
+        pub result_is : (env : Values) → FindsInputs p.pieces piece.block txn kept env → (base : Tables) → ((a : Cell) → covers (access_at job m piece) a ≡ true → get base a ≡ get (present_of r).tables a)
             → (writes : List Write) (outs : Values) (note : Option Note) → IsValueOver piece.txn (code_in p.pieces piece.block txn) env base writes outs note → IsResult r piece writes outs note
         result_is env finds base alike writes outs note value =
             value_is_apply job keeps.is_plan m keeps.machine piece preds (placed.finished_now job p keeps place piece far at ∙ unfinished) txn there fits env (finds_now env finds) base alike writes outs note value
@@ -174,7 +174,7 @@ module _ (p : Progress) (u : Undoable) (core : IsCore p u) (place : Place) (piec
 
 -- ---- work that is handed in
 
-module _ (p : Progress) (u : Undoable) (core : IsCore p u) (place : Place) (work : Work) (at : IsPlaced p place work.piece state.Out) (txn : Txn) (txn_is : IsTxnAt p place txn) (kept : Values) (kept_is : AreValuesAt p place kept) where
+module _ (p : Progress) (u : Undoable) (core : IsCore p u) (place : Place) (work : Work) (at : IsPieceAt p place work.piece state.Out) (txn : Txn) (txn_is : IsTxnAt p place txn) (kept : Values) (kept_is : AreValuesAt p place kept) where
   abbrev own_job : Job
   own_job = job_of p u
 
@@ -197,7 +197,7 @@ module _ (p : Progress) (u : Undoable) (core : IsCore p u) (place : Place) (work
       piece_is = refl;
       code = own.over.code ∙ ap (code_in p.pieces work.piece.block) (sym same_txn);
       inputs = placed.finds_kept own_job p core.progress place work.piece state.Out at txn txn_is kept kept_is work.env
-          (subst (λ (t : Txn). Finds p.pieces work.piece.block t ((present_of own_replay).envs work.piece.txn) work.env) (sym same_txn) own.over.inputs);
+          (subst (λ (t : Txn). FindsInputs p.pieces work.piece.block t ((present_of own_replay).envs work.piece.txn) work.env) (sym same_txn) own.over.inputs);
       rows = own.over.rows ∙ ap (copies_at (present_of own_replay).tables) (same_cells (access_at own_job (machine_of own_replay) work.piece) own.cells cells own.named named) ∙ ap (λ (t : Tables). copies_at t cells) (sym core.rows);
     }
       where

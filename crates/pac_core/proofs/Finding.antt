@@ -18,7 +18,7 @@ use Rattle.pac_plan.proofs.PartLemmas.{part-mem}
 use Rattle.pac_plan.proofs.WorldLemmas.{record_uses}
 use Rattle.pac_plan.specs.declared.parts.PlanParts.{PlanParts}
 use Rattle.pac_commute.specs.Works.{given_over}
-use Rattle.pac_core.specs.Inputs.{Finds, LeavesValues, is_found, is_left}
+use Rattle.pac_core.specs.Inputs.{FindsInputs, LeavesValues, is_found, is_left}
 use Rattle.pac_value.specs.Restricted.{HasOnly}
 use Rattle.pac_core.specs.Values.{GivesTo}
 
@@ -38,7 +38,7 @@ records_find parts is block records x = ap (λ b. b && not (defined_in (piece_op
     true≢false (sym o.2 ∙ ap (op_uses x) c.1 ∙ record_uses parts (order_kept parts is) c.0 x)))
 
 module _ (parts : PlanParts) (block : ℕ) (txn : Txn) (vars : List ℕ) (kept env : Values) where
-  pub finds_of : ((x : ℕ) → Contains vars x ↔ (is_found parts block txn x ≡ true)) → HasOnly vars kept env → Finds parts block txn kept env
+  pub finds_of : ((x : ℕ) → Contains vars x ↔ (is_found parts block txn x ≡ true)) → HasOnly vars kept env → FindsInputs parts block txn kept env
   finds_of are has x = go (is_found parts block txn x) refl
     where
       go : (b : Bool) → is_found parts block txn x ≡ b → get env x ≡ cond b (get kept x) None
@@ -53,7 +53,7 @@ module _ (parts : PlanParts) (block : ℕ) (txn : Txn) (vars : List ℕ) (kept e
       go false e = has.others x (λ c. true≢false (sym ((are x).0 c) ∙ e))
 
   -- what finds has those alone
-  pub has_of : ((x : ℕ) → Contains vars x ↔ (is_found parts block txn x ≡ true)) → Finds parts block txn kept env → HasOnly vars kept env
+  pub has_of : ((x : ℕ) → Contains vars x ↔ (is_found parts block txn x ≡ true)) → FindsInputs parts block txn kept env → HasOnly vars kept env
   has_of are finds = record {
     own = λ x c. finds x ∙ ap (λ b. cond b (get kept x) None) ((are x).0 c);
     none = λ x n. finds x ∙ ap (λ b. cond b (get kept x) None) (unlike (is_found parts block txn x) (λ t. n ((are x).1 t)));

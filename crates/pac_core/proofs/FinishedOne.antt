@@ -41,13 +41,13 @@ use Rattle.pac_commute.specs.Machine.{Invariant, Machine, all_but, among, world_
 use Rattle.pac_commute.specs.Works.{given_over}
 use Rattle.pac_commute.proofs.Steps.{piece_self, same_piece}
 use Rattle.pac_commute.proofs.Theorem.{in_order}
-use Rattle.pac_core.specs.declared.loaded.Loaded.{Loaded}
+use Rattle.pac_core.specs.declared.loaded.LoadedBatch.{LoadedBatch}
 use Rattle.pac_core.specs.declared.progress.Progress.{Progress}
 use Rattle.pac_core.specs.declared.stage.OpenSet.{OpenSet}
-use Rattle.pac_core.specs.declared.stage.Stage.{Stage}
-use Rattle.pac_core.specs.declared.stage.Stage.TheVariants.{Waiting, Open}
+use Rattle.pac_core.specs.declared.stage.SetStage.{SetStage}
+use Rattle.pac_core.specs.declared.stage.SetStage.TheVariants.{Waiting, Open}
 use Rattle.pac_core.specs.Inputs.{LeavesValues, is_found, is_left}
-use Rattle.pac_core.specs.Links.{AreStages, IsOpened, piece_in, set_ids, set_of_piece, IsStageOf, IsUnfinishedBatch, KeepsBatch, KeepsInputs, KeepsProgress, KeepsValues, batches_of, mark, mark_in, marked, replay_of}
+use Rattle.pac_core.specs.Links.{AreStages, IsOpened, piece_in, set_ids, set_of_piece, IsStageOf, IsUnfinishedBatch, KeepsBatch, KeepsInputs, KeepsProgress, KeepsValues, batches_of, mark, mark_in, pieces_marked, replay_so_far}
 use Rattle.pac_core.specs.Moves.{IsFinishedTo, after_finish}
 use Rattle.pac_core.specs.Replay.{Replay, left, loaded_pieces, machine_of, present_of, with_finished}
 use Rattle.pac_core.specs.Results.{IsGiven}
@@ -118,15 +118,15 @@ pub record IsStepped (r : Replay) (piece : PieceId) : Type 0 where
 module _ (job : Job) (p : Progress) (keeps : KeepsProgress job p) (at : ℕ) (id : SetId) (opening : OpenSet) (set : SetAt job p keeps at id (Some (Open opening)))
     (i t : ℕ) (e : slice_get (txns job p keeps at id (Some (Open opening)) set) i ≡ Some t) (old : PieceState) (was : slice_get opening.sched.states i ≡ Some old) (unfinished : is_finished old ≡ false)
     (order : IsInOrder (with_state opening.sched (piece_in id.block t) state.Finished))
-    (stepped : IsStepped (replay_of job p) (piece_in id.block t))
+    (stepped : IsStepped (replay_so_far job p) (piece_in id.block t))
     (n : ℕ) (txn : Txn) (number : t ≡ set.batch.first + n) (txn_is : slice_get set.batch.txns n ≡ Some txn)
     (writes : List Write) (outs : Values) (note : Option Note)
-    (given : IsGiven (piece_in id.block t) (ops (world_at job (machine_of (replay_of job p))) (piece_in id.block t)) writes outs note (present_of (replay_of job p)) (apply (world_at job (machine_of (replay_of job p))) (piece_in id.block t) (present_of (replay_of job p))))
-    (kept_before kept_now : Values) (loaded : Loaded) (loaded_there : slice_get p.batches.items id.batch ≡ Some loaded) (before_is : slice_get loaded.kept.items n ≡ Some kept_before)
+    (given : IsGiven (piece_in id.block t) (ops (world_at job (machine_of (replay_so_far job p))) (piece_in id.block t)) writes outs note (present_of (replay_so_far job p)) (apply (world_at job (machine_of (replay_so_far job p))) (piece_in id.block t) (present_of (replay_so_far job p))))
+    (kept_before kept_now : Values) (loaded : LoadedBatch) (loaded_there : slice_get p.batches.items id.batch ≡ Some loaded) (before_is : slice_get loaded.kept.items n ≡ Some kept_before)
     (leaves : LeavesValues job.parts id.block txn outs kept_before kept_now)
     (new : Progress) (to : IsFinishedTo p at id opening (piece_in id.block t) n kept_now note new) where
   abbrev pub r : Replay
-  r = replay_of job p
+  r = replay_so_far job p
 
   abbrev pub m : Machine
   m = machine_of r
@@ -137,7 +137,7 @@ module _ (job : Job) (p : Progress) (keeps : KeepsProgress job p) (at : ℕ) (id
   abbrev pub now_open : OpenSet
   now_open = moved job p keeps at id opening set i t e old state.Finished was
 
-  abbrev pub sets_now : List (Kept Stage)
+  abbrev pub sets_now : List (Kept SetStage)
   sets_now = with_kept_at p.sets.sets at (after_finish now_open)
 
   sets_are : new.sets.sets ≡ sets_now
@@ -196,14 +196,14 @@ module _ (job : Job) (p : Progress) (keeps : KeepsProgress job p) (at : ℕ) (id
 
   -- ---- the replay
 
-  finished_now : marked is_finished job (batches_of p) sets_now ≡ filter (adds (among r.finished) piece) (loaded_pieces r)
+  finished_now : pieces_marked is_finished job (batches_of p) sets_now ≡ filter (adds (among r.finished) piece) (loaded_pieces r)
   finished_now = filter_alike (λ q. is_finished (mark_in (batches_of p) sets_now q)) (adds (among r.finished) piece) (loaded_pieces r) (λ q mem. ap is_finished (marks_now q mem) ∙ go (among r.finished q) (mark_in (batches_of p) p.sets.sets q) (is_piece piece q) (finished_is job p keeps q mem))
     where
       go : (x : Bool) (s : PieceState) (b : Bool) → x ≡ is_finished s → is_finished (cond b state.Finished s) ≡ (b || x)
       go x s true same = refl
       go x s false same = sym same
 
-  out_now : marked is_out job (batches_of p) sets_now ≡ filter (λ q. among r.out q && not (is_piece piece q)) (loaded_pieces r)
+  out_now : pieces_marked is_out job (batches_of p) sets_now ≡ filter (λ q. among r.out q && not (is_piece piece q)) (loaded_pieces r)
   out_now = filter_alike (λ q. is_out (mark_in (batches_of p) sets_now q)) (λ q. among r.out q && not (is_piece piece q)) (loaded_pieces r) (λ q mem. ap is_out (marks_now q mem) ∙ go (among r.out q) (mark_in (batches_of p) p.sets.sets q) (is_piece piece q) (out_is job p keeps q mem))
     where
       go : (x : Bool) (s : PieceState) (b : Bool) → x ≡ is_out s → is_out (cond b state.Finished s) ≡ (x && not b)
@@ -214,13 +214,13 @@ module _ (job : Job) (p : Progress) (keeps : KeepsProgress job p) (at : ℕ) (id
           and_true true = refl
           and_true false = refl
 
-  pub finishes : replay_of job new ≡ with_finished r piece
+  pub finishes : replay_so_far job new ≡ with_finished r piece
   finishes = λ k. record {
     job = job;
     batches = to.batches k;
     is_closed = to.closed k;
-    out = (ap₂ (λ bs ss. marked is_out job bs ss) to.batches sets_are ∙ out_now) k;
-    finished = (ap₂ (λ bs ss. marked is_finished job bs ss) to.batches sets_are ∙ finished_now) k;
+    out = (ap₂ (λ bs ss. pieces_marked is_out job bs ss) to.batches sets_are ∙ out_now) k;
+    finished = (ap₂ (λ bs ss. pieces_marked is_finished job bs ss) to.batches sets_are ∙ finished_now) k;
   }
 
   abbrev pub r' : Replay
@@ -254,14 +254,14 @@ module _ (job : Job) (p : Progress) (keeps : KeepsProgress job p) (at : ℕ) (id
       go : (j ≡ at) ⊎ (j ≡ at → ⊥) → IsStageOf r' sets_now s (set_of job.parts batch.first batch.txns s.block).txns stage
       go (inl same_offset) = changed (all_finished now_open.sched) refl (same_Some _ _ (sym (get_changed p.sets.sets at (id, Some (Open opening)) (after_finish now_open) set.there) ∙ ap (slice_get sets_now) (sym same_offset) ∙ here))
         where
-          changed : (b : Bool) → all_finished now_open.sched ≡ b → ◌≡◌ {A = Kept Stage} (id, cond b None (Some (Open now_open))) (s, Some stage) → IsStageOf r' sets_now s (set_of job.parts batch.first batch.txns s.block).txns stage
-          changed true all same = let wrong : ◌≡◌ {A = Option Stage} None (Some stage) = ap (λ (x : Kept Stage). x.1) same in absurd cc
+          changed : (b : Bool) → all_finished now_open.sched ≡ b → ◌≡◌ {A = Kept SetStage} (id, cond b None (Some (Open now_open))) (s, Some stage) → IsStageOf r' sets_now s (set_of job.parts batch.first batch.txns s.block).txns stage
+          changed true all same = let wrong : ◌≡◌ {A = Option SetStage} None (Some stage) = ap (λ (x : Kept SetStage). x.1) same in absurd cc
           changed false all same =
-              let id_is : id ≡ s = ap (λ (x : Kept Stage). x.0) same in
-              let stage_is : Open now_open ≡ stage = same_Some _ _ (ap (λ (x : Kept Stage). x.1) same) in
+              let id_is : id ≡ s = ap (λ (x : Kept SetStage). x.0) same in
+              let stage_is : Open now_open ≡ stage = same_Some _ _ (ap (λ (x : Kept SetStage). x.1) same) in
               let is = keeps.stages at id (Open opening) batch set.there (ap (λ (x : SetId). slice_get (batches_of p) x.batch) id_is ∙ batch_there) in
               let still = opened_still id (set_of job.parts batch.first batch.txns id.block).txns opening is in
-              subst (λ (x : Stage). IsStageOf r' sets_now s (set_of job.parts batch.first batch.txns s.block).txns x) stage_is
+              subst (λ (x : SetStage). IsStageOf r' sets_now s (set_of job.parts batch.first batch.txns s.block).txns x) stage_is
               (subst (λ (x : SetId). IsOpened r' sets_now x (set_of job.parts batch.first batch.txns x.block).txns now_open) id_is
               (record {
                 pieces = still.pieces;
@@ -274,7 +274,7 @@ module _ (job : Job) (p : Progress) (keeps : KeepsProgress job p) (at : ℕ) (id
               }))
       go (inr differ) = still stage (keeps.stages j s stage batch (sym (get_other p.sets.sets at j (after_finish now_open) differ) ∙ here) batch_there)
         where
-          still : (x : Stage) → IsStageOf r p.sets.sets s (set_of job.parts batch.first batch.txns s.block).txns x → IsStageOf r' sets_now s (set_of job.parts batch.first batch.txns s.block).txns x
+          still : (x : SetStage) → IsStageOf r p.sets.sets s (set_of job.parts batch.first batch.txns s.block).txns x → IsStageOf r' sets_now s (set_of job.parts batch.first batch.txns s.block).txns x
           still (Waiting w) is = is
           still (Open o) is = opened_still s _ o is
 
@@ -284,7 +284,7 @@ module _ (job : Job) (p : Progress) (keeps : KeepsProgress job p) (at : ℕ) (id
       go : (j ≡ at) ⊎ (j ≡ at → ⊥) → IsUnfinishedBatch p.sets.sets k
       go (inl same_offset) =
           let same = same_Some _ _ (sym (get_changed p.sets.sets at (id, Some (Open opening)) (after_finish now_open) set.there) ∙ ap (slice_get sets_now) (sym same_offset) ∙ here) in
-          (at, id, Open opening, set.there, ap (λ (x : Kept Stage). x.0.batch) same ∙ batch)
+          (at, id, Open opening, set.there, ap (λ (x : Kept SetStage). x.0.batch) same ∙ batch)
       go (inr differ) = (j, s, stage, sym (get_other p.sets.sets at j (after_finish now_open) differ) ∙ here, batch)
 
   abbrev pub after : Present
@@ -295,7 +295,7 @@ module _ (job : Job) (p : Progress) (keeps : KeepsProgress job p) (at : ℕ) (id
   other_values u x kept differ is block v inside found = is block v inside found ∙ sym (given.others u v differ)
 
   -- so do those of other batches
-  other_batch : (k : ℕ) (l b : Loaded) → (k ≡ id.batch → ⊥) → slice_get p.batches.items k ≡ Some b → l.batch ≡ b.batch → l.kept.items ≡ b.kept.items → KeepsBatch job.parts (present_of r) b → KeepsBatch job.parts after l
+  other_batch : (k : ℕ) (l b : LoadedBatch) → (k ≡ id.batch → ⊥) → slice_get p.batches.items k ≡ Some b → l.batch ≡ b.batch → l.kept.items ≡ b.kept.items → KeepsBatch job.parts (present_of r) b → KeepsBatch job.parts after l
   other_batch k l b differ there_b batch kept is = record {
     all = ap length kept ∙ is.all ∙ sym (ap (λ (x : Batch). length x.txns) batch);
     each = λ j x v at_txn at_kept.
@@ -308,7 +308,7 @@ module _ (job : Job) (p : Progress) (keeps : KeepsProgress job p) (at : ℕ) (id
       apart j x at_txn first_is same =
           let s : Stands (batches_of p) t k j = record {
             batch = b.batch;
-            there = at_map (λ (l : Loaded). l.batch) p.batches.items k b there_b;
+            there = at_map (λ (l : LoadedBatch). l.batch) p.batches.items k b there_b;
             inside = slice_get_within b.batch.txns j x at_txn;
             number = sym same ∙ ap (λ (f : ℕ). f + j) first_is;
           } in
@@ -317,14 +317,14 @@ module _ (job : Job) (p : Progress) (keeps : KeepsProgress job p) (at : ℕ) (id
           differ (omega (arith, own, theirs))
 
   -- those of its own batch but for its own
-  own_batch : (l : Loaded) → l.batch ≡ loaded.batch → l.kept.items ≡ slice_set loaded.kept.items n kept_now → KeepsBatch job.parts (present_of r) loaded → KeepsBatch job.parts after l
+  own_batch : (l : LoadedBatch) → l.batch ≡ loaded.batch → l.kept.items ≡ slice_set loaded.kept.items n kept_now → KeepsBatch job.parts (present_of r) loaded → KeepsBatch job.parts after l
   own_batch l batch kept is = record {
     all = ap length kept ∙ length-set loaded.kept.items n kept_now ∙ is.all ∙ sym (ap (λ (x : Batch). length x.txns) batch);
     each = λ j x v at_txn at_kept. go j x v (ap (λ (y : Batch). slice_get y.txns j) (sym batch) ∙ at_txn) (ap (λ ks. slice_get ks j) (sym kept) ∙ at_kept) (equal_or_not j n);
   }
     where
       own_first : loaded.batch ≡ set.batch
-      own_first = same_Some _ _ (sym (at_map (λ (l : Loaded). l.batch) p.batches.items id.batch loaded loaded_there) ∙ set.batch_there)
+      own_first = same_Some _ _ (sym (at_map (λ (l : LoadedBatch). l.batch) p.batches.items id.batch loaded loaded_there) ∙ set.batch_there)
 
       number_is : (j : ℕ) → j ≡ n → l.batch.first + j ≡ t
       number_is j same = ap (λ (y : Batch). y.first + j) (batch ∙ own_first) ∙ ap (λ (k : ℕ). set.batch.first + k) same ∙ sym number
@@ -361,12 +361,12 @@ module _ (job : Job) (p : Progress) (keeps : KeepsProgress job p) (at : ℕ) (id
       let old_values = keeps.values k before.0 before.1 (unfinished_before k (subst (λ ss. IsUnfinishedBatch ss k) sets_are left_k)) in
       subst (λ (s : Present). KeepsBatch job.parts s l) present_now (go (equal_or_not k id.batch) before.0 before.1 before.2 before.3 old_values)
     where
-      go : (k ≡ id.batch) ⊎ (k ≡ id.batch → ⊥) → (b : Loaded) → slice_get p.batches.items k ≡ Some b → l.batch ≡ b.batch → l.kept.items ≡ cond (k == id.batch) (slice_set b.kept.items n kept_now) b.kept.items
+      go : (k ≡ id.batch) ⊎ (k ≡ id.batch → ⊥) → (b : LoadedBatch) → slice_get p.batches.items k ≡ Some b → l.batch ≡ b.batch → l.kept.items ≡ cond (k == id.batch) (slice_set b.kept.items n kept_now) b.kept.items
           → KeepsBatch job.parts (present_of r) b → KeepsBatch job.parts after l
       go (inl same) b there_b batch kept is =
           let b_is : b ≡ loaded = same_Some _ _ (sym there_b ∙ ap (slice_get p.batches.items) same ∙ loaded_there) in
-          own_batch l (batch ∙ ap (λ (x : Loaded). x.batch) b_is) (kept ∙ ap (λ c. cond c (slice_set b.kept.items n kept_now) b.kept.items) (equal_number k id.batch same) ∙ ap (λ (x : Loaded). slice_set x.kept.items n kept_now) b_is)
-          (subst (λ (x : Loaded). KeepsBatch job.parts (present_of r) x) b_is is)
+          own_batch l (batch ∙ ap (λ (x : LoadedBatch). x.batch) b_is) (kept ∙ ap (λ c. cond c (slice_set b.kept.items n kept_now) b.kept.items) (equal_number k id.batch same) ∙ ap (λ (x : LoadedBatch). slice_set x.kept.items n kept_now) b_is)
+          (subst (λ (x : LoadedBatch). KeepsBatch job.parts (present_of r) x) b_is is)
       go (inr differ) b there_b batch kept is =
           other_batch k l b differ there_b batch (kept ∙ ap (λ c. cond c (slice_set b.kept.items n kept_now) b.kept.items) (unlike (k == id.batch) (λ h. differ (same_number k id.batch h)))) is
 
@@ -392,8 +392,8 @@ module _ (job : Job) (p : Progress) (keeps : KeepsProgress job p) (at : ℕ) (id
     machine = subst (λ (x : Replay). Invariant job (machine_of x)) (sym finishes) invariant_now;
     note = to.note_is ∙ ap (λ (o : Option Note). least o note) keeps.note ∙ sym given.note_is ∙ ap (λ (s : Present). s.note) present_now ∙ ap (λ (x : Replay). (present_of x).note) (sym finishes);
     next = to.next ∙ keeps.next ∙ ap (next_in_job job) (sym to.batches);
-    unfinished = (let a = to.unfinished in let b = left_now in let c = keeps.unfinished in let l : left (replay_of job new) ≡ left r' = ap left finishes in omega (arith, a, b, c, l));
-    sets = ap (map (λ (set : Kept Stage). set.0)) sets_are ∙ ids_stay p.sets.sets at (after_finish now_open) ∙ keeps.sets ∙ ap (set_ids job.parts 0) (sym to.batches);
+    unfinished = (let a = to.unfinished in let b = left_now in let c = keeps.unfinished in let l : left (replay_so_far job new) ≡ left r' = ap left finishes in omega (arith, a, b, c, l));
+    sets = ap (map (λ (set : Kept SetStage). set.0)) sets_are ∙ ids_stay p.sets.sets at (after_finish now_open) ∙ keeps.sets ∙ ap (set_ids job.parts 0) (sym to.batches);
     ascend = subst (λ ss. T (is_sorted set_cmp ss)) (sym sets_are) (still_up p.sets.sets keeps.ascend at id (Some (Open opening)) (after_finish now_open) set.there);
     stages = subst (λ (x : Replay). AreStages x new.sets.sets) (sym finishes) (subst (AreStages r') (sym sets_are) stages_now);
     values = subst (λ (x : Replay). KeepsValues x new.batches.items new.sets.sets) (sym finishes) values_now;

@@ -13,12 +13,12 @@ use Rattle.pac_sched.proofs.FollowerLemmas.{to_count}
 use Rattle.pac_sched.proofs.StateLemmas.{all_same}
 use Rattle.pac_sets.specs.declared.set_id.SetId.{SetId}
 use Rattle.pac_sets.specs.Sets.{Setting, with_kept_at}
-use Rattle.pac_core.specs.declared.loaded.Loaded.{Loaded}
+use Rattle.pac_core.specs.declared.loaded.LoadedBatch.{LoadedBatch}
 use Rattle.pac_core.specs.declared.place.Place.{Place}
 use Rattle.pac_core.specs.declared.progress.Progress.{Progress}
 use Rattle.pac_core.specs.declared.stage.OpenSet.{OpenSet}
-use Rattle.pac_core.specs.declared.stage.Stage.{Stage}
-use Rattle.pac_core.specs.declared.stage.Stage.TheVariants.{Open}
+use Rattle.pac_core.specs.declared.stage.SetStage.{SetStage}
+use Rattle.pac_core.specs.declared.stage.SetStage.TheVariants.{Open}
 use Rattle.pac_core.specs.Links.{IsUnfinishedBatch, batches_of}
 use Rattle.pac_core.specs.Moves.{AreValuesKept, IsFinishedTo, IsLifted, after_finish, keeps_now_at}
 use Rattle.pac_core.proofs.Moved.{kept_twice}
@@ -37,27 +37,27 @@ abbrev pub finished_in : OpenSet → PieceId → OpenSet
 finished_in opening piece = record { sched = with_state opening.sched piece state.Finished; cells = opening.cells }
 
 -- what is kept of the set
-pub after_all : (opening : OpenSet) → all_finished opening.sched ≡ true → ◌≡◌ {A = Option Stage} None (after_finish opening)
+pub after_all : (opening : OpenSet) → all_finished opening.sched ≡ true → ◌≡◌ {A = Option SetStage} None (after_finish opening)
 after_all opening all = sym (ap (λ b. cond b None (Some (Open opening))) all)
 
-pub after_some : (opening : OpenSet) → all_finished opening.sched ≡ false → ◌≡◌ {A = Option Stage} (Some (Open opening)) (after_finish opening)
+pub after_some : (opening : OpenSet) → all_finished opening.sched ≡ false → ◌≡◌ {A = Option SetStage} (Some (Open opening)) (after_finish opening)
 after_some opening some = sym (ap (λ b. cond b None (Some (Open opening))) some)
 
 -- the sets where a finished one has ended
-pub ended_sets : (p : Progress) (at : ℕ) (opening : OpenSet) → all_finished opening.sched ≡ true → (kept new : Setting Stage) → kept ≡ record p.sets { sets = with_kept_at p.sets.sets at (Some (Open opening)) }
+pub ended_sets : (p : Progress) (at : ℕ) (opening : OpenSet) → all_finished opening.sched ≡ true → (kept new : Setting SetStage) → kept ≡ record p.sets { sets = with_kept_at p.sets.sets at (Some (Open opening)) }
     → new ≡ record kept { sets = with_kept_at kept.sets at None } → new ≡ record p.sets { sets = with_kept_at p.sets.sets at (after_finish opening) }
 ended_sets p at opening all kept new is end =
     end
-    ∙ ap (λ (s : Setting Stage). record s { sets = with_kept_at s.sets at None }) is
+    ∙ ap (λ (s : Setting SetStage). record s { sets = with_kept_at s.sets at None }) is
     ∙ (λ k. record p.sets { sets = (kept_twice p.sets.sets at (Some (Open opening)) None ∙ ap (with_kept_at p.sets.sets at) (after_all opening all)) k })
 
 module _ (p : Progress) (place : Place) (piece : PieceId) (kept : Values) (note : Option Note) (lifted : Progress) (now : IsLifted p place.at lifted)
-    (batches : List Loaded) (are : AreValuesKept lifted.batches.items place.batch (keeps_now_at place.index kept) batches) where
-  old_batches : map (λ (l : Loaded). l.batch) batches ≡ batches_of p
+    (batches : List LoadedBatch) (are : AreValuesKept lifted.batches.items place.batch (keeps_now_at place.index kept) batches) where
+  old_batches : map (λ (l : LoadedBatch). l.batch) batches ≡ batches_of p
   old_batches = are.batches ∙ ap batches_of now
 
-  values_from : (id : SetId) → id.batch ≡ place.batch → (k : ℕ) (loaded q : Loaded) → slice_get batches k ≡ Some q → loaded.batch ≡ q.batch → loaded.kept.items ≡ q.kept.items
-      → (before : Loaded) × (slice_get p.batches.items k ≡ Some before) × (loaded.batch ≡ before.batch) × (loaded.kept.items ≡ cond (k == id.batch) (keeps_now_at place.index kept before.kept.items) before.kept.items)
+  values_from : (id : SetId) → id.batch ≡ place.batch → (k : ℕ) (loaded q : LoadedBatch) → slice_get batches k ≡ Some q → loaded.batch ≡ q.batch → loaded.kept.items ≡ q.kept.items
+      → (before : LoadedBatch) × (slice_get p.batches.items k ≡ Some before) × (loaded.batch ≡ before.batch) × (loaded.kept.items ≡ cond (k == id.batch) (keeps_now_at place.index kept before.kept.items) before.kept.items)
   values_from id own k loaded q there batch same =
       let before = are.each k q there in (
         before.0,
@@ -69,8 +69,8 @@ module _ (p : Progress) (place : Place) (piece : PieceId) (kept : Values) (note 
   pub finished_to : (id : SetId) (opening : OpenSet) → id.batch ≡ place.batch → (new : Progress) → new.pieces ≡ lifted.pieces
       → new.sets ≡ record p.sets { sets = with_kept_at p.sets.sets place.at (after_finish (finished_in opening piece)) }
       → new.note ≡ least lifted.note note → new.first ≡ lifted.first → new.next ≡ lifted.next → new.unfinished + 1 ≡ lifted.unfinished → new.is_closed ≡ lifted.is_closed
-      → batches_of new ≡ map (λ (l : Loaded). l.batch) batches
-      → ((k : ℕ) (loaded : Loaded) → slice_get new.batches.items k ≡ Some loaded → IsUnfinishedBatch new.sets.sets k → (q : Loaded) × (slice_get batches k ≡ Some q) × (loaded.batch ≡ q.batch) × (loaded.kept.items ≡ q.kept.items))
+      → batches_of new ≡ map (λ (l : LoadedBatch). l.batch) batches
+      → ((k : ℕ) (loaded : LoadedBatch) → slice_get new.batches.items k ≡ Some loaded → IsUnfinishedBatch new.sets.sets k → (q : LoadedBatch) × (slice_get batches k ≡ Some q) × (loaded.batch ≡ q.batch) × (loaded.kept.items ≡ q.kept.items))
       → IsFinishedTo p place.at id opening piece place.index kept note new
   finished_to id opening own new pieces sets note_is first next unfinished closed batches_are values = record {
     pieces = pieces ∙ ap (λ (x : Progress). x.pieces) now;

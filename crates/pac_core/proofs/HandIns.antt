@@ -19,7 +19,7 @@ use Rattle.pac_core.specs.declared.progress.Progress.{Progress}
 use Rattle.pac_core.specs.Calls.{IsOwn}
 use Rattle.pac_core.specs.Links.{IsCore, core_of, job_of}
 use Rattle.pac_core.specs.Moves.{IsFinishedAt, IsOrderAfter}
-use Rattle.pac_core.specs.Places.{AreValuesAt, IsPlaced, IsTxnAt}
+use Rattle.pac_core.specs.Places.{AreValuesAt, IsPieceAt, IsTxnAt}
 use Rattle.pac_core.specs.Replay.{machine_of, with_finished}
 use Rattle.pac_core.specs.Results.{IsKeptAfter, IsResult}
 use Rattle.pac_core.specs.Takes.{IsWorkOver}
@@ -29,7 +29,7 @@ use Rattle.pac_core.proofs.PlacedPieces as placed
 
 -- ---- what stands at a place
 
-module _ (p : Progress) (u : Undoable) (core : IsCore p u) (place : Place) (piece : PieceId) (far : PieceState) (at : IsPlaced p place piece far) where
+module _ (p : Progress) (u : Undoable) (core : IsCore p u) (place : Place) (piece : PieceId) (far : PieceState) (at : IsPieceAt p place piece far) where
   pub txn_there : (txn : Txn) × IsTxnAt p place txn
   txn_there = let found = item_at at.txn.loaded.batch.txns place.index at.txn.inside in (found.0, (at.txn.loaded, at.txn.there, found.1))
 
@@ -44,7 +44,7 @@ module _ (p : Progress) (u : Undoable) (core : IsCore p u) (place : Place) (piec
 
 -- ---- own work
 
-module _ (p : Progress) (u : Undoable) (core : IsCore p u) (place : Place) (work : Work) (at : IsPlaced p place work.piece state.Out) (own : IsOwn (core_of p u) work)
+module _ (p : Progress) (u : Undoable) (core : IsCore p u) (place : Place) (work : Work) (at : IsPieceAt p place work.piece state.Out) (own : IsOwn (core_of p u) work)
     (writes : List Write) (outs : Values) (note : Option Note) (value : IsValueOf work writes outs note) where
   abbrev txn : Txn
   txn = (txn_there p u core place work.piece state.Out at).0
@@ -79,7 +79,7 @@ module _ (p : Progress) (u : Undoable) (core : IsCore p u) (place : Place) (work
 
 -- ---- a ready piece that is run at once
 
-module _ (p : Progress) (u : Undoable) (core : IsCore p u) (place : Place) (piece : PieceId) (at : IsPlaced p place piece state.Waiting) (ready : IsReadyAt (job_of p u) (machine_of (core_of p u)) piece)
+module _ (p : Progress) (u : Undoable) (core : IsCore p u) (place : Place) (piece : PieceId) (at : IsPieceAt p place piece state.Waiting) (ready : IsReadyAt (job_of p u) (machine_of (core_of p u)) piece)
     (writes : List Write) (outs : Values) (note : Option Note) (result : IsResult (core_of p u) piece writes outs note)
     (kept_now : Values) (leaves : IsKeptAfter p place piece outs kept_now) (new : Progress) (to : IsFinishedAt p place piece kept_now note new)
     (order : IsOrderAfter (λ sched. with_state sched piece state.Finished) p place.at) (after : Undoable) (undo : after ≡ record u { current = written u.current writes }) where

@@ -35,15 +35,15 @@ use Rattle.pac_commute.proofs.BatchLemmas.{run_on-more, txns-more}
 use Rattle.pac_commute.proofs.Loads.{in-range, loads_keep, old_batch, pieces_more}
 use Rattle.pac_commute.proofs.Replays.{at_number}
 use Rattle.pac_commute.proofs.Steps as steps
-use Rattle.pac_core.specs.declared.loaded.Loaded.{Loaded}
+use Rattle.pac_core.specs.declared.loaded.LoadedBatch.{LoadedBatch}
 use Rattle.pac_core.specs.declared.progress.Progress.{Progress}
 use Rattle.pac_core.specs.declared.stage.OpenSet.{OpenSet}
-use Rattle.pac_core.specs.declared.stage.Stage.{Stage}
-use Rattle.pac_core.specs.declared.stage.Stage.TheVariants.{Waiting, Open}
+use Rattle.pac_core.specs.declared.stage.SetStage.{SetStage}
+use Rattle.pac_core.specs.declared.stage.SetStage.TheVariants.{Waiting, Open}
 use Rattle.pac_core.specs.Cells.{HasCellsOf}
-use Rattle.pac_core.specs.Links.{AreStages, IsOpened, IsStageOf, IsUnfinishedBatch, KeepsBatch, KeepsInputs, KeepsProgress, KeepsValues, batches_of, mark, mark_in, marked, piece_in, replay_of, set_ids}
+use Rattle.pac_core.specs.Links.{AreStages, IsOpened, IsStageOf, IsUnfinishedBatch, KeepsBatch, KeepsInputs, KeepsProgress, KeepsValues, batches_of, mark, mark_in, pieces_marked, piece_in, replay_so_far, set_ids}
 use Rattle.pac_core.specs.Moves.{IsLoadedTo, IsWaitingSet}
-use Rattle.pac_core.specs.Replay.{Replay, left, loaded_pieces, machine_of, present_of, with_batch}
+use Rattle.pac_core.specs.Replay.{Replay, left, loaded_pieces, machine_of, present_of, with_batch_loaded}
 use Rattle.pac_core.proofs.Alike.{invariant_is, present_is}
 use Rattle.pac_core.proofs.Lists.{at_map, at_mem, filter_alike, filter_of, mem_at}
 use Rattle.pac_core.proofs.Marks.{placed, set_is}
@@ -126,7 +126,7 @@ ids_more parts n (b ∷ bs) batch =
 module _ (job : Job) (p : Progress) (keeps : KeepsProgress job p) (batch : Batch) (first : batch.first ≡ next_in_job job (batches_of p)) (fits : TxnsFitPlan job.parts batch.txns)
     (new : Progress) (to : IsLoadedTo p batch new) (up : T (is_sorted set_cmp (p.sets.sets ++ to.more))) where
   abbrev pub r : Replay
-  r = replay_of job p
+  r = replay_so_far job p
 
   abbrev pub bs : List Batch
   bs = batches_of p
@@ -137,20 +137,20 @@ module _ (job : Job) (p : Progress) (keeps : KeepsProgress job p) (batch : Batch
   abbrev pub k : ℕ
   k = length p.batches.items
 
-  abbrev pub sets' : List (Kept Stage)
+  abbrev pub sets' : List (Kept SetStage)
   sets' = p.sets.sets ++ to.more
 
   abbrev pub r' : Replay
-  r' = with_batch r batch
+  r' = with_batch_loaded r batch
 
   run' : NumbersRunOn job.first bs'
   run' = run_on-more job.first bs batch keeps.machine.run_on first
 
   batches_len : length bs ≡ k
-  batches_len = length-map p.batches.items (λ (l : Loaded). l.batch)
+  batches_len = length-map p.batches.items (λ (l : LoadedBatch). l.batch)
 
   batches_are : batches_of new ≡ bs'
-  batches_are = ap (map (λ (l : Loaded). l.batch)) to.batches ∙ map_append (λ (l : Loaded). l.batch) p.batches.items (to.loaded ∷ []) ∙ ap (λ b. bs ++ b ∷ []) to.batch_is
+  batches_are = ap (map (λ (l : LoadedBatch). l.batch)) to.batches ∙ map_append (λ (l : LoadedBatch). l.batch) p.batches.items (to.loaded ∷ []) ∙ ap (λ b. bs ++ b ∷ []) to.batch_is
 
   sets_are : new.sets.sets ≡ sets'
   sets_are = ap (λ s. s.sets) to.sets
@@ -166,7 +166,7 @@ module _ (job : Job) (p : Progress) (keeps : KeepsProgress job p) (batch : Batch
 
   -- ---- marks
 
-  there' : (j : ℕ) (id : SetId) (kept : Option Stage) → slice_get p.sets.sets j ≡ Some (id, kept) → kept_of id sets' ≡ kept
+  there' : (j : ℕ) (id : SetId) (kept : Option SetStage) → slice_get p.sets.sets j ≡ Some (id, kept) → kept_of id sets' ≡ kept
   there' j id kept e = kept_there sets' up j id kept (get_left p.sets.sets to.more j (id, kept) e)
 
   old_mark : (q : PieceId) → Mem q (loaded_pieces r) → mark_in bs' sets' q ≡ mark_in bs p.sets.sets q
@@ -217,7 +217,7 @@ module _ (job : Job) (p : Progress) (keeps : KeepsProgress job p) (batch : Batch
 
   -- ---- the replay
 
-  marked_old : (test : PieceState → Bool) → test state.Waiting ≡ false → marked test job bs' sets' ≡ marked test job bs p.sets.sets
+  marked_old : (test : PieceState → Bool) → test state.Waiting ≡ false → pieces_marked test job bs' sets' ≡ pieces_marked test job bs p.sets.sets
   marked_old test none =
       ap (filter (λ q. test (mark_in bs' sets' q))) all_pieces
       ∙ filter_append (λ q. test (mark_in bs' sets' q)) (loaded_pieces r) new_pieces
@@ -226,13 +226,13 @@ module _ (job : Job) (p : Progress) (keeps : KeepsProgress job p) (batch : Batch
       (filter_none (λ q. test (mark_in bs' sets' q)) new_pieces (λ q mem. ap test (new_mark q mem) ∙ none))
       ∙ append_none _
 
-  pub loads : replay_of job new ≡ r'
+  pub loads : replay_so_far job new ≡ r'
   loads = λ i. record {
     job = job;
     batches = batches_are i;
     is_closed = to.closed i;
-    out = (ap₂ (λ bs ss. marked is_out job bs ss) batches_are sets_are ∙ marked_old is_out refl) i;
-    finished = (ap₂ (λ bs ss. marked is_finished job bs ss) batches_are sets_are ∙ marked_old is_finished refl) i;
+    out = (ap₂ (λ bs ss. pieces_marked is_out job bs ss) batches_are sets_are ∙ marked_old is_out refl) i;
+    finished = (ap₂ (λ bs ss. pieces_marked is_finished job bs ss) batches_are sets_are ∙ marked_old is_finished refl) i;
   }
 
   -- ---- the state
@@ -264,11 +264,11 @@ module _ (job : Job) (p : Progress) (keeps : KeepsProgress job p) (batch : Batch
   -- ---- what is kept
 
   -- an old set is of an old batch
-  old_batch_there : (j : ℕ) (id : SetId) (kept : Option Stage) → slice_get p.sets.sets j ≡ Some (id, kept) → id.batch < k
+  old_batch_there : (j : ℕ) (id : SetId) (kept : Option SetStage) → slice_get p.sets.sets j ≡ Some (id, kept) → id.batch < k
   old_batch_there j id kept e = let lt = slice_get_within bs id.batch _ (set_at job p keeps j id kept e).batch_there in let len = batches_len in omega (arith, lt, len)
 
   -- a new one is of the new batch
-  new_batch_there : (j : ℕ) (id : SetId) (kept : Option Stage) → slice_get to.more j ≡ Some (id, kept)
+  new_batch_there : (j : ℕ) (id : SetId) (kept : Option SetStage) → slice_get to.more j ≡ Some (id, kept)
       → (set : PieceSet) × Mem set (sets_of job.parts batch.first batch.txns) × IsWaitingSet k set (id, kept)
   new_batch_there j id kept e =
       let x = zip_second (IsWaitingSet k) (sets_of job.parts batch.first batch.txns) to.more j (id, kept)
@@ -283,7 +283,7 @@ module _ (job : Job) (p : Progress) (keeps : KeepsProgress job p) (batch : Batch
       below (inl edge) = let e = edge.0 in omega (arith, e, lt)
       below (inr earlier) = let e = earlier.1 in omega (arith, e, lt)
 
-      go : (o : Option Stage) → kept_of other sets' ≡ o → o ≡ None
+      go : (o : Option SetStage) → kept_of other sets' ≡ o → o ≡ None
       go None e = refl
       go (Some stage) e = at (get_either p.sets.sets to.more found.0 (other, Some stage) found.1)
         where
@@ -294,7 +294,7 @@ module _ (job : Job) (p : Progress) (keeps : KeepsProgress job p) (batch : Batch
           at (inl there) = sym (kept_there p.sets.sets keeps.ascend found.0 other (Some stage) there) ∙ passed other wait
           at (inr (j, n, there)) =
               let is = new_batch_there j other (Some stage) there in
-              let number : other.batch ≡ k = ap (λ (x : Kept Stage). x.0.batch) is.2 in
+              let number : other.batch ≡ k = ap (λ (x : Kept SetStage). x.0.batch) is.2 in
               let lt = below wait in
               absurd (omega (arith, number, lt))
 
@@ -336,7 +336,7 @@ module _ (job : Job) (p : Progress) (keeps : KeepsProgress job p) (batch : Batch
       go : (slice_get p.sets.sets j ≡ Some (id, Some stage)) ⊎ ((i : ℕ) × (j ≡ length p.sets.sets + i) × (slice_get to.more i ≡ Some (id, Some stage))) → IsStageOf r' sets' id (set_of job.parts b.first b.txns id.block).txns stage
       go (inl there) = still stage there (keeps.stages j id stage b there (batch_left id.batch b (old_batch_there j id (Some stage) there) batch_there))
         where
-          still : (x : Stage) → slice_get p.sets.sets j ≡ Some (id, Some x) → IsStageOf r p.sets.sets id (set_of job.parts b.first b.txns id.block).txns x → IsStageOf r' sets' id (set_of job.parts b.first b.txns id.block).txns x
+          still : (x : SetStage) → slice_get p.sets.sets j ≡ Some (id, Some x) → IsStageOf r p.sets.sets id (set_of job.parts b.first b.txns id.block).txns x → IsStageOf r' sets' id (set_of job.parts b.first b.txns id.block).txns x
           still (Waiting w) there is = is
           still (Open o) there is =
               let set = set_at job p keeps j id (Some (Open o)) there in
@@ -345,12 +345,12 @@ module _ (job : Job) (p : Progress) (keeps : KeepsProgress job p) (batch : Batch
               (opened_still j id o set (subst (λ (x : Batch). IsOpened r p.sets.sets id (set_of job.parts x.first x.txns id.block).txns o) (sym same) is))
       go (inr (i, n, there)) =
           let is = new_batch_there i id (Some stage) there in
-          let number : id.batch ≡ k = ap (λ (x : Kept Stage). x.0.batch) is.2 in
+          let number : id.batch ≡ k = ap (λ (x : Kept SetStage). x.0.batch) is.2 in
           let b_is : b ≡ batch = same_Some _ _ (sym batch_there ∙ ap (slice_get bs') (number ∙ sym batches_len) ∙ ap (slice_get bs') (omega arith) ∙ get_right bs (batch ∷ []) 0) in
-          let block : id.block ≡ is.0.block = ap (λ (x : Kept Stage). x.0.block) is.2 in
-          let stage_is : stage ≡ Waiting is.0.txns = same_Some _ _ (ap (λ (x : Kept Stage). x.1) is.2) in
+          let block : id.block ≡ is.0.block = ap (λ (x : Kept SetStage). x.0.block) is.2 in
+          let stage_is : stage ≡ Waiting is.0.txns = same_Some _ _ (ap (λ (x : Kept SetStage). x.1) is.2) in
           let of_batch = set_of_batch job.parts batch.first batch.txns is.0 is.1 in
-          subst (λ (x : Stage). IsStageOf r' sets' id (set_of job.parts b.first b.txns id.block).txns x) (sym stage_is)
+          subst (λ (x : SetStage). IsStageOf r' sets' id (set_of job.parts b.first b.txns id.block).txns x) (sym stage_is)
           (ap (λ (s : PieceSet). s.txns) of_batch.1 ∙ ap (λ (n : ℕ). (set_of job.parts batch.first batch.txns n).txns) (sym block) ∙ ap (λ (x : Batch). (set_of job.parts x.first x.txns id.block).txns) (sym b_is))
 
   -- an old batch that has an unfinished set had it before
@@ -361,13 +361,13 @@ module _ (job : Job) (p : Progress) (keeps : KeepsProgress job p) (batch : Batch
       go (inl there) = (j, id, stage, there, number)
       go (inr (i, at, there)) =
           let is = new_batch_there i id (Some stage) there in
-          let own : id.batch ≡ k = ap (λ (x : Kept Stage). x.0.batch) is.2 in
+          let own : id.batch ≡ k = ap (λ (x : Kept SetStage). x.0.batch) is.2 in
           absurd (omega (arith, lt, number, own))
 
   -- an old transaction has a number below the new ones
-  old_number : (n : ℕ) (l : Loaded) → slice_get p.batches.items n ≡ Some l → (i : ℕ) (x : Txn) → slice_get l.batch.txns i ≡ Some x → l.batch.first + i < next_in_job job bs
+  old_number : (n : ℕ) (l : LoadedBatch) → slice_get p.batches.items n ≡ Some l → (i : ℕ) (x : Txn) → slice_get l.batch.txns i ≡ Some x → l.batch.first + i < next_in_job job bs
   old_number n l there i x at =
-      let s : Stands bs (l.batch.first + i) n i = record { batch = l.batch; there = at_map (λ (l : Loaded). l.batch) p.batches.items n l there; inside = slice_get_within l.batch.txns i x at; number = refl } in
+      let s : Stands bs (l.batch.first + i) n i = record { batch = l.batch; there = at_map (λ (l : LoadedBatch). l.batch) p.batches.items n l there; inside = slice_get_within l.batch.txns i x at; number = refl } in
       (at_range job.first (txns_of bs) (l.batch.first + i) x (txn_there job.parts job.first bs keeps.machine.run_on (l.batch.first + i) n i s ∙ at)).1
 
   values_now : KeepsValues r' new.batches.items new.sets.sets
@@ -444,16 +444,16 @@ module _ (job : Job) (p : Progress) (keeps : KeepsProgress job p) (batch : Batch
     values = subst (λ (x : Replay). KeepsValues x new.batches.items new.sets.sets) (sym loads) values_now;
   }
     where
-      ids_of_more : (sets : List PieceSet) (more : List (Kept Stage)) → AllZip (IsWaitingSet k) sets more → map (λ (set : Kept Stage). set.0) more ≡ map (λ (set : PieceSet). record { batch = k; block = set.block }) sets
+      ids_of_more : (sets : List PieceSet) (more : List (Kept SetStage)) → AllZip (IsWaitingSet k) sets more → map (λ (set : Kept SetStage). set.0) more ≡ map (λ (set : PieceSet). record { batch = k; block = set.block }) sets
       ids_of_more [] [] all = refl
       ids_of_more [] (m ∷ ms) all = absurd all
       ids_of_more (s ∷ ss) [] all = absurd all
-      ids_of_more (s ∷ ss) (m ∷ ms) all = ap₂ (λ a b. a ∷ b) (ap (λ (x : Kept Stage). x.0) all.0) (ids_of_more ss ms all.1)
+      ids_of_more (s ∷ ss) (m ∷ ms) all = ap₂ (λ a b. a ∷ b) (ap (λ (x : Kept SetStage). x.0) all.0) (ids_of_more ss ms all.1)
 
-      ids_now : map (λ (set : Kept Stage). set.0) new.sets.sets ≡ set_ids job.parts 0 (batches_of new)
+      ids_now : map (λ (set : Kept SetStage). set.0) new.sets.sets ≡ set_ids job.parts 0 (batches_of new)
       ids_now =
-          ap (map (λ (set : Kept Stage). set.0)) sets_are
-          ∙ map_append (λ (set : Kept Stage). set.0) p.sets.sets to.more
+          ap (map (λ (set : Kept SetStage). set.0)) sets_are
+          ∙ map_append (λ (set : Kept SetStage). set.0) p.sets.sets to.more
           ∙ ap₂ (λ a b. a ++ b) keeps.sets (ids_of_more (sets_of job.parts batch.first batch.txns) to.more
           (subst (λ (parts : PlanParts). AllZip (IsWaitingSet k) (sets_of parts batch.first batch.txns) to.more) (sym keeps.parts) to.waiting)
           ∙ ap (λ (n : ℕ). map (λ (set : PieceSet). record { batch = n; block = set.block }) (sets_of job.parts batch.first batch.txns)) (sym batches_len ∙ omega arith))

@@ -30,9 +30,9 @@ use Rattle.pac_commute.specs.PlanLaws.{NumbersRunOn}
 use Rattle.pac_commute.proofs.BatchLemmas.{run_on-more}
 use Rattle.pac_commute.proofs.Loads.{in-range}
 use Rattle.pac_commute.proofs.Replays.{at_number}
-use Rattle.pac_core.specs.declared.loaded.Loaded.{Loaded}
+use Rattle.pac_core.specs.declared.loaded.LoadedBatch.{LoadedBatch}
 use Rattle.pac_core.specs.declared.progress.Progress.{Progress}
-use Rattle.pac_core.specs.declared.stage.Stage.{Stage}
+use Rattle.pac_core.specs.declared.stage.SetStage.{SetStage}
 use Rattle.pac_core.specs.Links.{KeepsProgress, batches_of}
 use Rattle.pac_core.specs.Moves.{IsWaitingSet}
 use Rattle.pac_core.proofs.CountPieces.{both_ways, count_pieces, exists_at, in_block, sums, sums_alike}
@@ -129,13 +129,13 @@ module _ (parts : PlanParts) (first : ℕ) (txns : List Txn) where
           let none : length (set_of parts first txns x).txns ≡ 0 = ap length (none_there (set_of parts first txns x).txns e) in
           omega (arith, none, rest)
 
-zip_blocks : (k : ℕ) (sets : List PieceSet) (more : List (Kept Stage)) → AllZip (IsWaitingSet k) sets more → map (λ (s : Kept Stage). s.0.block) more ≡ map (λ (s : PieceSet). s.block) sets
+zip_blocks : (k : ℕ) (sets : List PieceSet) (more : List (Kept SetStage)) → AllZip (IsWaitingSet k) sets more → map (λ (s : Kept SetStage). s.0.block) more ≡ map (λ (s : PieceSet). s.block) sets
 zip_blocks k [] [] all = refl
 zip_blocks k [] (m ∷ ms) all = absurd all
 zip_blocks k (s ∷ ss) [] all = absurd all
-zip_blocks k (s ∷ ss) (m ∷ ms) all = ap₂ (λ a b. a ∷ b) (ap (λ (x : Kept Stage). x.0.block) all.0) (zip_blocks k ss ms all.1)
+zip_blocks k (s ∷ ss) (m ∷ ms) all = ap₂ (λ a b. a ∷ b) (ap (λ (x : Kept SetStage). x.0.block) all.0) (zip_blocks k ss ms all.1)
 
-zip_mem : (k : ℕ) (sets : List PieceSet) (more : List (Kept Stage)) → AllZip (IsWaitingSet k) sets more → (m : Kept Stage) → Mem m more → (s : PieceSet) × Mem s sets × IsWaitingSet k s m
+zip_mem : (k : ℕ) (sets : List PieceSet) (more : List (Kept SetStage)) → AllZip (IsWaitingSet k) sets more → (m : Kept SetStage) → Mem m more → (s : PieceSet) × Mem s sets × IsWaitingSet k s m
 zip_mem k [] [] all m mem = absurd mem
 zip_mem k [] (x ∷ xs) all m mem = absurd all
 zip_mem k (s ∷ ss) [] all m mem = absurd all
@@ -144,21 +144,21 @@ zip_mem k (s ∷ ss) (x ∷ xs) all m (inr mem) = let r = zip_mem k ss xs all.1 
 
 -- ---- loading
 
-module _ (job : Job) (p : Progress) (keeps : KeepsProgress job p) (batch : Batch) (more : List (Kept Stage)) (waiting : AllZip (IsWaitingSet (length p.batches.items)) (sets_of p.pieces batch.first batch.txns) more) where
+module _ (job : Job) (p : Progress) (keeps : KeepsProgress job p) (batch : Batch) (more : List (Kept SetStage)) (waiting : AllZip (IsWaitingSet (length p.batches.items)) (sets_of p.pieces batch.first batch.txns) more) where
   -- the sets are in order
   pub sets_sorted : T (is_sorted set_cmp (p.sets.sets ++ more))
   sets_sorted = T_true (is_sorted set_cmp (p.sets.sets ++ more)) (sorted_both p.sets.sets more (true_T (is_sorted set_cmp p.sets.sets) keeps.ascend) more_sorted
       (λ s t ms mt. earlier s.0 t.0 (let a = old_batch s ms in let b = own_batch t mt in omega (arith, a, b))))
     where
-      own_batch : (t : Kept Stage) → Mem t more → t.0.batch ≡ length p.batches.items
-      own_batch t mt = ap (λ (x : Kept Stage). x.0.batch) (zip_mem (length p.batches.items) (sets_of p.pieces batch.first batch.txns) more waiting t mt).2
+      own_batch : (t : Kept SetStage) → Mem t more → t.0.batch ≡ length p.batches.items
+      own_batch t mt = ap (λ (x : Kept SetStage). x.0.batch) (zip_mem (length p.batches.items) (sets_of p.pieces batch.first batch.txns) more waiting t mt).2
 
-      old_batch : (s : Kept Stage) → Mem s p.sets.sets → s.0.batch < length p.batches.items
+      old_batch : (s : Kept SetStage) → Mem s p.sets.sets → s.0.batch < length p.batches.items
       old_batch s ms =
           let at = mem_at p.sets.sets s ms in
           let set = set_at job p keeps at.0 s.0 s.1 at.1 in
           let lt = slice_get_within (batches_of p) s.0.batch set.batch set.batch_there in
-          let len : length (batches_of p) ≡ length p.batches.items = length-map p.batches.items (λ (l : Loaded). l.batch) in
+          let len : length (batches_of p) ≡ length p.batches.items = length-map p.batches.items (λ (l : LoadedBatch). l.batch) in
           omega (arith, lt, len)
 
       more_sorted : is_sorted set_cmp more ≡ true
@@ -170,9 +170,9 @@ module _ (job : Job) (p : Progress) (keeps : KeepsProgress job p) (batch : Batch
   sets_left j set le at =
       let is = zip_mem (length p.batches.items) (sets_of p.pieces batch.first batch.txns) more waiting set (at_mem more j set at) in
       let inside = (set_of_batch p.pieces batch.first batch.txns is.0 is.1).0 in
-      let block : set.0.block ≡ is.0.block = ap (λ (x : Kept Stage). x.0.block) is.2 in
+      let block : set.0.block ≡ is.0.block = ap (λ (x : Kept SetStage). x.0.block) is.2 in
       let blocks = keeps.blocks in
-      (omega (arith, inside, block, blocks), subst IsSome (ap (λ (x : Kept Stage). x.1) (sym is.2)) refl)
+      (omega (arith, inside, block, blocks), subst IsSome (ap (λ (x : Kept SetStage). x.1) (sym is.2)) refl)
 
 -- the pieces of its sets are those that it adds
 module _ (job : Job) (bs : List Batch) (run : NumbersRunOn job.first bs) (batch : Batch) (first : batch.first ≡ next_in_job job bs) where

@@ -28,8 +28,8 @@ use Rattle.pac_commute.proofs.Loads.{in-range}
 use Rattle.pac_commute.proofs.Replays.{at_number}
 use Rattle.pac_commute.proofs.Steps.{among_mem, mem_among}
 use Rattle.pac_core.specs.declared.progress.Progress.{Progress}
-use Rattle.pac_core.specs.declared.stage.Stage.{Stage}
-use Rattle.pac_core.specs.Links.{KeepsProgress, batches_of, mark, mark_in, piece_in, replay_of, set_ids, set_of_piece}
+use Rattle.pac_core.specs.declared.stage.SetStage.{SetStage}
+use Rattle.pac_core.specs.Links.{KeepsProgress, batches_of, mark, mark_in, piece_in, replay_so_far, set_ids, set_of_piece}
 use Rattle.pac_core.specs.Replay.{Replay, loaded_pieces, machine_of}
 use Rattle.pac_core.proofs.Lists.{filter_in, filter_of, map_at, mem_at}
 use Rattle.pac_core.proofs.SetFacts.{Stands, batch_at, piece_is, stands, txn_there}
@@ -55,7 +55,7 @@ among_filter f ps q m = go (f q) refl
 
 module _ (job : Job) (p : Progress) (keeps : KeepsProgress job p) where
   abbrev r : Replay
-  r = replay_of job p
+  r = replay_so_far job p
 
   abbrev m : Machine
   m = machine_of r
@@ -84,7 +84,7 @@ module _ (job : Job) (p : Progress) (keeps : KeepsProgress job p) where
     pub inside : q.block < job.parts.blocks
     pub in_set : Mem q.txn (set_of job.parts stands.batch.first stands.batch.txns q.block).txns
     pub at : ℕ
-    pub kept : Option Stage
+    pub kept : Option SetStage
     pub there : slice_get p.sets.sets at ≡ Some (record { batch = k; block = q.block }, kept)
 
   -- each loaded piece belongs somewhere
@@ -104,7 +104,7 @@ module _ (job : Job) (p : Progress) (keeps : KeepsProgress job p) where
           let in_set = txn_in job.parts s.batch.first s.batch.txns q.block q.txn (omega (arith, number)) (omega (arith, number, lt)) has in
           let id = id_in job.parts 0 (batches_of p) k s.batch s.there (set_of job.parts s.batch.first s.batch.txns q.block) (set_in job.parts s.batch.first s.batch.txns q.block q.txn inside in_set) in
           let place = mem_at (set_ids job.parts 0 (batches_of p)) (record { batch = k; block = q.block }) (subst (λ (n : ℕ). Mem (record { batch = n; block = q.block }) (set_ids job.parts 0 (batches_of p))) (let e : 0 + k ≡ k = omega arith in e) id) in
-          let stage = map_at (λ (set : Kept Stage). set.0) p.sets.sets place.0 (record { batch = k; block = q.block }) (ap (λ ids. slice_get ids place.0) keeps.sets ∙ place.1) in
+          let stage = map_at (λ (set : Kept SetStage). set.0) p.sets.sets place.0 (record { batch = k; block = q.block }) (ap (λ ids. slice_get ids place.0) keeps.sets ∙ place.1) in
           record {
             k = k;
             i = i;

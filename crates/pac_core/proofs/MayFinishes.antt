@@ -20,11 +20,11 @@ use Rattle.pac_commute.specs.Machine.{among}
 use Rattle.pac_core.specs.declared.place.Place.{Place}
 use Rattle.pac_core.specs.declared.progress.Progress.{Progress}
 use Rattle.pac_core.specs.declared.stage.OpenSet.{OpenSet}
-use Rattle.pac_core.specs.declared.stage.Stage.{Stage}
-use Rattle.pac_core.specs.declared.stage.Stage.TheVariants.{Open}
-use Rattle.pac_core.specs.Links.{IsOpened, KeepsProgress, replay_of}
+use Rattle.pac_core.specs.declared.stage.SetStage.{SetStage}
+use Rattle.pac_core.specs.declared.stage.SetStage.TheVariants.{Open}
+use Rattle.pac_core.specs.Links.{IsOpened, KeepsProgress, replay_so_far}
 use Rattle.pac_core.specs.Moves.{AreInBlocks, IsFinishedAt, IsFinishedTo, IsMovedTo, IsOrderAfter, MayFinish, after_finish}
-use Rattle.pac_core.specs.Places.{IsPlaced}
+use Rattle.pac_core.specs.Places.{IsPieceAt}
 use Rattle.pac_core.specs.Replay.{left, loaded_pieces}
 use Rattle.pac_core.proofs.EndedSet.{blocks_still, open_still}
 use Rattle.pac_core.proofs.KeptAt.{get_changed, still_up}
@@ -58,7 +58,7 @@ state_twice s piece a b = ap (λ (states : List PieceState). record { pieces = s
     go None = refl
     go (Some i) = set_twice s.states i a b
 
-opens_same : (a b : OpenSet) → ◌≡◌ {A = Stage} (Open a) (Open b) → a ≡ b
+opens_same : (a b : OpenSet) → ◌≡◌ {A = SetStage} (Open a) (Open b) → a ≡ b
 opens_same a b e = cc
 
 module _ (job : Job) (p : Progress) (keeps : KeepsProgress job p) where
@@ -71,28 +71,28 @@ module _ (job : Job) (p : Progress) (keeps : KeepsProgress job p) where
     passed = subst (λ (edges : List (ℕ × ℕ)). WaitsForNothing edges p.sets.sets set) (ap (λ (parts : PlanParts). parts.edges) keeps.parts ∙ sym keeps.edges) (opened (set_there job p keeps at set (Some (Open opening)) there)).passed;
   }
     where
-      opened : (s : SetAt job p keeps at set (Some (Open opening))) → IsOpened (replay_of job p) p.sets.sets set (txns job p keeps at set (Some (Open opening)) s) opening
+      opened : (s : SetAt job p keeps at set (Some (Open opening))) → IsOpened (replay_so_far job p) p.sets.sets set (txns job p keeps at set (Some (Open opening)) s) opening
       opened s = keeps.stages at set (Open opening) s.batch there s.batch_there
 
   in_blocks : AreInBlocks p
   in_blocks j set there = subst (λ (parts : PlanParts). set.0.block < parts.blocks) keeps.parts (set_there job p keeps j set.0 set.1 there).inside
 
   module _ (place : Place) (piece : PieceId) where
-    room : (far : PieceState) (at : IsPlaced p place piece far) → place.index < length at.txn.loaded.kept.items
+    room : (far : PieceState) (at : IsPieceAt p place piece far) → place.index < length at.txn.loaded.kept.items
     room far at =
         let inside = at.txn.inside in
         let len = placed.kept_len job p keeps place piece far at in
         omega (arith, inside, len)
 
-    counted : (far : PieceState) (at : IsPlaced p place piece far) → is_finished far ≡ false → 0 < p.unfinished
+    counted : (far : PieceState) (at : IsPieceAt p place piece far) → is_finished far ≡ false → 0 < p.unfinished
     counted far at unfinished =
-        let some = some_left (λ q. not (among (replay_of job p).finished q)) (loaded_pieces (replay_of job p)) piece (placed.loaded_is job p keeps place piece far at)
+        let some = some_left (λ q. not (among (replay_so_far job p).finished q)) (loaded_pieces (replay_so_far job p)) piece (placed.loaded_is job p keeps place piece far at)
         (ap not (placed.finished_now job p keeps place piece far at ∙ unfinished)) in
-        let count : p.unfinished ≡ left (replay_of job p) = keeps.unfinished in
+        let count : p.unfinished ≡ left (replay_so_far job p) = keeps.unfinished in
         subst (λ n. 0 < n) (sym count) some
 
     -- a piece that is out
-    pub may_finish : IsPlaced p place piece state.Out → MayFinish p place piece
+    pub may_finish : IsPieceAt p place piece state.Out → MayFinish p place piece
     may_finish at = record {
       placed = at;
       room = room state.Out at;
@@ -104,7 +104,7 @@ module _ (job : Job) (p : Progress) (keeps : KeepsProgress job p) where
 
     -- ---- a ready one that is handed out
 
-    module _ (at : IsPlaced p place piece state.Waiting) (first : pick at.stands.opening.sched ≡ Piece piece) where
+    module _ (at : IsPieceAt p place piece state.Waiting) (first : pick at.stands.opening.sched ≡ Piece piece) where
       abbrev out_open : OpenSet
       out_open = record { sched = with_state at.stands.opening.sched piece state.Out; cells = at.stands.opening.cells }
 
@@ -114,7 +114,7 @@ module _ (job : Job) (p : Progress) (keeps : KeepsProgress job p) where
       out_there : slice_get out_progress.sets.sets place.at ≡ Some (at.stands.set, Some (Open out_open))
       out_there = get_changed p.sets.sets place.at (at.stands.set, Some (Open at.stands.opening)) (Some (Open out_open)) at.stands.there
 
-      abbrev out_placed : IsPlaced out_progress place piece state.Out
+      abbrev out_placed : IsPieceAt out_progress place piece state.Out
       out_placed = record {
         txn = at.txn;
         stands = record {
@@ -177,8 +177,8 @@ module _ (job : Job) (p : Progress) (keeps : KeepsProgress job p) where
           -- what is open at the offset is the one there
           same_there : (set : SetId) (opening : OpenSet) → slice_get p.sets.sets place.at ≡ Some (set, Some (Open opening)) → ◌≡◌ {A = SetId × OpenSet} (at.stands.set, at.stands.opening) (set, opening)
           same_there set opening there =
-              let pair : ◌≡◌ {A = Kept Stage} (at.stands.set, Some (Open at.stands.opening)) (set, Some (Open opening)) = same_Some _ _ (sym at.stands.there ∙ there) in
-              let opened : at.stands.opening ≡ opening = opens_same at.stands.opening opening (same_Some _ _ (ap (λ (x : Kept Stage). x.1) pair)) in
+              let pair : ◌≡◌ {A = Kept SetStage} (at.stands.set, Some (Open at.stands.opening)) (set, Some (Open opening)) = same_Some _ _ (sym at.stands.there ∙ there) in
+              let opened : at.stands.opening ≡ opening = opens_same at.stands.opening opening (same_Some _ _ (ap (λ (x : Kept SetStage). x.1) pair)) in
               λ k. ((pair k).0, opened k)
 
           pub run_finished : IsFinishedAt p place piece kept note new

@@ -23,12 +23,12 @@ use Rattle.pac_commute.specs.HandOut.{comes_before}
 use Rattle.pac_commute.specs.Loads.{Job}
 use Rattle.pac_commute.specs.Machine.{IsReadyAt, Machine, world_at}
 use Rattle.pac_core.specs.declared.progress.Progress.{Progress}
-use Rattle.pac_core.specs.declared.stage.Stage.{Stage}
-use Rattle.pac_core.specs.declared.stage.Stage.TheVariants.{Open}
-use Rattle.pac_core.specs.Links.{KeepsProgress, batches_of, piece_in, replay_of, set_ids, set_of_piece}
+use Rattle.pac_core.specs.declared.stage.SetStage.{SetStage}
+use Rattle.pac_core.specs.declared.stage.SetStage.TheVariants.{Open}
+use Rattle.pac_core.specs.Links.{KeepsProgress, batches_of, piece_in, replay_so_far, set_ids, set_of_piece}
 use Rattle.pac_core.specs.Moves.{HasNoneReady, StandsOpen}
 use Rattle.pac_core.specs.Replay.{Replay, machine_of}
-use Rattle.pac_core.specs.Takes.{IsNext}
+use Rattle.pac_core.specs.Takes.{IsNextPiece}
 use Rattle.pac_core.proofs.Ascending.{rises_at}
 use Rattle.pac_core.proofs.KeptAt.{equal_or_not}
 use Rattle.pac_core.proofs.Lists.{at_map, at_mem, map_at, mem_at}
@@ -87,17 +87,17 @@ three i j = grind arith
 
 -- each ready piece is of a set from an offset on
 abbrev pub ReadyFrom : Job → Progress → ℕ → Type 0
-ReadyFrom job p from = (q : PieceId) (j : ℕ) (kept : Option Stage) → IsReadyAt job (machine_of (replay_of job p)) q → slice_get p.sets.sets j ≡ Some (set_of_piece (batches_of p) q, kept) → from ≤ j
+ReadyFrom job p from = (q : PieceId) (j : ℕ) (kept : Option SetStage) → IsReadyAt job (machine_of (replay_so_far job p)) q → slice_get p.sets.sets j ≡ Some (set_of_piece (batches_of p) q, kept) → from ≤ j
 
 module _ (job : Job) (p : Progress) (keeps : KeepsProgress job p) where
   abbrev r : Replay
-  r = replay_of job p
+  r = replay_so_far job p
 
   abbrev m : Machine
   m = machine_of r
 
   -- a piece stands where its set does
-  abbrev pub placed_at : (q : PieceId) → Placed job p keeps q → (j : ℕ) (kept : Option Stage) → slice_get p.sets.sets j ≡ Some (set_of_piece (batches_of p) q, kept) → Placed job p keeps q
+  abbrev pub placed_at : (q : PieceId) → Placed job p keeps q → (j : ℕ) (kept : Option SetStage) → slice_get p.sets.sets j ≡ Some (set_of_piece (batches_of p) q, kept) → Placed job p keeps q
   placed_at q place j kept there = record {
     k = place.k;
     i = place.i;
@@ -112,13 +112,13 @@ module _ (job : Job) (p : Progress) (keeps : KeepsProgress job p) where
   }
 
   -- the set of a ready piece is open
-  pub is_open : (q : PieceId) (j : ℕ) (kept : Option Stage) → IsReadyAt job m q → slice_get p.sets.sets j ≡ Some (set_of_piece (batches_of p) q, kept) → IsOpenSet p.sets.edges p.sets.sets j
+  pub is_open : (q : PieceId) (j : ℕ) (kept : Option SetStage) → IsReadyAt job m q → slice_get p.sets.sets j ≡ Some (set_of_piece (batches_of p) q, kept) → IsOpenSet p.sets.edges p.sets.sets j
   is_open q j kept ready there =
       subst (λ (edges : List (ℕ × ℕ)). IsOpenSet edges p.sets.sets j) (ap (λ (parts : PlanParts). parts.edges) keeps.parts ∙ sym keeps.edges)
       (open_of job p keeps q (placed_at q (placed job p keeps q ready.0) j kept there) ready)
 
   -- at the end none is ready
-  pub none_left : (from : ℕ) → ReadyFrom job p from → IsFirstOpen p.sets.edges p.sets.sets from None → IsNext r None
+  pub none_left : (from : ℕ) → ReadyFrom job p from → IsFirstOpen p.sets.edges p.sets.sets from None → IsNextPiece r None
   none_left from ready_from none q ready =
       let place = placed job p keeps q ready.0 in
       let there : slice_get p.sets.sets place.at ≡ Some (set_of_piece (batches_of p) q, place.kept) = place.there ∙ ap (λ (s : SetId). Some (s, place.kept)) (sym (set_is job p keeps q place)) in
@@ -141,11 +141,11 @@ module _ (job : Job) (p : Progress) (keeps : KeepsProgress job p) where
     ts = txns job p keeps at opened.set (Some (Open opened.opening)) set
 
     -- where a ready piece of the open set stands in it
-    ready_here : (q : PieceId) (kept : Option Stage) → IsReadyAt job m q → slice_get p.sets.sets at ≡ Some (set_of_piece (batches_of p) q, kept)
+    ready_here : (q : PieceId) (kept : Option SetStage) → IsReadyAt job m q → slice_get p.sets.sets at ≡ Some (set_of_piece (batches_of p) q, kept)
         → (i : ℕ) × (slice_get ts i ≡ Some q.txn) × (piece_in opened.set.block q.txn ≡ q) × (piece_is_ready opened.opening.sched q ≡ true)
     ready_here q kept ready there =
         let place = placed job p keeps q ready.0 in
-        let same : opened.set ≡ set_of_piece (batches_of p) q = ap (λ (x : Kept Stage). x.0) (same_Some _ _ (sym opened.there ∙ there)) in
+        let same : opened.set ≡ set_of_piece (batches_of p) q = ap (λ (x : Kept SetStage). x.0) (same_Some _ _ (sym opened.there ∙ there)) in
         let id : opened.set ≡ record { batch = place.k; block = q.block } = same ∙ set_is job p keeps q place in
         let block : opened.set.block ≡ q.block = ap (λ (s : SetId). s.block) id in
         let i = mem_at ts q.txn (placed_here job p keeps q place at opened.set (Some (Open opened.opening)) set (ap (λ (s : SetId). s.batch) id) block) in
@@ -176,7 +176,7 @@ module _ (job : Job) (p : Progress) (keeps : KeepsProgress job p) where
             picks Done is h = true≢false (sym ((done_exactly opened.opening.sched).0 is) ∙ left)
 
     -- its first ready piece comes next
-    pub next_here : ReadyFrom job p at → (piece : PieceId) → pick opened.opening.sched ≡ Piece piece → IsNext r (Some piece)
+    pub next_here : ReadyFrom job p at → (piece : PieceId) → pick opened.opening.sched ≡ Piece piece → IsNextPiece r (Some piece)
     next_here ready_from piece picked = (ready, first)
       where
         is_ready : piece_is_ready opened.opening.sched piece ≡ true
@@ -235,7 +235,7 @@ module _ (job : Job) (p : Progress) (keeps : KeepsProgress job p) where
                 later (inr (e, lt)) = inr (inl (omega (arith, e), lt))
             cases (inr (inl e)) =
                 let here = ready_here q place.kept q_ready (ap (slice_get p.sets.sets) (sym e) ∙ there) in
-                let id : opened.set ≡ record { batch = place.k; block = q.block } = ap (λ (x : Kept Stage). x.0) (same_Some _ _ (sym opened.there ∙ ap (slice_get p.sets.sets) (sym e) ∙ place.there)) in
+                let id : opened.set ≡ record { batch = place.k; block = q.block } = ap (λ (x : Kept SetStage). x.0) (same_Some _ _ (sym opened.there ∙ ap (slice_get p.sets.sets) (sym e) ∙ place.there)) in
                 let batch : opened.set.batch ≡ place.k = ap (λ (s : SetId). s.batch) id in
                 inr (inr (omega (arith, batch), ap (λ (s : SetId). s.block) id, in_order here.0 here.1 here.2 here.3))
               where
@@ -251,11 +251,11 @@ module _ (job : Job) (p : Progress) (keeps : KeepsProgress job p) where
                     go (inr (inr gt)) = let lt = rises_at ts (rises job p keeps at opened.set (Some (Open opened.opening)) set) stands_in.0 j found.0 q.txn found.1 at_j gt in omega (arith, lt)
 
 -- what is looked at stays so where a set is opened
-pub from_same : (job : Job) (p new : Progress) (keeps : KeepsProgress job p) (keeps_new : KeepsProgress job new) → replay_of job new ≡ replay_of job p → (at : ℕ) → ReadyFrom job p at → ReadyFrom job new at
+pub from_same : (job : Job) (p new : Progress) (keeps : KeepsProgress job p) (keeps_new : KeepsProgress job new) → replay_so_far job new ≡ replay_so_far job p → (at : ℕ) → ReadyFrom job p at → ReadyFrom job new at
 from_same job p new keeps keeps_new same at ready_from q j kept ready there =
     let batches : batches_of new ≡ batches_of p = ap (λ (r : Replay). r.batches) same in
-    let ids : map (λ (set : Kept Stage). set.0) new.sets.sets ≡ map (λ (set : Kept Stage). set.0) p.sets.sets = keeps_new.sets ∙ ap (set_ids job.parts 0) batches ∙ sym keeps.sets in
-    let old = map_at (λ (set : Kept Stage). set.0) p.sets.sets j (set_of_piece (batches_of new) q)
-    (ap (λ l. slice_get l j) (sym ids) ∙ at_map (λ (set : Kept Stage). set.0) new.sets.sets j (set_of_piece (batches_of new) q, kept) there) in
+    let ids : map (λ (set : Kept SetStage). set.0) new.sets.sets ≡ map (λ (set : Kept SetStage). set.0) p.sets.sets = keeps_new.sets ∙ ap (set_ids job.parts 0) batches ∙ sym keeps.sets in
+    let old = map_at (λ (set : Kept SetStage). set.0) p.sets.sets j (set_of_piece (batches_of new) q)
+    (ap (λ l. slice_get l j) (sym ids) ∙ at_map (λ (set : Kept SetStage). set.0) new.sets.sets j (set_of_piece (batches_of new) q, kept) there) in
     ready_from q j old.0.1 (subst (λ (r : Replay). IsReadyAt job (machine_of r) q) same ready)
     (old.1 ∙ ap (λ (s : SetId). Some (s, old.0.1)) (old.2 ∙ ap (λ bs. set_of_piece bs q) batches))

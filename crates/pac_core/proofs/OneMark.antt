@@ -17,9 +17,9 @@ use Rattle.pac_commute.proofs.Steps.{piece_self, same_piece}
 use Rattle.pac_commute.specs.Loads.{Job}
 use Rattle.pac_core.specs.declared.progress.Progress.{Progress}
 use Rattle.pac_core.specs.declared.stage.OpenSet.{OpenSet}
-use Rattle.pac_core.specs.declared.stage.Stage.{Stage}
-use Rattle.pac_core.specs.declared.stage.Stage.TheVariants.{Open}
-use Rattle.pac_core.specs.Links.{KeepsProgress, batches_of, mark, mark_in, marked, piece_in, replay_of, set_of_piece}
+use Rattle.pac_core.specs.declared.stage.SetStage.{SetStage}
+use Rattle.pac_core.specs.declared.stage.SetStage.TheVariants.{Open}
+use Rattle.pac_core.specs.Links.{KeepsProgress, batches_of, mark, mark_in, pieces_marked, piece_in, replay_so_far, set_of_piece}
 use Rattle.pac_core.specs.Replay.{Replay, loaded_pieces}
 use Rattle.pac_core.proofs.KeptAt.{equal_or_not, kept_changed, kept_stays}
 use Rattle.pac_core.proofs.Lists.{at_mem, filter_alike}
@@ -52,7 +52,7 @@ module _ (s : Schedule) (id : PieceId) (i : ℕ) (at : position_of s id ≡ Some
 module _ (job : Job) (p : Progress) (keeps : KeepsProgress job p) (at : ℕ) (id : SetId) (opening : OpenSet) (set : SetAt job p keeps at id (Some (Open opening)))
     (i t : ℕ) (e : slice_get (txns job p keeps at id (Some (Open opening)) set) i ≡ Some t) (old new : PieceState) (was : slice_get opening.sched.states i ≡ Some old) where
   abbrev pub r : Replay
-  r = replay_of job p
+  r = replay_so_far job p
 
   -- the piece
   abbrev pub q0 : PieceId
@@ -62,7 +62,7 @@ module _ (job : Job) (p : Progress) (keeps : KeepsProgress job p) (at : ℕ) (id
   abbrev pub moved : OpenSet
   moved = record { sched = with_state opening.sched q0 new; cells = opening.cells }
 
-  abbrev pub sets_after : List (Kept Stage)
+  abbrev pub sets_after : List (Kept SetStage)
   sets_after = with_kept_at p.sets.sets at (Some (Open moved))
 
   place_is : position_of opening.sched q0 ≡ Some i
@@ -110,7 +110,7 @@ module _ (job : Job) (p : Progress) (keeps : KeepsProgress job p) (at : ℕ) (id
 
   -- the pieces that pass a test
   pub marked_after : (test : PieceState → Bool) (g : PieceId → Bool) → ((q : PieceId) → Mem q (loaded_pieces r) → cond (is_piece q0 q) (test new) (test (mark_in (batches_of p) p.sets.sets q)) ≡ g q)
-      → marked test job (batches_of p) sets_after ≡ filter g (loaded_pieces r)
+      → pieces_marked test job (batches_of p) sets_after ≡ filter g (loaded_pieces r)
   marked_after test g same = filter_alike (λ q. test (mark_in (batches_of p) sets_after q)) g (loaded_pieces r) (λ q mem. ap test (mark_after q) ∙ inside new (mark_in (batches_of p) p.sets.sets q) (is_piece q0 q) ∙ same q mem)
     where
       inside : (x y : PieceState) (b : Bool) → test (cond b x y) ≡ cond b (test x) (test y)

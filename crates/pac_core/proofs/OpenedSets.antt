@@ -11,13 +11,13 @@ use Rattle.pac_batch.specs.Sets.{set_of}
 use Rattle.pac_sets.specs.Sets.{IsOpenSet, Kept, WaitsForNothing}
 use Rattle.pac_commute.specs.Loads.{Job}
 use Rattle.pac_commute.specs.PlanLaws.{txns_of}
-use Rattle.pac_core.specs.declared.loaded.Loaded.{Loaded}
+use Rattle.pac_core.specs.declared.loaded.LoadedBatch.{LoadedBatch}
 use Rattle.pac_core.specs.declared.progress.Progress.{Progress}
 use Rattle.pac_core.specs.declared.stage.OpenSet.{OpenSet}
-use Rattle.pac_core.specs.declared.stage.Stage.{Stage}
-use Rattle.pac_core.specs.declared.stage.Stage.TheVariants.{Waiting}
-use Rattle.pac_core.specs.Inputs.{Finds}
-use Rattle.pac_core.specs.Links.{KeepsBatch, KeepsProgress, batches_of, replay_of}
+use Rattle.pac_core.specs.declared.stage.SetStage.{SetStage}
+use Rattle.pac_core.specs.declared.stage.SetStage.TheVariants.{Waiting}
+use Rattle.pac_core.specs.Inputs.{FindsInputs}
+use Rattle.pac_core.specs.Links.{KeepsBatch, KeepsProgress, batches_of, replay_so_far}
 use Rattle.pac_core.specs.Moves.{HasAllInputs, IsOpeningOf, opened_at}
 use Rattle.pac_core.specs.Replay.{present_of}
 use Rattle.pac_core.proofs.Lists.{at_map, map_at}
@@ -33,14 +33,14 @@ all_by P (x ∷ xs) each = (each 0 x refl, all_by P xs (λ i y e. each (suc i) y
 
 module _ (job : Job) (p : Progress) (keeps : KeepsProgress job p) where
   -- each transaction of a loaded batch fits
-  pub batch_fits : (k : ℕ) (loaded : Loaded) → slice_get p.batches.items k ≡ Some loaded → AllByRecursion (TxnFitsPlan p.pieces) loaded.batch.txns
+  pub batch_fits : (k : ℕ) (loaded : LoadedBatch) → slice_get p.batches.items k ≡ Some loaded → AllByRecursion (TxnFitsPlan p.pieces) loaded.batch.txns
   batch_fits k loaded there = all_by (TxnFitsPlan p.pieces) loaded.batch.txns each
     where
       each : (i : ℕ) (txn : Txn) → slice_get loaded.batch.txns i ≡ Some txn → TxnFitsPlan p.pieces txn
       each i txn e = subst (λ (parts : PlanParts). TxnFitsPlan parts txn) keeps.parts (fits_plan job.parts txn (keeps.machine.fit (loaded.batch.first + i - job.first) txn (number (txn_there job.parts job.first (batches_of p) keeps.machine.run_on (loaded.batch.first + i) k i s ∙ e))))
         where
           s : Stands (batches_of p) (loaded.batch.first + i) k i
-          s = record { batch = loaded.batch; there = at_map (λ (l : Loaded). l.batch) p.batches.items k loaded there; inside = slice_get_within loaded.batch.txns i txn e; number = refl }
+          s = record { batch = loaded.batch; there = at_map (λ (l : LoadedBatch). l.batch) p.batches.items k loaded there; inside = slice_get_within loaded.batch.txns i txn e; number = refl }
 
           number : txn_at job.first (txns_of (batches_of p)) (loaded.batch.first + i) ≡ Some txn → slice_get (txns_of (batches_of p)) (loaded.batch.first + i - job.first) ≡ Some txn
           number h = go _ h
@@ -57,22 +57,22 @@ module _ (job : Job) (p : Progress) (keeps : KeepsProgress job p) where
     passed = subst (λ (edges : List (ℕ × ℕ)). WaitsForNothing edges p.sets.sets opened.set) edges_are opened.passed
 
     -- its batch is loaded
-    pub loaded_there : (l : Loaded) × (slice_get p.batches.items opened.set.batch ≡ Some l)
+    pub loaded_there : (l : LoadedBatch) × (slice_get p.batches.items opened.set.batch ≡ Some l)
     loaded_there =
         let set = set_at job p keeps at opened.set (Some opened.kept) opened.there in
-        let l = map_at (λ (l : Loaded). l.batch) p.batches.items opened.set.batch set.batch set.batch_there in
+        let l = map_at (λ (l : LoadedBatch). l.batch) p.batches.items opened.set.batch set.batch set.batch_there in
         (l.0, l.1)
 
     pub block_inside : opened.set.block < p.pieces.blocks
     block_inside = subst (λ (parts : PlanParts). opened.set.block < parts.blocks) keeps.parts (set_at job p keeps at opened.set (Some opened.kept) opened.there).inside
 
-    module _ (loaded : Loaded) (there : slice_get p.batches.items opened.set.batch ≡ Some loaded) where
+    module _ (loaded : LoadedBatch) (there : slice_get p.batches.items opened.set.batch ≡ Some loaded) where
       batch_there : slice_get (batches_of p) opened.set.batch ≡ Some loaded.batch
-      batch_there = at_map (λ (l : Loaded). l.batch) p.batches.items opened.set.batch loaded there
+      batch_there = at_map (λ (l : LoadedBatch). l.batch) p.batches.items opened.set.batch loaded there
 
       pub txns_are : (txns : List ℕ) → opened.kept ≡ Waiting txns → txns ≡ (set_of p.pieces loaded.batch.first loaded.batch.txns opened.set.block).txns
       txns_are txns e = subst (λ (parts : PlanParts). txns ≡ (set_of parts loaded.batch.first loaded.batch.txns opened.set.block).txns) keeps.parts
-          (keeps.stages at opened.set (Waiting txns) loaded.batch (opened.there ∙ ap (λ (s : Stage). Some (opened.set, Some s)) e) batch_there)
+          (keeps.stages at opened.set (Waiting txns) loaded.batch (opened.there ∙ ap (λ (s : SetStage). Some (opened.set, Some s)) e) batch_there)
 
       pub inputs_are : HasAllInputs p.pieces loaded opened.set.block
       inputs_are = record {
@@ -82,17 +82,17 @@ module _ (job : Job) (p : Progress) (keeps : KeepsProgress job p) where
             (has_txn_inputs job p keeps opened.set passed (loaded.batch.first + i) i
             (record { batch = loaded.batch; there = batch_there; inside = slice_get_within loaded.batch.txns i txn at_txn; number = refl })
             txn at_txn (set_at job p keeps at opened.set (Some opened.kept) opened.there).inside kept (values.each i txn kept at_txn at_kept) env
-            (subst (λ (parts : PlanParts). Finds parts opened.set.block txn kept env) (sym keeps.parts) finds));
+            (subst (λ (parts : PlanParts). FindsInputs parts opened.set.block txn kept env) (sym keeps.parts) finds));
       }
         where
-          values : KeepsBatch job.parts (present_of (replay_of job p)) loaded
+          values : KeepsBatch job.parts (present_of (replay_so_far job p)) loaded
           values = keeps.values opened.set.batch loaded there (at, opened.set, opened.kept, opened.there, refl)
 
     -- ---- it is opened
 
     module _ (opening : OpenSet) (is : IsOpeningOf p at opening) where
       set_same : opened.set ≡ is.set
-      set_same = ap (λ (x : Kept Stage). x.0) (same_Some _ _ (sym opened.there ∙ is.there))
+      set_same = ap (λ (x : Kept SetStage). x.0) (same_Some _ _ (sym opened.there ∙ is.there))
 
       passed_is : WaitsForNothing job.parts.edges p.sets.sets is.set
       passed_is = subst (WaitsForNothing job.parts.edges p.sets.sets) set_same passed
@@ -100,5 +100,5 @@ module _ (job : Job) (p : Progress) (keeps : KeepsProgress job p) where
       pub opened_keeps : KeepsProgress job (opened_at p at opening)
       opened_keeps = opens_keep job p keeps at is.set is.txns is.there passed_is is.loaded is.loaded_there opening is.fresh
 
-      pub opened_same : replay_of job (opened_at p at opening) ≡ replay_of job p
+      pub opened_same : replay_so_far job (opened_at p at opening) ≡ replay_so_far job p
       opened_same = same_replay job p keeps at is.set is.txns is.there passed_is is.loaded is.loaded_there opening is.fresh

@@ -32,14 +32,14 @@ use Rattle.pac_commute.specs.PlanLaws.{txns_of}
 use Rattle.pac_commute.proofs.FitLemmas.{env_is}
 use Rattle.pac_commute.proofs.PlanFacts.{inputs_plan}
 use Rattle.pac_commute.proofs.Steps.{holds_needs, in_tables}
-use Rattle.pac_core.specs.declared.loaded.Loaded.{Loaded}
+use Rattle.pac_core.specs.declared.loaded.LoadedBatch.{LoadedBatch}
 use Rattle.pac_core.specs.declared.progress.Progress.{Progress}
 use Rattle.pac_core.specs.declared.stage.OpenSet.{OpenSet}
-use Rattle.pac_core.specs.declared.stage.Stage.{Stage}
-use Rattle.pac_core.specs.declared.stage.Stage.TheVariants.{Waiting, Open}
+use Rattle.pac_core.specs.declared.stage.SetStage.{SetStage}
+use Rattle.pac_core.specs.declared.stage.SetStage.TheVariants.{Waiting, Open}
 use Rattle.pac_core.specs.Cells.{HasCellsOf}
-use Rattle.pac_core.specs.Inputs.{Finds}
-use Rattle.pac_core.specs.Links.{AreStages, IsOpened, IsStageOf, KeepsBatch, IsUnfinishedBatch, KeepsInputs, KeepsProgress, KeepsValues, batches_of, mark, mark_in, marked, piece_in, replay_of, set_of_piece}
+use Rattle.pac_core.specs.Inputs.{FindsInputs}
+use Rattle.pac_core.specs.Links.{AreStages, IsOpened, IsStageOf, KeepsBatch, IsUnfinishedBatch, KeepsInputs, KeepsProgress, KeepsValues, batches_of, mark, mark_in, pieces_marked, piece_in, replay_so_far, set_of_piece}
 use Rattle.pac_core.specs.Moves.{IsFreshlyOpen, access_over}
 use Rattle.pac_core.specs.Replay.{Replay, left, loaded_pieces, machine_of, present_of}
 use Rattle.pac_core.proofs.AccessInputs.{access_same}
@@ -53,7 +53,7 @@ use Rattle.pac_core.proofs.SetFacts.{Stands, batch_at, ops_at, txn_there}
 
 module _ (job : Job) (p : Progress) (keeps : KeepsProgress job p) where
   abbrev r : Replay
-  r = replay_of job p
+  r = replay_so_far job p
 
   abbrev m : Machine
   m = machine_of r
@@ -91,10 +91,10 @@ module _ (job : Job) (p : Progress) (keeps : KeepsProgress job p) where
         ∙ has_inputs id passed t i s x (ap (λ os. used_in os x) operations ∙ u) (ap (λ os. defined_in os x) operations ∙ d)
 
     -- and so is what the piece finds of them
-    pub found_inputs : (env : Values) → Finds job.parts id.block txn kept env → InputsAre (piece_ops job.parts id.block txn) (ends_at job m t) env
+    pub found_inputs : (env : Values) → FindsInputs job.parts id.block txn kept env → InputsAre (piece_ops job.parts id.block txn) (ends_at job m t) env
     found_inputs env finds x u d = finds x ∙ ap (λ b. cond b (get kept x) None) (and_both (used_in (piece_ops job.parts id.block txn) x) _ u (ap not d)) ∙ kept_inputs x u d
 
-    pub has_txn_inputs : (env : Values) → Finds job.parts id.block txn kept env → HasTxnInputs job.parts id.block txn env
+    pub has_txn_inputs : (env : Values) → FindsInputs job.parts id.block txn kept env → HasTxnInputs job.parts id.block txn env
     has_txn_inputs env finds =
         let end = env_is job.parts keeps.is_plan job.first (batches_of p) keeps.machine.run_on keeps.machine.fit job.tables keeps.fit t txn number in
         (end.0, end.1, subst (λ (e : Values). InputsAre (piece_ops job.parts id.block txn) e env) end.2 (found_inputs env finds))
@@ -106,7 +106,7 @@ module _ (job : Job) (p : Progress) (keeps : KeepsProgress job p) where
 -- ---- a set is opened
 
 module _ (job : Job) (p : Progress) (keeps : KeepsProgress job p) (at : ℕ) (id : SetId) (waiting : List ℕ) (there : slice_get p.sets.sets at ≡ Some (id, Some (Waiting waiting)))
-    (passed : WaitsForNothing job.parts.edges p.sets.sets id) (loaded : Loaded) (loaded_there : slice_get p.batches.items id.batch ≡ Some loaded)
+    (passed : WaitsForNothing job.parts.edges p.sets.sets id) (loaded : LoadedBatch) (loaded_there : slice_get p.batches.items id.batch ≡ Some loaded)
     (opening : OpenSet) (fresh : IsFreshlyOpen p.pieces loaded id.block waiting opening) where
   abbrev pub set : SetAt job p keeps at id (Some (Waiting waiting))
   set = set_at job p keeps at id (Some (Waiting waiting)) there
@@ -115,7 +115,7 @@ module _ (job : Job) (p : Progress) (keeps : KeepsProgress job p) (at : ℕ) (id
   ts = txns job p keeps at id (Some (Waiting waiting)) set
 
   same_batch : loaded.batch ≡ set.batch
-  same_batch = same_Some _ _ (sym (at_map (λ (l : Loaded). l.batch) p.batches.items id.batch loaded loaded_there) ∙ set.batch_there)
+  same_batch = same_Some _ _ (sym (at_map (λ (l : LoadedBatch). l.batch) p.batches.items id.batch loaded loaded_there) ∙ set.batch_there)
 
   same_txns : waiting ≡ ts
   same_txns = keeps.stages at id (Waiting waiting) set.batch there set.batch_there
@@ -153,11 +153,11 @@ module _ (job : Job) (p : Progress) (keeps : KeepsProgress job p) (at : ℕ) (id
       go (inl b) (inr c) = stays (λ e. c (ap (λ (x : SetId). x.block) e))
       go (inr b) c = stays (λ e. b (ap (λ (x : SetId). x.batch) e))
 
-  marked_stays : (test : PieceState → Bool) → marked test job (batches_of new) new.sets.sets ≡ marked test job (batches_of p) p.sets.sets
+  marked_stays : (test : PieceState → Bool) → pieces_marked test job (batches_of new) new.sets.sets ≡ pieces_marked test job (batches_of p) p.sets.sets
   marked_stays test = filter_alike (λ q. test (mark_in (batches_of new) new.sets.sets q)) (λ q. test (mark_in (batches_of p) p.sets.sets q)) (pieces_of job (batches_of p)) (λ q mem. ap test (marks_stay q))
 
   -- the replay is the same
-  pub same_replay : replay_of job new ≡ replay_of job p
+  pub same_replay : replay_so_far job new ≡ replay_so_far job p
   same_replay = λ i. record {
     job = job;
     batches = batches_of p;
@@ -168,13 +168,13 @@ module _ (job : Job) (p : Progress) (keeps : KeepsProgress job p) (at : ℕ) (id
 
   -- ---- what is kept
 
-  access_is : (t : ℕ) → Mem t ts → access_over p.pieces loaded id.block t ≡ access_at job (machine_of (replay_of job p)) (piece_in id.block t)
+  access_is : (t : ℕ) → Mem t ts → access_over p.pieces loaded id.block t ≡ access_at job (machine_of (replay_so_far job p)) (piece_in id.block t)
   access_is t mem = go (item_at set.batch.txns (t - set.batch.first) s.inside) (item_at loaded.kept.items (t - set.batch.first) kept_inside)
     where
       s : Stands (batches_of p) t id.batch (t - set.batch.first)
       s = stands_set job p keeps at id (Some (Waiting waiting)) set t mem
 
-      values : KeepsBatch job.parts (present_of (replay_of job p)) loaded
+      values : KeepsBatch job.parts (present_of (replay_so_far job p)) loaded
       values = keeps.values id.batch loaded loaded_there (at, id, Waiting waiting, there, refl)
 
       kept_inside : t - set.batch.first < length loaded.kept.items
@@ -184,7 +184,7 @@ module _ (job : Job) (p : Progress) (keeps : KeepsProgress job p) (at : ℕ) (id
       first_is = ap (λ (b : Batch). b.first) same_batch
 
       go : (x : Txn) × (slice_get set.batch.txns (t - set.batch.first) ≡ Some x) → (k : Values) × (slice_get loaded.kept.items (t - set.batch.first) ≡ Some k)
-          → access_over p.pieces loaded id.block t ≡ access_at job (machine_of (replay_of job p)) (piece_in id.block t)
+          → access_over p.pieces loaded id.block t ≡ access_at job (machine_of (replay_so_far job p)) (piece_in id.block t)
       go txn kept =
           let txn_is : slice_get loaded.batch.txns (t - loaded.batch.first) ≡ Some txn.0 = ap (λ (b : Batch). slice_get b.txns (t - b.first)) same_batch ∙ txn.1 in
           let kept_is : slice_get loaded.kept.items (t - loaded.batch.first) ≡ Some kept.0 = ap (λ (n : ℕ). slice_get loaded.kept.items (t - n)) first_is ∙ kept.1 in
@@ -193,25 +193,25 @@ module _ (job : Job) (p : Progress) (keeps : KeepsProgress job p) (at : ℕ) (id
           ∙ ap (λ o. access_of (part (txn_block job.parts o) id.block (txn_code job.parts o)) (unwrap_or (slice_get loaded.kept.items (t - loaded.batch.first)) empty)) txn_is
           ∙ ap (λ o. access_of (piece_ops job.parts id.block txn.0) (unwrap_or o empty)) kept_is
           ∙ sym (access_kept job p keeps id passed t (t - set.batch.first) s txn.0 txn.1 set.inside kept.0
-          (subst (λ (n : ℕ). KeepsInputs job.parts txn.0 kept.0 ((present_of (replay_of job p)).envs n)) number
+          (subst (λ (n : ℕ). KeepsInputs job.parts txn.0 kept.0 ((present_of (replay_so_far job p)).envs n)) number
           (values.each (t - set.batch.first) txn.0 kept.0 (ap (λ (b : Batch). slice_get b.txns (t - set.batch.first)) same_batch ∙ txn.1) kept.1)))
 
-  accesses_are : map (access_over p.pieces loaded id.block) waiting ≡ map (access_at job (machine_of (replay_of job p))) opening.sched.pieces
+  accesses_are : map (access_over p.pieces loaded id.block) waiting ≡ map (access_at job (machine_of (replay_so_far job p))) opening.sched.pieces
   accesses_are =
       ap (map (access_over p.pieces loaded id.block)) same_txns
       ∙ map_alike ts (λ t mem. access_is t mem)
-      ∙ sym (ap (map (access_at job (machine_of (replay_of job p)))) (fresh.pieces ∙ ap (map (piece_in id.block)) same_txns) ∙ map_both ts)
+      ∙ sym (ap (map (access_at job (machine_of (replay_so_far job p)))) (fresh.pieces ∙ ap (map (piece_in id.block)) same_txns) ∙ map_both ts)
     where
-      map_alike : (us : List ℕ) → ((t : ℕ) → Mem t us → access_over p.pieces loaded id.block t ≡ access_at job (machine_of (replay_of job p)) (piece_in id.block t))
-          → map (access_over p.pieces loaded id.block) us ≡ map (λ t. access_at job (machine_of (replay_of job p)) (piece_in id.block t)) us
+      map_alike : (us : List ℕ) → ((t : ℕ) → Mem t us → access_over p.pieces loaded id.block t ≡ access_at job (machine_of (replay_so_far job p)) (piece_in id.block t))
+          → map (access_over p.pieces loaded id.block) us ≡ map (λ t. access_at job (machine_of (replay_so_far job p)) (piece_in id.block t)) us
       map_alike [] same = refl
-      map_alike (u ∷ us) same = ap (λ x. x ∷ map (access_over p.pieces loaded id.block) us) (same u (inl refl)) ∙ ap (λ l. access_at job (machine_of (replay_of job p)) (piece_in id.block u) ∷ l) (map_alike us (λ t mem. same t (inr mem)))
+      map_alike (u ∷ us) same = ap (λ x. x ∷ map (access_over p.pieces loaded id.block) us) (same u (inl refl)) ∙ ap (λ l. access_at job (machine_of (replay_so_far job p)) (piece_in id.block u) ∷ l) (map_alike us (λ t mem. same t (inr mem)))
 
-      map_both : (us : List ℕ) → map (access_at job (machine_of (replay_of job p))) (map (piece_in id.block) us) ≡ map (λ t. access_at job (machine_of (replay_of job p)) (piece_in id.block t)) us
+      map_both : (us : List ℕ) → map (access_at job (machine_of (replay_so_far job p))) (map (piece_in id.block) us) ≡ map (λ t. access_at job (machine_of (replay_so_far job p)) (piece_in id.block t)) us
       map_both [] = refl
-      map_both (u ∷ us) = ap (λ l. access_at job (machine_of (replay_of job p)) (piece_in id.block u) ∷ l) (map_both us)
+      map_both (u ∷ us) = ap (λ l. access_at job (machine_of (replay_so_far job p)) (piece_in id.block u) ∷ l) (map_both us)
 
-  opened_is : IsOpened (replay_of job p) new.sets.sets id ts opening
+  opened_is : IsOpened (replay_so_far job p) new.sets.sets id ts opening
   opened_is = record {
     pieces = fresh.pieces ∙ ap (map (piece_in id.block)) same_txns;
     pairs = subst (λ l. AreNextPairs l opening.sched.pairs) accesses_are fresh.pairs;
@@ -241,21 +241,21 @@ module _ (job : Job) (p : Progress) (keeps : KeepsProgress job p) (at : ℕ) (id
       some_left zero lt = absurd (omega (arith, lt))
       some_left (suc n) lt = refl
 
-  stages_stay : AreStages (replay_of job p) new.sets.sets
+  stages_stay : AreStages (replay_so_far job p) new.sets.sets
   stages_stay j s stage batch here batch_there = go (equal_or_not j at)
     where
-      go : (j ≡ at) ⊎ (j ≡ at → ⊥) → IsStageOf (replay_of job p) new.sets.sets s (set_of job.parts batch.first batch.txns s.block).txns stage
+      go : (j ≡ at) ⊎ (j ≡ at → ⊥) → IsStageOf (replay_so_far job p) new.sets.sets s (set_of job.parts batch.first batch.txns s.block).txns stage
       go (inl e) =
           let same = same_Some _ _ (sym (get_changed p.sets.sets at (id, Some (Waiting waiting)) (Some (Open opening)) there) ∙ ap (slice_get new.sets.sets) (sym e) ∙ here) in
-          let id_is : id ≡ s = ap (λ (x : Kept Stage). x.0) same in
-          let stage_is : Open opening ≡ stage = same_Some _ _ (ap (λ (x : Kept Stage). x.1) same) in
+          let id_is : id ≡ s = ap (λ (x : Kept SetStage). x.0) same in
+          let stage_is : Open opening ≡ stage = same_Some _ _ (ap (λ (x : Kept SetStage). x.1) same) in
           let batch_is : set.batch ≡ batch = same_Some _ _ (sym set.batch_there ∙ ap (λ (x : SetId). slice_get (batches_of p) x.batch) id_is ∙ batch_there) in
-          subst (λ (x : Stage). IsStageOf (replay_of job p) new.sets.sets s (set_of job.parts batch.first batch.txns s.block).txns x) stage_is
-          (subst (λ (x : SetId). IsOpened (replay_of job p) new.sets.sets x (set_of job.parts batch.first batch.txns x.block).txns opening) id_is
-          (subst (λ (b : Batch). IsOpened (replay_of job p) new.sets.sets id (set_of job.parts b.first b.txns id.block).txns opening) batch_is opened_is))
+          subst (λ (x : SetStage). IsStageOf (replay_so_far job p) new.sets.sets s (set_of job.parts batch.first batch.txns s.block).txns x) stage_is
+          (subst (λ (x : SetId). IsOpened (replay_so_far job p) new.sets.sets x (set_of job.parts batch.first batch.txns x.block).txns opening) id_is
+          (subst (λ (b : Batch). IsOpened (replay_so_far job p) new.sets.sets id (set_of job.parts b.first b.txns id.block).txns opening) batch_is opened_is))
       go (inr differ) = still stage (keeps.stages j s stage batch (sym (get_other p.sets.sets at j (Some (Open opening)) differ) ∙ here) batch_there)
         where
-          still : (x : Stage) → IsStageOf (replay_of job p) p.sets.sets s (set_of job.parts batch.first batch.txns s.block).txns x → IsStageOf (replay_of job p) new.sets.sets s (set_of job.parts batch.first batch.txns s.block).txns x
+          still : (x : SetStage) → IsStageOf (replay_so_far job p) p.sets.sets s (set_of job.parts batch.first batch.txns s.block).txns x → IsStageOf (replay_so_far job p) new.sets.sets s (set_of job.parts batch.first batch.txns s.block).txns x
           still (Waiting w) is = is
           still (Open o) is = record {
             pieces = is.pieces;
@@ -273,7 +273,7 @@ module _ (job : Job) (p : Progress) (keeps : KeepsProgress job p) (at : ℕ) (id
       go : (j ≡ at) ⊎ (j ≡ at → ⊥) → IsUnfinishedBatch p.sets.sets k
       go (inl e) =
           let same = same_Some _ _ (sym (get_changed p.sets.sets at (id, Some (Waiting waiting)) (Some (Open opening)) there) ∙ ap (slice_get new.sets.sets) (sym e) ∙ here) in
-          (at, id, Waiting waiting, there, ap (λ (x : Kept Stage). x.0.batch) same ∙ batch)
+          (at, id, Waiting waiting, there, ap (λ (x : Kept SetStage). x.0.batch) same ∙ batch)
       go (inr differ) = (j, s, stage, sym (get_other p.sets.sets at j (Some (Open opening)) differ) ∙ here, batch)
 
   -- all is kept

@@ -12,11 +12,11 @@ use Rattle.pac_sets.proofs.SetLemmas.{kept_there}
 use Rattle.pac_commute.specs.Loads.{Job}
 use Rattle.pac_commute.specs.Machine.{among}
 use Rattle.pac_commute.proofs.Steps.{among_mem}
-use Rattle.pac_core.specs.declared.loaded.Loaded.{Loaded}
+use Rattle.pac_core.specs.declared.loaded.LoadedBatch.{LoadedBatch}
 use Rattle.pac_core.specs.declared.progress.Progress.{Progress}
 use Rattle.pac_core.specs.declared.stage.OpenSet.{OpenSet}
-use Rattle.pac_core.specs.declared.stage.Stage.TheVariants.{Open}
-use Rattle.pac_core.specs.Links.{KeepsProgress, batches_of, mark, mark_in, replay_of, set_of_piece}
+use Rattle.pac_core.specs.declared.stage.SetStage.TheVariants.{Open}
+use Rattle.pac_core.specs.Links.{KeepsProgress, batches_of, mark, mark_in, replay_so_far, set_of_piece}
 use Rattle.pac_core.specs.Places.{IsNotOutOf, IsPieceIn, IsTxnIn, IsTxnNowhere}
 use Rattle.pac_core.specs.Replay.{Replay, loaded_pieces}
 use Rattle.pac_core.proofs.Lists.{at_map, filter_of, map_at}
@@ -35,7 +35,7 @@ found_out p at piece set opening there is (Some i) e = record { set = set; openi
 
 module _ (job : Job) (p : Progress) (keeps : KeepsProgress job p) (piece : PieceId) where
   abbrev r : Replay
-  r = replay_of job p
+  r = replay_so_far job p
 
   -- what is out is loaded
   out_loaded : among r.out piece ≡ true → Mem piece (loaded_pieces r)
@@ -44,7 +44,7 @@ module _ (job : Job) (p : Progress) (keeps : KeepsProgress job p) (piece : Piece
   -- the transaction of a loaded piece is there
   stands_there : (q : Placed job p keeps piece) → IsTxnIn p.batches.items piece.txn q.k q.i
   stands_there q =
-      let l = map_at (λ (l : Loaded). l.batch) p.batches.items q.k q.stands.batch q.stands.there in
+      let l = map_at (λ (l : LoadedBatch). l.batch) p.batches.items q.k q.stands.batch q.stands.there in
       record {
         loaded = l.0;
         there = l.1;
@@ -59,7 +59,7 @@ module _ (job : Job) (p : Progress) (keeps : KeepsProgress job p) (piece : Piece
     -- its batch is the one
     batch_same : (q : Placed job p keeps piece) → q.k ≡ b
     batch_same q =
-        let s : Stands (batches_of p) piece.txn b i = record { batch = is.loaded.batch; there = at_map (λ (l : Loaded). l.batch) p.batches.items b is.loaded is.there; inside = is.inside; number = is.number } in
+        let s : Stands (batches_of p) piece.txn b i = record { batch = is.loaded.batch; there = at_map (λ (l : LoadedBatch). l.batch) p.batches.items b is.loaded is.there; inside = is.inside; number = is.number } in
         let own = batch_at job.parts job.first (batches_of p) keeps.machine.run_on piece.txn q.k q.i q.stands in
         let other = batch_at job.parts job.first (batches_of p) keeps.machine.run_on piece.txn b i s in
         omega (arith, own, other)

@@ -48,7 +48,7 @@ use Rattle.pac_commute.proofs.Laws.{other_env, written_env}
 use Rattle.pac_commute.proofs.PlanFacts.{well_formed_plan}
 use Rattle.pac_commute.proofs.Steps.{outs_have_inputs}
 use Rattle.pac_commute.proofs.WorkLemmas.{fresh_law, get-with_value, work_is_apply}
-use Rattle.pac_core.specs.Inputs.{Finds}
+use Rattle.pac_core.specs.Inputs.{FindsInputs}
 use Rattle.pac_core.specs.Results.{IsGiven}
 use Rattle.pac_core.proofs.Unnumbered.{code_changes, code_gives, record_named}
 
@@ -170,7 +170,7 @@ written_same (v ∷ vs) a one other e =
 
 module _ (job : Job) (is_plan : IsPlan job.parts) (m : Machine) (inv : Invariant job m) (p : PieceId) (preds : PredsFinished job m p) (unfinished : among m.finished p ≡ false)
     (txn : Txn) (there : txn_at job.first (txns_of m.batches) p.txn ≡ Some txn) (fits : TxnFitsPlan job.parts txn)
-    (env : Values) (finds : Finds job.parts p.block txn (m.now.envs p.txn) env)
+    (env : Values) (finds : FindsInputs job.parts p.block txn (m.now.envs p.txn) env)
     (base : Tables) (alike : (a : Cell) → covers (access_at job m p) a ≡ true → get base a ≡ get m.now.tables a)
     (writes_made : List Write) (outs : Values) (note : Option Note) (value : IsValueOver p.txn (code_in job.parts p.block txn) env base writes_made outs note) where
   abbrev pub w : World

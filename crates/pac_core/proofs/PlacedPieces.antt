@@ -20,25 +20,25 @@ use Rattle.pac_commute.specs.Machine.{Machine, access_at, among}
 use Rattle.pac_commute.specs.PartialFits.{TxnIsOfPlan}
 use Rattle.pac_commute.specs.PlanLaws.{txns_of}
 use Rattle.pac_core.specs.declared.cells.PieceCells.{PieceCells}
-use Rattle.pac_core.specs.declared.loaded.Loaded.{Loaded}
+use Rattle.pac_core.specs.declared.loaded.LoadedBatch.{LoadedBatch}
 use Rattle.pac_core.specs.declared.place.Place.{Place}
 use Rattle.pac_core.specs.declared.progress.Progress.{Progress}
 use Rattle.pac_core.specs.declared.stage.OpenSet.{OpenSet}
-use Rattle.pac_core.specs.declared.stage.Stage.{Stage}
-use Rattle.pac_core.specs.declared.stage.Stage.TheVariants.{Open}
+use Rattle.pac_core.specs.declared.stage.SetStage.{SetStage}
+use Rattle.pac_core.specs.declared.stage.SetStage.TheVariants.{Open}
 use Rattle.pac_core.specs.Cells.{AreOf}
-use Rattle.pac_core.specs.Inputs.{Finds, is_found}
-use Rattle.pac_core.specs.Links.{IsOpened, KeepsBatch, KeepsInputs, KeepsProgress, batches_of, mark_in, piece_in, replay_of}
-use Rattle.pac_core.specs.Places.{AreCellsAt, AreValuesAt, IsPlaced, IsTxnAt}
+use Rattle.pac_core.specs.Inputs.{FindsInputs, is_found}
+use Rattle.pac_core.specs.Links.{IsOpened, KeepsBatch, KeepsInputs, KeepsProgress, batches_of, mark_in, piece_in, replay_so_far}
+use Rattle.pac_core.specs.Places.{AreCellsAt, AreValuesAt, IsPieceAt, IsTxnAt}
 use Rattle.pac_core.specs.Replay.{Replay, loaded_pieces, machine_of, present_of}
 use Rattle.pac_core.proofs.Lists.{at_map, at_mem, map_at}
 use Rattle.pac_core.proofs.Marks.{finished_is, fits_plan, out_is}
 use Rattle.pac_core.proofs.Ready.{SetAt, mark_at, own_piece, set_at, txns}
 use Rattle.pac_core.proofs.SetFacts.{Stands, txn_there}
 
-module _ (job : Job) (p : Progress) (keeps : KeepsProgress job p) (place : Place) (piece : PieceId) (far : PieceState) (at : IsPlaced p place piece far) where
+module _ (job : Job) (p : Progress) (keeps : KeepsProgress job p) (place : Place) (piece : PieceId) (far : PieceState) (at : IsPieceAt p place piece far) where
   abbrev pub r : Replay
-  r = replay_of job p
+  r = replay_so_far job p
 
   abbrev pub m : Machine
   m = machine_of r
@@ -91,11 +91,11 @@ module _ (job : Job) (p : Progress) (keeps : KeepsProgress job p) (place : Place
 
   -- ---- its transaction
 
-  abbrev pub loaded : Loaded
+  abbrev pub loaded : LoadedBatch
   loaded = at.txn.loaded
 
   pub batch_there : slice_get (batches_of p) place.batch ≡ Some loaded.batch
-  batch_there = at_map (λ (l : Loaded). l.batch) p.batches.items place.batch loaded at.txn.there
+  batch_there = at_map (λ (l : LoadedBatch). l.batch) p.batches.items place.batch loaded at.txn.there
 
   abbrev pub stands_at : Stands (batches_of p) piece.txn place.batch place.index
   stands_at = record { batch = loaded.batch; there = batch_there; inside = at.txn.inside; number = at.txn.number }
@@ -114,7 +114,7 @@ module _ (job : Job) (p : Progress) (keeps : KeepsProgress job p) (place : Place
 
   module _ (txn : Txn) (txn_is : IsTxnAt p place txn) where
     pub in_batch : slice_get loaded.batch.txns place.index ≡ Some txn
-    in_batch = ap (λ (l : Loaded). slice_get l.batch.txns place.index) (same_Some _ _ (sym at.txn.there ∙ txn_is.1)) ∙ txn_is.2
+    in_batch = ap (λ (l : LoadedBatch). slice_get l.batch.txns place.index) (same_Some _ _ (sym at.txn.there ∙ txn_is.1)) ∙ txn_is.2
 
     pub in_set_batch : slice_get set.batch.txns place.index ≡ Some txn
     in_set_batch = ap (λ (b : Batch). slice_get b.txns place.index) set_batch ∙ in_batch
@@ -142,20 +142,20 @@ module _ (job : Job) (p : Progress) (keeps : KeepsProgress job p) (place : Place
       values = keeps.values place.batch loaded at.txn.there (place.at, id, Open opening, at.stands.there, batch_is)
 
       pub before_is : slice_get loaded.kept.items place.index ≡ Some kept
-      before_is = ap (λ (l : Loaded). slice_get l.kept.items place.index) (same_Some _ _ (sym at.txn.there ∙ kept_is.1)) ∙ kept_is.2
+      before_is = ap (λ (l : LoadedBatch). slice_get l.kept.items place.index) (same_Some _ _ (sym at.txn.there ∙ kept_is.1)) ∙ kept_is.2
 
       pub inputs : KeepsInputs job.parts txn kept ((present_of r).envs piece.txn)
       inputs = subst (λ (t : ℕ). KeepsInputs job.parts txn kept ((present_of r).envs t)) (sym at.txn.number) (values.each place.index txn kept in_batch before_is)
 
       -- what a piece finds of them it finds of those of now
-      pub finds_now : (env : Values) → Finds job.parts piece.block txn kept env → Finds job.parts piece.block txn ((present_of r).envs piece.txn) env
+      pub finds_now : (env : Values) → FindsInputs job.parts piece.block txn kept env → FindsInputs job.parts piece.block txn ((present_of r).envs piece.txn) env
       finds_now env finds x = finds x ∙ go (is_found job.parts piece.block txn x) refl
         where
           go : (b : Bool) → is_found job.parts piece.block txn x ≡ b → cond b (get kept x) None ≡ cond b (get ((present_of r).envs piece.txn) x) None
           go true f = inputs piece.block x block_inside f
           go false f = refl
 
-      pub finds_kept : (env : Values) → Finds job.parts piece.block txn ((present_of r).envs piece.txn) env → Finds job.parts piece.block txn kept env
+      pub finds_kept : (env : Values) → FindsInputs job.parts piece.block txn ((present_of r).envs piece.txn) env → FindsInputs job.parts piece.block txn kept env
       finds_kept env finds x = finds x ∙ go (is_found job.parts piece.block txn x) refl
         where
           go : (b : Bool) → is_found job.parts piece.block txn x ≡ b → cond b (get ((present_of r).envs piece.txn) x) None ≡ cond b (get kept x) None
@@ -179,9 +179,9 @@ module _ (job : Job) (p : Progress) (keeps : KeepsProgress job p) (place : Place
   cells_are cells is =
       let s = stands opening.sched piece place.position at.stands.position_is in
       let there : slice_get opening.sched.pieces place.position ≡ Some piece = slice_get-get_or opening.sched.pieces place.position piece s.0 ∙ ap (λ x. Some x) s.1 in
-      let same : Open is.1 ≡ Open opening = same_Some _ _ (ap (λ (x : SetId × Option Stage). x.1) (same_Some _ _ (sym is.2 ∙ at.stands.there))) in
+      let same : Open is.1 ≡ Open opening = same_Some _ _ (ap (λ (x : SetId × Option SetStage). x.1) (same_Some _ _ (sym is.2 ∙ at.stands.there))) in
       opened.cells.each place.position (access_at job m piece) cells (at_map (access_at job m) opening.sched.pieces place.position piece there)
       (ap (λ (o : OpenSet). slice_get o.cells.items place.position) (sym (opens same)) ∙ is.3)
     where
-      opens : {a b : OpenSet} → ◌≡◌ {A = Stage} (Open a) (Open b) → a ≡ b
+      opens : {a b : OpenSet} → ◌≡◌ {A = SetStage} (Open a) (Open b) → a ≡ b
       opens e = cc

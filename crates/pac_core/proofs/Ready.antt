@@ -33,9 +33,9 @@ use Rattle.pac_commute.specs.Machine.{Machine, among, access_at, ends_at, world_
 use Rattle.pac_commute.specs.PlanLaws.{numbers_of, planned, txns_of}
 use Rattle.pac_core.specs.declared.progress.Progress.{Progress}
 use Rattle.pac_core.specs.declared.stage.OpenSet.{OpenSet}
-use Rattle.pac_core.specs.declared.stage.Stage.{Stage}
-use Rattle.pac_core.specs.declared.stage.Stage.TheVariants.{Waiting, Open}
-use Rattle.pac_core.specs.Links.{IsOpened, KeepsProgress, batches_of, mark, mark_in, piece_in, replay_of}
+use Rattle.pac_core.specs.declared.stage.SetStage.{SetStage}
+use Rattle.pac_core.specs.declared.stage.SetStage.TheVariants.{Waiting, Open}
+use Rattle.pac_core.specs.Links.{IsOpened, KeepsProgress, batches_of, mark, mark_in, piece_in, replay_so_far}
 use Rattle.pac_core.specs.Replay.{Replay, loaded_pieces, machine_of}
 use Rattle.pac_core.proofs.Ascending.{order_of, position_in, rises_at, set_rises}
 use Rattle.pac_core.proofs.Lists.{at_map, at_mem, map_in, mem_at}
@@ -80,7 +80,7 @@ waits state.Finished out finished = absurd (true≢false finished)
 
 module _ (job : Job) (p : Progress) (keeps : KeepsProgress job p) where
   abbrev r : Replay
-  r = replay_of job p
+  r = replay_so_far job p
 
   abbrev m : Machine
   m = machine_of r
@@ -103,16 +103,16 @@ module _ (job : Job) (p : Progress) (keeps : KeepsProgress job p) where
   -- ---- the pieces of one set
 
   -- what is known of the set at an offset
-  pub record SetAt (at : ℕ) (id : SetId) (kept : Option Stage) : Type 0 where
+  pub record SetAt (at : ℕ) (id : SetId) (kept : Option SetStage) : Type 0 where
     pub there : slice_get p.sets.sets at ≡ Some (id, kept)
     pub batch : Batch
     pub batch_there : slice_get (batches_of p) id.batch ≡ Some batch
     pub inside : id.block < job.parts.blocks
     pub some : has_txns (set_of job.parts batch.first batch.txns id.block) ≡ true
 
-  pub set_at : (at : ℕ) (id : SetId) (kept : Option Stage) → slice_get p.sets.sets at ≡ Some (id, kept) → SetAt at id kept
+  pub set_at : (at : ℕ) (id : SetId) (kept : Option SetStage) → slice_get p.sets.sets at ≡ Some (id, kept) → SetAt at id kept
   set_at at id kept there =
-      let is = id_of job.parts 0 (batches_of p) id (subst (λ l. Mem id l) keeps.sets (map_in (λ (set : Kept Stage). set.0) p.sets.sets (id, kept) (at_mem p.sets.sets at (id, kept) there))) in
+      let is = id_of job.parts 0 (batches_of p) id (subst (λ l. Mem id l) keeps.sets (map_in (λ (set : Kept SetStage). set.0) p.sets.sets (id, kept) (at_mem p.sets.sets at (id, kept) there))) in
       record {
         there = there;
         batch = is.batch;
@@ -121,7 +121,7 @@ module _ (job : Job) (p : Progress) (keeps : KeepsProgress job p) where
         some = is.some;
       }
 
-  module _ (at : ℕ) (id : SetId) (kept : Option Stage) (set : SetAt at id kept) where
+  module _ (at : ℕ) (id : SetId) (kept : Option SetStage) (set : SetAt at id kept) where
     abbrev pub txns : List ℕ
     txns = (set_of job.parts set.batch.first set.batch.txns id.block).txns
 
@@ -159,7 +159,7 @@ module _ (job : Job) (p : Progress) (keeps : KeepsProgress job p) where
     own_index t mem = mem_at txns t mem
 
   -- a piece whose set is this one
-  pub placed_here : (q : PieceId) (place : Placed job p keeps q) (at : ℕ) (id : SetId) (kept : Option Stage) (set : SetAt at id kept) → id.batch ≡ place.k → id.block ≡ q.block
+  pub placed_here : (q : PieceId) (place : Placed job p keeps q) (at : ℕ) (id : SetId) (kept : Option SetStage) (set : SetAt at id kept) → id.batch ≡ place.k → id.block ≡ q.block
       → Mem q.txn (txns at id kept set)
   placed_here q place at id kept set batch block =
       let same : place.stands.batch ≡ set.batch = same_Some _ _ (sym place.stands.there ∙ ap (slice_get (batches_of p)) (sym batch) ∙ set.batch_there) in
@@ -344,7 +344,7 @@ module _ (job : Job) (p : Progress) (keeps : KeepsProgress job p) where
   -- ---- sets that are not open
 
   -- an unfinished set has an unfinished piece
-  some_left : (at : ℕ) (id : SetId) (stage : Stage) (set : SetAt at id (Some stage)) → (t : ℕ) × Mem t (txns at id (Some stage) set) × (among r.finished (piece_in id.block t) ≡ false)
+  some_left : (at : ℕ) (id : SetId) (stage : SetStage) (set : SetAt at id (Some stage)) → (t : ℕ) × Mem t (txns at id (Some stage) set) × (among r.finished (piece_in id.block t) ≡ false)
   some_left at id (Waiting waiting) set =
       let t = one_of (txns at id (Some (Waiting waiting)) set) set.some in
       (t.0, t.1, finished_is job p keeps (piece_in id.block t.0) (own_piece at id (Some (Waiting waiting)) set t.0 t.1) ∙ ap is_finished (own_mark at id (Some (Waiting waiting)) set t.0 t.1))
@@ -370,7 +370,7 @@ module _ (job : Job) (p : Progress) (keeps : KeepsProgress job p) where
       passed : WaitsForNothing job.parts.edges p.sets.sets id
       passed other wait = at_kept (kept_of other p.sets.sets) refl
         where
-          at_kept : (o : Option Stage) → kept_of other p.sets.sets ≡ o → o ≡ None
+          at_kept : (o : Option SetStage) → kept_of other p.sets.sets ≡ o → o ≡ None
           at_kept None e = refl
           at_kept (Some stage) e =
               let found = there_kept p.sets.sets keeps.ascend other stage e in
@@ -387,6 +387,6 @@ module _ (job : Job) (p : Progress) (keeps : KeepsProgress job p) where
                   by (inl edge) = ByEdge (batch ∙ edge.0) (subst (λ b. Contains job.parts.edges (b, q.block)) (sym block) edge.1)
                   by (inr earlier) = ByBatch (block ∙ earlier.0) (let lt = earlier.1 in omega (arith, lt, batch))
 
-      go : (o : Option Stage) → slice_get p.sets.sets place.at ≡ Some (id, o) → mark_in (batches_of p) p.sets.sets q ≡ mark o q → IsOpenSet job.parts.edges p.sets.sets place.at
+      go : (o : Option SetStage) → slice_get p.sets.sets place.at ≡ Some (id, o) → mark_in (batches_of p) p.sets.sets q ≡ mark o q → IsOpenSet job.parts.edges p.sets.sets place.at
       go None there is = absurd (true≢false (sym (finished_is job p keeps q ready.0 ∙ ap is_finished is) ∙ ready.2))
       go (Some stage) there is = record { set = id; kept = stage; there = there; passed = passed }

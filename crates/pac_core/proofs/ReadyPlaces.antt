@@ -10,23 +10,23 @@ use Rattle.pac_sched.proofs.CallLemmas.{ready_waits}
 use Rattle.pac_sched.proofs.PickLemmas.{picks_first, stands}
 use Rattle.pac_sets.specs.declared.set_id.SetId.{SetId}
 use Rattle.pac_commute.specs.Loads.{Job}
-use Rattle.pac_core.specs.declared.loaded.Loaded.{Loaded}
+use Rattle.pac_core.specs.declared.loaded.LoadedBatch.{LoadedBatch}
 use Rattle.pac_core.specs.declared.progress.Progress.{Progress}
 use Rattle.pac_core.specs.declared.stage.OpenSet.{OpenSet}
-use Rattle.pac_core.specs.declared.stage.Stage.{Stage}
-use Rattle.pac_core.specs.declared.stage.Stage.TheVariants.{Open}
+use Rattle.pac_core.specs.declared.stage.SetStage.{SetStage}
+use Rattle.pac_core.specs.declared.stage.SetStage.TheVariants.{Open}
 use Rattle.pac_core.specs.Links.{KeepsProgress, batches_of, piece_in}
 use Rattle.pac_core.specs.Moves.{IsReadyAtOffset}
-use Rattle.pac_core.specs.Places.{IsOpenAt, IsPlaced}
+use Rattle.pac_core.specs.Places.{IsOpenAt, IsPieceAt}
 use Rattle.pac_core.proofs.Lists.{at_mem, map_at}
 use Rattle.pac_core.proofs.Ready.{SetAt, set_at, stands_set, txns}
 use Rattle.pac_core.proofs.SetFacts.{Stands}
 
 -- the open set at an offset is one
 pub same_open : (p : Progress) (at : ℕ) (set : SetId) (opening other : OpenSet) → slice_get p.sets.sets at ≡ Some (set, Some (Open opening)) → IsOpenAt p at other → other ≡ opening
-same_open p at set opening other there is = opens (same_Some _ _ (ap (λ (x : SetId × Option Stage). x.1) (same_Some _ _ (sym is.1 ∙ there))))
+same_open p at set opening other there is = opens (same_Some _ _ (ap (λ (x : SetId × Option SetStage). x.1) (same_Some _ _ (sym is.1 ∙ there))))
   where
-    opens : {a b : OpenSet} → ◌≡◌ {A = Stage} (Open a) (Open b) → a ≡ b
+    opens : {a b : OpenSet} → ◌≡◌ {A = SetStage} (Open a) (Open b) → a ≡ b
     opens e = cc
 
 module _ (job : Job) (p : Progress) (keeps : KeepsProgress job p) (at : ℕ) (piece : PieceId) (ready : IsReadyAtOffset p at piece) where
@@ -63,15 +63,15 @@ module _ (job : Job) (p : Progress) (keeps : KeepsProgress job p) (at : ℕ) (pi
   txn_is : found.0 ≡ piece.txn
   txn_is = ap (λ (q : PieceId). q.txn) found.2
 
-  pub loaded_there : (l : Loaded) × (slice_get p.batches.items id.batch ≡ Some l) × (l.batch ≡ set.batch)
-  loaded_there = map_at (λ (l : Loaded). l.batch) p.batches.items id.batch set.batch set.batch_there
+  pub loaded_there : (l : LoadedBatch) × (slice_get p.batches.items id.batch ≡ Some l) × (l.batch ≡ set.batch)
+  loaded_there = map_at (λ (l : LoadedBatch). l.batch) p.batches.items id.batch set.batch set.batch_there
 
   stands_in : Stands (batches_of p) found.0 id.batch (found.0 - set.batch.first)
   stands_in = stands_set job p keeps at id (Some (Open opening)) set found.0 (at_mem ts position_there.0 found.0 found.1)
 
-  module _ (l : Loaded) (there : slice_get p.batches.items id.batch ≡ Some l) where
+  module _ (l : LoadedBatch) (there : slice_get p.batches.items id.batch ≡ Some l) where
     same_batch : l.batch ≡ set.batch
-    same_batch = ap (λ (x : Loaded). x.batch) (same_Some _ _ (sym there ∙ loaded_there.1)) ∙ loaded_there.2
+    same_batch = ap (λ (x : LoadedBatch). x.batch) (same_Some _ _ (sym there ∙ loaded_there.1)) ∙ loaded_there.2
 
     pub begins : l.batch.first ≤ piece.txn
     begins =
@@ -82,7 +82,7 @@ module _ (job : Job) (p : Progress) (keeps : KeepsProgress job p) (at : ℕ) (pi
         let txn = txn_is in
         omega (arith, first, number, txn)
 
-    pub placed_ready : (i : ℕ) → position_of opening.sched piece ≡ Some i → IsPlaced p (record { at = at; position = i; batch = id.batch; index = piece.txn - l.batch.first }) piece Waiting
+    pub placed_ready : (i : ℕ) → position_of opening.sched piece ≡ Some i → IsPieceAt p (record { at = at; position = i; batch = id.batch; index = piece.txn - l.batch.first }) piece Waiting
     placed_ready i at_i = record {
       txn = record {
         loaded = l;

@@ -23,9 +23,9 @@ use Rattle.pac_commute.specs.Loads.{Job, pieces_of}
 use Rattle.pac_commute.specs.Machine.{Invariant}
 use Rattle.pac_core.specs.declared.progress.Progress.{Progress}
 use Rattle.pac_core.specs.declared.stage.OpenSet.{OpenSet}
-use Rattle.pac_core.specs.declared.stage.Stage.{Stage}
-use Rattle.pac_core.specs.declared.stage.Stage.TheVariants.{Waiting, Open}
-use Rattle.pac_core.specs.Links.{AreStages, IsStageOf, IsUnfinishedBatch, KeepsBatch, KeepsProgress, KeepsValues, batches_of, mark, mark_in, marked, replay_of, set_of_piece}
+use Rattle.pac_core.specs.declared.stage.SetStage.{SetStage}
+use Rattle.pac_core.specs.declared.stage.SetStage.TheVariants.{Waiting, Open}
+use Rattle.pac_core.specs.Links.{AreStages, IsStageOf, IsUnfinishedBatch, KeepsBatch, KeepsProgress, KeepsValues, batches_of, mark, mark_in, pieces_marked, replay_so_far, set_of_piece}
 use Rattle.pac_core.specs.Moves.{reclaimed_kept, reclaimed_sets, reclaimed_stage}
 use Rattle.pac_core.specs.Replay.{Replay, left, loaded_pieces, machine_of, present_of, with_none_out}
 use Rattle.pac_core.proofs.Alike.{invariant_is, present_is}
@@ -33,25 +33,25 @@ use Rattle.pac_core.proofs.Lists.{filter_alike, filter_of, map_at}
 
 -- ---- lists of sets
 
-abbrev back : Kept Stage → Kept Stage
+abbrev back : Kept SetStage → Kept SetStage
 back set = (set.0, reclaimed_kept set.1)
 
-ids_same : (sets : List (Kept Stage)) → map (λ (set : Kept Stage). set.0) (reclaimed_sets sets) ≡ map (λ (set : Kept Stage). set.0) sets
+ids_same : (sets : List (Kept SetStage)) → map (λ (set : Kept SetStage). set.0) (reclaimed_sets sets) ≡ map (λ (set : Kept SetStage). set.0) sets
 ids_same [] = refl
 ids_same (s ∷ ss) = ap (λ l. s.0 ∷ l) (ids_same ss)
 
-below_same : (id : SetId) (sets : List (Kept Stage)) → below_all set_cmp id (reclaimed_sets sets) ≡ below_all set_cmp id sets
+below_same : (id : SetId) (sets : List (Kept SetStage)) → below_all set_cmp id (reclaimed_sets sets) ≡ below_all set_cmp id sets
 below_same id [] = refl
 below_same id (s ∷ ss) = ap (λ b. is_lt (set_cmp id s.0) && b) (below_same id ss)
 
-sorted_same : (sets : List (Kept Stage)) → is_sorted set_cmp (reclaimed_sets sets) ≡ is_sorted set_cmp sets
+sorted_same : (sets : List (Kept SetStage)) → is_sorted set_cmp (reclaimed_sets sets) ≡ is_sorted set_cmp sets
 sorted_same [] = refl
 sorted_same (s ∷ ss) = ap₂ (λ a b. a && b) (below_same s.0 ss) (sorted_same ss)
 
 -- ---- marks
 
 -- a piece that was out waits
-mark_back : (kept : Option Stage) (q : PieceId) → mark (reclaimed_kept kept) q ≡ put_back (mark kept q)
+mark_back : (kept : Option SetStage) (q : PieceId) → mark (reclaimed_kept kept) q ≡ put_back (mark kept q)
 mark_back None q = refl
 mark_back (Some (Waiting txns)) q = refl
 mark_back (Some (Open opening)) q = go (position_of opening.sched q)
@@ -80,7 +80,7 @@ all_still (s ∷ ss) = ap₂ (λ a b. a && b) (still_finished s) (all_still ss)
 
 module _ (job : Job) (p : Progress) (keeps : KeepsProgress job p) (orders : (j : ℕ) (set : SetId) (opening : OpenSet) → slice_get p.sets.sets j ≡ Some (set, Some (Open opening)) → IsInOrder (reclaimed opening.sched)) where
   abbrev r : Replay
-  r = replay_of job p
+  r = replay_so_far job p
 
   abbrev pub new : Progress
   new = record p { sets = record p.sets { sets = reclaimed_sets p.sets.sets } }
@@ -88,14 +88,14 @@ module _ (job : Job) (p : Progress) (keeps : KeepsProgress job p) (orders : (j :
   up : T (is_sorted set_cmp (reclaimed_sets p.sets.sets))
   up = subst T (sym (sorted_same p.sets.sets)) keeps.ascend
 
-  at_back : (j : ℕ) (id : SetId) (kept : Option Stage) → slice_get p.sets.sets j ≡ Some (id, kept) → slice_get (reclaimed_sets p.sets.sets) j ≡ Some (id, reclaimed_kept kept)
+  at_back : (j : ℕ) (id : SetId) (kept : Option SetStage) → slice_get p.sets.sets j ≡ Some (id, kept) → slice_get (reclaimed_sets p.sets.sets) j ≡ Some (id, reclaimed_kept kept)
   at_back j id kept e = slice_get-map back p.sets.sets j ∙ ap (option_map back) e
 
   -- what is kept of a set
   kept_back : (s : SetId) → kept_of s (reclaimed_sets p.sets.sets) ≡ reclaimed_kept (kept_of s p.sets.sets)
   kept_back s = go (kept_of s p.sets.sets) refl (kept_of s (reclaimed_sets p.sets.sets)) refl
     where
-      go : (o : Option Stage) → kept_of s p.sets.sets ≡ o → (n : Option Stage) → kept_of s (reclaimed_sets p.sets.sets) ≡ n → kept_of s (reclaimed_sets p.sets.sets) ≡ reclaimed_kept o
+      go : (o : Option SetStage) → kept_of s p.sets.sets ≡ o → (n : Option SetStage) → kept_of s (reclaimed_sets p.sets.sets) ≡ n → kept_of s (reclaimed_sets p.sets.sets) ≡ reclaimed_kept o
       go (Some stage) e n f =
           let j = there_kept p.sets.sets keeps.ascend s stage e in
           kept_there (reclaimed_sets p.sets.sets) up j.0 s (Some (reclaimed_stage stage)) (at_back j.0 s (Some stage) j.1)
@@ -103,10 +103,10 @@ module _ (job : Job) (p : Progress) (keeps : KeepsProgress job p) (orders : (j :
       go None e (Some stage) f =
           let j = there_kept (reclaimed_sets p.sets.sets) up s stage f in
           let was = map_at back p.sets.sets j.0 (s, Some stage) j.1 in
-          let id : was.0.0 ≡ s = ap (λ (x : Kept Stage). x.0) was.2 in
+          let id : was.0.0 ≡ s = ap (λ (x : Kept SetStage). x.0) was.2 in
           let kept : kept_of s p.sets.sets ≡ was.0.1 = ap (λ x. kept_of x p.sets.sets) (sym id) ∙ kept_there p.sets.sets keeps.ascend j.0 was.0.0 was.0.1 was.1 in
           let none : was.0.1 ≡ None = sym kept ∙ e in
-          let wrong : ◌≡◌ {A = Option Stage} None (Some stage) = ap reclaimed_kept (sym none) ∙ ap (λ (x : Kept Stage). x.1) was.2 in absurd cc
+          let wrong : ◌≡◌ {A = Option SetStage} None (Some stage) = ap reclaimed_kept (sym none) ∙ ap (λ (x : Kept SetStage). x.1) was.2 in absurd cc
 
   mark_now : (q : PieceId) → mark_in (batches_of p) (reclaimed_sets p.sets.sets) q ≡ put_back (mark_in (batches_of p) p.sets.sets q)
   mark_now q = ap (λ o. mark o q) (kept_back (set_of_piece (batches_of p) q)) ∙ mark_back (kept_of (set_of_piece (batches_of p) q) p.sets.sets) q
@@ -115,12 +115,12 @@ module _ (job : Job) (p : Progress) (keeps : KeepsProgress job p) (orders : (j :
   none_filter [] = refl
   none_filter (q ∷ qs) = ap (λ b. cond b (q ∷ filter (λ q. is_out (mark_in (batches_of p) (reclaimed_sets p.sets.sets) q)) qs) (filter (λ q. is_out (mark_in (batches_of p) (reclaimed_sets p.sets.sets) q)) qs)) (ap is_out (mark_now q) ∙ none_out (mark_in (batches_of p) p.sets.sets q)) ∙ none_filter qs
 
-  finished_same : marked is_finished job (batches_of p) (reclaimed_sets p.sets.sets) ≡ r.finished
+  finished_same : pieces_marked is_finished job (batches_of p) (reclaimed_sets p.sets.sets) ≡ r.finished
   finished_same = filter_alike (λ q. is_finished (mark_in (batches_of p) (reclaimed_sets p.sets.sets) q)) (λ q. is_finished (mark_in (batches_of p) p.sets.sets q)) (pieces_of job (batches_of p))
       (λ q mem. ap is_finished (mark_now q) ∙ still_finished (mark_in (batches_of p) p.sets.sets q))
 
   -- the replay has none out
-  pub reclaimed_now : replay_of job new ≡ with_none_out r
+  pub reclaimed_now : replay_so_far job new ≡ with_none_out r
   reclaimed_now = λ k. record { job = job; batches = batches_of p; is_closed = p.is_closed; out = none_filter (pieces_of job (batches_of p)) k; finished = finished_same k }
 
   -- ---- what is kept
@@ -140,14 +140,14 @@ module _ (job : Job) (p : Progress) (keeps : KeepsProgress job p) (orders : (j :
   stages_now : AreStages (with_none_out r) (reclaimed_sets p.sets.sets)
   stages_now j s stage batch here batch_there = go was.0.1 was.1 was.2
     where
-      was : (x : Kept Stage) × (slice_get p.sets.sets j ≡ Some x) × (back x ≡ (s, Some stage))
+      was : (x : Kept SetStage) × (slice_get p.sets.sets j ≡ Some x) × (back x ≡ (s, Some stage))
       was = map_at back p.sets.sets j (s, Some stage) here
 
       id : was.0.0 ≡ s
-      id = ap (λ (x : Kept Stage). x.0) was.2
+      id = ap (λ (x : Kept SetStage). x.0) was.2
 
       -- of the set itself
-      of_stage : (x : Stage) → slice_get p.sets.sets j ≡ Some (s, Some x) → IsStageOf (with_none_out r) (reclaimed_sets p.sets.sets) s (set_of job.parts batch.first batch.txns s.block).txns (reclaimed_stage x)
+      of_stage : (x : SetStage) → slice_get p.sets.sets j ≡ Some (s, Some x) → IsStageOf (with_none_out r) (reclaimed_sets p.sets.sets) s (set_of job.parts batch.first batch.txns s.block).txns (reclaimed_stage x)
       of_stage (Waiting w) there = keeps.stages j s (Waiting w) batch there batch_there
       of_stage (Open o) there =
           let is = keeps.stages j s (Open o) batch there batch_there in
@@ -161,21 +161,21 @@ module _ (job : Job) (p : Progress) (keeps : KeepsProgress job p) (orders : (j :
             size = length-map o.sched.states put_back ∙ is.size;
           }
 
-      go : (k : Option Stage) → slice_get p.sets.sets j ≡ Some (was.0.0, k) → ◌≡◌ {A = Kept Stage} (was.0.0, reclaimed_kept k) (s, Some stage) → IsStageOf (with_none_out r) (reclaimed_sets p.sets.sets) s (set_of job.parts batch.first batch.txns s.block).txns stage
-      go None there e = let wrong : ◌≡◌ {A = Option Stage} None (Some stage) = ap (λ (x : Kept Stage). x.1) e in absurd cc
+      go : (k : Option SetStage) → slice_get p.sets.sets j ≡ Some (was.0.0, k) → ◌≡◌ {A = Kept SetStage} (was.0.0, reclaimed_kept k) (s, Some stage) → IsStageOf (with_none_out r) (reclaimed_sets p.sets.sets) s (set_of job.parts batch.first batch.txns s.block).txns stage
+      go None there e = let wrong : ◌≡◌ {A = Option SetStage} None (Some stage) = ap (λ (x : Kept SetStage). x.1) e in absurd cc
       go (Some x) there e =
-          subst (IsStageOf (with_none_out r) (reclaimed_sets p.sets.sets) s (set_of job.parts batch.first batch.txns s.block).txns) (same_Some _ _ (ap (λ (x : Kept Stage). x.1) e))
+          subst (IsStageOf (with_none_out r) (reclaimed_sets p.sets.sets) s (set_of job.parts batch.first batch.txns s.block).txns) (same_Some _ _ (ap (λ (x : Kept SetStage). x.1) e))
           (of_stage x (there ∙ ap (λ (t : SetId). Some (t, Some x)) id))
 
   unfinished_was : (k : ℕ) → IsUnfinishedBatch (reclaimed_sets p.sets.sets) k → IsUnfinishedBatch p.sets.sets k
   unfinished_was k (j, s, stage, here, batch) = go was.0.1 was.1 was.2
     where
-      was : (x : Kept Stage) × (slice_get p.sets.sets j ≡ Some x) × (back x ≡ (s, Some stage))
+      was : (x : Kept SetStage) × (slice_get p.sets.sets j ≡ Some x) × (back x ≡ (s, Some stage))
       was = map_at back p.sets.sets j (s, Some stage) here
 
-      go : (o : Option Stage) → slice_get p.sets.sets j ≡ Some (was.0.0, o) → ◌≡◌ {A = Kept Stage} (was.0.0, reclaimed_kept o) (s, Some stage) → IsUnfinishedBatch p.sets.sets k
-      go None there e = let wrong : ◌≡◌ {A = Option Stage} None (Some stage) = ap (λ (x : Kept Stage). x.1) e in absurd cc
-      go (Some x) there e = (j, was.0.0, x, there, ap (λ (x : Kept Stage). x.0.batch) e ∙ batch)
+      go : (o : Option SetStage) → slice_get p.sets.sets j ≡ Some (was.0.0, o) → ◌≡◌ {A = Kept SetStage} (was.0.0, reclaimed_kept o) (s, Some stage) → IsUnfinishedBatch p.sets.sets k
+      go None there e = let wrong : ◌≡◌ {A = Option SetStage} None (Some stage) = ap (λ (x : Kept SetStage). x.1) e in absurd cc
+      go (Some x) there e = (j, was.0.0, x, there, ap (λ (x : Kept SetStage). x.0.batch) e ∙ batch)
 
   -- all is kept
   pub reclaimed_keeps : KeepsProgress job new

@@ -8,7 +8,7 @@ use Rattle.pac_undo.specs.Undo.{Undoable}
 use Rattle.pac_commute.specs.Loads.{Job}
 use Rattle.pac_core.specs.declared.progress.Progress.{Progress}
 use Rattle.pac_core.specs.declared.stage.OpenSet.{OpenSet}
-use Rattle.pac_core.specs.declared.stage.Stage.TheVariants.{Open}
+use Rattle.pac_core.specs.declared.stage.SetStage.TheVariants.{Open}
 use Rattle.pac_core.specs.Links.{IsCore, KeepsProgress, core_of, job_of}
 use Rattle.pac_core.specs.Moves.{reclaimed_sets}
 use Rattle.pac_core.specs.Replay.{present_of, with_none_out}

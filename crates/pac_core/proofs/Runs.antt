@@ -23,11 +23,11 @@ use Rattle.pac_commute.proofs.FitLemmas.{env_is}
 use Rattle.pac_commute.proofs.MachineFit.{machine_fits}
 use Rattle.pac_commute.proofs.Steps.{outs_have_inputs}
 use Rattle.pac_core.specs.Cells.{copies_at}
-use Rattle.pac_core.specs.Inputs.{Finds, is_found}
+use Rattle.pac_core.specs.Inputs.{FindsInputs, is_found}
 use Rattle.pac_core.proofs.Copies.{copied_or}
 
 module _ (job : Job) (is : IsPlan job.parts) (rows_fit : RowsFit job.parts.tables job.tables) (m : Machine) (inv : Invariant job m) (p : PieceId) (preds : PredsFinished job m p)
-    (txn : Txn) (there : txn_at job.first (txns_of m.batches) p.txn ≡ Some txn) (fits : TxnFitsPlan job.parts txn) (env : Values) (finds : Finds job.parts p.block txn (m.now.envs p.txn) env) where
+    (txn : Txn) (there : txn_at job.first (txns_of m.batches) p.txn ≡ Some txn) (fits : TxnFitsPlan job.parts txn) (env : Values) (finds : FindsInputs job.parts p.block txn (m.now.envs p.txn) env) where
   good : HasInputs (world_at job m) (ends_at job m) p m.now
   good = outs_have_inputs job is m inv p preds
 

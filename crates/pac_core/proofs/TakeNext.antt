@@ -11,15 +11,15 @@ use Rattle.pac_undo.specs.Undo.{Undoable}
 use Rattle.pac_commute.specs.Loads.{Job}
 use Rattle.pac_core.specs.declared.answers.Take.{Take}
 use Rattle.pac_core.specs.declared.answers.Take.TheVariants.{NotReady, Done}
-use Rattle.pac_core.specs.declared.loaded.Loaded.{Loaded}
+use Rattle.pac_core.specs.declared.loaded.LoadedBatch.{LoadedBatch}
 use Rattle.pac_core.specs.declared.place.Place.{Place}
 use Rattle.pac_core.specs.declared.progress.Progress.{Progress}
 use Rattle.pac_core.specs.declared.stage.OpenSet.{OpenSet}
-use Rattle.pac_core.specs.Calls.{IsDone, IsTaken}
+use Rattle.pac_core.specs.Calls.{IsReplayDone, IsTakenPiece}
 use Rattle.pac_core.specs.Inputs.{LeavesValues}
-use Rattle.pac_core.specs.Links.{IsCore, KeepsProgress, core_of, job_of, replay_of}
+use Rattle.pac_core.specs.Links.{IsCore, KeepsProgress, core_of, job_of, replay_so_far}
 use Rattle.pac_core.specs.Moves.{IsNextAt, IsReadyAtOffset}
-use Rattle.pac_core.specs.Places.{AreValuesAt, IsPlaced, IsTxnAt}
+use Rattle.pac_core.specs.Places.{AreValuesAt, IsPieceAt, IsTxnAt}
 use Rattle.pac_core.specs.Replay.{Replay}
 use Rattle.pac_core.specs.Results.{IsKeptAfter}
 use Rattle.pac_core.proofs.CoreLoads.{goes_on, same_job}
@@ -28,7 +28,7 @@ use Rattle.pac_core.proofs.ReadyPlaces.{same_open}
 
 -- ---- sets are opened
 
-module _ (p new : Progress) (u : Undoable) (core : IsCore p u) (keeps : (job : Job) → KeepsProgress job p → KeepsProgress job new) (same : (job : Job) → KeepsProgress job p → replay_of job new ≡ replay_of job p) where
+module _ (p new : Progress) (u : Undoable) (core : IsCore p u) (keeps : (job : Job) → KeepsProgress job p → KeepsProgress job new) (same : (job : Job) → KeepsProgress job p → replay_so_far job new ≡ replay_so_far job p) where
   pub next_core : IsCore new u
   next_core = (goes_on p new u core (keeps (job_of p u) core.progress) (same (job_of p u) core.progress)).0
 
@@ -39,27 +39,27 @@ module _ (p new : Progress) (u : Undoable) (core : IsCore p u) (keeps : (job : J
   next_at next is = subst (λ (j : Job). IsNextAt j new next) (sym (same_job p new u (sym (keeps (job_of p u) core.progress).parts) (sym (keeps (job_of p u) core.progress).first))) is
 
   -- what is answered of the progress then is answered of that before
-  pub taken_before : (take : Take) (after : Replay) → IsTaken (core_of new u) take after → IsTaken (core_of p u) take after
-  taken_before take after is = subst (λ (r : Replay). IsTaken r take after) next_same is
+  pub taken_before : (take : Take) (after : Replay) → IsTakenPiece (core_of new u) take after → IsTakenPiece (core_of p u) take after
+  taken_before take after is = subst (λ (r : Replay). IsTakenPiece r take after) next_same is
 
 -- ---- none is ready
 
 module _ (p : Progress) (u : Undoable) (core : IsCore p u) where
-  pub done_now : (p.is_closed ≡ true) × (p.unfinished ≡ 0) → IsDone (core_of p u)
+  pub done_now : (p.is_closed ≡ true) × (p.unfinished ≡ 0) → IsReplayDone (core_of p u)
   done_now done = (done.0, sym core.progress.unfinished ∙ done.1)
 
-  pub done_then : IsDone (core_of p u) → (p.is_closed ≡ true) × (p.unfinished ≡ 0)
+  pub done_then : IsReplayDone (core_of p u) → (p.is_closed ≡ true) × (p.unfinished ≡ 0)
   done_then done = (done.0, core.progress.unfinished ∙ done.1)
 
-  pub none_ready : IsNextAt (job_of p u) p None → (b : Bool) → (b ≡ false) → (IsTrue b ↔ ((p.is_closed ≡ true) × (p.unfinished ≡ 0))) → IsTaken (core_of p u) NotReady (core_of p u)
+  pub none_ready : IsNextAt (job_of p u) p None → (b : Bool) → (b ≡ false) → (IsTrue b ↔ ((p.is_closed ≡ true) × (p.unfinished ≡ 0))) → IsTakenPiece (core_of p u) NotReady (core_of p u)
   none_ready none b isnt is = (none, (λ done. true≢false (sym (is.1 (done_then done)) ∙ isnt)), refl)
 
-  pub all_done : (b : Bool) → (b ≡ true) → (IsTrue b ↔ ((p.is_closed ≡ true) × (p.unfinished ≡ 0))) → IsTaken (core_of p u) Done (core_of p u)
+  pub all_done : (b : Bool) → (b ≡ true) → (IsTrue b ↔ ((p.is_closed ≡ true) × (p.unfinished ≡ 0))) → IsTakenPiece (core_of p u) Done (core_of p u)
   all_done b truly is = (done_now (is.0 truly), refl)
 
 -- ---- the first ready piece
 
-pub first_picked : (p : Progress) (place : Place) (piece : PieceId) (far : PieceState) (at : IsPlaced p place piece far) → IsReadyAtOffset p place.at piece → pick at.stands.opening.sched ≡ Piece piece
+pub first_picked : (p : Progress) (place : Place) (piece : PieceId) (far : PieceState) (at : IsPieceAt p place piece far) → IsReadyAtOffset p place.at piece → pick at.stands.opening.sched ≡ Piece piece
 first_picked p place piece far at ready =
     subst (λ (o : OpenSet). pick o.sched ≡ Piece piece)
     (same_open p place.at at.stands.set at.stands.opening ready.stands.opening at.stands.there (ready.stands.set, ready.stands.there))
@@ -71,5 +71,5 @@ module _ (p : Progress) (place : Place) (piece : PieceId) (outs : Values) (txn :
   pub kept_after_is : {E : Type 0} (r : Result Values E) → IfOk r (LeavesValues p.pieces piece.block txn outs kept) → IfOk r (IsKeptAfter p place piece outs)
   kept_after_is (Err e) leaves = tt
   kept_after_is (Ok now) leaves = λ t k t_is k_is.
-      subst (λ (x : Txn). LeavesValues p.pieces piece.block x outs k now) (same_item p.batches.items place.batch (λ (l : Loaded). l.batch.txns) place.index txn t txn_is t_is)
-      (subst (λ (x : Values). LeavesValues p.pieces piece.block txn outs x now) (same_item p.batches.items place.batch (λ (l : Loaded). l.kept.items) place.index kept k kept_is k_is) leaves)
+      subst (λ (x : Txn). LeavesValues p.pieces piece.block x outs k now) (same_item p.batches.items place.batch (λ (l : LoadedBatch). l.batch.txns) place.index txn t txn_is t_is)
+      (subst (λ (x : Values). LeavesValues p.pieces piece.block txn outs x now) (same_item p.batches.items place.batch (λ (l : LoadedBatch). l.kept.items) place.index kept k kept_is k_is) leaves)

@@ -20,9 +20,9 @@ use Rattle.pac_commute.specs.Machine.{Given, Invariant, IsReadyAt, Machine, acce
 use Rattle.pac_commute.proofs.Steps as steps
 use Rattle.pac_core.specs.declared.progress.Progress.{Progress}
 use Rattle.pac_core.specs.declared.stage.OpenSet.{OpenSet}
-use Rattle.pac_core.specs.declared.stage.Stage.{Stage}
-use Rattle.pac_core.specs.declared.stage.Stage.TheVariants.{Waiting, Open}
-use Rattle.pac_core.specs.Links.{AreStages, IsOpened, IsStageOf, IsUnfinishedBatch, KeepsBatch, KeepsProgress, KeepsValues, batches_of, mark_in, marked, replay_of}
+use Rattle.pac_core.specs.declared.stage.SetStage.{SetStage}
+use Rattle.pac_core.specs.declared.stage.SetStage.TheVariants.{Waiting, Open}
+use Rattle.pac_core.specs.Links.{AreStages, IsOpened, IsStageOf, IsUnfinishedBatch, KeepsBatch, KeepsProgress, KeepsValues, batches_of, mark_in, pieces_marked, replay_so_far}
 use Rattle.pac_core.specs.Replay.{Replay, left, loaded_pieces, machine_of, present_of, with_out}
 use Rattle.pac_core.proofs.Alike.{invariant_is, present_is}
 use Rattle.pac_core.proofs.KeptAt.{equal_or_not, get_changed, get_other, ids_stay, passes_still, still_up}
@@ -43,10 +43,10 @@ not_all (x ∷ xs) (suc i) s e left = ap (λ b. is_finished x && b) (not_all xs 
 
 module _ (job : Job) (p : Progress) (keeps : KeepsProgress job p) (at : ℕ) (id : SetId) (opening : OpenSet) (set : SetAt job p keeps at id (Some (Open opening)))
     (i t : ℕ) (e : slice_get (txns job p keeps at id (Some (Open opening)) set) i ≡ Some t) (was : slice_get opening.sched.states i ≡ Some state.Waiting)
-    (ready : IsReadyAt job (machine_of (replay_of job p)) (q0 job p keeps at id opening set i t e state.Waiting state.Out was)) (keys : access_at job (machine_of (replay_of job p)) (q0 job p keeps at id opening set i t e state.Waiting state.Out was) ≡ Whole → ⊥)
+    (ready : IsReadyAt job (machine_of (replay_so_far job p)) (q0 job p keeps at id opening set i t e state.Waiting state.Out was)) (keys : access_at job (machine_of (replay_so_far job p)) (q0 job p keeps at id opening set i t e state.Waiting state.Out was) ≡ Whole → ⊥)
     (order : IsInOrder (with_state opening.sched (q0 job p keeps at id opening set i t e state.Waiting state.Out was) state.Out)) where
   abbrev pub r : Replay
-  r = replay_of job p
+  r = replay_so_far job p
 
   abbrev pub piece : PieceId
   piece = q0 job p keeps at id opening set i t e state.Waiting state.Out was
@@ -57,14 +57,14 @@ module _ (job : Job) (p : Progress) (keeps : KeepsProgress job p) (at : ℕ) (id
   abbrev pub new : Progress
   new = record p { sets = record p.sets { sets = with_kept_at p.sets.sets at (Some (Open now_open)) } }
 
-  outs_are : marked is_out job (batches_of p) new.sets.sets ≡ filter (adds (among r.out) piece) (loaded_pieces r)
+  outs_are : pieces_marked is_out job (batches_of p) new.sets.sets ≡ filter (adds (among r.out) piece) (loaded_pieces r)
   outs_are = marked_after job p keeps at id opening set i t e state.Waiting state.Out was is_out (adds (among r.out) piece) (λ q mem. go (among r.out q) (is_out (mark_in (batches_of p) p.sets.sets q)) (is_piece piece q) (out_is job p keeps q mem))
     where
       go : (x y : Bool) (b : Bool) → x ≡ y → cond b true y ≡ (b || x)
       go x y true same = refl
       go x y false same = sym same
 
-  finished_are : marked is_finished job (batches_of p) new.sets.sets ≡ r.finished
+  finished_are : pieces_marked is_finished job (batches_of p) new.sets.sets ≡ r.finished
   finished_are = marked_after job p keeps at id opening set i t e state.Waiting state.Out was is_finished (λ q. is_finished (mark_in (batches_of p) p.sets.sets q)) (λ q mem. go q (is_piece piece q) refl)
     where
       go : (q : PieceId) (b : Bool) → is_piece piece q ≡ b → cond b false (is_finished (mark_in (batches_of p) p.sets.sets q)) ≡ is_finished (mark_in (batches_of p) p.sets.sets q)
@@ -72,7 +72,7 @@ module _ (job : Job) (p : Progress) (keeps : KeepsProgress job p) (at : ℕ) (id
       go q false same = refl
 
   -- the replay has the piece out
-  pub out_now : replay_of job new ≡ with_out r piece
+  pub out_now : replay_so_far job new ≡ with_out r piece
   out_now = λ k. record {
     job = job;
     batches = batches_of p;
@@ -134,14 +134,14 @@ module _ (job : Job) (p : Progress) (keeps : KeepsProgress job p) (at : ℕ) (id
       go : (j ≡ at) ⊎ (j ≡ at → ⊥) → IsStageOf (with_out r piece) new.sets.sets s (set_of job.parts batch.first batch.txns s.block).txns stage
       go (inl same_offset) =
           let same = same_Some _ _ (sym (get_changed p.sets.sets at (id, Some (Open opening)) (Some (Open now_open)) set.there) ∙ ap (slice_get new.sets.sets) (sym same_offset) ∙ here) in
-          let id_is : id ≡ s = ap (λ (x : Kept Stage). x.0) same in
-          let stage_is : Open now_open ≡ stage = same_Some _ _ (ap (λ (x : Kept Stage). x.1) same) in
-          subst (λ (x : Stage). IsStageOf (with_out r piece) new.sets.sets s (set_of job.parts batch.first batch.txns s.block).txns x) stage_is
+          let id_is : id ≡ s = ap (λ (x : Kept SetStage). x.0) same in
+          let stage_is : Open now_open ≡ stage = same_Some _ _ (ap (λ (x : Kept SetStage). x.1) same) in
+          subst (λ (x : SetStage). IsStageOf (with_out r piece) new.sets.sets s (set_of job.parts batch.first batch.txns s.block).txns x) stage_is
           (subst (λ (x : SetId). IsOpened (with_out r piece) new.sets.sets x (set_of job.parts batch.first batch.txns x.block).txns now_open) id_is
           (opened_now _ (keeps.stages at id (Open opening) batch set.there (ap (λ (x : SetId). slice_get (batches_of p) x.batch) id_is ∙ batch_there))))
       go (inr differ) = still stage (keeps.stages j s stage batch (sym (get_other p.sets.sets at j (Some (Open now_open)) differ) ∙ here) batch_there)
         where
-          still : (x : Stage) → IsStageOf r p.sets.sets s (set_of job.parts batch.first batch.txns s.block).txns x → IsStageOf (with_out r piece) new.sets.sets s (set_of job.parts batch.first batch.txns s.block).txns x
+          still : (x : SetStage) → IsStageOf r p.sets.sets s (set_of job.parts batch.first batch.txns s.block).txns x → IsStageOf (with_out r piece) new.sets.sets s (set_of job.parts batch.first batch.txns s.block).txns x
           still (Waiting w) is = is
           still (Open o) is = opened_still s _ o is
 
@@ -151,7 +151,7 @@ module _ (job : Job) (p : Progress) (keeps : KeepsProgress job p) (at : ℕ) (id
       go : (j ≡ at) ⊎ (j ≡ at → ⊥) → IsUnfinishedBatch p.sets.sets k
       go (inl same_offset) =
           let same = same_Some _ _ (sym (get_changed p.sets.sets at (id, Some (Open opening)) (Some (Open now_open)) set.there) ∙ ap (slice_get new.sets.sets) (sym same_offset) ∙ here) in
-          (at, id, Open opening, set.there, ap (λ (x : Kept Stage). x.0.batch) same ∙ batch)
+          (at, id, Open opening, set.there, ap (λ (x : Kept SetStage). x.0.batch) same ∙ batch)
       go (inr differ) = (j, s, stage, sym (get_other p.sets.sets at j (Some (Open now_open)) differ) ∙ here, batch)
 
   -- all is kept

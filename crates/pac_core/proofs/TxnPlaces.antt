@@ -6,27 +6,27 @@ use Rattle.std.proofs.lemmas.Bool.Decides.{nat_tests}
 use Rattle.std.proofs.lemmas.Option.{get_or_from_slice_get, same_Some, slice_get-get_or, slice_get_within}
 use Rattle.pac_ops.specs.declared.batch.Batch.{Batch}
 use Rattle.pac_commute.specs.PlanLaws.{NumbersRunOn}
-use Rattle.pac_core.specs.declared.loaded.Loaded.{Loaded}
-use Rattle.pac_core.specs.Places.{IsTxnIn, IsTxnNowhere, RunOn}
+use Rattle.pac_core.specs.declared.loaded.LoadedBatch.{LoadedBatch}
+use Rattle.pac_core.specs.Places.{IsTxnIn, IsTxnNowhere, LoadedRunOn}
 
-abbrev batches_of_loaded : List Loaded → List Batch
-batches_of_loaded batches = map (λ (loaded : Loaded). loaded.batch) batches
+abbrev batches_of_loaded : List LoadedBatch → List Batch
+batches_of_loaded batches = map (λ (loaded : LoadedBatch). loaded.batch) batches
 
 -- ---- numbers that run on
 
-least : (next : ℕ) (bs : List Loaded) → NumbersRunOn next (batches_of_loaded bs) → (k : ℕ) (b : Loaded) → slice_get bs k ≡ Some b → next ≤ b.batch.first
+least : (next : ℕ) (bs : List LoadedBatch) → NumbersRunOn next (batches_of_loaded bs) → (k : ℕ) (b : LoadedBatch) → slice_get bs k ≡ Some b → next ≤ b.batch.first
 least next [] run k b e = let wrong : None ≡ Some b = e in absurd cc
-least next (x ∷ xs) run zero b e = let f : x.batch.first ≡ next = run.0 in let same : x.batch.first ≡ b.batch.first = ap (λ (l : Loaded). l.batch.first) (same_Some x b e) in omega (arith, f, same)
+least next (x ∷ xs) run zero b e = let f : x.batch.first ≡ next = run.0 in let same : x.batch.first ≡ b.batch.first = ap (λ (l : LoadedBatch). l.batch.first) (same_Some x b e) in omega (arith, f, same)
 least next (x ∷ xs) run (suc k) b e = let le = least (next + length x.batch.txns) xs run.1 k b e in omega (arith, le)
 
-ends : (next : ℕ) (bs : List Loaded) → NumbersRunOn next (batches_of_loaded bs) → (j k : ℕ) (a b : Loaded) → slice_get bs j ≡ Some a → slice_get bs k ≡ Some b → j < k → a.batch.first + length a.batch.txns ≤ b.batch.first
+ends : (next : ℕ) (bs : List LoadedBatch) → NumbersRunOn next (batches_of_loaded bs) → (j k : ℕ) (a b : LoadedBatch) → slice_get bs j ≡ Some a → slice_get bs k ≡ Some b → j < k → a.batch.first + length a.batch.txns ≤ b.batch.first
 ends next [] run j k a b ea eb lt = let wrong : None ≡ Some a = ea in absurd cc
 ends next (x ∷ xs) run j zero a b ea eb lt = absurd (omega (arith, lt))
 ends next (x ∷ xs) run zero (suc k) a b ea eb lt =
     let le = least (next + length x.batch.txns) xs run.1 k b eb in
     let f : x.batch.first ≡ next = run.0 in
     let same : x ≡ a = same_Some x a ea in
-    subst (λ (l : Loaded). l.batch.first + length l.batch.txns ≤ b.batch.first) same (omega (arith, le, f))
+    subst (λ (l : LoadedBatch). l.batch.first + length l.batch.txns ≤ b.batch.first) same (omega (arith, le, f))
 ends next (x ∷ xs) run (suc j) (suc k) a b ea eb lt = ends (next + length x.batch.txns) xs run.1 j k a b ea eb (omega (arith, lt))
 
 three : (i j : ℕ) → (i < j) ⊎ ((i ≡ j) ⊎ (j < i))
@@ -35,9 +35,9 @@ three i j = grind arith
 le_or : (i j : ℕ) → i ≤ j → (i < j) ⊎ (i ≡ j)
 le_or i j le = grind arith
 
-module _ (batches : List Loaded) (run : RunOn batches) where
+module _ (batches : List LoadedBatch) (run : LoadedRunOn batches) where
   -- the numbers with which they begin rise
-  pub rise : IsNonDecreasingBy (λ (l : Loaded). l.batch.first) batches
+  pub rise : IsNonDecreasingBy (λ (l : LoadedBatch). l.batch.first) batches
   rise i j d le lt = go (le_or i j le)
     where
       go : (i < j) ⊎ (i ≡ j) → (get_or batches i d).batch.first ≤ (get_or batches j d).batch.first
@@ -46,19 +46,19 @@ module _ (batches : List Loaded) (run : RunOn batches) where
           omega (arith, e)
       go (inr same) = let e : (get_or batches i d).batch.first ≡ (get_or batches j d).batch.first = ap (λ (n : ℕ). (get_or batches n d).batch.first) same in omega (arith, e)
 
-  module _ (t n : ℕ) (bound : n ≤ length batches) (point : IsPartitionPoint (λ (l : Loaded). leb l.batch.first t ≡ true) (λ (l : Loaded). leb l.batch.first t ≡ false) batches n) where
-    before : (k : ℕ) (l : Loaded) → slice_get batches k ≡ Some l → k < n → l.batch.first ≤ t
+  module _ (t n : ℕ) (bound : n ≤ length batches) (point : IsPartitionPoint (λ (l : LoadedBatch). leb l.batch.first t ≡ true) (λ (l : LoadedBatch). leb l.batch.first t ≡ false) batches n) where
+    before : (k : ℕ) (l : LoadedBatch) → slice_get batches k ≡ Some l → k < n → l.batch.first ≤ t
     before k l e lt =
         let is = point.0 k l (omega arith) lt in
         let same = get_or_from_slice_get batches k l l e in
-        let test : leb l.batch.first t ≡ true = ap (λ (x : Loaded). leb x.batch.first t) (sym same) ∙ is in
+        let test : leb l.batch.first t ≡ true = ap (λ (x : LoadedBatch). leb x.batch.first t) (sym same) ∙ is in
         grind (arith, nat_tests)
 
-    after : (k : ℕ) (l : Loaded) → slice_get batches k ≡ Some l → n ≤ k → t < l.batch.first
+    after : (k : ℕ) (l : LoadedBatch) → slice_get batches k ≡ Some l → n ≤ k → t < l.batch.first
     after k l e le =
         let is = point.1 k l le (slice_get_within batches k l e) in
         let same = get_or_from_slice_get batches k l l e in
-        let test : leb l.batch.first t ≡ false = ap (λ (x : Loaded). leb x.batch.first t) (sym same) ∙ is in
+        let test : leb l.batch.first t ≡ false = ap (λ (x : LoadedBatch). leb x.batch.first t) (sym same) ∙ is in
         grind (arith, nat_tests)
 
     -- where none begins at or before it, it isn't there
@@ -68,9 +68,9 @@ module _ (batches : List Loaded) (run : RunOn batches) where
         let number = is.number in
         omega (arith, lt, number)
 
-    module _ (some : (n ≡ 0) → ⊥) (d : Loaded) where
+    module _ (some : (n ≡ 0) → ⊥) (d : LoadedBatch) where
       -- the last that does
-      abbrev pub last : Loaded
+      abbrev pub last : LoadedBatch
       last = get_or batches (n - 1) d
 
       last_there : slice_get batches (n - 1) ≡ Some last
@@ -98,8 +98,8 @@ module _ (batches : List Loaded) (run : RunOn batches) where
               omega (arith, e, le, number, inside)
           go (inr (inl same)) =
               let l : is.loaded ≡ last = same_Some _ _ (sym is.there ∙ ap (slice_get batches) same ∙ last_there) in
-              let first : is.loaded.batch.first ≡ last.batch.first = ap (λ (x : Loaded). x.batch.first) l in
-              let len : length is.loaded.batch.txns ≡ length last.batch.txns = ap (λ (x : Loaded). length x.batch.txns) l in
+              let first : is.loaded.batch.first ≡ last.batch.first = ap (λ (x : LoadedBatch). x.batch.first) l in
+              let len : length is.loaded.batch.txns ≡ length last.batch.txns = ap (λ (x : LoadedBatch). length x.batch.txns) l in
               omega (arith, number, inside, long, first, len)
           go (inr (inr gt)) =
               let lt = after batch is.loaded is.there (omega (arith, gt, some)) in

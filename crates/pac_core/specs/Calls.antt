@@ -20,8 +20,8 @@ use Rattle.pac_core.specs.declared.answers.Take.{Take}
 use Rattle.pac_core.specs.declared.answers.Take.TheVariants.{Given, Ran, NotReady, Done}
 use Rattle.pac_core.specs.declared.answers.Finish.{Finish}
 use Rattle.pac_core.specs.declared.answers.Finish.TheVariants as finish
-use Rattle.pac_core.specs.Replay.{Replay, left, with_batch, with_finished, with_out, without_out}
-use Rattle.pac_core.specs.Takes.{IsNext, IsWorkIn, access_in}
+use Rattle.pac_core.specs.Replay.{Replay, left, with_batch_loaded, with_finished, with_out, without_out}
+use Rattle.pac_core.specs.Takes.{IsNextPiece, IsWorkIn, access_in}
 
 -- a batch may be loaded: more may come, its numbers run on, and its transactions fit the plan
 pub record MayLoad (r : Replay) (batch : Batch) : Type 0 where
@@ -30,16 +30,16 @@ pub record MayLoad (r : Replay) (batch : Batch) : Type 0 where
   pub fits : TxnsFitPlan r.job.parts batch.txns
 
 -- no more may come, and all is finished
-abbrev pub IsDone : Replay → Type 0
-IsDone r = (r.is_closed ≡ true) × (left r ≡ 0)
+abbrev pub IsReplayDone : Replay → Type 0
+IsReplayDone r = (r.is_closed ≡ true) × (left r ≡ 0)
 
 -- what a take answers, and leaves. The piece that comes next is given out, or is applied where its access is whole. Where none is ready, some may
 -- be later, unless all is done
-abbrev pub IsTaken : Replay → Take → Replay → Type 0
-IsTaken old (Given work) new = IsNext old (Some work.piece) × (access_in old work.piece ≢ Whole) × IsWorkIn old work × IsRunnable work × (new ≡ with_out old work.piece)
-IsTaken old (Ran piece) new = IsNext old (Some piece) × (access_in old piece ≡ Whole) × (new ≡ with_finished old piece)
-IsTaken old NotReady new = IsNext old None × (IsDone old → ⊥) × (new ≡ old)
-IsTaken old Done new = IsDone old × (new ≡ old)
+abbrev pub IsTakenPiece : Replay → Take → Replay → Type 0
+IsTakenPiece old (Given work) new = IsNextPiece old (Some work.piece) × (access_in old work.piece ≢ Whole) × IsWorkIn old work × IsRunnable work × (new ≡ with_out old work.piece)
+IsTakenPiece old (Ran piece) new = IsNextPiece old (Some piece) × (access_in old piece ≡ Whole) × (new ≡ with_finished old piece)
+IsTakenPiece old NotReady new = IsNextPiece old None × (IsReplayDone old → ⊥) × (new ≡ old)
+IsTakenPiece old Done new = IsReplayDone old × (new ≡ old)
 
 -- work of a piece whose access is of keys: as the replay has it, and may be run
 abbrev pub IsGivenWork : Replay → PieceId → Work → Type 0
@@ -60,8 +60,8 @@ abbrev pub IsGivenBack : Replay → Work → Replay → Type 0
 IsGivenBack old work new = (IsOwn old work → new ≡ without_out old work.piece) × ((IsOwn old work → ⊥) → new ≡ old)
 
 -- where none is out, one is ready while any is left
-abbrev pub HasReady : Replay → Type 0
-HasReady r = r.out ≡ [] → 0 < left r → IsNext r None → ⊥
+abbrev pub HasReadyPiece : Replay → Type 0
+HasReadyPiece r = r.out ≡ [] → 0 < left r → IsNextPiece r None → ⊥
 
 -- the same is loaded, and no piece is out
 pub record IsDrained (old new : Replay) : Type 0 where
@@ -91,9 +91,9 @@ IsOfJob r parts first tables held batches = (parts ≡ r.job.parts) × (first �
 -- so may batches be loaded one after another, where each number fits
 abbrev pub MayLoadAll : Replay → List Batch → Type 0
 MayLoadAll r [] = ⊤
-MayLoadAll r (batch ∷ batches) = MayLoad r batch × (batch.first + length batch.txns < 2 ^ 64) × MayLoadAll (with_batch r batch) batches
+MayLoadAll r (batch ∷ batches) = MayLoad r batch × (batch.first + length batch.txns < 2 ^ 64) × MayLoadAll (with_batch_loaded r batch) batches
 
 -- they are loaded one after another
 abbrev pub with_batches : Replay → List Batch → Replay
 with_batches r [] = r
-with_batches r (batch ∷ batches) = with_batches (with_batch r batch) batches
+with_batches r (batch ∷ batches) = with_batches (with_batch_loaded r batch) batches

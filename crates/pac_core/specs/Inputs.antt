@@ -14,8 +14,8 @@ abbrev pub is_found : PlanParts → ℕ → Txn → ℕ → Bool
 is_found parts block txn x = is_input (piece_ops parts block txn) x
 
 -- the piece finds the values of its inputs, and no others
-abbrev pub Finds : PlanParts → ℕ → Txn → Values → Values → Type 0
-Finds parts block txn kept env = (x : ℕ) → get env x ≡ (if is_found parts block txn x then get kept x else None)
+abbrev pub FindsInputs : PlanParts → ℕ → Txn → Values → Values → Type 0
+FindsInputs parts block txn kept env = (x : ℕ) → get env x ≡ (if is_found parts block txn x then get kept x else None)
 
 -- a variable is an output of a transaction's piece in a block: another block has it as an input
 abbrev pub is_left : PlanParts → ℕ → Txn → ℕ → Bool

@@ -23,10 +23,10 @@ use Rattle.pac_sets.specs.Sets.{Kept, WaitsForNothing, kept_of}
 use Rattle.pac_undo.specs.Undo.{Undoable}
 use Rattle.pac_commute.specs.Loads.{Job, pieces_of, next_in_job}
 use Rattle.pac_commute.specs.Machine.{Invariant, access_at}
-use Rattle.pac_core.specs.declared.loaded.Loaded.{Loaded}
+use Rattle.pac_core.specs.declared.loaded.LoadedBatch.{LoadedBatch}
 use Rattle.pac_core.specs.declared.stage.OpenSet.{OpenSet}
-use Rattle.pac_core.specs.declared.stage.Stage.{Stage}
-use Rattle.pac_core.specs.declared.stage.Stage.TheVariants.{Waiting, Open}
+use Rattle.pac_core.specs.declared.stage.SetStage.{SetStage}
+use Rattle.pac_core.specs.declared.stage.SetStage.TheVariants.{Waiting, Open}
 use Rattle.pac_core.specs.declared.progress.Progress.{Progress}
 use Rattle.pac_core.specs.Cells.{HasCellsOf}
 use Rattle.pac_core.specs.Inputs.{is_found}
@@ -39,31 +39,31 @@ abbrev pub set_of_piece : List Batch → PieceId → SetId
 set_of_piece batches p = record { batch = batch_of batches p.txn - 1; block = p.block }
 
 -- how far a piece is, by what is kept of its set
-abbrev pub mark : Option Stage → PieceId → PieceState
+abbrev pub mark : Option SetStage → PieceId → PieceState
 mark None p = state.Finished
 mark (Some (Waiting txns)) p = state.Waiting
 mark (Some (Open opening)) p = unwrap_or (state_of_piece opening.sched p) state.Waiting
 
 -- how far a piece of what is loaded is
-abbrev pub mark_in : List Batch → List (Kept Stage) → PieceId → PieceState
+abbrev pub mark_in : List Batch → List (Kept SetStage) → PieceId → PieceState
 mark_in batches sets p = mark (kept_of (set_of_piece batches p) sets) p
 
 -- the loaded pieces that are so far, in order
-abbrev pub marked : (PieceState → Bool) → Job → List Batch → List (Kept Stage) → List PieceId
-marked test job batches sets = filter (λ p. test (mark_in batches sets p)) (pieces_of job batches)
+abbrev pub pieces_marked : (PieceState → Bool) → Job → List Batch → List (Kept SetStage) → List PieceId
+pieces_marked test job batches sets = filter (λ p. test (mark_in batches sets p)) (pieces_of job batches)
 
 -- the batches that are loaded
 abbrev pub batches_of : Progress → List Batch
-batches_of p = map (λ (loaded : Loaded). loaded.batch) p.batches.items
+batches_of p = map (λ (loaded : LoadedBatch). loaded.batch) p.batches.items
 
 -- the replay of a job that is so far
-abbrev pub replay_of : Job → Progress → Replay
-replay_of job p = record {
+abbrev pub replay_so_far : Job → Progress → Replay
+replay_so_far job p = record {
   job = job;
   batches = batches_of p;
   is_closed = p.is_closed;
-  out = marked is_out job (batches_of p) p.sets.sets;
-  finished = marked is_finished job (batches_of p) p.sets.sets;
+  out = pieces_marked is_out job (batches_of p) p.sets.sets;
+  finished = pieces_marked is_finished job (batches_of p) p.sets.sets;
 }
 
 -- ---- stages
@@ -74,7 +74,7 @@ piece_in block txn = record { txn = txn; block = block }
 
 -- the pieces of a set were opened: they are scheduled by the next pairs of their accesses, the cells of each are known, and the sets
 -- that this one waits for are finished
-pub record IsOpened (r : Replay) (sets : List (Kept Stage)) (set : SetId) (txns : List ℕ) (opening : OpenSet) : Type 0 where
+pub record IsOpened (r : Replay) (sets : List (Kept SetStage)) (set : SetId) (txns : List ℕ) (opening : OpenSet) : Type 0 where
   pub pieces : opening.sched.pieces ≡ map (piece_in set.block) txns
   pub pairs : AreNextPairs (map (access_at r.job (machine_of r)) opening.sched.pieces) opening.sched.pairs
   pub order : IsInOrder opening.sched
@@ -84,13 +84,13 @@ pub record IsOpened (r : Replay) (sets : List (Kept Stage)) (set : SetId) (txns 
   pub size : length opening.sched.states ≡ length opening.sched.pieces
 
 -- what is kept of a set is right, where these are the transactions that have pieces in it
-abbrev pub IsStageOf : Replay → List (Kept Stage) → SetId → List ℕ → Stage → Type 0
+abbrev pub IsStageOf : Replay → List (Kept SetStage) → SetId → List ℕ → SetStage → Type 0
 IsStageOf r sets set txns (Waiting waiting) = waiting ≡ txns
 IsStageOf r sets set txns (Open opening) = IsOpened r sets set txns opening
 
 -- so is what is kept of each unfinished set
-abbrev pub AreStages : Replay → List (Kept Stage) → Type 0
-AreStages r sets = (j : ℕ) (set : SetId) (stage : Stage) (batch : Batch) → slice_get sets j ≡ Some (set, Some stage) → slice_get r.batches set.batch ≡ Some batch
+abbrev pub AreStages : Replay → List (Kept SetStage) → Type 0
+AreStages r sets = (j : ℕ) (set : SetId) (stage : SetStage) (batch : Batch) → slice_get sets j ≡ Some (set, Some stage) → slice_get r.batches set.batch ≡ Some batch
     → IsStageOf r sets set (set_of r.job.parts batch.first batch.txns set.block).txns stage
 
 -- the sets of batches, the first of which has this number
@@ -105,18 +105,18 @@ abbrev pub KeepsInputs : PlanParts → Txn → Values → Values → Type 0
 KeepsInputs parts txn kept env = (block x : ℕ) → block < parts.blocks → is_found parts block txn x ≡ true → get kept x ≡ get env x
 
 -- a batch has a set that isn't finished
-abbrev pub IsUnfinishedBatch : List (Kept Stage) → ℕ → Type 0
-IsUnfinishedBatch sets k = (j : ℕ) × (set : SetId) × (stage : Stage) × (slice_get sets j ≡ Some (set, Some stage)) × (set.batch ≡ k)
+abbrev pub IsUnfinishedBatch : List (Kept SetStage) → ℕ → Type 0
+IsUnfinishedBatch sets k = (j : ℕ) × (set : SetId) × (stage : SetStage) × (slice_get sets j ≡ Some (set, Some stage)) × (set.batch ≡ k)
 
 -- for each transaction of a batch values are kept
-pub record KeepsBatch (parts : PlanParts) (now : Present) (loaded : Loaded) : Type 0 where
+pub record KeepsBatch (parts : PlanParts) (now : Present) (loaded : LoadedBatch) : Type 0 where
   pub all : length loaded.kept.items ≡ length loaded.batch.txns
   pub each : (i : ℕ) (txn : Txn) (kept : Values) → slice_get loaded.batch.txns i ≡ Some txn → slice_get loaded.kept.items i ≡ Some kept
       → KeepsInputs parts txn kept (now.envs (loaded.batch.first + i))
 
 -- so are they for each batch that has a set that isn't finished
-abbrev pub KeepsValues : Replay → List Loaded → List (Kept Stage) → Type 0
-KeepsValues r batches sets = (k : ℕ) (loaded : Loaded) → slice_get batches k ≡ Some loaded → IsUnfinishedBatch sets k → KeepsBatch r.job.parts (present_of r) loaded
+abbrev pub KeepsValues : Replay → List LoadedBatch → List (Kept SetStage) → Type 0
+KeepsValues r batches sets = (k : ℕ) (loaded : LoadedBatch) → slice_get batches k ≡ Some loaded → IsUnfinishedBatch sets k → KeepsBatch r.job.parts (present_of r) loaded
 
 -- ---- all of it
 
@@ -128,17 +128,17 @@ pub record KeepsProgress (job : Job) (p : Progress) : Type 0 where
   pub blocks : p.sets.blocks ≡ p.pieces.blocks
   pub is_plan : IsPlan job.parts
   pub fit : RowsFit job.parts.tables job.tables
-  pub machine : Invariant job (machine_of (replay_of job p))
-  pub note : p.note ≡ (present_of (replay_of job p)).note
+  pub machine : Invariant job (machine_of (replay_so_far job p))
+  pub note : p.note ≡ (present_of (replay_so_far job p)).note
   pub next : p.next ≡ next_in_job job (batches_of p)
-  pub unfinished : p.unfinished ≡ left (replay_of job p)
-  pub sets : map (λ (set : Kept Stage). set.0) p.sets.sets ≡ set_ids job.parts 0 (batches_of p)
+  pub unfinished : p.unfinished ≡ left (replay_so_far job p)
+  pub sets : map (λ (set : Kept SetStage). set.0) p.sets.sets ≡ set_ids job.parts 0 (batches_of p)
   pub ascend : T (is_sorted set_cmp p.sets.sets)
-  pub stages : AreStages (replay_of job p) p.sets.sets
-  pub values : KeepsValues (replay_of job p) p.batches.items p.sets.sets
+  pub stages : AreStages (replay_so_far job p) p.sets.sets
+  pub values : KeepsValues (replay_so_far job p) p.batches.items p.sets.sets
 
 -- it stands for the replay of some job
-pub record IsKept (p : Progress) : Type 0 where
+pub record IsKeptProgress (p : Progress) : Type 0 where
   pub job : Job
   pub keeps : KeepsProgress job p
 
@@ -150,8 +150,8 @@ job_of p undo = record { parts = p.pieces; first = p.first; tables = undo.openin
 pub record IsCore (p : Progress) (undo : Undoable) : Type 0 where
   pub progress : KeepsProgress (job_of p undo) p
   pub tables : undo.tables ≡ length p.pieces.tables
-  pub rows : undo.current ≡ (present_of (replay_of (job_of p undo) p)).tables
+  pub rows : undo.current ≡ (present_of (replay_so_far (job_of p undo) p)).tables
 
 -- the replay that a core's parts stand for
 abbrev pub core_of : Progress → Undoable → Replay
-core_of p undo = replay_of (job_of p undo) p
+core_of p undo = replay_so_far (job_of p undo) p

@@ -24,21 +24,21 @@ use Rattle.pac_sets.specs.declared.set_id.SetId.{SetId}
 use Rattle.pac_sets.specs.SetOrder.{set_cmp}
 use Rattle.pac_sets.specs.Sets.{IsOpenSet, Kept, with_kept_at}
 use Rattle.pac_commute.specs.Loads.{Job}
-use Rattle.pac_core.specs.declared.loaded.Loaded.{Loaded}
+use Rattle.pac_core.specs.declared.loaded.LoadedBatch.{LoadedBatch}
 use Rattle.pac_core.specs.declared.loading.Added.{Added}
 use Rattle.pac_core.specs.declared.place.Place.{Place}
 use Rattle.pac_core.specs.declared.progress.Progress.{Progress}
 use Rattle.pac_core.specs.declared.stage.OpenSet.{OpenSet}
-use Rattle.pac_core.specs.declared.stage.Stage.{Stage}
-use Rattle.pac_core.specs.declared.stage.Stage.TheVariants.{Waiting, Open}
+use Rattle.pac_core.specs.declared.stage.SetStage.{SetStage}
+use Rattle.pac_core.specs.declared.stage.SetStage.TheVariants.{Waiting, Open}
 use Rattle.pac_core.specs.Cells.{HasCellsOf}
-use Rattle.pac_core.specs.Inputs.{Finds}
-use Rattle.pac_core.specs.Places.{IsPlaced}
-use Rattle.pac_core.specs.Links.{IsUnfinishedBatch, batches_of, piece_in, replay_of}
-use Rattle.pac_core.specs.Takes.{IsNext}
+use Rattle.pac_core.specs.Inputs.{FindsInputs}
+use Rattle.pac_core.specs.Places.{IsPieceAt}
+use Rattle.pac_core.specs.Links.{IsUnfinishedBatch, batches_of, piece_in, replay_so_far}
+use Rattle.pac_core.specs.Takes.{IsNextPiece}
 
 -- nothing is loaded, by this plan, and transactions begin with this number
-pub record IsOpening (parts : PlanParts) (first : ℕ) (p : Progress) : Type 0 where
+pub record IsOpeningProgress (parts : PlanParts) (first : ℕ) (p : Progress) : Type 0 where
   pub pieces : p.pieces ≡ parts
   pub batches : p.batches.items ≡ []
   pub sets : p.sets ≡ record { edges = parts.edges; blocks = parts.blocks; sets = [] }
@@ -51,19 +51,19 @@ pub record IsOpening (parts : PlanParts) (first : ℕ) (p : Progress) : Type 0 w
 -- ---- opening
 
 -- the access of a transaction's piece in a block, over the values that are kept of it
-abbrev pub access_over : PlanParts → Loaded → ℕ → ℕ → Access
+abbrev pub access_over : PlanParts → LoadedBatch → ℕ → ℕ → Access
 access_over parts loaded block t =
     let txn : Option Txn = slice_get loaded.batch.txns (t - loaded.batch.first) in
     access_of (part (txn_block parts txn) block (txn_code parts txn)) (unwrap_or (slice_get loaded.kept.items (t - loaded.batch.first)) empty)
 
 -- values are kept of each transaction of a batch, and what its piece in a block finds of them are its inputs
-pub record HasAllInputs (parts : PlanParts) (loaded : Loaded) (block : ℕ) : Type 0 where
+pub record HasAllInputs (parts : PlanParts) (loaded : LoadedBatch) (block : ℕ) : Type 0 where
   pub all : length loaded.kept.items ≡ length loaded.batch.txns
   pub each : (i : ℕ) (txn : Txn) (kept env : Values) → slice_get loaded.batch.txns i ≡ Some txn → slice_get loaded.kept.items i ≡ Some kept
-      → Finds parts block txn kept env → HasTxnInputs parts block txn env
+      → FindsInputs parts block txn kept env → HasTxnInputs parts block txn env
 
 -- the pieces of these transactions in a block are opened, and none of them is handed out
-pub record IsFreshlyOpen (parts : PlanParts) (loaded : Loaded) (block : ℕ) (txns : List ℕ) (opening : OpenSet) : Type 0 where
+pub record IsFreshlyOpen (parts : PlanParts) (loaded : LoadedBatch) (block : ℕ) (txns : List ℕ) (opening : OpenSet) : Type 0 where
   pub pieces : opening.sched.pieces ≡ map (piece_in block) txns
   pub states : opening.sched.states ≡ replicate (length txns) state.Waiting
   pub pairs : AreNextPairs (map (access_over parts loaded block) txns) opening.sched.pairs
@@ -79,7 +79,7 @@ pub record StandsOpen (p : Progress) (at : ℕ) : Type 0 where
 pub record IsOpeningOf (p : Progress) (at : ℕ) (opening : OpenSet) : Type 0 where
   pub set : SetId
   pub txns : List ℕ
-  pub loaded : Loaded
+  pub loaded : LoadedBatch
   pub there : slice_get p.sets.sets at ≡ Some (set, Some (Waiting txns))
   pub loaded_there : slice_get p.batches.items set.batch ≡ Some loaded
   pub fresh : IsFreshlyOpen p.pieces loaded set.block txns opening
@@ -101,13 +101,13 @@ pub record IsReadyAtOffset (p : Progress) (at : ℕ) (piece : PieceId) : Type 0 
 
 -- the piece that comes next, and where its set stands
 abbrev pub IsNextAt : Job → Progress → Option (ℕ × PieceId) → Type 0
-IsNextAt job p None = IsNext (replay_of job p) None
-IsNextAt job p (Some next) = IsNext (replay_of job p) (Some next.1) × IsReadyAtOffset p next.0 next.1
+IsNextAt job p None = IsNextPiece (replay_so_far job p) None
+IsNextAt job p (Some next) = IsNextPiece (replay_so_far job p) (Some next.1) × IsReadyAtOffset p next.0 next.1
 
 -- ---- a piece is finished
 
 -- what is kept of a set after one of its pieces was finished: nothing where all are
-abbrev pub after_finish : OpenSet → Option Stage
+abbrev pub after_finish : OpenSet → Option SetStage
 after_finish opening = if all_finished opening.sched then None else Some (Open opening)
 
 -- of a batch's transactions one keeps these values now
@@ -124,8 +124,8 @@ pub record IsFinishedTo (p : Progress) (at : ℕ) (id : SetId) (opening : OpenSe
   pub unfinished : new.unfinished + 1 ≡ p.unfinished
   pub closed : new.is_closed ≡ p.is_closed
   pub batches : batches_of new ≡ batches_of p
-  pub values : (k : ℕ) (loaded : Loaded) → slice_get new.batches.items k ≡ Some loaded → IsUnfinishedBatch new.sets.sets k
-      → (before : Loaded) × (slice_get p.batches.items k ≡ Some before) × (loaded.batch ≡ before.batch) × (loaded.kept.items ≡ (if k == id.batch then keeps_now before.kept.items i kept else before.kept.items))
+  pub values : (k : ℕ) (loaded : LoadedBatch) → slice_get new.batches.items k ≡ Some loaded → IsUnfinishedBatch new.sets.sets k
+      → (before : LoadedBatch) × (slice_get p.batches.items k ≡ Some before) × (loaded.batch ≡ before.batch) × (loaded.kept.items ≡ (if k == id.batch then keeps_now before.kept.items i kept else before.kept.items))
 
 -- ---- pieces of an open set move
 
@@ -153,15 +153,15 @@ IsLifted p at new = new ≡ record p { sets = record p.sets { sets = with_kept_a
 
 -- each set is in one of the plan's blocks
 abbrev pub AreInBlocks : Progress → Type 0
-AreInBlocks p = (j : ℕ) (set : Kept Stage) → slice_get p.sets.sets j ≡ Some set → set.0.block < p.pieces.blocks
+AreInBlocks p = (j : ℕ) (set : Kept SetStage) → slice_get p.sets.sets j ≡ Some set → set.0.block < p.pieces.blocks
 
 -- a set isn't finished
-abbrev pub IsSetUnfinished : List (Kept Stage) → SetId → Type 0
-IsSetUnfinished sets set = (j : ℕ) × (stage : Stage) × (slice_get sets j ≡ Some (set, Some stage))
+abbrev pub IsSetUnfinished : List (Kept SetStage) → SetId → Type 0
+IsSetUnfinished sets set = (j : ℕ) × (stage : SetStage) × (slice_get sets j ≡ Some (set, Some stage))
 
 -- a piece that is out may be finished: its set is open, its transaction has room for values, and it is counted
 pub record MayFinish (p : Progress) (place : Place) (piece : PieceId) : Type 0 where
-  pub placed : IsPlaced p place piece state.Out
+  pub placed : IsPieceAt p place piece state.Out
   pub room : place.index < length placed.txn.loaded.kept.items
   pub counted : 0 < p.unfinished
   pub opened : IsOpenSet p.sets.edges p.sets.sets place.at
@@ -174,14 +174,14 @@ IsFinishedAt p place piece kept note new = (set : SetId) (opening : OpenSet) →
     → IsFinishedTo p place.at set opening piece place.index kept note new
 
 -- there is room for the values of a transaction
-abbrev pub HasValuesAt : List Loaded → ℕ → ℕ → Type 0
-HasValuesAt batches batch index = (loaded : Loaded) × (slice_get batches batch ≡ Some loaded) × (index < length loaded.kept.items)
+abbrev pub HasValuesAt : List LoadedBatch → ℕ → ℕ → Type 0
+HasValuesAt batches batch index = (loaded : LoadedBatch) × (slice_get batches batch ≡ Some loaded) × (index < length loaded.kept.items)
 
 -- of a batch other values are kept, and of the others those that were
-pub record AreValuesKept (old : List Loaded) (batch : ℕ) (change : List Values → List Values) (new : List Loaded) : Type 0 where
-  pub batches : map (λ (loaded : Loaded). loaded.batch) new ≡ map (λ (loaded : Loaded). loaded.batch) old
-  pub each : (k : ℕ) (loaded : Loaded) → slice_get new k ≡ Some loaded
-      → (before : Loaded) × (slice_get old k ≡ Some before) × (loaded.batch ≡ before.batch) × (loaded.kept.items ≡ (if k == batch then change before.kept.items else before.kept.items))
+pub record AreValuesKept (old : List LoadedBatch) (batch : ℕ) (change : List Values → List Values) (new : List LoadedBatch) : Type 0 where
+  pub batches : map (λ (loaded : LoadedBatch). loaded.batch) new ≡ map (λ (loaded : LoadedBatch). loaded.batch) old
+  pub each : (k : ℕ) (loaded : LoadedBatch) → slice_get new k ≡ Some loaded
+      → (before : LoadedBatch) × (slice_get old k ≡ Some before) × (loaded.batch ≡ before.batch) × (loaded.kept.items ≡ (if k == batch then change before.kept.items else before.kept.items))
 
 -- one transaction has these values now
 abbrev pub keeps_now_at : ℕ → Values → List Values → List Values
@@ -201,19 +201,19 @@ pub record IsSetEnded (p : Progress) (at : ℕ) (new : Progress) : Type 0 where
   pub unfinished : new.unfinished ≡ p.unfinished
   pub closed : new.is_closed ≡ p.is_closed
   pub batches : batches_of new ≡ batches_of p
-  pub values : (k : ℕ) (loaded : Loaded) → slice_get new.batches.items k ≡ Some loaded → IsUnfinishedBatch new.sets.sets k
-      → (before : Loaded) × (slice_get p.batches.items k ≡ Some before) × (loaded.batch ≡ before.batch) × (loaded.kept.items ≡ before.kept.items)
+  pub values : (k : ℕ) (loaded : LoadedBatch) → slice_get new.batches.items k ≡ Some loaded → IsUnfinishedBatch new.sets.sets k
+      → (before : LoadedBatch) × (slice_get p.batches.items k ≡ Some before) × (loaded.batch ≡ before.batch) × (loaded.kept.items ≡ before.kept.items)
 
 -- ---- a batch is loaded
 
 -- a set of the batch at an offset, none of whose pieces is opened
-abbrev pub IsWaitingSet : ℕ → PieceSet → Kept Stage → Type 0
+abbrev pub IsWaitingSet : ℕ → PieceSet → Kept SetStage → Type 0
 IsWaitingSet k set added = added ≡ (record { batch = k; block = set.block }, Some (Waiting set.txns))
 
 -- a batch is loaded after the others
 pub record IsLoadedTo (p : Progress) (batch : Batch) (new : Progress) : Type 0 where
   pub pieces : new.pieces ≡ p.pieces
-  pub more : List (Kept Stage)
+  pub more : List (Kept SetStage)
   pub sets : new.sets ≡ record p.sets { sets = p.sets.sets ++ more }
   pub waiting : AllZip (IsWaitingSet (length p.batches.items)) (sets_of p.pieces batch.first batch.txns) more
   pub note_is : new.note ≡ p.note
@@ -221,13 +221,13 @@ pub record IsLoadedTo (p : Progress) (batch : Batch) (new : Progress) : Type 0 w
   pub next : new.next ≡ p.next + length batch.txns
   pub unfinished : new.unfinished ≡ p.unfinished + sum_by (λ (set : PieceSet). length set.txns) (sets_of p.pieces batch.first batch.txns)
   pub closed : new.is_closed ≡ p.is_closed
-  pub loaded : Loaded
+  pub loaded : LoadedBatch
   pub batches : new.batches.items ≡ p.batches.items ++ loaded ∷ []
   pub batch_is : loaded.batch ≡ batch
   pub kept : map (λ (txn : Txn). with_values 0 (txn_args (Some txn)) empty) batch.txns ≡ loaded.kept.items
 
 -- a batch may be loaded: its numbers go on, and its transactions fit the plan
-pub record MayAdd (p : Progress) (batch : Batch) : Type 0 where
+pub record MayLoadBatch (p : Progress) (batch : Batch) : Type 0 where
   pub first : batch.first ≡ p.next
   pub fits : AllByRecursion (TxnFitsPlan p.pieces) batch.txns
 
@@ -251,20 +251,20 @@ pub record IsAlike (p new : Progress) : Type 0 where
 -- ---- pieces that are out wait again
 
 -- none of the pieces that are opened is out any more
-abbrev pub reclaimed_stage : Stage → Stage
+abbrev pub reclaimed_stage : SetStage → SetStage
 reclaimed_stage (Waiting txns) = Waiting txns
 reclaimed_stage (Open opening) = Open (record { sched = reclaimed opening.sched; cells = opening.cells })
 
 -- of what is kept of a set
-abbrev pub reclaimed_kept : Option Stage → Option Stage
+abbrev pub reclaimed_kept : Option SetStage → Option SetStage
 reclaimed_kept None = None
 reclaimed_kept (Some stage) = Some (reclaimed_stage stage)
 
 -- of all sets
-abbrev pub reclaimed_sets : List (Kept Stage) → List (Kept Stage)
-reclaimed_sets sets = map (λ (set : Kept Stage). (set.0, reclaimed_kept set.1)) sets
+abbrev pub reclaimed_sets : List (Kept SetStage) → List (Kept SetStage)
+reclaimed_sets sets = map (λ (set : Kept SetStage). (set.0, reclaimed_kept set.1)) sets
 
 -- of the set at an offset
 abbrev pub IsReclaimedAt : Progress → ℕ → Progress → Type 0
-IsReclaimedAt p at new = (set : SetId) (kept : Option Stage) → slice_get p.sets.sets at ≡ Some (set, kept)
+IsReclaimedAt p at new = (set : SetId) (kept : Option SetStage) → slice_get p.sets.sets at ≡ Some (set, kept)
     → new ≡ record p { sets = record p.sets { sets = with_kept_at p.sets.sets at (reclaimed_kept kept) } }

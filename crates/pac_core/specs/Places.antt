@@ -8,27 +8,27 @@ use Rattle.pac_sched.specs.Schedules.{is_out, position_of}
 use Rattle.pac_sets.specs.declared.set_id.SetId.{SetId}
 use Rattle.pac_commute.specs.PlanLaws.{NumbersRunOn}
 use Rattle.pac_core.specs.declared.cells.PieceCells.{PieceCells}
-use Rattle.pac_core.specs.declared.loaded.Loaded.{Loaded}
+use Rattle.pac_core.specs.declared.loaded.LoadedBatch.{LoadedBatch}
 use Rattle.pac_core.specs.declared.place.Place.{Place}
 use Rattle.pac_core.specs.declared.progress.Progress.{Progress}
 use Rattle.pac_core.specs.declared.stage.OpenSet.{OpenSet}
-use Rattle.pac_core.specs.declared.stage.Stage.{Stage}
-use Rattle.pac_core.specs.declared.stage.Stage.TheVariants.{Open}
+use Rattle.pac_core.specs.declared.stage.SetStage.{SetStage}
+use Rattle.pac_core.specs.declared.stage.SetStage.TheVariants.{Open}
 use Rattle.pac_core.specs.Links.{mark}
 
 -- the numbers of batches run on from some number
-abbrev pub RunOn : List Loaded → Type 0
-RunOn batches = (first : ℕ) × NumbersRunOn first (map (λ (loaded : Loaded). loaded.batch) batches)
+abbrev pub LoadedRunOn : List LoadedBatch → Type 0
+LoadedRunOn batches = (first : ℕ) × NumbersRunOn first (map (λ (loaded : LoadedBatch). loaded.batch) batches)
 
 -- the transaction of a number is at an index in the batch at an offset
-pub record IsTxnIn (batches : List Loaded) (t batch index : ℕ) : Type 0 where
-  pub loaded : Loaded
+pub record IsTxnIn (batches : List LoadedBatch) (t batch index : ℕ) : Type 0 where
+  pub loaded : LoadedBatch
   pub there : slice_get batches batch ≡ Some loaded
   pub inside : index < length loaded.batch.txns
   pub number : t ≡ loaded.batch.first + index
 
 -- no transaction has the number
-abbrev pub IsTxnNowhere : List Loaded → ℕ → Type 0
+abbrev pub IsTxnNowhere : List LoadedBatch → ℕ → Type 0
 IsTxnNowhere batches t = (batch index : ℕ) → IsTxnIn batches t batch index → ⊥
 
 -- a piece of the open set at an offset stands at a position in it, and is so far
@@ -40,18 +40,18 @@ pub record IsPieceIn (p : Progress) (at : ℕ) (piece : PieceId) (position : ℕ
   pub far_is : slice_get opening.sched.states position ≡ Some far
 
 -- a piece of an open set has this place, and is so far
-pub record IsPlaced (p : Progress) (place : Place) (piece : PieceId) (far : PieceState) : Type 0 where
+pub record IsPieceAt (p : Progress) (place : Place) (piece : PieceId) (far : PieceState) : Type 0 where
   pub txn : IsTxnIn p.batches.items piece.txn place.batch place.index
   pub stands : IsPieceIn p place.at piece place.position far
   pub set_is : stands.set ≡ record { batch = place.batch; block = piece.block }
 
 -- a piece of an open set has this place
 abbrev pub HasPlace : Progress → PieceId → Place → Type 0
-HasPlace p piece place = (far : PieceState) × IsPlaced p place piece far
+HasPlace p piece place = (far : PieceState) × IsPieceAt p place piece far
 
 -- the set at an offset doesn't have the piece out
 abbrev pub IsNotOutOf : Progress → ℕ → PieceId → Type 0
-IsNotOutOf p at piece = (set : SetId) (kept : Option Stage) → slice_get p.sets.sets at ≡ Some (set, kept) → is_out (mark kept piece) ≡ false
+IsNotOutOf p at piece = (set : SetId) (kept : Option SetStage) → slice_get p.sets.sets at ≡ Some (set, kept) → is_out (mark kept piece) ≡ false
 
 -- ---- what stands at a place
 
@@ -61,11 +61,11 @@ IsOpenAt p at opening = (set : SetId) × (slice_get p.sets.sets at ≡ Some (set
 
 -- the transaction
 abbrev pub IsTxnAt : Progress → Place → Txn → Type 0
-IsTxnAt p place txn = (loaded : Loaded) × (slice_get p.batches.items place.batch ≡ Some loaded) × (slice_get loaded.batch.txns place.index ≡ Some txn)
+IsTxnAt p place txn = (loaded : LoadedBatch) × (slice_get p.batches.items place.batch ≡ Some loaded) × (slice_get loaded.batch.txns place.index ≡ Some txn)
 
 -- the values that are kept of it
 abbrev pub AreValuesAt : Progress → Place → Values → Type 0
-AreValuesAt p place kept = (loaded : Loaded) × (slice_get p.batches.items place.batch ≡ Some loaded) × (slice_get loaded.kept.items place.index ≡ Some kept)
+AreValuesAt p place kept = (loaded : LoadedBatch) × (slice_get p.batches.items place.batch ≡ Some loaded) × (slice_get loaded.kept.items place.index ≡ Some kept)
 
 -- the cells of the piece
 abbrev pub AreCellsAt : Progress → Place → PieceCells → Type 0

@@ -38,8 +38,8 @@ left r = length (filter (λ p. not (among r.finished p)) (loaded_pieces r))
 -- ---- what each call makes of it
 
 -- one more batch is loaded
-abbrev pub with_batch : Replay → Batch → Replay
-with_batch r batch = record r { batches = and_batch r.batches batch }
+abbrev pub with_batch_loaded : Replay → Batch → Replay
+with_batch_loaded r batch = record r { batches = and_batch r.batches batch }
 
 -- no more may come
 abbrev pub closed : Replay → Replay

@@ -13,12 +13,12 @@ use Rattle.pac_commute.specs.HandOut.{IsPieceTaken}
 use Rattle.pac_commute.specs.PlanLaws.{txns_of}
 use Rattle.pac_commute.specs.Machine.{among, access_at, ends_at, world_at}
 use Rattle.pac_core.specs.Cells.{AreCellsOf, copies_at}
-use Rattle.pac_core.specs.Inputs.{Finds}
+use Rattle.pac_core.specs.Inputs.{FindsInputs}
 use Rattle.pac_core.specs.Replay.{Replay, loaded_pieces, machine_of, present_of}
 
 -- the piece that comes next: a ready one that no ready one comes before, by batch, block and transaction; none only where none is ready
-abbrev pub IsNext : Replay → Option PieceId → Type 0
-IsNext r next = IsPieceTaken (world_at r.job (machine_of r)) (ends_at r.job (machine_of r)) (loaded_pieces r) (among r.out) (among r.finished) next
+abbrev pub IsNextPiece : Replay → Option PieceId → Type 0
+IsNextPiece r next = IsPieceTaken (world_at r.job (machine_of r)) (ends_at r.job (machine_of r)) (loaded_pieces r) (among r.out) (among r.finished) next
 
 -- the access of a piece
 abbrev pub access_in : Replay → PieceId → Access
@@ -29,7 +29,7 @@ access_in r p = access_at r.job (machine_of r) p
 pub record IsWorkOver (parts : PlanParts) (piece : PieceId) (txn : Txn) (kept : Values) (cells : List Cell) (tables : Tables) (work : Work) : Type 0 where
   pub piece_is : work.piece ≡ piece
   pub code : work.code ≡ code_in parts piece.block txn
-  pub inputs : Finds parts piece.block txn kept work.env
+  pub inputs : FindsInputs parts piece.block txn kept work.env
   pub rows : work.rows ≡ copies_at tables cells
 
 -- the work of a piece as the replay has it: the code of its transaction in its block, the values of its inputs, and copies of the rows at the

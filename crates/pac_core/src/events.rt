@@ -4,10 +4,10 @@ ghost use Rattle.pac_plan.specs.declared.access.Access.TheVariants.{Whole};
 ghost use Rattle.pac_tables.specs.Written.{AreWithin};
 ghost use Rattle.pac_sched.specs.declared.state.PieceState.TheVariants.{Out, Waiting};
 ghost use Rattle.pac_commute.specs.Machine.{IsReadyAt};
-ghost use Rattle.pac_core.specs.Calls.{IsGivenBack, IsGivenWork, IsHandedIn, IsOwn, IsTaken};
-ghost use Rattle.pac_core.specs.Links.{IsCore, IsKept, core_of, job_of};
+ghost use Rattle.pac_core.specs.Calls.{IsGivenBack, IsGivenWork, IsHandedIn, IsOwn, IsTakenPiece};
+ghost use Rattle.pac_core.specs.Links.{IsCore, IsKeptProgress, core_of, job_of};
 ghost use Rattle.pac_core.specs.Moves.{IsNextAt, IsReadyAtOffset};
-ghost use Rattle.pac_core.specs.Places.{HasPlace, IsPlaced};
+ghost use Rattle.pac_core.specs.Places.{HasPlace, IsPieceAt};
 ghost use Rattle.pac_core.specs.Replay.{machine_of, with_finished};
 ghost use Rattle.pac_core.specs.Results.{IsKeptAfter, IsResult};
 ghost use Rattle.pac_core.specs.Takes.{access_in};
@@ -35,7 +35,7 @@ pub(crate) fn take_next<R: Rows>(
 ) -> Result<Take, NoMemory>
     requires { IsCore progress.old rows.old }
     ensures keeps { IsCore progress.new rows.new }
-    ensures ok { IfOk result (λ take. IsTaken (core_of progress.old rows.old) take (core_of progress.new rows.new)) }
+    ensures ok { IfOk result (λ take. IsTakenPiece (core_of progress.old rows.old) take (core_of progress.new rows.new)) }
     ensures err { OnErr result (core_of progress.new rows.new ≡ core_of progress.old rows.old) }
 {
     match progress.next_ready()? {
@@ -55,7 +55,7 @@ fn take_piece<R: Rows>(
     requires core { IsCore progress.old rows.old }
     requires next { IsNextAt (job_of progress.old rows.old) progress.old (Some (at, piece)) }
     ensures keeps { IsCore progress.new rows.new }
-    ensures ok { IfOk result (λ take. IsTaken (core_of progress.old rows.old) take (core_of progress.new rows.new)) }
+    ensures ok { IfOk result (λ take. IsTakenPiece (core_of progress.old rows.old) take (core_of progress.new rows.new)) }
     ensures err { OnErr result (core_of progress.new rows.new ≡ core_of progress.old rows.old) }
 {
     let place = progress.place_of_ready(at, piece);
@@ -79,7 +79,7 @@ fn given<R: Rows>(
     piece: PieceId,
 ) -> Result<Option<Work>, NoMemory>
     requires core { IsCore progress.now rows.now }
-    requires place { IsPlaced progress.now place piece Waiting }
+    requires place { IsPieceAt progress.now place piece Waiting }
     requires ready { IsReadyAt (job_of progress.now rows.now) (machine_of (core_of progress.now rows.now)) piece }
     ensures given { IfOk result (λ given. IfSome given (IsGivenWork (core_of progress.now rows.now) piece)) }
     ensures whole { IfOk result (λ given. IfNone given (access_in (core_of progress.now rows.now) piece ≡ Whole)) }
@@ -111,7 +111,7 @@ fn run_here<R: Rows>(
     piece: PieceId,
 ) -> Result<(), NoMemory>
     requires core { IsCore progress.old rows.old }
-    requires place { IsPlaced progress.old place piece Waiting }
+    requires place { IsPieceAt progress.old place piece Waiting }
     requires ready { IsReadyAt (job_of progress.old rows.old) (machine_of (core_of progress.old rows.old)) piece }
     requires first { IsReadyAtOffset progress.old place.at piece }
     ensures keeps { IsCore progress.new rows.new }
@@ -143,7 +143,7 @@ fn outcome_of<R: Rows>(
     piece: PieceId,
 ) -> Result<PieceOutcome, NoMemory>
     requires core { IsCore progress.now rows.now }
-    requires place { IsPlaced progress.now place piece Waiting }
+    requires place { IsPieceAt progress.now place piece Waiting }
     requires ready { IsReadyAt (job_of progress.now rows.now) (machine_of (core_of progress.now rows.now)) piece }
     ensures result { IfOk result (λ outcome. IsResult (core_of progress.now rows.now) piece outcome.writes outcome.outs outcome.note) }
     ensures within { IfOk result (λ outcome. AreWithin rows.now.tables outcome.writes) }
@@ -163,7 +163,7 @@ fn kept_after(
     piece: PieceId,
     outs: &Env,
 ) -> Result<Env, NoMemory>
-    requires kept { IsKept progress.now }
+    requires kept { IsKeptProgress progress.now }
     requires place { HasPlace progress.now piece place }
     ensures { IfOk result (IsKeptAfter progress.now place piece outs.now) }
 {
@@ -178,7 +178,7 @@ fn kept_after(
 fn own_place<R: Rows>(progress: &Progress, rows: &UndoRows<R>, work: &Work) -> Option<Place>
     requires { IsCore progress.now rows.now }
     ensures own { IfSome result (λ place. IsOwn (core_of progress.now rows.now) work.now) }
-    ensures place { IfSome result (λ place. IsPlaced progress.now place work.now.piece Out) }
+    ensures place { IfSome result (λ place. IsPieceAt progress.now place work.now.piece Out) }
     ensures foreign { IfNone result (IsOwn (core_of progress.now rows.now) work.now → ⊥) }
 {
     let piece = work.piece;

@@ -1,8 +1,8 @@
 // What tells a core's job.
 ghost use Rattle.std.specs.Prelude.{◌≡◌, ◌↔◌, IfOk, IsTrue, map};
-ghost use Rattle.pac_core.specs.declared.loaded.Loaded.{Loaded as ALoaded};
+ghost use Rattle.pac_core.specs.declared.loaded.LoadedBatch.{LoadedBatch as ALoaded};
 
-use crate::loaded::Loaded;
+use crate::loaded::LoadedBatch;
 use pac_base::{Exact, NoMemory, Same};
 use pac_ops::{Batch, Batches};
 use pac_plan::{Plan, one_plan};
@@ -24,7 +24,7 @@ pub struct Job<R: Rows> {
 /// # Errors
 ///
 /// [`NoMemory`] where they find no room.
-pub(crate) fn batch_copies(alloc: Global, loaded: &[Loaded]) -> Result<Vec<Batch>, NoMemory>
+pub(crate) fn batch_copies(alloc: Global, loaded: &[LoadedBatch]) -> Result<Vec<Batch>, NoMemory>
     ensures { IfOk result (λ batches. map (λ (one : ALoaded). one.batch) loaded.now ≡ batches.items) }
 {
     let mut batches = Vec::with_capacity(alloc, loaded.len())?;
@@ -79,7 +79,7 @@ fn are_same_tables(plan: &Plan, other: &Plan) -> bool
 }
 
 /// Whether these are the loaded batches. Takes no memory.
-pub(crate) fn are_batches(loaded: &[Loaded], batches: &[Batch]) -> bool
+pub(crate) fn are_batches(loaded: &[LoadedBatch], batches: &[Batch]) -> bool
     ensures { IsTrue result ↔ (map (λ (one : ALoaded). one.batch) loaded.now ≡ batches.now) }
 {
     if loaded.len() != batches.len() {

@@ -8,12 +8,12 @@ ghost use Rattle.pac_plan.specs.Worlds.{txn_args};
 ghost use Rattle.pac_plan.specs.Codes.{TxnFitsPlan};
 ghost use Rattle.pac_batch.specs.declared.piece_set.PieceSet.{PieceSet as APieceSet};
 ghost use Rattle.pac_batch.specs.Sets.{sets_of};
-ghost use Rattle.pac_core.specs.Links.{IsKept};
-ghost use Rattle.pac_core.specs.Moves.{AreAdded, IsAlike, IsLoadedTo, IsWaitingSet, MayAdd};
+ghost use Rattle.pac_core.specs.Links.{IsKeptProgress};
+ghost use Rattle.pac_core.specs.Moves.{AreAdded, IsAlike, IsLoadedTo, IsWaitingSet, MayLoadBatch};
 
-use crate::loaded::Loaded;
+use crate::loaded::LoadedBatch;
 use crate::progress::Progress;
-use crate::stage::Stage;
+use crate::stage::SetStage;
 use pac_base::{Exact, NoMemory};
 use pac_batch::{PieceSet, sets};
 use pac_keys::arguments;
@@ -25,7 +25,7 @@ use std::alloc::Global;
 /// What a batch adds: its sets, the values that its transactions begin with, and how many pieces it has.
 #[derive(Drop)]
 struct Added {
-    sets: Vec<Kept<Stage>>,
+    sets: Vec<Kept<SetStage>>,
     kept: Vec<Env>,
     pieces: u64,
 }
@@ -38,8 +38,8 @@ impl Progress {
     /// [`NoMemory`] with the batch, where its pieces find no room, or where there would be more unfinished ones than a count
     /// can tell. What is kept stays.
     pub fn load(&mut self, batch: Batch) -> Result<(), (Batch, NoMemory)>
-        requires kept { IsKept self.old }
-        requires may { MayAdd self.old batch }
+        requires kept { IsKeptProgress self.old }
+        requires may { MayLoadBatch self.old batch }
         requires numbers { batch.first + length batch.txns < 2 ^ 64 }
         ensures ok { OnOk result (IsLoadedTo self.old batch self.new) }
         ensures err { OnErr result (IsAlike self.old self.new) }
@@ -64,7 +64,7 @@ impl Progress {
         }
         self.next += batch.txns.items().len() as u64;
         self.unfinished = unfinished;
-        match self.batches.push(Loaded { batch, kept }) {
+        match self.batches.push(LoadedBatch { batch, kept }) {
             Ok(()) => Ok(()),
             Err(_) => unreachable!(),
         }
@@ -99,7 +99,7 @@ fn count(sets: &[PieceSet]) -> Option<u64>
 }
 
 // The sets of a batch, whose pieces are not opened.
-fn waiting(alloc: Global, batch: u64, sets: &[PieceSet]) -> Result<Vec<Kept<Stage>>, NoMemory>
+fn waiting(alloc: Global, batch: u64, sets: &[PieceSet]) -> Result<Vec<Kept<SetStage>>, NoMemory>
     ensures { IfOk result (λ more. AllZip (IsWaitingSet batch) sets.now more.items) }
 {
     let mut more = Vec::with_capacity(alloc, sets.len())?;
@@ -109,7 +109,7 @@ fn waiting(alloc: Global, batch: u64, sets: &[PieceSet]) -> Result<Vec<Kept<Stag
             block: set.block,
         };
         let txns = set.txns.copy(alloc)?;
-        more.push((id, Some(Stage::Waiting(txns))))?;
+        more.push((id, Some(SetStage::Waiting(txns))))?;
     }
     Ok(more)
 }

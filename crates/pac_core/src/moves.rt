@@ -9,10 +9,10 @@ ghost use Rattle.pac_sets.specs.Sets.{IsOpenSet};
 ghost use Rattle.pac_core.specs.Links.{IsUnfinishedBatch};
 ghost use Rattle.pac_core.specs.Moves.{AreInBlocks, AreValuesKept, HasValuesAt, IsFinishedAt, IsLifted, IsMovedTo, IsOrderAfter, IsPieceOut, IsSetEnded, IsSetUnfinished, MayFinish, StandsOpen, WasOpen, keeps_none, keeps_now_at};
 
-use crate::loaded::Loaded;
+use crate::loaded::LoadedBatch;
 use crate::place::Place;
 use crate::progress::Progress;
-use crate::stage::{OpenSet, Stage};
+use crate::stage::{OpenSet, SetStage};
 use pac_base::listed;
 use pac_ops::{Note, PieceId};
 use pac_sets::SetId;
@@ -29,7 +29,7 @@ impl Progress {
         let mut open = self.lift(at);
         open.sched.take();
         open.sched.keeps_order();
-        self.sets.keep(at, Stage::Open(open));
+        self.sets.keep(at, SetStage::Open(open));
     }
 
     /// A piece that is out of an open set waits again. Takes no memory.
@@ -41,7 +41,7 @@ impl Progress {
         let mut open = self.lift(at);
         open.sched.give_back(piece);
         open.sched.keeps_order();
-        self.sets.keep(at, Stage::Open(open));
+        self.sets.keep(at, SetStage::Open(open));
     }
 
     /// A piece that is out of an open set is finished, with values that are kept of its transaction, and a note. Takes no
@@ -55,7 +55,7 @@ impl Progress {
         open.sched.finish(piece);
         open.sched.keeps_order();
         let is_done = open.sched.unfinished() == 0;
-        self.sets.keep(place.at, Stage::Open(open));
+        self.sets.keep(place.at, SetStage::Open(open));
         keep_values(&mut self.batches, place.batch, place.index, kept);
         self.note = lesser(self.note, note);
         self.unfinished -= 1;
@@ -84,10 +84,10 @@ impl Progress {
         ensures was { WasOpen self.old at result }
         ensures now { IsLifted self.old at self.new }
     {
-        let nothing = Stage::Waiting(listed(Vec::new(self.alloc)));
+        let nothing = SetStage::Waiting(listed(Vec::new(self.alloc)));
         match self.sets.exchange(at, nothing) {
-            Stage::Open(open) => open,
-            Stage::Waiting(_) => unreachable!(),
+            SetStage::Open(open) => open,
+            SetStage::Waiting(_) => unreachable!(),
         }
     }
 
@@ -121,7 +121,7 @@ impl Progress {
 }
 
 // Other values are kept of a transaction.
-fn keep_values(batches: &mut Vec<Loaded>, batch: usize, index: usize, kept: Env)
+fn keep_values(batches: &mut Vec<LoadedBatch>, batch: usize, index: usize, kept: Env)
     requires { HasValuesAt batches.old.items batch index }
     ensures { AreValuesKept batches.old.items batch (keeps_now_at index kept) batches.new.items }
 {
@@ -129,7 +129,7 @@ fn keep_values(batches: &mut Vec<Loaded>, batch: usize, index: usize, kept: Env)
 }
 
 // No values are kept of a batch's transactions.
-fn clear_values(alloc: Global, batches: &mut Vec<Loaded>, batch: usize)
+fn clear_values(alloc: Global, batches: &mut Vec<LoadedBatch>, batch: usize)
     requires { batch < length batches.old.items }
     ensures { AreValuesKept batches.old.items batch keeps_none batches.new.items }
 {

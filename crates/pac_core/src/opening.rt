@@ -6,12 +6,12 @@ ghost use Rattle.pac_value.specs.Expressions.{Values};
 ghost use Rattle.pac_plan.specs.Codes.{HasTxnInputs, TxnFitsPlan};
 ghost use Rattle.pac_batch.specs.Sets.{set_of};
 ghost use Rattle.pac_core.specs.Cells.{HasCellsOf};
-ghost use Rattle.pac_core.specs.Inputs.{Finds};
+ghost use Rattle.pac_core.specs.Inputs.{FindsInputs};
 ghost use Rattle.pac_core.specs.Links.{piece_in};
 ghost use Rattle.pac_core.specs.Moves.{HasAllInputs, IsFreshlyOpen, access_over};
 
 use crate::cells::{PieceCells, cells_of};
-use crate::loaded::Loaded;
+use crate::loaded::LoadedBatch;
 use crate::plan_pieces::PlanPieces;
 use crate::stage::OpenSet;
 use pac_base::NoMemory;
@@ -30,7 +30,7 @@ use std::alloc::Global;
 pub(crate) fn open_set(
     alloc: Global,
     plan: &PlanPieces,
-    loaded: &Loaded,
+    loaded: &LoadedBatch,
     block: u16,
     txns: &[u64],
 ) -> Result<OpenSet, NoMemory>
@@ -60,7 +60,7 @@ pub(crate) fn open_set(
 fn access_of(
     alloc: Global,
     plan: &PlanPieces,
-    loaded: &Loaded,
+    loaded: &LoadedBatch,
     block: u16,
     txn: u64,
 ) -> Result<Access, NoMemory>

@@ -3,14 +3,14 @@ ghost use Rattle.std.specs.Prelude.{◌≡◌, ◌<◌, ℕ, false, IfNone, IfSo
 ghost use Rattle.pac_commute.specs.Loads.{Job};
 ghost use Rattle.pac_commute.specs.Machine.{among};
 ghost use Rattle.pac_sched.specs.declared.state.PieceState.TheVariants.{Out, Waiting};
-ghost use Rattle.pac_core.specs.Links.{IsKept, KeepsProgress, replay_of};
+ghost use Rattle.pac_core.specs.Links.{IsKeptProgress, KeepsProgress, replay_so_far};
 ghost use Rattle.pac_core.specs.Moves.{IsReadyAtOffset, StandsOpen};
-ghost use Rattle.pac_core.specs.Places.{AreCellsAt, AreValuesAt, HasPlace, IsNotOutOf, IsOpenAt, IsPieceIn, IsPlaced, IsTxnAt, IsTxnIn, IsTxnNowhere, RunOn};
+ghost use Rattle.pac_core.specs.Places.{AreCellsAt, AreValuesAt, HasPlace, IsNotOutOf, IsOpenAt, IsPieceIn, IsPieceAt, IsTxnAt, IsTxnIn, IsTxnNowhere, LoadedRunOn};
 
 use crate::cells::PieceCells;
-use crate::loaded::Loaded;
+use crate::loaded::LoadedBatch;
 use crate::progress::Progress;
-use crate::stage::{OpenSet, Stage};
+use crate::stage::{OpenSet, SetStage};
 use pac_ops::{PieceId, Txn};
 use pac_sched::PieceState;
 use pac_sets::SetId;
@@ -27,8 +27,8 @@ pub(crate) struct Place {
 }
 
 // The batch of a transaction, and its index there. A binary search. `None`: it isn't loaded.
-fn txn_in(batches: &[Loaded], txn: u64) -> Option<(usize, usize)>
-    requires { RunOn batches.now }
+fn txn_in(batches: &[LoadedBatch], txn: u64) -> Option<(usize, usize)>
+    requires { LoadedRunOn batches.now }
     ensures found { IfSome result (λ found. IsTxnIn batches.now txn found.0 found.1) }
     ensures none { IfNone result (IsTxnNowhere batches.now txn) }
 {
@@ -48,9 +48,9 @@ fn txn_in(batches: &[Loaded], txn: u64) -> Option<(usize, usize)>
 impl Progress {
     /// Where a piece that is out belongs. `None`: it isn't out. Takes no memory.
     pub fn place_of_out(&self, piece: PieceId) -> Option<Place>
-        requires { IsKept self.now }
-        ensures found { IfSome result (λ place. IsPlaced self.now place piece Out) }
-        ensures none { IfNone result ((job : Job) → KeepsProgress job self.now → among (replay_of job self.now).out piece ≡ false) }
+        requires { IsKeptProgress self.now }
+        ensures found { IfSome result (λ place. IsPieceAt self.now place piece Out) }
+        ensures none { IfNone result ((job : Job) → KeepsProgress job self.now → among (replay_so_far job self.now).out piece ≡ false) }
     {
         let (batch, index) = txn_in(&self.batches, piece.txn)?;
         let at = self.sets.find(SetId {
@@ -74,7 +74,7 @@ impl Progress {
     {
         let (_, kept) = self.sets.get(at);
         let Some(stage) = kept else { return None };
-        let Stage::Open(open) = stage else {
+        let SetStage::Open(open) = stage else {
             return None;
         };
         match open.sched.state(piece) {
@@ -85,9 +85,9 @@ impl Progress {
 
     /// Where the first ready piece of an open set belongs.
     pub fn place_of_ready(&self, at: usize, piece: PieceId) -> Place
-        requires kept { IsKept self.now }
+        requires kept { IsKeptProgress self.now }
         requires ready { IsReadyAtOffset self.now at piece }
-        ensures placed { IsPlaced self.now result piece Waiting }
+        ensures placed { IsPieceAt self.now result piece Waiting }
         ensures at { result.at ≡ at }
     {
         let (set, _) = self.sets.get(at);
@@ -112,8 +112,8 @@ impl Progress {
         let (_, kept) = self.sets.get(at);
         let Some(stage) = kept else { unreachable!() };
         match stage {
-            Stage::Open(open) => open,
-            Stage::Waiting(_) => unreachable!(),
+            SetStage::Open(open) => open,
+            SetStage::Waiting(_) => unreachable!(),
         }
     }
 
@@ -127,7 +127,7 @@ impl Progress {
 
     /// The values that are kept of it.
     pub fn values_at(&self, place: Place, piece: PieceId) -> &Env
-        requires kept { IsKept self.now }
+        requires kept { IsKeptProgress self.now }
         requires place { HasPlace self.now piece place }
         ensures { AreValuesAt self.now place result.now }
     {
@@ -136,7 +136,7 @@ impl Progress {
 
     /// The cells of the piece.
     pub fn cells_at(&self, place: Place, piece: PieceId) -> &PieceCells
-        requires kept { IsKept self.now }
+        requires kept { IsKeptProgress self.now }
         requires place { HasPlace self.now piece place }
         ensures { AreCellsAt self.now place result.now }
     {

@@ -5,7 +5,7 @@ ghost use Rattle.pac_interface.specs.Interfaces.{IsInterfaceOf};
 ghost use Rattle.pac_ops.specs.Shapes.{RecordsFit};
 ghost use Rattle.pac_plan.specs.PieceFits.{records_in};
 ghost use Rattle.pac_value.specs.Restricted.{HasOnly};
-ghost use Rattle.pac_core.specs.Inputs.{Finds, LeavesValues};
+ghost use Rattle.pac_core.specs.Inputs.{FindsInputs, LeavesValues};
 
 use crate::values::{values_of, with_outputs};
 use pac_base::{Exact, Listed, NoMemory, Same};
@@ -76,7 +76,7 @@ impl PlanPieces {
     pub fn found(&self, alloc: Global, txn: &Txn, block: u16, kept: &Env) -> Result<Env, NoMemory>
         requires fits { TxnFitsPlan self.now txn.now }
         requires block { block < self.now.blocks }
-        ensures { IfOk result (Finds self.now block txn.now kept.now) }
+        ensures { IfOk result (FindsInputs self.now block txn.now kept.now) }
     {
         match txn {
             Txn::Call(call) => {
@@ -94,7 +94,7 @@ impl PlanPieces {
     pub fn finds(&self, txn: &Txn, block: u16, kept: &Env, env: &Env) -> bool
         requires fits { TxnFitsPlan self.now txn.now }
         requires block { block < self.now.blocks }
-        ensures { IsTrue result ↔ Finds self.now block txn.now kept.now env.now }
+        ensures { IsTrue result ↔ FindsInputs self.now block txn.now kept.now env.now }
     {
         match txn {
             Txn::Call(call) => {

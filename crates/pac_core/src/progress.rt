@@ -2,13 +2,13 @@
 ghost use Rattle.std.specs.Prelude.{◌≡◌, ◌↔◌, true, IfOk, IfNone, IfSome, IsTrue, OnOk};
 ghost use Rattle.pac_commute.specs.Loads.{Job};
 ghost use Rattle.pac_sets.specs.Sets.{IsOpenSet};
-ghost use Rattle.pac_core.specs.Links.{IsKept, KeepsProgress, replay_of};
-ghost use Rattle.pac_core.specs.Moves.{HasNoneReady, IsNextAt, IsOpening, IsOpeningOf, IsReadyAtOffset, StandsOpen};
+ghost use Rattle.pac_core.specs.Links.{IsKeptProgress, KeepsProgress, replay_so_far};
+ghost use Rattle.pac_core.specs.Moves.{HasNoneReady, IsNextAt, IsOpeningProgress, IsOpeningOf, IsReadyAtOffset, StandsOpen};
 
-use crate::loaded::Loaded;
+use crate::loaded::LoadedBatch;
 use crate::opening::open_set;
 use crate::plan_pieces::PlanPieces;
-use crate::stage::{OpenSet, Stage};
+use crate::stage::{OpenSet, SetStage};
 use pac_base::NoMemory;
 use pac_ops::{Note, PieceId};
 use pac_plan::Plan;
@@ -22,9 +22,9 @@ pub(crate) struct Progress {
     pub alloc: Global,
     pub pieces: PlanPieces,
     /// Batches in the order in which they were loaded.
-    pub batches: Vec<Loaded>,
+    pub batches: Vec<LoadedBatch>,
     /// Their sets.
-    pub sets: Sets<Stage>,
+    pub sets: Sets<SetStage>,
     /// The least note of the pieces that are finished.
     pub note: Option<Note>,
     /// The numbers of the first transaction, and of that after the last one.
@@ -42,7 +42,7 @@ impl Progress {
     ///
     /// [`NoMemory`] where that finds no room.
     pub fn new(alloc: Global, plan: Plan, first: u64) -> Result<Progress, NoMemory>
-        ensures { IfOk result (IsOpening plan first) }
+        ensures { IfOk result (IsOpeningProgress plan first) }
     {
         let pieces = PlanPieces::new(alloc, plan)?;
         let sets = Sets::new(alloc, pieces.code().plan())?;
@@ -66,9 +66,9 @@ impl Progress {
     ///
     /// [`NoMemory`] where a set that is opened finds no room. Others may have been opened.
     pub fn next_ready(&mut self) -> Result<Option<(usize, PieceId)>, NoMemory>
-        requires { IsKept self.old }
+        requires { IsKeptProgress self.old }
         ensures keeps { (job : Job) → KeepsProgress job self.old → KeepsProgress job self.new }
-        ensures same { (job : Job) → KeepsProgress job self.old → replay_of job self.new ≡ replay_of job self.old }
+        ensures same { (job : Job) → KeepsProgress job self.old → replay_so_far job self.new ≡ replay_so_far job self.old }
         ensures next { (job : Job) → KeepsProgress job self.old → IfOk result (IsNextAt job self.new) }
     {
         let count = self.sets.len();
@@ -85,15 +85,15 @@ impl Progress {
 
     // Opens the pieces of a set, unless they are.
     fn open(&mut self, at: usize) -> Result<(), NoMemory>
-        requires keeps { IsKept self.old }
+        requires keeps { IsKeptProgress self.old }
         requires open { IsOpenSet self.old.sets.edges self.old.sets.sets at }
         ensures keeps { (job : Job) → KeepsProgress job self.old → KeepsProgress job self.new }
-        ensures same { (job : Job) → KeepsProgress job self.old → replay_of job self.new ≡ replay_of job self.old }
+        ensures same { (job : Job) → KeepsProgress job self.old → replay_so_far job self.new ≡ replay_so_far job self.old }
         ensures open { OnOk result (StandsOpen self.new at) }
     {
         match self.opening_of(at)? {
             Some(opening) => {
-                self.sets.keep(at, Stage::Open(opening));
+                self.sets.keep(at, SetStage::Open(opening));
                 Ok(())
             }
             None => Ok(()),
@@ -102,7 +102,7 @@ impl Progress {
 
     // The pieces of a set once they are opened. `None`: they are.
     fn opening_of(&self, at: usize) -> Result<Option<OpenSet>, NoMemory>
-        requires keeps { IsKept self.now }
+        requires keeps { IsKeptProgress self.now }
         requires open { IsOpenSet self.now.sets.edges self.now.sets.sets at }
         ensures waiting { IfOk result (λ opening. IfSome opening (IsOpeningOf self.now at)) }
         ensures opened { IfOk result (λ opening. IfNone opening (StandsOpen self.now at)) }
@@ -110,7 +110,7 @@ impl Progress {
         let (set, kept) = self.sets.get(at);
         let Some(stage) = kept else { unreachable!() };
         match stage {
-            Stage::Waiting(txns) => {
+            SetStage::Waiting(txns) => {
                 let loaded = &self.batches[set.batch as usize];
                 let opening = open_set(
                     self.alloc,
@@ -121,7 +121,7 @@ impl Progress {
                 )?;
                 Ok(Some(opening))
             }
-            Stage::Open(_) => Ok(None),
+            SetStage::Open(_) => Ok(None),
         }
     }
 
@@ -133,7 +133,7 @@ impl Progress {
     {
         let (_, kept) = self.sets.get(at);
         let Some(stage) = kept else { unreachable!() };
-        let Stage::Open(open) = stage else {
+        let SetStage::Open(open) = stage else {
             unreachable!()
         };
         match open.sched.peek() {

@@ -3,7 +3,7 @@ ghost use Rattle.std.specs.Prelude.{◌≡◌, ◌↔◌, ◌<◌, IsTrue, lengt
 ghost use Rattle.pac_core.specs.Moves.{IsReclaimedAt, StandsOpen, reclaimed_sets};
 
 use crate::progress::Progress;
-use crate::stage::Stage;
+use crate::stage::SetStage;
 
 impl Progress {
     /// Each piece that is out waits again. Takes no memory, and time that grows with the number of sets and of pieces that
@@ -25,7 +25,7 @@ impl Progress {
             let mut open = self.lift(at);
             open.sched.reclaim();
             open.sched.keeps_order();
-            self.sets.keep(at, Stage::Open(open));
+            self.sets.keep(at, SetStage::Open(open));
         }
     }
 
@@ -37,8 +37,8 @@ impl Progress {
         let (_, kept) = self.sets.get(at);
         let Some(stage) = kept else { return false };
         match stage {
-            Stage::Open(_) => true,
-            Stage::Waiting(_) => false,
+            SetStage::Open(_) => true,
+            SetStage::Waiting(_) => false,
         }
     }
 
@@ -58,8 +58,8 @@ impl Progress {
         let (_, kept) = self.sets.get(at);
         let Some(stage) = kept else { return 0 };
         match stage {
-            Stage::Open(open) => open.sched.pairs() as u64,
-            Stage::Waiting(_) => 0,
+            SetStage::Open(open) => open.sched.pairs() as u64,
+            SetStage::Waiting(_) => 0,
         }
     }
 }

@@ -3,8 +3,8 @@ ghost use Rattle.std.specs.Prelude.{◌≡◌, ◌↔◌, ◌<◌, ◌+◌, ◌^
 ghost use Rattle.pac_ops.specs.Shapes.{RowsFit};
 ghost use Rattle.pac_piece.specs.Runnable.{IsRunnable};
 ghost use Rattle.pac_commute.specs.Loads.{next_in_job};
-ghost use Rattle.pac_core.specs.Calls.{HasReady, IsDone, IsDrained, IsGivenBack, IsHandedIn, IsJobOf, IsOfJob, IsOutcome, IsOwn, IsTaken, MayLoad, MayLoadAll, with_batches};
-ghost use Rattle.pac_core.specs.Replay.{closed, left, opening_replay, with_batch, with_finished, with_none_out, without_out};
+ghost use Rattle.pac_core.specs.Calls.{HasReadyPiece, IsReplayDone, IsDrained, IsGivenBack, IsHandedIn, IsJobOf, IsOfJob, IsOutcome, IsOwn, IsTakenPiece, MayLoad, MayLoadAll, with_batches};
+ghost use Rattle.pac_core.specs.Replay.{closed, left, opening_replay, with_batch_loaded, with_finished, with_none_out, without_out};
 
 use crate::answers::{Finish, Outcome, Take};
 use crate::events::{give_back, hand_in, take_next};
@@ -114,7 +114,7 @@ impl<R: Rows> Core<R> {
     pub fn load(&mut self, batch: Batch) -> Result<(), (Batch, NoMemory)>
         requires may { MayLoad self.old batch }
         requires numbers { batch.first + length batch.txns < 2 ^ 64 }
-        ensures ok { OnOk result (self.new ≡ with_batch self.old batch) }
+        ensures ok { OnOk result (self.new ≡ with_batch_loaded self.old batch) }
         ensures err { OnErr result (self.new ≡ self.old) }
         ensures batch { IfErr result (λ refused. refused.0 ≡ batch) }
     {
@@ -129,7 +129,7 @@ impl<R: Rows> Core<R> {
     /// [`NoMemory`] where sets that are opened, or the work, find no room. Which pieces are out or finished, and the tables,
     /// are as before.
     pub fn take(&mut self) -> Result<Take, NoMemory>
-        ensures ok { IfOk result (λ take. IsTaken self.old take self.new) }
+        ensures ok { IfOk result (λ take. IsTakenPiece self.old take self.new) }
         ensures err { OnErr result (self.new ≡ self.old) }
     {
         take_next(&mut self.progress, &mut self.rows)
@@ -168,7 +168,7 @@ impl<R: Rows> Core<R> {
     pub fn drain(&mut self) -> Result<u64, NoMemory>
         requires closed { self.old.is_closed ≡ true }
         requires none { self.old.out ≡ [] }
-        ensures done { OnOk result (IsDone self.new) }
+        ensures done { OnOk result (IsReplayDone self.new) }
         ensures pieces { IfOk result (λ pieces. pieces ≡ left self.old) }
         ensures drained { IsDrained self.old self.new }
     {
@@ -196,7 +196,7 @@ impl<R: Rows> Core<R> {
 
     // Where no piece is out, one is ready while any is left.
     fn some_ready(&self)
-        ensures { HasReady self.now }
+        ensures { HasReadyPiece self.now }
     {
         let _progress = &self.progress;
     }
@@ -310,7 +310,7 @@ impl<R: Rows> Core<R> {
 
     /// What the replay leaves. Takes no memory.
     pub fn outcome(self) -> Outcome<R>
-        requires { IsDone self }
+        requires { IsReplayDone self }
         ensures { IsOutcome self (R.held result.tables) result.first_note }
     {
         let Core { progress, rows } = self;

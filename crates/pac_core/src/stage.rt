@@ -12,7 +12,7 @@ pub(crate) struct OpenSet {
 
 /// What is kept of a set that isn't finished.
 #[derive(Drop)]
-pub(crate) enum Stage {
+pub(crate) enum SetStage {
     /// Its pieces are not opened: the numbers of their transactions, ascending.
     Waiting(Listed<u64>),
     /// Its pieces are opened.

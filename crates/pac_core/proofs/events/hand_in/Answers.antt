@@ -10,7 +10,7 @@ use Rattle.pac_sched.specs.Schedules.{with_state}
 use Rattle.pac_core.specs.Calls.{IsOwn}
 use Rattle.pac_core.specs.Links.{core_of, job_of}
 use Rattle.pac_core.specs.Moves.{IsFinishedAt, IsOrderAfter, MayFinish}
-use Rattle.pac_core.specs.Places.{IsPlaced}
+use Rattle.pac_core.specs.Places.{IsPieceAt}
 use Rattle.pac_core.specs.Results.{IsKeptAfter}
 use Rattle.pac_core.proofs.HandIns.{handed_core, handed_is, handed_within}
 use Rattle.pac_core.proofs.MayFinishes.{may_finish}
@@ -24,7 +24,7 @@ apply-requires g c =
     let p = c.args.progress.now in
     let u = c.args.rows.now in
     let done = c.args.done in
-    let at : IsPlaced p c.in-Some.place done.work.piece state.Out = subst (λ (w : Work). IsPlaced p c.in-Some.place w.piece state.Out) c.work.ensures c.in-Some.ensures.place in
+    let at : IsPieceAt p c.in-Some.place done.work.piece state.Out = subst (λ (w : Work). IsPieceAt p c.in-Some.place w.piece state.Out) c.work.ensures c.in-Some.ensures.place in
     let own : IsOwn (core_of p u) done.work = subst (IsOwn (core_of p u)) c.work.ensures c.in-Some.ensures.own in
     subst (AreWithin u.tables) (ap (λ (x : Parts). x.1) (sym c.into_parts-work.ensures)) (handed_within p u c.requires c.in-Some.place done.work at own done.writes done.outs done.note c.is_value.ensures)
 
@@ -32,7 +32,7 @@ pub finish-requires : goal.finish-requires
 finish-requires g c =
     let p = c.args.progress.now in
     let done = c.args.done in
-    let at : IsPlaced p c.in-Some.place done.work.piece state.Out = subst (λ (w : Work). IsPlaced p c.in-Some.place w.piece state.Out) c.work.ensures c.in-Some.ensures.place in
+    let at : IsPieceAt p c.in-Some.place done.work.piece state.Out = subst (λ (w : Work). IsPieceAt p c.in-Some.place w.piece state.Out) c.work.ensures c.in-Some.ensures.place in
     subst (λ (w : Work). MayFinish p c.in-Some.place w.piece) (sym c.work-2.ensures) (may_finish (job_of p c.args.rows.now) p c.requires.progress c.in-Some.place done.work.piece at)
 
 pub returns-in-Ok-apply-clause-keeps : goal.returns-in-Ok-apply-clause-keeps
@@ -40,7 +40,7 @@ returns-in-Ok-apply-clause-keeps g c =
     let p = c.args.progress.now in
     let u = c.args.rows.now in
     let done = c.args.done in
-    let at : IsPlaced p c.in-Some.place done.work.piece state.Out = subst (λ (w : Work). IsPlaced p c.in-Some.place w.piece state.Out) c.work.ensures c.in-Some.ensures.place in
+    let at : IsPieceAt p c.in-Some.place done.work.piece state.Out = subst (λ (w : Work). IsPieceAt p c.in-Some.place w.piece state.Out) c.work.ensures c.in-Some.ensures.place in
     let own : IsOwn (core_of p u) done.work = subst (IsOwn (core_of p u)) c.work.ensures c.in-Some.ensures.own in
     let leaves : IsKeptAfter p c.in-Some.place done.work.piece done.outs c.in-Ok.kept = subst (λ (w : Work). IsKeptAfter p c.in-Some.place w.piece done.outs c.in-Ok.kept) c.work-2.ensures
     (subst (λ (o : Values). IsKeptAfter p c.in-Some.place c.work-2.result.now.piece o c.in-Ok.kept) c.outs.ensures c.in-Ok.ensures) in
@@ -55,7 +55,7 @@ returns-in-Ok-apply-clause-answer g c =
     let p = c.args.progress.now in
     let u = c.args.rows.now in
     let done = c.args.done in
-    let at : IsPlaced p c.in-Some.place done.work.piece state.Out = subst (λ (w : Work). IsPlaced p c.in-Some.place w.piece state.Out) c.work.ensures c.in-Some.ensures.place in
+    let at : IsPieceAt p c.in-Some.place done.work.piece state.Out = subst (λ (w : Work). IsPieceAt p c.in-Some.place w.piece state.Out) c.work.ensures c.in-Some.ensures.place in
     let own : IsOwn (core_of p u) done.work = subst (IsOwn (core_of p u)) c.work.ensures c.in-Some.ensures.own in
     let leaves : IsKeptAfter p c.in-Some.place done.work.piece done.outs c.in-Ok.kept = subst (λ (w : Work). IsKeptAfter p c.in-Some.place w.piece done.outs c.in-Ok.kept) c.work-2.ensures
     (subst (λ (o : Values). IsKeptAfter p c.in-Some.place c.work-2.result.now.piece o c.in-Ok.kept) c.outs.ensures c.in-Ok.ensures) in

@@ -2,7 +2,7 @@
 use Rattle.std.proofs.Common.{◌≡◌, None, Some, Result, Ok, Err, subst}
 use Rattle.std.specs.Prelude.{IfOk, OnErr}
 use Rattle.pac_core.specs.declared.answers.Take.TheVariants.{Done, NotReady}
-use Rattle.pac_core.specs.Calls.{IsTaken}
+use Rattle.pac_core.specs.Calls.{IsTakenPiece}
 use Rattle.pac_core.specs.Links.{core_of, job_of}
 use Rattle.pac_core.specs.Moves.{IsNextAt}
 use Rattle.pac_core.specs.Replay.{Replay}
@@ -31,7 +31,7 @@ take_piece-requires-clause-next g c =
 
 pub returns-in-Some-clause-ok : goal.returns-in-Some-clause-ok
 returns-in-Some-clause-ok g c =
-    subst (λ (r : Replay). IfOk c.take_piece.result (λ take. IsTaken r take (core_of c.take_piece.new.progress c.take_piece.new.rows)))
+    subst (λ (r : Replay). IfOk c.take_piece.result (λ take. IsTakenPiece r take (core_of c.take_piece.new.progress c.take_piece.new.rows)))
     (next_same c.args.progress.now c.next_ready.new.self c.args.rows.now c.requires c.in_ok-at.ensures.keeps c.in_ok-at.ensures.same) c.take_piece.ensures.ok
 
 pub returns-in-Some-clause-err : goal.returns-in-Some-clause-err

@@ -2,10 +2,10 @@
 use Rattle.std.proofs.Common.{◌+◌, [], ◌∷◌, ◌++◌, drop, map, sym, ap, ◌∙◌}
 use Rattle.std.proofs.lemmas.List.{append-nil, append_assoc, drop_all, drop_more}
 use Rattle.pac_ops.specs.declared.batch.Batch.{Batch}
-use Rattle.pac_core.specs.declared.loaded.Loaded.{Loaded}
+use Rattle.pac_core.specs.declared.loaded.LoadedBatch.{LoadedBatch}
 use Rattle.pac_core.proofs.job.batch_copies.Goals as goal
 
-abbrev its_batch : Loaded → Batch
+abbrev its_batch : LoadedBatch → Batch
 its_batch one = one.batch
 
 pub loop-one-init : goal.loop-one-init

@@ -13,17 +13,17 @@ use Rattle.pac_plan.specs.declared.parts.PlanParts.{PlanParts}
 use Rattle.pac_plan.specs.Pieces.{InputsAre, access_of, part}
 use Rattle.pac_plan.specs.Worlds.{txn_block, txn_code}
 use Rattle.pac_plan.specs.Codes.{HasTxnInputs, piece_ops}
-use Rattle.pac_core.specs.Inputs.{Finds}
+use Rattle.pac_core.specs.Inputs.{FindsInputs}
 use Rattle.pac_core.specs.Moves.{access_over}
-use Rattle.pac_core.specs.declared.loaded.Loaded.{Loaded}
+use Rattle.pac_core.specs.declared.loaded.LoadedBatch.{LoadedBatch}
 use Rattle.pac_core.proofs.AccessInputs.{access_same}
 use Rattle.pac_core.proofs.opening.access_of.Goals as goal
 
-found_inputs : (parts : PlanParts) (block : ℕ) (txn : Txn) (kept env : Values) → Finds parts block txn kept env → InputsAre (piece_ops parts block txn) kept env
+found_inputs : (parts : PlanParts) (block : ℕ) (txn : Txn) (kept env : Values) → FindsInputs parts block txn kept env → InputsAre (piece_ops parts block txn) kept env
 found_inputs parts block txn kept env finds x u d = finds x ∙ ap (λ b. cond b (get kept x) None) (and_both (used_in (piece_ops parts block txn) x) _ u (ap not d))
 
-over_is : (parts : PlanParts) (loaded : Loaded) (block t : ℕ) (txn : Txn) (kept env : Values) → slice_get loaded.batch.txns (t - loaded.batch.first) ≡ Some txn → slice_get loaded.kept.items (t - loaded.batch.first) ≡ Some kept
-    → Finds parts block txn kept env → access_of (piece_ops parts block txn) env ≡ access_over parts loaded block t
+over_is : (parts : PlanParts) (loaded : LoadedBatch) (block t : ℕ) (txn : Txn) (kept env : Values) → slice_get loaded.batch.txns (t - loaded.batch.first) ≡ Some txn → slice_get loaded.kept.items (t - loaded.batch.first) ≡ Some kept
+    → FindsInputs parts block txn kept env → access_of (piece_ops parts block txn) env ≡ access_over parts loaded block t
 over_is parts loaded block t txn kept env at_txn at_kept finds =
     access_same (piece_ops parts block txn) kept env (found_inputs parts block txn kept env finds)
     ∙ sym (ap (λ o. access_of (part (txn_block parts o) block (txn_code parts o)) (unwrap_or (slice_get loaded.kept.items (t - loaded.batch.first)) empty)) at_txn

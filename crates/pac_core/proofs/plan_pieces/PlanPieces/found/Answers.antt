@@ -8,18 +8,18 @@ use Rattle.pac_base.specs.declared.no_memory.NoMemory.{NoMemory}
 use Rattle.pac_ops.specs.declared.transaction.Txn.{Txn}
 use Rattle.pac_ops.specs.declared.transaction.Txn.TheVariants.{Call as ACall}
 use Rattle.pac_plan.specs.Analysis.{IsPlan}
-use Rattle.pac_core.specs.Inputs.{Finds, is_found}
+use Rattle.pac_core.specs.Inputs.{FindsInputs, is_found}
 use Rattle.pac_value.specs.Restricted.{HasOnly}
 use Rattle.pac_core.proofs.Finding.{finds_of, records_find}
 use Rattle.pac_core.proofs.plan_pieces.PlanPieces.found.Goals as goal
 
 pub returns-in-Call : goal.returns-in-Call
-returns-in-Call c = subst (λ (txn : Txn). IfOk c.values_of.result (Finds c.args.self.now c.args.block txn c.args.kept.now)) (sym c.in-Call.is) (go c.values_of.result c.values_of.ensures)
+returns-in-Call c = subst (λ (txn : Txn). IfOk c.values_of.result (FindsInputs c.args.self.now c.args.block txn c.args.kept.now)) (sym c.in-Call.is) (go c.values_of.result c.values_of.ensures)
   where
     are : (x : ℕ) → Contains c.as_slice.result.now x ↔ (is_found c.args.self.now c.args.block (ACall c.in-Call.call) x ≡ true)
     are = subst (λ (vars : List ℕ). (x : ℕ) → Contains vars x ↔ (is_found c.args.self.now c.args.block (ACall c.in-Call.call) x ≡ true)) (sym c.as_slice.ensures) c.interface-interface.ensures.inputs
 
-    go : (r : Result Values NoMemory) → IfOk r (HasOnly c.as_slice.result.now c.args.kept.now) → IfOk r (Finds c.args.self.now c.args.block (ACall c.in-Call.call) c.args.kept.now)
+    go : (r : Result Values NoMemory) → IfOk r (HasOnly c.as_slice.result.now c.args.kept.now) → IfOk r (FindsInputs c.args.self.now c.args.block (ACall c.in-Call.call) c.args.kept.now)
     go (Ok env) has = finds_of c.args.self.now c.args.block (ACall c.in-Call.call) c.as_slice.result.now c.args.kept.now env are has
     go (Err e) has = tt
 

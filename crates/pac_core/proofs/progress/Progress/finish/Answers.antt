@@ -10,11 +10,11 @@ use Rattle.pac_sched.specs.Schedules.{IsInOrder, Schedule, all_finished, unfinis
 use Rattle.pac_sets.specs.SetOrder.{set_cmp}
 use Rattle.pac_sets.specs.Sets.{IsOpenSet, Kept, Setting, with_kept_at}
 use Rattle.pac_sets.proofs.KeptLemmas.{sorted_stays}
-use Rattle.pac_core.specs.declared.loaded.Loaded.{Loaded}
+use Rattle.pac_core.specs.declared.loaded.LoadedBatch.{LoadedBatch}
 use Rattle.pac_core.specs.declared.progress.Progress.{Progress}
 use Rattle.pac_core.specs.declared.stage.OpenSet.{OpenSet}
-use Rattle.pac_core.specs.declared.stage.Stage.{Stage}
-use Rattle.pac_core.specs.declared.stage.Stage.TheVariants.{Open, Waiting}
+use Rattle.pac_core.specs.declared.stage.SetStage.{SetStage}
+use Rattle.pac_core.specs.declared.stage.SetStage.TheVariants.{Open, Waiting}
 use Rattle.pac_core.proofs.EndedSet.{blocks_still, open_still}
 use Rattle.pac_core.proofs.FinishedPiece.{after_some, ended_sets, finished_in, finished_test, finished_to}
 use Rattle.pac_core.proofs.KeptAt.{get_changed}
@@ -47,7 +47,7 @@ end_set-requires-clause-open c =
     sets_kept p c.lift-open.new.self c.args.place.at c.lift-open.ensures.now c.keep.new.self (Some (Open now))
     (c.keep.ensures ∙ ap (λ (o : OpenSet). record c.lift-open.new.self.sets { sets = with_kept_at c.lift-open.new.self.sets.sets c.args.place.at (Some (Open o)) })
     (open_is (λ (s : Schedule). with_state s c.args.piece state.Finished) c.lift-open.result c.requires.placed.stands.opening c.finish.new.self c.finish.ensures was)) in
-    subst (λ (s : Setting Stage). IsOpenSet s.edges s.sets c.args.place.at) (sym kept) (open_still p.sets.edges p.sets.sets c.args.place.at (Open now) c.requires.ascend c.requires.opened)
+    subst (λ (s : Setting SetStage). IsOpenSet s.edges s.sets c.args.place.at) (sym kept) (open_still p.sets.edges p.sets.sets c.args.place.at (Open now) c.requires.ascend c.requires.opened)
 
 pub end_set-requires-clause-blocks : goal.end_set-requires-clause-blocks
 end_set-requires-clause-blocks c =
@@ -58,8 +58,8 @@ end_set-requires-clause-blocks c =
     sets_kept p c.lift-open.new.self c.args.place.at c.lift-open.ensures.now c.keep.new.self (Some (Open now))
     (c.keep.ensures ∙ ap (λ (o : OpenSet). record c.lift-open.new.self.sets { sets = with_kept_at c.lift-open.new.self.sets.sets c.args.place.at (Some (Open o)) })
     (open_is (λ (s : Schedule). with_state s c.args.piece state.Finished) c.lift-open.result c.requires.placed.stands.opening c.finish.new.self c.finish.ensures was)) in
-    subst (λ (q : Progress). (j : ℕ) (set : Kept Stage) → slice_get c.keep.new.self.sets j ≡ Some set → set.0.block < q.pieces.blocks) (sym c.lift-open.ensures.now)
-    (subst (λ (s : Setting Stage). (j : ℕ) (set : Kept Stage) → slice_get s.sets j ≡ Some set → set.0.block < p.pieces.blocks) (sym kept)
+    subst (λ (q : Progress). (j : ℕ) (set : Kept SetStage) → slice_get c.keep.new.self.sets j ≡ Some set → set.0.block < q.pieces.blocks) (sym c.lift-open.ensures.now)
+    (subst (λ (s : Setting SetStage). (j : ℕ) (set : Kept SetStage) → slice_get s.sets j ≡ Some set → set.0.block < p.pieces.blocks) (sym kept)
     (blocks_still p.sets.sets c.args.place.at (Some (Open now)) p.pieces.blocks c.requires.blocks))
 
 pub end_set-requires-clause-ascend : goal.end_set-requires-clause-ascend
@@ -71,16 +71,16 @@ end_set-requires-clause-ascend c =
     sets_kept p c.lift-open.new.self c.args.place.at c.lift-open.ensures.now c.keep.new.self (Some (Open now))
     (c.keep.ensures ∙ ap (λ (o : OpenSet). record c.lift-open.new.self.sets { sets = with_kept_at c.lift-open.new.self.sets.sets c.args.place.at (Some (Open o)) })
     (open_is (λ (s : Schedule). with_state s c.args.piece state.Finished) c.lift-open.result c.requires.placed.stands.opening c.finish.new.self c.finish.ensures was)) in
-    subst (λ (s : Setting Stage). T (is_sorted set_cmp s.sets)) (sym kept) (subst T (sym (sorted_stays p.sets.sets c.args.place.at (Some (Open now)))) c.requires.ascend)
+    subst (λ (s : Setting SetStage). T (is_sorted set_cmp s.sets)) (sym kept) (subst T (sym (sorted_stays p.sets.sets c.args.place.at (Some (Open now)))) c.requires.ascend)
 
 pub end_set-requires-clause-batch : goal.end_set-requires-clause-batch
 end_set-requires-clause-batch c =
     let p = c.args.self.now in
     let lt : c.args.place.batch < length p.batches.items = slice_get_within p.batches.items c.args.place.batch c.requires.placed.txn.loaded c.requires.placed.txn.there in
     let lifted : length c.lift-open.new.self.batches.items ≡ length p.batches.items = ap (λ (q : Progress). length q.batches.items) c.lift-open.ensures.now in
-    let more : length (map (λ (l : Loaded). l.batch) c.keep_values.new.batches.items) ≡ length (map (λ (l : Loaded). l.batch) c.lift-open.new.self.batches.items) = ap length c.keep_values.ensures.batches in
-    let a : length (map (λ (l : Loaded). l.batch) c.keep_values.new.batches.items) ≡ length c.keep_values.new.batches.items = length-map c.keep_values.new.batches.items (λ (l : Loaded). l.batch) in
-    let b : length (map (λ (l : Loaded). l.batch) c.lift-open.new.self.batches.items) ≡ length c.lift-open.new.self.batches.items = length-map c.lift-open.new.self.batches.items (λ (l : Loaded). l.batch) in
+    let more : length (map (λ (l : LoadedBatch). l.batch) c.keep_values.new.batches.items) ≡ length (map (λ (l : LoadedBatch). l.batch) c.lift-open.new.self.batches.items) = ap length c.keep_values.ensures.batches in
+    let a : length (map (λ (l : LoadedBatch). l.batch) c.keep_values.new.batches.items) ≡ length c.keep_values.new.batches.items = length-map c.keep_values.new.batches.items (λ (l : LoadedBatch). l.batch) in
+    let b : length (map (λ (l : LoadedBatch). l.batch) c.lift-open.new.self.batches.items) ≡ length c.lift-open.new.self.batches.items = length-map c.lift-open.new.self.batches.items (λ (l : LoadedBatch). l.batch) in
     omega (arith, lt, lifted, more, a, b)
 
 -- ---- the end
@@ -125,7 +125,7 @@ returns-else-is_done-clause-finished c = λ set opening there own.
     let some = c.requires.counted in
     finished_to p c.args.place c.args.piece c.args.kept c.args.note lifted c.lift-open.ensures.now c.keep_values.new.batches.items c.keep_values.ensures set opening own _
     refl
-    (kept ∙ ap (λ (o : Option Stage). record p.sets { sets = with_kept_at p.sets.sets c.args.place.at o }) (after_some now some_left))
+    (kept ∙ ap (λ (o : Option SetStage). record p.sets { sets = with_kept_at p.sets.sets c.args.place.at o }) (after_some now some_left))
     c.lesser-self.ensures
     refl
     refl

@@ -2,7 +2,7 @@
 use Rattle.std.proofs.Common.{◌≡◌, ◌+◌, false, List, [], ◌∷◌, ◌++◌, length, Result, Ok, Err, refl, sym, ap, ◌∙◌, true≢false, rules}
 use Rattle.std.specs.Prelude.{OnOk, is_err}
 use Rattle.pac_ops.specs.declared.transaction.Txn.{Txn}
-use Rattle.pac_core.specs.declared.loaded.Loaded.{Loaded}
+use Rattle.pac_core.specs.declared.loaded.LoadedBatch.{LoadedBatch}
 use Rattle.pac_core.proofs.LoadingFacts.{sets_left, sets_sorted}
 use Rattle.pac_core.proofs.progress.Progress.load.Goals as goal
 
@@ -31,7 +31,7 @@ returns-clause-ok c =
       unfinished = more ∙ ap (λ n. p.unfinished + n) c.in-Ok.ensures.pieces;
       closed = refl;
       loaded = record { batch = c.args.batch; kept = c.in-Ok.added.kept };
-      batches = c.in-Ok-push.ensures.items ∙ ap (λ (l : List Loaded). l ++ record { batch = c.args.batch; kept = c.in-Ok.added.kept } ∷ []) c.reserve.ensures.items;
+      batches = c.in-Ok-push.ensures.items ∙ ap (λ (l : List LoadedBatch). l ++ record { batch = c.args.batch; kept = c.in-Ok.added.kept } ∷ []) c.reserve.ensures.items;
       batch_is = refl;
       kept = c.in-Ok.ensures.kept;
     }

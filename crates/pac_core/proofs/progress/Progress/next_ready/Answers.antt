@@ -5,18 +5,18 @@ use Rattle.std.proofs.lemmas.Option.{slice_get_within}
 use Rattle.pac_commute.specs.Loads.{Job}
 use Rattle.pac_sets.specs.Sets.{IsOpenSet, Kept}
 use Rattle.pac_core.specs.declared.progress.Progress.{Progress}
-use Rattle.pac_core.specs.declared.stage.Stage.{Stage}
-use Rattle.pac_core.specs.Links.{KeepsProgress, replay_of, set_ids}
+use Rattle.pac_core.specs.declared.stage.SetStage.{SetStage}
+use Rattle.pac_core.specs.Links.{KeepsProgress, replay_so_far, set_ids}
 use Rattle.pac_core.specs.Replay.{Replay}
 use Rattle.pac_core.proofs.NextReady.{from_next, from_open, from_same, next_here, none_left}
 use Rattle.pac_core.proofs.progress.Progress.next_ready.Goals as goal
 
 -- as many sets as before
-same_count : (job : Job) (p new : Progress) → KeepsProgress job p → KeepsProgress job new → replay_of job new ≡ replay_of job p → length new.sets.sets ≡ length p.sets.sets
+same_count : (job : Job) (p new : Progress) → KeepsProgress job p → KeepsProgress job new → replay_so_far job new ≡ replay_so_far job p → length new.sets.sets ≡ length p.sets.sets
 same_count job p new keeps keeps_new same =
-    sym (length-map new.sets.sets (λ (s : Kept Stage). s.0))
+    sym (length-map new.sets.sets (λ (s : Kept SetStage). s.0))
     ∙ ap length (keeps_new.sets ∙ ap (λ (r : Replay). set_ids job.parts 0 r.batches) same ∙ sym keeps.sets)
-    ∙ length-map p.sets.sets (λ (s : Kept Stage). s.0)
+    ∙ length-map p.sets.sets (λ (s : Kept SetStage). s.0)
 
 open_within : (p : Progress) (at : ℕ) → IsOpenSet p.sets.edges p.sets.sets at → at < length p.sets.sets
 open_within p at opened = slice_get_within p.sets.sets at (opened.set, Some opened.kept) opened.there

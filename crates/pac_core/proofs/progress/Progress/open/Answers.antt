@@ -3,9 +3,9 @@ use Rattle.std.proofs.Common.{Option, Some, sym, ap, subst, ◌∙◌}
 use Rattle.std.specs.Prelude.{IfSome, slice_get}
 use Rattle.pac_sets.specs.Sets.{Setting}
 use Rattle.pac_core.specs.declared.stage.OpenSet.{OpenSet}
-use Rattle.pac_core.specs.declared.stage.Stage.{Stage}
-use Rattle.pac_core.specs.declared.stage.Stage.TheVariants.{Open, Waiting}
-use Rattle.pac_core.specs.Links.{KeepsProgress, replay_of}
+use Rattle.pac_core.specs.declared.stage.SetStage.{SetStage}
+use Rattle.pac_core.specs.declared.stage.SetStage.TheVariants.{Open, Waiting}
+use Rattle.pac_core.specs.Links.{KeepsProgress, replay_so_far}
 use Rattle.pac_core.specs.Moves.{IsOpeningOf}
 use Rattle.pac_core.proofs.KeptAt.{get_changed}
 use Rattle.pac_core.proofs.OpenedSets.{opened_keeps, opened_same}
@@ -20,13 +20,13 @@ pub returns-in-Some-clause-keeps : goal.returns-in-Some-clause-keeps
 returns-in-Some-clause-keeps c = λ job keeps.
     let p = c.args.self.now in
     let is = subst (λ (o : Option OpenSet). IfSome o (IsOpeningOf p c.args.at)) c.in-Some.is c.in_ok-opening.ensures.waiting in
-    subst (λ (s : Setting Stage). KeepsProgress job (record p { sets = s })) (sym c.keep.ensures) (opened_keeps job p keeps c.args.at c.requires.open c.in-Some.opening is)
+    subst (λ (s : Setting SetStage). KeepsProgress job (record p { sets = s })) (sym c.keep.ensures) (opened_keeps job p keeps c.args.at c.requires.open c.in-Some.opening is)
 
 pub returns-in-Some-clause-same : goal.returns-in-Some-clause-same
 returns-in-Some-clause-same c = λ job keeps.
     let p = c.args.self.now in
     let is = subst (λ (o : Option OpenSet). IfSome o (IsOpeningOf p c.args.at)) c.in-Some.is c.in_ok-opening.ensures.waiting in
-    ap (λ (s : Setting Stage). replay_of job (record p { sets = s })) c.keep.ensures ∙ opened_same job p keeps c.args.at c.requires.open c.in-Some.opening is
+    ap (λ (s : Setting SetStage). replay_so_far job (record p { sets = s })) c.keep.ensures ∙ opened_same job p keeps c.args.at c.requires.open c.in-Some.opening is
 
 pub returns-in-Some-clause-open : goal.returns-in-Some-clause-open
 returns-in-Some-clause-open c =
@@ -35,5 +35,5 @@ returns-in-Some-clause-open c =
     record {
       set = is.set;
       opening = c.in-Some.opening;
-      there = ap (λ (s : Setting Stage). slice_get s.sets c.args.at) c.keep.ensures ∙ get_changed p.sets.sets c.args.at (is.set, Some (Waiting is.txns)) (Some (Open c.in-Some.opening)) is.there;
+      there = ap (λ (s : Setting SetStage). slice_get s.sets c.args.at) c.keep.ensures ∙ get_changed p.sets.sets c.args.at (is.set, Some (Waiting is.txns)) (Some (Open c.in-Some.opening)) is.there;
     }

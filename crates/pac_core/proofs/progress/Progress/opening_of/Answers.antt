@@ -5,23 +5,23 @@ use Rattle.std.proofs.lemmas.Option.{same_Some, slice_get_read, slice_get_within
 use Rattle.pac_batch.specs.Sets.{set_of}
 use Rattle.pac_sets.specs.declared.set_id.SetId.{SetId}
 use Rattle.pac_sets.specs.Sets.{IsOpenSet, Kept}
-use Rattle.pac_core.specs.declared.loaded.Loaded.{Loaded}
+use Rattle.pac_core.specs.declared.loaded.LoadedBatch.{LoadedBatch}
 use Rattle.pac_core.specs.declared.progress.Progress.{Progress}
-use Rattle.pac_core.specs.declared.stage.Stage.{Stage}
-use Rattle.pac_core.specs.declared.stage.Stage.TheVariants.{Waiting}
+use Rattle.pac_core.specs.declared.stage.SetStage.{SetStage}
+use Rattle.pac_core.specs.declared.stage.SetStage.TheVariants.{Waiting}
 use Rattle.pac_core.specs.Moves.{HasAllInputs, IsFreshlyOpen}
 use Rattle.pac_core.proofs.OpenedSets.{batch_fits, block_inside, inputs_are, loaded_there, txns_are}
 use Rattle.pac_core.proofs.progress.Progress.opening_of.Goals as goal
 
 -- what was read is the open set
-module _ (p : Progress) (at : ℕ) (opened : IsOpenSet p.sets.edges p.sets.sets at) (read : Kept Stage) (here : slice_get p.sets.sets at ≡ Some read) where
+module _ (p : Progress) (at : ℕ) (opened : IsOpenSet p.sets.edges p.sets.sets at) (read : Kept SetStage) (here : slice_get p.sets.sets at ≡ Some read) where
   set_read : opened.set ≡ read.0
-  set_read = ap (λ (x : Kept Stage). x.0) (same_Some _ _ (sym opened.there ∙ here))
+  set_read = ap (λ (x : Kept SetStage). x.0) (same_Some _ _ (sym opened.there ∙ here))
 
-  stage_read : (stage : Stage) → read.1 ≡ Some stage → opened.kept ≡ stage
-  stage_read stage e = same_Some _ _ (ap (λ (x : Kept Stage). x.1) (same_Some _ _ (sym opened.there ∙ here)) ∙ e)
+  stage_read : (stage : SetStage) → read.1 ≡ Some stage → opened.kept ≡ stage
+  stage_read stage e = same_Some _ _ (ap (λ (x : Kept SetStage). x.1) (same_Some _ _ (sym opened.there ∙ here)) ∙ e)
 
-  batch_read : (loaded read_loaded : Loaded) → slice_get p.batches.items opened.set.batch ≡ Some loaded → read_loaded ≡ get_or p.batches.items read.0.batch read_loaded → slice_get p.batches.items opened.set.batch ≡ Some read_loaded
+  batch_read : (loaded read_loaded : LoadedBatch) → slice_get p.batches.items opened.set.batch ≡ Some loaded → read_loaded ≡ get_or p.batches.items read.0.batch read_loaded → slice_get p.batches.items opened.set.batch ≡ Some read_loaded
   batch_read loaded read_loaded there is =
       slice_get_read p.batches.items (length p.batches.items) opened.set.batch read_loaded refl (slice_get_within p.batches.items opened.set.batch loaded there)
       (is ∙ ap (λ (s : SetId). get_or p.batches.items s.batch read_loaded) (sym set_read))
@@ -76,7 +76,7 @@ returns-in_ok-opening-in-Waiting-clause-waiting c =
       set = c.get.result.now.0;
       txns = c.in-Waiting.txns;
       loaded = read;
-      there = c.get.ensures ∙ (λ k. Some (c.get.result.now.0, (c.in-Some.is ∙ ap (λ (s : Stage). Some s) c.in-Waiting.is) k));
+      there = c.get.ensures ∙ (λ k. Some (c.get.result.now.0, (c.in-Some.is ∙ ap (λ (s : SetStage). Some s) c.in-Waiting.is) k));
       loaded_there = ap (λ (s : SetId). slice_get p.batches.items s.batch) (sym (set_read p c.args.at c.requires.open c.get.result.now c.get.ensures)) ∙ there;
       fresh = subst (λ (ts : List ℕ). IsFreshlyOpen p.pieces read c.get.result.now.0.block ts c.in_ok-opening-in-Waiting.opening) c.as_slice.ensures c.in_ok-opening-in-Waiting.ensures;
     }
@@ -85,5 +85,5 @@ pub returns-in-Open-clause-opened : goal.returns-in-Open-clause-opened
 returns-in-Open-clause-opened c = record {
   set = c.get.result.now.0;
   opening = c.in-Open.field-0;
-  there = c.get.ensures ∙ (λ k. Some (c.get.result.now.0, (c.in-Some.is ∙ ap (λ (s : Stage). Some s) c.in-Open.is) k));
+  there = c.get.ensures ∙ (λ k. Some (c.get.result.now.0, (c.in-Some.is ∙ ap (λ (s : SetStage). Some s) c.in-Open.is) k));
 }

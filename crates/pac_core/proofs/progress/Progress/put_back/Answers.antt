@@ -4,7 +4,7 @@ use Rattle.std.specs.Prelude.{slice_get}
 use Rattle.pac_sched.specs.declared.state.PieceState.TheVariants as state
 use Rattle.pac_sched.specs.Schedules.{with_state}
 use Rattle.pac_core.specs.declared.progress.Progress.{Progress}
-use Rattle.pac_core.specs.declared.stage.Stage.TheVariants.{Open, Waiting}
+use Rattle.pac_core.specs.declared.stage.SetStage.TheVariants.{Open, Waiting}
 use Rattle.pac_core.proofs.KeptAt.{get_changed}
 use Rattle.pac_core.proofs.Moved.{moved_to, open_is}
 use Rattle.pac_core.proofs.progress.Progress.put_back.Goals as goal

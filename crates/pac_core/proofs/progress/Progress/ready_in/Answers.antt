@@ -3,11 +3,11 @@ use Rattle.std.proofs.Common.{◌≡◌, sym, ap, ◌∙◌}
 use Rattle.std.proofs.lemmas.Option.{same_Some}
 use Rattle.pac_sched.specs.Schedules.{pick}
 use Rattle.pac_core.specs.declared.stage.OpenSet.{OpenSet}
-use Rattle.pac_core.specs.declared.stage.Stage.{Stage}
-use Rattle.pac_core.specs.declared.stage.Stage.TheVariants.{Open}
+use Rattle.pac_core.specs.declared.stage.SetStage.{SetStage}
+use Rattle.pac_core.specs.declared.stage.SetStage.TheVariants.{Open}
 use Rattle.pac_core.proofs.progress.Progress.ready_in.Goals as goal
 
-same_open : (a b : OpenSet) → ◌≡◌ {A = Stage} (Open a) (Open b) → a ≡ b
+same_open : (a b : OpenSet) → ◌≡◌ {A = SetStage} (Open a) (Open b) → a ≡ b
 same_open a b e = cc
 
 pub returns-in-Piece-clause-found : goal.returns-in-Piece-clause-found

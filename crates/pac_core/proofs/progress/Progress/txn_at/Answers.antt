@@ -2,7 +2,7 @@
 use Rattle.std.proofs.Common.{◌≡◌, ◌<◌, List, length, get_or, refl, sym, ap, subst, ◌∙◌}
 use Rattle.std.proofs.lemmas.Option.{same_Some, slice_get_read, slice_get_within}
 use Rattle.pac_ops.specs.declared.transaction.Txn.{Txn}
-use Rattle.pac_core.specs.declared.loaded.Loaded.{Loaded}
+use Rattle.pac_core.specs.declared.loaded.LoadedBatch.{LoadedBatch}
 use Rattle.pac_core.proofs.progress.Progress.txn_at.Goals as goal
 
 pub returns : goal.returns
@@ -14,6 +14,6 @@ returns c =
       c.index.result.now,
       there,
       slice_get_read c.index.result.now.batch.txns (length c.index.result.now.batch.txns) c.args.place.index c.index-items-place.result refl
-          (subst (λ (l : Loaded). c.args.place.index < length l.batch.txns) same at.inside)
+          (subst (λ (l : LoadedBatch). c.args.place.index < length l.batch.txns) same at.inside)
           (c.index-items-place.is ∙ ap (λ (xs : List Txn). get_or xs c.args.place.index c.index-items-place.result) c.items.ensures.value),
     )

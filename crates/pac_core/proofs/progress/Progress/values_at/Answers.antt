@@ -1,7 +1,7 @@
 -- What stands at the place.
 use Rattle.std.proofs.Common.{◌≡◌, ◌<◌, length, refl, sym, subst, ◌∙◌}
 use Rattle.std.proofs.lemmas.Option.{same_Some, slice_get_read, slice_get_within}
-use Rattle.pac_core.specs.declared.loaded.Loaded.{Loaded}
+use Rattle.pac_core.specs.declared.loaded.LoadedBatch.{LoadedBatch}
 use Rattle.pac_core.proofs.PlacedPieces.{kept_len}
 use Rattle.pac_core.proofs.progress.Progress.values_at.Goals as goal
 
@@ -15,6 +15,6 @@ returns c =
       c.index.result.now,
       there,
       slice_get_read c.index.result.now.kept.items (length c.index.result.now.kept.items) c.args.place.index c.index-2.result.now refl
-          (subst (λ (l : Loaded). c.args.place.index < length l.kept.items) same (subst (λ n. c.args.place.index < n) (sym len) at.inside))
+          (subst (λ (l : LoadedBatch). c.args.place.index < length l.kept.items) same (subst (λ n. c.args.place.index < n) (sym len) at.inside))
           c.index-2.ensures,
     )

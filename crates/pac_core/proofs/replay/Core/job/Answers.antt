@@ -1,6 +1,6 @@
 -- What is kept tells it.
 use Rattle.std.proofs.Common.{map, sym, ap, subst, ◌∙◌}
-use Rattle.pac_core.specs.declared.loaded.Loaded.{Loaded}
+use Rattle.pac_core.specs.declared.loaded.LoadedBatch.{LoadedBatch}
 use Rattle.pac_core.specs.Calls.{IsJobOf}
 use Rattle.pac_core.specs.Replay.{Replay}
 use Rattle.pac_core.proofs.replay.Core.job.Goals as goal
@@ -13,5 +13,5 @@ returns g c =
       first_is = λ k. c.self.inside.progress.first;
       tables_are = c.in_ok-opening.ensures.tables ∙ c.self.invariant.tables;
       held_is = c.in_ok-opening.ensures.rows;
-      batches_are = c.listed-batches.ensures ∙ sym c.in_ok-batch_copies.ensures ∙ ap (map (λ (one : Loaded). one.batch)) c.deref.ensures.value;
+      batches_are = c.listed-batches.ensures ∙ sym c.in_ok-batch_copies.ensures ∙ ap (map (λ (one : LoadedBatch). one.batch)) c.deref.ensures.value;
     })

@@ -4,7 +4,7 @@ use Rattle.std.specs.Prelude.{OnOk, is_err}
 use Rattle.std.proofs.lemmas.List.{drop_all, drop_more}
 use Rattle.pac_ops.specs.declared.batch.Batch.{Batch}
 use Rattle.pac_core.specs.Calls.{MayLoadAll, with_batches}
-use Rattle.pac_core.specs.Replay.{Replay, with_batch}
+use Rattle.pac_core.specs.Replay.{Replay, with_batch_loaded}
 use Rattle.pac_core.proofs.replay.Core.load_all.Goals as goal
 
 ok_there : {A E : Type 0} {P : Type 0} (r : Result A E) → is_err r ≡ false → OnOk r P → P
@@ -43,7 +43,7 @@ loop-batch-preserved g c =
     let copy : c.in_ok-batch.batch ≡ x = c.in_ok-batch.ensures ∙ c.batch-item.is in
     let more = drop_more all i c.batch-item.result c.loop-batch-test.true in
     let may : MayLoadAll c.loop-batch.self (x ∷ rest) = subst (MayLoadAll c.loop-batch.self) more c.loop-batch.invariant.may in
-    let loaded : c.load.new.self ≡ with_batch c.loop-batch.self x = ok_there c.load.result (sym c.is_err.ensures.value ∙ c.if-is_err.false) c.load.ensures.ok ∙ ap (with_batch c.loop-batch.self) copy in
+    let loaded : c.load.new.self ≡ with_batch_loaded c.loop-batch.self x = ok_there c.load.result (sym c.is_err.ensures.value ∙ c.if-is_err.false) c.load.ensures.ok ∙ ap (with_batch_loaded c.loop-batch.self) copy in
     record {
       may = subst (λ (r : Replay). MayLoadAll r rest) (sym loaded) may.2;
       all = ap (λ (r : Replay). with_batches r rest) loaded ∙ ap (with_batches c.loop-batch.self) (sym more) ∙ c.loop-batch.invariant.all;

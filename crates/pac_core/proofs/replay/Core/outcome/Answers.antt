@@ -1,7 +1,7 @@
 -- Each piece is finished: what stands is what executing the transactions one after another makes.
 use Rattle.std.proofs.Common.{sym, subst}
 use Rattle.pac_value.specs.State.{Tables}
-use Rattle.pac_core.specs.Calls.{IsDone, IsOutcome}
+use Rattle.pac_core.specs.Calls.{IsReplayDone, IsOutcome}
 use Rattle.pac_core.specs.Links.{core_of}
 use Rattle.pac_core.specs.Replay.{Replay}
 use Rattle.pac_core.proofs.CoreLoads.{outcome_is}
@@ -12,4 +12,4 @@ returns g c =
     let p = c.self.inside.progress in
     subst (λ (r : Replay). IsOutcome r (g.R.Rows.held c.into_rows.result) p.note) c.self.view_is
     (subst (λ (t : Tables). IsOutcome (core_of p c.self.inside.rows) t p.note) (sym c.into_rows.ensures.rows)
-    (outcome_is p c.self.inside.rows c.self.invariant (subst IsDone (sym c.self.view_is) c.requires)))
+    (outcome_is p c.self.inside.rows c.self.invariant (subst IsReplayDone (sym c.self.view_is) c.requires)))
