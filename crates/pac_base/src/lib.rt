@@ -6,6 +6,7 @@
 //! exactly where their contents are.
 //!
 //! - [`Boxed`]`<T>`: a box, seen as its `T`. [`Listed`]`<T>`: a vector, seen as the list of its items.
+//! - [`ShortList`]`<T, N>`: a list with up to `N` items in the value itself, seen as the list of its items.
 //! - [`Ruled`]`<R>`: a list whose items keep the rule `R`; its constructor requires it, and every reader knows it.
 //! - [`Exact`]: a copy is equal to the original. [`Same`]: the test returns true exactly for equal values.
 //! - [`NoMemory`]: the error of a call that fails only when it is out of memory. [`Refusal`]`<F>`: the error of a call
@@ -28,10 +29,12 @@ mod lists;
 mod no_memory;
 mod refusal;
 mod ruled;
+mod short_list;
 
 pub use exact::{Exact, Same};
 pub use lists::{Listed, are_same, copy_of, listed};
 pub use no_memory::NoMemory;
 pub use refusal::Refusal;
 pub use ruled::{Rule, Ruled};
+pub use short_list::ShortList;
 pub use sqlite_items::Boxed;

@@ -23,7 +23,7 @@ pub(crate) fn flat_operations(
     ensures { IfOk result (λ ops. ops.items ≡ flat (in_steps (map unrolling stmts.now) (point_of point) End) []) }
 {
     let mut ops = Vec::new(alloc);
-    push_block(alloc, stmts, &listed(Vec::new(alloc)), &mut point, &mut ops)?;
+    push_block(alloc, stmts, &Conds::new(alloc), &mut point, &mut ops)?;
     Ok(ops)
 }
 
@@ -205,11 +205,7 @@ fn push(alloc: Global, conds: &Conds, kind: OpKind, ops: &mut Vec<FlatOp>) -> Re
 fn within(alloc: Global, conds: &Conds, var: u16, value: bool) -> Result<Conds, NoMemory>
     ensures { IfOk result (λ more. more ≡ inside conds.now var value) }
 {
-    let conds = conds.as_slice();
-    let mut more = Vec::with_capacity(alloc, conds.len() + 1)?;
-    for cond in conds {
-        more.push(*cond)?;
-    }
+    let mut more = conds.copy(alloc)?;
     more.push((var, value))?;
-    Ok(listed(more))
+    Ok(more)
 }

@@ -5,7 +5,7 @@ ghost use Rattle.pac_plan.specs.Pieces.{avoids};
 ghost use Rattle.pac_keys.specs.Probes.{outer_conds};
 
 use pac_base::NoMemory;
-use pac_ops::FlatOp;
+use pac_ops::{Conds, FlatOp};
 use pac_value::Expr;
 use std::alloc::Global;
 
@@ -42,10 +42,10 @@ pub(crate) fn outer_conds(
     alloc: Global,
     ops: &[(u16, FlatOp)],
     conds: &[(u16, bool)],
-) -> Result<Vec<(u16, bool)>, NoMemory>
-    ensures { IfOk result (λ outer. outer.items ≡ outer_conds ops.now conds.now) }
+) -> Result<Conds, NoMemory>
+    ensures { IfOk result (λ outer. outer ≡ outer_conds ops.now conds.now) }
 {
-    let mut outer = Vec::new(alloc);
+    let mut outer = Conds::new(alloc);
     for cond in conds {
         if !defines(ops, cond.0) {
             outer.push(*cond)?;

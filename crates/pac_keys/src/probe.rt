@@ -7,7 +7,7 @@ ghost use Rattle.pac_ops.specs.Effects.{target_of};
 ghost use Rattle.pac_keys.specs.Probes.{probe_of, probes_of};
 
 use crate::defines::{avoids, outer_conds};
-use pac_base::{Exact, NoMemory, listed};
+use pac_base::{Exact, NoMemory};
 use pac_ops::{Conds, FlatOp, OpKind};
 use pac_value::Expr;
 use std::alloc::Global;
@@ -52,7 +52,7 @@ fn probe_of(alloc: Global, ops: &[(u16, FlatOp)], op: &FlatOp) -> Result<Option<
     let Some((table, key)) = target(&op.kind) else {
         return Ok(None);
     };
-    let conds = listed(outer_conds(alloc, ops, op.conds.as_slice())?);
+    let conds = outer_conds(alloc, ops, op.conds.as_slice())?;
     Ok(Some(Probe {
         conds,
         table,

@@ -2,7 +2,7 @@
 ghost use Rattle.std.specs.Prelude.{◌≡◌, ◌↔◌, IsTrue, IfOk};
 
 use crate::Types;
-use pac_base::{Exact, Listed, NoMemory, Same};
+use pac_base::{Exact, Listed, NoMemory, Same, ShortList};
 use pac_value::{Expr, Value};
 use std::alloc::Global;
 
@@ -58,8 +58,8 @@ pub enum OpKind {
 }
 
 /// The conditions of an operation, those of the outermost conditional first: a hidden variable, and the value that it
-/// has to have.
-pub type Conds = Listed<(u16, bool)>;
+/// has to have. Up to four take no allocation.
+pub type Conds = ShortList<(u16, bool), 4>;
 
 /// An operation that stands by itself: with the conditions under which it does anything.
 #[derive(Debug, Drop)]

@@ -2,7 +2,7 @@
 ghost use Rattle.std.specs.Prelude.{◌≡◌, ◌≤◌, IfOk, None, length};
 
 use crate::faults::Faults;
-use crate::{Access, Disk, Failed, FileCalls, FileSystem, PathKind};
+use crate::{Disk, Failed, FileCalls, FileSystem, OpenMode, PathKind};
 use std::io;
 use std::os::unix::fs::FileExt;
 use std::path::Path;
@@ -103,7 +103,7 @@ impl<'a, S: FileSystem> OneFile<'a, S> {
     }
 
     fn write(&mut self, at: u64, piece: &[u8]) -> io::Result<()> {
-        self.open_to_write(Access::Make)?;
+        self.open_to_write(OpenMode::Make)?;
         match &self.opened {
             Some(file) => file.write_all_at(piece, at),
             None => Err(io::ErrorKind::NotFound.into()),
@@ -112,7 +112,7 @@ impl<'a, S: FileSystem> OneFile<'a, S> {
 
     // Nothing was written to a file that is missing.
     fn sync(&mut self) -> io::Result<()> {
-        self.open_to_write(Access::Write)?;
+        self.open_to_write(OpenMode::Write)?;
         let Some(file) = &self.opened else {
             return Ok(());
         };
@@ -123,7 +123,7 @@ impl<'a, S: FileSystem> OneFile<'a, S> {
         if self.opened.is_none() {
             match self.system.kind(self.path)? {
                 PathKind::Missing => {}
-                PathKind::Plain => self.opened = Some(self.system.open(self.path, Access::Read)?),
+                PathKind::Plain => self.opened = Some(self.system.open(self.path, OpenMode::Read)?),
                 PathKind::Other => return Err(not_plain()),
             }
         }
@@ -131,17 +131,17 @@ impl<'a, S: FileSystem> OneFile<'a, S> {
     }
 
     // A missing file is made where that is asked for, and else is left missing.
-    fn open_to_write(&mut self, missing: Access) -> io::Result<()> {
+    fn open_to_write(&mut self, missing: OpenMode) -> io::Result<()> {
         if self.is_writable {
             return Ok(());
         }
-        let access = match self.system.kind(self.path)? {
-            PathKind::Plain => Access::Write,
-            PathKind::Missing if missing == Access::Make => Access::Make,
+        let mode = match self.system.kind(self.path)? {
+            PathKind::Plain => OpenMode::Write,
+            PathKind::Missing if missing == OpenMode::Make => OpenMode::Make,
             PathKind::Missing if self.opened.is_none() => return Ok(()),
             PathKind::Missing | PathKind::Other => return Err(not_plain()),
         };
-        let file = self.system.open(self.path, access)?;
+        let file = self.system.open(self.path, mode)?;
         file.try_lock()?;
         self.test_length(&file)?;
         self.sync_folder()?;
@@ -160,7 +160,7 @@ impl<'a, S: FileSystem> OneFile<'a, S> {
 
     // The folder is synced also where the file is there already: whoever made it may have been stopped before.
     fn sync_folder(&mut self) -> io::Result<()> {
-        let folder = self.system.open(folder_of(self.path), Access::Read)?;
+        let folder = self.system.open(folder_of(self.path), OpenMode::Read)?;
         unless_doubtful(&mut self.is_doubtful, folder.sync_all())
     }
 }

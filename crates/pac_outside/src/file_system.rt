@@ -17,7 +17,7 @@ pub enum PathKind {
 
 /// What is opened, and what for.
 #[derive(Clone, Copy, Debug, PartialEq, Eq)]
-pub enum Access {
+pub enum OpenMode {
     /// A file to read, or a folder to sync.
     Read,
     /// A file to read and write.
@@ -34,7 +34,7 @@ pub trait FileSystem {
     fn kind(&self, path: &str) -> io::Result<PathKind>;
 
     /// Opens what stands at the path.
-    fn open(&self, path: &str, access: Access) -> io::Result<Self::File>;
+    fn open(&self, path: &str, mode: OpenMode) -> io::Result<Self::File>;
 }
 
 /// The calls on an open file. Those of [`FileExt`] read and write at an offset, and may stop short.
@@ -64,11 +64,11 @@ impl<R: Files<File = File>> FileSystem for R {
         }
     }
 
-    fn open(&self, path: &str, access: Access) -> io::Result<File> {
+    fn open(&self, path: &str, mode: OpenMode) -> io::Result<File> {
         let file = OpenOptions::new()
             .read(true)
-            .write(access != Access::Read)
-            .create_new(access == Access::Make)
+            .write(mode != OpenMode::Read)
+            .create_new(mode == OpenMode::Make)
             .open(self, path)?;
         above_standard(file)
     }

@@ -56,7 +56,7 @@ pub use devices::Devices;
 pub use durable::{open_after, write_and_sync};
 pub use failed::{Failed, ReadError};
 pub use file_disk::FileDisk;
-pub use file_system::{Access, FileCalls, FileSystem, PathKind};
+pub use file_system::{FileCalls, FileSystem, OpenMode, PathKind};
 pub use gate::{Gate, OpenGate};
 pub use gate_byte::{GATE_OPEN, GATE_SHUT};
 pub use laws::{

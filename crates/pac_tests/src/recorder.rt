@@ -1,5 +1,5 @@
 // Files in memory that note the calls on them.
-use pac_outside::{Access, FileCalls, FileSystem, PathKind};
+use pac_outside::{FileCalls, FileSystem, OpenMode, PathKind};
 use std::alloc::Global;
 use std::cell::{Cell, RefCell};
 use std::io;
@@ -123,13 +123,13 @@ impl<'a> FileSystem for Recording<'a> {
         }
     }
 
-    fn open(&self, path: &str, access: Access) -> io::Result<Recorded<'a>> {
+    fn open(&self, path: &str, mode: OpenMode) -> io::Result<Recorded<'a>> {
         let alloc = self.recorder.alloc;
         self.recorder
-            .note(format!(in alloc; "open {path} {access:?}")?.as_str())?;
-        let number = match (access, self.recorder.number_of(path)?) {
-            (Access::Make, None) => Some(self.recorder.make(path)?),
-            (Access::Make, Some(_)) => return Err(io::ErrorKind::AlreadyExists.into()),
+            .note(format!(in alloc; "open {path} {mode:?}")?.as_str())?;
+        let number = match (mode, self.recorder.number_of(path)?) {
+            (OpenMode::Make, None) => Some(self.recorder.make(path)?),
+            (OpenMode::Make, Some(_)) => return Err(io::ErrorKind::AlreadyExists.into()),
             (_, number) => number,
         };
         Ok(Recorded {
