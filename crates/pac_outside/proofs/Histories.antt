@@ -1,5 +1,5 @@
 -- Calls of a disk one after another.
-use Rattle.std.proofs.Common.{◌≡◌, List, [], ◌∷◌, ◌++◌, ℕ, Option, Some, None, Result, Ok, Err, OnOk, refl, sym, ap, ◌∙◌, append_assoc}
+use Rattle.std.proofs.Common.{◌≡◌, List, [], ◌∷◌, ◌++◌, ℕ, Option, Some, None, Result, Ok, Err, OnOk, refl, sym, ap, subst, ◌∙◌, append_assoc}
 use Rattle.std.specs.List.{AllByRecursion}
 use Rattle.std.proofs.lemmas.List.{append-nil, append_cancel_right}
 use Rattle.pac_outside.specs.Disk.{DiskState, DiskHistory, Leaves, LeavesOnly, BothKnown, states}
@@ -47,6 +47,20 @@ same_history a b same =
 -- a disk that isn't called
 pub stays : (P : List ℕ → Type 0) (device : DiskHistory) → Leaves P device.now → LeavesOnly P device device
 stays P device here = record { since = []; grown = sym (append-nil (states device)); first = here; each = tt }
+
+-- what calls leave at each moment they leave at the last one
+pub last_leaves : (P : List ℕ → Type 0) (a b : DiskHistory) → LeavesOnly P a b → Leaves P b.now
+last_leaves P a b run = subst (λ (state : DiskState). Leaves P state)
+    (sym (ends_in a.now a.past a.now run.since) ∙ ap (last_of a.now) (sym (append_assoc a.past (a.now ∷ []) run.since) ∙ sym run.grown) ∙ last_is a.now b.past b.now)
+    (at_last a.now run.since run.first run.each)
+  where
+    ends_in : (other : DiskState) (past : List DiskState) (now : DiskState) (since : List DiskState) → last_of other (past ++ now ∷ since) ≡ last_of now since
+    ends_in other [] now since = refl
+    ends_in other (state ∷ past) now since = ends_in state past now since
+
+    at_last : (now : DiskState) (since : List DiskState) → Leaves P now → AllByRecursion (Leaves P) since → Leaves P (last_of now since)
+    at_last now [] here each = here
+    at_last now (state ∷ since) here each = at_last state since each.0 each.1
 
 -- where both are known, one relation leads to another
 pub both : (R S : DiskHistory → DiskHistory → Type 0) → ((a b : DiskHistory) → R a b → S a b) → (a b : Option DiskHistory) → BothKnown R a b → BothKnown S a b

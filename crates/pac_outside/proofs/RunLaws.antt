@@ -1,13 +1,16 @@
 -- A run of several devices goes through each state that they say, and through no other.
-use Rattle.std.proofs.Common.{◌≡◌, ◌⊎◌, inl, inr, ℕ, zero, suc, List, [], ◌∷◌, ◌++◌, map, refl, sym, ap, ◌∙◌, subst, arith, append_assoc}
+use Rattle.std.proofs.Common.{◌≡◌, ◌⊎◌, inl, inr, ℕ, List, [], ◌∷◌, ◌++◌, refl, sym, ap, ◌∙◌, subst, arith, append_assoc}
 use Rattle.std.specs.List.{AllByRecursion}
 use Rattle.std.proofs.lemmas.List.{append-nil, append_cancel_left}
-use Rattle.pac_outside.specs.Disk.{DiskHistory, DiskState, HasImages, IsImage, LeavesOnly, becomes, settled, states}
-use Rattle.pac_outside.specs.Devices.{AreImages, AllLeave, RunLeaves}
+use Rattle.pac_outside.specs.Disk.{DiskHistory, DiskState, HasImages, IsImage, becomes, settled, states}
+use Rattle.pac_outside.specs.declared.devices.Devices.{Devices}
+use Rattle.pac_outside.specs.Devices.{AreImages, AllLeave, RunLeaves, WhichDevice, device_at, with_device}
 use Rattle.pac_outside.specs.Devices.RunLeaves.{rests, steps}
-use Rattle.pac_outside.specs.Runs.{AllGoOn, EachIsPassed, GoesOn, IsAt, IsMoment, IsNotSeven, IsPassed, empty_disk, was_seven}
-use Rattle.pac_outside.proofs.Histories.{all_weaken, stays, weaken}
-use Rattle.pac_outside.proofs.Runs.{one_runs}
+use Rattle.pac_outside.specs.Devices.WhichDevice.{the_log, the_slot_a, the_slot_b}
+use Rattle.pac_outside.specs.Parts.{reads_of}
+use Rattle.pac_outside.specs.Runs.{AllGoOn, AllHaveImages, EachIsPassed, GoesOn, IsMoment, IsNotSeven, IsPassed, LeavesIn, OneGoesOn, disk_in, empty_disk, was_seven}
+use Rattle.pac_outside.proofs.Histories.{all_weaken, same_history}
+use Rattle.pac_outside.proofs.Runs.{now_leaves, put_again, put_is}
 
 -- ---- histories that go on
 
@@ -23,97 +26,94 @@ on_and_on a b c first second = record {
   grown = second.grown ∙ ap (λ (past : List DiskState). past ++ second.since) first.grown ∙ append_assoc (states a) first.since second.since;
 }
 
-all_stay : (devices : List DiskHistory) → AllGoOn devices devices
-all_stay [] = tt
-all_stay (device ∷ devices) = (stays_on device, all_stay devices)
+all_stay : (devices : Devices DiskHistory) → AllGoOn devices devices
+all_stay devices = record { log = stays_on devices.log; slot_a = stays_on devices.slot_a; slot_b = stays_on devices.slot_b }
 
-all_on : (a b c : List DiskHistory) → AllGoOn a b → AllGoOn b c → AllGoOn a c
-all_on [] [] [] first second = tt
-all_on [] [] (z ∷ c) first second = absurd second
-all_on [] (y ∷ b) c first second = absurd first
-all_on (x ∷ a) [] c first second = absurd first
-all_on (x ∷ a) (y ∷ b) [] first second = absurd second
-all_on (x ∷ a) (y ∷ b) (z ∷ c) first second = (on_and_on x y z first.0 second.0, all_on a b c first.1 second.1)
+all_on : (a b c : Devices DiskHistory) → AllGoOn a b → AllGoOn b c → AllGoOn a c
+all_on a b c first second = record {
+  log = on_and_on a.log b.log c.log first.log second.log;
+  slot_a = on_and_on a.slot_a b.slot_a c.slot_a first.slot_a second.slot_a;
+  slot_b = on_and_on a.slot_b b.slot_b c.slot_b first.slot_b second.slot_b;
+}
 
-one_on : (prefix back : List DiskHistory) (device : DiskHistory) (next : DiskState) → AllGoOn (prefix ++ (device ∷ back)) (prefix ++ (becomes next device ∷ back))
-one_on [] back device next = (goes_one device next, all_stay back)
-one_on (first ∷ prefix) back device next = (stays_on first, one_on prefix back device next)
+-- the devices after one more step
+abbrev stepped : WhichDevice → DiskState → Devices DiskHistory → Devices DiskHistory
+stepped which next devices = with_device which (becomes next (device_at which devices)) devices
+
+one_on : (which : WhichDevice) (devices : Devices DiskHistory) (next : DiskState) → AllGoOn devices (stepped which next devices)
+one_on the_log devices next = record { log = goes_one devices.log next; slot_a = stays_on devices.slot_a; slot_b = stays_on devices.slot_b }
+one_on the_slot_a devices next = record { log = stays_on devices.log; slot_a = goes_one devices.slot_a next; slot_b = stays_on devices.slot_b }
+one_on the_slot_b devices next = record { log = stays_on devices.log; slot_a = stays_on devices.slot_a; slot_b = goes_one devices.slot_b next }
 
 -- in a run no state is forgotten
-pub run_goes_on : (P : List (List ℕ) → Type 0) (old new : List DiskHistory) → RunLeaves P old new → AllGoOn old new
+pub run_goes_on : (P : Devices (List ℕ) → Type 0) (old new : Devices DiskHistory) → RunLeaves P old new → AllGoOn old new
 run_goes_on P old new (rests devices here) = all_stay devices
-run_goes_on P old new (steps prefix back end device next here more) =
-    all_on (prefix ++ (device ∷ back)) (prefix ++ (becomes next device ∷ back)) end (one_on prefix back device next) (run_goes_on P (prefix ++ (becomes next device ∷ back)) end more)
+run_goes_on P old new (steps which devices end next here more) = all_on devices (stepped which next devices) end (one_on which devices next) (run_goes_on P (stepped which next devices) end more)
 
 -- ---- each state is passed
 
--- the disk at an offset before a step is the one that steps, or it is there after the step too
-at_step : (offset : ℕ) (prefix back : List DiskHistory) (device : DiskHistory) (next : DiskState) (disk : DiskHistory) → IsAt offset (prefix ++ (device ∷ back)) disk
-    → ((disk ≡ device) × IsAt offset (prefix ++ (becomes next device ∷ back)) (becomes next device)) ⊎ IsAt offset (prefix ++ (becomes next device ∷ back)) disk
-at_step zero [] back device next disk is = inl (is, refl)
-at_step (suc offset) [] back device next disk is = inr is
-at_step zero (first ∷ prefix) back device next disk is = inr is
-at_step (suc offset) (first ∷ prefix) back device next disk is = at_step offset prefix back device next disk is
-
-at_once : (offset : ℕ) (devices : List DiskHistory) (x y : DiskHistory) → IsAt offset devices x → IsAt offset devices y → x ≡ y
-at_once zero [] x y first second = absurd first
-at_once zero (device ∷ devices) x y first second = first ∙ sym second
-at_once (suc offset) [] x y first second = absurd first
-at_once (suc offset) (device ∷ devices) x y first second = at_once offset devices x y first second
+-- a device is the one that steps, or stays as it is
+at_step : (which other : WhichDevice) (devices : Devices DiskHistory) (next : DiskState) → (device_at other (stepped which next devices) ≡ becomes next (device_at other devices)) ⊎ (device_at other (stepped which next devices) ≡ device_at other devices)
+at_step the_log the_log devices next = inl refl
+at_step the_log the_slot_a devices next = inr refl
+at_step the_log the_slot_b devices next = inr refl
+at_step the_slot_a the_log devices next = inr refl
+at_step the_slot_a the_slot_a devices next = inl refl
+at_step the_slot_a the_slot_b devices next = inr refl
+at_step the_slot_b the_log devices next = inr refl
+at_step the_slot_b the_slot_a devices next = inr refl
+at_step the_slot_b the_slot_b devices next = inl refl
 
 -- what is passed from a later moment on is passed from an earlier one on
-module _ (P : List (List ℕ) → Type 0) (old later new : List DiskHistory) (on : AllGoOn old later) (offset : ℕ) where
-  passed_later : (state : DiskState) → IsPassed P later new offset state → IsPassed P old new offset state
+module _ (P : Devices (List ℕ) → Type 0) (old later new : Devices DiskHistory) (on : AllGoOn old later) (which : WhichDevice) where
+  passed_later : (state : DiskState) → IsPassed P later new which state → IsPassed P old new which state
   passed_later state passed = record {
     moment = passed.moment;
     is = record { begun = all_on old later passed.moment on passed.is.begun; ended = passed.is.ended; leaves = passed.is.leaves };
-    disk = passed.disk;
-    there = passed.there;
     now = passed.now;
   }
 
-  all_passed_later : (passed : List DiskState) → AllByRecursion (IsPassed P later new offset) passed → AllByRecursion (IsPassed P old new offset) passed
-  all_passed_later = all_weaken (IsPassed P later new offset) (IsPassed P old new offset) passed_later
+  all_passed_later : (passed : List DiskState) → AllByRecursion (IsPassed P later new which) passed → AllByRecursion (IsPassed P old new which) passed
+  all_passed_later = all_weaken (IsPassed P later new which) (IsPassed P old new which) passed_later
 
 -- the state at the first moment
-passed_first : (P : List (List ℕ) → Type 0) (old new : List DiskHistory) → AllLeave P old → AllGoOn old new → (offset : ℕ) (disk : DiskHistory) → IsAt offset old disk → IsPassed P old new offset disk.now
-passed_first P old new here on offset disk there = record { moment = old; is = record { begun = all_stay old; ended = on; leaves = here }; disk = disk; there = there; now = refl }
+passed_first : (P : Devices (List ℕ) → Type 0) (old new : Devices DiskHistory) → AllLeave P old → AllGoOn old new → (which : WhichDevice) → IsPassed P old new which (device_at which old).now
+passed_first P old new here on which = record { moment = old; is = record { begun = all_stay old; ended = on; leaves = here }; now = refl }
 
 -- what is passed from the second moment on, and the first moment
-module _ (P : List (List ℕ) → Type 0) (prefix back end : List DiskHistory) (device : DiskHistory) (next : DiskState) (here : AllLeave P (prefix ++ (device ∷ back))) (on : AllGoOn (prefix ++ (device ∷ back)) end) (offset : ℕ) (after : DiskHistory) where
-  abbrev Was : DiskHistory → Type 0
-  Was disk = EachIsPassed P (prefix ++ (device ∷ back)) end offset disk after
+module _ (P : Devices (List ℕ) → Type 0) (which other : WhichDevice) (devices end : Devices DiskHistory) (next : DiskState) (here : AllLeave P devices) (on : AllGoOn devices end) where
+  abbrev later : Devices DiskHistory
+  later = stepped which next devices
 
-  abbrev Is : DiskHistory → Type 0
-  Is disk = EachIsPassed P (prefix ++ (becomes next device ∷ back)) end offset disk after
+  passed_too : (passed : List DiskState) → AllByRecursion (IsPassed P later end other) passed → AllByRecursion (IsPassed P devices end other) passed
+  passed_too = all_passed_later P devices later end (one_on which devices next) other
 
-  passed_too : (passed : List DiskState) → AllByRecursion (IsPassed P (prefix ++ (becomes next device ∷ back)) end offset) passed → AllByRecursion (IsPassed P (prefix ++ (device ∷ back)) end offset) passed
-  passed_too = all_passed_later P (prefix ++ (device ∷ back)) (prefix ++ (becomes next device ∷ back)) end (one_on prefix back device next) offset
-
-  stepped : (before : DiskHistory) → IsAt offset (prefix ++ (device ∷ back)) before → before ≡ device → Is (becomes next device) → Was before
-  stepped before first same rest = record {
+  moved : device_at other later ≡ becomes next (device_at other devices) → EachIsPassed P later end other → EachIsPassed P devices end other
+  moved same rest = record {
     since = next ∷ rest.since;
-    grown = rest.grown ∙ append_assoc (states device) (next ∷ []) rest.since ∙ ap (λ (disk : DiskHistory). states disk ++ (next ∷ rest.since)) (sym same);
-    each = (passed_first P (prefix ++ (device ∷ back)) end here on offset before first, passed_too (next ∷ rest.since) rest.each);
+    grown = rest.grown ∙ ap (λ (disk : DiskHistory). states disk ++ rest.since) same ∙ append_assoc (states (device_at other devices)) (next ∷ []) rest.since;
+    each = (passed_first P devices end here on other, passed_too (next ∷ rest.since) (subst (λ (disk : DiskHistory). AllByRecursion (IsPassed P later end other) (disk.now ∷ rest.since)) same rest.each));
   }
 
-  stood : (before : DiskHistory) → Is before → Was before
-  stood before rest = record { since = rest.since; grown = rest.grown; each = passed_too (before.now ∷ rest.since) rest.each }
+  stood : device_at other later ≡ device_at other devices → EachIsPassed P later end other → EachIsPassed P devices end other
+  stood same rest = record {
+    since = rest.since;
+    grown = rest.grown ∙ ap (λ (disk : DiskHistory). states disk ++ rest.since) same;
+    each = passed_too ((device_at other devices).now ∷ rest.since) (subst (λ (disk : DiskHistory). AllByRecursion (IsPassed P later end other) (disk.now ∷ rest.since)) same rest.each);
+  }
 
-  either : (before : DiskHistory) → IsAt offset (prefix ++ (device ∷ back)) before → ((disk : DiskHistory) → IsAt offset (prefix ++ (becomes next device ∷ back)) disk → Is disk)
-      → ((before ≡ device) × IsAt offset (prefix ++ (becomes next device ∷ back)) (becomes next device)) ⊎ IsAt offset (prefix ++ (becomes next device ∷ back)) before → Was before
-  either before first rest (inl both) = stepped before first both.0 (rest (becomes next device) both.1)
-  either before first rest (inr there) = stood before (rest before there)
+  either : (device_at other later ≡ becomes next (device_at other devices)) ⊎ (device_at other later ≡ device_at other devices) → EachIsPassed P later end other → EachIsPassed P devices end other
+  either (inl same) rest = moved same rest
+  either (inr same) rest = stood same rest
 
-pub each_is_passed : (P : List (List ℕ) → Type 0) (old new : List DiskHistory) → RunLeaves P old new → (offset : ℕ) (before after : DiskHistory) → IsAt offset old before → IsAt offset new after → EachIsPassed P old new offset before after
-each_is_passed P old new (rests devices here) offset before after first last = record {
+pub each_is_passed : (P : Devices (List ℕ) → Type 0) (old new : Devices DiskHistory) → RunLeaves P old new → (which : WhichDevice) → EachIsPassed P old new which
+each_is_passed P old new (rests devices here) other = record {
   since = [];
-  grown = ap (λ (disk : DiskHistory). states disk) (at_once offset devices after before last first) ∙ sym (append-nil (states before));
-  each = (passed_first P devices devices here (all_stay devices) offset before first, tt);
+  grown = sym (append-nil (states (device_at other devices)));
+  each = (passed_first P devices devices here (all_stay devices) other, tt);
 }
-each_is_passed P old new (steps prefix back end device next here more) offset before after first last =
-    either P prefix back end device next here (run_goes_on P (prefix ++ (device ∷ back)) end (steps prefix back end device next here more)) offset after before first
-    (λ disk there. each_is_passed P (prefix ++ (becomes next device ∷ back)) end more offset disk after there last) (at_step offset prefix back device next before first)
+each_is_passed P old new (steps which devices end next here more) other =
+    either P which other devices end next here (run_goes_on P devices end (steps which devices end next here more)) (at_step which other devices next) (each_is_passed P (stepped which next devices) end more other)
 
 -- ---- what a read gave at a moment has P
 
@@ -124,75 +124,78 @@ at_seam Q (state ∷ past) now since all = at_seam Q past now since all.1
 had_image : (disk new : DiskHistory) → GoesOn disk new → HasImages new → IsImage disk.now disk.now.seen
 had_image disk new on has = at_seam (λ state. IsImage state state.seen) disk.past disk.now on.since (subst (λ (states : List DiskState). AllByRecursion (λ state. IsImage state state.seen) states) on.grown has)
 
-had_images : (moment new : List DiskHistory) → AllGoOn moment new → AllByRecursion HasImages new → AreImages moment (map (λ disk. disk.now.seen) moment)
-had_images [] new on has = tt
-had_images (disk ∷ moment) [] on has = absurd on
-had_images (disk ∷ moment) (last ∷ new) on has = (had_image disk last on.0 has.0, had_images moment new on.1 has.1)
+had_images : (moment new : Devices DiskHistory) → AllGoOn moment new → AllHaveImages new → AreImages moment (reads_of moment)
+had_images moment new on has = record {
+  log = had_image moment.log new.log on.log has.log;
+  slot_a = had_image moment.slot_a new.slot_a on.slot_a has.slot_a;
+  slot_b = had_image moment.slot_b new.slot_b on.slot_b has.slot_b;
+}
 
-pub moment_has : (P : List (List ℕ) → Type 0) (old new moment : List DiskHistory) → AllByRecursion HasImages new → IsMoment P old new moment → P (map (λ disk. disk.now.seen) moment)
-moment_has P old new moment has is = is.leaves (map (λ disk. disk.now.seen) moment) (had_images moment new is.ended has)
+pub moment_has : (P : Devices (List ℕ) → Type 0) (old new moment : Devices DiskHistory) → AllHaveImages new → IsMoment P old new moment → P (reads_of moment)
+moment_has P old new moment has is = is.leaves (reads_of moment) (had_images moment new is.ended has)
 
 -- ---- one device
 
--- what a run says where there is one device
-abbrev OneLeaves : (List (List ℕ) → Type 0) → List DiskHistory → List DiskHistory → Type 0
-OneLeaves P [] new = Unit {0}
-OneLeaves P (x ∷ []) [] = Unit {0}
-OneLeaves P (x ∷ []) (y ∷ []) = LeavesOnly (λ image. P (image ∷ [])) x y
-OneLeaves P (x ∷ []) (y ∷ z ∷ new) = Unit {0}
-OneLeaves P (x ∷ y ∷ old) new = Unit {0}
-
-one_rests : (P : List (List ℕ) → Type 0) (devices : List DiskHistory) → AllLeave P devices → OneLeaves P devices devices
-one_rests P [] here = tt
-one_rests P (x ∷ []) here = stays (λ image. P (image ∷ [])) x (λ image is. here (image ∷ []) (is, tt))
-one_rests P (x ∷ y ∷ devices) here = tt
-
-one_steps : (P : List (List ℕ) → Type 0) (prefix back end : List DiskHistory) (device : DiskHistory) (next : DiskState) → AllLeave P (prefix ++ (device ∷ back)) → OneLeaves P (prefix ++ (becomes next device ∷ back)) end → OneLeaves P (prefix ++ (device ∷ back)) end
-one_steps P [] [] [] device next here more = tt
-one_steps P [] [] (y ∷ []) device next here more = record {
-  since = next ∷ more.since;
-  grown = more.grown ∙ append_assoc (states device) (next ∷ []) more.since;
-  first = λ image is. here (image ∷ []) (is, tt);
-  each = (more.first, more.each);
-}
-one_steps P [] [] (y ∷ z ∷ end) device next here more = tt
-one_steps P [] (x ∷ back) end device next here more = tt
-one_steps P (x ∷ []) back end device next here more = tt
-one_steps P (x ∷ y ∷ prefix) back end device next here more = tt
-
-one_leaves : (P : List (List ℕ) → Type 0) (old new : List DiskHistory) → RunLeaves P old new → OneLeaves P old new
-one_leaves P old new (rests devices here) = one_rests P devices here
-one_leaves P old new (steps prefix back end device next here more) = one_steps P prefix back end device next here (one_leaves P (prefix ++ (becomes next device ∷ back)) end more)
-
-pub alone_leaves : (P : List (List ℕ) → Type 0) (old new : DiskHistory) → RunLeaves P (old ∷ []) (new ∷ []) → LeavesOnly (λ image. P (image ∷ [])) old new
-alone_leaves P old new run = one_leaves P (old ∷ []) (new ∷ []) run
-
-pub alone_runs : (P : List (List ℕ) → Type 0) (old new : DiskHistory) → LeavesOnly (λ image. P (image ∷ [])) old new → RunLeaves P (old ∷ []) (new ∷ [])
-alone_runs P old new run = one_runs P [] [] old new
-    (weaken (λ image. P (image ∷ [])) (λ image. (before after : List (List ℕ)) → AreImages [] before → AreImages [] after → P (before ++ (image ∷ after))) old new among run)
+-- a disk that went on and was then as at first didn't change between
+same_between : (a b : DiskHistory) → GoesOn a b → GoesOn b a → b ≡ a
+same_between a b first second =
+    let whole : first.since ++ second.since ≡ [] = append_cancel_left (states a) (first.since ++ second.since) [] (sym (append_assoc (states a) first.since second.since) ∙ ap (λ (past : List DiskState). past ++ second.since) (sym first.grown) ∙ sym second.grown ∙ sym (append-nil (states a))) in
+    same_history b a (first.grown ∙ ap (λ (since : List DiskState). states a ++ since) (no_first first.since second.since whole) ∙ append-nil (states a))
   where
-    among : (image : List ℕ) → P (image ∷ []) → (before after : List (List ℕ)) → AreImages [] before → AreImages [] after → P (before ++ (image ∷ after))
-    among image has [] [] prefixes backs = has
-    among image has [] (one ∷ after) prefixes backs = absurd backs
-    among image has (one ∷ before) after prefixes backs = absurd prefixes
+    no_first : (xs ys : List DiskState) → xs ++ ys ≡ [] → xs ≡ []
+    no_first [] ys none = refl
+    no_first (x ∷ xs) ys none = absurd (some none)
+      where
+        some : x ∷ (xs ++ ys) ≡ [] → ⊥
+        some none = cc
+
+-- where one device went on alone, the others were at each moment as they are
+between : (which : WhichDevice) (devices moment : Devices DiskHistory) (new : DiskHistory) → AllGoOn devices moment → AllGoOn moment (with_device which new devices) → moment ≡ with_device which (device_at which moment) devices
+between the_log devices moment new begun ended =
+    let a : moment.slot_a ≡ devices.slot_a = same_between devices.slot_a moment.slot_a begun.slot_a ended.slot_a in
+    let b : moment.slot_b ≡ devices.slot_b = same_between devices.slot_b moment.slot_b begun.slot_b ended.slot_b in
+    ap (λ (disk : DiskHistory). with_device the_slot_a disk moment) a ∙ ap (λ (disk : DiskHistory). with_device the_slot_b disk (with_device the_log moment.log devices)) b
+between the_slot_a devices moment new begun ended =
+    let l : moment.log ≡ devices.log = same_between devices.log moment.log begun.log ended.log in
+    let b : moment.slot_b ≡ devices.slot_b = same_between devices.slot_b moment.slot_b begun.slot_b ended.slot_b in
+    ap (λ (disk : DiskHistory). with_device the_log disk moment) l ∙ ap (λ (disk : DiskHistory). with_device the_slot_b disk (with_device the_slot_a moment.slot_a devices)) b
+between the_slot_b devices moment new begun ended =
+    let l : moment.log ≡ devices.log = same_between devices.log moment.log begun.log ended.log in
+    let a : moment.slot_a ≡ devices.slot_a = same_between devices.slot_a moment.slot_a begun.slot_a ended.slot_a in
+    ap (λ (disk : DiskHistory). with_device the_log disk moment) l ∙ ap (λ (disk : DiskHistory). with_device the_slot_a disk (with_device the_slot_b moment.slot_b devices)) a
+
+-- what was left at such a moment
+left_at : (P : Devices (List ℕ) → Type 0) (which : WhichDevice) (devices : Devices DiskHistory) (new : DiskHistory) (state : DiskState) → IsPassed P devices (with_device which new devices) which state → LeavesIn P which devices state
+left_at P which devices new state passed =
+    let same : passed.moment ≡ with_device which (device_at which passed.moment) devices = between which devices passed.moment new passed.is.begun passed.is.ended in
+    subst (λ (state : DiskState). LeavesIn P which devices state) passed.now (in_others which passed.moment same (now_leaves P which passed.moment passed.is.leaves))
+  where
+    in_others : (which : WhichDevice) (moment : Devices DiskHistory) → moment ≡ with_device which (device_at which moment) devices → LeavesIn P which moment (device_at which moment).now → LeavesIn P which devices (device_at which moment).now
+    in_others which moment same leaves = subst (λ (all : Devices DiskHistory). AllLeave P all) (ap (λ (all : Devices DiskHistory). with_device which (disk_in (device_at which moment).now) all) same ∙ put_again which (disk_in (device_at which moment).now) (device_at which moment) devices) leaves
+
+pub alone_leaves : (P : Devices (List ℕ) → Type 0) (which : WhichDevice) (devices : Devices DiskHistory) (new : DiskHistory) → RunLeaves P devices (with_device which new devices) → OneGoesOn P which devices new
+alone_leaves P which devices new run =
+    let passed = each_is_passed P devices (with_device which new devices) run which in
+    record {
+      since = passed.since;
+      grown = subst (λ (disk : DiskHistory). states disk ≡ states (device_at which devices) ++ passed.since) (put_is which new devices) passed.grown;
+      each = all_weaken (IsPassed P devices (with_device which new devices) which) (LeavesIn P which devices) (left_at P which devices new) ((device_at which devices).now ∷ passed.since) passed.each;
+    }
 
 -- ---- a state between that may not be
 
 own_image : (bytes : List ℕ) → IsImage (settled bytes) bytes
 own_image bytes = record { no_shorter = omega arith; no_longer = omega arith; stays = λ offset below unwritten. refl }
 
-pub seven_is_seen : (other other' : DiskHistory) → HasImages other' → RunLeaves IsNotSeven (empty_disk ∷ other ∷ []) (was_seven ∷ other' ∷ []) → ⊥
-seven_is_seen other other' has run =
-    let passed = each_is_passed IsNotSeven (empty_disk ∷ other ∷ []) (was_seven ∷ other' ∷ []) run 0 empty_disk was_seven refl refl in
-    let since : passed.since ≡ settled (7 ∷ []) ∷ settled [] ∷ [] = append_cancel_left (states empty_disk) passed.since (settled (7 ∷ []) ∷ settled [] ∷ []) (sym passed.grown) in
-    at_seven (subst (λ (later : List DiskState). AllByRecursion (IsPassed IsNotSeven (empty_disk ∷ other ∷ []) (was_seven ∷ other' ∷ []) 0) (settled [] ∷ later)) since passed.each).1.0
+pub seven_is_seen : (old new : Devices DiskHistory) → old.log ≡ empty_disk → new.log ≡ was_seven → HasImages new.slot_a → HasImages new.slot_b → RunLeaves IsNotSeven old new → ⊥
+seven_is_seen old new was is has_a has_b run =
+    let passed = each_is_passed IsNotSeven old new run the_log in
+    let grown : states was_seven ≡ states empty_disk ++ passed.since = ap (λ (disk : DiskHistory). states disk) (sym is) ∙ passed.grown ∙ ap (λ (disk : DiskHistory). states disk ++ passed.since) was in
+    let since : passed.since ≡ settled (7 ∷ []) ∷ settled [] ∷ [] = append_cancel_left (states empty_disk) passed.since (settled (7 ∷ []) ∷ settled [] ∷ []) (sym grown) in
+    at_seven (subst (λ (later : List DiskState). AllByRecursion (IsPassed IsNotSeven old new the_log) (old.log.now ∷ later)) since passed.each).1.0
   where
-    all_has : AllByRecursion HasImages (was_seven ∷ other' ∷ [])
-    all_has = ((own_image [], (own_image (7 ∷ []), (own_image [], tt))), (has, tt))
+    all_has : AllHaveImages new
+    all_has = record { log = subst (λ (disk : DiskHistory). HasImages disk) (sym is) (own_image [], (own_image (7 ∷ []), (own_image [], tt))); slot_a = has_a; slot_b = has_b }
 
-    first_is : (moment : List DiskHistory) (disk : DiskHistory) → IsAt 0 moment disk → disk.now ≡ settled (7 ∷ []) → IsNotSeven (map (λ device. device.now.seen) moment) → ⊥
-    first_is [] disk there now not = absurd there
-    first_is (first ∷ rest) disk there now not = not (ap (λ (device : DiskHistory). device.now.seen) (sym there) ∙ ap (λ (state : DiskState). state.seen) now)
-
-    at_seven : IsPassed IsNotSeven (empty_disk ∷ other ∷ []) (was_seven ∷ other' ∷ []) 0 (settled (7 ∷ [])) → ⊥
-    at_seven passed = first_is passed.moment passed.disk passed.there passed.now (moment_has IsNotSeven (empty_disk ∷ other ∷ []) (was_seven ∷ other' ∷ []) passed.moment all_has passed.is)
+    at_seven : IsPassed IsNotSeven old new the_log (settled (7 ∷ [])) → ⊥
+    at_seven passed = moment_has IsNotSeven old new passed.moment all_has passed.is (ap (λ (state : DiskState). state.seen) passed.now)

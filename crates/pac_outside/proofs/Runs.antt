@@ -1,104 +1,154 @@
 -- Runs over several devices: of one device alone, one after another, and at their ends.
-use Rattle.std.proofs.Common.{◌≡◌, ℕ, List, [], ◌∷◌, ◌++◌, Option, Some, None, option_map, sym, subst, ◌∙◌, append_assoc}
+use Rattle.std.proofs.Common.{◌≡◌, ℕ, List, [], ◌∷◌, ◌++◌, Option, Some, None, refl, sym, ap, subst, ◌∙◌, append_assoc}
 use Rattle.std.specs.List.{AllByRecursion}
 use Rattle.std.proofs.lemmas.List.{append-nil}
-use Rattle.pac_outside.specs.Disk.{DiskHistory, DiskState, IsImage, Leaves, LeavesAsBefore, LeavesOnly, LeavesTorn, BothKnown, becomes, states, wrote}
-use Rattle.pac_outside.specs.Devices.{AreImages, AllLeave, RunLeaves, all_known, OnceKnown, IfAllKnown}
+use Rattle.pac_outside.specs.Disk.{DiskHistory, DiskState, IsImage, Leaves, LeavesAsBefore, LeavesOnly, BothKnown, becomes, states}
+use Rattle.pac_outside.specs.declared.devices.Devices.{Devices}
+use Rattle.pac_outside.specs.Devices.{AreImages, AllLeave, RunLeaves, OnceKnown, IfAllKnown, WhichDevice, device_at, with_device}
 use Rattle.pac_outside.specs.Devices.RunLeaves.{rests, steps}
-use Rattle.pac_outside.proofs.Histories.{same_history, weaken}
+use Rattle.pac_outside.specs.Devices.WhichDevice.{the_log, the_slot_a, the_slot_b}
+use Rattle.pac_outside.specs.Runs.{LeavesIn, OneGoesOn, disk_in}
+use Rattle.pac_outside.proofs.Histories.{all_weaken, same_history}
+
+-- three devices, or what is seen of them
+abbrev pub three : {D : Type 0} → D → D → D → Devices D
+three log a b = record { log = log; slot_a = a; slot_b = b }
 
 -- one run after another
-pub run_then : (P : List (List ℕ) → Type 0) (a b c : List DiskHistory) → RunLeaves P a b → RunLeaves P b c → RunLeaves P a c
+pub run_then : (P : Devices (List ℕ) → Type 0) (a b c : Devices DiskHistory) → RunLeaves P a b → RunLeaves P b c → RunLeaves P a c
 run_then P a b c (rests devices here) second = second
-run_then P a b c (steps prefix back end device next here more) second = steps prefix back c device next here (run_then P (prefix ++ (becomes next device ∷ back)) end c more second)
+run_then P a b c (steps which devices end next here more) second = steps which devices c next here (run_then P (with_device which (becomes next (device_at which devices)) devices) end c more second)
 
 -- at its start a run leaves what has P
-pub run_start : (P : List (List ℕ) → Type 0) (a b : List DiskHistory) → RunLeaves P a b → AllLeave P a
+pub run_start : (P : Devices (List ℕ) → Type 0) (a b : Devices DiskHistory) → RunLeaves P a b → AllLeave P a
 run_start P a b (rests devices here) = here
-run_start P a b (steps prefix back end device next here more) = here
+run_start P a b (steps which devices end next here more) = here
 
 -- at its end a run leaves what has P
-pub run_end : (P : List (List ℕ) → Type 0) (a b : List DiskHistory) → RunLeaves P a b → AllLeave P b
+pub run_end : (P : Devices (List ℕ) → Type 0) (a b : Devices DiskHistory) → RunLeaves P a b → AllLeave P b
 run_end P a b (rests devices here) = here
-run_end P a b (steps prefix back end device next here more) = run_end P (prefix ++ (becomes next device ∷ back)) end more
+run_end P a b (steps which devices end next here more) = run_end P (with_device which (becomes next (device_at which devices)) devices) end more
 
-pub weaken_run : (P Q : List (List ℕ) → Type 0) → ((images : List (List ℕ)) → P images → Q images) → (a b : List DiskHistory) → RunLeaves P a b → RunLeaves Q a b
+pub weaken_run : (P Q : Devices (List ℕ) → Type 0) → ((images : Devices (List ℕ)) → P images → Q images) → (a b : Devices DiskHistory) → RunLeaves P a b → RunLeaves Q a b
 weaken_run P Q weaker a b (rests devices here) = rests devices (λ images are. weaker images (here images are))
-weaken_run P Q weaker a b (steps prefix back end device next here more) =
-    steps prefix back end device next (λ images are. weaker images (here images are)) (weaken_run P Q weaker (prefix ++ (becomes next device ∷ back)) end more)
+weaken_run P Q weaker a b (steps which devices end next here more) =
+    steps which devices end next (λ images are. weaker images (here images are)) (weaken_run P Q weaker (with_device which (becomes next (device_at which devices)) devices) end more)
 
--- where no device is called, or each is only read
-pub read_run : (P : List (List ℕ) → Type 0) (old new : List DiskHistory) → new ≡ old → AllLeave P old → RunLeaves P old new
-read_run P old new same here = subst (λ (devices : List DiskHistory). RunLeaves P old devices) (sym same) (rests old here)
+-- ---- one device is called, while the others stand still
 
--- The images of all devices are those of the devices before one, its own, and those of the devices after it.
-split_images : (P : List (List ℕ) → Type 0) (prefix back : List DiskHistory) (device : DiskHistory)
-    → ((image : List ℕ) → IsImage device.now image → (before after : List (List ℕ)) → AreImages prefix before → AreImages back after → P (before ++ (image ∷ after)))
-    → AllLeave P (prefix ++ (device ∷ back))
-split_images P [] back device has [] are = absurd are
-split_images P [] back device has (image ∷ images) are = has image are.0 [] images tt are.1
-split_images P (first ∷ prefix) back device has [] are = absurd are
-split_images P (first ∷ prefix) back device has (image ∷ images) are = split_images (λ rest. P (image ∷ rest)) prefix back device (λ own is before after prefixes backs. has own is (image ∷ before) after (are.0, prefixes) backs) images are.1
+-- what a crash leaves depends on the state that each device is in, and on no state before
+leaves_now : (P : Devices (List ℕ) → Type 0) (which : WhichDevice) (devices : Devices DiskHistory) → LeavesIn P which devices (device_at which devices).now → AllLeave P devices
+leaves_now P the_log devices here = λ images are. here images (record { log = are.log; slot_a = are.slot_a; slot_b = are.slot_b })
+leaves_now P the_slot_a devices here = λ images are. here images (record { log = are.log; slot_a = are.slot_a; slot_b = are.slot_b })
+leaves_now P the_slot_b devices here = λ images are. here images (record { log = are.log; slot_a = are.slot_a; slot_b = are.slot_b })
 
-pub join_images : (prefix back : List DiskHistory) (device : DiskHistory) (before after : List (List ℕ)) (image : List ℕ) → AreImages prefix before → IsImage device.now image → AreImages back after → AreImages (prefix ++ (device ∷ back)) (before ++ (image ∷ after))
-join_images [] back device [] after image prefixes is backs = (is, backs)
-join_images [] back device (one ∷ before) after image prefixes is backs = absurd prefixes
-join_images (first ∷ prefix) back device [] after image prefixes is backs = absurd prefixes
-join_images (first ∷ prefix) back device (one ∷ before) after image prefixes is backs = (prefixes.0, join_images prefix back device before after image prefixes.1 is backs)
+pub now_leaves : (P : Devices (List ℕ) → Type 0) (which : WhichDevice) (devices : Devices DiskHistory) → AllLeave P devices → LeavesIn P which devices (device_at which devices).now
+now_leaves P the_log devices here = λ images are. here images (record { log = are.log; slot_a = are.slot_a; slot_b = are.slot_b })
+now_leaves P the_slot_a devices here = λ images are. here images (record { log = are.log; slot_a = are.slot_a; slot_b = are.slot_b })
+now_leaves P the_slot_b devices here = λ images are. here images (record { log = are.log; slot_a = are.slot_a; slot_b = are.slot_b })
 
--- calls of one device, while the others stand still
-module _ (P : List (List ℕ) → Type 0) (prefix back : List DiskHistory) where
-  abbrev Among : List ℕ → Type 0
-  Among image = (before after : List (List ℕ)) → AreImages prefix before → AreImages back after → P (before ++ (image ∷ after))
+-- a device that is put in its place stands there
+pub put_is : {D : Type 0} (which : WhichDevice) (device : D) (devices : Devices D) → device_at which (with_device which device devices) ≡ device
+put_is the_log device devices = refl
+put_is the_slot_a device devices = refl
+put_is the_slot_b device devices = refl
 
-  goes_through : (next : DiskHistory) (since : List DiskState) (old : DiskHistory) → states next ≡ states old ++ since → Leaves Among old.now → AllByRecursion (Leaves Among) since → RunLeaves P (prefix ++ (old ∷ back)) (prefix ++ (next ∷ back))
-  goes_through next [] old grown here each = subst (λ (end : DiskHistory). RunLeaves P (prefix ++ (old ∷ back)) (prefix ++ (end ∷ back))) (same_history old next (sym (append-nil (states old)) ∙ sym grown))
-      (rests (prefix ++ (old ∷ back)) (split_images P prefix back old here))
-  goes_through next (state ∷ since) old grown here each = steps prefix back (prefix ++ (next ∷ back)) old state (split_images P prefix back old here)
-      (goes_through next since (becomes state old) (grown ∙ sym (append_assoc (states old) (state ∷ []) since)) each.0 each.1)
+-- of two that are put in a place one after another the last stands there
+pub put_again : {D : Type 0} (which : WhichDevice) (device other : D) (devices : Devices D) → with_device which device (with_device which other devices) ≡ with_device which device devices
+put_again the_log device other devices = refl
+put_again the_slot_a device other devices = refl
+put_again the_slot_b device other devices = refl
 
-  pub one_runs : (old next : DiskHistory) → LeavesOnly Among old next → RunLeaves P (prefix ++ (old ∷ back)) (prefix ++ (next ∷ back))
-  one_runs old next run = goes_through next run.since old run.grown run.first run.each
+pub put_same : {D : Type 0} (which : WhichDevice) (devices : Devices D) → with_device which (device_at which devices) devices ≡ devices
+put_same the_log devices = refl
+put_same the_slot_a devices = refl
+put_same the_slot_b devices = refl
 
--- a write to one device, also one that failed
-pub write_runs : (P : List (List ℕ) → Type 0) (prefix back : List DiskHistory) (at : ℕ) (piece : List ℕ) (old next : DiskHistory)
-    → ((image : List ℕ) → IsImage (wrote at piece old.now) image → (before after : List (List ℕ)) → AreImages prefix before → AreImages back after → P (before ++ (image ∷ after)))
-    → LeavesTorn at piece old next → RunLeaves P (prefix ++ (old ∷ back)) (prefix ++ (next ∷ back))
-write_runs P prefix back at piece old next has run = one_runs P prefix back old next
-    (weaken (IsImage (wrote at piece old.now)) (λ image. (before after : List (List ℕ)) → AreImages prefix before → AreImages back after → P (before ++ (image ∷ after))) old next has run)
+module _ (P : Devices (List ℕ) → Type 0) (which : WhichDevice) where
+  goes_through : (new : DiskHistory) (since : List DiskState) (devices : Devices DiskHistory) → states new ≡ states (device_at which devices) ++ since
+      → LeavesIn P which devices (device_at which devices).now → AllByRecursion (LeavesIn P which devices) since → RunLeaves P devices (with_device which new devices)
+  goes_through new [] devices grown here each =
+      let same : device_at which devices ≡ new = same_history (device_at which devices) new (sym (append-nil (states (device_at which devices))) ∙ sym grown) in
+      subst (λ (end : Devices DiskHistory). RunLeaves P devices end) (sym (put_same which devices) ∙ ap (λ (disk : DiskHistory). with_device which disk devices) same) (rests devices (leaves_now P which devices here))
+  goes_through new (state ∷ since) devices grown here each =
+      let next : DiskHistory = becomes state (device_at which devices) in
+      let later : Devices DiskHistory = with_device which (becomes state (device_at which devices)) devices in
+      let at : next ≡ device_at which later = sym (put_is which next devices) in
+      let in_later : (s : DiskState) → LeavesIn P which devices s → LeavesIn P which later s = λ s. subst (λ (all : Devices DiskHistory). AllLeave P all) (sym (put_again which (disk_in s) next devices)) in
+      let rest : RunLeaves P later (with_device which new later) = goes_through new since later
+          (grown ∙ sym (append_assoc (states (device_at which devices)) (state ∷ []) since) ∙ ap (λ (disk : DiskHistory). states disk ++ since) at)
+          (subst (λ (disk : DiskHistory). LeavesIn P which later disk.now) at (in_later state each.0))
+          (all_weaken (LeavesIn P which devices) (LeavesIn P which later) in_later since each.1) in
+      steps which devices (with_device which new devices) state (leaves_now P which devices here) (subst (λ (end : Devices DiskHistory). RunLeaves P later end) (put_again which new next devices) rest)
+
+  pub one_runs : (devices : Devices DiskHistory) (new : DiskHistory) → OneGoesOn P which devices new → RunLeaves P devices (with_device which new devices)
+  one_runs devices new on = goes_through new on.since devices on.grown on.each.0 on.each.1
+
+-- what each of its states leaves of a device, beside what the others leave
+among : (P : Devices (List ℕ) → Type 0) (which : WhichDevice) (devices : Devices DiskHistory) (new : DiskHistory) (Q : List ℕ → Type 0) → ((state : DiskState) → Leaves Q state → LeavesIn P which devices state)
+    → LeavesOnly Q (device_at which devices) new → RunLeaves P devices (with_device which new devices)
+among P which devices new Q has run = one_runs P which devices new
+    (record { since = run.since; grown = run.grown; each = (has (device_at which devices).now run.first, all_weaken (Leaves Q) (LeavesIn P which devices) has run.since run.each) })
+
+-- the log is called
+pub log_runs : (P : Devices (List ℕ) → Type 0) (l n a b : DiskHistory) → LeavesOnly (λ i. (x y : List ℕ) → IsImage a.now x → IsImage b.now y → P (three i x y)) l n → RunLeaves P (three l a b) (three n a b)
+log_runs P l n a b run = among P the_log (three l a b) n (λ i. (x y : List ℕ) → IsImage a.now x → IsImage b.now y → P (three i x y))
+    (λ state leaves images are. leaves images.log are.log images.slot_a images.slot_b are.slot_a are.slot_b) run
+
+-- slot a is called
+pub a_runs : (P : Devices (List ℕ) → Type 0) (l a n b : DiskHistory) → LeavesOnly (λ x. (i y : List ℕ) → IsImage l.now i → IsImage b.now y → P (three i x y)) a n → RunLeaves P (three l a b) (three l n b)
+a_runs P l a n b run = among P the_slot_a (three l a b) n (λ x. (i y : List ℕ) → IsImage l.now i → IsImage b.now y → P (three i x y))
+    (λ state leaves images are. leaves images.slot_a are.slot_a images.log images.slot_b are.log are.slot_b) run
+
+-- slot b is called
+pub b_runs : (P : Devices (List ℕ) → Type 0) (l a b n : DiskHistory) → LeavesOnly (λ y. (i x : List ℕ) → IsImage l.now i → IsImage a.now x → P (three i x y)) b n → RunLeaves P (three l a b) (three l a n)
+b_runs P l a b n run = among P the_slot_b (three l a b) n (λ y. (i x : List ℕ) → IsImage l.now i → IsImage a.now x → P (three i x y))
+    (λ state leaves images are. leaves images.slot_b are.slot_b images.log images.slot_a are.log are.slot_a) run
 
 -- a sync of one device, also one that failed, leaves what it finds
-pub sync_runs : (P : List (List ℕ) → Type 0) (prefix back : List DiskHistory) (old next : DiskHistory)
-    → AllLeave P (prefix ++ (old ∷ back)) → LeavesAsBefore old next → RunLeaves P (prefix ++ (old ∷ back)) (prefix ++ (next ∷ back))
-sync_runs P prefix back old next here run = one_runs P prefix back old next
-    (weaken (IsImage old.now) (λ image. (before after : List (List ℕ)) → AreImages prefix before → AreImages back after → P (before ++ (image ∷ after))) old next
-    (λ image is before after prefixes backs. here (before ++ (image ∷ after)) (join_images prefix back old before after image prefixes is backs)) run)
+pub sync_runs : (P : Devices (List ℕ) → Type 0) (which : WhichDevice) (devices : Devices DiskHistory) (new : DiskHistory)
+    → AllLeave P devices → LeavesAsBefore (device_at which devices) new → RunLeaves P devices (with_device which new devices)
+sync_runs P which devices new here run = among P which devices new (IsImage (device_at which devices).now) (found which) run
+  where
+    found : (which : WhichDevice) (state : DiskState) → Leaves (IsImage (device_at which devices).now) state → LeavesIn P which devices state
+    found the_log state leaves = λ images are. here images (record { log = leaves images.log are.log; slot_a = are.slot_a; slot_b = are.slot_b })
+    found the_slot_a state leaves = λ images are. here images (record { log = are.log; slot_a = leaves images.slot_a are.slot_a; slot_b = are.slot_b })
+    found the_slot_b state leaves = λ images are. here images (record { log = are.log; slot_a = are.slot_a; slot_b = leaves images.slot_b are.slot_b })
 
--- where all devices' histories are known, one relation leads to another
-pub knows_on : (R S : List DiskHistory → List DiskHistory → Type 0) → ((a b : List DiskHistory) → R a b → S a b) → (a b : Option (List DiskHistory)) → OnceKnown R a b → OnceKnown S a b
+-- ---- where all devices' histories are known
+
+-- one relation leads to another
+pub knows_on : (R S : Devices DiskHistory → Devices DiskHistory → Type 0) → ((a b : Devices DiskHistory) → R a b → S a b) → (a b : Option (Devices DiskHistory)) → OnceKnown R a b → OnceKnown S a b
 knows_on R S step None b known = tt
 knows_on R S step (Some a) None known = absurd known
 knows_on R S step (Some a) (Some b) known = step a b known
 
-pub knows_then : (R S T : List DiskHistory → List DiskHistory → Type 0) → ((a b c : List DiskHistory) → R a b → S b c → T a c) → (a b c : Option (List DiskHistory)) → OnceKnown R a b → OnceKnown S b c → OnceKnown T a c
+pub knows_then : (R S T : Devices DiskHistory → Devices DiskHistory → Type 0) → ((a b c : Devices DiskHistory) → R a b → S b c → T a c) → (a b c : Option (Devices DiskHistory)) → OnceKnown R a b → OnceKnown S b c → OnceKnown T a c
 knows_then R S T step None b c first second = tt
 knows_then R S T step (Some a) None c first second = absurd first
 knows_then R S T step (Some a) (Some b) None first second = absurd second
 knows_then R S T step (Some a) (Some b) (Some c) first second = step a b c first second
 
 -- One device is called while the others stand still: what its histories have leads to what those of all have.
-pub device_knows : (R : DiskHistory → DiskHistory → Type 0) (S : List DiskHistory → List DiskHistory → Type 0)
-    → ((prefix back : List DiskHistory) (old next : DiskHistory) → R old next → S (prefix ++ (old ∷ back)) (prefix ++ (next ∷ back)))
-    → (prefix back : List (Option DiskHistory)) (old next : Option DiskHistory) → BothKnown R old next → IfAllKnown S (prefix ++ (old ∷ back)) (prefix ++ (next ∷ back))
-device_knows R S step [] back None next known = tt
-device_knows R S step [] back (Some old) None known = absurd known
-device_knows R S step [] back (Some old) (Some next) known = go (all_known back) where
-  go : (rest : Option (List DiskHistory)) → OnceKnown S (option_map (λ histories. old ∷ histories) rest) (option_map (λ histories. next ∷ histories) rest)
-  go None = tt
-  go (Some rest) = step [] rest old next known
-device_knows R S step (None ∷ prefix) back old next known = tt
-device_knows R S step (Some first ∷ prefix) back old next known = go (all_known (prefix ++ (old ∷ back))) (all_known (prefix ++ (next ∷ back))) (device_knows R (λ a b. S (first ∷ a) (first ∷ b)) (λ before after x y has. step (first ∷ before) after x y has) prefix back old next known) where
-  go : (a b : Option (List DiskHistory)) → OnceKnown (λ x y. S (first ∷ x) (first ∷ y)) a b → OnceKnown S (option_map (λ histories. first ∷ histories) a) (option_map (λ histories. first ∷ histories) b)
-  go None b has = tt
-  go (Some a) None has = absurd has
-  go (Some a) (Some b) has = has
+module _ (R : DiskHistory → DiskHistory → Type 0) (S : Devices DiskHistory → Devices DiskHistory → Type 0)
+    (step : (which : WhichDevice) (devices : Devices DiskHistory) (new : DiskHistory) → R (device_at which devices) new → S devices (with_device which new devices)) where
+  pub log_knows : (l n a b : Option DiskHistory) → BothKnown R l n → IfAllKnown S (three l a b) (three n a b)
+  log_knows None n a b known = tt
+  log_knows (Some l) n None b known = tt
+  log_knows (Some l) n (Some a) None known = tt
+  log_knows (Some l) None (Some a) (Some b) known = absurd known
+  log_knows (Some l) (Some n) (Some a) (Some b) known = step the_log (three l a b) n known
+
+  pub a_knows : (l a n b : Option DiskHistory) → BothKnown R a n → IfAllKnown S (three l a b) (three l n b)
+  a_knows None a n b known = tt
+  a_knows (Some l) None n b known = tt
+  a_knows (Some l) (Some a) n None known = tt
+  a_knows (Some l) (Some a) None (Some b) known = absurd known
+  a_knows (Some l) (Some a) (Some n) (Some b) known = step the_slot_a (three l a b) n known
+
+  pub b_knows : (l a b n : Option DiskHistory) → BothKnown R b n → IfAllKnown S (three l a b) (three l a n)
+  b_knows None a b n known = tt
+  b_knows (Some l) None b n known = tt
+  b_knows (Some l) (Some a) None n known = tt
+  b_knows (Some l) (Some a) (Some b) None known = absurd known
+  b_knows (Some l) (Some a) (Some b) (Some n) known = step the_slot_b (three l a b) n known

@@ -1,69 +1,94 @@
 -- Several devices at once.
-use Rattle.std.specs.Prelude.{◌≡◌, ◌⊎◌, ℕ, List, [], ◌∷◌, ◌++◌, Option, Some, None, option_map, Result, MatchResult}
+use Rattle.std.specs.Prelude.{◌≡◌, ◌⊎◌, ℕ, List, Option, Some, None, Result, MatchResult}
 use Rattle.pac_outside.specs.Causes.{one_more}
 use Rattle.pac_outside.specs.Disk.{DiskHistory, DiskState, IsImage, becomes, settled}
 use Rattle.pac_outside.specs.declared.devices.Devices.{Devices}
 
--- what is seen of each device of a store, in a fixed order
-abbrev pub each : {D A : Type 0} → (D → A) → Devices D → List A
-each view devices = view devices.log ∷ view devices.slot_a ∷ view devices.slot_b ∷ []
+-- what is seen of each device of a store
+abbrev pub each : {D A : Type 0} → (D → A) → Devices D → Devices A
+each view devices = record { log = view devices.log; slot_a = view devices.slot_a; slot_b = view devices.slot_b }
+
+-- R holds of each device: of what is seen of it here and there
+pub record OnEach {A B : Type 0} (R : A → B → Type 0) (here : Devices A) (there : Devices B) : Type 0 where
+  pub log : R here.log there.log
+  pub slot_a : R here.slot_a there.slot_a
+  pub slot_b : R here.slot_b there.slot_b
+
+-- which of the devices it is
+pub data WhichDevice : Type 0 where
+  the_log : WhichDevice
+  the_slot_a : WhichDevice
+  the_slot_b : WhichDevice
+
+-- this one of them
+abbrev pub device_at : {D : Type 0} → WhichDevice → Devices D → D
+device_at the_log devices = devices.log
+device_at the_slot_a devices = devices.slot_a
+device_at the_slot_b devices = devices.slot_b
+
+-- the devices, with this one in its place
+abbrev pub with_device : {D : Type 0} → WhichDevice → D → Devices D → Devices D
+with_device the_log device devices = record { log = device; slot_a = devices.slot_a; slot_b = devices.slot_b }
+with_device the_slot_a device devices = record { log = devices.log; slot_a = device; slot_b = devices.slot_b }
+with_device the_slot_b device devices = record { log = devices.log; slot_a = devices.slot_a; slot_b = device }
+
+-- what is known of three devices, where all of it is
+abbrev pub all_three : Option DiskHistory → Option DiskHistory → Option DiskHistory → Option (Devices DiskHistory)
+all_three None a b = None
+all_three (Some log) None b = None
+all_three (Some log) (Some a) None = None
+all_three (Some log) (Some a) (Some b) = Some (record { log = log; slot_a = a; slot_b = b })
 
 -- what is known of the devices, where all of it is
-abbrev pub all_known : List (Option DiskHistory) → Option (List DiskHistory)
-all_known [] = Some []
-all_known (None ∷ rest) = None
-all_known (Some history ∷ rest) = option_map (λ histories. history ∷ histories) (all_known rest)
+abbrev pub all_known : Devices (Option DiskHistory) → Option (Devices DiskHistory)
+all_known devices = all_three devices.log devices.slot_a devices.slot_b
 
 -- what is known before and after has R; it is known after where it was before
-abbrev pub OnceKnown : (List DiskHistory → List DiskHistory → Type 0) → Option (List DiskHistory) → Option (List DiskHistory) → Type 0
+abbrev pub OnceKnown : (Devices DiskHistory → Devices DiskHistory → Type 0) → Option (Devices DiskHistory) → Option (Devices DiskHistory) → Type 0
 OnceKnown R None new = Unit {0}
 OnceKnown R (Some old) None = ⊥
 OnceKnown R (Some old) (Some new) = R old new
 
 -- where all devices' histories are known before a call, they are after it, and their histories have R
-abbrev pub IfAllKnown : (List DiskHistory → List DiskHistory → Type 0) → List (Option DiskHistory) → List (Option DiskHistory) → Type 0
+abbrev pub IfAllKnown : (Devices DiskHistory → Devices DiskHistory → Type 0) → Devices (Option DiskHistory) → Devices (Option DiskHistory) → Type 0
 IfAllKnown R old new = OnceKnown R (all_known old) (all_known new)
 
 -- one image of each device
-abbrev pub AreImages : List DiskHistory → List (List ℕ) → Type 0
-AreImages [] [] = Unit {0}
-AreImages [] (image ∷ images) = ⊥
-AreImages (device ∷ devices) [] = ⊥
-AreImages (device ∷ devices) (image ∷ images) = IsImage device.now image × AreImages devices images
+abbrev pub AreImages : Devices DiskHistory → Devices (List ℕ) → Type 0
+AreImages devices images = OnEach (λ device image. IsImage device.now image) devices images
 
 -- a crash now leaves only images that have P
-abbrev pub AllLeave : (List (List ℕ) → Type 0) → List DiskHistory → Type 0
-AllLeave P devices = (images : List (List ℕ)) → AreImages devices images → P images
+abbrev pub AllLeave : (Devices (List ℕ) → Type 0) → Devices DiskHistory → Type 0
+AllLeave P devices = (images : Devices (List ℕ)) → AreImages devices images → P images
 
 -- A run of calls of several devices, while a crash at any moment leaves only images that have P: at each moment it does,
 -- and from one to the next one device becomes another state, and the others stay as they are. So each device goes through
 -- the states that it says, through all of them and no others. No device says which of two devices' moments comes first,
 -- so it is some order of them that has P. That the order of the calls has it follows from what a call says at each exit: a
 -- device may fail from any call on, and be the last that is called, as `EndsAtOneFault` says; the exit is that moment then.
-pub data RunLeaves (P : List (List ℕ) → Type 0) : List DiskHistory → List DiskHistory → Type 0 where
-  rests : (devices : List DiskHistory) → AllLeave P devices → RunLeaves P devices devices
-  steps : (prefix back end : List DiskHistory) (device : DiskHistory) (next : DiskState)
-      → AllLeave P (prefix ++ (device ∷ back))
-      → RunLeaves P (prefix ++ (becomes next device ∷ back)) end → RunLeaves P (prefix ++ (device ∷ back)) end
+pub data RunLeaves (P : Devices (List ℕ) → Type 0) : Devices DiskHistory → Devices DiskHistory → Type 0 where
+  rests : (devices : Devices DiskHistory) → AllLeave P devices → RunLeaves P devices devices
+  steps : (which : WhichDevice) (devices end : Devices DiskHistory) (next : DiskState)
+      → AllLeave P devices
+      → RunLeaves P (with_device which (becomes next (device_at which devices)) devices) end → RunLeaves P devices end
 
 -- a crash at any moment leaves images that it might have left before
-abbrev pub RunsAsBefore : List DiskHistory → List DiskHistory → Type 0
+abbrev pub RunsAsBefore : Devices DiskHistory → Devices DiskHistory → Type 0
 RunsAsBefore old = RunLeaves (AreImages old) old
 
 -- a crash leaves of each device what a read of it gave
-abbrev pub AreSettled : List DiskHistory → List DiskHistory → Type 0
-AreSettled [] [] = Unit {0}
-AreSettled [] (new ∷ news) = ⊥
-AreSettled (old ∷ olds) [] = ⊥
-AreSettled (old ∷ olds) (new ∷ news) = (new.now ≡ settled old.now.seen) × AreSettled olds news
+abbrev pub AreSettled : Devices DiskHistory → Devices DiskHistory → Type 0
+AreSettled old new = OnEach (λ was is. is.now ≡ settled was.now.seen) old new
 
--- one device's count of faults rose by one, and no other did
-abbrev pub OneFaulted : List ℕ → List ℕ → Type 0
-OneFaulted [] [] = ⊥
-OneFaulted [] (now ∷ nows) = ⊥
-OneFaulted (before ∷ befores) [] = ⊥
-OneFaulted (before ∷ befores) (now ∷ nows) = ((now ≡ one_more before) × (nows ≡ befores)) ⊎ ((now ≡ before) × OneFaulted befores nows)
+-- one of two counts of faults, each as it was before and as it is now, rose by one, and the other didn't
+abbrev pub EitherFaulted : ℕ → ℕ → ℕ → ℕ → Type 0
+EitherFaulted before_a a before_b b = ((a ≡ one_more before_a) × (b ≡ before_b)) ⊎ ((a ≡ before_a) × (b ≡ one_more before_b))
+
+-- one device's count of faults rose by one, that of the log or that of a slot, and no other did
+abbrev pub OneFaulted : Devices ℕ → Devices ℕ → Type 0
+OneFaulted before now = ((now.log ≡ one_more before.log) × (now.slot_a ≡ before.slot_a) × (now.slot_b ≡ before.slot_b))
+    ⊎ ((now.log ≡ before.log) × EitherFaulted before.slot_a now.slot_a before.slot_b now.slot_b)
 
 -- Calls of several devices of which none comes after one that failed, and no failure is dropped.
-abbrev pub EndsAtOneFault : {T E : Type 0} → List ℕ → List ℕ → Result T E → Type 0
+abbrev pub EndsAtOneFault : {T E : Type 0} → Devices ℕ → Devices ℕ → Result T E → Type 0
 EndsAtOneFault before now result = MatchResult result (λ _. now ≡ before) (λ _. OneFaulted before now)

@@ -1,24 +1,25 @@
 -- What is known of the log alone, of the slots, and of what a read gives.
-use Rattle.std.specs.Prelude.{ℕ, List, [], ◌∷◌, map, Option, option_map}
+use Rattle.std.specs.Prelude.{ℕ, List, Option, option_map}
+use Rattle.pac_outside.specs.Devices.{each}
 use Rattle.pac_outside.specs.Disk.{DiskHistory, DiskState, IfKnown}
+use Rattle.pac_outside.specs.declared.devices.Devices.{Devices}
+
+-- what a read gives of each device
+abbrev pub reads_of : Devices DiskHistory → Devices (List ℕ)
+reads_of devices = each (λ device. device.now.seen) devices
 
 -- what a read gives, where the device is known
 abbrev pub known_read : Option DiskHistory → Option (List ℕ)
 known_read known = option_map (λ history. history.now.seen) known
 
 -- and what it gives of each of several devices
-abbrev pub known_reads : List (Option DiskHistory) → List (Option (List ℕ))
-known_reads devices = map known_read devices
+abbrev pub known_reads : Devices (Option DiskHistory) → Devices (Option (List ℕ))
+known_reads devices = each known_read devices
 
--- the slots of a store: the devices after the first, the log
-abbrev pub slots_of : List (Option DiskHistory) → List (Option DiskHistory)
-slots_of [] = []
-slots_of (log ∷ slots) = slots
+-- both slots of a store
+abbrev pub slots_of : {A : Type 0} → Devices A → A × A
+slots_of devices = (devices.slot_a, devices.slot_b)
 
--- the first of three devices, the log, is in a state that has P, where it is known
-abbrev pub OfLog : (DiskState → Type 0) → List (Option DiskHistory) → Type 0
-OfLog P [] = ⊥
-OfLog P (log ∷ []) = ⊥
-OfLog P (log ∷ a ∷ []) = ⊥
-OfLog P (log ∷ a ∷ b ∷ []) = IfKnown (λ history. P history.now) log
-OfLog P (log ∷ a ∷ b ∷ device ∷ devices) = ⊥
+-- the log is in a state that has P, where it is known
+abbrev pub OfLog : (DiskState → Type 0) → Devices (Option DiskHistory) → Type 0
+OfLog P devices = IfKnown (λ history. P history.now) devices.log
