@@ -1,7 +1,7 @@
 // Two slots.
-ghost use Rattle.std.specs.Prelude.{◌≡◌, ◌<◌, ◌≤◌, ◌+◌, ◌∷◌, [], ℕ, length, IfOk, IsErrOf, OnOk, None as NoInfo, Some as HasInfo, true, false, Err};
+ghost use Rattle.std.specs.Prelude.{◌≡◌, ◌<◌, ◌≤◌, ◌+◌, ◌∷◌, ℕ, length, IfOk, IsErrOf, OnOk, None as NoInfo, Some as HasInfo, true, false, Err};
 ghost use Rattle.std.specs.FinMap as map;
-ghost use Rattle.pac_outside.specs.Devices.{OneFaulted};
+ghost use Rattle.pac_outside.specs.Devices.{EitherFaulted};
 ghost use Rattle.pac_outside.specs.Disk.{BothKnown, IsDurable, LeavesOnly, IfKnown};
 ghost use Rattle.pac_outside.specs.GateByte.{OneImage};
 ghost use Rattle.pac_value.specs.State.{keys_of};
@@ -65,7 +65,7 @@ impl Slots {
         // Both are only read.
         ensures same_a { D.known a.new ≡ D.known a.old }
         ensures same_b { D.known b.new ≡ D.known b.old }
-        ensures disk_fault { IsErrOf result SlotError.DiskFault → OneFaulted (D.faults a.old ∷ D.faults b.old ∷ []) (D.faults a.new ∷ D.faults b.new ∷ []) }
+        ensures disk_fault { IsErrOf result SlotError.DiskFault → EitherFaulted (D.faults a.old) (D.faults a.new) (D.faults b.old) (D.faults b.new) }
         ensures quiet_a { ¬ IsErrOf result SlotError.DiskFault → D.faults a.new ≡ D.faults a.old }
         ensures quiet_b { ¬ IsErrOf result SlotError.DiskFault → D.faults b.new ≡ D.faults b.old }
     {
@@ -138,7 +138,7 @@ impl Slots {
         // Both are only read.
         ensures same_a { D.known a.new ≡ D.known a.old }
         ensures same_b { D.known b.new ≡ D.known b.old }
-        ensures disk_fault { IsErrOf result SlotError.DiskFault → OneFaulted (D.faults a.old ∷ D.faults b.old ∷ []) (D.faults a.new ∷ D.faults b.new ∷ []) }
+        ensures disk_fault { IsErrOf result SlotError.DiskFault → EitherFaulted (D.faults a.old) (D.faults a.new) (D.faults b.old) (D.faults b.new) }
         ensures quiet_a { ¬ IsErrOf result SlotError.DiskFault → D.faults a.new ≡ D.faults a.old }
         ensures quiet_b { ¬ IsErrOf result SlotError.DiskFault → D.faults b.new ≡ D.faults b.old }
     {
@@ -200,7 +200,7 @@ impl Slots {
         ensures refused { (cause : ASaveError) → IsErrOf result cause → ¬ (cause ≡ SaveError.DiskFault) → (self.new ≡ self.old) × (a.new ≡ a.old) × (b.new ≡ b.old) }
 
         // No call of a device comes after one that failed.
-        ensures disk_fault { IsErrOf result SaveError.DiskFault → OneFaulted (D.faults a.old ∷ D.faults b.old ∷ []) (D.faults a.new ∷ D.faults b.new ∷ []) }
+        ensures disk_fault { IsErrOf result SaveError.DiskFault → EitherFaulted (D.faults a.old) (D.faults a.new) (D.faults b.old) (D.faults b.new) }
         ensures quiet_a { ¬ IsErrOf result SaveError.DiskFault → D.faults a.new ≡ D.faults a.old }
         ensures quiet_b { ¬ IsErrOf result SaveError.DiskFault → D.faults b.new ≡ D.faults b.old }
     {

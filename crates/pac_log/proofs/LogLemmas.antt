@@ -11,9 +11,7 @@ use Rattle.pac_entry.specs.Entries.{txn_bytes}
 use Rattle.pac_types.specs.Typing.{CatalogueState}
 use Rattle.pac_outside.specs.Disk.{DiskHistory, IfKnown, BothKnown, Leaves, LeavesOnly, settled}
 use Rattle.pac_outside.specs.GateByte.{IsShut, IsOpen, OneImage, ShutOrOpen, Opens}
-use Rattle.pac_outside.proofs.Histories.{both, weaken}
-use Rattle.pac_outside.proofs.RunLaws.{alone_runs}
-use Rattle.pac_outside.proofs.Runs.{run_end}
+use Rattle.pac_outside.proofs.Histories.{both, last_leaves, weaken}
 use Rattle.pac_log.specs.declared.position.NextGate.{NextGate}
 use Rattle.pac_log.specs.declared.log.Stage.{Stage}
 use Rattle.pac_log.specs.declared.log.Stage.TheVariants.{Ready}
@@ -147,15 +145,6 @@ ends_again R old new (Some a) (Some b) txns both ends adds following same = reco
   after = following ends.text ends.batches ends.after;
 }
 
--- the first of these images has P
-abbrev FirstHas : (List ℕ → Type 0) → List (List ℕ) → Type 0
-FirstHas P [] = Unit {0}
-FirstHas P (image ∷ images) = P image
-
--- what calls leave at each moment they leave at the last one
-leaves_last : (P : List ℕ → Type 0) (a b : DiskHistory) → LeavesOnly P a b → Leaves P b.now
-leaves_last P a b run = λ image is. run_end (FirstHas P) (a ∷ []) (b ∷ []) (alone_runs (FirstHas P) a b run) (image ∷ []) (is, tt)
-
 -- there are bytes up to each offset
 pub up_to : (offset : ℕ) → (prefix : List ℕ) × (offset ≡ length prefix)
 up_to zero = ([], refl)
@@ -168,7 +157,7 @@ pub ends_torn : (R : DiskHistory → DiskHistory → Type 0) (gate : NextGate) (
 ends_torn R gate None None txns both at keeps = tt
 ends_torn R gate None (Some b) txns both at keeps = absurd both
 ends_torn R gate (Some a) None txns both at keeps = absurd both
-ends_torn R gate (Some a) (Some b) txns both at keeps = λ image is. either image (leaves_last (λ i. HoldsLog at.text gate.catalogue at.batches i ⊎ HoldsLog at.text gate.catalogue (at.batches ++ txns ∷ []) i) a b (keeps at.text at.batches at.after at.holds) image is)
+ends_torn R gate (Some a) (Some b) txns both at keeps = λ image is. either image (last_leaves (λ i. HoldsLog at.text gate.catalogue at.batches i ⊎ HoldsLog at.text gate.catalogue (at.batches ++ txns ∷ []) i) a b (keeps at.text at.batches at.after at.holds) image is)
   where
     either : (image : List ℕ) → HoldsLog at.text gate.catalogue at.batches image ⊎ HoldsLog at.text gate.catalogue (at.batches ++ txns ∷ []) image → LogEndsAt gate (settled image) ⊎ LogEndsAt (gate_after (length txns) (1 + length (body_bytes txns)) gate) (settled image)
     either image (inl holds) = inl (record { text = at.text; batches = at.batches; holds = record { one = refl; has = holds }; after = at.after })
