@@ -7,7 +7,8 @@ use Rattle.pac_outside.specs.Devices.{RunLeaves}
 use Rattle.pac_outside.specs.Devices.RunLeaves.{rests}
 use Rattle.pac_outside.specs.GateByte.{OneImage}
 use Rattle.pac_outside.proofs.Histories.{both_and}
-use Rattle.pac_outside.proofs.Runs.{run_end}
+use Rattle.pac_outside.proofs.Runs.{three, run_end}
+use Rattle.pac_outside.specs.declared.devices.Devices.{Devices}
 use Rattle.pac_types.specs.Fits.{FitTables}
 use Rattle.pac_types.specs.Typing.{CatalogueState}
 use Rattle.pac_log.specs.declared.position.NextGate.{NextGate}
@@ -49,9 +50,9 @@ module _ (text : List ℕ) (history : List Txn) (e : EngineParts) (same : e.log.
     abbrev MayAll : DiskHistory → DiskHistory → Type 0
     MayAll x y = (t : List ℕ) (bs : List (List Txn)) → IsAfter t bs e.log.gate → MayAdd t e.log.gate.catalogue bs txns x y
 
-    pub closed-fails : (now : EngineParts) → durable_of now ≡ durable_of e → saved_of now ≡ saved_of e → WhileAllKnown (StandsOn text history e) (KeepsHistory text (history ++ []) e now) (l ∷ a ∷ b ∷ []) (n ∷ a ∷ b ∷ [])
+    pub closed-fails : (now : EngineParts) → durable_of now ≡ durable_of e → saved_of now ≡ saved_of e → WhileAllKnown (StandsOn text history e) (KeepsHistory text (history ++ []) e now) (three l a b) (three n a b)
     closed-fails now durable saved = log-known (StandsOn text history e) (KeepsHistory text (history ++ []) e now) MayAll
-        (λ x y u v is all. subst (λ (h : List Txn). KeepsHistory text h e now (x ∷ u ∷ v ∷ []) (y ∷ u ∷ v ∷ [])) (sym (append-nil history)) (commit-fails text history e x u v is y (may-here is.batches x y (all text is.batches is.after)) now durable saved))
+        (λ x y u v is all. subst (λ (h : List Txn). KeepsHistory text h e now (three x u v) (three y u v)) (sym (append-nil history)) (commit-fails text history e x u v is y (may-here is.batches x y (all text is.batches is.after)) now durable saved))
         l n a b (λ u v w is. all-report (λ t bs x y. MayAdd t e.log.gate.catalogue bs txns x y) e.log.gate l n may text is.batches is.after)
 
     module _ (added : (t : List ℕ) (bs : List (List Txn)) → IsAfter t bs e.log.gate → BothKnown (HasAdded t e.log.gate.catalogue bs txns) l n)
@@ -62,20 +63,20 @@ module _ (text : List ℕ) (history : List Txn) (e : EngineParts) (same : e.log.
       after-here : (batches : List (List Txn)) → IsAfter text batches e.log.gate → IsAfter text (with_batch batches e.session.txns) (gate_past e.session.txns e.log.gate)
       after-here batches is = subst (λ (t : List Txn). IsAfter text (with_batch batches t) (gate_past t e.log.gate)) txns_is (subst (λ (g : NextGate). IsAfter text (with_batch batches txns) g) gate_is (after text batches is))
 
-      both-report : (u v w : DiskHistory) → StandsOn text history e (u ∷ v ∷ w ∷ []) → BothKnown AddsAll l n
+      both-report : (u v w : DiskHistory) → StandsOn text history e (three u v w) → BothKnown AddsAll l n
       both-report u v w is = all-report (λ t bs x y. MayAdd t e.log.gate.catalogue bs txns x y × HasAdded t e.log.gate.catalogue bs txns x y) e.log.gate l n
           (λ t bs b. both_and (MayAdd t e.log.gate.catalogue bs txns) (HasAdded t e.log.gate.catalogue bs txns) l n (may t bs b) (added t bs b)) text is.batches is.after
 
-      pub closed-keeps : WhileAllKnown (StandsOn text history e) (KeepsHistory text (history ++ []) e now) (l ∷ a ∷ b ∷ []) (n ∷ a ∷ b ∷ [])
+      pub closed-keeps : WhileAllKnown (StandsOn text history e) (KeepsHistory text (history ++ []) e now) (three l a b) (three n a b)
       closed-keeps = log-known (StandsOn text history e) (KeepsHistory text (history ++ []) e now) AddsAll
           (λ x y u v is all.
           let facts = all text is.batches is.after in
-          subst (λ (p : EngineParts). KeepsHistory text (history ++ []) e p (x ∷ u ∷ v ∷ []) (y ∷ u ∷ v ∷ [])) (sym becomes)
-          (subst (λ (h : List Txn). KeepsHistory text h e (committed_parts e) (x ∷ u ∷ v ∷ []) (y ∷ u ∷ v ∷ [])) (sym (append-nil history))
+          subst (λ (p : EngineParts). KeepsHistory text (history ++ []) e p (three x u v) (three y u v)) (sym becomes)
+          (subst (λ (h : List Txn). KeepsHistory text h e (committed_parts e) (three x u v) (three y u v)) (sym (append-nil history))
           (commit-keeps text history e x u v is y (may-here is.batches x y facts.0) (added-here is.batches x y facts.1) (after-here is.batches is.after))))
           l n a b both-report
 
-      pub closed-stands : WhileAllKnown (StandsOn text history e) (λ was is. StandsOn text (history ++ []) now is) (l ∷ a ∷ b ∷ []) (n ∷ a ∷ b ∷ [])
+      pub closed-stands : WhileAllKnown (StandsOn text history e) (λ was is. StandsOn text (history ++ []) now is) (three l a b) (three n a b)
       closed-stands = log-known (StandsOn text history e) (λ was is. StandsOn text (history ++ []) now is) AddsAll
           (λ x y u v is all.
           let facts = all text is.batches is.after in
@@ -113,33 +114,33 @@ module _ (text : List ℕ) (history : List Txn) (e : EngineParts) (none : e.sess
   abbrev Form : Type 0
   Form = IsCheckpoint e.session.catalogue.tables (checkpoint_of (length e.session.catalogue.tables) (head_with e.log.gate.txns e.log.gate.place) e.session.tables)
 
-  byte-a : (u v w : DiskHistory) → StandsOn text history e (u ∷ v ∷ w ∷ []) → HasByte e.slots.a
+  byte-a : (u v w : DiskHistory) → StandsOn text history e (three u v w) → HasByte e.slots.a
   byte-a u v w is = has-byte text e.session.catalogue is.batches e.slots.a v.now.seen is.slot_a.has is.known_a
 
-  byte-b : (u v w : DiskHistory) → StandsOn text history e (u ∷ v ∷ w ∷ []) → HasByte e.slots.b
+  byte-b : (u v w : DiskHistory) → StandsOn text history e (three u v w) → HasByte e.slots.b
   byte-b u v w is = has-byte text e.session.catalogue is.batches e.slots.b w.now.seen is.slot_b.has is.known_b
 
   -- a relation between what is known, slot by slot
-  by-slot : (R : List DiskHistory → List DiskHistory → Type 0) (S : DiskHistory → DiskHistory → Type 0)
-      → (spare_of e.slots ≡ A → (x u n v : DiskHistory) → StandsOn text history e (x ∷ u ∷ v ∷ []) → S u n → R (x ∷ u ∷ v ∷ []) (x ∷ n ∷ v ∷ []))
-      → (spare_of e.slots ≡ B → (x u v n : DiskHistory) → StandsOn text history e (x ∷ u ∷ v ∷ []) → S v n → R (x ∷ u ∷ v ∷ []) (x ∷ u ∷ n ∷ []))
+  by-slot : (R : Devices DiskHistory → Devices DiskHistory → Type 0) (S : DiskHistory → DiskHistory → Type 0)
+      → (spare_of e.slots ≡ A → (x u n v : DiskHistory) → StandsOn text history e (three x u v) → S u n → R (three x u v) (three x n v))
+      → (spare_of e.slots ≡ B → (x u v n : DiskHistory) → StandsOn text history e (three x u v) → S v n → R (three x u v) (three x u n))
       → (HasByte (by_slot (spare_of e.slots) e.slots.a e.slots.b) → BothKnown S (by_slot (spare_of e.slots) a b) (by_slot (spare_of e.slots) a' b'))
-      → WhileAllKnown (StandsOn text history e) R (l ∷ a ∷ b ∷ []) (l ∷ a' ∷ b' ∷ [])
+      → WhileAllKnown (StandsOn text history e) R (three l a b) (three l a' b')
   by-slot R S in_a in_b both = go (spare_of e.slots) refl both other
     where
       go : (spare : SlotName) → spare_of e.slots ≡ spare → (HasByte (by_slot spare e.slots.a e.slots.b) → BothKnown S (by_slot spare a b) (by_slot spare a' b')) → by_slot spare b' a' ≡ by_slot spare b a
-          → WhileAllKnown (StandsOn text history e) R (l ∷ a ∷ b ∷ []) (l ∷ a' ∷ b' ∷ [])
-      go A is known rest = subst (λ (y : Option DiskHistory). WhileAllKnown (StandsOn text history e) R (l ∷ a ∷ b ∷ []) (l ∷ a' ∷ y ∷ [])) (sym rest)
+          → WhileAllKnown (StandsOn text history e) R (three l a b) (three l a' b')
+      go A is known rest = subst (λ (y : Option DiskHistory). WhileAllKnown (StandsOn text history e) R (three l a b) (three l a' y)) (sym rest)
           (a-known (StandsOn text history e) R S (in_a is) l a a' b (λ u v w s. known (byte-a u v w s)))
-      go B is known rest = subst (λ (x : Option DiskHistory). WhileAllKnown (StandsOn text history e) R (l ∷ a ∷ b ∷ []) (l ∷ x ∷ b' ∷ [])) (sym rest)
+      go B is known rest = subst (λ (x : Option DiskHistory). WhileAllKnown (StandsOn text history e) R (three l a b) (three l x b')) (sym rest)
           (b-known (StandsOn text history e) R S (in_b is) l a b b' (λ u v w s. known (byte-b u v w s)))
 
-  pub unsaved-keeps : Form → (now : EngineParts) → durable_of now ≡ durable_of e → saved_of now ≡ saved_of e → WhileAllKnown (StandsOn text history e) (KeepsHistory text (history ++ []) e now) (l ∷ a ∷ b ∷ []) (l ∷ a' ∷ b' ∷ [])
+  pub unsaved-keeps : Form → (now : EngineParts) → durable_of now ≡ durable_of e → saved_of now ≡ saved_of e → WhileAllKnown (StandsOn text history e) (KeepsHistory text (history ++ []) e now) (three l a b) (three l a' b')
   unsaved-keeps form now durable saved = by-slot (KeepsHistory text (history ++ []) e now) (Replacing e)
-      (λ spare x u n v is run. of (x ∷ u ∷ v ∷ []) (x ∷ n ∷ v ∷ []) (save-a-run text history e x u v is none fit form spare n run))
-      (λ spare x u v n is run. of (x ∷ u ∷ v ∷ []) (x ∷ u ∷ n ∷ []) (save-b-run text history e x u v is none fit form spare n run)) any
+      (λ spare x u n v is run. of (three x u v) (three x n v) (save-a-run text history e x u v is none fit form spare n run))
+      (λ spare x u v n is run. of (three x u v) (three x u n) (save-b-run text history e x u v is none fit form spare n run)) any
     where
-      of : (old new : List DiskHistory) → RunLeaves (MayLeave text e.session.catalogue history e) old new → KeepsHistory text (history ++ []) e now old new
+      of : (old new : Devices DiskHistory) → RunLeaves (MayLeave text e.session.catalogue history e) old new → KeepsHistory text (history ++ []) e now old new
       of old new run = subst (λ (h : List Txn). KeepsHistory text h e now old new) (sym (append-nil history))
           (record { moments = run; end = leave-same text e.session.catalogue history e now new durable saved (run_end (MayLeave text e.session.catalogue history e) old new run) })
 
@@ -156,28 +157,24 @@ module _ (text : List ℕ) (history : List Txn) (e : EngineParts) (none : e.sess
     stands-b : spare_of e.slots ≡ B → (x u v n : DiskHistory) → EngineStands text history e x u v → Saves v n → EngineStands text history (saved_parts e) x u n
     stands-b spare x u v n is run = subst (λ (p : EngineParts). EngineStands text history p x u n) (saved-b e spare) (save-b-stands text history e x u v is none fit n run.1)
 
-    pub saved-keeps : WhileAllKnown (StandsOn text history e) (KeepsHistory text (history ++ []) e now) (l ∷ a ∷ b ∷ []) (l ∷ a' ∷ b' ∷ [])
-    saved-keeps = subst (λ (p : EngineParts). WhileAllKnown (StandsOn text history e) (KeepsHistory text (history ++ []) e p) (l ∷ a ∷ b ∷ []) (l ∷ a' ∷ b' ∷ [])) (sym becomes)
-        (subst (λ (h : List Txn). WhileAllKnown (StandsOn text history e) (KeepsHistory text h e (saved_parts e)) (l ∷ a ∷ b ∷ []) (l ∷ a' ∷ b' ∷ [])) (sym (append-nil history))
+    pub saved-keeps : WhileAllKnown (StandsOn text history e) (KeepsHistory text (history ++ []) e now) (three l a b) (three l a' b')
+    saved-keeps = subst (λ (p : EngineParts). WhileAllKnown (StandsOn text history e) (KeepsHistory text (history ++ []) e p) (three l a b) (three l a' b')) (sym becomes)
+        (subst (λ (h : List Txn). WhileAllKnown (StandsOn text history e) (KeepsHistory text h e (saved_parts e)) (three l a b) (three l a' b')) (sym (append-nil history))
         (by-slot (KeepsHistory text history e (saved_parts e)) Saves
         (λ spare x u n v is run. record { moments = save-a-run text history e x u v is none fit run.1.has.form spare n run.0; end = stands-now text history (saved_parts e) x n v (stands-a spare x u n v is run) })
         (λ spare x u v n is run. record { moments = save-b-run text history e x u v is none fit run.1.has.form spare n run.0; end = stands-now text history (saved_parts e) x u n (stands-b spare x u v n is run) }) saves))
 
-    pub saved-stands : WhileAllKnown (StandsOn text history e) (λ was is. StandsOn text (history ++ []) now is) (l ∷ a ∷ b ∷ []) (l ∷ a' ∷ b' ∷ [])
-    saved-stands = subst (λ (p : EngineParts). WhileAllKnown (StandsOn text history e) (λ was is. StandsOn text (history ++ []) p is) (l ∷ a ∷ b ∷ []) (l ∷ a' ∷ b' ∷ [])) (sym becomes)
-        (subst (λ (h : List Txn). WhileAllKnown (StandsOn text history e) (λ was is. StandsOn text h (saved_parts e) is) (l ∷ a ∷ b ∷ []) (l ∷ a' ∷ b' ∷ [])) (sym (append-nil history))
+    pub saved-stands : WhileAllKnown (StandsOn text history e) (λ was is. StandsOn text (history ++ []) now is) (three l a b) (three l a' b')
+    saved-stands = subst (λ (p : EngineParts). WhileAllKnown (StandsOn text history e) (λ was is. StandsOn text (history ++ []) p is) (three l a b) (three l a' b')) (sym becomes)
+        (subst (λ (h : List Txn). WhileAllKnown (StandsOn text history e) (λ was is. StandsOn text h (saved_parts e) is) (three l a b) (three l a' b')) (sym (append-nil history))
         (by-slot (λ was is. StandsOn text history (saved_parts e) is) Saves stands-a stands-b saves))
 
 -- where a save is refused, no device is called
-pub refused-keeps : (text : List ℕ) (history : List Txn) (e now : EngineParts) (known : Option (List DiskHistory)) → durable_of now ≡ durable_of e → saved_of now ≡ saved_of e → WhileKnown (StandsOn text history e) (KeepsHistory text (history ++ []) e now) known known
+pub refused-keeps : (text : List ℕ) (history : List Txn) (e now : EngineParts) (known : Option (Devices DiskHistory)) → durable_of now ≡ durable_of e → saved_of now ≡ saved_of e → WhileKnown (StandsOn text history e) (KeepsHistory text (history ++ []) e now) known known
 refused-keeps text history e now known durable saved = rest-known (StandsOn text history e) (KeepsHistory text (history ++ []) e now) of known
   where
-    of : (devices : List DiskHistory) → StandsOn text history e devices → KeepsHistory text (history ++ []) e now devices devices
-    of [] is = absurd is
-    of (l ∷ []) is = absurd is
-    of (l ∷ a ∷ []) is = absurd is
-    of (l ∷ a ∷ b ∷ []) is =
-        let leaves = stands-now text history e l a b is in
-        subst (λ (h : List Txn). KeepsHistory text h e now (l ∷ a ∷ b ∷ []) (l ∷ a ∷ b ∷ [])) (sym (append-nil history))
-        (record { moments = rests (l ∷ a ∷ b ∷ []) leaves; end = leave-same text e.session.catalogue history e now (l ∷ a ∷ b ∷ []) durable saved leaves })
-    of (l ∷ a ∷ b ∷ d ∷ devices) is = absurd is
+    of : (devices : Devices DiskHistory) → StandsOn text history e devices → KeepsHistory text (history ++ []) e now devices devices
+    of devices is =
+        let leaves = stands-now text history e devices.log devices.slot_a devices.slot_b is in
+        subst (λ (h : List Txn). KeepsHistory text h e now devices devices) (sym (append-nil history))
+        (record { moments = rests devices leaves; end = leave-same text e.session.catalogue history e now devices durable saved leaves })

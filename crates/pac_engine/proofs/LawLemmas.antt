@@ -5,7 +5,9 @@ use Rattle.pac_ops.specs.declared.transaction.Txn.{Txn}
 use Rattle.pac_outside.specs.Devices.{all_known}
 use Rattle.pac_outside.specs.Disk.{DiskState, DiskHistory, IsImage}
 use Rattle.pac_outside.specs.GateByte.{OneImage}
+use Rattle.pac_outside.specs.Parts.{reads_of}
 use Rattle.pac_outside.proofs.Runs.{run_start}
+use Rattle.pac_outside.specs.declared.devices.Devices.{Devices}
 use Rattle.pac_types.specs.Typing.{CatalogueState}
 use Rattle.pac_store.specs.Stands.{IsHistory}
 use Rattle.pac_engine.specs.Standing.{OnlyGrows, KeepsHistory, MayLeave, StandsOn, WhileAllKnown}
@@ -158,17 +160,14 @@ own-image : (P : List ℕ → Type 0) (state : DiskState) → OneImage P state �
 own-image P state one = subst (λ (s : DiskState). IsImage s state.seen) (sym one.one) (record { no_shorter = omega arith; no_longer = omega arith; stays = λ place below is. refl })
 
 -- a history that is kept executes
-kept-executes : (text : List ℕ) (history longer : List Txn) (b c : EngineParts) (v w : List DiskHistory) → StandsOn text history b v → KeepsHistory text longer b c v w → IsHistory b.session.catalogue longer
-kept-executes text history longer b c [] w is keeps = absurd is
-kept-executes text history longer b c (l ∷ []) w is keeps = absurd is
-kept-executes text history longer b c (l ∷ x ∷ []) w is keeps = absurd is
-kept-executes text history longer b c (l ∷ x ∷ y ∷ []) w is keeps =
-    let leaves = run_start (MayLeave text b.session.catalogue longer b) (l ∷ x ∷ y ∷ []) w keeps.moments (l.now.seen ∷ x.now.seen ∷ y.now.seen ∷ []) (own-image _ l.now is.log, (own-image _ x.now is.slot_a, (own-image _ y.now is.slot_b, tt))) in
+kept-executes : (text : List ℕ) (history longer : List Txn) (b c : EngineParts) (v w : Devices DiskHistory) → StandsOn text history b v → KeepsHistory text longer b c v w → IsHistory b.session.catalogue longer
+kept-executes text history longer b c v w is keeps =
+    let leaves = run_start (MayLeave text b.session.catalogue longer b) v w keeps.moments (reads_of v)
+        (record { log = own-image _ v.log.now is.log; slot_a = own-image _ v.slot_a.now is.slot_a; slot_b = own-image _ v.slot_b.now is.slot_b }) in
     leaves.stands.executes
-kept-executes text history longer b c (l ∷ x ∷ y ∷ d ∷ devices) w is keeps = absurd is
 
 -- the first step keeps the longer history too
-pub history-then : (text : List ℕ) (history more last : List Txn) (a b c : EngineParts) (x y z : List (Option DiskHistory)) → rules_of b.session ≡ rules_of a.session → OnlyGrows a b
+pub history-then : (text : List ℕ) (history more last : List Txn) (a b c : EngineParts) (x y z : Devices (Option DiskHistory)) → rules_of b.session ≡ rules_of a.session → OnlyGrows a b
     → WhileAllKnown (StandsOn text history a) (KeepsHistory text (history ++ more) a b) x y → WhileAllKnown (StandsOn text history a) (λ was is. StandsOn text (history ++ more) b is) x y
     → WhileAllKnown (StandsOn text (history ++ more) b) (KeepsHistory text ((history ++ more) ++ last) b c) y z → WhileAllKnown (StandsOn text history a) (KeepsHistory text (history ++ (more ++ last)) a c) x z
 history-then text history more last a b c x y z same grown first stands second =
@@ -180,10 +179,10 @@ history-then text history more last a b c x y z same grown first stands second =
     catalogue_same : b.session.catalogue ≡ a.session.catalogue
     catalogue_same = ap (λ (r : Rules). r.catalogue) same
 
-    executes : (v w : List DiskHistory) → StandsOn text (history ++ more) b v → KeepsHistory text ((history ++ more) ++ last) b c v w → IsHistory a.session.catalogue ((history ++ more) ++ last)
+    executes : (v w : Devices DiskHistory) → StandsOn text (history ++ more) b v → KeepsHistory text ((history ++ more) ++ last) b c v w → IsHistory a.session.catalogue ((history ++ more) ++ last)
     executes v w q s = subst (λ (cat : CatalogueState). IsHistory cat ((history ++ more) ++ last)) catalogue_same (kept-executes text (history ++ more) ((history ++ more) ++ last) b c v w q s)
 
-pub stands-then : (text : List ℕ) (history more last : List Txn) (a b c : EngineParts) (x y z : List (Option DiskHistory))
+pub stands-then : (text : List ℕ) (history more last : List Txn) (a b c : EngineParts) (x y z : Devices (Option DiskHistory))
     → WhileAllKnown (StandsOn text history a) (λ was is. StandsOn text (history ++ more) b is) x y → WhileAllKnown (StandsOn text (history ++ more) b) (λ was is. StandsOn text ((history ++ more) ++ last) c is) y z
     → WhileAllKnown (StandsOn text history a) (λ was is. StandsOn text (history ++ (more ++ last)) c is) x z
 stands-then text history more last a b c x y z first second =

@@ -10,9 +10,9 @@ use Rattle.pac_log.specs.Places.{IsAfter}
 use Rattle.pac_log.proofs.OneLog.{one_log}
 use Rattle.pac_store.specs.Stands.{StandsFor}
 use Rattle.pac_engine.specs.declared.parts.EngineParts.{EngineParts}
-use Rattle.pac_engine.specs.Standing.{EngineStands, IsOpenedOn, seen_of}
+use Rattle.pac_engine.specs.Standing.{EngineStands, IsOpenedOn}
 
-pub opened-stands : (text : List ℕ) (history : List Txn) (least : ℕ) (engine : EngineParts) (l a b : DiskHistory) → StandsFor text engine.session.catalogue history least (seen_of l a b) → IsOpenedOn history engine l a b → EngineStands text (take engine.log.gate.txns history) engine l a b
+pub opened-stands : (text : List ℕ) (history : List Txn) (least : ℕ) (engine : EngineParts) (l a b : DiskHistory) → StandsFor text engine.session.catalogue history least (record { log = l.now.seen; slot_a = a.now.seen; slot_b = b.now.seen }) → IsOpenedOn history engine l a b → EngineStands text (take engine.log.gate.txns history) engine l a b
 opened-stands text history least engine l a b stands opened =
     let cat = engine.session.catalogue in
     let one = one_log opened.text text cat cat opened.batches stands.batches l.now.seen opened.log stands.log in

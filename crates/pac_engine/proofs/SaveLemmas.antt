@@ -7,6 +7,7 @@ use Rattle.pac_ops.specs.declared.transaction.Txn.{Txn}
 use Rattle.pac_outside.specs.Disk.{DiskHistory, LeavesOnly, BothKnown}
 use Rattle.pac_outside.specs.Devices.{all_known}
 use Rattle.pac_outside.specs.GateByte.{OneImage}
+use Rattle.pac_outside.proofs.Runs.{three}
 use Rattle.pac_types.specs.Execution.{first_over, if_over}
 use Rattle.pac_types.specs.Fits.{FitTables}
 use Rattle.pac_types.specs.Typing.{CatalogueState}
@@ -77,11 +78,11 @@ module _ (e : EngineParts) (catalogue : CatalogueState) (txns place : ℕ) (held
 -- ---- a save that fails
 
 unchanged : (text : List ℕ) (history : List Txn) (e : EngineParts) (l a b a' b' : Option DiskHistory) (slots : Slots) → (slots ≡ e.slots) × (a' ≡ a) × (b' ≡ b)
-    → WhileAllKnown (StandsOn text history e) (KeepsHistory text (history ++ []) e (record e { slots = slots })) (l ∷ a ∷ b ∷ []) (l ∷ a' ∷ b' ∷ [])
+    → WhileAllKnown (StandsOn text history e) (KeepsHistory text (history ++ []) e (record e { slots = slots })) (three l a b) (three l a' b')
 unchanged text history e l a b a' b' slots same =
-    subst (λ (y : Option DiskHistory). WhileAllKnown (StandsOn text history e) (KeepsHistory text (history ++ []) e (record e { slots = slots })) (l ∷ a ∷ b ∷ []) (l ∷ a' ∷ y ∷ [])) (sym same.2)
-    (subst (λ (x : Option DiskHistory). WhileAllKnown (StandsOn text history e) (KeepsHistory text (history ++ []) e (record e { slots = slots })) (l ∷ a ∷ b ∷ []) (l ∷ x ∷ b ∷ [])) (sym same.1)
-    (refused-keeps text history e (record e { slots = slots }) (all_known (l ∷ a ∷ b ∷ [])) refl (ap (λ (s : Slots). reach_of (newest_of s)) same.0)))
+    subst (λ (y : Option DiskHistory). WhileAllKnown (StandsOn text history e) (KeepsHistory text (history ++ []) e (record e { slots = slots })) (three l a b) (three l a' y)) (sym same.2)
+    (subst (λ (x : Option DiskHistory). WhileAllKnown (StandsOn text history e) (KeepsHistory text (history ++ []) e (record e { slots = slots })) (three l a b) (three l x b)) (sym same.1)
+    (refused-keeps text history e (record e { slots = slots }) (all_known (three l a b)) refl (ap (λ (s : Slots). reach_of (newest_of s)) same.0)))
 
 pub save-fails : (text : List ℕ) (history : List Txn) (e : EngineParts) → e.session.txns ≡ [] → FitTables e.session.catalogue.tables e.session.tables → (l a b a' b' : Option DiskHistory)
     → (HasByte (by_slot (spare_of e.slots) e.slots.a e.slots.b) → BothKnown (Replacing e) (by_slot (spare_of e.slots) a b) (by_slot (spare_of e.slots) a' b'))
@@ -89,7 +90,7 @@ pub save-fails : (text : List ℕ) (history : List Txn) (e : EngineParts) → e.
     → (cause : SaveError) (slots : Slots)
     → (cause ≡ save.DiskFault → IsCheckpoint e.session.catalogue.tables (checkpoint_of (length e.session.catalogue.tables) (head_with e.log.gate.txns e.log.gate.place) e.session.tables) × (slots ≡ record { a = e.slots.a; b = e.slots.b; has_failed = true }))
     → ((cause ≡ save.DiskFault → ⊥) → (slots ≡ e.slots) × (a' ≡ a) × (b' ≡ b))
-    → WhileAllKnown (StandsOn text history e) (KeepsHistory text (history ++ []) e (record e { slots = slots })) (l ∷ a ∷ b ∷ []) (l ∷ a' ∷ b' ∷ [])
+    → WhileAllKnown (StandsOn text history e) (KeepsHistory text (history ++ []) e (record e { slots = slots })) (three l a b) (three l a' b')
 save-fails text history e none fit l a b a' b' any other save.DiskFault slots failed refused =
     let facts = failed refl in
     unsaved-keeps text history e none fit l a b a' b' any other facts.0 (record e { slots = slots }) refl (ap (λ (s : Slots). reach_of (newest_of s)) facts.1)

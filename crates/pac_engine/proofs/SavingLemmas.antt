@@ -6,6 +6,7 @@ use Rattle.std.proofs.lemmas.List.{append-nil, take_all}
 use Rattle.pac_ops.specs.declared.transaction.Txn.{Txn}
 use Rattle.pac_outside.specs.Disk.{DiskHistory, IsImage, LeavesOnly}
 use Rattle.pac_outside.specs.Devices.{RunLeaves}
+use Rattle.pac_outside.proofs.Runs.{three, a_runs, b_runs}
 use Rattle.pac_outside.specs.GateByte.{OneImage}
 use Rattle.pac_outside.proofs.Histories.{weaken}
 use Rattle.pac_types.specs.declared.table.Table.{Table}
@@ -30,7 +31,7 @@ use Rattle.pac_store.proofs.StandsLemmas.{newest-one}
 use Rattle.pac_engine.specs.declared.parts.EngineParts.{EngineParts}
 use Rattle.pac_engine.specs.Moves.{saved_parts}
 use Rattle.pac_engine.specs.Standing.{EngineStands, MayLeave, StandsWith, durable_of, reach_of, saved_of}
-use Rattle.pac_engine.proofs.DeviceLemmas.{three, image-of, a-runs, b-runs}
+use Rattle.pac_engine.proofs.DeviceLemmas.{image-of}
 use Rattle.pac_engine.proofs.StandingLemmas.{durable-is, open-saved, some-open, stands-at, tables-few}
 
 -- ---- the newest slot is not the one that is written
@@ -125,8 +126,8 @@ module _ (text : List ℕ) (history : List Txn) (e : EngineParts) (l a b : DiskH
     replaced : (old image : List ℕ) → IsShutOrPrefix text e.session.catalogue is.batches old → IsOldShutOrNew old bytes image → IsShutOrPrefix text e.session.catalogue is.batches image
     replaced old image was which = ⊎_elim (λ same. subst (λ (i : List ℕ). IsShutOrPrefix text e.session.catalogue is.batches i) (sym same) was) (λ other. ⊎_elim (λ shut. inl shut) (λ opens. new-prefix image (record { form = form; opens = opens })) other) which
 
-    pub save-a-run : spare_of e.slots ≡ A → (n : DiskHistory) → LeavesOnly (IsOldShutOrNew a.now.seen bytes) a n → RunLeaves (MayLeave text e.session.catalogue history e) (l ∷ a ∷ b ∷ []) (l ∷ n ∷ b ∷ [])
-    save-a-run spare n run = a-runs Left l a n b
+    pub save-a-run : spare_of e.slots ≡ A → (n : DiskHistory) → LeavesOnly (IsOldShutOrNew a.now.seen bytes) a n → RunLeaves (MayLeave text e.session.catalogue history e) (three l a b) (three l n b)
+    save-a-run spare n run = a_runs Left l a n b
         (weaken (IsOldShutOrNew a.now.seen bytes) (λ x. (i y : List ℕ) → IsImage l.now i → IsImage b.now y → Left (three i x y)) a n
         (λ x which i y is_i is_y. subst (λ (v : List ℕ). Left (three i x v)) (sym (image-of _ b.now is.slot_b y is_y)) (subst (λ (t : List ℕ). Left (three t x b.now.seen)) (sym (image-of _ l.now is.log i is_i))
         (stays x b.now.seen (replaced a.now.seen x is.slot_a.has which) is.slot_b.has (saves x)))) run)
@@ -138,8 +139,8 @@ module _ (text : List ℕ) (history : List Txn) (e : EngineParts) (l a b : DiskH
             go None h = inl refl
             go (Some info) h = inr (inr (open-saved text e.session.catalogue (tables-few text history e l a b is) is.batches b.now.seen e.slots.b is.slot_b.has is.known_b B info (info-of-a e.slots spare info h)))
 
-    pub save-b-run : spare_of e.slots ≡ B → (n : DiskHistory) → LeavesOnly (IsOldShutOrNew b.now.seen bytes) b n → RunLeaves (MayLeave text e.session.catalogue history e) (l ∷ a ∷ b ∷ []) (l ∷ a ∷ n ∷ [])
-    save-b-run spare n run = b-runs Left l a b n
+    pub save-b-run : spare_of e.slots ≡ B → (n : DiskHistory) → LeavesOnly (IsOldShutOrNew b.now.seen bytes) b n → RunLeaves (MayLeave text e.session.catalogue history e) (three l a b) (three l a n)
+    save-b-run spare n run = b_runs Left l a b n
         (weaken (IsOldShutOrNew b.now.seen bytes) (λ y. (i x : List ℕ) → IsImage l.now i → IsImage a.now x → Left (three i x y)) b n
         (λ y which i x is_i is_x. subst (λ (u : List ℕ). Left (three i u y)) (sym (image-of _ a.now is.slot_a x is_x)) (subst (λ (t : List ℕ). Left (three t a.now.seen y)) (sym (image-of _ l.now is.log i is_i))
         (stays a.now.seen y is.slot_a.has (replaced b.now.seen y is.slot_b.has which) (saves y)))) run)

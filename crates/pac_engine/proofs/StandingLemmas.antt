@@ -10,7 +10,8 @@ use Rattle.pac_outside.specs.Disk.{DiskHistory, IsImage}
 use Rattle.pac_outside.specs.Devices.{AllLeave, RunLeaves}
 use Rattle.pac_outside.specs.Devices.RunLeaves.{rests}
 use Rattle.pac_outside.proofs.Histories.{weaken}
-use Rattle.pac_outside.proofs.Runs.{run_then, run_end, weaken_run}
+use Rattle.pac_outside.proofs.Runs.{three, log_runs, run_then, run_end, weaken_run}
+use Rattle.pac_outside.specs.declared.devices.Devices.{Devices}
 use Rattle.pac_types.specs.Fits.{TxnFits}
 use Rattle.pac_types.specs.Typing.{CatalogueState}
 use Rattle.pac_serial.specs.declared.execute.ExecError.{ExecError}
@@ -39,7 +40,7 @@ use Rattle.pac_engine.specs.declared.parts.EngineParts.{EngineParts}
 use Rattle.pac_engine.specs.Committing.{HasAdded, MayAdd, gate_past, with_batch}
 use Rattle.pac_engine.specs.Moves.{committed_parts, with_request}
 use Rattle.pac_engine.specs.Standing.{EngineStands, KeepsHistory, MayLeave, StandsWith, durable_of, reach_of, saved_of}
-use Rattle.pac_engine.proofs.DeviceLemmas.{three, image-of, of-three, weaken-three, log-runs}
+use Rattle.pac_engine.proofs.DeviceLemmas.{image-of, of-three}
 
 -- ---- a log with the transactions of a group after it
 
@@ -128,7 +129,7 @@ module _ (text : List ℕ) (history : List Txn) (e : EngineParts) (l a b : DiskH
   saved-here log = saved-now text cat tables-few is.batches e.slots (three log a.now.seen b.now.seen) is.slot_a.has is.slot_b.has is.known_a is.known_b
 
   -- each image of the devices stands for the history
-  pub stands-now : AllLeave (MayLeave text cat history e) (l ∷ a ∷ b ∷ [])
+  pub stands-now : AllLeave (MayLeave text cat history e) (three l a b)
   stands-now = of-three Kept l a b (λ i x y is_i is_x is_y.
       subst (λ (v : List ℕ). Kept (three i x v)) (sym (image-of _ b.now is.slot_b y is_y))
       (subst (λ (u : List ℕ). Kept (three i u b.now.seen)) (sym (image-of _ a.now is.slot_a x is_x))
@@ -136,10 +137,10 @@ module _ (text : List ℕ) (history : List Txn) (e : EngineParts) (l a b : DiskH
       (stands-at is.batches e.session.txns (three l.now.seen a.now.seen b.now.seen) is.log.has is.split (omega (arith, durable-is)) is.slot_a.has is.slot_b.has (saved-here l.now.seen)))))
 
 -- where what is durable and saved is as it was, a crash leaves what it left
-pub leave-same : (text : List ℕ) (catalogue : CatalogueState) (history : List Txn) (before now : EngineParts) (devices : List DiskHistory) → durable_of now ≡ durable_of before → saved_of now ≡ saved_of before
+pub leave-same : (text : List ℕ) (catalogue : CatalogueState) (history : List Txn) (before now : EngineParts) (devices : Devices DiskHistory) → durable_of now ≡ durable_of before → saved_of now ≡ saved_of before
     → AllLeave (MayLeave text catalogue history before) devices → AllLeave (MayLeave text catalogue history now) devices
-leave-same text catalogue history before now devices durable saved leaves = λ images are. weaken-three (StandsWith text catalogue history (durable_of before) (saved_of before)) (StandsWith text catalogue history (durable_of now) (saved_of now))
-    (λ i s. stands-less text catalogue history (durable_of before) (saved_of before) (durable_of now) (saved_of now) i (omega (arith, durable)) (omega (arith, saved)) s) images (leaves images are)
+leave-same text catalogue history before now devices durable saved leaves = λ images are.
+    stands-less text catalogue history (durable_of before) (saved_of before) (durable_of now) (saved_of now) images (omega (arith, durable)) (omega (arith, saved)) (leaves images are)
 
 -- ---- a commit
 
@@ -162,16 +163,16 @@ module _ (text : List ℕ) (history : List Txn) (e : EngineParts) (l a b : DiskH
       (λ new. stands-at text history e l a b is more [] (three i a.now.seen b.now.seen) new more-split more-enough
       (prefix-more text e.session.catalogue is.batches e.session.txns a.now.seen is.slot_a.has) (prefix-more text e.session.catalogue is.batches e.session.txns b.now.seen is.slot_b.has) (saved-here text history e l a b is i)) which
 
-  pub commit-run : RunLeaves (MayLeave text e.session.catalogue history e) (l ∷ a ∷ b ∷ []) (n ∷ a ∷ b ∷ [])
-  commit-run = log-runs Left l n a b
+  pub commit-run : RunLeaves (MayLeave text e.session.catalogue history e) (three l a b) (three n a b)
+  commit-run = log_runs Left l n a b
       (weaken (λ i. HoldsLog text e.session.catalogue is.batches i ⊎ HoldsLog text e.session.catalogue more i) (λ i. (x y : List ℕ) → IsImage a.now x → IsImage b.now y → Left (three i x y)) l n
       (λ i which x y is_x is_y. subst (λ (v : List ℕ). Left (three i x v)) (sym (image-of _ b.now is.slot_b y is_y)) (subst (λ (u : List ℕ). Left (three i u b.now.seen)) (sym (image-of _ a.now is.slot_a x is_x)) (old-or-new i which)))
       (may is.log))
 
-  pub commit-fails : (now : EngineParts) → durable_of now ≡ durable_of e → saved_of now ≡ saved_of e → KeepsHistory text history e now (l ∷ a ∷ b ∷ []) (n ∷ a ∷ b ∷ [])
+  pub commit-fails : (now : EngineParts) → durable_of now ≡ durable_of e → saved_of now ≡ saved_of e → KeepsHistory text history e now (three l a b) (three n a b)
   commit-fails now durable saved = record {
     moments = commit-run;
-    end = leave-same text e.session.catalogue history e now (n ∷ a ∷ b ∷ []) durable saved (run_end (MayLeave text e.session.catalogue history e) (l ∷ a ∷ b ∷ []) (n ∷ a ∷ b ∷ []) commit-run);
+    end = leave-same text e.session.catalogue history e now (three n a b) durable saved (run_end (MayLeave text e.session.catalogue history e) (three l a b) (three n a b) commit-run);
   }
 
   module _ (added : HasAdded text e.session.catalogue is.batches e.session.txns l n) (after : IsAfter text more (gate_past e.session.txns e.log.gate)) where
@@ -189,7 +190,7 @@ module _ (text : List ℕ) (history : List Txn) (e : EngineParts) (l a b : DiskH
       split = more-split;
     }
 
-    pub commit-keeps : KeepsHistory text history e (committed_parts e) (l ∷ a ∷ b ∷ []) (n ∷ a ∷ b ∷ [])
+    pub commit-keeps : KeepsHistory text history e (committed_parts e) (three l a b) (three n a b)
     commit-keeps = record { moments = commit-run; end = stands-now text history (committed_parts e) n a b commit-stands }
 
 -- ---- a request is executed
@@ -228,33 +229,30 @@ module _ (text : List ℕ) (history : List Txn) (e : EngineParts) (asked : Reque
   asked-history l a b is = executes-it text (history ++ asks) (with_request asked e) l a b (asked-stands l a b is)
 
   -- no device is called
-  pub asked-keeps : (now : EngineParts) → durable_of now ≡ durable_of e → saved_of now ≡ saved_of e → (l a b : DiskHistory) → EngineStands text history e l a b → KeepsHistory text (history ++ asks) e now (l ∷ a ∷ b ∷ []) (l ∷ a ∷ b ∷ [])
+  pub asked-keeps : (now : EngineParts) → durable_of now ≡ durable_of e → saved_of now ≡ saved_of e → (l a b : DiskHistory) → EngineStands text history e l a b → KeepsHistory text (history ++ asks) e now (three l a b) (three l a b)
   asked-keeps now durable saved l a b is =
-      let leaves : AllLeave (MayLeave text e.session.catalogue (history ++ asks) e) (l ∷ a ∷ b ∷ []) = stands-now text (history ++ asks) (with_request asked e) l a b (asked-stands l a b is) in
-      record { moments = rests (l ∷ a ∷ b ∷ []) leaves; end = leave-same text e.session.catalogue (history ++ asks) e now (l ∷ a ∷ b ∷ []) durable saved leaves }
+      let leaves : AllLeave (MayLeave text e.session.catalogue (history ++ asks) e) (three l a b) = stands-now text (history ++ asks) (with_request asked e) l a b (asked-stands l a b is) in
+      record { moments = rests (three l a b) leaves; end = leave-same text e.session.catalogue (history ++ asks) e now (three l a b) durable saved leaves }
 
 -- ---- from one move to the next
 
-pub keeps-as : (text : List ℕ) (history : List Txn) (before now other : EngineParts) (old new : List DiskHistory) → durable_of other ≡ durable_of now → saved_of other ≡ saved_of now → KeepsHistory text history before now old new → KeepsHistory text history before other old new
+pub keeps-as : (text : List ℕ) (history : List Txn) (before now other : EngineParts) (old new : Devices DiskHistory) → durable_of other ≡ durable_of now → saved_of other ≡ saved_of now → KeepsHistory text history before now old new → KeepsHistory text history before other old new
 keeps-as text history before now other old new durable saved keeps = record { moments = keeps.moments; end = leave-same text before.session.catalogue history now other new durable saved keeps.end }
 
-pub keeps-longer : (text : List ℕ) (history more : List Txn) (before now : EngineParts) (old new : List DiskHistory) → IsHistory before.session.catalogue (history ++ more) → KeepsHistory text history before now old new → KeepsHistory text (history ++ more) before now old new
+pub keeps-longer : (text : List ℕ) (history more : List Txn) (before now : EngineParts) (old new : Devices DiskHistory) → IsHistory before.session.catalogue (history ++ more) → KeepsHistory text history before now old new → KeepsHistory text (history ++ more) before now old new
 keeps-longer text history more before now old new executes keeps = record {
   moments = weaken_run (MayLeave text before.session.catalogue history before) (MayLeave text before.session.catalogue (history ++ more) before)
-      (weaken-three (StandsWith text before.session.catalogue history (durable_of before) (saved_of before)) (StandsWith text before.session.catalogue (history ++ more) (durable_of before) (saved_of before))
-      (λ i s. stands-longer text before.session.catalogue history more (durable_of before) (saved_of before) i executes s)) old new keeps.moments;
-  end = λ images are. weaken-three (StandsWith text before.session.catalogue history (durable_of now) (saved_of now)) (StandsWith text before.session.catalogue (history ++ more) (durable_of now) (saved_of now))
-      (λ i s. stands-longer text before.session.catalogue history more (durable_of now) (saved_of now) i executes s) images (keeps.end images are);
+      (λ i s. stands-longer text before.session.catalogue history more (durable_of before) (saved_of before) i executes s) old new keeps.moments;
+  end = λ images are. stands-longer text before.session.catalogue history more (durable_of now) (saved_of now) images executes (keeps.end images are);
 }
 
-pub keeps-then : (text : List ℕ) (history : List Txn) (a b c : EngineParts) (x y z : List DiskHistory) → b.session.catalogue ≡ a.session.catalogue → durable_of a ≤ durable_of b → saved_of a ≤ saved_of b
+pub keeps-then : (text : List ℕ) (history : List Txn) (a b c : EngineParts) (x y z : Devices DiskHistory) → b.session.catalogue ≡ a.session.catalogue → durable_of a ≤ durable_of b → saved_of a ≤ saved_of b
     → KeepsHistory text history a b x y → KeepsHistory text history b c y z → KeepsHistory text history a c x z
 keeps-then text history a b c x y z same durable saved first second =
     let moments : RunLeaves (MayLeave text a.session.catalogue history b) y z = subst (λ (cat : CatalogueState). RunLeaves (MayLeave text cat history b) y z) same second.moments in
     record {
       moments = run_then (MayLeave text a.session.catalogue history a) x y z first.moments
           (weaken_run (MayLeave text a.session.catalogue history b) (MayLeave text a.session.catalogue history a)
-          (weaken-three (StandsWith text a.session.catalogue history (durable_of b) (saved_of b)) (StandsWith text a.session.catalogue history (durable_of a) (saved_of a))
-          (λ i s. stands-less text a.session.catalogue history (durable_of b) (saved_of b) (durable_of a) (saved_of a) i durable saved s)) y z moments);
+          (λ i s. stands-less text a.session.catalogue history (durable_of b) (saved_of b) (durable_of a) (saved_of a) i durable saved s) y z moments);
       end = subst (λ (cat : CatalogueState). AllLeave (MayLeave text cat history c) z) same second.end;
     }

@@ -9,6 +9,7 @@ use Rattle.pac_ops.specs.declared.transaction.Txn.TheVariants.{Call, AdHoc}
 use Rattle.pac_outside.specs.Disk.{DiskHistory}
 use Rattle.pac_outside.specs.Devices.{all_known, each}
 use Rattle.pac_outside.specs.declared.devices.Devices.{Devices}
+use Rattle.pac_outside.proofs.Runs.{three}
 use Rattle.pac_types.specs.Fits.{TxnFits}
 use Rattle.pac_request.specs.declared.request.Request.{Request}
 use Rattle.pac_request.specs.declared.request.Request.TheVariants as request
@@ -84,36 +85,32 @@ closed-kept e now given is durable gave = subst (λ (l : List Reply). AllByRecur
 -- ---- the devices, while a request is executed and its group is closed
 
 -- of three devices
-of-stands : (text : List ℕ) (history : List Txn) (e : EngineParts) (Q : List DiskHistory → Type 0) → ((l a b : DiskHistory) → EngineStands text history e l a b → Q (l ∷ a ∷ b ∷ [])) → (devices : List DiskHistory) → StandsOn text history e devices → Q devices
-of-stands text history e Q has [] is = absurd is
-of-stands text history e Q has (l ∷ []) is = absurd is
-of-stands text history e Q has (l ∷ a ∷ []) is = absurd is
-of-stands text history e Q has (l ∷ a ∷ b ∷ []) is = has l a b is
-of-stands text history e Q has (l ∷ a ∷ b ∷ d ∷ devices) is = absurd is
+of-stands : (text : List ℕ) (history : List Txn) (e : EngineParts) (Q : Devices DiskHistory → Type 0) → ((l a b : DiskHistory) → EngineStands text history e l a b → Q (three l a b)) → (devices : Devices DiskHistory) → StandsOn text history e devices → Q devices
+of-stands text history e Q has devices is = has devices.log devices.slot_a devices.slot_b is
 
 module _ (text : List ℕ) (history : List Txn) (e : EngineParts) (asked : Request) (fits : (txn : Txn) → txn_of asked ≡ Some txn → TxnFits e.session.catalogue txn) (counted : e.log.gate.txns ≡ e.session.before) where
   abbrev asks : List Txn
   asks = commits (rules_of e.session) (state_now e.session) asked
 
-  pub asked-keeps-known : (now : EngineParts) → durable_of now ≡ durable_of e → saved_of now ≡ saved_of e → (known : Option (List DiskHistory))
+  pub asked-keeps-known : (now : EngineParts) → durable_of now ≡ durable_of e → saved_of now ≡ saved_of e → (known : Option (Devices DiskHistory))
       → WhileKnown (StandsOn text history e) (KeepsHistory text (history ++ commits (rules_of e.session) (state_now e.session) asked) e now) known known
   asked-keeps-known now durable saved = rest-known (StandsOn text history e) (KeepsHistory text (history ++ asks) e now)
       (of-stands text history e (λ d. KeepsHistory text (history ++ asks) e now d d) (asked-keeps text history e asked fits counted now durable saved))
 
-  stands-asked : (devices : List DiskHistory) → StandsOn text history e devices → StandsOn text (history ++ asks) (with_request asked e) devices
+  stands-asked : (devices : Devices DiskHistory) → StandsOn text history e devices → StandsOn text (history ++ asks) (with_request asked e) devices
   stands-asked = of-stands text history e (λ d. StandsOn text (history ++ asks) (with_request asked e) d) (asked-stands text history e asked fits counted)
 
-  pub asked-stands-known : (now : EngineParts) → now ≡ with_request asked e → (known : Option (List DiskHistory))
+  pub asked-stands-known : (now : EngineParts) → now ≡ with_request asked e → (known : Option (Devices DiskHistory))
       → WhileKnown (StandsOn text history e) (λ was is. StandsOn text (history ++ commits (rules_of e.session) (state_now e.session) asked) now is) known known
   asked-stands-known now becomes = rest-known (StandsOn text history e) (λ was is. StandsOn text (history ++ asks) now is)
       (λ devices is. subst (λ (p : EngineParts). StandsOn text (history ++ asks) p devices) (sym becomes) (stands-asked devices is))
 
   -- the group is closed after it
-  module _ (now : EngineParts) (becomes : now ≡ with_request asked e) (new : EngineParts) (x y : Option (List DiskHistory)) where
-    stands-before : (devices : List DiskHistory) → StandsOn text history e devices → StandsOn text (history ++ asks) now devices
+  module _ (now : EngineParts) (becomes : now ≡ with_request asked e) (new : EngineParts) (x y : Option (Devices DiskHistory)) where
+    stands-before : (devices : Devices DiskHistory) → StandsOn text history e devices → StandsOn text (history ++ asks) now devices
     stands-before devices is = subst (λ (p : EngineParts). StandsOn text (history ++ asks) p devices) (sym becomes) (stands-asked devices is)
 
-    as-before : (u v : List DiskHistory) → KeepsHistory text ((history ++ asks) ++ []) now new u v → KeepsHistory text (history ++ asks) e new u v
+    as-before : (u v : Devices DiskHistory) → KeepsHistory text ((history ++ asks) ++ []) now new u v → KeepsHistory text (history ++ asks) e new u v
     as-before u v keeps =
         let here : KeepsHistory text (history ++ asks) (with_request asked e) new u v = subst (λ (p : EngineParts). KeepsHistory text (history ++ asks) p new u v) becomes (subst (λ (h : List Txn). KeepsHistory text h now new u v) (append-nil (history ++ asks)) keeps) in
         record { moments = here.moments; end = here.end }
@@ -128,7 +125,7 @@ module _ (text : List ℕ) (history : List Txn) (e : EngineParts) (asked : Reque
         (λ u v is stands. subst (λ (h : List Txn). StandsOn text h new v) (append-nil (history ++ asks)) stands) x y known
 
   -- the group is closed before it is executed
-  module _ (mid : EngineParts) (x y : Option (List DiskHistory)) (first : WhileKnown (StandsOn text history e) (KeepsHistory text (history ++ []) e mid) x y) where
+  module _ (mid : EngineParts) (x y : Option (Devices DiskHistory)) (first : WhileKnown (StandsOn text history e) (KeepsHistory text (history ++ []) e mid) x y) where
     pub anew-keeps : (new : EngineParts) → durable_of new ≡ durable_of mid → saved_of new ≡ saved_of mid
         → WhileKnown (StandsOn text history e) (KeepsHistory text (history ++ commits (rules_of e.session) (state_now e.session) asked) e new) x y
     anew-keeps new durable saved = known-weaken (StandsOn text history e) (StandsOn text history e) (KeepsHistory text (history ++ []) e mid) (KeepsHistory text (history ++ asks) e new) (λ u is. is)
@@ -258,7 +255,7 @@ module _ (e : EngineParts) (counted : e.log.gate.txns ≡ e.session.before) (sta
       save-stops e start group within room (cut_one (rules_of e.session) start group request.Save).closed (ap (λ (cut : GroupCut). cut.closed) save-cut) given (unknown ∙ gave) cause on full
       (λ bytes is. let much = large bytes is in (much.0 ∙ ap (λ (m : EngineParts). slot_len (rules_of m.session) (state_now m.session) m.log.gate.place) closed, much.1))
 
-module _ (text : List ℕ) (history : List Txn) (e mid new : EngineParts) (closed : mid ≡ committed_parts e) (x y z : Option (List DiskHistory)) (stands : WhileKnown (StandsOn text history e) (λ was is. StandsOn text (history ++ []) mid is) x y) where
+module _ (text : List ℕ) (history : List Txn) (e mid new : EngineParts) (closed : mid ≡ committed_parts e) (x y z : Option (Devices DiskHistory)) (stands : WhileKnown (StandsOn text history e) (λ was is. StandsOn text (history ++ []) mid is) x y) where
   pub checkpoint-keeps : WhileKnown (StandsOn text history e) (KeepsHistory text (history ++ []) e mid) x y → WhileKnown (StandsOn text (history ++ []) mid) (KeepsHistory text ((history ++ []) ++ []) mid new) y z
       → WhileKnown (StandsOn text history e) (KeepsHistory text (history ++ []) e new) x z
   checkpoint-keeps first second = known-then (StandsOn text history e) (StandsOn text (history ++ []) mid) (KeepsHistory text (history ++ []) e mid) (KeepsHistory text ((history ++ []) ++ []) mid new) (KeepsHistory text (history ++ []) e new)
@@ -288,6 +285,6 @@ module _ {D : Type 0} (known : D → Option DiskHistory) (asked : Request) (insi
       (λ was is. StandsOn text (history ++ commits (rules_of e.session) (state_now e.session) asked) (record mid { ended = flag }) is) (λ u is. is)
       (λ u v is s. flagged text (history ++ commits (rules_of e.session) (state_now e.session) asked) v s) (all_known (each known old)) (all_known (each known new)) (here text history)
     where
-      flagged : (text : List ℕ) (history : List Txn) (devices : List DiskHistory) → StandsOn text history mid devices → StandsOn text history (record mid { ended = flag }) devices
+      flagged : (text : List ℕ) (history : List Txn) (devices : Devices DiskHistory) → StandsOn text history mid devices → StandsOn text history (record mid { ended = flag }) devices
       flagged text history = of-stands text history mid (λ d. StandsOn text history (record mid { ended = flag }) d)
           (λ l a b is. record { batches = is.batches; log = is.log; after = is.after; slot_a = is.slot_a; slot_b = is.slot_b; known_a = is.known_a; known_b = is.known_b; fit = is.fit; ends = is.ends; split = is.split })

@@ -3,6 +3,7 @@ use Rattle.std.specs.Prelude.{◌≡◌, ◌⊎◌, ◌+◌, ◌<◌, ◌≤◌,
 use Rattle.std.specs.List.{AllByRecursion}
 use Rattle.pac_outside.specs.Devices.{OneFaulted}
 use Rattle.pac_outside.specs.Disk.{DiskHistory}
+use Rattle.pac_outside.specs.declared.devices.Devices.{Devices}
 use Rattle.pac_outside.specs.Parts.{OfLog}
 use Rattle.pac_request.specs.declared.request.Request.{Request}
 use Rattle.pac_request.specs.declared.request.Request.TheVariants as request
@@ -39,7 +40,7 @@ pub record IsGateAfter (rules : Rules) (place : ℕ) (start : SessionState) (clo
   pub there : gate.place ≡ place_after place (described rules place start closed)
 
 -- each image of the log that a crash may leave ends at this gate, or after these groups
-pub record MayEndAfter (rules : Rules) (start : SessionState) (closed : List (List Request)) (gate : NextGate) (devices : List (Option DiskHistory)) : Type 0 where
+pub record MayEndAfter (rules : Rules) (start : SessionState) (closed : List (List Request)) (gate : NextGate) (devices : Devices (Option DiskHistory)) : Type 0 where
   pub next : NextGate
   pub after : IsGateAfter rules gate.place start closed next
   pub either : OfLog (LogEndsAtEither gate next) devices
@@ -124,7 +125,7 @@ StopsAt rules place start closed given Ended = ⊥
 StopsAt rules place start closed given NoMemory = IsUpToSome (described rules place start closed) given ⊎ IsUnsaved (described rules place start closed) given
 
 -- Of a fault of a device the count of one device rose by one, and no call of any came after it. Else no call failed.
-abbrev pub CountsFault : EngineCause → List ℕ → List ℕ → Type 0
+abbrev pub CountsFault : EngineCause → Devices ℕ → Devices ℕ → Type 0
 CountsFault DiskFault before now = OneFaulted before now
 CountsFault (LogFull need) before now = now ≡ before
 CountsFault (TooLarge bytes) before now = now ≡ before

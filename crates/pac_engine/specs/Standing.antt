@@ -12,7 +12,7 @@ use Rattle.pac_log.specs.Logs.{HoldsLog, all_txns}
 use Rattle.pac_log.specs.Places.{IsAfter, LogEndsAt}
 use Rattle.pac_check.specs.declared.info.SlotInfo.{SlotInfo}
 use Rattle.pac_check.specs.SlotStates.{IsSlot, newest_of}
-use Rattle.pac_store.specs.Images.{Images, OfThree}
+use Rattle.pac_store.specs.Images.{Images}
 use Rattle.pac_store.specs.Stands.{EndsWith, HoldsSaved, IsShutOrPrefix, StandsFor}
 use Rattle.pac_engine.specs.declared.parts.EngineParts.{EngineParts}
 
@@ -60,35 +60,28 @@ pub record EngineStands (text : List ℕ) (history : List Txn) (engine : EngineP
   pub ends : EndsWith engine.session.catalogue history engine.session.tables
   pub split : history ≡ all_txns batches ++ engine.session.txns
 
--- what is said of three devices, in the fixed order of devices
-abbrev pub OfDevices : (DiskHistory → DiskHistory → DiskHistory → Type 0) → List DiskHistory → Type 0
-OfDevices P [] = ⊥
-OfDevices P (l ∷ []) = ⊥
-OfDevices P (l ∷ a ∷ []) = ⊥
-OfDevices P (l ∷ a ∷ b ∷ []) = P l a b
-OfDevices P (l ∷ a ∷ b ∷ device ∷ devices) = ⊥
-
-abbrev pub StandsOn : List ℕ → List Txn → EngineParts → List DiskHistory → Type 0
-StandsOn text history engine devices = OfDevices (EngineStands text history engine) devices
+-- and so it does on a store's devices
+abbrev pub StandsOn : List ℕ → List Txn → EngineParts → Devices DiskHistory → Type 0
+StandsOn text history engine devices = EngineStands text history engine devices.log devices.slot_a devices.slot_b
 
 -- a crash may leave images that stand for the history, with what is durable and saved
-abbrev pub MayLeave : List ℕ → CatalogueState → List Txn → EngineParts → List (List ℕ) → Type 0
-MayLeave text catalogue history engine images = OfThree (StandsWith text catalogue history (durable_of engine) (saved_of engine)) images
+abbrev pub MayLeave : List ℕ → CatalogueState → List Txn → EngineParts → Images → Type 0
+MayLeave text catalogue history engine images = StandsWith text catalogue history (durable_of engine) (saved_of engine) images
 
 -- At each moment from old to new a crash leaves images that stand for the history with what was durable and saved before, and
 -- in the end with what is durable and saved then.
-pub record KeepsHistory (text : List ℕ) (history : List Txn) (before now : EngineParts) (old new : List DiskHistory) : Type 0 where
+pub record KeepsHistory (text : List ℕ) (history : List Txn) (before now : EngineParts) (old new : Devices DiskHistory) : Type 0 where
   pub moments : RunLeaves (MayLeave text before.session.catalogue history before) old new
   pub end : AllLeave (MayLeave text before.session.catalogue history now) new
 
 -- what is reported before, if it has P, and after has R; it is reported after where it was before
-abbrev pub WhileKnown : (List DiskHistory → Type 0) → (List DiskHistory → List DiskHistory → Type 0) → Option (List DiskHistory) → Option (List DiskHistory) → Type 0
+abbrev pub WhileKnown : (Devices DiskHistory → Type 0) → (Devices DiskHistory → Devices DiskHistory → Type 0) → Option (Devices DiskHistory) → Option (Devices DiskHistory) → Type 0
 WhileKnown P R None new = Unit {0}
 WhileKnown P R (Some old) None = P old → ⊥
 WhileKnown P R (Some old) (Some new) = P old → R old new
 
 -- where the devices' histories are known and have P before a call, they are known after it, and their histories have R
-abbrev pub WhileAllKnown : (List DiskHistory → Type 0) → (List DiskHistory → List DiskHistory → Type 0) → List (Option DiskHistory) → List (Option DiskHistory) → Type 0
+abbrev pub WhileAllKnown : (Devices DiskHistory → Type 0) → (Devices DiskHistory → Devices DiskHistory → Type 0) → Devices (Option DiskHistory) → Devices (Option DiskHistory) → Type 0
 WhileAllKnown P R old new = WhileKnown P R (all_known old) (all_known new)
 
 -- where the devices' histories are known, an engine that stands for some history keeps it with these transactions after it
@@ -98,10 +91,6 @@ KeepsMore known more before now old new = (text : List ℕ) (history : List Txn)
 -- and it stands for that afterwards
 abbrev pub StandsForMore : {D : Type 0} → (D → Option DiskHistory) → List Txn → EngineParts → EngineParts → Devices D → Devices D → Type 0
 StandsForMore known more before now old new = (text : List ℕ) (history : List Txn) → WhileAllKnown (StandsOn text history before) (λ was is. StandsOn text (history ++ more) now is) (each known old) (each known new)
-
--- what a read gives of three devices
-abbrev pub seen_of : DiskHistory → DiskHistory → DiskHistory → Images
-seen_of l a b = record { log = l.now.seen; slot_a = a.now.seen; slot_b = b.now.seen }
 
 -- An engine was opened on devices that were synced: it stands at the end of the log that they hold, knows the states of both
 -- slots, has no open transaction, and its tables are those with which the log's transactions, the first of the history, end.

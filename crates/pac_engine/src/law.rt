@@ -2,6 +2,8 @@
 ghost use Rattle.std.specs.Prelude.{◌≡◌, ◌++◌, ◌∷◌, [], ℕ, List, Option, take};
 ghost use Rattle.pac_ops.specs.declared.transaction.Txn.{Txn as ATxn};
 ghost use Rattle.pac_outside.specs.Disk.{DiskHistory};
+ghost use Rattle.pac_outside.specs.Parts.{reads_of};
+ghost use Rattle.pac_outside.specs.declared.devices.Devices.{Devices as ADevices};
 ghost use Rattle.pac_request.specs.declared.request.Request.{Request as ARequest};
 ghost use Rattle.pac_request.specs.declared.request.Reply.{Reply as AReply};
 ghost use Rattle.pac_store.specs.Stands.{StandsFor};
@@ -9,7 +11,7 @@ ghost use Rattle.pac_session.specs.Session.{Rules, SessionState, ends};
 ghost use Rattle.pac_session.specs.Groups.{GroupCut, all_requests, cut_on, cut_one};
 ghost use Rattle.pac_session.specs.Open.{rules_of, state_now};
 ghost use Rattle.pac_engine.specs.Closing.{Closes, StopsAt};
-ghost use Rattle.pac_engine.specs.Standing.{IsOpenedOn, KeepsHistory, OnlyGrows, StandsOn, WhileAllKnown, seen_of};
+ghost use Rattle.pac_engine.specs.Standing.{IsOpenedOn, KeepsHistory, OnlyGrows, StandsOn, WhileAllKnown};
 ghost use Rattle.pac_engine.specs.declared.fault.EngineCause.{EngineCause as ACause};
 ghost use Rattle.pac_engine.specs.declared.parts.EngineParts.{EngineParts as AParts};
 
@@ -28,12 +30,12 @@ pub fn steps_are_the_session()
 /// An engine that stands for a history, and keeps it with some transactions after it, in one step, and then with more of them
 /// in the next, keeps it with all of them in both.
 pub fn steps_keep_the_history()
-    ensures keeps { (text : List ℕ) (history more last : List ATxn) (first next end : AParts) (old middle new : List (Option DiskHistory)) → rules_of next.session ≡ rules_of first.session → OnlyGrows first next
+    ensures keeps { (text : List ℕ) (history more last : List ATxn) (first next end : AParts) (old middle new : ADevices (Option DiskHistory)) → rules_of next.session ≡ rules_of first.session → OnlyGrows first next
         → WhileAllKnown (StandsOn text history first) (KeepsHistory text (history ++ more) first next) old middle
         → WhileAllKnown (StandsOn text history first) (λ was is. StandsOn text (history ++ more) next is) old middle
         → WhileAllKnown (StandsOn text (history ++ more) next) (KeepsHistory text ((history ++ more) ++ last) next end) middle new
         → WhileAllKnown (StandsOn text history first) (KeepsHistory text (history ++ (more ++ last)) first end) old new }
-    ensures stands { (text : List ℕ) (history more last : List ATxn) (first next end : AParts) (old middle new : List (Option DiskHistory))
+    ensures stands { (text : List ℕ) (history more last : List ATxn) (first next end : AParts) (old middle new : ADevices (Option DiskHistory))
         → WhileAllKnown (StandsOn text history first) (λ was is. StandsOn text (history ++ more) next is) old middle
         → WhileAllKnown (StandsOn text (history ++ more) next) (λ was is. StandsOn text ((history ++ more) ++ last) end is) middle new
         → WhileAllKnown (StandsOn text history first) (λ was is. StandsOn text (history ++ (more ++ last)) end is) old new }
@@ -41,6 +43,6 @@ pub fn steps_keep_the_history()
 
 /// An engine that is opened over devices that stand for a history stands for as many transactions of it as the log has.
 pub fn an_opened_engine_stands()
-    ensures { (text : List ℕ) (history : List ATxn) (least : ℕ) (engine : AParts) (l a b : DiskHistory) → StandsFor text engine.session.catalogue history least (seen_of l a b) → IsOpenedOn history engine l a b
-        → StandsOn text (take engine.log.gate.txns history) engine (l ∷ a ∷ b ∷ []) }
+    ensures { (text : List ℕ) (history : List ATxn) (least : ℕ) (engine : AParts) (devices : ADevices DiskHistory) → StandsFor text engine.session.catalogue history least (reads_of devices) → IsOpenedOn history engine devices.log devices.slot_a devices.slot_b
+        → StandsOn text (take engine.log.gate.txns history) engine devices }
 {}
