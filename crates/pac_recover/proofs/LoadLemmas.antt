@@ -6,6 +6,7 @@ use Rattle.std.proofs.lemmas.List.{length-append}
 use Rattle.pac_ops.specs.declared.batch.Batch.{Batch}
 use Rattle.pac_ops.specs.declared.transaction.Txn.{Txn}
 use Rattle.pac_outside.specs.Disk.{DiskHistory, IfKnown}
+use Rattle.pac_outside.proofs.Runs.{three}
 use Rattle.pac_types.specs.Fits.{TxnFits}
 use Rattle.pac_types.specs.Typing.{CatalogueState}
 use Rattle.pac_log.specs.declared.position.NextGate.{NextGate}
@@ -246,8 +247,8 @@ pub moved-known : (S : List ℕ → List ℕ → Type 0) (a b x y : Option DiskH
 moved-known S a b x y same_a same_b known =
     subst (λ (t : Option DiskHistory). IfKnown (λ h. IfKnown (λ k. S h.now.seen k.now.seen) b) t) same_a (subst (λ (u : Option DiskHistory). IfKnown (λ h. IfKnown (λ k. S h.now.seen k.now.seen) u) x) same_b known)
 
-pub three-same : (l a b m x y : ℕ) → l ≡ m → a ≡ x → b ≡ y → l ∷ a ∷ b ∷ [] ≡ m ∷ x ∷ y ∷ []
-three-same l a b m x y e f g = cc
+pub three-same : (l a b m x y : ℕ) → l ≡ m → a ≡ x → b ≡ y → three l a b ≡ three m x y
+three-same l a b m x y e f g = ap (λ (n : ℕ). three n a b) e ∙ ap (λ (n : ℕ). three m n b) f ∙ ap (λ (n : ℕ). three m x n) g
 
 -- ---- each device by itself
 

@@ -1,6 +1,6 @@
 // Reads the slots of a store.
-ghost use Rattle.std.specs.Prelude.{◌≡◌, ◌∷◌, [], ℕ, false, IfOk, IfSome, IsErrOf, OnOk, Some as HasInfo, None as NoInfo, slice_get};
-ghost use Rattle.pac_outside.specs.Devices.{OneFaulted};
+ghost use Rattle.std.specs.Prelude.{◌≡◌, ℕ, false, IfOk, IfSome, IsErrOf, OnOk, Some as HasInfo, None as NoInfo, slice_get};
+ghost use Rattle.pac_outside.specs.Devices.{EitherFaulted};
 ghost use Rattle.pac_outside.specs.Disk.{IfKnown};
 ghost use Rattle.pac_types.specs.Fits.{FitsCatalogue};
 ghost use Rattle.pac_log.specs.declared.damage.DamageKind.{DamageKind as ALogDamage};
@@ -50,7 +50,7 @@ pub(crate) fn read_slots<D: Disk>(
     ensures no_store { ¬ IsErrOf result LoadError.NoStore }
     ensures same_a { D.known a.new ≡ D.known a.old }
     ensures same_b { D.known b.new ≡ D.known b.old }
-    ensures disk_fault { IsErrOf result LoadError.DiskFault → OneFaulted (D.faults a.old ∷ D.faults b.old ∷ []) (D.faults a.new ∷ D.faults b.new ∷ []) }
+    ensures disk_fault { IsErrOf result LoadError.DiskFault → EitherFaulted (D.faults a.old) (D.faults a.new) (D.faults b.old) (D.faults b.new) }
     ensures quiet_a { ¬ IsErrOf result LoadError.DiskFault → D.faults a.new ≡ D.faults a.old }
     ensures quiet_b { ¬ IsErrOf result LoadError.DiskFault → D.faults b.new ≡ D.faults b.old }
 {
@@ -128,7 +128,7 @@ pub(crate) fn read_tables<D: Disk, T: TableRows>(
     ensures no_store { ¬ IsErrOf result LoadError.NoStore }
     ensures same_a { D.known a.new ≡ D.known a.old }
     ensures same_b { D.known b.new ≡ D.known b.old }
-    ensures disk_fault { IsErrOf result LoadError.DiskFault → OneFaulted (D.faults a.old ∷ D.faults b.old ∷ []) (D.faults a.new ∷ D.faults b.new ∷ []) }
+    ensures disk_fault { IsErrOf result LoadError.DiskFault → EitherFaulted (D.faults a.old) (D.faults a.new) (D.faults b.old) (D.faults b.new) }
     ensures quiet_a { ¬ IsErrOf result LoadError.DiskFault → D.faults a.new ≡ D.faults a.old }
     ensures quiet_b { ¬ IsErrOf result LoadError.DiskFault → D.faults b.new ≡ D.faults b.old }
 {
@@ -167,7 +167,7 @@ pub(crate) fn read_newest<D: Disk, T: TableRows>(
     ensures no_store { ¬ IsErrOf result LoadError.NoStore }
     ensures same_a { D.known a.new ≡ D.known a.old }
     ensures same_b { D.known b.new ≡ D.known b.old }
-    ensures disk_fault { IsErrOf result LoadError.DiskFault → OneFaulted (D.faults a.old ∷ D.faults b.old ∷ []) (D.faults a.new ∷ D.faults b.new ∷ []) }
+    ensures disk_fault { IsErrOf result LoadError.DiskFault → EitherFaulted (D.faults a.old) (D.faults a.new) (D.faults b.old) (D.faults b.new) }
     ensures quiet_a { ¬ IsErrOf result LoadError.DiskFault → D.faults a.new ≡ D.faults a.old }
     ensures quiet_b { ¬ IsErrOf result LoadError.DiskFault → D.faults b.new ≡ D.faults b.old }
 {
