@@ -44,7 +44,7 @@ only-err (Err e) a b only is = same only is
 
 -- no slot was called
 pub slots-same : {D : Type 0} (known : D → Option DiskHistory) (old new : Devices D) → (new.slot_a ≡ old.slot_a) × (new.slot_b ≡ old.slot_b) → slots_of (each known new) ≡ slots_of (each known old)
-slots-same known old new is = ap₂ (λ (a b : Option DiskHistory). a ∷ b ∷ []) (ap known is.0) (ap known is.1)
+slots-same known old new is = ap₂ (λ (a b : Option DiskHistory). (a, b)) (ap known is.0) (ap known is.1)
 
 -- a run stops at a device where a step does
 pub disk-cause : (why : EngineCause) → stop_of_engine why ≡ DiskFault → why ≡ cause.DiskFault
@@ -82,7 +82,20 @@ module _ {D : Type 0} (known : D → Option DiskHistory) (asked : Request) (befo
   room-full cause.NoMemory is need same = absurd cc
   room-full cause.Ended is need same = absurd cc
 
-module _ (asked : Request) (old new : EngineParts) (known known' : List (Option DiskHistory)) where
+module _ (asked : Request) (old new : EngineParts) where
+  -- the groups that it closes are those of the step
+  handled-closes : (more : List Reply) → ((start : SessionState) (group : List Request) → IsInGroup start group old.session → Closes (rules_of old.session) old.log.gate.place start (cut_one (rules_of old.session) start group asked) more new)
+      → (rules : Rules) (place : ℕ) (start : SessionState) (whole : GroupCut) (given : List Reply) → Closes rules place start whole given old → Closes rules place start (cut_on rules start whole asked) (given ++ more) new
+  handled-closes more closes rules place start whole given is =
+      let middle = ends rules start (all_requests whole.closed) in
+      closes-then rules place start whole given old is (cut_one rules middle whole.rest asked) more new
+      (subst (λ (r : Rules). Closes r old.log.gate.place middle (cut_one r middle whole.rest asked) more new) is.same (closes middle whole.rest is.within))
+
+  pub was-handled : (more : List Reply) → ((start : SessionState) (group : List Request) → IsInGroup start group old.session → Closes (rules_of old.session) old.log.gate.place start (cut_one (rules_of old.session) start group asked) more new)
+      → durable_of new ≡ new.session.before → WasHandled asked more old new
+  was-handled more closes durable = record { closes = handled-closes more closes; durable = durable }
+
+module _ (asked : Request) (old new : EngineParts) (known known' : Devices (Option DiskHistory)) where
   keeps-one : KeepsEach (commits (rules_of old.session) (state_now old.session) asked) old new known known' → KeepsEach (committed (rules_of old.session) (state_now old.session) (asked ∷ [])) old new known known'
   keeps-one keeps = subst (λ (t : List Txn). KeepsEach t old new known known') (sym (append-nil (commits (rules_of old.session) (state_now old.session) asked))) keeps
 
@@ -155,18 +168,6 @@ module _ (asked : Request) (old new : EngineParts) (known known' : List (Option 
     torn = torn;
   }
 
-  -- the groups that it closes are those of the step
-  handled-closes : (more : List Reply) → ((start : SessionState) (group : List Request) → IsInGroup start group old.session → Closes (rules_of old.session) old.log.gate.place start (cut_one (rules_of old.session) start group asked) more new)
-      → (rules : Rules) (place : ℕ) (start : SessionState) (whole : GroupCut) (given : List Reply) → Closes rules place start whole given old → Closes rules place start (cut_on rules start whole asked) (given ++ more) new
-  handled-closes more closes rules place start whole given is =
-      let middle = ends rules start (all_requests whole.closed) in
-      closes-then rules place start whole given old is (cut_one rules middle whole.rest asked) more new
-      (subst (λ (r : Rules). Closes r old.log.gate.place middle (cut_one r middle whole.rest asked) more new) is.same (closes middle whole.rest is.within))
-
-  pub was-handled : (more : List Reply) → ((start : SessionState) (group : List Request) → IsInGroup start group old.session → Closes (rules_of old.session) old.log.gate.place start (cut_one (rules_of old.session) start group asked) more new)
-      → durable_of new ≡ new.session.before → WasHandled asked more old new
-  was-handled more closes durable = record { closes = handled-closes more closes; durable = durable }
-
   -- a request was answered
   pub answered-one : (more : List Reply) → ((start : SessionState) (group : List Request) → IsInGroup start group old.session → Closes (rules_of old.session) old.log.gate.place start (cut_one (rules_of old.session) start group asked) more new)
       → KeepsEach (commits (rules_of old.session) (state_now old.session) asked) old new known known' → StandsForEach (commits (rules_of old.session) (state_now old.session) asked) old new known known'
@@ -175,7 +176,7 @@ module _ (asked : Request) (old new : EngineParts) (known known' : List (Option 
       → durable_of new ≡ new.session.before → ((asked ≡ request.Save → ⊥) → slots_of known' ≡ slots_of known)
       → Answered (asked ∷ []) more old new known known'
   answered-one more closes keeps stands same grows kept plain small durable slots = record {
-    closes = handled-closes more closes;
+    closes = handled-closes asked old new more closes;
     keeps = keeps-one keeps;
     stands = stands-one stands;
     same = same;
@@ -196,7 +197,7 @@ module _ (asked : Request) (old new : EngineParts) (known known' : List (Option 
       first-same e = cc
 
 -- nothing was asked
-pub answered-none : (e : EngineParts) (known : List (Option DiskHistory)) → StandsForEach [] e e known known → Answered [] [] e e known known
+pub answered-none : (e : EngineParts) (known : Devices (Option DiskHistory)) → StandsForEach [] e e known known → Answered [] [] e e known known
 answered-none e known stands = record {
   closes = λ rules place start whole given is. subst (λ (l : List Reply). Closes rules place start whole l e) (sym (append-nil given)) is;
   keeps = nothing-keeps e known;
@@ -215,5 +216,5 @@ answered-none e known stands = record {
     none : [] ≡ request.Save ∷ [] → ⊥
     none e = cc
 
-pub nothing-stands : (e : EngineParts) (known : List (Option DiskHistory)) → StandsForEach [] e e known known
+pub nothing-stands : (e : EngineParts) (known : Devices (Option DiskHistory)) → StandsForEach [] e e known known
 nothing-stands e known = λ text history. rest-known (StandsOn text history e) (λ was is. StandsOn text (history ++ []) e is) (λ devices is. subst (λ (h : List Txn). StandsOn text h e devices) (sym (append-nil history)) is) (all_known known)

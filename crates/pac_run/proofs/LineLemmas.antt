@@ -4,6 +4,7 @@ use Rattle.std.specs.Prelude.{IsErrOf}
 use Rattle.std.proofs.KnownBytes.{prepend_known-nil}
 use Rattle.pac_outside.specs.Causes.{Faulted}
 use Rattle.pac_outside.specs.Disk.{DiskHistory}
+use Rattle.pac_outside.specs.declared.devices.Devices.{Devices}
 use Rattle.pac_lines.specs.Calls.{IsCall, KeepsLimit}
 use Rattle.pac_lines.specs.Reading.{ReaderState}
 use Rattle.pac_lines.specs.declared.line_error.LineError.{LineError}
@@ -28,7 +29,7 @@ use Rattle.pac_run.proofs.ServeLemmas.{serving-more, still-served, took-nothing}
 use Rattle.pac_run.proofs.StepLemmas.{goes-first}
 
 -- before the first line
-abbrev pub first-serving : (engine : EngineParts) (left held : Option (List ℕ)) (known : List (Option DiskHistory)) (reader : ReaderState) → engine.session.txns ≡ [] → engine.session.held ≡ [] → durable_of engine ≡ engine.session.before → reader ≡ record { line = []; ahead = []; taken = 0; limit = MAX_INPUT }
+abbrev pub first-serving : (engine : EngineParts) (left held : Option (List ℕ)) (known : Devices (Option DiskHistory)) (reader : ReaderState) → engine.session.txns ≡ [] → engine.session.held ≡ [] → durable_of engine ≡ engine.session.before → reader ≡ record { line = []; ahead = []; taken = 0; limit = MAX_INPUT }
     → Serving engine engine left left reader held held known known
 first-serving engine left held known reader none empty durable is = record {
   lines = [];
@@ -41,7 +42,7 @@ first-serving engine left held known reader none empty durable is = record {
   goes = goes-first engine known none empty (nothing-stands engine known) durable;
 }
 
-module _ (first now : EngineParts) (left mid left' : Option (List ℕ)) (reader next : ReaderState) (held held' held'' : Option (List ℕ)) (known known' known'' : List (Option DiskHistory)) (serving : Serving first now left mid reader held held' known known') (new : EngineParts)
+module _ (first now : EngineParts) (left mid left' : Option (List ℕ)) (reader next : ReaderState) (held held' held'' : Option (List ℕ)) (known known' known'' : Devices (Option DiskHistory)) (serving : Serving first now left mid reader held held' known known') (new : EngineParts)
     (catalogue : CatalogueState) (same : catalogue ≡ first.session.catalogue) where
   pub end-any : (b : Bool) → b ≡ false → IsCall reader next mid left' (Ok b) → KeepsLimit next (Ok b) → (faulted faulted' : Type 0) → (faulted' → faulted) → (result : Result (Unit {0}) RunStop) → OnOk result (Replied catalogue (request.Stop ∷ []) now new held' held'' known' known'')
       → ((stop : RunStop) → IsErrOf result stop → Broke catalogue request.Stop now new held' held'' known' known'' faulted' stop) → Served first new left left' held held'' known known'' faulted result
@@ -81,11 +82,11 @@ module _ (first now : EngineParts) (left mid left' : Option (List ℕ)) (reader 
         omega (arith, falls left mid left' reader next serving.lines serving.read call-is, read.within, read.limit, serving.read.within, serving.read.limit)
 
 -- the catalogue stays the same
-pub catalogue-stays : (catalogue : CatalogueState) (old new : EngineParts) (text : List ℕ) (stops : Bool) (c : CatalogueState) (held held' : Option (List ℕ)) (known known' : List (Option DiskHistory)) → catalogue ≡ old.session.catalogue → LineServed c text stops old new held held' known known' → catalogue ≡ new.session.catalogue
+pub catalogue-stays : (catalogue : CatalogueState) (old new : EngineParts) (text : List ℕ) (stops : Bool) (c : CatalogueState) (held held' : Option (List ℕ)) (known known' : Devices (Option DiskHistory)) → catalogue ≡ old.session.catalogue → LineServed c text stops old new held held' known known' → catalogue ≡ new.session.catalogue
 catalogue-stays catalogue old new text stops c held held' known known' same served = same ∙ ap (λ (r : Rules). r.catalogue) (sym served.replied.answered.same)
 
 -- where nothing could be served
-pub nothing-served : (engine : EngineParts) (left held : Option (List ℕ)) (known : List (Option DiskHistory)) (faulted : Type 0) (result : Result (Unit {0}) RunStop) (stop : RunStop) → engine.session.txns ≡ [] → engine.session.held ≡ [] → durable_of engine ≡ engine.session.before → result ≡ Err stop → stop ≡ NoMemory
+pub nothing-served : (engine : EngineParts) (left held : Option (List ℕ)) (known : Devices (Option DiskHistory)) (faulted : Type 0) (result : Result (Unit {0}) RunStop) (stop : RunStop) → engine.session.txns ≡ [] → engine.session.held ≡ [] → durable_of engine ≡ engine.session.before → result ≡ Err stop → stop ≡ NoMemory
     → Served engine engine left left held held known known faulted result
 nothing-served engine left held known faulted result stop none empty durable gives is =
     let reader : ReaderState = record { line = []; ahead = []; taken = 0; limit = MAX_INPUT } in
@@ -100,13 +101,13 @@ nothing-served engine left held known faulted result stop none empty durable giv
 pub faulted-later : (a b c : ℕ) → a ≤ b → Faulted b c → Faulted a c
 faulted-later a b c later faulted = omega (arith, later, faulted)
 
-pub read-any : (first now : EngineParts) (left mid left' : Option (List ℕ)) (reader next : ReaderState) (held held' : Option (List ℕ)) (known known' : List (Option DiskHistory)) → Serving first now left mid reader held held' known known' → (faulted : Type 0) (error : LineError) (stop : RunStop) → stop ≡ stop_of_read error
+pub read-any : (first now : EngineParts) (left mid left' : Option (List ℕ)) (reader next : ReaderState) (held held' : Option (List ℕ)) (known known' : Devices (Option DiskHistory)) → Serving first now left mid reader held held' known known' → (faulted : Type 0) (error : LineError) (stop : RunStop) → stop ≡ stop_of_read error
     → IsCall reader next mid left' (Err error) → KeepsLimit next (Err error) → Served first now left left' held held' known known' faulted (Err stop)
 read-any first now left mid left' reader next held held' known known' serving faulted error stop is call keeps =
     subst (λ (s : RunStop). Served first now left left' held held' known known' faulted (Err s)) (sym is) (read-stopped first now left mid reader held held' known known' serving left' next faulted error call keeps)
 
 -- a request is never refused by the input
-pub never-input : (first now : EngineParts) (left mid : Option (List ℕ)) (reader : ReaderState) (held held' held'' : Option (List ℕ)) (known known' known'' : List (Option DiskHistory)) → Serving first now left mid reader held held' known known' → (catalogue : CatalogueState) (asked : Request) (new : EngineParts) (faulted : Type 0)
+pub never-input : (first now : EngineParts) (left mid : Option (List ℕ)) (reader : ReaderState) (held held' held'' : Option (List ℕ)) (known known' known'' : Devices (Option DiskHistory)) → Serving first now left mid reader held held' known known' → (catalogue : CatalogueState) (asked : Request) (new : EngineParts) (faulted : Type 0)
     → Broke catalogue asked now new held' held'' known' known'' faulted InputFault → ⊥
 never-input first now left mid reader held held' held'' known known' known'' serving catalogue asked new faulted broke =
     let whole : GroupCut = cut (rules_of first.session) (state_now first.session) serving.requests in

@@ -2,6 +2,7 @@
 use Rattle.std.proofs.Common.{◌≡◌, ◌<◌, inl, inr, ℕ, Bool, true, false, List, [], ◌∷◌, ◌++◌, length, Option, Result, Ok, Err, refl, sym, ap, subst, arith}
 use Rattle.std.specs.Prelude.{IsErrOf}
 use Rattle.pac_outside.specs.Disk.{DiskHistory}
+use Rattle.pac_outside.specs.declared.devices.Devices.{Devices}
 use Rattle.pac_lines.specs.Calls.{IsCall, KeepsLimit}
 use Rattle.pac_lines.specs.Reading.{ReaderState}
 use Rattle.pac_lines.specs.declared.limits.TheConstants.{MAX_READ}
@@ -18,7 +19,7 @@ use Rattle.pac_run.specs.Serving.{Broke, HasRead, LineBroke, LineServed, Replied
 use Rattle.pac_run.proofs.ReadLemmas.{at-end, lines-ask, more-read, not-long, over-long, still-handled}
 use Rattle.pac_run.proofs.ServeLemmas.{broke-served, still-served, stop-served}
 
-module _ (first now : EngineParts) (left mid : Option (List ℕ)) (reader : ReaderState) (held held' : Option (List ℕ)) (known known' : List (Option DiskHistory)) (serving : Serving first now left mid reader held held' known known') where
+module _ (first now : EngineParts) (left mid : Option (List ℕ)) (reader : ReaderState) (held held' : Option (List ℕ)) (known known' : Devices (Option DiskHistory)) (serving : Serving first now left mid reader held held' known known') where
   no-long : (e : LineError) → (e ≡ line.TooLong → ⊥) → IsErrOf {T = Bool} (Err e) line.TooLong → ⊥
   no-long e other is = other (same is)
     where
@@ -41,7 +42,7 @@ module _ (first now : EngineParts) (left mid : Option (List ℕ)) (reader : Read
         still-served first now left mid reader held held' known known' serving left' faulted NoMemory (reader.ahead ++ call.given) (still-handled left mid left' reader next serving.lines serving.read (Err line.NoMemory) call)
         (λ other. not-long left mid left' reader next serving.lines serving.read (Err line.NoMemory) call keeps (no-long line.NoMemory (λ e. cc))) (λ is. absurd cc) (λ is. absurd cc) (inr (inr refl))
 
-    module _ (held'' : Option (List ℕ)) (known'' : List (Option DiskHistory)) (new : EngineParts) where
+    module _ (held'' : Option (List ℕ)) (known'' : Devices (Option DiskHistory)) (new : EngineParts) where
       -- the end was met, and the stop after it was answered or not
       module _ (call : IsCall reader next mid left' (Ok false)) (keeps : KeepsLimit next (Ok false)) where
         none-ahead : length (reader.ahead ++ call.given) < MAX_READ
@@ -75,7 +76,7 @@ module _ (first now : EngineParts) (left mid : Option (List ℕ)) (reader : Read
         line-broke faulted' stop later (inl same) =
             subst (λ (e : EngineParts). Served first e left left' held held'' known known'' faulted (Err stop)) (sym same.engine)
             (subst (λ (h : Option (List ℕ)). Served first now left left' held h known known'' faulted (Err stop)) (sym same.output)
-            (subst (λ (t : List (Option DiskHistory)). Served first now left left' held held' known t faulted (Err stop)) (sym same.devices)
+            (subst (λ (t : Devices (Option DiskHistory)). Served first now left left' held held' known t faulted (Err stop)) (sym same.devices)
             (subst (λ (s : RunStop). Served first now left left' held held' known known' faulted (Err s)) (sym same.stopped)
             (still-served first now left mid reader held held' known known' serving left' faulted NoMemory (reader.ahead ++ call.given) (still-handled left mid left' reader next serving.lines serving.read (Ok true) call)
             (λ other. not-long left mid left' reader next serving.lines serving.read (Ok true) call keeps (ok-no-long true)) (λ is. absurd cc) (λ is. absurd cc) (inr (inr refl))))))

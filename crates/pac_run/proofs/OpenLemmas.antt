@@ -10,7 +10,7 @@ use Rattle.pac_outside.specs.declared.devices.Devices.{Devices}
 use Rattle.pac_outside.specs.Devices.{AreImages, AreSettled, RunsAsBefore, IfAllKnown, each}
 use Rattle.pac_outside.specs.Disk.{DiskHistory, IsImage, IfKnown, after_sync, settled}
 use Rattle.pac_outside.specs.GateByte.{OneImage}
-use Rattle.pac_outside.proofs.Runs.{run_end}
+use Rattle.pac_outside.proofs.Runs.{three, run_end}
 use Rattle.pac_types.specs.declared.table.Table.{Table}
 use Rattle.pac_types.specs.Fits.{TxnFits}
 use Rattle.pac_types.specs.Typing.{CatalogueState}
@@ -50,14 +50,14 @@ one-slot tables state (Some h) mid now synced same known =
     subst (λ (t : Option DiskHistory). IfKnown (λ x. OneImage (IsSlot tables state) x.now) t) (sym (same ∙ synced)) one
 
 -- what is known of three devices
-pub first-same : (l a b m x y : Option DiskHistory) → l ∷ a ∷ b ∷ [] ≡ m ∷ x ∷ y ∷ [] → l ≡ m
-first-same l a b m x y same = cc
+pub first-same : (l a b m x y : Option DiskHistory) → three l a b ≡ three m x y → l ≡ m
+first-same l a b m x y same = ap (λ (devices : Devices (Option DiskHistory)). devices.log) same
 
-pub second-same : (l a b m x y : Option DiskHistory) → l ∷ a ∷ b ∷ [] ≡ m ∷ x ∷ y ∷ [] → a ≡ x
-second-same l a b m x y same = cc
+pub second-same : (l a b m x y : Option DiskHistory) → three l a b ≡ three m x y → a ≡ x
+second-same l a b m x y same = ap (λ (devices : Devices (Option DiskHistory)). devices.slot_a) same
 
-pub third-same : (l a b m x y : Option DiskHistory) → l ∷ a ∷ b ∷ [] ≡ m ∷ x ∷ y ∷ [] → b ≡ y
-third-same l a b m x y same = cc
+pub third-same : (l a b m x y : Option DiskHistory) → three l a b ≡ three m x y → b ≡ y
+third-same l a b m x y same = ap (λ (devices : Devices (Option DiskHistory)). devices.slot_b) same
 
 -- ---- all three
 
@@ -68,11 +68,11 @@ module _ (engine : EngineParts) (l a b : DiskHistory) (none : engine.session.txn
   abbrev images : Images
   images = record { log = l.now.seen; slot_a = a.now.seen; slot_b = b.now.seen }
 
-  abbrev entry : List DiskHistory
-  entry = l ∷ a ∷ b ∷ []
+  abbrev entry : Devices DiskHistory
+  entry = three l a b
 
-  abbrev now : List DiskHistory
-  now = after_sync l ∷ after_sync a ∷ after_sync b ∷ []
+  abbrev now : Devices DiskHistory
+  now = three (after_sync l) (after_sync a) (after_sync b)
 
   module _ (opened : IsOpenedFrom engine (record { log = l.now.seen; slot_a = a.now.seen; slot_b = b.now.seen }))
       (slot_a : IsSlot engine.session.catalogue.tables engine.slots.a a.now.seen) (slot_b : IsSlot engine.session.catalogue.tables engine.slots.b b.now.seen)
@@ -106,49 +106,49 @@ module _ (engine : EngineParts) (l a b : DiskHistory) (none : engine.session.txn
       split = prefix-is ∙ sym (append-nil (all_txns is.batches)) ∙ ap (λ (t : List Txn). all_txns is.batches ++ t) (sym none);
     }
 
-    pub for-prefix : StandsForPrefix text catalogue history least engine (after_sync l ∷ after_sync a ∷ after_sync b ∷ [])
+    pub for-prefix : StandsForPrefix text catalogue history least engine (three (after_sync l) (after_sync a) (after_sync b))
     for-prefix = record { same = sym same-log.1; enough = prefix.enough; within = prefix.within; stands = here }
 
-  begins-all : RunsAsBefore (l ∷ a ∷ b ∷ []) (after_sync l ∷ after_sync a ∷ after_sync b ∷ []) → IsOpenedFrom engine (record { log = l.now.seen; slot_a = a.now.seen; slot_b = b.now.seen })
-      → IsSlot engine.session.catalogue.tables engine.slots.a a.now.seen → IsSlot engine.session.catalogue.tables engine.slots.b b.now.seen → BeginsOver engine (l ∷ a ∷ b ∷ []) (after_sync l ∷ after_sync a ∷ after_sync b ∷ [])
+  begins-all : RunsAsBefore (three l a b) (three (after_sync l) (after_sync a) (after_sync b)) → IsOpenedFrom engine (record { log = l.now.seen; slot_a = a.now.seen; slot_b = b.now.seen })
+      → IsSlot engine.session.catalogue.tables engine.slots.a a.now.seen → IsSlot engine.session.catalogue.tables engine.slots.b b.now.seen → BeginsOver engine (three l a b) (three (after_sync l) (after_sync a) (after_sync b))
   begins-all moments opened slot_a slot_b = λ text catalogue history least every.
-      let seen : List (List ℕ) = l.now.seen ∷ a.now.seen ∷ b.now.seen ∷ [] in
-      let are : AreImages entry seen = run_end (AreImages entry) entry now moments seen (own-image l.now.seen, (own-image a.now.seen, (own-image b.now.seen, tt))) in
+      let seen : Images = three l.now.seen a.now.seen b.now.seen in
+      let are : AreImages entry seen = run_end (AreImages entry) entry now moments seen (record { log = own-image l.now.seen; slot_a = own-image a.now.seen; slot_b = own-image b.now.seen }) in
       for-prefix opened slot_a slot_b text catalogue history least (every seen are)
 
 -- ---- where they are known
 
 -- what an engine is read from
 pub record IsReadFrom (engine : EngineParts) (l a b m x y : Option DiskHistory) : Type 0 where
-  pub runs : IfAllKnown RunsAsBefore (l ∷ a ∷ b ∷ []) (m ∷ x ∷ y ∷ [])
+  pub runs : IfAllKnown RunsAsBefore (three l a b) (three m x y)
   pub opened : IfReadKnown (IsOpenedFrom engine) m x y
   pub slot_a : IfKnown (λ h. IsSlot engine.session.catalogue.tables engine.slots.a h.now.seen) x
   pub slot_b : IfKnown (λ h. IsSlot engine.session.catalogue.tables engine.slots.b h.now.seen) y
 
 begins-synced : (engine : EngineParts) (l a b : Option DiskHistory) → engine.session.txns ≡ [] → IsReadFrom engine l a b (option_map after_sync l) (option_map after_sync a) (option_map after_sync b)
-    → IfAllKnown (BeginsOver engine) (l ∷ a ∷ b ∷ []) (option_map after_sync l ∷ option_map after_sync a ∷ option_map after_sync b ∷ [])
+    → IfAllKnown (BeginsOver engine) (three l a b) (three (option_map after_sync l) (option_map after_sync a) (option_map after_sync b))
 begins-synced engine None a b none is = tt
 begins-synced engine (Some l) None b none is = tt
 begins-synced engine (Some l) (Some a) None none is = tt
 begins-synced engine (Some l) (Some a) (Some b) none is = begins-all engine l a b none is.runs is.opened is.slot_a is.slot_b
 
-pub begins-known : (engine : EngineParts) (l a b m x y : Option DiskHistory) (now : List (Option DiskHistory)) → engine.session.txns ≡ [] → m ≡ option_map after_sync l → x ≡ option_map after_sync a → y ≡ option_map after_sync b → now ≡ m ∷ x ∷ y ∷ []
-    → IsReadFrom engine l a b m x y → IfAllKnown (BeginsOver engine) (l ∷ a ∷ b ∷ []) now
+pub begins-known : (engine : EngineParts) (l a b m x y : Option DiskHistory) (now : Devices (Option DiskHistory)) → engine.session.txns ≡ [] → m ≡ option_map after_sync l → x ≡ option_map after_sync a → y ≡ option_map after_sync b → now ≡ three m x y
+    → IsReadFrom engine l a b m x y → IfAllKnown (BeginsOver engine) (three l a b) now
 begins-known engine l a b m x y now none is_m is_x is_y same is =
     let there = begins-synced engine l a b none (subst (λ (t : Option DiskHistory). IsReadFrom engine l a b (option_map after_sync l) (option_map after_sync a) t) is_y
     (subst (λ (t : Option DiskHistory). IsReadFrom engine l a b (option_map after_sync l) t y) is_x (subst (λ (t : Option DiskHistory). IsReadFrom engine l a b t x y) is_m is))) in
-    let all : now ≡ option_map after_sync l ∷ option_map after_sync a ∷ option_map after_sync b ∷ [] = cc in
-    subst (λ (t : List (Option DiskHistory)). IfAllKnown (BeginsOver engine) (l ∷ a ∷ b ∷ []) t) (sym all) there
+    let all : now ≡ three (option_map after_sync l) (option_map after_sync a) (option_map after_sync b) = cc in
+    subst (λ (t : Devices (Option DiskHistory)). IfAllKnown (BeginsOver engine) (three l a b) t) (sym all) there
 
 -- a crash now leaves what a read gave at entry
-pub settled-known : (l a b : Option DiskHistory) (now : List (Option DiskHistory)) → now ≡ option_map after_sync l ∷ option_map after_sync a ∷ option_map after_sync b ∷ [] → IfAllKnown AreSettled (l ∷ a ∷ b ∷ []) now
-settled-known l a b after same = subst (λ (t : List (Option DiskHistory)). IfAllKnown AreSettled (l ∷ a ∷ b ∷ []) t) (sym same) (go l a b)
+pub settled-known : (l a b : Option DiskHistory) (now : Devices (Option DiskHistory)) → now ≡ three (option_map after_sync l) (option_map after_sync a) (option_map after_sync b) → IfAllKnown AreSettled (three l a b) now
+settled-known l a b after same = subst (λ (t : Devices (Option DiskHistory)). IfAllKnown AreSettled (three l a b) t) (sym same) (go l a b)
   where
-    go : (l a b : Option DiskHistory) → IfAllKnown AreSettled (l ∷ a ∷ b ∷ []) (option_map after_sync l ∷ option_map after_sync a ∷ option_map after_sync b ∷ [])
+    go : (l a b : Option DiskHistory) → IfAllKnown AreSettled (three l a b) (three (option_map after_sync l) (option_map after_sync a) (option_map after_sync b))
     go None a b = tt
     go (Some l) None b = tt
     go (Some l) (Some a) None = tt
-    go (Some l) (Some a) (Some b) = (refl, (refl, (refl, tt)))
+    go (Some l) (Some a) (Some b) = record { log = refl; slot_a = refl; slot_b = refl }
 
 -- what is read after a sync is what was read before
 pub known-before : (P : DiskHistory → Type 0) → ((h : DiskHistory) → P (after_sync h) → P h) → (old new : Option DiskHistory) → new ≡ option_map after_sync old → IfKnown P new → IfKnown P old
@@ -167,7 +167,7 @@ read-before P l a b m x y is_m is_x is_y known =
 
 -- ---- what is opened
 
-module _ {D : Type 0} (known : D → Option DiskHistory) (devices : Devices D) (l a b m x y : Option DiskHistory) (is_m : m ≡ option_map after_sync l) (is_x : x ≡ option_map after_sync a) (is_y : y ≡ option_map after_sync b) (same : each known devices ≡ m ∷ x ∷ y ∷ []) where
+module _ {D : Type 0} (known : D → Option DiskHistory) (devices : Devices D) (l a b m x y : Option DiskHistory) (is_m : m ≡ option_map after_sync l) (is_x : x ≡ option_map after_sync a) (is_y : y ≡ option_map after_sync b) (same : each known devices ≡ three m x y) where
   pub opened-ready : (r : Result EngineParts RecoverError) → IfOk r (λ e. IfKnown (λ h. HoldsLogUpTo e.log.gate h.now.seen) m) → IfOk r (λ e. IfKnown (λ h. IsSlot e.session.catalogue.tables e.slots.a h.now.seen) x)
       → IfOk r (λ e. IfKnown (λ h. IsSlot e.session.catalogue.tables e.slots.b h.now.seen) y) → IfOk r (λ e. HasDevices known e devices)
   opened-ready (Err error) log slot_a slot_b = tt
@@ -177,9 +177,9 @@ module _ {D : Type 0} (known : D → Option DiskHistory) (devices : Devices D) (
     slot_b = one-slot e.session.catalogue.tables e.slots.b b y (known devices.slot_b) is_y (third-same _ _ _ _ _ _ same) slot_b;
   }
 
-  pub opened-begins : (batch limit : ℕ) (r : Result EngineParts RecoverError) → IfOk r (IsFresh batch limit) → IfAllKnown RunsAsBefore (l ∷ a ∷ b ∷ []) (m ∷ x ∷ y ∷ []) → IfOk r (λ e. IfReadKnown (IsOpenedFrom e) m x y)
+  pub opened-begins : (batch limit : ℕ) (r : Result EngineParts RecoverError) → IfOk r (IsFresh batch limit) → IfAllKnown RunsAsBefore (three l a b) (three m x y) → IfOk r (λ e. IfReadKnown (IsOpenedFrom e) m x y)
       → IfOk r (λ e. IfKnown (λ h. IsSlot e.session.catalogue.tables e.slots.a h.now.seen) x) → IfOk r (λ e. IfKnown (λ h. IsSlot e.session.catalogue.tables e.slots.b h.now.seen) y)
-      → IfOk r (λ e. IfAllKnown (BeginsOver e) (l ∷ a ∷ b ∷ []) (each known devices))
+      → IfOk r (λ e. IfAllKnown (BeginsOver e) (three l a b) (each known devices))
   opened-begins batch limit (Err error) fresh moments opened slot_a slot_b = tt
   opened-begins batch limit (Ok e) fresh moments opened slot_a slot_b = begins-known e l a b m x y (each known devices) fresh.txns is_m is_x is_y same (record { runs = moments; opened = opened; slot_a = slot_a; slot_b = slot_b })
 
@@ -187,8 +187,8 @@ module _ {D : Type 0} (known : D → Option DiskHistory) (devices : Devices D) (
   opened-before (Err error) opened = tt
   opened-before (Ok e) opened = read-before (IsOpenedFrom e) l a b m x y is_m is_x is_y opened
 
-  pub settled-before : IfAllKnown AreSettled (l ∷ a ∷ b ∷ []) (each known devices)
+  pub settled-before : IfAllKnown AreSettled (three l a b) (each known devices)
   settled-before = settled-known l a b (each known devices) (all-same (each known devices) m x y l a b same is_m is_x is_y)
     where
-      all-same : (t : List (Option DiskHistory)) (m x y l a b : Option DiskHistory) → t ≡ m ∷ x ∷ y ∷ [] → m ≡ option_map after_sync l → x ≡ option_map after_sync a → y ≡ option_map after_sync b → t ≡ option_map after_sync l ∷ option_map after_sync a ∷ option_map after_sync b ∷ []
+      all-same : (t : Devices (Option DiskHistory)) (m x y l a b : Option DiskHistory) → t ≡ three m x y → m ≡ option_map after_sync l → x ≡ option_map after_sync a → y ≡ option_map after_sync b → t ≡ three (option_map after_sync l) (option_map after_sync a) (option_map after_sync b)
       all-same t m x y l a b e is_m is_x is_y = cc

@@ -1,6 +1,6 @@
 -- The whole run.
 use Rattle.std.proofs.Common.{◌≡◌, ◌∙◌, ◌⊎◌, inl, inr, ℕ, List, [], ◌∷◌, ◌++◌, length, take, Option, Some, None, Result, Ok, Err, OnOk, refl, sym, ap, subst, arith, append_assoc, drop}
-use Rattle.std.specs.Prelude.{IfErr, IfSome, IsErrOf, MatchResult, map}
+use Rattle.std.specs.Prelude.{IfErr, IfSome, IsErrOf, MatchResult}
 use Rattle.std.specs.FinMap.{empty}
 use Rattle.std.proofs.KnownBytes.{prepend_known-nil}
 use Rattle.std.proofs.lemmas.Grind.{flat_map-append}
@@ -8,16 +8,17 @@ use Rattle.std.proofs.Math.Seq.{take-append_seam}
 use Rattle.std.proofs.lemmas.List.{take-append-drop}
 use Rattle.pac_ops.specs.declared.transaction.Txn.{Txn}
 use Rattle.pac_outside.specs.Devices.{AreImages, RunsAsBefore, OnceKnown, IfAllKnown, all_known}
-use Rattle.pac_outside.specs.Disk.{DiskHistory, DiskState, settled}
-use Rattle.pac_outside.specs.Parts.{OfLog, known_reads, slots_of}
-use Rattle.pac_outside.proofs.Runs.{run_end, run_then, weaken_run}
+use Rattle.pac_outside.specs.Disk.{DiskHistory, DiskState, IfKnown, settled}
+use Rattle.pac_outside.specs.Parts.{OfLog, known_read, known_reads, reads_of, slots_of}
+use Rattle.pac_outside.proofs.Runs.{three, run_end, run_then, weaken_run}
+use Rattle.pac_outside.specs.declared.devices.Devices.{Devices}
 use Rattle.pac_log.specs.declared.position.NextGate.{NextGate}
 use Rattle.pac_log.specs.Places.{LogEndsAt}
 use Rattle.pac_log.specs.Torn.{LogEndsAtEither}
 use Rattle.pac_types.specs.CatalogueText.{HasCatalogue}
 use Rattle.pac_types.specs.Execution.{first_over}
 use Rattle.pac_types.specs.Typing.{CatalogueState}
-use Rattle.pac_store.specs.Images.{Images, OfThree, IfReadKnown}
+use Rattle.pac_store.specs.Images.{Images, IfReadKnown}
 use Rattle.pac_store.specs.Stands.{StandsFor}
 use Rattle.pac_request.specs.declared.request.Request.{Request}
 use Rattle.pac_request.specs.declared.request.Reply.{Reply}
@@ -29,7 +30,6 @@ use Rattle.pac_recover.specs.declared.errors.RecoverError.TheVariants as error
 use Rattle.pac_recover.specs.Recovering.{IsRecoveredFrom}
 use Rattle.pac_engine.specs.declared.parts.EngineParts.{EngineParts}
 use Rattle.pac_engine.specs.Standing.{KeepsHistory, MayLeave, StandsOn, StandsWith, WhileKnown, durable_of, saved_of}
-use Rattle.pac_engine.proofs.DeviceLemmas.{weaken-three}
 use Rattle.pac_run.specs.declared.stop.RunStop.{RunStop}
 use Rattle.pac_run.specs.declared.stop.RunStop.TheVariants.{NoStore, Damaged, AbortInLog, RowsOver, InputFault, OutputFault, DiskFault, NoMemory, LogFull, TooLong, TooLarge}
 use Rattle.pac_run.specs.Asked.{WereHandled}
@@ -79,7 +79,7 @@ early-stop error.NoMemory = tt
 same-stop : (a b : RunStop) → ◌≡◌ {A = Result (Unit {0}) RunStop} (Err a) (Err b) → a ≡ b
 same-stop a b e = cc
 
-none-begun : (P : Images → Type 0) (stop : RunStop) → MayNotOpen stop → (l a b : Option DiskHistory) → IfSeenKnown (λ images. IsUnopened (Err stop) [] ⊎ P images) (l ∷ a ∷ b ∷ [])
+none-begun : (P : Images → Type 0) (stop : RunStop) → MayNotOpen stop → (l a b : Option DiskHistory) → IfSeenKnown (λ images. IsUnopened (Err stop) [] ⊎ P images) (three l a b)
 none-begun P stop early None a b = tt
 none-begun P stop early (Some l) None b = tt
 none-begun P stop early (Some l) (Some a) None = tt
@@ -89,7 +89,7 @@ none-handled : (left : Option (List ℕ)) → WereHandled left [] [] left
 none-handled None = tt
 none-handled (Some text) = (text, refl, refl)
 
-as-before : (P : List DiskHistory → Type 0) (R : List DiskHistory → List DiskHistory → Type 0) → ((u v : List DiskHistory) → RunsAsBefore u v → P u → R u v) → (x y : Option (List DiskHistory)) → OnceKnown RunsAsBefore x y → WhileKnown P R x y
+as-before : (P : Devices DiskHistory → Type 0) (R : Devices DiskHistory → Devices DiskHistory → Type 0) → ((u v : Devices DiskHistory) → RunsAsBefore u v → P u → R u v) → (x y : Option (Devices DiskHistory)) → OnceKnown RunsAsBefore x y → WhileKnown P R x y
 as-before P R step None y runs = tt
 as-before P R step (Some x) None runs = absurd runs
 as-before P R step (Some x) (Some y) runs = λ is. step x y runs is
@@ -109,23 +109,22 @@ not-worked TooLong early worked = early
 not-worked (TooLarge bytes) early worked = early
 
 -- what is said of the log leads to something else
-of-log : (P Q : DiskState → Type 0) → ((state : DiskState) → P state → Q state) → (known : List (Option DiskHistory)) → OfLog P known → OfLog Q known
-of-log P Q step [] has = absurd has
-of-log P Q step (log ∷ []) has = absurd has
-of-log P Q step (log ∷ a ∷ []) has = absurd has
-of-log P Q step (None ∷ a ∷ b ∷ []) has = tt
-of-log P Q step (Some l ∷ a ∷ b ∷ []) has = step l.now has
-of-log P Q step (log ∷ a ∷ b ∷ device ∷ devices) has = absurd has
+of-log : (P Q : DiskState → Type 0) → ((state : DiskState) → P state → Q state) → (known : Devices (Option DiskHistory)) → OfLog P known → OfLog Q known
+of-log P Q step known has = go known.log has
+  where
+    go : (log : Option DiskHistory) → IfKnown (λ history. P history.now) log → IfKnown (λ history. Q history.now) log
+    go None has = tt
+    go (Some l) has = step l.now has
 
 module _ (rules : Rules) (place : ℕ) (start : SessionState) where
   -- a log that ends after groups has their transactions
   log-has : (requests : List Request) (gate : NextGate) → EndsGroups rules place start requests gate → (state : DiskState) → LogEndsAt gate state → LogHas rules place start requests state
   log-has requests gate after state at = record { text = at.text; catalogue = gate.catalogue; batches = at.batches; log = at.holds; exactly = sym at.after.txns ∙ after.counted; there = sym at.after.place ∙ after.there }
 
-  pub log-has-one : (requests : List Request) (gate : NextGate) → EndsGroups rules place start requests gate → (known : List (Option DiskHistory)) → OfLog (LogEndsAt gate) known → OfLog (LogHas rules place start requests) known
+  pub log-has-one : (requests : List Request) (gate : NextGate) → EndsGroups rules place start requests gate → (known : Devices (Option DiskHistory)) → OfLog (LogEndsAt gate) known → OfLog (LogHas rules place start requests) known
   log-has-one requests gate after = of-log (LogEndsAt gate) (LogHas rules place start requests) (log-has requests gate after)
 
-  pub log-has-either : (before requests : List Request) (known : List (Option DiskHistory)) → IsTorn rules place start before requests known → OfLog (LogHasEither rules place start before requests) known
+  pub log-has-either : (before requests : List Request) (known : Devices (Option DiskHistory)) → IsTorn rules place start before requests known → OfLog (LogHasEither rules place start before requests) known
   log-has-either before requests known torn = of-log (LogEndsAtEither torn.gate torn.next) (LogHasEither rules place start before requests) (λ state either image is. one image (either image is)) known torn.either
     where
       one : (image : List ℕ) → LogEndsAt torn.gate (settled image) ⊎ LogEndsAt torn.next (settled image) → LogHas rules place start before (settled image) ⊎ LogHas rules place start requests (settled image)
@@ -133,19 +132,15 @@ module _ (rules : Rules) (place : ℕ) (start : SessionState) where
       one image (inr at) = inr (log-has requests torn.next torn.ends (settled image) at)
 
 -- what a read gives of the slots is as it was, where it is of all devices
-abbrev after_first : List (Option (List ℕ)) → List (Option (List ℕ))
-after_first [] = []
-after_first (read ∷ reads) = reads
+pub slots-seen : (known known' : Devices (Option DiskHistory)) → known_reads known' ≡ known_reads known → slots_of (known_reads known') ≡ slots_of (known_reads known)
+slots-seen known known' same = ap (λ (reads : Devices (Option (List ℕ))). slots_of reads) same
 
-slot-reads : (known : List (Option DiskHistory)) → after_first (known_reads known) ≡ known_reads (slots_of known)
-slot-reads [] = refl
-slot-reads (log ∷ slots) = refl
+-- and where the slots were not called
+slots-uncalled : (known known' : Devices (Option DiskHistory)) → slots_of known' ≡ slots_of known → slots_of (known_reads known') ≡ slots_of (known_reads known)
+slots-uncalled known known' same = ap (λ (slots : Option DiskHistory × Option DiskHistory). (known_read slots.0, known_read slots.1)) same
 
-pub slots-seen : (known known' : List (Option DiskHistory)) → known_reads known' ≡ known_reads known → known_reads (slots_of known') ≡ known_reads (slots_of known)
-slots-seen known known' same = sym (slot-reads known') ∙ ap after_first same ∙ slot-reads known
-
-pub not-opened : (batch limit : ℕ) (left held : Option (List ℕ)) (l a b : Option DiskHistory) (known' : List (Option DiskHistory)) (faulted : Type 0) (error : RecoverError) (stop : RunStop) → stop ≡ stop_of_opening error → IfAllKnown RunsAsBefore (l ∷ a ∷ b ∷ []) known'
-    → known_reads known' ≡ known_reads (l ∷ a ∷ b ∷ []) → IsRun batch limit left left held held (l ∷ a ∷ b ∷ []) known' faulted (Err stop)
+pub not-opened : (batch limit : ℕ) (left held : Option (List ℕ)) (l a b : Option DiskHistory) (known' : Devices (Option DiskHistory)) (faulted : Type 0) (error : RecoverError) (stop : RunStop) → stop ≡ stop_of_opening error → IfAllKnown RunsAsBefore (three l a b) known'
+    → known_reads known' ≡ known_reads (three l a b) → IsRun batch limit left left held held (three l a b) known' faulted (Err stop)
 not-opened batch limit left held l a b known' faulted error stop is runs seen =
     let rules : Rules = record { catalogue = record { tables = []; procs = [] }; limit = limit; most = batch } in
     let start : SessionState = record { tables = empty; number = 0 } in
@@ -173,7 +168,7 @@ not-opened batch limit left held l a b known' faulted error stop is runs seen =
       whole = tt;
       exit = λ text catalogue history least. as-before (AllStand text catalogue history least) (AtExit text catalogue history rules 0 start [] []) (λ u v run stands. inl (refl, λ images are. run_end (AreImages u) u v run images are)) _ _ runs;
       moments = λ text catalogue history least. as-before (AllStand text catalogue history least) (AtMoments text catalogue history least rules start [])
-          (λ u v run stands. weaken_run (AreImages u) (λ images. AreImages u images ⊎ OfThree (StandsFor text catalogue (history_after history rules start []) least) images) (λ images are. inl are) u v run) _ _ runs;
+          (λ u v run stands. weaken_run (AreImages u) (λ images. AreImages u images ⊎ StandsFor text catalogue (history_after history rules start []) least images) (λ images are. inl are) u v run) _ _ runs;
       given = [];
       written = record { count = 0; is = refl };
       all = inl refl;
@@ -181,7 +176,7 @@ not-opened batch limit left held l a b known' faulted error stop is runs seen =
       exact = λ worked. absurd (not-worked stop early worked);
       full = λ need full. absurd (subst MayNotOpen (same-stop stop (LogFull need) full) early);
       torn = λ disk. inl refl;
-      slots = λ none. slots-seen (l ∷ a ∷ b ∷ []) known' seen;
+      slots = λ none. slots-seen (three l a b) known' seen;
       still = λ none. seen;
       there = inl (early, refl);
     }
@@ -196,9 +191,9 @@ stops-part : (run : Result (Unit {0}) RunStop) (P : Type 0) (R S : RunStop → T
 stops-part (Ok x) P R S is step = tt
 stops-part (Err stop) P R S is step = step stop is
 
-module _ (batch limit : ℕ) (engine new : EngineParts) (left left' held held' : Option (List ℕ)) (l a b : Option DiskHistory) (middle known' : List (Option DiskHistory)) (faulted : Type 0) (result : Result (Unit {0}) RunStop) (fresh : IsFresh batch limit engine)
-    (within : first_over limit (length engine.session.catalogue.tables) engine.session.tables ≡ None) (opened : IfReadKnown (IsOpenedFrom engine) l a b) (begins : IfAllKnown (BeginsOver engine) (l ∷ a ∷ b ∷ []) middle) (runs : IfAllKnown RunsAsBefore (l ∷ a ∷ b ∷ []) middle)
-    (seen : known_reads middle ≡ known_reads (l ∷ a ∷ b ∷ [])) (served : Served engine new left left' held held' middle known' faulted result) (ended : HasWorked result → OfLog (LogEndsAt new.log.gate) known') (full : (need : ℕ) → IsErrOf result (LogFull need) → OfLog (LogEndsAt new.log.gate) known') where
+module _ (batch limit : ℕ) (engine new : EngineParts) (left left' held held' : Option (List ℕ)) (l a b : Option DiskHistory) (middle known' : Devices (Option DiskHistory)) (faulted : Type 0) (result : Result (Unit {0}) RunStop) (fresh : IsFresh batch limit engine)
+    (within : first_over limit (length engine.session.catalogue.tables) engine.session.tables ≡ None) (opened : IfReadKnown (IsOpenedFrom engine) l a b) (begins : IfAllKnown (BeginsOver engine) (three l a b) middle) (runs : IfAllKnown RunsAsBefore (three l a b) middle)
+    (seen : known_reads middle ≡ known_reads (three l a b)) (served : Served engine new left left' held held' middle known' faulted result) (ended : HasWorked result → OfLog (LogEndsAt new.log.gate) known') (full : (need : ℕ) → IsErrOf result (LogFull need) → OfLog (LogEndsAt new.log.gate) known') where
   abbrev rules : Rules
   rules = rules_of engine.session
 
@@ -218,13 +213,13 @@ module _ (batch limit : ℕ) (engine new : EngineParts) (left left' held held' :
     within = subst (λ (n : ℕ). first_over n (length engine.session.catalogue.tables) engine.session.tables ≡ None) (sym fresh.within) within;
   }
 
-  begun-seen : (l a b : Option DiskHistory) → IfReadKnown (IsOpenedFrom engine) l a b → IfSeenKnown (IsBegun (rules_of engine.session) engine.log.gate.place (state_now engine.session)) (l ∷ a ∷ b ∷ [])
+  begun-seen : (l a b : Option DiskHistory) → IfReadKnown (IsOpenedFrom engine) l a b → IfSeenKnown (IsBegun (rules_of engine.session) engine.log.gate.place (state_now engine.session)) (three l a b)
   begun-seen None a b is = tt
   begun-seen (Some l) None b is = tt
   begun-seen (Some l) (Some a) None is = tt
   begun-seen (Some l) (Some a) (Some b) is = begun-here (record { log = l.now.seen; slot_a = a.now.seen; slot_b = b.now.seen }) is
 
-  begun-known : (l a b : Option DiskHistory) → IfReadKnown (IsOpenedFrom engine) l a b → IfSeenKnown (λ images. IsUnopened result served.requests ⊎ IsBegun (rules_of engine.session) engine.log.gate.place (state_now engine.session) images) (l ∷ a ∷ b ∷ [])
+  begun-known : (l a b : Option DiskHistory) → IfReadKnown (IsOpenedFrom engine) l a b → IfSeenKnown (λ images. IsUnopened result served.requests ⊎ IsBegun (rules_of engine.session) engine.log.gate.place (state_now engine.session) images) (three l a b)
   begun-known None a b is = tt
   begun-known (Some l) None b is = tt
   begun-known (Some l) (Some a) None is = tt
@@ -240,7 +235,7 @@ module _ (batch limit : ℕ) (engine new : EngineParts) (left left' held held' :
     same-history : take (durable_of engine) history ++ committed (rules_of engine.session) (state_now engine.session) served.requests ≡ history_after history (rules_of engine.session) (state_now engine.session) served.requests
     same-history = ap (λ (n : ℕ). take n history ++ committed rules start served.requests) (sym number-is)
 
-    module _ (entry mid now : List DiskHistory) (begin : StandsForPrefix text catalogue history least engine mid) (names : HasCatalogue text engine.session.catalogue)
+    module _ (entry mid now : Devices DiskHistory) (begin : StandsForPrefix text catalogue history least engine mid) (names : HasCatalogue text engine.session.catalogue)
         (keeps : KeepsHistory text (take (durable_of engine) history ++ committed (rules_of engine.session) (state_now engine.session) served.requests) engine new mid now) where
       stands-then : (images : Images) → StandsWith text engine.session.catalogue (take (durable_of engine) history ++ committed (rules_of engine.session) (state_now engine.session) served.requests) (durable_of new) (saved_of new) images
           → StandsWith text catalogue (history_after history (rules_of engine.session) (state_now engine.session) served.requests) (durable_of new) (saved_of new) images
@@ -253,7 +248,7 @@ module _ (batch limit : ℕ) (engine new : EngineParts) (left left' held held' :
         more = omega (arith, number-is, served.grows.durable);
         acknowledged = acknowledged engine.session.catalogue (names-of text engine.session.catalogue names) new served.given served.out served.plain served.kept served.prefix;
         kept = known-saved engine.session.catalogue (names-of text engine.session.catalogue names) new served.given served.out served.plain served.kept served.prefix;
-        stands = λ images are. weaken-three (StandsWith text engine.session.catalogue kept-as (durable_of new) (saved_of new)) (StandsWith text catalogue after (durable_of new) (saved_of new)) stands-then images (keeps.end images are);
+        stands = λ images are. stands-then images (keeps.end images are);
       }
 
       stands-one : (images : Images) → StandsWith text engine.session.catalogue (take (durable_of engine) history ++ committed (rules_of engine.session) (state_now engine.session) served.requests) (durable_of engine) (saved_of engine) images
@@ -266,27 +261,23 @@ module _ (batch limit : ℕ) (engine new : EngineParts) (left left' held held' :
 
       pub each-moment : RunsAsBefore entry mid → AtMoments text catalogue history least (rules_of engine.session) (state_now engine.session) served.requests entry now
       each-moment run =
-          let P : List (List ℕ) → Type 0 = λ images. AreImages entry images ⊎ OfThree (StandsFor text catalogue after least) images in
+          let P : Images → Type 0 = λ images. AreImages entry images ⊎ StandsFor text catalogue after least images in
           run_then P entry mid now (weaken_run (AreImages entry) P (λ images are. inl are) entry mid run)
           (weaken_run (MayLeave text engine.session.catalogue kept-as engine) P
-          (λ images may. inr (weaken-three (StandsWith text engine.session.catalogue kept-as (durable_of engine) (saved_of engine)) (StandsFor text catalogue after least) stands-one images may)) mid now keeps.moments)
+          (λ images may. inr (stands-one images may)) mid now keeps.moments)
 
     -- what the engine stands for says the catalogue's text
-    text-of : (h : List Txn) (devices : List DiskHistory) → StandsOn text h engine devices → HasCatalogue text engine.session.catalogue
-    text-of h [] is = absurd is
-    text-of h (l ∷ []) is = absurd is
-    text-of h (l ∷ a ∷ []) is = absurd is
-    text-of h (l ∷ a ∷ b ∷ []) is = is.log.has.log.accepted.has
-    text-of h (l ∷ a ∷ b ∷ d ∷ devices) is = absurd is
+    text-of : (h : List Txn) (devices : Devices DiskHistory) → StandsOn text h engine devices → HasCatalogue text engine.session.catalogue
+    text-of h devices is = is.log.has.log.accepted.has
 
-    exit-known : (t m n : Option (List DiskHistory)) → IfSome t (λ devices. OfThree (IsBegun (rules_of engine.session) engine.log.gate.place (state_now engine.session)) (map (λ device. device.now.seen) devices)) → OnceKnown (BeginsOver engine) t m → WhileKnown (StandsOn text (take (durable_of engine) history) engine) (KeepsHistory text (take (durable_of engine) history ++ committed (rules_of engine.session) (state_now engine.session) served.requests) engine new) m n
+    exit-known : (t m n : Option (Devices DiskHistory)) → IfSome t (λ devices. IsBegun (rules_of engine.session) engine.log.gate.place (state_now engine.session) (reads_of devices)) → OnceKnown (BeginsOver engine) t m → WhileKnown (StandsOn text (take (durable_of engine) history) engine) (KeepsHistory text (take (durable_of engine) history ++ committed (rules_of engine.session) (state_now engine.session) served.requests) engine new) m n
         → WhileKnown (AllStand text catalogue history least) (AtExit text catalogue history (rules_of engine.session) engine.log.gate.place (state_now engine.session) served.requests served.out) t n
     exit-known None m n seen begin keep = tt
     exit-known (Some t) None n seen begin keep = absurd begin
     exit-known (Some t) (Some m) None seen begin keep = λ all. keep (begin text catalogue history least all).stands
     exit-known (Some t) (Some m) (Some n) seen begin keep = λ all. let prefix = begin text catalogue history least all in inr (seen, exits t m n prefix (text-of (take (durable_of engine) history) m prefix.stands) (keep prefix.stands))
 
-    moments-known : (t m n : Option (List DiskHistory)) → OnceKnown (BeginsOver engine) t m → OnceKnown RunsAsBefore t m → WhileKnown (StandsOn text (take (durable_of engine) history) engine) (KeepsHistory text (take (durable_of engine) history ++ committed (rules_of engine.session) (state_now engine.session) served.requests) engine new) m n
+    moments-known : (t m n : Option (Devices DiskHistory)) → OnceKnown (BeginsOver engine) t m → OnceKnown RunsAsBefore t m → WhileKnown (StandsOn text (take (durable_of engine) history) engine) (KeepsHistory text (take (durable_of engine) history ++ committed (rules_of engine.session) (state_now engine.session) served.requests) engine new) m n
         → WhileKnown (AllStand text catalogue history least) (AtMoments text catalogue history least (rules_of engine.session) (state_now engine.session) served.requests) t n
     moments-known None m n begin run keep = tt
     moments-known (Some t) None n begin run keep = absurd begin
@@ -298,7 +289,7 @@ module _ (batch limit : ℕ) (engine new : EngineParts) (left left' held held' :
   then-there (Ok done) is = tt
   then-there (Err stop) is = inr is
 
-  pub is-run : IsRun batch limit left left' held held' (l ∷ a ∷ b ∷ []) known' faulted result
+  pub is-run : IsRun batch limit left left' held held' (three l a b) known' faulted result
   is-run = record {
     lines = served.lines;
     ahead = served.ahead;
@@ -321,16 +312,16 @@ module _ (batch limit : ℕ) (engine new : EngineParts) (left left' held held' :
     prefix = prefix-of-all engine.session.catalogue served.given (replies rules start served.requests) served.out served.prefix served.firsts;
     whole = three-parts result (IsDone rules engine.log.gate.place start served.requests served.given served.out) (IsWholeRun rules engine.log.gate.place start served.requests served.out) (λ stop. IsStoppedAt rules engine.log.gate.place start served.requests served.given stop) served.ending
         (λ done. record { before = done.before; stops = done.stops; written = done.written ∙ ap (texts engine.session.catalogue) done.replied; fit = done.fit; saves = done.saves });
-    exit = λ text catalogue history least. exit-known text catalogue history least (all_known (l ∷ a ∷ b ∷ [])) (all_known middle) (all_known known') (begun-seen l a b opened) begins (served.keeps text (take (durable_of engine) history));
-    moments = λ text catalogue history least. moments-known text catalogue history least (all_known (l ∷ a ∷ b ∷ [])) (all_known middle) (all_known known') begins runs (served.keeps text (take (durable_of engine) history));
+    exit = λ text catalogue history least. exit-known text catalogue history least (all_known (three l a b)) (all_known middle) (all_known known') (begun-seen l a b opened) begins (served.keeps text (take (durable_of engine) history));
+    moments = λ text catalogue history least. moments-known text catalogue history least (all_known (three l a b)) (all_known middle) (all_known known') begins runs (served.keeps text (take (durable_of engine) history));
     given = served.given;
     written = served.prefix;
     all = served.whole;
     exact = λ worked. log-has-one rules engine.log.gate.place start served.requests new.log.gate (served.durable worked) known' (ended worked);
     full = λ need is. let last = served.full need is in (last.0, last.1, last.2, log-has-one rules engine.log.gate.place start last.0 new.log.gate last.3 known' (full need is));
     torn = λ is. let last = served.torn is in inr (last.0, last.1, last.2, log-has-either rules engine.log.gate.place start last.0 served.requests known' last.3);
-    slots = λ none. ap (λ (known : List (Option DiskHistory)). known_reads known) (served.slots none) ∙ slots-seen (l ∷ a ∷ b ∷ []) middle seen;
-    still = λ none. ap (λ (known : List (Option DiskHistory)). known_reads known) (served.still none) ∙ seen;
+    slots = λ none. slots-uncalled middle known' (served.slots none) ∙ slots-seen (three l a b) middle seen;
+    still = λ none. ap (λ (known : Devices (Option DiskHistory)). known_reads known) (served.still none) ∙ seen;
     there = then-there result served.there;
     stopped = stops-part result (IsDone rules engine.log.gate.place start served.requests served.given served.out) (λ stop. IsStoppedAt rules engine.log.gate.place start served.requests served.given stop) (λ stop. IsStopped rules engine.log.gate.place start served.requests served.given stop) served.ending (λ stop at. inr at);
   }

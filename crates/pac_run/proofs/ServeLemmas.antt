@@ -8,6 +8,7 @@ use Rattle.std.proofs.Math.Seq.{take-append-add, take-append_seam}
 use Rattle.pac_outside.specs.Content.{Took}
 use Rattle.pac_outside.proofs.ContentLemmas.{Took-append}
 use Rattle.pac_outside.specs.Disk.{DiskHistory}
+use Rattle.pac_outside.specs.declared.devices.Devices.{Devices}
 use Rattle.pac_lines.specs.Lines.{HasNoFeed}
 use Rattle.pac_lines.specs.Calls.{IsCall, KeepsLimit}
 use Rattle.pac_lines.specs.Reading.{ReaderState}
@@ -101,7 +102,7 @@ reads-stop stop (inr (inr is)) input long memory = memory (ap (λ (s : RunStop).
 
 -- ---- an end
 
-module _ (first now : EngineParts) (left mid : Option (List ℕ)) (reader : ReaderState) (held held' : Option (List ℕ)) (known known' : List (Option DiskHistory)) (serving : Serving first now left mid reader held held' known known') where
+module _ (first now : EngineParts) (left mid : Option (List ℕ)) (reader : ReaderState) (held held' : Option (List ℕ)) (known known' : Devices (Option DiskHistory)) (serving : Serving first now left mid reader held held' known known') where
   abbrev rules : Rules
   rules = rules_of first.session
 
@@ -157,7 +158,7 @@ module _ (first now : EngineParts) (left mid : Option (List ℕ)) (reader : Read
         }
 
   -- a request was not answered
-  module _ (left' held'' : Option (List ℕ)) (known'' : List (Option DiskHistory)) (new : EngineParts) (asks : Request) (faulted faulted' : Type 0) (stop : RunStop) (lines : List (List ℕ)) (ahead : List ℕ)
+  module _ (left' held'' : Option (List ℕ)) (known'' : Devices (Option DiskHistory)) (new : EngineParts) (asks : Request) (faulted faulted' : Type 0) (stop : RunStop) (lines : List (List ℕ)) (ahead : List ℕ)
       (handled : WereHandled left lines ahead left') (few : TookAtMost MAX_INPUT left left') (short : length ahead < MAX_READ) (asked : WereAsked first.session.catalogue lines (prepend_known ahead left') (serving.requests ++ asks ∷ [])) (later : faulted' → faulted)
       (broke : Broke first.session.catalogue asks now new held' held'' known' known'' faulted' stop) where
     abbrev whole : GroupCut
@@ -260,7 +261,7 @@ module _ (first now : EngineParts) (left mid : Option (List ℕ)) (reader : Read
         durable-by (inr large) = durable-large large.0 large.1
 
   -- a stop was answered
-  pub stop-served : (left' held'' : Option (List ℕ)) (known'' : List (Option DiskHistory)) (new : EngineParts) (faulted : Type 0) (lines : List (List ℕ)) (ahead : List ℕ) → WereHandled left lines ahead left' → TookAtMost MAX_INPUT left left' → length ahead < MAX_READ
+  pub stop-served : (left' held'' : Option (List ℕ)) (known'' : Devices (Option DiskHistory)) (new : EngineParts) (faulted : Type 0) (lines : List (List ℕ)) (ahead : List ℕ) → WereHandled left lines ahead left' → TookAtMost MAX_INPUT left left' → length ahead < MAX_READ
       → WereAsked first.session.catalogue lines (prepend_known ahead left') (serving.requests ++ request.Stop ∷ []) → Replied first.session.catalogue (request.Stop ∷ []) now new held' held'' known' known''
       → Served first new left left' held held'' known known'' faulted (Ok tt)
   stop-served left' held'' known'' new faulted lines ahead handled few short asked replied =
@@ -316,7 +317,7 @@ module _ (first now : EngineParts) (left mid : Option (List ℕ)) (reader : Read
       stop-closes rules start before = ap (λ (c : GroupCut). c.rest) (fold-append (cut_on rules start) (record { closed = []; rest = [] }) before (request.Stop ∷ []))
 
   -- a line was served, and is no stop
-  pub serving-more : (left' held'' : Option (List ℕ)) (known'' : List (Option DiskHistory)) (next : ReaderState) (new : EngineParts) → IsCall reader next mid left' (Ok true) → KeepsLimit next (Ok true)
+  pub serving-more : (left' held'' : Option (List ℕ)) (known'' : Devices (Option DiskHistory)) (next : ReaderState) (new : EngineParts) → IsCall reader next mid left' (Ok true) → KeepsLimit next (Ok true)
       → LineServed first.session.catalogue next.line false now new held' held'' known' known'' → Serving first new left left' next held held'' known known''
   serving-more left' held'' known'' next new call keeps served = record {
     lines = serving.lines ++ next.line ∷ [];

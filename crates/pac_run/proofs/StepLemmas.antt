@@ -5,6 +5,7 @@ use Rattle.std.proofs.lemmas.List.{append-nil}
 use Rattle.std.proofs.lemmas.List.Sums.{fold-append}
 use Rattle.pac_ops.specs.declared.transaction.Txn.{Txn}
 use Rattle.pac_outside.specs.Disk.{DiskHistory}
+use Rattle.pac_outside.specs.declared.devices.Devices.{Devices}
 use Rattle.pac_log.specs.declared.position.NextGate.{NextGate}
 use Rattle.pac_check.specs.declared.limits.TheConstants.{MAX_SLOT_LEN}
 use Rattle.pac_request.specs.declared.request.Request.{Request}
@@ -106,13 +107,13 @@ never-none xs x e = none (none-after xs (x ∷ []) e)
 
 -- ---- nothing is asked
 
-pub nothing-keeps : (e : EngineParts) (known : List (Option DiskHistory)) → KeepsEach [] e e known known
+pub nothing-keeps : (e : EngineParts) (known : Devices (Option DiskHistory)) → KeepsEach [] e e known known
 nothing-keeps e known = λ text history. refused-keeps text history e e _ refl refl
 
 -- ---- after what was served
 
 -- the engine is at the end of the requests
-module _ (first now : EngineParts) (requests : List Request) (given : List Reply) (known known' : List (Option DiskHistory)) (goes : GoesFrom first now requests given known known') where
+module _ (first now : EngineParts) (requests : List Request) (given : List Reply) (known known' : Devices (Option DiskHistory)) (goes : GoesFrom first now requests given known known') where
   abbrev rules : Rules
   rules = rules_of first.session
 
@@ -148,7 +149,7 @@ module _ (first now : EngineParts) (requests : List Request) (given : List Reply
       let here : IsGateAfter rules now.log.gate.place middle (cut_one rules middle whole.rest asked).closed gate = subst (λ (r : Rules). IsGateAfter r now.log.gate.place middle (cut_one r middle whole.rest asked).closed gate) goes.closes.same after in
       subst (λ (c : GroupCut). IsGateAfter rules place start c.closed gate) (sym (cut-more (asked ∷ []))) (gate-then rules place start whole given now goes.closes (cut_one rules middle whole.rest asked).closed gate here)
 
-  module _ (new : EngineParts) (known'' : List (Option DiskHistory)) where
+  module _ (new : EngineParts) (known'' : Devices (Option DiskHistory)) where
     pub keeps-more : (asked : List Request) → KeepsEach (committed (rules_of now.session) (state_now now.session) asked) now new known' known''
         → KeepsEach (committed (rules_of first.session) (state_now first.session) (requests ++ asked)) first new known known''
     keeps-more asked keeps = λ text history. subst (λ (t : List Txn). WhileAllKnown (StandsOn text history first) (KeepsHistory text (history ++ t) first new) known known'') (committed-more asked)
@@ -206,7 +207,7 @@ module _ (first now : EngineParts) (requests : List Request) (given : List Reply
 
 -- ---- from the beginning
 
-pub goes-first : (first : EngineParts) (known : List (Option DiskHistory)) → first.session.txns ≡ [] → first.session.held ≡ [] → ((text : List ℕ) (history : List Txn) → WhileAllKnown (StandsOn text history first) (λ was is. StandsOn text (history ++ []) first is) known known)
+pub goes-first : (first : EngineParts) (known : Devices (Option DiskHistory)) → first.session.txns ≡ [] → first.session.held ≡ [] → ((text : List ℕ) (history : List Txn) → WhileAllKnown (StandsOn text history first) (λ was is. StandsOn text (history ++ []) first is) known known)
     → durable_of first ≡ first.session.before → GoesFrom first first [] [] known known
 goes-first first known txns held stands durable = record {
   closes = begins first txns held;

@@ -2,6 +2,7 @@
 use Rattle.std.proofs.Common.{◌≡◌, ◌∙◌, ◌⊎◌, inl, inr, ℕ, true, List, [], ◌∷◌, ◌++◌, Option, refl, sym, ap, ap₂, subst, append_assoc}
 use Rattle.std.proofs.lemmas.List.{append-nil}
 use Rattle.pac_outside.specs.Disk.{DiskHistory}
+use Rattle.pac_outside.specs.declared.devices.Devices.{Devices}
 use Rattle.pac_request.specs.declared.request.Request.{Request}
 use Rattle.pac_request.specs.declared.request.Request.TheVariants as request
 use Rattle.pac_request.specs.declared.request.Reply.{Reply}
@@ -103,7 +104,7 @@ no-output cause.NoMemory e = cc
 pub none-known : (rules : Rules) (place : ℕ) (start : SessionState) (closed : List (List Request)) → StepStops rules place start closed [] NoMemory
 none-known rules place start closed = inl (record { before = []; rest = described rules place start closed; split = refl; replied = refl })
 
-module _ (first now : EngineParts) (requests : List Request) (given : List Reply) (known known' : List (Option DiskHistory)) (goes : GoesFrom first now requests given known known') where
+module _ (first now : EngineParts) (requests : List Request) (given : List Reply) (known known' : Devices (Option DiskHistory)) (goes : GoesFrom first now requests given known known') where
   abbrev rules : Rules
   rules = rules_of first.session
 

@@ -3,10 +3,11 @@ use Rattle.std.specs.Prelude.{◌≡◌, ◌≤◌, ℕ, false, List, [], length
 use Rattle.pac_ops.specs.declared.transaction.Txn.{Txn}
 use Rattle.pac_outside.specs.Devices.{AllLeave}
 use Rattle.pac_outside.specs.Disk.{DiskHistory}
+use Rattle.pac_outside.specs.declared.devices.Devices.{Devices}
 use Rattle.pac_types.specs.Typing.{CatalogueState}
 use Rattle.pac_log.specs.Logs.{HoldsLog}
 use Rattle.pac_log.specs.Places.{IsAfter}
-use Rattle.pac_store.specs.Images.{Images, OfThree}
+use Rattle.pac_store.specs.Images.{Images}
 use Rattle.pac_store.specs.Stands.{StandsFor}
 use Rattle.pac_recover.specs.Recovering.{IsRecoveredFrom}
 use Rattle.pac_engine.specs.declared.parts.EngineParts.{EngineParts}
@@ -31,16 +32,16 @@ pub record IsOpenedFrom (engine : EngineParts) (images : Images) : Type 0 where
   pub after : IsAfter text batches engine.log.gate
 
 -- each image that a crash may leave stands for the history
-abbrev pub AllStand : List ℕ → CatalogueState → List Txn → ℕ → List DiskHistory → Type 0
-AllStand text catalogue history least devices = AllLeave (λ images. OfThree (StandsFor text catalogue history least) images) devices
+abbrev pub AllStand : List ℕ → CatalogueState → List Txn → ℕ → Devices DiskHistory → Type 0
+AllStand text catalogue history least devices = AllLeave (StandsFor text catalogue history least) devices
 
 -- the engine is one of the catalogue, and stands for the first transactions of the history, at least that many
-pub record StandsForPrefix (text : List ℕ) (catalogue : CatalogueState) (history : List Txn) (least : ℕ) (engine : EngineParts) (devices : List DiskHistory) : Type 0 where
+pub record StandsForPrefix (text : List ℕ) (catalogue : CatalogueState) (history : List Txn) (least : ℕ) (engine : EngineParts) (devices : Devices DiskHistory) : Type 0 where
   pub same : engine.session.catalogue ≡ catalogue
   pub enough : least ≤ durable_of engine
   pub within : durable_of engine ≤ length history
   pub stands : StandsOn text (take (durable_of engine) history) engine devices
 
 -- where each image that a crash might have left at entry stands for a history, the engine stands for a prefix of it
-abbrev pub BeginsOver : EngineParts → List DiskHistory → List DiskHistory → Type 0
+abbrev pub BeginsOver : EngineParts → Devices DiskHistory → Devices DiskHistory → Type 0
 BeginsOver engine entry now = (text : List ℕ) (catalogue : CatalogueState) (history : List Txn) (least : ℕ) → AllStand text catalogue history least entry → StandsForPrefix text catalogue history least engine now

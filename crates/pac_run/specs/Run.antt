@@ -1,19 +1,20 @@
 -- What a run reads, writes and leaves.
-use Rattle.std.specs.Prelude.{◌≡◌, ◌⊎◌, ◌<◌, ◌≤◌, ℕ, List, [], ◌∷◌, ◌++◌, length, map, take, Option, None, IfSome, Result, IfErr, IsErrOf, OnOk}
+use Rattle.std.specs.Prelude.{◌≡◌, ◌⊎◌, ◌<◌, ◌≤◌, ℕ, List, [], ◌∷◌, ◌++◌, length, take, Option, None, IfSome, Result, IfErr, IsErrOf, OnOk}
 use Rattle.std.specs.Io.KnownBytes.{prepend_known}
 use Rattle.std.specs.List.{AllByRecursion}
 use Rattle.pac_ops.specs.declared.transaction.Txn.{Txn}
 use Rattle.pac_outside.specs.Content.{Took}
 use Rattle.pac_outside.specs.Devices.{AllLeave, AreImages, RunLeaves, all_known}
 use Rattle.pac_outside.specs.Disk.{DiskHistory, DiskState, Leaves, settled}
+use Rattle.pac_outside.specs.declared.devices.Devices.{Devices}
 use Rattle.pac_outside.specs.GateByte.{OneImage}
-use Rattle.pac_outside.specs.Parts.{OfLog, known_reads, slots_of}
+use Rattle.pac_outside.specs.Parts.{OfLog, known_reads, reads_of, slots_of}
 use Rattle.pac_lines.specs.Lines.{HasNoFeed}
 use Rattle.pac_lines.specs.declared.limits.TheConstants.{MAX_READ}
 use Rattle.pac_types.specs.Execution.{first_over}
 use Rattle.pac_types.specs.Typing.{CatalogueState}
 use Rattle.pac_log.specs.Logs.{HoldsLog, all_txns, log_prefix}
-use Rattle.pac_store.specs.Images.{Images, OfThree}
+use Rattle.pac_store.specs.Images.{Images}
 use Rattle.pac_store.specs.Stands.{StandsFor}
 use Rattle.pac_request.specs.declared.request.Request.{Request}
 use Rattle.pac_request.specs.declared.request.Request.TheVariants as request
@@ -44,8 +45,8 @@ pub record IsBegun (rules : Rules) (place : ℕ) (start : SessionState) (images 
   pub within : first_over rules.limit (length rules.catalogue.tables) start.tables ≡ None
 
 -- where all devices' histories are known, what a read gives of them has P
-abbrev pub IfSeenKnown : (Images → Type 0) → List (Option DiskHistory) → Type 0
-IfSeenKnown P known = IfSome (all_known known) (λ devices. OfThree P (map (λ device. device.now.seen) devices))
+abbrev pub IfSeenKnown : (Images → Type 0) → Devices (Option DiskHistory) → Type 0
+IfSeenKnown P known = IfSome (all_known known) (λ devices. P (reads_of devices))
 
 -- ---- what the devices hold
 
@@ -55,20 +56,20 @@ history_after history rules start requests = take start.number history ++ commit
 
 -- Each image that a crash may leave at the exit stands for the history. The log has what it had at entry, and each
 -- transaction that the output acknowledges; where that says `saved N`, some slot is open with a checkpoint of at least N.
-pub record IsExit (text : List ℕ) (catalogue : CatalogueState) (history : List Txn) (entered : ℕ) (out : List ℕ) (now : List DiskHistory) : Type 0 where
+pub record IsExit (text : List ℕ) (catalogue : CatalogueState) (history : List Txn) (entered : ℕ) (out : List ℕ) (now : Devices DiskHistory) : Type 0 where
   pub least : ℕ
   pub saved : ℕ
   pub more : entered ≤ least
   pub acknowledged : (number : ℕ) → Acknowledges out number → number ≤ least
   pub kept : (number : ℕ) → ReportsSaved out number → number < saved
-  pub stands : AllLeave (λ images. OfThree (StandsWith text catalogue history least saved) images) now
+  pub stands : AllLeave (StandsWith text catalogue history least saved) now
 
 -- Each image at the exit is one of entry, and nothing was written; or the session began with what is stored at entry, and
 -- the devices stand for the history with what it commits.
-abbrev pub AtExit : List ℕ → CatalogueState → List Txn → Rules → ℕ → SessionState → List Request → List ℕ → List DiskHistory → List DiskHistory → Type 0
+abbrev pub AtExit : List ℕ → CatalogueState → List Txn → Rules → ℕ → SessionState → List Request → List ℕ → Devices DiskHistory → Devices DiskHistory → Type 0
 AtExit text catalogue history rules place start requests out entry now =
     ((out ≡ []) × AllLeave (AreImages entry) now)
-    ⊎ (OfThree (IsBegun rules place start) (map (λ device. device.now.seen) entry) × IsExit text catalogue (history_after history rules start requests) start.number out now)
+    ⊎ (IsBegun rules place start (reads_of entry) × IsExit text catalogue (history_after history rules start requests) start.number out now)
 
 -- a crash leaves one image of the log, with exactly the transactions of the groups that these requests close: as many, and up
 -- to the same offset
@@ -85,12 +86,12 @@ abbrev pub LogHasEither : Rules → ℕ → SessionState → List Request → Li
 LogHasEither rules place start before requests = Leaves (λ image. LogHas rules place start before (settled image) ⊎ LogHas rules place start requests (settled image))
 
 -- and each image that a crash at a moment of the run might have left is one of entry, or stands for the history
-abbrev pub AtMoments : List ℕ → CatalogueState → List Txn → ℕ → Rules → SessionState → List Request → List DiskHistory → List DiskHistory → Type 0
+abbrev pub AtMoments : List ℕ → CatalogueState → List Txn → ℕ → Rules → SessionState → List Request → Devices DiskHistory → Devices DiskHistory → Type 0
 AtMoments text catalogue history least rules start requests entry now =
-    RunLeaves (λ images. AreImages entry images ⊎ OfThree (StandsFor text catalogue (history_after history rules start requests) least) images) entry now
+    RunLeaves (λ images. AreImages entry images ⊎ StandsFor text catalogue (history_after history rules start requests) least images) entry now
 
 -- where the devices' histories are known, and each image at entry stands for a history, this is so of what they hold then and now
-abbrev pub WhileAllStand : (List ℕ → CatalogueState → List Txn → ℕ → List DiskHistory → List DiskHistory → Type 0) → List (Option DiskHistory) → List (Option DiskHistory) → Type 0
+abbrev pub WhileAllStand : (List ℕ → CatalogueState → List Txn → ℕ → Devices DiskHistory → Devices DiskHistory → Type 0) → Devices (Option DiskHistory) → Devices (Option DiskHistory) → Type 0
 WhileAllStand R known known' = (text : List ℕ) (catalogue : CatalogueState) (history : List Txn) (least : ℕ) → WhileAllKnown (AllStand text catalogue history least) (R text catalogue history least) known known'
 
 -- ---- the run
@@ -104,7 +105,7 @@ pub record IsWholeRun (rules : Rules) (place : ℕ) (start : SessionState) (requ
   pub saves : (first rest : List Request) → requests ≡ first ++ request.Save ∷ rest → SaveFits rules place start first
 
 -- A run, whatever its answer.
-pub record IsRun (batch limit : ℕ) (left left' held held' : Option (List ℕ)) (known known' : List (Option DiskHistory)) (faulted : Type 0) (result : Result (Unit {0}) RunStop) : Type 0 where
+pub record IsRun (batch limit : ℕ) (left left' held held' : Option (List ℕ)) (known known' : Devices (Option DiskHistory)) (faulted : Type 0) (result : Result (Unit {0}) RunStop) : Type 0 where
   -- what it read and wrote
   pub lines : List (List ℕ)
   pub ahead : List ℕ  -- taken, and not handled
@@ -136,7 +137,7 @@ pub record IsRun (batch limit : ℕ) (left left' held held' : Option (List ℕ))
   pub full : (need : ℕ) → IsErrOf result (LogFull need) → BeforeLast (λ before. OfLog (LogHas rules place start before) known') requests
   pub torn : IsErrOf result DiskFault → (requests ≡ []) ⊎ BeforeLast (λ before. OfLog (LogHasEither rules place start before requests) known') requests
   -- a read of a slot gives what it gave, unless a save was asked for; of each device it does, where nothing was
-  pub slots : NoSave requests → known_reads (slots_of known') ≡ known_reads (slots_of known)
+  pub slots : NoSave requests → slots_of (known_reads known') ≡ slots_of (known_reads known)
   pub still : requests ≡ [] → known_reads known' ≡ known_reads known
   pub exit : WhileAllStand (λ text catalogue history least. AtExit text catalogue history rules place start requests out) known known'
   pub moments : WhileAllStand (λ text catalogue history least. AtMoments text catalogue history least rules start requests) known known'

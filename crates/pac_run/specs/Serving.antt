@@ -5,6 +5,7 @@ use Rattle.std.specs.List.{AllByRecursion, fold}
 use Rattle.pac_ops.specs.declared.transaction.Txn.{Txn}
 use Rattle.pac_outside.specs.Content.{Gave, Took}
 use Rattle.pac_outside.specs.Disk.{DiskHistory}
+use Rattle.pac_outside.specs.declared.devices.Devices.{Devices}
 use Rattle.pac_outside.specs.Parts.{slots_of}
 use Rattle.pac_lines.specs.Calls.{known}
 use Rattle.pac_lines.specs.Lines.{HandsOut, HasNoFeed}
@@ -32,14 +33,14 @@ use Rattle.pac_run.specs.Texts.{IsTextPrefix, IsPlain, texts}
 -- ---- one line
 
 -- the engine keeps each history with these transactions after it, and stands for it afterwards
-abbrev pub KeepsEach : List Txn → EngineParts → EngineParts → List (Option DiskHistory) → List (Option DiskHistory) → Type 0
+abbrev pub KeepsEach : List Txn → EngineParts → EngineParts → Devices (Option DiskHistory) → Devices (Option DiskHistory) → Type 0
 KeepsEach more old new histories histories' = (text : List ℕ) (history : List Txn) → WhileAllKnown (StandsOn text history old) (KeepsHistory text (history ++ more) old new) histories histories'
 
-abbrev pub StandsForEach : List Txn → EngineParts → EngineParts → List (Option DiskHistory) → List (Option DiskHistory) → Type 0
+abbrev pub StandsForEach : List Txn → EngineParts → EngineParts → Devices (Option DiskHistory) → Devices (Option DiskHistory) → Type 0
 StandsForEach more old new histories histories' = (text : List ℕ) (history : List Txn) → WhileAllKnown (StandsOn text history old) (λ was is. StandsOn text (history ++ more) new is) histories histories'
 
 -- Requests were answered, of one line and so at most one, with these replies.
-pub record Answered (asked : List Request) (more : List Reply) (old new : EngineParts) (histories histories' : List (Option DiskHistory)) : Type 0 where
+pub record Answered (asked : List Request) (more : List Reply) (old new : EngineParts) (histories histories' : Devices (Option DiskHistory)) : Type 0 where
   pub closes : (rules : Rules) (place : ℕ) (start : SessionState) (whole : GroupCut) (given : List Reply) → Closes rules place start whole given old
       → Closes rules place start (fold (cut_on rules start) whole asked) (given ++ more) new
   pub keeps : KeepsEach (committed (rules_of old.session) (state_now old.session) asked) old new histories histories'
@@ -55,7 +56,7 @@ pub record Answered (asked : List Request) (more : List Reply) (old new : Engine
   pub still : asked ≡ [] → histories' ≡ histories
 
 -- and their texts were written
-pub record Replied (catalogue : CatalogueState) (asked : List Request) (old new : EngineParts) (held held' : Option (List ℕ)) (histories histories' : List (Option DiskHistory)) : Type 0 where
+pub record Replied (catalogue : CatalogueState) (asked : List Request) (old new : EngineParts) (held held' : Option (List ℕ)) (histories histories' : Devices (Option DiskHistory)) : Type 0 where
   pub more : List Reply
   pub took : Took held (texts catalogue more) held'
   pub answered : Answered asked more old new histories histories'
@@ -85,7 +86,7 @@ KeepsGate asked old new NoMemory = Unit {0}
 KeepsGate asked old new TooLong = Unit {0}
 
 -- One request was not answered, and a prefix of the texts of those replies was written, all of it unless the sink's count rose.
-pub record Broke (catalogue : CatalogueState) (asked : Request) (old new : EngineParts) (held held' : Option (List ℕ)) (histories histories' : List (Option DiskHistory)) (faulted : Type 0) (stop : RunStop) : Type 0 where
+pub record Broke (catalogue : CatalogueState) (asked : Request) (old new : EngineParts) (held held' : Option (List ℕ)) (histories histories' : Devices (Option DiskHistory)) (faulted : Type 0) (stop : RunStop) : Type 0 where
   pub more : List Reply
   pub out : List ℕ
   pub took : Took held out held'
@@ -104,14 +105,14 @@ pub record Broke (catalogue : CatalogueState) (asked : Request) (old new : Engin
       → MayEndAfter (rules_of old.session) start (cut_one (rules_of old.session) start group asked).closed old.log.gate histories'
 
 -- all is as it was: there was no memory to know what the line asks
-pub record IsUntouched (old new : EngineParts) (held held' : Option (List ℕ)) (histories histories' : List (Option DiskHistory)) (stop : RunStop) : Type 0 where
+pub record IsUntouched (old new : EngineParts) (held held' : Option (List ℕ)) (histories histories' : Devices (Option DiskHistory)) (stop : RunStop) : Type 0 where
   pub stopped : stop ≡ NoMemory
   pub engine : new ≡ old
   pub output : held' ≡ held
   pub devices : histories' ≡ histories
 
 -- a line was not served: it wasn't known what it asks, or that was not answered
-abbrev pub LineBroke : CatalogueState → List ℕ → EngineParts → EngineParts → Option (List ℕ) → Option (List ℕ) → List (Option DiskHistory) → List (Option DiskHistory) → Type 0 → RunStop → Type 0
+abbrev pub LineBroke : CatalogueState → List ℕ → EngineParts → EngineParts → Option (List ℕ) → Option (List ℕ) → Devices (Option DiskHistory) → Devices (Option DiskHistory) → Type 0 → RunStop → Type 0
 LineBroke catalogue line old new held held' histories histories' faulted stop =
     IsUntouched old new held held' histories histories' stop ⊎ ((asked : Request) × LineAsks catalogue line (asked ∷ []) × Broke catalogue asked old new held held' histories histories' faulted stop)
 
@@ -121,7 +122,7 @@ StopsWhere true asked = asked ≡ request.Stop ∷ []
 StopsWhere false asked = NoStop asked
 
 -- a line was served, and is a stop or not
-pub record LineServed (catalogue : CatalogueState) (line : List ℕ) (stops : Bool) (old new : EngineParts) (held held' : Option (List ℕ)) (histories histories' : List (Option DiskHistory)) : Type 0 where
+pub record LineServed (catalogue : CatalogueState) (line : List ℕ) (stops : Bool) (old new : EngineParts) (held held' : Option (List ℕ)) (histories histories' : Devices (Option DiskHistory)) : Type 0 where
   pub asked : List Request
   pub asks : LineAsks catalogue line asked
   pub stop : StopsWhere stops asked
@@ -130,7 +131,7 @@ pub record LineServed (catalogue : CatalogueState) (line : List ℕ) (stops : Bo
 -- ---- all lines
 
 -- An engine that began so has served these requests, and has given these replies.
-pub record GoesFrom (first now : EngineParts) (requests : List Request) (given : List Reply) (histories histories' : List (Option DiskHistory)) : Type 0 where
+pub record GoesFrom (first now : EngineParts) (requests : List Request) (given : List Reply) (histories histories' : Devices (Option DiskHistory)) : Type 0 where
   pub closes : Closes (rules_of first.session) first.log.gate.place (state_now first.session) (cut (rules_of first.session) (state_now first.session) requests) given now
   pub keeps : KeepsEach (committed (rules_of first.session) (state_now first.session) requests) first now histories histories'
   pub stands : StandsForEach (committed (rules_of first.session) (state_now first.session) requests) first now histories histories'
@@ -153,7 +154,7 @@ pub record HasRead (left left' : Option (List ℕ)) (reader : ReaderState) (line
   pub short : length reader.ahead < MAX_READ
 
 -- between two lines
-pub record Serving (first now : EngineParts) (left left' : Option (List ℕ)) (reader : ReaderState) (held held' : Option (List ℕ)) (histories histories' : List (Option DiskHistory)) : Type 0 where
+pub record Serving (first now : EngineParts) (left left' : Option (List ℕ)) (reader : ReaderState) (held held' : Option (List ℕ)) (histories histories' : Devices (Option DiskHistory)) : Type 0 where
   pub lines : List (List ℕ)
   pub read : HasRead left left' reader lines
   pub requests : List Request
@@ -173,7 +174,7 @@ pub record IsDone (rules : Rules) (place : ℕ) (start : SessionState) (requests
   pub saves : (first rest : List Request) → requests ≡ first ++ request.Save ∷ rest → SaveFits rules place start first
 
 -- What was served, whatever the end.
-pub record Served (first now : EngineParts) (left left' held held' : Option (List ℕ)) (histories histories' : List (Option DiskHistory)) (faulted : Type 0) (result : Result (Unit {0}) RunStop) : Type 0 where
+pub record Served (first now : EngineParts) (left left' held held' : Option (List ℕ)) (histories histories' : Devices (Option DiskHistory)) (faulted : Type 0) (result : Result (Unit {0}) RunStop) : Type 0 where
   pub lines : List (List ℕ)
   pub ahead : List ℕ  -- taken, and not handled
   pub handled : WereHandled left lines ahead left'

@@ -1,6 +1,7 @@
 -- Where a run stops.
 use Rattle.std.specs.Prelude.{◌≡◌, ◌⊎◌, ◌≤◌, ℕ, List, [], ◌∷◌, ◌++◌, Option, Result, Ok, Err}
 use Rattle.pac_outside.specs.Disk.{DiskHistory}
+use Rattle.pac_outside.specs.declared.devices.Devices.{Devices}
 use Rattle.pac_outside.specs.Parts.{OfLog}
 use Rattle.pac_log.specs.declared.position.NextGate.{NextGate}
 use Rattle.pac_log.specs.Torn.{LogEndsAtEither}
@@ -30,7 +31,7 @@ abbrev pub EndsGroups : Rules → ℕ → SessionState → List Request → Next
 EndsGroups rules place start requests gate = IsGateAfter rules place start (cut rules start requests).closed gate
 
 -- each image of the log that a crash may leave ends after the groups that the first of these lists closes, or the second
-pub record IsTorn (rules : Rules) (place : ℕ) (start : SessionState) (before requests : List Request) (devices : List (Option DiskHistory)) : Type 0 where
+pub record IsTorn (rules : Rules) (place : ℕ) (start : SessionState) (before requests : List Request) (devices : Devices (Option DiskHistory)) : Type 0 where
   pub gate : NextGate
   pub next : NextGate
   pub ended : EndsGroups rules place start before gate

@@ -2,6 +2,7 @@
 use Rattle.std.proofs.Common.{◌∙◌, ℕ, List, Option, ap}
 use Rattle.pac_outside.specs.Disk.{DiskHistory}
 use Rattle.pac_outside.specs.Parts.{known_reads}
+use Rattle.pac_outside.specs.declared.devices.Devices.{Devices}
 use Rattle.pac_types.specs.Typing.{CatalogueState}
 use Rattle.pac_log.specs.Reading.{IsStore}
 use Rattle.pac_recover.specs.Damages.{IsDamagedLog, IsDamagedSlot}
@@ -52,4 +53,4 @@ returns-in-Ok-clause-settled g c = λ other.
     settled-before g.D.Disk.known c.engine_over.new.devices _ _ _ _ _ _ e.log e.slot_a e.slot_b c.engine_over.ensures.same
 
 pub returns-in-Ok-clause-seen : goal.returns-in-Ok-clause-seen
-returns-in-Ok-clause-seen g c = ap (λ (known : List (Option DiskHistory)). known_reads known) c.engine_over.ensures.same ∙ c.in-Ok.ensures.seen
+returns-in-Ok-clause-seen g c = ap (λ (known : Devices (Option DiskHistory)). known_reads known) c.engine_over.ensures.same ∙ c.in-Ok.ensures.seen
