@@ -1,16 +1,18 @@
 -- Runs one after another keep what they acknowledge.
 use Rattle.std.proofs.Common.{◌≡◌, ◌∙◌, ◌⊎◌, ◌≤◌, ◌+◌, ℕ, zero, suc, List, [], ◌∷◌, ◌++◌, length, length-append, take, drop, Option, Some, None, inl, inr, refl, sym, ap, subst, arith}
-use Rattle.std.specs.Prelude.{◌≢◌, map}
+use Rattle.std.specs.Prelude.{◌≢◌}
 use Rattle.std.specs.FinMap.{empty}
-use Rattle.std.specs.List.{AllByRecursion}
 use Rattle.std.proofs.lemmas.List.{append-nil, take-append-drop, take-append-le}
 use Rattle.pac_ops.specs.declared.transaction.Txn.{Txn}
-use Rattle.pac_outside.specs.Devices.{AllLeave, AreImages, OnceKnown, all_known}
-use Rattle.pac_outside.specs.Disk.{DiskState, DiskHistory, IsImage, SeenIsImage, settled}
+use Rattle.pac_outside.specs.Devices.{AllLeave, AreImages, OnceKnown, all_known, all_three}
+use Rattle.pac_outside.specs.Disk.{DiskState, DiskHistory, IsImage, settled}
+use Rattle.pac_outside.specs.Parts.{reads_of}
 use Rattle.pac_outside.proofs.Images.{one_image}
+use Rattle.pac_outside.proofs.Runs.{three}
+use Rattle.pac_outside.specs.declared.devices.Devices.{Devices}
 use Rattle.pac_types.specs.Typing.{CatalogueState}
 use Rattle.pac_log.specs.Logs.{IsAccepted, all_txns, header_bytes}
-use Rattle.pac_store.specs.Images.{Images, OfThree}
+use Rattle.pac_store.specs.Images.{Images, IfReadKnown}
 use Rattle.pac_store.specs.Stands.{StandsFor}
 use Rattle.pac_store.proofs.StandsLemmas.{goes-on}
 use Rattle.pac_recover.specs.Refusals.{IfImagesKnown}
@@ -19,10 +21,9 @@ use Rattle.pac_session.specs.Session.{Rules, SessionState, committed}
 use Rattle.pac_run.specs.Acked.{Acknowledges}
 use Rattle.pac_run.specs.Opening.{AllStand}
 use Rattle.pac_run.specs.Run.{AtExit, IsBegun, IsExit, WhileAllStand, history_after}
-use Rattle.pac_engine.specs.Standing.{StandsWith, WhileKnown}
-use Rattle.pac_engine.proofs.DeviceLemmas.{weaken-three}
+use Rattle.pac_engine.specs.Standing.{WhileKnown}
 use Rattle.pac_main.specs.Init.{InitEnds, IsStoreText}
-use Rattle.pac_main.specs.Headline.{AreAsLeft, AreFound, AreRuns, HoldImages, IsNextRun, KeepsAll, OneRun, RecoversExactly, reads_of}
+use Rattle.pac_main.specs.Headline.{AreAsLeft, AreFound, AreRuns, HoldImages, IsNextRun, KeepsAll, OneRun, RecoversExactly}
 use Rattle.pac_main.specs.Recover.{RecoverEnds, RecoversPrefix}
 use Rattle.pac_main.specs.Streams.{Observed, ObservedDevices}
 
@@ -53,25 +54,17 @@ shorter_prefix few many a b le same = sym (take_less few many a le) ∙ ap (λ l
 same_image : (image other : List ℕ) (state : DiskState) → state ≡ settled image → IsImage state other → other ≡ image
 same_image image other state is at = one_image image other (subst (λ (s : DiskState). IsImage s other) is at)
 
-same_images : (images : List (List ℕ)) (devices : List DiskHistory) → HoldImages images devices → (others : List (List ℕ)) → AreImages devices others → others ≡ images
-same_images [] [] hold [] are = refl
-same_images [] [] hold (other ∷ others) are = absurd are
-same_images [] (device ∷ devices) hold others are = absurd hold
-same_images (image ∷ images) [] hold others are = absurd hold
-same_images (image ∷ images) (device ∷ devices) hold [] are = absurd are
-same_images (image ∷ images) (device ∷ devices) hold (other ∷ others) are =
-    let one = same_image image other device.now hold.0 are.0 in
-    let rest = same_images images devices hold.1 others are.1 in
-    cc
+same_images : (images : Images) (devices : Devices DiskHistory) → HoldImages images devices → (others : Images) → AreImages devices others → others ≡ images
+same_images images devices hold others are =
+    ap (λ (log : List ℕ). three log others.slot_a others.slot_b) (same_image images.log others.log devices.log.now hold.log are.log)
+    ∙ ap (λ (a : List ℕ). three images.log a others.slot_b) (same_image images.slot_a others.slot_a devices.slot_a.now hold.slot_a are.slot_a)
+    ∙ ap (λ (b : List ℕ). three images.log images.slot_a b) (same_image images.slot_b others.slot_b devices.slot_b.now hold.slot_b are.slot_b)
 
-seen_images : (images : List (List ℕ)) (devices : List DiskHistory) → HoldImages images devices → map (λ device. device.now.seen) devices ≡ images
-seen_images [] [] hold = refl
-seen_images [] (device ∷ devices) hold = absurd hold
-seen_images (image ∷ images) [] hold = absurd hold
-seen_images (image ∷ images) (device ∷ devices) hold =
-    let one : device.now.seen ≡ image = ap (λ (s : DiskState). s.seen) hold.0 in
-    let rest = seen_images images devices hold.1 in
-    cc
+seen_images : (images : Images) (devices : Devices DiskHistory) → HoldImages images devices → reads_of devices ≡ images
+seen_images images devices hold =
+    ap (λ (s : DiskState). three s.seen devices.slot_a.now.seen devices.slot_b.now.seen) hold.log
+    ∙ ap (λ (s : DiskState). three images.log s.seen devices.slot_b.now.seen) hold.slot_a
+    ∙ ap (λ (s : DiskState). three images.log images.slot_a s.seen) hold.slot_b
 
 -- ---- a new store
 
@@ -95,64 +88,53 @@ new_images text catalogue accepted log a b is one other = record {
   slot_b = inl (record { gate = 0; rest = []; split = other; shut = not_open });
 }
 
-new_devices : (text : List ℕ) (catalogue : CatalogueState) → IsAccepted text catalogue → (exit : List DiskHistory) → IsNewStore text exit → (images : List (List ℕ)) → AreImages exit images → OfThree (StandsFor text catalogue [] 0) images
-new_devices text catalogue accepted [] new images are = absurd new
-new_devices text catalogue accepted (l ∷ []) new images are = absurd new
-new_devices text catalogue accepted (l ∷ a ∷ []) new images are = absurd new
-new_devices text catalogue accepted (l ∷ a ∷ b ∷ []) new [] are = absurd are
-new_devices text catalogue accepted (l ∷ a ∷ b ∷ []) new (x ∷ []) are = absurd are.1
-new_devices text catalogue accepted (l ∷ a ∷ b ∷ []) new (x ∷ y ∷ []) are = absurd are.1.1
-new_devices text catalogue accepted (l ∷ a ∷ b ∷ []) new (x ∷ y ∷ z ∷ []) are =
-    new_images text catalogue accepted x y z (same_image (header_bytes text ++ 0 ∷ []) x l.now new.0 are.0) (same_image (0 ∷ []) y a.now new.1 are.1.0) (same_image (0 ∷ []) z b.now new.2 are.1.1.0)
-new_devices text catalogue accepted (l ∷ a ∷ b ∷ []) new (x ∷ y ∷ z ∷ w ∷ more) are = absurd are.1.1.1
-new_devices text catalogue accepted (l ∷ a ∷ b ∷ c ∷ more) new images are = absurd new
+new_devices : (text : List ℕ) (catalogue : CatalogueState) → IsAccepted text catalogue → (exit : Devices DiskHistory) → IsNewStore text exit → (images : Images) → AreImages exit images → StandsFor text catalogue [] 0 images
+new_devices text catalogue accepted exit new images are =
+    new_images text catalogue accepted images.log images.slot_a images.slot_b
+    (same_image (header_bytes text ++ 0 ∷ []) images.log exit.log.now new.0 are.log) (same_image (0 ∷ []) images.slot_a exit.slot_a.now new.1 are.slot_a) (same_image (0 ∷ []) images.slot_b exit.slot_b.now new.2 are.slot_b)
 
-pub new-store : (text : List ℕ) (input errors : Observed) (devices : ObservedDevices) (entry exit : List DiskHistory) → InitEnds 0 input errors devices
+pub new-store : (text : List ℕ) (input errors : Observed) (devices : ObservedDevices) (entry exit : Devices DiskHistory) → InitEnds 0 input errors devices
     → input.before ≡ Some text → all_known devices.before ≡ Some entry → all_known devices.after ≡ Some exit → (catalogue : CatalogueState) × AllStand text catalogue [] 0 exit
 new-store text input errors devices entry exit ends read known following =
     let done = ends.done refl in
     let of : ((catalogue : CatalogueState) × IsAccepted done.0 catalogue) × (text ≡ done.0) = subst (λ (o : Option (List ℕ)). IsStoreText done.0 o) read done.1 in
-    let made : MakesStore done.0 entry exit = subst (λ (o : Option (List DiskHistory)). OnceKnown (MakesStore done.0) (Some entry) o) following (subst (λ (o : Option (List DiskHistory)). OnceKnown (MakesStore done.0) o (all_known devices.after)) known done.2) in
-    (of.0.0, λ images are. subst (λ (t : List ℕ). OfThree (StandsFor t of.0.0 [] 0) images) (sym of.1) (new_devices done.0 of.0.0 of.0.1 exit made.1 images are))
+    let made : MakesStore done.0 entry exit = subst (λ (o : Option (Devices DiskHistory)). OnceKnown (MakesStore done.0) (Some entry) o) following (subst (λ (o : Option (Devices DiskHistory)). OnceKnown (MakesStore done.0) o (all_known devices.after)) known done.2) in
+    (of.0.0, λ images are. subst (λ (t : List ℕ). StandsFor t of.0.0 [] 0 images) (sym of.1) (new_devices done.0 of.0.0 of.0.1 exit made.1 images are))
 
 -- ---- how devices are found
 
-own_images : (devices : List DiskHistory) → AllByRecursion SeenIsImage devices → AreImages devices (reads_of devices)
-own_images [] own = tt
-own_images (device ∷ devices) own = (own.0, own_images devices own.1)
-
-pub found-cut : (left found : List DiskHistory) (images : List (List ℕ)) → AreImages left images → HoldImages images found → AreFound left found
+pub found-cut : (left found : Devices DiskHistory) (images : Images) → AreImages left images → HoldImages images found → AreFound left found
 found-cut left found images are hold = record {
   images = λ others leave. subst (AreImages left) (sym (same_images images found hold others leave)) are;
   read = subst (AreImages left) (sym (seen_images images found hold)) are;
 }
 
-kept_images : (left found : List DiskHistory) → AreAsLeft left found → (others : List (List ℕ)) → AreImages found others → AreImages left others
-kept_images [] [] same others leave = leave
-kept_images [] (b ∷ found) same others leave = absurd same
-kept_images (a ∷ left) [] same others leave = absurd same
-kept_images (a ∷ left) (b ∷ found) same [] leave = absurd leave
-kept_images (a ∷ left) (b ∷ found) same (other ∷ others) leave = (subst (λ (s : DiskState). IsImage s other) same.0 leave.0, kept_images left found same.1 others leave.1)
+kept_image : (old new : DiskHistory) (image : List ℕ) → new.now ≡ old.now → IsImage new.now image → IsImage old.now image
+kept_image old new image same is = subst (λ (s : DiskState). IsImage s image) same is
 
-kept_reads : (left found : List DiskHistory) → AllByRecursion SeenIsImage left → AreAsLeft left found → AreImages left (reads_of found)
-kept_reads [] [] own same = tt
-kept_reads [] (b ∷ found) own same = absurd same
-kept_reads (a ∷ left) [] own same = absurd same
-kept_reads (a ∷ left) (b ∷ found) own same = (subst (λ (s : DiskState). IsImage a.now s.seen) (sym same.0) own.0, kept_reads left found own.1 same.1)
+kept_images : (left found : Devices DiskHistory) → AreAsLeft left found → (others : Images) → AreImages found others → AreImages left others
+kept_images left found same others leave = record {
+  log = kept_image left.log found.log others.log same.log leave.log;
+  slot_a = kept_image left.slot_a found.slot_a others.slot_a same.slot_a leave.slot_a;
+  slot_b = kept_image left.slot_b found.slot_b others.slot_b same.slot_b leave.slot_b;
+}
 
-pub found-kill : (left found : List DiskHistory) → AllByRecursion SeenIsImage left → AreAsLeft left found → AreFound left found
+kept_read : (old new : DiskHistory) → new.now ≡ old.now → IsImage old.now old.now.seen → IsImage old.now new.now.seen
+kept_read old new same is = subst (λ (s : DiskState). IsImage old.now s.seen) (sym same) is
+
+kept_reads : (left found : Devices DiskHistory) → AreImages left (reads_of left) → AreAsLeft left found → AreImages left (reads_of found)
+kept_reads left found own same = record {
+  log = kept_read left.log found.log same.log own.log;
+  slot_a = kept_read left.slot_a found.slot_a same.slot_a own.slot_a;
+  slot_b = kept_read left.slot_b found.slot_b same.slot_b own.slot_b;
+}
+
+pub found-kill : (left found : Devices DiskHistory) → AreImages left (reads_of left) → AreAsLeft left found → AreFound left found
 found-kill left found own same = record { images = kept_images left found same; read = kept_reads left found own same }
 
 -- ---- one run
 
 module _ (text : List ℕ) (catalogue : CatalogueState) where
-  both_three : (P Q : Images → Type 0) (R : Type 0) → ((images : Images) → P images → Q images → R) → (images : List (List ℕ)) → OfThree P images → OfThree Q images → R
-  both_three P Q R f [] p q = absurd p
-  both_three P Q R f (l ∷ []) p q = absurd p
-  both_three P Q R f (l ∷ a ∷ []) p q = absurd p
-  both_three P Q R f (l ∷ a ∷ b ∷ []) p q = f _ p q
-  both_three P Q R f (l ∷ a ∷ b ∷ c ∷ more) p q = absurd p
-
   -- what stands after one run
   pub record After (history : List Txn) (least : ℕ) (run : OneRun) : Type 0 where
     pub next : List Txn
@@ -182,32 +164,31 @@ module _ (text : List ℕ) (catalogue : CatalogueState) where
       let on = goes-on text catalogue history least images begun.recovered.stored stands begun.recovered.is in
       (subst (λ (n : ℕ). least ≤ n) (sym begun.recovered.counted) on.enough, subst (λ (n : ℕ). n ≤ length history) (sym begun.recovered.counted) on.within)
 
-  module _ (history : List Txn) (least : ℕ) (left : List DiskHistory) (run : OneRun) (stands : AllStand text catalogue history least left) (found : AreFound left run.entry) where
-    all_stand : AllLeave (λ others. OfThree (StandsFor text catalogue history least) others) run.entry
+  module _ (history : List Txn) (least : ℕ) (left : Devices DiskHistory) (run : OneRun) (stands : AllStand text catalogue history least left) (found : AreFound left run.entry) where
+    all_stand : AllLeave (StandsFor text catalogue history least) run.entry
     all_stand others leave = stands others (found.images others leave)
 
     -- what is said of known devices that stand for the history
-    knows : (R : List ℕ → CatalogueState → List Txn → ℕ → List DiskHistory → List DiskHistory → Type 0) → WhileAllStand R run.devices.before run.devices.after → R text catalogue history least run.entry run.exit
-    knows R h = subst (λ (o : Option (List DiskHistory)). WhileKnown stood there (Some run.entry) o) run.known_after (subst (λ (o : Option (List DiskHistory)). WhileKnown stood there o (all_known run.devices.after)) run.known (h text catalogue history least)) all_stand
+    knows : (R : List ℕ → CatalogueState → List Txn → ℕ → Devices DiskHistory → Devices DiskHistory → Type 0) → WhileAllStand R run.devices.before run.devices.after → R text catalogue history least run.entry run.exit
+    knows R h = subst (λ (o : Option (Devices DiskHistory)). WhileKnown stood there (Some run.entry) o) run.known_after (subst (λ (o : Option (Devices DiskHistory)). WhileKnown stood there o (all_known run.devices.after)) run.known (h text catalogue history least)) all_stand
       where
-        stood : List DiskHistory → Type 0
-        stood = AllLeave (λ others. OfThree (StandsFor text catalogue history least) others)
+        stood : Devices DiskHistory → Type 0
+        stood = AllLeave (StandsFor text catalogue history least)
 
-        there : List DiskHistory → List DiskHistory → Type 0
+        there : Devices DiskHistory → Devices DiskHistory → Type 0
         there = R text catalogue history least
 
     abbrev after : List Txn
     after = history_after history run.ends.is.rules run.ends.is.start run.ends.is.requests
 
-    abbrev Begun : List (List ℕ) → Type 0
-    Begun images = OfThree (IsBegun run.ends.is.rules run.ends.is.place run.ends.is.start) images
+    abbrev Begun : Images → Type 0
+    Begun images = IsBegun run.ends.is.rules run.ends.is.place run.ends.is.start images
 
     -- the history with what the session commits, which began with what is stored
     committed_after : Begun (reads_of run.entry) → IsExit text catalogue after run.ends.is.start.number run.ends.is.out run.exit → After history least run
     committed_after begun e =
         let number : (least ≤ run.ends.is.start.number) × (run.ends.is.start.number ≤ length history)
-        = both_three (StandsFor text catalogue history least) (IsBegun run.ends.is.rules run.ends.is.place run.ends.is.start) ((least ≤ run.ends.is.start.number) × (run.ends.is.start.number ≤ length history))
-        (λ i s b. begun_number history least run.ends.is.place run.ends.is.rules run.ends.is.start i s b) (reads_of run.entry) (stands (reads_of run.entry) found.read) begun in
+        = begun_number history least run.ends.is.place run.ends.is.rules run.ends.is.start (reads_of run.entry) (stands (reads_of run.entry) found.read) begun in
         let prefix = take_length run.ends.is.start.number history number.1 in
         record {
           next = after;
@@ -216,7 +197,7 @@ module _ (text : List ℕ) (catalogue : CatalogueState) where
           more = omega (arith, number.0, e.more);
           same = prefix_on least run.ends.is.start.number history (committed run.ends.is.rules run.ends.is.start run.ends.is.requests) (omega (arith, number.0, prefix));
           acknowledged = e.acknowledged;
-          stands = λ images are. weaken-three (StandsWith text catalogue after e.least e.saved) (StandsFor text catalogue after e.least) (λ i s. s.stands) images (e.stands images are);
+          stands = λ images are. (e.stands images are).stands;
         }
 
     at : ((run.ends.is.out ≡ []) × AllLeave (AreImages run.entry) run.exit) ⊎ (Begun (reads_of run.entry) × IsExit text catalogue after run.ends.is.start.number run.ends.is.out run.exit) → After history least run
@@ -228,7 +209,7 @@ module _ (text : List ℕ) (catalogue : CatalogueState) where
 
   -- ---- any number of runs
 
-  pub keeps-all : (history : List Txn) (least : ℕ) (first left : List DiskHistory) (runs : List OneRun) → AllStand text catalogue history least first → AreRuns first runs left → KeepsAll text catalogue history least runs left
+  pub keeps-all : (history : List Txn) (least : ℕ) (first left : Devices DiskHistory) (runs : List OneRun) → AllStand text catalogue history least first → AreRuns first runs left → KeepsAll text catalogue history least runs left
   keeps-all history least first left [] stands same = record {
     nexts = [];
     last = history;
@@ -237,7 +218,7 @@ module _ (text : List ℕ) (catalogue : CatalogueState) where
     more = omega arith;
     same = refl;
     acknowledged = tt;
-    stands = subst (λ (d : List DiskHistory). AllStand text catalogue history least d) (sym same) stands;
+    stands = subst (λ (d : Devices DiskHistory). AllStand text catalogue history least d) (sym same) stands;
   }
   keeps-all history least first left (run ∷ runs) stands (found, more) =
       let one = following history least first run stands found in
@@ -255,30 +236,30 @@ module _ (text : List ℕ) (catalogue : CatalogueState) where
 
 -- ---- and what is recovered after them
 
-recovers_here : (limit status : ℕ) (text : List ℕ) (catalogue : CatalogueState) (history : List Txn) (least : ℕ) (before : List (Option DiskHistory)) (devices : ObservedDevices) (output : Observed) (entry : List DiskHistory)
-    → all_known before ≡ Some entry → OfThree (StandsFor text catalogue history least) (reads_of entry)
+recovers_here : (limit status : ℕ) (text : List ℕ) (catalogue : CatalogueState) (history : List Txn) (least : ℕ) (before : Devices (Option DiskHistory)) (devices : ObservedDevices) (output : Observed) (entry : Devices DiskHistory)
+    → all_known before ≡ Some entry → StandsFor text catalogue history least (reads_of entry)
     → IfImagesKnown (λ images. StandsFor text catalogue history least images → RecoversPrefix limit status catalogue history least devices output) before → RecoversPrefix limit status catalogue history least devices output
-recovers_here limit status text catalogue history least [] devices output entry known stands h = absurd h
-recovers_here limit status text catalogue history least (a ∷ []) devices output entry known stands h = absurd h
-recovers_here limit status text catalogue history least (a ∷ b ∷ []) devices output entry known stands h = absurd h
-recovers_here limit status text catalogue history least (None ∷ b ∷ c ∷ []) devices output entry known stands h = absurd cc
-recovers_here limit status text catalogue history least (Some l ∷ None ∷ c ∷ []) devices output entry known stands h = absurd cc
-recovers_here limit status text catalogue history least (Some l ∷ Some x ∷ None ∷ []) devices output entry known stands h = absurd cc
-recovers_here limit status text catalogue history least (Some l ∷ Some x ∷ Some y ∷ []) devices output entry known stands h =
-    let is : l ∷ x ∷ y ∷ [] ≡ entry = cc in
-    h (subst (λ (e : List DiskHistory). OfThree (StandsFor text catalogue history least) (reads_of e)) (sym is) stands)
-recovers_here limit status text catalogue history least (a ∷ b ∷ c ∷ d ∷ more) devices output entry known stands h = absurd h
+recovers_here limit status text catalogue history least before devices output entry known stands h = go before.log before.slot_a before.slot_b known h
+  where
+    go : (l x y : Option DiskHistory) → all_three l x y ≡ Some entry → IfReadKnown (λ images. StandsFor text catalogue history least images → RecoversPrefix limit status catalogue history least devices output) l x y
+        → RecoversPrefix limit status catalogue history least devices output
+    go None x y known h = absurd cc
+    go (Some l) None y known h = absurd cc
+    go (Some l) (Some x) None known h = absurd cc
+    go (Some l) (Some x) (Some y) known h =
+        let is : three l x y ≡ entry = cc in
+        h (subst (λ (e : Devices DiskHistory). StandsFor text catalogue history least (reads_of e)) (sym is) stands)
 
-pub recovers-all : (text : List ℕ) (catalogue : CatalogueState) (history : List Txn) (least : ℕ) (left : List DiskHistory) → AllStand text catalogue history least left
-    → (limit status : ℕ) (devices : ObservedDevices) (output errors : Observed) (entry : List DiskHistory) → all_known devices.before ≡ Some entry → AreFound left entry → RecoverEnds limit status devices output errors
+pub recovers-all : (text : List ℕ) (catalogue : CatalogueState) (history : List Txn) (least : ℕ) (left : Devices DiskHistory) → AllStand text catalogue history least left
+    → (limit status : ℕ) (devices : ObservedDevices) (output errors : Observed) (entry : Devices DiskHistory) → all_known devices.before ≡ Some entry → AreFound left entry → RecoverEnds limit status devices output errors
     → RecoversPrefix limit status catalogue history least devices output
 recovers-all text catalogue history least left stands limit status devices output errors entry known found ends =
     recovers_here limit status text catalogue history least devices.before devices output entry known (stands (reads_of entry) found.read) (ends.stands text catalogue history least)
 
-pub exact : (text : List ℕ) (input made_errors : Observed) (made : ObservedDevices) (empty first : List DiskHistory) → InitEnds 0 input made_errors made
+pub exact : (text : List ℕ) (input made_errors : Observed) (made : ObservedDevices) (empty first : Devices DiskHistory) → InitEnds 0 input made_errors made
     → input.before ≡ Some text → all_known made.before ≡ Some empty → all_known made.after ≡ Some first
-    → (runs : List OneRun) (left : List DiskHistory) → AreRuns first runs left
-    → (limit status : ℕ) (devices : ObservedDevices) (output errors : Observed) (entry : List DiskHistory) → all_known devices.before ≡ Some entry → AreFound left entry → RecoverEnds limit status devices output errors
+    → (runs : List OneRun) (left : Devices DiskHistory) → AreRuns first runs left
+    → (limit status : ℕ) (devices : ObservedDevices) (output errors : Observed) (entry : Devices DiskHistory) → all_known devices.before ≡ Some entry → AreFound left entry → RecoverEnds limit status devices output errors
     → RecoversExactly text runs left limit status devices output
 exact text input made_errors made empty first ends read known known_after runs left are limit status devices output errors entry entered found recovered =
     let new = new-store text input made_errors made empty first ends read known known_after in

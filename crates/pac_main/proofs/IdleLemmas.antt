@@ -7,6 +7,8 @@ use Rattle.std.proofs.lemmas.List.{append-nil}
 use Rattle.pac_outside.specs.Content.{GaveAtMost}
 use Rattle.pac_outside.specs.Devices.RunLeaves.{rests}
 use Rattle.pac_outside.specs.Disk.{DiskHistory}
+use Rattle.pac_outside.specs.declared.devices.Devices.{Devices}
+use Rattle.pac_outside.proofs.Runs.{three}
 use Rattle.pac_types.specs.Typing.{CatalogueState}
 use Rattle.pac_request.specs.declared.request.Request.{Request}
 use Rattle.pac_session.specs.Session.{Rules, SessionState}
@@ -21,7 +23,7 @@ use Rattle.pac_run.specs.declared.stop.RunStop.TheVariants as run
 few_taken : (left left' : Option (List ℕ)) → TookAtMost MAX_INPUT left left' → GaveAtMost 67108865 left left'
 few_taken left left' took = record { bytes = took.bytes; within = omega (arith, took.few); prefix = took.gave }
 
-pub run-taken : (group_size limit : ℕ) (left left' held held' : Option (List ℕ)) (known known' : List (Option DiskHistory)) (faulted : Type 0) (end : Result (Unit {0}) RunStop)
+pub run-taken : (group_size limit : ℕ) (left left' held held' : Option (List ℕ)) (known known' : Devices (Option DiskHistory)) (faulted : Type 0) (end : Result (Unit {0}) RunStop)
     → IsRun group_size limit left left' held held' known known' faulted end → GaveAtMost 67108865 left left'
 run-taken group_size limit left left' held held' known known' faulted (Ok done) ran = few_taken left left' (ran.few (λ e. absurd cc))
 run-taken group_size limit left left' held held' known known' faulted (Err run.NoStore) ran = few_taken left left' (ran.few (λ e. absurd cc))
@@ -60,25 +62,25 @@ idle_rules group_size limit = record { catalogue = no_catalogue; limit = limit; 
 abbrev idle_start : SessionState
 idle_start = record { tables = empty; number = 0 }
 
-idle_begun : (rules : Rules) (place : ℕ) (start : SessionState) (log a b : Option DiskHistory) → IfSeenKnown (λ images. IsUnopened (Err run.NoMemory) [] ⊎ IsBegun rules place start images) (log ∷ a ∷ b ∷ [])
+idle_begun : (rules : Rules) (place : ℕ) (start : SessionState) (log a b : Option DiskHistory) → IfSeenKnown (λ images. IsUnopened (Err run.NoMemory) [] ⊎ IsBegun rules place start images) (three log a b)
 idle_begun rules place start None a b = tt
 idle_begun rules place start (Some l) None b = tt
 idle_begun rules place start (Some l) (Some x) None = tt
 idle_begun rules place start (Some l) (Some x) (Some y) = inl (tt, refl)
 
-idle_exit : (rules : Rules) (start : SessionState) (log a b : Option DiskHistory) → WhileAllStand (λ text catalogue history least. AtExit text catalogue history rules 0 start [] []) (log ∷ a ∷ b ∷ []) (log ∷ a ∷ b ∷ [])
+idle_exit : (rules : Rules) (start : SessionState) (log a b : Option DiskHistory) → WhileAllStand (λ text catalogue history least. AtExit text catalogue history rules 0 start [] []) (three log a b) (three log a b)
 idle_exit rules start None a b = λ text catalogue history least. tt
 idle_exit rules start (Some l) None b = λ text catalogue history least. tt
 idle_exit rules start (Some l) (Some x) None = λ text catalogue history least. tt
 idle_exit rules start (Some l) (Some x) (Some y) = λ text catalogue history least stand. inl (refl, λ images are. are)
 
-idle_moments : (rules : Rules) (start : SessionState) (log a b : Option DiskHistory) → WhileAllStand (λ text catalogue history least. AtMoments text catalogue history least rules start []) (log ∷ a ∷ b ∷ []) (log ∷ a ∷ b ∷ [])
+idle_moments : (rules : Rules) (start : SessionState) (log a b : Option DiskHistory) → WhileAllStand (λ text catalogue history least. AtMoments text catalogue history least rules start []) (three log a b) (three log a b)
 idle_moments rules start None a b = λ text catalogue history least. tt
 idle_moments rules start (Some l) None b = λ text catalogue history least. tt
 idle_moments rules start (Some l) (Some x) None = λ text catalogue history least. tt
-idle_moments rules start (Some l) (Some x) (Some y) = λ text catalogue history least stand. rests (l ∷ x ∷ y ∷ []) (λ images are. inl are)
+idle_moments rules start (Some l) (Some x) (Some y) = λ text catalogue history least stand. rests (three l x y) (λ images are. inl are)
 
-pub idle-run : (group_size limit : ℕ) (left held : Option (List ℕ)) (log a b : Option DiskHistory) (faulted : Type 0) → IsRun group_size limit left left held held (log ∷ a ∷ b ∷ []) (log ∷ a ∷ b ∷ []) faulted (Err run.NoMemory)
+pub idle-run : (group_size limit : ℕ) (left held : Option (List ℕ)) (log a b : Option DiskHistory) (faulted : Type 0) → IsRun group_size limit left left held held (three log a b) (three log a b) faulted (Err run.NoMemory)
 idle-run group_size limit left held log a b faulted = record {
   lines = [];
   ahead = [];

@@ -8,6 +8,7 @@ use Rattle.pac_outside.specs.Devices.{OneFaulted, OnceKnown, IfAllKnown, all_kno
 use Rattle.pac_outside.specs.Disk.{DiskHistory}
 use Rattle.pac_outside.specs.declared.failed.ReadError.{ReadError}
 use Rattle.pac_outside.specs.declared.failed.ReadError.TheVariants as read
+use Rattle.pac_outside.specs.declared.devices.Devices.{Devices}
 use Rattle.pac_types.specs.Typing.{CatalogueState}
 use Rattle.pac_types.proofs.OneCatalogue.{catalogue_or_fault}
 use Rattle.pac_log.specs.Logs.{IsAccepted}
@@ -65,12 +66,12 @@ text-refused source new items refusal.NoMemory gave at_end is = tt
 
 -- ---- the devices
 
-same_reported : (reported : Option (List DiskHistory)) → OnceKnown (λ old new. new ≡ old) reported reported
+same_reported : (reported : Option (Devices DiskHistory)) → OnceKnown (λ old new. new ≡ old) reported reported
 same_reported None = tt
 same_reported (Some histories) = refl
 
 -- devices that are not called are untouched
-pub not-called : (knowns : List (Option DiskHistory)) (faults : List ℕ) → AreUntouched (record { before = knowns; after = knowns; faults_before = faults; faults_after = faults })
+pub not-called : (knowns : Devices (Option DiskHistory)) (faults : Devices ℕ) → AreUntouched (record { before = knowns; after = knowns; faults_before = faults; faults_after = faults })
 not-called knowns faults = record { kept = same_reported (all_known knowns); quiet = refl }
 
 -- why a store isn't made

@@ -5,6 +5,8 @@ use Rattle.pac_ops.specs.declared.note.Note.{Note}
 use Rattle.pac_ops.specs.declared.transaction.Txn.{Txn}
 use Rattle.pac_outside.specs.Devices.{OneFaulted}
 use Rattle.pac_outside.specs.Disk.{DiskHistory, IfKnown}
+use Rattle.pac_outside.specs.declared.devices.Devices.{Devices}
+use Rattle.pac_outside.proofs.Runs.{three}
 use Rattle.pac_types.specs.Execution.{first_over}
 use Rattle.pac_types.specs.Typing.{CatalogueState}
 use Rattle.pac_log.specs.declared.damage.DamageKind.{DamageKind}
@@ -43,12 +45,8 @@ read_free P f (Some l) None b = tt
 read_free P f (Some l) (Some x) None = tt
 read_free P f (Some l) (Some x) (Some y) = f _
 
-held_weaker : (P Q : Images → Type 0) → ((images : Images) → P images → Q images) → (devices : List (Option DiskHistory)) → IfImagesKnown P devices → IfImagesKnown Q devices
-held_weaker P Q f [] h = absurd h
-held_weaker P Q f (log ∷ []) h = absurd h
-held_weaker P Q f (log ∷ a ∷ []) h = absurd h
-held_weaker P Q f (log ∷ a ∷ b ∷ []) h = read_weaker P Q f log a b h
-held_weaker P Q f (log ∷ a ∷ b ∷ more ∷ rest) h = absurd h
+held_weaker : (P Q : Images → Type 0) → ((images : Images) → P images → Q images) → (devices : Devices (Option DiskHistory)) → IfImagesKnown P devices → IfImagesKnown Q devices
+held_weaker P Q f devices h = read_weaker P Q f devices.log devices.slot_a devices.slot_b h
 
 -- ---- why nothing is recovered
 
@@ -56,10 +54,10 @@ held_weaker P Q f (log ∷ a ∷ b ∷ more ∷ rest) h = absurd h
 abbrev pub IsError : RecoverError → RecoverError → Type 0
 IsError error other = ◌≡◌ {A = Result Recovered RecoverError} (Err error) (Err other)
 
-module _ (limit : ℕ) (log a b : Option DiskHistory) (was is : List ℕ) where
+module _ (limit : ℕ) (log a b : Option DiskHistory) (was is : Devices ℕ) where
   -- what a recovery says with its error
   pub record Unrecovered (error : RecoverError) : Type 0 where
-    pub no_store : IsError error recover.NoStore → HasNoStore (log ∷ a ∷ b ∷ [])
+    pub no_store : IsError error recover.NoStore → HasNoStore (three log a b)
     pub log_damage : (at : ℕ) (kind : DamageKind) → IsError error (recover.Damaged (Log at kind)) → IfKnown (λ reported. IsDamagedLog at kind reported.now.seen) log
     pub slot_damage : (slot : SlotName) (at : ℕ) (kind : SlotDamageKind) → IsError error (recover.Damaged (Slot slot at kind)) → IfReadKnown (IsDamagedSlot slot at kind) log a b
     pub abort : (note : Note) → IsError error (recover.AbortInLog note) → IfReadKnown (AbortsIn note) log a b
@@ -68,10 +66,10 @@ module _ (limit : ℕ) (log a b : Option DiskHistory) (was is : List ℕ) where
     pub disk_fault : IsError error recover.DiskFault → OneFaulted was is
     pub quiet : (IsError error recover.DiskFault → ⊥) → is ≡ was
 
-  module _ (after : List (Option DiskHistory)) (sink : Observed) where
+  module _ (after : Devices (Option DiskHistory)) (sink : Observed) where
     -- the devices, as they are observed
     abbrev devices : ObservedDevices
-    devices = record { before = log ∷ a ∷ b ∷ []; after = after; faults_before = was; faults_after = is }
+    devices = record { before = three log a b; after = after; faults_before = was; faults_after = is }
 
     cause : (error : RecoverError) → Unrecovered error → IsUnrecovered limit devices sink (stop_of_recover error)
     cause recover.NoStore h = h.no_store refl
@@ -125,7 +123,7 @@ pub found_of : (limit number : ℕ) (log a b : Option DiskHistory) (recovered : 
 found_of limit number log a b recovered same is within stands = record { is = is; within = subst (λ (n : ℕ). first_over n (length recovered.catalogue.tables) recovered.tables.rows ≡ None) same within; stands = stands }
 
 module _ (limit : ℕ) (log a b : Option DiskHistory) (recovered : Recovered) (found : IsFound limit log a b recovered) (P : List ℕ → Type 0) (has : P (tables_text recovered.tables.rows 0 recovered.catalogue.tables)) where
-  pub is-recovery : IsRecovery limit (log ∷ a ∷ b ∷ []) P
+  pub is-recovery : IsRecovery limit (three log a b) P
   is-recovery = record { catalogue = recovered.catalogue; tables = recovered.tables.rows; txns = recovered.txns; is = found.is; within = found.within; has = has }
 
   one_prefix : (catalogue : CatalogueState) (history : List Txn) (least : ℕ) → IsRecoveredPrefix catalogue history least recovered → IsDumpOfPrefix limit catalogue history least P
@@ -276,10 +274,10 @@ no_memory limit n devices sink catalogue history least is = record {
 }
 
 -- devices that are not called
-abbrev pub uncalled : Option DiskHistory → Option DiskHistory → Option DiskHistory → List ℕ → ObservedDevices
-uncalled log a b faults = record { before = log ∷ a ∷ b ∷ []; after = log ∷ a ∷ b ∷ []; faults_before = faults; faults_after = faults }
+abbrev pub uncalled : Option DiskHistory → Option DiskHistory → Option DiskHistory → Devices ℕ → ObservedDevices
+uncalled log a b faults = record { before = three log a b; after = three log a b; faults_before = faults; faults_after = faults }
 
-pub recover-memory : (limit n : ℕ) (log a b : Option DiskHistory) (faults : List ℕ) (sink errors : Observed) → n ≡ 9 → RecoverEnds limit n (uncalled log a b faults) sink errors
+pub recover-memory : (limit n : ℕ) (log a b : Option DiskHistory) (faults : Devices ℕ) (sink errors : Observed) → n ≡ 9 → RecoverEnds limit n (uncalled log a b faults) sink errors
 recover-memory limit n log a b faults sink errors is = record {
   statuses = subst (λ (m : ℕ). IsOneOf m (0 ∷ 3 ∷ 4 ∷ 5 ∷ 7 ∷ 8 ∷ 9 ∷ [])) (sym is) refl;
   stands = λ text catalogue history least.

@@ -6,6 +6,8 @@ use Rattle.pac_ops.specs.declared.note.Note.{Note}
 use Rattle.pac_ops.specs.declared.transaction.Txn.{Txn}
 use Rattle.pac_outside.specs.Devices.{OneFaulted}
 use Rattle.pac_outside.specs.Disk.{DiskHistory, IfKnown}
+use Rattle.pac_outside.specs.declared.devices.Devices.{Devices}
+use Rattle.pac_outside.proofs.Runs.{three}
 use Rattle.pac_types.specs.Typing.{CatalogueState}
 use Rattle.pac_log.specs.declared.damage.DamageKind.{DamageKind}
 use Rattle.pac_check.specs.declared.damage.SlotDamageKind.{SlotDamageKind}
@@ -43,10 +45,10 @@ use Rattle.pac_main.proofs.StopLemmas.{Reported}
 abbrev pub IsStop : RunStop → RunStop → Type 0
 IsStop why other = ◌≡◌ {A = Result (Unit {0}) RunStop} (Err why) (Err other)
 
-module _ (limit : ℕ) (source sink : Observed) (log a b : Option DiskHistory) (was is : List ℕ) where
+module _ (limit : ℕ) (source sink : Observed) (log a b : Option DiskHistory) (was is : Devices ℕ) where
   -- what a run says with its stop
   pub record ReportsStop (why : RunStop) : Type 0 where
-    pub no_store : IsStop why run.NoStore → HasNoStore (log ∷ a ∷ b ∷ [])
+    pub no_store : IsStop why run.NoStore → HasNoStore (three log a b)
     pub log_damage : (at : ℕ) (kind : DamageKind) → IsStop why (run.Damaged (Log at kind)) → IfKnown (λ reported. IsDamagedLog at kind reported.now.seen) log
     pub slot_damage : (slot : SlotName) (at : ℕ) (kind : SlotDamageKind) → IsStop why (run.Damaged (Slot slot at kind)) → IfReadKnown (IsDamagedSlot slot at kind) log a b
     pub abort : (note : Note) → IsStop why (run.AbortInLog note) → IfReadKnown (AbortsIn note) log a b
@@ -55,8 +57,8 @@ module _ (limit : ℕ) (source sink : Observed) (log a b : Option DiskHistory) (
     pub output_fault : IsStop why run.OutputFault → AnyFaulted sink
     pub disk_fault : IsStop why run.DiskFault → OneFaulted was is
 
-  module _ (after : List (Option DiskHistory)) where
-    pub run-cause : (why : RunStop) → ReportsStop why → RunCause limit source sink (record { before = log ∷ a ∷ b ∷ []; after = after; faults_before = was; faults_after = is }) why
+  module _ (after : Devices (Option DiskHistory)) where
+    pub run-cause : (why : RunStop) → ReportsStop why → RunCause limit source sink (record { before = three log a b; after = after; faults_before = was; faults_after = is }) why
     run-cause run.NoStore h = h.no_store refl
     run-cause (run.Damaged (Log at kind)) h = h.log_damage at kind refl
     run-cause (run.Damaged (Slot slot at kind)) h = h.slot_damage slot at kind refl
@@ -80,9 +82,9 @@ IsPrefixStop limit catalogue history least (run.AbortInLog note) = ⊥
 IsPrefixStop limit catalogue history least (run.RowsOver name rows most) = IsPrefixOverLimit catalogue history least name rows limit
 IsPrefixStop limit catalogue history least _ = Unit {0}
 
-module _ (limit : ℕ) (source sink : Observed) (after : List (Option DiskHistory)) (was is : List ℕ) (text : List ℕ) (catalogue : CatalogueState) (history : List Txn) (least : ℕ) where
+module _ (limit : ℕ) (source sink : Observed) (after : Devices (Option DiskHistory)) (was is : Devices ℕ) (text : List ℕ) (catalogue : CatalogueState) (history : List Txn) (least : ℕ) where
   abbrev held_by : Option DiskHistory → Option DiskHistory → Option DiskHistory → ObservedDevices
-  held_by log a b = record { before = log ∷ a ∷ b ∷ []; after = after; faults_before = was; faults_after = is }
+  held_by log a b = record { before = three log a b; after = after; faults_before = was; faults_after = is }
 
   prefix_here : (l x y : DiskHistory) (why : RunStop) → RunCause limit source sink (held_by (Some l) (Some x) (Some y)) why
       → StandsFor text catalogue history least (record { log = l.now.seen; slot_a = x.now.seen; slot_b = y.now.seen }) → IsPrefixStop limit catalogue history least why
@@ -210,9 +212,9 @@ none_given rules place start requests given (run.LogFull need) early (inr at) = 
 none_given rules place start requests given run.TooLong early (inr at) = let no : ◌≡◌ {A = Bool} false true = early in absurd cc
 none_given rules place start requests given (run.TooLarge bytes) early (inr at) = let no : ◌≡◌ {A = Bool} false true = early in absurd cc
 
-module _ (group_size limit : ℕ) (source sink errors : Observed) (log a b : Option DiskHistory) (after : List (Option DiskHistory)) (was is : List ℕ) where
+module _ (group_size limit : ℕ) (source sink errors : Observed) (log a b : Option DiskHistory) (after : Devices (Option DiskHistory)) (was is : Devices ℕ) where
   abbrev devices : ObservedDevices
-  devices = record { before = log ∷ a ∷ b ∷ []; after = after; faults_before = was; faults_after = is }
+  devices = record { before = three log a b; after = after; faults_before = was; faults_after = is }
 
   abbrev Ran : Result (Unit {0}) RunStop → Type 0
   Ran end = IsRun group_size limit source.before source.after sink.before sink.after devices.before devices.after (AnyFaulted sink) end
@@ -322,6 +324,6 @@ module _ (group_size limit : ℕ) (source sink errors : Observed) (log a b : Opt
 abbrev pub still : Option (List ℕ) → ℕ → Observed
 still bytes faults = record { before = bytes; after = bytes; faults_before = faults; faults_after = faults }
 
-pub run-idle : (group_size limit n : ℕ) (left held : Option (List ℕ)) (reads writes : ℕ) (log a b : Option DiskHistory) (faults : List ℕ) (errors : Observed) → n ≡ 9 → RunEnds group_size limit n (still left reads) (still held writes) errors (uncalled log a b faults)
+pub run-idle : (group_size limit n : ℕ) (left held : Option (List ℕ)) (reads writes : ℕ) (log a b : Option DiskHistory) (faults : Devices ℕ) (errors : Observed) → n ≡ 9 → RunEnds group_size limit n (still left reads) (still held writes) errors (uncalled log a b faults)
 run-idle group_size limit n left held reads writes log a b faults errors nine =
-    run-memory group_size limit (still left reads) (still held writes) errors log a b (log ∷ a ∷ b ∷ []) faults faults (Err run.NoMemory) n nine (idle-run group_size limit left held log a b (AnyFaulted (still held writes))) refl
+    run-memory group_size limit (still left reads) (still held writes) errors log a b (three log a b) faults faults (Err run.NoMemory) n nine (idle-run group_size limit left held log a b (AnyFaulted (still held writes))) refl

@@ -1,9 +1,11 @@
 -- Runs one after another, and what is recovered after them.
-use Rattle.std.specs.Prelude.{◌≡◌, ◌≤◌, ◌⊎◌, ℕ, List, [], ◌∷◌, map, take, Some}
+use Rattle.std.specs.Prelude.{◌≡◌, ◌≤◌, ◌⊎◌, ℕ, List, [], ◌∷◌, take, Some}
 use Rattle.std.specs.List.{AllZip}
 use Rattle.pac_ops.specs.declared.transaction.Txn.{Txn}
-use Rattle.pac_outside.specs.Devices.{AllLeave, AreImages, all_known}
+use Rattle.pac_outside.specs.Devices.{AllLeave, AreImages, OnEach, all_known}
 use Rattle.pac_outside.specs.Disk.{DiskHistory, settled}
+use Rattle.pac_outside.specs.Parts.{reads_of}
+use Rattle.pac_outside.specs.declared.devices.Devices.{Devices}
 use Rattle.pac_types.specs.Typing.{CatalogueState}
 use Rattle.pac_run.specs.Acked.{Acknowledges}
 use Rattle.pac_run.specs.Opening.{AllStand}
@@ -14,24 +16,20 @@ use Rattle.pac_main.specs.Streams.{Observed, ObservedDevices}
 
 -- ---- what a run is begun on
 
--- what a read gives of each device
-abbrev pub reads_of : List DiskHistory → List (List ℕ)
-reads_of devices = map (λ device. device.now.seen) devices
-
 -- Devices are found as they were left: each image that a crash may leave of them, and what a read of them gives, is one that
 -- a crash might have left of the devices before. So it is after a power cut, which leaves one image and nothing that isn't
 -- synced, and after a process was killed, which leaves the devices as they were.
-pub record AreFound (left found : List DiskHistory) : Type 0 where
+pub record AreFound (left found : Devices DiskHistory) : Type 0 where
   pub images : AllLeave (AreImages left) found
   pub read : AreImages left (reads_of found)
 
 -- the devices hold these images: a read gives them, and a crash leaves nothing else
-abbrev pub HoldImages : List (List ℕ) → List DiskHistory → Type 0
-HoldImages images devices = AllZip (λ image device. device.now ≡ settled image) images devices
+abbrev pub HoldImages : Devices (List ℕ) → Devices DiskHistory → Type 0
+HoldImages images devices = OnEach (λ image device. device.now ≡ settled image) images devices
 
 -- each device is in the state that it was left in
-abbrev pub AreAsLeft : List DiskHistory → List DiskHistory → Type 0
-AreAsLeft left found = AllZip (λ old new. new.now ≡ old.now) left found
+abbrev pub AreAsLeft : Devices DiskHistory → Devices DiskHistory → Type 0
+AreAsLeft left found = OnEach (λ old new. new.now ≡ old.now) left found
 
 -- ---- runs one after another
 
@@ -46,13 +44,13 @@ pub record OneRun : Type 0 where
   pub errors : Observed
   pub devices : ObservedDevices
   pub ends : RunEnds group_size limit status input output errors devices
-  pub entry : List DiskHistory
-  pub exit : List DiskHistory
+  pub entry : Devices DiskHistory
+  pub exit : Devices DiskHistory
   pub known : all_known devices.before ≡ Some entry
   pub known_after : all_known devices.after ≡ Some exit
 
 -- Each run is begun on devices as the one before it left them, the first on these, and the last leaves those.
-abbrev pub AreRuns : List DiskHistory → List OneRun → List DiskHistory → Type 0
+abbrev pub AreRuns : Devices DiskHistory → List OneRun → Devices DiskHistory → Type 0
 AreRuns first [] last = last ≡ first
 AreRuns first (run ∷ runs) last = AreFound first run.entry × AreRuns run.exit runs last
 
@@ -78,7 +76,7 @@ IsKeptFrom kept last run next = (number : ℕ) → Acknowledges run.ends.is.out 
 
 -- What the last run left stands for the transactions that are committed in the end, and the log has all that the outputs of
 -- the runs acknowledge.
-pub record KeepsAll (text : List ℕ) (catalogue : CatalogueState) (history : List Txn) (least : ℕ) (runs : List OneRun) (left : List DiskHistory) : Type 0 where
+pub record KeepsAll (text : List ℕ) (catalogue : CatalogueState) (history : List Txn) (least : ℕ) (runs : List OneRun) (left : Devices DiskHistory) : Type 0 where
   pub nexts : List (List Txn)
   pub last : List Txn
   pub are : AreNext history runs nexts last
@@ -93,7 +91,7 @@ pub record KeepsAll (text : List ℕ) (catalogue : CatalogueState) (history : Li
 -- A store of this text was made, these runs went over it, one after another, and then a recovery ended with a status. Serial
 -- execution of the committed transactions, in the order of their numbers, gives what the recovery says: there is a prefix of
 -- them that holds all that the runs acknowledged, and so on, as `RecoversPrefix` has it.
-pub record RecoversExactly (text : List ℕ) (runs : List OneRun) (left : List DiskHistory) (limit status : ℕ) (devices : ObservedDevices) (output : Observed) : Type 0 where
+pub record RecoversExactly (text : List ℕ) (runs : List OneRun) (left : Devices DiskHistory) (limit status : ℕ) (devices : ObservedDevices) (output : Observed) : Type 0 where
   pub catalogue : CatalogueState
   pub keeps : KeepsAll text catalogue [] 0 runs left
   pub recovers : RecoversPrefix limit status catalogue keeps.last keeps.kept devices output

@@ -5,6 +5,7 @@ use Rattle.pac_ops.specs.declared.note.Note.{Note}
 use Rattle.pac_ops.specs.declared.transaction.Txn.{Txn}
 use Rattle.pac_outside.specs.Devices.{OneFaulted}
 use Rattle.pac_outside.specs.Disk.{DiskHistory}
+use Rattle.pac_outside.specs.declared.devices.Devices.{Devices}
 use Rattle.pac_types.specs.Execution.{first_over}
 use Rattle.pac_types.specs.Typing.{CatalogueState}
 use Rattle.pac_store.specs.Stands.{EndsWith, StandsFor}
@@ -17,7 +18,7 @@ use Rattle.pac_main.specs.Streams.{Observed, ObservedDevices, AnyFaulted, IsTake
 
 -- These tables of this catalogue are within the limit, and their dump has this property. Where the devices' histories are known, they are
 -- those with which serial execution of what is stored ends.
-pub record IsRecovery (limit : ℕ) (devices : List (Option DiskHistory)) (P : List ℕ → Type 0) : Type 0 where
+pub record IsRecovery (limit : ℕ) (devices : Devices (Option DiskHistory)) (P : List ℕ → Type 0) : Type 0 where
   pub catalogue : CatalogueState
   pub tables : Tables
   pub txns : ℕ
@@ -64,7 +65,7 @@ pub record RecoversPrefix (limit status : ℕ) (catalogue : CatalogueState) (his
 -- ---- the statuses
 
 -- there is no store, or this is its first damage, and the line that is reported says so
-abbrev pub IsRefusedStore : List (Option DiskHistory) → Observed → Type 0
+abbrev pub IsRefusedStore : Devices (Option DiskHistory) → Observed → Type 0
 IsRefusedStore devices errors = (HasNoStore devices × IsReported errors (codes "no store\n")) ⊎ ((damage : Damage) × HasDamage damage devices × IsReported errors (damaged_line damage))
 
 -- how `recover` ends under a limit of rows: the statuses that it may have, and a line for each that has a cause; the devices

@@ -41,10 +41,10 @@ IsOneOf status statuses = IsTrue (list_any (λ s. s == status) statuses)
 
 -- the devices of a store before and after a command: what is known of each, and its count of faults
 pub record ObservedDevices : Type 0 where
-  pub before : List (Option DiskHistory)
-  pub after : List (Option DiskHistory)
-  pub faults_before : List ℕ
-  pub faults_after : List ℕ
+  pub before : Devices (Option DiskHistory)
+  pub after : Devices (Option DiskHistory)
+  pub faults_before : Devices ℕ
+  pub faults_after : Devices ℕ
 
 -- devices by what is known of them and their counts of faults, observed as they were and as they are
 abbrev pub observed_devices : {D : Type 0} → (D → Option DiskHistory) → (D → ℕ) → Devices D → Devices D → ObservedDevices

@@ -1,9 +1,10 @@
 // Laws over whole runs. Each is a function without code.
 ghost use Rattle.std.specs.Prelude.{◌≡◌, ℕ, List, [], Some};
-ghost use Rattle.std.specs.List.{AllByRecursion};
 ghost use Rattle.pac_ops.specs.declared.transaction.Txn.{Txn as ATxn};
 ghost use Rattle.pac_outside.specs.Devices.{AreImages, all_known};
-ghost use Rattle.pac_outside.specs.Disk.{DiskHistory, SeenIsImage};
+ghost use Rattle.pac_outside.specs.Disk.{DiskHistory};
+ghost use Rattle.pac_outside.specs.Parts.{reads_of};
+ghost use Rattle.pac_outside.specs.declared.devices.Devices.{Devices as ADevices};
 ghost use Rattle.pac_types.specs.Typing.{CatalogueState};
 ghost use Rattle.pac_run.specs.Opening.{AllStand};
 ghost use Rattle.pac_main.specs.Headline.{AreAsLeft, AreFound, AreRuns, HoldImages, KeepsAll, OneRun, RecoversExactly};
@@ -16,16 +17,16 @@ ghost use Rattle.pac_main.specs.Streams.{Observed, ObservedDevices};
 /// dump of the tables that serial execution gives, in commit order, for a prefix of the committed transactions that holds every
 /// acknowledged one; or it names an outside fault that rose, a table over the row limit, or that it ran out of memory.
 pub fn recovery_is_exact()
-    ensures { (text : List ℕ) (input made_errors : Observed) (made : ObservedDevices) (empty first : List DiskHistory) → InitEnds 0 input made_errors made
+    ensures { (text : List ℕ) (input made_errors : Observed) (made : ObservedDevices) (empty first : ADevices DiskHistory) → InitEnds 0 input made_errors made
         → input.before ≡ Some text → all_known made.before ≡ Some empty → all_known made.after ≡ Some first
-        → (runs : List OneRun) (left : List DiskHistory) → AreRuns first runs left
-        → (limit status : ℕ) (devices : ObservedDevices) (output errors : Observed) (entry : List DiskHistory) → all_known devices.before ≡ Some entry → AreFound left entry → RecoverEnds limit status devices output errors
+        → (runs : List OneRun) (left : ADevices DiskHistory) → AreRuns first runs left
+        → (limit status : ℕ) (devices : ObservedDevices) (output errors : Observed) (entry : ADevices DiskHistory) → all_known devices.before ≡ Some entry → AreFound left entry → RecoverEnds limit status devices output errors
         → RecoversExactly text runs left limit status devices output }
 {}
 
 /// A store that `init` makes stands for no transactions, whatever a crash leaves of it.
 pub fn a_new_store_stands_for_none()
-    ensures { (text : List ℕ) (input errors : Observed) (devices : ObservedDevices) (entry exit : List DiskHistory) → InitEnds 0 input errors devices
+    ensures { (text : List ℕ) (input errors : Observed) (devices : ObservedDevices) (entry exit : ADevices DiskHistory) → InitEnds 0 input errors devices
         → input.before ≡ Some text → all_known devices.before ≡ Some entry → all_known devices.after ≡ Some exit → (catalogue : CatalogueState) × AllStand text catalogue [] 0 exit }
 {}
 
@@ -33,20 +34,20 @@ pub fn a_new_store_stands_for_none()
 /// them leaves stands for the transactions that are committed then, in the order of their numbers, with each that an output
 /// acknowledged.
 pub fn runs_keep_what_is_acknowledged()
-    ensures { (text : List ℕ) (catalogue : CatalogueState) (history : List ATxn) (least : ℕ) (first left : List DiskHistory) (runs : List OneRun) → AllStand text catalogue history least first → AreRuns first runs left → KeepsAll text catalogue history least runs left }
+    ensures { (text : List ℕ) (catalogue : CatalogueState) (history : List ATxn) (least : ℕ) (first left : ADevices DiskHistory) (runs : List OneRun) → AllStand text catalogue history least first → AreRuns first runs left → KeepsAll text catalogue history least runs left }
 {}
 
 /// `recover` on devices that stand for a history, however they were left, gives a prefix of it with at least as many
 /// transactions as they stand for.
 pub fn recover_gives_what_is_acknowledged()
-    ensures { (text : List ℕ) (catalogue : CatalogueState) (history : List ATxn) (least : ℕ) (left : List DiskHistory) → AllStand text catalogue history least left
-        → (limit status : ℕ) (devices : ObservedDevices) (output errors : Observed) (entry : List DiskHistory) → all_known devices.before ≡ Some entry → AreFound left entry → RecoverEnds limit status devices output errors
+    ensures { (text : List ℕ) (catalogue : CatalogueState) (history : List ATxn) (least : ℕ) (left : ADevices DiskHistory) → AllStand text catalogue history least left
+        → (limit status : ℕ) (devices : ObservedDevices) (output errors : Observed) (entry : ADevices DiskHistory) → all_known devices.before ≡ Some entry → AreFound left entry → RecoverEnds limit status devices output errors
         → RecoversPrefix limit status catalogue history least devices output }
 {}
 
 /// A power cut leaves one image of each device, and nothing that isn't synced; a killed process leaves each device in its
 /// state. Both leave the devices as runs are begun on them.
 pub fn cuts_and_kills_are_found()
-    ensures cut { (left found : List DiskHistory) (images : List (List ℕ)) → AreImages left images → HoldImages images found → AreFound left found }
-    ensures kill { (left found : List DiskHistory) → AllByRecursion SeenIsImage left → AreAsLeft left found → AreFound left found }
+    ensures cut { (left found : ADevices DiskHistory) (images : ADevices (List ℕ)) → AreImages left images → HoldImages images found → AreFound left found }
+    ensures kill { (left found : ADevices DiskHistory) → AreImages left (reads_of left) → AreAsLeft left found → AreFound left found }
 {}
