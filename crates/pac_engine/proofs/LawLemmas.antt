@@ -163,7 +163,7 @@ own-image P state one = subst (λ (s : DiskState). IsImage s state.seen) (sym on
 kept-executes : (text : List ℕ) (history longer : List Txn) (b c : EngineParts) (v w : Devices DiskHistory) → StandsOn text history b v → KeepsHistory text longer b c v w → IsHistory b.session.catalogue longer
 kept-executes text history longer b c v w is keeps =
     let leaves = run_start (MayLeave text b.session.catalogue longer b) v w keeps.moments (reads_of v)
-        (record { log = own-image _ v.log.now is.log; slot_a = own-image _ v.slot_a.now is.slot_a; slot_b = own-image _ v.slot_b.now is.slot_b }) in
+    (record { log = own-image _ v.log.now is.log; slot_a = own-image _ v.slot_a.now is.slot_a; slot_b = own-image _ v.slot_b.now is.slot_b }) in
     leaves.stands.executes
 
 -- the first step keeps the longer history too

@@ -1,5 +1,5 @@
 // What steps come to, one after another. Each law is a function without code.
-ghost use Rattle.std.specs.Prelude.{◌≡◌, ◌++◌, ◌∷◌, [], ℕ, List, Option, take};
+ghost use Rattle.std.specs.Prelude.{◌≡◌, ◌++◌, [], ℕ, List, Option, take};
 ghost use Rattle.pac_ops.specs.declared.transaction.Txn.{Txn as ATxn};
 ghost use Rattle.pac_outside.specs.Disk.{DiskHistory};
 ghost use Rattle.pac_outside.specs.Parts.{reads_of};

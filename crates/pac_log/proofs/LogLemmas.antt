@@ -9,7 +9,7 @@ use Rattle.pac_ops.specs.declared.transaction.Txn.TheVariants.{Call, AdHoc}
 use Rattle.pac_bytes.proofs.Numbers.{width32}
 use Rattle.pac_entry.specs.Entries.{txn_bytes}
 use Rattle.pac_types.specs.Typing.{CatalogueState}
-use Rattle.pac_outside.specs.Disk.{DiskHistory, IfKnown, BothKnown, Leaves, LeavesOnly, settled}
+use Rattle.pac_outside.specs.Disk.{DiskHistory, IfKnown, BothKnown, settled}
 use Rattle.pac_outside.specs.GateByte.{IsShut, IsOpen, OneImage, ShutOrOpen, Opens}
 use Rattle.pac_outside.proofs.Histories.{both, last_leaves, weaken}
 use Rattle.pac_log.specs.declared.position.NextGate.{NextGate}

@@ -4,7 +4,7 @@ use Rattle.std.specs.List.{AllByRecursion}
 use Rattle.std.proofs.lemmas.List.{append-nil}
 use Rattle.pac_outside.specs.Disk.{DiskHistory, DiskState, IsImage, Leaves, LeavesAsBefore, LeavesOnly, BothKnown, becomes, states}
 use Rattle.pac_outside.specs.declared.devices.Devices.{Devices}
-use Rattle.pac_outside.specs.Devices.{AreImages, AllLeave, RunLeaves, OnceKnown, IfAllKnown, WhichDevice, device_at, with_device}
+use Rattle.pac_outside.specs.Devices.{AllLeave, RunLeaves, OnceKnown, IfAllKnown, WhichDevice, device_at, with_device}
 use Rattle.pac_outside.specs.Devices.RunLeaves.{rests, steps}
 use Rattle.pac_outside.specs.Devices.WhichDevice.{the_log, the_slot_a, the_slot_b}
 use Rattle.pac_outside.specs.Runs.{LeavesIn, OneGoesOn, disk_in}
@@ -76,9 +76,9 @@ module _ (P : Devices (List ℕ) → Type 0) (which : WhichDevice) where
       let at : next ≡ device_at which later = sym (put_is which next devices) in
       let in_later : (s : DiskState) → LeavesIn P which devices s → LeavesIn P which later s = λ s. subst (λ (all : Devices DiskHistory). AllLeave P all) (sym (put_again which (disk_in s) next devices)) in
       let rest : RunLeaves P later (with_device which new later) = goes_through new since later
-          (grown ∙ sym (append_assoc (states (device_at which devices)) (state ∷ []) since) ∙ ap (λ (disk : DiskHistory). states disk ++ since) at)
-          (subst (λ (disk : DiskHistory). LeavesIn P which later disk.now) at (in_later state each.0))
-          (all_weaken (LeavesIn P which devices) (LeavesIn P which later) in_later since each.1) in
+      (grown ∙ sym (append_assoc (states (device_at which devices)) (state ∷ []) since) ∙ ap (λ (disk : DiskHistory). states disk ++ since) at)
+      (subst (λ (disk : DiskHistory). LeavesIn P which later disk.now) at (in_later state each.0))
+      (all_weaken (LeavesIn P which devices) (LeavesIn P which later) in_later since each.1) in
       steps which devices (with_device which new devices) state (leaves_now P which devices here) (subst (λ (end : Devices DiskHistory). RunLeaves P later end) (put_again which new next devices) rest)
 
   pub one_runs : (devices : Devices DiskHistory) (new : DiskHistory) → OneGoesOn P which devices new → RunLeaves P devices (with_device which new devices)
