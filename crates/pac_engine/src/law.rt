@@ -43,6 +43,7 @@ pub fn steps_keep_the_history()
 
 /// An engine that is opened over devices that stand for a history stands for as many transactions of it as the log has.
 pub fn an_opened_engine_stands()
-    ensures { (text : List ℕ) (history : List ATxn) (least : ℕ) (engine : AParts) (devices : ADevices DiskHistory) → StandsFor text engine.session.catalogue history least (reads_of devices) → IsOpenedOn history engine devices.log devices.slot_a devices.slot_b
+    ensures { (text : List ℕ) (history : List ATxn) (least : ℕ) (engine : AParts) (devices : ADevices DiskHistory) → StandsFor text engine.session.catalogue history least (reads_of devices)
+        → IsOpenedOn history engine devices.log devices.slot_a devices.slot_b
         → StandsOn text (take engine.log.gate.txns history) engine devices }
 {}

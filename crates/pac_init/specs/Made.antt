@@ -32,7 +32,8 @@ IsFirstInUse SlotB n devices = (0 < n) × (HasLength 0 devices.log × HasLength 
 
 -- The store of a catalogue's text: a crash leaves of the log the header and a closed gate, and of each slot the one byte 0.
 abbrev pub IsNewStore : List ℕ → Devices DiskHistory → Type 0
-IsNewStore text devices = (devices.log.now ≡ settled (header_bytes text ++ 0 ∷ [])) × (devices.slot_a.now ≡ settled (0 ∷ [])) × (devices.slot_b.now ≡ settled (0 ∷ []))
+IsNewStore text devices = (devices.log.now ≡ settled (header_bytes text ++ 0 ∷ []))
+    × (devices.slot_a.now ≡ settled (0 ∷ [])) × (devices.slot_b.now ≡ settled (0 ∷ []))
 
 -- it was made on empty devices
 abbrev pub MakesStore : List ℕ → Devices DiskHistory → Devices DiskHistory → Type 0
