@@ -43,17 +43,21 @@ has_ready p u core none some next =
     (λ x. ap (λ l. among l x) none) q.0 q.1 q.2 in
     next found.0 found.1
 
+-- one less is left once a loaded piece is finished that wasn't
+pub left_less : (r : Replay) (p : PieceId) → Mem p (loaded_pieces r) → among r.finished p ≡ false → left (with_finished r p) + 1 ≡ left r
+left_less r p loaded unfinished =
+    ap (λ l. length l + 1) (filter_alike (λ q. not (among (with_finished r p).finished q)) (λ q. not (among (p ∷ r.finished) q)) (loaded_pieces r) (λ q mem. ap not (among_filter (adds (among r.finished) p) (loaded_pieces r) q mem)))
+    ∙ one_less p (λ q. not (among r.finished q)) (λ q. not (among (p ∷ r.finished) q)) (ap not unfinished) (ap (λ b. not (b || among r.finished p)) (piece_self p))
+    (λ q differ. ap (λ b. not (b || among r.finished q)) (sym differ))
+    (loaded_pieces r) (in_order (world_at r.job (machine_of r)) (numbers_of r.job.first r.batches) (blocks_in r.job.parts) (rises-range r.job.first (length (txns_of r.batches))) (rises-range 0 r.job.parts.blocks)) loaded
+
 module _ (r : Replay) (p : PieceId) (next : IsNextPiece r (Some p)) where
   loaded : Mem p (loaded_pieces r)
   loaded = next.0.0
 
   -- one less is left
   pub left_after : left (with_finished r p) + 1 ≡ left r
-  left_after =
-      ap (λ l. length l + 1) (filter_alike (λ q. not (among (with_finished r p).finished q)) (λ q. not (among (p ∷ r.finished) q)) (loaded_pieces r) (λ q mem. ap not (among_filter (adds (among r.finished) p) (loaded_pieces r) q mem)))
-      ∙ one_less p (λ q. not (among r.finished q)) (λ q. not (among (p ∷ r.finished) q)) (ap not next.0.2) (ap (λ b. not (b || among r.finished p)) (piece_self p))
-      (λ q differ. ap (λ b. not (b || among r.finished q)) (sym differ))
-      (loaded_pieces r) (in_order (world_at r.job (machine_of r)) (numbers_of r.job.first r.batches) (blocks_in r.job.parts) (rises-range r.job.first (length (txns_of r.batches))) (rises-range 0 r.job.parts.blocks)) loaded
+  left_after = left_less r p next.0.0 next.0.2
 
   -- its work is own once it is out
   pub own_out : (work : Work) → work.piece ≡ p → IsWorkIn r work → IsOwn (with_out r p) work

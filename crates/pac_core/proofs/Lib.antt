@@ -47,5 +47,7 @@ pub mod TakeNext
 pub mod ReclaimSteps
 pub mod ReclaimedCore
 pub mod DrainSteps
+pub mod LeftPieces
+pub mod BatchLoads
 pub mod SameLists
 pub mod JobFacts

@@ -41,6 +41,13 @@ IsTakenPiece old (Ran piece) new = IsNextPiece old (Some piece) × (access_in ol
 IsTakenPiece old NotReady new = IsNextPiece old None × (IsReplayDone old → ⊥) × (new ≡ old)
 IsTakenPiece old Done new = IsReplayDone old × (new ≡ old)
 
+-- how many pieces a take ran on the spot
+abbrev pub run_by : Take → ℕ
+run_by (Given work) = 0
+run_by (Ran piece) = 1
+run_by NotReady = 0
+run_by Done = 0
+
 -- work of a piece whose access is of keys: as the replay has it, and may be run
 abbrev pub IsGivenWork : Replay → PieceId → Work → Type 0
 IsGivenWork r piece work = (work.piece ≡ piece) × (access_in r piece ≢ Whole) × IsWorkIn r work × IsRunnable work
@@ -54,6 +61,16 @@ abbrev pub IsHandedIn : Replay → WorkDone → Finish → Replay → Type 0
 IsHandedIn old done finish.Kept new = IsOwn old done.work × (new ≡ with_finished old done.work.piece)
 IsHandedIn old done (finish.Foreign back) new = (IsOwn old done.work → ⊥) × (back ≡ done) × (new ≡ old)
 IsHandedIn old done (finish.NoMemory back) new = IsOwn old done.work × (back ≡ done) × (new ≡ old)
+
+-- how many pieces the handing in of a result finished
+abbrev pub handed_in_by : Finish → ℕ
+handed_in_by finish.Kept = 1
+handed_in_by (finish.Foreign back) = 0
+handed_in_by (finish.NoMemory back) = 0
+
+-- at most other pieces are out
+abbrev pub MovesOut : Replay → Replay → Type 0
+MovesOut old new = new ≡ record old { out = new.out }
 
 -- own work that is given back: its piece is out no more
 abbrev pub IsGivenBack : Replay → Work → Replay → Type 0

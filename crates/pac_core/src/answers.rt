@@ -27,6 +27,15 @@ pub enum Finish {
     NoMemory(WorkDone),
 }
 
+/// How much a take may find ready.
+#[derive(Clone, Copy, Debug, PartialEq, Eq)]
+pub struct ReadyPieces {
+    /// How many pieces.
+    pub pieces: u64,
+    /// What they weigh, added up.
+    pub weight: u64,
+}
+
 /// What a replay leaves.
 #[derive(Drop)]
 pub struct Outcome<R: Rows> {

@@ -4,7 +4,7 @@ ghost use Rattle.pac_plan.specs.declared.access.Access.TheVariants.{Whole};
 ghost use Rattle.pac_tables.specs.Written.{AreWithin};
 ghost use Rattle.pac_sched.specs.declared.state.PieceState.TheVariants.{Out, Waiting};
 ghost use Rattle.pac_commute.specs.Machine.{IsReadyAt};
-ghost use Rattle.pac_core.specs.Calls.{IsGivenBack, IsGivenWork, IsHandedIn, IsOwn, IsTakenPiece};
+ghost use Rattle.pac_core.specs.Calls.{IsGivenBack, IsGivenWork, IsHandedIn, IsOwn, IsTakenPiece, MovesOut};
 ghost use Rattle.pac_core.specs.Links.{IsCore, IsKeptProgress, core_of, job_of};
 ghost use Rattle.pac_core.specs.Moves.{IsNextAt, IsReadyAtOffset};
 ghost use Rattle.pac_core.specs.Places.{HasPlace, IsPieceAt};
@@ -238,6 +238,7 @@ pub(crate) fn give_back<R: Rows>(progress: &mut Progress, rows: &UndoRows<R>, wo
     requires { IsCore progress.old rows.now }
     ensures keeps { IsCore progress.new rows.now }
     ensures back { IsGivenBack (core_of progress.old rows.now) work.now (core_of progress.new rows.now) }
+    ensures rest { MovesOut (core_of progress.old rows.now) (core_of progress.new rows.now) }
 {
     if let Some(place) = own_place(progress, rows, work) {
         progress.put_back(place.at, work.piece);

@@ -8,6 +8,7 @@ use pac_ops::{Batch, Batches};
 use pac_plan::{Plan, one_plan};
 use pac_tables::Rows;
 use std::alloc::Global;
+use std::collections::VecDeque;
 
 /// What tells a core's job: its plan, the number of its first transaction, the tables of its opening, and the loaded batches
 /// in order.
@@ -17,6 +18,22 @@ pub struct Job<R: Rows> {
     pub first: u64,
     pub opening: R,
     pub batches: Batches,
+}
+
+/// Batches, to be taken one after another from the front.
+///
+/// # Errors
+///
+/// [`NoMemory`] where they find no room.
+pub(crate) fn in_turn(alloc: Global, batches: Batches) -> Result<VecDeque<Batch>, NoMemory>
+    ensures { IfOk result (λ rest. rest.items ≡ batches) }
+{
+    let mut batches = batches;
+    let mut rest = VecDeque::with_capacity(alloc, batches.len())?;
+    while let Some(batch) = batches.pop() {
+        rest.push_front(batch)?;
+    }
+    Ok(rest)
 }
 
 /// Copies of the loaded batches.

@@ -5,8 +5,11 @@
 //!   row stood first. [`Core::load`] takes a batch, and after [`Core::close`] none comes any more.
 //! - [`Core::take`] hands out the work of the ready piece that comes first by batch, block and transaction, or runs it where
 //!   it may touch any row of its block. [`Core::finish`] takes the result, [`Core::give_back`] the work undone, and
-//!   [`Core::reclaim`] all that is out. Work of another core, or over rows that have changed since, is refused as foreign.
+//!   [`Core::reclaim`] or [`Core::take_back`] all that is out. Work of another core, or over rows that have changed since, is
+//!   refused as foreign.
 //! - [`Core::drain`] runs what is left, and [`Core::outcome`] gives the tables, and the first transaction that aborted.
+//! - [`Core::load_all`] loads batches one after another. [`Core::ready`] is an estimate of what a take may find ready, and
+//!   [`weight_of`] of what a piece costs.
 //! - [`Core::next_txn`], [`Core::is_closed`], [`Core::is_finished`], [`Core::unfinished`] and [`Core::pairs`] say how far it
 //!   is. [`Core::job`] copies what tells its job, and [`Core::from_job`] begins that anew.
 //!
@@ -42,8 +45,10 @@ mod reclaiming;
 mod replay;
 mod stage;
 mod values;
+mod weighing;
 mod work;
 
-pub use answers::{Finish, Outcome, Take};
+pub use answers::{Finish, Outcome, ReadyPieces, Take};
 pub use job::Job;
 pub use replay::Core;
+pub use weighing::weight_of;

@@ -3,15 +3,15 @@ ghost use Rattle.std.specs.Prelude.{◌≡◌, ◌↔◌, ◌<◌, ◌+◌, ◌^
 ghost use Rattle.pac_ops.specs.Shapes.{RowsFit};
 ghost use Rattle.pac_piece.specs.Runnable.{IsRunnable};
 ghost use Rattle.pac_commute.specs.Loads.{next_in_job};
-ghost use Rattle.pac_core.specs.Calls.{HasReadyPiece, IsReplayDone, IsDrained, IsGivenBack, IsHandedIn, IsJobOf, IsOfJob, IsOutcome, IsOwn, IsTakenPiece, MayLoad, MayLoadAll, with_batches};
+ghost use Rattle.pac_core.specs.Calls.{HasReadyPiece, IsReplayDone, IsDrained, IsGivenBack, IsHandedIn, IsJobOf, IsOfJob, IsOutcome, IsOwn, IsTakenPiece, MayLoad, MayLoadAll, MovesOut, handed_in_by, run_by, with_batches};
 ghost use Rattle.pac_core.specs.Replay.{closed, left, opening_replay, with_batch_loaded, with_finished, with_none_out, without_out};
 
-use crate::answers::{Finish, Outcome, Take};
+use crate::answers::{Finish, Outcome, ReadyPieces, Take};
 use crate::events::{give_back, hand_in, take_next};
-use crate::job::{Job, are_batches, are_same_plans, batch_copies};
+use crate::job::{Job, are_batches, are_same_plans, batch_copies, in_turn};
 use crate::progress::Progress;
 use pac_base::{Exact, NoMemory, listed};
-use pac_ops::Batch;
+use pac_ops::{Batch, Batches};
 use pac_piece::{Done, Work, run};
 use pac_plan::{Plan, is_plan};
 use pac_tables::Rows;
@@ -28,25 +28,12 @@ pub struct Core<R: Rows> {
 }
 
 impl<R: Rows> Model for Core<R> {
-    ghost use Rattle.std.specs.Prelude.{List, ℕ, Bool, refl};
-    ghost use Rattle.std.specs.Coded.{code_by, codes};
-    ghost use Rattle.pac_value.specs.State.{Tables, tables_code};
-    ghost use Rattle.pac_ops.specs.declared.batch.Batch.{Batch as ABatch};
-    ghost use Rattle.pac_ops.specs.contracts.batch.Batch as batch_type;
-    ghost use Rattle.pac_ops.specs.declared.piece.PieceId.{PieceId as APieceId};
-    ghost use Rattle.pac_ops.specs.contracts.piece.PieceId as piece_type;
-    ghost use Rattle.pac_plan.specs.declared.parts.PlanParts.{PlanParts};
-    ghost use Rattle.pac_plan.specs.contracts.parts.PlanParts as plan_type;
-    ghost use Rattle.pac_core.specs.Replay.{Replay};
+    ghost use Rattle.pac_core.specs.Replay.{Replay, replay_code};
     ghost use Rattle.pac_core.specs.Links.{IsCore, core_of};
 
     ghost Value = { Replay };
 
-    ghost coded = { code_by ((PlanParts × ℕ × Tables) × List ABatch × Bool × List APieceId × List APieceId)
-        (Prim.hlevel (codes, plan_type.the_row.coded, batch_type.the_row.coded, piece_type.the_row.coded, tables_code))
-        (λ r. ((r.job.parts, r.job.first, r.job.tables), r.batches, r.is_closed, r.out, r.finished))
-        (λ p. record { job = record { parts = p.0.0; first = p.0.1; tables = p.0.2 }; batches = p.1; is_closed = p.2; out = p.3; finished = p.4 })
-        (λ r. refl) };
+    ghost coded = { replay_code };
 
     ghost view = { λ core. core_of core.progress core.rows };
 
@@ -121,6 +108,30 @@ impl<R: Rows> Core<R> {
         self.progress.load(batch)
     }
 
+    /// Loads batches one after another.
+    ///
+    /// # Errors
+    ///
+    /// [`NoMemory`] as [`Core::load`]. Those before it are loaded then.
+    pub fn load_all(&mut self, batches: Batches) -> Result<(), NoMemory>
+        requires { MayLoadAll self.old batches }
+        ensures { OnOk result (self.new ≡ with_batches self.old batches) }
+    {
+        let mut rest = in_turn(self.progress.alloc, batches)?;
+        while let Some(batch) = rest.pop_front() {
+            if self.load(batch).is_err() {
+                return Err(NoMemory);
+            }
+        }
+        Ok(())
+    }
+
+    /// About how many pieces a take may find ready, and what they weigh. Pieces that a take would open first count too.
+    /// Takes no memory, and time that grows with the number of the plan's blocks.
+    pub fn ready(&self) -> ReadyPieces {
+        self.progress.ready()
+    }
+
     /// The piece that comes next, by batch, block and transaction: handed out, or run on the spot where it may touch any row
     /// of its block.
     ///
@@ -130,6 +141,7 @@ impl<R: Rows> Core<R> {
     /// are as before.
     pub fn take(&mut self) -> Result<Take, NoMemory>
         ensures ok { IfOk result (λ take. IsTakenPiece self.old take self.new) }
+        ensures left { IfOk result (λ take. left self.old ≡ left self.new + run_by take) }
         ensures err { OnErr result (self.new ≡ self.old) }
     {
         take_next(&mut self.progress, &mut self.rows)
@@ -138,7 +150,8 @@ impl<R: Rows> Core<R> {
     /// A result is handed in. Its piece is finished, where it was out and the result is of the work that the replay has for
     /// it.
     pub fn finish(&mut self, done: Done) -> Finish
-        ensures { IsHandedIn self.old done result self.new }
+        ensures answer { IsHandedIn self.old done result self.new }
+        ensures left { left self.old ≡ left self.new + handed_in_by result }
     {
         hand_in(&mut self.progress, &mut self.rows, done)
     }
@@ -146,7 +159,8 @@ impl<R: Rows> Core<R> {
     /// Work is given back that wasn't done: its piece is ready again. Other work than that of a piece that is out changes
     /// nothing. Takes no memory.
     pub fn give_back(&mut self, work: Work)
-        ensures { IsGivenBack self.old work self.new }
+        ensures back { IsGivenBack self.old work self.new }
+        ensures rest { MovesOut self.old self.new }
     {
         give_back(&mut self.progress, &self.rows, &work);
     }
@@ -155,9 +169,16 @@ impl<R: Rows> Core<R> {
     pub fn reclaim(self) -> Core<R>
         ensures { result ≡ with_none_out self }
     {
-        let Core { mut progress, rows } = self;
-        progress.reclaim();
-        Core { progress, rows }
+        let mut core = self;
+        core.take_back();
+        core
+    }
+
+    /// The same, in place.
+    pub fn take_back(&mut self)
+        ensures { self.new ≡ with_none_out self.old }
+    {
+        self.progress.reclaim();
     }
 
     /// Runs all that is left, and returns how many pieces that were.
@@ -282,24 +303,9 @@ impl<R: Rows> Core<R> {
             batches,
         } = job;
         let mut core = Core::new(alloc, plan, first, opening)?;
-        core.load_all(batches.as_slice())?;
+        core.load_all(batches)?;
         core.close();
         Ok(core)
-    }
-
-    // Loads copies of batches one after another.
-    fn load_all(&mut self, batches: &[Batch]) -> Result<(), NoMemory>
-        requires { MayLoadAll self.old batches.now }
-        ensures { OnOk result (self.new ≡ with_batches self.old batches.now) }
-    {
-        let alloc = self.progress.alloc;
-        for batch in batches {
-            let batch = batch.copy(alloc)?;
-            if self.load(batch).is_err() {
-                return Err(NoMemory);
-            }
-        }
-        Ok(())
     }
 
     /// How many pairs of pieces, one of which waits for the other, are kept of the sets that are opened; the greatest `u64`
@@ -311,7 +317,8 @@ impl<R: Rows> Core<R> {
     /// What the replay leaves. Takes no memory.
     pub fn outcome(self) -> Outcome<R>
         requires { IsReplayDone self }
-        ensures { IsOutcome self (R.held result.tables) result.first_note }
+        ensures replayed { IsOutcome self (R.held result.tables) result.first_note }
+        ensures tables { R.tables result.tables ≡ length self.job.parts.tables }
     {
         let Core { progress, rows } = self;
         Outcome {

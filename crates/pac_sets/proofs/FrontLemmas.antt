@@ -176,6 +176,12 @@ left_stands {P} sets block at is = go (item_at sets at within)
           first = ap (λ (b : ℕ). position (is_unfinished_in b) sets) gives.0 ∙ is;
         }
 
+-- it is of the block
+pub front_block : {P : Type 0} (sets : List (Kept P)) (block at : ℕ) → position (is_unfinished_in block) sets ≡ Some at → (set : SetId) (kept : P) → slice_get sets at ≡ Some (set, Some kept) → set.block ≡ block
+front_block {P} sets block at is set kept there =
+    let d : Kept P = (set, Some kept) in
+    (left_gives block d (ap (is_unfinished_in block) (sym (get_or_from_slice_get sets at d d there)) ∙ (position-Some (is_unfinished_in block) sets at d is).1)).0
+
 -- before an open set no unfinished one of its block stands, nor does once it is finished
 pub none_left : {P : Type 0} (edges : List (ℕ × ℕ)) (blocks at : ℕ) (sets new : List (Kept P)) → AreSets blocks sets → IsOpenSet edges sets at → new ≡ with_kept_at sets at None → (e : Kept P) → e ≡ get_or sets at e
     → (k : ℕ) (other : Kept P) → k < at → slice_get new k ≡ Some other → is_unfinished_in e.0.block other ≡ false

@@ -9,7 +9,7 @@ use Rattle.pac_sets.proofs.FrontLemmas.{open_front, left_stands}
 
 module _ {P : Type 0} (edges : List (ℕ × ℕ)) (sets : List (Kept P)) (blocks : ℕ) (kept : AreSets blocks sets) (block : ℕ) where
   -- an open set of the block is its front
-  own : (j : ℕ) (it : IsOpenSet edges sets j) → it.set.block ≡ block → position (is_unfinished_in block) sets ≡ Some j
+  pub own : (j : ℕ) (it : IsOpenSet edges sets j) → it.set.block ≡ block → position (is_unfinished_in block) sets ≡ Some j
   own j it is = ap (λ (b : ℕ). position (is_unfinished_in b) sets) (sym is) ∙ open_front sets kept.ascend edges j it.set it.kept it.there it.passed
 
   -- one of the blocks so far, or the front

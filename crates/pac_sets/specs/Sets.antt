@@ -58,6 +58,10 @@ pub record IsOpenSet {P : Type 0} (edges : List (ℕ × ℕ)) (sets : List (Kept
   pub there : slice_get sets at ≡ Some (set, Some kept)
   pub passed : WaitsForNothing edges sets set
 
+-- one that is in a block
+abbrev pub IsOpenIn : {P : Type 0} → List (ℕ × ℕ) → List (Kept P) → ℕ → ℕ → Type 0
+IsOpenIn edges sets block at = (it : IsOpenSet edges sets at) × (it.set.block ≡ block)
+
 -- the first open set from an offset on, or none where there is none
 abbrev pub IsFirstOpen : {P : Type 0} → List (ℕ × ℕ) → List (Kept P) → ℕ → Option ℕ → Type 0
 IsFirstOpen edges sets from None = (j : ℕ) → from ≤ j → IsOpenSet edges sets j → ⊥

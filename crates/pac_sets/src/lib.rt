@@ -7,7 +7,7 @@
 //! - [`SetId`]: a set, by the numbers of its batch and its block. Sets are ordered by batch, then by block.
 //! - [`Sets`]: the sets of what is loaded, and what is kept of each until it is finished. [`Sets::new`] knows the edges of a
 //!   plan, [`Sets::add_all`] adds sets after the others, and [`Sets::finish`] lets go of what is kept of one.
-//! - [`Sets::first_open`]: the first open set from an offset on.
+//! - [`Sets::first_open`]: the first open set from an offset on. [`Sets::open_in`]: the open set of a block.
 //! - [`Sets::find`], [`Sets::get`], [`Sets::keep`]: where a set stands, what is kept of it, and something else to keep.
 //!
 //! ```

@@ -4,7 +4,7 @@ ghost use Rattle.std.specs.List.{list_all};
 ghost use Rattle.std.specs.FinMap.{is_sorted};
 ghost use Rattle.pac_value.specs.Sorted.{IsOffsetOf, IsGapFor};
 ghost use Rattle.pac_sets.specs.SetOrder.{set_cmp};
-ghost use Rattle.pac_sets.specs.Sets.{AddsSource, AreAllSources, AreFronts, AreLeft, AreSets, IsSetAt, IsFirstBelow, IsFirstOpen, IsFront, IsOpenSet, IsUnfinished, IsKeptAt, Kept, are_done, front_or, is_earlier, is_done, is_unfinished_in, with_kept_at};
+ghost use Rattle.pac_sets.specs.Sets.{AddsSource, AreAllSources, AreFronts, AreLeft, AreSets, IsSetAt, IsFirstBelow, IsFirstOpen, IsFront, IsOpenIn, IsOpenSet, IsUnfinished, IsKeptAt, Kept, are_done, front_or, is_earlier, is_done, is_unfinished_in, with_kept_at};
 
 use crate::set_id::SetId;
 use pac_base::{Listed, NoMemory, copy_of, listed};
@@ -143,6 +143,26 @@ impl<P> Sets<P> {
             first = self.earlier_open(from, block, first);
         }
         first
+    }
+
+    /// How many blocks there are.
+    pub fn blocks(&self) -> usize
+        ensures { result ≡ self.now.blocks }
+    {
+        self.fronts.len()
+    }
+
+    /// The open set of a block: it has one at most. It looks at the first unfinished set of the block, and at the sets of the
+    /// blocks that lead to it.
+    pub fn open_in(&self, block: usize) -> Option<usize>
+        requires { block < self.now.blocks }
+        ensures open { IfSome result (IsOpenIn self.now.edges self.now.sets block) }
+        ensures none { IfNone result ((at : ℕ) → IsOpenIn self.now.edges self.now.sets block at → ⊥) }
+    {
+        match self.fronts[block] {
+            Some(at) => { if self.is_passed(at) { Some(at) } else { None } }
+            None => None,
+        }
     }
 
     /// Where a set stands. `None`: it isn't there. A binary search.

@@ -4,6 +4,8 @@
 //!   it. The trait asks only for what workers need, so that any order of pieces may stand behind it.
 //! - [`replay`]: finishes a machine by so many workers, and returns it as [`Replayed`], with the number of pieces that each worker
 //!   finished and the number of those that were left by all.
+//! - [`execute`]: executes batches of transactions over tables by so many workers. It loads them into a `Core` of `pac_core`,
+//!   which is a machine, and leaves the tables and the first note, as if each transaction had been executed after the other.
 //!
 //! ```
 //! use pac_outside::OpenGate;
@@ -35,14 +37,17 @@
 //!   back what it has, and counts nothing for it. What all workers leave is drained by the caller's thread.
 #![tactic(auto)]
 
+mod execution;
 mod guarded;
 mod hand;
 mod machine;
+mod replaying;
 mod tally;
 #[cfg(test)]
 mod tests;
 mod threads;
 mod worker;
 
+pub use execution::{Executed, execute};
 pub use machine::{Machine, Ready, Taken};
 pub use threads::{Replayed, replay};

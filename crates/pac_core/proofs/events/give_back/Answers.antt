@@ -1,6 +1,9 @@
 -- The piece of own work waits again; other work changes nothing.
-use Rattle.std.proofs.Common.{ap, ◌∙◌}
+use Rattle.std.proofs.Common.{List, sym, ap, ◌∙◌}
+use Rattle.pac_ops.specs.declared.piece.PieceId.{PieceId}
 use Rattle.pac_sched.specs.Schedules.{at_position}
+use Rattle.pac_core.specs.Links.{core_of}
+use Rattle.pac_core.specs.Replay.{Replay}
 use Rattle.pac_core.proofs.CoreMoves.{back_core, back_is}
 use Rattle.pac_core.proofs.events.give_back.Goals as goal
 
@@ -20,3 +23,10 @@ returns-in-Some-clause-back g c = (
   (λ own. back_is c.args.progress.now c.args.rows.now c.requires c.in-Some.place c.args.work.now.piece c.in-Some.ensures.place c.put_back.new.self c.put_back.ensures.moved c.put_back.ensures.order),
   (λ foreign. absurd (foreign c.in-Some.ensures.own)),
 )
+
+pub returns-in-Some-clause-rest : goal.returns-in-Some-clause-rest
+returns-in-Some-clause-rest g c =
+    let p = c.args.progress.now in
+    let u = c.args.rows.now in
+    let is = back_is p u c.requires c.in-Some.place c.args.work.now.piece c.in-Some.ensures.place c.put_back.new.self c.put_back.ensures.moved c.put_back.ensures.order in
+    is ∙ ap (λ (out : List PieceId). record (core_of p u) { out = out }) (ap (λ (r : Replay). r.out) (sym is))

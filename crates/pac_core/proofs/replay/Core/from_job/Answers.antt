@@ -5,9 +5,7 @@ use Rattle.pac_core.specs.Replay.{Replay, closed}
 use Rattle.pac_core.proofs.replay.Core.from_job.Goals as goal
 
 pub load_all-requires : goal.load_all-requires
-load_all-requires g c = subst (λ (r : Replay). MayLoadAll r c.as_slice.result.now) (sym c.in_ok-core.ensures) (subst (MayLoadAll _) (sym c.as_slice.ensures) c.requires.may)
+load_all-requires g c = subst (λ (r : Replay). MayLoadAll r c.args.job.batches) (sym c.in_ok-core.ensures) c.requires.may
 
 pub returns : goal.returns
-returns g c =
-    c.close.ensures
-    ∙ ap closed (c.in_ok-load_all.ensures ∙ ap (λ (r : Replay). with_batches r c.as_slice.result.now) c.in_ok-core.ensures ∙ ap (with_batches _) c.as_slice.ensures)
+returns g c = c.close.ensures ∙ ap closed (c.in_ok-load_all.ensures ∙ ap (λ (r : Replay). with_batches r c.args.job.batches) c.in_ok-core.ensures)

@@ -1,0 +1,30 @@
+-- The last state of a replay is that of the batches that were loaded at first.
+use Rattle.std.proofs.Common.{◌≡◌, List, length, Option, ap, subst, ◌∙◌}
+use Rattle.pac_value.specs.State.{Tables}
+use Rattle.pac_ops.specs.Notes.{first_note}
+use Rattle.pac_ops.specs.Transactions.{replayed}
+use Rattle.pac_ops.specs.declared.batch.Batch.{Batch}
+use Rattle.pac_ops.specs.declared.note.Note.{Note}
+use Rattle.pac_commute.specs.Loads.{Job, pieces_of}
+use Rattle.pac_commute.specs.PlanLaws.{txns_of}
+use Rattle.pac_core.specs.Calls.{IsOutcome, with_batches}
+use Rattle.pac_core.specs.Replay.{Replay, closed, left, opening_replay, with_none_taken}
+use Rattle.pac_core.proofs.BatchLoads.{begun_is, begun_left}
+
+module _ (job : Job) (batches : List Batch) (core : Replay) (loaded : core ≡ closed (with_batches (opening_replay job) batches)) where
+  pub left_is : left core ≡ length (pieces_of job batches)
+  left_is = ap left (loaded ∙ begun_is job batches) ∙ begun_left job batches
+
+  module _ (last : Replay) (same : with_none_taken last ≡ with_none_taken core) where
+    pub job_is : last.job ≡ job
+    job_is = ap (λ (r : Replay). r.job) (same ∙ ap with_none_taken (loaded ∙ begun_is job batches))
+
+    batches_are : last.batches ≡ batches
+    batches_are = ap (λ (r : Replay). r.batches) (same ∙ ap with_none_taken (loaded ∙ begun_is job batches))
+
+    module _ (tables : Tables) (note : Option Note) (is : IsOutcome last tables note) where
+      pub tables_are : tables ≡ (replayed job.parts.programs job.first (txns_of batches) job.tables).tables
+      tables_are = is.tables_are ∙ (λ i. (replayed (job_is i).parts.programs (job_is i).first (txns_of (batches_are i)) (job_is i).tables).tables)
+
+      pub note_is : note ≡ first_note (replayed job.parts.programs job.first (txns_of batches) job.tables).notes
+      note_is = is.note_is ∙ (λ i. first_note (replayed (job_is i).parts.programs (job_is i).first (txns_of (batches_are i)) (job_is i).tables).notes)

@@ -1,0 +1,98 @@
+// Executing batches by workers.
+ghost use Rattle.std.specs.Prelude.{◌≡◌, ◌+◌, ◌^◌, ◌<◌, ◌≤◌, All, IfOk, length, sum};
+ghost use Rattle.pac_ops.specs.Notes.{first_note};
+ghost use Rattle.pac_ops.specs.Shapes.{RowsFit};
+ghost use Rattle.pac_ops.specs.Transactions.{replayed};
+ghost use Rattle.pac_ops.specs.declared.batch.Batch.{Batch as ABatch};
+ghost use Rattle.pac_commute.specs.Loads.{pieces_of};
+ghost use Rattle.pac_commute.specs.PartialFits.{TxnsFitPlan};
+ghost use Rattle.pac_commute.specs.PlanLaws.{NumbersRunOn, txns_of};
+ghost use Rattle.pac_core.specs.Calls.{with_batches};
+ghost use Rattle.pac_core.specs.Replay.{closed, opening_replay};
+
+use crate::threads::{Replayed, replay};
+use pac_base::{Listed, NoMemory};
+use pac_core::{Core, Outcome};
+use pac_ops::{Batches, Note};
+use pac_outside::Gate;
+use pac_plan::Plan;
+use pac_tables::Rows;
+use std::alloc::Global;
+use std::sync::Wait;
+use std::thread::Threads;
+
+/// What the execution of batches by workers leaves.
+#[derive(Drop)]
+pub struct Executed<R: Rows> {
+    pub tables: R,
+    /// The first transaction that aborted, where one did: the tables don't count then.
+    pub first_note: Option<Note>,
+    /// How many pieces each worker finished.
+    pub tallies: Listed<u64>,
+    /// How many were left by all workers, and were run after them.
+    pub drained: u64,
+}
+
+/// Executes consecutive batches over tables, by so many workers. What is left is what executing their transactions one after
+/// another leaves, whichever worker runs which piece, and when. Each worker passes the gate before each piece that it runs.
+///
+/// # Errors
+///
+/// [`NoMemory`] where an allocation is refused: for what is loaded, or as in [`replay`].
+pub fn execute<R: Rows + Send, G: Gate + Sync, H: Threads + Wait + Sync>(
+    rt: &H,
+    alloc: Global,
+    workers: u32,
+    plan: Plan,
+    first: u64,
+    tables: R,
+    batches: Batches,
+    gate: &G,
+) -> Result<Executed<R>, NoMemory>
+    requires workers { 1 ≤ workers }
+    requires tables { R.tables tables ≡ length plan.tables }
+    requires fit { RowsFit plan.tables (R.held tables) }
+    requires runs { NumbersRunOn first batches }
+    requires txns { All (λ (batch : ABatch). TxnsFitPlan plan batch.txns) batches }
+    requires numbers { first + length (txns_of batches) < 2 ^ 64 }
+    ensures tables { IfOk result (λ e. R.tables e.tables ≡ length plan.tables) }
+    ensures held { IfOk result (λ e. R.held e.tables ≡ (replayed plan.programs first (txns_of batches) (R.held tables)).tables) }
+    ensures note { IfOk result (λ e. e.first_note ≡ first_note (replayed plan.programs first (txns_of batches) (R.held tables)).notes) }
+    ensures tallies { IfOk result (λ e. length e.tallies ≡ workers) }
+    ensures counted { IfOk result (λ e. sum e.tallies + e.drained ≡ length (pieces_of (record { parts = plan; first = first; tables = R.held tables }) batches)) }
+{
+    let core = loaded(alloc, plan, first, tables, batches)?;
+    let Replayed {
+        machine,
+        tallies,
+        drained,
+    } = replay(rt, alloc, workers, core, gate)?;
+    let Outcome { tables, first_note } = machine.outcome();
+    Ok(Executed {
+        tables,
+        first_note,
+        tallies,
+        drained,
+    })
+}
+
+// Batches are loaded, and no more come.
+fn loaded<R: Rows>(
+    alloc: Global,
+    plan: Plan,
+    first: u64,
+    tables: R,
+    batches: Batches,
+) -> Result<Core<R>, NoMemory>
+    requires tables { R.tables tables ≡ length plan.tables }
+    requires fit { RowsFit plan.tables (R.held tables) }
+    requires runs { NumbersRunOn first batches }
+    requires txns { All (λ (batch : ABatch). TxnsFitPlan plan batch.txns) batches }
+    requires numbers { first + length (txns_of batches) < 2 ^ 64 }
+    ensures { IfOk result (λ core. core ≡ closed (with_batches (opening_replay (record { parts = plan; first = first; tables = R.held tables })) batches)) }
+{
+    let mut core = Core::new(alloc, plan, first, tables)?;
+    core.load_all(batches)?;
+    core.close();
+    Ok(core)
+}
