@@ -1,5 +1,5 @@
 -- Batches whose numbers run on, and whose transactions fit the plan, may be loaded one after another; and what is left then.
-use Rattle.std.proofs.Common.{◌≡◌, ℕ, ◌+◌, ◌<◌, ◌^◌, true, false, cond, not, Bool, List, [], ◌∷◌, ◌++◌, length, refl, sym, ap, subst, ◌∙◌, arith}
+use Rattle.std.proofs.Common.{◌≡◌, ◌+◌, ◌<◌, ◌^◌, true, false, List, [], ◌∷◌, ◌++◌, length, refl, sym, ap, subst, ◌∙◌, arith}
 use Rattle.std.specs.Prelude.{All, filter}
 use Rattle.std.proofs.lemmas.List.{length-append}
 use Rattle.std.proofs.lemmas.List.Elements.{All-head, All-tail}
@@ -9,7 +9,7 @@ use Rattle.pac_commute.specs.PartialFits.{TxnsFitPlan}
 use Rattle.pac_commute.specs.PlanLaws.{NumbersRunOn, txns_of}
 use Rattle.pac_commute.proofs.BatchLemmas.{txns-more}
 use Rattle.pac_core.specs.Calls.{MayLoadAll, with_batches}
-use Rattle.pac_core.specs.Replay.{Replay, closed, left, loaded_pieces, opening_replay, with_batch_loaded}
+use Rattle.pac_core.specs.Replay.{Replay, closed, left, opening_replay, with_batch_loaded}
 
 -- the number after one more batch
 next_more : (job : Job) (batches : List Batch) (batch : Batch) → next_in_job job (and_batch batches batch) ≡ next_in_job job batches + length batch.txns

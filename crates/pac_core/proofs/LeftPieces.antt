@@ -1,5 +1,5 @@
 -- How many pieces are left after a take, and after a result was handed in.
-use Rattle.std.proofs.Common.{◌≡◌, ℕ, ◌+◌, false, Result, Ok, Err, ap, arith}
+use Rattle.std.proofs.Common.{◌≡◌, ◌+◌, Result, Ok, Err, ap, arith}
 use Rattle.std.specs.Prelude.{IfOk}
 use Rattle.pac_base.proofs.TestLemmas.{mem_each}
 use Rattle.pac_piece.specs.Results.{WorkDone}
