@@ -1,5 +1,5 @@
 -- The last state of a replay is that of the batches that were loaded at first.
-use Rattle.std.proofs.Common.{◌≡◌, List, length, Option, ap, subst, ◌∙◌}
+use Rattle.std.proofs.Common.{◌≡◌, List, length, Option, ap, ◌∙◌}
 use Rattle.pac_value.specs.State.{Tables}
 use Rattle.pac_ops.specs.Notes.{first_note}
 use Rattle.pac_ops.specs.Transactions.{replayed}

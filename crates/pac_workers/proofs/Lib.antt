@@ -1,1 +1,2 @@
 mod Executions
+mod Sent

@@ -62,11 +62,12 @@ pub fn execute<R: Rows + Send, G: Gate + Sync, H: Threads + Wait + Sync>(
     ensures counted { IfOk result (λ e. sum e.tallies + e.drained ≡ length (pieces_of (record { parts = plan; first = first; tables = R.held tables }) batches)) }
 {
     let core = loaded(alloc, plan, first, tables, batches)?;
+    let replayed = replay(rt, alloc, workers, core, gate)?;
     let Replayed {
         machine,
         tallies,
         drained,
-    } = replay(rt, alloc, workers, core, gate)?;
+    } = replayed;
     let Outcome { tables, first_note } = machine.outcome();
     Ok(Executed {
         tables,

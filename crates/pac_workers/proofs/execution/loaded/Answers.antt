@@ -1,8 +1,7 @@
 -- The batches may be loaded, since their numbers run on and they fit the plan.
-use Rattle.std.proofs.Common.{refl, sym, ap, subst, ◌∙◌}
-use Rattle.std.specs.Prelude.{length}
+use Rattle.std.proofs.Common.{sym, ap, subst, ◌∙◌}
 use Rattle.pac_core.specs.Calls.{MayLoadAll, with_batches}
-use Rattle.pac_core.specs.Replay.{Replay, closed, opening_replay}
+use Rattle.pac_core.specs.Replay.{Replay, closed}
 use Rattle.pac_core.proofs.BatchLoads.{may_load_first}
 use Rattle.pac_workers.proofs.execution.loaded.Goals as goal
 
