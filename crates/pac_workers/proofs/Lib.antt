@@ -1,2 +1,3 @@
 mod Executions
 mod Sent
+mod OneTable

@@ -1,9 +1,11 @@
 // Tests of what no clause says: that threads run, wait, wake each other and end.
 mod chains;
+mod executions;
 mod gates;
 
 use crate::replay;
 use crate::tests::chains::{Chains, Pattern};
+use crate::tests::executions::leaves_the_last;
 use crate::tests::gates::{Counting, Logging, Meeting};
 use pac_base::NoMemory;
 use std::alloc::Global;
@@ -123,6 +125,16 @@ fn workers_that_end_give_back(rt: HostRuntime) -> Result<(), NoMemory> {
         if workers == 1 || ended == u32::MAX {
             assert_eq!(rt; counted, 0);
         }
+    }
+    Ok(())
+}
+
+// However many workers there are, of two batches the rows are left that are put last.
+#[test]
+fn last_rows_are_left(rt: HostRuntime) -> Result<(), NoMemory> {
+    let alloc: Global = rt.alloc();
+    for workers in [1u32, 4] {
+        assert!(rt; leaves_the_last(&rt, alloc, workers)?, "{workers} workers");
     }
     Ok(())
 }
