@@ -1,13 +1,13 @@
 -- The analysis of one table and of no procedure: one block, the table's home.
-use Rattle.std.proofs.Common.{◌≡◌, ℕ, zero, suc, ◌<◌, ◌≤◌, List, [], ◌∷◌, Some, refl, sym, ap, subst, inl, arith}
+use Rattle.std.proofs.Common.{◌≡◌, ℕ, zero, suc, ◌<◌, List, [], ◌∷◌, Some, refl, subst, arith}
 use Rattle.std.specs.Prelude.{IsSomeAnd, Option, None, map, ◌↔◌, Contains, slice_get}
 use Rattle.std.specs.List.{AllByRecursion}
 use Rattle.std.specs.Option.{option_map}
 use Rattle.std.proofs.lemmas.Option.{same_Some, slice_get-map}
 use Rattle.pac_value.specs.declared.values.Ty.{Ty}
 use Rattle.pac_value.specs.declared.values.Ty.TheVariants.{Int}
-use Rattle.pac_graph.specs.Graph.{ReachEachOther, Reach, Here}
-use Rattle.pac_graph.specs.Groups.{AreGroups, IsEdgeBetween}
+use Rattle.pac_graph.specs.Graph.{ReachEachOther, Here}
+use Rattle.pac_graph.specs.Groups.{AreGroups}
 use Rattle.pac_ops.specs.Programs.{AreWellFormedTables, IsStoredType, IsWellFormedTableTypes}
 use Rattle.pac_ops.specs.declared.shapes.TableTypes.{TableTypes}
 use Rattle.pac_ops.specs.declared.program.Program.{Program}

@@ -2,8 +2,6 @@
 use Rattle.std.proofs.Common.{rules, ◌≡◌, List, [], ◌∷◌, sym, ap, subst, ◌∙◌}
 use Rattle.pac_value.specs.declared.values.Ty.{Ty}
 use Rattle.pac_value.specs.declared.values.Ty.TheVariants.{Int}
-use Rattle.pac_ops.specs.declared.shapes.TableTypes.{TableTypes}
-use Rattle.pac_plan.specs.declared.parts.PlanParts.{PlanParts}
 use Rattle.pac_plan.specs.Analysis.{IsPlan}
 use Rattle.pac_workers.proofs.OneTable.{is_plan, one_table, types}
 use Rattle.pac_workers.proofs.tests.executions.one_table.Goals as goal
