@@ -5,11 +5,7 @@
 #![tactic(auto)]
 
 #[cfg(test)]
-mod batches;
-#[cfg(test)]
 mod commands;
-#[cfg(test)]
-mod copies;
 #[cfg(test)]
 mod file_calls;
 #[cfg(test)]
@@ -17,17 +13,7 @@ mod files;
 #[cfg(test)]
 mod lines;
 #[cfg(test)]
-mod many;
-#[cfg(test)]
-mod pieces;
-#[cfg(test)]
-mod plans;
-#[cfg(test)]
 mod recorder;
-#[cfg(test)]
-mod rows;
-#[cfg(test)]
-mod schedules;
 #[cfg(test)]
 mod sends;
 #[cfg(test)]
@@ -38,5 +24,3 @@ mod store_files;
 mod streams;
 #[cfg(test)]
 mod tokens;
-#[cfg(test)]
-mod undone;

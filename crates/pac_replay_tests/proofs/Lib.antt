@@ -1,0 +1,3 @@
+mod Numbered
+pub mod NumberedPuts
+pub mod Loading

@@ -1,0 +1,38 @@
+//! Tests of the replay, from scripts to the tables that it leaves: where batches are cut, what the pieces of procedures are
+//! and touch, in which order they are handed out, and that every order leaves what serial execution does. It has no calls of
+//! its own.
+//!
+//! It stands beside `pac_tests`, on the crates of the replay alone, so that it waits for no command. Each function owns at most
+//! one thing that has memory, and lends it to the one that looks at it: so its proof is short.
+#![tactic(auto)]
+
+#[cfg(test)]
+mod batches;
+#[cfg(test)]
+mod copies;
+#[cfg(test)]
+mod cores;
+#[cfg(test)]
+mod ends;
+#[cfg(test)]
+mod jobs;
+#[cfg(test)]
+mod many;
+#[cfg(test)]
+mod orders;
+#[cfg(test)]
+mod pieces;
+#[cfg(test)]
+mod plans;
+#[cfg(test)]
+mod queues;
+#[cfg(test)]
+mod rows;
+#[cfg(test)]
+mod schedules;
+#[cfg(test)]
+mod steps;
+#[cfg(test)]
+mod takes;
+#[cfg(test)]
+mod undone;

@@ -1,2 +1,0 @@
-mod Numbered
-pub mod NumberedPuts
