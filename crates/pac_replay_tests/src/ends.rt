@@ -5,7 +5,7 @@ use pac_tables::Rows;
 use pac_value::{Key, Row, Value};
 
 /// The rows of a table with whole numbers for keys and one column, by ascending keys.
-pub(crate) type Numbers = &'static [(i64, i64)];
+pub(crate) type KeyedNumbers = &'static [(i64, i64)];
 
 fn is_number(key: &Key, row: &Row, number: (i64, i64)) -> bool {
     *key == Key::Int(number.0) && row.items() == [Value::Int(number.1)].as_slice()
@@ -34,7 +34,7 @@ fn holds<R: Rows>(rows: &R, table: u16, numbers: &[(i64, i64)]) -> bool {
 }
 
 /// Whether the tables hold these and no others.
-pub(crate) fn hold<R: Rows>(rows: &R, tables: &[Numbers]) -> bool {
+pub(crate) fn hold<R: Rows>(rows: &R, tables: &[KeyedNumbers]) -> bool {
     if usize::from(rows.tables()) != tables.len() {
         return false;
     }

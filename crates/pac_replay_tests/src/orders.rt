@@ -7,7 +7,7 @@ ghost use Rattle.pac_request.specs.RequestFits.{BatchesFit, BatchesHaveNumbers};
 use crate::cores::{ADD, core_of, plan_of, script_of};
 use crate::ends::{are_same_rows, outcome_of};
 use crate::plans::BANK;
-use crate::steps::{Handed, Taken, hand_in, take};
+use crate::steps::{Handed, TakeAnswer, hand_in, take};
 use pac_core::{Core, Outcome};
 use pac_ops::{Batch, Note};
 use pac_piece::Done;
@@ -105,9 +105,9 @@ enum Turn {
 
 fn take_one<R: Rows>(alloc: Global, core: &mut Core<R>, results: &mut Vec<Done>) -> Turn {
     match take(alloc, core, results) {
-        Taken::Done => Turn::IsDone,
-        Taken::NoMemory => Turn::Fails,
-        Taken::Given(_) | Taken::Ran(_) | Taken::NotReady => Turn::GoesOn,
+        TakeAnswer::Done => Turn::IsDone,
+        TakeAnswer::NoMemory => Turn::Fails,
+        TakeAnswer::Given(_) | TakeAnswer::Ran(_) | TakeAnswer::NotReady => Turn::GoesOn,
     }
 }
 

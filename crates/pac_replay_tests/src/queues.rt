@@ -1,7 +1,7 @@
 // The pairs that a core keeps, and the least note of several.
 use crate::cores::{ADD, script_core};
 use crate::ends::drained;
-use crate::steps::{Handed, Taken, hand_in, take};
+use crate::steps::{Handed, TakeAnswer, hand_in, take};
 use pac_core::Core;
 use pac_ops::{Note, PieceId, Reason};
 use pac_piece::Done;
@@ -10,7 +10,7 @@ use std::alloc::{AllocError, Global};
 
 // Takes a piece and finishes it. The block that it is in, if it was handed out and its result is kept.
 fn finish_next<R: Rows>(alloc: Global, core: &mut Core<R>, results: &mut Vec<Done>) -> Option<u16> {
-    let Taken::Given(piece) = take(alloc, core, results) else {
+    let TakeAnswer::Given(piece) = take(alloc, core, results) else {
         return None;
     };
     let done = results.pop()?;
@@ -26,7 +26,7 @@ fn finish_first_block<R: Rows>(
     alloc: Global,
     core: &mut Core<R>,
     results: &mut Vec<Done>,
-) -> (usize, Taken, u64) {
+) -> (usize, TakeAnswer, u64) {
     let mut count = 0usize;
     for _ in 0..1_024u32 {
         if finish_next(alloc, core, results) != Some(0) {
@@ -38,13 +38,13 @@ fn finish_first_block<R: Rows>(
     (count, next, core.pairs())
 }
 
-fn pairs_in<R: Rows>(alloc: Global, core: &mut Core<R>) -> (usize, Taken, u64) {
+fn pairs_in<R: Rows>(alloc: Global, core: &mut Core<R>) -> (usize, TakeAnswer, u64) {
     core.close();
     let mut results = Vec::new(alloc);
     finish_first_block(alloc, core, &mut results)
 }
 
-fn pairs_of(alloc: Global, lines: &[u8]) -> Option<(usize, Taken, u64)> {
+fn pairs_of(alloc: Global, lines: &[u8]) -> Option<(usize, TakeAnswer, u64)> {
     let mut core = script_core(alloc, ADD, lines)?;
     Some(pairs_in(alloc, &mut core))
 }
@@ -58,7 +58,7 @@ fn calls(alloc: Global) -> Result<Vec<u8>, AllocError> {
     Ok(lines)
 }
 
-fn pairs_of_calls(alloc: Global) -> Option<(usize, Taken, u64)> {
+fn pairs_of_calls(alloc: Global) -> Option<(usize, TakeAnswer, u64)> {
     match calls(alloc) {
         Ok(lines) => pairs_of(alloc, &lines),
         Err(_) => None,
@@ -67,7 +67,7 @@ fn pairs_of_calls(alloc: Global) -> Option<(usize, Taken, u64)> {
 
 #[test]
 fn pieces_of_one_row_wait_for_the_next_alone(rt: HostRuntime) {
-    let next = Taken::Given(PieceId { txn: 1, block: 1 });
+    let next = TakeAnswer::Given(PieceId { txn: 1, block: 1 });
     assert_eq!(rt; pairs_of_calls(rt.alloc()), Some((1_024, next, 1_023)));
 }
 

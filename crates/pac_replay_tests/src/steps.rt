@@ -9,7 +9,7 @@ use pac_tables::Rows;
 use std::alloc::Global;
 
 /// A call, and what it answers. A piece is named by its transaction and its block.
-pub(crate) enum Step {
+pub(crate) enum CoreStep {
     /// A take hands this piece out. Its work is done at once, and the result is kept.
     Gives(u64, u16),
     /// A take runs this piece on the spot.
@@ -32,7 +32,7 @@ pub(crate) enum Step {
 
 /// What a take answers, where the work is done at once.
 #[derive(Clone, Copy, Debug, PartialEq, Eq)]
-pub(crate) enum Taken {
+pub(crate) enum TakeAnswer {
     Given(PieceId),
     Ran(PieceId),
     NotReady,
@@ -49,27 +49,31 @@ pub(crate) enum Handed {
 }
 
 // Does the work, and keeps the result.
-fn work(alloc: Global, work: Work, results: &mut Vec<Done>) -> Taken
+fn work(alloc: Global, work: Work, results: &mut Vec<Done>) -> TakeAnswer
     requires { IsRunnable work }
 {
     let piece = work.piece;
     let Ok(done) = run(alloc, work) else {
-        return Taken::NoMemory;
+        return TakeAnswer::NoMemory;
     };
     match results.push(done) {
-        Ok(()) => Taken::Given(piece),
-        Err(_) => Taken::NoMemory,
+        Ok(()) => TakeAnswer::Given(piece),
+        Err(_) => TakeAnswer::NoMemory,
     }
 }
 
 /// Takes a piece. Where it is handed out, its work is done and the result kept.
-pub(crate) fn take<R: Rows>(alloc: Global, core: &mut Core<R>, results: &mut Vec<Done>) -> Taken {
+pub(crate) fn take<R: Rows>(
+    alloc: Global,
+    core: &mut Core<R>,
+    results: &mut Vec<Done>,
+) -> TakeAnswer {
     match core.take() {
         Ok(Take::Given(given)) => work(alloc, given, results),
-        Ok(Take::Ran(piece)) => Taken::Ran(piece),
-        Ok(Take::NotReady) => Taken::NotReady,
-        Ok(Take::Done) => Taken::Done,
-        Err(_) => Taken::NoMemory,
+        Ok(Take::Ran(piece)) => TakeAnswer::Ran(piece),
+        Ok(Take::NotReady) => TakeAnswer::NotReady,
+        Ok(Take::Done) => TakeAnswer::Done,
+        Err(_) => TakeAnswer::NoMemory,
     }
 }
 
@@ -136,19 +140,25 @@ fn is_closed<R: Rows>(core: &mut Core<R>) -> bool {
     core.is_closed()
 }
 
-fn goes<R: Rows>(alloc: Global, core: &mut Core<R>, results: &mut Vec<Done>, step: &Step) -> bool {
+fn goes<R: Rows>(
+    alloc: Global,
+    core: &mut Core<R>,
+    results: &mut Vec<Done>,
+    step: &CoreStep,
+) -> bool {
     match *step {
-        Step::Gives(txn, block) => {
-            take(alloc, core, results) == Taken::Given(PieceId { txn, block })
+        CoreStep::Gives(txn, block) => {
+            take(alloc, core, results) == TakeAnswer::Given(PieceId { txn, block })
         }
-        Step::Runs(txn, block) => take(alloc, core, results) == Taken::Ran(PieceId { txn, block }),
-        Step::Waits => take(alloc, core, results) == Taken::NotReady,
-        Step::Ends => take(alloc, core, results) == Taken::Done,
-        Step::Finishes(txn, block) => is_handed(core, results, txn, block, Handed::Kept),
-        Step::Refuses(txn, block) => is_handed(core, results, txn, block, Handed::Foreign),
-        Step::GiveBack(txn, block) => is_given_back(core, results, txn, block),
-        Step::Close => is_closed(core),
-        Step::Left(count) => core.unfinished() == count,
+        CoreStep::Runs(txn, block) => take(alloc, core, results)
+            == TakeAnswer::Ran(PieceId { txn, block }),
+        CoreStep::Waits => take(alloc, core, results) == TakeAnswer::NotReady,
+        CoreStep::Ends => take(alloc, core, results) == TakeAnswer::Done,
+        CoreStep::Finishes(txn, block) => is_handed(core, results, txn, block, Handed::Kept),
+        CoreStep::Refuses(txn, block) => is_handed(core, results, txn, block, Handed::Foreign),
+        CoreStep::GiveBack(txn, block) => is_given_back(core, results, txn, block),
+        CoreStep::Close => is_closed(core),
+        CoreStep::Left(count) => core.unfinished() == count,
     }
 }
 
@@ -157,7 +167,7 @@ pub(crate) fn count_right<R: Rows>(
     alloc: Global,
     core: &mut Core<R>,
     results: &mut Vec<Done>,
-    steps: &[Step],
+    steps: &[CoreStep],
 ) -> usize {
     let mut count = 0usize;
     for step in steps {
