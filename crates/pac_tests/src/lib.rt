@@ -1,5 +1,5 @@
-//! Tests that no case can be: files of the system, streams that give or take little at a time, where batches are cut, the
-//! calls that no command makes, and the largest sizes. It has no calls of its own.
+//! Tests that no case can be: files of the system, streams that give or take little at a time, the calls that no command
+//! makes, and the largest sizes. It has no calls of its own.
 //!
 //! Each function owns at most one thing that has memory, and lends it to the one that looks at it: so its proof is short.
 #![tactic(auto)]
