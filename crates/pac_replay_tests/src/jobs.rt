@@ -56,7 +56,8 @@ fn a_core_knows_its_own_job(rt: HostRuntime) {
 
 // Whether batches may be loaded by a plan one after another, from a number on.
 fn may_be_loaded(plan: &Plan, next: u64, batches: &[Batch]) -> bool
-    ensures { IsTrue result → (r : Replay) → r.job.parts ≡ plan.now → r.is_closed ≡ false → next_in_job r.job r.batches ≡ next → MayLoadAll r batches.now }
+    ensures { IsTrue result → (r : Replay) → r.job.parts ≡ plan.now → r.is_closed ≡ false
+        → next_in_job r.job r.batches ≡ next → MayLoadAll r batches.now }
 {
     match batches {
         [] => true,

@@ -7,7 +7,7 @@ use Rattle.pac_plan.specs.declared.parts.PlanParts.{PlanParts}
 use Rattle.pac_commute.specs.Loads.{next_in_job, and_batch}
 use Rattle.pac_commute.specs.PartialFits.{TxnsFitPlan}
 use Rattle.pac_core.specs.Calls.{MayLoadAll}
-use Rattle.pac_core.specs.Replay.{Replay, with_batch_loaded}
+use Rattle.pac_core.specs.Replay.{with_batch_loaded}
 use Rattle.pac_replay_tests.proofs.Loading.{next_after}
 use Rattle.pac_replay_tests.proofs.jobs.+may_be_loaded.Goals as goal
 
