@@ -1,9 +1,9 @@
 #!/bin/bash
 # Times the program and parts of it, for docs/COSTS.md.
 #
-#     tools/times.sh replay|input|parts|log|slots|runs|committed|rows|pieces
+#     tools/times.sh replay|input|parts|log|slots|runs|committed|rows|pieces|workers
 #
-# `replay`, `input` and `runs` time the program, which is $PACMAN or crates/pacman/out/pacman, and `committed` counts its
+# `replay`, `input`, `runs` and `workers` time the program, which is $PACMAN or crates/pacman/out/pacman, and `committed` counts its
 # instructions. The others time pac_bench, which is $PAC_BENCH or crates/pac_bench/out/pac_bench, as
 # `(cd crates/pac_bench && rt run -- copy 1)` makes it. All files are made in a new folder of the current directory, which
 # is removed: its disk is what `log`, `slots` and `runs` time.
@@ -51,6 +51,25 @@ script() {
     head -2 "$add"
     echo ---
     calls "$1" "$2"
+}
+
+# Transactions of the stress test over the bank: the first $1.
+bank_lines() {
+    awk -v lines="$1" 'BEGIN { for (i = 1; i <= lines; i++) {
+        m = (i * 2654435761) % 4294967296; q = int(m / 97); src = 1 + m % 97; kind = i % 8
+        if (kind == 0) printf "adhoc put Family[%d] = (%d)\n", src, 1 + q % 97
+        else if (kind <= 3) printf "call Transfer(%d, %d)\n", src, 1 + q % 1000
+        else printf "call Deposit(%d, %d, %d)\n", src, 1 + q % 1000, int(q / 1000) % 7
+    } }'
+}
+
+# A catalogue whose procedure has $1 lets that build on one another.
+long_catalogue() {
+    awk -v lets="$1" 'BEGIN {
+        print "table T(key int, v int);"; print "proc Long(k int) {"; print "  let v0 = k + 1;"
+        for (i = 1; i < lets; i++) printf "  let v%d = v%d + %d;\n", i, i - 1, i
+        printf "  put T[k] = (v%d);\n}\n", lets - 1
+    }'
 }
 
 # Synced writes of $2 times $1 bytes.
@@ -140,6 +159,30 @@ committed)
         mv count "count.$count"
     done
     echo "a committed call in groups of 64: $((($(cat count.6464) - $(cat count.64)) / 6400)) instructions"
+    ;;
+workers)
+    # Four logs: how long workers take over them, and what a restart in pieces costs beside one by serial execution.
+    mkdir bank hot many long
+    cp "$top/crates/pac_examples/data/bank.catalogue" bank/catalogue
+    bank_lines 100000 > bank/lines
+    head -2 "$add" | tee hot/catalogue > many/catalogue
+    calls 100000 1 > hot/lines
+    calls 100000 100000 > many/lines
+    long_catalogue 200 > long/catalogue
+    awk 'BEGIN { for (i = 0; i < 20000; i++) print "call Long(" i ")" }' > long/lines
+    for name in bank hot many long; do
+        (cat $name/catalogue; echo ---; awk '{ print } NR % 64 == 0 { print "flush" }' $name/lines) > $name/script
+        for workers in 1 2 4; do timed "$name: replay by $workers" "$pacman" replay --workers $workers < $name/script > /dev/null; done
+        (
+            cd $name
+            "$pacman" init < catalogue
+            "$pacman" run --batch 64 < lines > replies
+            counted "$name: run restarts, serially" "$pacman" run < /dev/null
+            instructions "$pacman" recover < /dev/null
+            echo "$name: recover, in pieces"
+            echo "  instructions: $(cat count)"
+        )
+    done
     ;;
 rows)
     for part in few few_limited many many_limited; do timed "5,000 times 1,000 transactions: $part" "$bench" "$part" 5000; done

@@ -10,7 +10,7 @@ use std::thread::Threads;
 
 /// How a call ended.
 #[derive(Drop)]
-pub struct Outcome {
+pub struct Ending {
     pub status: u8,
     /// How many device calls it made.
     pub disk_calls: u64,
@@ -18,9 +18,9 @@ pub struct Outcome {
     pub errors: Vec<u8>,
 }
 
-impl Outcome {
-    pub fn new(alloc: Global) -> Outcome {
-        Outcome {
+impl Ending {
+    pub fn new(alloc: Global) -> Ending {
+        Ending {
             status: 0,
             disk_calls: 0,
             output: Vec::new(alloc),
@@ -140,7 +140,7 @@ pub fn call<RT: Threads + Wait + Sync>(
     input: &[u8],
     devices: &mut Vec<Vec<u8>>,
     faults: StepFaults,
-    outcome: &mut Outcome,
+    outcome: &mut Ending,
 ) -> Result<(), AllocError> {
     let mut streams = streams_of(alloc, input, faults)?;
     call_streams(rt, alloc, line, &mut streams, devices, faults, outcome)
@@ -153,7 +153,7 @@ fn call_streams<RT: Threads + Wait + Sync>(
     streams: &mut Streams,
     devices: &mut Vec<Vec<u8>>,
     faults: StepFaults,
-    outcome: &mut Outcome,
+    outcome: &mut Ending,
 ) -> Result<(), AllocError> {
     let mut disks = disks_of(alloc, devices)?;
     call_disks(rt, alloc, line, streams, &mut disks, faults, outcome)?;
@@ -161,7 +161,7 @@ fn call_streams<RT: Threads + Wait + Sync>(
     take_streams(streams, outcome)
 }
 
-fn take_streams(streams: &Streams, outcome: &mut Outcome) -> Result<(), AllocError> {
+fn take_streams(streams: &Streams, outcome: &mut Ending) -> Result<(), AllocError> {
     set_bytes(&mut outcome.output, streams.output.bytes())?;
     set_bytes(&mut outcome.errors, streams.errors.bytes())
 }
@@ -178,7 +178,7 @@ fn call_disks<RT: Threads + Wait + Sync>(
     streams: &mut Streams,
     disks: &mut [MemDisk],
     faults: StepFaults,
-    outcome: &mut Outcome,
+    outcome: &mut Ending,
 ) -> Result<(), AllocError> {
     let arguments = arguments_of(alloc, line)?;
     let outage = Outage::new(faults.disk);

@@ -1,5 +1,5 @@
 // Reports of differences: file and line, what was expected and what was found.
-use crate::call::Outcome;
+use crate::call::Ending;
 use crate::text::{push_number, push_shown};
 use std::alloc::{AllocError, Global};
 
@@ -110,7 +110,7 @@ fn first_difference<'a>(expected: &'a [u8], found: &'a [u8]) -> Difference<'a> {
 }
 
 /// Appends the status and, after a blank, the line on standard error if there is one.
-pub fn push_end(alloc: Global, bytes: &mut Vec<u8>, outcome: &Outcome) -> Result<(), AllocError> {
+pub fn push_end(alloc: Global, bytes: &mut Vec<u8>, outcome: &Ending) -> Result<(), AllocError> {
     push_number(alloc, bytes, u64::from(outcome.status))?;
     match outcome.errors.split_last() {
         Some((b'\n', line)) => push_part(bytes, line),
@@ -120,7 +120,7 @@ pub fn push_end(alloc: Global, bytes: &mut Vec<u8>, outcome: &Outcome) -> Result
 }
 
 /// Appends the same and, after a blank, the output if there is any.
-pub fn push_whole(alloc: Global, bytes: &mut Vec<u8>, outcome: &Outcome) -> Result<(), AllocError> {
+pub fn push_whole(alloc: Global, bytes: &mut Vec<u8>, outcome: &Ending) -> Result<(), AllocError> {
     push_end(alloc, bytes, outcome)?;
     if outcome.output.is_empty() {
         return Ok(());

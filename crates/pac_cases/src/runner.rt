@@ -1,5 +1,5 @@
 // Runs the lines of a case file one by one.
-use crate::call::Outcome;
+use crate::call::Ending;
 use crate::device::do_device;
 use crate::faults::StepFaults;
 use crate::report::{Location, report_problem};
@@ -74,7 +74,7 @@ pub struct Runner<'a> {
     pub dumps: Vec<Vec<u8>>,
     pub devices: Vec<Vec<u8>>,
     /// How the last call ended.
-    pub outcome: Outcome,
+    pub outcome: Ending,
     /// How many steps and rows went as expected.
     pub passed: u64,
     /// The differences.
@@ -95,7 +95,7 @@ impl<'a> Runner<'a> {
             expected_output: Vec::new(alloc),
             dumps: Vec::new(alloc),
             devices: Vec::new(alloc),
-            outcome: Outcome::new(alloc),
+            outcome: Ending::new(alloc),
             passed: 0,
             report: Vec::new(alloc),
         }

@@ -1,5 +1,5 @@
 // A step: one call of the program.
-use crate::call::{Outcome, call};
+use crate::call::{Ending, call};
 use crate::report::{Location, compare, compare_lines, push_end};
 use crate::runner::Runner;
 use std::alloc::{AllocError, Global};
@@ -44,7 +44,7 @@ fn compare_end(
     report: &mut Vec<u8>,
     location: Location<'_>,
     expected: &str,
-    outcome: &Outcome,
+    outcome: &Ending,
 ) -> Result<bool, AllocError> {
     let mut found = Vec::new(alloc);
     push_end(alloc, &mut found, outcome)?;

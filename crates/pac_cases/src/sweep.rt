@@ -1,5 +1,5 @@
 // A step that is repeated with a failure at each call of a kind.
-use crate::call::{Outcome, call};
+use crate::call::{Ending, call};
 use crate::device::copies_of;
 use crate::faults::{Failing, StepFaults};
 use crate::report::{compare_lines, push_location, push_sides, push_whole, report_problem};
@@ -223,7 +223,7 @@ fn try_on<'a, RT: Threads + Wait + Sync>(
     Ok(Verdict::Wrong)
 }
 
-fn verdict_of(outcome: &Outcome, expected: &[u8], trial: Trial) -> Verdict {
+fn verdict_of(outcome: &Ending, expected: &[u8], trial: Trial) -> Verdict {
     if is_past(outcome, expected, trial) {
         return Verdict::Past;
     }
@@ -234,7 +234,7 @@ fn verdict_of(outcome: &Outcome, expected: &[u8], trial: Trial) -> Verdict {
 }
 
 // Whether nothing failed and everything was done.
-fn is_past(outcome: &Outcome, expected: &[u8], trial: Trial) -> bool {
+fn is_past(outcome: &Ending, expected: &[u8], trial: Trial) -> bool {
     let is_made = match trial.target {
         CallKind::Call => outcome.disk_calls >= trial.failing.call,
         _ => false,
@@ -243,7 +243,7 @@ fn is_past(outcome: &Outcome, expected: &[u8], trial: Trial) -> bool {
 }
 
 // Whether it ended at the failing call, with a prefix of the output.
-fn is_right(outcome: &Outcome, expected: &[u8], trial: Trial) -> bool {
+fn is_right(outcome: &Ending, expected: &[u8], trial: Trial) -> bool {
     let is_last = match trial.target {
         CallKind::Call => outcome.disk_calls == trial.failing.call,
         _ => true,
@@ -333,7 +333,7 @@ fn report_found(
     alloc: Global,
     report: &mut Vec<u8>,
     expected: &[u8],
-    outcome: &Outcome,
+    outcome: &Ending,
 ) -> Result<(), AllocError> {
     let mut found = Vec::new(alloc);
     push_whole(alloc, &mut found, outcome)?;

@@ -1,5 +1,5 @@
 // Rows of a table.
-use crate::call::{Outcome, call};
+use crate::call::{Ending, call};
 use crate::device::{change, copies_of};
 use crate::report::{Location, compare, push_whole};
 use crate::runner::Runner;
@@ -118,7 +118,7 @@ fn compare_end(
     report: &mut Vec<u8>,
     location: Location<'_>,
     end: &str,
-    outcome: &Outcome,
+    outcome: &Ending,
 ) -> Result<bool, AllocError> {
     let mut expected = Vec::new(alloc);
     push_text(&mut expected, end)?;
@@ -130,7 +130,7 @@ fn compare_whole(
     report: &mut Vec<u8>,
     location: Location<'_>,
     expected: &[u8],
-    outcome: &Outcome,
+    outcome: &Ending,
 ) -> Result<bool, AllocError> {
     let mut found = Vec::new(alloc);
     push_whole(alloc, &mut found, outcome)?;

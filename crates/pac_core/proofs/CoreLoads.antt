@@ -18,13 +18,14 @@ use Rattle.pac_commute.specs.Loads.{Job, begin, next_in_job}
 use Rattle.pac_commute.specs.Machine.{Invariant, among}
 use Rattle.pac_commute.specs.PartialFits.{TxnsFitPlan}
 use Rattle.pac_commute.proofs.Ends.{machine_ends}
+use Rattle.pac_commute.proofs.MachineFit.{machine_fits}
 use Rattle.pac_commute.proofs.Steps as steps
 use Rattle.pac_core.specs.declared.loaded.LoadedBatch.{LoadedBatch}
 use Rattle.pac_core.specs.declared.progress.Progress.{Progress}
 use Rattle.pac_core.specs.declared.stage.OpenSet.{OpenSet}
 use Rattle.pac_core.specs.declared.stage.SetStage.{SetStage}
 use Rattle.pac_core.specs.declared.stage.SetStage.TheVariants.{Waiting, Open}
-use Rattle.pac_core.specs.Calls.{IsReplayDone, IsOutcome}
+use Rattle.pac_core.specs.Calls.{IsReplayDone, IsReplayOutcome}
 use Rattle.pac_core.specs.Links.{AreStages, IsCore, IsOpened, KeepsProgress, KeepsValues, batches_of, core_of, job_of, pieces_marked, replay_so_far, set_ids}
 use Rattle.pac_core.specs.Moves.{IsAlike, IsLoadedTo, IsOpeningProgress}
 use Rattle.pac_core.specs.Replay.{Replay, left, loaded_pieces, machine_of, opening_replay, present_of, with_batch_loaded}
@@ -210,11 +211,17 @@ all_pass {A} test (y ∷ ys) e x m = go (test y) refl e m (all_pass test ys)
     go false t e n rest = absurd (omega (arith, e))
 
 module _ (p : Progress) (u : Undoable) (core : IsCore p u) (done : IsReplayDone (core_of p u)) where
-  pub outcome_is : IsOutcome (core_of p u) u.current p.note
+  pub outcome_is : IsReplayOutcome (core_of p u) u.current p.note
   outcome_is =
       let ends = machine_ends (job_of p u) core.progress.is_plan (machine_of (core_of p u)) core.progress.machine
       (all_pass (among (core_of p u).finished) (loaded_pieces (core_of p u)) done.1) in
       record { tables_are = core.rows ∙ ends.0; note_is = core.progress.note ∙ ends.1 }
+
+-- the tables of now fit the plan
+pub outcome_fits : (p : Progress) (u : Undoable) → IsCore p u → RowsFit (job_of p u).parts.tables u.current
+outcome_fits p u core =
+    let now = (machine_fits (job_of p u) core.progress.is_plan core.progress.fit (machine_of (core_of p u)) core.progress.machine).0 in
+    subst (λ (t : Tables). RowsFit (job_of p u).parts.tables t) (sym core.rows) now.rows
 
 -- ---- no more come
 

@@ -40,7 +40,7 @@ use Rattle.pac_core.specs.Links.{IsCore, KeepsProgress, batches_of, core_of, job
 use Rattle.pac_core.specs.Places.{AreValuesAt, IsPieceAt, IsTxnAt}
 use Rattle.pac_core.specs.Replay.{Replay, machine_of, present_of}
 use Rattle.pac_core.specs.Results.{IsResult}
-use Rattle.pac_core.specs.Takes.{IsWorkIn, IsWorkOver, access_in}
+use Rattle.pac_core.specs.Takes.{IsWorkIn, IsWorkOver, access_now}
 use Rattle.pac_core.proofs.Copies.{copied_in}
 use Rattle.pac_core.proofs.PieceValue.{value_is_apply}
 use Rattle.pac_core.proofs.PlacedPieces as placed
@@ -131,7 +131,7 @@ module _ (p : Progress) (u : Undoable) (core : IsCore p u) (place : Place) (piec
     module _ (cells : List Cell) (named : AreCellsOf (access_at job m piece) cells) (work : Work) (over : IsWorkOver p.pieces piece txn kept cells u.current work) where
       -- the same of the piece of the work
       abbrev InReplay : PieceId → Type 0
-      InReplay q = (txn_at job.first (txns_of (batches_of p)) q.txn ≡ Some txn) × AreCellsOf (access_in r q) cells × IsWorkOver p.pieces q txn ((present_of r).envs q.txn) cells (present_of r).tables work
+      InReplay q = (txn_at job.first (txns_of (batches_of p)) q.txn ≡ Some txn) × AreCellsOf (access_now r q) cells × IsWorkOver p.pieces q txn ((present_of r).envs q.txn) cells (present_of r).tables work
 
       in_replay : InReplay work.piece
       in_replay = subst InReplay (sym over.piece_is) (

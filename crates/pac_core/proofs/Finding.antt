@@ -18,7 +18,7 @@ use Rattle.pac_plan.proofs.PartLemmas.{part-mem}
 use Rattle.pac_plan.proofs.WorldLemmas.{record_uses}
 use Rattle.pac_plan.specs.declared.parts.PlanParts.{PlanParts}
 use Rattle.pac_commute.specs.Works.{given_over}
-use Rattle.pac_core.specs.Inputs.{FindsInputs, LeavesValues, is_found, is_left}
+use Rattle.pac_core.specs.Inputs.{FindsInputs, LeavesValues, is_found, is_passed_on}
 use Rattle.pac_value.specs.Restricted.{HasOnly}
 use Rattle.pac_core.specs.Values.{GivesTo}
 
@@ -45,10 +45,10 @@ module _ (parts : PlanParts) (block : ℕ) (txn : Txn) (vars : List ℕ) (kept e
       go true e = has.own x ((are x).1 e)
       go false e = has.none x (λ c. true≢false (sym ((are x).0 c) ∙ e))
 
-  pub leaves_of : (outs : Values) → ((x : ℕ) → Contains vars x ↔ (is_left parts block txn x ≡ true)) → GivesTo vars outs kept env → LeavesValues parts block txn outs kept env
-  leaves_of outs are has x = go (is_left parts block txn x) refl
+  pub leaves_of : (outs : Values) → ((x : ℕ) → Contains vars x ↔ (is_passed_on parts block txn x ≡ true)) → GivesTo vars outs kept env → LeavesValues parts block txn outs kept env
+  leaves_of outs are has x = go (is_passed_on parts block txn x) refl
     where
-      go : (b : Bool) → is_left parts block txn x ≡ b → get env x ≡ cond b (given_over (get outs x) (get kept x)) (get kept x)
+      go : (b : Bool) → is_passed_on parts block txn x ≡ b → get env x ≡ cond b (given_over (get outs x) (get kept x)) (get kept x)
       go true e = has.own x ((are x).1 e)
       go false e = has.others x (λ c. true≢false (sym ((are x).0 c) ∙ e))
 

@@ -46,7 +46,7 @@ use Rattle.pac_core.specs.declared.progress.Progress.{Progress}
 use Rattle.pac_core.specs.declared.stage.OpenSet.{OpenSet}
 use Rattle.pac_core.specs.declared.stage.SetStage.{SetStage}
 use Rattle.pac_core.specs.declared.stage.SetStage.TheVariants.{Waiting, Open}
-use Rattle.pac_core.specs.Inputs.{LeavesValues, is_found, is_left}
+use Rattle.pac_core.specs.Inputs.{LeavesValues, is_found, is_passed_on}
 use Rattle.pac_core.specs.Links.{AreStages, IsOpened, piece_in, set_ids, set_of_piece, IsStageOf, IsUnfinishedBatch, KeepsBatch, KeepsInputs, KeepsProgress, KeepsValues, batches_of, mark, mark_in, pieces_marked, replay_so_far}
 use Rattle.pac_core.specs.Moves.{IsFinishedTo, after_finish}
 use Rattle.pac_core.specs.Replay.{Replay, left, loaded_pieces, machine_of, present_of, with_finished}
@@ -70,7 +70,7 @@ records_define n (PutRow table key row ∷ cs) x = records_define (n + 1) cs x
 records_define n (DeleteRow table key ∷ cs) x = records_define (n + 1) cs x
 
 -- what a piece defines and another block has as an input is left for it
-left_for : (parts : PlanParts) (txn : Txn) (block other x : ℕ) → block < parts.blocks → is_found parts block txn x ≡ true → defined_in (piece_ops parts other txn) x ≡ true → is_left parts other txn x ≡ true
+left_for : (parts : PlanParts) (txn : Txn) (block other x : ℕ) → block < parts.blocks → is_found parts block txn x ≡ true → defined_in (piece_ops parts other txn) x ≡ true → is_passed_on parts other txn x ≡ true
 left_for parts (ACall call) block other x inside found defined = inputs_are_outputs parts call.proc block other x inside found defined
 left_for parts (AdHoc records) block other x inside found defined =
     let o = any_gives (λ (o : NumberedOp). is_var x (defined_variable o.1.kind)) (piece_ops parts other (AdHoc records)) defined in
@@ -79,9 +79,9 @@ left_for parts (AdHoc records) block other x inside found defined =
 -- what is kept stays right where the piece's values are kept too
 inputs_left : (parts : PlanParts) (txn : Txn) (other : ℕ) (outs kept new before after : Values) → KeepsInputs parts txn kept before → LeavesValues parts other txn outs kept new
     → ((x : ℕ) → get after x ≡ given_over (get outs x) (get before x)) → ((x : ℕ) (v : Value) → get outs x ≡ Some v → defined_in (piece_ops parts other txn) x ≡ true) → KeepsInputs parts txn new after
-inputs_left parts txn other outs kept new before after is leaves own defined block x inside found = leaves x ∙ go (is_left parts other txn x) refl (get outs x) refl ∙ sym (own x)
+inputs_left parts txn other outs kept new before after is leaves own defined block x inside found = leaves x ∙ go (is_passed_on parts other txn x) refl (get outs x) refl ∙ sym (own x)
   where
-    go : (b : Bool) → is_left parts other txn x ≡ b → (o : Option Value) → get outs x ≡ o → cond b (given_over (get outs x) (get kept x)) (get kept x) ≡ given_over (get outs x) (get before x)
+    go : (b : Bool) → is_passed_on parts other txn x ≡ b → (o : Option Value) → get outs x ≡ o → cond b (given_over (get outs x) (get kept x)) (get kept x) ≡ given_over (get outs x) (get before x)
     go true l o e = ap (given_over (get outs x)) (is block x inside found)
     go false l None e = is block x inside found ∙ ap (λ o. given_over o (get before x)) (sym e)
     go false l (Some v) e = absurd (true≢false (sym (left_for parts txn block other x inside found (defined x v e)) ∙ l))

@@ -21,7 +21,7 @@ use Rattle.pac_core.specs.declared.answers.Take.TheVariants.{Given, Ran, NotRead
 use Rattle.pac_core.specs.declared.answers.Finish.{Finish}
 use Rattle.pac_core.specs.declared.answers.Finish.TheVariants as finish
 use Rattle.pac_core.specs.Replay.{Replay, left, with_batch_loaded, with_finished, with_out, without_out}
-use Rattle.pac_core.specs.Takes.{IsNextPiece, IsWorkIn, access_in}
+use Rattle.pac_core.specs.Takes.{IsNextPiece, IsWorkIn, access_now}
 
 -- a batch may be loaded: more may come, its numbers run on, and its transactions fit the plan
 pub record MayLoad (r : Replay) (batch : Batch) : Type 0 where
@@ -36,8 +36,8 @@ IsReplayDone r = (r.is_closed ≡ true) × (left r ≡ 0)
 -- what a take answers, and leaves. The piece that comes next is given out, or is applied where its access is whole. Where none is ready, some may
 -- be later, unless all is done
 abbrev pub IsTakenPiece : Replay → Take → Replay → Type 0
-IsTakenPiece old (Given work) new = IsNextPiece old (Some work.piece) × (access_in old work.piece ≢ Whole) × IsWorkIn old work × IsRunnable work × (new ≡ with_out old work.piece)
-IsTakenPiece old (Ran piece) new = IsNextPiece old (Some piece) × (access_in old piece ≡ Whole) × (new ≡ with_finished old piece)
+IsTakenPiece old (Given work) new = IsNextPiece old (Some work.piece) × (access_now old work.piece ≢ Whole) × IsWorkIn old work × IsRunnable work × (new ≡ with_out old work.piece)
+IsTakenPiece old (Ran piece) new = IsNextPiece old (Some piece) × (access_now old piece ≡ Whole) × (new ≡ with_finished old piece)
 IsTakenPiece old NotReady new = IsNextPiece old None × (IsReplayDone old → ⊥) × (new ≡ old)
 IsTakenPiece old Done new = IsReplayDone old × (new ≡ old)
 
@@ -50,7 +50,7 @@ run_by Done = 0
 
 -- work of a piece whose access is of keys: as the replay has it, and may be run
 abbrev pub IsGivenWork : Replay → PieceId → Work → Type 0
-IsGivenWork r piece work = (work.piece ≡ piece) × (access_in r piece ≢ Whole) × IsWorkIn r work × IsRunnable work
+IsGivenWork r piece work = (work.piece ≡ piece) × (access_now r piece ≢ Whole) × IsWorkIn r work × IsRunnable work
 
 -- work is of a piece that is out, and as the replay has it
 abbrev pub IsOwn : Replay → Work → Type 0
@@ -88,7 +88,7 @@ pub record IsDrained (old new : Replay) : Type 0 where
   pub none : new.out ≡ []
 
 -- the tables and the note of a replay that is done are those of executing its transactions one after another
-pub record IsOutcome (r : Replay) (tables : Tables) (note : Option Note) : Type 0 where
+pub record IsReplayOutcome (r : Replay) (tables : Tables) (note : Option Note) : Type 0 where
   pub tables_are : tables ≡ (replayed r.job.parts.programs r.job.first (txns_of r.batches) r.job.tables).tables
   pub note_is : note ≡ first_note (replayed r.job.parts.programs r.job.first (txns_of r.batches) r.job.tables).notes
 

@@ -18,10 +18,10 @@ abbrev pub FindsInputs : PlanParts → ℕ → Txn → Values → Values → Typ
 FindsInputs parts block txn kept env = (x : ℕ) → get env x ≡ (if is_found parts block txn x then get kept x else None)
 
 -- a variable is an output of a transaction's piece in a block: another block has it as an input
-abbrev pub is_left : PlanParts → ℕ → Txn → ℕ → Bool
-is_left parts block (ACall call) x = is_output parts call.proc block x
-is_left parts block (AdHoc records) x = false
+abbrev pub is_passed_on : PlanParts → ℕ → Txn → ℕ → Bool
+is_passed_on parts block (ACall call) x = is_output parts call.proc block x
+is_passed_on parts block (AdHoc records) x = false
 
 -- what is kept once the piece gave values: those of its outputs, and of all others what was kept
 abbrev pub LeavesValues : PlanParts → ℕ → Txn → Values → Values → Values → Type 0
-LeavesValues parts block txn outs kept env = (x : ℕ) → get env x ≡ (if is_left parts block txn x then given_over (get outs x) (get kept x) else get kept x)
+LeavesValues parts block txn outs kept env = (x : ℕ) → get env x ≡ (if is_passed_on parts block txn x then given_over (get outs x) (get kept x) else get kept x)

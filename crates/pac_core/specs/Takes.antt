@@ -21,8 +21,8 @@ abbrev pub IsNextPiece : Replay → Option PieceId → Type 0
 IsNextPiece r next = IsPieceTaken (world_at r.job (machine_of r)) (ends_at r.job (machine_of r)) (loaded_pieces r) (among r.out) (among r.finished) next
 
 -- the access of a piece
-abbrev pub access_in : Replay → PieceId → Access
-access_in r p = access_at r.job (machine_of r) p
+abbrev pub access_now : Replay → PieceId → Access
+access_now r p = access_at r.job (machine_of r) p
 
 -- the work of a piece over these values and rows: the code of its transaction in its block, the values of its inputs, and copies of the
 -- rows at cells
@@ -38,5 +38,5 @@ pub record IsWorkIn (r : Replay) (work : Work) : Type 0 where
   pub txn : Txn
   pub there : txn_at r.job.first (txns_of r.batches) work.piece.txn ≡ Some txn
   pub cells : List Cell
-  pub named : AreCellsOf (access_in r work.piece) cells
+  pub named : AreCellsOf (access_now r work.piece) cells
   pub over : IsWorkOver r.job.parts work.piece txn ((present_of r).envs work.piece.txn) cells (present_of r).tables work

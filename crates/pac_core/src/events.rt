@@ -10,7 +10,7 @@ ghost use Rattle.pac_core.specs.Moves.{IsNextAt, IsReadyAtOffset};
 ghost use Rattle.pac_core.specs.Places.{HasPlace, IsPieceAt};
 ghost use Rattle.pac_core.specs.Replay.{machine_of, with_finished};
 ghost use Rattle.pac_core.specs.Results.{IsKeptAfter, IsResult};
-ghost use Rattle.pac_core.specs.Takes.{access_in};
+ghost use Rattle.pac_core.specs.Takes.{access_now};
 
 use crate::answers::{Finish, Take};
 use crate::cells::PieceCells;
@@ -82,7 +82,7 @@ fn given<R: Rows>(
     requires place { IsPieceAt progress.now place piece Waiting }
     requires ready { IsReadyAt (job_of progress.now rows.now) (machine_of (core_of progress.now rows.now)) piece }
     ensures given { IfOk result (λ given. IfSome given (IsGivenWork (core_of progress.now rows.now) piece)) }
-    ensures whole { IfOk result (λ given. IfNone given (access_in (core_of progress.now rows.now) piece ≡ Whole)) }
+    ensures whole { IfOk result (λ given. IfNone given (access_now (core_of progress.now rows.now) piece ≡ Whole)) }
 {
     match progress.cells_at(place, piece) {
         PieceCells::Keys(cells) => {

@@ -3,7 +3,7 @@ ghost use Rattle.std.specs.Prelude.{◌≡◌, ◌↔◌, ◌<◌, ◌+◌, ◌^
 ghost use Rattle.pac_ops.specs.Shapes.{RowsFit};
 ghost use Rattle.pac_piece.specs.Runnable.{IsRunnable};
 ghost use Rattle.pac_commute.specs.Loads.{next_in_job};
-ghost use Rattle.pac_core.specs.Calls.{HasReadyPiece, IsReplayDone, IsDrained, IsGivenBack, IsHandedIn, IsJobOf, IsOfJob, IsOutcome, IsOwn, IsTakenPiece, MayLoad, MayLoadAll, MovesOut, handed_in_by, run_by, with_batches};
+ghost use Rattle.pac_core.specs.Calls.{HasReadyPiece, IsReplayDone, IsDrained, IsGivenBack, IsHandedIn, IsJobOf, IsOfJob, IsReplayOutcome, IsOwn, IsTakenPiece, MayLoad, MayLoadAll, MovesOut, handed_in_by, run_by, with_batches};
 ghost use Rattle.pac_core.specs.Replay.{closed, left, opening_replay, with_batch_loaded, with_finished, with_none_out, without_out};
 
 use crate::answers::{Finish, Outcome, ReadyPieces, Take};
@@ -317,8 +317,9 @@ impl<R: Rows> Core<R> {
     /// What the replay leaves. Takes no memory.
     pub fn outcome(self) -> Outcome<R>
         requires { IsReplayDone self }
-        ensures replayed { IsOutcome self (R.held result.tables) result.first_note }
+        ensures replayed { IsReplayOutcome self (R.held result.tables) result.first_note }
         ensures tables { R.tables result.tables ≡ length self.job.parts.tables }
+        ensures fit { RowsFit self.job.parts.tables (R.held result.tables) }
     {
         let Core { progress, rows } = self;
         Outcome {

@@ -29,15 +29,15 @@ use std::thread::Threads;
 /// Does what the arguments say, and answers the program's exit status.
 ///
 /// - `replay [--workers N] [--rows N]` reads a script from the input, to its end or to 67,108,865 bytes, executes its
-///   transactions one after another from no rows on, and writes the tables where none has more rows than `--rows` says, or
-///   1,000,000. The number of workers, from 1 to 64, changes nothing. Time is near linear in the script and in the operations
-///   that its transactions execute.
+///   transactions by so many workers, from 1 to 64, or 4, from no rows on, and writes the tables where none has more rows than
+///   `--rows` says, or 1,000,000. What it writes doesn't depend on the workers: it is what serial execution gives. Time is near
+///   linear in the script and in the operations that its transactions execute.
 /// - `explain` and `explain --text` do what [`crate::explain_command`] says.
 /// - `init` does what [`crate::init_command`] says.
 /// - `recover [--workers N] [--rows N]` reads the devices, executes the stored transactions after the newest slot over that
-///   one's tables, and writes the tables where none has more rows than `--rows` says, or 1,000,000. The number of workers,
-///   from 1 to 64, changes nothing. It reads no input, and no device is written or synced. All batches of the log are held in
-///   memory.
+///   one's tables, and writes the tables where none has more rows than `--rows` says, or 1,000,000. It replays in pieces on one
+///   thread; the number of workers, from 1 to 64, changes nothing yet. It reads no input, and no device is written or synced.
+///   The batches of 16,777,216 bytes of the log are held in memory.
 /// - `run [--batch N] [--rows N]` does what [`crate::run_command`] says.
 /// - `stress` is read, and answered as arguments that are no command: it doesn't run yet.
 ///
@@ -59,9 +59,9 @@ use std::thread::Threads;
 /// | 11 | only where the input of a replay has more than 67,108,864 bytes, or more are read in a run before a line `stop` | `input too long` |
 /// | 12 | only where a slot has no room for a checkpoint of a run, with which it would have that many bytes | `checkpoint too large BYTES` |
 ///
-/// A failing error sink changes no status. The call waits for nobody: it enters no gate, and hands the runtime to nothing.
+/// A failing error sink changes no status. Each worker of a replay passes the gate before each piece that it runs.
 pub fn pacman<RT: Threads + Wait + Sync, I: Source, O: Sink, E: Sink, D: Disk, G: Gate + Sync>(
-    _rt: &RT,
+    rt: &RT,
     alloc: Global,
     arguments: &[String],
     input: &mut I,
@@ -111,7 +111,9 @@ pub fn pacman<RT: Threads + Wait + Sync, I: Source, O: Sink, E: Sink, D: Disk, G
             recover_devices(alloc, workers, rows, output, errors, devices, gate)
         }
         Ok(Some(Command::Explain { text })) => explain_input(alloc, text, input, output, errors),
-        Ok(Some(Command::Replay { rows, .. })) => replay_input(alloc, rows, input, output, errors),
+        Ok(Some(Command::Replay { workers, rows })) => {
+            replay_input(rt, alloc, workers, rows, input, output, errors, gate)
+        }
         Ok(_) => refuse_arguments(ArgumentsError::Usage, errors),
         Err(NoMemory) => refuse_arguments(ArgumentsError::NoMemory, errors),
     }

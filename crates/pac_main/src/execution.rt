@@ -1,5 +1,5 @@
 // Executes the transactions of a script.
-ghost use Rattle.std.specs.Prelude.{◌≡◌, length, IfOk};
+ghost use Rattle.std.specs.Prelude.{◌≡◌, ◌≤◌, length, IfOk};
 ghost use Rattle.std.specs.FinMap.{empty};
 ghost use Rattle.pac_types.specs.Execution.{serial};
 ghost use Rattle.pac_types.specs.OperationLimits.{HasFewOperations};
@@ -7,27 +7,36 @@ ghost use Rattle.pac_recover.specs.Gates.{RunOn, txns_in};
 ghost use Rattle.pac_request.specs.RequestFits.{BatchesFit, BatchesHaveNumbers};
 ghost use Rattle.pac_main.specs.Replay.{DoesEnd};
 
-use pac_ops::Batch;
-use pac_recover::execute;
+use pac_ops::Batches;
+use pac_outside::Gate;
+use pac_recover::{Execution, execute_by};
 use pac_serial::{AllError, no_rows};
 use pac_tables::HashedRows;
 use pac_types::Catalogue;
 use std::alloc::Global;
+use std::sync::Wait;
+use std::thread::Threads;
 
-/// The tables with which the transactions of the batches end, from no rows on.
-pub(crate) fn executed(
+/// The tables with which the transactions of the batches end, from no rows on, by so many workers.
+pub(crate) fn executed<H: Threads + Wait + Sync, G: Gate + Sync>(
+    rt: &H,
     alloc: Global,
+    workers: u32,
     catalogue: &Catalogue,
-    batches: &[Batch],
+    batches: Batches,
+    gate: &G,
 ) -> Result<HashedRows, AllError>
+    requires workers { 1 ≤ workers }
     requires operations { HasFewOperations catalogue.now.procs }
-    requires fit { BatchesFit catalogue.now batches.now }
-    requires small { BatchesHaveNumbers batches.now }
-    requires runs { RunOn 0 batches.now }
-    ensures ends { DoesEnd result (serial catalogue.now.procs 1 (txns_in batches.now) empty) }
+    requires fit { BatchesFit catalogue.now batches }
+    requires small { BatchesHaveNumbers batches }
+    requires runs { RunOn 0 batches }
+    ensures ends { DoesEnd result (serial catalogue.now.procs 1 (txns_in batches) empty) }
     ensures tables { IfOk result (λ rows. rows.tables ≡ length catalogue.now.tables) }
 {
-    let mut rows = no_rows(alloc, catalogue)?;
-    execute(alloc, catalogue, 0, batches, &mut rows)?;
-    Ok(rows)
+    let rows = no_rows(alloc, catalogue)?;
+    match execute_by(rt, alloc, workers, catalogue, 0, batches, rows, gate)? {
+        Execution::Tables(rows) => Ok(rows),
+        Execution::Aborted(note) => Err(AllError::Abort(note)),
+    }
 }

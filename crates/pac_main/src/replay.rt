@@ -15,13 +15,16 @@ use crate::execution::executed;
 use crate::input::InputError;
 use crate::reporting::report;
 use crate::stop::Stop;
-use pac_outside::{Sink, Source, read_up_to, write_all};
+use pac_outside::{Gate, Sink, Source, read_up_to, write_all};
 use pac_recover::test_rows;
 use pac_report::dump;
 use pac_request::{Script, read_script};
 use pac_run::MAX_INPUT;
 use pac_tables::HashedRows;
+use pac_types::Catalogue;
 use std::alloc::Global;
+use std::sync::Wait;
+use std::thread::Threads;
 
 // All that the source holds.
 fn read_whole<I: Source>(alloc: Global, input: &mut I) -> Result<Vec<u8>, InputError>
@@ -52,48 +55,66 @@ fn read_input<I: Source>(alloc: Global, input: &mut I) -> Result<Script, InputEr
     Ok(read_script(alloc, &text)?)
 }
 
-// The tables with which a script's transactions end, where these are within the limit.
-fn finished(alloc: Global, limit: u32, script: &Script) -> Result<HashedRows, Stop>
-    requires operations { HasFewOperations script.now.catalogue.procs }
-    requires fit { BatchesFit script.now.catalogue script.now.batches }
-    requires small { BatchesHaveNumbers script.now.batches }
-    requires runs { RunOn 0 script.now.batches }
-    ensures ends { IfOk result (λ rows. outcome script.now ≡ Ok rows.rows) }
-    ensures within { IfOk result (λ rows. first_over_in limit script.now rows.rows ≡ None) }
-    ensures tables { IfOk result (λ rows. rows.tables ≡ length script.now.catalogue.tables) }
-    ensures stops { IfErr result (ScriptStops limit script.now) }
+// The catalogue of a script, and the tables with which its transactions end, where these are within the limit.
+fn finished<H: Threads + Wait + Sync, G: Gate + Sync>(
+    rt: &H,
+    alloc: Global,
+    workers: u32,
+    limit: u32,
+    script: Script,
+    gate: &G,
+) -> Result<(Catalogue, HashedRows), Stop>
+    requires workers { 1 ≤ workers }
+    requires operations { HasFewOperations script.catalogue.procs }
+    requires fit { BatchesFit script.catalogue script.batches }
+    requires small { BatchesHaveNumbers script.batches }
+    requires runs { RunOn 0 script.batches }
+    ensures same { IfOk result (λ end. end.0 ≡ script.catalogue) }
+    ensures ends { IfOk result (λ end. outcome script ≡ Ok end.1.rows) }
+    ensures within { IfOk result (λ end. first_over_in limit script end.1.rows ≡ None) }
+    ensures tables { IfOk result (λ end. end.1.tables ≡ length script.catalogue.tables) }
+    ensures stops { IfErr result (ScriptStops limit script) }
 {
-    let rows = executed(alloc, &script.catalogue, script.batches.as_slice())?;
-    test_rows(&script.catalogue, &rows, u64::from(limit))?;
-    Ok(rows)
+    let Script { catalogue, batches } = script;
+    let rows = executed(rt, alloc, workers, &catalogue, batches, gate)?;
+    test_rows(&catalogue, &rows, u64::from(limit))?;
+    Ok((catalogue, rows))
 }
 
 // Replays the script that the source holds and writes the dump.
-fn replay<I: Source, O: Sink>(
+fn replay<H: Threads + Wait + Sync, I: Source, O: Sink, G: Gate + Sync>(
+    rt: &H,
     alloc: Global,
+    workers: u32,
     limit: u32,
     input: &mut I,
     output: &mut O,
+    gate: &G,
 ) -> Result<(), Stop>
+    requires workers { 1 ≤ workers }
     ensures done { OnOk result (IsDumpOf limit (I.left input.old) (IsTaken (observed O.held O.faults output.old output.new))) }
     ensures stops { IfErr result (ReplayStops limit (observed I.left I.faults input.old input.new) (observed O.held O.faults output.old output.new)) }
     ensures kept { IfErr result (λ stop. stop ≢ Stop.OutputFault → output.new ≡ output.old) }
     ensures taken { GaveAtMost (MAX_INPUT + 1) (I.left input.old) (I.left input.new) }
 {
     let script = read_input(alloc, input)?;
-    let rows = finished(alloc, limit, &script)?;
-    let text = dump(alloc, &script.catalogue, &rows)?;
+    let (catalogue, rows) = finished(rt, alloc, workers, limit, script, gate)?;
+    let text = dump(alloc, &catalogue, &rows)?;
     Ok(write_all(output, &text)?)
 }
 
-/// Replays the script that the input holds, and reports why where that stops before its end.
-pub(crate) fn replay_input<I: Source, O: Sink, E: Sink>(
+/// Replays the script that the input holds, by so many workers, and reports why where that stops before its end.
+pub(crate) fn replay_input<H: Threads + Wait + Sync, I: Source, O: Sink, E: Sink, G: Gate + Sync>(
+    rt: &H,
     alloc: Global,
+    workers: u32,
     limit: u32,
     input: &mut I,
     output: &mut O,
     errors: &mut E,
+    gate: &G,
 ) -> u8
+    requires workers { 1 ≤ workers }
     ensures ends { ReplayEnds limit result
         (observed I.left I.faults input.old input.new) (observed O.held O.faults output.old output.new) (observed E.held E.faults errors.old errors.new) }
     ensures kept { result ≢ 0 → result ≢ 7 → output.new ≡ output.old }
@@ -101,7 +122,7 @@ pub(crate) fn replay_input<I: Source, O: Sink, E: Sink>(
     ensures reported { result ≢ 0 → (stop : AStop) × (result ≡ status_of stop) × IsReported (observed E.held E.faults errors.old errors.new) (line_of stop) }
     ensures taken { GaveAtMost (MAX_INPUT + 1) (I.left input.old) (I.left input.new) }
 {
-    match replay(alloc, limit, input, output) {
+    match replay(rt, alloc, workers, limit, input, output, gate) {
         Ok(()) => 0,
         Err(stop) => report(alloc, stop, errors).status(),
     }

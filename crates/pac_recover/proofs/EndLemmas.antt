@@ -23,7 +23,6 @@ use Rattle.pac_check.specs.declared.info.SlotName.TheVariants.{A, B}
 use Rattle.pac_check.specs.declared.slots.Slots.{Slots}
 use Rattle.pac_check.specs.Kinds.{slot_fault}
 use Rattle.pac_check.specs.SlotStates.{by_slot, info_of, newest_of, saved_txns, IsSlot}
-use Rattle.pac_serial.specs.declared.serial.AllError.TheVariants as serial
 use Rattle.pac_store.specs.Images.{Images, IfReadKnown}
 use Rattle.pac_recover.specs.declared.errors.Damage.TheVariants.{Log, Slot}
 use Rattle.pac_recover.specs.declared.errors.LoadError.{LoadError}
@@ -32,7 +31,7 @@ use Rattle.pac_recover.specs.declared.errors.RecoverError.{RecoverError}
 use Rattle.pac_recover.specs.declared.errors.RecoverError.TheVariants as recover
 use Rattle.pac_recover.specs.declared.gates.GatePlace.{GatePlace}
 use Rattle.pac_recover.specs.declared.recovery.Recovered.{Recovered}
-use Rattle.pac_recover.specs.declared.replay.Executed.{Executed}
+use Rattle.pac_recover.specs.declared.executor.Execution.{Execution}
 use Rattle.pac_recover.specs.declared.store.Ended.{Ended}
 use Rattle.pac_recover.specs.Causes.{log_not_loaded}
 use Rattle.pac_recover.specs.Damages.{IsAmongGates, IsBrokenSlot, IsDamagedLog, IsDamagedSlot, IsSlotDamage}
@@ -47,11 +46,11 @@ use Rattle.pac_recover.specs.Replays.{IsReplayOf}
 use Rattle.pac_recover.proofs.LoadLemmas.{damaged-at-gates, known-weaker, newest-among, placed}
 use Rattle.pac_recover.proofs.SlotLemmas.{misplaced-here, same-damage}
 use Rattle.pac_recover.proofs.StandsLemmas.{ReportsAnswer}
-use Rattle.pac_recover.proofs.ReportLemmas.{execute-knows, over-knows}
+use Rattle.pac_recover.proofs.ReportLemmas.{over-knows}
 
 -- ---- a log that was executed, beside slots
 
-module _ {T : Type 0} (text : List ℕ) (catalogue : CatalogueState) (slots : Slots) (base : Tables) (new : NextGate) (replayed : Executed T) (gates : List GatePlace) where
+module _ {T : Type 0} (text : List ℕ) (catalogue : CatalogueState) (slots : Slots) (base : Tables) (new : NextGate) (replayed : Execution T) (gates : List GatePlace) where
   abbrev pub IsReplay : List ℕ → Type 0
   IsReplay image = IsReplayOf text catalogue (newest_of slots) base new replayed gates image
 

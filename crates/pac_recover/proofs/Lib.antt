@@ -4,8 +4,9 @@ pub mod GateLemmas
 pub mod ReadLemmas
 pub mod SlotLemmas
 pub mod LoadLemmas
-pub mod RecoverLemmas
 pub mod StandsLemmas
 pub mod ReportLemmas
+pub mod WindowLemmas
+pub mod WorkerLemmas
 pub mod ReplayLemmas
 pub mod EndLemmas

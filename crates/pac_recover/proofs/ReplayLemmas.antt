@@ -20,7 +20,7 @@ use Rattle.pac_log.specs.Reading.{StandsAfter}
 use Rattle.pac_log.proofs.LogLemmas.{all_txns-append}
 use Rattle.pac_check.specs.declared.info.SlotInfo.{SlotInfo}
 use Rattle.pac_recover.specs.declared.gates.GatePlace.{GatePlace}
-use Rattle.pac_recover.specs.declared.replay.Executed.{Executed}
+use Rattle.pac_recover.specs.declared.executor.Execution.{Execution}
 use Rattle.pac_recover.specs.Damages.{IsDamagedLog}
 use Rattle.pac_recover.specs.Gates.{gate_after_batches, gates_from, place_of}
 use Rattle.pac_recover.specs.Outcomes.{outcome_of}
@@ -107,28 +107,28 @@ module _ (text : List ℕ) (wanted : GatePlace) (old mid new : NextGate) (gates 
 -- ---- batches that are executed
 
 -- after the batches before the old gate more stand in the image, up to the new gate, and they were executed over the tables
-pub record IsReplaying {T : Type 0} (text : List ℕ) (catalogue : CatalogueState) (before : List (List Txn)) (old mid : NextGate) (base : Tables) (replayed : Executed T) (gates : List GatePlace) (image : List ℕ) : Type 0 where
+pub record IsReplaying (text : List ℕ) (catalogue : CatalogueState) (before : List (List Txn)) (old mid : NextGate) (base : Tables) (outcome : Result Tables Note) (gates : List GatePlace) (image : List ℕ) : Type 0 where
   pub after : List (List Txn)
   pub stands : StandsAfter text (before ++ after) mid image
   pub are : gates ≡ gates_from (gate_after_batches text []) (before ++ after)
-  pub outcome : outcome_of replayed ≡ serial catalogue.procs (old.txns + 1) (all_txns after) base
+  pub gives : outcome ≡ serial catalogue.procs (old.txns + 1) (all_txns after) base
 
-module _ {T : Type 0} (text : List ℕ) (catalogue : CatalogueState) (before : List (List Txn)) (old : NextGate) (first : List GatePlace) (base : Tables) where
-  abbrev pub Replays : NextGate → Executed T → List GatePlace → DiskHistory → Type 0
-  Replays mid replayed gates h = HasGatesTo text before old first h.now.seen → IsReplaying text catalogue before old mid base replayed gates h.now.seen
+module _ (text : List ℕ) (catalogue : CatalogueState) (before : List (List Txn)) (old : NextGate) (first : List GatePlace) (base : Tables) where
+  abbrev pub Replays : NextGate → Result Tables Note → List GatePlace → DiskHistory → Type 0
+  Replays mid outcome gates h = HasGatesTo text before old first h.now.seen → IsReplaying text catalogue before old mid base outcome gates h.now.seen
 
-  pub replays-nothing : (replayed : Executed T) (gates : List GatePlace) (known : Option DiskHistory) → gates ≡ first → outcome_of replayed ≡ Ok base → IfKnown (Replays old replayed gates) known
-  replays-nothing replayed gates None same none = tt
-  replays-nothing replayed gates (Some h) same none = λ reached. record {
+  pub replays-nothing : (outcome : Result Tables Note) (gates : List GatePlace) (known : Option DiskHistory) → gates ≡ first → outcome ≡ Ok base → IfKnown (Replays old outcome gates) known
+  replays-nothing outcome gates None same none = tt
+  replays-nothing outcome gates (Some h) same none = λ reached. record {
     after = [];
     stands = subst (λ (l : List (List Txn)). StandsAfter text l old h.now.seen) (sym (append-nil before)) reached.stands;
     are = same ∙ reached.are ∙ ap (λ (l : List (List Txn)). gates_from (gate_after_batches text []) l) (sym (append-nil before));
-    outcome = none;
+    gives = none;
   }
 
-  module _ (mid new : NextGate) (replayed : Executed T) (gates : List GatePlace) where
+  module _ (mid new : NextGate) (outcome : Result Tables Note) (gates : List GatePlace) where
     -- the next batch is numbered after those that were executed
-    number : (h : DiskHistory) (batch : Batch) → batch.first ≡ mid.txns + 1 → HasGatesTo text before old first h.now.seen → (s : IsReplaying text catalogue before old mid base replayed gates h.now.seen)
+    number : (h : DiskHistory) (batch : Batch) → batch.first ≡ mid.txns + 1 → HasGatesTo text before old first h.now.seen → (s : IsReplaying text catalogue before old mid base outcome gates h.now.seen)
         → batch.first ≡ old.txns + 1 + length (all_txns s.after)
     number h batch next reached s =
         omega (
@@ -143,9 +143,9 @@ module _ {T : Type 0} (text : List ℕ) (catalogue : CatalogueState) (before : L
     more : (after : List (List Txn)) (txns : List Txn) → all_txns after ++ txns ≡ all_txns (after ++ txns ∷ [])
     more after txns = ap (λ (l : List Txn). all_txns after ++ l) (sym (append-nil txns)) ∙ sym (all_txns-append after (txns ∷ []))
 
-    pub replays-more : (batch : Batch) (next : Executed T) (pushed : List GatePlace) (place : GatePlace) (known : Option DiskHistory)
-        → outcome_of next ≡ (outcome_of replayed >>= λ tables. serial catalogue.procs batch.first batch.txns tables) → batch.first ≡ mid.txns + 1
-        → pushed ≡ gates ++ place ∷ [] → place ≡ place_of new → IfKnown (Replays mid replayed gates) known → ReportsNext mid new (Ok (Some batch)) known → IfKnown (Replays new next pushed) known
+    pub replays-more : (batch : Batch) (next : Result Tables Note) (pushed : List GatePlace) (place : GatePlace) (known : Option DiskHistory)
+        → next ≡ (outcome >>= λ tables. serial catalogue.procs batch.first batch.txns tables) → batch.first ≡ mid.txns + 1
+        → pushed ≡ gates ++ place ∷ [] → place ≡ place_of new → IfKnown (Replays mid outcome gates) known → ReportsNext mid new (Ok (Some batch)) known → IfKnown (Replays new next pushed) known
     replays-more batch next pushed place None does first_is pushes placed so_far knows = tt
     replays-more batch next pushed place (Some h) does first_is pushes placed so_far knows = λ reached.
         let s = so_far reached in
@@ -156,27 +156,27 @@ module _ {T : Type 0} (text : List ℕ) (catalogue : CatalogueState) (before : L
           stands = subst (λ (l : List (List Txn)). StandsAfter text l new h.now.seen) assoc stands;
           are = pushes ∙ ap (λ (p : GatePlace). gates ++ p ∷ []) placed ∙ gates-more text (before ++ s.after) batch.txns new gates s.are stands.after
               ∙ ap (λ (l : List (List Txn)). gates_from (gate_after_batches text []) l) assoc;
-          outcome = does
-              ∙ ap (λ (r : Result Tables Note). r >>= λ tables. serial catalogue.procs batch.first batch.txns tables) s.outcome
+          gives = does
+              ∙ ap (λ (r : Result Tables Note). r >>= λ tables. serial catalogue.procs batch.first batch.txns tables) s.gives
               ∙ ap (λ (n : ℕ). serial catalogue.procs (old.txns + 1) (all_txns s.after) base >>= λ tables. serial catalogue.procs n batch.txns tables) (number h batch first_is reached s)
               ∙ sym (serial-parts catalogue.procs (old.txns + 1) (all_txns s.after) batch.txns base)
               ∙ ap (λ (l : List Txn). serial catalogue.procs (old.txns + 1) l base) (more s.after batch.txns);
         }
 
-    pub replays-all : (known : Option DiskHistory) → mid.catalogue ≡ catalogue → new ≡ mid → IfKnown (Replays mid replayed gates) known → ReportsNext mid new (Ok None) known
+    pub replays-all : {T : Type 0} (replayed : Execution T) (known : Option DiskHistory) → mid.catalogue ≡ catalogue → new ≡ mid → outcome_of replayed ≡ outcome → IfKnown (Replays mid outcome gates) known → ReportsNext mid new (Ok None) known
         → IfKnown (λ h. HasGatesTo text before old first h.now.seen → IsRestOf text catalogue before old new base replayed gates h.now.seen) known
-    replays-all None same end so_far knows = tt
-    replays-all (Some h) same end so_far knows = λ reached.
+    replays-all replayed None same end ended so_far knows = tt
+    replays-all replayed (Some h) same end ended so_far knows = λ reached.
         let s = so_far reached in
         record {
           after = s.after;
           log = subst (λ (c : CatalogueState). HoldsLog text c (before ++ s.after) h.now.seen) same (knows text (before ++ s.after) s.stands);
           end = subst (λ (g : NextGate). IsAfter text (before ++ s.after) g) (sym end) s.stands.after;
           are = s.are;
-          outcome = s.outcome;
+          outcome = ended ∙ s.gives;
         }
 
-    pub replays-damage : (at : ℕ) (kind : DamageKind) (known : Option DiskHistory) → IfKnown (Replays mid replayed gates) known → ReportsNext mid new (Err (error.Damaged at kind)) known
+    pub replays-damage : (at : ℕ) (kind : DamageKind) (known : Option DiskHistory) → IfKnown (Replays mid outcome gates) known → ReportsNext mid new (Err (error.Damaged at kind)) known
         → IfKnown (λ h. HasGatesTo text before old first h.now.seen → IsDamagedLog at kind h.now.seen) known
     replays-damage at kind None so_far knows = tt
     replays-damage at kind (Some h) so_far knows = λ reached.
@@ -185,7 +185,7 @@ module _ {T : Type 0} (text : List ℕ) (catalogue : CatalogueState) (before : L
 
 -- ---- a whole log
 
-module _ {T : Type 0} (text : List ℕ) (catalogue : CatalogueState) (old new : NextGate) (base : Tables) (replayed : Executed T) (gates : List GatePlace) where
+module _ {T : Type 0} (text : List ℕ) (catalogue : CatalogueState) (old new : NextGate) (base : Tables) (replayed : Execution T) (gates : List GatePlace) where
   abbrev pub Rests : NextGate → List (List Txn) → List GatePlace → DiskHistory → Type 0
   Rests mid before reached h = HasGatesTo text before mid reached h.now.seen → IsRestOf text catalogue before mid new base replayed gates h.now.seen
 

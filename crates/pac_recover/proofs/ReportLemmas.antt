@@ -10,8 +10,6 @@ use Rattle.pac_log.specs.declared.damage.DamageKind.{DamageKind}
 use Rattle.pac_log.specs.Reading.{IsStore}
 use Rattle.pac_check.specs.declared.damage.SlotDamageKind.{SlotDamageKind}
 use Rattle.pac_check.specs.declared.info.SlotName.{SlotName}
-use Rattle.pac_serial.specs.declared.serial.AllError.{AllError}
-use Rattle.pac_serial.specs.declared.serial.AllError.TheVariants as serial
 use Rattle.pac_store.specs.Images.{IfReadKnown}
 use Rattle.pac_store.specs.Stored.{IsStored}
 use Rattle.pac_recover.specs.declared.errors.Damage.{Damage}
@@ -22,7 +20,7 @@ use Rattle.pac_recover.specs.declared.errors.RecoverError.{RecoverError}
 use Rattle.pac_recover.specs.declared.errors.RecoverError.TheVariants as error
 use Rattle.pac_recover.specs.declared.loading.Loaded.{Loaded}
 use Rattle.pac_recover.specs.declared.recovery.Recovered.{Recovered}
-use Rattle.pac_recover.specs.Causes.{not_executed, not_loaded}
+use Rattle.pac_recover.specs.Causes.{not_loaded}
 use Rattle.pac_recover.specs.Damages.{IsDamagedLog, IsDamagedSlot}
 use Rattle.pac_recover.specs.Gates.{txns_in}
 use Rattle.pac_recover.specs.Limits.{IsFirstOver}
@@ -58,14 +56,6 @@ loaded-over (load.Damaged other) table rows most e = cc
 loaded-over load.DiskFault table rows most e = cc
 loaded-over load.NoMemory table rows most e = cc
 
-executed-abort : (cause : AllError) (note : Note) → not_executed cause ≡ error.AbortInLog note → cause ≡ serial.Abort note
-executed-abort (serial.Abort other) note e = cc
-executed-abort serial.NoMemory note e = absurd cc
-
-executed-else : (cause : AllError) (other : RecoverError) → not_executed cause ≡ other → (other ≡ error.NoStore → ⊥) × ((damage : Damage) → other ≡ error.Damaged damage → ⊥) × ((table : List ℕ) (rows most : ℕ) → other ≡ error.RowsOver table rows most → ⊥)
-executed-else (serial.Abort note) other e = (λ f. cc, λ damage f. cc, λ table rows most f. cc)
-executed-else serial.NoMemory other e = (λ f. cc, λ damage f. cc, λ table rows most f. cc)
-
 -- ---- an answer that is a refusal says what its cause says
 
 module _ (limit : ℕ) (log a b : Option DiskHistory) where
@@ -86,19 +76,6 @@ module _ (limit : ℕ) (log a b : Option DiskHistory) where
     abort = λ note e. absurd (loaded-abort cause note (same-error _ _ e));
     over = λ table rows most e. absurd (loaded-over cause table rows most (same-error _ _ e));
   })
-
-  pub execute-knows : (result : Result Recovered RecoverError) (answer : RecoverError) (cause : AllError) → result ≡ Err answer → answer ≡ not_executed cause
-      → ((note : Note) → cause ≡ serial.Abort note → IfReadKnown (AbortsIn note) log a b) → ReportsAnswer limit result log a b
-  execute-knows result answer cause is same abort =
-      let other = executed-else cause (not_executed cause) refl in
-      as-answer result answer (not_executed cause) is same (record {
-        recovered = tt;
-        no_store = λ e. absurd (other.0 (same-error _ _ e));
-        log_damage = λ at kind e. absurd (other.1 (Log at kind) (same-error _ _ e));
-        slot_damage = λ slot at kind e. absurd (other.1 (Slot slot at kind) (same-error _ _ e));
-        abort = λ note e. abort note (executed-abort cause note (same-error _ _ e));
-        over = λ table rows most e. absurd (other.2 table rows most (same-error _ _ e));
-      })
 
   over-is : (t u : List ℕ) (m n k l : ℕ) → error.RowsOver t m k ≡ error.RowsOver u n l → (t ≡ u) × (m ≡ n) × (k ≡ l)
   over-is t u m n k l e = (cc, cc, cc)

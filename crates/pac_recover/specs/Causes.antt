@@ -3,8 +3,6 @@ use Rattle.pac_log.specs.declared.errors.LogError.{LogError}
 use Rattle.pac_log.specs.declared.errors.LogError.TheVariants as log
 use Rattle.pac_check.specs.declared.errors.SlotError.{SlotError}
 use Rattle.pac_check.specs.declared.errors.SlotError.TheVariants as slot
-use Rattle.pac_serial.specs.declared.serial.AllError.{AllError}
-use Rattle.pac_serial.specs.declared.serial.AllError.TheVariants as serial
 use Rattle.pac_recover.specs.declared.errors.Damage.TheVariants.{Log, Slot}
 use Rattle.pac_recover.specs.declared.errors.LoadError.{LoadError}
 use Rattle.pac_recover.specs.declared.errors.LoadError.TheVariants as load
@@ -30,8 +28,3 @@ not_loaded load.NoStore = recover.NoStore
 not_loaded (load.Damaged damage) = recover.Damaged damage
 not_loaded load.DiskFault = recover.DiskFault
 not_loaded load.NoMemory = recover.NoMemory
-
--- or where a stored transaction isn't executed
-abbrev pub not_executed : AllError → RecoverError
-not_executed (serial.Abort note) = recover.AbortInLog note
-not_executed serial.NoMemory = recover.NoMemory

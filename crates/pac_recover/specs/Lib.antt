@@ -7,6 +7,7 @@ pub mod Refusals
 pub mod Loading
 pub mod Recovering
 pub mod Outcomes
+pub mod Windows
 pub mod Replays
 pub mod Ends
 pub mod Restoring

@@ -8,11 +8,11 @@ use Rattle.pac_types.specs.declared.procedure.Proc.{Proc}
 use Rattle.pac_types.specs.Execution.{serial}
 use Rattle.pac_types.specs.Fits.{FitsCatalogue}
 use Rattle.pac_types.specs.Typing.{CatalogueState}
-use Rattle.pac_recover.specs.declared.replay.Executed.{Executed}
-use Rattle.pac_recover.specs.declared.replay.Executed.TheVariants as replayed
+use Rattle.pac_recover.specs.declared.executor.Execution.{Execution}
+use Rattle.pac_recover.specs.declared.executor.Execution.TheVariants as replayed
 
 -- the tables with which it ends, or the abort that stops it
-abbrev pub outcome_of : {T : Type 0} → Executed T → Result Tables Note
+abbrev pub outcome_of : {T : Type 0} → Execution T → Result Tables Note
 outcome_of (replayed.Tables held) = Ok held.rows
 outcome_of (replayed.Aborted note) = Err note
 
@@ -21,6 +21,6 @@ abbrev pub then_serial : List Proc → ℕ → List Txn → Result Tables Note �
 then_serial procs first txns outcome = outcome >>= λ tables. serial procs first txns tables
 
 -- its tables fit the catalogue
-abbrev pub FitsReplayed : {T : Type 0} → CatalogueState → Executed T → Type 0
+abbrev pub FitsReplayed : {T : Type 0} → CatalogueState → Execution T → Type 0
 FitsReplayed catalogue (replayed.Tables held) = FitsCatalogue catalogue held.tables held.rows
 FitsReplayed catalogue (replayed.Aborted note) = Unit {0}

@@ -11,7 +11,7 @@ use Rattle.pac_log.specs.Reading.{StandsAfter}
 use Rattle.pac_check.specs.declared.info.SlotInfo.{SlotInfo}
 use Rattle.pac_check.specs.SlotStates.{saved_txns}
 use Rattle.pac_recover.specs.declared.gates.GatePlace.{GatePlace}
-use Rattle.pac_recover.specs.declared.replay.Executed.{Executed}
+use Rattle.pac_recover.specs.declared.executor.Execution.{Execution}
 use Rattle.pac_recover.specs.Gates.{gate_after_batches, gates_from, place_of}
 use Rattle.pac_recover.specs.Loading.{IsInfoAmong}
 use Rattle.pac_recover.specs.Outcomes.{outcome_of}
@@ -34,7 +34,7 @@ pub record HasSkipped (text : List ℕ) (wanted : GatePlace) (is_there : Bool) (
 
 -- After these batches, up to the old gate, more stand in the image, up to the new gate, and no other; they were executed
 -- over the tables.
-pub record IsRestOf {T : Type 0} (text : List ℕ) (catalogue : CatalogueState) (before : List (List Txn)) (old new : NextGate) (base : Tables) (replayed : Executed T) (gates : List GatePlace) (image : List ℕ) : Type 0 where
+pub record IsRestOf {T : Type 0} (text : List ℕ) (catalogue : CatalogueState) (before : List (List Txn)) (old new : NextGate) (base : Tables) (replayed : Execution T) (gates : List GatePlace) (image : List ℕ) : Type 0 where
   pub after : List (List Txn)
   pub log : HoldsLog text catalogue (before ++ after) image
   pub end : IsAfter text (before ++ after) new
@@ -43,7 +43,7 @@ pub record IsRestOf {T : Type 0} (text : List ℕ) (catalogue : CatalogueState) 
 
 -- The image holds a log with this catalogue, with these gates; where that of the newest slot is among them, the
 -- transactions after it were executed over the tables.
-pub record IsReplayOf {T : Type 0} (text : List ℕ) (catalogue : CatalogueState) (newest : Option SlotInfo) (base : Tables) (new : NextGate) (replayed : Executed T) (gates : List GatePlace) (image : List ℕ) : Type 0 where
+pub record IsReplayOf {T : Type 0} (text : List ℕ) (catalogue : CatalogueState) (newest : Option SlotInfo) (base : Tables) (new : NextGate) (replayed : Execution T) (gates : List GatePlace) (image : List ℕ) : Type 0 where
   pub batches : List (List Txn)
   pub log : HoldsLog text catalogue batches image
   pub end : IsAfter text batches new

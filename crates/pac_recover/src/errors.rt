@@ -6,7 +6,6 @@ use pac_base::NoMemory;
 use pac_check::{SlotDamageKind, SlotError, SlotName};
 use pac_log::{DamageKind, LogError};
 use pac_ops::Note;
-use pac_serial::AllError;
 use pac_value::Name;
 use std::alloc::{AllocError, AllocFailed};
 use thiserror::Error;
@@ -131,19 +130,6 @@ impl From<LoadError> for RecoverError {
             LoadError::Damaged(damage) => RecoverError::Damaged(damage),
             LoadError::DiskFault => RecoverError::DiskFault,
             LoadError::NoMemory => RecoverError::NoMemory,
-        }
-    }
-}
-
-impl From<AllError> for RecoverError {
-    ghost use Rattle.pac_recover.specs.Causes.{not_executed};
-
-    ghost from_gives = { λ cause error. error ≡ not_executed cause };
-
-    fn from(cause: AllError) -> Self {
-        match cause {
-            AllError::Abort(note) => RecoverError::AbortInLog(note),
-            AllError::NoMemory => RecoverError::NoMemory,
         }
     }
 }

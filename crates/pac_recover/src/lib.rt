@@ -3,11 +3,12 @@
 //!
 //! - [`restore`]: the tables after all stored transactions, over any kind of tables, the log's reader and the slots,
 //!   [`Restored`]; or the first transaction that aborts, or the first table over a limit of rows, or damage: a
-//!   [`RecoverError`]. It executes each batch as soon as it is read. [`recover`] does so over hashed tables, [`Recovered`].
+//!   [`RecoverError`]. It reads the log window by window, and an [`Executor`] that the caller gives executes each.
+//!   [`recover`] restores over hashed tables, [`Recovered`], and executes [`InPieces`].
 //! - [`load`]: what is stored, [`Loaded`]: the catalogue with its plan, the tables of the newest slot, the batches of
 //!   the log after them, the log's reader and the slots. Or the first [`Damage`], a [`LoadError`].
-//! - [`execute`]: serial execution of consecutive batches over any tables. [`test_rows`]: the first table over a limit,
-//!   [`TooManyRows`].
+//! - [`execute_by`]: what transactions give over tables, executed by workers, an [`Execution`]. [`test_rows`]: the first table
+//!   over a limit, [`TooManyRows`].
 //!
 //! ```
 //! use pac_outside::OpenGate;
@@ -22,24 +23,29 @@
 //! of it with at least the transactions that are durable, and nothing is damaged or aborts (`stands`).
 #![tactic(auto)]
 
-mod batches;
 mod errors;
+mod executor;
 mod gates;
 mod limit;
 mod loading;
 mod log;
+mod pieces;
+mod plan;
 mod recovery;
 mod remainder;
-mod replay;
 mod replayed_log;
 mod restoring;
 mod skipping;
 mod slots;
 mod store;
+mod window;
+mod workers;
 
-pub use batches::execute;
 pub use errors::{Damage, LoadError, RecoverError};
+pub use executor::{Execution, Executor};
 pub use limit::{TooManyRows, test_rows};
 pub use loading::{Loaded, load};
+pub use pieces::InPieces;
 pub use recovery::{Recovered, recover};
 pub use restoring::{Restored, restore};
+pub use workers::execute_by;

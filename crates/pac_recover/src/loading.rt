@@ -3,7 +3,6 @@ ghost use Rattle.std.specs.Prelude.{◌≡◌, ◌≤◌, ℕ, IfOk, IsErrOf, dr
 ghost use Rattle.pac_outside.specs.Devices.{OneFaulted, each};
 ghost use Rattle.pac_outside.specs.Disk.{IfKnown};
 ghost use Rattle.pac_types.specs.Fits.{FitsCatalogue, shape};
-ghost use Rattle.pac_types.specs.OperationLimits.{HasFewOperations};
 ghost use Rattle.pac_flat.specs.FlatForm.{program_of};
 ghost use Rattle.pac_plan.specs.Analysis.{IsAnalysis};
 ghost use Rattle.pac_log.specs.declared.damage.DamageKind.{DamageKind as ALogDamage};
@@ -19,11 +18,10 @@ ghost use Rattle.pac_recover.specs.Refusals.{HasDamage, HasNoStore};
 
 use crate::LoadError;
 use crate::log::{WholeLog, read_log};
+use crate::plan::plan_of;
 use crate::slots::{batches_before, read_slots, read_tables};
-use pac_base::{Exact, NoMemory, Refusal, listed};
+use pac_base::{Exact, NoMemory, listed};
 use pac_check::{SlotInfo, SlotName, Slots};
-use pac_flat::flatten;
-use pac_global::global;
 use pac_log::LogReader;
 use pac_ops::{Batch, Batches};
 use pac_outside::{Devices, Disk};
@@ -162,21 +160,4 @@ fn after(mut batches: Vec<Batch>, count: usize) -> Result<Batches, NoMemory>
     ensures { IfOk result (λ rest. rest ≡ drop count batches.items) }
 {
     Ok(listed(batches.split_off(count)?))
-}
-
-// The plan of a catalogue with few operations.
-fn plan_of(alloc: Global, cat: &Catalogue) -> Result<Plan, NoMemory>
-    requires { HasFewOperations cat.now.procs }
-    ensures programs { IfOk result (λ plan. plan.programs ≡ map program_of cat.now.procs) }
-    ensures shapes { IfOk result (λ plan. plan.tables ≡ map shape cat.now.tables) }
-    ensures analysis { IfOk result (λ plan. IsAnalysis plan) }
-{
-    match flatten(alloc, cat) {
-        Ok(programs) => {
-            let _few = cat.procs();
-            global(alloc, cat, programs)
-        }
-        Err(Refusal::Fault(_)) => unreachable!(),
-        Err(Refusal::NoMemory) => Err(NoMemory),
-    }
 }

@@ -15,7 +15,7 @@ ghost use Rattle.pac_recover.specs.declared.errors.Damage.TheVariants.{Log as In
 ghost use Rattle.pac_recover.specs.Recovering.{AbortsIn, IsOverIn, IsRecoveredFrom, Recovers};
 ghost use Rattle.pac_recover.specs.Refusals.{HasDamage, HasNoStore, IfImagesKnown};
 
-use crate::{RecoverError, Restored, restore};
+use crate::{InPieces, RecoverError, Restored, restore};
 use pac_outside::{Devices, Disk, Gate};
 use pac_tables::HashedRows;
 use pac_types::Catalogue;
@@ -30,8 +30,8 @@ pub struct Recovered {
     pub txns: u64,
 }
 
-/// Recovers the tables of a store, as [`restore`] does, over hashed tables. The number of workers has no effect, and no gate is
-/// entered.
+/// Recovers the tables of a store, as [`restore`] does, over hashed tables. It replays in pieces on one thread: the number of
+/// workers has no effect, and no gate is entered.
 ///
 /// # Errors
 ///
@@ -66,7 +66,7 @@ pub fn recover<D: Disk, G: Gate>(
         tables,
         reader,
         slots: _,
-    } = restore(alloc, limit, devices)?;
+    } = restore(alloc, &InPieces, limit, devices)?;
     let txns = reader.gate().txns();
     Ok(Recovered {
         catalogue,

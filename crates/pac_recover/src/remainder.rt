@@ -12,27 +12,29 @@ ghost use Rattle.pac_recover.specs.Replays.{HasGatesTo, IsRestOf};
 
 use crate::gates::{GatePlace, gate_place};
 use crate::log::push;
-use crate::replay::{Executed, replay};
+use crate::window::Replaying;
+use crate::{Execution, Executor};
 use pac_log::{LogError, LogReader};
 use pac_outside::Disk;
 use pac_tables::{JoinedRows, TableRows};
 use pac_types::Catalogue;
 use std::alloc::Global;
 
-/// Reads the batches from the reader's gate to the log's end, and executes each over the tables as soon as it is read. Where
-/// one aborts, those after it are read alone. The gate after each batch is put after the others.
+/// Reads the batches from the reader's gate to the log's end, and executes them over the tables, window by window. Where one
+/// aborts, those of later windows are read alone. The gate after each batch is put after the others.
 ///
 /// # Errors
 ///
 /// Those of [`LogReader::next_batch`], and [`LogError::NoMemory`] where there was no memory for the tables.
-pub(crate) fn replay_rest<D: Disk, T: TableRows>(
+pub(crate) fn replay_rest<D: Disk, T: TableRows + Send, X: Executor>(
     alloc: Global,
     cat: &Catalogue,
+    executor: &X,
     tables: JoinedRows<T>,
     gates: &mut Vec<GatePlace>,
     reader: &mut LogReader,
     disk: &mut D,
-) -> Result<Executed<T>, LogError>
+) -> Result<Execution<T>, LogError>
     requires operations { HasFewOperations cat.now.procs }
     requires same { reader.old.gate.catalogue ≡ cat.now }
     requires rows { FitsCatalogue cat.now tables.tables tables.rows }
@@ -49,14 +51,19 @@ pub(crate) fn replay_rest<D: Disk, T: TableRows>(
     ensures counted { IsErrOf result LogError.DiskFault → D.faults disk.new ≡ one_more (D.faults disk.old) }
     ensures kept { ¬ IsErrOf result LogError.DiskFault → D.faults disk.new ≡ D.faults disk.old }
 {
-    let mut replayed = Executed::Tables(tables);
+    let mut replaying = Replaying::new(alloc, tables, gate_place(reader.gate()));
     for _ in 0..u64::MAX {
         match reader.next_batch(disk)? {
-            None => return Ok(replayed),
+            None => {
+                let _few = reader.gate().txns();
+                let replayed = replaying.execute(alloc, cat, executor)?;
+                return Ok(replayed);
+            }
             Some(batch) => {
                 let _few = reader.gate().txns();
-                replayed = replay(alloc, cat, replayed, batch)?;
-                push(gates, gate_place(reader.gate()))?;
+                let gate = gate_place(reader.gate());
+                replaying = replaying.with(alloc, cat, executor, batch, gate)?;
+                push(gates, gate)?;
             }
         }
     }

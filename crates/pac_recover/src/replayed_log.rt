@@ -15,9 +15,9 @@ ghost use Rattle.pac_recover.specs.Replays.{IsReplayOf};
 use crate::gates::{GatePlace, gate_place};
 use crate::log::push;
 use crate::remainder::replay_rest;
-use crate::replay::Executed;
 use crate::skipping::skip_to;
 use crate::slots::place_in;
+use crate::{Execution, Executor};
 use pac_check::SlotInfo;
 use pac_log::{LogError, LogReader};
 use pac_outside::Disk;
@@ -28,7 +28,7 @@ use std::alloc::Global;
 /// A log that was read to its end, and what the execution of its transactions after the newest slot gives.
 #[derive(Drop)]
 pub(crate) struct ReplayedLog<T: TableRows> {
-    pub replayed: Executed<T>,
+    pub replayed: Execution<T>,
     /// The first gate, and the one after each batch.
     pub gates: Vec<GatePlace>,
 }
@@ -39,9 +39,10 @@ pub(crate) struct ReplayedLog<T: TableRows> {
 /// # Errors
 ///
 /// Those of [`LogReader::next_batch`], and [`LogError::NoMemory`] where there was no memory for the tables.
-pub(crate) fn replay_log<D: Disk, T: TableRows>(
+pub(crate) fn replay_log<D: Disk, T: TableRows + Send, X: Executor>(
     alloc: Global,
     cat: &Catalogue,
+    executor: &X,
     newest: Option<SlotInfo>,
     tables: JoinedRows<T>,
     reader: &mut LogReader,
@@ -63,15 +64,16 @@ pub(crate) fn replay_log<D: Disk, T: TableRows>(
     ensures kept { ¬ IsErrOf result LogError.DiskFault → D.faults disk.new ≡ D.faults disk.old }
 {
     match newest {
-        None => replay_whole(alloc, cat, tables, reader, disk),
-        Some(info) => replay_from(alloc, cat, info, tables, reader, disk),
+        None => replay_whole(alloc, cat, executor, tables, reader, disk),
+        Some(info) => replay_from(alloc, cat, executor, info, tables, reader, disk),
     }
 }
 
 // The same where no slot is open.
-fn replay_whole<D: Disk, T: TableRows>(
+fn replay_whole<D: Disk, T: TableRows + Send, X: Executor>(
     alloc: Global,
     cat: &Catalogue,
+    executor: &X,
     tables: JoinedRows<T>,
     reader: &mut LogReader,
     disk: &mut D,
@@ -93,14 +95,15 @@ fn replay_whole<D: Disk, T: TableRows>(
 {
     let mut gates = Vec::new(alloc);
     push(&mut gates, gate_place(reader.gate()))?;
-    let replayed = replay_rest(alloc, cat, tables, &mut gates, reader, disk)?;
+    let replayed = replay_rest(alloc, cat, executor, tables, &mut gates, reader, disk)?;
     Ok(ReplayedLog { replayed, gates })
 }
 
 // The same from the gate of a slot on.
-fn replay_from<D: Disk, T: TableRows>(
+fn replay_from<D: Disk, T: TableRows + Send, X: Executor>(
     alloc: Global,
     cat: &Catalogue,
+    executor: &X,
     info: SlotInfo,
     tables: JoinedRows<T>,
     reader: &mut LogReader,
@@ -123,9 +126,9 @@ fn replay_from<D: Disk, T: TableRows>(
 {
     let (is_there, mut gates) = skip_to(alloc, place_in(&info), reader, disk)?;
     if !is_there {
-        let replayed = Executed::Tables(tables);
+        let replayed = Execution::Tables(tables);
         return Ok(ReplayedLog { replayed, gates });
     }
-    let replayed = replay_rest(alloc, cat, tables, &mut gates, reader, disk)?;
+    let replayed = replay_rest(alloc, cat, executor, tables, &mut gates, reader, disk)?;
     Ok(ReplayedLog { replayed, gates })
 }

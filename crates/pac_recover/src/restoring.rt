@@ -17,9 +17,8 @@ ghost use Rattle.pac_recover.specs.Restoring.{IsRestored};
 ghost use Rattle.pac_recover.specs.Logs.{HoldsLogUpTo};
 ghost use Rattle.pac_recover.specs.Refusals.{HasDamage, HasNoStore, IfImagesKnown};
 
-use crate::replay::Executed;
 use crate::store::{Ended, replay_store};
-use crate::{RecoverError, test_rows};
+use crate::{Execution, Executor, RecoverError, test_rows};
 use pac_check::Slots;
 use pac_log::LogReader;
 use pac_outside::{Devices, Disk};
@@ -39,10 +38,11 @@ pub struct Restored<T: TableRows> {
 }
 
 /// Reads a store, on devices that are only read, executes the transactions of the log after the newest slot over that one's
-/// tables, one after another, and then tests the limit of rows.
+/// tables, and then tests the limit of rows.
 ///
-/// The slots are read before the log's batches. Each batch is executed as soon as it is read, and freed, so that memory is
-/// taken for the tables, for one batch, and 16 bytes for each; all batches are held only where a slot is damaged.
+/// The slots are read before the log's batches. The batches of a window of the executor are executed once they are read, and
+/// freed, so that memory is taken for the tables, for one window and what executes it, and 16 bytes for each batch; all batches
+/// are held only where a slot is damaged.
 ///
 /// # Errors
 ///
@@ -51,8 +51,9 @@ pub struct Restored<T: TableRows> {
 ///   aborts.
 /// - [`RecoverError::RowsOver`] exactly where the tables then have more rows than the limit: the first such table.
 /// - [`RecoverError::NoMemory`] where there was no memory for the tables.
-pub fn restore<D: Disk, T: TableRows>(
+pub fn restore<D: Disk, T: TableRows + Send, X: Executor>(
     alloc: Global,
+    executor: &X,
     limit: u64,
     devices: &mut Devices<D>,
 ) -> Result<Restored<T>, RecoverError>
@@ -83,7 +84,7 @@ pub fn restore<D: Disk, T: TableRows>(
         replayed,
         reader,
         slots,
-    } = replay_store(alloc, devices)?;
+    } = replay_store(alloc, executor, devices)?;
     let tables = tables_of(replayed)?;
     test_rows(&catalogue, &tables, limit)?;
     Ok(Restored {
@@ -95,12 +96,12 @@ pub fn restore<D: Disk, T: TableRows>(
 }
 
 // The tables with which the execution ends, unless a transaction aborts.
-fn tables_of<T: TableRows>(replayed: Executed<T>) -> Result<JoinedRows<T>, RecoverError>
-    ensures ok { IfOk result (λ tables. replayed ≡ Executed.Tables tables) }
-    ensures aborted { (error : ARecoverError) → IsErrOf result error → (note : ANote) × (error ≡ RecoverError.AbortInLog note) × (replayed ≡ Executed.Aborted note) }
+fn tables_of<T: TableRows>(replayed: Execution<T>) -> Result<JoinedRows<T>, RecoverError>
+    ensures ok { IfOk result (λ tables. replayed ≡ Execution.Tables tables) }
+    ensures aborted { (error : ARecoverError) → IsErrOf result error → (note : ANote) × (error ≡ RecoverError.AbortInLog note) × (replayed ≡ Execution.Aborted note) }
 {
     match replayed {
-        Executed::Tables(tables) => Ok(tables),
-        Executed::Aborted(note) => Err(RecoverError::AbortInLog(note)),
+        Execution::Tables(tables) => Ok(tables),
+        Execution::Aborted(note) => Err(RecoverError::AbortInLog(note)),
     }
 }

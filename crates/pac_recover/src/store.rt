@@ -18,10 +18,9 @@ ghost use Rattle.pac_recover.specs.Logs.{HoldsLogUpTo};
 ghost use Rattle.pac_recover.specs.Ends.{IsEnded, EndsBeside, EndsSo, IsDamagedBeside, IsWholeLog};
 
 use crate::log::read_batches;
-use crate::replay::Executed;
 use crate::replayed_log::replay_log;
 use crate::slots::{Newest, read_newest, test_place};
-use crate::{Damage, LoadError};
+use crate::{Damage, Execution, Executor, LoadError};
 use pac_base::Exact;
 use pac_check::{SlotName, Slots};
 use pac_log::LogReader;
@@ -34,19 +33,20 @@ use std::alloc::Global;
 #[derive(Drop)]
 pub(crate) struct Ended<T: TableRows> {
     pub catalogue: Catalogue,
-    pub replayed: Executed<T>,
+    pub replayed: Execution<T>,
     /// The reader of the log, at its end.
     pub reader: LogReader,
     pub slots: Slots,
 }
 
-/// Executes what is stored on devices, which are only read: the slots, and then the log once, batch by batch.
+/// Executes what is stored on devices, which are only read: the slots, and then the log once, window by window.
 ///
 /// # Errors
 ///
 /// Those of [`load`](crate::load), in its order.
-pub(crate) fn replay_store<D: Disk, T: TableRows>(
+pub(crate) fn replay_store<D: Disk, T: TableRows + Send, X: Executor>(
     alloc: Global,
+    executor: &X,
     devices: &mut Devices<D>,
 ) -> Result<Ended<T>, LoadError>
     ensures ends { IfOk result (λ ended. IfReadKnown (EndsSo ended) (D.known devices.old.log) (D.known devices.old.slot_a) (D.known devices.old.slot_b)) }
@@ -65,7 +65,7 @@ pub(crate) fn replay_store<D: Disk, T: TableRows>(
     let reader = LogReader::attach(alloc, &mut devices.log)?;
     let catalogue = reader.gate().catalogue().copy(alloc)?;
     match read_newest(alloc, &catalogue, &mut devices.slot_a, &mut devices.slot_b) {
-        Ok(newest) => replay_after(alloc, catalogue, newest, reader, &mut devices.log),
+        Ok(newest) => { replay_after(alloc, executor, catalogue, newest, reader, &mut devices.log) }
         Err(LoadError::Damaged(damage)) => {
             Err(first_damage(alloc, damage, reader, &mut devices.log))
         }
@@ -99,8 +99,9 @@ fn first_damage<D: Disk>(
 }
 
 // Executes what a log holds after the newest slot, and then sees that the slots are at gates of it.
-fn replay_after<D: Disk, T: TableRows>(
+fn replay_after<D: Disk, T: TableRows + Send, X: Executor>(
     alloc: Global,
+    executor: &X,
     catalogue: Catalogue,
     newest: Newest<T>,
     mut reader: LogReader,
@@ -126,7 +127,15 @@ fn replay_after<D: Disk, T: TableRows>(
     let Newest { slots, tables } = newest;
     let _few = reader.gate().catalogue(); // the same, which has few operations
     let latest = slots.newest();
-    let log = replay_log(alloc, &catalogue, latest, tables, &mut reader, disk)?;
+    let log = replay_log(
+        alloc,
+        &catalogue,
+        executor,
+        latest,
+        tables,
+        &mut reader,
+        disk,
+    )?;
     test_place(&log.gates, slots.info(SlotName::A))?;
     test_place(&log.gates, slots.info(SlotName::B))?;
     Ok(Ended {

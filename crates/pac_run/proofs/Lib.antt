@@ -7,6 +7,7 @@ pub mod NameLemmas
 pub mod OpenLemmas
 pub mod PlainLemmas
 pub mod ReadLemmas
+pub mod SerialSteps
 pub mod RunLemmas
 pub mod ServeLemmas
 pub mod StepLemmas

@@ -31,6 +31,7 @@
 mod command;
 mod limits;
 mod opening;
+mod serially;
 mod serving;
 mod stop;
 mod text;

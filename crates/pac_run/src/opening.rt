@@ -19,6 +19,7 @@ ghost use Rattle.pac_types.specs.Execution.{first_over};
 ghost use Rattle.pac_engine.specs.Standing.{HasDevices};
 ghost use Rattle.pac_run.specs.Opening.{BeginsOver, IsFresh, IsOpenedFrom};
 
+use crate::serially::Serially;
 use pac_engine::Engine;
 use pac_log::Log;
 use pac_outside::{Devices, Disk};
@@ -55,7 +56,7 @@ fn engine_over<D: Disk>(
         tables,
         reader,
         slots,
-    } = restore(alloc, limit, devices)?;
+    } = restore(alloc, &Serially, limit, devices)?;
     let log = Log::resume(reader);
     Ok(Engine::new(alloc, catalogue, tables, log, slots, batch, limit))
 }

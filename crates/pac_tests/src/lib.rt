@@ -15,6 +15,8 @@ mod lines;
 #[cfg(test)]
 mod recorder;
 #[cfg(test)]
+mod replays;
+#[cfg(test)]
 mod sends;
 #[cfg(test)]
 mod sizes;

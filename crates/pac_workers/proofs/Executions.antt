@@ -1,5 +1,5 @@
 -- The last state of a replay is that of the batches that were loaded at first.
-use Rattle.std.proofs.Common.{◌≡◌, List, length, Option, ap, ◌∙◌}
+use Rattle.std.proofs.Common.{true, [], ◌≡◌, List, length, Option, ap, ◌∙◌}
 use Rattle.pac_value.specs.State.{Tables}
 use Rattle.pac_ops.specs.Notes.{first_note}
 use Rattle.pac_ops.specs.Transactions.{replayed}
@@ -7,7 +7,7 @@ use Rattle.pac_ops.specs.declared.batch.Batch.{Batch}
 use Rattle.pac_ops.specs.declared.note.Note.{Note}
 use Rattle.pac_commute.specs.Loads.{Job, pieces_of}
 use Rattle.pac_commute.specs.PlanLaws.{txns_of}
-use Rattle.pac_core.specs.Calls.{IsOutcome, with_batches}
+use Rattle.pac_core.specs.Calls.{IsDrained, IsReplayOutcome, with_batches}
 use Rattle.pac_core.specs.Replay.{Replay, closed, left, opening_replay, with_none_taken}
 use Rattle.pac_core.proofs.BatchLoads.{begun_is, begun_left}
 
@@ -22,9 +22,13 @@ module _ (job : Job) (batches : List Batch) (core : Replay) (loaded : core ≡ c
     batches_are : last.batches ≡ batches
     batches_are = ap (λ (r : Replay). r.batches) (same ∙ ap with_none_taken (loaded ∙ begun_is job batches))
 
-    module _ (tables : Tables) (note : Option Note) (is : IsOutcome last tables note) where
+    module _ (tables : Tables) (note : Option Note) (is : IsReplayOutcome last tables note) where
       pub tables_are : tables ≡ (replayed job.parts.programs job.first (txns_of batches) job.tables).tables
       tables_are = is.tables_are ∙ (λ i. (replayed (job_is i).parts.programs (job_is i).first (txns_of (batches_are i)) (job_is i).tables).tables)
 
       pub note_is : note ≡ first_note (replayed job.parts.programs job.first (txns_of batches) job.tables).notes
       note_is = is.note_is ∙ (λ i. first_note (replayed (job_is i).parts.programs (job_is i).first (txns_of (batches_are i)) (job_is i).tables).notes)
+
+-- a replay that was drained has the job and the batches that it had, of which none is taken
+pub drained_same : (core last : Replay) → IsDrained core last → with_none_taken last ≡ with_none_taken core
+drained_same core last drained = (λ i. record { job = drained.job i; batches = drained.batches i; is_closed = true; out = []; finished = [] })

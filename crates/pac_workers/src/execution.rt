@@ -56,6 +56,7 @@ pub fn execute<R: Rows + Send, G: Gate + Sync, H: Threads + Wait + Sync>(
     requires txns { All (λ (batch : ABatch). TxnsFitPlan plan batch.txns) batches }
     requires numbers { first + length (txns_of batches) < 2 ^ 64 }
     ensures tables { IfOk result (λ e. R.tables e.tables ≡ length plan.tables) }
+    ensures fit { IfOk result (λ e. RowsFit plan.tables (R.held e.tables)) }
     ensures held { IfOk result (λ e. R.held e.tables ≡ (replayed plan.programs first (txns_of batches) (R.held tables)).tables) }
     ensures note { IfOk result (λ e. e.first_note ≡ first_note (replayed plan.programs first (txns_of batches) (R.held tables)).notes) }
     ensures tallies { IfOk result (λ e. length e.tallies ≡ workers) }
@@ -75,6 +76,33 @@ pub fn execute<R: Rows + Send, G: Gate + Sync, H: Threads + Wait + Sync>(
         tallies,
         drained,
     })
+}
+
+/// The same on this thread, without any other: the pieces are run in the order in which they come next.
+///
+/// # Errors
+///
+/// [`NoMemory`] where an allocation is refused.
+pub fn execute_here<R: Rows>(
+    alloc: Global,
+    plan: Plan,
+    first: u64,
+    tables: R,
+    batches: Batches,
+) -> Result<Outcome<R>, NoMemory>
+    requires tables { R.tables tables ≡ length plan.tables }
+    requires fit { RowsFit plan.tables (R.held tables) }
+    requires runs { NumbersRunOn first batches }
+    requires txns { All (λ (batch : ABatch). TxnsFitPlan plan batch.txns) batches }
+    requires numbers { first + length (txns_of batches) < 2 ^ 64 }
+    ensures tables { IfOk result (λ outcome. R.tables outcome.tables ≡ length plan.tables) }
+    ensures fit { IfOk result (λ outcome. RowsFit plan.tables (R.held outcome.tables)) }
+    ensures held { IfOk result (λ outcome. R.held outcome.tables ≡ (replayed plan.programs first (txns_of batches) (R.held tables)).tables) }
+    ensures note { IfOk result (λ outcome. outcome.first_note ≡ first_note (replayed plan.programs first (txns_of batches) (R.held tables)).notes) }
+{
+    let mut core = loaded(alloc, plan, first, tables, batches)?;
+    core.drain()?;
+    Ok(core.outcome())
 }
 
 // Batches are loaded, and no more come.

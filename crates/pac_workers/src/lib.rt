@@ -48,6 +48,6 @@ mod tests;
 mod threads;
 mod worker;
 
-pub use execution::{Executed, execute};
+pub use execution::{Executed, execute, execute_here};
 pub use machine::{Machine, Ready, Taken};
 pub use threads::{Replayed, replay};

@@ -9,7 +9,7 @@ use Rattle.pac_core.specs.Calls.{IsGivenWork}
 use Rattle.pac_core.specs.Links.{core_of}
 use Rattle.pac_core.specs.Moves.{IsReadyAtOffset}
 use Rattle.pac_core.specs.Replay.{with_out}
-use Rattle.pac_core.specs.Takes.{IsNextPiece, access_in}
+use Rattle.pac_core.specs.Takes.{IsNextPiece, access_now}
 use Rattle.pac_core.proofs.CoreMoves.{taken_core, taken_is}
 use Rattle.pac_core.proofs.TakeNext.{first_picked}
 use Rattle.pac_core.proofs.events.take_piece.Goals as goal
@@ -33,7 +33,7 @@ returns-in-Some-clause-ok g c =
     let given = subst (λ (o : Option Work). IfSome o (IsGivenWork (core_of p u) c.args.piece)) c.in-Some.is c.in_ok-work.ensures.given in
     let first = first_picked p place c.args.piece state.Waiting at (subst (λ (n : ℕ). IsReadyAtOffset p n c.args.piece) (sym c.place_of_ready-place.ensures.at) c.requires.next.1) in (
       subst (λ (q : PieceId). IsNextPiece (core_of p u) (Some q)) (sym given.0) c.requires.next.0,
-      subst (λ (q : PieceId). access_in (core_of p u) q ≢ Whole) (sym given.0) given.1,
+      subst (λ (q : PieceId). access_now (core_of p u) q ≢ Whole) (sym given.0) given.1,
       given.2,
       given.3,
       taken_is p u c.requires.core place c.args.piece at c.requires.next.0.0 given.1 first c.hand_out.new.self c.hand_out.ensures.moved c.hand_out.ensures.order ∙ ap (with_out (core_of p u)) (sym given.0),

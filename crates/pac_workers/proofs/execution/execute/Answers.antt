@@ -1,6 +1,7 @@
 -- What is left is of the batches that were loaded, and a core can be sent.
-use Rattle.std.proofs.Common.{length, ap, ◌∙◌}
+use Rattle.std.proofs.Common.{length, ap, subst, ◌∙◌}
 use denote.Param.Send.{sendable}
+use Rattle.pac_ops.specs.Shapes.{RowsFit}
 use Rattle.pac_commute.specs.Loads.{Job}
 use Rattle.pac_workers.proofs.Executions.{job_is, left_is, note_is, tables_are}
 use Rattle.pac_workers.proofs.Sent.{core_send, done_send, work_send}
@@ -19,6 +20,12 @@ pub returns-clause-tables : goal.returns-clause-tables
 returns-clause-tables g c =
     let job : Job = record { parts = c.args.plan; first = c.args.first; tables = g.R.Rows.held c.args.tables } in
     c.outcome-tables.ensures.tables ∙ ap (λ (j : Job). length j.parts.tables) (job_is job c.args.batches c.in_ok-core.core c.in_ok-core.ensures c.in_ok-replayed.replayed.machine c.in_ok-replayed.ensures.job)
+
+pub returns-clause-fit : goal.returns-clause-fit
+returns-clause-fit g c =
+    let job : Job = record { parts = c.args.plan; first = c.args.first; tables = g.R.Rows.held c.args.tables } in
+    subst (λ (j : Job). RowsFit j.parts.tables (g.R.Rows.held c.outcome-tables.result.tables))
+    (job_is job c.args.batches c.in_ok-core.core c.in_ok-core.ensures c.in_ok-replayed.replayed.machine c.in_ok-replayed.ensures.job) c.outcome-tables.ensures.fit
 
 pub returns-clause-held : goal.returns-clause-held
 returns-clause-held g c =

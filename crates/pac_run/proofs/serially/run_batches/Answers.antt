@@ -5,8 +5,8 @@ use Rattle.pac_serial.specs.declared.serial.AllError.{AllError}
 use Rattle.pac_serial.specs.declared.serial.AllError.TheVariants.{Abort}
 use Rattle.pac_serial.specs.Outcomes.{ExecutesAll}
 use Rattle.pac_recover.proofs.CauseLemmas.{the-cause}
-use Rattle.pac_recover.proofs.RecoverLemmas.{aborts-here, one-more-executed}
-use Rattle.pac_recover.proofs.batches.execute.Goals as goal
+use Rattle.pac_run.proofs.SerialSteps.{aborts-here, one-more-executed}
+use Rattle.pac_run.proofs.serially.run_batches.Goals as goal
 
 pub returns-in_err-exec_all-clause-abort : goal.returns-in_err-exec_all-clause-abort
 returns-in_err-exec_all-clause-abort g c = λ note is.

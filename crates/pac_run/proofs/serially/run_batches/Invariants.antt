@@ -1,7 +1,7 @@
 -- The batches so far are executed.
 use Rattle.pac_types.specs.Fits.{FitsCatalogue}
-use Rattle.pac_recover.proofs.RecoverLemmas.{IsExecuted}
-use Rattle.pac_recover.proofs.batches.execute.Given as goal
+use Rattle.pac_run.proofs.SerialSteps.{IsExecuted}
+use Rattle.pac_run.proofs.serially.run_batches.Given as goal
 
 abbrev pub invariant-loop-batch : goal.invariant-loop-batch
 invariant-loop-batch g l = record {

@@ -1,0 +1,58 @@
+// Executes transactions by workers.
+ghost use Rattle.std.specs.Prelude.{◌≡◌, ◌≤◌, ◌+◌, ◌-◌, ◌<◌, ◌^◌, IfOk, length};
+ghost use Rattle.pac_types.specs.Execution.{serial};
+ghost use Rattle.pac_types.specs.Fits.{FitsCatalogue};
+ghost use Rattle.pac_types.specs.OperationLimits.{HasFewOperations};
+ghost use Rattle.pac_recover.specs.Gates.{RunOn, txns_in};
+ghost use Rattle.pac_recover.specs.Logs.{FitBatches};
+ghost use Rattle.pac_recover.specs.Outcomes.{FitsReplayed, outcome_of};
+
+use crate::Execution;
+use crate::plan::plan_of;
+use pac_base::NoMemory;
+use pac_ops::Batches;
+use pac_outside::Gate;
+use pac_tables::{JoinedRows, TableRows};
+use pac_types::Catalogue;
+use pac_workers::{Executed, execute};
+use std::alloc::Global;
+use std::sync::Wait;
+use std::thread::Threads;
+
+/// What batches that run on after that many transactions give over tables, by so many workers. Each of them passes the gate
+/// before each piece that it runs.
+///
+/// # Errors
+///
+/// [`NoMemory`] where an allocation is refused.
+pub fn execute_by<T: TableRows + Send, H: Threads + Wait + Sync, G: Gate + Sync>(
+    rt: &H,
+    alloc: Global,
+    workers: u32,
+    cat: &Catalogue,
+    before: u64,
+    batches: Batches,
+    tables: JoinedRows<T>,
+    gate: &G,
+) -> Result<Execution<T>, NoMemory>
+    requires workers { 1 ≤ workers }
+    requires operations { HasFewOperations cat.now.procs }
+    requires runs { RunOn before batches }
+    requires fit { FitBatches cat.now batches }
+    requires fits { FitsCatalogue cat.now tables.tables tables.rows }
+    requires few { before + length (txns_in batches) < 2 ^ 64 - 1 }
+    ensures outcome { IfOk result (λ executed. outcome_of executed ≡ serial cat.now.procs (before + 1) (txns_in batches) tables.rows) }
+    ensures fits { IfOk result (λ executed. FitsReplayed cat.now executed) }
+{
+    let plan = plan_of(alloc, cat)?;
+    let Executed {
+        tables,
+        first_note,
+        tallies: _,
+        drained: _,
+    } = execute(rt, alloc, workers, plan, before + 1, tables, batches, gate)?;
+    Ok(match first_note {
+        None => Execution::Tables(tables),
+        Some(note) => Execution::Aborted(note),
+    })
+}
