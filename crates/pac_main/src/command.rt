@@ -37,7 +37,7 @@ use std::thread::Threads;
 /// - `recover [--workers N] [--rows N]` reads the devices, executes the stored transactions after the newest slot over that
 ///   one's tables, and writes the tables where none has more rows than `--rows` says, or 1,000,000. It replays in pieces on one
 ///   thread; the number of workers, from 1 to 64, changes nothing yet. It reads no input, and no device is written or synced.
-///   The batches of 16,777,216 bytes of the log are held in memory.
+///   The batches of 1,048,576 bytes of the log are held in memory.
 /// - `run [--batch N] [--rows N]` does what [`crate::run_command`] says.
 /// - `stress` is read, and answered as arguments that are no command: it doesn't run yet.
 ///

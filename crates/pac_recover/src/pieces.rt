@@ -17,10 +17,10 @@ use pac_types::Catalogue;
 use pac_workers::execute_here;
 use std::alloc::Global;
 
-// How many bytes of the log are executed together.
-const WINDOW: u64 = 16_777_216;
+// How many bytes of the log are executed together: on one thread more would take memory, and save nothing.
+const WINDOW: u64 = 1_048_576;
 
-/// Executes stored transactions in pieces, by the machine that workers share, on one thread. A window has 16,777,216 bytes of the
+/// Executes stored transactions in pieces, by the machine that workers share, on one thread. A window has 1,048,576 bytes of the
 /// log, and at most one batch more.
 #[derive(Clone, Copy, Debug)]
 pub struct InPieces;
