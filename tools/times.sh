@@ -66,7 +66,7 @@ bank_lines() {
 # A catalogue whose procedure has $1 lets that build on one another.
 long_catalogue() {
     awk -v lets="$1" 'BEGIN {
-        print "table T(key int, v int);"; print "proc Long(k int) {"; print "  let v0 = k + 1;"
+        print "table T(key int, v int);"; print "proc Long(k int) {"; print "  read a = T[k].v default 0;"; print "  let v0 = a + k;"
         for (i = 1; i < lets; i++) printf "  let v%d = v%d + %d;\n", i, i - 1, i
         printf "  put T[k] = (v%d);\n}\n", lets - 1
     }'
