@@ -204,7 +204,7 @@ fn call_three<RT: Threads + Wait + Sync>(
     }
 }
 
-// The status, or 254 if the gate was entered.
+// The status, or 254 if a command without workers entered the gate.
 fn call_program<'a, RT: Threads + Wait + Sync>(
     rt: &RT,
     alloc: Global,
@@ -233,9 +233,17 @@ fn call_program<'a, RT: Threads + Wait + Sync>(
         &mut devices,
         &gate,
     );
-    if gate.entered.load(Ordering::SeqCst) == 0 {
+    if gate.entered.load(Ordering::SeqCst) == 0 || has_workers(arguments) {
         status
     } else {
         254
+    }
+}
+
+// Whether the arguments are those of a command that replays by workers.
+fn has_workers(arguments: &[String]) -> bool {
+    match arguments.first() {
+        Some(word) => word.as_str() == "replay",
+        None => false,
     }
 }
