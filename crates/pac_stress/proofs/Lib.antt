@@ -1,0 +1,7 @@
+pub mod Tokens
+pub mod BankReading
+pub mod BankTyping
+pub mod BankFits
+pub mod BatchRuns
+pub mod PieceCounts
+pub mod Finishing

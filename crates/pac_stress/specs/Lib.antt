@@ -1,0 +1,4 @@
+pub mod BankCatalogue
+pub mod StressBatches
+pub mod Summary
+pub mod Stressed

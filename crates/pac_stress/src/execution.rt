@@ -1,0 +1,99 @@
+// Executing the transactions of the stress test by workers.
+ghost use Rattle.std.specs.Prelude.{◌≡◌, ◌+◌, ◌-◌, ◌^◌, ◌<◌, ◌≤◌, IfOk, length, map, sum};
+ghost use Rattle.std.specs.FinMap.{empty};
+ghost use Rattle.pac_flat.specs.Agreement.{ReplaysTheSame};
+ghost use Rattle.pac_flat.specs.FlatForm.{program_of};
+ghost use Rattle.pac_plan.specs.Analysis.{IsAnalysis};
+ghost use Rattle.pac_types.specs.Execution.{serial};
+ghost use Rattle.pac_types.specs.Fits.{shape};
+ghost use Rattle.pac_types.specs.OperationLimits.{HasFewOperations};
+ghost use Rattle.pac_recover.specs.Gates.{RunOn, txns_in};
+ghost use Rattle.pac_recover.specs.Logs.{FitBatches};
+ghost use Rattle.pac_stress.specs.Stressed.{Finishes};
+
+use pac_base::{NoMemory, Refusal};
+use pac_flat::flatten;
+use pac_global::global;
+use pac_ops::Batches;
+use pac_outside::Gate;
+use pac_plan::Plan;
+use pac_serial::{AllError, no_rows};
+use pac_tables::HashedRows;
+use pac_types::Catalogue;
+use pac_workers::{Executed, execute};
+use std::alloc::Global;
+use std::sync::Wait;
+use std::thread::Threads;
+
+/// The tables with which transactions end, and how many pieces they had.
+#[derive(Drop)]
+pub(crate) struct Finished {
+    pub rows: HashedRows,
+    pub pieces: u64,
+}
+
+// The plan of a catalogue with few operations.
+fn stress_plan(alloc: Global, cat: &Catalogue) -> Result<Plan, NoMemory>
+    requires { HasFewOperations cat.now.procs }
+    ensures programs { IfOk result (λ plan. plan.programs ≡ map program_of cat.now.procs) }
+    ensures shapes { IfOk result (λ plan. plan.tables ≡ map shape cat.now.tables) }
+    ensures analysis { IfOk result (λ plan. IsAnalysis plan) }
+    ensures replays { IfOk result (λ plan. ReplaysTheSame cat.now.procs plan.programs) }
+{
+    match flatten(alloc, cat) {
+        Ok(programs) => {
+            let _few = cat.procs();
+            global(alloc, cat, programs)
+        }
+        Err(Refusal::Fault(_)) => unreachable!(),
+        Err(Refusal::NoMemory) => Err(NoMemory),
+    }
+}
+
+// All of these numbers together.
+fn together(tallies: &[u64], drained: u64) -> u64
+    requires { sum tallies.now + drained < 2 ^ 64 }
+    ensures { result ≡ sum tallies.now + drained }
+{
+    let mut all = drained;
+    for tally in tallies {
+        all += *tally;
+    }
+    all
+}
+
+/// What batches that run on from the first transaction leave, from no rows on, by so many workers. Each of them passes the
+/// gate before each piece that it runs.
+pub(crate) fn execute_all<H: Threads + Wait + Sync, G: Gate + Sync>(
+    rt: &H,
+    alloc: Global,
+    workers: u32,
+    cat: &Catalogue,
+    batches: Batches,
+    gate: &G,
+) -> Result<Finished, AllError>
+    requires workers { 1 ≤ workers }
+    requires operations { HasFewOperations cat.now.procs }
+    requires runs { RunOn 0 batches }
+    requires fit { FitBatches cat.now batches }
+    requires few { length (txns_in batches) < 2 ^ 32 }
+    ensures ends { Finishes cat.now batches (serial cat.now.procs 1 (txns_in batches) empty) result }
+    ensures tables { IfOk result (λ finished. finished.rows.tables ≡ length cat.now.tables) }
+{
+    let rows: HashedRows = no_rows(alloc, cat)?;
+    let plan = stress_plan(alloc, cat)?;
+    let _blocks = plan.blocks();
+    let Executed {
+        tables,
+        first_note,
+        tallies,
+        drained,
+    } = execute(rt, alloc, workers, plan, 1, rows, batches, gate)?;
+    match first_note {
+        None => Ok(Finished {
+            rows: tables,
+            pieces: together(tallies.as_slice(), drained),
+        }),
+        Some(note) => Err(AllError::Abort(note)),
+    }
+}

@@ -1,0 +1,30 @@
+//! The stress test: transactions over the catalogue of a bank, executed by workers, and the summary of what they leave.
+//!
+//! - [`stress_summary`]: executes so many transactions from no rows on, by so many workers, and returns the text of the summary: how
+//!   many they are, how many pieces they have, and how many rows each table ends with.
+//! - [`BANK`]: the text of the catalogue. [`bank_catalogue`]: the catalogue. [`stress_batches`]: the transactions, in batches of
+//!   64.
+//!
+//! ```
+//! use pac_outside::OpenGate;
+//! use pac_stress::stress_summary;
+//!
+//! let text = stress_summary(rt, alloc, 4, 8, &OpenGate)?; // transactions 8, pieces 29, and a line for each of the four tables
+//! ```
+//!
+//! The summary is exactly the one that `specs/Summary.antt` defines, of the tables with which serial execution of the
+//! transactions ends, and of the pieces that the plan of the catalogue makes of them (`specs/Stressed.antt`). That the text
+//! has this catalogue, and that the transactions fit it, is proved and not tested when the program runs: the text is read
+//! and checked by the definitions (`proofs/BankReading.antt`, `proofs/BankTyping.antt`). That no transaction aborts is not
+//! proved.
+#![tactic(auto)]
+
+mod batches;
+mod catalogue;
+mod execution;
+mod stress;
+mod summary;
+
+pub use batches::stress_batches;
+pub use catalogue::{BANK, bank_catalogue};
+pub use stress::stress_summary;

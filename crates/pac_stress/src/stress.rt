@@ -1,0 +1,43 @@
+// The stress test.
+ghost use Rattle.std.specs.Prelude.{◌≡◌, ◌≤◌, IfErr, IfOk};
+ghost use Rattle.pac_stress.specs.Stressed.{GivesNoSummary, IsSummaryOf};
+
+use crate::batches::stress_batches;
+use crate::catalogue::bank_catalogue;
+use crate::execution::execute_all;
+use crate::summary::summary_text;
+use pac_outside::Gate;
+use pac_serial::AllError;
+use std::alloc::Global;
+use std::sync::Wait;
+use std::thread::Threads;
+
+/// Executes so many transactions of the stress test from no rows on, by so many workers, and returns the summary. Each worker
+/// passes the gate before each piece that it runs.
+///
+/// # Errors
+///
+/// [`AllError::Abort`] only where serial execution of the transactions aborts, or [`AllError::NoMemory`] where an allocation is
+/// refused.
+pub fn stress_summary<H: Threads + Wait + Sync, G: Gate + Sync>(
+    rt: &H,
+    alloc: Global,
+    workers: u32,
+    count: u32,
+    gate: &G,
+) -> Result<Vec<u8>, AllError>
+    requires workers { 1 ≤ workers }
+    ensures done { IfOk result (λ text. IsSummaryOf count (λ all. text.items ≡ all)) }
+    ensures stops { IfErr result (GivesNoSummary count) }
+{
+    let catalogue = bank_catalogue(alloc)?;
+    let batches = stress_batches(alloc, count)?;
+    let finished = execute_all(rt, alloc, workers, &catalogue, batches, gate)?;
+    Ok(summary_text(
+        alloc,
+        &catalogue,
+        u64::from(count),
+        finished.pieces,
+        &finished.rows,
+    )?)
+}
