@@ -8,36 +8,10 @@ use pac_keys::{PlanCode, arguments, has_arguments};
 use pac_ops::{Batch, Txn, Txns};
 use pac_plan::{Access, Touch};
 use pac_request::stress_txn;
+use pac_stress::BANK;
 use pac_types::read_catalogue;
 use pac_value::Key;
 use std::alloc::Global;
-
-const BANK: &[u8] = b"table Family(key int, spouse int);
-table Current(key int, value int);
-table Saving(key int, value int);
-table Stats(key int, count int);
-proc Transfer(src int, amount int) {
-  read dst = Family[src].spouse default 0;
-  if dst != 0 {
-    read a = Current[src].value default 0;
-    put Current[src] = (a - amount);
-    read b = Current[dst].value default 0;
-    put Current[dst] = (b + amount);
-    read s = Saving[src].value default 0;
-    put Saving[src] = (s + 1);
-  }
-}
-proc Deposit(name int, amount int, nation int) {
-  read v = Current[name].value default 0;
-  put Current[name] = (v + amount);
-  if v + amount > 10000 {
-    read s = Saving[name].value default 0;
-    put Saving[name] = (s + v / 50);
-  }
-  read n = Stats[nation].count default 0;
-  put Stats[nation] = (n + 1);
-}
-";
 
 // How many transactions a batch has.
 const TXNS: u64 = 1_000;

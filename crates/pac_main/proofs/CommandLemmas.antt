@@ -3,14 +3,15 @@ use Rattle.std.proofs.Common.{◌≡◌, ◌↔◌, ℕ, Bool, true, false, List
 use Rattle.std.specs.Prelude.{IsSomeAnd, String}
 use Rattle.std.specs.Global.{Global}
 use Rattle.pac_arguments.specs.declared.command.Command.{Command}
-use Rattle.pac_arguments.specs.declared.command.Command.TheVariants.{Init, Run, Recover, Explain, Replay}
-use Rattle.pac_main.specs.Commands.{command_in, AsksRecover, AsksRun, IsExplain, IsInit, IsRecover, IsReplay, IsRunOf, NamesCommand, Runs}
+use Rattle.pac_arguments.specs.declared.command.Command.TheVariants.{Init, Run, Recover, Explain, Replay, Stress}
+use Rattle.pac_main.specs.Commands.{command_in, AsksRecover, AsksRun, AsksStress, IsExplain, IsInit, IsRecover, IsReplay, IsRunOf, IsStress, NamesCommand, Runs}
 use Rattle.pac_main.specs.Explained.{ExplainEnds}
 use Rattle.pac_main.specs.Init.{AreUntouched, InitEnds}
 use Rattle.pac_main.specs.Recover.{RecoverEnds}
 use Rattle.pac_main.specs.Replay.{ReplayEnds}
 use Rattle.pac_main.specs.Run.{RunEnds}
 use Rattle.pac_main.specs.Streams.{IsOneOf, Observed, ObservedDevices}
+use Rattle.pac_main.specs.Stress.{StressEnds}
 
 -- a status that a command has
 pub not-usage : (n : ℕ) → IsOneOf n (0 ∷ 2 ∷ 4 ∷ 5 ∷ 6 ∷ 7 ∷ 9 ∷ 11 ∷ []) → n ≡ 1 → ⊥
@@ -27,6 +28,9 @@ not-usage-of-recover n h one = let no : ◌≡◌ {A = Bool} false true = subst 
 
 pub not-usage-of-run : (n : ℕ) → IsOneOf n (0 ∷ 3 ∷ 4 ∷ 5 ∷ 6 ∷ 7 ∷ 8 ∷ 9 ∷ 10 ∷ 11 ∷ 12 ∷ []) → n ≡ 1 → ⊥
 not-usage-of-run n h one = let no : ◌≡◌ {A = Bool} false true = subst (λ (k : ℕ). IsOneOf k (0 ∷ 3 ∷ 4 ∷ 5 ∷ 6 ∷ 7 ∷ 8 ∷ 9 ∷ 10 ∷ 11 ∷ 12 ∷ [])) one h in absurd cc
+
+pub not-usage-of-stress : (n : ℕ) → IsOneOf n (0 ∷ 4 ∷ 7 ∷ 9 ∷ []) → n ≡ 1 → ⊥
+not-usage-of-stress n h one = let no : ◌≡◌ {A = Bool} false true = subst (λ (k : ℕ). IsOneOf k (0 ∷ 4 ∷ 7 ∷ 9 ∷ [])) one h in absurd cc
 
 module _ (arguments : List (String Global)) where
   -- arguments that name a command that runs, with a status that isn't 1
@@ -144,6 +148,51 @@ module _ (arguments : List (String Global)) where
   pub no-replay-in-run : (group_size limit most : ℕ) → Some (Run group_size limit) ≡ command_in arguments → IsReplay arguments most → ⊥
   no-replay-in-run group_size limit most is asks = no_run group_size limit (command_in arguments) (sym is) (Replay asks.0 most) (λ e. absurd cc) (sym asks.1)
 
+  count_is : (count workers other : ℕ) (said : Option Command) → Some (Stress count workers) ≡ said → (w : ℕ) → said ≡ Some (Stress other w) → count ≡ other
+  count_is count workers other said is w h = let both : Some (Stress count workers) ≡ Some (Stress other w) = is ∙ h in cc
+
+  pub stress-is : (count workers other status : ℕ) (output errors : Observed) → Some (Stress count workers) ≡ command_in arguments → IsStress arguments other → StressEnds count status output errors → StressEnds other status output errors
+  stress-is count workers other status output errors is asks = subst (λ (n : ℕ). StressEnds n status output errors) (count_is count workers other (command_in arguments) is asks.0 asks.1)
+
+  pub asks-stress : (count workers : ℕ) → Some (Stress count workers) ≡ command_in arguments → AsksStress arguments
+  asks-stress count workers is = (count, (workers, sym is))
+
+  no_stress : (count workers : ℕ) (said : Option Command) → said ≡ Some (Stress count workers) → (other : Command) → (other ≡ Stress count workers → ⊥) → Some other ≡ said → ⊥
+  no_stress count workers said h other differs is = let both : Some other ≡ Some (Stress count workers) = is ∙ h in differs cc
+
+  pub no-stress-in-init : (count : ℕ) → Some Init ≡ command_in arguments → IsStress arguments count → ⊥
+  no-stress-in-init count is asks = no_stress count asks.0 (command_in arguments) asks.1 Init (λ e. absurd cc) is
+
+  pub no-stress-in-run : (group_size limit count : ℕ) → Some (Run group_size limit) ≡ command_in arguments → IsStress arguments count → ⊥
+  no-stress-in-run group_size limit count is asks = no_stress count asks.0 (command_in arguments) asks.1 (Run group_size limit) (λ e. absurd cc) is
+
+  pub no-stress-in-recover : (workers limit count : ℕ) → Some (Recover workers limit) ≡ command_in arguments → IsStress arguments count → ⊥
+  no-stress-in-recover workers limit count is asks = no_stress count asks.0 (command_in arguments) asks.1 (Recover workers limit) (λ e. absurd cc) is
+
+  pub no-stress-in-explain : (a : Bool) (count : ℕ) → Some (Explain a) ≡ command_in arguments → IsStress arguments count → ⊥
+  no-stress-in-explain a count is asks = no_stress count asks.0 (command_in arguments) asks.1 (Explain a) (λ e. absurd cc) is
+
+  pub no-stress-in-replay : (workers limit count : ℕ) → Some (Replay workers limit) ≡ command_in arguments → IsStress arguments count → ⊥
+  no-stress-in-replay workers limit count is asks = no_stress count asks.0 (command_in arguments) asks.1 (Replay workers limit) (λ e. absurd cc) is
+
+  pub no-init-in-stress : (count workers : ℕ) → Some (Stress count workers) ≡ command_in arguments → IsInit arguments → ⊥
+  no-init-in-stress count workers is asks = no_stress count workers (command_in arguments) (sym is) Init (λ e. absurd cc) (sym asks)
+
+  pub no-run-in-stress : (group_size limit count workers : ℕ) → Some (Stress count workers) ≡ command_in arguments → IsRunOf arguments group_size limit → ⊥
+  no-run-in-stress group_size limit count workers is asks = no_stress count workers (command_in arguments) (sym is) (Run group_size limit) (λ e. absurd cc) (sym asks)
+
+  pub no-recover-in-stress : (count workers limit : ℕ) → Some (Stress count workers) ≡ command_in arguments → IsRecover arguments limit → ⊥
+  no-recover-in-stress count workers limit is asks = no_stress count workers (command_in arguments) (sym is) (Recover asks.0 limit) (λ e. absurd cc) (sym asks.1)
+
+  pub no-explain-in-stress : (a : Bool) (count workers : ℕ) → Some (Stress count workers) ≡ command_in arguments → IsExplain arguments a → ⊥
+  no-explain-in-stress a count workers is asks = no_stress count workers (command_in arguments) (sym is) (Explain a) (λ e. absurd cc) (sym asks)
+
+  pub no-replay-in-stress : (count workers limit : ℕ) → Some (Stress count workers) ≡ command_in arguments → IsReplay arguments limit → ⊥
+  no-replay-in-stress count workers limit is asks = no_stress count workers (command_in arguments) (sym is) (Replay asks.0 limit) (λ e. absurd cc) (sym asks.1)
+
+  pub stress-names : (count : ℕ) → IsStress arguments count → NamesCommand arguments
+  stress-names count asks = subst (λ (o : Option Command). IsSomeAnd o Runs) (sym asks.1) tt
+
   pub run-names : (group_size limit : ℕ) → IsRunOf arguments group_size limit → NamesCommand arguments
   run-names group_size limit asks = subst (λ (o : Option Command). IsSomeAnd o Runs) (sym asks) tt
 
@@ -170,6 +219,14 @@ replay-memory limit status input output errors is = record {
   input_fault = λ n. absurd (omega (arith, is, n));
   output_fault = λ n. absurd (omega (arith, is, n));
   too_long = λ n. absurd (omega (arith, is, n));
+}
+
+pub stress-memory : (count status : ℕ) (output errors : Observed) → status ≡ 9 → StressEnds count status output errors
+stress-memory count status output errors is = record {
+  statuses = subst (λ (n : ℕ). IsOneOf n (0 ∷ 4 ∷ 7 ∷ 9 ∷ [])) (sym is) refl;
+  done = λ n. absurd (omega (arith, is, n));
+  aborted = λ n. absurd (omega (arith, is, n));
+  output_fault = λ n. absurd (omega (arith, is, n));
 }
 
 pub explain-memory : (with_text : Bool) (status : ℕ) (input output errors : Observed) → status ≡ 9 → ExplainEnds with_text status input output errors

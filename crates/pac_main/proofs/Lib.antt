@@ -2,6 +2,7 @@ pub mod BatchLemmas
 pub mod InputLemmas
 pub mod StatusLemmas
 pub mod StopLemmas
+pub mod StressLemmas
 pub mod ExplainLemmas
 pub mod OneExplanation
 pub mod CommandLemmas

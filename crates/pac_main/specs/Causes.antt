@@ -12,6 +12,7 @@ use Rattle.pac_recover.specs.Refusals.{HasDamage, HasNoStore, IfImagesKnown}
 use Rattle.pac_request.specs.declared.script.Script.{Script}
 use Rattle.pac_run.specs.declared.stop.RunStop.{RunStop}
 use Rattle.pac_run.specs.declared.stop.RunStop.TheVariants as run
+use Rattle.pac_stress.specs.Stressed.{AbortsStress, IsSummaryOf}
 use Rattle.pac_main.specs.declared.input.InputError.{InputError}
 use Rattle.pac_main.specs.declared.input.InputError.TheVariants as input
 use Rattle.pac_main.specs.declared.stop.Stop.{Stop}
@@ -54,6 +55,15 @@ ReplayStops limit source sink stop.NoMemory = Unit {0}
 ReplayStops limit source sink (stop.LogFull need) = ⊥
 ReplayStops limit source sink stop.TooLong = IsLongScript source.before
 ReplayStops limit source sink (stop.TooLarge bytes) = ⊥
+
+-- ---- `stress`
+
+-- the whole command
+abbrev pub StressStops : ℕ → Observed → Stop → Type 0
+StressStops count sink (stop.Aborted note) = AbortsStress count note
+StressStops count sink stop.OutputFault = AnyFaulted sink × IsSummaryOf count (IsPrefixTaken sink)
+StressStops count sink stop.NoMemory = Unit {0}
+StressStops count sink _ = ⊥
 
 -- ---- `explain`
 

@@ -3,7 +3,7 @@ use Rattle.std.specs.Prelude.{◌≡◌, ℕ, List, map, Option, Some, IsSomeAnd
 use Rattle.std.specs.Global.{Global}
 use Rattle.pac_arguments.specs.Commands.{command_of}
 use Rattle.pac_arguments.specs.declared.command.Command.{Command}
-use Rattle.pac_arguments.specs.declared.command.Command.TheVariants.{Init, Run, Recover, Explain, Replay}
+use Rattle.pac_arguments.specs.declared.command.Command.TheVariants.{Init, Run, Recover, Explain, Replay, Stress}
 
 -- what the arguments say is to be done, if they are a command
 abbrev pub command_in : List (String Global) → Option Command
@@ -41,14 +41,22 @@ AsksExplain arguments = (with_text : Bool) × IsExplain arguments with_text
 abbrev pub IsReplay : List (String Global) → ℕ → Type 0
 IsReplay arguments limit = (workers : ℕ) × (command_in arguments ≡ Some (Replay workers limit))
 
--- a command that runs: `stress` doesn't run yet
+-- the arguments are `stress`, with so many transactions and any number of workers
+abbrev pub IsStress : List (String Global) → ℕ → Type 0
+IsStress arguments count = (workers : ℕ) × (command_in arguments ≡ Some (Stress count workers))
+
+-- the arguments ask for a stress test
+abbrev pub AsksStress : List (String Global) → Type 0
+AsksStress arguments = (count : ℕ) × IsStress arguments count
+
+-- a command that runs, as each does
 abbrev pub Runs : Command → Type 0
 Runs Init = Unit {0}
 Runs (Run group_size limit) = Unit {0}
 Runs (Recover workers limit) = Unit {0}
 Runs (Explain with_text) = Unit {0}
 Runs (Replay workers limit) = Unit {0}
-Runs _ = ⊥
+Runs (Stress count workers) = Unit {0}
 
 -- the arguments name a command that runs
 abbrev pub NamesCommand : List (String Global) → Type 0

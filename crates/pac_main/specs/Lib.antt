@@ -3,6 +3,7 @@ pub mod Streams
 pub mod Stop
 pub mod Commands
 pub mod Replay
+pub mod Stress
 pub mod Run
 pub mod Headline
 pub mod Explained

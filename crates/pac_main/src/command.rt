@@ -1,7 +1,7 @@
 // The commands, by the arguments of the command line.
 ghost use Rattle.std.specs.Prelude.{◌≡◌, ◌≢◌, ◌↔◌, ◌∷◌, ℕ, [], Bool, ◌+◌};
 ghost use Rattle.pac_outside.specs.Content.{GaveAtMost};
-ghost use Rattle.pac_main.specs.Commands.{AsksExplain, AsksRecover, AsksRun, IsExplain, IsInit, IsRecover, IsReplay, IsRunOf, NamesCommand};
+ghost use Rattle.pac_main.specs.Commands.{AsksExplain, AsksRecover, AsksRun, AsksStress, IsExplain, IsInit, IsRecover, IsReplay, IsRunOf, IsStress, NamesCommand};
 ghost use Rattle.pac_main.specs.Explained.{ExplainEnds};
 ghost use Rattle.pac_main.specs.Init.{InitEnds};
 ghost use Rattle.pac_main.specs.Recover.{RecoverEnds};
@@ -9,6 +9,7 @@ ghost use Rattle.pac_main.specs.Replay.{ReplayEnds};
 ghost use Rattle.pac_main.specs.Run.{RunEnds};
 ghost use Rattle.pac_main.specs.Stop.{status_of, line_of};
 ghost use Rattle.pac_main.specs.Streams.{IsOneOf, IsReported, observed, observed_devices};
+ghost use Rattle.pac_main.specs.Stress.{StressEnds};
 ghost use Rattle.pac_main.specs.declared.stop.Stop.{Stop as AStop};
 ghost use Rattle.pac_run.specs.declared.limits.TheConstants.{MAX_INPUT};
 ghost use Rattle.pac_syntax.specs.declared.limits.TheConstants.{MAX_CATALOGUE};
@@ -19,6 +20,7 @@ use crate::recover::recover_devices;
 use crate::replay::replay_input;
 use crate::reporting::{ArgumentsError, refuse_arguments};
 use crate::run::run_devices;
+use crate::stress::stress_output;
 use pac_arguments::{Command, parse_args};
 use pac_base::NoMemory;
 use pac_outside::{Devices, Disk, Gate, Sink, Source};
@@ -39,17 +41,20 @@ use std::thread::Threads;
 ///   thread; the number of workers, from 1 to 64, changes nothing yet. It reads no input, and no device is written or synced.
 ///   The batches of 1,048,576 bytes of the log are held in memory.
 /// - `run [--batch N] [--rows N]` does what [`crate::run_command`] says.
-/// - `stress` is read, and answered as arguments that are no command: it doesn't run yet.
+/// - `stress N [--workers N]` makes so many transactions of the stress test, from 1 to 100,000, over the catalogue of a bank,
+///   executes them from no rows on, in batches of 64, by so many workers, from 1 to 64, or 4, and writes a summary: how many
+///   transactions and pieces there were, and how many rows each table ends with. What it writes doesn't depend on the workers.
+///   It reads no input.
 ///
 /// | status | comes | the error sink takes |
 /// |---|---|---|
-/// | 0 | else: the output took the dump of a replay or a recovery, or the explanation, or all replies of a run; or the store is there | nothing |
-/// | 1 | exactly where the arguments name no command that runs, unless there was no memory to read them | `usage: pacman init, run, recover, explain, replay or stress` |
+/// | 0 | else: the output took the dump of a replay or a recovery, or the explanation, or the summary, or all replies of a run; or the store is there | nothing |
+/// | 1 | exactly where the arguments name no command, unless there was no memory to read them | `usage: pacman init, run, recover, explain, replay or stress` |
 /// | 2 | only where the input is no script, or its catalogue is refused | its first fault: `catalogue AT KIND` where the catalogue's text isn't read, or isn't typed; `operations PROC COUNT` where its operations are too many: the first procedure at which they are, and how many; else, of `replay` alone, `script LINE AT KIND`: the first line that is refused, from 1 on, and its fault |
 /// | 3 | only where a device of a store that is to be made has a byte; the first of the log, slot a and slot b | `not empty DEVICE LENGTH` |
 /// | 3 | only where the log of a store that is to be recovered or run doesn't begin as one | `no store` |
 /// | 3 | or where it is damaged: its first damage, of the log, slot a and slot b, and then of the slots' offsets in the log | `damaged DEVICE AT KIND` |
-/// | 4 | only where serial execution of the transactions of a replay, or of those that are stored, aborts | `abort TXN OP REASON` |
+/// | 4 | only where serial execution of the transactions of a replay or a stress test, or of those that are stored, aborts | `abort TXN OP REASON` |
 /// | 5 | only where they end with a table that has more rows than the limit; the first | `rows TABLE ROWS LIMIT` |
 /// | 6 | only where the input's count of faults rose | `input fault` |
 /// | 7 | only where the output's count of faults rose; the output took a prefix of its text | `output fault` |
@@ -59,7 +64,8 @@ use std::thread::Threads;
 /// | 11 | only where the input of a replay has more than 67,108,864 bytes, or more are read in a run before a line `stop` | `input too long` |
 /// | 12 | only where a slot has no room for a checkpoint of a run, with which it would have that many bytes | `checkpoint too large BYTES` |
 ///
-/// A failing error sink changes no status. Each worker of a replay passes the gate before each piece that it runs.
+/// A failing error sink changes no status. Each worker of a replay or a stress test passes the gate before each piece that it
+/// runs.
 pub fn pacman<RT: Threads + Wait + Sync, I: Source, O: Sink, E: Sink, D: Disk, G: Gate + Sync>(
     rt: &RT,
     alloc: Global,
@@ -72,7 +78,7 @@ pub fn pacman<RT: Threads + Wait + Sync, I: Source, O: Sink, E: Sink, D: Disk, G
 ) -> u8
     ensures status { IsOneOf result (0 ∷ 1 ∷ 2 ∷ 3 ∷ 4 ∷ 5 ∷ 6 ∷ 7 ∷ 8 ∷ 9 ∷ 10 ∷ 11 ∷ 12 ∷ []) }
 
-    // Each command ends so, by its status; where the arguments name none that runs, it is 1.
+    // Each command ends so, by its status; where the arguments name none, it is 1.
     ensures usage { result ≢ 9 → (result ≡ 1) ↔ ¬ NamesCommand arguments.now }
     ensures init { IsInit arguments.now → InitEnds result
         (observed I.left I.faults input.old input.new) (observed E.held E.faults errors.old errors.new) (observed_devices D.known D.faults devices.old devices.new) }
@@ -82,6 +88,8 @@ pub fn pacman<RT: Threads + Wait + Sync, I: Source, O: Sink, E: Sink, D: Disk, G
         (observed_devices D.known D.faults devices.old devices.new) (observed O.held O.faults output.old output.new) (observed E.held E.faults errors.old errors.new) }
     ensures replay { (limit : ℕ) → IsReplay arguments.now limit → ReplayEnds limit result
         (observed I.left I.faults input.old input.new) (observed O.held O.faults output.old output.new) (observed E.held E.faults errors.old errors.new) }
+    ensures stress { (count : ℕ) → IsStress arguments.now count → StressEnds count result
+        (observed O.held O.faults output.old output.new) (observed E.held E.faults errors.old errors.new) }
     ensures explain { (with_text : Bool) → IsExplain arguments.now with_text → ExplainEnds with_text result
         (observed I.left I.faults input.old input.new) (observed O.held O.faults output.old output.new) (observed E.held E.faults errors.old errors.new) }
 
@@ -94,12 +102,13 @@ pub fn pacman<RT: Threads + Wait + Sync, I: Source, O: Sink, E: Sink, D: Disk, G
     ensures reported { result ≢ 0 → (stop : AStop) × (result ≡ status_of stop) × IsReported (observed E.held E.faults errors.old errors.new) (line_of stop) }
 
     // It reads at most one byte more than an input may have, where a catalogue is read at most one more than that may have, and
-    // nothing where the arguments are wrong or ask for a recovery. No other command calls a device.
+    // nothing where the arguments are wrong or ask for a recovery or a stress test. No other command calls a device.
     ensures taken { GaveAtMost (MAX_INPUT + 1) (I.left input.old) (I.left input.new) }
     ensures taken_by_init { IsInit arguments.now → GaveAtMost (MAX_CATALOGUE + 1) (I.left input.old) (I.left input.new) }
     ensures taken_by_explain { AsksExplain arguments.now → GaveAtMost (MAX_CATALOGUE + 1) (I.left input.old) (I.left input.new) }
     ensures unread { ¬ NamesCommand arguments.now → input.new ≡ input.old }
     ensures no_input { AsksRecover arguments.now → input.new ≡ input.old }
+    ensures no_input_of_stress { AsksStress arguments.now → input.new ≡ input.old }
     ensures devices { ¬ IsInit arguments.now → ¬ AsksRun arguments.now → ¬ AsksRecover arguments.now → devices.new ≡ devices.old }
 {
     match parse_args(alloc, arguments) {
@@ -114,7 +123,10 @@ pub fn pacman<RT: Threads + Wait + Sync, I: Source, O: Sink, E: Sink, D: Disk, G
         Ok(Some(Command::Replay { workers, rows })) => {
             replay_input(rt, alloc, workers, rows, input, output, errors, gate)
         }
-        Ok(_) => refuse_arguments(ArgumentsError::Usage, errors),
+        Ok(Some(Command::Stress { count, workers })) => {
+            stress_output(rt, alloc, workers, count, output, errors, gate)
+        }
+        Ok(None) => refuse_arguments(ArgumentsError::Usage, errors),
         Err(NoMemory) => refuse_arguments(ArgumentsError::NoMemory, errors),
     }
 }

@@ -15,8 +15,8 @@
 //! ```
 //!
 //! Each command is a file of its own. `specs/` defines what the calls do: `Commands` (what the arguments mean, and
-//! which commands run), `Init`, `Run`, `Recover`, `Replay` and `Explained` (how each command ends, by its status),
-//! `Streams` (what is observed of streams and devices) and `Stop` (the exit statuses and their lines).
+//! which commands run), `Init`, `Run`, `Recover`, `Replay`, `Explained` and `Stress` (how each command ends, by its
+//! status), `Streams` (what is observed of streams and devices) and `Stop` (the exit statuses and their lines).
 #![tactic(auto)]
 
 mod command;
@@ -32,6 +32,7 @@ mod replay;
 mod reporting;
 mod run;
 mod stop;
+mod stress;
 
 pub use command::pacman;
 pub use explain::explain_command;

@@ -1,7 +1,8 @@
-// Replays by workers, through the top call: who passes the gate.
+// Replays and stress tests by workers, through the top call: who passes the gate.
 use crate::streams::OneByte;
 use pac_main::pacman;
 use pac_outside::{Devices, Gate, MemDisk, MemSink, MemSource};
+use pac_stress::BANK;
 use std::alloc::{AllocError, Global};
 use std::sync::Wait;
 use std::sync::atomic::{AtomicU64, Ordering};
@@ -35,6 +36,27 @@ impl Passed {
         }
         for (piece, (txn, block)) in self.pieces.iter().zip(expected) {
             if piece.load(Ordering::SeqCst) != number(*txn, *block) {
+                return false;
+            }
+        }
+        true
+    }
+
+    // How often this piece passed.
+    fn times(&self, txn: u64, block: u16) -> u64 {
+        let mut times = 0u64;
+        for piece in &self.pieces {
+            if piece.load(Ordering::SeqCst) == number(txn, block) {
+                times = times.saturating_add(1);
+            }
+        }
+        times
+    }
+
+    // Whether a transaction has a piece in each of these blocks that passed once.
+    fn are_once(&self, txn: u64, blocks: &[u16]) -> bool {
+        for block in blocks {
+            if self.times(txn, *block) != 1 {
                 return false;
             }
         }
@@ -91,11 +113,21 @@ impl Gate for Held {
     }
 }
 
-fn arguments_of(alloc: Global, workers: &str) -> Result<Vec<String>, AllocError> {
-    let mut arguments = Vec::new(alloc);
-    for word in ["replay", "--workers", workers] {
+fn push_words(
+    alloc: Global,
+    arguments: &mut Vec<String>,
+    words: &[&str],
+) -> Result<(), AllocError> {
+    for word in words {
         arguments.push(String::from_str(alloc, word)?)?;
     }
+    Ok(())
+}
+
+fn arguments_of(alloc: Global, command: &[&str], workers: &str) -> Result<Vec<String>, AllocError> {
+    let mut arguments = Vec::new(alloc);
+    push_words(alloc, &mut arguments, command)?;
+    push_words(alloc, &mut arguments, &["--workers", workers])?;
     Ok(arguments)
 }
 
@@ -117,15 +149,16 @@ fn no_devices(alloc: Global) -> Devices<MemDisk> {
     }
 }
 
-// The status with which so many workers replay a script, each of which passes the gate.
-fn replayed<H: Threads + Wait + Sync, G: Gate + Sync>(
+// The status with which a command ends that executes by so many workers, each of which passes the gate.
+fn executed<H: Threads + Wait + Sync, G: Gate + Sync>(
     rt: &H,
     alloc: Global,
+    command: &[&str],
     workers: &str,
     script: Vec<u8>,
     gate: &G,
 ) -> Result<u8, AllocError> {
-    let arguments = arguments_of(alloc, workers)?;
+    let arguments = arguments_of(alloc, command, workers)?;
     let mut input = MemSource::new(script, Vec::new(alloc));
     let mut output = sink_of(alloc);
     let mut errors = sink_of(alloc);
@@ -142,32 +175,8 @@ fn replayed<H: Threads + Wait + Sync, G: Gate + Sync>(
     ))
 }
 
-const BANK: &str = "table Family(key int, spouse int);
-table Current(key int, value int);
-table Saving(key int, value int);
-table Stats(key int, count int);
-proc Transfer(src int, amount int) {
-  read dst = Family[src].spouse default 0;
-  if dst != 0 {
-    read a = Current[src].value default 0;
-    put Current[src] = (a - amount);
-    read b = Current[dst].value default 0;
-    put Current[dst] = (b + amount);
-    read s = Saving[src].value default 0;
-    put Saving[src] = (s + 1);
-  }
-}
-proc Deposit(name int, amount int, nation int) {
-  read v = Current[name].value default 0;
-  put Current[name] = (v + amount);
-  if v + amount > 10000 {
-    read s = Saving[name].value default 0;
-    put Saving[name] = (s + v / 50);
-  }
-  read n = Stats[nation].count default 0;
-  put Stats[nation] = (n + 1);
-}
----
+// What follows the bank's catalogue in a script.
+const THREE_BATCHES: &str = "---
 call Deposit(1, 100, 7)
 flush
 adhoc put Family[1] = (2)
@@ -188,11 +197,17 @@ const IN_ORDER: &[(u64, u16)] = &[
     (3, 4),
 ];
 
+fn bank_script(alloc: Global) -> Result<Vec<u8>, AllocError> {
+    let mut script = BANK.to_vec(alloc)?;
+    script.extend_from_slice(THREE_BATCHES.as_bytes())?;
+    Ok(script)
+}
+
 #[test]
 fn one_worker_passes_in_order(rt: HostRuntime) -> Result<(), Fail> {
     let alloc = rt.alloc();
     let passed = Passed::new(alloc, 16)?;
-    let status = replayed(&rt, alloc, "1", BANK.as_bytes().to_vec(alloc)?, &passed)?;
+    let status = executed(&rt, alloc, &["replay"], "1", bank_script(alloc)?, &passed)?;
     assert!(rt; status == 0 && passed.are(IN_ORDER), "status {status}");
     Ok(())
 }
@@ -216,7 +231,56 @@ fn many_keys(alloc: Global, keys: u64) -> Result<Vec<u8>, AllocError> {
 fn two_workers_are_there_at_once(rt: HostRuntime) -> Result<(), Fail> {
     let alloc = rt.alloc();
     let held = Held::new();
-    let status = replayed(&rt, alloc, "2", many_keys(alloc, 1_024)?, &held)?;
+    let status = executed(
+        &rt,
+        alloc,
+        &["replay"],
+        "2",
+        many_keys(alloc, 1_024)?,
+        &held,
+    )?;
+    assert!(rt; status == 0 && held.was_met(), "status {status}");
+    Ok(())
+}
+
+// The blocks in which a transaction of the stress test has pieces: a put of `Family` in one, a call of `Transfer` or `Deposit` in
+// four each.
+fn blocks_of(txn: u64) -> &'static [u16] {
+    match txn % 8 {
+        0 => &[0],
+        1..=3 => &[0, 1, 2, 4],
+        _ => &[2, 3, 4, 5],
+    }
+}
+
+fn is_each_once(passed: &Passed, txns: u64) -> bool {
+    for before in 0..txns {
+        let txn = before.saturating_add(1);
+        if !passed.are_once(txn, blocks_of(txn)) {
+            return false;
+        }
+    }
+    true
+}
+
+#[test]
+fn one_worker_passes_with_each_piece_of_a_stress_test_once(rt: HostRuntime) -> Result<(), Fail> {
+    let alloc = rt.alloc();
+    let passed = Passed::new(alloc, 256)?;
+    let status = executed(&rt, alloc, &["stress", "64"], "1", Vec::new(alloc), &passed)?;
+    let count = passed.count.load(Ordering::SeqCst);
+    assert!(rt;
+        status == 0 && count == 232 && is_each_once(&passed, 64),
+        "status {status}"
+    );
+    Ok(())
+}
+
+#[test]
+fn two_workers_are_there_at_once_in_a_stress_test(rt: HostRuntime) -> Result<(), Fail> {
+    let alloc = rt.alloc();
+    let held = Held::new();
+    let status = executed(&rt, alloc, &["stress", "64"], "2", Vec::new(alloc), &held)?;
     assert!(rt; status == 0 && held.was_met(), "status {status}");
     Ok(())
 }
