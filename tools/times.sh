@@ -103,6 +103,11 @@ input)
     script 1000000 1000 > million
     (printf -- ---; head -c 67108861 /dev/zero | tr '\0' '\n') > longest
     for name in million longest; do echo "replay of $name"; memory replay "$name"; done
+    head -2 "$add" > catalogue
+    "$pacman" init < catalogue
+    head -c 67108864 /dev/zero | tr '\0' x > line
+    echo "a run whose input is one line of 67,108,864 bytes"
+    memory run line
     ;;
 parts)
     for part in write read; do timed "20,000 bodies of 1,024 calls: $part" "$bench" "$part" 20000; done
