@@ -8,3 +8,4 @@ pub mod Places
 pub mod Torn
 pub mod Reading
 pub mod Looked
+pub mod Readers

@@ -2,7 +2,7 @@
 //! after each open gate byte a batch and the next gate byte. A commit is all or nothing, at every moment.
 //!
 //! - [`create`] makes the log of a catalogue's text on an empty device. [`LogReader::attach`] reads the header of a
-//!   log; [`LogReader::next_batch`] returns its batches one after another.
+//!   log; [`LogReader::next_batch`] returns its batches one after another, and [`LogReader::rewind`] goes back to the first.
 //! - [`Log`] stands at the end of a log. [`Log::prepare`] encodes a batch in memory. [`Log::commit`] writes it after
 //!   the closed gate byte, syncs, opens the gate byte, and syncs; it takes no memory.
 //! - [`write_body`], [`body_len`]: the body of a batch. [`read_link`]: a body and the gate byte after it, a [`Link`];

@@ -73,6 +73,14 @@ impl Position {
         self.gate.txns
     }
 
+    /// The first gate of the log, at this offset.
+    pub(crate) fn rewind(&mut self, place: u64)
+        ensures { self.new ≡ record { catalogue = self.old.catalogue; place = place; txns = 0 } }
+    {
+        self.gate.txns = 0;
+        self.gate.place = place;
+    }
+
     /// The gate after that many transactions, that many bytes on.
     pub(crate) fn advance(&mut self, txns: u64, len: u64)
         requires few { 2 * txns ≤ len }

@@ -12,6 +12,7 @@ ghost use Rattle.pac_log.specs.Logs.{HoldsLog};
 ghost use Rattle.pac_log.specs.Places.{IsAfter};
 ghost use Rattle.pac_log.specs.Looked.{IsSpelled};
 ghost use Rattle.pac_log.specs.Reading.{IsNextBatch, IsStore, ReportsOfImage, StandsAfter, ReportsHeld, after_gate, at_gate, first_batch, further};
+ghost use Rattle.pac_log.specs.Readers.{at_first};
 
 use crate::damage::short_at;
 use crate::gate_bytes::bytes_from;
@@ -31,6 +32,8 @@ pub struct ReaderParts {
     pub gate: Position,
     /// Whether its last answer was that the log ends here.
     pub is_at_end: bool,
+    /// The offset of the log's first gate, from 0.
+    pub first: u64,
 }
 
 /// A reader of a log, which goes from gate to gate.
@@ -66,6 +69,7 @@ impl LogReader {
         // The header is right, and the reader stands before the first batch.
         ensures store { IfOk result (λ reader. IfKnown (λ old. (text : List ℕ) × IsStore text reader.gate.catalogue old.now.seen × StandsAfter text [] reader.gate old.now.seen) (D.known disk.old)) }
         ensures first { IfOk result (λ reader. reader.gate.txns ≡ 0) }
+        ensures begins { IfOk result (λ reader. at_first reader ≡ reader) }
         ensures no_store { IsErrOf result LogError.NoStore → IfKnown (λ old. (text : List ℕ) (catalogue : CatalogueState) → ¬ IsStore text catalogue old.now.seen) (D.known disk.old) }
         ensures whole { (at : ℕ) (kind : ADamageKind) → ¬ IsErrOf result (LogError.Damaged at kind) }
 
@@ -85,14 +89,25 @@ impl LogReader {
             return Err(LogError::NoStore);
         }
         let catalogue = accepted(alloc, &text[..len])?;
-        let gate = Position::first(catalogue, (HEADER_LEN + len) as u64);
+        let first = (HEADER_LEN + len) as u64;
+        let gate = Position::first(catalogue, first);
         Ok(LogReader {
             alloc,
             parts: ReaderParts {
                 gate,
                 is_at_end: false,
+                first,
             },
         })
+    }
+
+    /// Goes back to the first gate: the reader is as it was when it was attached. It takes no memory, and calls no device.
+    pub fn rewind(&mut self)
+        ensures { self.new ≡ at_first self.old }
+    {
+        let first = self.parts.first;
+        self.parts.gate.rewind(first);
+        self.parts.is_at_end = false;
     }
 
     /// The gate that comes next.
@@ -128,8 +143,9 @@ impl LogReader {
         ensures batch { IfOk result (λ found. IfSome found (IsNextBatch self.old.gate self.new.gate)) }
         ensures fits { IfOk result (λ found. IfSome found (λ batch. All (TxnFits self.old.gate.catalogue) batch.txns)) }
         ensures goes_on { IfOk result (λ found. IfSome found (λ batch. self.new.is_at_end ≡ false)) }
-        ensures end { result ≡ Ok None → self.new ≡ record { gate = self.old.gate; is_at_end = true } }
-        ensures refused { OnErr result (self.new ≡ record { gate = self.old.gate; is_at_end = false }) }
+        ensures end { result ≡ Ok None → self.new ≡ record { gate = self.old.gate; is_at_end = true; first = self.old.first } }
+        ensures refused { OnErr result (self.new ≡ record { gate = self.old.gate; is_at_end = false; first = self.old.first }) }
+        ensures first { self.new.first ≡ self.old.first }
         ensures known { ¬ IsErrOf result LogError.NoStore }
 
         // The device is only read, and no call of it comes after one that failed.
@@ -149,8 +165,9 @@ impl LogReader {
         ensures batch { IfOk result (λ found. IfSome found (IsNextBatch self.old.gate self.new.gate)) }
         ensures fits { IfOk result (λ found. IfSome found (λ batch. All (TxnFits self.old.gate.catalogue) batch.txns)) }
         ensures goes_on { IfOk result (λ found. IfSome found (λ batch. self.new.is_at_end ≡ false)) }
-        ensures end { result ≡ Ok None → self.new ≡ record { gate = self.old.gate; is_at_end = true } }
-        ensures refused { OnErr result (self.new ≡ record { gate = self.old.gate; is_at_end = false }) }
+        ensures end { result ≡ Ok None → self.new ≡ record { gate = self.old.gate; is_at_end = true; first = self.old.first } }
+        ensures refused { OnErr result (self.new ≡ record { gate = self.old.gate; is_at_end = false; first = self.old.first }) }
+        ensures first { self.new.first ≡ self.old.first }
         ensures known { ¬ IsErrOf result LogError.NoStore }
         ensures same { D.known disk.new ≡ D.known disk.old }
         ensures later { D.faults disk.old ≤ D.faults disk.new }
@@ -180,6 +197,7 @@ impl LogReader {
         ensures batch { IfOk result (λ found. IfSome found (IsNextBatch self.old.gate self.new.gate)) }
         ensures fits { IfOk result (λ found. IfSome found (λ batch. All (TxnFits self.old.gate.catalogue) batch.txns)) }
         ensures goes_on { self.new.is_at_end ≡ self.old.is_at_end }
+        ensures first { self.new.first ≡ self.old.first }
         ensures some { IfOk result (λ found. found ≢ None) }
         ensures refused { OnErr result (self.new ≡ self.old) }
         ensures known { ¬ IsErrOf result LogError.DiskFault }
