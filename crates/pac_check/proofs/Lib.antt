@@ -5,4 +5,5 @@ pub mod LoadingLemmas
 pub mod WritingLemmas
 pub mod ReplacingLemmas
 pub mod SlotLemmas
+pub mod ShutLemmas
 pub mod OnceLemmas

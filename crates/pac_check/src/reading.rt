@@ -1,5 +1,5 @@
 // Reads one slot from its device.
-ghost use Rattle.std.specs.Prelude.{◌≡◌, ℕ, length, IfOk, IsErrOf, OnOk, Err};
+ghost use Rattle.std.specs.Prelude.{◌≡◌, ◌≢◌, ℕ, List, length, take, IfOk, IfSome, IsErrOf, OnOk, Err};
 ghost use Rattle.std.specs.FinMap as map;
 ghost use Rattle.pac_outside.specs.Causes.{one_more};
 ghost use Rattle.pac_outside.specs.Disk.{IfKnown};
@@ -8,6 +8,7 @@ ghost use Rattle.pac_check.specs.declared.damage.SlotDamageKind.{SlotDamageKind 
 ghost use Rattle.pac_check.specs.declared.head.Head.{Head as AHead};
 ghost use Rattle.pac_check.specs.declared.info.SlotName.{SlotName as ASlotName};
 ghost use Rattle.pac_check.specs.Kinds.{in_slot, slot_fault};
+ghost use Rattle.pac_check.specs.Replacing.{BeginsAs};
 ghost use Rattle.pac_check.specs.SlotStates.{HoldsRows, IsSlot, OpensExactly, slot_read};
 
 use crate::damage::CheckpointError;
@@ -15,17 +16,49 @@ use crate::loading::load_checkpoint;
 use crate::scanning::scan_slot;
 use crate::{SlotError, SlotName, SlotState};
 use pac_base::Refusal;
-use pac_outside::{Disk, read_piece};
+use pac_outside::{Disk, GATE_OPEN, read_piece};
 use pac_tables::Rows;
 use pac_types::Catalogue;
 use std::alloc::Global;
 
-/// What stands in a slot.
+/// What stands in a slot. Of one that is shut a byte is read, however long the device is, and of an open one all are.
 ///
 /// # Errors
 ///
 /// A fault of the device, the first damage of this slot, or `NoMemory`.
 pub(crate) fn look_at<D: Disk>(
+    alloc: Global,
+    cat: &Catalogue,
+    slot: SlotName,
+    disk: &mut D,
+) -> Result<SlotState, SlotError>
+    ensures state { IfOk result (λ state. IfKnown (λ old. IsSlot cat.now.tables state old.now.seen × OpensExactly cat.now.tables state old.now.seen) (D.known disk.old)) }
+    ensures damaged { (name : ASlotName) (at : ℕ) (kind : ADamageKind) → IsErrOf result (SlotError.Damaged name at kind) → (name ≡ slot) × IfKnown (λ old. slot_read cat.now.tables old.now.seen ≡ Err (slot_fault kind at)) (D.known disk.old) }
+    ensures same { D.known disk.new ≡ D.known disk.old }
+    ensures counted { IsErrOf result SlotError.DiskFault → D.faults disk.new ≡ one_more (D.faults disk.old) }
+    ensures quiet { ¬ IsErrOf result SlotError.DiskFault → D.faults disk.new ≡ D.faults disk.old }
+{
+    let gate = read_piece(alloc, disk, 0, 1)?;
+    match shut_state(&gate) {
+        Some(state) => Ok(state),
+        None => look_at_open(alloc, cat, slot, disk),
+    }
+}
+
+// What stands in a slot whose first byte, if it has one, is this. `None`: the gate is open.
+fn shut_state(gate: &[u8]) -> Option<SlotState>
+    ensures begins { IfSome result (λ state. (image : List ℕ) → gate.now ≡ take 1 image → BeginsAs state image) }
+    ensures shut { IfSome result (λ state. (head : AHead) → state ≢ SlotState.Open head) }
+{
+    match gate.first() {
+        None => Some(SlotState::Empty),
+        Some(&GATE_OPEN) => None,
+        Some(_) => Some(SlotState::Closed),
+    }
+}
+
+// What stands in a slot, all bytes of which are read.
+fn look_at_open<D: Disk>(
     alloc: Global,
     cat: &Catalogue,
     slot: SlotName,

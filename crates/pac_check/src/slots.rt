@@ -37,8 +37,8 @@ pub struct Slots {
 }
 
 impl Slots {
-    /// What stands in two slots, which are read to the ends of their checkpoints. It holds the bytes of one device at a time,
-    /// and one row besides.
+    /// What stands in two slots. Of one that is shut a byte is read. An open one is read whole: it holds the bytes of one device
+    /// at a time, and one row besides.
     ///
     /// # Errors
     ///
