@@ -166,7 +166,7 @@ committed)
     echo "a committed call in groups of 64: $((($(cat count.6464) - $(cat count.64)) / 6400)) instructions"
     ;;
 workers)
-    # Four logs: how long workers take over them, and what a restart in pieces costs beside one by serial execution.
+    # Four logs: how long workers take over them, as scripts and as stores, and what a restart by serial execution takes.
     mkdir bank hot many long
     cp "$top/crates/pac_examples/data/bank.catalogue" bank/catalogue
     bank_lines 100000 > bank/lines
@@ -182,8 +182,10 @@ workers)
             cd $name
             "$pacman" init < catalogue
             "$pacman" run --batch 64 < lines > replies
+            for workers in 1 2 4; do timed "$name: recover by $workers" "$pacman" recover --workers $workers < /dev/null > /dev/null; done
+            timed "$name: run restarts, serially" "$pacman" run < /dev/null
             counted "$name: run restarts, serially" "$pacman" run < /dev/null
-            instructions "$pacman" recover < /dev/null
+            instructions "$pacman" recover --workers 1 < /dev/null
             echo "$name: recover, in pieces"
             echo "  instructions: $(cat count)"
         )

@@ -240,10 +240,10 @@ fn call_program<'a, RT: Threads + Wait + Sync>(
     }
 }
 
-// Whether the arguments are those of a command that executes by workers.
+// Whether the arguments are those of a command that executes transactions by workers.
 fn has_workers(arguments: &[String]) -> bool {
     match arguments.first() {
-        Some(word) => word.as_str() == "replay" || word.as_str() == "stress",
+        Some(word) => matches!(word.as_str(), "replay" | "recover" | "stress"),
         None => false,
     }
 }

@@ -16,7 +16,7 @@ use Rattle.pac_store.specs.Images.{Images, IfReadKnown}
 use Rattle.pac_store.specs.Stands.{StandsFor}
 use Rattle.pac_store.proofs.StandsLemmas.{goes-on}
 use Rattle.pac_recover.specs.Refusals.{IfImagesKnown}
-use Rattle.pac_init.specs.Made.{IsNewStore, MakesStore}
+use Rattle.pac_store.specs.Made.{IsNewStore, MakesStore}
 use Rattle.pac_session.specs.Session.{Rules, SessionState, committed}
 use Rattle.pac_run.specs.Acked.{Acknowledges}
 use Rattle.pac_run.specs.Opening.{AllStand}

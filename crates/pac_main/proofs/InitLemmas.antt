@@ -12,10 +12,10 @@ use Rattle.pac_outside.specs.declared.devices.Devices.{Devices}
 use Rattle.pac_types.specs.Typing.{CatalogueState}
 use Rattle.pac_types.proofs.OneCatalogue.{catalogue_or_fault}
 use Rattle.pac_log.specs.Logs.{IsAccepted}
-use Rattle.pac_init.specs.Made.{IsInUse}
-use Rattle.pac_init.specs.declared.device.DeviceName.{DeviceName}
-use Rattle.pac_init.specs.declared.errors.MakeError.{MakeError}
-use Rattle.pac_init.specs.declared.errors.MakeError.TheVariants.{NotEmpty, DiskFault, NoMemory}
+use Rattle.pac_store.specs.Made.{IsInUse}
+use Rattle.pac_store.specs.declared.device.DeviceName.{DeviceName}
+use Rattle.pac_store.specs.declared.errors.MakeError.{MakeError}
+use Rattle.pac_store.specs.declared.errors.MakeError.TheVariants.{NotEmpty, DiskFault, NoMemory}
 use Rattle.pac_request.specs.declared.script_fault.ScriptFault.{ScriptFault}
 use Rattle.pac_request.specs.declared.script_fault.ScriptFault.TheVariants.{Catalogue, TooManyOps, Line}
 use Rattle.pac_request.proofs.OneScript.{few_or_excess}

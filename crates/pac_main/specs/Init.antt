@@ -3,8 +3,8 @@ use Rattle.std.specs.Prelude.{◌≡◌, ◌≢◌, ℕ, List, [], ◌∷◌, Op
 use Rattle.pac_outside.specs.Devices.{OneFaulted, IfAllKnown}
 use Rattle.pac_types.specs.Typing.{CatalogueState}
 use Rattle.pac_log.specs.Logs.{IsAccepted}
-use Rattle.pac_init.specs.Made.{IsInUse, MakesStore}
-use Rattle.pac_init.specs.declared.device.DeviceName.{DeviceName}
+use Rattle.pac_store.specs.Made.{IsInUse, MakesStore}
+use Rattle.pac_store.specs.declared.device.DeviceName.{DeviceName}
 use Rattle.pac_request.specs.declared.script_fault.ScriptFault.{ScriptFault}
 use Rattle.pac_main.specs.declared.stop.Stop.TheVariants as stop
 use Rattle.pac_main.specs.Explained.{IsUnexplained}

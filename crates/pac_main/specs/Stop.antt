@@ -10,11 +10,11 @@ use Rattle.pac_request.specs.declared.fault.LineFault.{LineFault}
 use Rattle.pac_request.specs.declared.script_fault.ScriptFault.{ScriptFault}
 use Rattle.pac_request.specs.declared.script_fault.ScriptFault.TheVariants.{Catalogue, TooManyOps, Line}
 use Rattle.pac_request.specs.LineKinds.{line_kind_name}
-use Rattle.pac_init.specs.Made.{device_name}
-use Rattle.pac_init.specs.declared.device.DeviceName.{DeviceName}
-use Rattle.pac_init.specs.declared.device.DeviceName.TheVariants.{Log as TheLog, SlotA, SlotB}
-use Rattle.pac_init.specs.declared.errors.MakeError.{MakeError}
-use Rattle.pac_init.specs.declared.errors.MakeError.TheVariants as make
+use Rattle.pac_store.specs.Made.{device_name}
+use Rattle.pac_store.specs.declared.device.DeviceName.{DeviceName}
+use Rattle.pac_store.specs.declared.device.DeviceName.TheVariants.{Log as TheLog, SlotA, SlotB}
+use Rattle.pac_store.specs.declared.errors.MakeError.{MakeError}
+use Rattle.pac_store.specs.declared.errors.MakeError.TheVariants as make
 use Rattle.pac_log.specs.Damages.{damage_name}
 use Rattle.pac_check.specs.Kinds.{slot_damage_name}
 use Rattle.pac_check.specs.declared.info.SlotName.{SlotName}

@@ -37,9 +37,9 @@ use std::thread::Threads;
 /// - `explain` and `explain --text` do what [`crate::explain_command`] says.
 /// - `init` does what [`crate::init_command`] says.
 /// - `recover [--workers N] [--rows N]` reads the devices, executes the stored transactions after the newest slot over that
-///   one's tables, and writes the tables where none has more rows than `--rows` says, or 1,000,000. It replays in pieces on one
-///   thread; the number of workers, from 1 to 64, changes nothing yet. It reads no input, and no device is written or synced.
-///   The batches of 1,048,576 bytes of the log are held in memory.
+///   one's tables by so many workers, from 1 to 64, or 4, and writes the tables where none has more rows than `--rows` says, or
+///   1,000,000. What it writes doesn't depend on the workers. It reads no input, and no device is written or synced. It reads
+///   the log twice, and holds the batches of 1,048,576 bytes of it in memory.
 /// - `run [--batch N] [--rows N]` does what [`crate::run_command`] says.
 /// - `stress N [--workers N]` makes so many transactions of the stress test, from 1 to 100,000, over the catalogue of a bank,
 ///   executes them from no rows on, in batches of 64, by so many workers, from 1 to 64, or 4, and writes a summary: how many
@@ -64,8 +64,8 @@ use std::thread::Threads;
 /// | 11 | only where the input of a replay has more than 67,108,864 bytes, or more are read in a run before a line `stop` | `input too long` |
 /// | 12 | only where a slot has no room for a checkpoint of a run, with which it would have that many bytes | `checkpoint too large BYTES` |
 ///
-/// A failing error sink changes no status. Each worker of a replay or a stress test passes the gate before each piece that it
-/// runs.
+/// A failing error sink changes no status. Each worker of a replay, a recovery or a stress test passes the gate before each piece
+/// that it runs.
 pub fn pacman<RT: Threads + Wait + Sync, I: Source, O: Sink, E: Sink, D: Disk, G: Gate + Sync>(
     rt: &RT,
     alloc: Global,
@@ -117,7 +117,7 @@ pub fn pacman<RT: Threads + Wait + Sync, I: Source, O: Sink, E: Sink, D: Disk, G
             run_devices(alloc, group_size, rows, input, output, errors, devices)
         }
         Ok(Some(Command::Recover { workers, rows })) => {
-            recover_devices(alloc, workers, rows, output, errors, devices, gate)
+            recover_devices(rt, alloc, workers, rows, output, errors, devices, gate)
         }
         Ok(Some(Command::Explain { text })) => explain_input(alloc, text, input, output, errors),
         Ok(Some(Command::Replay { workers, rows })) => {

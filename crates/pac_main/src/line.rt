@@ -5,10 +5,10 @@ ghost use Rattle.pac_main.specs.Stop.{damaged_line, line_of, script_fault_line, 
 
 use crate::stop::Stop;
 use pac_check::SlotName;
-use pac_init::DeviceName;
 use pac_recover::Damage;
 use pac_report::StatusLine;
 use pac_request::ScriptFault;
+use pac_store::DeviceName;
 
 // The line of a refused script.
 fn script_status(fault: &ScriptFault) -> StatusLine<'_>

@@ -5,13 +5,13 @@ ghost use Rattle.pac_main.specs.declared.stop.Stop.TheVariants.{OutputFault, NoM
 
 use crate::input::InputError;
 use pac_base::NoMemory;
-use pac_init::{DeviceName, MakeError};
 use pac_ops::Note;
 use pac_outside::Failed;
 use pac_recover::{Damage, RecoverError, TooManyRows};
 use pac_request::ScriptFault;
 use pac_run::RunStop;
 use pac_serial::AllError;
+use pac_store::{DeviceName, MakeError};
 use pac_value::Name;
 
 /// Why a command stops before its end.

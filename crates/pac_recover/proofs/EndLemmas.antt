@@ -5,7 +5,6 @@ use Rattle.std.proofs.lemmas.List.{length-drop}
 use Rattle.pac_value.specs.State.{Tables}
 use Rattle.pac_ops.specs.declared.batch.Batch.{Batch}
 use Rattle.pac_ops.specs.declared.note.Note.{Note}
-use Rattle.pac_ops.specs.declared.transaction.Txn.{Txn}
 use Rattle.pac_outside.specs.Disk.{DiskHistory, IfKnown}
 use Rattle.pac_types.specs.Typing.{CatalogueState}
 use Rattle.pac_log.specs.declared.damage.DamageKind.{DamageKind}
@@ -16,7 +15,6 @@ use Rattle.pac_log.specs.Logs.{HoldsLog, all_txns}
 use Rattle.pac_log.specs.Reading.{IsStore, StandsAfter}
 use Rattle.pac_check.specs.declared.damage.SlotDamageKind.{SlotDamageKind}
 use Rattle.pac_check.specs.declared.damage.SlotDamageKind.TheVariants.{Place}
-use Rattle.pac_check.specs.declared.head.Head.{Head}
 use Rattle.pac_check.specs.declared.info.SlotInfo.{SlotInfo}
 use Rattle.pac_check.specs.declared.info.SlotName.{SlotName}
 use Rattle.pac_check.specs.declared.info.SlotName.TheVariants.{A, B}
@@ -30,12 +28,11 @@ use Rattle.pac_recover.specs.declared.errors.LoadError.TheVariants as load
 use Rattle.pac_recover.specs.declared.errors.RecoverError.{RecoverError}
 use Rattle.pac_recover.specs.declared.errors.RecoverError.TheVariants as recover
 use Rattle.pac_recover.specs.declared.gates.GatePlace.{GatePlace}
-use Rattle.pac_recover.specs.declared.recovery.Recovered.{Recovered}
-use Rattle.pac_recover.specs.declared.executor.Execution.{Execution}
+use Rattle.pac_recover.specs.declared.execution.Execution.{Execution}
 use Rattle.pac_recover.specs.declared.store.Ended.{Ended}
 use Rattle.pac_recover.specs.Causes.{log_not_loaded}
-use Rattle.pac_recover.specs.Damages.{IsAmongGates, IsBrokenSlot, IsDamagedLog, IsDamagedSlot, IsSlotDamage}
-use Rattle.pac_recover.specs.Ends.{EndsBeside, EndsSo, IsDamagedBeside, IsWholeLog}
+use Rattle.pac_recover.specs.Damages.{IsAmongGates, IsBrokenSlot, IsDamagedSlot, IsSlotDamage}
+use Rattle.pac_recover.specs.Ends.{EndedSo, EndsBeside, EndsSo, IsDamagedBeside, IsWholeLog}
 use Rattle.pac_recover.specs.Gates.{txns_by_batch}
 use Rattle.pac_recover.specs.Limits.{IsFirstOver}
 use Rattle.pac_recover.specs.Loading.{AreNewestOf, IsInfoAmong}
@@ -45,8 +42,6 @@ use Rattle.pac_recover.specs.Recovering.{AbortsIn, IsOverIn, IsRecoveredFrom}
 use Rattle.pac_recover.specs.Replays.{IsReplayOf}
 use Rattle.pac_recover.proofs.LoadLemmas.{damaged-at-gates, known-weaker, newest-among, placed}
 use Rattle.pac_recover.proofs.SlotLemmas.{misplaced-here, same-damage}
-use Rattle.pac_recover.proofs.StandsLemmas.{ReportsAnswer}
-use Rattle.pac_recover.proofs.ReportLemmas.{over-knows}
 
 -- ---- a log that was executed, beside slots
 
@@ -76,7 +71,7 @@ module _ {T : Type 0} (text : List ℕ) (catalogue : CatalogueState) (slots : Sl
           after = refl;
         };
         same = sym same;
-        outcome = sym (is.outcome among) ∙ ap outcome_of (sym gives);
+        outcome_is = sym (is.outcome among) ∙ ap outcome_of (sym gives);
         counted = omega (arith, counted, is.end.txns, is.number among, length-drop number (all_txns is.batches));
       }
 
@@ -134,7 +129,7 @@ ok-by-both (Err e) p q step = tt
 pub ends-known : {T : Type 0} (catalogue : CatalogueState) (slots : Slots) (base : Tables) (ended : Ended T) (first : NextGate) (log a b now : Option DiskHistory) → now ≡ log → IfKnown (IsAttachedTo first) log
     → ((text x y : List ℕ) → IfKnown (λ h. StandsAfter text [] first h.now.seen → EndsBeside catalogue slots base ended h.now.seen x y) now)
     → IfKnown (λ h. IsSlot catalogue.tables slots.a h.now.seen) a → IfKnown (λ h. IsSlot catalogue.tables slots.b h.now.seen) b
-    → IfKnown (λ x. IfKnown (λ y. AreNewestOf catalogue slots base x.now.seen y.now.seen) b) a → IfReadKnown (EndsSo ended) log a b
+    → IfKnown (λ x. IfKnown (λ y. AreNewestOf catalogue slots base x.now.seen y.now.seen) b) a → IfReadKnown (EndedSo ended) log a b
 ends-known catalogue slots base ended first None a b now same attached ends is_a is_b newest = tt
 ends-known catalogue slots base ended first (Some h) None b now same attached ends is_a is_b newest = tt
 ends-known catalogue slots base ended first (Some h) (Some x) None now same attached ends is_a is_b newest = tt
@@ -176,7 +171,7 @@ broken-known catalogue slot at kind first is (Some h) (Some x) (Some y) now same
 pub ends-all : {T : Type 0} (catalogue : CatalogueState) (slots : Slots) (base : Tables) (first : NextGate) (log a b now : Option DiskHistory) → now ≡ log → IfKnown (IsAttachedTo first) log → (result : Result (Ended T) LoadError)
     → IfOk result (λ ended. (text x y : List ℕ) → IfKnown (λ h. StandsAfter text [] first h.now.seen → EndsBeside catalogue slots base ended h.now.seen x y) now)
     → IfKnown (λ h. IsSlot catalogue.tables slots.a h.now.seen) a → IfKnown (λ h. IsSlot catalogue.tables slots.b h.now.seen) b
-    → IfKnown (λ x. IfKnown (λ y. AreNewestOf catalogue slots base x.now.seen y.now.seen) b) a → IfOk result (λ ended. IfReadKnown (EndsSo ended) log a b)
+    → IfKnown (λ x. IfKnown (λ y. AreNewestOf catalogue slots base x.now.seen y.now.seen) b) a → IfOk result (λ ended. IfReadKnown (EndedSo ended) log a b)
 ends-all catalogue slots base first log a b now same attached (Ok ended) ends is_a is_b newest = ends-known catalogue slots base ended first log a b now same attached ends is_a is_b newest
 ends-all catalogue slots base first log a b now same attached (Err error) ends is_a is_b newest = tt
 
@@ -195,32 +190,32 @@ reads-whole text old new batches (Some h) reads = λ stands. (txns_by_batch batc
 
 -- ---- what is answered of it
 
-module _ {T : Type 0} (ended : Ended T) (log a b : Option DiskHistory) (ends : IfReadKnown (EndsSo ended) log a b) where
-  pub ended-aborts : (note : Note) → outcome_of ended.replayed ≡ Err note → IfReadKnown (AbortsIn note) log a b
-  ended-aborts note is = known-weaker (EndsSo ended) (AbortsIn note) (λ images e. record { stored = e.stored; is = e.is; stops = e.outcome ∙ is }) log a b ends
+module _ (catalogue : CatalogueState) (outcome : Result Tables Note) (total : ℕ) (log a b : Option DiskHistory) (ends : IfReadKnown (EndsSo catalogue outcome total) log a b) where
+  pub ended-aborts : (note : Note) → outcome ≡ Err note → IfReadKnown (AbortsIn note) log a b
+  ended-aborts note is = known-weaker (EndsSo catalogue outcome total) (AbortsIn note) (λ images e. record { stored = e.stored; is = e.is; stops = e.outcome_is ∙ is }) log a b ends
 
-  pub ended-over : (held : Tables) (table : List ℕ) (rows limit : ℕ) → outcome_of ended.replayed ≡ Ok held → IsFirstOver limit ended.catalogue.tables held table rows → IfReadKnown (IsOverIn table rows limit) log a b
-  ended-over held table rows limit is over = known-weaker (EndsSo ended) (IsOverIn table rows limit) (λ images e. record {
+  pub ended-over : (held : Tables) (table : List ℕ) (rows limit : ℕ) → outcome ≡ Ok held → IsFirstOver limit catalogue.tables held table rows → IfReadKnown (IsOverIn table rows limit) log a b
+  ended-over held table rows limit is over = known-weaker (EndsSo catalogue outcome total) (IsOverIn table rows limit) (λ images e. record {
     stored = e.stored;
     is = e.is;
     held = held;
-    ends = e.outcome ∙ is;
+    ends = e.outcome_is ∙ is;
     over = subst (λ (c : CatalogueState). IsFirstOver limit c.tables held table rows) (sym e.same) over;
   }) log a b ends
 
-  pub ended-recovered : (held : Tables) → outcome_of ended.replayed ≡ Ok held → IfReadKnown (IsRecoveredFrom ended.catalogue held ended.reader.gate.txns) log a b
-  ended-recovered held is = known-weaker (EndsSo ended) (IsRecoveredFrom ended.catalogue held ended.reader.gate.txns) (λ images e. record {
+  pub ended-recovered : (held : Tables) → outcome ≡ Ok held → IfReadKnown (IsRecoveredFrom catalogue held total) log a b
+  ended-recovered held is = known-weaker (EndsSo catalogue outcome total) (IsRecoveredFrom catalogue held total) (λ images e. record {
     stored = e.stored;
     is = e.is;
     same = e.same;
-    ends = e.outcome ∙ is;
+    ends = e.outcome_is ∙ is;
     counted = e.counted;
   }) log a b ends
 
   -- what is answered of an execution that stops, and of tables over the limit
 
   module _ {A : Type 0} (result : Result A RecoverError) (answer : RecoverError) (is : result ≡ Err answer) where
-    pub stopped-aborts : (note : Note) → answer ≡ recover.AbortInLog note → outcome_of ended.replayed ≡ Err note → (other : Note) → result ≡ Err (recover.AbortInLog other) → IfReadKnown (AbortsIn other) log a b
+    pub stopped-aborts : (note : Note) → answer ≡ recover.AbortInLog note → outcome ≡ Err note → (other : Note) → result ≡ Err (recover.AbortInLog other) → IfReadKnown (AbortsIn other) log a b
     stopped-aborts note same stops other e =
         let one : note ≡ other = cc in
         subst (λ (n : Note). IfReadKnown (AbortsIn n) log a b) one (ended-aborts note stops)
@@ -228,7 +223,7 @@ module _ {T : Type 0} (ended : Ended T) (log a b : Option DiskHistory) (ends : I
     pub stopped-within : (note : Note) → answer ≡ recover.AbortInLog note → (table : List ℕ) (rows most : ℕ) → result ≡ Err (recover.RowsOver table rows most) → ⊥
     stopped-within note same table rows most e = cc
 
-    pub over-limit : (limit : ℕ) (name : List ℕ) (count top : ℕ) → answer ≡ recover.RowsOver name count top → top ≡ limit → (held : Tables) → outcome_of ended.replayed ≡ Ok held → IsFirstOver limit ended.catalogue.tables held name count
+    pub over-limit : (limit : ℕ) (name : List ℕ) (count top : ℕ) → answer ≡ recover.RowsOver name count top → top ≡ limit → (held : Tables) → outcome ≡ Ok held → IsFirstOver limit catalogue.tables held name count
         → (table : List ℕ) (rows most : ℕ) → result ≡ Err (recover.RowsOver table rows most) → (most ≡ limit) × IfReadKnown (IsOverIn table rows limit) log a b
     over-limit limit name count top same at held done over table rows most e =
         let one : name ≡ table = cc in

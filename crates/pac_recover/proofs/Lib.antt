@@ -6,7 +6,10 @@ pub mod SlotLemmas
 pub mod LoadLemmas
 pub mod StandsLemmas
 pub mod ReportLemmas
-pub mod WindowLemmas
+pub mod BatchLemmas
 pub mod WorkerLemmas
 pub mod ReplayLemmas
 pub mod EndLemmas
+pub mod PassLemmas
+pub mod ScanLemmas
+pub mod RereadLemmas

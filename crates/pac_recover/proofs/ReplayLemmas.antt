@@ -20,7 +20,7 @@ use Rattle.pac_log.specs.Reading.{StandsAfter}
 use Rattle.pac_log.proofs.LogLemmas.{all_txns-append}
 use Rattle.pac_check.specs.declared.info.SlotInfo.{SlotInfo}
 use Rattle.pac_recover.specs.declared.gates.GatePlace.{GatePlace}
-use Rattle.pac_recover.specs.declared.executor.Execution.{Execution}
+use Rattle.pac_recover.specs.declared.execution.Execution.{Execution}
 use Rattle.pac_recover.specs.Damages.{IsDamagedLog}
 use Rattle.pac_recover.specs.Gates.{gate_after_batches, gates_from, place_of}
 use Rattle.pac_recover.specs.Outcomes.{outcome_of}

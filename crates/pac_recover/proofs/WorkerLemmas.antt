@@ -28,8 +28,8 @@ use Rattle.pac_flat.specs.FlatForm.{program_of}
 use Rattle.pac_plan.specs.declared.parts.PlanParts.{PlanParts}
 use Rattle.pac_commute.specs.PartialFits.{TxnIsOfPlan, TxnsFitPlan}
 use Rattle.pac_commute.specs.PlanLaws.{NumbersRunOn, txns_of}
-use Rattle.pac_recover.specs.declared.executor.Execution.{Execution}
-use Rattle.pac_recover.specs.declared.executor.Execution.TheVariants as execution
+use Rattle.pac_recover.specs.declared.execution.Execution.{Execution}
+use Rattle.pac_recover.specs.declared.execution.Execution.TheVariants as execution
 use Rattle.pac_recover.specs.Gates.{txns_in, RunOn}
 use Rattle.pac_recover.specs.Logs.{FitBatches}
 use Rattle.pac_recover.specs.Outcomes.{outcome_of}

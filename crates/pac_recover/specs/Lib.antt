@@ -5,9 +5,11 @@ pub mod Logs
 pub mod Damages
 pub mod Refusals
 pub mod Loading
+pub mod Passing
+pub mod Scanning
+pub mod Rereading
 pub mod Recovering
 pub mod Outcomes
-pub mod Windows
 pub mod Replays
 pub mod Ends
 pub mod Restoring

@@ -8,8 +8,8 @@ use Rattle.pac_types.specs.declared.procedure.Proc.{Proc}
 use Rattle.pac_types.specs.Execution.{serial}
 use Rattle.pac_types.specs.Fits.{FitsCatalogue}
 use Rattle.pac_types.specs.Typing.{CatalogueState}
-use Rattle.pac_recover.specs.declared.executor.Execution.{Execution}
-use Rattle.pac_recover.specs.declared.executor.Execution.TheVariants as replayed
+use Rattle.pac_recover.specs.declared.execution.Execution.{Execution}
+use Rattle.pac_recover.specs.declared.execution.Execution.TheVariants as replayed
 
 -- the tables with which it ends, or the abort that stops it
 abbrev pub outcome_of : {T : Type 0} → Execution T → Result Tables Note

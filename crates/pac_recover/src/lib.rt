@@ -1,12 +1,14 @@
 //! Recovery: from what the devices of a store hold, the tables that serial execution of the stored transactions gives,
 //! or what is wrong. The devices are only read.
 //!
-//! - [`restore`]: the tables after all stored transactions, over any kind of tables, the log's reader and the slots,
-//!   [`Restored`]; or the first transaction that aborts, or the first table over a limit of rows, or damage: a
-//!   [`RecoverError`]. It reads the log window by window, and an [`Executor`] that the caller gives executes each.
-//!   [`recover`] restores over hashed tables, [`Recovered`], and executes [`InPieces`].
-//! - [`load`]: what is stored, [`Loaded`]: the catalogue with its plan, the tables of the newest slot, the batches of
-//!   the log after them, the log's reader and the slots. Or the first [`Damage`], a [`LoadError`].
+//! - [`recover`]: the tables after all stored transactions, [`Recovered`]; or the first transaction that aborts, or the first
+//!   table over a limit of rows, or damage: a [`RecoverError`]. It scans the store, reads the log again window by window, and
+//!   workers execute each window over hashed tables.
+//! - [`scan`]: what is stored but for the transactions, [`Scanned`]: the catalogue with its plan, the tables of the newest slot,
+//!   the log's reader at its first gate and the slots. Or the first [`Damage`], a [`LoadError`].
+//! - [`load`]: the same with the batches of the log after the newest slot, [`Loaded`], and the log's reader at its end.
+//! - [`restore`]: the tables after all stored transactions over any kind of tables, with the log's reader and the slots,
+//!   [`Restored`]. It reads the log once, and an [`Executor`] that the caller gives executes what is read.
 //! - [`execute_by`]: what transactions give over tables, executed by workers, an [`Execution`]. [`test_rows`]: the first table
 //!   over a limit, [`TooManyRows`].
 //!
@@ -14,7 +16,7 @@
 //! use pac_outside::OpenGate;
 //! use pac_recover::recover;
 //!
-//! let store = recover(alloc, 1, 1_000_000, devices, &OpenGate)?; // one worker, tables of at most 1,000,000 rows
+//! let store = recover(rt, alloc, 4, 1_000_000, devices, &OpenGate)?; // four workers, tables of at most 1,000,000 rows
 //! let txns = store.txns; // and store.catalogue, store.tables
 //! ```
 //!
@@ -24,28 +26,31 @@
 #![tactic(auto)]
 
 mod errors;
+mod execution;
 mod executor;
 mod gates;
 mod limit;
 mod loading;
 mod log;
-mod pieces;
+mod passing;
 mod plan;
 mod recovery;
 mod remainder;
 mod replayed_log;
+mod rereading;
 mod restoring;
+mod scanning;
 mod skipping;
 mod slots;
 mod store;
-mod window;
 mod workers;
 
 pub use errors::{Damage, LoadError, RecoverError};
-pub use executor::{Execution, Executor};
+pub use execution::Execution;
+pub use executor::Executor;
 pub use limit::{TooManyRows, test_rows};
 pub use loading::{Loaded, load};
-pub use pieces::InPieces;
 pub use recovery::{Recovered, recover};
 pub use restoring::{Restored, restore};
+pub use scanning::{Scanned, scan};
 pub use workers::execute_by;

@@ -144,8 +144,8 @@ fn join_parts(
     })
 }
 
-// How many transactions are in the tables of a slot; 0 where there is none.
-fn txns_in(info: Option<SlotInfo>) -> u64
+/// How many transactions are in the tables of a slot; 0 where there is none.
+pub(crate) fn txns_in(info: Option<SlotInfo>) -> u64
     ensures { result ≡ saved_txns info }
 {
     match info {

@@ -1,5 +1,5 @@
 // Recovers the tables of a store.
-ghost use Rattle.std.specs.Prelude.{◌≡◌, ◌+◌, ℕ, List, IfOk, IsErrOf, None, length};
+ghost use Rattle.std.specs.Prelude.{◌≡◌, ◌≤◌, ◌+◌, ℕ, List, IfOk, IsErrOf, None, length};
 ghost use Rattle.pac_outside.specs.Devices.{OneFaulted, each};
 ghost use Rattle.pac_ops.specs.declared.note.Note.{Note as ANote};
 ghost use Rattle.pac_ops.specs.declared.transaction.Txn.{Txn as ATxn};
@@ -15,11 +15,15 @@ ghost use Rattle.pac_recover.specs.declared.errors.Damage.TheVariants.{Log as In
 ghost use Rattle.pac_recover.specs.Recovering.{AbortsIn, IsOverIn, IsRecoveredFrom, Recovers};
 ghost use Rattle.pac_recover.specs.Refusals.{HasDamage, HasNoStore, IfImagesKnown};
 
-use crate::{InPieces, RecoverError, Restored, restore};
+use crate::execution::tables_of;
+use crate::rereading::replay_scanned;
+use crate::{RecoverError, Scanned, scan, test_rows};
 use pac_outside::{Devices, Disk, Gate};
 use pac_tables::HashedRows;
 use pac_types::Catalogue;
 use std::alloc::Global;
+use std::sync::Wait;
+use std::thread::Threads;
 
 /// The tables after all stored transactions.
 #[derive(Drop)]
@@ -30,19 +34,30 @@ pub struct Recovered {
     pub txns: u64,
 }
 
-/// Recovers the tables of a store, as [`restore`] does, over hashed tables. It replays in pieces on one thread: the number of
-/// workers has no effect, and no gate is entered.
+/// Recovers the tables of a store, on devices that are only read: scans it, executes the transactions of the log after the newest
+/// slot over that one's tables, by so many workers, and then tests the limit of rows. Each worker passes the gate before each
+/// piece that it runs.
+///
+/// The log is read twice. In the second reading the batches of 1,048,576 bytes are held in memory at a time, and what executes
+/// them.
 ///
 /// # Errors
 ///
-/// Those of [`restore`].
-pub fn recover<D: Disk, G: Gate>(
+/// - Those of [`load`](crate::load), in its order.
+/// - [`RecoverError::AbortInLog`] exactly where serial execution of the stored transactions stops, with the transaction that
+///   aborts.
+/// - [`RecoverError::RowsOver`] exactly where the tables then have more rows than the limit: the first such table.
+/// - [`RecoverError::NoMemory`] where there was no memory for the tables.
+pub fn recover<D: Disk, H: Threads + Wait + Sync, G: Gate + Sync>(
+    rt: &H,
     alloc: Global,
-    _workers: u32,
+    workers: u32,
     limit: u64,
     devices: &mut Devices<D>,
-    _gate: &G,
+    gate: &G,
 ) -> Result<Recovered, RecoverError>
+    requires workers { 1 ≤ workers }
+
     // What is recovered, and when each refusal comes.
     ensures recovered { IfOk result (λ recovered. IfReadKnown (IsRecoveredFrom recovered.catalogue recovered.tables.rows recovered.txns) (D.known devices.old.log) (D.known devices.old.slot_a) (D.known devices.old.slot_b)) }
     ensures within { IfOk result (λ recovered. first_over limit (length recovered.catalogue.tables) recovered.tables.rows ≡ None) }
@@ -61,16 +76,59 @@ pub fn recover<D: Disk, G: Gate>(
     ensures disk_fault { IsErrOf result RecoverError.DiskFault → OneFaulted (each D.faults devices.old) (each D.faults devices.new) }
     ensures quiet { ¬ IsErrOf result RecoverError.DiskFault → each D.faults devices.new ≡ each D.faults devices.old }
 {
-    let Restored {
+    execute_stored(rt, alloc, workers, limit, devices, gate)
+}
+
+// The same, without what it says of a history.
+fn execute_stored<D: Disk, H: Threads + Wait + Sync, G: Gate + Sync>(
+    rt: &H,
+    alloc: Global,
+    workers: u32,
+    limit: u64,
+    devices: &mut Devices<D>,
+    gate: &G,
+) -> Result<Recovered, RecoverError>
+    requires workers { 1 ≤ workers }
+    ensures recovered { IfOk result (λ recovered. IfReadKnown (IsRecoveredFrom recovered.catalogue recovered.tables.rows recovered.txns) (D.known devices.old.log) (D.known devices.old.slot_a) (D.known devices.old.slot_b)) }
+    ensures within { IfOk result (λ recovered. first_over limit (length recovered.catalogue.tables) recovered.tables.rows ≡ None) }
+    ensures fits { IfOk result (λ recovered. FitsCatalogue recovered.catalogue recovered.tables.tables recovered.tables.rows) }
+    ensures no_store { IsErrOf result RecoverError.NoStore → HasNoStore (each D.known devices.old) }
+    ensures log_damage { (at : ℕ) (kind : ALogDamage) → IsErrOf result (RecoverError.Damaged (InLog at kind)) → HasDamage (InLog at kind) (each D.known devices.old) }
+    ensures slot_damage { (slot : ASlotName) (at : ℕ) (kind : ASlotDamage) → IsErrOf result (RecoverError.Damaged (InSlot slot at kind)) → HasDamage (InSlot slot at kind) (each D.known devices.old) }
+    ensures abort { (note : ANote) → IsErrOf result (RecoverError.AbortInLog note) → IfImagesKnown (AbortsIn note) (each D.known devices.old) }
+    ensures over { (table : List ℕ) (rows most : ℕ) → IsErrOf result (RecoverError.RowsOver table rows most) → (most ≡ limit) × IfImagesKnown (IsOverIn table rows limit) (each D.known devices.old) }
+    ensures same { each D.known devices.new ≡ each D.known devices.old }
+    ensures disk_fault { IsErrOf result RecoverError.DiskFault → OneFaulted (each D.faults devices.old) (each D.faults devices.new) }
+    ensures quiet { ¬ IsErrOf result RecoverError.DiskFault → each D.faults devices.new ≡ each D.faults devices.old }
+{
+    let Scanned {
         catalogue,
+        plan,
         tables,
-        reader,
-        slots: _,
-    } = restore(alloc, &InPieces, limit, devices)?;
-    let txns = reader.gate().txns();
+        txns: _,
+        total,
+        mut reader,
+        slots,
+    } = scan(alloc, devices)?;
+    let newest = slots.newest();
+    let log = &mut devices.log;
+    let executed = replay_scanned(
+        rt,
+        alloc,
+        workers,
+        &catalogue,
+        &plan,
+        newest,
+        tables,
+        &mut reader,
+        log,
+        gate,
+    )?;
+    let tables = tables_of(executed)?;
+    test_rows(&catalogue, &tables, limit)?;
     Ok(Recovered {
         catalogue,
         tables,
-        txns,
+        txns: total,
     })
 }

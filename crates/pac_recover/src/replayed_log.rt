@@ -39,7 +39,7 @@ pub(crate) struct ReplayedLog<T: TableRows> {
 /// # Errors
 ///
 /// Those of [`LogReader::next_batch`], and [`LogError::NoMemory`] where there was no memory for the tables.
-pub(crate) fn replay_log<D: Disk, T: TableRows + Send, X: Executor>(
+pub(crate) fn replay_log<D: Disk, T: TableRows, X: Executor>(
     alloc: Global,
     cat: &Catalogue,
     executor: &X,
@@ -70,7 +70,7 @@ pub(crate) fn replay_log<D: Disk, T: TableRows + Send, X: Executor>(
 }
 
 // The same where no slot is open.
-fn replay_whole<D: Disk, T: TableRows + Send, X: Executor>(
+fn replay_whole<D: Disk, T: TableRows, X: Executor>(
     alloc: Global,
     cat: &Catalogue,
     executor: &X,
@@ -100,7 +100,7 @@ fn replay_whole<D: Disk, T: TableRows + Send, X: Executor>(
 }
 
 // The same from the gate of a slot on.
-fn replay_from<D: Disk, T: TableRows + Send, X: Executor>(
+fn replay_from<D: Disk, T: TableRows, X: Executor>(
     alloc: Global,
     cat: &Catalogue,
     executor: &X,

@@ -10,15 +10,15 @@ ghost use Rattle.pac_check.specs.declared.info.SlotName.{SlotName as ASlotName};
 ghost use Rattle.pac_check.specs.SlotStates.{IsSlot};
 ghost use Rattle.pac_outside.specs.Disk.{IfKnown};
 ghost use Rattle.pac_store.specs.Images.{IfReadKnown};
-ghost use Rattle.pac_recover.specs.declared.errors.RecoverError.{RecoverError as ARecoverError};
 ghost use Rattle.pac_recover.specs.declared.errors.Damage.TheVariants.{Log as InLog, Slot as InSlot};
 ghost use Rattle.pac_recover.specs.Recovering.{AbortsIn, IsOverIn, IsRecoveredFrom};
 ghost use Rattle.pac_recover.specs.Restoring.{IsRestored};
 ghost use Rattle.pac_recover.specs.Logs.{HoldsLogUpTo};
 ghost use Rattle.pac_recover.specs.Refusals.{HasDamage, HasNoStore, IfImagesKnown};
 
+use crate::execution::tables_of;
 use crate::store::{Ended, replay_store};
-use crate::{Execution, Executor, RecoverError, test_rows};
+use crate::{Executor, RecoverError, test_rows};
 use pac_check::Slots;
 use pac_log::LogReader;
 use pac_outside::{Devices, Disk};
@@ -40,9 +40,8 @@ pub struct Restored<T: TableRows> {
 /// Reads a store, on devices that are only read, executes the transactions of the log after the newest slot over that one's
 /// tables, and then tests the limit of rows.
 ///
-/// The slots are read before the log's batches. The batches of a window of the executor are executed once they are read, and
-/// freed, so that memory is taken for the tables, for one window and what executes it, and 16 bytes for each batch; all batches
-/// are held only where a slot is damaged.
+/// The slots are read before the log's batches. Each batch is executed once it is read, and freed, so that memory is taken for
+/// the tables, for one batch, and 16 bytes for each gate; all batches are held only where a slot is damaged.
 ///
 /// # Errors
 ///
@@ -51,7 +50,7 @@ pub struct Restored<T: TableRows> {
 ///   aborts.
 /// - [`RecoverError::RowsOver`] exactly where the tables then have more rows than the limit: the first such table.
 /// - [`RecoverError::NoMemory`] where there was no memory for the tables.
-pub fn restore<D: Disk, T: TableRows + Send, X: Executor>(
+pub fn restore<D: Disk, T: TableRows, X: Executor>(
     alloc: Global,
     executor: &X,
     limit: u64,
@@ -93,15 +92,4 @@ pub fn restore<D: Disk, T: TableRows + Send, X: Executor>(
         reader,
         slots,
     })
-}
-
-// The tables with which the execution ends, unless a transaction aborts.
-fn tables_of<T: TableRows>(replayed: Execution<T>) -> Result<JoinedRows<T>, RecoverError>
-    ensures ok { IfOk result (λ tables. replayed ≡ Execution.Tables tables) }
-    ensures aborted { (error : ARecoverError) → IsErrOf result error → (note : ANote) × (error ≡ RecoverError.AbortInLog note) × (replayed ≡ Execution.Aborted note) }
-{
-    match replayed {
-        Execution::Tables(tables) => Ok(tables),
-        Execution::Aborted(note) => Err(RecoverError::AbortInLog(note)),
-    }
 }

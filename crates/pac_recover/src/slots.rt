@@ -74,12 +74,19 @@ pub(crate) fn test_place(gates: &[GatePlace], info: Option<SlotInfo>) -> Result<
     };
     match number_of(gates, place_in(&info)) {
         Some(_) => Ok(()),
-        None => Err(LoadError::Damaged(Damage::Slot {
-            slot: info.slot,
-            at: PLACE,
-            kind: SlotDamageKind::Place,
-        })),
+        None => Err(misplaced(&info)),
     }
+}
+
+/// That a slot is at no gate of the log.
+pub(crate) fn misplaced(info: &SlotInfo) -> LoadError
+    ensures { result ≡ LoadError.Damaged (InSlot info.now.slot 9 SlotDamageKind.Place) }
+{
+    LoadError::Damaged(Damage::Slot {
+        slot: info.slot,
+        at: PLACE,
+        kind: SlotDamageKind::Place,
+    })
 }
 
 /// The gate that a slot names.

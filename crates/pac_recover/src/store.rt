@@ -15,7 +15,7 @@ ghost use Rattle.pac_recover.specs.Damages.{IsDamagedLog};
 ghost use Rattle.pac_recover.specs.Outcomes.{FitsReplayed};
 ghost use Rattle.pac_recover.specs.Refusals.{HasDamage, HasNoStore};
 ghost use Rattle.pac_recover.specs.Logs.{HoldsLogUpTo};
-ghost use Rattle.pac_recover.specs.Ends.{IsEnded, EndsBeside, EndsSo, IsDamagedBeside, IsWholeLog};
+ghost use Rattle.pac_recover.specs.Ends.{IsEnded, EndsBeside, EndedSo, IsDamagedBeside, IsWholeLog};
 
 use crate::log::read_batches;
 use crate::replayed_log::replay_log;
@@ -39,17 +39,17 @@ pub(crate) struct Ended<T: TableRows> {
     pub slots: Slots,
 }
 
-/// Executes what is stored on devices, which are only read: the slots, and then the log once, window by window.
+/// Executes what is stored on devices, which are only read: the slots, and then the log once, batch after batch.
 ///
 /// # Errors
 ///
 /// Those of [`load`](crate::load), in its order.
-pub(crate) fn replay_store<D: Disk, T: TableRows + Send, X: Executor>(
+pub(crate) fn replay_store<D: Disk, T: TableRows, X: Executor>(
     alloc: Global,
     executor: &X,
     devices: &mut Devices<D>,
 ) -> Result<Ended<T>, LoadError>
-    ensures ends { IfOk result (λ ended. IfReadKnown (EndsSo ended) (D.known devices.old.log) (D.known devices.old.slot_a) (D.known devices.old.slot_b)) }
+    ensures ends { IfOk result (λ ended. IfReadKnown (EndedSo ended) (D.known devices.old.log) (D.known devices.old.slot_a) (D.known devices.old.slot_b)) }
     ensures ended { IfOk result IsEnded }
     ensures log { IfOk result (λ ended. IfKnown (λ old. HoldsLogUpTo ended.reader.gate old.now.seen) (D.known devices.old.log)) }
     ensures slot_a { IfOk result (λ ended. IfKnown (λ old. IsSlot ended.catalogue.tables ended.slots.a old.now.seen) (D.known devices.old.slot_a)) }
@@ -99,7 +99,7 @@ fn first_damage<D: Disk>(
 }
 
 // Executes what a log holds after the newest slot, and then sees that the slots are at gates of it.
-fn replay_after<D: Disk, T: TableRows + Send, X: Executor>(
+fn replay_after<D: Disk, T: TableRows, X: Executor>(
     alloc: Global,
     executor: &X,
     catalogue: Catalogue,

@@ -1,8 +1,10 @@
 // Executes transactions by workers.
-ghost use Rattle.std.specs.Prelude.{◌≡◌, ◌≤◌, ◌+◌, ◌-◌, ◌<◌, ◌^◌, IfOk, length};
+ghost use Rattle.std.specs.Prelude.{◌≡◌, ◌≤◌, ◌+◌, ◌-◌, ◌<◌, ◌^◌, IfOk, length, map};
 ghost use Rattle.pac_types.specs.Execution.{serial};
-ghost use Rattle.pac_types.specs.Fits.{FitsCatalogue};
+ghost use Rattle.pac_types.specs.Fits.{FitsCatalogue, shape};
 ghost use Rattle.pac_types.specs.OperationLimits.{HasFewOperations};
+ghost use Rattle.pac_flat.specs.Agreement.{ReplaysTheSame};
+ghost use Rattle.pac_flat.specs.FlatForm.{program_of};
 ghost use Rattle.pac_recover.specs.Gates.{RunOn, txns_in};
 ghost use Rattle.pac_recover.specs.Logs.{FitBatches};
 ghost use Rattle.pac_recover.specs.Outcomes.{FitsReplayed, outcome_of};
@@ -12,6 +14,7 @@ use crate::plan::plan_of;
 use pac_base::NoMemory;
 use pac_ops::Batches;
 use pac_outside::Gate;
+use pac_plan::Plan;
 use pac_tables::{JoinedRows, TableRows};
 use pac_types::Catalogue;
 use pac_workers::{Executed, execute};
@@ -45,6 +48,32 @@ pub fn execute_by<T: TableRows + Send, H: Threads + Wait + Sync, G: Gate + Sync>
     ensures fits { IfOk result (λ executed. FitsReplayed cat.now executed) }
 {
     let plan = plan_of(alloc, cat)?;
+    execute_planned(rt, alloc, workers, cat, plan, before, batches, tables, gate)
+}
+
+/// The same by the plan of the catalogue.
+pub(crate) fn execute_planned<T: TableRows + Send, H: Threads + Wait + Sync, G: Gate + Sync>(
+    rt: &H,
+    alloc: Global,
+    workers: u32,
+    _cat: &Catalogue,
+    plan: Plan,
+    before: u64,
+    batches: Batches,
+    tables: JoinedRows<T>,
+    gate: &G,
+) -> Result<Execution<T>, NoMemory>
+    requires workers { 1 ≤ workers }
+    requires programs { plan.programs ≡ map program_of _cat.now.procs }
+    requires shapes { plan.tables ≡ map shape _cat.now.tables }
+    requires replays { ReplaysTheSame _cat.now.procs plan.programs }
+    requires runs { RunOn before batches }
+    requires fit { FitBatches _cat.now batches }
+    requires fits { FitsCatalogue _cat.now tables.tables tables.rows }
+    requires few { before + length (txns_in batches) < 2 ^ 64 - 1 }
+    ensures outcome { IfOk result (λ executed. outcome_of executed ≡ serial _cat.now.procs (before + 1) (txns_in batches) tables.rows) }
+    ensures fits { IfOk result (λ executed. FitsReplayed _cat.now executed) }
+{
     let Executed {
         tables,
         first_note,

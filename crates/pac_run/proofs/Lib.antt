@@ -7,7 +7,6 @@ pub mod NameLemmas
 pub mod OpenLemmas
 pub mod PlainLemmas
 pub mod ReadLemmas
-pub mod SerialSteps
 pub mod RunLemmas
 pub mod ServeLemmas
 pub mod StepLemmas

@@ -7,10 +7,10 @@ use std::test::Fail;
 
 /// What a command reads and writes.
 #[derive(Drop)]
-struct Streams {
-    input: MemSource,
-    output: OneByte,
-    errors: OneByte,
+pub(crate) struct Streams {
+    pub input: MemSource,
+    pub output: OneByte,
+    pub errors: OneByte,
 }
 
 fn sink_of(alloc: Global) -> OneByte {
@@ -19,7 +19,8 @@ fn sink_of(alloc: Global) -> OneByte {
     }
 }
 
-fn streams_over(alloc: Global, input: Vec<u8>) -> Streams {
+/// An input, and sinks that hold nothing.
+pub(crate) fn streams_over(alloc: Global, input: Vec<u8>) -> Streams {
     Streams {
         input: MemSource::new(input, Vec::new(alloc)),
         output: sink_of(alloc),
@@ -39,7 +40,8 @@ fn empty_devices(alloc: Global) -> Devices<MemDisk> {
     }
 }
 
-fn arguments_of(alloc: Global, word: &str) -> Result<Vec<String>, AllocError> {
+/// This word alone.
+pub(crate) fn arguments_of(alloc: Global, word: &str) -> Result<Vec<String>, AllocError> {
     let mut arguments = Vec::new(alloc);
     arguments.push(String::from_str(alloc, word)?)?;
     Ok(arguments)
@@ -68,6 +70,13 @@ fn status_of<D: Disk>(
     }
 }
 
+/// Whether these are the status, the output and the line on the error sink.
+pub(crate) fn has_ended(status: u8, streams: &Streams, end: (u8, &str, &str)) -> bool {
+    status == end.0
+        && streams.output.inner.bytes() == end.1.as_bytes()
+        && streams.errors.inner.bytes() == end.2.as_bytes()
+}
+
 // Whether the word ends with this status, output and line over the streams.
 fn knows<D: Disk>(
     alloc: Global,
@@ -78,11 +87,7 @@ fn knows<D: Disk>(
 ) -> Result<bool, AllocError> {
     let arguments = arguments_of(alloc, word)?;
     let status = status_of(alloc, &arguments, streams, devices);
-    Ok(
-        status == end.0
-            && streams.output.inner.bytes() == end.1.as_bytes()
-            && streams.errors.inner.bytes() == end.2.as_bytes(),
-    )
+    Ok(has_ended(status, streams, end))
 }
 
 /// Whether a command ends with this status, output and line over this input.

@@ -1,5 +1,5 @@
 //! Tests that no case can be: files of the system, streams that give or take little at a time, the calls that no command
-//! makes, and the largest sizes. It has no calls of its own.
+//! makes, devices that are too long to be held, and the largest sizes. It has no calls of its own.
 //!
 //! Each function owns at most one thing that has memory, and lends it to the one that looks at it: so its proof is short.
 #![tactic(auto)]
@@ -11,9 +11,13 @@ mod file_calls;
 #[cfg(test)]
 mod files;
 #[cfg(test)]
+mod lengths;
+#[cfg(test)]
 mod lines;
 #[cfg(test)]
 mod recorder;
+#[cfg(test)]
+mod recoveries;
 #[cfg(test)]
 mod replays;
 #[cfg(test)]

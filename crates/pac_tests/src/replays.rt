@@ -79,26 +79,26 @@ impl Gate for Passed {
 
 /// Holds the first that comes until another has come with another piece, for at most 1,000,000 turns.
 #[derive(Drop)]
-struct Held {
+pub(crate) struct TwoAtOnce {
     came: AtomicU64,
     gave_up: AtomicU64,
 }
 
-impl Held {
-    fn new() -> Held {
-        Held {
+impl TwoAtOnce {
+    pub fn new() -> TwoAtOnce {
+        TwoAtOnce {
             came: AtomicU64::new(0),
             gave_up: AtomicU64::new(0),
         }
     }
 
     // Whether two were there at once.
-    fn was_met(&self) -> bool {
+    pub fn was_met(&self) -> bool {
         self.came.load(Ordering::SeqCst) > 1 && self.gave_up.load(Ordering::SeqCst) == 0
     }
 }
 
-impl Gate for Held {
+impl Gate for TwoAtOnce {
     fn enter(&self, _worker: u32, _txn: u64, _block: u16) {
         if self.came.fetch_add(1, Ordering::SeqCst) > 0 {
             return;
@@ -131,7 +131,7 @@ fn arguments_of(alloc: Global, command: &[&str], workers: &str) -> Result<Vec<St
     Ok(arguments)
 }
 
-fn sink_of(alloc: Global) -> OneByte {
+pub(crate) fn sink_of(alloc: Global) -> OneByte {
     OneByte {
         inner: MemSink::new(Vec::new(alloc), Vec::new(alloc)),
     }
@@ -141,7 +141,7 @@ fn disk_of(alloc: Global) -> MemDisk {
     MemDisk::new(Vec::new(alloc), Vec::new(alloc))
 }
 
-fn no_devices(alloc: Global) -> Devices<MemDisk> {
+pub(crate) fn no_devices(alloc: Global) -> Devices<MemDisk> {
     Devices {
         log: disk_of(alloc),
         slot_a: disk_of(alloc),
@@ -230,7 +230,7 @@ fn many_keys(alloc: Global, keys: u64) -> Result<Vec<u8>, AllocError> {
 #[test]
 fn two_workers_are_there_at_once(rt: HostRuntime) -> Result<(), Fail> {
     let alloc = rt.alloc();
-    let held = Held::new();
+    let held = TwoAtOnce::new();
     let status = executed(
         &rt,
         alloc,
@@ -279,7 +279,7 @@ fn one_worker_passes_with_each_piece_of_a_stress_test_once(rt: HostRuntime) -> R
 #[test]
 fn two_workers_are_there_at_once_in_a_stress_test(rt: HostRuntime) -> Result<(), Fail> {
     let alloc = rt.alloc();
-    let held = Held::new();
+    let held = TwoAtOnce::new();
     let status = executed(&rt, alloc, &["stress", "64"], "2", Vec::new(alloc), &held)?;
     assert!(rt; status == 0 && held.was_met(), "status {status}");
     Ok(())

@@ -2,7 +2,7 @@
 use Rattle.std.proofs.Common.{sym, subst, List, ℕ}
 use Rattle.std.proofs.lemmas.Result.{err_from_is_err_and}
 use Rattle.pac_outside.specs.Devices.{IfAllKnown, each}
-use Rattle.pac_init.specs.Made.{MakesStore}
+use Rattle.pac_store.specs.Made.{MakesStore}
 use Rattle.pac_main.specs.Causes.{InitStops}
 use Rattle.pac_main.specs.Streams.{observed, observed_devices}
 use Rattle.pac_main.proofs.InputLemmas.{if_err}

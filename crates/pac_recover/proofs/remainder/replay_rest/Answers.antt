@@ -5,21 +5,16 @@ use Rattle.std.proofs.lemmas.List.Elements.{recursion_from_All}
 use Rattle.std.proofs.lemmas.Result.{err_from_is_err_and}
 use Rattle.pac_ops.specs.declared.batch.Batch.{Batch}
 use Rattle.pac_outside.specs.Disk.{DiskHistory}
-use Rattle.pac_types.specs.Fits.{TxnFits}
-use Rattle.pac_types.specs.Typing.{CatalogueState}
 use Rattle.pac_log.specs.declared.errors.LogError.{LogError}
 use Rattle.pac_log.specs.declared.errors.LogError.TheVariants as error
 use Rattle.pac_log.specs.declared.position.NextGate.{NextGate}
 use Rattle.pac_log.specs.declared.reader.ReaderParts.{ReaderParts}
 use Rattle.pac_log.specs.Reading.{IsNextBatch}
-use Rattle.pac_recover.specs.declared.gates.GatePlace.{GatePlace}
 use Rattle.pac_recover.specs.Gates.{place_of}
 use Rattle.pac_recover.specs.Outcomes.{outcome_of}
-use Rattle.pac_recover.specs.Windows.{so_far}
 use Rattle.pac_recover.proofs.CauseLemmas.{at-some, no-error, the-cause}
 use Rattle.pac_recover.proofs.ReadLemmas.{ReportsNext, more-txns}
 use Rattle.pac_recover.proofs.ReplayLemmas.{replays-all, replays-damage, replays-more, replays-nothing}
-use Rattle.pac_recover.proofs.WindowLemmas.{opens-fit, opens-read, opens-so_far}
 use Rattle.pac_recover.proofs.remainder.replay_rest.Goals as goal
 
 pub returns-in_err-next_batch-clause-damaged : goal.returns-in_err-next_batch-clause-damaged
@@ -31,7 +26,7 @@ returns-in_err-next_batch-clause-damaged g c = λ at kind is text before.
     let known = g.D.Disk.known c.args.disk.now in
     let cause = the-cause r.result p.0 c.in_err-next_batch.field-0.0 (error.Damaged at kind) p.1 p.2 is in
     let knows = subst (λ (t : Option DiskHistory). ReportsNext mid new (Err c.in_err-next_batch.field-0.0) t) c.loop.invariant.same c.in_err-next_batch.ensures.reads_on in
-    replays-damage text c.args.cat.now before c.args.reader.now.gate c.args.gates.now.items c.args.tables.rows mid new (so_far c.args.cat.now.procs c.loop.replaying) c.loop.gates.items
+    replays-damage text c.args.cat.now before c.args.reader.now.gate c.args.gates.now.items c.args.tables.rows mid new (outcome_of c.loop.executed) c.loop.gates.items
     at kind known (c.loop.invariant.replays text before) (subst (λ (e : LogError). ReportsNext mid new (Err e) known) cause knows)
 
 pub returns-in-None-clause-rest : goal.returns-in-None-clause-rest
@@ -41,17 +36,16 @@ returns-in-None-clause-rest g c = λ text before.
     let known = g.D.Disk.known c.args.disk.now in
     let knows = subst (λ (t : Option DiskHistory). ReportsNext mid new (Ok c.in_ok-next_batch.field-0) t) c.loop.invariant.same c.in_ok-next_batch.ensures.reads_on in
     let end = ap (λ (p : ReaderParts). p.gate) (c.in_ok-next_batch.ensures.end (ap (λ (o : Option Batch). Ok o) c.in-None.is)) in
-    replays-all text c.args.cat.now before c.args.reader.now.gate c.args.gates.now.items c.args.tables.rows mid new (so_far c.args.cat.now.procs c.loop.replaying) c.loop.gates.items
-    c.in_ok-replayed-in-None.replayed known c.loop.invariant.catalogue end c.in_ok-replayed-in-None.ensures.outcome (c.loop.invariant.replays text before) (subst (λ (o : Option Batch). ReportsNext mid new (Ok o) known) c.in-None.is knows)
+    replays-all text c.args.cat.now before c.args.reader.now.gate c.args.gates.now.items c.args.tables.rows mid new (outcome_of c.loop.executed) c.loop.gates.items
+    c.loop.executed known c.loop.invariant.catalogue end refl (c.loop.invariant.replays text before) (subst (λ (o : Option Batch). ReportsNext mid new (Ok o) known) c.in-None.is knows)
 
 pub loop-init : goal.loop-init
 loop-init g c = record {
   catalogue = c.requires.same;
   grows = omega arith;
   counted = omega arith;
-  fits = opens-fit c.new-replaying.result c.args.cat.now c.args.tables c.new-replaying.ensures.rows c.new-replaying.ensures.held c.requires.rows;
-  read = opens-read c.new-replaying.result _ c.new-replaying.ensures.begin c.new-replaying.ensures.held ∙ ap (λ (g : GatePlace). g.txns) c.gate_place.ensures ∙ ap (λ (gate : NextGate). gate.txns) c.gate.ensures;
-  replays = λ text before. replays-nothing text c.args.cat.now before c.args.reader.now.gate c.args.gates.now.items c.args.tables.rows _ c.args.gates.now.items (g.D.Disk.known c.args.disk.now) refl (opens-so_far c.new-replaying.result c.args.cat.now.procs c.new-replaying.ensures.held ∙ ap outcome_of c.new-replaying.ensures.rows);
+  fits = c.requires.rows;
+  replays = λ text before. replays-nothing text c.args.cat.now before c.args.reader.now.gate c.args.gates.now.items c.args.tables.rows _ c.args.gates.now.items (g.D.Disk.known c.args.disk.now) refl refl;
   same = refl;
   quiet = refl;
 }
@@ -68,11 +62,10 @@ loop-preserved g c =
       catalogue = ap (λ (gate : NextGate). gate.catalogue) next.gate ∙ c.loop.invariant.catalogue;
       grows = omega (arith, c.loop.invariant.grows, more-txns mid new batch next);
       counted = omega (arith, c.loop.invariant.counted, more-txns mid new batch next);
-      fits = c.in_ok-replaying-in-Some.ensures.kept;
-      read = c.in_ok-replaying-in-Some.ensures.read ∙ ap (λ (g : GatePlace). g.txns) c.gate_place-gate.ensures ∙ ap (λ (gate : NextGate). gate.txns) c.gate-in-Some-2.ensures;
-      replays = λ text before. replays-more text c.args.cat.now before c.args.reader.now.gate c.args.gates.now.items c.args.tables.rows mid new (so_far c.args.cat.now.procs c.loop.replaying) c.loop.gates.items
-          batch (so_far c.args.cat.now.procs c.in_ok-replaying-in-Some.replaying) c.push.new.items.items c.gate_place-gate.result known c.in_ok-replaying-in-Some.ensures.outcome next.first c.in_ok-push-in-Some.ensures.items
-          (c.gate_place-gate.ensures ∙ ap (λ (gate : NextGate). place_of gate) c.gate-in-Some-2.ensures) (c.loop.invariant.replays text before) (subst (λ (o : Option Batch). ReportsNext mid new (Ok o) known) c.in-Some.is knows);
+      fits = c.in_ok-executed-in-Some.ensures.fits;
+      replays = λ text before. replays-more text c.args.cat.now before c.args.reader.now.gate c.args.gates.now.items c.args.tables.rows mid new (outcome_of c.loop.executed) c.loop.gates.items
+          batch (outcome_of c.in_ok-executed-in-Some.executed) c.push.new.items.items c.gate_place-gate.result known c.in_ok-executed-in-Some.ensures.outcome next.first c.in_ok-push-in-Some.ensures.items
+          (c.gate_place-gate.ensures ∙ ap (λ (gate : NextGate). place_of gate) c.gate-in-Some.ensures) (c.loop.invariant.replays text before) (subst (λ (o : Option Batch). ReportsNext mid new (Ok o) known) c.in-Some.is knows);
       same = c.in_ok-next_batch.ensures.same ∙ c.loop.invariant.same;
       quiet = c.in_ok-next_batch.ensures.kept (no-error _ _) ∙ c.loop.invariant.quiet;
     }

@@ -1,0 +1,360 @@
+-- A log that was scanned is read again, and executed window by window.
+use Rattle.std.proofs.Common.{◌≡◌, ◌∙◌, All, ℕ, ◌≤◌, ◌+◌, List, [], ◌∷◌, ◌++◌, length, drop, Bool, true, false, Option, Some, None, Result, Ok, Err, refl, sym, ap, subst, arith, append_assoc}
+use Rattle.std.specs.List.{AllByRecursion}
+use Rattle.std.proofs.lemmas.List.{append-nil, length-append, drop_at}
+use Rattle.std.proofs.lemmas.List.Elements.{recursion_from_All}
+use Rattle.pac_value.specs.Expressions.{◌>>=◌}
+use Rattle.pac_value.specs.State.{Tables}
+use Rattle.pac_ops.specs.declared.batch.Batch.{Batch}
+use Rattle.pac_ops.specs.declared.note.Note.{Note}
+use Rattle.pac_ops.specs.declared.transaction.Txn.{Txn}
+use Rattle.pac_outside.specs.Disk.{DiskHistory, IfKnown}
+use Rattle.pac_types.specs.declared.procedure.Proc.{Proc}
+use Rattle.pac_types.specs.Execution.{serial}
+use Rattle.pac_types.specs.Fits.{TxnFits}
+use Rattle.pac_types.specs.Typing.{CatalogueState}
+use Rattle.pac_types.proofs.ExecutionLemmas.{serial-parts}
+use Rattle.pac_log.specs.declared.damage.DamageKind.{DamageKind}
+use Rattle.pac_log.specs.declared.errors.LogError.{LogError}
+use Rattle.pac_log.specs.declared.errors.LogError.TheVariants as error
+use Rattle.pac_log.specs.declared.position.NextGate.{NextGate}
+use Rattle.pac_log.specs.Bodies.{body_bytes}
+use Rattle.pac_log.specs.Gates.{gate_after}
+use Rattle.pac_log.specs.Logs.{AreBatches, HasGate, HoldsLog, all_txns, log_prefix}
+use Rattle.pac_log.specs.Places.{IsAfter}
+use Rattle.pac_log.specs.Reading.{IsNextBatch, ReportsHeld, StandsAfter, first_batch}
+use Rattle.pac_log.proofs.GateLemmas.{held, next_held}
+use Rattle.pac_log.proofs.LogLemmas.{after_more, all_txns-append}
+use Rattle.pac_log.proofs.OneLog.{no_damage, one_log}
+use Rattle.pac_check.specs.declared.info.SlotInfo.{SlotInfo}
+use Rattle.pac_check.specs.Checkpoints.{head_with}
+use Rattle.pac_check.specs.SlotStates.{saved_txns}
+use Rattle.pac_recover.specs.declared.gates.GatePlace.{GatePlace}
+use Rattle.pac_recover.specs.Damages.{IsDamagedLog}
+use Rattle.pac_recover.specs.Gates.{gate_after_batches, gates_from, place_of, txns_in, txns_by_batch}
+use Rattle.pac_recover.specs.Replays.{HasSkipped, IsNone}
+use Rattle.pac_recover.specs.Rereading.{HoldsFrom, HoldsWindow, IsSought, IsWindow}
+use Rattle.pac_recover.specs.Scanning.{IsAtGateOf}
+use Rattle.pac_recover.proofs.GateLemmas.{gate-among, run-push}
+use Rattle.pac_recover.proofs.BatchLemmas.{fit-push, txns-push}
+
+-- ---- the gate of the newest slot
+
+-- where no slot is open it is the first gate
+pub sought-first : (newest : Option SlotInfo) (gate : NextGate) (text : List ℕ) (batches : List (List Txn)) (known : Option DiskHistory) → newest ≡ None
+    → IfKnown (λ h. HoldsFrom text batches gate h.now.seen → IsSought text batches newest gate) known
+sought-first newest gate text batches None none = tt
+sought-first newest gate text batches (Some h) none = λ holds. record {
+  before = [];
+  after = batches;
+  split = refl;
+  there = holds.start.after;
+  number = holds.start.after.txns ∙ ap saved_txns (sym none);
+}
+
+ok-same : {A : Type 0} {E : Type 0} (x y : A) → ◌≡◌ {A = Result A E} (Ok x) (Ok y) → x ≡ y
+ok-same x y e = cc
+
+-- the first of some batches
+first-is : (batches : List (List Txn)) (txns : List Txn) → first_batch batches ≡ Some txns → (rest : List (List Txn)) × (batches ≡ txns ∷ rest)
+first-is [] txns e = absurd cc
+first-is (t ∷ batches) txns e = (batches, ap (λ (x : List Txn). x ∷ batches) (let is : t ≡ txns = cc in is))
+
+none-first : (batches : List (List Txn)) → first_batch batches ≡ None → batches ≡ []
+none-first [] e = refl
+none-first (t ∷ batches) e = absurd cc
+
+-- batches that stand in the image of a whole log are the first of it
+first-batches : (text : List ℕ) (catalogue : CatalogueState) (image : List ℕ) (before bs batches : List (List Txn)) (gate : ℕ) (rest : List ℕ) → AreBatches text catalogue (before ++ bs) → image ≡ log_prefix text (before ++ bs) ++ (gate ∷ rest)
+    → HoldsLog text catalogue (before ++ batches) image → (after : List (List Txn)) × (batches ≡ bs ++ after)
+first-batches text catalogue image before [] batches gate rest are split holds = (batches, refl)
+first-batches text catalogue image before (x ∷ bs) batches gate rest are split holds =
+    let here = sym (held text catalogue image before batches holds) ∙ next_held text catalogue image before bs x gate rest are split in
+    let is = first-is batches x (ok-same (first_batch batches) (Some x) here) in
+    let assoc : before ++ (x ∷ bs) ≡ (before ++ x ∷ []) ++ bs = sym (append_assoc before (x ∷ []) bs) in
+    let more = first-batches text catalogue image (before ++ x ∷ []) bs is.0 gate rest
+    (subst (λ (l : List (List Txn)). AreBatches text catalogue l) assoc are)
+    (subst (λ (l : List (List Txn)). image ≡ log_prefix text l ++ (gate ∷ rest)) assoc split)
+    (subst (λ (l : List (List Txn)). HoldsLog text catalogue l image) (ap (λ (l : List (List Txn)). before ++ l) is.1 ∙ sym (append_assoc before (x ∷ []) is.0)) holds) in
+    (more.0, is.1 ∙ ap (λ (l : List (List Txn)). x ∷ l) more.1)
+
+-- where the reader came to it
+pub sought-there : (newest : Option SlotInfo) (info : SlotInfo) (old gate : NextGate) (wanted : GatePlace) (gates : List GatePlace) (text : List ℕ) (batches : List (List Txn)) (known : Option DiskHistory) → newest ≡ Some info
+    → wanted ≡ record { place = info.place; txns = info.txns } → place_of gate ≡ wanted → gate.catalogue ≡ old.catalogue
+    → IfKnown (λ h. StandsAfter text [] old h.now.seen → HasSkipped text wanted true gate gates h.now.seen) known
+    → IfKnown (λ h. HoldsFrom text batches old h.now.seen → IsSought text batches newest gate) known
+sought-there newest info old gate wanted gates text batches None is named there same skips = tt
+sought-there newest info old gate wanted gates text batches (Some h) is named there same skips = λ holds.
+    let s = skips holds.start in
+    let stands = s.reached.stands in
+    let first = first-batches text gate.catalogue h.now.seen [] s.batches batches stands.byte stands.rest stands.log stands.split (subst (λ (c : CatalogueState). HoldsLog text c batches h.now.seen) (sym same) holds.log) in
+    record {
+      before = s.batches;
+      after = first.0;
+      split = first.1;
+      there = stands.after;
+      number = ap (λ (g : GatePlace). g.txns) (there ∙ named) ∙ ap saved_txns (sym is);
+    }
+
+abbrev the_some : GatePlace → Option GatePlace
+the_some g = Some g
+
+-- a log that has it doesn't end without it
+pub sought-absent : (newest : Option SlotInfo) (info : SlotInfo) (old mid : NextGate) (wanted : GatePlace) (gates : List GatePlace) (text : List ℕ) (batches : List (List Txn)) (known : Option DiskHistory) → newest ≡ Some info
+    → wanted ≡ record { place = info.place; txns = info.txns }
+    → IfKnown (λ h. StandsAfter text [] old h.now.seen → HasSkipped text wanted false mid gates h.now.seen) known
+    → IfKnown (λ h. HoldsFrom text batches old h.now.seen → IsAtGateOf text batches newest → ⊥) known
+sought-absent newest info old mid wanted gates text batches None is named skips = tt
+sought-absent newest info old mid wanted gates text batches (Some h) is named skips = λ holds at.
+    let s = skips holds.start in
+    let none = s.absent refl in
+    let same : s.batches ≡ batches = (one_log text text mid.catalogue old.catalogue s.batches batches h.now.seen none.0 holds.log).2 in
+    let at_info : HasGate text batches info.place info.txns = subst (λ (o : Option SlotInfo). IsAtGateOf text batches o) is at in
+    let among = gate-among text batches (head_with info.txns info.place) at_info in
+    let are : gates ≡ gates_from (gate_after_batches text []) batches = s.reached.are ∙ ap (λ (l : List (List Txn)). gates_from (gate_after_batches text []) l) same in
+    (subst (λ (l : List GatePlace). IsNone l wanted) are none.1) among.0 (among.1 ∙ ap the_some (sym named))
+
+-- a log that is whole isn't damaged
+pub whole-damage : (at : ℕ) (kind : DamageKind) (text : List ℕ) (batches : List (List Txn)) (old : NextGate) (known : Option DiskHistory)
+    → IfKnown (λ h. StandsAfter text [] old h.now.seen → IsDamagedLog at kind h.now.seen) known → IfKnown (λ h. HoldsFrom text batches old h.now.seen → ⊥) known
+whole-damage at kind text batches old None damaged = tt
+whole-damage at kind text batches old (Some h) damaged = λ holds.
+    let d = damaged holds.start in
+    no_damage text d.text old.catalogue d.catalogue batches d.batches (record { at = at; kind = kind }) h.now.seen holds.log d.damage
+
+-- ---- a window on every device
+
+pub window-nothing : (gate : NextGate) → IsWindow gate gate []
+window-nothing gate = record { catalogue = refl; runs = tt; fit = tt; counted = omega arith; grows = omega arith }
+
+pub window-more : (old mid new : NextGate) (bs more : List Batch) (batch : Batch) → more ≡ bs ++ batch ∷ [] → IsWindow old mid bs → IsNextBatch mid new batch → All (TxnFits mid.catalogue) batch.txns → IsWindow old new more
+window-more old mid new bs more batch pushes w next fits = subst (λ (l : List Batch). IsWindow old new l) (sym pushes) (record {
+  catalogue = ap (λ (g : NextGate). g.catalogue) next.gate ∙ w.catalogue;
+  runs = run-push old.txns bs batch w.runs (next.first ∙ ap (λ (n : ℕ). n + 1) w.counted);
+  fit = fit-push old.catalogue bs batch w.fit (subst (λ (c : CatalogueState). AllByRecursion (TxnFits c) batch.txns) w.catalogue (recursion_from_All (TxnFits mid.catalogue) batch.txns fits));
+  counted = omega (
+    arith,
+    ap (λ (g : NextGate). g.txns) next.gate,
+    w.counted,
+    ap (λ (l : List Txn). length l) (txns-push bs batch),
+    length-append (txns_in bs) batch.txns,
+  );
+  grows = omega (arith, ap (λ (g : NextGate). g.txns) next.gate, next.body.count.0, w.grows, length-append bs (batch ∷ []));
+})
+
+-- ---- a window of a log
+
+-- the transactions of one batch more
+by-push : (bs : List Batch) (b : Batch) → txns_by_batch (bs ++ b ∷ []) ≡ txns_by_batch bs ++ b.txns ∷ []
+by-push [] b = refl
+by-push (c ∷ bs) b = ap (λ (l : List (List Txn)). c.txns ∷ l) (by-push bs b)
+
+-- what was read so far of a window: no more is said of its end yet
+pub record IsFilling (text : List ℕ) (before after : List (List Txn)) (window : List Batch) (gate : NextGate) : Type 0 where
+  pub rest : List (List Txn)
+  pub split : after ≡ txns_by_batch window ++ rest
+  pub there : IsAfter text (before ++ txns_by_batch window) gate
+
+abbrev pub Fills : List ℕ → CatalogueState → List (List Txn) → List (List Txn) → NextGate → NextGate → List Batch → DiskHistory → Type 0
+Fills text catalogue before after old mid window h = HoldsLog text catalogue (before ++ after) h.now.seen → IsAfter text before old → IsFilling text before after window mid
+
+-- what the next answer says of a log that holds these batches
+abbrev pub ReportsAgain : NextGate → Result (Option Batch) LogError → Option DiskHistory → Type 0
+ReportsAgain gate result known = (text : List ℕ) (before after : List (List Txn)) → IfKnown (λ h. HoldsLog text gate.catalogue (before ++ after) h.now.seen → IsAfter text before gate → ReportsHeld result (Ok (first_batch after))) known
+
+pub fills-nothing : (text : List ℕ) (catalogue : CatalogueState) (before after : List (List Txn)) (old : NextGate) (window : List Batch) (known : Option DiskHistory) → window ≡ [] → IfKnown (Fills text catalogue before after old old window) known
+fills-nothing text catalogue before after old window None none = tt
+fills-nothing text catalogue before after old window (Some h) none = λ holds after_old. subst (λ (l : List Batch). IsFilling text before after l old) (sym none) (record {
+  rest = after;
+  split = refl;
+  there = subst (λ (l : List (List Txn)). IsAfter text l old) (sym (append-nil before)) after_old;
+})
+
+module _ (text : List ℕ) (catalogue : CatalogueState) (before after : List (List Txn)) (old mid new : NextGate) (window : List Batch) (same : mid.catalogue ≡ catalogue) where
+  -- in the log the reader stands after what was read
+  holds-mid : (h : DiskHistory) → HoldsLog text catalogue (before ++ after) h.now.seen → (f : IsFilling text before after window mid) → HoldsLog text mid.catalogue ((before ++ txns_by_batch window) ++ f.rest) h.now.seen
+  holds-mid h holds f =
+      subst (λ (l : List (List Txn)). HoldsLog text mid.catalogue l h.now.seen) (ap (λ (l : List (List Txn)). before ++ l) f.split ∙ sym (append_assoc before (txns_by_batch window) f.rest))
+      (subst (λ (c : CatalogueState). HoldsLog text c (before ++ after) h.now.seen) (sym same) holds)
+
+  pub fills-more : (batch : Batch) (more : List Batch) (known : Option DiskHistory) → more ≡ window ++ batch ∷ [] → IsNextBatch mid new batch
+      → IfKnown (Fills text catalogue before after old mid window) known → ReportsAgain mid (Ok (Some batch)) known → IfKnown (Fills text catalogue before after old new more) known
+  fills-more batch more None pushes next so_far knows = tt
+  fills-more batch more (Some h) pushes next so_far knows = λ holds after_old.
+      let f = so_far holds after_old in
+      let says = knows text (before ++ txns_by_batch window) f.rest (holds-mid h holds f) f.there in
+      let is = first-is f.rest batch.txns (ok-same (first_batch f.rest) (Some batch.txns) says) in
+      let gate : new ≡ gate_after (length batch.txns) (1 + length (body_bytes batch.txns)) mid = next.gate in
+      let there = after_more text (before ++ txns_by_batch window) batch.txns mid f.there in
+      subst (λ (l : List Batch). IsFilling text before after l new) (sym pushes) (record {
+        rest = is.0;
+        split = f.split ∙ ap (λ (l : List (List Txn)). txns_by_batch window ++ l) is.1 ∙ sym (append_assoc (txns_by_batch window) (batch.txns ∷ []) is.0) ∙ ap (λ (l : List (List Txn)). l ++ is.0) (sym (by-push window batch));
+        there = subst (λ (g : NextGate). IsAfter text (before ++ txns_by_batch (window ++ batch ∷ [])) g) (sym gate)
+            (subst (λ (l : List (List Txn)). IsAfter text l (gate_after (length batch.txns) (1 + length (body_bytes batch.txns)) mid))
+            (append_assoc before (txns_by_batch window) (batch.txns ∷ []) ∙ ap (λ (l : List (List Txn)). before ++ l) (sym (by-push window batch))) there);
+      })
+
+  -- the window is full: it has a batch
+  pub fills-full : (batch : Batch) (held : List Batch) (known : Option DiskHistory) → window ≡ held ++ batch ∷ [] → IfKnown (Fills text catalogue before after old mid window) known
+      → IfKnown (λ h. HoldsLog text catalogue (before ++ after) h.now.seen → IsAfter text before old → HoldsWindow text before after window mid) known
+  fills-full batch held None pushes so_far = tt
+  fills-full batch held (Some h) pushes so_far = λ holds after_old.
+      let f = so_far holds after_old in
+      record { rest = f.rest; split = f.split; there = f.there; end = λ none. absurd (not-nil held batch (sym pushes ∙ none)) }
+    where
+      not-nil : (l : List Batch) (b : Batch) → l ++ b ∷ [] ≡ [] → ⊥
+      not-nil [] b e = cc
+      not-nil (x ∷ l) b e = cc
+
+  -- the log ends: nothing is left
+  pub fills-all : (known : Option DiskHistory) → new ≡ mid → IfKnown (Fills text catalogue before after old mid window) known → ReportsAgain mid (Ok None) known
+      → IfKnown (λ h. HoldsLog text catalogue (before ++ after) h.now.seen → IsAfter text before old → HoldsWindow text before after window new) known
+  fills-all None end so_far knows = tt
+  fills-all (Some h) end so_far knows = λ holds after_old.
+      let f = so_far holds after_old in
+      let says = knows text (before ++ txns_by_batch window) f.rest (holds-mid h holds f) f.there in
+      record {
+        rest = f.rest;
+        split = f.split;
+        there = subst (λ (g : NextGate). IsAfter text (before ++ txns_by_batch window) g) (sym end) f.there;
+        end = λ _. none-first f.rest (ok-same (first_batch f.rest) None says);
+      }
+
+  -- no damage is found in it
+  pub fills-whole : (at : ℕ) (kind : DamageKind) (known : Option DiskHistory) → IfKnown (Fills text catalogue before after old mid window) known → ReportsAgain mid (Err (error.Damaged at kind)) known
+      → IfKnown (λ h. HoldsLog text catalogue (before ++ after) h.now.seen → IsAfter text before old → ⊥) known
+  fills-whole at kind None so_far knows = tt
+  fills-whole at kind (Some h) so_far knows = λ holds after_old.
+      let f = so_far holds after_old in
+      let says = knows text (before ++ txns_by_batch window) f.rest (holds-mid h holds f) f.there in
+      absurd (not-err (first_batch f.rest) (record { at = at; kind = kind }) says)
+    where
+      not-err : {A E : Type 0} (x : A) (e : E) → ◌≡◌ {A = Result A E} (Ok x) (Err e) → ⊥
+      not-err x e said = cc
+
+-- ---- windows that are executed
+
+-- after the batches before the old gate some more were executed over the tables, up to the gate
+pub record IsExecuting (text : List ℕ) (procs : List Proc) (before after : List (List Txn)) (old mid : NextGate) (base tables : Tables) : Type 0 where
+  pub passed : List (List Txn)
+  pub rest : List (List Txn)
+  pub split : after ≡ passed ++ rest
+  pub there : IsAfter text (before ++ passed) mid
+  pub gives : serial procs (old.txns + 1) (all_txns passed) base ≡ Ok tables
+
+abbrev pub Executes : List ℕ → CatalogueState → List (List Txn) → List (List Txn) → NextGate → NextGate → Tables → Tables → DiskHistory → Type 0
+Executes text catalogue before after old mid base tables h = HoldsLog text catalogue (before ++ after) h.now.seen → IsAfter text before old → IsExecuting text catalogue.procs before after old mid base tables
+
+pub executes-nothing : (text : List ℕ) (catalogue : CatalogueState) (before after : List (List Txn)) (old : NextGate) (base : Tables) (known : Option DiskHistory) → IfKnown (Executes text catalogue before after old old base base) known
+executes-nothing text catalogue before after old base None = tt
+executes-nothing text catalogue before after old base (Some h) = λ holds after_old. record {
+  passed = [];
+  rest = after;
+  split = refl;
+  there = subst (λ (l : List (List Txn)). IsAfter text l old) (sym (append-nil before)) after_old;
+  gives = refl;
+}
+
+module _ (text : List ℕ) (catalogue : CatalogueState) (before after : List (List Txn)) (old mid new : NextGate) (base tables : Tables) (window : List Batch) (same : mid.catalogue ≡ catalogue) where
+  -- what the window's reading says, of what is left
+  abbrev pub ReadsWindow : Option DiskHistory → Type 0
+  ReadsWindow known = (t : List ℕ) (b a : List (List Txn)) → IfKnown (λ h. HoldsLog t mid.catalogue (b ++ a) h.now.seen → IsAfter t b mid → HoldsWindow t b a window new) known
+
+  window-in : (h : DiskHistory) → HoldsLog text catalogue (before ++ after) h.now.seen → (e : IsExecuting text catalogue.procs before after old mid base tables) → ReadsWindow (Some h) → HoldsWindow text (before ++ e.passed) e.rest window new
+  window-in h holds e reads =
+      reads text (before ++ e.passed) e.rest
+      (subst (λ (l : List (List Txn)). HoldsLog text mid.catalogue l h.now.seen) (ap (λ (l : List (List Txn)). before ++ l) e.split ∙ sym (append_assoc before e.passed e.rest))
+      (subst (λ (c : CatalogueState). HoldsLog text c (before ++ after) h.now.seen) (sym same) holds))
+      e.there
+
+  -- what is executed of the rest goes on from the tables
+  goes-on : IsAfter text before old → (e : IsExecuting text catalogue.procs before after old mid base tables) (more : List (List Txn)) → serial catalogue.procs (old.txns + 1) (all_txns (e.passed ++ more)) base ≡ serial catalogue.procs (mid.txns + 1) (all_txns more) tables
+  goes-on after_old e more =
+      let number : old.txns + 1 + length (all_txns e.passed) ≡ mid.txns + 1
+      = omega (
+        arith,
+        after_old.txns,
+        e.there.txns,
+        ap (λ (l : List Txn). length l) (all_txns-append before e.passed),
+        length-append (all_txns before) (all_txns e.passed),
+      ) in
+      ap (λ (l : List Txn). serial catalogue.procs (old.txns + 1) l base) (all_txns-append e.passed more)
+      ∙ serial-parts catalogue.procs (old.txns + 1) (all_txns e.passed) (all_txns more) base
+      ∙ ap (λ (r : Result Tables Note). r >>= λ t. serial catalogue.procs (old.txns + 1 + length (all_txns e.passed)) (all_txns more) t) e.gives
+      ∙ ap (λ (n : ℕ). serial catalogue.procs n (all_txns more) tables) number
+
+  pub executes-more : (next : Tables) (known : Option DiskHistory) → serial catalogue.procs (mid.txns + 1) (txns_in window) tables ≡ Ok next
+      → IfKnown (Executes text catalogue before after old mid base tables) known → ReadsWindow known → IfKnown (Executes text catalogue before after old new base next) known
+  executes-more next None does so_far reads = tt
+  executes-more next (Some h) does so_far reads = λ holds after_old.
+      let e = so_far holds after_old in
+      let w = window-in h holds e reads in
+      record {
+        passed = e.passed ++ txns_by_batch window;
+        rest = w.rest;
+        split = e.split ∙ ap (λ (l : List (List Txn)). e.passed ++ l) w.split ∙ sym (append_assoc e.passed (txns_by_batch window) w.rest);
+        there = subst (λ (l : List (List Txn)). IsAfter text l new) (append_assoc before e.passed (txns_by_batch window)) w.there;
+        gives = goes-on after_old e (txns_by_batch window) ∙ does;
+      }
+
+  -- nothing is left
+  pub executes-all : (known : Option DiskHistory) → window ≡ [] → IfKnown (Executes text catalogue before after old mid base tables) known → ReadsWindow known
+      → IfKnown (λ h. HoldsLog text catalogue (before ++ after) h.now.seen → IsAfter text before old → Ok tables ≡ serial catalogue.procs (old.txns + 1) (all_txns after) base) known
+  executes-all None none so_far reads = tt
+  executes-all (Some h) none so_far reads = λ holds after_old.
+      let e = so_far holds after_old in
+      let w = window-in h holds e reads in
+      let rest : e.rest ≡ [] = w.split ∙ ap (λ (l : List Batch). txns_by_batch l ++ w.rest) none ∙ w.end none in
+      let all : after ≡ e.passed = e.split ∙ ap (λ (l : List (List Txn)). e.passed ++ l) rest ∙ append-nil e.passed in
+      sym e.gives ∙ ap (λ (l : List (List Txn)). serial catalogue.procs (old.txns + 1) (all_txns l) base) (sym all)
+
+  -- a transaction of the window aborts, and so does the whole
+  pub executes-abort : (note : Note) (known : Option DiskHistory) → serial catalogue.procs (mid.txns + 1) (txns_in window) tables ≡ Err note
+      → IfKnown (Executes text catalogue before after old mid base tables) known → ReadsWindow known
+      → IfKnown (λ h. HoldsLog text catalogue (before ++ after) h.now.seen → IsAfter text before old → Err note ≡ serial catalogue.procs (old.txns + 1) (all_txns after) base) known
+  executes-abort note None aborts so_far reads = tt
+  executes-abort note (Some h) aborts so_far reads = λ holds after_old.
+      let e = so_far holds after_old in
+      let w = window-in h holds e reads in
+      sym (ap (λ (l : List (List Txn)). serial catalogue.procs (old.txns + 1) (all_txns l) base) (e.split ∙ ap (λ (l : List (List Txn)). e.passed ++ l) w.split)
+      ∙ goes-on after_old e (txns_by_batch window ++ w.rest)
+      ∙ ap (λ (l : List Txn). serial catalogue.procs (mid.txns + 1) l tables) (all_txns-append (txns_by_batch window) w.rest)
+      ∙ serial-parts catalogue.procs (mid.txns + 1) (txns_in window) (all_txns w.rest) tables
+      ∙ ap (λ (r : Result Tables Note). r >>= λ t. serial catalogue.procs (mid.txns + 1 + length (txns_in window)) (all_txns w.rest) t) aborts)
+
+  -- no damage is found
+  pub executes-whole : (known : Option DiskHistory) → IfKnown (Executes text catalogue before after old mid base tables) known
+      → ((t : List ℕ) (b a : List (List Txn)) → IfKnown (λ h. HoldsLog t mid.catalogue (b ++ a) h.now.seen → IsAfter t b mid → ⊥) known)
+      → IfKnown (λ h. HoldsLog text catalogue (before ++ after) h.now.seen → IsAfter text before old → ⊥) known
+  executes-whole None so_far damaged = tt
+  executes-whole (Some h) so_far damaged = λ holds after_old.
+      let e = so_far holds after_old in
+      damaged text (before ++ e.passed) e.rest
+      (subst (λ (l : List (List Txn)). HoldsLog text mid.catalogue l h.now.seen) (ap (λ (l : List (List Txn)). before ++ l) e.split ∙ sym (append_assoc before e.passed e.rest))
+      (subst (λ (c : CatalogueState). HoldsLog text c (before ++ after) h.now.seen) (sym same) holds))
+      e.there
+
+-- ---- from the gate of the newest slot on
+
+module _ (text : List ℕ) (batches : List (List Txn)) (newest : Option SlotInfo) (old mid : NextGate) (catalogue : CatalogueState) (same : old.catalogue ≡ catalogue) where
+  in-log : (h : DiskHistory) → HoldsFrom text batches old h.now.seen → (s : IsSought text batches newest mid) → HoldsLog text catalogue (s.before ++ s.after) h.now.seen
+  in-log h holds s = subst (λ (l : List (List Txn)). HoldsLog text catalogue l h.now.seen) s.split (subst (λ (c : CatalogueState). HoldsLog text c batches h.now.seen) same holds.log)
+
+  pub sought-outcome : (outcome : Result Tables Note) (base : Tables) (known : Option DiskHistory)
+      → IfKnown (λ h. HoldsFrom text batches old h.now.seen → IsSought text batches newest mid) known
+      → ((t : List ℕ) (b a : List (List Txn)) → IfKnown (λ h. HoldsLog t catalogue (b ++ a) h.now.seen → IsAfter t b mid → outcome ≡ serial catalogue.procs (mid.txns + 1) (all_txns a) base) known)
+      → IfKnown (λ h. HoldsFrom text batches old h.now.seen → outcome ≡ serial catalogue.procs (saved_txns newest + 1) (drop (saved_txns newest) (all_txns batches)) base) known
+  sought-outcome outcome base None sought executed = tt
+  sought-outcome outcome base (Some h) sought executed = λ holds.
+      let s = sought holds in
+      let number : length (all_txns s.before) ≡ saved_txns newest = sym s.there.txns ∙ s.number in
+      executed text s.before s.after (in-log h holds s) s.there
+      ∙ ap (λ (n : ℕ). serial catalogue.procs (n + 1) (all_txns s.after) base) s.number
+      ∙ ap (λ (l : List Txn). serial catalogue.procs (saved_txns newest + 1) l base)
+      (sym (ap (λ (l : List (List Txn)). drop (saved_txns newest) (all_txns l)) s.split ∙ ap (λ (l : List Txn). drop (saved_txns newest) l) (all_txns-append s.before s.after) ∙ drop_at (all_txns s.before) (all_txns s.after) (saved_txns newest) number))
+
+  pub sought-whole : (known : Option DiskHistory) → IfKnown (λ h. HoldsFrom text batches old h.now.seen → IsSought text batches newest mid) known
+      → ((t : List ℕ) (b a : List (List Txn)) → IfKnown (λ h. HoldsLog t catalogue (b ++ a) h.now.seen → IsAfter t b mid → ⊥) known)
+      → IfKnown (λ h. HoldsFrom text batches old h.now.seen → ⊥) known
+  sought-whole None sought damaged = tt
+  sought-whole (Some h) sought damaged = λ holds. let s = sought holds in damaged text s.before s.after (in-log h holds s) s.there
