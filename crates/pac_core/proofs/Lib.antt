@@ -43,6 +43,7 @@ pub mod EndedSet
 pub mod FinishedPiece
 pub mod MayFinishes
 pub mod HandIns
+pub mod LeftValues
 pub mod TakeNext
 pub mod ReclaimSteps
 pub mod ReclaimedCore

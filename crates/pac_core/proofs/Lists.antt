@@ -83,6 +83,12 @@ set_same [] i x y e = let wrong : None ≡ Some x = e in absurd cc
 set_same (z ∷ zs) zero x y e = refl
 set_same (z ∷ zs) (suc i) x y e = set_same zs i x y e
 
+-- the one that is there already
+pub set_back : {A : Type 0} (xs : List A) (i : ℕ) (x : A) → slice_get xs i ≡ Some x → slice_set xs i x ≡ xs
+set_back [] i x e = refl
+set_back (y ∷ ys) zero x e = ap (λ z. z ∷ ys) (sym (same_Some y x e))
+set_back (y ∷ ys) (suc i) x e = ap (λ l. y ∷ l) (set_back ys i x e)
+
 pub set_other : {A : Type 0} (xs : List A) (i j : ℕ) (y : A) → (j ≡ i → ⊥) → slice_get (slice_set xs i y) j ≡ slice_get xs j
 set_other [] i j y differ = refl
 set_other (z ∷ zs) zero zero y differ = absurd (differ refl)

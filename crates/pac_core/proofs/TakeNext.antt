@@ -1,6 +1,6 @@
 -- The next piece is looked for, which changes nothing that counts; and what is answered of it.
-use Rattle.std.proofs.Common.{◌≡◌, ◌↔◌, ℕ, Bool, true, false, Option, None, Result, Ok, Err, refl, sym, subst, ◌∙◌, true≢false}
-use Rattle.std.specs.Prelude.{IfOk, IsTrue}
+use Rattle.std.proofs.Common.{◌≡◌, ◌↔◌, ℕ, Bool, true, false, Option, None, refl, sym, subst, ◌∙◌, true≢false}
+use Rattle.std.specs.Prelude.{IsTrue}
 use Rattle.pac_value.specs.Expressions.{Values}
 use Rattle.pac_ops.specs.declared.piece.PieceId.{PieceId}
 use Rattle.pac_ops.specs.declared.transaction.Txn.{Txn}
@@ -68,8 +68,7 @@ first_picked p place piece far at ready =
 -- ---- what is kept after
 
 module _ (p : Progress) (place : Place) (piece : PieceId) (outs : Values) (txn : Txn) (txn_is : IsTxnAt p place txn) (kept : Values) (kept_is : AreValuesAt p place kept) where
-  pub kept_after_is : {E : Type 0} (r : Result Values E) → IfOk r (LeavesValues p.pieces piece.block txn outs kept) → IfOk r (IsKeptAfter p place piece outs)
-  kept_after_is (Err e) leaves = tt
-  kept_after_is (Ok now) leaves = λ t k t_is k_is.
+  pub kept_after_is : (now : Values) → LeavesValues p.pieces piece.block txn outs kept now → IsKeptAfter p place piece outs now
+  kept_after_is now leaves = λ t k t_is k_is.
       subst (λ (x : Txn). LeavesValues p.pieces piece.block x outs k now) (same_item p.batches.items place.batch (λ (l : LoadedBatch). l.batch.txns) place.index txn t txn_is t_is)
       (subst (λ (x : Values). LeavesValues p.pieces piece.block txn outs x now) (same_item p.batches.items place.batch (λ (l : LoadedBatch). l.kept.items) place.index kept k kept_is k_is) leaves)

@@ -1,9 +1,10 @@
 -- One more variable has its value.
-use Rattle.std.proofs.Common.{◌≡◌, ◌⊎◌, ℕ, zero, suc, ◌<◌, ◌==◌, Bool, true, false, cond, List, [], ◌∷◌, ◌++◌, Option, Some, None, refl, sym, ap, ◌∙◌, subst, true≢false, inl, inr, ⊎_elim, length, arith}
+use Rattle.std.proofs.Common.{◌≡◌, ◌⊎◌, ℕ, zero, suc, ◌+◌, ◌<◌, ◌==◌, Bool, true, false, cond, List, [], ◌∷◌, ◌++◌, Option, Some, None, refl, sym, ap, ◌∙◌, subst, true≢false, inl, inr, ⊎_elim, length, arith}
 use Rattle.std.specs.Prelude.{Contains}
 use Rattle.std.specs.FinMap.{empty, get, get-empty, get-insert, insert}
 use Rattle.std.specs.Cmp.{nat_cmp_total, unsigned_ties}
 use Rattle.std.specs.Ordering.{nat_cmp}
+use Rattle.std.proofs.lemmas.Bool.{cases_lt}
 use Rattle.std.proofs.lemmas.List.Elements.{Contains-append_left, Contains-push, Contains-push_cases}
 use Rattle.pac_base.proofs.TestLemmas.{eq_self, equal_number, same_number}
 use Rattle.pac_value.specs.declared.values.Value.{Value}
@@ -32,6 +33,17 @@ contains_or_not (v ∷ vs) x = go (v == x) refl (contains_or_not vs x)
 -- no variable so far
 pub none_yet : (kept : Values) → HasOnly [] kept empty
 none_yet kept = record { own = λ x c. absurd (let lt : c.0 < 0 = c.1 in omega (arith, lt)); none = λ x c. get-empty nat_cmp x }
+
+-- no variable was given a value so far
+pub given_so_far : (given kept : Values) → GivesTo [] given kept kept
+given_so_far given kept = record { own = λ x c. absurd (let lt : c.0 < 0 = c.1 in omega (arith, lt)); others = λ x c. refl }
+
+-- what holds of all numbers below one, and of that one
+pub all_below : (P : ℕ → Type 0) (n : ℕ) → ((i : ℕ) → i < n → P i) → P n → (i : ℕ) → i < n + 1 → P i
+all_below P n below here i lt = elim (cases_lt i n) [
+  | inl less ↦ below i less
+  | inr ge ↦ let same : n ≡ i = omega (arith, lt, ge) in subst P same here
+]
 
 module _ (vs : List ℕ) (kept env : Values) (x : ℕ) (has : HasOnly vs kept env) where
   -- one with a value

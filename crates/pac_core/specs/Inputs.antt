@@ -1,5 +1,5 @@
 -- The values that a piece finds, and those that it leaves for others.
-use Rattle.std.specs.Prelude.{◌≡◌, ℕ, Bool, false, if◌then◌else◌, None}
+use Rattle.std.specs.Prelude.{◌≡◌, ◌↔◌, ℕ, Bool, true, false, if◌then◌else◌, List, Contains, None}
 use Rattle.std.specs.FinMap.{get}
 use Rattle.pac_value.specs.Expressions.{Values}
 use Rattle.pac_ops.specs.declared.transaction.Txn.{Txn}
@@ -21,6 +21,10 @@ FindsInputs parts block txn kept env = (x : ℕ) → get env x ≡ (if is_found 
 abbrev pub is_passed_on : PlanParts → ℕ → Txn → ℕ → Bool
 is_passed_on parts block (ACall call) x = is_output parts call.proc block x
 is_passed_on parts block (AdHoc records) x = false
+
+-- these are its outputs
+abbrev pub PassesOn : PlanParts → ℕ → Txn → List ℕ → Type 0
+PassesOn parts block txn vars = (x : ℕ) → Contains vars x ↔ (is_passed_on parts block txn x ≡ true)
 
 -- what is kept once the piece gave values: those of its outputs, and of all others what was kept
 abbrev pub LeavesValues : PlanParts → ℕ → Txn → Values → Values → Values → Type 0

@@ -187,6 +187,10 @@ pub record AreValuesKept (old : List LoadedBatch) (batch : ℕ) (change : List V
 abbrev pub keeps_now_at : ℕ → Values → List Values → List Values
 keeps_now_at i env kept = keeps_now kept i env
 
+-- each has the values that it had
+abbrev pub keeps_all : List Values → List Values
+keeps_all kept = kept
+
 -- none has values
 abbrev pub keeps_none : List Values → List Values
 keeps_none kept = []

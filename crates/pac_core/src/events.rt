@@ -1,26 +1,29 @@
 // What each event of a core does, over its parts.
-ghost use Rattle.std.specs.Prelude.{◌≡◌, IfNone, IfOk, IfSome, OnErr, OnOk};
+ghost use Rattle.std.specs.Prelude.{◌≡◌, ◌<◌, IfErr, IfNone, IfOk, IfSome, OnErr, OnOk};
 ghost use Rattle.pac_plan.specs.declared.access.Access.TheVariants.{Whole};
-ghost use Rattle.pac_tables.specs.Written.{AreWithin};
+ghost use Rattle.pac_tables.specs.Written.{AreWithin, written};
 ghost use Rattle.pac_sched.specs.declared.state.PieceState.TheVariants.{Out, Waiting};
 ghost use Rattle.pac_commute.specs.Machine.{IsReadyAt};
 ghost use Rattle.pac_core.specs.Calls.{IsGivenBack, IsGivenWork, IsHandedIn, IsOwn, IsTakenPiece, MovesOut};
 ghost use Rattle.pac_core.specs.Links.{IsCore, IsKeptProgress, core_of, job_of};
-ghost use Rattle.pac_core.specs.Moves.{IsNextAt, IsReadyAtOffset};
+ghost use Rattle.pac_core.specs.Moves.{AreValuesKept, HasValuesAt, IsNextAt, IsReadyAtOffset, keeps_all};
 ghost use Rattle.pac_core.specs.Places.{HasPlace, IsPieceAt};
 ghost use Rattle.pac_core.specs.Replay.{machine_of, with_finished};
-ghost use Rattle.pac_core.specs.Results.{IsKeptAfter, IsResult};
+ghost use Rattle.pac_core.specs.Results.{FitsAt, HasKept, HasLeft, HasTxnAt, IsResult, KeepsLeft};
 ghost use Rattle.pac_core.specs.Takes.{access_now};
 
 use crate::answers::{Finish, Take};
 use crate::cells::PieceCells;
+use crate::loaded::LoadedBatch;
+use crate::moves::keep_given;
 use crate::place::Place;
+use crate::plan_pieces::PlanPieces;
 use crate::progress::Progress;
 use crate::work::{is_work_of, work_of};
 use pac_base::NoMemory;
 use pac_ops::PieceId;
 use pac_piece::{Done, PieceOutcome, Work, is_value, run_on};
-use pac_tables::Rows;
+use pac_tables::{Rows, Writes};
 use pac_undo::UndoRows;
 use pac_value::Env;
 
@@ -119,16 +122,11 @@ fn run_here<R: Rows>(
     ensures err { OnErr result (core_of progress.new rows.new ≡ core_of progress.old rows.old) }
 {
     let outcome = outcome_of(progress, rows, place, piece)?;
-    let kept = kept_after(progress, place, piece, &outcome.outs)?;
-    let PieceOutcome {
-        writes,
-        outs: _,
-        note,
-    } = outcome;
-    match rows.apply(writes) {
+    let PieceOutcome { writes, outs, note } = outcome;
+    match leave(progress, rows, place, piece, &outs, writes) {
         Ok(()) => {
             progress.hand_out(place.at);
-            progress.finish(place, piece, kept, note);
+            progress.finish(place, piece, note);
             Ok(())
         }
         Err((_, refused)) => Err(refused),
@@ -156,22 +154,65 @@ fn outcome_of<R: Rows>(
     run_on(alloc, piece, code.get(), &env, rows.rows())
 }
 
-// What is kept of a piece's transaction once the piece gave values.
-fn kept_after(
-    progress: &Progress,
+// What a piece leaves: its writes are made in rows, and the values that it gave for others are kept of its transaction. On an
+// error nothing is changed.
+fn leave<R: Rows>(
+    progress: &mut Progress,
+    rows: &mut UndoRows<R>,
     place: Place,
     piece: PieceId,
     outs: &Env,
-) -> Result<Env, NoMemory>
-    requires kept { IsKeptProgress progress.now }
-    requires place { HasPlace progress.now piece place }
-    ensures { IfOk result (IsKeptAfter progress.now place piece outs.now) }
+    writes: Writes,
+) -> Result<(), (Writes, NoMemory)>
+    requires kept { IsKeptProgress progress.old }
+    requires place { HasPlace progress.old piece place }
+    requires within { AreWithin rows.old.tables writes }
+    ensures left { OnOk result (HasLeft progress.old place piece outs.now progress.new) }
+    ensures made { OnOk result (rows.new ≡ record rows.old { current = written rows.old.current writes }) }
+    ensures kept { OnErr result (HasKept progress.old place progress.new) }
+    ensures same { OnErr result (rows.new ≡ rows.old) }
+    ensures writes { IfErr result (λ refused. refused.0 ≡ writes) }
 {
-    let txn = progress.txn_at(place, piece);
-    let kept = progress.values_at(place, piece);
-    progress
-        .pieces
-        .left(progress.alloc, txn, piece.block, kept, outs)
+    keep_left(
+        &mut progress.batches,
+        &progress.pieces,
+        place,
+        piece.block,
+        outs,
+        rows,
+        writes,
+    )
+}
+
+// The same, of the piece that the transaction at a place has in a block.
+fn keep_left<R: Rows>(
+    batches: &mut Vec<LoadedBatch>,
+    pieces: &PlanPieces,
+    place: Place,
+    block: u16,
+    outs: &Env,
+    rows: &mut UndoRows<R>,
+    writes: Writes,
+) -> Result<(), (Writes, NoMemory)>
+    requires fits { FitsAt pieces.now batches.old.items place }
+    requires block { block < pieces.now.blocks }
+    requires inside { HasTxnAt batches.old.items place }
+    requires there { HasValuesAt batches.old.items place.batch place.index }
+    requires within { AreWithin rows.old.tables writes }
+    ensures left { OnOk result (KeepsLeft pieces.now block batches.old.items place outs.now batches.new.items) }
+    ensures made { OnOk result (rows.new ≡ record rows.old { current = written rows.old.current writes }) }
+    ensures kept { OnErr result (AreValuesKept batches.old.items place.batch keeps_all batches.new.items) }
+    ensures same { OnErr result (rows.new ≡ rows.old) }
+    ensures writes { IfErr result (λ refused. refused.0 ≡ writes) }
+{
+    let txn = &batches[place.batch].batch.txns.items()[place.index];
+    match pieces.interface_of(txn, block) {
+        Some(interface) => {
+            let vars = interface.outputs.as_slice();
+            keep_given(batches, place, vars, outs, rows, writes)
+        }
+        None => keep_given(batches, place, &[], outs, rows, writes),
+    }
 }
 
 // Where the piece of work belongs, if it is out and the work is its own. Takes no memory.
@@ -219,14 +260,11 @@ pub(crate) fn hand_in<R: Rows>(
         return Finish::Foreign(done);
     };
     let piece = done.work().piece;
-    let Ok(kept) = kept_after(progress, place, piece, done.outs()) else {
-        return Finish::NoMemory(done);
-    };
     is_value(&done);
     let (work, writes, outs, note) = done.into_parts();
-    match rows.apply(writes) {
+    match leave(progress, rows, place, piece, &outs, writes) {
         Ok(()) => {
-            progress.finish(place, piece, kept, note);
+            progress.finish(place, piece, note);
             Finish::Kept
         }
         Err((writes, NoMemory)) => { Finish::NoMemory(Done::of_parts(work, writes, outs, note)) }

@@ -34,6 +34,7 @@ mod answers;
 mod cells;
 mod events;
 mod job;
+mod kept_values;
 mod loaded;
 mod loading;
 mod moves;

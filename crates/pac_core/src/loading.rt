@@ -11,22 +11,22 @@ ghost use Rattle.pac_batch.specs.Sets.{sets_of};
 ghost use Rattle.pac_core.specs.Links.{IsKeptProgress};
 ghost use Rattle.pac_core.specs.Moves.{AreAdded, IsAlike, IsLoadedTo, IsWaitingSet, MayLoadBatch};
 
+use crate::kept_values::KeptValues;
 use crate::loaded::LoadedBatch;
 use crate::progress::Progress;
 use crate::stage::SetStage;
 use pac_base::{Exact, NoMemory};
 use pac_batch::{PieceSet, sets};
-use pac_keys::arguments;
 use pac_ops::{Batch, Txn};
 use pac_sets::{Kept, SetId};
-use pac_value::Env;
+use pac_value::Value;
 use std::alloc::Global;
 
 /// What a batch adds: its sets, the values that its transactions begin with, and how many pieces it has.
 #[derive(Drop)]
 struct Added {
     sets: Vec<Kept<SetStage>>,
-    kept: Vec<Env>,
+    kept: Vec<KeptValues>,
     pieces: u64,
 }
 
@@ -115,12 +115,34 @@ fn waiting(alloc: Global, batch: u64, sets: &[PieceSet]) -> Result<Vec<Kept<SetS
 }
 
 // The values that transactions begin with.
-fn begun(alloc: Global, txns: &[Txn]) -> Result<Vec<Env>, NoMemory>
+fn begun(alloc: Global, txns: &[Txn]) -> Result<Vec<KeptValues>, NoMemory>
     ensures { IfOk result (λ kept. map (λ (txn : ATxn). with_values 0 (txn_args (ASome txn)) empty) txns.now ≡ kept.items) }
 {
     let mut kept = Vec::with_capacity(alloc, txns.len())?;
     for txn in txns {
-        kept.push(arguments(alloc, txn)?)?;
+        kept.push(first_values(alloc, txn)?)?;
+    }
+    Ok(kept)
+}
+
+// The values that a transaction begins with: the arguments of a call, by the numbers of the parameters.
+fn first_values(alloc: Global, txn: &Txn) -> Result<KeptValues, NoMemory>
+    ensures { IfOk result (λ kept. kept ≡ with_values 0 (txn_args (ASome txn.now)) empty) }
+{
+    match txn {
+        Txn::Call(call) => kept_numbered(alloc, call.args.items()),
+        Txn::AdHoc { .. } => Ok(KeptValues::new(alloc)),
+    }
+}
+
+// Values of the variables from number 0 on.
+fn kept_numbered(alloc: Global, values: &[Value]) -> Result<KeptValues, NoMemory>
+    requires { length values.now < 2 ^ 16 }
+    ensures { IfOk result (λ kept. kept ≡ with_values 0 values.now empty) }
+{
+    let mut kept = KeptValues::new(alloc);
+    for i in 0..values.len() {
+        kept.keep(i as u16, values[i])?;
     }
     Ok(kept)
 }

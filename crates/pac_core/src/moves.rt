@@ -1,21 +1,27 @@
 // How pieces move: out, back, and finished.
-ghost use Rattle.std.specs.Prelude.{◌≡◌, ◌↔◌, ◌<◌, IsTrue, T, length};
+ghost use Rattle.std.specs.Prelude.{◌≡◌, ◌↔◌, ◌<◌, IfErr, IsTrue, OnErr, OnOk, T, length};
 ghost use Rattle.std.specs.FinMap.{is_sorted};
 ghost use Rattle.pac_ops.specs.Notes.{least};
 ghost use Rattle.pac_sched.specs.declared.state.PieceState.TheVariants.{Finished, Waiting as StillWaiting};
 ghost use Rattle.pac_sched.specs.Schedules.{after_take, with_state};
 ghost use Rattle.pac_sets.specs.SetOrder.{set_cmp};
 ghost use Rattle.pac_sets.specs.Sets.{IsOpenSet};
+ghost use Rattle.pac_tables.specs.Written.{AreWithin, written};
+ghost use Rattle.pac_value.specs.Expressions.{Values};
 ghost use Rattle.pac_core.specs.Links.{IsUnfinishedBatch};
-ghost use Rattle.pac_core.specs.Moves.{AreInBlocks, AreValuesKept, HasValuesAt, IsFinishedAt, IsLifted, IsMovedTo, IsOrderAfter, IsPieceOut, IsSetEnded, IsSetUnfinished, MayFinish, StandsOpen, WasOpen, keeps_none, keeps_now_at};
+ghost use Rattle.pac_core.specs.Moves.{AreInBlocks, AreValuesKept, HasValuesAt, IsFinishedAt, IsLifted, IsMovedTo, IsOrderAfter, IsPieceOut, IsSetEnded, IsSetUnfinished, MayFinish, StandsOpen, WasOpen, keeps_all, keeps_none};
+ghost use Rattle.pac_core.specs.Places.{AreValuesAt};
+ghost use Rattle.pac_core.specs.Results.{HasGiven};
 
 use crate::loaded::LoadedBatch;
 use crate::place::Place;
 use crate::progress::Progress;
 use crate::stage::{OpenSet, SetStage};
-use pac_base::listed;
+use pac_base::{NoMemory, listed};
 use pac_ops::{Note, PieceId};
 use pac_sets::SetId;
+use pac_tables::{Rows, Writes};
+use pac_undo::UndoRows;
 use pac_value::Env;
 use std::alloc::Global;
 
@@ -44,11 +50,10 @@ impl Progress {
         self.sets.keep(at, SetStage::Open(open));
     }
 
-    /// A piece that is out of an open set is finished, with values that are kept of its transaction, and a note. Takes no
-    /// memory.
-    pub fn finish(&mut self, place: Place, piece: PieceId, kept: Env, note: Option<Note>)
+    /// A piece that is out of an open set is finished with a note, where what it left is kept. Takes no memory.
+    pub fn finish(&mut self, place: Place, piece: PieceId, note: Option<Note>)
         requires { MayFinish self.old place piece }
-        ensures finished { IsFinishedAt self.old place piece kept note self.new }
+        ensures finished { (kept : Values) → AreValuesAt self.old place kept → IsFinishedAt self.old place piece kept note self.new }
         ensures order { IsOrderAfter (λ sched. with_state sched piece Finished) self.old place.at }
     {
         let mut open = self.lift(place.at);
@@ -56,7 +61,6 @@ impl Progress {
         open.sched.keeps_order();
         let is_done = open.sched.unfinished() == 0;
         self.sets.keep(place.at, SetStage::Open(open));
-        keep_values(&mut self.batches, place.batch, place.index, kept);
         self.note = lesser(self.note, note);
         self.unfinished -= 1;
         if is_done {
@@ -120,12 +124,29 @@ impl Progress {
     }
 }
 
-// Other values are kept of a transaction.
-fn keep_values(batches: &mut Vec<LoadedBatch>, batch: usize, index: usize, kept: Env)
-    requires { HasValuesAt batches.old.items batch index }
-    ensures { AreValuesKept batches.old.items batch (keeps_now_at index kept) batches.new.items }
+/// What a piece leaves: its writes are made in rows, and of these variables the values that it gave are kept of its
+/// transaction.
+///
+/// # Errors
+///
+/// [`NoMemory`] with the writes, where they or the values find no room. Then nothing is changed.
+pub(crate) fn keep_given<R: Rows>(
+    batches: &mut Vec<LoadedBatch>,
+    place: Place,
+    vars: &[u16],
+    given: &Env,
+    rows: &mut UndoRows<R>,
+    writes: Writes,
+) -> Result<(), (Writes, NoMemory)>
+    requires there { HasValuesAt batches.old.items place.batch place.index }
+    requires within { AreWithin rows.old.tables writes }
+    ensures gives { OnOk result (HasGiven batches.old.items place.batch place.index vars.now given.now batches.new.items) }
+    ensures made { OnOk result (rows.new ≡ record rows.old { current = written rows.old.current writes }) }
+    ensures kept { OnErr result (AreValuesKept batches.old.items place.batch keeps_all batches.new.items) }
+    ensures same { OnErr result (rows.new ≡ rows.old) }
+    ensures writes { IfErr result (λ refused. refused.0 ≡ writes) }
 {
-    batches[batch].kept[index] = kept;
+    batches[place.batch].kept[place.index].leave(vars, given, rows, writes)
 }
 
 // No values are kept of a batch's transactions.

@@ -8,13 +8,13 @@ ghost use Rattle.pac_core.specs.Moves.{IsReadyAtOffset, StandsOpen};
 ghost use Rattle.pac_core.specs.Places.{AreCellsAt, AreValuesAt, HasPlace, IsNotOutOf, IsOpenAt, IsPieceIn, IsPieceAt, IsTxnAt, IsTxnIn, IsTxnNowhere, LoadedRunOn};
 
 use crate::cells::PieceCells;
+use crate::kept_values::KeptValues;
 use crate::loaded::LoadedBatch;
 use crate::progress::Progress;
 use crate::stage::{OpenSet, SetStage};
 use pac_ops::{PieceId, Txn};
 use pac_sched::PieceState;
 use pac_sets::SetId;
-use pac_value::Env;
 
 /// Where a piece of an open set belongs: the offset of the set and the position of the piece there, the offset of its batch
 /// and the index of its transaction there.
@@ -126,7 +126,7 @@ impl Progress {
     }
 
     /// The values that are kept of it.
-    pub fn values_at(&self, place: Place, piece: PieceId) -> &Env
+    pub fn values_at(&self, place: Place, piece: PieceId) -> &KeptValues
         requires kept { IsKeptProgress self.now }
         requires place { HasPlace self.now piece place }
         ensures { AreValuesAt self.now place result.now }

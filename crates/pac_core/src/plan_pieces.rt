@@ -1,13 +1,14 @@
 // What a plan knows of pieces.
-ghost use Rattle.std.specs.Prelude.{◌≡◌, ◌↔◌, ◌<◌, IfOk, IsTrue, length};
+ghost use Rattle.std.specs.Prelude.{◌≡◌, ◌↔◌, ◌<◌, IfNone, IfOk, IfSome, IsTrue, [], length};
 ghost use Rattle.pac_plan.specs.Codes.{TxnFitsPlan, code_in};
 ghost use Rattle.pac_interface.specs.Interfaces.{IsInterfaceOf};
 ghost use Rattle.pac_ops.specs.Shapes.{RecordsFit};
 ghost use Rattle.pac_plan.specs.PieceFits.{records_in};
 ghost use Rattle.pac_value.specs.Restricted.{HasOnly};
-ghost use Rattle.pac_core.specs.Inputs.{FindsInputs, LeavesValues};
+ghost use Rattle.pac_core.specs.Inputs.{FindsInputs, PassesOn};
 
-use crate::values::{values_of, with_outputs};
+use crate::kept_values::KeptValues;
+use crate::values::{are_values, values_of};
 use pac_base::{Exact, Listed, NoMemory, Same};
 use pac_interface::{Interface, interfaces};
 use pac_keys::PlanCode;
@@ -73,7 +74,13 @@ impl PlanPieces {
     /// # Errors
     ///
     /// [`NoMemory`] where the values find no room.
-    pub fn found(&self, alloc: Global, txn: &Txn, block: u16, kept: &Env) -> Result<Env, NoMemory>
+    pub fn found(
+        &self,
+        alloc: Global,
+        txn: &Txn,
+        block: u16,
+        kept: &KeptValues,
+    ) -> Result<Env, NoMemory>
         requires fits { TxnFitsPlan self.now txn.now }
         requires block { block < self.now.blocks }
         ensures { IfOk result (FindsInputs self.now block txn.now kept.now) }
@@ -91,7 +98,7 @@ impl PlanPieces {
     }
 
     /// Whether these values are what the piece finds. Takes no memory.
-    pub fn finds(&self, txn: &Txn, block: u16, kept: &Env, env: &Env) -> bool
+    pub fn finds(&self, txn: &Txn, block: u16, kept: &KeptValues, env: &Env) -> bool
         requires fits { TxnFitsPlan self.now txn.now }
         requires block { block < self.now.blocks }
         ensures { IsTrue result ↔ FindsInputs self.now block txn.now kept.now env.now }
@@ -99,38 +106,25 @@ impl PlanPieces {
         match txn {
             Txn::Call(call) => {
                 let interface = self.interface(call.proc, block);
-                env.has_only(interface.inputs.as_slice(), kept)
+                are_values(interface.inputs.as_slice(), kept, env)
             }
             Txn::AdHoc { .. } => {
                 is_plan(self.code.plan());
-                env.has_only(&[], kept)
+                are_values(&[], kept, env)
             }
         }
     }
 
-    /// What is kept of a transaction once its piece in a block gave values.
-    ///
-    /// # Errors
-    ///
-    /// [`NoMemory`] where the values find no room.
-    pub fn left(
-        &self,
-        alloc: Global,
-        txn: &Txn,
-        block: u16,
-        kept: &Env,
-        outs: &Env,
-    ) -> Result<Env, NoMemory>
+    /// The values that pass between a transaction's piece in a block and others. `None`: others need none of it.
+    pub fn interface_of(&self, txn: &Txn, block: u16) -> Option<&Interface>
         requires fits { TxnFitsPlan self.now txn.now }
         requires block { block < self.now.blocks }
-        ensures { IfOk result (LeavesValues self.now block txn.now outs.now kept.now) }
+        ensures some { IfSome result (λ interface. PassesOn self.now block txn.now interface.now.outputs) }
+        ensures none { IfNone result (PassesOn self.now block txn.now []) }
     {
         match txn {
-            Txn::Call(call) => {
-                let interface = self.interface(call.proc, block);
-                with_outputs(alloc, kept, interface.outputs.as_slice(), outs)
-            }
-            Txn::AdHoc { .. } => kept.copy(alloc),
+            Txn::Call(call) => Some(self.interface(call.proc, block)),
+            Txn::AdHoc { .. } => None,
         }
     }
 

@@ -1,14 +1,15 @@
-// Values that pass between the pieces of a transaction.
-ghost use Rattle.std.specs.Prelude.{IfOk};
+// Values that pieces find.
+ghost use Rattle.std.specs.Prelude.{◌≡◌, ◌↔◌, IfOk, IsTrue};
+ghost use Rattle.std.specs.Option.{option_map};
 ghost use Rattle.pac_value.specs.Restricted.{HasOnly};
-ghost use Rattle.pac_core.specs.Values.{GivesTo};
 
-use pac_base::{Exact, NoMemory};
-use pac_value::Env;
+use crate::kept_values::KeptValues;
+use pac_base::NoMemory;
+use pac_value::{Env, Value};
 use std::alloc::Global;
 
 /// The values of variables, of those that have one.
-pub(crate) fn values_of(alloc: Global, vars: &[u16], kept: &Env) -> Result<Env, NoMemory>
+pub(crate) fn values_of(alloc: Global, vars: &[u16], kept: &KeptValues) -> Result<Env, NoMemory>
     ensures { IfOk result (HasOnly vars.now kept.now) }
 {
     let mut env = Env::new(alloc);
@@ -20,20 +21,25 @@ pub(crate) fn values_of(alloc: Global, vars: &[u16], kept: &Env) -> Result<Env, 
     Ok(env)
 }
 
-/// What is kept once variables were given values: those of the outputs are kept too.
-pub(crate) fn with_outputs(
-    alloc: Global,
-    kept: &Env,
-    outputs: &[u16],
-    outs: &Env,
-) -> Result<Env, NoMemory>
-    ensures { IfOk result (GivesTo outputs.now outs.now kept.now) }
+/// Whether an environment has the values that are kept of these variables, and no others.
+pub(crate) fn are_values(vars: &[u16], kept: &KeptValues, env: &Env) -> bool
+    ensures { IsTrue result ↔ HasOnly vars.now kept.now env.now }
 {
-    let mut env = kept.copy(alloc)?;
-    for var in outputs {
-        if let Some(value) = outs.get(*var) {
-            env.set(*var, value)?;
+    for var in vars {
+        if !is_same(env.get(*var), kept.value_of(*var)) {
+            return false;
         }
     }
-    Ok(env)
+    env.has_only(vars, env)
+}
+
+// Whether the two are the same value, or both none.
+fn is_same(one: Option<Value>, other: Option<&Value>) -> bool
+    ensures { IsTrue result ↔ (one ≡ option_map (λ value. value.now) other.entry) }
+{
+    match (one, other) {
+        (Some(one), Some(other)) => one == *other,
+        (None, None) => true,
+        _ => false,
+    }
 }

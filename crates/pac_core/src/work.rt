@@ -5,12 +5,13 @@ ghost use Rattle.pac_plan.specs.Codes.{TxnFitsPlan};
 ghost use Rattle.pac_core.specs.Takes.{IsWorkOver};
 
 use crate::cells::{are_copies, copies};
+use crate::kept_values::KeptValues;
 use crate::plan_pieces::PlanPieces;
 use pac_base::{NoMemory, listed};
 use pac_ops::{PieceId, Txn};
 use pac_piece::Work;
 use pac_tables::Rows;
-use pac_value::{Env, Key};
+use pac_value::Key;
 use std::alloc::Global;
 
 /// The work of a piece.
@@ -23,7 +24,7 @@ pub(crate) fn work_of<R: Rows>(
     plan: &PlanPieces,
     piece: PieceId,
     txn: &Txn,
-    kept: &Env,
+    kept: &KeptValues,
     cells: &[(u16, Key)],
     rows: &R,
 ) -> Result<Work, NoMemory>
@@ -49,7 +50,7 @@ pub(crate) fn is_work_of<R: Rows>(
     plan: &PlanPieces,
     piece: PieceId,
     txn: &Txn,
-    kept: &Env,
+    kept: &KeptValues,
     cells: &[(u16, Key)],
     rows: &R,
     work: &Work,

@@ -24,8 +24,8 @@ loop-txn-preserved c =
     record {
       all =
           ap (λ l. l ++ rest) c.in_ok-push.ensures.items
-          ∙ append_assoc kept (c.in_ok-arguments.field-0 ∷ []) rest
-          ∙ ap (λ v. kept ++ (v ∷ rest)) (c.in_ok-arguments.ensures ∙ ap begins c.txn-item.is)
+          ∙ append_assoc kept (c.in_ok-first_values.field-0 ∷ []) rest
+          ∙ ap (λ v. kept ++ (v ∷ rest)) (c.in_ok-first_values.ensures ∙ ap begins c.txn-item.is)
           ∙ ap (λ l. kept ++ map begins l) (sym (drop_more txns i x c.loop-txn-test.true))
           ∙ c.loop-txn.invariant.all;
     }

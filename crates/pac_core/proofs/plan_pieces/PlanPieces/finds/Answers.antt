@@ -11,9 +11,9 @@ use Rattle.pac_core.proofs.Finding.{finds_of, has_of, records_find}
 use Rattle.pac_core.proofs.plan_pieces.PlanPieces.finds.Goals as goal
 
 pub returns-in-Call : goal.returns-in-Call
-returns-in-Call c = subst (λ (txn : Txn). IsTrue c.has_only.result ↔ FindsInputs c.args.self.now c.args.block txn c.args.kept.now c.args.env.now) (sym c.in-Call.is) (
-  (λ t. finds_of c.args.self.now c.args.block txn c.as_slice.result.now c.args.kept.now c.args.env.now are (c.has_only.ensures.0 t)),
-  (λ f. c.has_only.ensures.1 (has_of c.args.self.now c.args.block txn c.as_slice.result.now c.args.kept.now c.args.env.now are f)),
+returns-in-Call c = subst (λ (txn : Txn). IsTrue c.are_values.result ↔ FindsInputs c.args.self.now c.args.block txn c.args.kept.now c.args.env.now) (sym c.in-Call.is) (
+  (λ t. finds_of c.args.self.now c.args.block txn c.as_slice.result.now c.args.kept.now c.args.env.now are (c.are_values.ensures.0 t)),
+  (λ f. c.are_values.ensures.1 (has_of c.args.self.now c.args.block txn c.as_slice.result.now c.args.kept.now c.args.env.now are f)),
 )
   where
     txn : Txn
@@ -29,7 +29,7 @@ pub returns-in-AdHoc : goal.returns-in-AdHoc
 returns-in-AdHoc c =
     let is : IsPlan c.args.self.now = subst IsPlan (c.plan.ensures ∙ c.self.view_is) c.is_plan.ensures in
     let are = none_are c.args.self.now is c.args.block c.in-AdHoc.records in
-    subst (λ (txn : Txn). IsTrue c.has_only-in-AdHoc.result ↔ FindsInputs c.args.self.now c.args.block txn c.args.kept.now c.args.env.now) (sym c.in-AdHoc.is) (
-      (λ t. finds_of c.args.self.now c.args.block (AdHoc c.in-AdHoc.records) [] c.args.kept.now c.args.env.now are (c.has_only-in-AdHoc.ensures.0 t)),
-      (λ f. c.has_only-in-AdHoc.ensures.1 (has_of c.args.self.now c.args.block (AdHoc c.in-AdHoc.records) [] c.args.kept.now c.args.env.now are f)),
+    subst (λ (txn : Txn). IsTrue c.are_values-in-AdHoc.result ↔ FindsInputs c.args.self.now c.args.block txn c.args.kept.now c.args.env.now) (sym c.in-AdHoc.is) (
+      (λ t. finds_of c.args.self.now c.args.block (AdHoc c.in-AdHoc.records) [] c.args.kept.now c.args.env.now are (c.are_values-in-AdHoc.ensures.0 t)),
+      (λ f. c.are_values-in-AdHoc.ensures.1 (has_of c.args.self.now c.args.block (AdHoc c.in-AdHoc.records) [] c.args.kept.now c.args.env.now are f)),
     )

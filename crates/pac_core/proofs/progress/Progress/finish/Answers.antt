@@ -1,8 +1,7 @@
 -- The set is lifted, its piece is finished, and it is kept again or ends.
-use Rattle.std.proofs.Common.{◌≡◌, ℕ, ◌<◌, ◌==◌, true, false, [], map, length, Option, Some, refl, sym, ap, subst, ◌∙◌, arith}
+use Rattle.std.proofs.Common.{◌≡◌, ℕ, ◌<◌, ◌==◌, true, false, [], length, Option, Some, refl, sym, ap, subst, ◌∙◌, arith}
 use Rattle.std.specs.Prelude.{slice_get, T}
 use Rattle.std.specs.FinMap.{is_sorted}
-use Rattle.std.proofs.lemmas.List.{length-map}
 use Rattle.std.proofs.lemmas.Option.{slice_get_within}
 use Rattle.pac_base.proofs.TestLemmas.{equal_number, same_number, unlike}
 use Rattle.pac_sched.specs.declared.state.PieceState.TheVariants as state
@@ -10,7 +9,6 @@ use Rattle.pac_sched.specs.Schedules.{IsInOrder, Schedule, all_finished, unfinis
 use Rattle.pac_sets.specs.SetOrder.{set_cmp}
 use Rattle.pac_sets.specs.Sets.{IsOpenSet, Kept, Setting, with_kept_at}
 use Rattle.pac_sets.proofs.KeptLemmas.{sorted_stays}
-use Rattle.pac_core.specs.declared.loaded.LoadedBatch.{LoadedBatch}
 use Rattle.pac_core.specs.declared.progress.Progress.{Progress}
 use Rattle.pac_core.specs.declared.stage.OpenSet.{OpenSet}
 use Rattle.pac_core.specs.declared.stage.SetStage.{SetStage}
@@ -19,6 +17,7 @@ use Rattle.pac_core.proofs.EndedSet.{blocks_still, open_still}
 use Rattle.pac_core.proofs.FinishedPiece.{after_some, ended_sets, finished_in, finished_test, finished_to}
 use Rattle.pac_core.proofs.KeptAt.{get_changed}
 use Rattle.pac_core.proofs.Moved.{open_is, sets_kept}
+use Rattle.pac_core.proofs.ValuesKept.{values_stay}
 use Rattle.pac_core.proofs.progress.Progress.finish.Goals as goal
 
 pub keep-requires : goal.keep-requires
@@ -27,13 +26,6 @@ keep-requires c = (
   Waiting [],
   ap (λ (p : Progress). slice_get p.sets.sets c.args.place.at) c.lift-open.ensures.now
       ∙ get_changed c.args.self.now.sets.sets c.args.place.at (c.requires.placed.stands.set, Some (Open c.requires.placed.stands.opening)) (Some (Waiting [])) c.requires.placed.stands.there,
-)
-
-pub keep_values-requires : goal.keep_values-requires
-keep_values-requires c = (
-  c.requires.placed.txn.loaded,
-  ap (λ (p : Progress). slice_get p.batches.items c.args.place.batch) c.lift-open.ensures.now ∙ c.requires.placed.txn.there,
-  c.requires.room,
 )
 
 -- ---- the set after its piece is finished
@@ -78,15 +70,12 @@ end_set-requires-clause-batch c =
     let p = c.args.self.now in
     let lt : c.args.place.batch < length p.batches.items = slice_get_within p.batches.items c.args.place.batch c.requires.placed.txn.loaded c.requires.placed.txn.there in
     let lifted : length c.lift-open.new.self.batches.items ≡ length p.batches.items = ap (λ (q : Progress). length q.batches.items) c.lift-open.ensures.now in
-    let more : length (map (λ (l : LoadedBatch). l.batch) c.keep_values.new.batches.items) ≡ length (map (λ (l : LoadedBatch). l.batch) c.lift-open.new.self.batches.items) = ap length c.keep_values.ensures.batches in
-    let a : length (map (λ (l : LoadedBatch). l.batch) c.keep_values.new.batches.items) ≡ length c.keep_values.new.batches.items = length-map c.keep_values.new.batches.items (λ (l : LoadedBatch). l.batch) in
-    let b : length (map (λ (l : LoadedBatch). l.batch) c.lift-open.new.self.batches.items) ≡ length c.lift-open.new.self.batches.items = length-map c.lift-open.new.self.batches.items (λ (l : LoadedBatch). l.batch) in
-    omega (arith, lt, lifted, more, a, b)
+    omega (arith, lt, lifted)
 
 -- ---- the end
 
 pub returns-then-is_done-clause-finished : goal.returns-then-is_done-clause-finished
-returns-then-is_done-clause-finished c = λ set opening there own.
+returns-then-is_done-clause-finished c = λ kept_now stands set opening there own.
     let p = c.args.self.now in
     let lifted = c.lift-open.new.self in
     let now = finished_in opening c.args.piece in
@@ -99,7 +88,8 @@ returns-then-is_done-clause-finished c = λ set opening there own.
     let counted : c.args.self.now.unfinished ≡ lifted.unfinished = ap (λ (q : Progress). q.unfinished) (sym c.lift-open.ensures.now) in
     let some = c.requires.counted in
     let same = c.end_set.ensures.unfinished in
-    finished_to p c.args.place c.args.piece c.args.kept c.args.note lifted c.lift-open.ensures.now c.keep_values.new.batches.items c.keep_values.ensures set opening own c.end_set.new.self
+    finished_to p c.args.place c.args.piece kept_now c.args.note lifted c.lift-open.ensures.now lifted.batches.items
+    (values_stay lifted.batches.items c.args.place.batch c.args.place.index kept_now stands.0 (ap (λ (q : Progress). slice_get q.batches.items c.args.place.batch) c.lift-open.ensures.now ∙ stands.1) stands.2) set opening own c.end_set.new.self
     c.end_set.ensures.pieces
     (ended_sets p c.args.place.at now all c.keep.new.self c.end_set.new.self.sets kept c.end_set.ensures.sets)
     (c.end_set.ensures.note_is ∙ c.lesser-self.ensures)
@@ -111,7 +101,7 @@ returns-then-is_done-clause-finished c = λ set opening there own.
     c.end_set.ensures.values
 
 pub returns-else-is_done-clause-finished : goal.returns-else-is_done-clause-finished
-returns-else-is_done-clause-finished c = λ set opening there own.
+returns-else-is_done-clause-finished c = λ kept_now stands set opening there own.
     let p = c.args.self.now in
     let lifted = c.lift-open.new.self in
     let now = finished_in opening c.args.piece in
@@ -123,7 +113,8 @@ returns-else-is_done-clause-finished c = λ set opening there own.
     finished_test now.sched ∙ ap (λ (o : OpenSet). unfinished_pieces o.sched == 0) (sym done) ∙ ap (λ n. n == 0) (sym c.unfinished-is_done.ensures) ∙ unlike (c.unfinished-is_done.result == 0) (λ h. c.if-is_done.false (same_number c.unfinished-is_done.result 0 h)) in
     let counted : c.args.self.now.unfinished ≡ lifted.unfinished = ap (λ (q : Progress). q.unfinished) (sym c.lift-open.ensures.now) in
     let some = c.requires.counted in
-    finished_to p c.args.place c.args.piece c.args.kept c.args.note lifted c.lift-open.ensures.now c.keep_values.new.batches.items c.keep_values.ensures set opening own _
+    finished_to p c.args.place c.args.piece kept_now c.args.note lifted c.lift-open.ensures.now lifted.batches.items
+    (values_stay lifted.batches.items c.args.place.batch c.args.place.index kept_now stands.0 (ap (λ (q : Progress). slice_get q.batches.items c.args.place.batch) c.lift-open.ensures.now ∙ stands.1) stands.2) set opening own _
     refl
     (kept ∙ ap (λ (o : Option SetStage). record p.sets { sets = with_kept_at p.sets.sets c.args.place.at o }) (after_some now some_left))
     c.lesser-self.ensures
