@@ -1,16 +1,17 @@
 -- What an entry that is set or added makes of sorted entries, and where a search among them ends.
-use Rattle.std.proofs.Common.{◌≡◌, ℕ, T, List, [], length, get_or, set, Some, None, Result, Ok, Err, IfOk, IfErr, sym, ap, subst, ◌∙◌, arith}
+use Rattle.std.proofs.Common.{◌≡◌, ℕ, T, List, [], ◌-◌, ◌<◌, inl, inr, length, get_or, set, Some, None, Result, Ok, Err, IfOk, IfErr, sym, ap, subst, ◌∙◌, arith}
 use Rattle.std.specs.List.{insert}
 use Rattle.std.specs.List.Sorted.{IsSearchInRange, IsBinarySearchResult}
 use Rattle.std.specs.Bool.{Decides}
 use Rattle.std.specs.declared.cmp.Ordering.{Ordering}
-use Rattle.std.specs.declared.cmp.Ordering.TheVariants.{Equal}
+use Rattle.std.specs.declared.cmp.Ordering.TheVariants.{Less, Equal}
 use Rattle.std.specs.Cmp.{IsTotalOrder, tied_itself}
 use Rattle.std.specs.FinMap.{IsAntisymmetric, get, put, is_sorted, entries, from_sorted, get-from_sorted, entries-from_sorted, same_map}
 use Rattle.std.specs.FinMap as fin
+use Rattle.std.proofs.lemmas.Bool.{cases_lt}
 use Rattle.std.specs.FinMap.Entries.{is_sorted-put}
 use Rattle.pac_value.specs.Sorted.{IsOffsetOf, IsGapFor}
-use Rattle.pac_value.proofs.OffsetLemmas.{rises, put-found, put-gap, find-found, find-gap, from-put}
+use Rattle.pac_value.proofs.OffsetLemmas.{less_at, rises, put-found, put-gap, find-found, find-gap, from-put}
 
 module _ {K X : Type 0} {R : K → K → Ordering} (total : IsTotalOrder R) where
   -- a binary search ends at the key, or at the gap for it
@@ -20,6 +21,15 @@ module _ {K X : Type 0} {R : K → K → Ordering} (total : IsTotalOrder R) wher
   searched exact es sorted k (Err at) in_range parted =
       let ends = parted (rises total es k sorted) in
       (tt, record { within = in_range; lesser = λ j d lt. ends.0 j d (omega arith) lt; greater = ends.1 })
+
+  -- past the last entry of sorted ones is the gap for a key above it
+  pub above-gap : (es : List (K × X)) → T (is_sorted R es) → (k : K) → ((d : K × X) → R (get_or es (length es - 1) d).0 k ≡ Less) → IsGapFor R es k (length es)
+  above-gap es sorted k above = record { within = omega arith; lesser = before; greater = λ j d le lt. absurd (omega arith) } where
+    before : (j : ℕ) (d : K × X) → j < length es → R (get_or es j d).0 k ≡ Less
+    before j d lt = elim (cases_lt j (length es - 1)) [
+      | inl earlier ↦ total.trans (get_or es j d).0 (get_or es (length es - 1) d).0 k (less_at total es j (length es - 1) d sorted earlier (omega arith)) (above d)
+      | inr last ↦ let is : j ≡ length es - 1 = omega arith in subst (λ n. R (get_or es n d).0 k ≡ Less) (sym is) (above d)
+    ]
 
   module _ (es : List (K × X)) (sorted : T (is_sorted R es)) (k : K) (at : ℕ) where
     module _ (offset : IsOffsetOf es k at) (d : K × X) where

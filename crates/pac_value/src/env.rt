@@ -1,5 +1,5 @@
 // The values of variables.
-ghost use Rattle.std.specs.Prelude.{◌≡◌, ◌↔◌, T, IsTrue, IfOk, IfErr, OnOk, OnErr};
+ghost use Rattle.std.specs.Prelude.{◌≡◌, ◌↔◌, T, length, IsTrue, IfOk, IfErr, OnOk, OnErr};
 ghost use Rattle.std.specs.Option.{option_map};
 ghost use Rattle.std.specs.Ordering.{nat_cmp};
 ghost use Rattle.std.specs.FinMap as map;
@@ -40,6 +40,17 @@ impl Model for Env {
     ghost invariant = { λ env. T (is_sorted nat_cmp env.values.items) };
 }
 
+// Whether each variable that has a value has a lower number.
+fn is_above_all(values: &[(u16, Value)], var: u16) -> bool
+    requires { T (is_sorted nat_cmp values.now) }
+    ensures { IsTrue result → IsGapFor nat_cmp values.now var (length values.now) }
+{
+    match values.last() {
+        Some(last) => last.0 < var,
+        None => true,
+    }
+}
+
 // Where the value of a variable stands, or else where it would.
 fn search(values: &[(u16, Value)], var: u16) -> Result<usize, usize>
     requires { T (is_sorted nat_cmp values.now) }
@@ -49,6 +60,9 @@ fn search(values: &[(u16, Value)], var: u16) -> Result<usize, usize>
     let own = usize::from(var);
     if own < values.len() && values[own].0 == var {
         return Ok(own);
+    }
+    if is_above_all(values, var) {
+        return Err(values.len());
     }
     values.binary_search_by(|entry| entry.0.cmp(&var))
 }
