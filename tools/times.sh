@@ -1,10 +1,10 @@
 #!/bin/bash
 # Times the program and parts of it, for docs/COSTS.md.
 #
-#     tools/times.sh replay|input|parts|log|slots|runs|committed|rows|pieces|workers
+#     tools/times.sh replay|input|parts|log|slots|runs|committed|rows|pieces|workers|restarts
 #
-# `replay`, `input`, `runs` and `workers` time the program, which is $PACMAN or crates/pacman/out/pacman, and `committed` counts its
-# instructions. The others time pac_bench, which is $PAC_BENCH or crates/pac_bench/out/pac_bench, as
+# `replay`, `input`, `runs` and `workers` time the program, which is $PACMAN or crates/pacman/out/pacman, and `committed` and
+# `restarts` count its instructions. The others time pac_bench, which is $PAC_BENCH or crates/pac_bench/out/pac_bench, as
 # `(cd crates/pac_bench && rt run -- copy 1)` makes it. All files are made in a new folder of the current directory, which
 # is removed: its disk is what `log`, `slots` and `runs` time.
 set -eu
@@ -72,10 +72,36 @@ long_catalogue() {
     }'
 }
 
+# Logs in folders of their own, each as a script and as a store with groups of 64: the stress test, calls that meet on one key, calls
+# of a key each, and calls of a piece of 30, 100 and 200 lets that build on one another.
+logs() {
+    mkdir bank hot many long30 long100 long200
+    cp "$top/crates/pac_examples/data/bank.catalogue" bank/catalogue
+    bank_lines 100000 > bank/lines
+    head -2 "$add" | tee hot/catalogue > many/catalogue
+    calls 100000 1 > hot/lines
+    calls 100000 100000 > many/lines
+    for lets in 30 100 200; do
+        long_catalogue $lets > long$lets/catalogue
+        awk -v lines=$((4000000 / lets)) 'BEGIN { for (i = 0; i < lines; i++) print "call Long(" i ")" }' > long$lets/lines
+    done
+    for name in bank hot many long30 long100 long200; do
+        (
+            cd $name
+            (cat catalogue; echo ---; awk '{ print } NR % 64 == 0 { print "flush" }' lines) > script
+            "$pacman" init < catalogue
+            "$pacman" run --batch 64 < lines > replies
+        )
+    done
+}
+
 # Synced writes of $2 times $1 bytes.
 synced() {
     dd if=/dev/zero of=synced bs="$1" count="$2" oflag=dsync 2>&1 | tail -1
 }
+
+# A command by so many workers, with an input, whose output isn't looked at.
+run_with() { "$pacman" "$2" --workers "$1" < "$3" > /dev/null; }
 
 run_replay() { "$pacman" replay < "$1" > /dev/null; }
 
@@ -166,24 +192,23 @@ committed)
     echo "a committed call in groups of 64: $((($(cat count.6464) - $(cat count.64)) / 6400)) instructions"
     ;;
 workers)
-    # Four logs: how long workers take over them, as scripts and as stores, and what a restart by serial execution takes.
-    mkdir bank hot many long
-    cp "$top/crates/pac_examples/data/bank.catalogue" bank/catalogue
-    bank_lines 100000 > bank/lines
-    head -2 "$add" | tee hot/catalogue > many/catalogue
-    calls 100000 1 > hot/lines
-    calls 100000 100000 > many/lines
-    long_catalogue 200 > long/catalogue
-    awk 'BEGIN { for (i = 0; i < 20000; i++) print "call Long(" i ")" }' > long/lines
-    for name in bank hot many long; do
-        (cat $name/catalogue; echo ---; awk '{ print } NR % 64 == 0 { print "flush" }' $name/lines) > $name/script
-        for workers in 1 2 4; do timed "$name: replay by $workers" "$pacman" replay --workers $workers < $name/script > /dev/null; done
+    # How long workers take over logs, as scripts and as stores, and what a restart by serial execution takes.
+    logs
+    for name in bank hot many long30 long100 long200; do
         (
             cd $name
-            "$pacman" init < catalogue
-            "$pacman" run --batch 64 < lines > replies
-            for workers in 1 2 4; do timed "$name: recover by $workers" "$pacman" recover --workers $workers < /dev/null > /dev/null; done
+            for workers in 1 2 4; do timed "$name: replay by $workers" run_with "$workers" replay script; done
+            for workers in 1 2 4; do timed "$name: recover by $workers" run_with "$workers" recover /dev/null; done
             timed "$name: run restarts, serially" "$pacman" run < /dev/null
+        )
+    done
+    ;;
+restarts)
+    # The instructions of a restart in pieces, by one worker, beside those of one by serial execution.
+    logs
+    for name in bank hot many long200; do
+        (
+            cd $name
             counted "$name: run restarts, serially" "$pacman" run < /dev/null
             instructions "$pacman" recover --workers 1 < /dev/null
             echo "$name: recover, in pieces"
