@@ -13,7 +13,7 @@ try_cases() (
         set -- "$@" "data/$file"
         shift
     done
-    rt try --seconds 900 -- "$@"
+    rt try --seconds 1800 -- "$@"
 )
 
 if [ $# -gt 0 ]; then
@@ -27,7 +27,7 @@ try_cases $(grep -v '^longest\.' crates/pac_cases/args) || failed=" pac_cases"
 for crate in $(sed -n 's/^\(pac_[a-z_]*\).*/\1/p' crates.txt); do
     if grep -rqs '^ *#\[test\]' "crates/$crate/src"; then
         echo "$crate"
-        (cd "crates/$crate" && rt try --test --seconds 600) || failed="$failed $crate"
+        (cd "crates/$crate" && rt try --test --seconds 1800) || failed="$failed $crate"
     fi
 done
 if [ -n "$failed" ]; then
