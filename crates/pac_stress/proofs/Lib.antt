@@ -5,3 +5,4 @@ pub mod BankFits
 pub mod BatchRuns
 pub mod PieceCounts
 pub mod Finishing
+pub mod OneSummary

@@ -23,7 +23,7 @@ use Rattle.pac_stress.specs.declared.execution.Finished.{Finished}
 
 -- ---- pieces
 
--- by the plan of the catalogue, the transactions of the batches, numbered from 1 on, have so many pieces
+-- by the plan of the catalogue, of which there is only one, the transactions of the batches, numbered from 1 on, have so many pieces
 pub record HavePieces (catalogue : CatalogueState) (batches : List Batch) (count : ℕ) : Type 0 where
   pub plan : PlanParts
   pub programs : plan.programs ≡ map program_of catalogue.procs

@@ -13,18 +13,20 @@
 //! ```
 //!
 //! The summary is exactly the one that `specs/Summary.antt` defines, of the tables with which serial execution of the
-//! transactions ends, and of the pieces that the plan of the catalogue makes of them (`specs/Stressed.antt`). That the text
-//! has this catalogue, and that the transactions fit it, is proved and not tested when the program runs: the text is read
-//! and checked by the definitions (`proofs/BankReading.antt`, `proofs/BankTyping.antt`). That no transaction aborts is not
-//! proved.
+//! transactions ends, and of the pieces that the plan of the catalogue makes of them (`specs/Stressed.antt`). So many
+//! transactions have only one ([`one_summary`], [`one_number_of_pieces`]). That the text has this catalogue, and that the
+//! transactions fit it, is proved and not tested when the program runs: the text is read and checked by the definitions
+//! (`proofs/BankReading.antt`, `proofs/BankTyping.antt`). That no transaction aborts is not proved.
 #![tactic(auto)]
 
 mod batches;
 mod catalogue;
 mod execution;
+mod laws;
 mod stress;
 mod summary;
 
 pub use batches::stress_batches;
 pub use catalogue::{BANK, bank_catalogue};
+pub use laws::{one_number_of_pieces, one_summary};
 pub use stress::stress_summary;
