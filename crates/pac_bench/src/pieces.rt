@@ -2,14 +2,12 @@
 use crate::part::PartError;
 use pac_base::{NoMemory, listed};
 use pac_batch::{PieceSet, queue_preds, sets};
-use pac_flat::flatten;
-use pac_global::global;
+use pac_global::catalogue_plan;
 use pac_keys::{PlanCode, arguments, has_arguments};
 use pac_ops::{Batch, Txn, Txns};
 use pac_plan::{Access, Touch};
 use pac_request::stress_txn;
-use pac_stress::BANK;
-use pac_types::read_catalogue;
+use pac_stress::bank_catalogue;
 use pac_value::Key;
 use std::alloc::Global;
 
@@ -31,10 +29,8 @@ pub enum Depth {
 
 // The plan of the bank, with the code of its pieces.
 fn bank(alloc: Global) -> Result<PlanCode, PartError> {
-    let cat = read_catalogue(alloc, BANK)?;
-    let programs = flatten(alloc, &cat)?;
-    let _procs = cat.procs(); // so few that they can be planned
-    let plan = global(alloc, &cat, programs)?;
+    let cat = bank_catalogue(alloc)?;
+    let plan = catalogue_plan(alloc, &cat)?;
     Ok(PlanCode::new(alloc, plan)?)
 }
 

@@ -1,19 +1,19 @@
 //! The blocks of a catalogue: which operations of all its procedures have to be replayed together.
 //!
-//! [`global`] returns the [`Plan`](pac_plan::Plan) of a catalogue and the programs of its procedures. `pac_plan`
-//! defines blocks: two operations are in one block exactly where each reaches the other, by data dependences and, in
-//! both directions, by conflicts.
+//! - [`catalogue_plan`]: the [`Plan`](pac_plan::Plan) of a catalogue with few operations.
+//! - [`global`]: the same of a catalogue and the programs of its procedures, for a caller that has them.
+//!
+//! `pac_plan` defines blocks: two operations are in one block exactly where each reaches the other, by data dependences
+//! and, in both directions, by conflicts. A catalogue has one plan ([`one_plan`](pac_plan::one_plan)).
 //!
 //! ```
-//! use pac_flat::flatten;
-//! use pac_global::global;
+//! use pac_global::catalogue_plan;
 //!
-//! let programs = flatten(alloc, cat)?;
-//! let plan = global(alloc, cat, programs)?;
+//! let plan = catalogue_plan(alloc, cat)?;
 //! let blocks = plan.blocks();
 //! ```
 //!
-//! It requires at most 64 well-formed programs with at most 4,096 operations together; those of
+//! `global` requires at most 64 well-formed programs with at most 4,096 operations together; those of
 //! [`flatten`](pac_flat::flatten) are such. An edge leads to a higher number (`rises`), so no path leads back
 //! (`acyclic`).
 //!
@@ -23,7 +23,9 @@
 #![tactic(auto)]
 
 mod blocks;
+mod catalogue;
 mod draw;
 mod plan;
 
+pub use catalogue::catalogue_plan;
 pub use plan::global;

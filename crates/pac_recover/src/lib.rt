@@ -33,7 +33,6 @@ mod limit;
 mod loading;
 mod log;
 mod passing;
-mod plan;
 mod recovery;
 mod remainder;
 mod replayed_log;

@@ -18,10 +18,10 @@ ghost use Rattle.pac_recover.specs.Refusals.{HasDamage, HasNoStore};
 
 use crate::LoadError;
 use crate::log::{WholeLog, read_log};
-use crate::plan::plan_of;
 use crate::slots::{batches_before, read_slots, read_tables};
 use pac_base::{Exact, NoMemory, listed};
 use pac_check::{SlotInfo, SlotName, Slots};
+use pac_global::catalogue_plan;
 use pac_log::LogReader;
 use pac_ops::{Batch, Batches};
 use pac_outside::{Devices, Disk};
@@ -99,7 +99,7 @@ pub fn load<D: Disk>(alloc: Global, devices: &mut Devices<D>) -> Result<Loaded, 
         &mut devices.slot_a,
         &mut devices.slot_b,
     )?;
-    let plan = plan_of(alloc, &catalogue)?;
+    let plan = catalogue_plan(alloc, &catalogue)?;
     Ok(join_parts(log, catalogue, plan, tables, slots)?)
 }
 

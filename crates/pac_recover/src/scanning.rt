@@ -20,10 +20,10 @@ ghost use Rattle.pac_recover.specs.Scanning.{HoldsLogFrom, IsScanned, IsScannedF
 use crate::LoadError;
 use crate::loading::txns_in;
 use crate::passing::{PassedLog, pass_log};
-use crate::plan::plan_of;
 use crate::slots::{read_slots, read_tables};
 use pac_base::Exact;
 use pac_check::{SlotName, Slots};
+use pac_global::catalogue_plan;
 use pac_log::LogReader;
 use pac_outside::{Devices, Disk};
 use pac_plan::Plan;
@@ -94,7 +94,7 @@ pub fn scan<D: Disk>(alloc: Global, devices: &mut Devices<D>) -> Result<Scanned,
         &mut devices.slot_a,
         &mut devices.slot_b,
     )?;
-    let plan = plan_of(alloc, &catalogue)?;
+    let plan = catalogue_plan(alloc, &catalogue)?;
     Ok(joined(log, catalogue, plan, tables, slots))
 }
 

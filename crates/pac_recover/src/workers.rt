@@ -10,8 +10,8 @@ ghost use Rattle.pac_recover.specs.Logs.{FitBatches};
 ghost use Rattle.pac_recover.specs.Outcomes.{FitsReplayed, outcome_of};
 
 use crate::Execution;
-use crate::plan::plan_of;
 use pac_base::NoMemory;
+use pac_global::catalogue_plan;
 use pac_ops::Batches;
 use pac_outside::Gate;
 use pac_plan::Plan;
@@ -47,7 +47,7 @@ pub fn execute_by<T: TableRows + Send, H: Threads + Wait + Sync, G: Gate + Sync>
     ensures outcome { IfOk result (λ executed. outcome_of executed ≡ serial cat.now.procs (before + 1) (txns_in batches) tables.rows) }
     ensures fits { IfOk result (λ executed. FitsReplayed cat.now executed) }
 {
-    let plan = plan_of(alloc, cat)?;
+    let plan = catalogue_plan(alloc, cat)?;
     execute_planned(rt, alloc, workers, cat, plan, before, batches, tables, gate)
 }
 

@@ -1,22 +1,15 @@
 // Executing the transactions of the stress test by workers.
-ghost use Rattle.std.specs.Prelude.{◌≡◌, ◌+◌, ◌-◌, ◌^◌, ◌<◌, ◌≤◌, IfOk, length, map, sum};
+ghost use Rattle.std.specs.Prelude.{◌≡◌, ◌+◌, ◌-◌, ◌^◌, ◌<◌, ◌≤◌, IfOk, length, sum};
 ghost use Rattle.std.specs.FinMap.{empty};
-ghost use Rattle.pac_flat.specs.Agreement.{ReplaysTheSame};
-ghost use Rattle.pac_flat.specs.FlatForm.{program_of};
-ghost use Rattle.pac_plan.specs.Analysis.{IsAnalysis};
 ghost use Rattle.pac_types.specs.Execution.{serial};
-ghost use Rattle.pac_types.specs.Fits.{shape};
 ghost use Rattle.pac_types.specs.OperationLimits.{HasFewOperations};
 ghost use Rattle.pac_recover.specs.Gates.{RunOn, txns_in};
 ghost use Rattle.pac_recover.specs.Logs.{FitBatches};
 ghost use Rattle.pac_stress.specs.Stressed.{Finishes};
 
-use pac_base::{NoMemory, Refusal};
-use pac_flat::flatten;
-use pac_global::global;
+use pac_global::catalogue_plan;
 use pac_ops::Batches;
 use pac_outside::Gate;
-use pac_plan::Plan;
 use pac_serial::{AllError, no_rows};
 use pac_tables::HashedRows;
 use pac_types::Catalogue;
@@ -30,24 +23,6 @@ use std::thread::Threads;
 pub(crate) struct Finished {
     pub rows: HashedRows,
     pub pieces: u64,
-}
-
-// The plan of a catalogue with few operations.
-fn stress_plan(alloc: Global, cat: &Catalogue) -> Result<Plan, NoMemory>
-    requires { HasFewOperations cat.now.procs }
-    ensures programs { IfOk result (λ plan. plan.programs ≡ map program_of cat.now.procs) }
-    ensures shapes { IfOk result (λ plan. plan.tables ≡ map shape cat.now.tables) }
-    ensures analysis { IfOk result (λ plan. IsAnalysis plan) }
-    ensures replays { IfOk result (λ plan. ReplaysTheSame cat.now.procs plan.programs) }
-{
-    match flatten(alloc, cat) {
-        Ok(programs) => {
-            let _few = cat.procs();
-            global(alloc, cat, programs)
-        }
-        Err(Refusal::Fault(_)) => unreachable!(),
-        Err(Refusal::NoMemory) => Err(NoMemory),
-    }
 }
 
 // All of these numbers together.
@@ -81,7 +56,7 @@ pub(crate) fn execute_all<H: Threads + Wait + Sync, G: Gate + Sync>(
     ensures tables { IfOk result (λ finished. finished.rows.tables ≡ length cat.now.tables) }
 {
     let rows: HashedRows = no_rows(alloc, cat)?;
-    let plan = stress_plan(alloc, cat)?;
+    let plan = catalogue_plan(alloc, cat)?;
     let _blocks = plan.blocks();
     let Executed {
         tables,

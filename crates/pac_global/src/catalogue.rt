@@ -1,4 +1,4 @@
-// The plan of a catalogue.
+// The plan of a catalogue alone.
 ghost use Rattle.std.specs.Prelude.{◌≡◌, IfOk, map};
 ghost use Rattle.pac_flat.specs.Agreement.{ReplaysTheSame};
 ghost use Rattle.pac_flat.specs.FlatForm.{program_of};
@@ -6,19 +6,20 @@ ghost use Rattle.pac_plan.specs.Analysis.{IsAnalysis};
 ghost use Rattle.pac_types.specs.Fits.{shape};
 ghost use Rattle.pac_types.specs.OperationLimits.{HasFewOperations};
 
+use crate::plan::global;
 use pac_base::{NoMemory, Refusal};
 use pac_flat::flatten;
-use pac_global::global;
 use pac_plan::Plan;
 use pac_types::Catalogue;
 use std::alloc::Global;
 
-/// The plan of a catalogue with few operations. Near linear in its operations, unrolled.
+/// The plan of a catalogue with few operations: the one of its procedures' programs, by which transactions replay as they
+/// execute. It takes the time of [`flatten`] and [`global`].
 ///
 /// # Errors
 ///
 /// [`NoMemory`] where an allocation is refused.
-pub(crate) fn plan_of(alloc: Global, cat: &Catalogue) -> Result<Plan, NoMemory>
+pub fn catalogue_plan(alloc: Global, cat: &Catalogue) -> Result<Plan, NoMemory>
     requires { HasFewOperations cat.now.procs }
     ensures programs { IfOk result (λ plan. plan.programs ≡ map program_of cat.now.procs) }
     ensures shapes { IfOk result (λ plan. plan.tables ≡ map shape cat.now.tables) }
