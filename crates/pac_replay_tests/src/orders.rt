@@ -6,8 +6,8 @@ ghost use Rattle.pac_request.specs.RequestFits.{BatchesFit, BatchesHaveNumbers};
 
 use crate::cores::{ADD, core_of, plan_of, script_of};
 use crate::ends::{are_same_rows, outcome_of};
-use crate::plans::BANK;
 use crate::steps::{Handed, TakeAnswer, hand_in, take};
+use pac_bank::BANK;
 use pac_core::{Core, Outcome};
 use pac_ops::{Batch, Note};
 use pac_piece::Done;

@@ -2,6 +2,7 @@
 mod bank;
 mod order;
 
+use crate::takes::HOP;
 use pac_base::listed;
 use pac_batch::{preds, queue_preds};
 use pac_flat::flatten;
@@ -11,11 +12,6 @@ use pac_plan::{Access, Touch};
 use pac_types::{Catalogue, read_catalogue};
 use pac_value::Key;
 use std::alloc::Global;
-
-// The key that is written comes from the row that is read.
-const HOP: &[u8] = b"table T(key int, next int);
-proc Hop(k int, w int) { read d = T[k].next default 0; put T[d] = (w); }
-";
 
 // Both keys are parameters.
 const CAP: &[u8] = b"table T(key int, v int);

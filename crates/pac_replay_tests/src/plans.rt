@@ -1,4 +1,5 @@
 // What depends on what in a procedure of the bank, and copies of a plan.
+use pac_bank::BANK;
 use pac_base::{Exact, Same};
 use pac_flat::flatten;
 use pac_global::global;
@@ -7,33 +8,6 @@ use pac_plan::Plan;
 use pac_slice::dependencies;
 use pac_types::{Catalogue, read_catalogue};
 use std::alloc::Global;
-
-pub(crate) const BANK: &[u8] = b"table Family(key int, spouse int);
-table Current(key int, value int);
-table Saving(key int, value int);
-table Stats(key int, count int);
-proc Transfer(src int, amount int) {
-  read dst = Family[src].spouse default 0;
-  if dst != 0 {
-    read a = Current[src].value default 0;
-    put Current[src] = (a - amount);
-    read b = Current[dst].value default 0;
-    put Current[dst] = (b + amount);
-    read s = Saving[src].value default 0;
-    put Saving[src] = (s + 1);
-  }
-}
-proc Deposit(name int, amount int, nation int) {
-  read v = Current[name].value default 0;
-  put Current[name] = (v + amount);
-  if v + amount > 10000 {
-    read s = Saving[name].value default 0;
-    put Saving[name] = (s + v / 50);
-  }
-  read n = Stats[nation].count default 0;
-  put Stats[nation] = (n + 1);
-}
-";
 
 const FLOW: &[(u16, u16)] = &[(0, 1), (0, 2), (0, 4), (2, 3), (2, 4), (3, 4), (5, 6)];
 

@@ -1,8 +1,8 @@
 // What takes answer, in the order that was worked by hand, and the tables at the end.
 use crate::cores::{ADD, script_core};
 use crate::ends::{KeyedNumbers, hold, outcome_of};
-use crate::plans::BANK;
 use crate::steps::{CoreStep, count_right, take};
+use pac_bank::BANK;
 use pac_core::Core;
 use pac_piece::Done;
 use pac_tables::Rows;
@@ -20,7 +20,7 @@ struct Case {
 }
 
 // The key that is written comes from the row that is read.
-const HOP: &[u8] = b"table T(key int, next int);
+pub(crate) const HOP: &[u8] = b"table T(key int, next int);
 proc Hop(k int, w int) { read d = T[k].next default 0; put T[d] = (w); }
 ";
 

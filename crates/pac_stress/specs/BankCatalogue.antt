@@ -1,5 +1,5 @@
--- The catalogue of the bank: its text, and the tables and procedures that it has.
-use Rattle.std.specs.Prelude.{ℕ, List, [], ◌∷◌, ◌++◌, codes}
+-- The catalogue of the bank: the tables and procedures that it has.
+use Rattle.std.specs.Prelude.{ℕ, List, [], ◌∷◌, codes}
 use Rattle.pac_value.specs.declared.values.Ty.TheVariants.{Int as IntTy}
 use Rattle.pac_value.specs.declared.expr.BinOp.TheVariants.{Add, Sub, Div, Ne, Gt}
 use Rattle.pac_value.specs.declared.expr.Expr.{Lit, Var, Bin}
@@ -9,35 +9,6 @@ use Rattle.pac_types.specs.declared.procedure.Proc.{Proc}
 use Rattle.pac_types.specs.declared.statement.Stmt.{Read, Put, If}
 use Rattle.pac_types.specs.Typing.{CatalogueState}
 use Rattle.pac_request.specs.Stress.{number}
-
--- its text, which is canonical
-unfoldable pub bank_text : List ℕ
-bank_text =
-    codes "table Family(key int, spouse int);\n"
-    ++ codes "table Current(key int, value int);\n"
-    ++ codes "table Saving(key int, value int);\n"
-    ++ codes "table Stats(key int, count int);\n"
-    ++ codes "proc Transfer(src int, amount int) {\n"
-    ++ codes "  read dst = Family[src].spouse default 0;\n"
-    ++ codes "  if dst != 0 {\n"
-    ++ codes "    read a = Current[src].value default 0;\n"
-    ++ codes "    put Current[src] = (a - amount);\n"
-    ++ codes "    read b = Current[dst].value default 0;\n"
-    ++ codes "    put Current[dst] = (b + amount);\n"
-    ++ codes "    read s = Saving[src].value default 0;\n"
-    ++ codes "    put Saving[src] = (s + 1);\n"
-    ++ codes "  }\n"
-    ++ codes "}\n"
-    ++ codes "proc Deposit(name int, amount int, nation int) {\n"
-    ++ codes "  read v = Current[name].value default 0;\n"
-    ++ codes "  put Current[name] = (v + amount);\n"
-    ++ codes "  if v + amount > 10000 {\n"
-    ++ codes "    read s = Saving[name].value default 0;\n"
-    ++ codes "    put Saving[name] = (s + v / 50);\n"
-    ++ codes "  }\n"
-    ++ codes "  read n = Stats[nation].count default 0;\n"
-    ++ codes "  put Stats[nation] = (n + 1);\n"
-    ++ codes "}\n"
 
 -- a column or a parameter of ints
 abbrev pub int_named : List ℕ → Column

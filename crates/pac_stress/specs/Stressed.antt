@@ -16,7 +16,7 @@ use Rattle.pac_types.specs.Typing.{CatalogueState}
 use Rattle.pac_flat.specs.FlatForm.{program_of}
 use Rattle.pac_serial.specs.declared.serial.AllError.{AllError}
 use Rattle.pac_serial.specs.declared.serial.AllError.TheVariants.{Abort, NoMemory}
-use Rattle.pac_stress.specs.BankCatalogue.{bank_text}
+use Rattle.pac_bank.specs.BankText.{bank_text}
 use Rattle.pac_stress.specs.StressBatches.{stress_txns, stress_batches}
 use Rattle.pac_stress.specs.Summary.{summary}
 use Rattle.pac_stress.specs.declared.execution.Finished.{Finished}

@@ -2,8 +2,7 @@
 //!
 //! - [`stress_summary`]: executes so many transactions from no rows on, by so many workers, and returns the text of the summary: how
 //!   many they are, how many pieces they have, and how many rows each table ends with.
-//! - [`BANK`]: the text of the catalogue. [`bank_catalogue`]: the catalogue. [`stress_batches`]: the transactions, in batches of
-//!   64.
+//! - [`bank_catalogue`]: the catalogue, whose text is that of `pac_bank`. [`stress_batches`]: the transactions, in batches of 64.
 //!
 //! ```
 //! use pac_outside::OpenGate;
@@ -27,6 +26,6 @@ mod stress;
 mod summary;
 
 pub use batches::stress_batches;
-pub use catalogue::{BANK, bank_catalogue};
+pub use catalogue::bank_catalogue;
 pub use laws::{one_number_of_pieces, one_summary};
 pub use stress::stress_summary;

@@ -1,8 +1,8 @@
 // Replays and stress tests by workers, through the top call: who passes the gate.
 use crate::streams::OneByte;
+use pac_bank::BANK;
 use pac_main::pacman;
 use pac_outside::{Devices, Gate, MemDisk, MemSink, MemSource};
-use pac_stress::BANK;
 use std::alloc::{AllocError, Global};
 use std::sync::Wait;
 use std::sync::atomic::{AtomicU64, Ordering};

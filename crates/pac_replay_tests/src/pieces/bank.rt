@@ -2,64 +2,22 @@
 ghost use Rattle.std.specs.Prelude.{◌≡◌};
 ghost use Rattle.std.specs.FinMap.{empty};
 
-use super::plan_code;
+use super::{CAP, plan_code};
+use crate::cores::script_of;
+use crate::takes::{HOP, THREE};
+use pac_bank::BANK;
 use pac_base::{Exact, Listed, listed};
 use pac_batch::{PieceSet, sets};
 use pac_keys::{PlanCode, arguments, has_arguments};
 use pac_ops::{Batch, PieceId, Txn};
 use pac_piece::{Done, Work, arguments_run, arguments_run_on, rows_fit, run, run_on};
 use pac_plan::{Access, Touch};
-use pac_request::read_script;
 use pac_tables::{HashedRows, OrderedRows, Rows, Write};
 use pac_value::{Key, Value};
 use std::alloc::Global;
 
-pub(super) const BANK: &[u8] = b"table Family(key int, spouse int);
-table Current(key int, value int);
-table Saving(key int, value int);
-table Stats(key int, count int);
-proc Transfer(src int, amount int) {
-  read dst = Family[src].spouse default 0;
-  if dst != 0 {
-    read a = Current[src].value default 0;
-    put Current[src] = (a - amount);
-    read b = Current[dst].value default 0;
-    put Current[dst] = (b + amount);
-    read s = Saving[src].value default 0;
-    put Saving[src] = (s + 1);
-  }
-}
-proc Deposit(name int, amount int, nation int) {
-  read v = Current[name].value default 0;
-  put Current[name] = (v + amount);
-  if v + amount > 10000 {
-    read s = Saving[name].value default 0;
-    put Saving[name] = (s + v / 50);
-  }
-  read n = Stats[nation].count default 0;
-  put Stats[nation] = (n + 1);
-}
----
-call Deposit(1, 100, 7)
-flush
-adhoc put Family[1] = (2)
-flush
-call Transfer(1, 40)
-";
-
-// The key that is written comes from the row that is read.
-const HOP: &[u8] = b"table T(key int, next int);
-proc Hop(k int, w int) { read d = T[k].next default 0; put T[d] = (w); }
----
-call Hop(1, 1)
-";
-
-// Both keys are parameters.
-const CAP: &[u8] = b"table T(key int, v int);
-proc Cap(k int, j int) { read a = T[k].v default 0; if a > 10 { put T[j] = (0); } }
----
-call Cap(1, 2)
-";
+// One call of a hop.
+const HOP_LINES: &[u8] = b"call Hop(1, 1)\n";
 
 // A block, and the transactions that have a piece in it.
 type Set = (u16, &'static [u64]);
@@ -107,8 +65,8 @@ fn have_sets(alloc: Global, code: &PlanCode, batches: &Listed<Batch>) -> bool {
     rest.is_empty()
 }
 
-fn sets_are_so(alloc: Global, text: &[u8]) -> bool {
-    let Ok(script) = read_script(alloc, text) else {
+fn sets_are_so(alloc: Global) -> bool {
+    let Some(script) = script_of(alloc, BANK, THREE) else {
         return false;
     };
     match plan_code(alloc, &script.catalogue) {
@@ -119,7 +77,7 @@ fn sets_are_so(alloc: Global, text: &[u8]) -> bool {
 
 #[test]
 fn the_bank_has_its_pieces(rt: HostRuntime) {
-    assert!(rt; sets_are_so(rt.alloc(), BANK));
+    assert!(rt; sets_are_so(rt.alloc()));
 }
 
 // The access of a transaction's piece in a block to which no edge leads.
@@ -177,15 +135,16 @@ fn touches_so(
     }
 }
 
-// The same of the batch with this number in a script.
+// The same of the batch with this number in the script of a catalogue and lines.
 fn access_is_so(
     alloc: Global,
-    text: &[u8],
+    catalogue: &[u8],
+    lines: &[u8],
     number: usize,
     block: u16,
     rows: Option<&[Row]>,
 ) -> bool {
-    let Ok(script) = read_script(alloc, text) else {
+    let Some(script) = script_of(alloc, catalogue, lines) else {
         return false;
     };
     let Some(batch) = script.batches.as_slice().get(number) else {
@@ -200,14 +159,14 @@ fn access_is_so(
 #[test]
 fn pieces_touch_their_rows(rt: HostRuntime) {
     let stats: &[Row] = &[(3, 7, false), (3, 7, true)];
-    assert!(rt; access_is_so(rt.alloc(), BANK, 0, 5, Some(stats)));
+    assert!(rt; access_is_so(rt.alloc(), BANK, THREE, 0, 5, Some(stats)));
     let family: &[Row] = &[(0, 1, true)];
-    assert!(rt; access_is_so(rt.alloc(), BANK, 1, 0, Some(family)));
+    assert!(rt; access_is_so(rt.alloc(), BANK, THREE, 1, 0, Some(family)));
     let read: &[Row] = &[(0, 1, false)];
-    assert!(rt; access_is_so(rt.alloc(), BANK, 2, 0, Some(read)));
-    assert!(rt; access_is_so(rt.alloc(), HOP, 0, 0, None));
+    assert!(rt; access_is_so(rt.alloc(), BANK, THREE, 2, 0, Some(read)));
+    assert!(rt; access_is_so(rt.alloc(), HOP, HOP_LINES, 0, 0, None));
     let both: &[Row] = &[(0, 1, false), (0, 2, true)];
-    assert!(rt; access_is_so(rt.alloc(), CAP, 0, 0, Some(both)));
+    assert!(rt; access_is_so(rt.alloc(), CAP, b"call Cap(1, 2)\n", 0, 0, Some(both)));
 }
 
 // A copy of the row at a key of the statistics, where there is none.
@@ -283,8 +242,8 @@ fn first_counts(alloc: Global, code: &PlanCode, batch: &Batch) -> bool {
     counts_so(alloc, code, txn, PieceId { txn: 1, block: 5 }, 7)
 }
 
-fn statistics_are_so(alloc: Global, text: &[u8]) -> bool {
-    let Ok(script) = read_script(alloc, text) else {
+fn statistics_are_so(alloc: Global) -> bool {
+    let Some(script) = script_of(alloc, BANK, THREE) else {
         return false;
     };
     let Some(batch) = script.batches.as_slice().first() else {
@@ -298,7 +257,7 @@ fn statistics_are_so(alloc: Global, text: &[u8]) -> bool {
 
 #[test]
 fn a_deposit_counts_in_the_statistics(rt: HostRuntime) {
-    assert!(rt; statistics_are_so(rt.alloc(), BANK));
+    assert!(rt; statistics_are_so(rt.alloc()));
 }
 
 // Whether a hop over tables without rows writes its value at the default of what it reads.
@@ -341,8 +300,8 @@ fn first_hops(alloc: Global, code: &PlanCode, batch: &Batch) -> bool {
     hops_so(alloc, code, txn, &ordered) && hops_so(alloc, code, txn, &hashed)
 }
 
-fn hop_is_so(alloc: Global, text: &[u8]) -> bool {
-    let Ok(script) = read_script(alloc, text) else {
+fn hop_is_so(alloc: Global) -> bool {
+    let Some(script) = script_of(alloc, HOP, HOP_LINES) else {
         return false;
     };
     let Some(batch) = script.batches.as_slice().first() else {
@@ -356,5 +315,5 @@ fn hop_is_so(alloc: Global, text: &[u8]) -> bool {
 
 #[test]
 fn a_hop_runs_over_the_tables(rt: HostRuntime) {
-    assert!(rt; hop_is_so(rt.alloc(), HOP));
+    assert!(rt; hop_is_so(rt.alloc()));
 }

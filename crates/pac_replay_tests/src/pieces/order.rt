@@ -4,13 +4,13 @@ ghost use Rattle.std.specs.FinMap.{is_sorted};
 ghost use Rattle.pac_sets.specs.SetOrder.{set_cmp};
 ghost use Rattle.pac_sets.specs.Sets.{AreLeft};
 
-use super::bank::BANK;
 use super::plan_code;
+use pac_bank::BANK;
 use pac_base::Listed;
 use pac_interface::{Interface, interfaces};
 use pac_keys::PlanCode;
-use pac_request::read_script;
 use pac_sets::{Kept, SetId, Sets};
+use pac_types::read_catalogue;
 use std::alloc::Global;
 
 // A procedure, a block, its inputs there, and its outputs. Parameters come first, and then the
@@ -151,8 +151,8 @@ fn sets_go(alloc: Global, code: &PlanCode) -> bool {
 }
 
 fn bank_code(alloc: Global) -> Option<PlanCode> {
-    match read_script(alloc, BANK) {
-        Ok(script) => plan_code(alloc, &script.catalogue),
+    match read_catalogue(alloc, BANK) {
+        Ok(catalogue) => plan_code(alloc, &catalogue),
         Err(_) => None,
     }
 }

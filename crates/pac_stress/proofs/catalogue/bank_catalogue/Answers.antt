@@ -7,12 +7,12 @@ use Rattle.pac_stress.proofs.catalogue.bank_catalogue.Goals as goal
 
 pub unreachable-requires : goal.unreachable-requires
 unreachable-requires c =
-    let only = c.read_catalogue.ensures.only bank_catalogue (subst (λ (text : List ℕ). HasCatalogue text bank_catalogue) (sym c.text_of_bank.ensures) bank-has) in
+    let only = c.read_catalogue.ensures.only bank_catalogue (subst (λ (text : List ℕ). HasCatalogue text bank_catalogue) (sym c.bank_text.ensures) bank-has) in
     none-refused c.read_catalogue.result c.in-Err-Fault.field-0 c.in-Err-Fault.field-0-0 only c.in-Err-Fault.is c.in-Err-Fault.field-0-is
 
 pub returns-in-Ok-clause-is : goal.returns-in-Ok-clause-is
 returns-in-Ok-clause-is c =
-    let only = c.read_catalogue.ensures.only bank_catalogue (subst (λ (text : List ℕ). HasCatalogue text bank_catalogue) (sym c.text_of_bank.ensures) bank-has) in
+    let only = c.read_catalogue.ensures.only bank_catalogue (subst (λ (text : List ℕ). HasCatalogue text bank_catalogue) (sym c.bank_text.ensures) bank-has) in
     no-other c.read_catalogue.result c.in-Ok.catalogue only c.in-Ok.is
 
 pub returns-in-Ok-clause-text : goal.returns-in-Ok-clause-text
