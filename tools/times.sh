@@ -1,10 +1,10 @@
 #!/bin/bash
 # Times the program and parts of it, for docs/COSTS.md.
 #
-#     tools/times.sh replay|input|parts|log|slots|runs|committed|rows|pieces|workers|restarts
+#     tools/times.sh replay|input|parts|log|slots|runs|committed|rows|pieces|shares|workers|restarts
 #
-# `replay`, `input`, `runs` and `workers` time the program, which is $PACMAN or crates/pacman/out/pacman, and `committed` and
-# `restarts` count its instructions. The others time pac_bench, which is $PAC_BENCH or crates/pac_bench/out/pac_bench, as
+# `replay`, `input`, `runs` and `workers` time the program, which is $PACMAN or crates/pacman/out/pacman, and `committed`, `shares`
+# and `restarts` count its instructions. The others time pac_bench, which is $PAC_BENCH or crates/pac_bench/out/pac_bench, as
 # `(cd crates/pac_bench && rt run -- copy 1)` makes it. All files are made in a new folder of the current directory, which
 # is removed: its disk is what `log`, `slots` and `runs` time.
 set -eu
@@ -143,6 +143,16 @@ parts)
 pieces)
     for part in txns sets accesses pairs; do counted "100,000 transactions of the stress test: $part" "$bench" "$part" 100; done
     for part in queue long_queue; do for rounds in 0 100; do counted "$rounds rounds: $part" "$bench" "$part" "$rounds"; done; done
+    ;;
+shares)
+    # What is made of the pieces of a stress test by one worker, function by function, each with all that it calls. What the
+    # compiler put into its callers has no line of its own: opening pieces, with their accesses and pairs, is a part of `take`, and
+    # finding the sets of a batch a part of `load`.
+    valgrind --tool=callgrind --callgrind-out-file=profile "$pacman" stress 10000 --workers 1 > printed 2> counted
+    pieces=$(sed -n 's/^pieces //p' printed)
+    echo "instructions a piece, of $pieces pieces"
+    callgrind_annotate --inclusive=yes --threshold=100 profile | tr -d , | awk -v pieces="$pieces" '
+        match($0, /:pac_(workers|core|sched|sets|piece|keys|interface|batch|tables|undo)::[^[]*/) && $1 >= pieces { printf "  %7d %s\n", $1 / pieces, substr($0, RSTART + 1, RLENGTH - 1) }'
     ;;
 log)
     for part in commit commits; do
