@@ -1,9 +1,10 @@
 -- The rows of tables as they are written.
-use Rattle.std.proofs.Common.{◌≡◌, ◌∙◌, ℕ, zero, suc, ◌+◌, ◌<◌, ◌≤◌, List, [], ◌∷◌, ◌++◌, length, take, get_or, Some, None, refl, sym, ap, subst, arith, add-one}
+use Rattle.std.proofs.Common.{◌≡◌, ◌∙◌, Bool, true, false, eqb, ℕ, zero, suc, ◌+◌, ◌<◌, ◌≤◌, List, [], ◌∷◌, ◌++◌, length, take, get_or, Some, None, refl, sym, ap, subst, arith, add-one}
 use Rattle.std.specs.Prelude.{slice_get}
 use Rattle.std.specs.Option.{option_map}
 use Rattle.std.specs.List.{flat_map, AllByRecursion, AllZip}
-use Rattle.std.proofs.lemmas.List.{length-append}
+use Rattle.std.proofs.lemmas.Bool.{eqb-true, eqb-false}
+use Rattle.std.proofs.lemmas.List.{length-append, flat_map_more}
 use Rattle.pac_value.specs.Values.{type_of, key_value}
 use Rattle.pac_value.specs.State.{Tables, keys_of}
 use Rattle.pac_types.specs.declared.table.Table.{Table}
@@ -77,3 +78,20 @@ head-and-tables count tables head held a b c same none first second =
     ∙ ap (λ (x : List ℕ). x ++ flat_map rows_bytes (rows_of_tables held count)) (first ∙ ap (λ (x : List ℕ). x ++ head_bytes count head) none)
     ∙ ap (λ (n : ℕ). head_bytes n head ++ flat_map rows_bytes (rows_of_tables held n)) same
     ∙ ap (λ (n : ℕ). head_bytes n head ++ flat_map rows_bytes (rows_of_tables held tables)) (sym counted)
+
+-- ---- one table more
+
+-- the bytes of one table more
+pub tables-more : (held : Tables) (n : ℕ) (before : List ℕ) → (before ++ flat_map rows_bytes (rows_of_tables held n)) ++ rows_bytes (table_rows held n) ≡ before ++ flat_map rows_bytes (rows_of_tables held (n + 1))
+tables-more held n before = rw add-one (flat_map_more rows_bytes before (rows_of_tables held n) (table_rows held n))
+
+pub tables-longer : (held : Tables) (n : ℕ) → length (flat_map rows_bytes (rows_of_tables held (n + 1))) ≡ length (flat_map rows_bytes (rows_of_tables held n)) + length (rows_bytes (table_rows held n))
+tables-longer held n = ap length (sym (tables-more held n [])) ∙ length-append (flat_map rows_bytes (rows_of_tables held n)) (rows_bytes (table_rows held n))
+
+-- what holds of each number up to one, and of that one
+pub up-to-next : (P : ℕ → Type 0) (n : ℕ) → ((t : ℕ) → t < n → P t) → P n → (t : ℕ) → t < n + 1 → P t
+up-to-next P n before last t lt = go (eqb t n) refl
+  where
+    go : (b : Bool) → eqb t n ≡ b → P t
+    go true is = subst P (sym (eqb-true _ _ is)) last
+    go false is = let apart = eqb-false _ _ is in before t (omega (arith, lt, apart))

@@ -1,7 +1,7 @@
 // Writes the text of a checkpoint.
-ghost use Rattle.std.specs.Prelude.{◌≡◌, ◌<◌, ◌≤◌, ◌+◌, ◌*◌, ◌^◌, ◌++◌, ℕ, Some as HasIt, length, All, IfOk, IsErrOf, OnOk, flat_map};
+ghost use Rattle.std.specs.Prelude.{◌≡◌, ◌<◌, ◌≤◌, ◌+◌, ◌*◌, ◌^◌, ◌++◌, ℕ, Some as HasIt, length, map, All, IfOk, IsErrOf, OnOk, flat_map};
 ghost use Rattle.std.specs.List.{AllByRecursion};
-ghost use Rattle.std.specs.FinMap as map;
+ghost use Rattle.std.specs.FinMap as tree;
 ghost use Rattle.pac_value.specs.Growth.{Grew};
 ghost use Rattle.pac_value.specs.State.{keys_of};
 ghost use Rattle.pac_value.specs.Values.{key_value};
@@ -11,6 +11,7 @@ ghost use Rattle.pac_bytes.specs.declared.values.TheConstants.{MAX_VALUE_LEN};
 ghost use Rattle.pac_value.specs.declared.limits.TheConstants.{MAX_COLUMNS};
 ghost use Rattle.pac_types.specs.Fits.{FitsCatalogue};
 ghost use Rattle.pac_check.specs.declared.limits.TheConstants.{MAX_SAVED_ROWS, MAX_SLOT_LEN};
+ghost use Rattle.pac_check.specs.declared.head.TheConstants.{HEAD_LEN};
 ghost use Rattle.pac_check.specs.declared.text.TheConstants.{MAX_ROW_LEN, MAX_TABLE_LEN};
 ghost use Rattle.pac_check.specs.Checkpoints.{IsCheckpoint, RowHasBytes, checkpoint_bytes, keyed_bytes, rows_bytes};
 ghost use Rattle.pac_check.specs.Saved.{checkpoint_of, table_rows, rows_of_tables};
@@ -29,8 +30,9 @@ const MAX_ROW_LEN: u64 = (1 + MAX_COLUMNS as u64) * MAX_VALUE_LEN as u64;
 
 const MAX_TABLE_LEN: u64 = 8 + MAX_SAVED_ROWS * MAX_ROW_LEN;
 
-/// The text of the checkpoint of the rows of tables. It takes memory once, for the whole text, and besides for a list of the
-/// rows of one table at a time. These are listed twice, for their length and for their bytes, and none is looked up.
+/// The text of the checkpoint of the rows of tables. It takes memory for the text, table by table, and besides for a list of
+/// the rows of one table at a time. These are listed once, and none is looked up. Where the text would be longer than a slot
+/// the other bytes are only counted.
 ///
 /// # Errors
 ///
@@ -53,43 +55,79 @@ pub(crate) fn checkpoint_text<R: Rows>(
 {
     let tables = cat.tables();
     let count = tables.len() as u16;
-    let len = HEAD_LEN + tables_len(count, rows)?;
-    if len >= MAX_SLOT_LEN {
-        return Err(SaveError::TooLarge { bytes: len + 1 });
-    }
-    let mut text = Vec::with_capacity(alloc, len as usize)?;
+    let mut text = Vec::with_capacity(alloc, HEAD_LEN as usize)?;
     put_head(&mut text, head, count)?;
     put_tables(&mut text, count, rows)?;
     Ok(text)
 }
 
-// How many bytes the first n tables have.
-fn tables_len<R: Rows>(count: u16, rows: &R) -> Result<u64, NoMemory>
+// Appends the first n tables, where they have room after a head in a slot.
+fn put_tables<R: Rows>(out: &mut Vec<u8>, count: u16, rows: &R) -> Result<(), SaveError>
     requires within { count ≤ R.tables rows.now }
     requires few { (table : ℕ) → table < R.tables rows.now → length (keys_of (R.held rows.now) table) ≤ MAX_SAVED_ROWS }
-    ensures exact { IfOk result (λ len. len ≡ length (flat_map rows_bytes (rows_of_tables (R.held rows.now) count))) }
-    ensures few { IfOk result (λ len. len ≤ MAX_TABLE_LEN * count) }
+    ensures bytes { OnOk result (Grew out.old.items out.new.items (flat_map rows_bytes (rows_of_tables (R.held rows.now) count))) }
+    ensures form { OnOk result ((table : ℕ) → table < count → AllByRecursion RowHasBytes (table_rows (R.held rows.now) table)) }
+    ensures room { OnOk result (1 + (HEAD_LEN + length (flat_map rows_bytes (rows_of_tables (R.held rows.now) count))) ≤ MAX_SLOT_LEN) }
+    ensures too_large { (bytes : ℕ) → IsErrOf result (SaveError.TooLarge bytes) → (MAX_SLOT_LEN < bytes) × (bytes ≡ 1 + (HEAD_LEN + length (flat_map rows_bytes (rows_of_tables (R.held rows.now) count)))) }
+    ensures only { ¬ IsErrOf result SaveError.DiskFault }
 {
-    let mut len = 0;
+    let len = add_tables(out, count, rows)?;
+    if len >= MAX_SLOT_LEN {
+        return Err(SaveError::TooLarge { bytes: len + 1 });
+    }
+    Ok(())
+}
+
+// How many bytes a head and the first n tables have. The tables are appended up to the one with which they have no room in a slot.
+fn add_tables<R: Rows>(out: &mut Vec<u8>, count: u16, rows: &R) -> Result<u64, NoMemory>
+    requires within { count ≤ R.tables rows.now }
+    requires few { (table : ℕ) → table < R.tables rows.now → length (keys_of (R.held rows.now) table) ≤ MAX_SAVED_ROWS }
+    ensures exact { IfOk result (λ len. len ≡ HEAD_LEN + length (flat_map rows_bytes (rows_of_tables (R.held rows.now) count))) }
+    ensures few { IfOk result (λ len. len ≤ HEAD_LEN + MAX_TABLE_LEN * count) }
+    ensures bytes { IfOk result (λ len. len < MAX_SLOT_LEN → Grew out.old.items out.new.items (flat_map rows_bytes (rows_of_tables (R.held rows.now) count))) }
+    ensures form { IfOk result (λ len. len < MAX_SLOT_LEN → (table : ℕ) → table < count → AllByRecursion RowHasBytes (table_rows (R.held rows.now) table)) }
+{
+    let mut len = HEAD_LEN;
     for table in 0..count {
-        len += table_len(table, rows)?;
+        len = add_table(out, len, table, rows)?;
     }
     Ok(len)
 }
 
-// How many bytes the rows of a table have, and their number.
-fn table_len<R: Rows>(table: u16, rows: &R) -> Result<u64, NoMemory>
+// The bytes so far, and those of one table more. It is appended where they have room in a slot.
+fn add_table<R: Rows>(out: &mut Vec<u8>, before: u64, table: u16, rows: &R) -> Result<u64, NoMemory>
     requires within { table < R.tables rows.now }
     requires few { length (keys_of (R.held rows.now) table) ≤ MAX_SAVED_ROWS }
-    ensures exact { IfOk result (λ len. len ≡ length (rows_bytes (table_rows (R.held rows.now) table))) }
-    ensures few { IfOk result (λ len. len ≤ MAX_TABLE_LEN) }
+    requires so_far { before ≤ HEAD_LEN + MAX_TABLE_LEN * 65536 }
+    ensures exact { IfOk result (λ len. len ≡ before + length (rows_bytes (table_rows (R.held rows.now) table))) }
+    ensures few { IfOk result (λ len. len ≤ before + MAX_TABLE_LEN) }
+    ensures bytes { IfOk result (λ len. len < MAX_SLOT_LEN → Grew out.old.items out.new.items (rows_bytes (table_rows (R.held rows.now) table))) }
+    ensures form { IfOk result (λ len. len < MAX_SLOT_LEN → AllByRecursion RowHasBytes (table_rows (R.held rows.now) table)) }
 {
     let found = rows.sorted_rows(table)?;
+    let own = rows_len(&found, table, rows);
+    let len = before + own;
+    if len >= MAX_SLOT_LEN {
+        return Ok(len);
+    }
+    out.reserve(own as usize)?;
+    put_rows(out, &found, table, rows)?;
+    Ok(len)
+}
+
+// How many bytes the rows of a table have, and their number.
+fn rows_len<R: Rows>(found: &[(&Key, &Row)], table: u16, rows: &R) -> u64
+    requires keys { map (λ e. e.0.now) found.now ≡ keys_of (R.held rows.now) table }
+    requires rows { map (λ e. HasIt e.1.now) found.now ≡ map (λ key. tree.get (R.held rows.now) (table, key)) (keys_of (R.held rows.now) table) }
+    requires few { length (keys_of (R.held rows.now) table) ≤ MAX_SAVED_ROWS }
+    ensures exact { result ≡ length (rows_bytes (table_rows (R.held rows.now) table)) }
+    ensures few { result ≤ MAX_TABLE_LEN }
+{
     let mut len = 8;
-    for entry in &found {
+    for entry in found {
         len += keyed_row_len(entry.0, entry.1);
     }
-    Ok(len)
+    len
 }
 
 // How many bytes a row has, with its key.
@@ -111,27 +149,20 @@ fn values_len(row: &Row) -> u64
     len
 }
 
-// Appends the first n tables.
-fn put_tables<R: Rows>(out: &mut Vec<u8>, count: u16, rows: &R) -> Result<(), NoMemory>
-    requires { count ≤ R.tables rows.now }
-    ensures bytes { OnOk result (Grew out.old.items out.new.items (flat_map rows_bytes (rows_of_tables (R.held rows.now) count))) }
-    ensures form { OnOk result ((table : ℕ) → table < count → AllByRecursion RowHasBytes (table_rows (R.held rows.now) table)) }
-{
-    for table in 0..count {
-        put_table(out, table, rows)?;
-    }
-    Ok(())
-}
-
 // Appends the number of a table's rows, and they by ascending keys.
-fn put_table<R: Rows>(out: &mut Vec<u8>, table: u16, rows: &R) -> Result<(), NoMemory>
-    requires { table < R.tables rows.now }
+fn put_rows<R: Rows>(
+    out: &mut Vec<u8>,
+    found: &[(&Key, &Row)],
+    table: u16,
+    rows: &R,
+) -> Result<(), NoMemory>
+    requires keys { map (λ e. e.0.now) found.now ≡ keys_of (R.held rows.now) table }
+    requires rows { map (λ e. HasIt e.1.now) found.now ≡ map (λ key. tree.get (R.held rows.now) (table, key)) (keys_of (R.held rows.now) table) }
     ensures bytes { OnOk result (Grew out.old.items out.new.items (rows_bytes (table_rows (R.held rows.now) table))) }
     ensures form { OnOk result (AllByRecursion RowHasBytes (table_rows (R.held rows.now) table)) }
 {
-    let found = rows.sorted_rows(table)?;
     put_u64(out, found.len() as u64)?;
-    for entry in &found {
+    for entry in found {
         put_keyed_row(out, entry.0, entry.1)?;
     }
     Ok(())

@@ -4,7 +4,7 @@ use Rattle.std.specs.Int.{w64, to_le_bytes}
 use Rattle.std.specs.List.{AllByRecursion}
 use Rattle.pac_check.specs.Checkpoints.{RowHasBytes, keyed_bytes}
 use Rattle.pac_check.specs.Saved.{table_rows}
-use Rattle.pac_check.proofs.text.put_table.Given as goal
+use Rattle.pac_check.proofs.text.put_rows.Given as goal
 
 abbrev pub invariant-loop-entry : goal.invariant-loop-entry
 invariant-loop-entry g l = record {

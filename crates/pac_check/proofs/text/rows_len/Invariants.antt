@@ -3,7 +3,7 @@ use Rattle.std.proofs.Common.{◌≡◌, ◌≤◌, ◌+◌, ◌*◌, length, ta
 use Rattle.pac_check.specs.declared.text.TheConstants.{MAX_ROW_LEN}
 use Rattle.pac_check.specs.Checkpoints.{keyed_bytes}
 use Rattle.pac_check.specs.Saved.{table_rows}
-use Rattle.pac_check.proofs.text.table_len.Given as goal
+use Rattle.pac_check.proofs.text.rows_len.Given as goal
 
 abbrev pub invariant-loop-entry : goal.invariant-loop-entry
 invariant-loop-entry g l = record {
