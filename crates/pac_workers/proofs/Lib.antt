@@ -1,3 +1,2 @@
 mod Executions
 mod Sent
-mod OneTable

@@ -43,8 +43,6 @@ mod hand;
 mod machine;
 mod replaying;
 mod tally;
-#[cfg(test)]
-mod tests;
 mod threads;
 mod worker;
 

@@ -2,9 +2,9 @@
 ghost use Rattle.std.specs.Prelude.{◌≡◌, ◌+◌, ◌<◌, ℕ, Bool, true, IfOk};
 ghost use Rattle.std.specs.Coded.{coded×, coded_ℕ, coded_bool};
 
-use crate::{Machine, Ready, Taken};
 use pac_base::NoMemory;
 use pac_ops::PieceId;
+use pac_workers::{Machine, Ready, Taken};
 use std::alloc::Global;
 use std::marker::Model;
 

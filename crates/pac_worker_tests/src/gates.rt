@@ -1,5 +1,5 @@
 // Gates that tell who passed.
-use crate::tests::chains::Pattern;
+use crate::chains::Pattern;
 use pac_base::NoMemory;
 use pac_outside::Gate;
 use std::alloc::Global;

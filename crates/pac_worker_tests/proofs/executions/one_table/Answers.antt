@@ -3,8 +3,8 @@ use Rattle.std.proofs.Common.{rules, ◌≡◌, List, [], ◌∷◌, sym, ap, su
 use Rattle.pac_value.specs.declared.values.Ty.{Ty}
 use Rattle.pac_value.specs.declared.values.Ty.TheVariants.{Int}
 use Rattle.pac_plan.specs.Analysis.{IsPlan}
-use Rattle.pac_workers.proofs.OneTable.{is_plan, one_table, types}
-use Rattle.pac_workers.proofs.tests.executions.one_table.Goals as goal
+use Rattle.pac_worker_tests.proofs.OneTable.{is_plan, one_table, types}
+use Rattle.pac_worker_tests.proofs.executions.one_table.Goals as goal
 
 pub new-requires-4 : goal.new-requires-4
 new-requires-4 c =

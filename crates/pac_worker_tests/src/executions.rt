@@ -1,13 +1,13 @@
 // Executing batches over a small plan.
 ghost use Rattle.std.specs.Prelude.{◌≡◌, ◌≤◌, IfOk, length};
 
-use crate::execute;
 use pac_base::{NoMemory, listed};
 use pac_ops::{Batch, Change, Records, TableTypes, Txn, Txns};
 use pac_outside::OpenGate;
 use pac_plan::{Plan, PlanParts};
 use pac_tables::{OrderedRows, Rows};
 use pac_value::{Key, Row, Ty, Value};
+use pac_workers::execute;
 use std::alloc::Global;
 use std::sync::Wait;
 use std::thread::Threads;

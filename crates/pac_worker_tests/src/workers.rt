@@ -1,13 +1,9 @@
 // Tests of what no clause says: that threads run, wait, wake each other and end.
-mod chains;
-mod executions;
-mod gates;
-
-use crate::replay;
-use crate::tests::chains::{Chains, Pattern};
-use crate::tests::executions::leaves_the_last;
-use crate::tests::gates::{Counting, Logging, Meeting};
+use crate::chains::{Chains, Pattern};
+use crate::executions::leaves_the_last;
+use crate::gates::{Counting, Logging, Meeting};
 use pac_base::NoMemory;
+use pac_workers::replay;
 use std::alloc::Global;
 
 // Two workers enter the gate, where there is work for both: the first waits there for the second.

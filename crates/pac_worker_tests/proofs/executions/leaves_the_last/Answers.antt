@@ -9,8 +9,8 @@ use Rattle.pac_ops.specs.declared.batch.Batch.{Batch}
 use Rattle.pac_commute.specs.PartialFits.{TxnsFitPlan}
 use Rattle.pac_plan.specs.Codes.{TxnFitsPlan}
 use Rattle.pac_tables.specs.Joined.{Held}
-use Rattle.pac_workers.proofs.OneTable.{all_of_plan}
-use Rattle.pac_workers.proofs.tests.executions.leaves_the_last.Goals as goal
+use Rattle.pac_worker_tests.proofs.OneTable.{all_of_plan}
+use Rattle.pac_worker_tests.proofs.executions.leaves_the_last.Goals as goal
 
 pub execute-requires-clause-fit : goal.execute-requires-clause-fit
 execute-requires-clause-fit g c κs within cell row found =

@@ -1,0 +1,13 @@
+//! Tests of workers, of what no clause says: that threads run, wait, wake each other and end. It has no calls of its own.
+//!
+//! The machine that they replay is one of chains, in which each piece waits for the one before it.
+#![tactic(auto)]
+
+#[cfg(test)]
+mod chains;
+#[cfg(test)]
+mod executions;
+#[cfg(test)]
+mod gates;
+#[cfg(test)]
+mod workers;
