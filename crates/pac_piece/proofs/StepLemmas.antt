@@ -1,15 +1,17 @@
 -- One operation of a piece: from what its effect made of the frame to what the operation means.
-use Rattle.std.proofs.Common.{◌≡◌, ℕ, ◌==◌, Bool, true, false, cond, ◌&&◌, ◌||◌, Option, Some, None, Result, Ok, Err, refl, sym, ap, ◌∙◌, subst}
-use Rattle.std.specs.Prelude.{OnOk, is_some, is_ok}
+use Rattle.std.proofs.Common.{◌≡◌, ℕ, ◌==◌, Bool, true, false, cond, ◌&&◌, ◌||◌, Option, Some, None, Result, Ok, Err, refl, sym, ap, ◌∙◌, subst, inl, inr}
+use Rattle.std.specs.Prelude.{IsSome, OnOk, is_some, is_ok}
 use Rattle.std.specs.FinMap.{get}
 use Rattle.pac_value.specs.declared.values.Value.{Value}
 use Rattle.pac_value.specs.declared.values.Value.TheVariants.{Int, Text, Bool as Truth}
-use Rattle.pac_value.specs.Expressions.{Values, value, ◌>>=◌}
+use Rattle.pac_value.specs.declared.expr.Expr.{Expr}
+use Rattle.pac_value.specs.declared.expr.Trap.{Trap}
+use Rattle.pac_value.specs.Expressions.{Values, type_in, types_of, value, ◌>>=◌}
 use Rattle.pac_value.specs.State.{Cell, RowValues, Tables}
 use Rattle.pac_ops.specs.declared.reason.Reason.{Reason}
 use Rattle.pac_ops.specs.declared.program.OpKind.{OpKind}
 use Rattle.pac_ops.specs.declared.program.OpKind.TheVariants.{Let, Cond, Read, Has, Put, SetCol, Delete, AbortIf}
-use Rattle.pac_ops.specs.Reasons.{or_abort}
+use Rattle.pac_ops.specs.Reasons.{or_abort, reason_of}
 use Rattle.pac_ops.specs.Notes.{note_at, first_note, least}
 use Rattle.pac_ops.specs.Uses.{defined_variable, modifies}
 use Rattle.pac_ops.specs.Operations.{Effect, Nothing, Gives, Leaves, values, replaced, unless_asked, touched, effect, row_at, with_effect, define, done}
@@ -19,8 +21,9 @@ use Rattle.pac_ops.specs.Effects.{NumberedOp, cell_in, is_var}
 use Rattle.pac_ops.proofs.StateLemmas.{get-given, least_none}
 use Rattle.pac_tables.specs.Written.{IsOnce, is_written, written}
 use Rattle.pac_piece.specs.declared.frame.Frame.{Frame}
+use Rattle.pac_piece.specs.Effects.{CanDo}
 use Rattle.pac_piece.specs.Frames.{state_seen, defaulted, done_or_defaulted, cell_changed, is_cell, AreAmong, Given, StepsTo}
-use Rattle.pac_piece.specs.Steps.{cell_left, var_left, Applies, GivesUp}
+use Rattle.pac_piece.specs.Steps.{cell_left, var_left, Applies, GivesUp, GivesValueOf}
 
 pub on_ok : {A E P Q : Type 0} (r : Result A E) → (P → Q) → OnOk r P → OnOk r Q
 on_ok (Ok x) f p = f p
@@ -129,3 +132,47 @@ stepped base txn o old new cell e hold touch has applies = record {
         ap (λ r. cond (modifies o.1.kind && is_ok r) (cond (all_hold old.env o.1.conds) (cell_in (touched o.1.kind old.env)) None) None) is_done
         ∙ ap (λ b. cond (modifies o.1.kind && true) (cond b (cell_in (touched o.1.kind old.env)) None) None) hold
         ∙ ap (λ r. cond (modifies o.1.kind && true) (cell_in r) None) touch
+
+-- ---- an operation that gives a variable the value of an expression
+
+-- it has a type
+pub can_value : (env : Values) (kind : OpKind) (var : ℕ) (e : Expr) → GivesValueOf kind var e → CanDo env kind → IsSome (type_in (types_of env) e)
+can_value env kind var e (inl same) can = subst (CanDo env) same can
+can_value env kind var e (inr same) can = subst (CanDo env) same can
+
+-- where it has one
+pub value_given : (base : Tables) (txn : ℕ) (o : NumberedOp) (old new : Frame) (var : ℕ) (e : Expr) (v : Value) → GivesValueOf o.1.kind var e → all_hold old.env o.1.conds ≡ true → value e old.env ≡ Ok v
+    → IsOnce old.writes.items → Given var v old new → StepsTo base txn o old new
+value_given base txn o old new var e v kind hold is once g = stepped base txn o old new None (Gives var v) hold (none kind) (has kind) (applies_gives var v None old new once g)
+  where
+    none : GivesValueOf o.1.kind var e → touched o.1.kind old.env ≡ Ok None
+    none (inl same) = ap (λ k. touched k old.env) same
+    none (inr same) = ap (λ k. touched k old.env) same
+
+    has : GivesValueOf o.1.kind var e → effect o.1.kind old.env (row_at (state_seen base old).tables None) ≡ Ok (Gives var v)
+    has (inl same) = ap (λ k. effect k old.env (row_at (state_seen base old).tables None)) same ∙ ap (λ r. or_abort r >>= λ w. Ok (Gives var w)) is
+    has (inr same) = ap (λ k. effect k old.env (row_at (state_seen base old).tables None)) same ∙ ap (λ r. or_abort r >>= λ w. Ok (Gives var w)) is
+
+-- where it aborts
+pub value_traps : (base : Tables) (txn : ℕ) (o : NumberedOp) (old new : Frame) (var : ℕ) (e : Expr) (trap : Trap) → GivesValueOf o.1.kind var e → all_hold old.env o.1.conds ≡ true → value e old.env ≡ Err trap
+    → IsOnce old.writes.items → GivesUp txn o (reason_of trap) old new → StepsTo base txn o old new
+value_traps base txn o old new var e trap kind hold is once gives = record {
+  state = gives.state base ∙ sym (ap (λ b. cond b (done_or_defaulted o.1.kind (state_seen base old) (done o.1.kind (state_seen base old))) (state_seen base old)) hold ∙ ap (done_or_defaulted o.1.kind (state_seen base old)) (fails kind));
+  note = gives.note ∙ sym (ap (λ r. least old.note (first_note (note_at txn o.0 r))) (ap (λ b. cond b (reason_in (done o.1.kind (state_seen base old))) None) hold ∙ ap reason_in (fails kind)));
+  changed = λ a. ap (λ ws. is_written ws a) gives.changed ∙ ap (λ c. is_cell a c || is_written old.writes.items a) (sym changes);
+  given = λ x. gives.given x ∙ ap (λ y. is_var x y || is_some (get old.outs x)) (sym (ap (λ b. cond b (defined_variable o.1.kind) None) hold));
+  kept = gives.kept;
+  once = subst (λ ws. IsOnce ws) (sym gives.changed) once;
+}
+  where
+    fails : GivesValueOf o.1.kind var e → done o.1.kind (state_seen base old) ≡ Err (reason_of trap)
+    fails (inl same) = ap (λ k. done k (state_seen base old)) same ∙ ap (λ r. (or_abort r >>= λ w. Ok (Gives var w)) >>= λ d. Ok (with_effect None d (state_seen base old))) is
+    fails (inr same) = ap (λ k. done k (state_seen base old)) same ∙ ap (λ r. (or_abort r >>= λ w. Ok (Gives var w)) >>= λ d. Ok (with_effect None d (state_seen base old))) is
+
+    go : (b : Bool) (c : Option Cell) → cond (b && false) c None ≡ None
+    go true c = refl
+    go false c = refl
+
+    changes : cell_changed o.1 (state_seen base old) ≡ None
+    changes = ap (λ r. cond (modifies o.1.kind && is_ok r) (cond (all_hold old.env o.1.conds) (cell_in (touched o.1.kind old.env)) None) None) (fails kind)
+        ∙ go (modifies o.1.kind) (cond (all_hold old.env o.1.conds) (cell_in (touched o.1.kind old.env)) None)

@@ -1,9 +1,11 @@
 -- What the parts of one operation's execution answer.
-use Rattle.std.specs.Prelude.{◌≡◌, ℕ, ◌||◌, Option, Some, None, is_some, Result, Ok, Err}
+use Rattle.std.specs.Prelude.{◌≡◌, ◌⊎◌, ℕ, ◌||◌, Option, Some, None, is_some, Result, Ok, Err}
 use Rattle.std.specs.FinMap.{get}
+use Rattle.pac_value.specs.declared.expr.Expr.{Expr}
 use Rattle.pac_value.specs.State.{Cell, Tables}
 use Rattle.pac_ops.specs.declared.reason.Reason.{Reason}
 use Rattle.pac_ops.specs.declared.program.OpKind.{OpKind}
+use Rattle.pac_ops.specs.declared.program.OpKind.TheVariants.{Let, Cond}
 use Rattle.pac_ops.specs.Notes.{least}
 use Rattle.pac_ops.specs.Uses.{defined_variable}
 use Rattle.pac_ops.specs.Operations.{State, Effect, Nothing, Gives, Leaves, touched, effect, row_at, with_effect, done}
@@ -34,6 +36,10 @@ abbrev pub var_left : Effect → Option ℕ
 var_left Nothing = None
 var_left (Gives x v) = Some x
 var_left (Leaves row) = None
+
+-- an operation of this kind gives a variable the value of an expression
+abbrev pub GivesValueOf : OpKind → ℕ → Expr → Type 0
+GivesValueOf kind var e = (kind ≡ Let var e) ⊎ (kind ≡ Cond var e)
 
 -- an effect was had
 pub record Applies (cell : Option Cell) (e : Effect) (old new : Frame) : Type 0 where

@@ -1,6 +1,7 @@
 // One operation of a piece.
 ghost use Rattle.std.specs.Prelude.{◌≡◌, true, OnOk};
 ghost use Rattle.pac_value.specs.Expressions.{is_arithmetic};
+ghost use Rattle.pac_value.specs.State.{Tables};
 ghost use Rattle.pac_ops.specs.Flat.{all_hold, default_of};
 ghost use Rattle.pac_ops.specs.Defaults.{trapped_expr, trapped_type};
 ghost use Rattle.pac_ops.specs.Operations.{touched};
@@ -8,7 +9,7 @@ ghost use Rattle.pac_tables.specs.Written.{IsOnce};
 ghost use Rattle.pac_piece.specs.Effects.{CanDo, effect_of};
 ghost use Rattle.pac_piece.specs.Frames.{StepsTo, state_seen};
 ghost use Rattle.pac_piece.specs.Sources.{HasTable};
-ghost use Rattle.pac_piece.specs.Steps.{AnswersAt, Applies, GivesUp};
+ghost use Rattle.pac_piece.specs.Steps.{AnswersAt, Applies, GivesUp, GivesValueOf};
 
 use crate::changes::change;
 use crate::effects::{OpEffect, effect};
@@ -17,7 +18,7 @@ use crate::frame::{Frame, give, lesser};
 use crate::source::{RowSource, row_at};
 use pac_base::NoMemory;
 use pac_ops::{FlatOp, Note, OpKind, Reason, all_hold, key_of};
-use pac_value::{BinOp, Env, Expr, Key, Text, Trap, Ty, Value};
+use pac_value::{BinOp, Env, Expr, Key, Text, Trap, Ty, Value, eval};
 use std::alloc::Global;
 
 /// Runs one operation, over the rows of a source and what the piece has done so far.
@@ -36,6 +37,48 @@ pub(crate) fn run_op<S: RowSource>(
     if !all_hold(op.1.conds.as_slice(), &frame.env) {
         return Ok(());
     }
+    match &op.1.kind {
+        OpKind::Let { var, value } => run_value(txn, op, *var, value, frame),
+        OpKind::Cond { var, test } => run_value(txn, op, *var, test, frame),
+        _ => run_touching(alloc, txn, op, source, frame),
+    }
+}
+
+// Runs an operation that gives a variable the value of an expression, and touches no cell. The value is handed on by
+// reference: it is large.
+fn run_value(
+    txn: u64,
+    op: &(u16, FlatOp),
+    var: u16,
+    expr: &Expr,
+    frame: &mut Frame,
+) -> Result<(), NoMemory>
+    requires kind { GivesValueOf op.now.1.kind var expr.now }
+    requires holds { all_hold frame.old.env op.now.1.conds ≡ true }
+    requires can { CanDo frame.old.env op.now.1.kind }
+    requires once { IsOnce frame.old.writes.items }
+    ensures { OnOk result ((base : Tables) → StepsTo base txn op.now frame.old frame.new) }
+{
+    match eval(expr, &frame.env) {
+        Ok(value) => give(frame, var, &value),
+        Err(trap) => give_up(txn, op, Reason::from(trap), frame),
+    }
+}
+
+// Runs any operation whose conditions hold.
+fn run_touching<S: RowSource>(
+    alloc: Global,
+    txn: u64,
+    op: &(u16, FlatOp),
+    source: &S,
+    frame: &mut Frame,
+) -> Result<(), NoMemory>
+    requires holds { all_hold frame.old.env op.now.1.conds ≡ true }
+    requires can { CanDo frame.old.env op.now.1.kind }
+    requires there { HasTable (S.There source.now) op.now.1.kind }
+    requires once { IsOnce frame.old.writes.items }
+    ensures { OnOk result (StepsTo (S.base source.now) txn op.now frame.old frame.new) }
+{
     match touched_effect(alloc, &op.1.kind, source, frame) {
         Ok((cell, effect)) => apply(cell, effect, frame),
         Err(OpFailed::Abort(reason)) => give_up(txn, op, reason, frame),

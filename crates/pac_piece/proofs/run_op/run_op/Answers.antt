@@ -1,14 +1,16 @@
--- The operation has its effect.
-use Rattle.std.proofs.Common.{◌≡◌, true, subst}
-use Rattle.pac_ops.specs.Flat.{all_hold}
-use Rattle.pac_piece.specs.Frames.{state_seen}
-use Rattle.pac_piece.specs.Effects.{effect_of}
-use Rattle.pac_piece.specs.Steps.{AnswersAt}
-use Rattle.pac_piece.proofs.StepLemmas.{on_ok, stepped}
+-- By its kind, where its conditions hold.
+use Rattle.std.proofs.Common.{inl, inr}
+use Rattle.pac_piece.proofs.StepLemmas.{on_ok}
 use Rattle.pac_piece.proofs.run_op.run_op.Goals as goal
 
-pub returns-in-Ok : goal.returns-in-Ok
-returns-in-Ok g c =
-    let at = subst (λ (r : _). AnswersAt c.args.op.now.1.kind (state_seen (g.S.RowSource.base c.args.source.now) c.args.frame.now) r) c.in-Ok.is c.touched_effect.ensures in
-    let holds : all_hold c.args.frame.now.env c.args.op.now.1.conds ≡ true = cc in
-    on_ok c.apply.result (stepped (g.S.RowSource.base c.args.source.now) c.args.txn c.args.op.now c.args.frame.now c.apply.new.frame c.in-Ok.cell (effect_of c.in-Ok.effect) holds at.0 at.1) c.apply.ensures
+pub run_value-requires-clause-kind : goal.run_value-requires-clause-kind
+run_value-requires-clause-kind g c = inl c.in-Let.is
+
+pub run_value-requires-in-Cond-clause-kind : goal.run_value-requires-in-Cond-clause-kind
+run_value-requires-in-Cond-clause-kind g c = inr c.in-Cond.is
+
+pub returns-in-Let : goal.returns-in-Let
+returns-in-Let g c = on_ok c.run_value.result (λ steps. steps (g.S.RowSource.base c.args.source.now)) c.run_value.ensures
+
+pub returns-in-Cond : goal.returns-in-Cond
+returns-in-Cond g c = on_ok c.run_value-in-Cond.result (λ steps. steps (g.S.RowSource.base c.args.source.now)) c.run_value-in-Cond.ensures
