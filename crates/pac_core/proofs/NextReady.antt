@@ -259,3 +259,22 @@ from_same job p new keeps keeps_new same at ready_from q j kept ready there =
     (ap (λ l. slice_get l j) (sym ids) ∙ at_map (λ (set : Kept SetStage). set.0) new.sets.sets j (set_of_piece (batches_of new) q, kept) there) in
     ready_from q j old.0.1 (subst (λ (r : Replay). IsReadyAt job (machine_of r) q) same ready)
     (old.1 ∙ ap (λ (s : SetId). Some (s, old.0.1)) (old.2 ∙ ap (λ bs. set_of_piece bs q) batches))
+
+-- it counts for nothing where a piece was taken last
+pub seen_keeps : (job : Job) (p : Progress) (at : ℕ) → KeepsProgress job p → KeepsProgress job (record p { recent = at })
+seen_keeps job p at keeps = record {
+  parts = keeps.parts;
+  first = keeps.first;
+  edges = keeps.edges;
+  blocks = keeps.blocks;
+  is_plan = keeps.is_plan;
+  fit = keeps.fit;
+  machine = keeps.machine;
+  note = keeps.note;
+  next = keeps.next;
+  unfinished = keeps.unfinished;
+  sets = keeps.sets;
+  ascend = keeps.ascend;
+  stages = keeps.stages;
+  values = keeps.values;
+}

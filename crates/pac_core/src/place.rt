@@ -46,8 +46,41 @@ fn txn_in(batches: &[LoadedBatch], txn: u64) -> Option<(usize, usize)>
 }
 
 impl Progress {
-    /// Where a piece that is out belongs. `None`: it isn't out. Takes no memory.
+    /// Where a piece that is out belongs. `None`: it isn't out. Takes no memory, and a constant number of steps beside a search
+    /// in its set where that is the set from which a piece was taken last.
     pub fn place_of_out(&self, piece: PieceId) -> Option<Place>
+        requires { IsKeptProgress self.now }
+        ensures found { IfSome result (λ place. IsPieceAt self.now place piece Out) }
+        ensures none { IfNone result ((job : Job) → KeepsProgress job self.now → among (replay_so_far job self.now).out piece ≡ false) }
+    {
+        match self.place_in(self.recent, piece) {
+            Some(place) => Some(place),
+            None => self.place_by_number(piece),
+        }
+    }
+
+    // Where a piece belongs that is out of the set at an offset. `None`: there is no such set, or it has no such piece.
+    fn place_in(&self, at: usize, piece: PieceId) -> Option<Place>
+        requires { IsKeptProgress self.now }
+        ensures { IfSome result (λ place. IsPieceAt self.now place piece Out) }
+    {
+        if at >= self.sets.len() {
+            return None;
+        }
+        let position = self.position_out(at, piece)?;
+        let (set, _) = self.sets.get(at);
+        let batch = set.batch as usize;
+        let index = (piece.txn - self.batches[batch].batch.first) as usize;
+        Some(Place {
+            at,
+            position,
+            batch,
+            index,
+        })
+    }
+
+    // The same as `place_of_out`, by the number of the transaction.
+    fn place_by_number(&self, piece: PieceId) -> Option<Place>
         requires { IsKeptProgress self.now }
         ensures found { IfSome result (λ place. IsPieceAt self.now place piece Out) }
         ensures none { IfNone result ((job : Job) → KeepsProgress job self.now → among (replay_so_far job self.now).out piece ≡ false) }

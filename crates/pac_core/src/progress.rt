@@ -33,6 +33,8 @@ pub(crate) struct Progress {
     /// How many pieces are not finished.
     pub unfinished: u64,
     pub is_closed: bool,
+    /// The offset of the set whose piece came next last: a piece that is out is looked for there first.
+    pub recent: usize,
 }
 
 impl Progress {
@@ -56,6 +58,7 @@ impl Progress {
             next: first,
             unfinished: 0,
             is_closed: false,
+            recent: 0,
         })
     }
 
@@ -76,6 +79,7 @@ impl Progress {
         while let Some(at) = self.sets.first_open(from) {
             self.open(at)?;
             if let Some(piece) = self.ready_in(at) {
+                self.recent = at;
                 return Ok(Some((at, piece)));
             }
             from = at + 1;

@@ -8,7 +8,7 @@ use Rattle.pac_core.specs.declared.progress.Progress.{Progress}
 use Rattle.pac_core.specs.declared.stage.SetStage.{SetStage}
 use Rattle.pac_core.specs.Links.{KeepsProgress, replay_so_far, set_ids}
 use Rattle.pac_core.specs.Replay.{Replay}
-use Rattle.pac_core.proofs.NextReady.{from_next, from_open, from_same, next_here, none_left}
+use Rattle.pac_core.proofs.NextReady.{from_next, from_open, from_same, next_here, none_left, seen_keeps}
 use Rattle.pac_core.proofs.progress.Progress.next_ready.Goals as goal
 
 -- as many sets as before
@@ -33,7 +33,16 @@ returns-in-Some-ready_in-clause-next c = λ job keeps.
     let after = c.in_ok-open.ensures.keeps job before in
     let from = from_same job c.loop-at.self c.open.new.self before after (c.in_ok-open.ensures.same job before) c.in-Some.at
     (from_open job c.loop-at.self before c.loop-at.from c.in-Some.at (c.loop-at.invariant.from job keeps) c.in-Some.ensures) in
-    (next_here job c.open.new.self after c.in-Some.at c.in-Some-ready_in.ensures.found.stands from c.in-Some-ready_in.piece c.in-Some-ready_in.ensures.found.picked, c.in-Some-ready_in.ensures.found)
+    let found = c.in-Some-ready_in.ensures.found in (
+      next_here job c.open.new.self after c.in-Some.at found.stands from c.in-Some-ready_in.piece found.picked,
+      record { stands = record { set = found.stands.set; opening = found.stands.opening; there = found.stands.there }; picked = found.picked },
+    )
+
+pub returns-in-Some-ready_in-clause-keeps : goal.returns-in-Some-ready_in-clause-keeps
+returns-in-Some-ready_in-clause-keeps c = λ job keeps. seen_keeps job c.open.new.self c.in-Some.at (c.in_ok-open.ensures.keeps job (c.loop-at.invariant.keeps job keeps))
+
+pub returns-in-Some-ready_in-clause-same : goal.returns-in-Some-ready_in-clause-same
+returns-in-Some-ready_in-clause-same c = λ job keeps. c.in_ok-open.ensures.same job (c.loop-at.invariant.keeps job keeps) ∙ c.loop-at.invariant.same job keeps
 
 pub overflow_add-from : goal.overflow_add-from
 overflow_add-from c =

@@ -6,7 +6,7 @@ use Rattle.pac_core.specs.declared.loaded.LoadedBatch.{LoadedBatch}
 use Rattle.pac_core.specs.declared.stage.SetStage.{SetStage}
 use Rattle.pac_core.specs.Places.{IsTxnIn, IsTxnNowhere}
 use Rattle.pac_core.proofs.OutPlaces.{if_none, no_set_out, not_out, nowhere_out}
-use Rattle.pac_core.proofs.progress.Progress.place_of_out.Goals as goal
+use Rattle.pac_core.proofs.progress.Progress.place_by_number.Goals as goal
 
 pub returns-in_err-batch-clause-none : goal.returns-in_err-batch-clause-none
 returns-in_err-batch-clause-none c = if_none c.from_residual.result _ (λ job keeps.
