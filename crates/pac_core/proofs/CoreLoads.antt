@@ -1,5 +1,5 @@
 -- What becomes of a core where a batch is loaded, where nothing is, and where nothing that counts is changed.
-use Rattle.std.proofs.Common.{◌≡◌, ◌⊎◌, ℕ, ◌+◌, Bool, true, false, cond, not, List, [], ◌∷◌, ◌++◌, map, length, Result, Ok, Err, OnErr, OnOk, refl, sym, ap, ap₂, subst, ◌∙◌, inl, inr, arith}
+use Rattle.std.proofs.Common.{◌≡◌, ◌⊎◌, ℕ, ◌+◌, ◌≤◌, Bool, true, false, cond, not, List, [], ◌∷◌, ◌++◌, map, length, Result, Ok, Err, OnErr, OnOk, refl, sym, ap, ap₂, subst, ◌∙◌, inl, inr, arith}
 use Rattle.std.specs.Prelude.{filter, slice_get, T}
 use Rattle.std.specs.FinMap.{is_sorted}
 use Rattle.pac_base.specs.Members.{Mem}
@@ -26,11 +26,12 @@ use Rattle.pac_core.specs.declared.stage.OpenSet.{OpenSet}
 use Rattle.pac_core.specs.declared.stage.SetStage.{SetStage}
 use Rattle.pac_core.specs.declared.stage.SetStage.TheVariants.{Waiting, Open}
 use Rattle.pac_core.specs.Calls.{IsReplayDone, IsReplayOutcome}
-use Rattle.pac_core.specs.Links.{AreStages, IsCore, IsOpened, KeepsProgress, KeepsValues, batches_of, core_of, job_of, pieces_marked, replay_so_far, set_ids}
+use Rattle.pac_core.specs.Links.{AreStages, IsCore, IsOpened, KeepsProgress, KeepsValues, ReadyFrom, batches_of, core_of, job_of, pieces_marked, replay_so_far, set_ids}
 use Rattle.pac_core.specs.Moves.{IsAlike, IsLoadedTo, IsOpeningProgress}
 use Rattle.pac_core.specs.Replay.{Replay, left, loaded_pieces, machine_of, opening_replay, present_of, with_batch_loaded}
 use Rattle.pac_core.proofs.Alike.{invariant_is, present_is}
 use Rattle.pac_core.proofs.LoadedMore as more
+use Rattle.pac_core.proofs.NextReady.{from_same}
 use Rattle.pac_core.proofs.LoadingFacts.{pieces_counted, sets_sorted}
 
 -- ---- the same is kept
@@ -71,17 +72,22 @@ module _ (job : Job) (p new : Progress) (a : IsAlike p new) (keeps : KeepsProgre
         (subst (λ (ls : List LoadedBatch). KeepsValues (replay_so_far job p) ls p.sets.sets) (sym a.batches) keeps.values));
   }
 
+  pub alike_seen : ReadyFrom job p p.recent → ReadyFrom job new new.recent
+  alike_seen seen = subst (ReadyFrom job new) (sym a.recent) (from_same job p new keeps alike_keeps alike_same p.recent seen)
+
 -- the job of a core stays where its plan and its first number do
 pub same_job : (p new : Progress) (u : Undoable) → new.pieces ≡ p.pieces → new.first ≡ p.first → job_of new u ≡ job_of p u
 same_job p new u pieces first = λ k. record { parts = pieces k; first = first k; tables = u.opening }
 
 -- so does a core whose progress goes on for the same job, with the same tables
-pub goes_on : (p new : Progress) (u : Undoable) (core : IsCore p u) → KeepsProgress (job_of p u) new → (replay_so_far (job_of p u) new ≡ core_of p u) → IsCore new u × (core_of new u ≡ core_of p u)
-goes_on p new u core keeps same = (
+pub goes_on : (p new : Progress) (u : Undoable) (core : IsCore p u) → KeepsProgress (job_of p u) new → (replay_so_far (job_of p u) new ≡ core_of p u) → ReadyFrom (job_of p u) new new.recent
+    → IsCore new u × (core_of new u ≡ core_of p u)
+goes_on p new u core keeps same seen = (
   record {
     progress = subst (λ (j : Job). KeepsProgress j new) (sym job) keeps;
     tables = core.tables ∙ ap (λ (parts : PlanParts). length parts.tables) keeps.parts;
     rows = core.rows ∙ ap (λ (r : Replay). (present_of r).tables) (sym replay);
+    seen = subst (λ (j : Job). ReadyFrom j new new.recent) (sym job) seen;
   },
   replay,
 )
@@ -119,6 +125,7 @@ module _ (p : Progress) (u : Undoable) (core : IsCore p u) (batch : Batch) (firs
         (more.load_keeps job p core.progress batch first_is fits new to up (pieces_counted job (batches_of p) core.progress.machine.run_on batch first_is));
     tables = core.tables ∙ ap (λ (parts : PlanParts). length parts.tables) (sym to.pieces);
     rows = core.rows ∙ ap (λ (s : Present). s.tables) (more.present_now job p core.progress batch first_is fits new to up) ∙ ap (λ (r : Replay). (present_of r).tables) (sym loaded_is);
+    seen = λ q j kept ready there. subst (λ n. n ≤ j) (sym to.recent) (omega arith);
   }
 
 -- ---- nothing is loaded
@@ -180,6 +187,7 @@ module _ (parts : PlanParts) (is_plan : IsPlan parts) (first : ℕ) (tables : Ta
     rows = ap (λ (x : Undoable). x.current) undo
         ∙ ap (λ (s : Present). s.tables) (present_is (opening_replay new_job) [] [] (begin new_job []) (steps.opens new_job) (λ q mem. refl) (λ q mem. absurd mem) (λ q mem. absurd mem))
         ∙ ap (λ (r : Replay). (present_of r).tables) (sym opening_core_is);
+    seen = λ q j kept ready there. subst (λ n. n ≤ j) (sym opening.recent) (omega arith);
   }
 
 -- ---- what a load leaves
@@ -187,7 +195,7 @@ module _ (parts : PlanParts) (is_plan : IsPlan parts) (first : ℕ) (tables : Ta
 module _ (p : Progress) (u : Undoable) (core : IsCore p u) (batch : Batch) (first : batch.first ≡ p.next) (fits : TxnsFitPlan p.pieces batch.txns) (new : Progress) where
   pub load_core : {A E : Type 0} (r : Result A E) → OnOk r (IsLoadedTo p batch new) → OnErr r (IsAlike p new) → IsCore new u
   load_core (Ok a) ok err = loaded_core p u core batch first fits new ok
-  load_core (Err e) ok err = (goes_on p new u core (alike_keeps (job_of p u) p new err core.progress) (alike_same (job_of p u) p new err core.progress)).0
+  load_core (Err e) ok err = (goes_on p new u core (alike_keeps (job_of p u) p new err core.progress) (alike_same (job_of p u) p new err core.progress) (alike_seen (job_of p u) p new err core.progress core.seen)).0
 
   pub load_is : {A E : Type 0} (r : Result A E) → OnOk r (IsLoadedTo p batch new) → OnOk r (core_of new u ≡ with_batch_loaded (core_of p u) batch)
   load_is (Ok a) ok = loaded_is p u core batch first fits new ok
@@ -195,7 +203,7 @@ module _ (p : Progress) (u : Undoable) (core : IsCore p u) (batch : Batch) (firs
 
   pub load_same : {A E : Type 0} (r : Result A E) → OnErr r (IsAlike p new) → OnErr r (core_of new u ≡ core_of p u)
   load_same (Ok a) err = tt
-  load_same (Err e) err = (goes_on p new u core (alike_keeps (job_of p u) p new err core.progress) (alike_same (job_of p u) p new err core.progress)).1
+  load_same (Err e) err = (goes_on p new u core (alike_keeps (job_of p u) p new err core.progress) (alike_same (job_of p u) p new err core.progress) (alike_seen (job_of p u) p new err core.progress core.seen)).1
 
 -- ---- the end
 
@@ -245,6 +253,7 @@ closed_core p u core = record {
   };
   tables = core.tables;
   rows = core.rows;
+  seen = core.seen;
 }
   where
     opened : (set : SetId) (txns : List ℕ) (opening : OpenSet) → IsOpened (core_of p u) p.sets.sets set txns opening → IsOpened (core_of (record p { is_closed = true }) u) p.sets.sets set txns opening

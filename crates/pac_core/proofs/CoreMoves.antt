@@ -1,5 +1,6 @@
 -- What becomes of a core where a piece at a place is handed out, given back or finished.
-use Rattle.std.proofs.Common.{◌≡◌, ℕ, true, false, List, length, Option, Some, sym, ap, subst, ◌∙◌}
+use Rattle.std.proofs.Common.{◌≡◌, ℕ, ◌+◌, ◌-◌, ◌≤◌, true, false, List, length, map, Option, Some, refl, sym, ap, subst, ◌∙◌, arith}
+use Rattle.pac_base.specs.Members.{Mem}
 use Rattle.pac_value.specs.Expressions.{Values}
 use Rattle.pac_value.specs.State.{Tables}
 use Rattle.pac_ops.specs.declared.note.Note.{Note}
@@ -8,6 +9,7 @@ use Rattle.pac_ops.specs.declared.transaction.Txn.{Txn}
 use Rattle.pac_plan.specs.declared.access.Access.TheVariants.{Whole}
 use Rattle.pac_plan.specs.declared.parts.PlanParts.{PlanParts}
 use Rattle.pac_plan.specs.Pieces.{Present, apply}
+use Rattle.pac_plan.specs.Worlds.{batch_of}
 use Rattle.pac_tables.specs.declared.writes.Write.{Write}
 use Rattle.pac_tables.specs.Written.{written}
 use Rattle.pac_sched.specs.declared.state.PieceState.{PieceState}
@@ -15,25 +17,32 @@ use Rattle.pac_sched.specs.declared.state.PieceState.TheVariants as state
 use Rattle.pac_sched.specs.declared.state.Pick.TheVariants.{Piece}
 use Rattle.pac_sched.specs.Schedules.{IsInOrder, Schedule, after_take, handed_out, is_finished, pick, with_state}
 use Rattle.pac_sched.proofs.CallLemmas.{picked}
-use Rattle.pac_sets.specs.Sets.{with_kept_at}
+use Rattle.pac_sets.specs.declared.set_id.SetId.{SetId}
+use Rattle.pac_sets.specs.Sets.{Kept, Setting, with_kept_at}
 use Rattle.pac_undo.specs.Undo.{Undoable}
 use Rattle.pac_commute.specs.Loads.{Job}
 use Rattle.pac_commute.specs.Machine.{IsReadyAt, Kept as KeptStep, Ran, access_at, all_but, among, world_at}
 use Rattle.pac_commute.proofs.Steps as steps
+use Rattle.pac_core.specs.declared.loaded.LoadedBatch.{LoadedBatch}
 use Rattle.pac_core.specs.declared.place.Place.{Place}
 use Rattle.pac_core.specs.declared.progress.Progress.{Progress}
 use Rattle.pac_core.specs.declared.stage.OpenSet.{OpenSet}
+use Rattle.pac_core.specs.declared.stage.SetStage.{SetStage}
 use Rattle.pac_core.specs.declared.stage.SetStage.TheVariants.{Open}
 use Rattle.pac_core.specs.Inputs.{LeavesValues}
-use Rattle.pac_core.specs.Links.{IsCore, KeepsProgress, core_of, job_of, piece_in, replay_so_far}
+use Rattle.pac_core.specs.Links.{IsCore, KeepsProgress, ReadyFrom, batches_of, core_of, job_of, piece_in, replay_so_far, set_of_piece}
 use Rattle.pac_core.specs.Moves.{IsFinishedAt, IsFinishedTo, IsMovedTo, IsOrderAfter}
 use Rattle.pac_core.specs.Places.{AreValuesAt, IsPieceAt, IsTxnAt}
-use Rattle.pac_core.specs.Replay.{machine_of, present_of, with_finished, with_out, without_out}
+use Rattle.pac_core.specs.Replay.{loaded_pieces, machine_of, present_of, with_finished, with_out, without_out}
 use Rattle.pac_core.specs.Results.{IsKeptAfter, IsResult}
 use Rattle.pac_core.proofs.BackIn as back
 use Rattle.pac_core.proofs.FinishedOne as finished
 use Rattle.pac_core.proofs.FinishedOne.{IsStepped, out_but}
+use Rattle.pac_core.proofs.KeptAt.{ids_stay}
+use Rattle.pac_core.proofs.Lists.{at_map}
 use Rattle.pac_core.proofs.PlacedPieces as placed
+use Rattle.pac_core.proofs.SeenSets.{seen_finished, seen_out}
+use Rattle.pac_core.proofs.SetFacts.{Stands, batch_at}
 use Rattle.pac_core.proofs.TakenOut as taken
 
 -- ---- it is handed out
@@ -86,6 +95,7 @@ module _ (p : Progress) (u : Undoable) (core : IsCore p u) (place : Place) (piec
         (taken.present_now job p core.progress place.at at.stands.set at.stands.opening (placed.set job p core.progress place piece state.Waiting at) place.position piece.txn
         (placed.index_is job p core.progress place piece state.Waiting at) at.stands.far_is ready_q keys_q order_q
         ∙ ap present_of (sym out_is));
+    seen = seen_out job p core.progress q out_progress refl (ids_stay p.sets.sets place.at (Some (Open out_open))) core.seen refl out_is;
   }
 
   pub taken_core : IsCore new u
@@ -97,7 +107,7 @@ module _ (p : Progress) (u : Undoable) (core : IsCore p u) (place : Place) (piec
 -- ---- it is given back
 
 module _ (p : Progress) (u : Undoable) (core : IsCore p u) (place : Place) (piece : PieceId) (at : IsPieceAt p place piece state.Out)
-    (new : Progress) (to : IsMovedTo (λ sched. with_state sched piece state.Waiting) p place.at new) (order : IsOrderAfter (λ sched. with_state sched piece state.Waiting) p place.at) where
+    (new : Progress) (to : IsMovedTo (λ sched. with_state sched piece state.Waiting) p place.at new) (order : IsOrderAfter (λ sched. with_state sched piece state.Waiting) p place.at) (anew : p.recent ≡ 0) where
   abbrev back_job : Job
   back_job = job_of p u
 
@@ -134,6 +144,7 @@ module _ (p : Progress) (u : Undoable) (core : IsCore p u) (place : Place) (piec
         (back.present_now back_job p core.progress place.at at.stands.set at.stands.opening (placed.set back_job p core.progress place piece state.Out at) place.position piece.txn
         (placed.index_is back_job p core.progress place piece state.Out at) at.stands.far_is order_back
         ∙ ap present_of (sym back_replay));
+    seen = λ q j kept ready there. subst (λ n. n ≤ j) (sym anew) (omega arith);
   }
 
   pub back_core : IsCore new u
@@ -207,6 +218,20 @@ module _ (p : Progress) (u : Undoable) (core : IsCore p u) (place : Place) (piec
       (placed.in_set_batch end_job p core.progress place piece far at txn txn_is) writes outs note result_end kept kept_now at.txn.loaded (placed.loaded_there end_job p core.progress place piece far at)
       (placed.before_is end_job p core.progress place piece far at txn txn_is kept kept_is) leaves_end new to_end
 
+  -- the set is that of the piece
+  end_set : at.stands.set ≡ set_of_piece (batches_of p) end_piece
+  end_set =
+      let stands : Stands (batches_of p) piece.txn place.batch place.index = record {
+        batch = at.txn.loaded.batch;
+        there = at_map (λ (l : LoadedBatch). l.batch) p.batches.items place.batch at.txn.loaded at.txn.there;
+        inside = at.txn.inside;
+        number = at.txn.number;
+      } in
+      let batch : at.stands.set.batch ≡ place.batch = placed.batch_is end_job p core.progress place piece far at in
+      let number : batch_of (batches_of p) piece.txn ≡ place.batch + 1 = batch_at end_job.parts end_job.first (batches_of p) core.progress.machine.run_on piece.txn place.batch place.index stands in
+      let same : at.stands.set.batch ≡ batch_of (batches_of p) piece.txn - 1 = omega (arith, batch, number) in
+      λ k. record { batch = same k; block = at.stands.set.block }
+
   -- the job is the same
   job_same : (after : Undoable) → after.opening ≡ u.opening → job_of new after ≡ end_job
   job_same after same = λ k. record { parts = to_end.pieces k; first = to_end.first k; tables = same k }
@@ -227,4 +252,8 @@ module _ (p : Progress) (u : Undoable) (core : IsCore p u) (place : Place) (piec
           ∙ ap (λ (t : Tables). written t writes) core.rows
           ∙ sym result_end.tables
           ∙ ap (λ (s : Present). s.tables) (end_present ∙ ap present_of (sym end_replay) ∙ ap (λ (j : Job). present_of (replay_so_far j new)) (sym (job_same after opening_same)));
+      seen = subst (λ (j : Job). ReadyFrom j new new.recent) (sym (job_same after opening_same))
+          (seen_finished end_job p core.progress end_piece new to_end.batches (ap (λ (s : Setting SetStage). map (λ (set : Kept SetStage). set.0) s.sets) to_end.sets ∙ ids_stay p.sets.sets place.at _) core.seen
+          (subst (λ (x : PieceId). Mem x (loaded_pieces (core_of p u))) (sym end_own) (placed.loaded_is end_job p core.progress place piece far at))
+          place.at (Some (Open at.stands.opening)) (at.stands.there ∙ ap (λ (s : SetId). Some (s, Some (Open at.stands.opening))) end_set) to_end.recent end_replay);
     }

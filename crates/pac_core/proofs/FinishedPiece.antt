@@ -1,5 +1,5 @@
 -- A piece is finished: its set is changed or ends, and its transaction keeps other values.
-use Rattle.std.proofs.Common.{◌≡◌, ℕ, ◌+◌, ◌==◌, Bool, true, false, cond, not, List, map, Option, Some, None, refl, sym, ap, ◌∙◌}
+use Rattle.std.proofs.Common.{◌≡◌, ℕ, ◌+◌, ◌≤◌, ◌==◌, Bool, true, false, cond, not, List, map, Option, Some, None, refl, sym, ap, subst, ◌∙◌}
 use Rattle.std.specs.Prelude.{slice_get}
 use Rattle.std.proofs.lemmas.List.Folds.{sum_by-zero}
 use Rattle.pac_value.specs.Expressions.{Values}
@@ -68,11 +68,11 @@ module _ (p : Progress) (place : Place) (piece : PieceId) (kept : Values) (note 
 
   pub finished_to : (id : SetId) (opening : OpenSet) → id.batch ≡ place.batch → (new : Progress) → new.pieces ≡ lifted.pieces
       → new.sets ≡ record p.sets { sets = with_kept_at p.sets.sets place.at (after_finish (finished_in opening piece)) }
-      → new.note ≡ least lifted.note note → new.first ≡ lifted.first → new.next ≡ lifted.next → new.unfinished + 1 ≡ lifted.unfinished → new.is_closed ≡ lifted.is_closed
+      → new.note ≡ least lifted.note note → new.first ≡ lifted.first → new.next ≡ lifted.next → new.unfinished + 1 ≡ lifted.unfinished → new.is_closed ≡ lifted.is_closed → (new.recent ≤ lifted.recent) × (new.recent ≤ place.at)
       → batches_of new ≡ map (λ (l : LoadedBatch). l.batch) batches
       → ((k : ℕ) (loaded : LoadedBatch) → slice_get new.batches.items k ≡ Some loaded → IsUnfinishedBatch new.sets.sets k → (q : LoadedBatch) × (slice_get batches k ≡ Some q) × (loaded.batch ≡ q.batch) × (loaded.kept.items ≡ q.kept.items))
       → IsFinishedTo p place.at id opening piece place.index kept note new
-  finished_to id opening own new pieces sets note_is first next unfinished closed batches_are values = record {
+  finished_to id opening own new pieces sets note_is first next unfinished closed recent batches_are values = record {
     pieces = pieces ∙ ap (λ (x : Progress). x.pieces) now;
     sets = sets;
     note_is = note_is ∙ ap (λ (x : Progress). least x.note note) now;
@@ -80,6 +80,7 @@ module _ (p : Progress) (place : Place) (piece : PieceId) (kept : Values) (note 
     next = next ∙ ap (λ (x : Progress). x.next) now;
     unfinished = unfinished ∙ ap (λ (x : Progress). x.unfinished) now;
     closed = closed ∙ ap (λ (x : Progress). x.is_closed) now;
+    recent = (subst (λ (x : Progress). new.recent ≤ x.recent) now recent.0, recent.1);
     batches = batches_are ∙ old_batches;
     values = λ k loaded there left. let q = values k loaded there left in values_from id own k loaded q.0 q.1 q.2 q.3;
   }

@@ -1,5 +1,5 @@
 -- What a piece leaves is kept of its transaction: what is known of the replay before it is finished, and then; and where there is no room, all is as it was.
-use Rattle.std.proofs.Common.{◌≡◌, ℕ, zero, suc, ◌+◌, ◌<◌, ◌==◌, Bool, true, false, cond, List, [], ◌∷◌, length, Result, Ok, Err, Option, Some, refl, sym, ap, subst, ◌∙◌}
+use Rattle.std.proofs.Common.{◌≡◌, ℕ, zero, suc, ◌+◌, ◌<◌, ◌≤◌, ◌==◌, Bool, true, false, cond, List, [], ◌∷◌, length, Result, Ok, Err, Option, Some, refl, sym, ap, subst, ◌∙◌}
 use Rattle.std.specs.Prelude.{OnErr, OnOk, slice_get, slice_set, T}
 use Rattle.std.specs.FinMap.{is_sorted}
 use Rattle.std.proofs.lemmas.Option.{same_Some}
@@ -21,7 +21,7 @@ use Rattle.pac_core.specs.declared.place.Place.{Place}
 use Rattle.pac_core.specs.declared.progress.Progress.{Progress}
 use Rattle.pac_core.specs.declared.stage.SetStage.TheVariants.{Open}
 use Rattle.pac_core.specs.Inputs.{PassesOn}
-use Rattle.pac_core.specs.Links.{AreStages, IsCore, KeepsBatch, KeepsInputs, KeepsProgress, KeepsValues, core_of, job_of, pieces_marked, replay_so_far, set_ids}
+use Rattle.pac_core.specs.Links.{AreStages, IsCore, KeepsBatch, KeepsInputs, KeepsProgress, KeepsValues, ReadyFrom, core_of, job_of, pieces_marked, replay_so_far, set_ids}
 use Rattle.pac_core.specs.Moves.{AreInBlocks, AreValuesKept, IsFinishedAt, IsFinishedTo, IsMovedTo, IsOrderAfter, MayFinish, StandsOpen, after_finish, keeps_now, keeps_now_at}
 use Rattle.pac_core.specs.Places.{AreValuesAt, IsPieceAt, IsTxnAt}
 use Rattle.pac_core.specs.Replay.{Replay, left, machine_of, present_of}
@@ -32,6 +32,7 @@ use Rattle.pac_core.proofs.Finding.{leaves_of}
 use Rattle.pac_core.proofs.FinishedPiece.{finished_in}
 use Rattle.pac_core.proofs.Lists.{set_same}
 use Rattle.pac_core.proofs.MayFinishes.{set_twice}
+use Rattle.pac_core.proofs.NextReady.{from_same}
 use Rattle.pac_core.proofs.TakeNext.{kept_after_is}
 use Rattle.pac_core.proofs.ValuesKept.{values_kept}
 
@@ -133,6 +134,7 @@ module _ (p q : Progress) (place : Place) (piece : PieceId) (now : Values) (valu
         next = is.next ∙ ap (λ (x : Progress). x.next) rest;
         unfinished = is.unfinished ∙ ap (λ (x : Progress). x.unfinished) rest;
         closed = is.closed ∙ ap (λ (x : Progress). x.is_closed) rest;
+        recent = (subst (λ (x : Progress). new.recent ≤ x.recent) rest is.recent.0, is.recent.1);
         batches = is.batches ∙ values.batches;
         values = λ k loaded at some.
             let middle = is.values k loaded at some in
@@ -239,9 +241,13 @@ module _ (job : Job) (p q : Progress) (place : Place) (has : HasKept p place q) 
   pub no_room_keeps : KeepsProgress job q
   no_room_keeps = subst (KeepsProgress job) (sym has.rest) kept_keeps
 
+  pub no_room_seen : ReadyFrom job p p.recent → ReadyFrom job q q.recent
+  no_room_seen seen = subst (ReadyFrom job q) (sym (ap (λ (x : Progress). x.recent) has.rest)) (from_same job p q keeps no_room_keeps no_room_same p.recent seen)
+
 module _ (p q : Progress) (u after : Undoable) (core : IsCore p u) (place : Place) (has : HasKept p place q) (same : after ≡ u) where
   here : IsCore q u × (core_of q u ≡ core_of p u)
   here = goes_on p q u core (no_room_keeps (job_of p u) p q place has core.progress) (no_room_same (job_of p u) p q place has core.progress)
+      (no_room_seen (job_of p u) p q place has core.progress core.seen)
 
   pub no_room_core : IsCore q after
   no_room_core = subst (IsCore q) (sym same) here.0

@@ -23,6 +23,7 @@ pub mod Finding
 pub mod CellOrder
 pub mod TouchedCells
 pub mod NextReady
+pub mod SeenSets
 pub mod PlacedPieces
 pub mod ValuesKept
 pub mod OpeningLists

@@ -170,6 +170,7 @@ module _ (job : Job) (p : Progress) (keeps : KeepsProgress job p) where
                 next = is.next;
                 unfinished = is.unfinished;
                 closed = is.closed;
+                recent = is.recent;
                 batches = is.batches;
                 values = is.values;
               }

@@ -25,7 +25,7 @@ use Rattle.pac_commute.specs.Machine.{IsReadyAt, Machine, world_at}
 use Rattle.pac_core.specs.declared.progress.Progress.{Progress}
 use Rattle.pac_core.specs.declared.stage.SetStage.{SetStage}
 use Rattle.pac_core.specs.declared.stage.SetStage.TheVariants.{Open}
-use Rattle.pac_core.specs.Links.{KeepsProgress, batches_of, piece_in, replay_so_far, set_ids, set_of_piece}
+use Rattle.pac_core.specs.Links.{KeepsProgress, ReadyFrom, batches_of, piece_in, replay_so_far, set_ids, set_of_piece}
 use Rattle.pac_core.specs.Moves.{HasNoneReady, StandsOpen}
 use Rattle.pac_core.specs.Replay.{Replay, machine_of}
 use Rattle.pac_core.specs.Takes.{IsNextPiece}
@@ -70,7 +70,7 @@ not_before k j b c t u (inr (inr (e, f, le))) = both (nat_lt j k) (j == k) (nat_
     both false false z v w e f g = refl
 
 -- a set that is less is of an earlier batch, or of the batch and an earlier block
-set_less : (a b : SetId) → set_cmp a b ≡ Less → (a.batch < b.batch) ⊎ ((a.batch ≡ b.batch) × (a.block < b.block))
+pub set_less : (a b : SetId) → set_cmp a b ≡ Less → (a.batch < b.batch) ⊎ ((a.batch ≡ b.batch) × (a.block < b.block))
 set_less a b h = go (nat_cmp a.batch b.batch) (nat_cmp a.block b.block) refl refl h
   where
     go : (o r : Ordering) → o ≡ nat_cmp a.batch b.batch → r ≡ nat_cmp a.block b.block → ordering_then o r ≡ Less → (a.batch < b.batch) ⊎ ((a.batch ≡ b.batch) × (a.block < b.block))
@@ -80,14 +80,10 @@ set_less a b h = go (nat_cmp a.batch b.batch) (nat_cmp a.block b.block) refl ref
     go Equal Greater e f h = cc
     go Greater r e f h = cc
 
-three : (i j : ℕ) → (i < j) ⊎ ((i ≡ j) ⊎ (j < i))
+pub three : (i j : ℕ) → (i < j) ⊎ ((i ≡ j) ⊎ (j < i))
 three i j = grind arith
 
 -- ---- what is looked at
-
--- each ready piece is of a set from an offset on
-abbrev pub ReadyFrom : Job → Progress → ℕ → Type 0
-ReadyFrom job p from = (q : PieceId) (j : ℕ) (kept : Option SetStage) → IsReadyAt job (machine_of (replay_so_far job p)) q → slice_get p.sets.sets j ≡ Some (set_of_piece (batches_of p) q, kept) → from ≤ j
 
 module _ (job : Job) (p : Progress) (keeps : KeepsProgress job p) where
   abbrev r : Replay

@@ -1,5 +1,5 @@
 -- A core none of whose pieces is out any more.
-use Rattle.std.proofs.Common.{◌≡◌, ℕ, Some, sym, ap, subst, ◌∙◌}
+use Rattle.std.proofs.Common.{◌≡◌, ◌≤◌, ℕ, Some, sym, ap, subst, ◌∙◌, arith}
 use Rattle.std.specs.Prelude.{slice_get}
 use Rattle.pac_plan.specs.Pieces.{Present}
 use Rattle.pac_sched.specs.Schedules.{IsInOrder, reclaimed}
@@ -22,7 +22,7 @@ orders job p keeps j set opening there =
     let at = set_at job p keeps j set (Some (Open opening)) there in
     reclaimed_order opening.sched (keeps.stages j set (Open opening) at.batch there at.batch_there).order
 
-module _ (p : Progress) (u : Undoable) (core : IsCore p u) where
+module _ (p : Progress) (u : Undoable) (core : IsCore p u) (anew : p.recent ≡ 0) where
   abbrev back : Progress
   back = record p { sets = record p.sets { sets = reclaimed_sets p.sets.sets } }
 
@@ -34,6 +34,7 @@ module _ (p : Progress) (u : Undoable) (core : IsCore p u) where
     progress = reclaimed_keeps (job_of p u) p core.progress (orders (job_of p u) p core.progress);
     tables = core.tables;
     rows = core.rows ∙ ap (λ (s : Present). s.tables) (reclaimed_present (job_of p u) p core.progress (orders (job_of p u) p core.progress) ∙ ap present_of (sym back_is));
+    seen = λ q j kept ready there. subst (λ n. n ≤ j) (sym anew) (omega arith);
   }
 
   module _ (new : Progress) (is : new ≡ record p { sets = record p.sets { sets = reclaimed_sets p.sets.sets } }) where

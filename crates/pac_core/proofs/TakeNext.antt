@@ -17,7 +17,7 @@ use Rattle.pac_core.specs.declared.progress.Progress.{Progress}
 use Rattle.pac_core.specs.declared.stage.OpenSet.{OpenSet}
 use Rattle.pac_core.specs.Calls.{IsReplayDone, IsTakenPiece}
 use Rattle.pac_core.specs.Inputs.{LeavesValues}
-use Rattle.pac_core.specs.Links.{IsCore, KeepsProgress, core_of, job_of, replay_so_far}
+use Rattle.pac_core.specs.Links.{IsCore, KeepsProgress, ReadyFrom, core_of, job_of, replay_so_far}
 use Rattle.pac_core.specs.Moves.{IsNextAt, IsReadyAtOffset}
 use Rattle.pac_core.specs.Places.{AreValuesAt, IsPieceAt, IsTxnAt}
 use Rattle.pac_core.specs.Replay.{Replay}
@@ -28,12 +28,13 @@ use Rattle.pac_core.proofs.ReadyPlaces.{same_open}
 
 -- ---- sets are opened
 
-module _ (p new : Progress) (u : Undoable) (core : IsCore p u) (keeps : (job : Job) → KeepsProgress job p → KeepsProgress job new) (same : (job : Job) → KeepsProgress job p → replay_so_far job new ≡ replay_so_far job p) where
+module _ (p new : Progress) (u : Undoable) (core : IsCore p u) (keeps : (job : Job) → KeepsProgress job p → KeepsProgress job new) (same : (job : Job) → KeepsProgress job p → replay_so_far job new ≡ replay_so_far job p)
+    (sees : (job : Job) → KeepsProgress job p → ReadyFrom job p p.recent → ReadyFrom job new new.recent) where
   pub next_core : IsCore new u
-  next_core = (goes_on p new u core (keeps (job_of p u) core.progress) (same (job_of p u) core.progress)).0
+  next_core = (goes_on p new u core (keeps (job_of p u) core.progress) (same (job_of p u) core.progress) (sees (job_of p u) core.progress core.seen)).0
 
   pub next_same : core_of new u ≡ core_of p u
-  next_same = (goes_on p new u core (keeps (job_of p u) core.progress) (same (job_of p u) core.progress)).1
+  next_same = (goes_on p new u core (keeps (job_of p u) core.progress) (same (job_of p u) core.progress) (sees (job_of p u) core.progress core.seen)).1
 
   pub next_at : (next : Option (ℕ × PieceId)) → IsNextAt (job_of p u) new next → IsNextAt (job_of new u) new next
   next_at next is = subst (λ (j : Job). IsNextAt j new next) (sym (same_job p new u (sym (keeps (job_of p u) core.progress).parts) (sym (keeps (job_of p u) core.progress).first))) is

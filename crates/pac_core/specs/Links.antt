@@ -1,6 +1,6 @@
 -- How what a core keeps stands for a replay: sets and their stages for the pieces that are out and finished, values that are kept
 -- for the variables of the present, and the note for its note.
-use Rattle.std.specs.Prelude.{◌≡◌, ◌<◌, ◌-◌, ◌+◌, ℕ, Bool, true, false, List, [], ◌∷◌, ◌++◌, map, filter, length, slice_get, Option, Some, None, T, unwrap_or}
+use Rattle.std.specs.Prelude.{◌≡◌, ◌<◌, ◌≤◌, ◌-◌, ◌+◌, ℕ, Bool, true, false, List, [], ◌∷◌, ◌++◌, map, filter, length, slice_get, Option, Some, None, T, unwrap_or}
 use Rattle.std.specs.FinMap.{get, is_sorted}
 use Rattle.pac_value.specs.Expressions.{Values}
 use Rattle.pac_ops.specs.declared.batch.Batch.{Batch}
@@ -22,7 +22,7 @@ use Rattle.pac_sets.specs.SetOrder.{set_cmp}
 use Rattle.pac_sets.specs.Sets.{Kept, WaitsForNothing, kept_of}
 use Rattle.pac_undo.specs.Undo.{Undoable}
 use Rattle.pac_commute.specs.Loads.{Job, pieces_of, next_in_job}
-use Rattle.pac_commute.specs.Machine.{Invariant, access_at}
+use Rattle.pac_commute.specs.Machine.{Invariant, IsReadyAt, access_at}
 use Rattle.pac_core.specs.declared.loaded.LoadedBatch.{LoadedBatch}
 use Rattle.pac_core.specs.declared.stage.OpenSet.{OpenSet}
 use Rattle.pac_core.specs.declared.stage.SetStage.{SetStage}
@@ -142,15 +142,20 @@ pub record IsKeptProgress (p : Progress) : Type 0 where
   pub job : Job
   pub keeps : KeepsProgress job p
 
+-- each ready piece is of a set from an offset on
+abbrev pub ReadyFrom : Job → Progress → ℕ → Type 0
+ReadyFrom job p from = (q : PieceId) (j : ℕ) (kept : Option SetStage) → IsReadyAt job (machine_of (replay_so_far job p)) q → slice_get p.sets.sets j ≡ Some (set_of_piece (batches_of p) q, kept) → from ≤ j
+
 -- the job of a core: by its plan, from its first number and from the tables of its opening on
 abbrev pub job_of : Progress → Undoable → Job
 job_of p undo = record { parts = p.pieces; first = p.first; tables = undo.opening }
 
--- all that a core keeps stands for the replay of its job
+-- all that a core keeps stands for the replay of its job, and no set before the one where a ready piece is looked for first has one
 pub record IsCore (p : Progress) (undo : Undoable) : Type 0 where
   pub progress : KeepsProgress (job_of p undo) p
   pub tables : undo.tables ≡ length p.pieces.tables
   pub rows : undo.current ≡ (present_of (replay_so_far (job_of p undo) p)).tables
+  pub seen : ReadyFrom (job_of p undo) p p.recent
 
 -- the replay that a core's parts stand for
 abbrev pub core_of : Progress → Undoable → Replay

@@ -1,5 +1,5 @@
 -- What the parts of a core's calls leave.
-use Rattle.std.specs.Prelude.{◌≡◌, ◌<◌, ◌-◌, ◌+◌, ◌==◌, if◌then◌else◌, slice_set, ℕ, T, false, List, [], ◌∷◌, ◌++◌, map, length, replicate, slice_get, Option, Some, None, sum_by, unwrap_or}
+use Rattle.std.specs.Prelude.{◌≡◌, ◌<◌, ◌≤◌, ◌-◌, ◌+◌, ◌==◌, if◌then◌else◌, slice_set, ℕ, T, false, List, [], ◌∷◌, ◌++◌, map, length, replicate, slice_get, Option, Some, None, sum_by, unwrap_or}
 use Rattle.std.specs.List.{AllByRecursion, AllZip}
 use Rattle.std.specs.FinMap.{empty, is_sorted}
 use Rattle.pac_value.specs.Expressions.{Values}
@@ -47,6 +47,7 @@ pub record IsOpeningProgress (parts : PlanParts) (first : ℕ) (p : Progress) : 
   pub next : p.next ≡ first
   pub unfinished : p.unfinished ≡ 0
   pub opening : p.is_closed ≡ false
+  pub recent : p.recent ≡ 0
 
 -- ---- opening
 
@@ -126,6 +127,7 @@ pub record IsFinishedTo (p : Progress) (at : ℕ) (id : SetId) (opening : OpenSe
   pub batches : batches_of new ≡ batches_of p
   pub values : (k : ℕ) (loaded : LoadedBatch) → slice_get new.batches.items k ≡ Some loaded → IsUnfinishedBatch new.sets.sets k
       → (before : LoadedBatch) × (slice_get p.batches.items k ≡ Some before) × (loaded.batch ≡ before.batch) × (loaded.kept.items ≡ (if k == id.batch then keeps_now before.kept.items i kept else before.kept.items))
+  pub recent : (new.recent ≤ p.recent) × (new.recent ≤ at)
 
 -- ---- pieces of an open set move
 
@@ -207,6 +209,7 @@ pub record IsSetEnded (p : Progress) (at : ℕ) (new : Progress) : Type 0 where
   pub batches : batches_of new ≡ batches_of p
   pub values : (k : ℕ) (loaded : LoadedBatch) → slice_get new.batches.items k ≡ Some loaded → IsUnfinishedBatch new.sets.sets k
       → (before : LoadedBatch) × (slice_get p.batches.items k ≡ Some before) × (loaded.batch ≡ before.batch) × (loaded.kept.items ≡ before.kept.items)
+  pub recent : new.recent ≡ p.recent
 
 -- ---- a batch is loaded
 
@@ -229,6 +232,7 @@ pub record IsLoadedTo (p : Progress) (batch : Batch) (new : Progress) : Type 0 w
   pub batches : new.batches.items ≡ p.batches.items ++ loaded ∷ []
   pub batch_is : loaded.batch ≡ batch
   pub kept : map (λ (txn : Txn). with_values 0 (txn_args (Some txn)) empty) batch.txns ≡ loaded.kept.items
+  pub recent : new.recent ≡ 0
 
 -- a batch may be loaded: its numbers go on, and its transactions fit the plan
 pub record MayLoadBatch (p : Progress) (batch : Batch) : Type 0 where
@@ -251,6 +255,7 @@ pub record IsAlike (p new : Progress) : Type 0 where
   pub next : new.next ≡ p.next
   pub unfinished : new.unfinished ≡ p.unfinished
   pub closed : new.is_closed ≡ p.is_closed
+  pub recent : new.recent ≡ p.recent
 
 -- ---- pieces that are out wait again
 

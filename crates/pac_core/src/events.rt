@@ -278,6 +278,7 @@ pub(crate) fn give_back<R: Rows>(progress: &mut Progress, rows: &UndoRows<R>, wo
     ensures back { IsGivenBack (core_of progress.old rows.now) work.now (core_of progress.new rows.now) }
     ensures rest { MovesOut (core_of progress.old rows.now) (core_of progress.new rows.now) }
 {
+    progress.recent = 0;
     if let Some(place) = own_place(progress, rows, work) {
         progress.put_back(place.at, work.piece);
     }

@@ -64,6 +64,7 @@ impl Progress {
         }
         self.next += batch.txns.items().len() as u64;
         self.unfinished = unfinished;
+        self.recent = 0;
         match self.batches.push(LoadedBatch { batch, kept }) {
             Ok(()) => Ok(()),
             Err(_) => unreachable!(),

@@ -1,5 +1,5 @@
 // How pieces move: out, back, and finished.
-ghost use Rattle.std.specs.Prelude.{◌≡◌, ◌↔◌, ◌<◌, IfErr, IsTrue, OnErr, OnOk, T, length};
+ghost use Rattle.std.specs.Prelude.{◌≡◌, ◌↔◌, ◌<◌, ◌≤◌, IfErr, IsTrue, OnErr, OnOk, T, length};
 ghost use Rattle.std.specs.FinMap.{is_sorted};
 ghost use Rattle.pac_ops.specs.Notes.{least};
 ghost use Rattle.pac_sched.specs.declared.state.PieceState.TheVariants.{Finished, Waiting as StillWaiting};
@@ -63,6 +63,7 @@ impl Progress {
         self.sets.keep(place.at, SetStage::Open(open));
         self.note = lesser(self.note, note);
         self.unfinished -= 1;
+        self.recent = earlier(self.recent, place.at);
         if is_done {
             self.end_set(place.at, place.batch);
         }
@@ -155,6 +156,14 @@ fn clear_values(alloc: Global, batches: &mut Vec<LoadedBatch>, batch: usize)
     ensures { AreValuesKept batches.old.items batch keeps_none batches.new.items }
 {
     batches[batch].kept = Vec::new(alloc);
+}
+
+// The lesser of two offsets.
+fn earlier(one: usize, other: usize) -> usize
+    ensures first { result ≤ one }
+    ensures second { result ≤ other }
+{
+    if one < other { one } else { other }
 }
 
 // The lesser of two notes.

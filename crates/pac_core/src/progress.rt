@@ -2,7 +2,7 @@
 ghost use Rattle.std.specs.Prelude.{◌≡◌, ◌↔◌, true, IfOk, IfNone, IfSome, IsTrue, OnOk};
 ghost use Rattle.pac_commute.specs.Loads.{Job};
 ghost use Rattle.pac_sets.specs.Sets.{IsOpenSet};
-ghost use Rattle.pac_core.specs.Links.{IsKeptProgress, KeepsProgress, replay_so_far};
+ghost use Rattle.pac_core.specs.Links.{IsKeptProgress, KeepsProgress, ReadyFrom, replay_so_far};
 ghost use Rattle.pac_core.specs.Moves.{HasNoneReady, IsNextAt, IsOpeningProgress, IsOpeningOf, IsReadyAtOffset, StandsOpen};
 
 use crate::loaded::LoadedBatch;
@@ -33,7 +33,8 @@ pub(crate) struct Progress {
     /// How many pieces are not finished.
     pub unfinished: u64,
     pub is_closed: bool,
-    /// The offset of the set whose piece came next last: a piece that is out is looked for there first.
+    /// No set before this offset has a ready piece. It is that of the set whose piece came next last, or a lesser one: a ready
+    /// piece is looked for from there on, and a piece that is out there first.
     pub recent: usize,
 }
 
@@ -72,10 +73,25 @@ impl Progress {
         requires { IsKeptProgress self.old }
         ensures keeps { (job : Job) → KeepsProgress job self.old → KeepsProgress job self.new }
         ensures same { (job : Job) → KeepsProgress job self.old → replay_so_far job self.new ≡ replay_so_far job self.old }
-        ensures next { (job : Job) → KeepsProgress job self.old → IfOk result (IsNextAt job self.new) }
+        ensures sees { (job : Job) → KeepsProgress job self.old → ReadyFrom job self.old self.old.recent → ReadyFrom job self.new self.new.recent }
+        ensures next { (job : Job) → KeepsProgress job self.old → ReadyFrom job self.old self.old.recent → IfOk result (IsNextAt job self.new) }
+    {
+        match self.ready_again() {
+            Some(piece) => Ok(Some((self.recent, piece))),
+            None => self.look_for_ready(),
+        }
+    }
+
+    // The same, from the set on before which none is ready.
+    fn look_for_ready(&mut self) -> Result<Option<(usize, PieceId)>, NoMemory>
+        requires { IsKeptProgress self.old }
+        ensures keeps { (job : Job) → KeepsProgress job self.old → KeepsProgress job self.new }
+        ensures same { (job : Job) → KeepsProgress job self.old → replay_so_far job self.new ≡ replay_so_far job self.old }
+        ensures sees { (job : Job) → KeepsProgress job self.old → ReadyFrom job self.old self.old.recent → ReadyFrom job self.new self.new.recent }
+        ensures next { (job : Job) → KeepsProgress job self.old → ReadyFrom job self.old self.old.recent → IfOk result (IsNextAt job self.new) }
     {
         let count = self.sets.len();
-        let mut from = 0;
+        let mut from = self.recent;
         while let Some(at) = self.sets.first_open(from) {
             self.open(at)?;
             if let Some(piece) = self.ready_in(at) {
@@ -87,6 +103,19 @@ impl Progress {
         Ok(None)
     }
 
+    // The first ready piece of the set from which one was taken last, if that is open still.
+    fn ready_again(&self) -> Option<PieceId>
+        ensures { IfSome result (IsReadyAtOffset self.now self.now.recent) }
+    {
+        if self.recent >= self.sets.len() {
+            return None;
+        }
+        if !self.is_open(self.recent) {
+            return None;
+        }
+        self.ready_in(self.recent)
+    }
+
     // Opens the pieces of a set, unless they are.
     fn open(&mut self, at: usize) -> Result<(), NoMemory>
         requires keeps { IsKeptProgress self.old }
@@ -94,6 +123,7 @@ impl Progress {
         ensures keeps { (job : Job) → KeepsProgress job self.old → KeepsProgress job self.new }
         ensures same { (job : Job) → KeepsProgress job self.old → replay_so_far job self.new ≡ replay_so_far job self.old }
         ensures open { OnOk result (StandsOpen self.new at) }
+        ensures recent { self.new.recent ≡ self.old.recent }
     {
         match self.opening_of(at)? {
             Some(opening) => {

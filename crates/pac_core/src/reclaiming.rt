@@ -29,8 +29,8 @@ impl Progress {
         }
     }
 
-    // Whether the pieces of the set at an offset are opened.
-    fn is_open(&self, at: usize) -> bool
+    /// Whether the pieces of the set at an offset are opened.
+    pub fn is_open(&self, at: usize) -> bool
         requires { at < length self.now.sets.sets }
         ensures { IsTrue result ↔ StandsOpen self.now at }
     {

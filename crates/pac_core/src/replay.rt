@@ -178,6 +178,7 @@ impl<R: Rows> Core<R> {
     pub fn take_back(&mut self)
         ensures { self.new ≡ with_none_out self.old }
     {
+        self.progress.recent = 0;
         self.progress.reclaim();
     }
 

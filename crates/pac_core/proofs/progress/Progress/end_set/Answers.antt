@@ -35,6 +35,7 @@ returns-then-not-is_left c =
       next = refl;
       unfinished = refl;
       closed = refl;
+      recent = refl;
       batches = c.clear_values.ensures.batches;
       values = λ k loaded there left.
           let before = c.clear_values.ensures.each k loaded there in

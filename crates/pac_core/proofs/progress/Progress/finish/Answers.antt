@@ -1,5 +1,5 @@
 -- The set is lifted, its piece is finished, and it is kept again or ends.
-use Rattle.std.proofs.Common.{◌≡◌, ℕ, ◌<◌, ◌==◌, true, false, [], length, Option, Some, refl, sym, ap, subst, ◌∙◌, arith}
+use Rattle.std.proofs.Common.{◌≡◌, ℕ, ◌<◌, ◌≤◌, ◌==◌, true, false, [], length, Option, Some, refl, sym, ap, subst, ◌∙◌, arith}
 use Rattle.std.specs.Prelude.{slice_get, T}
 use Rattle.std.specs.FinMap.{is_sorted}
 use Rattle.std.proofs.lemmas.Option.{slice_get_within}
@@ -97,6 +97,7 @@ returns-then-is_done-clause-finished c = λ kept_now stands set opening there ow
     c.end_set.ensures.next
     (omega (arith, counted, some, same))
     c.end_set.ensures.closed
+    (subst (λ n. n ≤ lifted.recent) (sym c.end_set.ensures.recent) c.earlier-self.ensures.first, subst (λ n. n ≤ c.args.place.at) (sym c.end_set.ensures.recent) c.earlier-self.ensures.second)
     c.end_set.ensures.batches
     c.end_set.ensures.values
 
@@ -122,6 +123,7 @@ returns-else-is_done-clause-finished c = λ kept_now stands set opening there ow
     refl
     (omega (arith, counted, some))
     refl
+    (c.earlier-self.ensures.first, c.earlier-self.ensures.second)
     refl
     (λ k loaded at left. (loaded, at, refl, refl))
 

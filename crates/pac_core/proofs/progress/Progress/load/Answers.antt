@@ -30,6 +30,7 @@ returns-clause-ok c =
       next = ap (λ (l : List Txn). p.next + length l) c.items.ensures.value;
       unfinished = more ∙ ap (λ n. p.unfinished + n) c.in-Ok.ensures.pieces;
       closed = refl;
+      recent = refl;
       loaded = record { batch = c.args.batch; kept = c.in-Ok.added.kept };
       batches = c.in-Ok-push.ensures.items ∙ ap (λ (l : List LoadedBatch). l ++ record { batch = c.args.batch; kept = c.in-Ok.added.kept } ∷ []) c.reserve.ensures.items;
       batch_is = refl;
