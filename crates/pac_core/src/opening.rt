@@ -19,6 +19,7 @@ use pac_batch::queue_preds;
 use pac_ops::PieceId;
 use pac_plan::Access;
 use pac_sched::Sched;
+use pac_value::Env;
 use std::alloc::Global;
 
 /// Opens the pieces that these transactions of a batch have in a block: computes their accesses, and from them which of the
@@ -44,8 +45,9 @@ pub(crate) fn open_set(
     let mut accesses = Vec::with_capacity(alloc, txns.len())?;
     let mut cells = Vec::with_capacity(alloc, txns.len())?;
     let mut pieces = Vec::with_capacity(alloc, txns.len())?;
+    let mut env = Env::new(alloc);
     for txn in txns {
-        let access = access_of(alloc, plan, loaded, block, *txn)?;
+        let access = access_of(alloc, plan, loaded, block, *txn, &mut env)?;
         cells.push(cells_of(alloc, &access)?)?;
         accesses.push(access)?;
         pieces.push(PieceId { txn: *txn, block })?;
@@ -56,13 +58,14 @@ pub(crate) fn open_set(
     Ok(OpenSet { sched, cells })
 }
 
-// The access of a transaction's piece in a block.
+// The access of a transaction's piece in a block. It puts what the piece finds in place of what an environment had.
 fn access_of(
     alloc: Global,
     plan: &PlanPieces,
     loaded: &LoadedBatch,
     block: u16,
     txn: u64,
+    env: &mut Env,
 ) -> Result<Access, NoMemory>
     requires fit { AllByRecursion (TxnFitsPlan plan.now) loaded.now.batch.txns }
     requires block { block < plan.now.blocks }
@@ -73,6 +76,6 @@ fn access_of(
 {
     let i = (txn - loaded.batch.first) as usize;
     let txn = &loaded.batch.txns.items()[i];
-    let env = plan.found(alloc, txn, block, &loaded.kept[i])?;
-    plan.code().access(alloc, txn, block, &env)
+    plan.find(env, txn, block, &loaded.kept[i])?;
+    plan.code().access(alloc, txn, block, env)
 }

@@ -1,5 +1,5 @@
 // What a plan knows of pieces.
-ghost use Rattle.std.specs.Prelude.{◌≡◌, ◌↔◌, ◌<◌, IfNone, IfOk, IfSome, IsTrue, [], length};
+ghost use Rattle.std.specs.Prelude.{◌≡◌, ◌↔◌, ◌<◌, IfNone, IfOk, IfSome, IsTrue, OnOk, [], length};
 ghost use Rattle.pac_plan.specs.Codes.{TxnFitsPlan, code_in};
 ghost use Rattle.pac_interface.specs.Interfaces.{IsInterfaceOf};
 ghost use Rattle.pac_ops.specs.Shapes.{RecordsFit};
@@ -8,7 +8,7 @@ ghost use Rattle.pac_value.specs.Restricted.{HasOnly};
 ghost use Rattle.pac_core.specs.Inputs.{FindsInputs, PassesOn};
 
 use crate::kept_values::KeptValues;
-use crate::values::{are_values, values_of};
+use crate::values::{are_values, find_values};
 use pac_base::{Exact, Listed, NoMemory, Same};
 use pac_interface::{Interface, interfaces};
 use pac_keys::PlanCode;
@@ -85,14 +85,36 @@ impl PlanPieces {
         requires block { block < self.now.blocks }
         ensures { IfOk result (FindsInputs self.now block txn.now kept.now) }
     {
+        let mut env = Env::new(alloc);
+        self.find(&mut env, txn, block, kept)?;
+        Ok(env)
+    }
+
+    /// The same, in place of what an environment had.
+    ///
+    /// # Errors
+    ///
+    /// [`NoMemory`] where the values find no room.
+    pub fn find(
+        &self,
+        env: &mut Env,
+        txn: &Txn,
+        block: u16,
+        kept: &KeptValues,
+    ) -> Result<(), NoMemory>
+        requires fits { TxnFitsPlan self.now txn.now }
+        requires block { block < self.now.blocks }
+        ensures { OnOk result (FindsInputs self.now block txn.now kept.now env.new) }
+    {
         match txn {
             Txn::Call(call) => {
                 let interface = self.interface(call.proc, block);
-                values_of(alloc, interface.inputs.as_slice(), kept)
+                find_values(env, interface.inputs.as_slice(), kept)
             }
             Txn::AdHoc { records: _ } => {
                 is_plan(self.code.plan());
-                Ok(Env::new(alloc))
+                env.clear();
+                Ok(())
             }
         }
     }

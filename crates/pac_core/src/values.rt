@@ -1,24 +1,23 @@
 // Values that pieces find.
-ghost use Rattle.std.specs.Prelude.{◌≡◌, ◌↔◌, IfOk, IsTrue};
+ghost use Rattle.std.specs.Prelude.{◌≡◌, ◌↔◌, IsTrue, OnOk};
 ghost use Rattle.std.specs.Option.{option_map};
 ghost use Rattle.pac_value.specs.Restricted.{HasOnly};
 
 use crate::kept_values::KeptValues;
 use pac_base::NoMemory;
 use pac_value::{Env, Value};
-use std::alloc::Global;
 
-/// The values of variables, of those that have one.
-pub(crate) fn values_of(alloc: Global, vars: &[u16], kept: &KeptValues) -> Result<Env, NoMemory>
-    ensures { IfOk result (HasOnly vars.now kept.now) }
+/// The values of variables, of those that have one, in place of what an environment had. It keeps its room.
+pub(crate) fn find_values(env: &mut Env, vars: &[u16], kept: &KeptValues) -> Result<(), NoMemory>
+    ensures { OnOk result (HasOnly vars.now kept.now env.new) }
 {
-    let mut env = Env::new(alloc);
+    env.clear();
     for var in vars {
         if let Some(value) = kept.get(*var) {
             env.set(*var, value)?;
         }
     }
-    Ok(env)
+    Ok(())
 }
 
 /// Whether an environment has the values that are kept of these variables, and no others.

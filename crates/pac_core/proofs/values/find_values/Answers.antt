@@ -3,11 +3,11 @@ use Rattle.std.proofs.Common.{◌≡◌, ℕ, ◌+◌, List, ◌∷◌, [], ◌+
 use Rattle.std.proofs.lemmas.List.{take_more}
 use Rattle.pac_value.specs.Restricted.{HasOnly}
 use Rattle.pac_core.proofs.ValueSteps.{no_value, none_yet, one_value}
-use Rattle.pac_core.proofs.values.values_of.Goals as goal
-use Rattle.pac_core.proofs.values.values_of.Goals.{in-Some+in_ok-set, in_default}
+use Rattle.pac_core.proofs.values.find_values.Goals as goal
+use Rattle.pac_core.proofs.values.find_values.Goals.{in-Some+in_ok-set, in_default}
 
 pub loop-var-init : goal.loop-var-init
-loop-var-init c = subst (λ env. HasOnly [] c.args.kept.now env) (sym c.new-env.ensures) (none_yet c.args.kept.now)
+loop-var-init c = subst (λ env. HasOnly [] c.args.kept.now env) (sym c.clear.ensures) (none_yet c.args.kept.now)
 
 pub loop-var-preserved : goal.loop-var-preserved
 loop-var-preserved c =
