@@ -1,5 +1,5 @@
 -- Where the search for a ready piece begins: no set before has one, whatever is handed out, or finished from there on.
-use Rattle.std.proofs.Common.{◌≡◌, ◌⊎◌, ℕ, ◌+◌, ◌-◌, ◌<◌, ◌≤◌, Bool, true, false, ◌&&◌, not, List, map, Option, Some, refl, sym, ap, subst, ◌∙◌, true≢false, inl, inr, ⊎_elim, arith}
+use Rattle.std.proofs.Common.{◌≡◌, ◌⊎◌, ℕ, ◌<◌, ◌≤◌, Bool, true, false, ◌&&◌, not, List, map, Option, Some, refl, sym, ap, subst, ◌∙◌, true≢false, inl, inr, ⊎_elim, arith}
 use Rattle.std.specs.Prelude.{slice_get}
 use Rattle.pac_base.proofs.TestLemmas.{and_both, or_cases, or_left, or_right, unlike}
 use Rattle.pac_base.specs.Members.{Mem}

@@ -1,5 +1,5 @@
 -- By the transaction of the piece, which fits the plan.
-use Rattle.std.proofs.Common.{◌≡◌, ◌<◌, length, refl, subst, arith}
+use Rattle.std.proofs.Common.{◌<◌, refl, subst, arith}
 use Rattle.pac_plan.specs.declared.parts.PlanParts.{PlanParts}
 use Rattle.pac_plan.specs.Codes.{TxnFitsPlan}
 use Rattle.pac_core.proofs.LeftValues.{has_left, on_err_by, on_ok_by}

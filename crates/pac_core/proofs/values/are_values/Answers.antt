@@ -1,5 +1,5 @@
 -- Each variable has the same value in both, and no other has one.
-use Rattle.std.proofs.Common.{◌≡◌, ◌<◌, ℕ, false, get_or, refl, sym, subst, ◌∙◌, arith}
+use Rattle.std.proofs.Common.{◌≡◌, ℕ, false, get_or, refl, sym, subst, ◌∙◌, arith}
 use Rattle.std.specs.Bool.{IsTrue}
 use Rattle.std.specs.FinMap.{get}
 use Rattle.std.specs.List.{Contains}
