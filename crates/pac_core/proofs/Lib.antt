@@ -20,6 +20,7 @@ pub mod Copies
 pub mod Runs
 pub mod ValueSteps
 pub mod Finding
+pub mod BatchFits
 pub mod CellOrder
 pub mod TouchedCells
 pub mod NextReady

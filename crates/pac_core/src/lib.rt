@@ -2,7 +2,8 @@
 //! finished, in any order that the plan allows.
 //!
 //! - [`Core::new`] makes a core over any tables. It copies none of them: of each row that a replay changes it keeps how the
-//!   row stood first. [`Core::load`] takes a batch, and after [`Core::close`] none comes any more.
+//!   row stood first. [`Core::load`] takes a batch, and after [`Core::close`] none comes any more. [`Core::fits`] tests whether
+//!   a batch may be loaded.
 //! - [`Core::take`] hands out the work of the ready piece that comes first by batch, block and transaction, or runs it where
 //!   it may touch any row of its block. [`Core::finish`] takes the result, [`Core::give_back`] the work undone, and
 //!   [`Core::reclaim`] or [`Core::take_back`] all that is out. Work of another core, or over rows that have changed since, is
@@ -33,6 +34,7 @@
 mod answers;
 mod cells;
 mod events;
+mod fitting;
 mod job;
 mod kept_values;
 mod loaded;

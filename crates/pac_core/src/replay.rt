@@ -92,6 +92,13 @@ impl<R: Rows> Core<R> {
         self.progress.is_closed = true;
     }
 
+    /// Whether a batch may be loaded, as [`Core::load`] requires it. Takes no memory.
+    pub fn fits(&self, batch: &Batch) -> bool
+        ensures { IsTrue result ↔ (MayLoad self.now batch.now × (batch.now.first + length batch.now.txns < 2 ^ 64)) }
+    {
+        self.progress.fits(batch)
+    }
+
     /// Loads a batch.
     ///
     /// # Errors
