@@ -119,6 +119,10 @@ module _ (p : Progress) (u : Undoable) (core : IsCore p u) (batch : Batch) (firs
   pub loaded_is : core_of new u ≡ with_batch_loaded (core_of p u) batch
   loaded_is = ap (λ (j : Job). replay_so_far j new) job_is ∙ replay_is
 
+  pub loaded_left : left (core_of new u) + length (loaded_pieces (core_of p u)) ≡ left (core_of p u) + length (loaded_pieces (core_of new u))
+  loaded_left = subst (λ (r : Replay). left r + length (loaded_pieces (core_of p u)) ≡ left (core_of p u) + length (loaded_pieces r)) (sym loaded_is)
+      (more.left_more job p core.progress batch first_is fits new to up)
+
   pub loaded_core : IsCore new u
   loaded_core = record {
     progress = subst (λ (j : Job). KeepsProgress j new) (sym job_is)
@@ -200,6 +204,11 @@ module _ (p : Progress) (u : Undoable) (core : IsCore p u) (batch : Batch) (firs
   pub load_is : {A E : Type 0} (r : Result A E) → OnOk r (IsLoadedTo p batch new) → OnOk r (core_of new u ≡ with_batch_loaded (core_of p u) batch)
   load_is (Ok a) ok = loaded_is p u core batch first fits new ok
   load_is (Err e) ok = tt
+
+  pub load_left : {A E : Type 0} (r : Result A E) → OnOk r (IsLoadedTo p batch new)
+      → OnOk r (left (core_of new u) + length (loaded_pieces (core_of p u)) ≡ left (core_of p u) + length (loaded_pieces (core_of new u)))
+  load_left (Ok a) ok = loaded_left p u core batch first fits new ok
+  load_left (Err e) ok = tt
 
   pub load_same : {A E : Type 0} (r : Result A E) → OnErr r (IsAlike p new) → OnErr r (core_of new u ≡ core_of p u)
   load_same (Ok a) err = tt

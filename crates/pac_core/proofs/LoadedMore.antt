@@ -425,6 +425,13 @@ module _ (job : Job) (p : Progress) (keeps : KeepsProgress job p) (batch : Batch
           let least = range.0 in
           omega (arith, old, least)))
 
+  -- as many more are left as there are more
+  pub left_more : left r' + length (loaded_pieces r) ≡ left r + length (loaded_pieces r')
+  left_more =
+      let all : length (loaded_pieces r') ≡ length (loaded_pieces r) + length new_pieces = ap length all_pieces ∙ length-append (loaded_pieces r) new_pieces in
+      let now = left_now in
+      omega (arith, all, now)
+
   -- all is kept
   pub load_keeps : (count : sum_by (λ (set : PieceSet). length set.txns) (sets_of job.parts batch.first batch.txns) ≡ length new_pieces) → KeepsProgress job new
   load_keeps count = record {

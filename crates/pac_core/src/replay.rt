@@ -4,7 +4,7 @@ ghost use Rattle.pac_ops.specs.Shapes.{RowsFit};
 ghost use Rattle.pac_piece.specs.Runnable.{IsRunnable};
 ghost use Rattle.pac_commute.specs.Loads.{next_in_job};
 ghost use Rattle.pac_core.specs.Calls.{HasReadyPiece, IsReplayDone, IsDrained, IsGivenBack, IsHandedIn, IsJobOf, IsOfJob, IsReplayOutcome, IsOwn, IsTakenPiece, MayLoad, MayLoadAll, MovesOut, handed_in_by, run_by, with_batches};
-ghost use Rattle.pac_core.specs.Replay.{closed, left, opening_replay, with_batch_loaded, with_finished, with_none_out, without_out};
+ghost use Rattle.pac_core.specs.Replay.{closed, left, loaded_pieces, opening_replay, with_batch_loaded, with_finished, with_none_out, without_out};
 
 use crate::answers::{Finish, Outcome, ReadyPieces, Take};
 use crate::events::{give_back, hand_in, take_next};
@@ -109,6 +109,7 @@ impl<R: Rows> Core<R> {
         requires may { MayLoad self.old batch }
         requires numbers { batch.first + length batch.txns < 2 ^ 64 }
         ensures ok { OnOk result (self.new ≡ with_batch_loaded self.old batch) }
+        ensures left { OnOk result (left self.new + length (loaded_pieces self.old) ≡ left self.old + length (loaded_pieces self.new)) }
         ensures err { OnErr result (self.new ≡ self.old) }
         ensures batch { IfErr result (λ refused. refused.0 ≡ batch) }
     {
