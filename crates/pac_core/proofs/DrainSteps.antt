@@ -1,12 +1,11 @@
 -- Where no piece is out, the next one is finished at once: one less is left, and none is out.
-use Rattle.std.proofs.Common.{◌≡◌, ℕ, ◌+◌, ◌<◌, Bool, true, false, cond, not, ◌&&◌, ◌||◌, List, [], ◌∷◌, length, Result, Ok, Err, OnErr, OnOk, Some, refl, sym, ap, subst, ◌∙◌, inl, inr, arith}
+use Rattle.std.proofs.Common.{◌≡◌, ℕ, ◌+◌, ◌<◌, Bool, true, false, cond, not, ◌&&◌, ◌||◌, List, [], ◌∷◌, length, Some, refl, sym, ap, ◌∙◌, inl, inr, arith}
 use Rattle.std.specs.Prelude.{filter}
 use Rattle.pac_base.specs.Members.{Mem}
 use Rattle.pac_ops.specs.declared.piece.PieceId.{PieceId}
 use Rattle.pac_plan.specs.Pieces.{adds, is_piece}
 use Rattle.pac_plan.specs.Worlds.{blocks_in}
 use Rattle.pac_plan.proofs.WorldLemmas.{rises-range}
-use Rattle.pac_piece.specs.declared.work.Work.{Work}
 use Rattle.pac_undo.specs.Undo.{Undoable}
 use Rattle.pac_commute.specs.Machine.{among, ends_at, world_at}
 use Rattle.pac_commute.specs.PlanLaws.{numbers_of, txns_of}
@@ -15,10 +14,10 @@ use Rattle.pac_commute.proofs.Ready as ready
 use Rattle.pac_commute.proofs.Steps.{piece_self}
 use Rattle.pac_commute.proofs.Theorem.{in_order}
 use Rattle.pac_core.specs.declared.progress.Progress.{Progress}
-use Rattle.pac_core.specs.Calls.{HasReadyPiece, IsDrained, IsOwn}
+use Rattle.pac_core.specs.Calls.{HasReadyPiece, IsDrained}
 use Rattle.pac_core.specs.Links.{IsCore, core_of}
-use Rattle.pac_core.specs.Replay.{Replay, left, loaded_pieces, machine_of, with_finished, with_out, without_out}
-use Rattle.pac_core.specs.Takes.{IsNextPiece, IsWorkIn}
+use Rattle.pac_core.specs.Replay.{Replay, left, loaded_pieces, machine_of, with_finished}
+use Rattle.pac_core.specs.Takes.{IsNextPiece}
 use Rattle.pac_core.proofs.Lists.{filter_alike}
 use Rattle.pac_core.proofs.LoadedMore.{filter_none}
 use Rattle.pac_core.proofs.Marks.{among_filter}
@@ -52,51 +51,17 @@ left_less r p loaded unfinished =
     (loaded_pieces r) (in_order (world_at r.job (machine_of r)) (numbers_of r.job.first r.batches) (blocks_in r.job.parts) (rises-range r.job.first (length (txns_of r.batches))) (rises-range 0 r.job.parts.blocks)) loaded
 
 module _ (r : Replay) (p : PieceId) (next : IsNextPiece r (Some p)) where
-  loaded : Mem p (loaded_pieces r)
-  loaded = next.0.0
-
   -- one less is left
   pub left_after : left (with_finished r p) + 1 ≡ left r
   left_after = left_less r p next.0.0 next.0.2
 
-  -- its work is own once it is out
-  pub own_out : (work : Work) → work.piece ≡ p → IsWorkIn r work → IsOwn (with_out r p) work
-  own_out work same is = (
-    ap (among (with_out r p).out) same ∙ among_filter (adds (among r.out) p) (loaded_pieces r) p loaded ∙ ap (λ b. b || among r.out p) (piece_self p),
-    record { txn = is.txn; there = is.there; cells = is.cells; named = is.named; over = is.over },
-  )
-
   module _ (none : r.out ≡ []) where
     -- none is out then
-    none_after : filter (λ q. among (with_out r p).out q && not (is_piece p q)) (loaded_pieces r) ≡ []
-    none_after = filter_none (λ q. among (with_out r p).out q && not (is_piece p q)) (loaded_pieces r)
-        (λ q mem. ap (λ b. b && not (is_piece p q)) (among_filter (adds (among r.out) p) (loaded_pieces r) q mem ∙ ap (λ l. is_piece p q || among l q) none) ∙ go (is_piece p q))
-      where
-        go : (b : Bool) → ((b || false) && not b) ≡ false
-        go true = refl
-        go false = refl
-
     none_ran : filter (λ q. among r.out q && not (is_piece p q)) (loaded_pieces r) ≡ []
     none_ran = filter_none (λ q. among r.out q && not (is_piece p q)) (loaded_pieces r) (λ q mem. ap (λ l. among l q && not (is_piece p q)) none)
 
     pub drained_ran : IsDrained r (with_finished r p)
     drained_ran = record { job = refl; batches = refl; closed = refl; none = none_ran }
-
-    pub drained_kept : IsDrained r (with_finished (with_out r p) p)
-    drained_kept = record { job = refl; batches = refl; closed = refl; none = none_after }
-
-    pub drained_back : IsDrained r (without_out (with_out r p) p)
-    drained_back = record { job = refl; batches = refl; closed = refl; none = none_after }
-
-    -- work that was given out is run
-    module _ (out new : Replay) (is : out ≡ with_out r p) where
-      pub run_drained : {A E : Type 0} (res : Result A E) → OnOk res (new ≡ with_finished out p) → OnErr res (new ≡ without_out out p) → IsDrained r new
-      run_drained (Ok a) ok err = subst (IsDrained r) (sym (ok ∙ ap (λ (x : Replay). with_finished x p) is)) drained_kept
-      run_drained (Err e) ok err = subst (IsDrained r) (sym (err ∙ ap (λ (x : Replay). without_out x p) is)) drained_back
-
-      pub run_left : {A E : Type 0} (res : Result A E) → OnOk res (new ≡ with_finished out p) → OnOk res (left new + 1 ≡ left r)
-      run_left (Ok a) ok = ap (λ (x : Replay). left x + 1) (ok ∙ ap (λ (x : Replay). with_finished x p) is) ∙ left_after
-      run_left (Err e) ok = tt
 
 pub drained_then : (a b c : Replay) → IsDrained a b → IsDrained b c → IsDrained a c
 drained_then a b c one other = record { job = other.job ∙ one.job; batches = other.batches ∙ one.batches; closed = other.closed ∙ one.closed; none = other.none }

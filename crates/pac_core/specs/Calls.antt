@@ -41,6 +41,11 @@ IsTakenPiece old (Ran piece) new = IsNextPiece old (Some piece) × (access_now o
 IsTakenPiece old NotReady new = IsNextPiece old None × (IsReplayDone old → ⊥) × (new ≡ old)
 IsTakenPiece old Done new = IsReplayDone old × (new ≡ old)
 
+-- the piece that comes next is finished at once, whatever its access is; where none is ready, all is as it was
+abbrev pub IsNextFinished : Replay → Option PieceId → Replay → Type 0
+IsNextFinished old (Some piece) new = IsNextPiece old (Some piece) × (new ≡ with_finished old piece)
+IsNextFinished old None new = IsNextPiece old None × (new ≡ old)
+
 -- how many pieces a take ran on the spot
 abbrev pub run_by : Take → ℕ
 run_by (Given work) = 0

@@ -4,13 +4,13 @@ ghost use Rattle.pac_plan.specs.declared.access.Access.TheVariants.{Whole};
 ghost use Rattle.pac_tables.specs.Written.{AreWithin, written};
 ghost use Rattle.pac_sched.specs.declared.state.PieceState.TheVariants.{Out, Waiting};
 ghost use Rattle.pac_commute.specs.Machine.{IsReadyAt};
-ghost use Rattle.pac_core.specs.Calls.{IsGivenBack, IsGivenWork, IsHandedIn, IsOwn, IsTakenPiece, MovesOut};
+ghost use Rattle.pac_core.specs.Calls.{IsGivenBack, IsGivenWork, IsHandedIn, IsNextFinished, IsOwn, IsTakenPiece, MovesOut};
 ghost use Rattle.pac_core.specs.Links.{IsCore, IsKeptProgress, core_of, job_of};
 ghost use Rattle.pac_core.specs.Moves.{AreValuesKept, HasValuesAt, IsNextAt, IsReadyAtOffset, keeps_all};
 ghost use Rattle.pac_core.specs.Places.{HasPlace, IsPieceAt};
 ghost use Rattle.pac_core.specs.Replay.{machine_of, with_finished};
 ghost use Rattle.pac_core.specs.Results.{FitsAt, HasKept, HasLeft, HasTxnAt, IsResult, KeepsLeft};
-ghost use Rattle.pac_core.specs.Takes.{access_now};
+ghost use Rattle.pac_core.specs.Takes.{IsNextPiece, access_now};
 
 use crate::answers::{Finish, Take};
 use crate::cells::PieceCells;
@@ -72,6 +72,64 @@ fn take_piece<R: Rows>(
             Ok(Take::Ran(piece))
         }
     }
+}
+
+/// The piece that comes next. `None`: none is ready.
+///
+/// # Errors
+///
+/// [`NoMemory`] where sets that are opened find no room.
+pub(crate) fn coming<R: Rows>(
+    progress: &mut Progress,
+    rows: &UndoRows<R>,
+) -> Result<Option<PieceId>, NoMemory>
+    requires { IsCore progress.old rows.now }
+    ensures keeps { IsCore progress.new rows.now }
+    ensures next { IfOk result (IsNextPiece (core_of progress.old rows.now)) }
+    ensures same { core_of progress.new rows.now ≡ core_of progress.old rows.now }
+{
+    match progress.next_ready()? {
+        Some(next) => Ok(Some(next.1)),
+        None => Ok(None),
+    }
+}
+
+/// The piece that comes next is run over the tables, and is finished. `None`: none is ready.
+///
+/// # Errors
+///
+/// [`NoMemory`] where sets that are opened, or what the piece leaves, find no room.
+pub(crate) fn run_next<R: Rows>(
+    progress: &mut Progress,
+    rows: &mut UndoRows<R>,
+) -> Result<Option<PieceId>, NoMemory>
+    requires { IsCore progress.old rows.old }
+    ensures keeps { IsCore progress.new rows.new }
+    ensures ok { IfOk result (λ next. IsNextFinished (core_of progress.old rows.old) next (core_of progress.new rows.new)) }
+    ensures err { OnErr result (core_of progress.new rows.new ≡ core_of progress.old rows.old) }
+{
+    match progress.next_ready()? {
+        Some((at, piece)) => run_piece(progress, rows, at, piece),
+        None => Ok(None),
+    }
+}
+
+// A piece that comes next is run over the tables, and is finished.
+fn run_piece<R: Rows>(
+    progress: &mut Progress,
+    rows: &mut UndoRows<R>,
+    at: usize,
+    piece: PieceId,
+) -> Result<Option<PieceId>, NoMemory>
+    requires core { IsCore progress.old rows.old }
+    requires next { IsNextAt (job_of progress.old rows.old) progress.old (Some (at, piece)) }
+    ensures keeps { IsCore progress.new rows.new }
+    ensures ok { IfOk result (λ next. IsNextFinished (core_of progress.old rows.old) next (core_of progress.new rows.new)) }
+    ensures err { OnErr result (core_of progress.new rows.new ≡ core_of progress.old rows.old) }
+{
+    let place = progress.place_of_ready(at, piece);
+    run_here(progress, rows, place, piece)?;
+    Ok(Some(piece))
 }
 
 // The work of a ready piece whose access is of keys. `None`: it may touch any row of its block.

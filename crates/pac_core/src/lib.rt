@@ -8,7 +8,8 @@
 //!   it may touch any row of its block. [`Core::finish`] takes the result, [`Core::give_back`] the work undone, and
 //!   [`Core::reclaim`] or [`Core::take_back`] all that is out. Work of another core, or over rows that have changed since, is
 //!   refused as foreign.
-//! - [`Core::drain`] runs what is left, and [`Core::outcome`] gives the tables, and the first transaction that aborted.
+//! - [`Core::coming`] says which piece comes next, and [`Core::run_next`] runs it over the tables, with nothing handed out.
+//!   [`Core::drain`] runs all that is left so, and [`Core::outcome`] gives the tables, and the first transaction that aborted.
 //! - [`Core::load_all`] loads batches one after another. [`Core::ready`] is an estimate of what a take may find ready, and
 //!   [`weight_of`] of what a piece costs.
 //! - [`Core::next_txn`], [`Core::is_closed`], [`Core::is_finished`], [`Core::unfinished`] and [`Core::pairs`] say how far it

@@ -1,18 +1,18 @@
 // The state of a replay.
 ghost use Rattle.std.specs.Prelude.{◌≡◌, ◌↔◌, ◌<◌, ◌+◌, ◌^◌, [], true, length, IfErr, IfOk, IsTrue, OnErr, OnOk};
 ghost use Rattle.pac_ops.specs.Shapes.{RowsFit};
-ghost use Rattle.pac_piece.specs.Runnable.{IsRunnable};
 ghost use Rattle.pac_commute.specs.Loads.{next_in_job};
-ghost use Rattle.pac_core.specs.Calls.{HasReadyPiece, IsReplayDone, IsDrained, IsGivenBack, IsHandedIn, IsJobOf, IsOfJob, IsReplayOutcome, IsOwn, IsTakenPiece, MayLoad, MayLoadAll, MovesOut, handed_in_by, run_by, with_batches};
-ghost use Rattle.pac_core.specs.Replay.{closed, left, loaded_pieces, opening_replay, with_batch_loaded, with_finished, with_none_out, without_out};
+ghost use Rattle.pac_core.specs.Calls.{HasReadyPiece, IsReplayDone, IsDrained, IsGivenBack, IsHandedIn, IsJobOf, IsNextFinished, IsOfJob, IsReplayOutcome, IsOwn, IsTakenPiece, MayLoad, MayLoadAll, MovesOut, handed_in_by, run_by, with_batches};
+ghost use Rattle.pac_core.specs.Replay.{closed, left, loaded_pieces, opening_replay, with_batch_loaded, with_none_out};
+ghost use Rattle.pac_core.specs.Takes.{IsNextPiece};
 
 use crate::answers::{Finish, Outcome, ReadyPieces, Take};
-use crate::events::{give_back, hand_in, take_next};
+use crate::events::{coming, give_back, hand_in, run_next, take_next};
 use crate::job::{Job, are_batches, are_same_plans, batch_copies, in_turn};
 use crate::progress::Progress;
 use pac_base::{Exact, NoMemory, listed};
-use pac_ops::{Batch, Batches};
-use pac_piece::{Done, Work, run};
+use pac_ops::{Batch, Batches, PieceId};
+use pac_piece::{Done, Work};
 use pac_plan::{Plan, is_plan};
 use pac_tables::Rows;
 use pac_undo::UndoRows;
@@ -155,6 +155,32 @@ impl<R: Rows> Core<R> {
         take_next(&mut self.progress, &mut self.rows)
     }
 
+    /// The piece that comes next, by batch, block and transaction. `None`: none is ready. Nothing is handed out.
+    ///
+    /// # Errors
+    ///
+    /// [`NoMemory`] where sets that are opened find no room.
+    pub fn coming(&mut self) -> Result<Option<PieceId>, NoMemory>
+        ensures next { IfOk result (IsNextPiece self.old) }
+        ensures same { self.new ≡ self.old }
+    {
+        coming(&mut self.progress, &self.rows)
+    }
+
+    /// The same piece is run over the tables as they stand, and is finished: no row is copied but those that it writes, and
+    /// nothing is handed out. For one who runs pieces alone.
+    ///
+    /// # Errors
+    ///
+    /// [`NoMemory`] where sets that are opened, or what the piece leaves, find no room. Which pieces are out or finished, and
+    /// the tables, are as before.
+    pub fn run_next(&mut self) -> Result<Option<PieceId>, NoMemory>
+        ensures ok { IfOk result (λ next. IsNextFinished self.old next self.new) }
+        ensures err { OnErr result (self.new ≡ self.old) }
+    {
+        run_next(&mut self.progress, &mut self.rows)
+    }
+
     /// A result is handed in. Its piece is finished, where it was out and the result is of the work that the replay has for
     /// it.
     pub fn finish(&mut self, done: Done) -> Finish
@@ -209,7 +235,7 @@ impl<R: Rows> Core<R> {
         Ok(pieces)
     }
 
-    // The piece that comes next is finished.
+    // The piece that comes next is run and finished.
     fn step(&mut self) -> Result<(), NoMemory>
         requires none { self.old.out ≡ [] }
         requires some { 0 < left self.old }
@@ -217,10 +243,10 @@ impl<R: Rows> Core<R> {
         ensures drained { IsDrained self.old self.new }
     {
         self.some_ready();
-        match self.take()? {
-            Take::Given(work) => self.run(work),
-            Take::Ran(_) => Ok(()),
-            Take::NotReady | Take::Done => unreachable!(),
+        let next = self.run_next()?;
+        match next {
+            Some(_) => Ok(()),
+            None => unreachable!(),
         }
     }
 
@@ -229,29 +255,6 @@ impl<R: Rows> Core<R> {
         ensures { HasReadyPiece self.now }
     {
         let _progress = &self.progress;
-    }
-
-    // Work that was handed out is done, and its result handed in. On an error it is given back.
-    fn run(&mut self, work: Work) -> Result<(), NoMemory>
-        requires own { IsOwn self.old work }
-        requires run { IsRunnable work }
-        ensures ok { OnOk result (self.new ≡ with_finished self.old work.piece) }
-        ensures err { OnErr result (self.new ≡ without_out self.old work.piece) }
-    {
-        match run(self.progress.alloc, work) {
-            Ok(done) => match self.finish(done) {
-                Finish::Kept => Ok(()),
-                Finish::NoMemory(done) => {
-                    self.give_back(done.into_work());
-                    Err(NoMemory)
-                }
-                Finish::Foreign(_) => unreachable!(),
-            },
-            Err((work, refused)) => {
-                self.give_back(work);
-                Err(refused)
-            }
-        }
     }
 
     /// A copy of what tells the core's job.
