@@ -12,7 +12,7 @@ use Rattle.pac_core.specs.Calls.{MayLoadAll, with_batches}
 use Rattle.pac_core.specs.Replay.{Replay, closed, left, opening_replay, with_batch_loaded}
 
 -- the number after one more batch
-next_more : (job : Job) (batches : List Batch) (batch : Batch) → next_in_job job (and_batch batches batch) ≡ next_in_job job batches + length batch.txns
+pub next_more : (job : Job) (batches : List Batch) (batch : Batch) → next_in_job job (and_batch batches batch) ≡ next_in_job job batches + length batch.txns
 next_more job batches batch =
     let long : length (txns_of (and_batch batches batch)) ≡ length (txns_of batches) + length batch.txns = ap length (txns-more batches batch) ∙ length-append (txns_of batches) batch.txns in
     omega (arith, long)
