@@ -8,7 +8,8 @@
 # Where the machine has none of them, that is said, and the rest is tried.
 set -u
 
-program=$(realpath "$1")
+program=${1:?the program is wanted: tools/hostile_files.sh PROGRAM}
+program=$(realpath "$program")
 folder=$(mktemp -d)
 trap 'chmod -R u+w "$folder"; rm -rf "$folder"' EXIT
 cd "$folder" || exit 1
