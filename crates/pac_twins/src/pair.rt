@@ -1,0 +1,110 @@
+// Two tokens that show one value.
+ghost use Rattle.std.specs.Prelude.{◌≡◌, ◌∷◌, [], IfOk};
+ghost use Rattle.pac_twins.specs.Twins.{AreAlike, IsShown, AreTold, both_shown, first_shown, rest_shown};
+
+use atomic_table::{Join, Play, Seat, Split, Table, TableRule};
+use std::alloc::{AllocError, Global};
+use std::collections::LinkedList;
+use std::mem;
+
+/// The rule of all twins of a pair: two values are shown, and they are the same.
+pub struct Alike;
+
+impl<T> TableRule<T, LinkedList<T>, T> for Alike {
+    ghost holds = { λ _. AreAlike };
+
+    ghost first = { both_shown };
+}
+
+/// One of two tokens that show the same value. It has no bytes.
+pub type Twin<T> = Seat<T, LinkedList<T>>;
+
+/// What two twins have in common.
+#[derive(Drop)]
+pub struct Pair<T: Drop> {
+    table: Table<T, LinkedList<T>, T, Alike, Global>,
+    ghost one_word: { table.shared.table_id.words ≡ 1 },
+}
+
+// One token shows the first of two values, and the other one the second.
+struct Parted;
+
+impl<T> Split<LinkedList<T>> for Parted {
+    ghost left = { first_shown };
+
+    ghost right = { rest_shown };
+}
+
+// One token shows what it showed, and the other one nothing.
+struct Spared;
+
+impl<T> Split<LinkedList<T>> for Spared {
+    ghost left = { λ v. v };
+
+    ghost right = { λ _. [] };
+}
+
+// One token shows what both showed.
+struct Joined;
+
+impl<T> Join<LinkedList<T>> for Joined {
+    ghost use Rattle.std.specs.Prelude.{◌++◌};
+
+    ghost both = { λ v w. v ++ w };
+
+    ghost spent = { [] };
+}
+
+// A token that shows two values shows others.
+struct Told;
+
+impl<T> Play<T, LinkedList<T>> for Told {
+    ghost then = { AreTold };
+}
+
+impl<T: Drop> Pair<T> {
+    /// Two twins that show a value.
+    ///
+    /// # Errors
+    ///
+    /// [`AllocError`] where a word finds no room.
+    pub fn new(
+        alloc: Global,
+        value: &T,
+    ) -> Result<(Pair<T>, Twin<T>, Twin<T>), AllocError>
+        ensures one { IfOk result (λ twins. IsShown twins.0.table.shared.table_id value.now twins.1) }
+        ensures other { IfOk result (λ twins. IsShown twins.0.table.shared.table_id value.now twins.2) }
+    {
+        let (table, mut one) = Table::of_words(alloc, &[0], value)?;
+        let other = table.shared.split_seat::<Parted>(&mut one);
+        Ok((Pair { table }, one, other))
+    }
+
+    /// Has both twins show a value. What they showed was the same.
+    pub fn show(&self, one: &mut Twin<T>, other: &mut Twin<T>, value: &T)
+        requires one { (x : T) × IsShown self.now.table.shared.table_id x one.old }
+        requires other { (x : T) × IsShown self.now.table.shared.table_id x other.old }
+        ensures same { one.old.me ≡ other.old.me }
+        ensures one { IsShown self.now.table.shared.table_id value.now one.new }
+        ensures other { IsShown self.now.table.shared.table_id value.now other.new }
+    {
+        let spare = self.table.shared.split_seat::<Spared>(other);
+        let theirs = mem::replace(other, spare);
+        *other = self.tell(one, theirs, value);
+    }
+
+    // The same, of a twin that is given.
+    fn tell(&self, one: &mut Twin<T>, other: Twin<T>, value: &T) -> Twin<T>
+        requires one { (x : T) × IsShown self.now.table.shared.table_id x one.old }
+        requires other { (x : T) × IsShown self.now.table.shared.table_id x other }
+        ensures same { one.old.me ≡ other.me }
+        ensures one { IsShown self.now.table.shared.table_id value.now one.new }
+        ensures other { IsShown self.now.table.shared.table_id value.now result }
+    {
+        self.table.shared.join_seat::<Joined>(one, other);
+        self.table
+            .shared
+            .compare_exchange_with::<Told>(one, 0, 0, 0, value);
+        self.table.shared.split_seat::<Parted>(one)
+    }
+}
