@@ -5,6 +5,7 @@ ghost use Rattle.pac_twins.specs.Twins.{AreAlike, IsShown, AreTold, both_shown, 
 use atomic_table::{Join, Play, Seat, Split, Table, TableRule};
 use std::alloc::{AllocError, Global};
 use std::collections::LinkedList;
+use std::marker::Model;
 use std::mem;
 
 /// The rule of all twins of a pair: two values are shown, and they are the same.
@@ -19,11 +20,23 @@ impl<T> TableRule<T, LinkedList<T>, T> for Alike {
 /// One of two tokens that show the same value. It has no bytes.
 pub type Twin<T> = Seat<T, LinkedList<T>>;
 
-/// What two twins have in common.
+/// What two twins have in common. Contracts see what tells it from any other pair.
 #[derive(Drop)]
 pub struct Pair<T: Drop> {
     table: Table<T, LinkedList<T>, T, Alike, Global>,
-    ghost one_word: { table.shared.table_id.words ≡ 1 },
+}
+
+impl<T: Drop> Model for Pair<T> {
+    ghost use Rattle.std.specs.Prelude.{◌≡◌};
+    ghost use Rattle.atomic_table.specs.Seated.{TableId, table_id_coded};
+
+    ghost Value = { TableId };
+
+    ghost coded = { table_id_coded };
+
+    ghost view = { λ pair. pair.table.shared.table_id };
+
+    ghost invariant = { λ pair. pair.table.shared.table_id.words ≡ 1 };
 }
 
 // One token shows the first of two values, and the other one the second.
@@ -68,12 +81,9 @@ impl<T: Drop> Pair<T> {
     /// # Errors
     ///
     /// [`AllocError`] where a word finds no room.
-    pub fn new(
-        alloc: Global,
-        value: &T,
-    ) -> Result<(Pair<T>, Twin<T>, Twin<T>), AllocError>
-        ensures one { IfOk result (λ twins. IsShown twins.0.table.shared.table_id value.now twins.1) }
-        ensures other { IfOk result (λ twins. IsShown twins.0.table.shared.table_id value.now twins.2) }
+    pub fn new(alloc: Global, value: &T) -> Result<(Pair<T>, Twin<T>, Twin<T>), AllocError>
+        ensures one { IfOk result (λ twins. IsShown twins.0 value.now twins.1) }
+        ensures other { IfOk result (λ twins. IsShown twins.0 value.now twins.2) }
     {
         let (table, mut one) = Table::of_words(alloc, &[0], value)?;
         let other = table.shared.split_seat::<Parted>(&mut one);
@@ -82,11 +92,11 @@ impl<T: Drop> Pair<T> {
 
     /// Has both twins show a value. What they showed was the same.
     pub fn show(&self, one: &mut Twin<T>, other: &mut Twin<T>, value: &T)
-        requires one { (x : T) × IsShown self.now.table.shared.table_id x one.old }
-        requires other { (x : T) × IsShown self.now.table.shared.table_id x other.old }
+        requires one { (x : T) × IsShown self.now x one.old }
+        requires other { (x : T) × IsShown self.now x other.old }
         ensures same { one.old.me ≡ other.old.me }
-        ensures one { IsShown self.now.table.shared.table_id value.now one.new }
-        ensures other { IsShown self.now.table.shared.table_id value.now other.new }
+        ensures one { IsShown self.now value.now one.new }
+        ensures other { IsShown self.now value.now other.new }
     {
         let spare = self.table.shared.split_seat::<Spared>(other);
         let theirs = mem::replace(other, spare);
@@ -95,11 +105,11 @@ impl<T: Drop> Pair<T> {
 
     // The same, of a twin that is given.
     fn tell(&self, one: &mut Twin<T>, other: Twin<T>, value: &T) -> Twin<T>
-        requires one { (x : T) × IsShown self.now.table.shared.table_id x one.old }
-        requires other { (x : T) × IsShown self.now.table.shared.table_id x other }
+        requires one { (x : T) × IsShown self.now x one.old }
+        requires other { (x : T) × IsShown self.now x other }
         ensures same { one.old.me ≡ other.me }
-        ensures one { IsShown self.now.table.shared.table_id value.now one.new }
-        ensures other { IsShown self.now.table.shared.table_id value.now result }
+        ensures one { IsShown self.now value.now one.new }
+        ensures other { IsShown self.now value.now result }
     {
         self.table.shared.join_seat::<Joined>(one, other);
         self.table

@@ -1,5 +1,5 @@
 -- Each step keeps the rule, and tells what is shown.
-use Rattle.std.proofs.Common.{rules, ◌≡◌, ◌∷◌, [], ◌++◌, ℕ, ◌<◌, List, sym, refl, ap, ◌∙◌, subst, arith}
+use Rattle.std.proofs.Common.{◌≡◌, ◌∷◌, [], ◌++◌, List, sym, ◌∙◌, subst, arith}
 use Rattle.std.specs.Prelude.{◌==◌}
 use mathlib.Core.Option.{some}
 use prog.Atomic.{either}
@@ -14,11 +14,11 @@ join_seat-requires g c =
     let other = c.requires.other in
     let x = one.0 in
     let y = other.0 in
-    let words = c.args.self.now.one_word in
+    let words = c.self.invariant in
     let v : c.args.one.now.me.0 ≡ x ∷ [] = λ i. (one.1.shows i).0 in
     let w : c.args.other.me.0 ≡ y ∷ [] = λ i. (other.1.shows i).0 in (
-      one.1.of,
-      other.1.of,
+      one.1.of ∙ sym c.self.view_is,
+      other.1.of ∙ sym c.self.view_is,
       (λ i. (other.1.shows i).1),
       omega (arith, words),
       subst (λ (p : List _ × List _). Joins AreAlike c.args.one.now.id p.0 c.args.other.id p.1 (p.0 ++ p.1) []) (λ i. (sym v i, sym w i)) (joins c.args.one.now.id c.args.other.id x y),
@@ -30,22 +30,22 @@ compare_exchange_with-requires g c =
     let other = c.requires.other in
     let x = one.0 in
     let y = other.0 in
-    let words = c.args.self.now.one_word in
+    let words = c.self.invariant in
     let id = c.join_seat.new.seat.id in
-    let slots = c.args.self.now.table.shared.table_id.slots in
+    let slots = c.self.inside.table.shared.table_id.slots in
     let z = c.args.value.now in
     let is : c.join_seat.new.seat.me ≡ (x ∷ y ∷ [], []) = c.join_seat.ensures.2 ∙ (λ i. ((one.1.shows i).0 ++ (other.1.shows i).0, (one.1.shows i).1)) in (
-      c.join_seat.ensures.0 ∙ one.1.of,
+      c.join_seat.ensures.0 ∙ one.1.of ∙ sym c.self.view_is,
       omega (arith, words),
       subst (λ me. Allows AreAlike slots id me 0 (λ n. either (n == 0) 0 n) (AreTold (step slots 0 0 0 (some z)) me)) (sym is) (tells slots id x y z (λ n. either (n == 0) 0 n) 0 0),
     )
 
 pub split_seat-requires : goal.split_seat-requires
 split_seat-requires g c =
-    let words = c.args.self.now.one_word in
+    let words = c.self.invariant in
     let z = c.args.value.now in
     let told = c.compare_exchange_with.ensures.2 in (
-      c.compare_exchange_with.ensures.0 ∙ c.join_seat.ensures.0 ∙ c.requires.one.1.of,
+      c.compare_exchange_with.ensures.0 ∙ c.join_seat.ensures.0 ∙ c.requires.one.1.of ∙ sym c.self.view_is,
       omega (arith, words),
       subst (λ v. Splits AreAlike c.compare_exchange_with.new.seat.id v (first_shown v) (rest_shown v)) (sym told.1) (parts c.compare_exchange_with.new.seat.id z z),
     )
