@@ -178,6 +178,8 @@ impl Machine for Chains {
 
     ghost left = { λ m. m.1.0 };
 
+    ghost size = { λ m. m.0 };
+
     ghost is_idle = { λ _. Unit {0} };
 
     ghost can_run = { λ _. Unit {0} };

@@ -8,6 +8,8 @@ mod chains;
 #[cfg(test)]
 mod executions;
 #[cfg(test)]
+mod feeds;
+#[cfg(test)]
 mod gates;
 #[cfg(test)]
 mod workers;

@@ -1,6 +1,7 @@
 // Tests of what no clause says: that threads run, wait, wake each other and end.
 use crate::chains::{Chains, Pattern};
 use crate::executions::leaves_the_last;
+use crate::feeds::fed;
 use crate::gates::{Counting, Logging, Meeting};
 use pac_base::NoMemory;
 use pac_workers::replay;
@@ -131,6 +132,25 @@ fn last_rows_are_left(rt: HostRuntime) -> Result<(), NoMemory> {
     let alloc: Global = rt.alloc();
     for workers in [1u32, 4] {
         assert!(rt; leaves_the_last(&rt, alloc, workers)?, "{workers} workers");
+    }
+    Ok(())
+}
+
+// However many workers are fed, they finish each piece of what was given, and none where nothing is given.
+#[test]
+fn what_is_fed_is_finished(rt: HostRuntime) -> Result<(), NoMemory> {
+    let alloc: Global = rt.alloc();
+    for workers in [1u32, 4] {
+        assert_eq!(rt;
+            fed(&rt, alloc, workers, false)?,
+            (4, 0),
+            "{workers} workers"
+        );
+        assert_eq!(rt;
+            fed(&rt, alloc, workers, true)?,
+            (0, 0),
+            "{workers} workers"
+        );
     }
     Ok(())
 }

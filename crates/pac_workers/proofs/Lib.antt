@@ -1,2 +1,6 @@
 mod Executions
+mod Feeds
+mod LoadedOne
+mod OneTable
 mod Sent
+mod Showing

@@ -1,1 +1,3 @@
+pub mod Fed
+pub mod Shown
 pub mod Takes

@@ -1,12 +1,15 @@
 // What lies under the lock.
 ghost use base.Stored.{Gv-set};
-ghost use Rattle.std.specs.Prelude.{◌≡◌, ◌+◌, ◌^◌, ◌<◌, [], All, IfOk, OnOk, OnErr};
+ghost use Rattle.std.specs.Prelude.{◌≡◌, ◌+◌, ◌^◌, ◌<◌, [], length, All, IfOk, OnOk, OnErr};
+ghost use Rattle.pac_twins.specs.Twins.{IsShown};
+ghost use Rattle.pac_workers.specs.Shown.{Tells, shown_closed, shown_job};
 ghost use Rattle.pac_workers.specs.Takes.{ForWork, ran_by};
 
 use crate::hand::Hand;
 use crate::machine::{Machine, Taken};
 use crate::tally::{Lent, Tally};
 use pac_base::NoMemory;
+use pac_twins::Twin;
 use std::sync::ledger::Book;
 
 /// The most pieces that are taken in one hold of the lock.
@@ -31,47 +34,56 @@ pub(crate) enum Next {
     End,
 }
 
-/// What lies under the lock. Whenever the lock is free, the machine has the job of the one that was lent, and what isn't finished of
-/// its pieces is what wasn't at first, but for those in the book.
+/// What lies under the lock. Whenever the lock is free, the machine's job is that of the machine which its twin shows, and what
+/// isn't finished of its pieces is what wasn't at first and what came since, but for those in the book.
 #[derive(Drop)]
 pub(crate) struct Guarded<M: Machine, L: Lent> {
-    machine: M,
+    pub(crate) machine: M,
+    pub(crate) twin: Twin<M>,
     book: Book<L>,
     // How many workers hold pieces, and how many rest. There are never so many that a count stands at its type's end.
     active: u32,
     resting: u32,
-    ghost same_job: { M.coded.code (M.job machine) ≡ L.job } by { Gv-set (M.coded.code (M.job machine)) L.job },
-    ghost counted: { M.left machine + book.total ≡ L.left },
-    ghost fits: { L.left < 2 ^ 64 },
+    /// Whether more batches may come.
+    pub(crate) is_fed: bool,
+    ghost of_pair: { twin.table_id ≡ L.pair },
+    ghost alone: { length twin.me.0 ≡ 1 },
+    ghost free: { length twin.me.1 ≡ 0 },
+    ghost same_job: { M.coded.code (M.job machine) ≡ shown_job M.job M.coded twin.me.0 } by { Gv-set (M.coded.code (M.job machine)) (shown_job M.job M.coded twin.me.0) },
+    ghost same_closed: { M.is_closed machine ≡ shown_closed M.is_closed twin.me.0 },
+    ghost counted: { M.left machine + book.total + L.size ≡ M.size (M.job machine) + L.left },
 }
 
 impl<M: Machine, L: Lent> Guarded<M, L> {
     /// The machine that was lent. Nobody has begun.
-    pub fn new(machine: M, book: Book<L>) -> Guarded<M, L>
-        requires job { M.coded.code (M.job machine) ≡ L.job }
-        requires left { (M.left machine ≡ L.left) × (book.total ≡ 0) }
-        requires fits { L.left < 2 ^ 64 }
+    pub fn new(machine: M, twin: Twin<M>, is_fed: bool, book: Book<L>) -> Guarded<M, L>
+        requires twin { IsShown L.pair machine twin }
+        requires left { (M.left machine ≡ L.left) × (M.size (M.job machine) ≡ L.size) × (book.total ≡ 0) }
     {
         Guarded {
             machine,
+            twin,
             book,
             active: 0,
             resting: 0,
+            is_fed,
         }
     }
 
-    /// The machine, and the book of what was finished of it.
-    pub fn into_parts(self) -> (M, Book<L>)
-        ensures job { M.coded.code (M.job result.0) ≡ L.job }
-        ensures counted { M.left result.0 + result.1.total ≡ L.left }
+    /// The machine, its twin, and the book of what was finished of it.
+    pub fn into_parts(self) -> (M, Twin<M>, Book<L>)
+        ensures told { Tells M.job M.is_closed L.pair (M.job result.0) (M.is_closed result.0) result.1 }
+        ensures counted { M.left result.0 + result.2.total + L.size ≡ M.size (M.job result.0) + L.left }
     {
         let Guarded {
             machine,
+            twin,
             book,
             active: _,
             resting: _,
+            is_fed: _,
         } = self;
-        (machine, book)
+        (machine, twin, book)
     }
 
     /// Hands in what a worker ran, and gives back what it didn't run. Whether it ran all, and all was kept.
@@ -84,12 +96,12 @@ impl<M: Machine, L: Lent> Guarded<M, L> {
         let mut is_all_kept = hand.works.is_empty();
         while let Some(done) = hand.dones.pop_front() {
             if let Err(done) = self.finish(tally, done) {
-                self.machine.give_back(M::into_work(done));
+                self.give_back(M::into_work(done));
                 is_all_kept = false;
             }
         }
         while let Some(work) = hand.works.pop_front() {
-            self.machine.give_back(work);
+            self.give_back(work);
         }
         is_all_kept
     }
@@ -105,7 +117,7 @@ impl<M: Machine, L: Lent> Guarded<M, L> {
         match self.take(tally) {
             Ok(Taken::Work(work)) => self.hand_out(workers, tally, hand, work),
             Ok(Taken::Ran) => Next::Take,
-            Ok(Taken::NotReady) if self.active > 0 => Next::Rest,
+            Ok(Taken::NotReady) if self.active > 0 || self.is_fed => Next::Rest,
             Ok(Taken::NotReady | Taken::Done) | Err(_) => Next::End,
         }
     }
@@ -144,7 +156,7 @@ impl<M: Machine, L: Lent> Guarded<M, L> {
     {
         let weight = M::weight(&work);
         if let Err(refused) = hand.works.push_back(work) {
-            self.machine.give_back(refused.value);
+            self.give_back(refused.value);
             return Next::End;
         }
         self.active = self.active.saturating_add(1);
@@ -172,7 +184,7 @@ impl<M: Machine, L: Lent> Guarded<M, L> {
                 Ok(Taken::Work(work)) => {
                     weight = weight.saturating_add(M::weight(&work));
                     if let Err(refused) = hand.works.push_back(work) {
-                        self.machine.give_back(refused.value);
+                        self.give_back(refused.value);
                         return;
                     }
                 }
@@ -182,12 +194,21 @@ impl<M: Machine, L: Lent> Guarded<M, L> {
         }
     }
 
-    // Takes a piece, and counts it if it was run on the spot.
+    // A piece that wasn't run is ready again.
+    fn give_back(&mut self, work: M::Work) {
+        let Guarded { machine, .. } = self;
+        machine.give_back(work);
+    }
+
+    // Takes a piece, and counts it if it was run on the spot. A worker that can't count one more takes none.
     fn take(&mut self, tally: &mut Tally<L>) -> Result<Taken<M::Work>, NoMemory>
         ensures count { IfOk result (λ taken. tally.new.count ≡ tally.old.count + ran_by taken) }
         ensures work { IfOk result (ForWork M.can_run) }
         ensures err { OnErr result (tally.new.count ≡ tally.old.count) }
     {
+        if !tally.has_room() {
+            return Ok(Taken::Done);
+        }
         let Guarded { machine, book, .. } = self;
         let taken = machine.take()?;
         if let Taken::Ran = &taken {
@@ -201,6 +222,9 @@ impl<M: Machine, L: Lent> Guarded<M, L> {
         ensures kept { OnOk result (tally.new.count ≡ tally.old.count + 1) }
         ensures refused { OnErr result (tally.new.count ≡ tally.old.count) }
     {
+        if !tally.has_room() {
+            return Err(done);
+        }
         let Guarded { machine, book, .. } = self;
         let handed_in = machine.finish(done);
         if handed_in.is_ok() {

@@ -4,6 +4,8 @@
 //!   it. The trait asks only for what workers need, so that any order of pieces may stand behind it.
 //! - [`replay`]: finishes a machine by so many workers, and returns it as [`Replayed`], with the number of pieces that each worker
 //!   finished and the number of those that were left by all.
+//! - [`replay_feed`]: the same while the caller's thread loads into it what a [`Feed`] gives. A machine that can be loaded is one
+//!   that [`Loads`].
 //! - [`execute`]: executes batches of transactions over tables by so many workers. It loads them into a `Core` of `pac_core`,
 //!   which is a machine, and leaves the tables and the first note, as if each transaction had been executed after the other.
 //!
@@ -16,9 +18,10 @@
 //! ```
 //!
 //! Whatever the order in which workers get the lock, the machine that comes back is closed and finished, has the job of the one that
-//! was lent, and the tallies and what was drained add up to what was unfinished. None of this is tested when the program runs. What
-//! lies under the lock keeps by its type that its machine has that job, and that what was finished of it is in a ledger, of which
-//! each tally has a part. The ledger is that of this very call, so that no other machine fits it.
+//! was lent with the batches that a feed gave, and the tallies and what was drained add up to what was unfinished and to the pieces of
+//! these batches. None of this is tested when the program runs. What lies under the lock keeps by its type that its machine has the
+//! job which a twin beside it shows, and that what was finished of it is in a ledger, of which each tally has a part. The other twin
+//! is in the hands of the caller, who alone loads; and the ledger is that of this very call.
 //!
 //! That is all that is proved of threads. That several of them run, that each gets on, and that a wake-up comes are not; tests show
 //! it. A machine should see to two things for it: where it is closed and no piece is out, it is done or a piece is ready; and
@@ -38,6 +41,8 @@
 #![tactic(auto)]
 
 mod execution;
+mod feed;
+mod feeding;
 mod guarded;
 mod hand;
 mod machine;
@@ -47,5 +52,6 @@ mod threads;
 mod worker;
 
 pub use execution::{Executed, execute, execute_here};
-pub use machine::{Machine, Ready, Taken};
-pub use threads::{Replayed, replay};
+pub use feed::Feed;
+pub use machine::{Loads, Machine, Ready, Taken};
+pub use threads::{Replayed, replay, replay_feed};

@@ -1,10 +1,15 @@
 // What workers run.
-ghost use Rattle.std.specs.Prelude.{◌≡◌, ◌+◌, ℕ, Bool, true, IfOk, OnOk, OnErr};
+ghost use Rattle.std.specs.Prelude.{◌≡◌, ◌+◌, ◌<◌, ◌^◌, ℕ, Bool, List, true, false, length, IfOk, OnOk, OnErr};
+ghost use Rattle.std.specs.List.{AllByRecursion};
 ghost use Rattle.std.specs.Coded.{Coded};
+ghost use Rattle.pac_value.specs.declared.values.Ty.{Ty as ATy};
+ghost use Rattle.pac_ops.specs.declared.batch.Batch.{Batch as ABatch};
+ghost use Rattle.pac_ops.specs.declared.shapes.TableTypes.{TableTypes as ATableTypes};
+ghost use Rattle.pac_ops.specs.Shapes.{TxnFitsTypes};
 ghost use Rattle.pac_workers.specs.Takes.{ForWork, ran_by};
 
 use pac_base::NoMemory;
-use pac_ops::PieceId;
+use pac_ops::{Batch, PieceId};
 use std::alloc::Global;
 
 /// What a take answers.
@@ -51,6 +56,9 @@ pub trait Machine: Drop {
     // how many pieces aren't finished
     ghost left: { Self → ℕ };
 
+    // how many pieces a job has
+    ghost size: { Self → ℕ };
+
     // no piece is out
     ghost is_idle: { Self → Type 0 };
 
@@ -95,6 +103,7 @@ pub trait Machine: Drop {
     /// [`NoMemory`] where an allocation is refused. No piece is finished.
     fn take(&mut self) -> Result<Taken<Self::Work>, NoMemory>
         ensures job { job self.new ≡ job self.old }
+        ensures closed { is_closed self.new ≡ is_closed self.old }
         ensures ran { IfOk result (λ taken. left self.old ≡ left self.new + ran_by taken) }
         ensures work { IfOk result (ForWork can_run) }
         ensures err { OnErr result (left self.new ≡ left self.old) };
@@ -106,12 +115,14 @@ pub trait Machine: Drop {
     /// The result, where it is not of a piece that is out, as the machine has it, or where an allocation is refused.
     fn finish(&mut self, done: Self::Done) -> Result<(), Self::Done>
         ensures job { job self.new ≡ job self.old }
+        ensures closed { is_closed self.new ≡ is_closed self.old }
         ensures kept { OnOk result (left self.old ≡ left self.new + 1) }
         ensures refused { OnErr result (left self.new ≡ left self.old) };
 
     /// Gives back work that wasn't done: its piece is ready again.
     fn give_back(&mut self, work: Self::Work)
         ensures job { job self.new ≡ job self.old }
+        ensures closed { is_closed self.new ≡ is_closed self.old }
         ensures left { left self.new ≡ left self.old };
 
     /// Each piece that is out is ready again.
@@ -133,4 +144,35 @@ pub trait Machine: Drop {
         ensures closed { is_closed self.new ≡ is_closed self.old }
         ensures finished { OnOk result (left self.new ≡ 0) }
         ensures count { IfOk result (λ drained. drained ≡ left self.old) };
+}
+
+/// A machine into which batches can be loaded while its pieces are taken.
+pub trait Loads: Machine {
+    // a job with one batch more
+    ghost with_batch: { Self → ABatch → Self };
+
+    // the number of the first transaction of a job's next batch
+    ghost next_txn: { Self → ℕ };
+
+    // the types of the parameters of a job's procedures, and those of its tables
+    ghost params: { Self → List (List ATy) };
+
+    ghost tables: { Self → List ATableTypes };
+
+    /// Loads a batch: its pieces aren't finished.
+    ///
+    /// # Errors
+    ///
+    /// [`NoMemory`] where they find no room. Nothing is changed.
+    fn load(&mut self, batch: Batch) -> Result<(), NoMemory>
+        requires open { Self.is_closed self.old ≡ false }
+        requires first { batch.first ≡ next_txn (Self.job self.old) }
+        requires fits { AllByRecursion (TxnFitsTypes (params (Self.job self.old)) (tables (Self.job self.old))) batch.txns }
+        requires numbers { batch.first + length batch.txns < 2 ^ 64 }
+        ensures job { OnOk result (Self.job self.new ≡ with_batch (Self.job self.old) batch) }
+        ensures closed { Self.is_closed self.new ≡ Self.is_closed self.old }
+        ensures next { OnOk result (next_txn (Self.job self.new) ≡ batch.first + length batch.txns) }
+        ensures types { OnOk result ((params (Self.job self.new) ≡ params (Self.job self.old)) × (tables (Self.job self.new) ≡ tables (Self.job self.old))) }
+        ensures left { OnOk result (Self.left self.new + Self.size (Self.job self.old) ≡ Self.left self.old + Self.size (Self.job self.new)) }
+        ensures refused { OnErr result ((Self.job self.new ≡ Self.job self.old) × (Self.left self.new ≡ Self.left self.old)) };
 }

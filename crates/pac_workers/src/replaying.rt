@@ -1,12 +1,13 @@
 // The replay of a plan's pieces is a machine.
-ghost use Rattle.std.specs.Prelude.{◌≡◌, []};
+ghost use Rattle.std.specs.Prelude.{◌≡◌, [], length, map};
 ghost use Rattle.pac_piece.specs.Runnable.{IsRunnable};
-ghost use Rattle.pac_core.specs.Replay.{left, replay_code, with_none_taken};
+ghost use Rattle.pac_commute.specs.Loads.{next_in_job};
+ghost use Rattle.pac_core.specs.Replay.{left, loaded_pieces, replay_code, with_batch_loaded, with_none_taken};
 
-use crate::machine::{Machine, Ready, Taken};
+use crate::machine::{Loads, Machine, Ready, Taken};
 use pac_base::NoMemory;
 use pac_core::{Core, Finish, ReadyPieces, Take, weight_of};
-use pac_ops::PieceId;
+use pac_ops::{Batch, PieceId};
 use pac_piece::{Done, Work, run};
 use pac_tables::Rows;
 use std::alloc::Global;
@@ -23,6 +24,8 @@ impl<R: Rows> Machine for Core<R> {
     ghost is_closed = { λ core. core.is_closed };
 
     ghost left = { left };
+
+    ghost size = { λ core. length (loaded_pieces core) };
 
     ghost is_idle = { λ core. core.out ≡ [] };
 
@@ -84,5 +87,22 @@ impl<R: Rows> Machine for Core<R> {
 
     fn drain(&mut self) -> Result<u64, NoMemory> {
         Core::drain(self)
+    }
+}
+
+impl<R: Rows> Loads for Core<R> {
+    ghost with_batch = { with_batch_loaded };
+
+    ghost next_txn = { λ core. next_in_job core.job core.batches };
+
+    ghost params = { λ core. map (λ program. program.params) core.job.parts.programs };
+
+    ghost tables = { λ core. core.job.parts.tables };
+
+    fn load(&mut self, batch: Batch) -> Result<(), NoMemory> {
+        match Core::load(self, batch) {
+            Ok(()) => Ok(()),
+            Err(_) => Err(NoMemory),
+        }
     }
 }

@@ -1,6 +1,6 @@
 // How many pieces each worker finished.
-ghost use base.Stored.{Gv, gnil};
-ghost use Rattle.std.specs.Prelude.{◌≡◌, ◌+◌, ◌^◌, ◌<◌, ℕ, IfOk, length, sum, vec_capacity, vec_len};
+ghost use Rattle.std.specs.Prelude.{◌≡◌, ◌+◌, ◌^◌, ◌<◌, ◌↔◌, ℕ, [], IfOk, IsTrue, length, sum, vec_capacity, vec_len};
+ghost use Rattle.atomic_table.specs.Seated.{TableId};
 
 use pac_base::{Listed, NoMemory, listed};
 use std::alloc::Global;
@@ -9,15 +9,19 @@ use std::sync::ledger::{Book, Ledger, Share};
 
 /// One replay: what was lent to it. Its ledger counts the pieces that workers finish.
 pub(crate) trait Lent: Ledger {
-    // what there is to do, by its code: no member of a trait may be a value of a machine of any type
-    ghost job: { Gv };
+    // what the twins that show its job have in common
+    ghost pair: { TableId };
 
-    // how many pieces weren't finished
+    // how many pieces there were, and how many of them weren't finished
+    ghost size: { ℕ };
+
     ghost left: { ℕ };
 }
 
 impl Lent for Brand {
-    ghost job = { gnil };
+    ghost pair = { record { words = 0; slots = 0; views_name = 0; atom = 0; block = 0; offset = 0; slot_names = [] } };
+
+    ghost size = { 0 };
 
     ghost left = { 0 };
 }
@@ -44,9 +48,16 @@ impl<L: Ledger> Tally<L> {
         }
     }
 
+    /// Whether one more can be counted.
+    pub fn has_room(&self) -> bool
+        ensures { IsTrue result ↔ (self.now.count + 1 < 2 ^ 64) }
+    {
+        self.count < u64::MAX
+    }
+
     /// Counts a piece, here and in the book of all.
     pub fn count_one(&mut self, book: &mut Book<L>)
-        requires { book.old.total + 1 < 2 ^ 64 }
+        requires { self.old.count + 1 < 2 ^ 64 }
         ensures total { book.new.total ≡ book.old.total + 1 }
         ensures count { self.new.count ≡ self.old.count + 1 }
     {
@@ -55,7 +66,6 @@ impl<L: Ledger> Tally<L> {
             count,
             share,
         } = self;
-        book.audit(share);
         book.add(share, 1);
         *count += 1;
     }
