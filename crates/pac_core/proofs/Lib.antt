@@ -1,5 +1,6 @@
 pub mod SetFacts
 pub mod PieceValue
+pub mod EndValues
 pub mod Unnumbered
 pub mod Lists
 pub mod SetLists

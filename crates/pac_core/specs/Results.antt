@@ -40,6 +40,13 @@ IsResult r p writes outs note = IsGiven p (ops (world_at r.job (machine_of r)) p
 abbrev pub IsKeptAfter : Progress → Place → PieceId → Values → Values → Type 0
 IsKeptAfter p place piece outs new = (txn : Txn) (kept : Values) → IsTxnAt p place txn → AreValuesAt p place kept → LeavesValues p.pieces piece.block txn outs kept new
 
+-- among these values are those that a piece gives: the writes and the note are its result with them, and what is kept where all are
+-- given is what is kept where they alone are
+pub record IsResultAmong (r : Replay) (p : Progress) (place : Place) (piece : PieceId) (writes : List Write) (all : Values) (note : Option Note) : Type 0 where
+  pub outs : Values
+  pub result : IsResult r piece writes outs note
+  pub leaves : (now : Values) → IsKeptAfter p place piece all now → IsKeptAfter p place piece outs now
+
 -- of a transaction these variables keep the values that were given to them
 pub record HasGiven (old : List LoadedBatch) (batch i : ℕ) (vars : List ℕ) (given : Values) (new : List LoadedBatch) : Type 0 where
   pub loaded : LoadedBatch

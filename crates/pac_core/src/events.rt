@@ -9,7 +9,7 @@ ghost use Rattle.pac_core.specs.Links.{IsCore, IsKeptProgress, core_of, job_of};
 ghost use Rattle.pac_core.specs.Moves.{AreValuesKept, HasValuesAt, IsNextAt, IsReadyAtOffset, keeps_all};
 ghost use Rattle.pac_core.specs.Places.{HasPlace, IsPieceAt};
 ghost use Rattle.pac_core.specs.Replay.{machine_of, with_finished};
-ghost use Rattle.pac_core.specs.Results.{FitsAt, HasKept, HasLeft, HasTxnAt, IsResult, KeepsLeft};
+ghost use Rattle.pac_core.specs.Results.{FitsAt, HasKept, HasLeft, HasTxnAt, IsResultAmong, KeepsLeft};
 ghost use Rattle.pac_core.specs.Takes.{IsNextPiece, access_now};
 
 use crate::answers::{Finish, Take};
@@ -180,8 +180,12 @@ fn run_here<R: Rows>(
     ensures err { OnErr result (core_of progress.new rows.new ≡ core_of progress.old rows.old) }
 {
     let outcome = outcome_of(progress, rows, place, piece)?;
-    let PieceOutcome { writes, outs, note } = outcome;
-    match leave(progress, rows, place, piece, &outs, writes) {
+    let PieceOutcome {
+        writes,
+        values,
+        note,
+    } = outcome;
+    match leave(progress, rows, place, piece, &values, writes) {
         Ok(()) => {
             progress.hand_out(place.at);
             progress.finish(place, piece, note);
@@ -201,7 +205,7 @@ fn outcome_of<R: Rows>(
     requires core { IsCore progress.now rows.now }
     requires place { IsPieceAt progress.now place piece Waiting }
     requires ready { IsReadyAt (job_of progress.now rows.now) (machine_of (core_of progress.now rows.now)) piece }
-    ensures result { IfOk result (λ outcome. IsResult (core_of progress.now rows.now) piece outcome.writes outcome.outs outcome.note) }
+    ensures result { IfOk result (λ outcome. IsResultAmong (core_of progress.now rows.now) progress.now place piece outcome.writes outcome.values outcome.note) }
     ensures within { IfOk result (λ outcome. AreWithin rows.now.tables outcome.writes) }
 {
     let alloc = progress.alloc;
@@ -209,7 +213,7 @@ fn outcome_of<R: Rows>(
     let kept = progress.values_at(place, piece);
     let code = progress.pieces.code_of(alloc, txn, piece.block)?;
     let env = progress.pieces.found(alloc, txn, piece.block, kept)?;
-    run_on(alloc, piece, code.get(), &env, rows.rows())
+    run_on(alloc, piece, code.get(), env, rows.rows())
 }
 
 // What a piece leaves: its writes are made in rows, and the values that it gave for others are kept of its transaction. On an

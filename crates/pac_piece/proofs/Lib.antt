@@ -7,6 +7,7 @@ pub mod RunnableLemmas
 pub mod MeaningLemmas
 pub mod WithinLemmas
 pub mod TableLemmas
+pub mod KeptLemmas
 pub mod AlikeLemmas
 pub mod ArgumentWork
 pub mod CopyLemmas

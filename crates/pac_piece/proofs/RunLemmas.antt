@@ -1,8 +1,5 @@
 -- The operations of a piece one after another.
 use Rattle.std.proofs.Common.{◌≡◌, ℕ, Bool, true, false, ◌||◌, List, [], ◌∷◌, map, Option, Some, None, Result, Ok, refl, sym, ap, ap₂, ◌∙◌, subst}
-use Rattle.std.specs.Prelude.{is_some}
-use Rattle.std.specs.FinMap.{get, get-empty}
-use Rattle.std.specs.Ordering.{nat_cmp}
 use Rattle.pac_value.specs.declared.values.Key.{Key}
 use Rattle.pac_value.specs.declared.values.Key.TheVariants.{Int as IntKey, Text as TextKey}
 use Rattle.pac_value.specs.declared.values.Value.{Value}
@@ -19,7 +16,7 @@ use Rattle.pac_ops.specs.Notes.{note_at, first_note, least}
 use Rattle.pac_ops.specs.Operations.{State, Leaves, values, touched, effect, row_at, with_effect, done}
 use Rattle.pac_ops.specs.Transactions.{with_change}
 use Rattle.pac_ops.specs.Flat.{flat_reason, reason_in}
-use Rattle.pac_ops.specs.Effects.{NumberedOp, record_op, is_var}
+use Rattle.pac_ops.specs.Effects.{NumberedOp, record_op}
 use Rattle.pac_ops.proofs.StateLemmas.{least_none, least-assoc, first-append}
 use Rattle.pac_tables.specs.declared.writes.Write.{Write}
 use Rattle.pac_tables.specs.Written.{IsOnce, is_written, written}
@@ -27,7 +24,7 @@ use Rattle.pac_plan.specs.Codes.{code_ops}
 use Rattle.pac_plan.specs.declared.code.Code.{Code}
 use Rattle.pac_piece.specs.Values.{IsOutcomeOver, state_over}
 use Rattle.pac_piece.specs.declared.frame.Frame.{Frame}
-use Rattle.pac_piece.specs.Frames.{state_seen, done_or_defaulted, after_op, after_ops, notes_after, change_row, give_value, cell_changed, var_given, is_cell, StepsTo, RunsTo, RunsOn, IsFreshFrame}
+use Rattle.pac_piece.specs.Frames.{state_seen, done_or_defaulted, after_op, after_ops, notes_after, change_row, cell_changed, var_given, is_cell, Keeps, KeepsAll, StepsTo, RunsTo, RunsOn, IsFreshFrame}
 use Rattle.pac_piece.specs.Records.{record_cell, record_row, ChangesOne}
 use Rattle.pac_piece.proofs.StepLemmas.{stepped}
 
@@ -36,24 +33,25 @@ or-shift true true r = refl
 or-shift true false r = refl
 or-shift false w r = refl
 
-module _ (base : Tables) (txn : ℕ) where
+or-none : (b : Bool) → (b || false) ≡ b
+or-none true = refl
+or-none false = refl
+
+module _ {K : Type 0} (Adds : K → ℕ → Value → K → Type 0) (base : Tables) (txn : ℕ) where
   -- nothing was executed
-  pub starts : (os : List NumberedOp) (frame : Frame) → IsFreshFrame frame → RunsOn base txn os (state_seen base frame) os frame
+  pub starts : (os : List NumberedOp) (frame : Frame K) → IsFreshFrame frame → RunsOn Adds base txn os (state_seen base frame) frame.outs os frame
   starts os frame fresh = record {
     state = refl;
     note = ap (λ n. least n (first_note (notes_after txn os (state_seen base frame)))) fresh.note;
     changed = λ a. ap (λ ws. is_written ws a || change_row os (state_seen base frame) a) fresh.writes;
-    given = λ x. ap (λ v. is_some v || give_value os (state_seen base frame) x) (none x);
-    kept = λ x v e. let wrong : None ≡ Some v = sym (none x) ∙ e in cc;
+    kept = λ new all. all;
     once = subst (λ ws. IsOnce ws) (sym fresh.writes) tt;
   }
-    where
-      none : (x : ℕ) → get frame.outs x ≡ None
-      none x = ap (λ m. get m x) fresh.outs ∙ get-empty nat_cmp x
 
   -- one more was
-  pub goes_on : (os : List NumberedOp) (s : State) (o : NumberedOp) (rest : List NumberedOp) (old new : Frame) → RunsOn base txn os s (o ∷ rest) old → StepsTo base txn o old new → RunsOn base txn os s rest new
-  goes_on os s o rest old new on step = record {
+  pub goes_on : (os : List NumberedOp) (s : State) (outs : K) (o : NumberedOp) (rest : List NumberedOp) (old new : Frame K) → RunsOn Adds base txn os s outs (o ∷ rest) old → StepsTo Adds base txn o old new
+      → RunsOn Adds base txn os s outs rest new
+  goes_on os s outs o rest old new on step = record {
     state = ap (after_ops rest) step.state ∙ on.state;
     note = ap₂ (λ n t. least n (first_note (notes_after txn rest t))) step.note step.state
         ∙ sym (least-assoc old.note (first_note (note_at txn o.0 (flat_reason o.1 (state_seen base old)))) (first_note (notes_after txn rest (after_op o.1 (state_seen base old)))))
@@ -61,24 +59,21 @@ module _ (base : Tables) (txn : ℕ) where
         ∙ on.note;
     changed = λ a. ap₂ (λ b t. b || change_row rest t a) (step.changed a) step.state
         ∙ or-shift (is_cell a (cell_changed o.1 (state_seen base old))) (is_written old.writes.items a) (change_row rest (after_op o.1 (state_seen base old)) a) ∙ on.changed a;
-    given = λ x. ap₂ (λ b t. b || give_value rest t x) (step.given x) step.state
-        ∙ or-shift (is_var x (var_given o.1 (state_seen base old))) (is_some (get old.outs x)) (give_value rest (after_op o.1 (state_seen base old)) x) ∙ on.given x;
-    kept = step.kept on.kept;
+    kept = λ last all. on.kept last (
+      new.outs,
+      subst (λ (e : Values). Keeps Adds (var_given o.1 (state_seen base old)) e old.outs new.outs) (ap (λ (t : State). t.env) step.state) step.kept,
+      subst (λ (t : State). KeepsAll Adds rest t new.outs last) step.state all,
+    );
     once = step.once;
   }
 
-  or-none : (b : Bool) → (b || false) ≡ b
-  or-none true = refl
-  or-none false = refl
-
   -- all were
-  pub ends : (os : List NumberedOp) (s : State) (frame : Frame) → RunsOn base txn os s [] frame → RunsTo base txn os s frame
-  ends os s frame on = record {
+  pub ends : (os : List NumberedOp) (s : State) (outs : K) (frame : Frame K) → RunsOn Adds base txn os s outs [] frame → RunsTo Adds base txn os s outs frame
+  ends os s outs frame on = record {
     state = on.state;
     note = sym (least_none frame.note) ∙ on.note;
     changed = λ a. sym (or-none (is_written frame.writes.items a)) ∙ on.changed a;
-    given = λ x. sym (or-none (is_some (get frame.outs x))) ∙ on.given x;
-    kept = on.kept;
+    kept = on.kept frame.outs refl;
     once = on.once;
   }
 
@@ -116,16 +111,17 @@ pub record_silent : (change : Change) (s : State) → flat_reason (record_op cha
 record_silent (PutRow table key row) s = ap reason_in (record_done (PutRow table key row) s)
 record_silent (DeleteRow table key) s = ap reason_in (record_done (DeleteRow table key) s)
 
-pub record_steps : (base : Tables) (txn n : ℕ) (change : Change) (old new : Frame) → ChangesOne change old new → StepsTo base txn (n, record_op change) old new
-record_steps base txn n (PutRow table key row) old new h = stepped base txn (n, record_op (PutRow table key row)) old new (Some (table, key)) (Leaves (Some row)) refl
+pub record_steps : {K : Type 0} (Adds : K → ℕ → Value → K → Type 0) (base : Tables) (txn n : ℕ) (change : Change) (old new : Frame K) → ChangesOne Adds change old new
+    → StepsTo Adds base txn (n, record_op change) old new
+record_steps Adds base txn n (PutRow table key row) old new h = stepped Adds base txn (n, record_op (PutRow table key row)) old new (Some (table, key)) (Leaves (Some row)) refl
     (record_touched (PutRow table key row) old.env) (record_effect (PutRow table key row) old.env (row_at (state_seen base old).tables (Some (table, key)))) h
-record_steps base txn n (DeleteRow table key) old new h = stepped base txn (n, record_op (DeleteRow table key)) old new (Some (table, key)) (Leaves None) refl
+record_steps Adds base txn n (DeleteRow table key) old new h = stepped Adds base txn (n, record_op (DeleteRow table key)) old new (Some (table, key)) (Leaves None) refl
     (record_touched (DeleteRow table key) old.env) (record_effect (DeleteRow table key) old.env (row_at (state_seen base old).tables (Some (table, key)))) h
 
 -- ---- from the frame with which code begins
 
-pub outcome_of : (txn : ℕ) (code : Code) (env : Values) (base : Tables) (os : List NumberedOp) (begun : Values) (ws : List Write) (new : Frame) → begun ≡ env → ws ≡ [] → os ≡ code_ops code
-    → RunsTo base txn os (record { env = begun; tables = written base ws }) new → IsOutcomeOver txn code env base new
-outcome_of txn code env base os begun ws new same_env none same_code runs =
-    subst (λ (xs : List NumberedOp). RunsTo base txn xs (state_over env base) new) same_code
-    (subst (λ (s : State). RunsTo base txn os s new) (λ i. record { env = same_env i; tables = written base (none i) }) runs)
+pub outcome_of : {K : Type 0} (Adds : K → ℕ → Value → K → Type 0) (txn : ℕ) (code : Code) (env : Values) (base : Tables) (outs : K) (os : List NumberedOp) (ws : List Write) (new : Frame K) → ws ≡ [] → os ≡ code_ops code
+    → RunsTo Adds base txn os (record { env = env; tables = written base ws }) outs new → IsOutcomeOver Adds txn code env base outs new
+outcome_of Adds txn code env base outs os ws new none same_code runs =
+    subst (λ (xs : List NumberedOp). RunsTo Adds base txn xs (state_over env base) outs new) same_code
+    (subst (λ (s : State). RunsTo Adds base txn os s outs new) (λ i. record { env = env; tables = written base (none i) }) runs)

@@ -1,7 +1,7 @@
 -- What a piece has done so far, and one operation more.
-use Rattle.std.specs.Prelude.{◌≡◌, ℕ, Bool, true, false, ◌||◌, ◌&&◌, if◌then◌else◌, List, [], ◌∷◌, ◌++◌, Option, Some, None, is_some, Result, Ok, Err, is_ok}
+use Rattle.std.specs.Prelude.{◌≡◌, ℕ, Bool, true, false, ◌||◌, ◌&&◌, if◌then◌else◌, List, [], ◌∷◌, ◌++◌, Option, Some, None, Result, Ok, Err, is_ok}
 use Rattle.std.specs.Ordering.{eq_by_cmp}
-use Rattle.std.specs.FinMap.{get, insert, empty}
+use Rattle.std.specs.FinMap.{get, insert}
 use Rattle.pac_value.specs.declared.values.Ty.{Ty}
 use Rattle.pac_value.specs.declared.values.Value.{Value}
 use Rattle.pac_value.specs.Expressions.{Values}
@@ -77,49 +77,60 @@ CanRun (o ∷ os) s = (all_hold s.env o.1.conds ≡ true → CanDo s.env o.1.kin
 -- ---- frames
 
 -- the state that a piece sees: its values, and the rows that it wrote over those that it began with
-abbrev pub state_seen : Tables → Frame → State
+abbrev pub state_seen : {K : Type 0} → Tables → Frame K → State
 state_seen base frame = record { env = frame.env; tables = written base frame.writes.items }
 
 -- what was given stands in the environment
 abbrev pub AreAmong : Values → Values → Type 0
 AreAmong outs env = (x : ℕ) (v : Value) → get outs x ≡ Some v → get env x ≡ Some v
 
--- a variable got a value, and nothing else happened
-pub record Given (var : ℕ) (value : Value) (old new : Frame) : Type 0 where
-  pub env : new.env ≡ insert old.env var value
-  pub outs : new.outs ≡ insert old.outs var value
-  pub writes : new.writes.items ≡ old.writes.items
-  pub note : new.note ≡ old.note
+-- an environment has one value more
+abbrev pub HasOneMore : Values → ℕ → Value → Values → Type 0
+HasOneMore old x v new = new ≡ insert old x v
 
--- one operation more was executed
-pub record StepsTo (base : Tables) (txn : ℕ) (o : NumberedOp) (old new : Frame) : Type 0 where
-  pub state : state_seen base new ≡ after_op o.1 (state_seen base old)
-  pub note : new.note ≡ least old.note (first_note (note_at txn o.0 (flat_reason o.1 (state_seen base old))))
-  pub changed : (a : Cell) → is_written new.writes.items a ≡ (is_cell a (cell_changed o.1 (state_seen base old)) || is_written old.writes.items a)
-  pub given : (x : ℕ) → is_some (get new.outs x) ≡ (is_var x (var_given o.1 (state_seen base old)) || is_some (get old.outs x))
-  pub kept : AreAmong old.outs old.env → AreAmong new.outs new.env
-  pub once : IsOnce new.writes.items
+module _ {K : Type 0} (Adds : K → ℕ → Value → K → Type 0) where
+  -- what is kept of the values that are given has one more: that of the variable, if there is one
+  abbrev pub Keeps : Option ℕ → Values → K → K → Type 0
+  Keeps None env old new = new ≡ old
+  Keeps (Some x) env old new = (v : Value) × (get env x ≡ Some v) × Adds old x v new
 
--- all were executed from a state on, and nothing had happened before
-pub record RunsTo (base : Tables) (txn : ℕ) (os : List NumberedOp) (s : State) (frame : Frame) : Type 0 where
-  pub state : state_seen base frame ≡ after_ops os s
-  pub note : frame.note ≡ first_note (notes_after txn os s)
-  pub changed : (a : Cell) → is_written frame.writes.items a ≡ change_row os s a
-  pub given : (x : ℕ) → is_some (get frame.outs x) ≡ give_value os s x
-  pub kept : AreAmong frame.outs frame.env
-  pub once : IsOnce frame.writes.items
+  -- it has one more for each operation that gives a variable a value
+  abbrev pub KeepsAll : List NumberedOp → State → K → K → Type 0
+  KeepsAll [] s old new = new ≡ old
+  KeepsAll (o ∷ os) s old new = (mid : K) × Keeps (var_given o.1 s) (after_op o.1 s).env old mid × KeepsAll os (after_op o.1 s) mid new
 
--- the operations so far were executed, and what is left leads to what all lead to
-pub record RunsOn (base : Tables) (txn : ℕ) (os : List NumberedOp) (s : State) (rest : List NumberedOp) (frame : Frame) : Type 0 where
-  pub state : after_ops rest (state_seen base frame) ≡ after_ops os s
-  pub note : least frame.note (first_note (notes_after txn rest (state_seen base frame))) ≡ first_note (notes_after txn os s)
-  pub changed : (a : Cell) → (is_written frame.writes.items a || change_row rest (state_seen base frame) a) ≡ change_row os s a
-  pub given : (x : ℕ) → (is_some (get frame.outs x) || give_value rest (state_seen base frame) x) ≡ give_value os s x
-  pub kept : AreAmong frame.outs frame.env
-  pub once : IsOnce frame.writes.items
+  -- a variable got a value, and nothing else happened
+  pub record Given (var : ℕ) (value : Value) (old new : Frame K) : Type 0 where
+    pub env : new.env ≡ insert old.env var value
+    pub outs : Adds old.outs var value new.outs
+    pub writes : new.writes.items ≡ old.writes.items
+    pub note : new.note ≡ old.note
 
--- nothing has happened yet
-pub record IsFreshFrame (frame : Frame) : Type 0 where
-  pub outs : frame.outs ≡ empty
+  -- one operation more was executed
+  pub record StepsTo (base : Tables) (txn : ℕ) (o : NumberedOp) (old new : Frame K) : Type 0 where
+    pub state : state_seen base new ≡ after_op o.1 (state_seen base old)
+    pub note : new.note ≡ least old.note (first_note (note_at txn o.0 (flat_reason o.1 (state_seen base old))))
+    pub changed : (a : Cell) → is_written new.writes.items a ≡ (is_cell a (cell_changed o.1 (state_seen base old)) || is_written old.writes.items a)
+    pub kept : Keeps (var_given o.1 (state_seen base old)) new.env old.outs new.outs
+    pub once : IsOnce new.writes.items
+
+  -- all were executed from a state on, and nothing had happened before
+  pub record RunsTo (base : Tables) (txn : ℕ) (os : List NumberedOp) (s : State) (outs : K) (frame : Frame K) : Type 0 where
+    pub state : state_seen base frame ≡ after_ops os s
+    pub note : frame.note ≡ first_note (notes_after txn os s)
+    pub changed : (a : Cell) → is_written frame.writes.items a ≡ change_row os s a
+    pub kept : KeepsAll os s outs frame.outs
+    pub once : IsOnce frame.writes.items
+
+  -- the operations so far were executed, and what is left leads to what all lead to
+  pub record RunsOn (base : Tables) (txn : ℕ) (os : List NumberedOp) (s : State) (outs : K) (rest : List NumberedOp) (frame : Frame K) : Type 0 where
+    pub state : after_ops rest (state_seen base frame) ≡ after_ops os s
+    pub note : least frame.note (first_note (notes_after txn rest (state_seen base frame))) ≡ first_note (notes_after txn os s)
+    pub changed : (a : Cell) → (is_written frame.writes.items a || change_row rest (state_seen base frame) a) ≡ change_row os s a
+    pub kept : (new : K) → KeepsAll rest (state_seen base frame) frame.outs new → KeepsAll os s outs new
+    pub once : IsOnce frame.writes.items
+
+-- no row has been written yet, and no note left
+pub record IsFreshFrame {K : Type 0} (frame : Frame K) : Type 0 where
   pub writes : frame.writes.items ≡ []
   pub note : frame.note ≡ None

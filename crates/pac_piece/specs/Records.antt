@@ -1,5 +1,6 @@
 -- What records make of a frame: each is an operation with literals.
 use Rattle.std.specs.Prelude.{ℕ, List, Option, Some, None, map}
+use Rattle.pac_value.specs.declared.values.Value.{Value}
 use Rattle.pac_value.specs.State.{Cell, RowValues, Tables}
 use Rattle.pac_ops.specs.declared.transaction.Change.{Change}
 use Rattle.pac_ops.specs.declared.transaction.Change.TheVariants.{Put, Delete}
@@ -20,9 +21,9 @@ record_row (Put table key row) = Some row
 record_row (Delete table key) = None
 
 -- one record leaves its row
-abbrev pub ChangesOne : Change → Frame → Frame → Type 0
-ChangesOne change old new = Applies (Some (record_cell change)) (Leaves (record_row change)) old new
+abbrev pub ChangesOne : {K : Type 0} → (K → ℕ → Value → K → Type 0) → Change → Frame K → Frame K → Type 0
+ChangesOne Adds change old new = Applies Adds (Some (record_cell change)) (Leaves (record_row change)) old new
 
 -- the records were executed as operations, over any rows and in a transaction of any number
-abbrev pub ChangesAll : List Change → Frame → Frame → Type 0
-ChangesAll records old new = (base : Tables) (txn : ℕ) → RunsTo base txn (numbered_from 0 (map record_op records)) (state_seen base old) new
+abbrev pub ChangesAll : {K : Type 0} → (K → ℕ → Value → K → Type 0) → List Change → Frame K → Frame K → Type 0
+ChangesAll Adds records old new = (base : Tables) (txn : ℕ) → RunsTo Adds base txn (numbered_from 0 (map record_op records)) (state_seen base old) old.outs new

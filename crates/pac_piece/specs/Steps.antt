@@ -1,7 +1,7 @@
 -- What the parts of one operation's execution answer.
-use Rattle.std.specs.Prelude.{◌≡◌, ◌⊎◌, ℕ, ◌||◌, Option, Some, None, is_some, Result, Ok, Err}
-use Rattle.std.specs.FinMap.{get}
+use Rattle.std.specs.Prelude.{◌≡◌, ◌⊎◌, ℕ, ◌||◌, Option, Some, None, Result, Ok, Err}
 use Rattle.pac_value.specs.declared.expr.Expr.{Expr}
+use Rattle.pac_value.specs.declared.values.Value.{Value}
 use Rattle.pac_value.specs.State.{Cell, Tables}
 use Rattle.pac_ops.specs.declared.reason.Reason.{Reason}
 use Rattle.pac_ops.specs.declared.program.OpKind.{OpKind}
@@ -10,14 +10,14 @@ use Rattle.pac_ops.specs.Notes.{least}
 use Rattle.pac_ops.specs.Uses.{defined_variable}
 use Rattle.pac_ops.specs.Operations.{State, Effect, Nothing, Gives, Leaves, touched, effect, row_at, with_effect, done}
 use Rattle.pac_ops.specs.Defaults.{trapped_type}
-use Rattle.pac_ops.specs.Effects.{NumberedOp, is_var}
+use Rattle.pac_ops.specs.Effects.{NumberedOp}
 use Rattle.pac_tables.specs.Written.{IsOnce, is_written}
 use Rattle.pac_piece.specs.declared.effects.OpEffect.{OpEffect}
 use Rattle.pac_piece.specs.declared.failed.OpFailed.{OpFailed}
 use Rattle.pac_piece.specs.declared.failed.OpFailed.TheVariants.{Abort, NoMemory}
 use Rattle.pac_piece.specs.declared.frame.Frame.{Frame}
 use Rattle.pac_piece.specs.Effects.{effect_of}
-use Rattle.pac_piece.specs.Frames.{state_seen, AreAmong, defaulted, is_cell}
+use Rattle.pac_piece.specs.Frames.{state_seen, defaulted, is_cell, Keeps}
 
 -- the cell that an operation touches and its effect there; or why it would abort; or no memory
 abbrev pub AnswersAt : OpKind → State → Result (Option Cell × OpEffect) OpFailed → Type 0
@@ -42,18 +42,16 @@ abbrev pub GivesValueOf : OpKind → ℕ → Expr → Type 0
 GivesValueOf kind var e = (kind ≡ Let var e) ⊎ (kind ≡ Cond var e)
 
 -- an effect was had
-pub record Applies (cell : Option Cell) (e : Effect) (old new : Frame) : Type 0 where
+pub record Applies {K : Type 0} (Adds : K → ℕ → Value → K → Type 0) (cell : Option Cell) (e : Effect) (old new : Frame K) : Type 0 where
   pub state : (base : Tables) → state_seen base new ≡ with_effect cell e (state_seen base old)
   pub note : new.note ≡ old.note
   pub changed : (a : Cell) → is_written new.writes.items a ≡ (is_cell a (cell_left cell e) || is_written old.writes.items a)
-  pub given : (x : ℕ) → is_some (get new.outs x) ≡ (is_var x (var_left e) || is_some (get old.outs x))
-  pub kept : AreAmong old.outs old.env → AreAmong new.outs new.env
+  pub kept : Keeps Adds (var_left e) new.env old.outs new.outs
   pub once : IsOnce new.writes.items
 
 -- a note was left, and the variable has its default
-pub record GivesUp (txn : ℕ) (o : NumberedOp) (reason : Reason) (old new : Frame) : Type 0 where
+pub record GivesUp {K : Type 0} (Adds : K → ℕ → Value → K → Type 0) (txn : ℕ) (o : NumberedOp) (reason : Reason) (old new : Frame K) : Type 0 where
   pub state : (base : Tables) → state_seen base new ≡ defaulted (defined_variable o.1.kind) (trapped_type o.1.kind) (state_seen base old)
   pub note : new.note ≡ least old.note (Some (record { txn = txn; op = o.0; reason = reason }))
   pub changed : new.writes.items ≡ old.writes.items
-  pub given : (x : ℕ) → is_some (get new.outs x) ≡ (is_var x (defined_variable o.1.kind) || is_some (get old.outs x))
-  pub kept : AreAmong old.outs old.env → AreAmong new.outs new.env
+  pub kept : Keeps Adds (defined_variable o.1.kind) new.env old.outs new.outs

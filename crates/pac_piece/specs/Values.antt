@@ -1,6 +1,7 @@
 -- The value of a piece: what its code leaves of the values and the rows that it begins with.
 use Rattle.std.specs.Prelude.{◌≡◌, ℕ, List, Option, is_some}
 use Rattle.std.specs.FinMap.{get, empty}
+use Rattle.pac_value.specs.declared.values.Value.{Value}
 use Rattle.pac_value.specs.Expressions.{Values}
 use Rattle.pac_value.specs.State.{Cell, Tables}
 use Rattle.pac_ops.specs.declared.note.Note.{Note}
@@ -34,6 +35,12 @@ pub record IsValueOver (txn : ℕ) (code : Code) (env : Values) (base : Tables) 
   pub values : AreAmong outs (code_end code env base).env
   pub note_is : note ≡ first_note (notes_after txn (code_ops code) (state_over env base))
 
+-- these writes and note are what code leaves, and these are all values at its end, those that it began with and those that it gave
+pub record IsEndOver (txn : ℕ) (code : Code) (env : Values) (base : Tables) (writes : List Write) (all : Values) (note : Option Note) : Type 0 where
+  pub outs : Values
+  pub value : IsValueOver txn code env base writes outs note
+  pub all_are : all ≡ (code_end code env base).env
+
 -- ---- work
 
 -- the rows that work has copies of
@@ -60,5 +67,5 @@ CanRunCode (Ops os) s = CanRun os s
 CanRunCode (Records changes) s = Unit {0}
 
 -- the frame is what the code leaves
-abbrev pub IsOutcomeOver : ℕ → Code → Values → Tables → Frame → Type 0
-IsOutcomeOver txn code env base frame = RunsTo base txn (code_ops code) (state_over env base) frame
+abbrev pub IsOutcomeOver : {K : Type 0} → (K → ℕ → Value → K → Type 0) → ℕ → Code → Values → Tables → K → Frame K → Type 0
+IsOutcomeOver Adds txn code env base outs frame = RunsTo Adds base txn (code_ops code) (state_over env base) outs frame

@@ -8,7 +8,7 @@ ghost use Rattle.pac_piece.specs.Values.{CanRunCode, IsOutcomeOver, state_over};
 ghost use Rattle.pac_tables.specs.Written.{IsOnce};
 
 use crate::effects::OpEffect;
-use crate::frame::Frame;
+use crate::frame::{Frame, Outs};
 use crate::run_op::{apply, run_op};
 use crate::source::RowSource;
 use pac_base::{Exact, NoMemory};
@@ -17,22 +17,23 @@ use pac_plan::Code;
 use pac_value::Env;
 use std::alloc::Global;
 
-/// Runs code over its inputs and the rows of a source: what it leaves. It copies the inputs once, and takes memory for what it
-/// writes and gives, not for what it reads.
-pub(crate) fn run_code<S: RowSource>(
+/// Runs code over its inputs and the rows of a source: what it leaves, and of what it gave so much as is kept. It takes memory for
+/// what it writes and gives, not for what it reads.
+pub(crate) fn run_code<S: RowSource, K: Outs + Drop>(
     alloc: Global,
     txn: u64,
     code: &Code,
-    env: &Env,
+    env: Env,
+    outs: K,
     source: &S,
-) -> Result<Frame, NoMemory>
-    requires can { CanRunCode code.now (state_over env.now (S.base source.now)) }
+) -> Result<Frame<K>, NoMemory>
+    requires can { CanRunCode code.now (state_over env (S.base source.now)) }
     requires there { HaveTables (S.There source.now) (code_ops code.now) }
-    ensures { IfOk result (IsOutcomeOver txn code.now env.now (S.base source.now)) }
+    ensures { IfOk result (IsOutcomeOver K.Adds txn code.now env (S.base source.now) outs) }
 {
     let mut frame = Frame {
-        env: env.copy(alloc)?,
-        outs: Env::new(alloc),
+        env,
+        outs,
         writes: Vec::new(alloc),
         note: None,
     };
@@ -44,17 +45,17 @@ pub(crate) fn run_code<S: RowSource>(
 }
 
 // Runs operations one after another.
-fn run_all<S: RowSource>(
+fn run_all<S: RowSource, K: Outs>(
     alloc: Global,
     txn: u64,
     ops: &[(u16, FlatOp)],
     source: &S,
-    frame: &mut Frame,
+    frame: &mut Frame<K>,
 ) -> Result<(), NoMemory>
     requires fresh { IsFreshFrame frame.old }
     requires can { CanRun ops.now (state_seen (S.base source.now) frame.old) }
     requires there { HaveTables (S.There source.now) ops.now }
-    ensures { OnOk result (RunsTo (S.base source.now) txn ops.now (state_seen (S.base source.now) frame.old) frame.new) }
+    ensures { OnOk result (RunsTo K.Adds (S.base source.now) txn ops.now (state_seen (S.base source.now) frame.old) frame.old.outs frame.new) }
 {
     for op in ops {
         run_op(alloc, txn, op, source, frame)?;
@@ -63,9 +64,13 @@ fn run_all<S: RowSource>(
 }
 
 // Makes the changes of records one after another.
-fn change_all(alloc: Global, records: &[Change], frame: &mut Frame) -> Result<(), NoMemory>
+fn change_all<K: Outs>(
+    alloc: Global,
+    records: &[Change],
+    frame: &mut Frame<K>,
+) -> Result<(), NoMemory>
     requires { IsFreshFrame frame.old }
-    ensures { OnOk result (ChangesAll records.now frame.old frame.new) }
+    ensures { OnOk result (ChangesAll K.Adds records.now frame.old frame.new) }
 {
     for change in records {
         change_one(alloc, change, frame)?;
@@ -74,9 +79,9 @@ fn change_all(alloc: Global, records: &[Change], frame: &mut Frame) -> Result<()
 }
 
 // Makes the change of one record.
-fn change_one(alloc: Global, change: &Change, frame: &mut Frame) -> Result<(), NoMemory>
+fn change_one<K: Outs>(alloc: Global, change: &Change, frame: &mut Frame<K>) -> Result<(), NoMemory>
     requires { IsOnce frame.old.writes.items }
-    ensures { OnOk result (ChangesOne change.now frame.old frame.new) }
+    ensures { OnOk result (ChangesOne K.Adds change.now frame.old frame.new) }
 {
     match change {
         Change::Put { table, key, row } => {

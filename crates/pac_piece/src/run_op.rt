@@ -14,7 +14,7 @@ ghost use Rattle.pac_piece.specs.Steps.{AnswersAt, Applies, GivesUp, GivesValueO
 use crate::changes::change;
 use crate::effects::{OpEffect, effect};
 use crate::failed::OpFailed;
-use crate::frame::{Frame, give, lesser};
+use crate::frame::{Frame, Outs, give, lesser};
 use crate::source::{RowSource, row_at};
 use pac_base::NoMemory;
 use pac_ops::{FlatOp, Note, OpKind, Reason, all_hold, key_of};
@@ -22,17 +22,17 @@ use pac_value::{BinOp, Env, Expr, Key, Text, Trap, Ty, Value, eval};
 use std::alloc::Global;
 
 /// Runs one operation, over the rows of a source and what the piece has done so far.
-pub(crate) fn run_op<S: RowSource>(
+pub(crate) fn run_op<S: RowSource, K: Outs>(
     alloc: Global,
     txn: u64,
     op: &(u16, FlatOp),
     source: &S,
-    frame: &mut Frame,
+    frame: &mut Frame<K>,
 ) -> Result<(), NoMemory>
     requires can { all_hold frame.old.env op.now.1.conds ≡ true → CanDo frame.old.env op.now.1.kind }
     requires there { HasTable (S.There source.now) op.now.1.kind }
     requires once { IsOnce frame.old.writes.items }
-    ensures { OnOk result (StepsTo (S.base source.now) txn op.now frame.old frame.new) }
+    ensures { OnOk result (StepsTo K.Adds (S.base source.now) txn op.now frame.old frame.new) }
 {
     if !all_hold(op.1.conds.as_slice(), &frame.env) {
         return Ok(());
@@ -46,18 +46,18 @@ pub(crate) fn run_op<S: RowSource>(
 
 // Runs an operation that gives a variable the value of an expression, and touches no cell. The value is handed on by
 // reference: it is large.
-fn run_value(
+fn run_value<K: Outs>(
     txn: u64,
     op: &(u16, FlatOp),
     var: u16,
     expr: &Expr,
-    frame: &mut Frame,
+    frame: &mut Frame<K>,
 ) -> Result<(), NoMemory>
     requires kind { GivesValueOf op.now.1.kind var expr.now }
     requires holds { all_hold frame.old.env op.now.1.conds ≡ true }
     requires can { CanDo frame.old.env op.now.1.kind }
     requires once { IsOnce frame.old.writes.items }
-    ensures { OnOk result ((base : Tables) → StepsTo base txn op.now frame.old frame.new) }
+    ensures { OnOk result ((base : Tables) → StepsTo K.Adds base txn op.now frame.old frame.new) }
 {
     match eval(expr, &frame.env) {
         Ok(value) => give(frame, var, &value),
@@ -66,18 +66,18 @@ fn run_value(
 }
 
 // Runs any operation whose conditions hold.
-fn run_touching<S: RowSource>(
+fn run_touching<S: RowSource, K: Outs>(
     alloc: Global,
     txn: u64,
     op: &(u16, FlatOp),
     source: &S,
-    frame: &mut Frame,
+    frame: &mut Frame<K>,
 ) -> Result<(), NoMemory>
     requires holds { all_hold frame.old.env op.now.1.conds ≡ true }
     requires can { CanDo frame.old.env op.now.1.kind }
     requires there { HasTable (S.There source.now) op.now.1.kind }
     requires once { IsOnce frame.old.writes.items }
-    ensures { OnOk result (StepsTo (S.base source.now) txn op.now frame.old frame.new) }
+    ensures { OnOk result (StepsTo K.Adds (S.base source.now) txn op.now frame.old frame.new) }
 {
     match touched_effect(alloc, &op.1.kind, source, frame) {
         Ok((cell, effect)) => apply(cell, effect, frame),
@@ -87,11 +87,11 @@ fn run_touching<S: RowSource>(
 }
 
 // The cell that an operation touches, and what it does there.
-fn touched_effect<S: RowSource>(
+fn touched_effect<S: RowSource, K>(
     alloc: Global,
     kind: &OpKind,
     source: &S,
-    frame: &Frame,
+    frame: &Frame<K>,
 ) -> Result<(Option<(u16, Key)>, OpEffect), OpFailed>
     requires can { CanDo frame.now.env kind.now }
     requires there { HasTable (S.There source.now) kind.now }
@@ -122,13 +122,13 @@ fn touched(kind: &OpKind, env: &Env) -> Result<Option<(u16, Key)>, Trap>
 }
 
 /// An effect is had.
-pub(crate) fn apply(
+pub(crate) fn apply<K: Outs>(
     cell: Option<(u16, Key)>,
     effect: OpEffect,
-    frame: &mut Frame,
+    frame: &mut Frame<K>,
 ) -> Result<(), NoMemory>
     requires { IsOnce frame.old.writes.items }
-    ensures { OnOk result (Applies cell (effect_of effect) frame.old frame.new) }
+    ensures { OnOk result (Applies K.Adds cell (effect_of effect) frame.old frame.new) }
 {
     match effect {
         OpEffect::Nothing => Ok(()),
@@ -141,8 +141,13 @@ pub(crate) fn apply(
 }
 
 // An operation would abort: it leaves a note, and its variable gets the default.
-fn give_up(txn: u64, op: &(u16, FlatOp), reason: Reason, frame: &mut Frame) -> Result<(), NoMemory>
-    ensures { OnOk result (GivesUp txn op.now reason frame.old frame.new) }
+fn give_up<K: Outs>(
+    txn: u64,
+    op: &(u16, FlatOp),
+    reason: Reason,
+    frame: &mut Frame<K>,
+) -> Result<(), NoMemory>
+    ensures { OnOk result (GivesUp K.Adds txn op.now reason frame.old frame.new) }
 {
     let note = Note {
         txn,

@@ -1,6 +1,8 @@
 // Work, and work that is done.
 ghost use Rattle.std.specs.Prelude.{◌≡◌, ◌↔◌, IsTrue, IfOk, IfErr};
-ghost use Rattle.pac_piece.specs.Values.{IsValueOf};
+ghost use Rattle.std.specs.FinMap.{empty};
+ghost use Rattle.pac_piece.specs.Frames.{HasOneMore};
+ghost use Rattle.pac_piece.specs.Values.{IsOutcomeOver, IsValueOf, copied};
 ghost use Rattle.pac_piece.specs.Runnable.{IsRunnable};
 
 use crate::frame::Frame;
@@ -169,6 +171,22 @@ pub fn is_value(done: &Done)
     let _work = &done.work;
 }
 
+// Runs the code of the work over a copy of its inputs, and keeps each value that it gives.
+fn run_apart(alloc: Global, work: &Work) -> Result<Frame<Env>, NoMemory>
+    requires { IsRunnable work.now }
+    ensures { IfOk result (IsOutcomeOver HasOneMore work.now.piece.txn work.now.code work.now.env (copied work.now) empty) }
+{
+    let env = work.env.copy(alloc)?;
+    run_code(
+        alloc,
+        work.piece.txn,
+        work.code.get(),
+        env,
+        Env::new(alloc),
+        &work.rows,
+    )
+}
+
 /// Does the work: runs its operations in order, each over what those before it left. It copies the inputs once, and takes
 /// memory for what it writes and gives, not for what it reads.
 ///
@@ -180,13 +198,7 @@ pub fn run(alloc: Global, work: Work) -> Result<Done, (Work, NoMemory)>
     ensures ok { IfOk result (λ done. done.work ≡ work) }
     ensures err { IfErr result (λ refused. refused.0 ≡ work) }
 {
-    match run_code(
-        alloc,
-        work.piece.txn,
-        work.code.get(),
-        &work.env,
-        &work.rows,
-    ) {
+    match run_apart(alloc, &work) {
         Ok(frame) => {
             let Frame {
                 env: _,

@@ -280,7 +280,7 @@ fn hops_so<R: Rows>(alloc: Global, code: &PlanCode, txn: &Txn, rows: &R) -> bool
     };
     let ops = code.code(call.proc, piece.block).get();
     arguments_run_on(plan, txn, piece.block, ops, &env, rows);
-    match run_on(alloc, piece, ops, &env, rows) {
+    match run_on(alloc, piece, ops, env, rows) {
         Ok(outcome) => outcome.note.is_none() && is_one_row(outcome.writes.items(), 0, 0, 1),
         Err(_) => false,
     }

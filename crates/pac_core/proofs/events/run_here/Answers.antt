@@ -16,13 +16,13 @@ pub leave-requires-clause-place : goal.leave-requires-clause-place
 leave-requires-clause-place g c = (state.Waiting, c.requires.place)
 
 pub hand_out-requires : goal.hand_out-requires
-hand_out-requires g c = open_over c.args.progress.now c.leave.new.progress c.args.place c.args.piece state.Waiting c.requires.place c.in_ok-outcome.outcome.outs c.in-Ok.ensures.left
+hand_out-requires g c = open_over c.args.progress.now c.leave.new.progress c.args.place c.args.piece state.Waiting c.requires.place c.in_ok-outcome.outcome.values c.in-Ok.ensures.left
 
 pub finish-requires : goal.finish-requires
 finish-requires g c =
     let p = c.args.progress.now in
     let q = c.leave.new.progress in
-    let outs = c.in_ok-outcome.outcome.outs in
+    let outs = c.in_ok-outcome.outcome.values in
     let has = c.in-Ok.ensures.left in
     let out = c.hand_out.new.self in
     let first = first_picked p c.args.place c.args.piece state.Waiting c.requires.place c.requires.first in
@@ -38,15 +38,16 @@ returns-in-Ok-clause-keeps g c =
     let q = c.leave.new.progress in
     let u = c.args.rows.now in
     let outcome = c.in_ok-outcome.outcome in
+    let among = c.in_ok-outcome.ensures.result in
     let has = c.in-Ok.ensures.left in
     let out = c.hand_out.new.self in
     let first = first_picked p c.args.place c.args.piece state.Waiting c.requires.place c.requires.first in
-    let before = moved_before p q c.args.place c.args.piece state.Waiting c.requires.place outcome.outs has after_take out c.hand_out.ensures.moved in
-    let moved = before_moved p q c.args.place c.args.piece state.Waiting c.requires.place outcome.outs has after_take out c.hand_out.ensures.moved in
-    let stands = stands_moved p q c.args.place c.args.piece state.Waiting c.requires.place outcome.outs has after_take out c.hand_out.ensures.moved in
-    let to = finished_over before out c.args.place c.args.piece has.now (values_moved p q c.args.place c.args.piece state.Waiting c.requires.place outcome.outs has after_take out c.hand_out.ensures.moved) stands refl
+    let before = moved_before p q c.args.place c.args.piece state.Waiting c.requires.place outcome.values has after_take out c.hand_out.ensures.moved in
+    let moved = before_moved p q c.args.place c.args.piece state.Waiting c.requires.place outcome.values has after_take out c.hand_out.ensures.moved in
+    let stands = stands_moved p q c.args.place c.args.piece state.Waiting c.requires.place outcome.values has after_take out c.hand_out.ensures.moved in
+    let to = finished_over before out c.args.place c.args.piece has.now (values_moved p q c.args.place c.args.piece state.Waiting c.requires.place outcome.values has after_take out c.hand_out.ensures.moved) stands refl
     outcome.note c.finish.new.self (c.finish.ensures.finished has.now stands) in
-    ran_core p u c.requires.core c.args.place c.args.piece c.requires.place c.requires.ready outcome.writes outcome.outs outcome.note c.in_ok-outcome.ensures.result has.now has.leaves c.finish.new.self
+    ran_core p u c.requires.core c.args.place c.args.piece c.requires.place c.requires.ready outcome.writes among.outs outcome.note among.result has.now (among.leaves has.now has.leaves) c.finish.new.self
     (run_finished (job_of p u) p c.requires.core.progress c.args.place c.args.piece c.requires.place first before moved has.now outcome.note c.finish.new.self to c.finish.ensures.order)
     (run_order (job_of p u) p c.requires.core.progress c.args.place c.args.piece c.requires.place first before moved has.now outcome.note c.finish.new.self to c.finish.ensures.order)
     c.leave.new.rows c.in-Ok.ensures.made
@@ -57,15 +58,16 @@ returns-in-Ok-clause-ok g c =
     let q = c.leave.new.progress in
     let u = c.args.rows.now in
     let outcome = c.in_ok-outcome.outcome in
+    let among = c.in_ok-outcome.ensures.result in
     let has = c.in-Ok.ensures.left in
     let out = c.hand_out.new.self in
     let first = first_picked p c.args.place c.args.piece state.Waiting c.requires.place c.requires.first in
-    let before = moved_before p q c.args.place c.args.piece state.Waiting c.requires.place outcome.outs has after_take out c.hand_out.ensures.moved in
-    let moved = before_moved p q c.args.place c.args.piece state.Waiting c.requires.place outcome.outs has after_take out c.hand_out.ensures.moved in
-    let stands = stands_moved p q c.args.place c.args.piece state.Waiting c.requires.place outcome.outs has after_take out c.hand_out.ensures.moved in
-    let to = finished_over before out c.args.place c.args.piece has.now (values_moved p q c.args.place c.args.piece state.Waiting c.requires.place outcome.outs has after_take out c.hand_out.ensures.moved) stands refl
+    let before = moved_before p q c.args.place c.args.piece state.Waiting c.requires.place outcome.values has after_take out c.hand_out.ensures.moved in
+    let moved = before_moved p q c.args.place c.args.piece state.Waiting c.requires.place outcome.values has after_take out c.hand_out.ensures.moved in
+    let stands = stands_moved p q c.args.place c.args.piece state.Waiting c.requires.place outcome.values has after_take out c.hand_out.ensures.moved in
+    let to = finished_over before out c.args.place c.args.piece has.now (values_moved p q c.args.place c.args.piece state.Waiting c.requires.place outcome.values has after_take out c.hand_out.ensures.moved) stands refl
     outcome.note c.finish.new.self (c.finish.ensures.finished has.now stands) in
-    ran_is p u c.requires.core c.args.place c.args.piece c.requires.place c.requires.ready outcome.writes outcome.outs outcome.note c.in_ok-outcome.ensures.result has.now has.leaves c.finish.new.self
+    ran_is p u c.requires.core c.args.place c.args.piece c.requires.place c.requires.ready outcome.writes among.outs outcome.note among.result has.now (among.leaves has.now has.leaves) c.finish.new.self
     (run_finished (job_of p u) p c.requires.core.progress c.args.place c.args.piece c.requires.place first before moved has.now outcome.note c.finish.new.self to c.finish.ensures.order)
     (run_order (job_of p u) p c.requires.core.progress c.args.place c.args.piece c.requires.place first before moved has.now outcome.note c.finish.new.self to c.finish.ensures.order)
     c.leave.new.rows c.in-Ok.ensures.made

@@ -6,5 +6,5 @@ use Rattle.pac_piece.specs.Frames.{RunsOn, state_seen}
 use Rattle.pac_piece.proofs.run_all.change_all.Given as goal
 
 abbrev pub invariant-loop-change : goal.invariant-loop-change
-invariant-loop-change l = (base : Tables) (txn : ℕ)
-    → RunsOn base txn (numbered_from 0 (map record_op l.records)) (state_seen base l.fn.frame) (numbered_from l.change-index (map record_op (drop l.change-index l.records))) l.frame
+invariant-loop-change g l = (base : Tables) (txn : ℕ)
+    → RunsOn g.K.Outs.Adds base txn (numbered_from 0 (map record_op l.records)) (state_seen base l.fn.frame) l.fn.frame.outs (numbered_from l.change-index (map record_op (drop l.change-index l.records))) l.frame

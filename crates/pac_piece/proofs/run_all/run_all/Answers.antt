@@ -12,7 +12,7 @@ pub loop-op-init : goal.loop-op-init
 loop-op-init g c = record {
   can = c.requires.can;
   there = c.requires.there;
-  on = starts (g.S.RowSource.base c.args.source.now) c.args.txn c.args.ops.now c.args.frame.now c.requires.fresh;
+  on = starts g.K.Outs.Adds (g.S.RowSource.base c.args.source.now) c.args.txn c.args.ops.now c.args.frame.now c.requires.fresh;
 }
 
 pub run_op-requires : goal.run_op-requires
@@ -38,6 +38,6 @@ loop-op-preserved g c =
     record {
       can = subst (λ (s : State). CanRun (drop (i + 1) ops) s) (sym step.state) (subst (λ (os : List NumberedOp). CanRun os (state_seen base c.loop-op.frame)) rest c.loop-op.invariant.can).1;
       there = (subst (λ (os : List NumberedOp). HaveTables (g.S.RowSource.There c.args.source.now) os) rest c.loop-op.invariant.there).1;
-      on = goes_on base c.args.txn ops (state_seen base c.args.frame.now) op (drop (i + 1) ops) c.loop-op.frame c.run_op.new.frame
-          (subst (λ (os : List NumberedOp). RunsOn base c.args.txn ops (state_seen base c.args.frame.now) os c.loop-op.frame) rest c.loop-op.invariant.on) step;
+      on = goes_on g.K.Outs.Adds base c.args.txn ops (state_seen base c.args.frame.now) c.args.frame.now.outs op (drop (i + 1) ops) c.loop-op.frame c.run_op.new.frame
+          (subst (λ (os : List NumberedOp). RunsOn g.K.Outs.Adds base c.args.txn ops (state_seen base c.args.frame.now) c.args.frame.now.outs os c.loop-op.frame) rest c.loop-op.invariant.on) step;
     }

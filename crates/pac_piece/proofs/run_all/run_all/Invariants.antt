@@ -8,5 +8,5 @@ abbrev pub invariant-loop-op : goal.invariant-loop-op
 invariant-loop-op g l = record {
   can : CanRun (drop l.op-index l.ops) (state_seen (g.S.RowSource.base l.source) l.frame);
   there : HaveTables (g.S.RowSource.There l.source) (drop l.op-index l.ops);
-  on : RunsOn (g.S.RowSource.base l.source) l.txn l.ops (state_seen (g.S.RowSource.base l.source) l.fn.frame) (drop l.op-index l.ops) l.frame;
+  on : RunsOn g.K.Outs.Adds (g.S.RowSource.base l.source) l.txn l.ops (state_seen (g.S.RowSource.base l.source) l.fn.frame) l.fn.frame.outs (drop l.op-index l.ops) l.frame;
 }

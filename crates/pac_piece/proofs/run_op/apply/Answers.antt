@@ -8,5 +8,5 @@ use Rattle.pac_piece.proofs.StepLemmas.{on_ok, applies_gives}
 use Rattle.pac_piece.proofs.run_op.apply.Goals as goal
 
 pub returns-in-Gives : goal.returns-in-Gives
-returns-in-Gives c = subst (λ (e : OpEffect). OnOk c.give.result (Applies c.args.cell (effect_of e) c.args.frame.now c.give.new.frame)) (sym c.in-Gives.is)
-    (on_ok c.give.result (applies_gives c.in-Gives.var c.in-Gives.value c.args.cell c.args.frame.now c.give.new.frame c.requires) c.give.ensures)
+returns-in-Gives g c = subst (λ (e : OpEffect). OnOk c.give.result (Applies g.K.Outs.Adds c.args.cell (effect_of e) c.args.frame.now c.give.new.frame)) (sym c.in-Gives.is)
+    (on_ok c.give.result (applies_gives g.K.Outs.Adds c.in-Gives.var c.in-Gives.value c.args.cell c.args.frame.now c.give.new.frame c.requires) c.give.ensures)

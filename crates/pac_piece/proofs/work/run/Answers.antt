@@ -1,16 +1,11 @@
--- It is the work of a piece of a plan.
+-- What the frame kept is the value of the work.
 use Rattle.std.proofs.Common.{sym, subst}
-use Rattle.pac_plan.specs.declared.code.Code.{Code}
-use Rattle.pac_plan.specs.Codes.{code_ops}
-use Rattle.pac_piece.specs.Values.{CanRunCode, copied, state_over}
-use Rattle.pac_piece.proofs.RunnableLemmas.{runnable}
-use Rattle.pac_piece.proofs.TableLemmas.{all_there}
+use Rattle.pac_piece.specs.Values.{IsValueOf, copied}
+use Rattle.pac_piece.proofs.KeptLemmas.{value_of}
 use Rattle.pac_piece.proofs.work.run.Goals as goal
 
-pub run_code-requires : goal.run_code-requires
-run_code-requires c =
+pub invariant_of-result : goal.invariant_of-result
+invariant_of-result c =
     let work = c.args.work in
-    record {
-      can = subst (λ (code : Code). CanRunCode code (state_over work.env (copied work))) (sym c.get.ensures) (runnable work.piece.block work.code work.env (copied work) c.requires);
-      there = all_there (code_ops c.get.result.now);
-    }
+    let frame = c.in-Ok.frame in
+    subst (λ (ws : _). IsValueOf work ws frame.outs frame.note) (sym c.of-writes.ensures) (value_of work.piece.txn work.code work.env (copied work) frame c.in-Ok.ensures)
