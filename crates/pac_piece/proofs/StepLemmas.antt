@@ -1,5 +1,5 @@
 -- One operation of a piece: from what its effect made of the frame to what the operation means.
-use Rattle.std.proofs.Common.{◌≡◌, ℕ, ◌==◌, Bool, true, false, cond, ◌&&◌, ◌||◌, Option, Some, None, Result, Ok, Err, refl, sym, ap, ◌∙◌, subst, inl, inr}
+use Rattle.std.proofs.Common.{◌≡◌, ℕ, Bool, true, false, cond, ◌&&◌, ◌||◌, Option, Some, None, Result, Ok, Err, refl, sym, ap, ◌∙◌, subst, inl, inr}
 use Rattle.std.specs.Prelude.{IsSome, OnOk, is_ok}
 use Rattle.std.specs.FinMap.{get}
 use Rattle.pac_value.specs.declared.values.Value.{Value}
