@@ -26,6 +26,7 @@ use pac_piece::{Done, PieceOutcome, Work, is_value, run_on};
 use pac_tables::{Rows, Writes};
 use pac_undo::UndoRows;
 use pac_value::Env;
+use std::mem;
 
 /// The piece that comes next is handed out, or run on the spot.
 ///
@@ -35,6 +36,7 @@ use pac_value::Env;
 pub(crate) fn take_next<R: Rows>(
     progress: &mut Progress,
     rows: &mut UndoRows<R>,
+    room: &mut Env,
 ) -> Result<Take, NoMemory>
     requires { IsCore progress.old rows.old }
     ensures keeps { IsCore progress.new rows.new }
@@ -42,7 +44,7 @@ pub(crate) fn take_next<R: Rows>(
     ensures err { OnErr result (core_of progress.new rows.new ≡ core_of progress.old rows.old) }
 {
     match progress.next_ready()? {
-        Some((at, piece)) => take_piece(progress, rows, at, piece),
+        Some((at, piece)) => take_piece(progress, rows, room, at, piece),
         None if progress.is_done() => Ok(Take::Done),
         None => Ok(Take::NotReady),
     }
@@ -52,6 +54,7 @@ pub(crate) fn take_next<R: Rows>(
 fn take_piece<R: Rows>(
     progress: &mut Progress,
     rows: &mut UndoRows<R>,
+    room: &mut Env,
     at: usize,
     piece: PieceId,
 ) -> Result<Take, NoMemory>
@@ -68,7 +71,7 @@ fn take_piece<R: Rows>(
             Ok(Take::Given(work))
         }
         None => {
-            run_here(progress, rows, place, piece)?;
+            run_here(progress, rows, room, place, piece)?;
             Ok(Take::Ran(piece))
         }
     }
@@ -102,6 +105,7 @@ pub(crate) fn coming<R: Rows>(
 pub(crate) fn run_next<R: Rows>(
     progress: &mut Progress,
     rows: &mut UndoRows<R>,
+    room: &mut Env,
 ) -> Result<Option<PieceId>, NoMemory>
     requires { IsCore progress.old rows.old }
     ensures keeps { IsCore progress.new rows.new }
@@ -109,7 +113,7 @@ pub(crate) fn run_next<R: Rows>(
     ensures err { OnErr result (core_of progress.new rows.new ≡ core_of progress.old rows.old) }
 {
     match progress.next_ready()? {
-        Some((at, piece)) => run_piece(progress, rows, at, piece),
+        Some((at, piece)) => run_piece(progress, rows, room, at, piece),
         None => Ok(None),
     }
 }
@@ -118,6 +122,7 @@ pub(crate) fn run_next<R: Rows>(
 fn run_piece<R: Rows>(
     progress: &mut Progress,
     rows: &mut UndoRows<R>,
+    room: &mut Env,
     at: usize,
     piece: PieceId,
 ) -> Result<Option<PieceId>, NoMemory>
@@ -128,7 +133,7 @@ fn run_piece<R: Rows>(
     ensures err { OnErr result (core_of progress.new rows.new ≡ core_of progress.old rows.old) }
 {
     let place = progress.place_of_ready(at, piece);
-    run_here(progress, rows, place, piece)?;
+    run_here(progress, rows, room, place, piece)?;
     Ok(Some(piece))
 }
 
@@ -164,10 +169,12 @@ fn given<R: Rows>(
     }
 }
 
-// A ready piece is run over the tables, and is finished. On an error it isn't.
+// A ready piece is run over the tables, and is finished. On an error it isn't. Its values have their room where those of the last such
+// piece had it.
 fn run_here<R: Rows>(
     progress: &mut Progress,
     rows: &mut UndoRows<R>,
+    room: &mut Env,
     place: Place,
     piece: PieceId,
 ) -> Result<(), NoMemory>
@@ -179,7 +186,7 @@ fn run_here<R: Rows>(
     ensures ok { OnOk result (core_of progress.new rows.new ≡ with_finished (core_of progress.old rows.old) piece) }
     ensures err { OnErr result (core_of progress.new rows.new ≡ core_of progress.old rows.old) }
 {
-    let outcome = outcome_of(progress, rows, place, piece)?;
+    let outcome = outcome_of(progress, rows, room, place, piece)?;
     let PieceOutcome {
         writes,
         values,
@@ -187,6 +194,7 @@ fn run_here<R: Rows>(
     } = outcome;
     match leave(progress, rows, place, piece, &values, writes) {
         Ok(()) => {
+            *room = values;
             progress.hand_out(place.at);
             progress.finish(place, piece, note);
             Ok(())
@@ -199,6 +207,7 @@ fn run_here<R: Rows>(
 fn outcome_of<R: Rows>(
     progress: &Progress,
     rows: &UndoRows<R>,
+    room: &mut Env,
     place: Place,
     piece: PieceId,
 ) -> Result<PieceOutcome, NoMemory>
@@ -212,7 +221,8 @@ fn outcome_of<R: Rows>(
     let txn = progress.txn_at(place, piece);
     let kept = progress.values_at(place, piece);
     let code = progress.pieces.code_of(alloc, txn, piece.block)?;
-    let env = progress.pieces.found(alloc, txn, piece.block, kept)?;
+    let mut env = mem::replace(room, Env::new(alloc));
+    progress.pieces.find(&mut env, txn, piece.block, kept)?;
     run_on(alloc, piece, code.get(), env, rows.rows())
 }
 

@@ -16,6 +16,7 @@ use pac_piece::{Done, Work};
 use pac_plan::{Plan, is_plan};
 use pac_tables::Rows;
 use pac_undo::UndoRows;
+use pac_value::Env;
 use std::alloc::Global;
 use std::marker::Model;
 
@@ -25,6 +26,8 @@ use std::marker::Model;
 pub struct Core<R: Rows> {
     progress: Progress,
     rows: UndoRows<R>,
+    /// Room for the values of a piece that is run over the tables. What it holds is of no account.
+    room: Env,
 }
 
 impl<R: Rows> Model for Core<R> {
@@ -54,7 +57,11 @@ impl<R: Rows> Core<R> {
         is_plan(&plan);
         let progress = Progress::new(alloc, plan, first)?;
         let rows = UndoRows::new(alloc, tables);
-        Ok(Core { progress, rows })
+        Ok(Core {
+            progress,
+            rows,
+            room: Env::new(alloc),
+        })
     }
 
     /// The number of the next transaction that may be loaded. Takes no memory.
@@ -152,7 +159,7 @@ impl<R: Rows> Core<R> {
         ensures left { IfOk result (λ take. left self.old ≡ left self.new + run_by take) }
         ensures err { OnErr result (self.new ≡ self.old) }
     {
-        take_next(&mut self.progress, &mut self.rows)
+        take_next(&mut self.progress, &mut self.rows, &mut self.room)
     }
 
     /// The piece that comes next, by batch, block and transaction. `None`: none is ready. Nothing is handed out.
@@ -178,7 +185,7 @@ impl<R: Rows> Core<R> {
         ensures ok { IfOk result (λ next. IsNextFinished self.old next self.new) }
         ensures err { OnErr result (self.new ≡ self.old) }
     {
-        run_next(&mut self.progress, &mut self.rows)
+        run_next(&mut self.progress, &mut self.rows, &mut self.room)
     }
 
     /// A result is handed in. Its piece is finished, where it was out and the result is of the work that the replay has for
@@ -333,7 +340,11 @@ impl<R: Rows> Core<R> {
         ensures tables { R.tables result.tables ≡ length self.job.parts.tables }
         ensures fit { RowsFit self.job.parts.tables (R.held result.tables) }
     {
-        let Core { progress, rows } = self;
+        let Core {
+            progress,
+            rows,
+            room: _,
+        } = self;
         Outcome {
             tables: rows.into_rows(),
             first_note: progress.note,

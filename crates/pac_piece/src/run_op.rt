@@ -34,7 +34,8 @@ pub(crate) fn run_op<S: RowSource, K: Outs>(
     requires once { IsOnce frame.old.writes.items }
     ensures { OnOk result (StepsTo K.Adds (S.base source.now) txn op.now frame.old frame.new) }
 {
-    if !all_hold(op.1.conds.as_slice(), &frame.env) {
+    let conds = op.1.conds.as_slice();
+    if !conds.is_empty() && !all_hold(conds, &frame.env) {
         return Ok(());
     }
     match &op.1.kind {

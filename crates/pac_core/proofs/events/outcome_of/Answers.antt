@@ -25,16 +25,16 @@ code_of-requires-clause-fits g c = fits c.args.progress.now c.args.rows.now c.re
 pub code_of-requires-clause-block : goal.code_of-requires-clause-block
 code_of-requires-clause-block g c = block_inside c.args.progress.now c.args.rows.now c.requires.core c.args.place c.args.piece state.Waiting c.requires.place c.txn_at-txn.result.now c.txn_at-txn.ensures
 
-pub found-requires-clause-fits : goal.found-requires-clause-fits
-found-requires-clause-fits g c = fits c.args.progress.now c.args.rows.now c.requires.core c.args.place c.args.piece state.Waiting c.requires.place c.txn_at-txn.result.now c.txn_at-txn.ensures
+pub find-requires-clause-fits : goal.find-requires-clause-fits
+find-requires-clause-fits g c = fits c.args.progress.now c.args.rows.now c.requires.core c.args.place c.args.piece state.Waiting c.requires.place c.txn_at-txn.result.now c.txn_at-txn.ensures
 
-pub found-requires-clause-block : goal.found-requires-clause-block
-found-requires-clause-block g c = block_inside c.args.progress.now c.args.rows.now c.requires.core c.args.place c.args.piece state.Waiting c.requires.place c.txn_at-txn.result.now c.txn_at-txn.ensures
+pub find-requires-clause-block : goal.find-requires-clause-block
+find-requires-clause-block g c = block_inside c.args.progress.now c.args.rows.now c.requires.core c.args.place c.args.piece state.Waiting c.requires.place c.txn_at-txn.result.now c.txn_at-txn.ensures
 
 pub run_on-requires : goal.run_on-requires
 run_on-requires g c =
     may_run_on c.args.progress.now c.args.rows.now c.requires.core c.args.place c.args.piece state.Waiting c.requires.place c.txn_at-txn.result.now c.txn_at-txn.ensures c.values_at-kept.result.now c.values_at-kept.ensures c.requires.ready.3
-    c.in_ok-env.env c.in_ok-env.ensures c.get.result.now (c.get.ensures ∙ c.in_ok-code.ensures) _ (sym c.rows.ensures.tables) _ c.rows.ensures.rows
+    c.find.new.env c.in_ok-find.ensures c.get.result.now (c.get.ensures ∙ c.in_ok-code.ensures) _ (sym c.rows.ensures.tables) _ c.rows.ensures.rows
 
 pub returns-clause-result : goal.returns-clause-result
 returns-clause-result g c = go c.run_on.result c.run_on.ensures.value
@@ -49,16 +49,16 @@ returns-clause-result g c = go c.run_on.result c.run_on.ensures.value
     kept = c.values_at-kept.result.now
 
     env : Values
-    env = c.in_ok-env.env
+    env = c.find.new.env
 
     of_core : (outcome : PieceOutcome) → IsEndOver c.args.piece.txn (code_in p.pieces c.args.piece.block txn) env c.args.rows.now.current outcome.writes outcome.values outcome.note
         → IsResultAmong (core_of p c.args.rows.now) p c.args.place c.args.piece outcome.writes outcome.values outcome.note
     of_core outcome end = record {
       outs = end.outs;
       result = result_is p c.args.rows.now c.requires.core c.args.place c.args.piece state.Waiting c.requires.place txn c.txn_at-txn.ensures kept c.values_at-kept.ensures c.requires.ready.3 refl
-          env c.in_ok-env.ensures c.args.rows.now.current (λ a covers. ap (λ (t : Tables). get t a) c.requires.core.rows) outcome.writes end.outs outcome.note end.value;
+          env c.in_ok-find.ensures c.args.rows.now.current (λ a covers. ap (λ (t : Tables). get t a) c.requires.core.rows) outcome.writes end.outs outcome.note end.value;
       leaves = λ now after. kept_after_is p c.args.place c.args.piece end.outs txn c.txn_at-txn.ensures kept c.values_at-kept.ensures now
-          (leaves_passed p.pieces c.args.piece.block txn kept env c.in_ok-env.ensures c.args.piece.txn c.args.rows.now.current outcome.writes outcome.values outcome.note end kept now
+          (leaves_passed p.pieces c.args.piece.block txn kept env c.in_ok-find.ensures c.args.piece.txn c.args.rows.now.current outcome.writes outcome.values outcome.note end kept now
           (after txn kept c.txn_at-txn.ensures c.values_at-kept.ensures));
     }
 

@@ -72,8 +72,8 @@ returns-in-Ok-clause-ok g c =
     (run_order (job_of p u) p c.requires.core.progress c.args.place c.args.piece c.requires.place first before moved has.now outcome.note c.finish.new.self to c.finish.ensures.order)
     c.leave.new.rows c.in-Ok.ensures.made
 
-pub returns-clause-keeps : goal.returns-clause-keeps
-returns-clause-keeps g c = no_room_core c.args.progress.now c.leave.new.progress c.args.rows.now c.leave.new.rows c.requires.core c.args.place c.in-Err.ensures.kept c.in-Err.ensures.same
+pub returns-in-Err-clause-keeps : goal.returns-in-Err-clause-keeps
+returns-in-Err-clause-keeps g c = no_room_core c.args.progress.now c.leave.new.progress c.args.rows.now c.leave.new.rows c.requires.core c.args.place c.in-Err.ensures.kept c.in-Err.ensures.same
 
-pub returns-clause-err : goal.returns-clause-err
-returns-clause-err g c = no_room_is c.args.progress.now c.leave.new.progress c.args.rows.now c.leave.new.rows c.requires.core c.args.place c.in-Err.ensures.kept c.in-Err.ensures.same
+pub returns-in-Err-clause-err : goal.returns-in-Err-clause-err
+returns-in-Err-clause-err g c = no_room_is c.args.progress.now c.leave.new.progress c.args.rows.now c.leave.new.rows c.requires.core c.args.place c.in-Err.ensures.kept c.in-Err.ensures.same
