@@ -1,5 +1,6 @@
 // The values of variables.
-ghost use Rattle.std.specs.Prelude.{◌≡◌, ◌↔◌, T, length, IsTrue, IfOk, IfErr, OnOk, OnErr};
+ghost use Rattle.std.specs.Prelude.{◌≡◌, ◌↔◌, ◌≤◌, T, length, IsTrue, IfOk, IfErr, OnOk, OnErr};
+ghost use Rattle.std.specs.List.{insert};
 ghost use Rattle.std.specs.Option.{option_map};
 ghost use Rattle.std.specs.Ordering.{nat_cmp};
 ghost use Rattle.std.specs.FinMap as map;
@@ -65,6 +66,20 @@ fn search(values: &[(u16, Value)], var: u16) -> Result<usize, usize>
         return Err(values.len());
     }
     values.binary_search_by(|entry| entry.0.cmp(&var))
+}
+
+// Adds an entry. One that comes last moves no other.
+fn add(values: &mut Vec<(u16, Value)>, at: usize, entry: (u16, Value)) -> Result<(), NoMemory>
+    requires { at ≤ length values.old.items }
+    ensures ok { OnOk result (values.new.items ≡ insert values.old.items at entry) }
+    ensures err { OnErr result (values.new.items ≡ values.old.items) }
+{
+    if at == values.len() {
+        values.push(entry)?;
+    } else {
+        values.insert(at, entry)?;
+    }
+    Ok(())
 }
 
 // Whether the two are the same value, or both none.
@@ -141,7 +156,7 @@ impl Env {
     {
         match search(&self.values, var) {
             Ok(at) => self.values[at].1 = value,
-            Err(at) => self.values.insert(at, (var, value))?,
+            Err(at) => add(&mut self.values, at, (var, value))?,
         }
         Ok(())
     }

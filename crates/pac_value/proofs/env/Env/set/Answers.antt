@@ -32,11 +32,11 @@ pub invariant_of-self-in-Continue-1 : goal.invariant_of-self-in-Continue-1
 invariant_of-self-in-Continue-1 c =
     let all = c.self.inside.values.items in
     let gap = subst (λ (es : Entries). IsGapFor nat_cmp es c.args.var c.in-Err.at) c.deref.ensures.value c.in-Err.ensures.absent in
-    subst (λ (es : Entries). T (is_sorted nat_cmp es)) (sym c.in_ok-insert-in-Err.ensures.items) (gap-sorted nat_cmp_total all c.self.invariant c.args.var c.in-Err.at gap c.args.value)
+    subst (λ (es : Entries). T (is_sorted nat_cmp es)) (sym c.in_ok-add-in-Err.ensures.ok) (gap-sorted nat_cmp_total all c.self.invariant c.args.var c.in-Err.at gap c.args.value)
 
-pub returns-in_ok-insert-in-Err-clause-ok : goal.returns-in_ok-insert-in-Err-clause-ok
-returns-in_ok-insert-in-Err-clause-ok c =
+pub returns-in_ok-add-in-Err-clause-ok : goal.returns-in_ok-add-in-Err-clause-ok
+returns-in_ok-add-in-Err-clause-ok c =
     let all = c.self.inside.values.items in
     let gap = subst (λ (es : Entries). IsGapFor nat_cmp es c.args.var c.in-Err.at) c.deref.ensures.value c.in-Err.ensures.absent in
-    ap (map.from_sorted {R = nat_cmp}) c.in_ok-insert-in-Err.ensures.items ∙ gap-map nat_cmp_total all c.self.invariant c.args.var c.in-Err.at gap c.args.value
+    ap (map.from_sorted {R = nat_cmp}) c.in_ok-add-in-Err.ensures.ok ∙ gap-map nat_cmp_total all c.self.invariant c.args.var c.in-Err.at gap c.args.value
     ∙ ap (λ (m : Values). map.insert m c.args.var c.args.value) c.self.view_is
