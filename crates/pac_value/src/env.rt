@@ -1,5 +1,5 @@
 // The values of variables.
-ghost use Rattle.std.specs.Prelude.{◌≡◌, ◌↔◌, ◌≤◌, T, length, IsTrue, IfOk, IfErr, OnOk, OnErr};
+ghost use Rattle.std.specs.Prelude.{◌≡◌, ◌↔◌, T, length, IsTrue, IfOk, IfErr, OnOk, OnErr};
 ghost use Rattle.std.specs.List.{insert};
 ghost use Rattle.std.specs.Option.{option_map};
 ghost use Rattle.std.specs.Ordering.{nat_cmp};
@@ -68,16 +68,15 @@ fn search(values: &[(u16, Value)], var: u16) -> Result<usize, usize>
     values.binary_search_by(|entry| entry.0.cmp(&var))
 }
 
-// Adds an entry. One that comes last moves no other.
-fn add(values: &mut Vec<(u16, Value)>, at: usize, entry: (u16, Value)) -> Result<(), NoMemory>
-    requires { at ≤ length values.old.items }
-    ensures ok { OnOk result (values.new.items ≡ insert values.old.items at entry) }
+// Adds an entry behind all others.
+fn add_last(values: &mut Vec<(u16, Value)>, entry: (u16, Value)) -> Result<(), NoMemory>
+    ensures ok { OnOk result (values.new.items ≡ insert values.old.items (length values.old.items) entry) }
     ensures err { OnErr result (values.new.items ≡ values.old.items) }
 {
-    if at == values.len() {
-        values.push(entry)?;
+    if values.len() < values.capacity() {
+        values.push_reserved(entry);
     } else {
-        values.insert(at, entry)?;
+        values.push(entry)?;
     }
     Ok(())
 }
@@ -154,9 +153,12 @@ impl Env {
         ensures ok { OnOk result (self.new ≡ map.insert self.old var value) }
         ensures err { OnErr result (self.new ≡ self.old) }
     {
+        if is_above_all(&self.values, var) {
+            return add_last(&mut self.values, (var, value));
+        }
         match search(&self.values, var) {
             Ok(at) => self.values[at].1 = value,
-            Err(at) => add(&mut self.values, at, (var, value))?,
+            Err(at) => self.values.insert(at, (var, value))?,
         }
         Ok(())
     }
