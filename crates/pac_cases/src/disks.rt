@@ -76,6 +76,8 @@ impl<'a> Disk for LentDisk<'a> {
 
     ghost has_images = { λ _. tt };
 
+    ghost seen_are_bytes = { λ _. tt };
+
     fn len(&mut self) -> Result<u64, Failed> {
         let strikes = self.outage.strikes();
         let answer = self.disk.len();

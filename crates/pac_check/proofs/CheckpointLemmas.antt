@@ -34,7 +34,7 @@ test_of_name : pointwise nat_eq checkpoint_name checkpoint_name ≡ true
 test_of_name = refl
 
 -- bytes that pass the test are these
-same_bytes : (a b : List ℕ) → pointwise nat_eq a b ≡ true → a ≡ b
+pub same_bytes : (a b : List ℕ) → pointwise nat_eq a b ≡ true → a ≡ b
 same_bytes [] [] h = refl
 same_bytes [] (y ∷ ys) h = absurd cc
 same_bytes (x ∷ xs) [] h = absurd cc

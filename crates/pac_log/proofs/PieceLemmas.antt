@@ -4,6 +4,7 @@ use Rattle.std.proofs.lemmas.Bool.{leb-true, leb-false}
 use Rattle.std.proofs.lemmas.List.{length-drop, take-take, take_all, drop-take, drop-drop, take-append-drop, take-append-le, take_at, drop_at}
 use Rattle.pac_types.specs.Typing.{CatalogueState}
 use Rattle.pac_outside.specs.Disk.{DiskHistory, IfKnown}
+use Rattle.pac_outside.proofs.ReadLemmas.{take_more}
 use Rattle.pac_log.specs.Looked.{IsLookedAt}
 use Rattle.pac_log.specs.Reading.{after_gate}
 
@@ -14,10 +15,6 @@ take_least l n xs e = by (leb l n) refl
     by : (b : Bool) → leb l n ≡ b → take (min l n) xs ≡ take n xs
     by true h = let le : l ≤ n = leb-true _ _ h in ap (λ (k : ℕ). take k xs) (omega arith) ∙ take_all l xs (omega arith) ∙ sym (take_all n xs (omega arith))
     by false h = let less : n < l = leb-false _ _ h in ap (λ (k : ℕ). take k xs) (omega arith)
-
--- a prefix and what follows it
-take_more : (n m : ℕ) (xs : List ℕ) → take n xs ++ take m (drop n xs) ≡ take (n + m) xs
-take_more n m xs = ap₂ (λ (a b : List ℕ). a ++ b) (sym (take-take n (n + m) xs (omega arith))) (sym (drop-take n m xs)) ∙ take-append-drop n (take (n + m) xs)
 
 looked : (piece all : List ℕ) (n : ℕ) → piece ≡ take n all → ((catalogue : CatalogueState) → after_gate catalogue (take n all) ≡ after_gate catalogue all) → IsLookedAt piece all
 looked piece all n is alike = record {
@@ -56,24 +53,3 @@ module _ (known : Option DiskHistory) (place len : ℕ) (prefix : List ℕ) (lon
           let rest : take (min (len - place - 9) reach) (drop (place + 9) old.now.seen) ≡ take reach (drop 9 all)
           = ap (λ (l : List ℕ). take (min (len - place - 9) reach) l) after ∙ take_least (len - place - 9) reach (drop 9 all) (omega (arith, l, length-drop place old.now.seen, length-drop 9 all)) in
           looked bytes all (9 + reach) (m ∙ ap₂ (λ (a b : List ℕ). a ++ b) is rest ∙ take_more 9 reach all) (λ catalogue. enough catalogue all is)
-
--- ---- what is appended
-
--- a buffer after the old bytes, of which that many were read
-after_old : (old buf post rest place : List ℕ) (n len whole : ℕ) → length old ≡ n → take n place ≡ old → len ≤ length buf → n + len ≤ whole → take (n + len) (take whole ((take n place ++ (buf ++ post)) ++ rest)) ≡ old ++ take len buf
-after_old old buf post rest place n len whole long prefix few inside =
-    take-take (n + len) whole ((take n place ++ (buf ++ post)) ++ rest) inside
-    ∙ ap (λ (l : List ℕ). take (n + len) l) (ap (λ (l : List ℕ). (l ++ (buf ++ post)) ++ rest) prefix ∙ append_assoc old (buf ++ post) rest ∙ ap (λ (l : List ℕ). old ++ l) (append_assoc buf post rest))
-    ∙ sym (take_more n len (old ++ (buf ++ (post ++ rest))))
-    ∙ ap₂ (λ (a b : List ℕ). a ++ b) (take_at old (buf ++ (post ++ rest)) n long) (ap (λ (l : List ℕ). take len l) (drop_at old (buf ++ (post ++ rest)) n long) ∙ take-append-le len buf (post ++ rest) few)
-
-pub appended : (known : Option DiskHistory) (new old buf post rest place : List ℕ) (n len whole count room at : ℕ) → length old ≡ n → take n place ≡ old → len ≤ length buf → n + len ≤ whole → room ≡ count
-    → new ≡ take (n + len) (take whole ((take n place ++ (buf ++ post)) ++ rest)) → IfKnown (λ h. take len buf ≡ take room (drop at h.now.seen)) known → IfKnown (λ h. new ≡ old ++ take count (drop at h.now.seen)) known
-appended None new old buf post rest place n len whole count room at long prefix few inside same is read = tt
-appended (Some h) new old buf post rest place n len whole count room at long prefix few inside same is read =
-    is ∙ after_old old buf post rest place n len whole long prefix few inside ∙ ap (λ (l : List ℕ). old ++ l) (read ∙ ap (λ (k : ℕ). take k (drop at h.now.seen)) same)
-
--- the old bytes are before what is longer
-pub old_prefix : (old more place : List ℕ) (n count : ℕ) → length old ≡ n → place ≡ take (n + count) old ++ more → take n place ≡ old
-old_prefix old more place n count long is =
-    ap (λ (l : List ℕ). take n l) (is ∙ ap (λ (l : List ℕ). l ++ more) (take_all (n + count) old (omega arith))) ∙ take_at old more n long

@@ -1,5 +1,5 @@
 // Reads the bytes from a gate of a log on.
-ghost use Rattle.std.specs.Prelude.{◌≡◌, ◌<◌, ◌≤◌, ◌+◌, ◌^◌, ◌++◌, ℕ, List, IfOk, OnOk, IsErrOf, drop, length, take};
+ghost use Rattle.std.specs.Prelude.{◌≡◌, ◌<◌, ◌≤◌, ◌+◌, ◌^◌, ℕ, List, IfOk, IsErrOf, drop, length, take};
 ghost use Rattle.pac_outside.specs.Causes.{Faulted, one_more};
 ghost use Rattle.pac_outside.specs.Disk.{IfKnown};
 ghost use Rattle.pac_types.specs.Typing.{CatalogueState};
@@ -9,7 +9,7 @@ ghost use Rattle.pac_log.specs.Reading.{after_gate};
 
 use crate::MAX_ENTRIES_LEN;
 use pac_bytes::u32_at;
-use pac_outside::{Disk, GATE_OPEN, ReadError, read_piece};
+use pac_outside::{Disk, GATE_OPEN, ReadError, read_more, read_piece};
 use std::alloc::Global;
 
 // How many bytes a gate and the two numbers after it have.
@@ -36,32 +36,9 @@ pub(crate) fn bytes_from<D: Disk>(
     if reach > 0 {
         let after = left - FRONT_LEN as u64;
         let count = after.min(reach) as usize;
-        append(disk, place + FRONT_LEN as u64, count, &mut bytes)?;
+        read_more(disk, place + FRONT_LEN as u64, count, &mut bytes)?;
     }
     Ok(bytes)
-}
-
-// Appends the bytes from an offset on, that many, or fewer where the device ends.
-fn append<D: Disk>(
-    disk: &mut D,
-    at: u64,
-    count: usize,
-    bytes: &mut Vec<u8>,
-) -> Result<(), ReadError>
-    requires { length bytes.old.items + count < 2 ^ 64 }
-    ensures bytes { OnOk result (IfKnown (λ old. bytes.new.items ≡ bytes.old.items ++ take count (drop at old.now.seen)) (D.known disk.old)) }
-    ensures bound { OnOk result (length bytes.new.items ≤ length bytes.old.items + count) }
-    ensures same { D.known disk.new ≡ D.known disk.old }
-    ensures later { D.faults disk.old ≤ D.faults disk.new }
-    ensures cause { IsErrOf result ReadError.Failed → Faulted (D.faults disk.old) (D.faults disk.new) }
-    ensures counted { IsErrOf result ReadError.Failed → D.faults disk.new ≡ one_more (D.faults disk.old) }
-    ensures kept { ¬ IsErrOf result ReadError.Failed → D.faults disk.new ≡ D.faults disk.old }
-{
-    let old = bytes.len();
-    bytes.resize(old + count, 0)?;
-    let len = disk.read(at, &mut bytes[old..])?;
-    bytes.truncate(old + len);
-    Ok(())
 }
 
 // How many bytes are looked at after a gate and the two numbers, by these.

@@ -1,5 +1,5 @@
 -- A write, made or not: what a read gives stays outside it, and a crash leaves what it may leave of the write.
-use Rattle.std.proofs.Common.{◌≡◌, ◌⊎◌, inl, inr, ℕ, ◌+◌, ◌-◌, ◌<◌, ◌≤◌, false, List, [], ◌∷◌, ◌++◌, length, take, drop, get_or, Result, Ok, Err, OnOk, OnErr, refl, sym, ap, ◌∙◌, subst, arith, length-append, length-take, length-drop}
+use Rattle.std.proofs.Common.{◌≡◌, ◌⊎◌, inl, inr, ℕ, zero, suc, ◌+◌, ◌-◌, ◌<◌, ◌≤◌, false, List, [], ◌∷◌, ◌++◌, length, take, drop, get_or, Result, Ok, Err, OnOk, OnErr, refl, sym, ap, ◌∙◌, subst, arith, length-append, length-take, length-drop}
 use Rattle.std.proofs.lemmas.Bool.{or_parts}
 use Rattle.std.proofs.lemmas.Bool.Decides.{nat_tests}
 use Rattle.std.proofs.lemmas.List.{get_or-take, get_or-drop, get_or_append_left, get_or-append_right}
@@ -85,3 +85,23 @@ synced old new seen (Err e) made unmade = subst (LeavesAsBefore old) (sym unmade
 pub synced_seen : {T E : Type 0} (old new : DiskHistory) (result : Result T E) → OnOk result (new ≡ after_sync old) → OnErr result (new ≡ old) → new.now.seen ≡ old.now.seen
 synced_seen old new (Ok x) made unmade = ap (λ (h : DiskHistory). h.now.seen) made
 synced_seen old new (Err e) made unmade = ap (λ (h : DiskHistory). h.now.seen) unmade
+
+-- ---- bytes
+
+abbrev AreBytes : List ℕ → Type 0
+AreBytes bytes = (offset : ℕ) → get_or bytes offset 0 < 256
+
+bytes_joined : (a b : List ℕ) → AreBytes a → AreBytes b → AreBytes (a ++ b)
+bytes_joined [] b p q i = q i
+bytes_joined (x ∷ a) b p q zero = p zero
+bytes_joined (x ∷ a) b p q (suc i) = bytes_joined a b (λ j. p (suc j)) q i
+
+bytes_taken : (n : ℕ) (bytes : List ℕ) → AreBytes bytes → AreBytes (take n bytes)
+bytes_taken zero bytes p i = omega arith
+bytes_taken (suc n) [] p i = p i
+bytes_taken (suc n) (x ∷ bytes) p zero = p zero
+bytes_taken (suc n) (x ∷ bytes) p (suc i) = bytes_taken n bytes (λ j. p (suc j)) i
+
+-- what a write leaves are bytes
+pub spliced_bytes : (at : ℕ) (piece bytes : List ℕ) → AreBytes piece → AreBytes bytes → AreBytes (spliced at piece bytes)
+spliced_bytes at piece bytes p q = bytes_joined (take at bytes) _ (bytes_taken at bytes q) (bytes_joined piece _ p (λ i. rw get_or-drop (q (at + length piece + i))))

@@ -1,5 +1,5 @@
 -- What a disk holds from moment to moment, and what a crash at each of them may leave.
-use Rattle.std.specs.Prelude.{◌≡◌, ℕ, ◌+◌, ◌<◌, ◌≤◌, Bool, false, ◌&&◌, List, [], ◌∷◌, ◌++◌, length, take, drop, slice_index, nat_le, nat_lt, Option, Some, None}
+use Rattle.std.specs.Prelude.{◌≡◌, ℕ, ◌+◌, ◌<◌, ◌≤◌, Bool, false, ◌&&◌, List, [], ◌∷◌, ◌++◌, length, take, drop, slice_index, slice_index_or, nat_le, nat_lt, Option, Some, None}
 use Rattle.std.specs.List.{list_any, AllByRecursion}
 
 -- a disk at one moment: the bytes at the last sync that succeeded, offset and length of each write since then, the
@@ -105,3 +105,7 @@ SeenIsImage history = IsImage history.now history.now.seen
 -- and so it was in each state before
 abbrev pub HasImages : DiskHistory → Type 0
 HasImages history = AllByRecursion (λ state. IsImage state state.seen) (states history)
+
+-- what a read gives are bytes
+abbrev pub SeenAreBytes : DiskHistory → Type 0
+SeenAreBytes history = (offset : ℕ) → slice_index_or history.now.seen offset 0 < 256

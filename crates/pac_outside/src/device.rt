@@ -2,7 +2,7 @@
 ghost use Rattle.std.specs.Prelude.{◌≡◌, ◌≤◌, ℕ, Option, None, IfOk, IsErr, OnOk, drop, length, option_map, take};
 ghost use Rattle.std.specs.Io.{ReadsAtMost};
 ghost use Rattle.pac_outside.specs.Causes.{EndsAtFault, HasCause, one_more};
-ghost use Rattle.pac_outside.specs.Disk.{BothKnown, DiskHistory, HasImages, LeavesAsBefore, LeavesTorn, SeenIsImage, SeenOutside, IfKnown, after_sync, after_write};
+ghost use Rattle.pac_outside.specs.Disk.{BothKnown, DiskHistory, HasImages, LeavesAsBefore, LeavesTorn, SeenAreBytes, SeenIsImage, SeenOutside, IfKnown, after_sync, after_write};
 ghost use Rattle.pac_outside.specs.Parts.{known_read};
 
 use crate::Failed;
@@ -75,6 +75,9 @@ pub trait Disk {
 
     // And so it was in each state that it says: none is without an image.
     ghost has_images: { (disk : Self) → IfKnown HasImages (known disk) };
+
+    // What a read gives are bytes.
+    ghost seen_are_bytes: { (disk : Self) → IfKnown SeenAreBytes (known disk) };
 }
 
 /// A disk that isn't there: each call fails and is counted. Nothing is known of it.
@@ -102,6 +105,8 @@ impl Disk for NoDisk {
     ghost seen_is_image = { λ _. tt };
 
     ghost has_images = { λ _. tt };
+
+    ghost seen_are_bytes = { λ _. tt };
 
     fn len(&mut self) -> Result<u64, Failed>
         ensures failed { IsErr result }

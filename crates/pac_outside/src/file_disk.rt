@@ -50,6 +50,8 @@ impl<'a, S: FileSystem> Disk for FileDisk<'a, S> {
 
     ghost has_images = { λ _. tt };
 
+    ghost seen_are_bytes = { λ _. tt };
+
     fn len(&mut self) -> Result<u64, Failed> {
         self.faults.pass(self.file.len())
     }

@@ -6,7 +6,8 @@
 //! - [`Disk`] is a device of bytes that survive a crash once they are synced; `specs/Disk.antt` says what a crash may
 //!   leave at each moment. [`Devices`] are the three of a store; [`Devices::sync`] syncs them.
 //! - [`write_and_sync`] returns once a piece is synced. [`open_after`] writes a piece after a closed gate byte and
-//!   opens it: the argument that a crash leaves all of the piece or none stands there, once. [`read_piece`] reads.
+//!   opens it: the argument that a crash leaves all of the piece or none stands there, once. [`read_piece`] and
+//!   [`read_more`] read.
 //! - [`MemSource`], [`MemSink`] and [`MemDisk`] are in memory and fail at chosen calls. [`MemDisk::image`] returns what
 //!   a crash may leave, by a [`Fill`].
 //! - [`Stream`] is an adapter over a reader or a writer of std, [`FileDisk`] over a file, [`NoDisk`] is no device: each
@@ -65,7 +66,7 @@ pub use laws::{
 pub use mem_disk::MemDisk;
 pub use memory::{MemSink, MemSource};
 pub use moment::Fill;
-pub use piece::read_piece;
+pub use piece::{read_more, read_piece};
 pub use store_files::store_devices;
 pub use streams::Stream;
 pub use whole::{read_up_to, write_all};

@@ -113,6 +113,8 @@ impl Disk for MemDisk {
 
     ghost has_images = { λ disk. have_images disk.past.items disk.present };
 
+    ghost seen_are_bytes = { λ disk. disk.present.bytes };
+
     /// How many bytes a read gives from offset 0 on.
     ///
     /// # Errors

@@ -1,5 +1,5 @@
 // A disk in memory at one moment, and its images.
-ghost use Rattle.std.specs.Prelude.{◌≡◌, ◌<◌, ◌≤◌, IfOk, length, option_map, unwrap_or};
+ghost use Rattle.std.specs.Prelude.{◌≡◌, ◌<◌, ◌≤◌, ℕ, IfOk, length, option_map, slice_index_or, unwrap_or};
 ghost use Rattle.pac_outside.specs.Disk.{IsImage, is_unsynced, settled, spliced, wrote};
 ghost use Rattle.pac_outside.specs.Fills.{IsFilled, byte_left};
 
@@ -25,6 +25,7 @@ pub(crate) struct Moment {
     written: Vec<(usize, usize)>,
     seen: Vec<u8>,
     ghost image: { IsImage (record { synced = unwrap_or (option_map (λ bytes. bytes.items) synced) seen.items; written = written.items; seen = seen.items }) seen.items },
+    ghost bytes: { (offset : ℕ) → slice_index_or seen.items offset 0 < 256 },
 }
 
 impl Moment {

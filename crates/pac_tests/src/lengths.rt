@@ -89,6 +89,8 @@ impl<'a> Disk for Computed<'a> {
 
     ghost has_images = { λ _. tt };
 
+    ghost seen_are_bytes = { λ _. tt };
+
     fn len(&mut self) -> Result<u64, Failed> {
         Ok(self.len)
     }
