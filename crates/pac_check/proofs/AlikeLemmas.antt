@@ -1,6 +1,6 @@
 -- Reading a piece of bytes as reading all of them: where the piece has enough bytes, or ends where all end, what is read in it
 -- is what is read in all, at offsets from the start of all.
-use Rattle.std.proofs.Common.{◌≡◌, ◌∙◌, ◌⊎◌, inl, inr, ℕ, zero, suc, ◌+◌, ◌*◌, ◌<◌, ◌≤◌, Bool, true, false, cond, eqb, ltb, List, [], ◌∷◌, ◌++◌, length, take, drop, Result, Ok, Err, refl, sym, ap, ap₂, subst, arith}
+use Rattle.std.proofs.Common.{◌≡◌, ◌∙◌, ◌⊎◌, inl, inr, ℕ, suc, ◌+◌, ◌*◌, ◌≤◌, Bool, true, false, cond, eqb, ltb, List, [], ◌∷◌, ◌++◌, length, take, drop, Result, Ok, Err, refl, sym, ap, subst, arith}
 use Rattle.std.specs.Int.{Width, w64, byte_len, from_le_bytes, cast_signed}
 use Rattle.std.specs.List.{list_all}
 use Rattle.std.proofs.lemmas.Bool.{ltb-true, ltb-false, le-ltb}
@@ -8,7 +8,6 @@ use Rattle.std.proofs.lemmas.List.{append-nil, length-append, length-drop, take-
 use Rattle.pac_value.specs.declared.limits.TheConstants.{MAX_TEXT}
 use Rattle.pac_value.specs.declared.values.Ty.{Ty}
 use Rattle.pac_value.specs.declared.values.Ty.TheVariants.{Int as IntTy, Text as TextTy}
-use Rattle.pac_value.specs.declared.values.Key.{Key}
 use Rattle.pac_value.specs.declared.values.Value.{Value}
 use Rattle.pac_value.specs.declared.values.Value.TheVariants.{Int, Text}
 use Rattle.pac_value.specs.Expressions.{◌>>=◌}
@@ -21,6 +20,8 @@ use Rattle.pac_bytes.specs.declared.fault.TypedFault.{TypedFault}
 use Rattle.pac_bytes.specs.declared.fault.TypedFault.TheVariants as typed
 use Rattle.pac_bytes.specs.Reading.{Rest, advanced, reported_as, short_at, leading_byte, next_byte, next_bytes, next_uint, along}
 use Rattle.pac_bytes.specs.Values.{as_value_fault, type_of_tag, next_type, int_body, printable_text, text_of_length, text_body, value_body, next_value}
+use Rattle.pac_check.specs.declared.damage.SlotFault.{SlotFault}
+use Rattle.pac_check.specs.Kinds.{slot_fault}
 use Rattle.pac_bytes.specs.Typed.{as_typed_fault, same_type, next_typed, next_key, next_values}
 
 -- a kind of fault with an offset, and the same fault that many bytes further
@@ -56,6 +57,10 @@ typed_further base (typed.Wrong at) = typed.Wrong (base + at)
 
 abbrev pub typed_placed : Placed TypedFault
 typed_placed = record { place = typed_place; further = typed_further }
+
+-- a fault of a slot that many bytes further
+abbrev pub slot_placed : Placed SlotFault
+slot_placed = record { place = λ f. f.at; further = λ base f. slot_fault f.kind (base + f.at) }
 
 -- a piece begins at base, and more stands after it
 module _ (base : ℕ) (more : List ℕ) where
@@ -115,8 +120,8 @@ module _ (base : ℕ) (more : List ℕ) where
 
   -- a test
   pub tested : {A F : Type 0} (placed : Placed F) (n : ℕ) (s : Rest) (test : Bool) (one one' other other' : Result (A × Rest) F) → (test ≡ true → Alike placed n s one one') → (test ≡ false → Alike placed n s other other') → Alike placed n s (cond test one other) (cond test one' other')
-  tested placed n s true one one' other other' yes no = yes refl
-  tested placed n s false one one' other other' yes no = no refl
+  tested placed n s true one one' other other' if_true if_false = if_true refl
+  tested placed n s false one one' other other' if_true if_false = if_false refl
 
   -- nothing is read
   pub none_read : {A F : Type 0} (placed : Placed F) (n : ℕ) (s : Rest) (x : A) → Alike placed n s (Ok (x, s)) (Ok (x, whole s))
@@ -152,8 +157,7 @@ module _ (base : ℕ) (more : List ℕ) where
           (rw short (ap err_of same), omega (arith, within))
       go false e h =
           let long : n ≤ length s.bytes = ltb-false _ _ e in
-          let there : ltb (length (s.bytes ++ more)) n ≡ false = le-ltb _ _ (omega (arith, long, length-append s.bytes more)) in
-          (
+          let there : ltb (length (s.bytes ++ more)) n ≡ false = le-ltb _ _ (omega (arith, long, length-append s.bytes more)) in (
             rw (there, take-append-le n s.bytes more long, drop-append-le n s.bytes more long) (ap (λ (k : ℕ). found k (take n s.bytes) (drop n s.bytes ++ more)) (omega arith)),
             omega (arith, length-drop n s.bytes, long),
             omega (arith, length-drop n s.bytes, long),
@@ -217,11 +221,10 @@ module _ (base : ℕ) (more : List ℕ) where
       stays (value.Bad at) = refl
 
   -- what follows a type, as of a value
-  after_type : Ty → Rest → Ty → Result (Value × Rest) TypedFault
+  abbrev after_type : Ty → Rest → Ty → Result (Value × Rest) TypedFault
   after_type ty s found = cond (same_type found ty) (reported_as as_typed_fault (next_value s)) (Err (typed.Wrong s.at))
 
   after_alike : (ty found : Ty) (s : Rest) → HasEnough 66 s → Alike typed_placed 66 s (after_type ty s found) (after_type ty (whole s) found)
-  unfolding after_type
   after_alike ty found s enough = tested typed_placed 66 s (same_type found ty) _ _ _ _ (λ e. value_typed 66 s _ _ (value_alike s enough)) (λ e. (refl, omega arith))
 
   -- a type is read in the piece as in all
@@ -254,7 +257,7 @@ module _ (base : ℕ) (more : List ℕ) where
       fault (value.Bad at) le = (refl, le)
 
   pub typed_alike : (ty : Ty) (s : Rest) → HasEnough 66 s → Alike typed_placed 66 s (next_typed ty s) (next_typed ty (whole s))
-  unfolding next_typed, after_type
+  unfolding next_typed
   typed_alike ty s enough = by_type ty s (next_type s) (next_type (whole s)) (type_alike s (fewer 1 66 s (omega arith) enough)) enough
 
   pub key_alike : (ty : Ty) (s : Rest) → HasEnough 66 s → Alike typed_placed 66 s (next_key ty s) (next_key ty (whole s))

@@ -25,7 +25,7 @@ use Rattle.pac_check.specs.declared.damage.SlotDamageKind.TheVariants.{Magic, Ra
 use Rattle.pac_check.specs.declared.damage.SlotFault.{SlotFault}
 use Rattle.pac_check.specs.declared.head.Head.{Head}
 use Rattle.pac_check.specs.Kinds.{slot_fault, as_slot_fault, of_typed}
-use Rattle.pac_check.specs.Checkpoints.{KeyedRow, Checkpoint, checkpoint_name, head_bytes, keyed_bytes, rows_bytes, checkpoint_bytes, is_above, AreAscending, IsKeyedRow, AreRowsOf, IsHead, IsCheckpoint}
+use Rattle.pac_check.specs.Checkpoints.{KeyedRow, Checkpoint, checkpoint_name, head_bytes, keyed_bytes, rows_bytes, checkpoint_bytes, is_above, AreAscending, IsKeyedRow, IsRowAfter, AreRowsOf, IsHead, IsCheckpoint}
 use Rattle.pac_check.specs.CheckpointReading.{slot_number, next_name, next_count, next_head, next_row, next_rows, next_table, next_checkpoint}
 
 -- ---- the head
@@ -146,10 +146,6 @@ abbrev keyed : Key → RowValues → KeyedRow
 keyed key row = (key, row)
 
 module _ (table : Table) where
-  -- a row of the table after this key
-  abbrev pub IsRowAfter : Option Key → KeyedRow → Type 0
-  IsRowAfter before row = IsKeyedRow table row × (is_above before row.0 ≡ true)
-
   values_after : (before : Option Key) (key : Key) → KeyHasType table.key key → is_above before key ≡ true → IsCodec (λ row. (HaveTypes (types table.columns) row.1 × (is_above before row.0 ≡ true)) × (row.0 ≡ key)) (λ row. values_bytes row.1)
       (λ s. reported_as of_typed (next_values (types table.columns) s) >>= λ values. Ok (keyed key values.0, values.1))
   values_after before key form above = same _ _ _ _ _
@@ -164,7 +160,7 @@ module _ (table : Table) where
       (λ row h. refl)
       (ended (keyed key values))))
 
-  pub row_codec : (before : Option Key) → IsCodec (IsRowAfter before) keyed_bytes (next_row table before)
+  pub row_codec : (before : Option Key) → IsCodec (IsRowAfter table before) keyed_bytes (next_row table before)
   unfolding next_row
   row_codec before = same _ _ _ _ _
       (λ row h. ((h.0.1, h.1), h.0.0))
@@ -185,7 +181,7 @@ module _ (table : Table) where
   AreAfter before zero [] = Unit {0}
   AreAfter before zero (row ∷ rows) = ⊥
   AreAfter before (suc n) [] = ⊥
-  AreAfter before (suc n) (row ∷ rows) = IsRowAfter before row × AreAfter (Some row.0) n rows
+  AreAfter before (suc n) (row ∷ rows) = IsRowAfter table before row × AreAfter (Some row.0) n rows
 
   abbrev IsCons : List KeyedRow → Type 0
   IsCons [] = ⊥
@@ -203,11 +199,11 @@ module _ (table : Table) where
   rows_are row rows [] some f o = absurd some
   rows_are row rows (x ∷ xs) some f o = ap₂ (λ (r : KeyedRow) (rs : List KeyedRow). r ∷ rs) f o
 
-  parts : (before : Option Key) (n : ℕ) (xs : List KeyedRow) → AreAfter before (suc n) xs → (IsCons xs × AreAfter (Some (first_of xs).0) n (others_of xs)) × IsRowAfter before (first_of xs)
+  parts : (before : Option Key) (n : ℕ) (xs : List KeyedRow) → AreAfter before (suc n) xs → (IsCons xs × AreAfter (Some (first_of xs).0) n (others_of xs)) × IsRowAfter table before (first_of xs)
   parts before n [] h = absurd h
   parts before n (x ∷ xs) h = ((tt, h.1), h.0)
 
-  joined : (before : Option Key) (n : ℕ) (xs : List KeyedRow) → (IsCons xs × AreAfter (Some (first_of xs).0) n (others_of xs)) × IsRowAfter before (first_of xs) → AreAfter before (suc n) xs
+  joined : (before : Option Key) (n : ℕ) (xs : List KeyedRow) → (IsCons xs × AreAfter (Some (first_of xs).0) n (others_of xs)) × IsRowAfter table before (first_of xs) → AreAfter before (suc n) xs
   joined before n [] h = absurd h.0.0
   joined before n (x ∷ xs) h = (h.1, h.0.1)
 
@@ -227,7 +223,7 @@ module _ (table : Table) where
   unfolding next_rows
   rows_codec before zero = same _ _ _ _ _ (no_rows before) (λ xs e. subst (AreAfter before zero) (sym e) tt) (no_words before) (ended [])
   rows_codec before (suc n) = same _ _ _ _ _ (parts before n) (joined before n) (words before n)
-      (seq first_of (IsRowAfter before) keyed_bytes (next_row table before) (λ xs. IsCons xs × AreAfter (Some (first_of xs).0) n (others_of xs)) (λ xs. flat_map keyed_bytes (others_of xs))
+      (seq first_of (IsRowAfter table before) keyed_bytes (next_row table before) (λ xs. IsCons xs × AreAfter (Some (first_of xs).0) n (others_of xs)) (λ xs. flat_map keyed_bytes (others_of xs))
       (λ at row s. next_rows table n (Some row.0) s >>= λ rows. Ok (row ∷ rows.0, rows.1))
       (row_codec before)
       (λ at row is. same _ _ _ _ _

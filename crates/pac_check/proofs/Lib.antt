@@ -1,5 +1,8 @@
 pub mod RowsLemmas
 pub mod CheckpointLemmas
+pub mod AlikeLemmas
+pub mod RowAlikeLemmas
+pub mod PieceLemmas
 pub mod LoopLemmas
 pub mod LoadingLemmas
 pub mod WritingLemmas

@@ -1,5 +1,5 @@
 -- Reading the parts of a checkpoint in a piece as in all bytes.
-use Rattle.std.proofs.Common.{◌≡◌, ◌∙◌, ◌⊎◌, inl, inr, ℕ, ◌+◌, ◌*◌, ◌≤◌, ◌&&◌, Bool, true, false, cond, eqb, List, [], ◌∷◌, ◌++◌, length, take, drop, Option, Result, Ok, Err, refl, sym, ap, subst, arith}
+use Rattle.std.proofs.Common.{◌≡◌, ◌∙◌, inl, inr, ℕ, ◌+◌, ◌*◌, ◌≤◌, Bool, true, false, cond, eqb, List, ◌++◌, length, take, drop, Option, Result, Ok, Err, refl, ap, arith}
 use Rattle.std.specs.Prelude.{nat_eq}
 use Rattle.std.specs.Int.{w16, w64}
 use Rattle.std.specs.Cmp.Lexicographic.{pointwise}
@@ -12,8 +12,8 @@ use Rattle.pac_types.specs.WellFormed.{types}
 use Rattle.pac_bytes.specs.declared.fault.Short.{Short as AShort}
 use Rattle.pac_bytes.specs.declared.fault.TypedFault.{TypedFault}
 use Rattle.pac_bytes.specs.declared.fault.TypedFault.TheVariants as typed
-use Rattle.pac_bytes.specs.Reading.{Rest, advanced, reported_as, next_uint}
-use Rattle.pac_bytes.specs.Typed.{next_key, next_values}
+use Rattle.pac_bytes.specs.Reading.{Rest, advanced, reported_as}
+use Rattle.pac_bytes.specs.Typed.{next_values}
 use Rattle.pac_check.specs.declared.damage.SlotDamageKind.TheVariants.{Magic, Range, Order}
 use Rattle.pac_check.specs.declared.damage.SlotFault.{SlotFault}
 use Rattle.pac_check.specs.declared.head.Head.{Head}
@@ -21,11 +21,11 @@ use Rattle.pac_check.specs.Kinds.{slot_fault, as_slot_fault, of_typed}
 use Rattle.pac_check.specs.Checkpoints.{KeyedRow, checkpoint_name, head_with, is_above}
 use Rattle.pac_check.specs.CheckpointReading.{slot_number, next_name, next_count, next_head, next_row}
 use Rattle.pac_check.proofs.CheckpointLemmas.{same_bytes}
-use Rattle.pac_check.proofs.AlikeLemmas.{Placed, short_placed, typed_placed, whole, HasEnough, Alike, fewer, wider, bound, mapped, reported, tested, none_read, uint_alike, key_alike, values_alike}
+use Rattle.pac_check.proofs.AlikeLemmas.{short_placed, typed_placed, slot_placed, whole, HasEnough, Alike, bound, mapped, reported, tested, none_read, uint_alike, key_alike, values_alike}
 
--- a fault of a slot that many bytes further
-abbrev pub slot_placed : Placed SlotFault
-slot_placed = record { place = λ f. f.at; further = λ base f. slot_fault f.kind (base + f.at) }
+-- the most bytes that a row of the table has
+abbrev pub row_room : Table → ℕ
+row_room table = 66 + 66 * length (types table.columns)
 
 module _ (base : ℕ) (more : List ℕ) where
   of_typed_alike : {A : Type 0} (n : ℕ) (s : Rest) (r r' : Result (A × Rest) TypedFault) → Alike base more typed_placed n s r r' → Alike base more slot_placed n s (reported_as of_typed r) (reported_as of_typed r')
@@ -61,8 +61,7 @@ module _ (base : ℕ) (more : List ℕ) where
     where
       go : (b : Bool) → pointwise nat_eq (take 8 s.bytes) checkpoint_name ≡ b → Alike base more slot_placed 8 s (cond b (Ok (checkpoint_name, advanced 8 s)) (Err (slot_fault Magic s.at))) (next_name (whole base more s))
       go true e =
-          let long : 8 ≤ length s.bytes = long_name s.bytes e in
-          (
+          let long : 8 ≤ length s.bytes = long_name s.bytes e in (
             rw (same_name s enough, e, drop-append-le 8 s.bytes more long) (ap (λ (n : ℕ). found n) (omega arith)),
             omega (arith, length-drop 8 s.bytes, long),
             omega (arith, length-drop 8 s.bytes, long),
@@ -91,20 +90,16 @@ module _ (base : ℕ) (more : List ℕ) where
       (λ l. wide_alike txns.1 l)
       (λ place last l. mapped base more slot_placed 2 place.1 (λ (count : ℕ). head_with txns.0 place.0) _ _ (count_alike tables place.1 l))))
     where
-      abbrev after_place : ℕ → ℕ × Rest → Result (Head × Rest) SlotFault
+      after_place : ℕ → ℕ × Rest → Result (Head × Rest) SlotFault
       after_place txns place = next_count tables place.1 >>= λ count. Ok (head_with txns place.0, count.1)
 
-      abbrev after_txns : ℕ × Rest → Result (Head × Rest) SlotFault
+      after_txns : ℕ × Rest → Result (Head × Rest) SlotFault
       after_txns txns = slot_number w64 txns.1 >>= after_place txns.0
 
-      abbrev after_name : List ℕ × Rest → Result (Head × Rest) SlotFault
+      after_name : List ℕ × Rest → Result (Head × Rest) SlotFault
       after_name name = slot_number w64 name.1 >>= after_txns
 
   -- ---- a row
-
-  -- the most bytes that a row of the table has
-  abbrev pub row_room : Table → ℕ
-  row_room table = 66 + 66 * length (types table.columns)
 
   pub row_alike : (table : Table) (before : Option Key) (s : Rest) → HasEnough base more (row_room table) s → Alike base more slot_placed (row_room table) s (next_row table before s) (next_row table before (whole base more s))
   unfolding next_row
@@ -114,5 +109,5 @@ module _ (base : ℕ) (more : List ℕ) where
       (λ e. mapped base more slot_placed (66 * length (types table.columns)) key.1 (λ (values : List Value). (key.0, values)) _ _ (of_typed_alike (66 * length (types table.columns)) key.1 _ _ (values_alike base more (types table.columns) key.1 h)))
       (λ e. (refl, omega (arith, later))))
     where
-      abbrev after_key : ℕ → Key × Rest → Result (KeyedRow × Rest) SlotFault
+      after_key : ℕ → Key × Rest → Result (KeyedRow × Rest) SlotFault
       after_key at key = cond (is_above before key.0) (reported_as of_typed (next_values (types table.columns) key.1) >>= λ values. Ok ((key.0, values.0), values.1)) (Err (slot_fault Order at))

@@ -47,3 +47,11 @@ pub shut_known : (tables : List Table) (state : SlotState) (gate : List ℕ) →
     → IfKnown (λ old. IsSlot tables state old.now.seen × OpensExactly tables state old.now.seen) known
 shut_known tables state gate shut begins None is = tt
 shut_known tables state gate shut begins (Some old) is = shut_slot tables state old.now.seen shut (begins old.now.seen is)
+
+-- what the open gate, as it was read, says of the device
+pub gate_known : (gate : List ℕ) (old new : Option DiskHistory) → new ≡ old → ((image : List ℕ) → gate ≡ take 1 image → take 1 image ≡ 1 ∷ []) → IfKnown (λ h. gate ≡ take 1 h.now.seen) old → IfKnown (λ h. take 1 h.now.seen ≡ 1 ∷ []) new
+gate_known gate old new same is_open is = subst (λ (k : Option DiskHistory). IfKnown (λ h. take 1 h.now.seen ≡ 1 ∷ []) k) (sym same) (go old is)
+  where
+    go : (k : Option DiskHistory) → IfKnown (λ h. gate ≡ take 1 h.now.seen) k → IfKnown (λ h. take 1 h.now.seen ≡ 1 ∷ []) k
+    go None e = tt
+    go (Some h) e = is_open h.now.seen e

@@ -1,28 +1,32 @@
 -- What is read of a slot, and what stands in it.
-use Rattle.std.proofs.Common.{◌≡◌, ◌∙◌, ℕ, ◌<◌, Bool, true, false, if◌then◌else◌, eqb, List, [], ◌∷◌, length, drop, Option, Some, None, Result, Ok, Err, IfOk, OnOk, inl, refl, sym, ap, subst}
+use Rattle.std.proofs.Common.{◌≡◌, ◌∙◌, ℕ, ◌<◌, Bool, true, false, if◌then◌else◌, eqb, List, [], ◌∷◌, ◌++◌, length, take, drop, Option, Some, None, Result, Ok, Err, OnOk, inl, refl, sym, ap, ap₂, subst}
 use Rattle.std.proofs.lemmas.Bool.{eqb-true, eqb-false}
-use Rattle.pac_base.specs.declared.refusal.Refusal.{Refusal}
-use Rattle.pac_base.specs.Refusals.{Reports}
-use Rattle.pac_outside.specs.Disk.{DiskState, DiskHistory, IsImage, Leaves, LeavesOnly, BothKnown, IfKnown}
+use Rattle.std.proofs.lemmas.List.{take-append-drop}
+use Rattle.pac_outside.specs.Disk.{DiskState, DiskHistory, IsImage, Leaves, LeavesOnly, BothKnown, IfKnown, SeenAreBytes}
 use Rattle.pac_outside.specs.GateByte.{IsOpen, OneImage}
 use Rattle.pac_outside.proofs.Histories.{stays}
 use Rattle.pac_outside.proofs.Images.{one_image}
 use Rattle.pac_value.specs.State.{Tables}
 use Rattle.pac_types.specs.declared.table.Table.{Table}
 use Rattle.pac_bytes.specs.Reading.{Rest, from}
-use Rattle.pac_bytes.specs.Readers.{IsAtStart}
 use Rattle.pac_bytes.proofs.Bytes.{IsBytes, IsBytes-drop}
+use Rattle.pac_check.specs.declared.damage.SlotDamageKind.{SlotDamageKind}
 use Rattle.pac_check.specs.declared.damage.SlotFault.{SlotFault}
+use Rattle.pac_check.specs.declared.damage.Stop.{Stop}
+use Rattle.pac_check.specs.declared.damage.Stop.TheVariants.{Fault as AFault, DiskFault, NoMemory}
+use Rattle.pac_check.specs.declared.errors.SlotError.TheVariants.{Damaged}
 use Rattle.pac_check.specs.declared.head.Head.{Head}
 use Rattle.pac_check.specs.declared.info.SlotName.{SlotName}
 use Rattle.pac_check.specs.declared.info.SlotName.TheVariants.{A, B}
 use Rattle.pac_check.specs.declared.state.SlotState.{SlotState}
 use Rattle.pac_check.specs.declared.state.SlotState.TheVariants.{Empty, Closed, Open}
-use Rattle.pac_check.specs.Checkpoints.{Checkpoint, IsCheckpoint, checkpoint_bytes}
-use Rattle.pac_check.specs.CheckpointReading.{next_checkpoint, head_alone, found_alone}
+use Rattle.pac_check.specs.Kinds.{slot_fault, in_slot}
+use Rattle.pac_check.specs.Checkpoints.{Checkpoint, KeyedRow, IsCheckpoint, checkpoint_bytes}
+use Rattle.pac_check.specs.CheckpointReading.{next_checkpoint, head_alone}
+use Rattle.pac_check.specs.PieceStates.{PiecesState, HasFault, HasRead}
 use Rattle.pac_check.specs.Replacing.{BeginsAs, IsOldShutOrNew, IsReplaced}
 use Rattle.pac_check.specs.SlotStates.{by_slot, opened, slot_read, IsSlot, HoldsCheckpoint, HoldsRows, OpensExactly}
-use Rattle.pac_check.specs.Saved.{checkpoint_of}
+use Rattle.pac_check.specs.Saved.{checkpoint_of, rows_of_tables}
 use Rattle.pac_check.proofs.CheckpointLemmas.{checkpoint_codec}
 
 -- what is read of a slot after an open gate
@@ -94,52 +98,68 @@ module _ (tables : List Table) (few : length tables < 65536) where
     open_there = λ checkpoint holds. same_state state (Open checkpoint.head) (sym is ∙ read_held image checkpoint holds);
   }
 
-pub opens_unless_memory : (tables : List Table) → length tables < 65536 → (image : List ℕ) → IsBytes image → (result : Result SlotState (Refusal SlotFault)) → Reports (λ state. state) result (slot_read tables image) → IfOk result (λ state. OpensExactly tables state image)
-opens_unless_memory tables few image are (Ok state) is = opens_exactly tables few image state are is
-opens_unless_memory tables few image are (Err refusal) is = tt
-
-found_whole : (r : Read) (checkpoint : Checkpoint) → found_alone r ≡ Ok checkpoint → (rest : Rest) × (r ≡ Ok (checkpoint, rest))
-found_whole (Ok p) checkpoint e = (p.1, ap (λ (c : Checkpoint). the_read (c, p.1)) (same p.0 checkpoint e))
-  where
-    the_read : Checkpoint × Rest → Read
-    the_read q = Ok q
-
-    same : (a b : Checkpoint) → ◌≡◌ {A = Result Checkpoint SlotFault} (Ok a) (Ok b) → a ≡ b
-    same a b h = cc
-found_whole (Err fault) checkpoint e = absurd cc
-
--- what is loaded stands at its offset
-pub stands_loaded : (tables : List Table) → length tables < 65536 → (bytes : List ℕ) (at : ℕ) → IsBytes bytes → {X : Type 0} (view : X → Checkpoint) (result : Result X (Refusal SlotFault)) → Reports view result (found_alone (next_checkpoint tables (from bytes at)))
-    → IfOk result (λ x. (rest : Rest) × IsAtStart (IsCheckpoint tables) checkpoint_bytes (from bytes at) (view x) rest)
-stands_loaded tables few bytes at are view (Ok x) read =
-    let whole = found_whole (next_checkpoint tables (from bytes at)) (view x) read in
-    (whole.0, (checkpoint_codec tables few).found (from bytes at) (view x) whole.0 (IsBytes-drop at bytes are) whole.1)
-stands_loaded tables few bytes at are view (Err refusal) read = tt
-
 -- ---- over what is known of a disk
 
--- what holds of the bytes that were read holds of what the disk has
-pub known_with : (P : List ℕ → Type 0) (bytes : List ℕ) (known : Option DiskHistory) → IfKnown (λ old. bytes ≡ old.now.seen) known → P bytes → IfKnown (λ old. P old.now.seen) known
-known_with P bytes None is has = tt
-known_with P bytes (Some old) is has = subst P is has
+-- an image that begins with an open gate
+open_image : (image : List ℕ) → take 1 image ≡ 1 ∷ [] → image ≡ 1 ∷ drop 1 image
+open_image image e = sym (take-append-drop 1 image) ∙ ap (λ (l : List ℕ). l ++ drop 1 image) e
 
--- after the open gate of a slot stands what is loaded from there
-loaded_there : (tables : List Table) (head own : Head) (held : Tables) (image : List ℕ) (rest : Rest) → IsSlot tables (Open head) image → found_alone (next_checkpoint tables (from image 1)) ≡ Ok (checkpoint_of (length tables) own held)
-    → IsAtStart (IsCheckpoint tables) checkpoint_bytes (from image 1) (checkpoint_of (length tables) own held) rest → HoldsRows tables head held image
-loaded_there tables head own held image rest is read prefix =
-    let there = open_read tables head image is in
-    let same : there.0.0 ≡ checkpoint_of (length tables) own held = one there.0.0 (checkpoint_of (length tables) own held) (sym (ap found_alone there.1) ∙ read) in
-    let head_is : own ≡ head = ap (λ (c : Checkpoint). c.head) (sym same) ∙ there.2 in
-    subst (λ (h : Head). HoldsRows tables h held image) head_is (record { form = prefix.form; opens = record { rest = rest.bytes; split = there.3 ∙ ap (λ (l : List ℕ). 1 ∷ l) prefix.bytes } })
+slot_opened : (tables : List Table) (image : List ℕ) → take 1 image ≡ 1 ∷ [] → (place : ℕ) → place ≡ 1 → (r : Read) → next_checkpoint tables (from image place) ≡ r → slot_read tables image ≡ opened (head_alone r)
+slot_opened tables image gate place first r read =
+    ap (slot_read tables) (open_image image gate) ∙ ap (λ (q : Read). opened (head_alone q)) (ap (λ (n : ℕ). next_checkpoint tables (from image n)) (sym first) ∙ read)
+
+module _ (tables : List Table) (few : length tables < 65536) where
+  -- the checkpoint that was read after an open gate stands there
+  pub scanned_known : (known : Option DiskHistory) (old new : PiecesState) (head : Head) (rows : List (List KeyedRow)) → old.place ≡ 1 → IfKnown (λ h. take 1 h.now.seen ≡ 1 ∷ []) known → IfKnown SeenAreBytes known
+      → IfKnown (λ h. HasRead h.now.seen old new (record { head = head; tables = rows }) (next_checkpoint tables)) known → IfKnown (λ h. IsSlot tables (Open head) h.now.seen × OpensExactly tables (Open head) h.now.seen) known
+  scanned_known None old new head rows first gate are read = tt
+  scanned_known (Some h) old new head rows first gate are read =
+      let is = slot_opened tables h.now.seen gate old.place first _ read.1 in
+      (is, opens_exactly tables few h.now.seen (Open head) are is)
+
+  -- so do the rows that were taken
+  pub loaded_known : (known : Option DiskHistory) (old new : PiecesState) (own : Head) (rows : List (List KeyedRow)) (held : Tables) → old.place ≡ 1 → rows_of_tables held (length tables) ≡ rows → IfKnown SeenAreBytes known
+      → IfKnown (λ h. HasRead h.now.seen old new (record { head = own; tables = rows }) (next_checkpoint tables)) known → IfKnown (λ h. (head : Head) → IsSlot tables (Open head) h.now.seen → HoldsRows tables head held h.now.seen) known
+  loaded_known None old new own rows held first taken are read = tt
+  loaded_known (Some h) old new own rows held first taken are read = λ head slot.
+      let there = open_read tables head h.now.seen slot in
+      let same : there.0.0 ≡ record { head = own; tables = rows } = one there.0 (record { head = own; tables = rows }, from h.now.seen new.place) (sym there.1 ∙ ap (λ (n : ℕ). next_checkpoint tables (from h.now.seen n)) (sym first) ∙ read.1) in
+      let is : there.0.0 ≡ checkpoint_of (length tables) head held = ap₂ (λ (a : Head) (b : List (List KeyedRow)). record { head = a; tables = b }) there.2 (ap (λ (c : Checkpoint). c.tables) same ∙ sym taken) in
+      subst (λ (c : Checkpoint). HoldsCheckpoint tables c h.now.seen) is (holds_read tables few h.now.seen there.0.0 there.0.1 are there.3 there.1)
+    where
+      one : (a b : Checkpoint × Rest) → ◌≡◌ {A = Read} (Ok a) (Ok b) → a.0 ≡ b.0
+      one a b e = cc
+
+pub scan_fault_known : (tables : List Table) (known : Option DiskHistory) (old : PiecesState) (fault : SlotFault) → old.place ≡ 1 → IfKnown (λ h. take 1 h.now.seen ≡ 1 ∷ []) known → IfKnown (λ h. HasFault h.now.seen old fault (next_checkpoint tables)) known → IfKnown (λ h. slot_read tables h.now.seen ≡ Err fault) known
+scan_fault_known tables None old fault first gate fails = tt
+scan_fault_known tables (Some h) old fault first gate fails = slot_opened tables h.now.seen gate old.place first (Err fault) fails
+
+pub load_fault_known : (tables : List Table) (known : Option DiskHistory) (old : PiecesState) (fault : SlotFault) → old.place ≡ 1 → IfKnown (λ h. HasFault h.now.seen old fault (next_checkpoint tables)) known → IfKnown (λ h. (head : Head) → ¬ IsSlot tables (Open head) h.now.seen) known
+load_fault_known tables None old fault first fails = tt
+load_fault_known tables (Some h) old fault first fails = λ head slot.
+    let there = open_read tables head h.now.seen slot in
+    none there.0 (sym there.1 ∙ ap (λ (n : ℕ). next_checkpoint tables (from h.now.seen n)) (sym first) ∙ fails)
   where
-    one : (a b : Checkpoint) → ◌≡◌ {A = Result Checkpoint SlotFault} (Ok a) (Ok b) → a ≡ b
-    one a b h = cc
+    none : (p : Checkpoint × Rest) → ◌≡◌ {A = Read} (Ok p) (Err fault) → ⊥
+    none p e = cc
 
-pub loaded_known : (tables : List Table) (own : Head) (held : Tables) (bytes : List ℕ) (rest : Rest) (known : Option DiskHistory) → found_alone (next_checkpoint tables (from bytes 1)) ≡ Ok (checkpoint_of (length tables) own held)
-    → IsAtStart (IsCheckpoint tables) checkpoint_bytes (from bytes 1) (checkpoint_of (length tables) own held) rest → IfKnown (λ old. bytes ≡ old.now.seen) known
-    → IfKnown (λ old. (head : Head) → IsSlot tables (Open head) old.now.seen → HoldsRows tables head held old.now.seen) known
-loaded_known tables own held bytes rest known read prefix is =
-    known_with (λ image. (head : Head) → IsSlot tables (Open head) image → HoldsRows tables head held image) bytes known is (λ head slot. loaded_there tables head own held bytes rest slot read prefix)
+-- damage of a slot comes from a fault alone
+pub damage_of : (slot : SlotName) (stop : Stop) (P : SlotFault → Type 0) → ((fault : SlotFault) → stop ≡ AFault fault → P fault) → (name : SlotName) (at : ℕ) (kind : SlotDamageKind) → in_slot slot stop ≡ Damaged name at kind → (name ≡ slot) × P (slot_fault kind at)
+damage_of slot (AFault fault) P there name at kind e = (same_name e, subst P (same_fault fault e) (there fault refl))
+  where
+    same_name : Damaged slot fault.at fault.kind ≡ Damaged name at kind → name ≡ slot
+    same_name h = cc
+
+    same_fault : (f : SlotFault) → Damaged slot f.at f.kind ≡ Damaged name at kind → f ≡ slot_fault kind at
+    same_fault f h = ap₂ (λ (n : ℕ) (k : SlotDamageKind). slot_fault k n) (places f h) (kinds f h)
+      where
+        places : (f : SlotFault) → Damaged slot f.at f.kind ≡ Damaged name at kind → f.at ≡ at
+        places f h = cc
+
+        kinds : (f : SlotFault) → Damaged slot f.at f.kind ≡ Damaged name at kind → f.kind ≡ kind
+        kinds f h = cc
+damage_of slot DiskFault P there name at kind e = absurd cc
+damage_of slot NoMemory P there name at kind e = absurd cc
 
 -- one image that begins as this slot does
 begins_one : (tables : List Table) (state : SlotState) (disk : DiskState) → OneImage (IsSlot tables state) disk → OneImage (BeginsAs state) disk

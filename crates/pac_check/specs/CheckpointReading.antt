@@ -52,14 +52,6 @@ next_table table s = slot_number w64 s >>= λ count. next_rows table count.0 Non
 unfoldable pub next_checkpoint : List Table → Rest → Result (Checkpoint × Rest) SlotFault
 next_checkpoint tables s = next_head (length tables) s >>= λ head. along next_table tables head.1 >>= λ rows. Ok (record { head = head.0; tables = rows.0 }, rows.1)
 
--- what is left after what is read
-abbrev pub left_after : {A : Type 0} → Result (A × Rest) SlotFault → Result Rest SlotFault
-left_after read = read >>= λ found. Ok found.1
-
--- what is read, without what is left after it
-abbrev pub found_alone : {A : Type 0} → Result (A × Rest) SlotFault → Result A SlotFault
-found_alone read = read >>= λ found. Ok found.0
-
 -- the head of what is read, without the rest
 abbrev pub head_alone : Result (Checkpoint × Rest) SlotFault → Result Head SlotFault
 head_alone read = read >>= λ found. Ok found.0.head

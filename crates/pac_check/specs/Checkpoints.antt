@@ -1,5 +1,5 @@
 -- The bytes of a checkpoint, as they stand after the open gate of a slot.
-use Rattle.std.specs.Prelude.{◌<◌, ◌^◌, ℕ, Bool, true, IsTrue, List, [], ◌∷◌, ◌++◌, length, codes, Option, Some, None}
+use Rattle.std.specs.Prelude.{◌≡◌, ◌<◌, ◌^◌, ℕ, Bool, true, IsTrue, List, [], ◌∷◌, ◌++◌, length, codes, Option, Some, None}
 use Rattle.std.specs.Int.{w16, w64, to_le_bytes}
 use Rattle.std.specs.List.{flat_map, All, AllByRecursion, AllZip}
 use Rattle.std.specs.Ordering.{is_lt}
@@ -64,6 +64,10 @@ RowHasBytes row = HasBytes (key_value row.0) × All HasBytes row.1
 -- the key and the values have the types of the table, and bytes
 abbrev pub IsKeyedRow : Table → KeyedRow → Type 0
 IsKeyedRow table row = KeyHasType table.key row.0 × HaveTypes (types table.columns) row.1
+
+-- the same, with a key that is above the one before
+abbrev pub IsRowAfter : Table → Option Key → KeyedRow → Type 0
+IsRowAfter table before row = IsKeyedRow table row × (is_above before row.0 ≡ true)
 
 -- rows of the table, by ascending keys, that many that 64 bits hold their number
 pub record AreRowsOf (table : Table) (rows : List KeyedRow) : Type 0 where

@@ -10,6 +10,8 @@ use Rattle.pac_bytes.specs.declared.fault.TypedFault.TheVariants as typed
 use Rattle.pac_check.specs.declared.damage.SlotDamageKind.{SlotDamageKind}
 use Rattle.pac_check.specs.declared.damage.SlotDamageKind.TheVariants.{Magic, Short, Range, Tag, Row, Order, Place}
 use Rattle.pac_check.specs.declared.damage.SlotFault.{SlotFault}
+use Rattle.pac_check.specs.declared.damage.Stop.{Stop}
+use Rattle.pac_check.specs.declared.damage.Stop.TheVariants as stop
 use Rattle.pac_check.specs.declared.info.SlotName.{SlotName}
 use Rattle.pac_check.specs.declared.errors.SlotError.{SlotError}
 use Rattle.pac_check.specs.declared.errors.SlotError.TheVariants as error
@@ -48,7 +50,13 @@ abbrev pub as_slot_error : PieceError → SlotError
 as_slot_error piece.Failed = error.DiskFault
 as_slot_error piece.NoMemory = error.NoMemory
 
--- a fault of a checkpoint, or running out of memory, as one of this slot
-abbrev pub in_slot : SlotName → Refusal SlotFault → SlotError
-in_slot slot (Fault fault) = error.Damaged slot fault.at fault.kind
-in_slot slot NoRoom = error.NoMemory
+-- the same, as why no checkpoint is
+abbrev pub as_stop : PieceError → Stop
+as_stop piece.Failed = stop.DiskFault
+as_stop piece.NoMemory = stop.NoMemory
+
+-- why no checkpoint is read, as of this slot
+abbrev pub in_slot : SlotName → Stop → SlotError
+in_slot slot (stop.Fault fault) = error.Damaged slot fault.at fault.kind
+in_slot slot stop.DiskFault = error.DiskFault
+in_slot slot stop.NoMemory = error.NoMemory

@@ -1,10 +1,13 @@
 // Why bytes are no checkpoint.
 ghost use Rattle.std.specs.Prelude.{◌≡◌};
 ghost use Rattle.pac_base.specs.declared.refusal.Refusal.TheVariants.{Fault as AFault};
-ghost use Rattle.pac_check.specs.Kinds.{as_slot_fault, of_typed, of_values, slot_damage_name, slot_fault};
+ghost use Rattle.pac_check.specs.declared.damage.Stop.TheVariants.{DiskFault, NoMemory as NoRoom};
+ghost use Rattle.pac_check.specs.Kinds.{as_slot_fault, as_stop, in_slot, of_typed, of_values, slot_damage_name, slot_fault};
 
-use pac_base::Refusal;
+use crate::{SlotError, SlotName};
+use pac_base::{NoMemory, Refusal};
 use pac_bytes::{Short, TypedFault};
+use pac_outside::{Failed, ReadError};
 use std::fmt;
 use thiserror::Error;
 
@@ -64,8 +67,19 @@ pub struct SlotFault {
     pub kind: SlotDamageKind,
 }
 
-/// Why no checkpoint is read: the first fault of the bytes, or running out of memory.
-pub(crate) type CheckpointError = Refusal<SlotFault>;
+/// Why an item isn't read: the first fault of the bytes, or running out of memory.
+pub(crate) type ItemError = Refusal<SlotFault>;
+
+/// Why no checkpoint is read from a device.
+#[derive(Clone, Copy, Debug, PartialEq, Eq)]
+pub(crate) enum Stop {
+    /// The first fault of what stands after an open gate.
+    Fault(SlotFault),
+    /// A call of the device failed.
+    DiskFault,
+    /// There was no memory for a piece, or for a row.
+    NoMemory,
+}
 
 impl From<Short> for SlotFault {
     ghost from_gives = { λ short fault. fault ≡ as_slot_fault short };
@@ -99,7 +113,7 @@ impl From<TypedFault> for SlotFault {
     }
 }
 
-impl From<SlotFault> for CheckpointError {
+impl From<SlotFault> for ItemError {
     ghost from_gives = { λ fault error. error ≡ AFault fault };
 
     fn from(fault: SlotFault) -> Self {
@@ -108,7 +122,7 @@ impl From<SlotFault> for CheckpointError {
 }
 
 /// A fault of values, or their running out of memory, as one of a slot.
-pub(crate) fn error_of(refusal: Refusal<TypedFault>) -> CheckpointError
+pub(crate) fn error_of(refusal: Refusal<TypedFault>) -> ItemError
     ensures { result ≡ of_values refusal }
 {
     match refusal {
@@ -122,4 +136,46 @@ pub(crate) fn fault_at(kind: SlotDamageKind, at: usize) -> SlotFault
     ensures { result ≡ slot_fault kind at }
 {
     SlotFault { at, kind }
+}
+
+impl From<Failed> for Stop {
+    ghost from_gives = { λ _ stop. stop ≡ DiskFault };
+
+    fn from(_: Failed) -> Self {
+        Stop::DiskFault
+    }
+}
+
+impl From<ReadError> for Stop {
+    ghost from_gives = { λ cause stop. stop ≡ as_stop cause };
+
+    fn from(error: ReadError) -> Self {
+        match error {
+            ReadError::Failed => Stop::DiskFault,
+            ReadError::NoMemory => Stop::NoMemory,
+        }
+    }
+}
+
+impl From<NoMemory> for Stop {
+    ghost from_gives = { λ _ stop. stop ≡ NoRoom };
+
+    fn from(_: NoMemory) -> Self {
+        Stop::NoMemory
+    }
+}
+
+/// Why no checkpoint is read, as of this slot.
+pub(crate) fn error_in(slot: SlotName, stop: Stop) -> SlotError
+    ensures { result ≡ in_slot slot stop }
+{
+    match stop {
+        Stop::Fault(fault) => SlotError::Damaged {
+            slot,
+            at: fault.at as u64,
+            kind: fault.kind,
+        },
+        Stop::DiskFault => SlotError::DiskFault,
+        Stop::NoMemory => SlotError::NoMemory,
+    }
 }

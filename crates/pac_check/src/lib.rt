@@ -32,19 +32,21 @@
 
 mod creation;
 mod damage;
+mod descent;
 mod errors;
 mod head;
 mod info;
+mod items;
 mod law;
 mod limits;
-mod loading;
+mod pieces;
 mod reading;
 mod replacing;
 mod rows;
 mod savable;
-mod scanning;
 mod slots;
 mod state;
+mod taker;
 mod text;
 
 pub use creation::create_slot;

@@ -1,5 +1,5 @@
 // Reads one slot from its device.
-ghost use Rattle.std.specs.Prelude.{◌≡◌, ◌≢◌, ℕ, List, length, take, IfOk, IfSome, IsErrOf, OnOk, Err};
+ghost use Rattle.std.specs.Prelude.{◌≡◌, ◌≢◌, [], ◌∷◌, ℕ, List, length, take, IfOk, IfSome, IsErrOf, None as IsOpen, OnOk, Err};
 ghost use Rattle.std.specs.FinMap as map;
 ghost use Rattle.pac_outside.specs.Causes.{one_more};
 ghost use Rattle.pac_outside.specs.Disk.{IfKnown};
@@ -7,21 +7,22 @@ ghost use Rattle.pac_types.specs.Fits.{FitsCatalogue};
 ghost use Rattle.pac_check.specs.declared.damage.SlotDamageKind.{SlotDamageKind as ADamageKind};
 ghost use Rattle.pac_check.specs.declared.head.Head.{Head as AHead};
 ghost use Rattle.pac_check.specs.declared.info.SlotName.{SlotName as ASlotName};
-ghost use Rattle.pac_check.specs.Kinds.{in_slot, slot_fault};
+ghost use Rattle.pac_check.specs.Kinds.{slot_fault};
 ghost use Rattle.pac_check.specs.Replacing.{BeginsAs};
 ghost use Rattle.pac_check.specs.SlotStates.{HoldsRows, IsSlot, OpensExactly, slot_read};
 
-use crate::damage::CheckpointError;
-use crate::loading::load_checkpoint;
-use crate::scanning::scan_slot;
+use crate::damage::error_in;
+use crate::descent::checkpoint_from;
+use crate::pieces::Pieces;
+use crate::taker::Passer;
 use crate::{SlotError, SlotName, SlotState};
-use pac_base::Refusal;
 use pac_outside::{Disk, GATE_OPEN, read_piece};
 use pac_tables::Rows;
 use pac_types::Catalogue;
 use std::alloc::Global;
 
-/// What stands in a slot. Of one that is shut a byte is read, however long the device is, and of an open one all are.
+/// What stands in a slot. Of one that is shut a byte is read, however long the device is; an open one is read in pieces, up
+/// to the end of its checkpoint, and no row is kept.
 ///
 /// # Errors
 ///
@@ -49,6 +50,7 @@ pub(crate) fn look_at<D: Disk>(
 fn shut_state(gate: &[u8]) -> Option<SlotState>
     ensures begins { IfSome result (λ state. (image : List ℕ) → gate.now ≡ take 1 image → BeginsAs state image) }
     ensures shut { IfSome result (λ state. (head : AHead) → state ≢ SlotState.Open head) }
+    ensures is_open { (image : List ℕ) → gate.now ≡ take 1 image → result ≡ IsOpen → take 1 image ≡ 1 ∷ [] }
 {
     match gate.first() {
         None => Some(SlotState::Empty),
@@ -57,23 +59,24 @@ fn shut_state(gate: &[u8]) -> Option<SlotState>
     }
 }
 
-// What stands in a slot, all bytes of which are read.
+// What stands in a slot whose gate is open.
 fn look_at_open<D: Disk>(
     alloc: Global,
     cat: &Catalogue,
     slot: SlotName,
     disk: &mut D,
 ) -> Result<SlotState, SlotError>
+    requires { IfKnown (λ old. take 1 old.now.seen ≡ 1 ∷ []) (D.known disk.old) }
     ensures state { IfOk result (λ state. IfKnown (λ old. IsSlot cat.now.tables state old.now.seen × OpensExactly cat.now.tables state old.now.seen) (D.known disk.old)) }
     ensures damaged { (name : ASlotName) (at : ℕ) (kind : ADamageKind) → IsErrOf result (SlotError.Damaged name at kind) → (name ≡ slot) × IfKnown (λ old. slot_read cat.now.tables old.now.seen ≡ Err (slot_fault kind at)) (D.known disk.old) }
     ensures same { D.known disk.new ≡ D.known disk.old }
     ensures counted { IsErrOf result SlotError.DiskFault → D.faults disk.new ≡ one_more (D.faults disk.old) }
     ensures quiet { ¬ IsErrOf result SlotError.DiskFault → D.faults disk.new ≡ D.faults disk.old }
 {
-    let bytes = read_all(alloc, disk)?;
-    match scan_slot(alloc, cat.tables(), &bytes) {
-        Ok(state) => Ok(state),
-        Err(refusal) => Err(damage_in(slot, refusal)),
+    let mut pieces = Pieces::open(alloc, disk, 1)?;
+    match checkpoint_from(alloc, cat.tables(), &mut pieces, disk, &mut Passer) {
+        Ok(head) => Ok(SlotState::Open(head)),
+        Err(stop) => Err(error_in(slot, stop)),
     }
 }
 
@@ -98,35 +101,9 @@ pub(crate) fn load_slot<D: Disk, R: Rows>(
     ensures counted { IsErrOf result SlotError.DiskFault → D.faults disk.new ≡ one_more (D.faults disk.old) }
     ensures quiet { ¬ IsErrOf result SlotError.DiskFault → D.faults disk.new ≡ D.faults disk.old }
 {
-    let bytes = read_all(alloc, disk)?;
-    match load_checkpoint(alloc, cat.tables(), &bytes, 1, rows) {
+    let mut pieces = Pieces::open(alloc, disk, 1)?;
+    match checkpoint_from(alloc, cat.tables(), &mut pieces, disk, rows) {
         Ok(_) => Ok(()),
-        Err(refusal) => Err(damage_in(slot, refusal)),
-    }
-}
-
-// All bytes of a device.
-fn read_all<D: Disk>(alloc: Global, disk: &mut D) -> Result<Vec<u8>, SlotError>
-    ensures bytes { IfOk result (λ bytes. IfKnown (λ old. bytes.items ≡ old.now.seen) (D.known disk.old)) }
-    ensures only { (name : ASlotName) (at : ℕ) (kind : ADamageKind) → ¬ IsErrOf result (SlotError.Damaged name at kind) }
-    ensures same { D.known disk.new ≡ D.known disk.old }
-    ensures counted { IsErrOf result SlotError.DiskFault → D.faults disk.new ≡ one_more (D.faults disk.old) }
-    ensures quiet { ¬ IsErrOf result SlotError.DiskFault → D.faults disk.new ≡ D.faults disk.old }
-{
-    let len = disk.len()?;
-    Ok(read_piece(alloc, disk, 0, len as usize)?)
-}
-
-// A fault of a checkpoint, or running out of memory, as one of this slot.
-fn damage_in(slot: SlotName, refusal: CheckpointError) -> SlotError
-    ensures { result ≡ in_slot slot refusal }
-{
-    match refusal {
-        Refusal::Fault(fault) => SlotError::Damaged {
-            slot,
-            at: fault.at as u64,
-            kind: fault.kind,
-        },
-        Refusal::NoMemory => SlotError::NoMemory,
+        Err(stop) => Err(error_in(slot, stop)),
     }
 }

@@ -1,16 +1,16 @@
 // Reads the rows of a checkpoint.
-ghost use Rattle.std.specs.Prelude.{◌≡◌};
+ghost use Rattle.std.specs.Prelude.{◌≡◌, IfOk};
 ghost use Rattle.std.specs.Option.{option_map};
 ghost use Rattle.pac_base.specs.declared.refusal.Refusal.TheVariants.{Fault as AFault};
 ghost use Rattle.pac_bytes.specs.Reading.{from, reported_as};
 ghost use Rattle.pac_bytes.specs.Readers.{Answers, AnswersUnlessMemory};
 ghost use Rattle.pac_bytes.specs.Typed.{next_key};
 ghost use Rattle.pac_types.specs.Typing.{IsWellFormedTable};
-ghost use Rattle.pac_check.specs.Checkpoints.{is_above};
+ghost use Rattle.pac_check.specs.Checkpoints.{IsRowAfter, is_above};
 ghost use Rattle.pac_check.specs.CheckpointReading.{next_row};
 ghost use Rattle.pac_check.specs.Kinds.{of_typed};
 
-use crate::damage::{CheckpointError, error_of, fault_at};
+use crate::damage::{ItemError, error_of, fault_at};
 use crate::{SlotDamageKind, SlotFault};
 use pac_base::Refusal;
 use pac_bytes::key_at;
@@ -25,14 +25,29 @@ use std::alloc::Global;
 ///
 /// The first fault from the left, or `NoMemory`: `Short` and `Tag` as of a value, `Row` at a value of another type or a text
 /// that isn't right, and `Order` at a key that isn't above the one before.
-#[tactic(auto, unfolding(crate::specs::CheckpointReading::next_row))]
 pub(crate) fn keyed_row_at(
     alloc: Global,
     table: &Table,
     before: Option<&Key>,
     bytes: &[u8],
     at: usize,
-) -> Result<((Key, Row), usize), CheckpointError>
+) -> Result<((Key, Row), usize), ItemError>
+    requires { IsWellFormedTable table.now }
+    ensures exact { AnswersUnlessMemory bytes.now result (next_row table.now (option_map (λ key. key.now) before.entry) (from bytes.now at)) }
+    ensures row { IfOk result (λ found. IsRowAfter table.now (option_map (λ key. key.now) before.entry) (found.0.0, found.0.1)) }
+{
+    read_keyed_row(alloc, table, before, bytes, at)
+}
+
+// The same, as reading gives it.
+#[tactic(auto, unfolding(crate::specs::CheckpointReading::next_row))]
+fn read_keyed_row(
+    alloc: Global,
+    table: &Table,
+    before: Option<&Key>,
+    bytes: &[u8],
+    at: usize,
+) -> Result<((Key, Row), usize), ItemError>
     requires { IsWellFormedTable table.now }
     ensures { AnswersUnlessMemory bytes.now result (next_row table.now (option_map (λ key. key.now) before.entry) (from bytes.now at)) }
 {

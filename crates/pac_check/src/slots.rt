@@ -37,8 +37,8 @@ pub struct Slots {
 }
 
 impl Slots {
-    /// What stands in two slots. Of one that is shut a byte is read. An open one is read whole: it holds the bytes of one device
-    /// at a time, and one row besides.
+    /// What stands in two slots. Of one that is shut a byte is read. An open one is read up to the end of its checkpoint, in
+    /// pieces of 262,144 bytes: it holds one of these at a time, and one row besides.
     ///
     /// # Errors
     ///
@@ -110,8 +110,8 @@ impl Slots {
         }
     }
 
-    /// Reads the tables of the newest slot into tables without rows; where no slot is open they stay so. It holds the bytes
-    /// of the device besides the rows. After an error what the tables hold isn't said.
+    /// Reads the tables of the newest slot into tables without rows; where no slot is open they stay so. It holds a piece
+    /// of the device, of 262,144 bytes, besides the rows. After an error what the tables hold isn't said.
     ///
     /// # Errors
     ///

@@ -1,14 +1,19 @@
--- What stands in the bytes that were read stands in the device.
-use Rattle.std.proofs.Common.{ℕ, List, subst}
+-- The checkpoint that was read stands in the device.
+use Rattle.std.proofs.Common.{List, subst, arith}
+use Rattle.pac_outside.specs.Disk.{IfKnown}
 use Rattle.pac_types.specs.declared.table.Table.{Table}
-use Rattle.pac_check.specs.SlotStates.{IsSlot, OpensExactly}
-use Rattle.pac_check.proofs.SlotLemmas.{known_with}
+use Rattle.pac_check.specs.CheckpointReading.{next_checkpoint}
+use Rattle.pac_check.specs.PieceStates.{HasRead}
+use Rattle.pac_check.proofs.SlotLemmas.{scanned_known}
 use Rattle.pac_check.proofs.reading.look_at_open.Goals as goal
 
 pub returns-in-Ok-clause-state : goal.returns-in-Ok-clause-state
 returns-in-Ok-clause-state g c =
     let tables = c.args.cat.now.tables in
-    let state = c.in-Ok.state in
-    known_with (λ image. IsSlot tables state image × OpensExactly tables state image) c.in_ok-bytes.bytes.items _ c.in_ok-bytes.ensures.bytes
-    (subst (λ (image : List ℕ). IsSlot tables state image × OpensExactly tables state image) c.deref.ensures.value
-    (subst (λ (ts : List Table). IsSlot ts state c.deref.result.now × OpensExactly ts state c.deref.result.now) c.tables.ensures.value (c.in-Ok.ensures.exact, c.in-Ok.ensures.opens)))
+    let known = g.D.Disk.known c.args.disk.now in
+    let old = c.in_ok-pieces.pieces in
+    let new = c.checkpoint_from.new.pieces in
+    let found = c.in-Ok.ensures.read in
+    let read = subst (λ k. IfKnown (λ h. HasRead h.now.seen old new (record { head = c.in-Ok.head; tables = found.0 }) (next_checkpoint tables)) k) c.open.ensures.same
+    (subst (λ (ts : List Table). IfKnown (λ h. HasRead h.now.seen old new (record { head = c.in-Ok.head; tables = found.0 }) (next_checkpoint ts)) (g.D.Disk.known c.open.new.disk)) c.tables.ensures.value found.2) in
+    scanned_known tables (omega (arith, c.tables.ensures.few)) known old new c.in-Ok.head found.0 c.in_ok-pieces.ensures.place c.requires (g.met.D.Disk.seen_are_bytes c.args.disk.now) read

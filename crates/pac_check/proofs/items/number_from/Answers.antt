@@ -1,0 +1,22 @@
+-- What is read in the bytes that are held is read on the device.
+use Rattle.std.proofs.Common.{◌∙◌, ◌≤◌, List, ℕ, length, sym, subst, arith}
+use Rattle.std.specs.Int.{w64}
+use Rattle.pac_check.specs.CheckpointReading.{slot_number}
+use Rattle.pac_check.proofs.PieceLemmas.{wide_looks, end_within, fault_within, read_known, fault_known, stop_same}
+use Rattle.pac_check.proofs.items.number_from.Goals as goal
+
+pub pass-requires : goal.pass-requires
+pass-requires g c = subst (λ (held : List ℕ). c.in-Ok.end ≤ length held) c.held.ensures (end_within 8 (slot_number w64) wide_looks c.held.result.now c.in-Ok.number c.in-Ok.end c.in-Ok.ensures)
+
+pub fault-requires : goal.fault-requires
+fault-requires g c = subst (λ (held : List ℕ). c.in-Err.fault.at ≤ length held) c.held.ensures (fault_within 8 (slot_number w64) wide_looks c.held.result.now c.in-Err.fault c.in-Err.ensures)
+
+pub returns-in-Ok-clause-read : goal.returns-in-Ok-clause-read
+returns-in-Ok-clause-read g c =
+    read_known 8 (slot_number w64) wide_looks (omega arith) (g.D.Disk.known c.args.disk.now) c.args.pieces.now c.fill.new.self c.held.result.now c.in_ok-fill.ensures.filled c.fill.ensures.place c.held.ensures
+    c.in-Ok.number c.in-Ok.end c.pass.new.self c.pass.ensures c.in-Ok.ensures
+
+pub returns-in-Err-clause-fault : goal.returns-in-Err-clause-fault
+returns-in-Err-clause-fault g c = λ fault is.
+    fault_known 8 (slot_number w64) wide_looks (omega arith) (g.D.Disk.known c.args.disk.now) c.args.pieces.now c.fill.new.self c.held.result.now c.in_ok-fill.ensures.filled c.fill.ensures.place c.held.ensures
+    c.in-Err.fault fault (sym (stop_same _ _ is) ∙ c.fault.ensures) c.in-Err.ensures
