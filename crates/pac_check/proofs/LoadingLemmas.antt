@@ -25,7 +25,7 @@ use Rattle.pac_bytes.proofs.Loops.{preceding, along-on, along-fails, along-done}
 use Rattle.pac_check.specs.declared.damage.SlotFault.{SlotFault}
 use Rattle.pac_check.specs.Checkpoints.{KeyedRow, IsKeyedRow, IsRowAfter}
 use Rattle.pac_check.specs.CheckpointReading.{next_row, next_rows, next_table}
-use Rattle.pac_check.specs.PieceStates.{PiecesState, AreOf, HasFault, HasRead}
+use Rattle.pac_check.specs.PieceStates.{PiecesState, AreOfImage, HasFault, WasRead}
 use Rattle.pac_check.specs.Saved.{table_rows, rows_of_tables}
 use Rattle.pac_check.specs.Taking.{TookRows, TookTables}
 use Rattle.pac_check.proofs.CheckpointLemmas.{row_codec}
@@ -35,12 +35,12 @@ use Rattle.pac_check.proofs.LoopLemmas.{rows-on, rows-fail, rows-done}
 -- these rows, before what reading gives of the rest, are what it gives of all
 abbrev pub RowsSoFar : Option DiskHistory → Table → PiecesState → PiecesState → List KeyedRow → ℕ → ℕ → Option Key → Type 0
 RowsSoFar known table start now rows count i before =
-    IfKnown (λ h. AreOf h.now.seen now × (preceding rows (next_rows table (count - i) before (from h.now.seen now.place)) ≡ next_rows table count None (from h.now.seen start.place))) known
+    IfKnown (λ h. AreOfImage h.now.seen now × (preceding rows (next_rows table (count - i) before (from h.now.seen now.place)) ≡ next_rows table count None (from h.now.seen start.place))) known
 
 -- and so are the rows of the first i tables
 abbrev pub TablesSoFar : Option DiskHistory → List Table → PiecesState → PiecesState → List (List KeyedRow) → ℕ → Type 0
 TablesSoFar known tables start now rows i =
-    IfKnown (λ h. AreOf h.now.seen now × (preceding rows (along next_table (drop i tables) (from h.now.seen now.place)) ≡ along next_table tables (from h.now.seen start.place))) known
+    IfKnown (λ h. AreOfImage h.now.seen now × (preceding rows (along next_table (drop i tables) (from h.now.seen now.place)) ≡ along next_table tables (from h.now.seen start.place))) known
 
 pub other-number : (a b : ℕ) → a ≢ b → (b == a) ≡ false
 other-number a b apart = go (b == a) refl
@@ -105,7 +105,7 @@ module _ (table : Table) (before : Option Key) (key : Key) (row : RowValues) (fo
       )
 
   -- and read after others
-  pub rows-read-on : (known : Option DiskHistory) (start now next : PiecesState) (rows : List KeyedRow) (count i : ℕ) → i < count → RowsSoFar known table start now rows count i before → IfKnown (λ h. HasRead h.now.seen now next (key, row) (next_row table before)) known
+  pub rows-read-on : (known : Option DiskHistory) (start now next : PiecesState) (rows : List KeyedRow) (count i : ℕ) → i < count → RowsSoFar known table start now rows count i before → IfKnown (λ h. WasRead h.now.seen now next (key, row) (next_row table before)) known
       → RowsSoFar known table start next (rows ++ (key, row) ∷ []) count (i + 1) (Some key)
   rows-read-on None start now next rows count i lt so_far read = tt
   rows-read-on (Some h) start now next rows count i lt so_far read =
@@ -154,7 +154,7 @@ pub tables-took-none : (tables : List Table) (holds : Tables → Type 0) → Too
 tables-took-none tables holds = λ has. (empty, has, record { rows = refl; others = λ other le. empty-rows empty refl other; fits = empty-fits tables empty refl })
 
 pub tables-read-on : (known : Option DiskHistory) (tables : List Table) (start now next : PiecesState) (all_rows : List (List KeyedRow)) (rows : List KeyedRow) (i : ℕ) (table : Table) → drop i tables ≡ table ∷ drop (i + 1) tables → TablesSoFar known tables start now all_rows i
-    → IfKnown (λ h. HasRead h.now.seen now next rows (next_table table)) known → TablesSoFar known tables start next (all_rows ++ rows ∷ []) (i + 1)
+    → IfKnown (λ h. WasRead h.now.seen now next rows (next_table table)) known → TablesSoFar known tables start next (all_rows ++ rows ∷ []) (i + 1)
 tables-read-on None tables start now next all_rows rows i table is so_far read = tt
 tables-read-on (Some h) tables start now next all_rows rows i table is so_far read =
     (read.0, along-on next_table all_rows tables i table (from h.now.seen now.place) (from h.now.seen next.place) rows (along next_table tables (from h.now.seen start.place)) is read.1 so_far.1)
@@ -165,7 +165,7 @@ tables-read-fail None tables start now all_rows i table fault is so_far fails = 
 tables-read-fail (Some h) tables start now all_rows i table fault is so_far fails =
     along-fails next_table (Fault fault) all_rows tables i table (from h.now.seen now.place) (along next_table tables (from h.now.seen start.place)) is fails so_far.1
 
-pub tables-read-done : (known : Option DiskHistory) (tables : List Table) (start now : PiecesState) (all_rows : List (List KeyedRow)) (i : ℕ) → length tables ≤ i → TablesSoFar known tables start now all_rows i → IfKnown (λ h. HasRead h.now.seen start now all_rows (along next_table tables)) known
+pub tables-read-done : (known : Option DiskHistory) (tables : List Table) (start now : PiecesState) (all_rows : List (List KeyedRow)) (i : ℕ) → length tables ≤ i → TablesSoFar known tables start now all_rows i → IfKnown (λ h. WasRead h.now.seen start now all_rows (along next_table tables)) known
 tables-read-done None tables start now all_rows i le so_far = tt
 tables-read-done (Some h) tables start now all_rows i le so_far =
     (so_far.0, along-done next_table all_rows tables i (from h.now.seen now.place) (along next_table tables (from h.now.seen start.place)) (drop_all i tables le) so_far.1)
@@ -175,13 +175,13 @@ prefix-nil : {A : Type 0} (r : Result (List A × Rest) SlotFault) → preceding 
 prefix-nil (Ok xs) = refl
 prefix-nil (Err fault) = refl
 
-pub tables-read-none : (known : Option DiskHistory) (tables : List Table) (start : PiecesState) → IfKnown (λ h. AreOf h.now.seen start) known → TablesSoFar known tables start start [] 0
+pub tables-read-none : (known : Option DiskHistory) (tables : List Table) (start : PiecesState) → IfKnown (λ h. AreOfImage h.now.seen start) known → TablesSoFar known tables start start [] 0
 tables-read-none None tables start of = tt
 tables-read-none (Some h) tables start of = (of, prefix-nil (along next_table tables (from h.now.seen start.place)))
 
 -- ---- several rows
 
-pub rows-read-none : (known : Option DiskHistory) (table : Table) (start : PiecesState) (count : ℕ) → IfKnown (λ h. AreOf h.now.seen start) known → RowsSoFar known table start start [] count 0 None
+pub rows-read-none : (known : Option DiskHistory) (table : Table) (start : PiecesState) (count : ℕ) → IfKnown (λ h. AreOfImage h.now.seen start) known → RowsSoFar known table start start [] count 0 None
 rows-read-none None table start count of = tt
 rows-read-none (Some h) table start count of =
     let all : count - 0 ≡ count = omega arith in
@@ -193,7 +193,7 @@ rows-read-fail None table start now rows count i before fault lt so_far fails = 
 rows-read-fail (Some h) table start now rows count i before fault lt so_far fails =
     rows-fail table rows count i before (from h.now.seen now.place) (next_rows table count None (from h.now.seen start.place)) so_far.1 (Fault fault) lt fails
 
-pub rows-read-done : (known : Option DiskHistory) (table : Table) (start now : PiecesState) (rows : List KeyedRow) (count i : ℕ) (before : Option Key) → count ≤ i → RowsSoFar known table start now rows count i before → IfKnown (λ h. HasRead h.now.seen start now rows (next_rows table count None)) known
+pub rows-read-done : (known : Option DiskHistory) (table : Table) (start now : PiecesState) (rows : List KeyedRow) (count i : ℕ) (before : Option Key) → count ≤ i → RowsSoFar known table start now rows count i before → IfKnown (λ h. WasRead h.now.seen start now rows (next_rows table count None)) known
 rows-read-done None table start now rows count i before le so_far = tt
 rows-read-done (Some h) table start now rows count i before le so_far =
     (so_far.0, rows-done table rows count i before (from h.now.seen now.place) (next_rows table count None (from h.now.seen start.place)) so_far.1 le)

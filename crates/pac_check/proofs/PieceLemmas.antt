@@ -12,11 +12,11 @@ use Rattle.pac_types.specs.declared.table.Table.{Table}
 use Rattle.pac_bytes.specs.Reading.{Rest, from}
 use Rattle.pac_bytes.proofs.Results.{ok_same}
 use Rattle.pac_check.specs.declared.damage.SlotFault.{SlotFault}
-use Rattle.pac_check.specs.declared.damage.Stop.{Stop}
-use Rattle.pac_check.specs.declared.damage.Stop.TheVariants.{Fault}
+use Rattle.pac_check.specs.declared.damage.CheckpointError.{CheckpointError}
+use Rattle.pac_check.specs.declared.damage.CheckpointError.TheVariants.{Fault}
 use Rattle.pac_check.specs.declared.limits.TheConstants.{ITEM_LEN, PIECE_LEN}
 use Rattle.pac_check.specs.Kinds.{slot_fault}
-use Rattle.pac_check.specs.PieceStates.{PiecesState, AreOf, HasItem, HasRead, HasFault}
+use Rattle.pac_check.specs.PieceStates.{PiecesState, AreOfImage, HasItem, WasRead, HasFault}
 use Rattle.pac_check.specs.CheckpointReading.{slot_number, next_head, next_row}
 use Rattle.pac_check.proofs.AlikeLemmas.{HasEnough, Alike, slot_placed, whole}
 use Rattle.pac_check.proofs.RowAlikeLemmas.{row_room, wide_alike, head_alike, row_alike}
@@ -24,11 +24,11 @@ use Rattle.pac_check.proofs.RowAlikeLemmas.{row_room, wide_alike, head_alike, ro
 err_same : {A : Type 0} (f g : SlotFault) → ◌≡◌ {A = Result A SlotFault} (Err f) (Err g) → f ≡ g
 err_same f g e = cc
 
-pub stop_same : {A : Type 0} (a b : SlotFault) → IsErrOf {T = A} {E = Stop} (Err (Fault a)) (Fault b) → a ≡ b
+pub stop_same : {A : Type 0} (a b : SlotFault) → IsErrOf {T = A} {E = CheckpointError} (Err (Fault a)) (Fault b) → a ≡ b
 stop_same a b e = cc
 
 -- a fault of one answer, as one of another
-pub stop_again : {A B : Type 0} (stop : Stop) (fault : SlotFault) → IsErrOf {T = A} {E = Stop} (Err stop) (Fault fault) → IsErrOf {T = B} {E = Stop} (Err stop) (Fault fault)
+pub stop_again : {A B : Type 0} (stop : CheckpointError) (fault : SlotFault) → IsErrOf {T = A} {E = CheckpointError} (Err stop) (Fault fault) → IsErrOf {T = B} {E = CheckpointError} (Err stop) (Fault fault)
 stop_again stop fault e = cc
 
 -- after that many bytes of the pieces
@@ -59,7 +59,7 @@ module _ {A : Type 0} (n : ℕ) (read : Rest → Result (A × Rest) SlotFault) (
       go (Ok p) r' a e = absurd cc
       go (Err f) r' a e = subst (λ (g : SlotFault). g.at ≤ length bytes) (err_same {A = A × Rest} f fault e) (omega (arith, a.1))
 
-  module _ (few : n ≤ ITEM_LEN) (image : List ℕ) (pieces : PiecesState) (of : AreOf image pieces) (item : HasItem pieces) where
+  module _ (few : n ≤ ITEM_LEN) (image : List ℕ) (pieces : PiecesState) (of : AreOfImage image pieces) (item : HasItem pieces) where
     enough : HasEnough pieces.place of.rest n (from pieces.bytes 0)
     enough = go item
       where
@@ -83,7 +83,7 @@ module _ {A : Type 0} (n : ℕ) (read : Rest → Result (A × Rest) SlotFault) (
     after : (end : ℕ) → end ≤ length pieces.bytes → drop (pieces.place + end) image ≡ drop end pieces.bytes ++ of.rest
     after end le = sym (drop-drop end pieces.place image) ∙ ap (λ (l : List ℕ). drop end l) of.split ∙ drop-append-le end pieces.bytes of.rest le
 
-    pub read_there : (found : A) (end : ℕ) → read (from pieces.bytes 0) ≡ Ok (found, from pieces.bytes end) → HasRead image pieces (passed_by end pieces) found read
+    pub read_there : (found : A) (end : ℕ) → read (from pieces.bytes 0) ≡ Ok (found, from pieces.bytes end) → WasRead image pieces (passed_by end pieces) found read
     read_there found end e = (
       record { rest = of.rest; split = after end within; len = of.len },
       go (read (from pieces.bytes 0)) alike e ∙ ap₂ (λ (n : ℕ) (l : List ℕ). found_at n l) refl (sym (after end within)),
@@ -117,15 +117,15 @@ module _ {A : Type 0} (n : ℕ) (read : Rest → Result (A × Rest) SlotFault) (
 
   -- ---- over what is known of a disk
 
-  module _ (few : n ≤ ITEM_LEN) (known : Option DiskHistory) (old filled : PiecesState) (held : List ℕ) (ready : IfKnown (λ h. AreOf h.now.seen filled × HasItem filled) known) (place : filled.place ≡ old.place) (is : held ≡ filled.bytes) where
-    pub read_known : (found : A) (end : ℕ) (new : PiecesState) → new ≡ passed_by end filled → read (from held 0) ≡ Ok (found, from held end) → IfKnown (λ h. HasRead h.now.seen old new found read) known
+  module _ (few : n ≤ ITEM_LEN) (known : Option DiskHistory) (old filled : PiecesState) (held : List ℕ) (ready : IfKnown (λ h. AreOfImage h.now.seen filled × HasItem filled) known) (place : filled.place ≡ old.place) (is : held ≡ filled.bytes) where
+    pub read_known : (found : A) (end : ℕ) (new : PiecesState) → new ≡ passed_by end filled → read (from held 0) ≡ Ok (found, from held end) → IfKnown (λ h. WasRead h.now.seen old new found read) known
     read_known found end new passed e = go known ready
       where
-        go : (k : Option DiskHistory) → IfKnown (λ h. AreOf h.now.seen filled × HasItem filled) k → IfKnown (λ h. HasRead h.now.seen old new found read) k
+        go : (k : Option DiskHistory) → IfKnown (λ h. AreOfImage h.now.seen filled × HasItem filled) k → IfKnown (λ h. WasRead h.now.seen old new found read) k
         go None r = tt
         go (Some h) r =
             let there = read_there few h.now.seen filled r.0 r.1 found end (subst (λ (l : List ℕ). read (from l 0) ≡ Ok (found, from l end)) is e) in (
-              subst (λ (p : PiecesState). AreOf h.now.seen p) (sym passed) there.0,
+              subst (λ (p : PiecesState). AreOfImage h.now.seen p) (sym passed) there.0,
               ap (λ (n : ℕ). read (from h.now.seen n)) (sym place) ∙ there.1 ∙ ap (λ (p : PiecesState). found_from (from h.now.seen p.place)) (sym passed),
             )
           where
@@ -138,21 +138,21 @@ module _ {A : Type 0} (n : ℕ) (read : Rest → Result (A × Rest) SlotFault) (
         err_of : SlotFault → Result (A × Rest) SlotFault
         err_of g = Err g
 
-        go : (k : Option DiskHistory) → IfKnown (λ h. AreOf h.now.seen filled × HasItem filled) k → IfKnown (λ h. HasFault h.now.seen old there read) k
+        go : (k : Option DiskHistory) → IfKnown (λ h. AreOfImage h.now.seen filled × HasItem filled) k → IfKnown (λ h. HasFault h.now.seen old there read) k
         go None r = tt
         go (Some h) r = ap (λ (n : ℕ). read (from h.now.seen n)) (sym place) ∙ fault_there few h.now.seen filled r.0 r.1 fault (subst (λ (l : List ℕ). read (from l 0) ≡ Err fault) is e) ∙ ap err_of (sym same)
 
 -- ---- filling
 
 -- nothing is held yet
-pub opened_known : (known : Option DiskHistory) (pieces : PiecesState) → pieces.bytes ≡ [] → IfKnown (λ h. pieces.len ≡ length h.now.seen) known → IfKnown (λ h. AreOf h.now.seen pieces) known
+pub opened_known : (known : Option DiskHistory) (pieces : PiecesState) → pieces.bytes ≡ [] → IfKnown (λ h. pieces.len ≡ length h.now.seen) known → IfKnown (λ h. AreOfImage h.now.seen pieces) known
 opened_known None pieces none len = tt
 opened_known (Some h) pieces none len = record { rest = drop pieces.place h.now.seen; split = ap (λ (l : List ℕ). l ++ drop pieces.place h.now.seen) (sym none); len = len }
 
 -- a piece is read after what was held
-more_read : (image : List ℕ) (old : PiecesState) (held end count : ℕ) (new : List ℕ) → AreOf image old → length old.bytes ≡ held → end ≡ old.place + held → end < old.len → held < ITEM_LEN → count ≡ min (old.len - end) (PIECE_LEN - held) → new ≡ old.bytes ++ take count (drop end image)
-    → (new_state : PiecesState) → new_state ≡ record { place = old.place; bytes = new; len = old.len } → AreOf image new_state × HasItem new_state
-more_read image old held end count new of long ends before few counted is new_state same = subst (λ (p : PiecesState). AreOf image p × HasItem p) (sym same) (
+more_read : (image : List ℕ) (old : PiecesState) (held end count : ℕ) (new : List ℕ) → AreOfImage image old → length old.bytes ≡ held → end ≡ old.place + held → end < old.len → held < ITEM_LEN → count ≡ min (old.len - end) (PIECE_LEN - held) → new ≡ old.bytes ++ take count (drop end image)
+    → (new_state : PiecesState) → new_state ≡ record { place = old.place; bytes = new; len = old.len } → AreOfImage image new_state × HasItem new_state
+more_read image old held end count new of long ends before few counted is new_state same = subst (λ (p : PiecesState). AreOfImage image p × HasItem p) (sym same) (
   record { rest = drop count of.rest; split = of.split ∙ ap (λ (l : List ℕ). old.bytes ++ l) (sym (take-append-drop count of.rest)) ∙ sym (append_assoc old.bytes (take count of.rest) (drop count of.rest)) ∙ ap (λ (l : List ℕ). l ++ drop count of.rest) (sym joined); len = of.len },
   go (leb (old.len - end) (PIECE_LEN - held)) refl,
 )
@@ -173,8 +173,8 @@ more_read image old held end count new of long ends before few counted is new_st
     go true e = let le = leb-true _ _ e in inr (omega (arith, le, counted, lengths, rest_len, ends))
     go false e = let lt = leb-false _ _ e in inl (omega (arith, lt, counted, lengths, rest_len, ends, few))
 
-pub filled_known : {E : Type 0} (result : Result (Unit {0}) E) (known : Option DiskHistory) (old new_state : PiecesState) (held end count : ℕ) (new : List ℕ) → IfKnown (λ h. AreOf h.now.seen old) known → length old.bytes ≡ held → end ≡ old.place + held → end < old.len → held < ITEM_LEN
-    → count ≡ min (old.len - end) (PIECE_LEN - held) → OnOk result (IfKnown (λ h. new ≡ old.bytes ++ take count (drop end h.now.seen)) known) → new_state ≡ record { place = old.place; bytes = new; len = old.len } → OnOk result (IfKnown (λ h. AreOf h.now.seen new_state × HasItem new_state) known)
+pub filled_known : {E : Type 0} (result : Result (Unit {0}) E) (known : Option DiskHistory) (old new_state : PiecesState) (held end count : ℕ) (new : List ℕ) → IfKnown (λ h. AreOfImage h.now.seen old) known → length old.bytes ≡ held → end ≡ old.place + held → end < old.len → held < ITEM_LEN
+    → count ≡ min (old.len - end) (PIECE_LEN - held) → OnOk result (IfKnown (λ h. new ≡ old.bytes ++ take count (drop end h.now.seen)) known) → new_state ≡ record { place = old.place; bytes = new; len = old.len } → OnOk result (IfKnown (λ h. AreOfImage h.now.seen new_state × HasItem new_state) known)
 filled_known (Err e) known old new_state held end count new of long ends before few counted is same = tt
 filled_known (Ok x) None old new_state held end count new of long ends before few counted is same = tt
 filled_known (Ok x) (Some h) old new_state held end count new of long ends before few counted is same = more_read h.now.seen old held end count new of long ends before few counted is new_state same

@@ -12,8 +12,8 @@ use Rattle.pac_bytes.specs.Reading.{Rest, from}
 use Rattle.pac_bytes.proofs.Bytes.{IsBytes, IsBytes-drop}
 use Rattle.pac_check.specs.declared.damage.SlotDamageKind.{SlotDamageKind}
 use Rattle.pac_check.specs.declared.damage.SlotFault.{SlotFault}
-use Rattle.pac_check.specs.declared.damage.Stop.{Stop}
-use Rattle.pac_check.specs.declared.damage.Stop.TheVariants.{Fault as AFault, DiskFault, NoMemory}
+use Rattle.pac_check.specs.declared.damage.CheckpointError.{CheckpointError}
+use Rattle.pac_check.specs.declared.damage.CheckpointError.TheVariants.{Fault as AFault, DiskFault, NoMemory}
 use Rattle.pac_check.specs.declared.errors.SlotError.TheVariants.{Damaged}
 use Rattle.pac_check.specs.declared.head.Head.{Head}
 use Rattle.pac_check.specs.declared.info.SlotName.{SlotName}
@@ -23,7 +23,7 @@ use Rattle.pac_check.specs.declared.state.SlotState.TheVariants.{Empty, Closed, 
 use Rattle.pac_check.specs.Kinds.{slot_fault, in_slot}
 use Rattle.pac_check.specs.Checkpoints.{Checkpoint, KeyedRow, IsCheckpoint, checkpoint_bytes}
 use Rattle.pac_check.specs.CheckpointReading.{next_checkpoint, head_alone}
-use Rattle.pac_check.specs.PieceStates.{PiecesState, HasFault, HasRead}
+use Rattle.pac_check.specs.PieceStates.{PiecesState, HasFault, WasRead}
 use Rattle.pac_check.specs.Replacing.{BeginsAs, IsOldShutOrNew, IsReplaced}
 use Rattle.pac_check.specs.SlotStates.{by_slot, opened, slot_read, IsSlot, HoldsCheckpoint, HoldsRows, OpensExactly}
 use Rattle.pac_check.specs.Saved.{checkpoint_of, rows_of_tables}
@@ -111,7 +111,7 @@ slot_opened tables image gate place first r read =
 module _ (tables : List Table) (few : length tables < 65536) where
   -- the checkpoint that was read after an open gate stands there
   pub scanned_known : (known : Option DiskHistory) (old new : PiecesState) (head : Head) (rows : List (List KeyedRow)) → old.place ≡ 1 → IfKnown (λ h. take 1 h.now.seen ≡ 1 ∷ []) known → IfKnown SeenAreBytes known
-      → IfKnown (λ h. HasRead h.now.seen old new (record { head = head; tables = rows }) (next_checkpoint tables)) known → IfKnown (λ h. IsSlot tables (Open head) h.now.seen × OpensExactly tables (Open head) h.now.seen) known
+      → IfKnown (λ h. WasRead h.now.seen old new (record { head = head; tables = rows }) (next_checkpoint tables)) known → IfKnown (λ h. IsSlot tables (Open head) h.now.seen × OpensExactly tables (Open head) h.now.seen) known
   scanned_known None old new head rows first gate are read = tt
   scanned_known (Some h) old new head rows first gate are read =
       let is = slot_opened tables h.now.seen gate old.place first _ read.1 in
@@ -119,7 +119,7 @@ module _ (tables : List Table) (few : length tables < 65536) where
 
   -- so do the rows that were taken
   pub loaded_known : (known : Option DiskHistory) (old new : PiecesState) (own : Head) (rows : List (List KeyedRow)) (held : Tables) → old.place ≡ 1 → rows_of_tables held (length tables) ≡ rows → IfKnown SeenAreBytes known
-      → IfKnown (λ h. HasRead h.now.seen old new (record { head = own; tables = rows }) (next_checkpoint tables)) known → IfKnown (λ h. (head : Head) → IsSlot tables (Open head) h.now.seen → HoldsRows tables head held h.now.seen) known
+      → IfKnown (λ h. WasRead h.now.seen old new (record { head = own; tables = rows }) (next_checkpoint tables)) known → IfKnown (λ h. (head : Head) → IsSlot tables (Open head) h.now.seen → HoldsRows tables head held h.now.seen) known
   loaded_known None old new own rows held first taken are read = tt
   loaded_known (Some h) old new own rows held first taken are read = λ head slot.
       let there = open_read tables head h.now.seen slot in
@@ -144,7 +144,7 @@ load_fault_known tables (Some h) old fault first fails = λ head slot.
     none p e = cc
 
 -- damage of a slot comes from a fault alone
-pub damage_of : (slot : SlotName) (stop : Stop) (P : SlotFault → Type 0) → ((fault : SlotFault) → stop ≡ AFault fault → P fault) → (name : SlotName) (at : ℕ) (kind : SlotDamageKind) → in_slot slot stop ≡ Damaged name at kind → (name ≡ slot) × P (slot_fault kind at)
+pub damage_of : (slot : SlotName) (stop : CheckpointError) (P : SlotFault → Type 0) → ((fault : SlotFault) → stop ≡ AFault fault → P fault) → (name : SlotName) (at : ℕ) (kind : SlotDamageKind) → in_slot slot stop ≡ Damaged name at kind → (name ≡ slot) × P (slot_fault kind at)
 damage_of slot (AFault fault) P there name at kind e = (same_name e, subst P (same_fault fault e) (there fault refl))
   where
     same_name : Damaged slot fault.at fault.kind ≡ Damaged name at kind → name ≡ slot

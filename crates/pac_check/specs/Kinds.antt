@@ -10,8 +10,8 @@ use Rattle.pac_bytes.specs.declared.fault.TypedFault.TheVariants as typed
 use Rattle.pac_check.specs.declared.damage.SlotDamageKind.{SlotDamageKind}
 use Rattle.pac_check.specs.declared.damage.SlotDamageKind.TheVariants.{Magic, Short, Range, Tag, Row, Order, Place}
 use Rattle.pac_check.specs.declared.damage.SlotFault.{SlotFault}
-use Rattle.pac_check.specs.declared.damage.Stop.{Stop}
-use Rattle.pac_check.specs.declared.damage.Stop.TheVariants as stop
+use Rattle.pac_check.specs.declared.damage.CheckpointError.{CheckpointError}
+use Rattle.pac_check.specs.declared.damage.CheckpointError.TheVariants as stop
 use Rattle.pac_check.specs.declared.info.SlotName.{SlotName}
 use Rattle.pac_check.specs.declared.errors.SlotError.{SlotError}
 use Rattle.pac_check.specs.declared.errors.SlotError.TheVariants as error
@@ -51,12 +51,12 @@ as_slot_error piece.Failed = error.DiskFault
 as_slot_error piece.NoMemory = error.NoMemory
 
 -- the same, as why no checkpoint is
-abbrev pub as_stop : PieceError → Stop
-as_stop piece.Failed = stop.DiskFault
-as_stop piece.NoMemory = stop.NoMemory
+abbrev pub as_checkpoint_error : PieceError → CheckpointError
+as_checkpoint_error piece.Failed = stop.DiskFault
+as_checkpoint_error piece.NoMemory = stop.NoMemory
 
 -- why no checkpoint is read, as of this slot
-abbrev pub in_slot : SlotName → Stop → SlotError
+abbrev pub in_slot : SlotName → CheckpointError → SlotError
 in_slot slot (stop.Fault fault) = error.Damaged slot fault.at fault.kind
 in_slot slot stop.DiskFault = error.DiskFault
 in_slot slot stop.NoMemory = error.NoMemory

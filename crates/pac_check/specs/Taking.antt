@@ -18,11 +18,11 @@ abbrev pub TookRows : (Tables → Type 0) → (Tables → Type 0) → Table → 
 TookRows before after table number rows = (old : Tables) → before old → table_rows old number ≡ [] → (new : Tables) × after new × IsWithRows table number rows old new
 
 -- these rows of the first n tables, and no others, and they fit
-pub record AreFirst (tables : List Table) (n : ℕ) (taken : List (List KeyedRow)) (held : Tables) : Type 0 where
+pub record HoldsFirst (tables : List Table) (n : ℕ) (taken : List (List KeyedRow)) (held : Tables) : Type 0 where
   pub rows : rows_of_tables held n ≡ taken
   pub others : (other : ℕ) → n ≤ other → table_rows held other ≡ []
   pub fits : FitTables tables held
 
 -- where nothing was held before, these rows of the first n tables are held afterwards
 abbrev pub TookTables : (Tables → Type 0) → (Tables → Type 0) → List Table → ℕ → List (List KeyedRow) → Type 0
-TookTables before after tables n rows = before empty → (new : Tables) × after new × AreFirst tables n rows new
+TookTables before after tables n rows = before empty → (new : Tables) × after new × HoldsFirst tables n rows new

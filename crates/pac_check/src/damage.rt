@@ -1,8 +1,8 @@
 // Why bytes are no checkpoint.
 ghost use Rattle.std.specs.Prelude.{◌≡◌};
 ghost use Rattle.pac_base.specs.declared.refusal.Refusal.TheVariants.{Fault as AFault};
-ghost use Rattle.pac_check.specs.declared.damage.Stop.TheVariants.{DiskFault, NoMemory as NoRoom};
-ghost use Rattle.pac_check.specs.Kinds.{as_slot_fault, as_stop, in_slot, of_typed, of_values, slot_damage_name, slot_fault};
+ghost use Rattle.pac_check.specs.declared.damage.CheckpointError.TheVariants.{DiskFault, NoMemory as NoRoom};
+ghost use Rattle.pac_check.specs.Kinds.{as_slot_fault, as_checkpoint_error, in_slot, of_typed, of_values, slot_damage_name, slot_fault};
 
 use crate::{SlotError, SlotName};
 use pac_base::{NoMemory, Refusal};
@@ -72,7 +72,7 @@ pub(crate) type ItemError = Refusal<SlotFault>;
 
 /// Why no checkpoint is read from a device.
 #[derive(Clone, Copy, Debug, PartialEq, Eq)]
-pub(crate) enum Stop {
+pub(crate) enum CheckpointError {
     /// The first fault of what stands after an open gate.
     Fault(SlotFault),
     /// A call of the device failed.
@@ -138,44 +138,44 @@ pub(crate) fn fault_at(kind: SlotDamageKind, at: usize) -> SlotFault
     SlotFault { at, kind }
 }
 
-impl From<Failed> for Stop {
+impl From<Failed> for CheckpointError {
     ghost from_gives = { λ _ stop. stop ≡ DiskFault };
 
     fn from(_: Failed) -> Self {
-        Stop::DiskFault
+        CheckpointError::DiskFault
     }
 }
 
-impl From<ReadError> for Stop {
-    ghost from_gives = { λ cause stop. stop ≡ as_stop cause };
+impl From<ReadError> for CheckpointError {
+    ghost from_gives = { λ cause stop. stop ≡ as_checkpoint_error cause };
 
     fn from(error: ReadError) -> Self {
         match error {
-            ReadError::Failed => Stop::DiskFault,
-            ReadError::NoMemory => Stop::NoMemory,
+            ReadError::Failed => CheckpointError::DiskFault,
+            ReadError::NoMemory => CheckpointError::NoMemory,
         }
     }
 }
 
-impl From<NoMemory> for Stop {
+impl From<NoMemory> for CheckpointError {
     ghost from_gives = { λ _ stop. stop ≡ NoRoom };
 
     fn from(_: NoMemory) -> Self {
-        Stop::NoMemory
+        CheckpointError::NoMemory
     }
 }
 
 /// Why no checkpoint is read, as of this slot.
-pub(crate) fn error_in(slot: SlotName, stop: Stop) -> SlotError
+pub(crate) fn error_in(slot: SlotName, stop: CheckpointError) -> SlotError
     ensures { result ≡ in_slot slot stop }
 {
     match stop {
-        Stop::Fault(fault) => SlotError::Damaged {
+        CheckpointError::Fault(fault) => SlotError::Damaged {
             slot,
             at: fault.at as u64,
             kind: fault.kind,
         },
-        Stop::DiskFault => SlotError::DiskFault,
-        Stop::NoMemory => SlotError::NoMemory,
+        CheckpointError::DiskFault => SlotError::DiskFault,
+        CheckpointError::NoMemory => SlotError::NoMemory,
     }
 }

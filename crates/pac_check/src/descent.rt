@@ -7,11 +7,11 @@ ghost use Rattle.pac_types.specs.Typing.{IsWellFormedTable};
 ghost use Rattle.pac_check.specs.declared.damage.SlotFault.{SlotFault as AFault};
 ghost use Rattle.pac_check.specs.Checkpoints.{KeyedRow};
 ghost use Rattle.pac_check.specs.CheckpointReading.{next_checkpoint, next_rows, next_table};
-ghost use Rattle.pac_check.specs.PieceStates.{AreOf, HasFault, HasRead};
+ghost use Rattle.pac_check.specs.PieceStates.{AreOfImage, KnownFault, KnownRead};
 ghost use Rattle.pac_check.specs.Taking.{TookRows, TookTables};
 
 use crate::Head;
-use crate::damage::Stop;
+use crate::damage::CheckpointError;
 use crate::items::{head_from, keyed_row_from, number_from};
 use crate::pieces::Pieces;
 use crate::taker::Taker;
@@ -33,17 +33,17 @@ pub(crate) fn checkpoint_from<D: Disk, T: Taker>(
     pieces: &mut Pieces,
     disk: &mut D,
     taker: &mut T,
-) -> Result<Head, Stop>
+) -> Result<Head, CheckpointError>
     requires well_formed { All IsWellFormedTable tables.now }
     requires few { length tables.now < 2 ^ 16 }
     requires within { length tables.now ≤ T.tables taker.old }
-    requires of { IfKnown (λ old. AreOf old.now.seen pieces.old) (D.known disk.old) }
-    ensures read { IfOk result (λ head. (rows : List (List KeyedRow)) × TookTables (T.holds taker.old) (T.holds taker.new) tables.now (length tables.now) rows × IfKnown (λ old. HasRead old.now.seen pieces.old pieces.new (record { head = head; tables = rows }) (next_checkpoint tables.now)) (D.known disk.old)) }
-    ensures fault { (fault : AFault) → IsErrOf result (Stop.Fault fault) → IfKnown (λ old. HasFault old.now.seen pieces.old fault (next_checkpoint tables.now)) (D.known disk.old) }
+    requires of { IfKnown (λ old. AreOfImage old.now.seen pieces.old) (D.known disk.old) }
+    ensures read { IfOk result (λ head. (rows : List (List KeyedRow)) × TookTables (T.holds taker.old) (T.holds taker.new) tables.now (length tables.now) rows × KnownRead (D.known disk.old) pieces.old pieces.new (record { head = head; tables = rows }) (next_checkpoint tables.now)) }
+    ensures fault { (fault : AFault) → IsErrOf result (CheckpointError.Fault fault) → KnownFault (D.known disk.old) pieces.old fault (next_checkpoint tables.now) }
     ensures tables { T.tables taker.new ≡ T.tables taker.old }
     ensures same { D.known disk.new ≡ D.known disk.old }
-    ensures counted { IsErrOf result Stop.DiskFault → D.faults disk.new ≡ one_more (D.faults disk.old) }
-    ensures quiet { ¬ IsErrOf result Stop.DiskFault → D.faults disk.new ≡ D.faults disk.old }
+    ensures counted { IsErrOf result CheckpointError.DiskFault → D.faults disk.new ≡ one_more (D.faults disk.old) }
+    ensures quiet { ¬ IsErrOf result CheckpointError.DiskFault → D.faults disk.new ≡ D.faults disk.old }
 {
     let head = head_from(tables.len(), pieces, disk)?;
     tables_from(alloc, tables, pieces, disk, taker)?;
@@ -57,17 +57,17 @@ fn tables_from<D: Disk, T: Taker>(
     pieces: &mut Pieces,
     disk: &mut D,
     taker: &mut T,
-) -> Result<(), Stop>
+) -> Result<(), CheckpointError>
     requires well_formed { All IsWellFormedTable tables.now }
     requires few { length tables.now < 2 ^ 16 }
     requires within { length tables.now ≤ T.tables taker.old }
-    requires of { IfKnown (λ old. AreOf old.now.seen pieces.old) (D.known disk.old) }
-    ensures read { OnOk result ((rows : List (List KeyedRow)) × TookTables (T.holds taker.old) (T.holds taker.new) tables.now (length tables.now) rows × IfKnown (λ old. HasRead old.now.seen pieces.old pieces.new rows (along next_table tables.now)) (D.known disk.old)) }
-    ensures fault { (fault : AFault) → IsErrOf result (Stop.Fault fault) → IfKnown (λ old. HasFault old.now.seen pieces.old fault (along next_table tables.now)) (D.known disk.old) }
+    requires of { IfKnown (λ old. AreOfImage old.now.seen pieces.old) (D.known disk.old) }
+    ensures read { OnOk result ((rows : List (List KeyedRow)) × TookTables (T.holds taker.old) (T.holds taker.new) tables.now (length tables.now) rows × KnownRead (D.known disk.old) pieces.old pieces.new rows (along next_table tables.now)) }
+    ensures fault { (fault : AFault) → IsErrOf result (CheckpointError.Fault fault) → KnownFault (D.known disk.old) pieces.old fault (along next_table tables.now) }
     ensures tables { T.tables taker.new ≡ T.tables taker.old }
     ensures same { D.known disk.new ≡ D.known disk.old }
-    ensures counted { IsErrOf result Stop.DiskFault → D.faults disk.new ≡ one_more (D.faults disk.old) }
-    ensures quiet { ¬ IsErrOf result Stop.DiskFault → D.faults disk.new ≡ D.faults disk.old }
+    ensures counted { IsErrOf result CheckpointError.DiskFault → D.faults disk.new ≡ one_more (D.faults disk.old) }
+    ensures quiet { ¬ IsErrOf result CheckpointError.DiskFault → D.faults disk.new ≡ D.faults disk.old }
 {
     for (i, table) in tables.iter().enumerate() {
         table_from(alloc, table, i as u16, pieces, disk, taker)?;
@@ -84,16 +84,16 @@ fn table_from<D: Disk, T: Taker>(
     pieces: &mut Pieces,
     disk: &mut D,
     taker: &mut T,
-) -> Result<(), Stop>
+) -> Result<(), CheckpointError>
     requires well_formed { IsWellFormedTable table.now }
     requires within { number < T.tables taker.old }
-    requires of { IfKnown (λ old. AreOf old.now.seen pieces.old) (D.known disk.old) }
-    ensures read { OnOk result ((rows : List KeyedRow) × TookRows (T.holds taker.old) (T.holds taker.new) table.now number rows × IfKnown (λ old. HasRead old.now.seen pieces.old pieces.new rows (next_table table.now)) (D.known disk.old)) }
-    ensures fault { (fault : AFault) → IsErrOf result (Stop.Fault fault) → IfKnown (λ old. HasFault old.now.seen pieces.old fault (next_table table.now)) (D.known disk.old) }
+    requires of { IfKnown (λ old. AreOfImage old.now.seen pieces.old) (D.known disk.old) }
+    ensures read { OnOk result ((rows : List KeyedRow) × TookRows (T.holds taker.old) (T.holds taker.new) table.now number rows × KnownRead (D.known disk.old) pieces.old pieces.new rows (next_table table.now)) }
+    ensures fault { (fault : AFault) → IsErrOf result (CheckpointError.Fault fault) → KnownFault (D.known disk.old) pieces.old fault (next_table table.now) }
     ensures tables { T.tables taker.new ≡ T.tables taker.old }
     ensures same { D.known disk.new ≡ D.known disk.old }
-    ensures counted { IsErrOf result Stop.DiskFault → D.faults disk.new ≡ one_more (D.faults disk.old) }
-    ensures quiet { ¬ IsErrOf result Stop.DiskFault → D.faults disk.new ≡ D.faults disk.old }
+    ensures counted { IsErrOf result CheckpointError.DiskFault → D.faults disk.new ≡ one_more (D.faults disk.old) }
+    ensures quiet { ¬ IsErrOf result CheckpointError.DiskFault → D.faults disk.new ≡ D.faults disk.old }
 {
     let count = number_from(pieces, disk)?;
     rows_from(alloc, table, number, count, pieces, disk, taker)
@@ -108,16 +108,16 @@ fn rows_from<D: Disk, T: Taker>(
     pieces: &mut Pieces,
     disk: &mut D,
     taker: &mut T,
-) -> Result<(), Stop>
+) -> Result<(), CheckpointError>
     requires well_formed { IsWellFormedTable table.now }
     requires within { number < T.tables taker.old }
-    requires of { IfKnown (λ old. AreOf old.now.seen pieces.old) (D.known disk.old) }
-    ensures read { OnOk result ((rows : List KeyedRow) × TookRows (T.holds taker.old) (T.holds taker.new) table.now number rows × IfKnown (λ old. HasRead old.now.seen pieces.old pieces.new rows (next_rows table.now count NoKey)) (D.known disk.old)) }
-    ensures fault { (fault : AFault) → IsErrOf result (Stop.Fault fault) → IfKnown (λ old. HasFault old.now.seen pieces.old fault (next_rows table.now count NoKey)) (D.known disk.old) }
+    requires of { IfKnown (λ old. AreOfImage old.now.seen pieces.old) (D.known disk.old) }
+    ensures read { OnOk result ((rows : List KeyedRow) × TookRows (T.holds taker.old) (T.holds taker.new) table.now number rows × KnownRead (D.known disk.old) pieces.old pieces.new rows (next_rows table.now count NoKey)) }
+    ensures fault { (fault : AFault) → IsErrOf result (CheckpointError.Fault fault) → KnownFault (D.known disk.old) pieces.old fault (next_rows table.now count NoKey) }
     ensures tables { T.tables taker.new ≡ T.tables taker.old }
     ensures same { D.known disk.new ≡ D.known disk.old }
-    ensures counted { IsErrOf result Stop.DiskFault → D.faults disk.new ≡ one_more (D.faults disk.old) }
-    ensures quiet { ¬ IsErrOf result Stop.DiskFault → D.faults disk.new ≡ D.faults disk.old }
+    ensures counted { IsErrOf result CheckpointError.DiskFault → D.faults disk.new ≡ one_more (D.faults disk.old) }
+    ensures quiet { ¬ IsErrOf result CheckpointError.DiskFault → D.faults disk.new ≡ D.faults disk.old }
 {
     let mut before: Option<Key> = None;
     for _ in 0..count {

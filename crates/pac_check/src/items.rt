@@ -8,10 +8,10 @@ ghost use Rattle.pac_types.specs.Typing.{IsWellFormedTable};
 ghost use Rattle.pac_check.specs.declared.damage.SlotFault.{SlotFault as AFault};
 ghost use Rattle.pac_check.specs.Checkpoints.{IsRowAfter};
 ghost use Rattle.pac_check.specs.CheckpointReading.{next_head, next_row, slot_number};
-ghost use Rattle.pac_check.specs.PieceStates.{AreOf, HasFault, HasRead};
+ghost use Rattle.pac_check.specs.PieceStates.{AreOfImage, KnownFault, KnownRead};
 
 use crate::Head;
-use crate::damage::Stop;
+use crate::damage::CheckpointError;
 use crate::head::{head_at, number_at};
 use crate::pieces::Pieces;
 use crate::rows::keyed_row_at;
@@ -30,13 +30,13 @@ pub(crate) fn head_from<D: Disk>(
     tables: usize,
     pieces: &mut Pieces,
     disk: &mut D,
-) -> Result<Head, Stop>
-    requires { IfKnown (λ old. AreOf old.now.seen pieces.old) (D.known disk.old) }
-    ensures read { IfOk result (λ head. IfKnown (λ old. HasRead old.now.seen pieces.old pieces.new head (next_head tables)) (D.known disk.old)) }
-    ensures fault { (fault : AFault) → IsErrOf result (Stop.Fault fault) → IfKnown (λ old. HasFault old.now.seen pieces.old fault (next_head tables)) (D.known disk.old) }
+) -> Result<Head, CheckpointError>
+    requires { IfKnown (λ old. AreOfImage old.now.seen pieces.old) (D.known disk.old) }
+    ensures read { IfOk result (λ head. KnownRead (D.known disk.old) pieces.old pieces.new head (next_head tables)) }
+    ensures fault { (fault : AFault) → IsErrOf result (CheckpointError.Fault fault) → KnownFault (D.known disk.old) pieces.old fault (next_head tables) }
     ensures same { D.known disk.new ≡ D.known disk.old }
-    ensures counted { IsErrOf result Stop.DiskFault → D.faults disk.new ≡ one_more (D.faults disk.old) }
-    ensures quiet { ¬ IsErrOf result Stop.DiskFault → D.faults disk.new ≡ D.faults disk.old }
+    ensures counted { IsErrOf result CheckpointError.DiskFault → D.faults disk.new ≡ one_more (D.faults disk.old) }
+    ensures quiet { ¬ IsErrOf result CheckpointError.DiskFault → D.faults disk.new ≡ D.faults disk.old }
 {
     pieces.fill(disk)?;
     match head_at(tables, pieces.held(), 0) {
@@ -44,7 +44,7 @@ pub(crate) fn head_from<D: Disk>(
             pieces.pass(end);
             Ok(head)
         }
-        Err(fault) => Err(Stop::Fault(pieces.fault(fault))),
+        Err(fault) => Err(CheckpointError::Fault(pieces.fault(fault))),
     }
 }
 
@@ -53,13 +53,16 @@ pub(crate) fn head_from<D: Disk>(
 /// # Errors
 ///
 /// Those of [`number_at`], and of the device.
-pub(crate) fn number_from<D: Disk>(pieces: &mut Pieces, disk: &mut D) -> Result<u64, Stop>
-    requires { IfKnown (λ old. AreOf old.now.seen pieces.old) (D.known disk.old) }
-    ensures read { IfOk result (λ number. IfKnown (λ old. HasRead old.now.seen pieces.old pieces.new number (slot_number w64)) (D.known disk.old)) }
-    ensures fault { (fault : AFault) → IsErrOf result (Stop.Fault fault) → IfKnown (λ old. HasFault old.now.seen pieces.old fault (slot_number w64)) (D.known disk.old) }
+pub(crate) fn number_from<D: Disk>(
+    pieces: &mut Pieces,
+    disk: &mut D,
+) -> Result<u64, CheckpointError>
+    requires { IfKnown (λ old. AreOfImage old.now.seen pieces.old) (D.known disk.old) }
+    ensures read { IfOk result (λ number. KnownRead (D.known disk.old) pieces.old pieces.new number (slot_number w64)) }
+    ensures fault { (fault : AFault) → IsErrOf result (CheckpointError.Fault fault) → KnownFault (D.known disk.old) pieces.old fault (slot_number w64) }
     ensures same { D.known disk.new ≡ D.known disk.old }
-    ensures counted { IsErrOf result Stop.DiskFault → D.faults disk.new ≡ one_more (D.faults disk.old) }
-    ensures quiet { ¬ IsErrOf result Stop.DiskFault → D.faults disk.new ≡ D.faults disk.old }
+    ensures counted { IsErrOf result CheckpointError.DiskFault → D.faults disk.new ≡ one_more (D.faults disk.old) }
+    ensures quiet { ¬ IsErrOf result CheckpointError.DiskFault → D.faults disk.new ≡ D.faults disk.old }
 {
     pieces.fill(disk)?;
     match number_at(pieces.held(), 0) {
@@ -67,7 +70,7 @@ pub(crate) fn number_from<D: Disk>(pieces: &mut Pieces, disk: &mut D) -> Result<
             pieces.pass(end);
             Ok(number)
         }
-        Err(fault) => Err(Stop::Fault(pieces.fault(fault))),
+        Err(fault) => Err(CheckpointError::Fault(pieces.fault(fault))),
     }
 }
 
@@ -82,15 +85,15 @@ pub(crate) fn keyed_row_from<D: Disk>(
     before: Option<&Key>,
     pieces: &mut Pieces,
     disk: &mut D,
-) -> Result<(Key, Row), Stop>
+) -> Result<(Key, Row), CheckpointError>
     requires well_formed { IsWellFormedTable table.now }
-    requires of { IfKnown (λ old. AreOf old.now.seen pieces.old) (D.known disk.old) }
+    requires of { IfKnown (λ old. AreOfImage old.now.seen pieces.old) (D.known disk.old) }
     ensures row { IfOk result (λ row. IsRowAfter table.now (option_map (λ key. key.now) before.entry) (row.0, row.1)) }
-    ensures read { IfOk result (λ row. IfKnown (λ old. HasRead old.now.seen pieces.old pieces.new (row.0, row.1) (next_row table.now (option_map (λ key. key.now) before.entry))) (D.known disk.old)) }
-    ensures fault { (fault : AFault) → IsErrOf result (Stop.Fault fault) → IfKnown (λ old. HasFault old.now.seen pieces.old fault (next_row table.now (option_map (λ key. key.now) before.entry))) (D.known disk.old) }
+    ensures read { IfOk result (λ row. KnownRead (D.known disk.old) pieces.old pieces.new (row.0, row.1) (next_row table.now (option_map (λ key. key.now) before.entry))) }
+    ensures fault { (fault : AFault) → IsErrOf result (CheckpointError.Fault fault) → KnownFault (D.known disk.old) pieces.old fault (next_row table.now (option_map (λ key. key.now) before.entry)) }
     ensures same { D.known disk.new ≡ D.known disk.old }
-    ensures counted { IsErrOf result Stop.DiskFault → D.faults disk.new ≡ one_more (D.faults disk.old) }
-    ensures quiet { ¬ IsErrOf result Stop.DiskFault → D.faults disk.new ≡ D.faults disk.old }
+    ensures counted { IsErrOf result CheckpointError.DiskFault → D.faults disk.new ≡ one_more (D.faults disk.old) }
+    ensures quiet { ¬ IsErrOf result CheckpointError.DiskFault → D.faults disk.new ≡ D.faults disk.old }
 {
     pieces.fill(disk)?;
     match keyed_row_at(alloc, table, before, pieces.held(), 0) {
@@ -98,7 +101,7 @@ pub(crate) fn keyed_row_from<D: Disk>(
             pieces.pass(end);
             Ok(row)
         }
-        Err(Refusal::Fault(fault)) => Err(Stop::Fault(pieces.fault(fault))),
-        Err(Refusal::NoMemory) => Err(Stop::NoMemory),
+        Err(Refusal::Fault(fault)) => Err(CheckpointError::Fault(pieces.fault(fault))),
+        Err(Refusal::NoMemory) => Err(CheckpointError::NoMemory),
     }
 }

@@ -3,7 +3,7 @@ ghost use Rattle.std.specs.Prelude.{◌≡◌, ◌≤◌, ◌+◌, drop, length,
 ghost use Rattle.pac_outside.specs.Causes.{EndsAtFault, one_more};
 ghost use Rattle.pac_outside.specs.Disk.{IfKnown};
 ghost use Rattle.pac_check.specs.Kinds.{slot_fault};
-ghost use Rattle.pac_check.specs.PieceStates.{AreOf, HasItem, PiecesState};
+ghost use Rattle.pac_check.specs.PieceStates.{AreOfImage, HasItem, PiecesState};
 
 use crate::SlotFault;
 use crate::damage::fault_at;
@@ -50,7 +50,7 @@ impl Pieces {
     /// The bytes of a device from an offset on. It asks the device for its length alone, and takes no memory.
     pub fn open<D: Disk>(alloc: Global, disk: &mut D, place: u64) -> Result<Pieces, Failed>
         ensures place { IfOk result (λ pieces. pieces.place ≡ place) }
-        ensures of { IfOk result (λ pieces. IfKnown (λ old. AreOf old.now.seen pieces) (D.known disk.old)) }
+        ensures of { IfOk result (λ pieces. IfKnown (λ old. AreOfImage old.now.seen pieces) (D.known disk.old)) }
         ensures same { D.known disk.new ≡ D.known disk.old }
         ensures counted { EndsAtFault (D.faults disk.old) (D.faults disk.new) result }
     {
@@ -70,8 +70,8 @@ impl Pieces {
     ///
     /// Those of [`read_more`].
     pub fn fill<D: Disk>(&mut self, disk: &mut D) -> Result<(), ReadError>
-        requires { IfKnown (λ old. AreOf old.now.seen self.old) (D.known disk.old) }
-        ensures filled { OnOk result (IfKnown (λ old. AreOf old.now.seen self.new × HasItem self.new) (D.known disk.old)) }
+        requires { IfKnown (λ old. AreOfImage old.now.seen self.old) (D.known disk.old) }
+        ensures filled { OnOk result (IfKnown (λ old. AreOfImage old.now.seen self.new × HasItem self.new) (D.known disk.old)) }
         ensures place { self.new.place ≡ self.old.place }
         ensures same { D.known disk.new ≡ D.known disk.old }
         ensures counted { IsErrOf result ReadError.Failed → D.faults disk.new ≡ one_more (D.faults disk.old) }

@@ -17,16 +17,17 @@ ghost use Rattle.pac_check.specs.Checkpoints.{IsCheckpoint, RowHasBytes, checkpo
 ghost use Rattle.pac_check.specs.Saved.{checkpoint_of, table_rows, rows_of_tables};
 
 use crate::head::{HEAD_LEN, put_head};
+use crate::limits::ITEM_LEN;
 use crate::{Head, MAX_SAVED_ROWS, MAX_SLOT_LEN, SaveError};
 use pac_base::NoMemory;
-use pac_bytes::{MAX_VALUE_LEN, key_len, put_key, put_u64, put_value, value_len};
+use pac_bytes::{key_len, put_key, put_u64, put_value, value_len};
 use pac_tables::Rows;
 use pac_types::Catalogue;
-use pac_value::{Key, MAX_COLUMNS, Row};
+use pac_value::{Key, Row};
 use std::alloc::Global;
 
 // The most bytes of a row with its key, and of a table.
-const MAX_ROW_LEN: u64 = (1 + MAX_COLUMNS as u64) * MAX_VALUE_LEN as u64;
+const MAX_ROW_LEN: u64 = ITEM_LEN as u64;
 
 const MAX_TABLE_LEN: u64 = 8 + MAX_SAVED_ROWS * MAX_ROW_LEN;
 

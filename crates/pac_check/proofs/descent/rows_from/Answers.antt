@@ -5,7 +5,7 @@ use Rattle.pac_outside.specs.Disk.{IfKnown}
 use Rattle.pac_value.specs.declared.values.Key.{Key}
 use Rattle.pac_check.specs.Checkpoints.{IsRowAfter}
 use Rattle.pac_check.specs.CheckpointReading.{next_row}
-use Rattle.pac_check.specs.PieceStates.{HasFault, HasRead}
+use Rattle.pac_check.specs.PieceStates.{HasFault, WasRead}
 use Rattle.pac_check.proofs.RowsLemmas.{AreUpTo}
 use Rattle.pac_check.proofs.LoadingLemmas.{RowsSoFar, took-none, took-on, up-to-on, rows-read-none, rows-read-on, rows-read-fail, rows-read-done}
 use Rattle.pac_check.proofs.PieceLemmas.{stop_again}
@@ -38,8 +38,8 @@ loop-preserved g c =
     let known = g.D.Disk.known c.args.disk.now in
     let next = c.keyed_row_from.new.pieces in
     let form = subst (λ (before : Option Key). IsRowAfter table before (key, row)) c.as_ref.ensures.value c.in_ok-key.ensures.row in
-    let read = subst (λ k. IfKnown (λ h. HasRead h.now.seen c.loop.pieces next (key, row) (next_row table c.loop.before)) k) c.loop.invariant.same
-    (subst (λ (before : Option Key). IfKnown (λ h. HasRead h.now.seen c.loop.pieces next (key, row) (next_row table before)) (g.D.Disk.known c.loop.disk)) c.as_ref.ensures.value c.in_ok-key.ensures.read) in
+    let read = subst (λ k. IfKnown (λ h. WasRead h.now.seen c.loop.pieces next (key, row) (next_row table c.loop.before)) k) c.loop.invariant.same
+    (subst (λ (before : Option Key). IfKnown (λ h. WasRead h.now.seen c.loop.pieces next (key, row) (next_row table before)) (g.D.Disk.known c.loop.disk)) c.as_ref.ensures.value c.in_ok-key.ensures.read) in
     record {
       same = c.keyed_row_from.ensures.same ∙ c.loop.invariant.same;
       quiet = c.in_ok-key.ensures.quiet (λ e. cc) ∙ c.loop.invariant.quiet;

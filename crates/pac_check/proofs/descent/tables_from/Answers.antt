@@ -4,7 +4,7 @@ use Rattle.std.proofs.lemmas.Result.{err_from_is_err_and}
 use Rattle.pac_outside.specs.Disk.{IfKnown}
 use Rattle.pac_bytes.proofs.Loops.{next_key}
 use Rattle.pac_check.specs.CheckpointReading.{next_table}
-use Rattle.pac_check.specs.PieceStates.{HasFault, HasRead}
+use Rattle.pac_check.specs.PieceStates.{HasFault, WasRead}
 use Rattle.pac_check.specs.Taking.{TookTables}
 use Rattle.pac_check.proofs.LoadingLemmas.{at-place, tables-took-none, tables-took-on, tables-read-none, tables-read-on, tables-read-fail, tables-read-done}
 use Rattle.pac_check.proofs.descent.tables_from.Goals as goal
@@ -35,7 +35,7 @@ loop-i-preserved g c =
     let known = g.D.Disk.known c.args.disk.now in
     let more = c.in_ok-table_from.ensures.read in
     let next = rw (← c.index-tables-i.is) at (next_key tables i table c.loop-i-test.true) in
-    let read = subst (λ k. IfKnown (λ h. HasRead h.now.seen c.loop-i.pieces c.table_from.new.pieces more.0 (next_table table)) k) c.loop-i.invariant.same more.2 in
+    let read = subst (λ k. IfKnown (λ h. WasRead h.now.seen c.loop-i.pieces c.table_from.new.pieces more.0 (next_table table)) k) c.loop-i.invariant.same more.2 in
     record {
       same = c.table_from.ensures.same ∙ c.loop-i.invariant.same;
       quiet = c.in_ok-table_from.ensures.quiet (λ e. cc) ∙ c.loop-i.invariant.quiet;

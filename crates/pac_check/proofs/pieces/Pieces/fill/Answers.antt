@@ -1,7 +1,7 @@
 -- What is read stands after what was held.
 use Rattle.std.proofs.Common.{◌≡◌, ◌+◌, ◌-◌, ◌++◌, ℕ, List, OnOk, length, take, drop, sym, ap, subst, arith, length-drop}
 use Rattle.pac_outside.specs.Disk.{IfKnown}
-use Rattle.pac_check.specs.PieceStates.{PiecesState, AreOf}
+use Rattle.pac_check.specs.PieceStates.{PiecesState, AreOfImage}
 use Rattle.pac_check.proofs.PieceLemmas.{filled_known}
 use Rattle.pac_check.proofs.pieces.Pieces.fill.Goals as goal
 
@@ -17,7 +17,7 @@ returns-clause-filled g c =
     let end = p.base + c.len-2.result in
     let count = c.min-count.result in
     let known = g.D.Disk.known c.args.disk.now in
-    let of = subst (λ (q : PiecesState). IfKnown (λ h. AreOf h.now.seen q) known) (sym c.self.view_is) c.requires in
+    let of = subst (λ (q : PiecesState). IfKnown (λ h. AreOfImage h.now.seen q) known) (sym c.self.view_is) c.requires in
     let long : length old.bytes ≡ held = omega (arith, length-drop p.passed p.buffer.items, c.len.ensures, p.buffer.ok) in
     let ends : end ≡ old.place + held = omega (arith, c.len.ensures, c.len-2.ensures, c.self.invariant.0) in
     let read = subst (λ (l : List ℕ). OnOk c.read_more.result (IfKnown (λ h. new ≡ l ++ take count (drop end h.now.seen)) known)) c.forget_front.ensures c.read_more.ensures.bytes in
