@@ -10,20 +10,15 @@ use Rattle.pac_value.specs.State.{Tables}
 use Rattle.pac_types.specs.declared.table.Table.{Table}
 use Rattle.pac_bytes.specs.Reading.{Rest, from}
 use Rattle.pac_bytes.proofs.Bytes.{IsBytes, IsBytes-drop}
-use Rattle.pac_check.specs.declared.damage.SlotDamageKind.{SlotDamageKind}
 use Rattle.pac_check.specs.declared.damage.SlotFault.{SlotFault}
-use Rattle.pac_check.specs.declared.damage.CheckpointError.{CheckpointError}
-use Rattle.pac_check.specs.declared.damage.CheckpointError.TheVariants.{Fault as AFault, DiskFault, NoMemory}
-use Rattle.pac_check.specs.declared.errors.SlotError.TheVariants.{Damaged}
 use Rattle.pac_check.specs.declared.head.Head.{Head}
 use Rattle.pac_check.specs.declared.info.SlotName.{SlotName}
 use Rattle.pac_check.specs.declared.info.SlotName.TheVariants.{A, B}
 use Rattle.pac_check.specs.declared.state.SlotState.{SlotState}
 use Rattle.pac_check.specs.declared.state.SlotState.TheVariants.{Empty, Closed, Open}
-use Rattle.pac_check.specs.Kinds.{slot_fault, in_slot}
 use Rattle.pac_check.specs.Checkpoints.{Checkpoint, KeyedRow, IsCheckpoint, checkpoint_bytes}
 use Rattle.pac_check.specs.CheckpointReading.{next_checkpoint, head_alone}
-use Rattle.pac_check.specs.PieceStates.{PiecesState, HasFault, WasRead}
+use Rattle.pac_check.specs.PieceStates.{PiecesState, WasRead}
 use Rattle.pac_check.specs.Replacing.{BeginsAs, IsOldShutOrNew, IsReplaced}
 use Rattle.pac_check.specs.SlotStates.{by_slot, opened, slot_read, IsSlot, HoldsCheckpoint, HoldsRows, OpensExactly}
 use Rattle.pac_check.specs.Saved.{checkpoint_of, rows_of_tables}
@@ -129,37 +124,6 @@ module _ (tables : List Table) (few : length tables < 65536) where
     where
       one : (a b : Checkpoint × Rest) → ◌≡◌ {A = Read} (Ok a) (Ok b) → a.0 ≡ b.0
       one a b e = cc
-
-pub scan_fault_known : (tables : List Table) (known : Option DiskHistory) (old : PiecesState) (fault : SlotFault) → old.place ≡ 1 → IfKnown (λ h. take 1 h.now.seen ≡ 1 ∷ []) known → IfKnown (λ h. HasFault h.now.seen old fault (next_checkpoint tables)) known → IfKnown (λ h. slot_read tables h.now.seen ≡ Err fault) known
-scan_fault_known tables None old fault first gate fails = tt
-scan_fault_known tables (Some h) old fault first gate fails = slot_opened tables h.now.seen gate old.place first (Err fault) fails
-
-pub load_fault_known : (tables : List Table) (known : Option DiskHistory) (old : PiecesState) (fault : SlotFault) → old.place ≡ 1 → IfKnown (λ h. HasFault h.now.seen old fault (next_checkpoint tables)) known → IfKnown (λ h. (head : Head) → ¬ IsSlot tables (Open head) h.now.seen) known
-load_fault_known tables None old fault first fails = tt
-load_fault_known tables (Some h) old fault first fails = λ head slot.
-    let there = open_read tables head h.now.seen slot in
-    none there.0 (sym there.1 ∙ ap (λ (n : ℕ). next_checkpoint tables (from h.now.seen n)) (sym first) ∙ fails)
-  where
-    none : (p : Checkpoint × Rest) → ◌≡◌ {A = Read} (Ok p) (Err fault) → ⊥
-    none p e = cc
-
--- damage of a slot comes from a fault alone
-pub damage_of : (slot : SlotName) (stop : CheckpointError) (P : SlotFault → Type 0) → ((fault : SlotFault) → stop ≡ AFault fault → P fault) → (name : SlotName) (at : ℕ) (kind : SlotDamageKind) → in_slot slot stop ≡ Damaged name at kind → (name ≡ slot) × P (slot_fault kind at)
-damage_of slot (AFault fault) P there name at kind e = (same_name e, subst P (same_fault fault e) (there fault refl))
-  where
-    same_name : Damaged slot fault.at fault.kind ≡ Damaged name at kind → name ≡ slot
-    same_name h = cc
-
-    same_fault : (f : SlotFault) → Damaged slot f.at f.kind ≡ Damaged name at kind → f ≡ slot_fault kind at
-    same_fault f h = ap₂ (λ (n : ℕ) (k : SlotDamageKind). slot_fault k n) (places f h) (kinds f h)
-      where
-        places : (f : SlotFault) → Damaged slot f.at f.kind ≡ Damaged name at kind → f.at ≡ at
-        places f h = cc
-
-        kinds : (f : SlotFault) → Damaged slot f.at f.kind ≡ Damaged name at kind → f.kind ≡ kind
-        kinds f h = cc
-damage_of slot DiskFault P there name at kind e = absurd cc
-damage_of slot NoMemory P there name at kind e = absurd cc
 
 -- one image that begins as this slot does
 begins_one : (tables : List Table) (state : SlotState) (disk : DiskState) → OneImage (IsSlot tables state) disk → OneImage (BeginsAs state) disk

@@ -21,7 +21,8 @@
 //! A slot is a gate byte and, where that is 1, a checkpoint: the name `PACMSLT1`; the number of transactions and the
 //! offset of the log's gate byte after these, eight bytes each; the number of tables in two bytes; and for each table
 //! the number of its rows in eight bytes, and the rows by ascending keys, each its key and the values of its columns.
-//! Bytes after that are not looked at. A slot without a byte is closed.
+//! Bytes after that are not looked at. A slot without a byte is closed. An open one is read in pieces, each byte once: none
+//! is held whole.
 //!
 //! At each moment of a save, after an error too, the other slot is as it was, and this one is as it was, closed, or has
 //! the whole checkpoint (`any_moment`, `other`); of a device without a byte nothing is said. `TooLarge` comes exactly
