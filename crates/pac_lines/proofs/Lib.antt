@@ -2,3 +2,5 @@ pub mod CallLemmas
 pub mod LimitLemmas
 pub mod LineLemmas
 pub mod ReadLemmas
+pub mod ShortLemmas
+pub mod ShortCalls

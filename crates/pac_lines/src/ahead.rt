@@ -1,5 +1,5 @@
 // The bytes that were taken from a source and not handed out.
-ghost use Rattle.std.specs.Prelude.{◌≡◌, ◌≤◌, ◌<◌, [], length, IfOk, IfSome, IsErrOf, IsTrue, IsFalse, MatchResult, nat_eq, nat_lt, position};
+ghost use Rattle.std.specs.Prelude.{◌≡◌, ◌≤◌, ◌<◌, [], length, IfOk, IfSome, IsErrOf, IsTrue, IsFalse, MatchResult, nat_eq, nat_lt, position, take};
 ghost use Rattle.pac_outside.specs.Causes.{Faulted};
 ghost use Rattle.pac_outside.specs.Content.{IsAtEnd};
 ghost use Rattle.pac_value.specs.Ascii.{line_feed};
@@ -130,6 +130,18 @@ impl Ahead {
         self.next = self.buffer.len();
         self.searched = 0;
         self.len > 0
+    }
+
+    /// Keeps at most that many bytes ahead, which have no line feed. The line is forgotten.
+    pub fn keep(&mut self, most: usize)
+        requires { HasNoFeed self.old.bytes }
+        ensures { self.new ≡ record { line = []; bytes = take most self.old.bytes } }
+    {
+        let count = (self.buffer.len() - self.next).min(most);
+        self.line = 0;
+        self.len = 0;
+        self.buffer.truncate(self.next + count);
+        self.searched = count;
     }
 
     // Moves the bytes ahead to the start of the buffer, if they don't stand there, and forgets the line.

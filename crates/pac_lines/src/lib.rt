@@ -6,7 +6,7 @@
 //! ```
 //! use pac_lines::LineReader;
 //!
-//! let mut reader = LineReader::new(alloc, 1_024);
+//! let mut reader = LineReader::new(alloc, 1_024, 80);
 //! while reader.next_line(source)? {
 //!     let line = reader.line(); // without its line feed
 //! }
@@ -14,10 +14,12 @@
 //!
 //! - [`LineReader::next_line`] goes to the next line, which [`LineReader::line`] returns; false is the end of the
 //!   source. It reads only while no whole line is buffered, so a terminal is answered line by line. It copies no line.
+//! - Of a line that is longer than `most` bytes, the second number, it hands out the first `most` + 1, and it doesn't hold the
+//!   others: it does what a reader does that leaves nothing out (`call`, `specs/Short.antt`).
 //! - A reader takes at most `limit` bytes and one more. If the source gives that one, and no whole line before it is
 //!   left, the result is [`LineError::TooLong`]: exactly then (`limit`, `over`).
-//! - No error loses a byte: the buffered bytes and then what is left of the source are what they were
-//!   ([`no_byte_is_lost`]).
+//! - No error loses a byte but those of a line that is longer: for a reader that leaves nothing out, the buffered bytes and
+//!   then what is left of the source are what they were ([`no_byte_is_lost`]).
 //! - [`calls_hand_out_lines`]: calls one after another return the lines of the source in order, and then its end.
 //!
 //! `specs/Lines.antt` says what the lines of a text are ([`each_text_has_its_lines`], [`lines_come_in_turn`]), and
