@@ -9,5 +9,6 @@ pub mod PlainLemmas
 pub mod ReadLemmas
 pub mod RunLemmas
 pub mod ServeLemmas
+pub mod ShortLines
 pub mod StepLemmas
 pub mod StopLemmas

@@ -7,6 +7,7 @@ use Rattle.pac_outside.specs.Disk.{DiskHistory}
 use Rattle.pac_outside.specs.declared.devices.Devices.{Devices}
 use Rattle.pac_lines.specs.Calls.{IsCall, KeepsLimit}
 use Rattle.pac_lines.specs.Reading.{ReaderState}
+use Rattle.pac_lines.specs.Short.{IsShortOf, ShortState}
 use Rattle.pac_lines.specs.declared.line_error.LineError.{LineError}
 use Rattle.pac_types.specs.Typing.{CatalogueState}
 use Rattle.pac_request.specs.declared.request.Request.{Request}
@@ -24,7 +25,8 @@ use Rattle.pac_run.specs.Causes.{stop_of_read}
 use Rattle.pac_run.specs.Serving.{Broke, HasRead, LineBroke, LineServed, Replied, Served, Serving}
 use Rattle.pac_run.proofs.AnswerLemmas.{nothing-stands}
 use Rattle.pac_run.proofs.LoopLemmas.{end-broke, end-served, line-broke, line-stopped, read-stopped}
-use Rattle.pac_run.proofs.ReadLemmas.{falls, first-read, more-read}
+use Rattle.pac_run.proofs.ReadLemmas.{first-read, more-read}
+use Rattle.pac_run.proofs.ShortLines.{broke_whole, cut_line, served_whole, short_falls}
 use Rattle.pac_run.proofs.ServeLemmas.{serving-more, still-served, took-nothing}
 use Rattle.pac_run.proofs.StepLemmas.{goes-first}
 
@@ -53,7 +55,7 @@ module _ (first now : EngineParts) (left mid left' : Option (List ℕ)) (reader 
       end-broke first now left mid reader held held' known known' serving left' next faulted held'' known'' new (subst (λ (t : Bool). IsCall reader next mid left' (Ok t)) is call) (subst (λ (t : Bool). KeepsLimit next (Ok t)) is keeps)
       faulted' stop later (subst (λ (c : CatalogueState). Broke c request.Stop now new held' held'' known' known'' faulted' stop) same (err stop refl))
 
-  module _ (b : Bool) (is : b ≡ true) (call : IsCall reader next mid left' (Ok b)) (keeps : KeepsLimit next (Ok b)) (text : List ℕ) (line : text ≡ next.line) where
+  module _ (b : Bool) (is : b ≡ true) (call : IsCall reader next mid left' (Ok b)) (keeps : KeepsLimit next (Ok b)) (text : List ℕ) (line : text ≡ cut_line next.line) where
     call-is : IsCall reader next mid left' (Ok true)
     call-is = subst (λ (t : Bool). IsCall reader next mid left' (Ok t)) is call
 
@@ -63,10 +65,12 @@ module _ (first now : EngineParts) (left mid left' : Option (List ℕ)) (reader 
     pub broke-any : (faulted faulted' : Type 0) → (faulted' → faulted) → (result : Result (Unit {0}) RunStop) (stop : RunStop) → result ≡ Err stop → LineBroke catalogue text now new held' held'' known' known'' faulted' stop → Served first new left left' held held'' known known'' faulted result
     broke-any faulted faulted' later result stop gives broke = subst (λ (r : Result (Unit {0}) RunStop). Served first new left left' held held'' known known'' faulted r) (sym gives)
         (line-broke first now left mid reader held held' known known' serving left' next faulted held'' known'' new call-is keeps-is faulted' stop later
-        (subst (λ (l : List ℕ). LineBroke first.session.catalogue l now new held' held'' known' known'' faulted' stop) line (subst (λ (c : CatalogueState). LineBroke c text now new held' held'' known' known'' faulted' stop) same broke)))
+        (broke_whole first.session.catalogue next.line now new held' held'' known' known'' faulted' stop
+        (subst (λ (l : List ℕ). LineBroke first.session.catalogue l now new held' held'' known' known'' faulted' stop) line (subst (λ (c : CatalogueState). LineBroke c text now new held' held'' known' known'' faulted' stop) same broke))))
 
     line-is : (stops : Bool) → LineServed catalogue text stops now new held' held'' known' known'' → LineServed first.session.catalogue next.line stops now new held' held'' known' known''
-    line-is stops served = subst (λ (l : List ℕ). LineServed first.session.catalogue l stops now new held' held'' known' known'') line (subst (λ (c : CatalogueState). LineServed c text stops now new held' held'' known' known'') same served)
+    line-is stops served = served_whole first.session.catalogue next.line stops now new held' held'' known' known''
+        (subst (λ (l : List ℕ). LineServed first.session.catalogue l stops now new held' held'' known' known'') line (subst (λ (c : CatalogueState). LineServed c text stops now new held' held'' known' known'') same served))
 
     pub stopped-any : (faulted : Type 0) (stops : Bool) → stops ≡ true → LineServed catalogue text stops now new held' held'' known' known'' → Served first new left left' held held'' known known'' faulted (Ok tt)
     stopped-any faulted stops stopping served = line-stopped first now left mid reader held held' known known' serving left' next faulted held'' known'' new call-is keeps-is
@@ -76,10 +80,11 @@ module _ (first now : EngineParts) (left mid left' : Option (List ℕ)) (reader 
     more-any stops going served = serving-more first now left mid reader held held' known known' serving left' held'' known'' next new call-is keeps-is
         (subst (λ (t : Bool). LineServed first.session.catalogue next.line t now new held' held'' known' known'') going (line-is stops served))
 
-    pub falls-any : length next.ahead + next.limit - next.taken < length reader.ahead + reader.limit - reader.taken
-    falls-any =
+    pub falls-any : (held now' : ShortState) → IsShortOf reader held → IsShortOf next now' → length now'.state.ahead + now'.state.limit - now'.state.taken < length held.state.ahead + held.state.limit - held.state.taken
+    falls-any held now' short after =
         let read = more-read left mid left' reader next serving.lines serving.read call-is keeps-is in
-        omega (arith, falls left mid left' reader next serving.lines serving.read call-is, read.within, read.limit, serving.read.within, serving.read.limit)
+        let less = short_falls reader next held now' mid left' short call-is after in
+        omega (arith, less, read.within, read.limit, serving.read.within, serving.read.limit, short.taken, short.limit, after.taken, after.limit)
 
 -- the catalogue stays the same
 pub catalogue-stays : (catalogue : CatalogueState) (old new : EngineParts) (text : List ℕ) (stops : Bool) (c : CatalogueState) (held held' : Option (List ℕ)) (known known' : Devices (Option DiskHistory)) → catalogue ≡ old.session.catalogue → LineServed c text stops old new held held' known known' → catalogue ≡ new.session.catalogue

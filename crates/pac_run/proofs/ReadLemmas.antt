@@ -37,7 +37,7 @@ lines-ask catalogue (l ∷ lines) text requests asked before one =
 -- ---- what is ahead of a line
 
 -- bytes without a line feed reach no further than the line
-feed-behind : (front last back rest : List ℕ) → HasNoFeed front → front ++ back ≡ last ++ 10 ∷ rest → length front ≤ length last
+pub feed-behind : (front last back rest : List ℕ) → HasNoFeed front → front ++ back ≡ last ++ 10 ∷ rest → length front ≤ length last
 feed-behind [] last back rest none same = omega arith
 feed-behind (b ∷ front) [] back rest none same = absurd (no (subst (λ (n : ℕ). has_feed (n ∷ front) ≡ false) (first same) none))
   where
@@ -146,18 +146,3 @@ module _ (left mid left' : Option (List ℕ)) (before now : ReaderState) (lines 
           ended : HandsOut handed.0 (now.line ∷ []) (lines_of_text handed.0 before now mid left' (now.line ∷ []) (now, left', call, refl, (refl, refl)) handed.1).0
               → IsEndedLine handed.0 now.line (lines_of_text handed.0 before now mid left' (now.line ∷ []) (now, left', call, refl, (refl, refl)) handed.1).0 ⊎ IsLastLine handed.0 now.line (lines_of_text handed.0 before now mid left' (now.line ∷ []) (now, left', call, refl, (refl, refl)) handed.1).0
           ended is = subst (λ (t : List ℕ). IsEndedLine handed.0 now.line t ⊎ IsLastLine handed.0 now.line t) is.2 is.1
-
-  -- each line takes a byte at least
-  pub falls : (call : IsCall before now mid left' (Ok true)) → length now.ahead + before.taken < length before.ahead + now.taken
-  falls call = by call.answer
-    where
-      all : length (before.ahead ++ call.given) ≡ length before.ahead + length call.given
-      all = length-append before.ahead call.given
-
-      some : (xs : List ℕ) → (xs ≡ [] → ⊥) → 0 < length xs
-      some [] not = absurd (not refl)
-      some (x ∷ xs) not = omega arith
-
-      by : IsEndedLine (before.ahead ++ call.given) now.line now.ahead ⊎ (IsLastLine (before.ahead ++ call.given) now.line now.ahead × IsAtEnd left') → length now.ahead + before.taken < length before.ahead + now.taken
-      by (inl ended) = omega (arith, all, ap (λ (t : List ℕ). length t) ended.split, length-append now.line (10 ∷ now.ahead), call.counted)
-      by (inr last) = omega (arith, all, ap (λ (t : List ℕ). length t) last.0.all, ap (λ (t : List ℕ). length t) last.0.end, some now.line last.0.some, call.counted)

@@ -21,7 +21,7 @@ use pac_base::{Exact, NoMemory, Refusal};
 use pac_engine::{Engine, EngineCause, EngineFault};
 use pac_lines::LineReader;
 use pac_outside::{Devices, Disk, Sink, Source, write_all};
-use pac_request::{Request, read_line};
+use pac_request::{MAX_LINE, Request, read_line};
 use pac_types::Catalogue;
 use std::alloc::Global;
 
@@ -196,7 +196,7 @@ fn serve_lines<I: Source, O: Sink, D: Disk>(
     ensures disk_fault { IsErrOf result RunStop.DiskFault → OneFaulted (each D.faults devices.old) (each D.faults devices.new) }
     ensures quiet { ¬ IsErrOf result RunStop.DiskFault → each D.faults devices.new ≡ each D.faults devices.old }
 {
-    let mut reader = LineReader::new(alloc, MAX_INPUT);
+    let mut reader = LineReader::new(alloc, MAX_INPUT, MAX_LINE as u32);
     loop {
         match reader.next_line(input) {
             Ok(true) => {}
@@ -213,7 +213,8 @@ fn serve_lines<I: Source, O: Sink, D: Disk>(
 }
 
 /// Serves the request lines of the input, up to a stop or to the end, which is a stop too. A line that asks nothing is
-/// skipped, and one that is refused is answered so. What the replies of a closed group say is written at once.
+/// skipped, and one that is refused is answered so. What the replies of a closed group say is written at once. Of a line that is
+/// too long no more is held than tells that it is.
 ///
 /// # Errors
 ///

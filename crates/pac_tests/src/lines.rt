@@ -32,13 +32,14 @@ const FAILED: Answer = Err(LineError::Failed);
 
 const TOO_LONG: Answer = Err(LineError::TooLong);
 
-// A text, the limit, the read that fails, and what the calls answer.
-type Row = (&'static [u8], u32, u64, &'static [Answer]);
+// A text, the limit, the most bytes of a line, the read that fails, and what the calls answer.
+type Row = (&'static [u8], u32, u32, u64, &'static [Answer]);
 
 const ROWS: &[Row] = &[
-    (b"", 0, 0, &[END, END]),
+    (b"", 0, 9, 0, &[END, END]),
     (
         b"a\r\n\nb",
+        9,
         9,
         0,
         &[Ok(Some(b"a\r")), Ok(Some(b"")), Ok(Some(b"b")), END],
@@ -47,11 +48,13 @@ const ROWS: &[Row] = &[
     (
         b"ab\ncd",
         9,
+        9,
         4,
         &[Ok(Some(b"ab")), FAILED, Ok(Some(b"cd")), END],
     ),
     (
         b"ab\ncd\n",
+        9,
         9,
         5,
         &[Ok(Some(b"ab")), FAILED, Ok(Some(b"cd")), END],
@@ -59,6 +62,7 @@ const ROWS: &[Row] = &[
     (
         b"ab\ncd",
         5,
+        9,
         6,
         &[Ok(Some(b"ab")), FAILED, Ok(Some(b"cd")), END],
     ),
@@ -66,10 +70,39 @@ const ROWS: &[Row] = &[
     (
         b"ab\ncd\ne",
         6,
+        9,
         0,
         &[Ok(Some(b"ab")), Ok(Some(b"cd")), TOO_LONG, TOO_LONG],
     ),
-    (b"ab\ncd\ne", 5, 0, &[Ok(Some(b"ab")), TOO_LONG, TOO_LONG]),
+    (
+        b"ab\ncd\ne",
+        5,
+        9,
+        0,
+        &[Ok(Some(b"ab")), TOO_LONG, TOO_LONG],
+    ),
+    // A line that is longer than the most is handed out up to a byte more, whether it ends or not.
+    (
+        b"ab\nabc\nabcdef\nab\nabcdefgh",
+        99,
+        2,
+        0,
+        &[
+            Ok(Some(b"ab")),
+            Ok(Some(b"abc")),
+            Ok(Some(b"abc")),
+            Ok(Some(b"ab")),
+            Ok(Some(b"abc")),
+            END,
+        ],
+    ),
+    (
+        b"abcdef\nab",
+        99,
+        0,
+        5,
+        &[FAILED, Ok(Some(b"a")), Ok(Some(b"a")), END],
+    ),
 ];
 
 fn answers(reader: &mut LineReader, source: &mut Typed, wanted: Answer) -> bool {
@@ -95,13 +128,13 @@ fn count_right(reader: &mut LineReader, source: &mut Typed, calls: &[Answer]) ->
 
 // The same over a new reader with this limit.
 fn count_read(alloc: Global, source: &mut Typed, row: &Row) -> usize {
-    let mut reader = LineReader::new(alloc, row.1);
-    count_right(&mut reader, source, row.3)
+    let mut reader = LineReader::new(alloc, row.1, row.2);
+    count_right(&mut reader, source, row.4)
 }
 
 fn source_of(alloc: Global, row: &Row) -> Result<Typed, AllocError> {
     let bytes = row.0.to_vec(alloc)?;
-    let inner = MemSource::new(bytes, [row.2].to_vec(alloc)?);
+    let inner = MemSource::new(bytes, [row.3].to_vec(alloc)?);
     Ok(Typed { inner })
 }
 
@@ -115,7 +148,7 @@ fn a_line_that_is_typed_comes_before_the_next_byte(rt: HostRuntime) -> Result<()
     for row in ROWS {
         assert_eq!(rt;
             count_in(rt.alloc(), row)?,
-            row.3.len(),
+            row.4.len(),
             "{} bytes, {}",
             row.0.len(),
             row.1
