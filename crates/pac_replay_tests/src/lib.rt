@@ -15,6 +15,8 @@ mod cores;
 #[cfg(test)]
 mod ends;
 #[cfg(test)]
+mod fitting;
+#[cfg(test)]
 mod jobs;
 #[cfg(test)]
 mod many;
