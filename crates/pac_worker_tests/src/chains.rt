@@ -24,8 +24,8 @@ impl Pattern {
         u64::from(self.chains).saturating_mul(u64::from(self.length))
     }
 
-    /// Whether a piece passes the gate, and isn't run on the spot. The first pieces of all chains come first, then the second ones.
-    pub fn passes_gate(&self, piece: u64) -> bool {
+    /// Whether a piece is handed out, and isn't run on the spot. The first pieces of all chains come first, then the second ones.
+    pub fn is_handed_out(&self, piece: u64) -> bool {
         self.spot_every == 0 || piece % self.spot_every != 0
     }
 
@@ -96,7 +96,7 @@ impl Chains {
         })
     }
 
-    /// So many pieces that are handed out next will find no memory.
+    /// So many pieces that are handed out, or run on their turn, will find no memory.
     pub fn starve(&mut self, pieces: u32)
         ensures { self.new ≡ self.old }
     {
@@ -184,6 +184,8 @@ impl Machine for Chains {
 
     ghost can_run = { λ _. Unit {0} };
 
+    ghost is_next = { λ _ _. Unit {0} };
+
     fn unfinished(&self) -> u64 {
         self.left
     }
@@ -239,7 +241,7 @@ impl Machine for Chains {
         if self.left > 0
             && !self
                 .pattern
-                .passes_gate(self.pattern.number(number, chain.finished))
+                .is_handed_out(self.pattern.number(number, chain.finished))
         {
             self.finish_next(number, value_after(chain.value, chain.finished, turns));
             return Ok(Taken::Ran);
@@ -253,6 +255,35 @@ impl Machine for Chains {
             turns,
             value: chain.value,
             is_starved,
+        }))
+    }
+
+    fn coming(&mut self) -> Result<Option<PieceId>, NoMemory> {
+        match self.first_ready() {
+            Some((number, chain)) => Ok(Some(PieceId {
+                txn: u64::from(chain.finished),
+                block: number,
+            })),
+            None => Ok(None),
+        }
+    }
+
+    fn run_next(&mut self) -> Result<Option<PieceId>, NoMemory> {
+        if self.left == 0 {
+            return Ok(None);
+        }
+        let Some((number, chain)) = self.first_ready() else {
+            return Ok(None);
+        };
+        if self.starved > 0 {
+            self.starved -= 1;
+            return Err(NoMemory);
+        }
+        let turns = self.pattern.turns;
+        self.finish_next(number, value_after(chain.value, chain.finished, turns));
+        Ok(Some(PieceId {
+            txn: u64::from(chain.finished),
+            block: number,
         }))
     }
 

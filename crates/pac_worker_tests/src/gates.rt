@@ -104,11 +104,13 @@ impl Counting {
         })
     }
 
-    /// Whether each piece that passes the gate entered once, and no other.
-    pub fn is_each_once(&self, pattern: Pattern) -> bool {
+    /// Whether each piece that so many workers pass the gate with entered once, and no other. One worker passes it with each piece,
+    /// more with those that are handed out.
+    pub fn is_each_once(&self, pattern: Pattern, workers: u32) -> bool {
         for at in 0..self.counts.len() {
             let count = self.counts[at].load(Ordering::SeqCst);
-            if count != u64::from(pattern.passes_gate(at as u64)) {
+            let passes = workers == 1 || pattern.is_handed_out(at as u64);
+            if count != u64::from(passes) {
                 return false;
             }
         }

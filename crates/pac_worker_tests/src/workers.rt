@@ -1,9 +1,10 @@
 // Tests of what no clause says: that threads run, wait, wake each other and end.
 use crate::chains::{Chains, Pattern};
 use crate::executions::leaves_the_last;
-use crate::feeds::fed;
+use crate::feeds::{AfterFeed, fed};
 use crate::gates::{Counting, Logging, Meeting};
 use pac_base::NoMemory;
+use pac_outside::OpenGate;
 use pac_workers::replay;
 use std::alloc::Global;
 
@@ -28,10 +29,20 @@ fn two_workers_meet(rt: HostRuntime) -> Result<(), NoMemory> {
     Ok(())
 }
 
-// The transactions and blocks of pieces that pass the gate, in order.
-const IN_ORDER: &[(u64, u64)] = &[(0, 1), (0, 2), (1, 0), (1, 2), (2, 0), (2, 1)];
+// The transactions and blocks of pieces, in order.
+const IN_ORDER: &[(u64, u64)] = &[
+    (0, 0),
+    (0, 1),
+    (0, 2),
+    (1, 0),
+    (1, 1),
+    (1, 2),
+    (2, 0),
+    (2, 1),
+    (2, 2),
+];
 
-// One worker runs the pieces in their order, one in each hold of the lock. Those that are run on the spot don't pass the gate.
+// One worker runs the pieces in their order. It passes the gate with those too that a take would run on the spot.
 #[test]
 fn one_worker_order(rt: HostRuntime) -> Result<(), NoMemory> {
     let alloc: Global = rt.alloc();
@@ -74,7 +85,7 @@ fn each_piece_once(rt: HostRuntime) -> Result<(), NoMemory> {
             let gate = Counting::new(alloc, pattern)?;
             let replayed = replay(&rt, alloc, workers, Chains::new(alloc, pattern)?, &gate)?;
             assert!(rt;
-                gate.is_each_once(pattern),
+                gate.is_each_once(pattern, workers),
                 "{workers} workers, {chains} chains of {length}"
             );
             assert_eq!(rt; replayed.tallies.as_slice().len(), workers as usize);
@@ -87,7 +98,7 @@ fn each_piece_once(rt: HostRuntime) -> Result<(), NoMemory> {
 }
 
 // A worker that finds no memory, or whose result is refused, gives back what it took and ends. The others do what is left; what all
-// leave is drained.
+// leave is drained. One worker hands no result in, so that none is refused.
 #[test]
 fn workers_that_end_give_back(rt: HostRuntime) -> Result<(), NoMemory> {
     let alloc: Global = rt.alloc();
@@ -115,11 +126,15 @@ fn workers_that_end_give_back(rt: HostRuntime) -> Result<(), NoMemory> {
         let counted = sum(replayed.tallies.as_slice());
         assert_eq!(rt; counted.saturating_add(replayed.drained), pattern.pieces());
         assert!(rt; replayed.machine.is_right());
-        let ended = starved.saturating_add(refused);
+        let ended = if workers == 1 {
+            starved
+        } else {
+            starved.saturating_add(refused)
+        };
         if ended < workers {
             assert_eq!(rt; replayed.drained, 0, "{workers} workers, {ended} ended");
         }
-        if workers == 1 || ended == u32::MAX {
+        if ended == u32::MAX || (workers == 1 && ended > 0) {
             assert_eq!(rt; counted, 0);
         }
     }
@@ -136,24 +151,64 @@ fn last_rows_are_left(rt: HostRuntime) -> Result<(), NoMemory> {
     Ok(())
 }
 
-// However many workers are fed, they finish each piece of what was given, and none where nothing is given.
+// However many workers are fed, they finish each piece of what was given. Where nothing is given, the core comes back empty and closed.
 #[test]
 fn what_is_fed_is_finished(rt: HostRuntime) -> Result<(), NoMemory> {
     let alloc: Global = rt.alloc();
-    for workers in [1u32, 4] {
+    for workers in [1u32, 2, 4] {
         assert_eq!(rt;
-            fed(&rt, alloc, workers, false)?,
-            (4, 0),
+            fed(&rt, alloc, workers, false, &OpenGate)?,
+            ALL_FED,
             "{workers} workers"
         );
         assert_eq!(rt;
-            fed(&rt, alloc, workers, true)?,
-            (0, 0),
+            fed(&rt, alloc, workers, true, &OpenGate)?,
+            NONE_FED,
             "{workers} workers"
         );
     }
     Ok(())
 }
+
+const ALL_FED: AfterFeed = AfterFeed {
+    finished: 4,
+    drained: 0,
+    is_closed: true,
+    next_txn: 5,
+};
+
+const NONE_FED: AfterFeed = AfterFeed {
+    finished: 0,
+    drained: 0,
+    is_closed: true,
+    next_txn: 1,
+};
+
+// Two workers that are fed enter the gate too: the first waits there for the second.
+#[test]
+fn two_fed_workers_meet(rt: HostRuntime) -> Result<(), NoMemory> {
+    let alloc: Global = rt.alloc();
+    for round in 0..100u16 {
+        let gate = Meeting::new();
+        assert_eq!(rt; fed(&rt, alloc, 2, false, &gate)?, ALL_FED, "round {round}");
+        assert!(rt; gate.have_met(), "round {round}");
+    }
+    Ok(())
+}
+
+// One worker that is fed runs the pieces in their order.
+#[test]
+fn one_fed_worker_order(rt: HostRuntime) -> Result<(), NoMemory> {
+    let alloc: Global = rt.alloc();
+    let gate = Logging::new(alloc, 16)?;
+    assert_eq!(rt; fed(&rt, alloc, 1, false, &gate)?, ALL_FED);
+    let entered = gate.entered(alloc)?;
+    assert_eq!(rt; entered.as_slice(), FED_IN_ORDER);
+    Ok(())
+}
+
+// The transactions of the two batches, each in the only block.
+const FED_IN_ORDER: &[(u64, u64)] = &[(1, 0), (2, 0), (3, 0), (4, 0)];
 
 // The numbers, added up.
 fn sum(numbers: &[u64]) -> u64 {

@@ -1,6 +1,6 @@
 mod Executions
 mod Feeds
 mod LoadedOne
-mod OneTable
-mod Sent
+mod NextRun
+pub mod Sent
 mod Showing

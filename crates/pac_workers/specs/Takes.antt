@@ -1,5 +1,5 @@
 -- What a take answers: how many pieces it ran, and what holds of the work that it hands out.
-use Rattle.std.specs.Prelude.{ℕ}
+use Rattle.std.specs.Prelude.{ℕ, Option, Some, None}
 use Rattle.pac_workers.specs.declared.machine.Taken.{Taken}
 use Rattle.pac_workers.specs.declared.machine.Taken.TheVariants.{Work, Ran, NotReady, Done}
 
@@ -16,3 +16,8 @@ ForWork P (Work work) = P work
 ForWork P Ran = Unit {0}
 ForWork P NotReady = Unit {0}
 ForWork P Done = Unit {0}
+
+-- how many pieces were run where this is the one that came next
+abbrev pub run_now : {A : Type 0} → Option A → ℕ
+run_now (Some piece) = 1
+run_now None = 0

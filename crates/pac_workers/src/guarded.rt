@@ -3,12 +3,14 @@ ghost use base.Stored.{Gv-set};
 ghost use Rattle.std.specs.Prelude.{◌≡◌, ◌+◌, ◌^◌, ◌<◌, [], length, All, IfOk, OnOk, OnErr};
 ghost use Rattle.pac_twins.specs.Twins.{IsShown};
 ghost use Rattle.pac_workers.specs.Shown.{Tells, shown_closed, shown_job};
-ghost use Rattle.pac_workers.specs.Takes.{ForWork, ran_by};
+ghost use Rattle.pac_workers.specs.Takes.{ForWork, ran_by, run_now};
 
 use crate::hand::Hand;
 use crate::machine::{Machine, Taken};
 use crate::tally::{Lent, Tally};
 use pac_base::NoMemory;
+use pac_ops::PieceId;
+use pac_outside::Gate;
 use pac_twins::Twin;
 use std::sync::ledger::Book;
 
@@ -106,9 +108,22 @@ impl<M: Machine, L: Lent> Guarded<M, L> {
         is_all_kept
     }
 
+    /// For a worker without others: runs the piece that comes next, once it has passed the gate.
+    pub fn run_here<G: Gate>(&mut self, gate: &G, tally: &mut Tally<L>) -> Next {
+        if !tally.has_room() {
+            return Next::End;
+        }
+        match self.run_next(gate, tally) {
+            Ok(Some(_)) => Next::Take,
+            Ok(None) if self.is_fed => Next::Rest,
+            Ok(None) | Err(_) => Next::End,
+        }
+    }
+
     /// Takes what comes next, if it isn't better to rest.
     pub fn next(&mut self, workers: u32, tally: &mut Tally<L>, hand: &mut Hand<M>) -> Next
-        requires { All M.can_run hand.old.works.items }
+        requires workers { 1 < workers }
+        requires works { All M.can_run hand.old.works.items }
         ensures { All M.can_run hand.new.works.items }
     {
         if hand.has_run && self.is_better_resting() {
@@ -142,7 +157,7 @@ impl<M: Machine, L: Lent> Guarded<M, L> {
         self.active > 0 && self.machine.ready().weight < WORTH_WAKING
     }
 
-    // A worker gets a piece, and more where it isn't alone and enough is ready.
+    // A worker gets a piece, and more where enough is ready.
     fn hand_out(
         &mut self,
         workers: u32,
@@ -150,6 +165,7 @@ impl<M: Machine, L: Lent> Guarded<M, L> {
         hand: &mut Hand<M>,
         work: M::Work,
     ) -> Next
+        requires workers { 1 < workers }
         requires work { M.can_run work }
         requires works { All M.can_run hand.old.works.items }
         ensures { All M.can_run hand.new.works.items }
@@ -160,9 +176,7 @@ impl<M: Machine, L: Lent> Guarded<M, L> {
             return Next::End;
         }
         self.active = self.active.saturating_add(1);
-        if workers > 1 {
-            self.hand_out_more(workers, tally, hand, weight);
-        }
+        self.hand_out_more(workers, tally, hand, weight);
         Next::Run
     }
 
@@ -215,6 +229,28 @@ impl<M: Machine, L: Lent> Guarded<M, L> {
             tally.count_one(book);
         }
         Ok(taken)
+    }
+
+    // Runs the piece that comes next, once it has passed the gate, and counts it. `None`: none is ready.
+    fn run_next<G: Gate>(
+        &mut self,
+        gate: &G,
+        tally: &mut Tally<L>,
+    ) -> Result<Option<PieceId>, NoMemory>
+        requires room { tally.old.count + 1 < 2 ^ 64 }
+        ensures count { IfOk result (λ next. tally.new.count ≡ tally.old.count + run_now next) }
+        ensures err { OnErr result (tally.new.count ≡ tally.old.count) }
+    {
+        let Guarded { machine, book, .. } = self;
+        let Some(piece) = machine.coming()? else {
+            return Ok(None);
+        };
+        gate.enter(tally.worker, piece.txn, piece.block);
+        let next = machine.run_next()?;
+        if next.is_some() {
+            tally.count_one(book);
+        }
+        Ok(next)
     }
 
     // Hands in a result, and counts its piece if it was kept.

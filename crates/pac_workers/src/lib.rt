@@ -29,9 +29,11 @@
 //!
 //! How workers go about it:
 //!
-//! - In one hold of the lock a worker hands in what it ran and takes what comes next. One that is alone takes one piece in each
-//!   hold. With others it takes up to 64, as long as what it has weighs less than its share of what is ready and than 1,024; and it
-//!   leaves a piece for each other worker.
+//! - One worker without others runs a piece in each hold of the lock. Nothing is handed out to it, and it passes the gate with each
+//!   piece.
+//! - With others, a worker hands in what it ran in one hold of the lock, and takes what comes next: up to 64 pieces, as long as what
+//!   it has weighs less than its share of what is ready and than 1,024; and it leaves a piece for each other worker. It runs them
+//!   outside the lock. A piece that is run on the spot doesn't pass the gate.
 //! - A worker rests where no piece is ready. One that has run a piece rests too where what is ready isn't worth a wake-up,
 //!   while another worker is active: handing light pieces from thread to thread costs more than running them.
 //! - A worker that took something wakes one that rests, if what is still ready is worth it: if it weighs 64 or more. One that ends

@@ -1,12 +1,13 @@
 // What workers run.
-ghost use Rattle.std.specs.Prelude.{◌≡◌, ◌+◌, ◌<◌, ◌^◌, ℕ, Bool, List, true, false, length, IfOk, OnOk, OnErr};
+ghost use Rattle.std.specs.Prelude.{◌≡◌, ◌+◌, ◌<◌, ◌^◌, ℕ, Bool, List, Option as AOption, true, false, length, IfOk, OnOk, OnErr};
 ghost use Rattle.std.specs.List.{AllByRecursion};
 ghost use Rattle.std.specs.Coded.{Coded};
 ghost use Rattle.pac_value.specs.declared.values.Ty.{Ty as ATy};
 ghost use Rattle.pac_ops.specs.declared.batch.Batch.{Batch as ABatch};
+ghost use Rattle.pac_ops.specs.declared.piece.PieceId.{PieceId as APieceId};
 ghost use Rattle.pac_ops.specs.declared.shapes.TableTypes.{TableTypes as ATableTypes};
 ghost use Rattle.pac_ops.specs.Shapes.{TxnFitsTypes};
-ghost use Rattle.pac_workers.specs.Takes.{ForWork, ran_by};
+ghost use Rattle.pac_workers.specs.Takes.{ForWork, ran_by, run_now};
 
 use pac_base::NoMemory;
 use pac_ops::{Batch, PieceId};
@@ -65,6 +66,9 @@ pub trait Machine: Drop {
     // the work may be run
     ghost can_run: { Self.Work → Type 0 };
 
+    // this piece comes next, or none is ready
+    ghost is_next: { Self → AOption APieceId → Type 0 };
+
     /// How many pieces aren't finished.
     fn unfinished(&self) -> u64
         ensures { result ≡ left self.now };
@@ -107,6 +111,27 @@ pub trait Machine: Drop {
         ensures ran { IfOk result (λ taken. left self.old ≡ left self.new + ran_by taken) }
         ensures work { IfOk result (ForWork can_run) }
         ensures err { OnErr result (left self.new ≡ left self.old) };
+
+    /// The piece that comes next. `None`: none is ready. Nothing is handed out.
+    ///
+    /// # Errors
+    ///
+    /// [`NoMemory`] where an allocation is refused.
+    fn coming(&mut self) -> Result<Option<PieceId>, NoMemory>
+        ensures next { IfOk result (is_next self.old) }
+        ensures same { self.new ≡ self.old };
+
+    /// The same piece is run here, and is finished. For a worker without others: nothing is handed out.
+    ///
+    /// # Errors
+    ///
+    /// [`NoMemory`] where an allocation is refused. No piece is finished.
+    fn run_next(&mut self) -> Result<Option<PieceId>, NoMemory>
+        ensures next { IfOk result (is_next self.old) }
+        ensures job { job self.new ≡ job self.old }
+        ensures closed { is_closed self.new ≡ is_closed self.old }
+        ensures ran { IfOk result (λ next. left self.old ≡ left self.new + run_now next) }
+        ensures err { OnErr result (self.new ≡ self.old) };
 
     /// Hands in a result: its piece is finished.
     ///

@@ -3,6 +3,7 @@ ghost use Rattle.std.specs.Prelude.{◌≡◌, [], length, map};
 ghost use Rattle.pac_piece.specs.Runnable.{IsRunnable};
 ghost use Rattle.pac_commute.specs.Loads.{next_in_job};
 ghost use Rattle.pac_core.specs.Replay.{left, loaded_pieces, replay_code, with_batch_loaded, with_none_taken};
+ghost use Rattle.pac_core.specs.Takes.{IsNextPiece};
 
 use crate::machine::{Loads, Machine, Ready, Taken};
 use pac_base::NoMemory;
@@ -30,6 +31,8 @@ impl<R: Rows> Machine for Core<R> {
     ghost is_idle = { λ core. core.out ≡ [] };
 
     ghost can_run = { IsRunnable };
+
+    ghost is_next = { IsNextPiece };
 
     fn unfinished(&self) -> u64 {
         Core::unfinished(self)
@@ -67,6 +70,14 @@ impl<R: Rows> Machine for Core<R> {
             Take::NotReady => Taken::NotReady,
             Take::Done => Taken::Done,
         })
+    }
+
+    fn coming(&mut self) -> Result<Option<PieceId>, NoMemory> {
+        Core::coming(self)
+    }
+
+    fn run_next(&mut self) -> Result<Option<PieceId>, NoMemory> {
+        Core::run_next(self)
     }
 
     // It is refused too where it isn't of work that is out.

@@ -1,5 +1,5 @@
 // What a worker does.
-ghost use Rattle.std.specs.Prelude.{All};
+ghost use Rattle.std.specs.Prelude.{◌<◌, All};
 
 use crate::guarded::{Guarded, MAX_TAKEN, Next};
 use crate::hand::Hand;
@@ -26,6 +26,10 @@ pub(crate) fn run_worker<M: Machine, L: Lent, G: Gate, H: Wait>(
     gate: &G,
     tally: &mut Tally<L>,
 ) {
+    if monitor.workers <= 1 {
+        run_alone(rt, monitor, gate, tally);
+        return;
+    }
     let Ok(mut hand) = Hand::new(alloc, MAX_TAKEN) else {
         return;
     };
@@ -37,6 +41,24 @@ pub(crate) fn run_worker<M: Machine, L: Lent, G: Gate, H: Wait>(
     }
 }
 
+// Runs pieces one after another, each in a hold of the lock, until all are finished or there is no memory. For a worker without others:
+// nothing is handed out.
+fn run_alone<M: Machine, L: Lent, G: Gate, H: Wait>(
+    rt: &H,
+    monitor: &Monitor<M, L>,
+    gate: &G,
+    tally: &mut Tally<L>,
+) {
+    for _ in rt.forever() {
+        let mut guarded = monitor.guarded.lock(rt);
+        match guarded.run_here(gate, tally) {
+            Next::Run | Next::Take => {}
+            Next::Rest => drop(monitor.changed.wait(rt, guarded)),
+            Next::End => return,
+        }
+    }
+}
+
 // One hold of the lock, but for rests: hands in what was run, and takes what comes next. Whether there is something to run.
 fn take_turn<M: Machine, L: Lent, H: Wait>(
     rt: &H,
@@ -44,6 +66,7 @@ fn take_turn<M: Machine, L: Lent, H: Wait>(
     tally: &mut Tally<L>,
     hand: &mut Hand<M>,
 ) -> bool
+    requires { 1 < monitor.now.workers }
     ensures { All M.can_run hand.new.works.items }
 {
     let mut guarded = monitor.guarded.lock(rt);
