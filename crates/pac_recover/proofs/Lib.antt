@@ -12,4 +12,6 @@ pub mod ReplayLemmas
 pub mod EndLemmas
 pub mod PassLemmas
 pub mod ScanLemmas
+pub mod WindowLemmas
 pub mod RereadLemmas
+pub mod FedLemmas

@@ -8,6 +8,7 @@ pub mod Loading
 pub mod Passing
 pub mod Scanning
 pub mod Rereading
+pub mod FedLogs
 pub mod Recovering
 pub mod Outcomes
 pub mod Replays

@@ -12,7 +12,7 @@ use Rattle.pac_log.specs.Reading.{IsNextBatch}
 use Rattle.pac_recover.specs.Rereading.{IsWindow}
 use Rattle.pac_recover.proofs.CauseLemmas.{at-some, no-error, the-cause}
 use Rattle.pac_recover.proofs.ReadLemmas.{more-txns}
-use Rattle.pac_recover.proofs.RereadLemmas.{ReportsAgain, fills-all, fills-full, fills-more, fills-nothing, fills-whole, window-more, window-nothing}
+use Rattle.pac_recover.proofs.WindowLemmas.{ReportsAgain, fills-all, fills-full, fills-more, fills-nothing, fills-whole, window-more, window-nothing}
 use Rattle.pac_recover.proofs.rereading.next_window.Goals as goal
 
 pub returns-in_err-next_batch-clause-damaged : goal.returns-in_err-next_batch-clause-damaged

@@ -3,7 +3,7 @@ use Rattle.std.proofs.Common.{◌≡◌, ◌≤◌, ℕ, List}
 use Rattle.pac_ops.specs.declared.transaction.Txn.{Txn}
 use Rattle.pac_outside.specs.Disk.{IfKnown}
 use Rattle.pac_recover.specs.Rereading.{IsWindow}
-use Rattle.pac_recover.proofs.RereadLemmas.{Fills}
+use Rattle.pac_recover.proofs.WindowLemmas.{Fills}
 use Rattle.pac_recover.proofs.rereading.next_window.Given as goal
 
 abbrev pub invariant-loop : goal.invariant-loop

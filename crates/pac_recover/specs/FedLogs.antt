@@ -1,0 +1,51 @@
+-- What a feed of a log gives between two of its states.
+use Rattle.std.specs.Prelude.{◌≡◌, ℕ, List, [], ◌++◌, Option, Some, None}
+use Rattle.pac_ops.specs.declared.batch.Batch.{Batch}
+use Rattle.pac_ops.specs.declared.transaction.Txn.{Txn}
+use Rattle.pac_outside.specs.Causes.{one_more}
+use Rattle.pac_outside.specs.Disk.{DiskHistory, IfKnown}
+use Rattle.pac_log.specs.declared.errors.LogError.TheVariants as error
+use Rattle.pac_log.specs.declared.position.NextGate.{NextGate}
+use Rattle.pac_log.specs.Logs.{HoldsLog}
+use Rattle.pac_log.specs.Places.{IsAfter}
+use Rattle.pac_recover.specs.declared.log_feed.FeedEnd.{FeedEnd}
+use Rattle.pac_recover.specs.declared.log_feed.FeedEnd.TheVariants.{Window, End, Refused}
+use Rattle.pac_recover.specs.Gates.{txns_by_batch}
+use Rattle.pac_recover.specs.Rereading.{IsWindow}
+
+-- after these batches of a log come those that were given, up to the gate, and then the rest
+pub record IsPartOf (text : List ℕ) (before after rest : List (List Txn)) (given : List Batch) (gate : NextGate) : Type 0 where
+  pub split : after ≡ txns_by_batch given ++ rest
+  pub there : IsAfter text (before ++ txns_by_batch given) gate
+
+-- this holds of what a disk is known to hold, where that is a log and the gate comes after its batches before
+abbrev pub OfKnownLog : Option DiskHistory → NextGate → (List ℕ → List (List Txn) → List (List Txn) → Type 0) → Type 0
+OfKnownLog known old What = (text : List ℕ) (before after : List (List Txn)) → IfKnown (λ h. HoldsLog text old.catalogue (before ++ after) h.now.seen → IsAfter text before old → What text before after) known
+
+-- how it ended: nothing comes behind the last batch, or the disk holds no whole log
+abbrev pub EndsAs : Option DiskHistory → NextGate → NextGate → List Batch → Option FeedEnd → Type 0
+EndsAs known old new given None = Unit {0}
+EndsAs known old new given (Some Window) = Unit {0}
+EndsAs known old new given (Some End) = OfKnownLog known old (λ text before after. IsPartOf text before after [] given new)
+EndsAs known old new given (Some (Refused error.NoStore)) = ⊥
+EndsAs known old new given (Some (Refused (error.Damaged at kind))) = OfKnownLog known old (λ text before after. ⊥)
+EndsAs known old new given (Some (Refused error.DiskFault)) = Unit {0}
+EndsAs known old new given (Some (Refused error.NoMemory)) = Unit {0}
+
+-- a call of the disk failed only where that ended it
+abbrev pub AreCounted : ℕ → ℕ → Option FeedEnd → Type 0
+AreCounted before now None = now ≡ before
+AreCounted before now (Some Window) = now ≡ before
+AreCounted before now (Some End) = now ≡ before
+AreCounted before now (Some (Refused error.NoStore)) = now ≡ before
+AreCounted before now (Some (Refused (error.Damaged at kind))) = now ≡ before
+AreCounted before now (Some (Refused error.DiskFault)) = now ≡ one_more before
+AreCounted before now (Some (Refused error.NoMemory)) = now ≡ before
+
+-- Between these gates these batches were given, and what is known of the disk is as before. If more could be given at first, this is how
+-- it ended, where it did.
+pub record IsGivenOfLog (known now : Option DiskHistory) (old new : NextGate) (given : List Batch) (first end : Option FeedEnd) : Type 0 where
+  pub same : now ≡ known
+  pub read : IsWindow old new given
+  pub part : OfKnownLog known old (λ text before after. (rest : List (List Txn)) × IsPartOf text before after rest given new)
+  pub ends : first ≡ None → EndsAs known old new given end
