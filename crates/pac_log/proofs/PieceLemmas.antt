@@ -1,7 +1,7 @@
 -- The pieces that are read from a gate on stand one after another in the image, and are all that is looked at.
-use Rattle.std.proofs.Common.{◌≡◌, ◌∙◌, ℕ, ◌+◌, ◌-◌, ◌<◌, ◌≤◌, Bool, true, false, leb, List, ◌++◌, length, take, drop, min, Option, Some, None, refl, sym, ap, ap₂, arith, append_assoc}
+use Rattle.std.proofs.Common.{◌≡◌, ◌∙◌, ℕ, ◌+◌, ◌-◌, ◌<◌, ◌≤◌, Bool, true, false, leb, List, ◌++◌, length, take, drop, min, Option, Some, None, refl, sym, ap, ap₂, arith}
 use Rattle.std.proofs.lemmas.Bool.{leb-true, leb-false}
-use Rattle.std.proofs.lemmas.List.{length-drop, take-take, take_all, drop-take, drop-drop, take-append-drop, take-append-le, take_at, drop_at}
+use Rattle.std.proofs.lemmas.List.{length-drop, take_all, drop-drop, take-append-drop}
 use Rattle.pac_types.specs.Typing.{CatalogueState}
 use Rattle.pac_outside.specs.Disk.{DiskHistory, IfKnown}
 use Rattle.pac_outside.proofs.ReadLemmas.{take_more}

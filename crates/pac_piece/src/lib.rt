@@ -6,8 +6,8 @@
 //!   is out of memory; then the work comes back.
 //! - [`Done`]: work with its value, which it keeps by its type: the rows that it wrote, the variables that it gave values,
 //!   and its least note. [`Done::into_parts`] gives these out, and [`Done::into_work`] the work alone.
-//! - [`run_on`]: runs a piece over tables as they stand, for a piece that may touch any row. It gives a [`PieceOutcome`]: the same
-//!   value, over the tables in place of copies. Its writes are in tables that are there, so that they can be made.
+//! - [`run_on`]: runs a piece over tables as they stand, on the spot. It gives a [`PieceOutcome`]: the rows that it wrote, all
+//!   values at its end, and its least note. Its writes are in tables that are there, so that they can be made.
 //! - [`is_value`] and [`work_means_piece`] are laws: functions that do nothing, whose clauses say what holds of work that is
 //!   done, and that its value is what the piece means in its plan. With the law `work` of `pac_commute` this is the piece
 //!   applied to the state, once writes and values are put in.
