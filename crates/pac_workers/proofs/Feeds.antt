@@ -1,5 +1,5 @@
 -- What was given is loaded: at first, with one batch more, and at the end.
-use Rattle.std.proofs.Common.{◌≡◌, ℕ, ◌+◌, Bool, true, false, List, [], ◌∷◌, ◌++◌, length, refl, sym, ap, ◌∙◌, subst}
+use Rattle.std.proofs.Common.{◌≡◌, ℕ, ◌+◌, Bool, true, false, List, [], ◌∷◌, ◌++◌, length, refl, sym, ◌∙◌, subst}
 use Rattle.std.specs.List.{AllByRecursion}
 use Rattle.pac_value.specs.declared.values.Ty.{Ty}
 use Rattle.pac_ops.specs.declared.batch.Batch.{Batch}
@@ -26,6 +26,13 @@ module _ {F M : Type 0} (gives : F → List Batch → F → Type 0) (feed_next :
   module _ (old now : F) (before twin : Seat M (List M)) (far : SoFar old now before twin) where
     abbrev pub all_now : M
     all_now = with_each with_batch far.all far.batches
+
+    -- what was given so far, and with one batch more
+    pub gave : (new : F) → ((from : F) (batches : List Batch) → gives from batches now → gives from batches new) → (batches : List Batch) × gives old batches new
+    gave new given = (far.batches, given old far.batches far.given)
+
+    pub gave_more : (batch : Batch) (new : F) → ((from : F) (batches : List Batch) → gives from batches now → gives from (batches ++ batch ∷ []) new) → (batches : List Batch) × gives old batches new
+    gave_more batch new given = (far.batches ++ batch ∷ [], given old far.batches far.given)
 
     -- the next batch may be loaded
     pub may_load : (batch : Batch) → batch.first ≡ feed_next now → AllByRecursion (TxnFitsTypes (feed_params now) (feed_tables now)) batch.txns

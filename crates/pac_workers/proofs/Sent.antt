@@ -97,4 +97,4 @@ progress_send = search (sendable, crosses, plan_pieces_send, loaded.the_field_se
 
 module _ (R : RattleType) (rows : Ghosts R.Denot) where
   pub core_send : IsSend R → IsSend (core_type.the_row R rows)
-  core_send sent = search (sendable, crosses, progress_send, undo.the_send) depth 40
+  core_send sent = search (sendable, crosses, progress_send, undo.the_send, env.the_send) depth 40

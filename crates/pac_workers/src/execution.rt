@@ -1,5 +1,5 @@
 // Executing batches by workers.
-ghost use Rattle.std.specs.Prelude.{◌≡◌, ◌+◌, ◌^◌, ◌<◌, ◌≤◌, All, IfOk, length, sum};
+ghost use Rattle.std.specs.Prelude.{◌≡◌, ◌+◌, ◌^◌, ◌<◌, ◌≤◌, All, IfOk, List, OnOk, length, map, sum, true};
 ghost use Rattle.pac_ops.specs.Notes.{first_note};
 ghost use Rattle.pac_ops.specs.Shapes.{RowsFit};
 ghost use Rattle.pac_ops.specs.Transactions.{replayed};
@@ -7,10 +7,12 @@ ghost use Rattle.pac_ops.specs.declared.batch.Batch.{Batch as ABatch};
 ghost use Rattle.pac_commute.specs.Loads.{pieces_of};
 ghost use Rattle.pac_commute.specs.PartialFits.{TxnsFitPlan};
 ghost use Rattle.pac_commute.specs.PlanLaws.{NumbersRunOn, txns_of};
-ghost use Rattle.pac_core.specs.Calls.{with_batches};
+ghost use Rattle.pac_core.specs.Calls.{IsReplayDone, IsReplayOutcome, with_batches};
 ghost use Rattle.pac_core.specs.Replay.{closed, opening_replay};
+ghost use Rattle.pac_workers.specs.FedExecution.{IsExecutedFeed};
 
-use crate::threads::{Replayed, replay};
+use crate::feed::Feed;
+use crate::threads::{Replayed, replay, replay_feed};
 use pac_base::{Listed, NoMemory};
 use pac_core::{Core, Outcome};
 use pac_ops::{Batches, Note};
@@ -64,18 +66,64 @@ pub fn execute<R: Rows + Send, G: Gate + Sync, H: Threads + Wait + Sync>(
 {
     let core = loaded(alloc, plan, first, tables, batches)?;
     let replayed = replay(rt, alloc, workers, core, gate)?;
+    Ok(into_executed(replayed))
+}
+
+/// Executes over tables what a feed gives, by so many workers, while the caller's thread loads it. What is left is what executing the
+/// transactions of its batches one after another leaves. Each worker passes the gate before each piece that it runs.
+///
+/// # Errors
+///
+/// [`NoMemory`] as [`replay_feed`]. The feed isn't asked any more then.
+pub fn execute_feed<R: Rows + Send, F: Feed, G: Gate + Sync, H: Threads + Wait + Sync>(
+    rt: &H,
+    alloc: Global,
+    workers: u32,
+    plan: Plan,
+    first: u64,
+    tables: R,
+    feed: &mut F,
+    gate: &G,
+) -> Result<Executed<R>, NoMemory>
+    requires workers { 1 ≤ workers }
+    requires tables { R.tables tables ≡ length plan.tables }
+    requires fit { RowsFit plan.tables (R.held tables) }
+    requires next { F.next_txn feed.old ≡ first }
+    requires types { (F.params feed.old ≡ map (λ program. program.params) plan.programs) × (F.tables feed.old ≡ plan.tables) }
+    ensures given { (batches : List ABatch) × F.gives feed.old batches feed.new }
+    ensures tables { IfOk result (λ e. R.tables e.tables ≡ length plan.tables) }
+    ensures fit { IfOk result (λ e. RowsFit plan.tables (R.held e.tables)) }
+    ensures executed { IfOk result (λ e. IsExecutedFeed F.gives (record { parts = plan; first = first; tables = R.held tables }) feed.old feed.new (R.held e.tables) e.first_note (sum e.tallies + e.drained)) }
+    ensures tallies { IfOk result (λ e. length e.tallies ≡ workers) }
+    ensures over { OnOk result (F.is_over feed.new ≡ true) }
+    ensures same_types { (F.params feed.new ≡ F.params feed.old) × (F.tables feed.new ≡ F.tables feed.old) }
+{
+    feed.gives_none();
+    let core = Core::new(alloc, plan, first, tables)?;
+    let replayed = replay_feed(rt, alloc, workers, core, feed, gate)?;
+    Ok(into_executed(replayed))
+}
+
+// What a finished replay leaves.
+fn into_executed<R: Rows>(replayed: Replayed<Core<R>>) -> Executed<R>
+    requires { IsReplayDone replayed.machine }
+    ensures outcome { IsReplayOutcome replayed.machine (R.held result.tables) result.first_note }
+    ensures tables { R.tables result.tables ≡ length replayed.machine.job.parts.tables }
+    ensures fit { RowsFit replayed.machine.job.parts.tables (R.held result.tables) }
+    ensures counts { (result.tallies ≡ replayed.tallies) × (result.drained ≡ replayed.drained) }
+{
     let Replayed {
         machine,
         tallies,
         drained,
     } = replayed;
     let Outcome { tables, first_note } = machine.outcome();
-    Ok(Executed {
+    Executed {
         tables,
         first_note,
         tallies,
         drained,
-    })
+    }
 }
 
 /// The same on this thread, without any other: the pieces are run in the order in which they come next.

@@ -8,6 +8,7 @@
 //!   that [`Loads`].
 //! - [`execute`]: executes batches of transactions over tables by so many workers. It loads them into a `Core` of `pac_core`,
 //!   which is a machine, and leaves the tables and the first note, as if each transaction had been executed after the other.
+//!   [`execute_feed`] does so with what a feed gives, and [`execute_here`] without any thread.
 //!
 //! ```
 //! use pac_outside::OpenGate;
@@ -53,7 +54,7 @@ mod tally;
 mod threads;
 mod worker;
 
-pub use execution::{Executed, execute, execute_here};
+pub use execution::{Executed, execute, execute_feed, execute_here};
 pub use feed::Feed;
 pub use machine::{Loads, Machine, Ready, Taken};
 pub use threads::{Replayed, replay, replay_feed};

@@ -1,5 +1,6 @@
 // Replaying by workers.
-ghost use Rattle.std.specs.Prelude.{◌≡◌, ◌+◌, ◌^◌, ◌<◌, ◌≤◌, false, true, IfOk, OnOk, length, sum, vec_capacity, vec_len};
+ghost use Rattle.std.specs.Prelude.{◌≡◌, ◌+◌, ◌<◌, ◌≤◌, List, false, true, IfOk, OnOk, length, sum, vec_capacity, vec_len};
+ghost use Rattle.pac_ops.specs.declared.batch.Batch.{Batch as ABatch};
 ghost use Rattle.pac_twins.specs.Twins.{IsShown};
 ghost use Rattle.pac_workers.specs.Shown.{IsFed, IsJobFed, Tells, TellsJob};
 
@@ -80,6 +81,7 @@ pub fn replay_feed<M: Loads + Send, F: Feed, G: Gate + Sync, H: Threads + Wait +
     requires workers { 1 ≤ workers }
     requires next { F.next_txn feed.old ≡ M.next_txn (M.job machine) }
     requires types { (F.params feed.old ≡ M.params (M.job machine)) × (F.tables feed.old ≡ M.tables (M.job machine)) }
+    ensures given { (batches : List ABatch) × F.gives feed.old batches feed.new }
     ensures closed { IfOk result (λ r. M.is_closed r.machine ≡ true) }
     ensures finished { IfOk result (λ r. M.left r.machine ≡ 0) }
     ensures job { IfOk result (λ r. IsJobFed F.gives M.with_batch (M.job machine) feed.old feed.new (M.job r.machine)) }
@@ -88,6 +90,7 @@ pub fn replay_feed<M: Loads + Send, F: Feed, G: Gate + Sync, H: Threads + Wait +
     ensures over { OnOk result (F.is_over feed.new ≡ true) }
     ensures same_types { (F.params feed.new ≡ F.params feed.old) × (F.tables feed.new ≡ F.tables feed.old) }
 {
+    feed.gives_none();
     let (pair, mut mine, twin) = Pair::new(alloc, &machine)?;
     let blank = Blank::new(u64::from(workers) + 1);
     let (replayed, mut twin) = feed_as::<M, Brand, F, G, H>(
@@ -158,6 +161,7 @@ fn feed_as<
     requires mine { Tells M.job M.is_closed L.pair (M.job machine) false mine.old }
     requires next { F.next_txn feed.old ≡ M.next_txn (M.job machine) }
     requires types { (F.params feed.old ≡ M.params (M.job machine)) × (F.tables feed.old ≡ M.tables (M.job machine)) }
+    ensures given { (batches : List ABatch) × F.gives feed.old batches feed.new }
     ensures closed { IfOk result (λ r. M.is_closed r.0.machine ≡ true) }
     ensures finished { IfOk result (λ r. M.left r.0.machine ≡ 0) }
     ensures told { IfOk result (λ r. TellsJob M.job L.pair (M.job r.0.machine) r.1) }
@@ -167,6 +171,7 @@ fn feed_as<
     ensures over { OnOk result (F.is_over feed.new ≡ true) }
     ensures same_types { (F.params feed.new ≡ F.params feed.old) × (F.tables feed.new ≡ F.tables feed.old) }
 {
+    feed.gives_none();
     let (book, mut rest) = blank.open::<L>();
     let room = Vec::with_capacity(alloc, workers as usize)?;
     let mut tallies = tallies_of(alloc, workers, &mut rest)?;
@@ -228,6 +233,7 @@ fn run_fed<
     requires pair { pair.now ≡ L.pair }
     requires mine { (all : M) × Tells M.job M.is_closed L.pair all false mine.old × (F.next_txn feed.old ≡ M.next_txn all) × (F.params feed.old ≡ M.params all) × (F.tables feed.old ≡ M.tables all) }
     ensures len { length tallies.new ≡ length tallies.old }
+    ensures given { (batches : List ABatch) × F.gives feed.old batches feed.new }
     ensures fed { (all : M) → Tells M.job M.is_closed L.pair all false mine.old → OnOk result (IsFed F.gives M.job M.is_closed M.with_batch L.pair all true feed.old feed.new mine.new) }
     ensures over { OnOk result (F.is_over feed.new ≡ true) }
     ensures types { (F.params feed.new ≡ F.params feed.old) × (F.tables feed.new ≡ F.tables feed.old) }
@@ -238,6 +244,7 @@ fn run_fed<
         &mut || -> Result<(), NoMemory>
             requires pair { pair.now ≡ L.pair }
             requires mine { (all : M) × Tells M.job M.is_closed L.pair all false mine.now × (F.next_txn feed.now ≡ M.next_txn all) × (F.params feed.now ≡ M.params all) × (F.tables feed.now ≡ M.tables all) }
+            ensures given { (batches : List ABatch) × F.gives feed.entry.now batches feed.exit.now }
             ensures fed { (all : M) → Tells M.job M.is_closed L.pair all false mine.entry.now → OnOk result (IsFed F.gives M.job M.is_closed M.with_batch L.pair all true feed.entry.now feed.exit.now mine.exit.now) }
             ensures over { OnOk result (F.is_over feed.exit.now ≡ true) }
             ensures types { (F.params feed.exit.now ≡ F.params feed.entry.now) × (F.tables feed.exit.now ≡ F.tables feed.entry.now) }
